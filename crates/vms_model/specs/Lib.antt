@@ -1,0 +1,7 @@
+pub mod Names
+pub mod Ids
+pub mod Words
+pub mod Times
+pub mod Texts
+pub mod Transactions
+pub mod Keys
