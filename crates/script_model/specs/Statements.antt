@@ -1,0 +1,32 @@
+-- The statements of a script, and what a line says.
+use Rattle.std.specs.Prelude.{ℕ, List}
+
+-- what a new file's records are kept as: in numbered cells, at most so many
+pub data Form : Type 0 where
+  Relative : (records : ℕ) → Form
+
+-- what a file is marked with
+pub data Setting : Type 0 where
+  RecoveryUnits : Setting
+
+-- what is asked of a node; buckets are counted in blocks, records in bytes
+pub data Request : Type 0 where
+  Init : Request
+  Boot : Request
+  Create : (file : List ℕ) → (bucket size : ℕ) → Form → Request
+  SetFile : (file : List ℕ) → Setting → Request
+  StartTrans : (label : List ℕ) → Request
+  Put : (label file : List ℕ) → (number : ℕ) → (bytes : List ℕ) → Request
+  EndTrans : (label : List ℕ) → Request
+  AbortTrans : (label : List ℕ) → Request
+  Dump : (file : List ℕ) → Request
+
+-- a request to the node of this name
+pub data Statement : Type 0 where
+  At : (node : List ℕ) → Request → Statement
+
+-- what a line says: nothing, for it is skipped; a statement; or, from this column on, something else
+pub data Reading : Type 0 where
+  Blank : Reading
+  Says : Statement → Reading
+  Bad : (column : ℕ) → Reading
