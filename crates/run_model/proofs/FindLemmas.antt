@@ -1,0 +1,97 @@
+-- What is found by its name: after a change, and what holds of it.
+use Rattle.std.proofs.Common.{◌≡◌, ℕ, List, [], ◌∷◌, map, Bool, true, false, Option, Some, None, if◌then◌else◌, refl, sym, ◌∙◌, ap, subst}
+use Rattle.std.specs.Str.{bytes_eq}
+use Rattle.std.specs.Option.{option_map, option_and_then}
+use Rattle.std.proofs.lemmas.Bool.{both_ways}
+use Rattle.std.proofs.lemmas.Slice.Eq.{bytes_eq-Decides}
+use Rattle.vms_model.specs.Ids.{Id}
+use Rattle.records_model.specs.History.{same_id}
+use Rattle.run_model.specs.World.{World, Node, File, Branch, find_node, find_file, find_branch, labelled, with_node, with_file}
+use Rattle.run_model.specs.Answers.{branch_labelled}
+use Rattle.run_model.proofs.IdLemmas.{Each, id_is}
+
+-- texts test alike either way round
+pub either_way : (xs ys : List ℕ) → bytes_eq xs ys ≡ bytes_eq ys xs
+either_way xs ys = go (bytes_eq xs ys) (bytes_eq ys xs) refl refl
+  where
+    go : (a b : Bool) → bytes_eq xs ys ≡ a → bytes_eq ys xs ≡ b → a ≡ b
+    go true true e f = refl
+    go true false e f = absurd (both_ways _ f ((bytes_eq-Decides ys xs).1 (sym ((bytes_eq-Decides xs ys).0 e))))
+    go false true e f = absurd (both_ways _ e ((bytes_eq-Decides xs ys).1 (sym ((bytes_eq-Decides ys xs).0 f))))
+    go false false e f = refl
+
+-- Nodes.
+
+pub found_name : (node : List ℕ) (ns : List Node) (n : Node) → find_node node ns ≡ Some n → n.name ≡ node
+found_name node [] n e = let none : ⊥ = cc in absurd none
+found_name node (m ∷ ns) n e = go (bytes_eq node m.name) refl (found_name node ns n) e
+  where
+    go : (b : Bool) → bytes_eq node m.name ≡ b → (find_node node ns ≡ Some n → n.name ≡ node) → ◌≡◌ {A = Option Node} (if b then Some m else find_node node ns) (Some n) → n.name ≡ node
+    go true is more k = let same : m ≡ n = cc in sym (ap (λ x. x.name) same) ∙ sym ((bytes_eq-Decides node m.name).0 is)
+    go false is more k = more k
+
+pub found_each : (P : Node → Type 0) (node : List ℕ) (ns : List Node) (n : Node) → Each P ns → find_node node ns ≡ Some n → P n
+found_each P node [] n h e = let none : ⊥ = cc in absurd none
+found_each P node (m ∷ ns) n h e = go (bytes_eq node m.name) (found_each P node ns n h.1) e
+  where
+    go : (b : Bool) → (find_node node ns ≡ Some n → P n) → ◌≡◌ {A = Option Node} (if b then Some m else find_node node ns) (Some n) → P n
+    go true more k = let same : m ≡ n = cc in subst P same h.0
+    go false more k = more k
+
+-- the node of this name, after it was changed
+pub changed_node : (node : List ℕ) (change : Node → Node) (ns : List Node) → ((n : Node) → (change n).name ≡ n.name) → find_node node (with_node node change ns) ≡ option_map change (find_node node ns)
+changed_node node change [] named = refl
+changed_node node change (m ∷ ns) named = go (bytes_eq node m.name) refl (changed_node node change ns named)
+  where
+    go : (b : Bool) → bytes_eq node m.name ≡ b → find_node node (with_node node change ns) ≡ option_map change (find_node node ns) →
+        find_node node (if b then change m ∷ ns else m ∷ with_node node change ns) ≡ option_map change (if b then Some m else find_node node ns)
+    go true is more = rw (named m, is) refl
+    go false is more = rw is more
+
+-- Files.
+
+pub found_file_each : (P : File → Type 0) (file : List ℕ) (files : List File) (f : File) → Each P files → find_file file files ≡ Some f → P f
+found_file_each P file [] f h e = let none : ⊥ = cc in absurd none
+found_file_each P file (g ∷ files) f h e = go (bytes_eq file g.name) (found_file_each P file files f h.1) e
+  where
+    go : (b : Bool) → (find_file file files ≡ Some f → P f) → ◌≡◌ {A = Option File} (if b then Some g else find_file file files) (Some f) → P f
+    go true more k = let same : g ≡ f = cc in subst P same h.0
+    go false more k = more k
+
+pub changed_file : (file : List ℕ) (change : File → File) (files : List File) → ((f : File) → (change f).name ≡ f.name) → find_file file (with_file file change files) ≡ option_map change (find_file file files)
+changed_file file change [] named = refl
+changed_file file change (g ∷ files) named = go (bytes_eq file g.name) refl (changed_file file change files named)
+  where
+    go : (b : Bool) → bytes_eq file g.name ≡ b → find_file file (with_file file change files) ≡ option_map change (find_file file files) →
+        find_file file (if b then change g ∷ files else g ∷ with_file file change files) ≡ option_map change (if b then Some g else find_file file files)
+    go true is more = rw (named g, is) refl
+    go false is more = rw is more
+
+pub mapped_file : (file : List ℕ) (change : File → File) (files : List File) → ((f : File) → (change f).name ≡ f.name) → find_file file (map change files) ≡ option_map change (find_file file files)
+mapped_file file change [] named = refl
+mapped_file file change (g ∷ files) named =
+    subst (λ t. ◌≡◌ {A = Option File} (if t then Some (change g) else find_file file (map change files)) (option_map change (find_file file (g ∷ files)))) (sym (ap (bytes_eq file) (named g)))
+    (go (bytes_eq file g.name) (mapped_file file change files named))
+  where
+    go : (b : Bool) → find_file file (map change files) ≡ option_map change (find_file file files) →
+        ◌≡◌ {A = Option File} (if b then Some (change g) else find_file file (map change files)) (option_map change (if b then Some g else find_file file files))
+    go true more = refl
+    go false more = more
+
+-- Branches.
+
+found_serial : (serial : Id) (bs : List Branch) (b : Branch) → find_branch serial bs ≡ Some b → serial ≡ b.serial
+found_serial serial [] b e = let none : ⊥ = cc in absurd none
+found_serial serial (a ∷ bs) b e = go (same_id serial a.serial) refl (found_serial serial bs b) e
+  where
+    go : (t : Bool) → same_id serial a.serial ≡ t → (find_branch serial bs ≡ Some b → serial ≡ b.serial) → ◌≡◌ {A = Option Branch} (if t then Some a else find_branch serial bs) (Some b) → serial ≡ b.serial
+    go true is more k = let same : a ≡ b = cc in id_is serial a.serial is ∙ ap (λ x. x.serial) same
+    go false is more k = more k
+
+-- a label names the branch that it is found to name
+pub labelled_serial : (w : World) (n : Node) (label : List ℕ) (b : Branch) → branch_labelled w n label ≡ Some b → labelled n.name label w.labels ≡ Some b.serial
+labelled_serial w n label b e = go (labelled n.name label w.labels) refl e
+  where
+    go : (o : Option Id) → labelled n.name label w.labels ≡ o → option_and_then (λ serial. find_branch serial n.branches) o ≡ Some b → labelled n.name label w.labels ≡ Some b.serial
+    go (Some serial) is k = is ∙ ap Some (found_serial serial n.branches b k)
+    go None is k = let none : ⊥ = cc in absurd none

@@ -1,0 +1,87 @@
+-- Lists, and lists of ids.
+use Rattle.std.proofs.Common.{◌≡◌, List, [], ◌∷◌, ◌++◌, map, true, false, if◌then◌else◌, refl, sym, ap, subst, inl, inr}
+use Rattle.std.proofs.lemmas.Bool.{and_parts, and_from, cond_both, eqb-true, eq-eqb, false_from_ne_true, both_ways}
+use Rattle.std.proofs.lemmas.Slice.Eq.{bytes_eq-Decides}
+use Rattle.vms_model.specs.Ids.{Id}
+use Rattle.records_model.specs.History.{same_id}
+use Rattle.run_model.specs.Promises.{In}
+
+-- all of these are so
+abbrev pub Each : {A : Type 0} → (A → Type 0) → List A → Type 0
+Each P [] = Unit {0}
+Each P (x ∷ xs) = P x × Each P xs
+
+pub each_as : {A : Type 0} (P Q : A → Type 0) (xs : List A) → ((x : A) → P x → Q x) → Each P xs → Each Q xs
+each_as P Q [] f h = tt
+each_as P Q (x ∷ xs) f h = (f x h.0, each_as P Q xs f h.1)
+
+pub each_at : {A : Type 0} (P : A → Type 0) (x : A) (xs : List A) → Each P xs → In x xs → P x
+each_at P x [] h i = absurd i
+each_at P x (y ∷ xs) h i = elim i [ inl e ↦ subst P (sym e) h.0 | inr more ↦ each_at P x xs h.1 more ]
+
+pub each_push : {A : Type 0} (P : A → Type 0) (x : A) (xs : List A) → Each P xs → P x → Each P (xs ++ x ∷ [])
+each_push P x [] h k = (k, tt)
+each_push P x (y ∷ xs) h k = (h.0, each_push P x xs h.1 k)
+
+pub each_of_map : {A B : Type 0} (P : A → Type 0) (Q : B → Type 0) (f : A → B) (xs : List A) → ((x : A) → P x → Q (f x)) → Each P xs → Each Q (map f xs)
+each_of_map P Q f [] g h = tt
+each_of_map P Q f (x ∷ xs) g h = (g x h.0, each_of_map P Q f xs g h.1)
+
+pub in_front : {A : Type 0} (x : A) (xs ys : List A) → In x xs → In x (xs ++ ys)
+in_front x [] ys i = absurd i
+in_front x (y ∷ xs) ys i = elim i [ inl e ↦ inl e | inr more ↦ inr (in_front x xs ys more) ]
+
+pub in_map : {A B : Type 0} (f : A → B) (x : A) (xs : List A) → In x xs → In (f x) (map f xs)
+in_map f x [] i = absurd i
+in_map f x (y ∷ xs) i = elim i [ inl e ↦ inl (ap f e) | inr more ↦ inr (in_map f x xs more) ]
+
+-- ids that test as the same are the same, and no others
+pub id_is : (a b : Id) → same_id a b ≡ true → a ≡ b
+id_is a b h =
+    let whole = and_parts _ _ h in
+    let parts = and_parts _ _ whole.0 in
+    let node = (bytes_eq-Decides a.node b.node).0 parts.0 in
+    let boot = eqb-true a.boot b.boot parts.1 in
+    let seq = eqb-true a.seq b.seq whole.1 in
+    λ i. record { node = node i; boot = boot i; seq = seq i }
+
+pub id_itself : (a : Id) → same_id a a ≡ true
+id_itself a = and_from _ _ (and_from _ _ ((bytes_eq-Decides a.node a.node).1 refl) (eq-eqb a.boot a.boot refl)) (eq-eqb a.seq a.seq refl)
+
+pub id_other : (a b : Id) → same_id a b ≡ false → same_id b a ≡ false
+id_other a b h = false_from_ne_true _ (λ e. both_ways _ h (subst (λ x. same_id x b ≡ true) (id_is b a e) (id_itself b)))
+
+-- an id that is none of these, and ids that are all different
+abbrev pub Apart : Id → List Id → Type 0
+Apart x ys = Each (λ y. same_id x y ≡ false) ys
+
+abbrev pub Distinct : List Id → Type 0
+Distinct [] = Unit {0}
+Distinct (x ∷ xs) = Apart x xs × Distinct xs
+
+pub distinct_push : (x : Id) (xs : List Id) → Distinct xs → Each (λ y. same_id y x ≡ false) xs → Distinct (xs ++ x ∷ [])
+distinct_push x [] h k = (tt, tt)
+distinct_push x (y ∷ xs) h k = (each_push (λ z. same_id y z ≡ false) x xs h.0 k.0, distinct_push x xs h.1 k.1)
+
+-- the ids but for the first that is this one
+abbrev pub minus : Id → List Id → List Id
+minus s [] = []
+minus s (x ∷ xs) = if same_id s x then xs else x ∷ minus s xs
+
+pub each_minus : (P : Id → Type 0) (s : Id) (xs : List Id) → Each P xs → Each P (minus s xs)
+each_minus P s [] h = tt
+each_minus P s (x ∷ xs) h = cond_both (same_id s x) xs (x ∷ minus s xs) (Each P) (λ e. h.1) (λ e. (h.0, each_minus P s xs h.1))
+
+pub distinct_minus : (s : Id) (xs : List Id) → Distinct xs → Distinct (minus s xs)
+distinct_minus s [] h = tt
+distinct_minus s (x ∷ xs) h = cond_both (same_id s x) xs (x ∷ minus s xs) Distinct (λ e. h.1) (λ e. (each_minus (λ y. same_id x y ≡ false) s xs h.0, distinct_minus s xs h.1))
+
+pub apart_minus : (s : Id) (xs : List Id) → Distinct xs → Apart s (minus s xs)
+apart_minus s [] h = tt
+apart_minus s (x ∷ xs) h = cond_both (same_id s x) xs (x ∷ minus s xs) (Apart s) (λ e. subst (λ y. Apart y xs) (sym (id_is s x e)) h.0) (λ e. (e, apart_minus s xs h.1))
+
+pub in_minus : (s y : Id) (xs : List Id) → In y xs → same_id s y ≡ false → In y (minus s xs)
+in_minus s y [] i other = absurd i
+in_minus s y (x ∷ xs) i other = cond_both (same_id s x) xs (x ∷ minus s xs) (In y)
+    (λ e. elim i [ inl same ↦ absurd (both_ways _ other (subst (λ z. same_id s z ≡ true) (sym same) e)) | inr more ↦ more ])
+    (λ e. elim i [ inl same ↦ inl same | inr more ↦ inr (in_minus s y xs more other) ])

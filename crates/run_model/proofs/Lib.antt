@@ -1,0 +1,17 @@
+pub mod StepLemmas
+pub mod AnswerLemmas
+pub mod EffectLemmas
+pub mod CountLemmas
+pub mod IdLemmas
+pub mod FindLemmas
+pub mod Soundness
+pub mod ChangeLemmas
+pub mod HistoryLemmas
+pub mod NodeLemmas
+pub mod AgreementLemmas
+pub mod ActLemmas
+pub mod KeptLemmas
+pub mod FailureLemmas
+pub mod ToldLemmas
+pub mod PromiseLemmas
+pub mod TranscriptLemmas

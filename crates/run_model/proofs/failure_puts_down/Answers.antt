@@ -1,0 +1,5 @@
+use Rattle.run_model.proofs.FailureLemmas.{failures}
+use Rattle.run_model.proofs.failure_puts_down.Goals as goal
+
+pub returns : goal.returns
+returns c = failures

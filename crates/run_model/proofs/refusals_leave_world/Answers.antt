@@ -1,0 +1,5 @@
+use Rattle.run_model.proofs.EffectLemmas.{refusals}
+use Rattle.run_model.proofs.refusals_leave_world.Goals as goal
+
+pub returns : goal.returns
+returns c = refusals

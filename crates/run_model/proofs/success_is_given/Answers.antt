@@ -1,0 +1,5 @@
+use Rattle.run_model.proofs.CountLemmas.{successes}
+use Rattle.run_model.proofs.success_is_given.Goals as goal
+
+pub returns : goal.returns
+returns c = successes

@@ -1,0 +1,5 @@
+use Rattle.run_model.proofs.CountLemmas.{determined}
+use Rattle.run_model.proofs.transcript_is_determined.Goals as goal
+
+pub returns : goal.returns
+returns c = determined

@@ -1,0 +1,6 @@
+pub mod World
+pub mod Answers
+pub mod Steps
+pub mod Transcript
+pub mod Promises
+pub mod Laws
