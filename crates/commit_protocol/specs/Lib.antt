@@ -1,0 +1,11 @@
+pub mod Messages
+pub mod Table
+pub mod Rows
+pub mod Effects
+pub mod Allowed
+pub mod World
+pub mod Agreement
+pub mod Opening
+pub mod Reasons
+pub mod Limits
+pub mod Settling
