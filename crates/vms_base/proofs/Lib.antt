@@ -1,0 +1,5 @@
+pub mod NameLemmas
+pub mod IdLemmas
+pub mod DayLemmas
+pub mod DigitLemmas
+pub mod TimeLemmas

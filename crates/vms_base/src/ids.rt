@@ -1,0 +1,67 @@
+// Ids of transactions, branches and branch identifiers.
+ghost use Rattle.std.specs.Prelude.{◌≡◌, ℕ, List, ◌↔◌, Some};
+ghost use Rattle.std.specs.Option.{option_map};
+ghost use Rattle.vms_model.specs.Ids.{Id as IdSaid, IsId, id_bytes};
+ghost use Rattle.vms_base.specs.Ids.{id_of, until_zero};
+
+use crate::names::NodeName;
+
+/// A node, the number of its boot, and a number that was drawn in that boot.
+#[derive(Clone, Copy, Debug, Default, PartialEq, Eq, Drop)]
+pub struct Id {
+    pub node: NodeName,
+    pub boot: u32,
+    pub seq: u32,
+}
+
+/// The id of a transaction, drawn at its coordinator.
+#[derive(Clone, Copy, Debug, Default, PartialEq, Eq, Drop)]
+pub struct Tid(pub Id);
+
+/// The id of a branch, drawn at its node. A transaction's first branch has the transaction's id.
+#[derive(Clone, Copy, Debug, Default, PartialEq, Eq, Drop)]
+pub struct Serial(pub Id);
+
+/// The id by which a coordinator authorises a branch before it has a serial.
+#[derive(Clone, Copy, Debug, Default, PartialEq, Eq, Drop)]
+pub struct Bid(pub Id);
+
+/// Writes an id in 16 bytes: the node's name with zeros up to 8 bytes, then boot and sequence, low bytes first.
+pub fn put_id(id: &Id, out: &mut [u8; 16])
+    ensures bytes { out.new ≡ id_bytes (id_of id.now) }
+    ensures id { IsId (id_of id.now) }
+{
+    let n = id.node.padded();
+    let b = id.boot.to_le_bytes();
+    let s = id.seq.to_le_bytes();
+    *out = [
+        n[0], n[1], n[2], n[3], n[4], n[5], n[6], n[7], b[0], b[1], b[2], b[3], s[0], s[1], s[2],
+        s[3],
+    ];
+}
+
+// The bytes before the first zero.
+fn before_zero(bytes: &[u8]) -> &[u8]
+    ensures { result.now ≡ until_zero bytes.now }
+{
+    for (i, b) in bytes.iter().enumerate() {
+        if *b == 0 {
+            return &bytes[..i];
+        }
+    }
+    bytes
+}
+
+/// The id that is written in 16 bytes. None exactly where no id is written so.
+pub fn get_id(bytes: &[u8; 16]) -> Option<Id>
+    ensures { (id : IdSaid) → (option_map id_of result ≡ Some id) ↔ (IsId id × (id_bytes id ≡ bytes.now)) }
+{
+    let node = NodeName::new(before_zero(bytes.as_slice()))?;
+    let (_, rest) = bytes.split_at(8);
+    let boot = u32::from_le_bytes([rest[0], rest[1], rest[2], rest[3]]);
+    let seq = u32::from_le_bytes([rest[4], rest[5], rest[6], rest[7]]);
+    let id = Id { node, boot, seq };
+    let mut again = [0; 16];
+    put_id(&id, &mut again);
+    if again == *bytes { Some(id) } else { None }
+}

@@ -1,0 +1,24 @@
+//! Names, ids, keys, records and moments: the values that every layer speaks of.
+#![tactic(auto)]
+
+mod ids;
+mod keys;
+mod names;
+mod outcomes;
+mod protocol;
+mod records;
+mod short;
+mod text;
+mod times;
+
+pub use ids::{Bid, Id, Serial, Tid, get_id, put_id};
+pub use keys::{Key, KeyText};
+pub use names::{FileName, Label, NodeName, RmName};
+pub use outcomes::{Outcome, Reason};
+pub use protocol::{Kind, LogKind, LogRec, Reply, RmEvent, RmList, SerialList};
+pub use records::Record;
+pub use text::{find, is_word, part_at, read_digits};
+pub use times::{Moment, TimeErr, TimeText, read_time, write_time, written_times_are_read};
+
+#[cfg(test)]
+mod tests;
