@@ -1,0 +1,85 @@
+//! A platter over a file.
+ghost use Rattle.std.specs.Prelude.{◌≡◌, ℕ, None};
+ghost use Rattle.block_disk.specs.Counts.{counted, is_err};
+
+use crate::{Failed, Platter};
+use std::fs::File;
+use std::io::{self, Read, Seek, SeekFrom, Write};
+
+/// The blocks of a file, one after the other from its first byte on.
+///
+/// What the file holds is the system's word, so its content is untold. Each error of the system is a fault.
+#[derive(Drop)]
+pub struct FilePlatter {
+    file: File,
+    blocks: u32,
+    faults: u64,
+}
+
+impl FilePlatter {
+    /// The file has so many blocks of 512 bytes.
+    pub fn open(file: File, blocks: u32) -> FilePlatter
+        ensures size { ⟦<FilePlatter as Platter>⟧.size result ≡ blocks }
+        ensures faults { ⟦<FilePlatter as Platter>⟧.faults result ≡ 0 }
+    {
+        FilePlatter {
+            file,
+            blocks,
+            faults: 0,
+        }
+    }
+
+    // Counts an error.
+    fn note_error(&mut self, outcome: io::Result<()>) -> Result<(), Failed>
+        ensures faults { self.new.faults ≡ counted (is_err result) self.old.faults }
+        ensures exact { is_err result ≡ is_err outcome }
+        ensures blocks { self.new.blocks ≡ self.old.blocks }
+    {
+        match outcome {
+            Ok(()) => Ok(()),
+            Err(_) => {
+                self.faults = self.faults.saturating_add(1);
+                Err(Failed)
+            }
+        }
+    }
+}
+
+impl Platter for FilePlatter {
+    ghost size = { λ p. p.blocks };
+
+    ghost faults = { λ p. p.faults };
+
+    ghost content = { λ p. None };
+
+    ghost whole = { λ p. tt };
+
+    fn blocks(&self) -> u32 {
+        self.blocks
+    }
+
+    fn read(&mut self, n: u32, out: &mut [u8; 512]) -> Result<(), Failed> {
+        let outcome = read_block(&mut self.file, n, out);
+        self.note_error(outcome)
+    }
+
+    fn write(&mut self, n: u32, bytes: &[u8; 512]) -> Result<(), Failed> {
+        let outcome = write_block(&mut self.file, n, bytes);
+        self.note_error(outcome)
+    }
+
+    fn sync(&mut self) -> Result<(), Failed> {
+        let outcome = self.file.sync_all();
+        self.note_error(outcome)
+    }
+}
+
+fn read_block(file: &mut File, n: u32, out: &mut [u8; 512]) -> io::Result<()> {
+    file.seek(SeekFrom::Start(512 * u64::from(n)))?;
+    file.read_exact(out)
+}
+
+fn write_block(file: &mut File, n: u32, bytes: &[u8; 512]) -> io::Result<()> {
+    file.seek(SeekFrom::Start(512 * u64::from(n)))?;
+    file.write_all(bytes)
+}
