@@ -1,0 +1,7 @@
+mod Exits
+pub mod GroupParts
+pub mod Home
+pub mod Images
+mod Intents
+mod Loading
+pub mod Touched

@@ -1,0 +1,6 @@
+pub mod Content
+pub mod Down
+pub mod Load
+pub mod Parts
+pub mod State
+pub mod Steps

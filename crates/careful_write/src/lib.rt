@@ -1,0 +1,14 @@
+//! A disk whose content is changed by groups of blocks, each whole or not at all.
+#![tactic(auto)]
+
+mod down;
+mod group;
+mod law;
+mod load;
+mod store;
+#[cfg(test)]
+mod tests;
+
+pub use down::Down;
+pub use law::{one_content, power_keeps};
+pub use store::{Full, Group, HOME, OpenErr, Store};
