@@ -1,0 +1,4 @@
+pub mod MemoryLemmas
+pub mod WritesLemmas
+pub mod ReadingLemmas
+pub mod BufferedLemmas

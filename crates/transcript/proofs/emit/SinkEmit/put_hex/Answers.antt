@@ -1,0 +1,14 @@
+use Rattle.std.proofs.Common.{refl, ◌∙◌}
+use Rattle.transcript_model.proofs.LineLemmas.{hex_more}
+use Rattle.transcript.proofs.BufferedLemmas.{appends2, appends_none}
+use Rattle.transcript.proofs.emit.SinkEmit.put_hex.Goals as goal
+
+pub loop-b-init : goal.loop-b-init
+loop-b-init g c = record { same_sink = refl; number = refl; appends = appends_none _ }
+
+pub loop-b-preserved : goal.loop-b-preserved
+loop-b-preserved g c = record {
+  same_sink = cc;
+  number = cc;
+  appends = appends2 _ _ _ _ _ _ c.loop-b.invariant.appends c.put.ensures.appends (hex_more c.args.bytes.now c.loop-b.b-index c.loop-b-test.true ∙ rw (c.hex_digit.ensures, c.hex_digit-in-loop-b.ensures) refl);
+}

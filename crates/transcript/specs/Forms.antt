@@ -1,0 +1,50 @@
+-- The lines that the code's forms are.
+use Rattle.vms_model.specs.Times.{CanBeWritten}
+use Rattle.vms_base.specs.Ids.{id_of, tid_of, serial_of}
+use Rattle.vms_base.specs.Keys.{key_of}
+use Rattle.vms_base.specs.Outcomes.{reason_of}
+use Rattle.transcript_model.specs.Lines as model
+use Rattle.transcript.specs.declared.form.Cause.{Cause}
+use Rattle.transcript.specs.declared.form.Cause.TheVariants as cause
+use Rattle.transcript.specs.declared.form.Quota.{Quota}
+use Rattle.transcript.specs.declared.form.Quota.TheVariants as quota
+use Rattle.transcript.specs.declared.form.Form.{Form}
+use Rattle.transcript.specs.declared.form.Form.TheVariants as form
+
+abbrev pub cause_of : Cause → model.Cause
+cause_of cause.Failed = model.Failed
+cause_of cause.Stopped = model.Stopped
+
+abbrev pub quota_of : Quota → model.Quota
+quota_of quota.Branches = model.Branches
+
+-- what the form shows
+abbrev pub line_of : Form → model.Line
+line_of (form.Record key bytes) = model.Record (key_of key) bytes.now
+line_of (form.Committed tid serial moment) = model.Committed (tid_of tid) (serial_of serial) moment.0
+line_of (form.Aborted tid serial reason moment) = model.Aborted (tid_of tid) (serial_of serial) (reason_of reason) moment.0
+line_of (form.Down node cause) = model.Down node (cause_of cause)
+line_of form.Normal = model.Normal
+line_of (form.NormalCount n) = model.NormalCount n
+line_of (form.NormalId id) = model.NormalId (id_of id)
+line_of form.RecordNormal = model.RecordNormal
+line_of form.NoSuchNode = model.NoSuchNode
+line_of form.NodeDown = model.NodeDown
+line_of form.BadLabel = model.BadLabel
+line_of form.FileNotFound = model.FileNotFound
+line_of form.BadRecordNumber = model.BadRecordNumber
+line_of form.BadRecordSize = model.BadRecordSize
+line_of form.NoSuchTransaction = model.NoSuchTransaction
+line_of (form.FileLocked serial) = model.FileLocked (serial_of serial)
+line_of form.RecordExists = model.RecordExists
+line_of (form.QuotaExceeded quota limit) = model.QuotaExceeded (quota_of quota) limit
+line_of form.NoMemory = model.NoMemory
+line_of (form.Broken cause) = model.Broken (cause_of cause)
+line_of (form.BadLine column) = model.BadLine column
+line_of form.TooLong = model.TooLong
+
+-- a moment that the form shows can be written: it is at most 31-DEC-9999 23:59:59.99
+abbrev pub HasTime : Form → Type 0
+HasTime (form.Committed tid serial moment) = CanBeWritten moment.0
+HasTime (form.Aborted tid serial reason moment) = CanBeWritten moment.0
+HasTime _ = Unit {0}

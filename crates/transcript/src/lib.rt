@@ -1,0 +1,19 @@
+//! Where a script comes from, how its lines are read, and how a transcript's lines are written.
+#![tactic(auto)]
+
+mod adapters;
+mod emit;
+mod form;
+mod lines;
+mod memory;
+mod outside;
+
+pub use adapters::{ReaderSource, WriterSink};
+pub use emit::{Emit, LineBuffer, SinkEmit, emitting_composes};
+pub use form::{Cause, Form, Quota};
+pub use lines::{LineReader, Next};
+pub use memory::{MemSink, MemSource};
+pub use outside::{Failed, Sink, Source};
+
+#[cfg(test)]
+mod tests;

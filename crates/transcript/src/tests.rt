@@ -1,0 +1,181 @@
+use crate::{
+    Cause, Emit, Form, LineReader, MemSink, MemSource, Next, Quota, ReaderSource, Sink, SinkEmit,
+    Source, WriterSink,
+};
+use std::io::{self, Read};
+use std::test::Fail;
+use vms_base::{Id, Key, Moment, NodeName, Reason, Record, Serial, Tid};
+
+// Gives at most so many bytes at a time.
+#[derive(Drop)]
+struct Pieces<'a> {
+    rest: &'a [u8],
+    most: usize,
+}
+
+impl Read for Pieces<'_> {
+    fn read(&mut self, buf: &mut [u8]) -> io::Result<usize> {
+        let n = self.rest.len().min(self.most).min(buf.len());
+        buf[..n].copy_from_slice(&self.rest[..n]);
+        self.rest = &self.rest[n..];
+        Ok(n)
+    }
+}
+
+#[test]
+fn lines_come_whole_from_pieces(rt: HostRuntime) -> Result<(), Fail> {
+    let lines: [&[u8]; 4] = [b"A: BOOT", b"", b"! \xFF\r", b"A: DUMP F"];
+    for most in 1..8usize {
+        let script = b"A: BOOT\n\n! \xFF\r\nA: DUMP F";
+        let mut source = ReaderSource::new(Pieces { rest: script, most });
+        let mut reader = LineReader::reserve(rt.alloc())?;
+        for line in &lines {
+            assert_eq!(rt; reader.next(&mut source), Next::Line, "in pieces of {most}");
+            assert_eq!(rt; reader.line(), *line);
+        }
+        assert_eq!(rt; reader.next(&mut source), Next::End);
+    }
+    Ok(())
+}
+
+// A script of one line.
+fn script_of(alloc: std::alloc::Global, length: usize, ended: bool) -> Result<Vec<u8>, Fail> {
+    let mut script = vec![in alloc; b'x'; length]?;
+    if ended {
+        script.push(b'\n')?;
+    }
+    Ok(script)
+}
+
+#[test]
+fn a_line_has_20000_bytes(rt: HostRuntime) -> Result<(), Fail> {
+    for (length, ended, want) in [
+        (20_000usize, true, Next::Line),
+        (20_000, false, Next::Line),
+        (20_001, true, Next::TooLong),
+        (20_001, false, Next::TooLong),
+        (1, false, Next::Line),
+        (0, true, Next::Line),
+        (0, false, Next::End),
+    ] {
+        let script = script_of(rt.alloc(), length, ended)?;
+        let mut source = MemSource::new(rt.alloc(), script);
+        let mut reader = LineReader::reserve(rt.alloc())?;
+        assert_eq!(rt; reader.next(&mut source), want, "{length} bytes");
+        if want == Next::Line {
+            assert_eq!(rt; reader.line().len(), length);
+            assert_eq!(rt; reader.next(&mut source), Next::End);
+        }
+    }
+    Ok(())
+}
+
+// Gives lines of 256 bytes with their line feeds, and no end.
+#[derive(Drop)]
+struct Endless {
+    at: u8,
+}
+
+impl Read for Endless {
+    fn read(&mut self, buf: &mut [u8]) -> io::Result<usize> {
+        for b in buf.iter_mut() {
+            self.at = self.at.wrapping_add(1);
+            *b = if self.at == 0 { b'\n' } else { b'x' };
+        }
+        Ok(buf.len())
+    }
+}
+
+#[test]
+fn a_script_has_64_mib(rt: HostRuntime) -> Result<(), Fail> {
+    let mut source = ReaderSource::new(Endless { at: 0 });
+    let mut reader = LineReader::reserve(rt.alloc())?;
+    for number in 0..262_144u32 {
+        assert_eq!(rt; reader.next(&mut source), Next::Line, "line {number}");
+    }
+    assert_eq!(rt; reader.next(&mut source), Next::TooLong);
+    Ok(())
+}
+
+#[test]
+fn a_source_fails_at_the_call_that_is_named(rt: HostRuntime) -> Result<(), Fail> {
+    for call in 1..4u32 {
+        let script = b"A: BOOT\n".to_vec(rt.alloc())?;
+        let mut source = MemSource::new(rt.alloc(), script);
+        source.fail(call)?;
+        let mut reader = LineReader::reserve(rt.alloc())?;
+        let want = match call {
+            1 => [Next::Failed, Next::Line, Next::End],
+            2 => [Next::Line, Next::Failed, Next::End],
+            _ => [Next::Line, Next::End, Next::Failed],
+        };
+        for next in want {
+            assert_eq!(rt; reader.next(&mut source), next, "read {call} fails");
+        }
+    }
+    Ok(())
+}
+
+// Writes two lines, and tells whether a write failed.
+fn two_lines<K: Sink>(rt: &HostRuntime, sink: &mut K) -> Result<bool, Fail> {
+    let mut out = SinkEmit::new(rt.alloc(), sink)?;
+    out.at(7);
+    out.emit(&Form::NodeDown);
+    out.emit(&Form::BadLine(4));
+    Ok(out.failed())
+}
+
+#[test]
+fn a_sink_fails_at_the_call_that_is_named(rt: HostRuntime) -> Result<(), Fail> {
+    let mut sink = MemSink::new(rt.alloc(), 40)?;
+    sink.fail(3)?;
+    assert!(rt; !two_lines(&rt, &mut sink)?);
+    assert!(rt; two_lines(&rt, &mut sink)?);
+    assert_eq!(rt; sink.bytes(), b"7 NODEDOWN\n7 BADLINE 4\n".as_slice());
+    let mut sink = MemSink::new(rt.alloc(), 15)?;
+    assert!(rt; two_lines(&rt, &mut sink)?);
+    assert_eq!(rt; sink.bytes(), b"7 NODEDOWN\n7 BA".as_slice());
+    Ok(())
+}
+
+fn id(seq: u32) -> Result<Id, Fail> {
+    let node = NodeName::new(b"a").ok_or("a name")?;
+    Ok(Id { node, boot: 1, seq })
+}
+
+#[test]
+fn lines_have_their_bytes(rt: HostRuntime) -> Result<(), Fail> {
+    let mut bytes = Vec::new(rt.alloc());
+    {
+        let mut sink = WriterSink::new(&mut bytes);
+        let mut out = SinkEmit::new(rt.alloc(), &mut sink)?;
+        let mut record = Record::reserve(rt.alloc())?;
+        let node = NodeName::new(b"a").ok_or("a name")?;
+        let (tid, serial) = (Tid(id(1)?), Serial(id(2)?));
+        record.set(b"x y");
+        out.at(12);
+        out.emit(&Form::Record(Key::Number(3), &record));
+        record.set(b"\"\xAF");
+        out.emit(&Form::Record(Key::Number(3), &record));
+        out.emit(&Form::Committed(tid, serial, Moment(445_343_760_000)));
+        out.emit(&Form::Aborted(tid, serial, Reason::Vetoed, Moment(1)));
+        out.emit(&Form::Down(node, Cause::Failed));
+        out.emit(&Form::NormalCount(2));
+        out.emit(&Form::NormalId(tid.0));
+        out.emit(&Form::QuotaExceeded(Quota::Branches, 1));
+        out.emit(&Form::BadLine(4));
+        out.usage();
+    }
+    let want = b"12 RECORD 3 \"x y\"\n\
+12 RECORD 3 %X22AF\n\
+12 COMMIT A.1.1 A.1.2 \"1-JAN-2000 10:00:00.00\"\n\
+12 ABORT A.1.1 A.1.2 DDTM$_VETOED \"17-NOV-1858 00:00:00.01\"\n\
+12 DOWN A FAULT\n\
+12 SS$_NORMAL 2\n\
+12 SS$_NORMAL A.1.1\n\
+12 SS$_EXQUOTA BRANCHES 1\n\
+12 BADLINE 4\n\
+usage: dtm RUN NODE=IMAGE ... or dtm MAKE n start\n";
+    assert_eq!(rt; bytes.as_slice(), want.as_slice());
+    Ok(())
+}
