@@ -1,0 +1,110 @@
+-- A column is told exactly where no statement goes on.
+use Rattle.std.proofs.Common.{◌≡◌, ℕ, inl, inr, List, [], ◌∷◌, ◌++◌, Bool, true, false, refl, ap, sym, ◌∙◌, Option, Some, None}
+use Rattle.std.specs.Prelude.{if◌then◌else◌}
+use Rattle.script_model.specs.LineWords.{Word, words_of}
+use Rattle.script_model.specs.Statements.{Statement, Reading, Blank, Says, Bad}
+use Rattle.script_model.specs.Grammar.{Kind, Meaning, meaning, APrefix, AVerb, ALabel, AFile, ANumber, SomeBytes, Verb, StartTrans, Put, EndTrans, AbortTrans, Dump, Shape, Ends, Then, EndsOr, reads, operands, line_shape, is_skipped}
+use Rattle.script_lang.specs.Where.{CanGoOn, TellsWhere, LineTellsWhere}
+
+-- there is such a word
+record Sample (k : Kind) : Type 0 where
+  text : List ℕ
+  meant : Meaning k
+  says : meaning k text ≡ Some meant
+
+-- each word that a shape may want can be written
+abbrev IsWritable : Shape → Type 0
+IsWritable (Ends s) = Unit {0}
+IsWritable (Then k next) = Sample k × ((m : Meaning k) → IsWritable (next m))
+IsWritable (EndsOr s shape) = IsWritable shape
+
+not_says : (column : ℕ) (s : Statement) → Bad column ≡ Says s → ⊥
+not_says column s h = cc
+
+takes_word : (k : Kind) (next : Meaning k → Shape) (w : Word) (ws : List Word) (end : ℕ) (m : Meaning k) → meaning k w.text ≡ Some m → reads (Then k next) (w ∷ ws) end ≡ reads (next m) ws end
+takes_word k next w ws end m e = rw (e, reads) refl
+
+refuses_word : (k : Kind) (next : Meaning k → Shape) (w : Word) (ws : List Word) (end : ℕ) → meaning k w.text ≡ None → reads (Then k next) (w ∷ ws) end ≡ Bad w.column
+refuses_word k next w ws end e = rw (e, reads) refl
+
+-- every statement can be begun
+can_begin : (shape : Shape) → IsWritable shape → CanGoOn shape []
+can_begin (Ends s) h = record { more = []; statement = s; says = refl }
+can_begin (Then k next) h =
+    let rest = can_begin (next h.0.meant) (h.1 h.0.meant) in
+    let w : Word = record { column = 0; text = h.0.text } in
+    record { more = w ∷ rest.more; statement = rest.statement; says = takes_word k next w rest.more 0 h.0.meant h.0.says ∙ rest.says }
+can_begin (EndsOr s shape) h = record { more = []; statement = s; says = refl }
+
+onto_word : (k : Kind) (next : Meaning k → Shape) (w : Word) (ws : List Word) (m : Meaning k) → meaning k w.text ≡ Some m → CanGoOn (next m) ws → CanGoOn (Then k next) (w ∷ ws)
+onto_word k next w ws m e c = record { more = c.more; statement = c.statement; says = takes_word k next w (ws ++ c.more) 0 m e ∙ c.says }
+
+behind_word : (k : Kind) (next : Meaning k → Shape) (w : Word) (ws : List Word) (m : Meaning k) → meaning k w.text ≡ Some m → CanGoOn (Then k next) (w ∷ ws) → CanGoOn (next m) ws
+behind_word k next w ws m e c = record { more = c.more; statement = c.statement; says = sym (takes_word k next w (ws ++ c.more) 0 m e) ∙ c.says }
+
+one_more : (k : Kind) (next : Meaning k → Shape) (w : Word) (ws : List Word) (end : ℕ) (m : Meaning k) (r : Reading) → meaning k w.text ≡ Some m → TellsWhere (next m) ws end r → TellsWhere (Then k next) (w ∷ ws) end r
+one_more k next w ws end m Blank e t = t
+one_more k next w ws end m (Says s) e t = t
+one_more k next w ws end m (Bad column) e (inl t) = inl (record { column_is = t.column_is; goes_on = onto_word k next w ws m e t.goes_on })
+one_more k next w ws end m (Bad column) e (inr t) = inr (record { before = w ∷ t.before; word = t.word; after = t.after; words_are = ap (λ v. w ∷ v) t.words_are; column_is = t.column_is; goes_on = onto_word k next w t.before m e t.goes_on; breaks = λ c. t.breaks (behind_word k next w (t.before ++ t.word ∷ []) m e c) })
+
+by_meaning : (k : Kind) (next : Meaning k → Shape) (w : Word) (ws : List Word) (end : ℕ) (o : Option (Meaning k)) → meaning k w.text ≡ o → IsWritable (Then k next) → ((m : Meaning k) → TellsWhere (next m) ws end (reads (next m) ws end)) → TellsWhere (Then k next) (w ∷ ws) end (reads (Then k next) (w ∷ ws) end)
+by_meaning k next w ws end None e h rest =
+    rw (refuses_word k next w ws end e) (inr (record { before = []; word = w; after = ws; words_are = refl; column_is = refl; goes_on = can_begin (Then k next) h; breaks = λ c. not_says w.column c.statement (sym (refuses_word k next w c.more 0 e) ∙ c.says) }))
+by_meaning k next w ws end (Some m) e h rest = rw (takes_word k next w ws end m e) (one_more k next w ws end m (reads (next m) ws end) e (rest m))
+
+or_ends : (s : Statement) (shape : Shape) (before : List Word) → CanGoOn shape before → CanGoOn (EndsOr s shape) before
+or_ends s shape [] c = record { more = []; statement = s; says = refl }
+or_ends s shape (b ∷ bs) c = record { more = c.more; statement = c.statement; says = c.says }
+
+not_or_ends : (s : Statement) (shape : Shape) (before : List Word) (w : Word) → CanGoOn (EndsOr s shape) (before ++ w ∷ []) → CanGoOn shape (before ++ w ∷ [])
+not_or_ends s shape [] w c = record { more = c.more; statement = c.statement; says = c.says }
+not_or_ends s shape (b ∷ bs) w c = record { more = c.more; statement = c.statement; says = c.says }
+
+or_more : (s : Statement) (shape : Shape) (w : Word) (ws : List Word) (end : ℕ) (r : Reading) → TellsWhere shape (w ∷ ws) end r → TellsWhere (EndsOr s shape) (w ∷ ws) end r
+or_more s shape w ws end Blank t = t
+or_more s shape w ws end (Says x) t = t
+or_more s shape w ws end (Bad column) (inl t) = inl (record { column_is = t.column_is; goes_on = or_ends s shape (w ∷ ws) t.goes_on })
+or_more s shape w ws end (Bad column) (inr t) = inr (record { before = t.before; word = t.word; after = t.after; words_are = t.words_are; column_is = t.column_is; goes_on = or_ends s shape t.before t.goes_on; breaks = λ c. t.breaks (not_or_ends s shape t.before t.word c) })
+
+tells_where : (shape : Shape) → IsWritable shape → (ws : List Word) (end : ℕ) → TellsWhere shape ws end (reads shape ws end)
+tells_where (Ends s) h [] end = tt
+tells_where (Ends s) h (w ∷ ws) end = inr (record { before = []; word = w; after = ws; words_are = refl; column_is = refl; goes_on = can_begin (Ends s) h; breaks = λ c. not_says w.column c.statement c.says })
+tells_where (Then k next) h [] end = inl (record { column_is = refl; goes_on = can_begin (Then k next) h })
+tells_where (Then k next) h (w ∷ ws) end = by_meaning k next w ws end (meaning k w.text) refl h (λ m. tells_where (next m) (h.1 m) ws end)
+tells_where (EndsOr s shape) h [] end = tt
+tells_where (EndsOr s shape) h (w ∷ ws) end = or_more s shape w ws end (reads shape (w ∷ ws) end) (tells_where shape h (w ∷ ws) end)
+
+a_label : Sample ALabel
+a_label = record { text = 84 ∷ []; meant = 84 ∷ []; says = refl }
+
+a_file : Sample AFile
+a_file = record { text = 70 ∷ []; meant = 70 ∷ []; says = refl }
+
+a_number : Sample ANumber
+a_number = record { text = 49 ∷ []; meant = 1; says = refl }
+
+some_bytes : Sample SomeBytes
+some_bytes = record { text = 34 ∷ 34 ∷ []; meant = []; says = refl }
+
+a_verb : Sample AVerb
+a_verb = record { text = 68 ∷ 85 ∷ 77 ∷ 80 ∷ []; meant = Dump; says = refl }
+
+a_prefix : Sample APrefix
+a_prefix = record { text = 65 ∷ 58 ∷ []; meant = 65 ∷ []; says = refl }
+
+operands_writable : (n : List ℕ) (v : Verb) → IsWritable (operands n v)
+operands_writable n StartTrans = (a_label, λ l. tt)
+operands_writable n Put = (a_label, λ l. (a_file, λ f. (a_number, λ k. (some_bytes, λ b. tt))))
+operands_writable n EndTrans = (a_label, λ l. tt)
+operands_writable n AbortTrans = (a_label, λ l. tt)
+operands_writable n Dump = (a_file, λ f. tt)
+
+by_skipped : (b : Bool) (line : List ℕ) (r : Reading) → TellsWhere line_shape (words_of line).words (words_of line).end r → TellsWhere line_shape (words_of line).words (words_of line).end (if b then Blank else r)
+by_skipped true line r t = tt
+by_skipped false line r t = t
+
+pub line_tells_where : (line : List ℕ) → LineTellsWhere line
+line_tells_where line =
+    by_skipped (is_skipped (words_of line).words) line (reads line_shape (words_of line).words (words_of line).end)
+    (tells_where line_shape (a_prefix, λ n. (a_verb, λ v. operands_writable n v)) (words_of line).words (words_of line).end)

@@ -1,0 +1,4 @@
+pub mod Parting
+pub mod Reads
+pub mod Statements
+pub mod Where

@@ -1,0 +1,24 @@
+//! The grammar of scripts: what a line says, and at which column it says something else.
+#![tactic(auto)]
+
+mod command;
+mod grammar;
+mod known;
+mod laws;
+mod literals;
+mod opening;
+mod operands;
+mod statement;
+mod take;
+mod words;
+
+pub use command::is_run_form;
+pub use grammar::read_statement;
+pub use laws::columns_tell_where_no_statement_goes_on;
+pub use literals::{Literal, Literals};
+pub use opening::read_statement_at;
+pub use statement::{Form, Request, Setting, Statement};
+pub use words::LineErr;
+
+#[cfg(test)]
+mod tests;

@@ -1,0 +1,108 @@
+// Operands from the words of a line.
+ghost use Rattle.std.specs.Prelude.{◌≡◌};
+ghost use Rattle.script_model.specs.Grammar.{APrefix, AVerb, ALabel, AFile, ANumber, SomeBytes, TheWord};
+ghost use Rattle.script_lang.specs.Reads.{Takes, Finishes};
+ghost use Rattle.script_lang.specs.Statements.{verb_of};
+
+use crate::known::{read_known_file, read_known_node};
+use crate::literals::Literal;
+use crate::operands::{read_number, read_verb};
+use crate::statement::Verb;
+use crate::words::{LineErr, Word, Words};
+use vms_base::{FileName, Label, NodeName, is_word};
+
+impl Word<'_> {
+    // The error of a word that cannot stand where it does.
+    fn cannot_stand(&self) -> LineErr
+        ensures { result.column ≡ self.now.column }
+    {
+        LineErr {
+            column: self.column,
+        }
+    }
+}
+
+impl<'a> Words<'a> {
+    pub fn prefix(&mut self) -> Result<NodeName, LineErr>
+        ensures { Takes APrefix (λ n. n) self.old result self.new }
+    {
+        let word = self.word()?;
+        match read_known_node(word.text) {
+            Some(node) => Ok(node),
+            None => Err(word.cannot_stand()),
+        }
+    }
+
+    pub fn verb(&mut self) -> Result<Verb, LineErr>
+        ensures { Takes AVerb verb_of self.old result self.new }
+    {
+        let word = self.word()?;
+        match read_verb(word.text) {
+            Some(verb) => Ok(verb),
+            None => Err(word.cannot_stand()),
+        }
+    }
+
+    pub fn label(&mut self) -> Result<Label, LineErr>
+        ensures { Takes ALabel (λ l. l) self.old result self.new }
+    {
+        let word = self.word()?;
+        match Label::new(word.text) {
+            Some(label) => Ok(label),
+            None => Err(word.cannot_stand()),
+        }
+    }
+
+    pub fn file(&mut self) -> Result<FileName, LineErr>
+        ensures { Takes AFile (λ f. f) self.old result self.new }
+    {
+        let word = self.word()?;
+        match read_known_file(word.text) {
+            Some(file) => Ok(file),
+            None => Err(word.cannot_stand()),
+        }
+    }
+
+    pub fn number(&mut self) -> Result<u32, LineErr>
+        ensures { Takes ANumber (λ n. n) self.old result self.new }
+    {
+        let word = self.word()?;
+        match read_number(u64::from(u32::MAX), word.text) {
+            Some(n) => Ok(n as u32),
+            None => Err(word.cannot_stand()),
+        }
+    }
+
+    pub fn bytes(&mut self, to: &mut Literal) -> Result<(), LineErr>
+        ensures { Takes SomeBytes (λ _. to.new) self.old result self.new }
+    {
+        let word = self.word()?;
+        if to.take_bytes(word.text) {
+            Ok(())
+        } else {
+            Err(word.cannot_stand())
+        }
+    }
+
+    pub fn the_word(&mut self, name: &[u8]) -> Result<(), LineErr>
+        ensures { Takes (TheWord name.now) (λ _. tt) self.old result self.new }
+    {
+        let word = self.word()?;
+        if is_word(name, word.text) {
+            Ok(())
+        } else {
+            Err(word.cannot_stand())
+        }
+    }
+
+    /// The end of the line.
+    pub fn end(&mut self) -> Result<(), LineErr>
+        ensures { Finishes self.old result }
+    {
+        if self.is_at_end() {
+            return Ok(());
+        }
+        let word = self.word()?;
+        Err(word.cannot_stand())
+    }
+}
