@@ -1,0 +1,24 @@
+use Rattle.std.proofs.Common.{◌≡◌, ◌+◌, Bool, true, false, List, map, drop, refl, ap, sym, ◌∙◌}
+use Rattle.tm_types.specs.Parts.{child_of}
+use Rattle.tm_types.specs.declared.lists.Child.{Child}
+use Rattle.commit_protocol.specs.Messages.{same_id}
+use Rattle.vms_base.specs.Ids.{bid_of}
+use Rattle.commit_protocol.specs.Rows.{has_bid}
+use Rattle.tm_types.proofs.ListLemmas.{stepped}
+use Rattle.tm_types.proofs.lists.ChildList.has_bid.Goals as goal
+
+pub returns-then-same_id : goal.returns-then-same_id
+returns-then-same_id c =
+    let F : List Child → Bool = λ xs. has_bid (bid_of c.args.bid.now) (map child_of xs) in
+    let xs = c.items-c-items.result.now in
+    let x = c.c-item.result in
+    let e : same_id (bid_of x.bid) (bid_of c.args.bid.now) ≡ true = sym c.same_id.ensures ∙ c.if-same_id.true in
+    stepped F (F xs) xs c.loop-c.c-index x true c.loop-c-test.true c.c-item.is c.loop-c.invariant (rw e refl) ∙ ap F c.items-c-items.ensures.value
+
+pub loop-c-preserved : goal.loop-c-preserved
+loop-c-preserved c =
+    let F : List Child → Bool = λ xs. has_bid (bid_of c.args.bid.now) (map child_of xs) in
+    let xs = c.items-c-items.result.now in
+    let x = c.c-item.result in
+    let e : same_id (bid_of x.bid) (bid_of c.args.bid.now) ≡ false = sym c.same_id.ensures ∙ c.if-same_id.false in
+    stepped F (F xs) xs c.loop-c.c-index x (F (drop (c.loop-c.c-index + 1) xs)) c.loop-c-test.true c.c-item.is c.loop-c.invariant (rw e refl)

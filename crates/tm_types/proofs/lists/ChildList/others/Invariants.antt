@@ -1,0 +1,11 @@
+use Rattle.std.proofs.Common.{◌≡◌, ◌≤◌, ◌++◌, length, drop, map}
+use Rattle.commit_protocol.specs.Rows.{others}
+use Rattle.tm_types.specs.Parts.{child_of}
+use Rattle.vms_base.specs.Ids.{serial_of}
+use Rattle.tm_types.proofs.lists.ChildList.others.Given as goal
+
+abbrev pub invariant-loop-c : goal.invariant-loop-c
+invariant-loop-c l = record {
+  count : length l.list ≤ l.c-index;
+  made : map child_of l.list ++ others (serial_of l.serial) (map child_of (drop l.c-index l.c-items)) ≡ others (serial_of l.serial) (map child_of l.c-items);
+}

@@ -1,0 +1,9 @@
+use Rattle.std.proofs.Common.{◌≡◌, ◌&&◌, drop, map}
+use Rattle.std.specs.List.{list_any}
+use Rattle.commit_protocol.specs.Messages.{same_name}
+use Rattle.commit_protocol.specs.Allowed.{answers_waiting}
+use Rattle.tm_types.specs.Parts.{manager_of, reply_of}
+use Rattle.tm_types.proofs.lists.ManagerList.awaits.Given as goal
+
+abbrev pub invariant-loop-m : goal.invariant-loop-m
+invariant-loop-m l = list_any (λ m. same_name m.rm l.rm && answers_waiting m.event (reply_of l.reply)) (map manager_of (drop l.m-index l.m-items)) ≡ list_any (λ m. same_name m.rm l.rm && answers_waiting m.event (reply_of l.reply)) (map manager_of l.m-items)

@@ -1,0 +1,4 @@
+pub mod Parts
+pub mod Branches
+pub mod Events
+pub mod Effects
