@@ -1,0 +1,5 @@
+pub mod Whole
+pub mod Standing
+pub mod Served
+pub mod Rows
+pub mod Scripts

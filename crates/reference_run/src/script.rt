@@ -1,0 +1,198 @@
+// A whole script, line after line.
+ghost use Rattle.std.specs.Prelude.{true, OnOk, ◌≡◌, ◌+◌, ◌<◌, ◌≤◌, ℕ, List, [], ◌∷◌, length, take, drop, if◌then◌else◌, IfOk};
+ghost use Rattle.transcript_model.specs.Script.{ScriptLine, lines_of};
+ghost use Rattle.run_model.specs.Transcript.{Entry};
+ghost use Rattle.script_lang.specs.declared.literals.Literals.{Literals as LiteralsSaid};
+ghost use Rattle.reference_run.specs.Whole.{is_in_limits, run_of};
+ghost use Rattle.reference_run.specs.Scripts.{Feeds, Stands, Turns, Steps, RunsTo, exit_of};
+
+use crate::err::ReferenceErr;
+use crate::line::{Line, one, put_lines};
+use crate::running::{Running, serve_after};
+use script_lang::{Literals, read_statement_at};
+use std::alloc::Global;
+use std::mem::replace;
+
+/// How a script ended.
+#[derive(Clone, Copy, Debug, PartialEq, Eq, Drop)]
+pub enum Ending {
+    Done,
+    BadLine,
+    TooLong,
+}
+
+/// How a script ended, and what it showed.
+#[derive(Debug, Drop)]
+pub struct Shown {
+    pub ending: Ending,
+    pub text: Vec<u8>,
+}
+
+/// What was made of the lines so far.
+#[derive(Drop)]
+pub struct Reading {
+    pub said: usize,
+    pub number: u64,
+    pub size: usize,
+    pub running: Running,
+    pub literals: Literals,
+    pub text: Vec<u8>,
+}
+
+// Where the first line feed stands.
+fn feed_at(bytes: &[u8]) -> Option<usize>
+    ensures { Feeds bytes.now result }
+{
+    match bytes {
+        [] => None,
+        [b, rest @ ..] => {
+            if *b == b'\n' {
+                return Some(0);
+            }
+            match feed_at(rest) {
+                Some(n) => Some(n + 1),
+                None => None,
+            }
+        }
+    }
+}
+
+impl Reading {
+    /// Before the first line.
+    fn new(alloc: Global) -> Result<Reading, ReferenceErr>
+        ensures { IfOk result (λ r. Stands r []) }
+    {
+        Ok(Reading {
+            said: 0,
+            number: 1,
+            size: 0,
+            running: Running::new(alloc),
+            literals: Literals::reserve(alloc)?,
+            text: Vec::new(alloc),
+        })
+    }
+
+    // Whether the next line is within the limits of a script.
+    fn is_in_limits(&self, line: &[u8], ended: bool) -> bool
+        ensures short { result ≡ true → length line.now ≤ 20000 }
+        ensures limits { (es : List Entry) → Stands self.now es → result ≡ is_in_limits es (record { text = line.now; ended = ended }) }
+    {
+        let size = line.len() + usize::from(ended);
+        line.len() <= 20_000
+            && self.size <= 67_108_864
+            && size <= 67_108_864 - self.size
+            && self.number <= 1_000_000
+    }
+
+    // A line is passed that says so many statements.
+    fn pass(&mut self, line: &[u8], ended: bool, said: usize) -> Result<bool, ReferenceErr>
+        ensures on { IfOk result (λ on. on ≡ true) }
+        ensures said { OnOk result (self.new.said ≡ self.old.said + said) }
+        ensures number { OnOk result (self.new.number ≡ self.old.number + 1) }
+        ensures size { OnOk result (self.new.size ≡ self.old.size + (length line.now + (if ended then 1 else 0))) }
+        ensures text { self.new.text ≡ self.old.text }
+        ensures running { self.new.running ≡ self.old.running }
+    {
+        let size = line.len().checked_add(usize::from(ended));
+        let (Some(size), Some(said), Some(number)) = (
+            size,
+            self.said.checked_add(said),
+            self.number.checked_add(1),
+        ) else {
+            return Err(ReferenceErr::Overflow);
+        };
+        let Some(size) = self.size.checked_add(size) else {
+            return Err(ReferenceErr::Overflow);
+        };
+        self.said = said;
+        self.number = number;
+        self.size = size;
+        Ok(true)
+    }
+
+    // Serves a line, and tells whether the script goes on behind it.
+    fn turn(&mut self, alloc: Global, line: &[u8], ended: bool) -> Result<bool, ReferenceErr>
+        requires { length line.now ≤ 20000 }
+        ensures { (es : List Entry) (more : List ScriptLine) → Stands self.old es → is_in_limits es (record { text = line.now; ended = ended }) ≡ true →
+            IfOk result (λ on. Turns self.old es (record { text = line.now; ended = ended }) more on self.new) }
+    {
+        match read_statement_at(self.said, line, &mut self.literals) {
+            Ok(None) => self.pass(line, ended, 0),
+            Ok(Some(statement)) => {
+                let lines = serve_after(
+                    self.said,
+                    &mut self.running,
+                    alloc,
+                    &statement,
+                    &self.literals,
+                )?;
+                put_lines(&mut self.text, self.number, lines.as_slice())?;
+                self.pass(line, ended, 1)
+            }
+            Err(e) => {
+                let lines = one(alloc, Line::BadLine(e.column))?;
+                put_lines(&mut self.text, self.number, lines.as_slice())?;
+                Ok(false)
+            }
+        }
+    }
+
+    // The same of a line that may be past the limits. None where the script goes on behind it.
+    fn one_line(
+        &mut self,
+        alloc: Global,
+        line: &[u8],
+        ended: bool,
+    ) -> Result<Option<Ending>, ReferenceErr>
+        ensures { (es : List Entry) (more : List ScriptLine) → Stands self.old es → IfOk result (λ ending. Steps self.old es (record { text = line.now; ended = ended }) more ending self.new) }
+    {
+        if self.is_in_limits(line, ended) {
+            if self.turn(alloc, line, ended)? {
+                Ok(None)
+            } else {
+                Ok(Some(Ending::BadLine))
+            }
+        } else {
+            let lines = one(alloc, Line::TooLong)?;
+            put_lines(&mut self.text, self.number, lines.as_slice())?;
+            Ok(Some(Ending::TooLong))
+        }
+    }
+}
+
+// Serves the lines that are left, and tells how the script ended.
+fn run_on(alloc: Global, reading: &mut Reading, rest: &[u8]) -> Result<Ending, ReferenceErr>
+    ensures { (es : List Entry) → Stands reading.old es → IfOk result (λ ending. RunsTo reading.old es (lines_of rest.now) ending reading.new) }
+{
+    if rest.is_empty() {
+        return Ok(Ending::Done);
+    }
+    match feed_at(rest) {
+        Some(n) => match reading.one_line(alloc, &rest[..n], true) {
+            Ok(None) => run_on(alloc, reading, &rest[n + 1..]),
+            Ok(Some(ending)) => Ok(ending),
+            Err(e) => Err(e),
+        },
+        None => match reading.one_line(alloc, rest, false) {
+            Ok(None) => Ok(Ending::Done),
+            Ok(Some(ending)) => Ok(ending),
+            Err(e) => Err(e),
+        },
+    }
+}
+
+/// What a script shows where no disk fails, from its first line on, and how it ends.
+///
+/// An error comes only where there is no memory, where a number has more than 32 bits, or where a moment is past the year 9999.
+pub fn reference_transcript(alloc: Global, script: &[u8]) -> Result<Shown, ReferenceErr>
+    ensures { IfOk result (λ shown. record { exit = exit_of shown.ending; text = shown.text.items } ≡ run_of script.now) }
+{
+    let mut reading = Reading::new(alloc)?;
+    match run_on(alloc, &mut reading, script) {
+        Ok(ending) => Ok(Shown {
+            ending,
+            text: replace(&mut reading.text, Vec::new(alloc)),
+        }),
+        Err(e) => Err(e),
+    }
+}
