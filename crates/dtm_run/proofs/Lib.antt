@@ -1,0 +1,17 @@
+pub mod TopLemmas
+pub mod Driving
+pub mod RackLemmas
+pub mod CellLemmas
+pub mod EmptyFile
+pub mod Falling
+pub mod IdLemmas
+pub mod LabelLemmas
+pub mod ListingLemmas
+pub mod LiveLemmas
+pub mod Serving
+pub mod OpeningSteps
+pub mod UsesLemmas
+pub mod NamedLemmas
+pub mod NodeLemmas
+pub mod CellSteps
+pub mod UpLemmas

@@ -1,0 +1,50 @@
+-- What a rack has, and what it is refused.
+use Rattle.std.specs.Prelude.{◌≡◌, ℕ, ◌≤◌, ◌||◌, List, [], ◌∷◌, Bool, false, Option, Some, None, map, length, if◌then◌else◌, nat_lt, nat_le}
+use Rattle.std.specs.Str.{bytes_eq}
+use Rattle.std.specs.List.{list_any}
+use Rattle.block_disk.specs.Disk.{DiskState}
+use Rattle.dtm_run.specs.declared.rack.Rack.{Rack}
+use Rattle.dtm_run.specs.declared.rack.RackCause.{RackCause}
+use Rattle.dtm_run.specs.declared.rack.RackCause.TheVariants as cause
+
+-- the names of the nodes, in the rack's order
+abbrev pub names_in : {D : Type 0} → Rack D → List (List ℕ)
+names_in rack = map (λ place. place.name) rack.places.items
+
+-- the disks, in the same order
+abbrev pub disks_in : {D : Type 0} → Rack D → List D
+disks_in rack = map (λ place. place.disk) rack.places.items
+
+-- what the disks tell
+abbrev pub states_in : {D : Type 0} → (D → DiskState) → Rack D → List DiskState
+states_in state rack = map (λ place. state place.disk) rack.places.items
+
+-- whether a name is one of these
+abbrev pub is_among : List ℕ → List (List ℕ) → Bool
+is_among name names = list_any (λ other. bytes_eq other name) names
+
+-- Why a rack with these names refuses a node of this name and with a disk of so many blocks, where it does: the name is there, the disk is too small or too
+-- large, or there are 8 nodes.
+abbrev pub refusal_of : List (List ℕ) → List ℕ → ℕ → Option RackCause
+refusal_of names name size = if is_among name names then Some cause.Name else (if nat_lt size 4096 || nat_lt 65536 size then Some cause.Size else (if nat_le 8 (length names) then Some cause.Full else None))
+
+-- each disk has 4,096 to 65,536 blocks
+abbrev pub AreSized : List DiskState → Type 0
+AreSized [] = Unit {0}
+AreSized (disk ∷ disks) = (4096 ≤ disk.size) × (disk.size ≤ 65536) × AreSized disks
+
+-- no name is there twice
+abbrev pub AreApart : List (List ℕ) → Type 0
+AreApart [] = Unit {0}
+AreApart (name ∷ names) = (is_among name names ≡ false) × AreApart names
+
+-- A rack: nodes of different names, at most 8, whose disks are neither too small nor too large.
+pub record IsRack {D : Type 0} (state : D → DiskState) (rack : Rack D) : Type 0 where
+  pub apart : AreApart (names_in rack)
+  pub few : length (names_in rack) ≤ 8
+  pub sized : AreSized (states_in state rack)
+
+-- on no disk is a write pending
+abbrev pub AreSettled : List DiskState → Type 0
+AreSettled [] = Unit {0}
+AreSettled (disk ∷ disks) = (disk.pending ≡ []) × AreSettled disks
