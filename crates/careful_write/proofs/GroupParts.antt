@@ -2,13 +2,14 @@
 use Rattle.std.proofs.Common.{◌≡◌, inl, inr, ℕ, ◌<◌, ◌≤◌, ◌==◌, Bool, true, false, List, [], length, get_or, set, Option, Some, None, option_map, IfSome, MatchOption, IsSomeAnd, refl, sym, ◌∙◌, ap, subst, arith, length-set}
 use Rattle.std.proofs.lemmas.Bool.Decides.{nat_tests}
 use Rattle.block_disk.specs.Blocks.{has_number, numbers_of, laid_from, laid_over, length-laid_from}
-use Rattle.block_disk.specs.Disk.{DiskState}
+use Rattle.block_disk.specs.Disk.{DiskState, MayLeave}
 use Rattle.careful_write.specs.Content.{home, laid_home, index_word, intents, fits, gate_open, content_of}
-use Rattle.careful_write.specs.State.{Leaves, IsEither}
+use Rattle.careful_write.specs.Load.{fitting}
+use Rattle.careful_write.specs.State.{Leaves, LeavesAsItWas, IsEither}
 use Rattle.careful_write.specs.Steps.{AgreesOff, Touches}
 use Rattle.careful_write.specs.Parts.{in_intents, in_gate, in_group, StandsAt, Stands}
-use Rattle.careful_write.proofs.Images.{closed_content, open_content, gate_agrees, home_agrees, intents_agree, length-intents_from, laid_agrees, laid_twice, home-laid, laid_is_off, set_is_off, home-set, gate-set}
-use Rattle.careful_write.proofs.Touched.{leaves_touched, touches_nothing, touches_same}
+use Rattle.careful_write.proofs.Images.{closed_fits, open_fits, closed_content, open_content, gate_agrees, home_agrees, intents_agree, length-intents_from, laid_agrees, laid_twice, home-laid, laid_is_off, set_is_off, home-set, gate-set}
+use Rattle.careful_write.proofs.Touched.{images_touched, leaves_touched, touches_nothing, touches_same}
 use Rattle.std.proofs.lemmas.List.{ext_get_or}
 
 abbrev Entry : Type 0
@@ -66,7 +67,7 @@ module _ (s0 : DiskState) (es : List Entry) where
   stop_intents s settled closed touched = leaves_touched in_intents s0 s (Either s0.seen es) touched settled (λ b image is agrees.
       let shut : gate_open image ≡ false = gate_agrees in_intents b image agrees refl ∙ closed_at b is in
       let same : content_of image ≡ home b = closed_content image shut ∙ home_agrees in_intents b image agrees off_intents_home in
-      subst (Either s0.seen es) (sym same) (is_before s0.seen es b is))
+      (closed_fits image shut, subst (Either s0.seen es) (sym same) (is_before s0.seen es b is)))
     where
       closed_at : (b : List (List ℕ)) → s0.seen ≡ Some b → gate_open b ≡ false
       closed_at b is = subst (λ (o : Told). IfSome o (λ c. gate_open c ≡ false)) is closed
@@ -81,10 +82,10 @@ module _ (s0 : DiskState) (es : List Entry) where
       (intents_agree in_gate b image agrees (λ n one few. off_gate n one) (few_words b es (length b) at.intents_are at.fit) ∙ at.intents_are)
       (ap (λ n. fits n es) agrees.size ∙ at.fit) (gate_open image) refl)
     where
-      cases : (image : List (List ℕ)) {b : List (List ℕ)} (at : StandsAt s0.seen es H g b) → home image ≡ H (home at.old) → intents image ≡ es → fits (length image) es ≡ true → (o : Bool) → gate_open image ≡ o → P (content_of image)
-      cases image at same_home are fit false shut = subst P (sym (closed_content image shut ∙ same_home)) (either at.old at.was).0
+      cases : (image : List (List ℕ)) {b : List (List ℕ)} (at : StandsAt s0.seen es H g b) → home image ≡ H (home at.old) → intents image ≡ es → fits (length image) es ≡ true → (o : Bool) → gate_open image ≡ o → (fitting image ≡ true) × P (content_of image)
+      cases image at same_home are fit false shut = (closed_fits image shut, subst P (sym (closed_content image shut ∙ same_home)) (either at.old at.was).0)
       cases image at same_home are fit true opened =
-          subst P (sym (open_content image es opened are fit ∙ ap (laid_from 518 es) same_home)) (either at.old at.was).1
+          (open_fits image es are fit, subst P (sym (open_content image es opened are fit ∙ ap (laid_from 518 es) same_home)) (either at.old at.was).1)
 
   -- a stop while the blocks are written leaves the content after
   pub stop_group : (s new : DiskState) → Stands s0 es s (λ h. h) true → s.pending ≡ [] → ((n : ℕ) → has_number n (numbers_of es) ≡ true → 518 ≤ n) → Touches (in_group es) s new → Leaves (IsAfter s0.seen es) new
@@ -92,8 +93,9 @@ module _ (s0 : DiskState) (es : List Entry) where
       let at = stands.each b is in
       let opened : gate_open image ≡ true = gate_agrees (in_group es) b image agrees (off_group es low 0 (omega arith)) ∙ at.gate_is in
       let are : intents image ≡ es = intents_agree (in_group es) b image agrees (λ n one few. off_group es low n few) (few_words b es (length b) at.intents_are at.fit) ∙ at.intents_are in
-      let same : content_of image ≡ laid_from 518 es (home at.old) = open_content image es opened are (ap (λ n. fits n es) agrees.size ∙ at.fit) ∙ laid_agrees es b image agrees ∙ ap (laid_from 518 es) at.home_is in
-      subst (IsAfter s0.seen es) (sym same) (is_exactly s0.seen es at.old at.was))
+      let fit : fits (length image) es ≡ true = ap (λ n. fits n es) agrees.size ∙ at.fit in
+      let same : content_of image ≡ laid_from 518 es (home at.old) = open_content image es opened are fit ∙ laid_agrees es b image agrees ∙ ap (laid_from 518 es) at.home_is in
+      (open_fits image es are fit, subst (IsAfter s0.seen es) (sym same) (is_exactly s0.seen es at.old at.was)))
 
   -- after the first part
   pub stands_intents : (s : DiskState) (size : ℕ) → IfSome s0.seen (λ b. gate_open b ≡ false) → Touches in_intents s0 s → IfSome s.seen (λ b. intents b ≡ es) → IfSome s.seen (λ b. length b ≡ size) → fits size es ≡ true → Stands s0 es s (λ h. h) false
@@ -222,8 +224,28 @@ stands_open s es says = record {
       record { old = b; was = is; home_is = refl; intents_are = at.1; gate_is = at.0; fit = at.2 };
 }
 
--- reads leave every content as it was
-pub stop_reading : (s new : DiskState) → s.pending ≡ [] → new.pending ≡ s.pending → new.seen ≡ s.seen → Leaves (λ c. Some c ≡ option_map content_of s.seen) new
-stop_reading s new settled pending seen =
-    leaves_touched (λ _. false) s new (λ c. Some c ≡ option_map content_of s.seen) (touches_same (λ _. false) s s new (touches_nothing (λ _. false) s) pending seen) settled
-    (λ b image is agrees. ap (λ c. Some (content_of c)) (ext_get_or [] image b agrees.size (λ i within. agrees.others i refl)) ∙ sym (ap (option_map content_of) is))
+-- reads leave just what is seen
+one_image : (s new : DiskState) (Q : List (List ℕ) → Type 0) → s.pending ≡ [] → new.pending ≡ s.pending → new.seen ≡ s.seen → ((b : List (List ℕ)) → s.seen ≡ Some b → Q b) → (image : List (List ℕ)) → MayLeave new image → Q image
+one_image s new Q settled pending seen holds =
+    images_touched (λ _. false) s new Q (touches_same (λ _. false) s s new (touches_nothing (λ _. false) s) pending seen) settled
+    (λ b image is agrees. subst Q (sym (ext_get_or [] image b agrees.size (λ i within. agrees.others i refl))) (holds b is))
+
+pub stop_reading : (s new : DiskState) → s.pending ≡ [] → new.pending ≡ s.pending → new.seen ≡ s.seen → LeavesAsItWas s.seen new
+stop_reading s new settled pending seen = one_image s new (λ image. IsSomeAnd s.seen (λ b. (content_of image ≡ content_of b) × (fitting image ≡ fitting b))) settled pending seen
+    (λ b is. subst (λ (o : Told). IsSomeAnd o (λ c. (content_of b ≡ content_of c) × (fitting b ≡ fitting c))) (sym is) (refl, refl))
+
+-- where the gate is closed there is one content
+pub stop_closed : (s : DiskState) → s.pending ≡ [] → IfSome s.seen (λ b. gate_open b ≡ false) → Leaves (λ c. Some c ≡ option_map content_of s.seen) s
+stop_closed s settled closed = one_image s s (λ image. (fitting image ≡ true) × (Some (content_of image) ≡ option_map content_of s.seen)) settled refl refl
+    (λ b is. (closed_fits b (subst (λ (o : Told). IfSome o (λ c. gate_open c ≡ false)) is closed), sym (ap (option_map content_of) is)))
+
+-- a group that is finished leaves the content that gate and index said
+pub stop_finishing : (s new : DiskState) (es : List Entry) → IfSome s.seen (λ b. (gate_open b ≡ true) × (intents b ≡ es) × (fits (length b) es ≡ true)) → Leaves (IsAfter s.seen es) new → LeavesAsItWas s.seen new
+stop_finishing s new es says leaves image left = from s.seen refl
+  where
+    from : (o : Told) → s.seen ≡ o → IsSomeAnd o (λ b. (content_of image ≡ content_of b) × (fitting image ≡ fitting b))
+    from None none = let clash : ◌≡◌ {A = Told} (Some (content_of image)) None = (leaves image left).1 ∙ ap (laid_home es) none in absurd (cc)
+    from (Some b) told =
+        let at = subst (λ (o : Told). IfSome o (λ c. (gate_open c ≡ true) × (intents c ≡ es) × (fits (length c) es ≡ true))) told says in
+        let after : ◌≡◌ {A = Told} (Some (content_of image)) (Some (laid_from 518 es (home b))) = (leaves image left).1 ∙ ap (laid_home es) told in
+        (same_some _ _ after ∙ sym (open_content b es at.0 at.1 at.2), (leaves image left).0 ∙ sym (open_fits b es at.1 at.2))

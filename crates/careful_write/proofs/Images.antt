@@ -1,5 +1,5 @@
 -- The content of an image, by what stands in its parts.
-use Rattle.std.proofs.Common.{◌≡◌, ℕ, zero, suc, ◌<◌, ◌≤◌, ◌+◌, ◌/◌, ◌%◌, ◌==◌, ◌&&◌, Bool, true, false, List, [], ◌∷◌, length, get_or, set, drop, Option, Some, None, option_map, IfSome, unwrap_or, if◌then◌else◌, refl, sym, ◌∙◌, ap, subst, arith, length-drop, length-set, get_or-set_same, get_or-set_other}
+use Rattle.std.proofs.Common.{◌≡◌, ℕ, zero, suc, ◌<◌, ◌≤◌, ◌+◌, ◌/◌, ◌%◌, ◌==◌, ◌&&◌, ◌||◌, not, Bool, true, false, List, [], ◌∷◌, length, get_or, set, drop, Option, Some, None, option_map, IfSome, unwrap_or, if◌then◌else◌, refl, sym, ◌∙◌, ap, subst, arith, length-drop, length-set, get_or-set_same, get_or-set_other}
 use Rattle.std.proofs.lemmas.List.{get_or-drop, ext_get_or, drop-set-lt}
 use Rattle.std.proofs.lemmas.Bool.Decides.{nat_tests}
 use Rattle.block_disk.specs.Blocks.{block_at, found, laid_from, numbers_of, has_number, ascends, length-laid_from}
@@ -7,6 +7,7 @@ use Rattle.block_disk.proofs.Laid.{block_at-laid_from, laid_absent, none_has_not
 use Rattle.block_disk.proofs.Torn.{no_number}
 use Rattle.block_disk.specs.Disk.{DiskState}
 use Rattle.careful_write.specs.Content.{home, index_word, word_of, intents_from, intents, fits, all_below, gate_open, content_of}
+use Rattle.careful_write.specs.Load.{fitting}
 use Rattle.careful_write.specs.State.{IsIdle, IsReady, StoreState}
 use Rattle.careful_write.specs.Steps.{AgreesOff}
 
@@ -21,6 +22,18 @@ open_content image es opened is fit =
     ap (λ (g : Bool). if g && fits (length image) (intents image) then laid_from 518 (intents image) (home image) else home image) opened
     ∙ ap (λ (f : Bool). if f then laid_from 518 (intents image) (home image) else home image) (ap (fits (length image)) is ∙ fit)
     ∙ ap (λ (l : List Entry). laid_from 518 l (home image)) is
+
+-- a closed gate is in order
+pub closed_fits : (image : List (List ℕ)) → gate_open image ≡ false → fitting image ≡ true
+closed_fits image closed = ap (λ (g : Bool). not g || fits (length image) (intents image)) closed
+
+-- so is an open one before a group that fits
+pub open_fits : (image : List (List ℕ)) (es : List Entry) → intents image ≡ es → fits (length image) es ≡ true → fitting image ≡ true
+open_fits image es is fit = ap (λ (f : Bool). not (gate_open image) || f) (ap (fits (length image)) is ∙ fit) ∙ either (gate_open image)
+  where
+    either : (g : Bool) → (not g || true) ≡ true
+    either true = refl
+    either false = refl
 
 module _ (p : ℕ → Bool) (b image : List (List ℕ)) (agrees : AgreesOff p b image) where
   pub gate_agrees : p 0 ≡ false → gate_open image ≡ gate_open b

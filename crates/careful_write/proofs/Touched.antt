@@ -1,12 +1,13 @@
 -- Steps that write only some blocks.
 use Rattle.std.proofs.Common.{◌≡◌, inl, inr, ⊎_elim, ℕ, Bool, true, false, List, [], ◌∷◌, ◌+◌, ◌≤◌, Result, length, set, Option, Some, None, option_map, MatchOption, IfSome, IsSomeAnd, refl, sym, ◌∙◌, ap, subst, arith, length-set, get_or-set_other}
 use Rattle.block_disk.specs.Blocks.{has_number, with_number, SameBut}
-use Rattle.block_disk.specs.Disk.{DiskState, put, answered, is_failed, is_stopped, IsPowered}
+use Rattle.block_disk.specs.Disk.{DiskState, put, answered, is_failed, is_stopped, IsPowered, MayLeave}
 use Rattle.block_disk.specs.declared.disk.DiskErr.{DiskErr}
 use Rattle.block_disk.specs.Counts.{counted}
 use Rattle.std.proofs.lemmas.Bool.Decides.{nat_tests}
 use Rattle.block_disk.proofs.Laid.{has_number-with_number}
 use Rattle.careful_write.specs.Content.{content_of}
+use Rattle.careful_write.specs.Load.{fitting}
 use Rattle.careful_write.specs.State.{Leaves}
 use Rattle.careful_write.specs.Steps.{AgreesOff, Touches, Counts, Quiet}
 
@@ -55,8 +56,8 @@ touches_same p s0 s new touched pending seen = record {
 }
 
 -- each image that a power loss may leave agrees with what was seen while nothing was pending
-pub leaves_touched : (p : ℕ → Bool) (s0 s : DiskState) (P : List (List ℕ) → Type 0) → Touches p s0 s → s0.pending ≡ [] → ((b image : List (List ℕ)) → s0.seen ≡ Some b → AgreesOff p b image → P (content_of image)) → Leaves P s
-leaves_touched p s0 s P touched settled each image left = cases s0.seen s.seen refl touched.seen left
+pub images_touched : (p : ℕ → Bool) (s0 s : DiskState) (Q : List (List ℕ) → Type 0) → Touches p s0 s → s0.pending ≡ [] → ((b image : List (List ℕ)) → s0.seen ≡ Some b → AgreesOff p b image → Q image) → (image : List (List ℕ)) → MayLeave s image → Q image
+images_touched p s0 s Q touched settled each image left = cases s0.seen s.seen refl touched.seen left
   where
     off_pending : (n : ℕ) → p n ≡ false → (b : Bool) → has_number n s.pending ≡ b → has_number n s.pending ≡ false
     off_pending n off false is = is
@@ -65,7 +66,7 @@ leaves_touched p s0 s P touched settled each image left = cases s0.seen s.seen r
         (λ on. let both : true ≡ false = sym on ∙ off in absurd (cc))
         (touched.pending n is)
 
-    cases : (o0 o : Option (List (List ℕ))) → s0.seen ≡ o0 → MatchOption o0 (o ≡ None) (λ b. IsSomeAnd o (AgreesOff p b)) → IsSomeAnd o (λ seen. SameBut s.pending seen image) → P (content_of image)
+    cases : (o0 o : Option (List (List ℕ))) → s0.seen ≡ o0 → MatchOption o0 (o ≡ None) (λ b. IsSomeAnd o (AgreesOff p b)) → IsSomeAnd o (λ seen. SameBut s.pending seen image) → Q image
     cases None None is h l = absurd l
     cases None (Some c) is h l = absurd (cc)
     cases (Some b) None is h l = absurd l
@@ -73,6 +74,9 @@ leaves_touched p s0 s P touched settled each image left = cases s0.seen s.seen r
       size = l.size ∙ h.size;
       others = λ n off. l.others n (off_pending n off _ refl) ∙ h.others n off;
     })
+
+pub leaves_touched : (p : ℕ → Bool) (s0 s : DiskState) (P : List (List ℕ) → Type 0) → Touches p s0 s → s0.pending ≡ [] → ((b image : List (List ℕ)) → s0.seen ≡ Some b → AgreesOff p b image → (fitting image ≡ true) × P (content_of image)) → Leaves P s
+leaves_touched p s0 s P touched settled each = images_touched p s0 s (λ image. (fitting image ≡ true) × P (content_of image)) touched settled each
 
 -- an answer after quiet steps
 pub quiet_put : (n : ℕ) (b : List ℕ) (s0 s new : DiskState) → Quiet s0 s → new ≡ put n b s → Quiet s0 new
@@ -130,12 +134,12 @@ touches_then p q s0 s1 s2 first second within = record {
     both (Some a) (Some b) (Some c) h k = record { size = k.size ∙ h.size; others = λ n out. k.others n (off n out _ refl) ∙ h.others n out }
 
 -- what every image has, the disk has after `power`
-pub powered : (P : List (List ℕ) → Type 0) (old new : DiskState) → Leaves P old → IsPowered old new → IfSome new.seen (λ blocks. P (content_of blocks))
+pub powered : (P : List (List ℕ) → Type 0) (old new : DiskState) → Leaves P old → IsPowered old new → IfSome new.seen (λ blocks. (fitting blocks ≡ true) × P (content_of blocks))
 powered P old new leaves power = cases old.seen new.seen refl refl power.image
   where
-    cases : (o n : Option (List (List ℕ))) → old.seen ≡ o → new.seen ≡ n → MatchOption o (n ≡ None) (λ seen. IsSomeAnd n (SameBut old.pending seen)) → IfSome new.seen (λ blocks. P (content_of blocks))
-    cases None n is now h = subst (λ (o : Option (List (List ℕ))). IfSome o (λ blocks. P (content_of blocks))) (sym (now ∙ h)) tt
+    cases : (o n : Option (List (List ℕ))) → old.seen ≡ o → new.seen ≡ n → MatchOption o (n ≡ None) (λ seen. IsSomeAnd n (SameBut old.pending seen)) → IfSome new.seen (λ blocks. (fitting blocks ≡ true) × P (content_of blocks))
+    cases None n is now h = subst (λ (o : Option (List (List ℕ))). IfSome o (λ blocks. (fitting blocks ≡ true) × P (content_of blocks))) (sym (now ∙ h)) tt
     cases (Some b) None is now h = absurd h
     cases (Some b) (Some c) is now h =
-        subst (λ (o : Option (List (List ℕ))). IfSome o (λ blocks. P (content_of blocks))) (sym now)
+        subst (λ (o : Option (List (List ℕ))). IfSome o (λ blocks. (fitting blocks ≡ true) × P (content_of blocks))) (sym now)
         (leaves c (subst (λ (o : Option (List (List ℕ))). IsSomeAnd o (λ seen. SameBut old.pending seen c)) (sym is) h))

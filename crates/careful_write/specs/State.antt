@@ -1,8 +1,9 @@
 -- A store as its callers see it.
-use Rattle.std.specs.Prelude.{◌≡◌, ℕ, ◌<◌, ◌≤◌, ◌⊎◌, Bool, true, false, List, [], length, Option, Some, IfSome, option_map}
+use Rattle.std.specs.Prelude.{◌≡◌, ℕ, ◌<◌, ◌≤◌, ◌⊎◌, Bool, true, false, List, [], length, Option, Some, IfSome, IsSomeAnd, option_map}
 use Rattle.block_disk.specs.Blocks.{AllWhole, Table, ascends, block_at, has_number, numbers_of}
 use Rattle.block_disk.specs.Disk.{DiskState, IsPowered, MayLeave}
 use Rattle.careful_write.specs.Content.{content_of, gate_open}
+use Rattle.careful_write.specs.Load.{fitting}
 
 -- what a store is to its callers
 pub record StoreState : Type 0 where
@@ -24,9 +25,13 @@ InHome disk n = (518 ≤ n) × (n < disk.size)
 abbrev pub content : StoreState → Option (List (List ℕ))
 content s = option_map content_of s.disk.seen
 
--- every image that a power loss may leave has a content with P
+-- every image that a power loss may leave has a content with P, and its gate is closed or its group fits
 abbrev pub Leaves : (List (List ℕ) → Type 0) → DiskState → Type 0
-Leaves P disk = (image : List (List ℕ)) → MayLeave disk image → P (content_of image)
+Leaves P disk = (image : List (List ℕ)) → MayLeave disk image → (fitting image ≡ true) × P (content_of image)
+
+-- every image that a power loss may leave has the content that these blocks had, and its gate is closed or its group fits exactly where that was so of them
+abbrev pub LeavesAsItWas : Option (List (List ℕ)) → DiskState → Type 0
+LeavesAsItWas before disk = (image : List (List ℕ)) → MayLeave disk image → IsSomeAnd before (λ b. (content_of image ≡ content_of b) × (fitting image ≡ fitting b))
 
 -- a group may be applied: the store fits, nothing is pending and the gate is closed
 pub record IsReady (s : StoreState) : Type 0 where
@@ -61,7 +66,7 @@ IsEither before after c = (Some c ≡ before) ⊎ (Some c ≡ after)
 abbrev pub OneContent : Type 0
 OneContent = (s : StoreState) → IsReady s → Leaves (λ c. Some c ≡ content s) s.disk
 
--- one of two contents that every image has, the disk has after `power`
+-- one of two contents that every image has, the disk has after `power`, and its gate is closed or its group fits
 abbrev pub PowerKeeps : Type 0
 PowerKeeps = (before after : Option (List (List ℕ))) (old new : DiskState) → Leaves (IsEither before after) old → IsPowered old new
-    → IfSome new.seen (λ blocks. IsEither before after (content_of blocks))
+    → IfSome new.seen (λ blocks. (fitting blocks ≡ true) × IsEither before after (content_of blocks))

@@ -6,7 +6,8 @@ pub fn one_content()
     ensures { OneContent }
 {}
 
-/// Where every image has the content before a group or the content after it, the disk has one of them after `power`.
+/// Where every image has the content before a group or the content after it, the disk has one of them after `power`, and its gate is closed or its
+/// group fits.
 pub fn power_keeps()
     ensures { PowerKeeps }
 {}

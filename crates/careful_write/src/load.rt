@@ -3,7 +3,7 @@ ghost use Rattle.std.specs.Prelude.{◌≡◌, ◌<◌, ◌≤◌, ◌+◌, ◌-
 ghost use Rattle.block_disk.specs.Blocks.{AllWhole, has_number, numbers_of, ascends, block_at};
 ghost use Rattle.block_disk.specs.Disk.{answered};
 ghost use Rattle.careful_write.specs.Content.{home, gate_open, intents, content_of, laid_home, word_of, index_word};
-ghost use Rattle.careful_write.specs.State.{InHome, Leaves};
+ghost use Rattle.careful_write.specs.State.{InHome, LeavesAsItWas};
 ghost use Rattle.careful_write.specs.Load.{Says, LoadsOnly, fitting};
 ghost use Rattle.careful_write.specs.Steps.{Counts};
 
@@ -124,7 +124,8 @@ pub(crate) fn open_group<D: Disk>(disk: &mut D, group: &mut BlockTable) -> Resul
     ensures fits { IfOk result (λ fits. IfSome (D.state disk.old).seen (λ blocks. fits ≡ fitting blocks)) }
     ensures settled { OnOk result ((D.state disk.new).pending ≡ []) }
     ensures unfit { IfOk result (λ fits. fits ≡ false → D.state disk.new ≡ D.state disk.old) }
-    ensures err { OnErr result (Leaves (λ c. Some c ≡ option_map content_of (D.state disk.old).seen) (D.state disk.new)) }
+    ensures shut { OnOk result (IfSome (D.state disk.old).seen (λ blocks. gate_open blocks ≡ false → D.state disk.new ≡ D.state disk.old)) }
+    ensures err { OnErr result (LeavesAsItWas (D.state disk.old).seen (D.state disk.new)) }
     ensures counts { Counts result (D.state disk.old) (D.state disk.new) }
     ensures room { group.new.room ≡ 513 }
 {

@@ -1,10 +1,11 @@
 //! A store of blocks over a disk: blocks are staged, and applied together.
 ghost use Rattle.std.specs.Prelude.{◌≡◌, ◌+◌, ◌<◌, ◌≤◌, ◌⊎◌, ◌-◌, ℕ, List, [], true, false, Some, None, IsSome, IsOk, IfOk, IfErr, IfSome, OnOk, OnErr, IsErr, length, option_map, slice_set};
 ghost use Rattle.block_disk.specs.Blocks.{block_at, found, has_number, with_number};
-ghost use Rattle.careful_write.specs.Content.{home, content_of};
+ghost use Rattle.block_disk.specs.Disk.{armed};
+ghost use Rattle.careful_write.specs.Content.{home, content_of, gate_open};
 ghost use Rattle.careful_write.specs.Down.{answered, Counts, CountsDown, went_down};
 ghost use Rattle.careful_write.specs.Load.{fitting};
-ghost use Rattle.careful_write.specs.State.{EachWhole, InHome, IsEither, IsIdle, IsReady, Leaves, content};
+ghost use Rattle.careful_write.specs.State.{EachWhole, InHome, IsEither, IsIdle, IsReady, Leaves, LeavesAsItWas, content};
 ghost use Rattle.careful_write.specs.Steps.{Quiet};
 ghost use Rattle.std.specs.Borrow.{Lends, sem};
 ghost use Rattle.careful_write.specs.contracts.store.Store.{the_row};
@@ -87,7 +88,7 @@ pub struct OpenErr<D> {
 }
 
 impl<D: Disk> Store<D> {
-    /// Finishes an open group. It changes no content. Where the group does not fit, it writes nothing.
+    /// Finishes an open group. It changes no content. Where the gate is closed or the group does not fit, it writes nothing.
     pub fn open(mut disk: D, group: Group, pool: Pool) -> Result<Store<D>, OpenErr<D>>
         requires settled { (D.state disk).pending ≡ [] }
         requires size { 4096 ≤ (D.state disk).size }
@@ -100,7 +101,8 @@ impl<D: Disk> Store<D> {
         ensures fits { IfOk result (λ store. IfSome (D.state disk).seen (λ blocks. store.fits ≡ fitting blocks)) }
         ensures unfit { IfOk result (λ store. store.fits ≡ false → store.disk ≡ D.state disk) }
         ensures quiet { IfOk result (λ store. Quiet (D.state disk) store.disk) }
-        ensures err { IfErr result (λ e. Leaves (λ c. Some c ≡ option_map content_of (D.state disk).seen) (D.state e.disk)) }
+        ensures shut { IfOk result (λ store. IfSome (D.state disk).seen (λ blocks. gate_open blocks ≡ false → store.disk ≡ D.state disk)) }
+        ensures err { IfErr result (λ e. LeavesAsItWas (D.state disk).seen (D.state e.disk)) }
         ensures counts { IfErr result (λ e. CountsDown e.down (D.state disk) (D.state e.disk)) }
         ensures pool_back { IfErr result (λ e. e.pool ≡ pool) }
     {
@@ -247,6 +249,13 @@ impl<D: Disk> Store<D> {
         write_group(&mut self.disk, &self.staged)?;
         self.staged.clear();
         Ok(())
+    }
+
+    /// Arms the disk: after so many further writes it stops, and its next power loss damages what is pending by this choice.
+    pub fn arm(&mut self, writes: u32, choice: u64)
+        ensures { self.new ≡ record self.old { disk = armed writes choice self.old.disk } }
+    {
+        self.disk.arm(writes, choice);
     }
 
     /// Drops what was staged, so that reads give the content.

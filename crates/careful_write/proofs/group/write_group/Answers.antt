@@ -44,7 +44,7 @@ returns-in_err-finish-clause-err g c =
     let s2 = g.D.Disk.state c.write_gate.new.disk in
     let gate = c.in_ok-write_gate.ensures.seen in
     let stands2 = stands_gate s0 es s1 s2 (λ h. h) false true gate.0 s0.size stands1 gate.2 (ap (λ (k : ℕ). k == 1) gate.1) long1 (omega (arith, c.requires.size)) in
-    on_err_so c.from_residual-in_err-finish.result (λ image left. inr (c.in_err-finish.ensures.err image left ∙ laid_standing s0 es s2 stands2))
+    on_err_so c.from_residual-in_err-finish.result (λ image left. let l = c.in_err-finish.ensures.err image left in (l.0, inr (l.1 ∙ laid_standing s0 es s2 stands2)))
 
 pub returns-clause-content : goal.returns-clause-content
 returns-clause-content g c =
