@@ -1,0 +1,13 @@
+//! Where the files of a volume lie, and which blocks are free.
+#![tactic(auto)]
+
+mod extent;
+mod fits;
+mod runs;
+
+pub use extent::{Extent, all_extents, extents_of};
+pub use fits::first_misfit;
+pub use runs::{free_run, longest_free};
+
+#[cfg(test)]
+mod tests;

@@ -1,0 +1,8 @@
+//! The head of a file, which says where its buckets lie, and pieces of bytes.
+#![tactic(auto)]
+
+mod bytes;
+mod head;
+
+pub use bytes::{splice, splice_zeros};
+pub use head::{FileHead, Marks, Organization, Save, Span};

@@ -1,0 +1,5 @@
+pub mod Splices
+pub mod Names
+pub mod Homes
+pub mod Readings
+pub mod Heads
