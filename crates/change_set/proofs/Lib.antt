@@ -1,0 +1,6 @@
+pub mod BucketLaws
+pub mod Changes
+pub mod Extents
+pub mod Frames
+pub mod Loading
+pub mod NumberKeys

@@ -1,0 +1,7 @@
+pub mod CellLaws
+pub mod CellMoves
+pub mod LayoutLaws
+pub mod MakeLaws
+pub mod MapLaws
+pub mod Places
+pub mod Scans

@@ -1,0 +1,57 @@
+//! A cell: the record's length, and room for the longest record.
+ghost use Rattle.std.specs.Prelude.{◌≡◌, ◌≤◌, ◌<◌, ◌+◌, ◌*◌, ℕ, true, false, Some, None, IfSome, IfNone, length};
+ghost use Rattle.file_base.specs.Bytes.{piece_at, spliced};
+ghost use Rattle.relative_file.specs.Cells.{record_in, cell_of, FirstIn, NoneIn};
+
+use file_base::{splice, splice_zeros};
+use vms_base::Record;
+
+/// The record of a cell, where it has one.
+pub fn read_cell(bytes: &[u8], at: usize, mrs: usize, out: &mut Record) -> bool
+    requires within { at + mrs + 2 ≤ length bytes.now }
+    requires longest { mrs ≤ 8160 }
+    ensures some { result ≡ true → record_in mrs (piece_at bytes.now at (mrs + 2)) ≡ Some out.new }
+    ensures none { result ≡ false → record_in mrs (piece_at bytes.now at (mrs + 2)) ≡ None }
+{
+    let size = bytes[at] as usize + 256 * bytes[at + 1] as usize;
+    if size == 0 || size > mrs {
+        return false;
+    }
+    out.set(&bytes[at + 2..at + 2 + size]);
+    true
+}
+
+/// The first cell of a bucket that has a record, from cell `from` on and up to below cell `to`.
+pub fn first_record(
+    bytes: &[u8],
+    mrs: usize,
+    from: usize,
+    to: usize,
+    out: &mut Record,
+) -> Option<usize>
+    requires within { 16 + to * (mrs + 2) ≤ length bytes.now }
+    requires small { length bytes.now ≤ 8192 }
+    requires longest { mrs ≤ 8160 }
+    ensures found { IfSome result (λ k. FirstIn mrs bytes.now from to k out.new) }
+    ensures none { IfNone result (NoneIn mrs bytes.now from to) }
+{
+    for k in from..to {
+        if read_cell(bytes, 16 + k * (mrs + 2), mrs, out) {
+            return Some(k);
+        }
+    }
+    None
+}
+
+/// Writes a cell with this record, and zeros behind it; an absent one has no bytes.
+pub fn write_cell(bytes: &mut [u8], at: usize, mrs: usize, value: &[u8])
+    requires within { at + mrs + 2 ≤ length bytes.old }
+    requires longest { mrs ≤ 8160 }
+    requires holds { length value.now ≤ mrs }
+    ensures { bytes.new ≡ spliced bytes.old at (cell_of mrs value.now) }
+{
+    let size = value.len();
+    splice(bytes, at, &[(size % 256) as u8, (size / 256) as u8]);
+    splice(bytes, at + 2, value);
+    splice_zeros(bytes, at + 2 + size, mrs - size);
+}

@@ -1,0 +1,104 @@
+//! The empty relative file.
+ghost use Rattle.std.specs.Prelude.{◌≡◌, ◌≤◌, ◌<◌, ◌+◌, ◌-◌, ◌*◌, ◌/◌, ℕ, List, Option, Some, None, [], length, take, OnOk, OnErr, IfSome, option_map};
+ghost use Rattle.careful_write.specs.Down.{Counts};
+ghost use Rattle.careful_write.specs.State.{IsIdle};
+ghost use Rattle.frame_pool.specs.Pool.{IsOut};
+ghost use Rattle.change_set.specs.Buckets.{frame_of, with_frame};
+ghost use Rattle.change_set.specs.Files.{IsPlaced, free_frames, in_extent, AgreesOut, LeavesOut, unstaged};
+ghost use Rattle.relative_file.specs.Cells.{IsRelative, cells_in, empty_bucket, EmptyTo, Empties};
+
+use block_disk::Disk;
+use careful_write::{Down, Store};
+use change_set::{give_frame, stage_bucket, take_frame};
+use file_base::{FileHead, splice, splice_zeros};
+use frame_pool::Frame;
+
+// Writes a bucket of absent cells over the front of some bytes.
+fn fill_empty(head: &FileHead, bytes: &mut [u8])
+    requires long { length bytes.old ≡ 8192 }
+    requires one { 1 ≤ head.now.bucket }
+    requires blocks { head.now.bucket ≤ 16 }
+    requires records { head.now.mrs + 32 ≤ 512 * head.now.bucket }
+    ensures { take (512 * head.now.bucket) bytes.new ≡ empty_bucket head.now }
+{
+    let size = 512 * head.bucket as usize;
+    let width = head.mrs as usize + 2;
+    let cells = (size - 16) / width;
+    let used = cells * width;
+    splice_zeros(bytes, 0, size);
+    splice(
+        bytes,
+        0,
+        &[
+            2,
+            0,
+            (cells % 256) as u8,
+            (cells / 256) as u8,
+            (used % 256) as u8,
+            (used / 256) as u8,
+            0,
+            0,
+            255,
+            255,
+            255,
+            255,
+            0,
+            0,
+            0,
+            0,
+        ],
+    );
+}
+
+// Fills the front of a frame with a bucket of absent cells.
+fn fill_frame<D: Disk>(head: &FileHead, store: &mut Store<D>, frame: &Frame)
+    requires out { IsOut store.old.pool frame.now }
+    requires one { 1 ≤ head.now.bucket }
+    requires blocks { head.now.bucket ≤ 16 }
+    requires records { head.now.mrs + 32 ≤ 512 * head.now.bucket }
+    ensures put { store.new ≡ with_frame frame.now (frame_of store.new.pool frame.now) store.old }
+    ensures front { take (512 * head.now.bucket) (frame_of store.new.pool frame.now) ≡ empty_bucket head.now }
+{
+    let bytes = store.pool().bytes_mut(frame);
+    fill_empty(head, bytes);
+}
+
+// Writes the i-th bucket, in a group of its own.
+fn write_empty<D: Disk>(head: &FileHead, store: &mut Store<D>, i: u32) -> Result<(), Down>
+    requires placed { IsPlaced head.now store.old.disk }
+    requires there { i < head.now.alloc }
+    requires idle { IsIdle store.old }
+    requires frames { 1 ≤ free_frames store.old.pool }
+    ensures ok { OnOk result (Empties head.now i store.old.current store.new.current) }
+    ensures idle { OnOk result (IsIdle store.new) }
+    ensures whole { IfSome store.old.current (λ b. length b + 518 ≡ store.old.disk.size) }
+    ensures down { OnErr result (LeavesOut (in_extent head.now) store.old.current store.new.disk) }
+    ensures counts { Counts result store.old.disk store.new.disk }
+    ensures pool { store.new.pool ≡ store.old.pool }
+{
+    let first = head.start + i * head.bucket as u32;
+    let frame = take_frame(store);
+    fill_frame(head, store, &frame);
+    stage_bucket(store, &frame, first, head.bucket);
+    give_frame(store, frame);
+    store.apply()
+}
+
+/// Writes all buckets of the empty map.
+pub fn make_file<D: Disk>(head: &FileHead, store: &mut Store<D>) -> Result<(), Down>
+    requires form { IsRelative head.now }
+    requires placed { IsPlaced head.now store.old.disk }
+    requires idle { IsIdle store.old }
+    requires frames { 1 ≤ free_frames store.old.pool }
+    ensures ok { OnOk result (IfSome store.new.current (EmptyTo head.now head.now.alloc)) }
+    ensures idle { OnOk result (IsIdle store.new) }
+    ensures outside { OnOk result (AgreesOut (in_extent head.now) store.old.current store.new.current) }
+    ensures down { OnErr result (LeavesOut (in_extent head.now) store.old.current store.new.disk) }
+    ensures counts { Counts result store.old.disk store.new.disk }
+    ensures pool { store.new.pool ≡ store.old.pool }
+{
+    for i in 0..head.alloc {
+        write_empty(head, store, i)?;
+    }
+    Ok(())
+}

@@ -1,0 +1,133 @@
+//! A relative file as a map from numbers to records.
+ghost use Rattle.std.specs.Prelude.{◌≡◌, ◌≤◌, ◌<◌, ◌+◌, ◌-◌, ◌*◌, ℕ, List, Bool, true, false, Option, Some, None, [], length, OnOk, OnErr, IfOk, IfSome, IfNone, option_map, unwrap_or};
+ghost use Rattle.std.specs.Option.{option_copied};
+ghost use Rattle.careful_write.specs.State.{StoreState};
+ghost use Rattle.vms_base.specs.Keys.{key_of};
+ghost use Rattle.relative_file.specs.Cells.{IsRelative};
+
+use crate::file::{get_cell, next_cell, set_cell};
+use crate::make::make_file;
+use block_disk::Disk;
+use careful_write::{Down, Store};
+use change_set::{Held, RecordFile, number_behind};
+use file_base::FileHead;
+use vms_base::{Key, Record};
+
+/// Files whose records stand in cells, numbered from 1 to the greatest record number. Every bucket is used, and a record
+/// may be set wherever the number has a cell.
+pub struct RelativeFile;
+
+// A record's bytes, or no bytes for none.
+fn value_bytes<'a>(value: Option<&'a Record>) -> &'a [u8]
+    ensures { result.now ≡ unwrap_or (option_copied value.entry) [] }
+{
+    match value {
+        Some(record) => record.bytes(),
+        None => &[],
+    }
+}
+
+impl RecordFile for RelativeFile {
+    ghost use Rattle.std.specs.Prelude.{ℕ, refl};
+    ghost use Rattle.relative_file.specs.Cells.{map_of, IsLaidOut, IsRelative, Suits, Anything};
+    ghost use Rattle.relative_file.specs.Local.{local_law, valid_local_law};
+
+    ghost map = { map_of };
+
+    ghost form = { IsRelative };
+
+    ghost fresh = { λ h. Anything };
+
+    ghost valid = { IsLaidOut };
+
+    ghost suits = { Suits };
+
+    ghost takes = { λ h blocks key value. Anything };
+
+    ghost room = { λ h blocks key. h.mrs };
+
+    ghost asks = { λ h blocks size. 0 };
+
+    ghost used_after = { λ h blocks held key value. h.used };
+
+    ghost local = { local_law };
+
+    ghost valid_local = { valid_local_law };
+
+    ghost room_local = { λ h a b form agrees key. refl };
+
+    fn get<D: Disk>(
+        head: &FileHead,
+        store: &mut Store<D>,
+        key: &Key,
+        out: &mut Record,
+    ) -> Result<bool, Down> {
+        match key {
+            Key::Number(n) => {
+                if *n == 0 || *n > head.mrn {
+                    return Ok(false);
+                }
+                let found = get_cell(head, store, *n, out);
+                if found.is_err() {
+                    store.unstage();
+                }
+                found
+            }
+            _ => Ok(false),
+        }
+    }
+
+    fn next<D: Disk>(
+        head: &FileHead,
+        store: &mut Store<D>,
+        after: Option<&Key>,
+        found: &mut Key,
+        out: &mut Record,
+    ) -> Result<bool, Down> {
+        let Some(from) = number_behind(after) else {
+            return Ok(false);
+        };
+        match next_cell(head, store, from, out) {
+            Ok(Some(n)) => {
+                *found = Key::Number(n);
+                Ok(true)
+            }
+            Ok(None) => Ok(false),
+            Err(down) => {
+                store.unstage();
+                Err(down)
+            }
+        }
+    }
+
+    fn set<D: Disk, H: Held>(
+        head: &mut FileHead,
+        store: &mut Store<D>,
+        key: &Key,
+        value: Option<&Record>,
+        _held: &H,
+    ) -> Result<(), Down> {
+        match key {
+            Key::Number(n) => {
+                let done = set_cell(head, store, *n, value_bytes(value));
+                if done.is_err() {
+                    store.unstage();
+                }
+                done
+            }
+            _ => Ok(()),
+        }
+    }
+
+    fn make<D: Disk>(head: &FileHead, store: &mut Store<D>) -> Result<(), Down> {
+        let done = make_file(head, store);
+        if done.is_err() {
+            store.unstage();
+        }
+        done
+    }
+
+    fn need<D: Disk>(_head: &FileHead, _store: &mut Store<D>, _size: u16) -> Result<u32, Down> {
+        Ok(0)
+    }
+}

@@ -1,0 +1,202 @@
+//! Two files beside each other: records are set, found, listed and removed.
+ghost use Rattle.std.specs.Prelude.{◌≡◌, ◌≤◌, ◌<◌, ◌*◌, ◌+◌, ◌/◌, ℕ, Bool, List, false, true, length, OnOk, IfOk, IfSome, Some, None, option_map, replicate};
+ghost use Rattle.std.specs.Option.{option_copied};
+ghost use Rattle.careful_write.specs.State.{IsIdle};
+ghost use Rattle.vms_base.specs.Keys.{key_of};
+ghost use Rattle.change_set.specs.Maps.{set_key};
+ghost use Rattle.change_set.specs.Files.{IsPlaced, free_frames, in_extent};
+ghost use Rattle.relative_file.specs.Cells.{IsRelative, IsLaidOut, has_cell};
+
+use crate::RelativeFile;
+use block_disk::{CrashDisk, Disk, MemPlatter};
+use careful_write::{Down, Group, Store};
+use change_set::{Held, RecordFile};
+use file_base::{FileHead, Marks, Organization, Save, Span};
+use frame_pool::Pool;
+use std::alloc::{AllocError, Global};
+use std::test::Fail;
+use vms_base::{FileName, Key, Moment, Record};
+
+const NO_MARKS: Marks = Marks {
+    ru: false,
+    ai: false,
+    bi: false,
+    save: false,
+};
+
+const NO_JOURNAL: Span = Span {
+    start: 0,
+    blocks: 0,
+    first: 0,
+    end: 0,
+};
+
+const NO_SAVE: Save = Save {
+    start: 0,
+    alloc: 0,
+    position: 0,
+    moment: Moment(0),
+    used: 0,
+    root: 0,
+    levels: 0,
+    count: 0,
+};
+
+struct NoneHeld;
+
+impl Held for NoneHeld {
+    ghost held = { λ none key. false };
+
+    fn is_held(&self, _key: &Key) -> bool {
+        false
+    }
+}
+
+// Sets a key of one file beside another, which keeps its map and its layout, and applies the change.
+fn set_beside<F: RecordFile, G: RecordFile, D: Disk, H: Held>(
+    head: &mut FileHead,
+    other: &FileHead,
+    store: &mut Store<D>,
+    key: &Key,
+    value: Option<&Record>,
+    held: &H,
+) -> Result<(), Down>
+    requires form { F.form head.old }
+    requires placed { IsPlaced head.old store.old.disk }
+    requires valid { IfSome store.old.current (F.valid head.old) }
+    requires frames { 32 ≤ free_frames store.old.pool }
+    requires idle { IsIdle store.old }
+    requires suits { F.suits head.old (key_of key.now) (option_copied value) }
+    requires takes { IfSome store.old.current (λ blocks. F.takes head.old blocks (key_of key.now) (option_copied value)) }
+    requires other_form { G.form other.now }
+    requires other_valid { IfSome store.old.current (G.valid other.now) }
+    requires apart { (n : ℕ) → in_extent other.now n ≡ true → in_extent head.old n ≡ false }
+    ensures map { OnOk result (option_map (F.map head.new) store.new.current ≡ option_map (λ blocks. set_key (key_of key.now) (option_copied value.entry) (F.map head.old blocks)) store.old.current) }
+    ensures beside { OnOk result (option_map (G.map other.now) store.new.current ≡ option_map (G.map other.now) store.old.current) }
+    ensures beside_valid { OnOk result (IfSome store.new.current (G.valid other.now)) }
+    ensures idle { OnOk result (IsIdle store.new) }
+{
+    F::set(head, store, key, value, held)?;
+    store.apply()?;
+    Ok(())
+}
+
+// A record for a number that has a cell, or none; it answers Ok and changes nothing where there is no such cell.
+fn put<D: Disk>(
+    head: &mut FileHead,
+    store: &mut Store<D>,
+    n: u32,
+    value: Option<&Record>,
+) -> Result<(), Down>
+    requires form { IsRelative head.old }
+    requires placed { IsPlaced head.old store.old.disk }
+    requires valid { IfSome store.old.current (IsLaidOut head.old) }
+    requires frames { 32 ≤ free_frames store.old.pool }
+    requires idle { IsIdle store.old }
+    requires there { has_cell head.old n ≡ true }
+    requires value { IfSome (option_copied value) (λ r. (1 ≤ length r) × (length r ≤ head.old.mrs)) }
+    ensures form { OnOk result (IsRelative head.new) }
+    ensures placed { OnOk result (IsPlaced head.new store.new.disk) }
+    ensures valid { OnOk result (IfSome store.new.current (IsLaidOut head.new)) }
+    ensures frames { OnOk result (32 ≤ free_frames store.new.pool) }
+    ensures idle { OnOk result (IsIdle store.new) }
+    ensures same { OnOk result ((head.new.mrs ≡ head.old.mrs) × (head.new.mrn ≡ head.old.mrn)) }
+{
+    RelativeFile::set(head, store, &Key::Number(n), value, &NoneHeld)?;
+    store.apply()
+}
+
+// Whether the file has records at these two numbers alone, the second with these bytes.
+fn has_two<D: Disk>(
+    head: &FileHead,
+    store: &mut Store<D>,
+    numbers: [u32; 2],
+    bytes: &[u8],
+    out: &mut Record,
+) -> Result<bool, Down>
+    requires form { IsRelative head.now }
+    requires placed { IsPlaced head.now store.old.disk }
+    requires valid { IfSome store.old.current (IsLaidOut head.now) }
+    requires frames { 32 ≤ free_frames store.old.pool }
+{
+    let [first, second] = [Key::Number(numbers[0]), Key::Number(numbers[1])];
+    let mut found = Key::End;
+    let starts = RelativeFile::next(head, store, None, &mut found, out)? && found == first;
+    let goes_on = RelativeFile::next(head, store, Some(&first), &mut found, out)?
+        && found == second;
+    let ends = !RelativeFile::next(head, store, Some(&second), &mut found, out)?;
+    let there = RelativeFile::get(head, store, &second, out)? && out.bytes() == bytes;
+    let absent = !RelativeFile::get(head, store, &Key::Number(1), out)?;
+    Ok(starts && goes_on && ends && there && absent)
+}
+
+// Makes a file, sets three records of it, removes one, and tells whether the two others are there.
+fn keeps_two<D: Disk>(
+    store: &mut Store<D>,
+    name: FileName,
+    value: &Record,
+    out: &mut Record,
+) -> Result<bool, Down>
+    requires frames { 32 ≤ free_frames store.old.pool }
+    requires idle { IsIdle store.old }
+    requires size { store.old.disk.size ≡ 4096 }
+    requires value { (1 ≤ length value.now) × (length value.now ≤ 10) }
+{
+    let mut head = FileHead {
+        name,
+        organization: Organization::Relative,
+        marks: NO_MARKS,
+        bucket: 1,
+        mrs: 10,
+        mrn: 80,
+        key_pos: 0,
+        key_size: 0,
+        start: 600,
+        alloc: 2,
+        used: 2,
+        root: 0,
+        levels: 0,
+        count: 0,
+        ai: NO_JOURNAL,
+        bi: NO_JOURNAL,
+        bi_since: Moment(0),
+        save: NO_SAVE,
+    };
+    RelativeFile::make(&head, store)?;
+    put(&mut head, store, 41, Some(value))?;
+    put(&mut head, store, 42, Some(value))?;
+    put(&mut head, store, 80, Some(value))?;
+    put(&mut head, store, 42, None)?;
+    has_two(&head, store, [41, 80], value.bytes(), out)
+}
+
+// None where the store did not open.
+fn run(alloc: Global) -> Result<Option<Result<bool, Down>>, AllocError> {
+    let disk = CrashDisk::new(alloc, MemPlatter::new(alloc, 4096)?)?;
+    let group = Group::reserve(alloc)?;
+    let pool = Pool::new(alloc, 32)?;
+    let mut value = Record::reserve(alloc)?;
+    value.set(b"ten bytes.");
+    let mut out = Record::reserve(alloc)?;
+    let Some(name) = FileName::new(b"F") else {
+        return Ok(None);
+    };
+    if disk.pending() != 0 || disk.blocks() != 4096 {
+        return Ok(None);
+    }
+    match Store::open(disk, group, pool) {
+        Ok(mut store) => {
+            if !store.fits() {
+                return Ok(None);
+            }
+            Ok(Some(keeps_two(&mut store, name, &value, &mut out)))
+        }
+        Err(_) => Ok(None),
+    }
+}
+
+#[test]
+fn records_are_found_where_they_were_set(rt: HostRuntime) -> Result<(), Fail> {
+    assert_eq!(rt; run(rt.alloc())?, Some(Ok(true)));
+    Ok(())
+}
