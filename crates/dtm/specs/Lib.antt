@@ -1,1 +1,4 @@
+pub mod Causes
+pub mod Commands
+pub mod Images
 pub mod Statuses

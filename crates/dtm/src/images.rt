@@ -1,12 +1,15 @@
-//! The image files of a command.
-ghost use Rattle.std.specs.Prelude.{◌≡◌, ◌≤◌, ◌*◌, ℕ, IfOk, IfSome, Some};
+//! The images that a command names, and the rack that has them.
+ghost use Rattle.std.specs.Prelude.{◌≡◌, ◌≤◌, ◌<◌, ◌*◌, ℕ, List, IfOk, IfErr, IfSome, OnErr, Some, None, MatchOption, [], map, string_bytes};
+ghost use Rattle.std.specs.Option.{option_map};
 ghost use Rattle.block_disk.specs.Disk.{DiskState};
-ghost use Rattle.dtm_run.specs.Racks.{states_in, IsRack, AreSettled};
+ghost use Rattle.dtm_run.specs.Racks.{names_in, disks_in, states_in, IsRack, AreSettled};
+ghost use Rattle.script_model.specs.Command.{is_disk_of};
+ghost use Rattle.dtm.specs.Images.{node_and_image as node_and_image_of, is_for, Store, IsFileOf, IsImageOf, IsFilled};
+ghost use Rattle.dtm.specs.Causes.{WhyUnopened, WhyUnfilled};
 
-use block_disk::{CrashDisk, Disk, FilePlatter, Platter};
+use block_disk::Disk;
 use dtm_run::{Rack, RackCause};
-use std::fs::{File, Files, OpenFile, OpenOptions};
-use std::io::{self, ErrorKind};
+use std::alloc::{AllocError, Global};
 use vms_base::NodeName;
 
 const BLOCK_BYTES: u64 = 512;
@@ -17,11 +20,46 @@ const MOST_BLOCKS: u64 = 65_536;
 
 const NEW_BLOCKS: u64 = 8_192;
 
+/// A call of the system failed.
+#[derive(Clone, Copy, Debug, PartialEq, Eq)]
+pub struct Failed;
+
+/// The files of a system, by their paths, and disks over them.
+pub trait ImageFiles {
+    type File: Drop;
+
+    type Image: Disk + Drop;
+
+    /// What the calls tell of files and images.
+    ghost store: { Self → Store Self.File Self.Image };
+
+    /// The file of a path. None where there is none.
+    fn open(&self, path: &str) -> Result<Option<Self::File>, Failed>
+        ensures opened { IfOk result (λ file. MatchOption file ((store self.now).missing path.now) (λ f. (store self.now).found path.now f)) }
+        ensures failed { OnErr result ((store self.now).failed path.now) };
+
+    /// A new file of so many zero bytes under a path.
+    fn make(&self, path: &str, bytes: u64) -> Result<Self::File, Failed>
+        ensures made { IfOk result (λ file. (store self.now).made path.now bytes file) }
+        ensures failed { OnErr result ((store self.now).failed path.now) };
+
+    /// How many bytes a file has, which has this path.
+    fn bytes(&self, path: &str, file: &Self::File) -> Result<u64, Failed>
+        ensures bytes { IfOk result (λ bytes. (store self.now).has_bytes file.now bytes) }
+        ensures failed { OnErr result ((store self.now).failed path.now) };
+
+    /// A disk over a file of so many blocks.
+    fn disk(&self, alloc: Global, file: Self::File, blocks: u32) -> Result<Self::Image, AllocError>
+        ensures over { IfOk result (λ image. (store self.now).over file image) }
+        ensures size { IfOk result (λ image. (Self.Image.state image).size ≡ blocks) }
+        ensures settled { IfOk result (λ image. (Self.Image.state image).pending ≡ []) };
+}
+
 /// Why the images of a command were not opened.
 #[derive(Clone, Copy, Debug, PartialEq, Eq)]
-pub enum OpenErr {
-    /// The image of the node behind so many others cannot be opened, or has another size than 4,096 to 65,536 whole blocks.
-    Image(usize),
+pub enum OpenErr<'a> {
+    /// The image of this path cannot be opened, or has another size than 4,096 to 65,536 whole blocks.
+    Image(&'a str),
     /// Memory is missing.
     Memory,
 }
@@ -39,34 +77,47 @@ pub fn blocks_in(bytes: u64) -> Option<u32>
     }
 }
 
-// Makes an image of 8,192 zero blocks.
-fn make_image<R: Files<File = File>>(rt: &R, path: &str) -> io::Result<File> {
-    let file = OpenOptions::new()
-        .read(true)
-        .write(true)
-        .create_new(true)
-        .open(rt, path)?;
-    file.set_len(NEW_BLOCKS * BLOCK_BYTES)?;
-    file.sync_all()?;
-    Ok(file)
-}
-
-// Opens an image, or makes it where it is missing.
-fn open_image<R: Files<File = File>>(rt: &R, path: &str) -> io::Result<FilePlatter>
-    ensures size { IfOk result (λ platter. (4096 ≤ ⟦<FilePlatter as Platter>⟧.size platter) × (⟦<FilePlatter as Platter>⟧.size platter ≤ 65536)) }
+// The file of a path, or a new one of 8,192 zero blocks where there is none.
+fn open_or_make<F: ImageFiles>(files: &F, path: &str) -> Result<F::File, Failed>
+    ensures file { IfOk result (λ file. IsFileOf (F.store files.now) path.now file) }
+    ensures failed { OnErr result ((F.store files.now).failed path.now) }
 {
-    let file = match OpenOptions::new().read(true).write(true).open(rt, path) {
-        Err(e) if e.kind() == ErrorKind::NotFound => make_image(rt, path)?,
-        opened => opened?,
-    };
-    match blocks_in(file.metadata()?.len()) {
-        Some(blocks) => Ok(FilePlatter::open(file, blocks)),
-        None => Err(io::Error::from(ErrorKind::InvalidData)),
+    match files.open(path)? {
+        Some(file) => Ok(file),
+        None => files.make(path, NEW_BLOCKS * BLOCK_BYTES),
     }
 }
 
-/// The node and the image that a word names, where it has the form `NODE=IMAGE`.
-pub fn node_and_image(word: &str) -> Option<(NodeName, &str)> {
+/// Opens the image of a path, or makes it where it is missing.
+fn open_image<'a, F: ImageFiles>(
+    files: &F,
+    alloc: Global,
+    path: &'a str,
+) -> Result<F::Image, OpenErr<'a>>
+    ensures image { IfOk result (λ image. IsImageOf (F.store files.now) (λ image. (F.Image.state image).size) path.now image) }
+    ensures settled { IfOk result (λ image. (F.Image.state image).pending ≡ []) }
+    ensures why { IfErr result (λ e. WhyUnopened (F.store files.now) path.now e) }
+{
+    let Ok(file) = open_or_make(files, path) else {
+        return Err(OpenErr::Image(path));
+    };
+    let Ok(bytes) = files.bytes(path, &file) else {
+        return Err(OpenErr::Image(path));
+    };
+    let Some(blocks) = blocks_in(bytes) else {
+        return Err(OpenErr::Image(path));
+    };
+    match files.disk(alloc, file, blocks) {
+        Ok(image) => Ok(image),
+        Err(_) => Err(OpenErr::Memory),
+    }
+}
+
+/// The node and the image that a word names. None exactly where it has not the form `NODE=IMAGE`.
+pub fn node_and_image(word: &str) -> Option<(NodeName, &str)>
+    ensures value { option_map (λ named. (named.0, named.1.now)) result ≡ node_and_image_of word.now }
+    ensures form { (node : List ℕ) → is_disk_of node word.now ≡ is_for node (node_and_image_of word.now) }
+{
     let (node, image) = word.split_once('=')?;
     if image.is_empty() {
         return None;
@@ -74,34 +125,36 @@ pub fn node_and_image(word: &str) -> Option<(NodeName, &str)> {
     Some((NodeName::new(node.as_bytes())?, image))
 }
 
-/// Opens the images that the words name, in order, up to the first word that names none, or a node that the rack refuses, and adds
-/// their nodes to the rack. A missing image is made, with 8,192 zero blocks.
-pub fn add_images<R: Files<File = File> + AllocGlobal>(
-    rt: &R,
-    words: &[String],
-    rack: Rack<CrashDisk<FilePlatter>>,
-) -> Result<Rack<CrashDisk<FilePlatter>>, OpenErr>
-    ensures rack { IsRack ⟦<CrashDisk<FilePlatter> as Disk>⟧.state rack → IfOk result (λ added. IsRack ⟦<CrashDisk<FilePlatter> as Disk>⟧.state added) }
-    ensures settled { AreSettled (states_in ⟦<CrashDisk<FilePlatter> as Disk>⟧.state rack) → IfOk result (λ added. AreSettled (states_in ⟦<CrashDisk<FilePlatter> as Disk>⟧.state added)) }
+/// Opens the images that the words name, in order, up to the first word that names none, or a node that the rack refuses for its
+/// name or because it is full, and adds their nodes to the rack. A missing image is made, with 8,192 zero blocks.
+pub fn add_images<'a, F: ImageFiles>(
+    files: &F,
+    alloc: Global,
+    words: &'a [String],
+    rack: Rack<F::Image>,
+) -> Result<Rack<F::Image>, OpenErr<'a>>
+    ensures filled { IfOk result (λ added. IsFilled (IsImageOf (F.store files.now) (λ image. (F.Image.state image).size)) (λ image. (F.Image.state image).size) (map string_bytes words.now) (names_in rack) (disks_in rack) (names_in added) (disks_in added)) }
+    ensures why { IfErr result (λ e. WhyUnfilled (F.store files.now) (λ image. (F.Image.state image).size) (names_in rack) (map string_bytes words.now) e) }
+    ensures rack { IsRack F.Image.state rack → IfOk result (λ added. IsRack F.Image.state added) }
+    ensures settled { AreSettled (states_in F.Image.state rack) → IfOk result (λ added. AreSettled (states_in F.Image.state added)) }
 {
     let mut rack = rack;
     let [word, rest @ ..] = words else {
         return Ok(rack);
     };
-    let Some((node, image)) = node_and_image(word.as_str()) else {
+    let Some(named) = node_and_image(word.as_str()) else {
         return Ok(rack);
     };
-    let Ok(platter) = open_image(rt, image) else {
-        return Err(OpenErr::Image(rack.len()));
+    let (node, path) = named;
+    let image = match open_image(files, alloc, path) {
+        Ok(image) => image,
+        Err(e) => return Err(e),
     };
-    let Ok(disk) = CrashDisk::new(rt.alloc(), platter) else {
-        return Err(OpenErr::Memory);
-    };
-    match rack.add(node, disk) {
-        Ok(()) => add_images(rt, rest, rack),
+    match rack.add(node, image) {
+        Ok(()) => add_images(files, alloc, rest, rack),
         Err(refused) => match refused.cause {
             RackCause::Name | RackCause::Full => Ok(rack),
-            RackCause::Size => Err(OpenErr::Image(rack.len())),
+            RackCause::Size => Err(OpenErr::Image(path)),
             RackCause::Memory => Err(OpenErr::Memory),
         },
     }

@@ -5,13 +5,17 @@
 ghost use Rattle.std.specs.Prelude.{◌≡◌};
 ghost use Rattle.dtm.specs.Statuses.{status_of as status_said};
 
+mod command;
 mod images;
+mod system;
 
-use dtm_run::{Exit, Rack, run};
-use images::{OpenErr, add_images, node_and_image};
+use command::run_command;
+use dtm_run::Exit;
+use images::OpenErr;
 use std::env;
 use std::io::{ErrorKind, writer};
 use std::process::ExitCode;
+use system::SystemFiles;
 use transcript::{ReaderSource, WriterSink};
 
 const CANNOT_OPEN: u8 = 7;
@@ -31,14 +35,6 @@ fn status_of(exit: Exit) -> u8
     }
 }
 
-// The words that name the nodes and their images, where the words may be a command that runs a script.
-fn images_of(words: &[String]) -> &[String] {
-    match words {
-        [_, command, images @ ..] if command.as_str() == "RUN" => images,
-        _ => &[],
-    }
-}
-
 fn main(rt: HostRuntime) -> ExitCode {
     let words = match env::args(&rt) {
         Ok(args) => match args.collect::<Vec<String>>(rt.alloc()) {
@@ -50,20 +46,17 @@ fn main(rt: HostRuntime) -> ExitCode {
         )),
         Err(_) => Vec::new(rt.alloc()),
     };
-    let images = images_of(&words);
-    let mut rack = match add_images(&rt, images, Rack::new(rt.alloc())) {
-        Ok(rack) => rack,
-        Err(OpenErr::Memory) => return ExitCode::from(status_of(Exit::Memory)),
-        Err(OpenErr::Image(i)) => {
-            if let Some((_, image)) = images.get(i).and_then(|word| node_and_image(word.as_str())) {
-                let _ = eprintln!(rt; "dtm: cannot open {image}");
-            }
-            return ExitCode::from(CANNOT_OPEN);
-        }
-    };
+    let files = SystemFiles { system: &rt };
     let mut source = ReaderSource::new(rt.reader());
     let mut sink = WriterSink::new(writer(&rt));
-    ExitCode::from(status_of(run(rt.alloc(), &words, &mut source, &mut sink, &mut rack)))
+    match run_command(&files, rt.alloc(), &words, &mut source, &mut sink) {
+        Ok(exit) => ExitCode::from(status_of(exit)),
+        Err(OpenErr::Memory) => ExitCode::from(status_of(Exit::Memory)),
+        Err(OpenErr::Image(path)) => {
+            let _ = eprintln!(rt; "dtm: cannot open {path}");
+            ExitCode::from(CANNOT_OPEN)
+        }
+    }
 }
 
 #[cfg(test)]

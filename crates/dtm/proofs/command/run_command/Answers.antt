@@ -1,0 +1,19 @@
+use Rattle.std.proofs.Common.{map, string_bytes}
+use Rattle.dtm_run.specs.Racks.{names_in, disks_in, states_in}
+use Rattle.dtm.specs.Images.{images_of}
+use Rattle.dtm.proofs.ImageLemmas.{none_read, filled_from_none, why_from_none}
+use Rattle.dtm.proofs.command.run_command.Goals as goal
+
+pub returns-in-Err-clause-why : goal.returns-in-Err-clause-why
+returns-in-Err-clause-why g c =
+    why_from_none (g.F.ImageFiles.store c.args.files.now) (λ image. (g.F.Image.Disk.state image).size) (map string_bytes c.images_of.result.now) (images_of (map string_bytes c.args.words.now)) (names_in c.new.result) c.in-Err.e c.images_of.ensures c.new.ensures.names c.in-Err.ensures.why
+
+pub returns-clause-ran : goal.returns-clause-ran
+returns-clause-ran g c = record {
+  rack = c.in-Ok.rack;
+  filled = filled_from_none _ _ (map string_bytes c.images_of.result.now) (images_of (map string_bytes c.args.words.now)) (names_in c.new.result) (disks_in c.new.result) (names_in c.in-Ok.rack) (disks_in c.in-Ok.rack)
+      c.images_of.ensures c.new.ensures.names (none_read (λ place. place.name) (λ place. place.disk) c.new.result.places.items c.new.ensures.names) c.in-Ok.ensures.filled;
+  after = states_in g.F.Image.Disk.state c.run.new.rack;
+  ran = c.run.ensures.runs;
+  unread = c.run.ensures.usage;
+}
