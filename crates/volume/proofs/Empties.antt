@@ -1,0 +1,80 @@
+-- Blocks written to a disk.
+use Rattle.std.proofs.Common.{◌≡◌, inl, inr, ℕ, ◌+◌, ◌<◌, ◌≤◌, List, [], ◌∷◌, false, Option, Some, None, IfSome, OnOk, Result, Ok, Err, length, get_or, set, replicate, refl, sym, ap, subst, ◌∙◌, arith, option_map}
+use Rattle.std.specs.Prelude.{◌==◌}
+use Rattle.std.proofs.lemmas.Bool.{cases_eq}
+use Rattle.std.proofs.lemmas.Bool.Decides.{nat_tests}
+use Rattle.std.proofs.lemmas.List.{get_or-set_same, get_or-set_other, get_or-drop}
+use Rattle.block_disk.specs.Blocks.{IsWhole, block_at, with_number}
+use Rattle.block_disk.specs.Disk.{DiskState, put}
+use Rattle.careful_write.specs.Content.{content_of, gate_open, home}
+use Rattle.careful_write.specs.Steps.{Quiet}
+use Rattle.volume_format.specs.declared.home.Home.{Home}
+use Rattle.volume_format.specs.Home.{home_block_of}
+use Rattle.volume.specs.Empty.{IsEmptyVolume, ZerosTo}
+
+abbrev Blocks : Type 0
+Blocks = List (List ℕ)
+
+zeros_set : (bs : Blocks) (n : ℕ) (b : List ℕ) → b ≡ replicate {A = ℕ} 512 0 → n < length bs → ZerosTo n bs → ZerosTo (n + 1) (set bs n b)
+zeros_set bs n b is within zeros k from to =
+    elim (cases_eq k n) [
+      | inl same ↦ ap (block_at (set bs n b)) same ∙ get_or-set_same bs n b [] within ∙ is
+      | inr other ↦ get_or-set_other bs n k b [] other ∙ zeros k from (omega arith)
+    ]
+
+zeros_told : (told : Option Blocks) (n size : ℕ) (b : List ℕ) → b ≡ replicate {A = ℕ} 512 0 → n < size → IfSome told (IsWhole size) → IfSome told (ZerosTo n) → IfSome (option_map (λ bs. set bs n b) told) (ZerosTo (n + 1))
+zeros_told None n size b is within whole zeros = tt
+zeros_told (Some bs) n size b is within whole zeros = let long = whole.count in zeros_set bs n b is (omega arith) zeros
+
+pub zeros_put : (s new : DiskState) (n : ℕ) (b : List ℕ) → new ≡ put n b s → b ≡ replicate {A = ℕ} 512 0 → n < s.size → IfSome s.seen (IsWhole s.size) → IfSome s.seen (ZerosTo n) → IfSome new.seen (ZerosTo (n + 1))
+zeros_put s new n b is zero within whole zeros =
+    subst (λ (t : DiskState). IfSome t.seen (ZerosTo (n + 1))) (sym is) (zeros_told s.seen n s.size b zero within whole zeros)
+
+gate_set : (bs : Blocks) (n : ℕ) (b : List ℕ) → 1 ≤ n → gate_open bs ≡ false → gate_open (set bs n b) ≡ false
+gate_set bs n b some closed = ap (λ x. get_or x 0 0 == 1) (get_or-set_other bs n 0 b [] (λ is. absurd (omega arith))) ∙ closed
+
+closed_told : (told : Option Blocks) (n : ℕ) (b : List ℕ) → 1 ≤ n → IfSome told (λ bs. gate_open bs ≡ false) → IfSome (option_map (λ bs. set bs n b) told) (λ bs. gate_open bs ≡ false)
+closed_told None n b some closed = tt
+closed_told (Some bs) n b some closed = gate_set bs n b some closed
+
+pub closed_put : (s new : DiskState) (n : ℕ) (b : List ℕ) → new ≡ put n b s → 1 ≤ n → IfSome s.seen (λ bs. gate_open bs ≡ false) → IfSome new.seen (λ bs. gate_open bs ≡ false)
+closed_put s new n b is some closed = subst (λ (t : DiskState). IfSome t.seen (λ (bs : Blocks). gate_open bs ≡ false)) (sym is) (closed_told s.seen n b some closed)
+
+number_step : (n m : ℕ) (ms : List ℕ) → length (with_number n ms) ≤ length ms + 1 → length (with_number n (m ∷ ms)) ≤ length (m ∷ ms) + 1
+number_step n m ms later = grind (arith, nat_tests)
+
+length-with_number : (n : ℕ) (ms : List ℕ) → length (with_number n ms) ≤ length ms + 1
+length-with_number n [] = omega arith
+length-with_number n (m ∷ ms) = number_step n m ms (length-with_number n ms)
+
+pub pending_put : (s new : DiskState) (n : ℕ) (b : List ℕ) → new ≡ put n b s → length new.pending ≤ length s.pending + 1
+pending_put s new n b is = subst (λ (t : DiskState). length t.pending ≤ length s.pending + 1) (sym is) (length-with_number n s.pending)
+
+pub quiet_put : (s0 s new : DiskState) (n : ℕ) (b : List ℕ) → Quiet s0 s → new ≡ put n b s → Quiet s0 new
+quiet_put s0 s new n b quiet is = subst (λ (t : DiskState). Quiet s0 t) (sym is) (record { size = quiet.size; calls = quiet.calls; faults = quiet.faults; stops = quiet.stops })
+
+-- an empty volume stands behind a closed gate
+empty_of : (home_said : Home) (bs : Blocks) (b : List ℕ) → b ≡ home_block_of home_said → 518 < length bs → gate_open bs ≡ false → ZerosTo (584 + home_said.slots) bs → IsEmptyVolume home_said (content_of (set bs 518 b))
+empty_of h bs b is within closed zeros =
+    let image = set bs 518 b in
+    let shut : gate_open image ≡ false = gate_set bs 518 b (omega arith) closed in
+    let content : content_of image ≡ home image = rw shut refl in
+    record {
+      home_block = ap (λ c. block_at c 0) content ∙ get_or-drop 518 image 0 [] ∙ get_or-set_same bs 518 b [] within ∙ is;
+      zeros = λ n from to. ap (λ c. block_at c n) content ∙ get_or-drop 518 image n [] ∙ get_or-set_other bs 518 (518 + n) b [] (λ same. absurd (omega arith)) ∙ zeros (518 + n) (omega arith) (omega arith);
+    }
+
+empty_told : (h : Home) (told : Option Blocks) (size : ℕ) (b : List ℕ) → b ≡ home_block_of h → 518 < size → IfSome told (IsWhole size) → IfSome told (λ bs. gate_open bs ≡ false) → IfSome told (ZerosTo (584 + h.slots))
+    → IfSome (option_map (λ bs. set bs 518 b) told) (λ bs. IsEmptyVolume h (content_of bs))
+empty_told h None size b is within whole closed zeros = tt
+empty_told h (Some bs) size b is within whole closed zeros = let long = whole.count in empty_of h bs b is (omega arith) closed zeros
+
+pub empty_put : (h : Home) (s new : DiskState) (b : List ℕ) → new ≡ put 518 b s → b ≡ home_block_of h → 518 < s.size → IfSome s.seen (IsWhole s.size) → IfSome s.seen (λ bs. gate_open bs ≡ false) → IfSome s.seen (ZerosTo (584 + h.slots))
+    → IfSome new.seen (λ bs. IsEmptyVolume h (content_of bs))
+empty_put h s new b is bytes within whole closed zeros =
+    subst (λ (t : DiskState). IfSome t.seen (λ (bs : Blocks). IsEmptyVolume h (content_of bs))) (sym is) (empty_told h s.seen s.size b bytes within whole closed zeros)
+
+-- what follows where the answer is Ok
+pub on_ok : {T E P Q : Type 0} (r : Result T E) → OnOk r P → (P → Q) → OnOk r Q
+on_ok (Ok x) p f = f p
+on_ok (Err e) p f = tt

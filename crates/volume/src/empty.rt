@@ -1,0 +1,113 @@
+//! An empty volume.
+ghost use Rattle.std.specs.Prelude.{◌≡◌, ◌≤◌, ◌<◌, ◌+◌, ℕ, List, [], false, IfSome, OnOk, OnErr, length, replicate, slice_index};
+ghost use Rattle.block_disk.specs.Blocks.{block_at};
+ghost use Rattle.block_disk.specs.Disk.{DiskState};
+ghost use Rattle.careful_write.specs.Content.{content_of, gate_open};
+ghost use Rattle.careful_write.specs.Down.{Counts as DownCounts};
+ghost use Rattle.careful_write.specs.Steps.{Counts};
+ghost use Rattle.volume_format.specs.declared.home.Sizes.{Sizes as SizesSaid};
+ghost use Rattle.volume_format.specs.Home.{home_block_of};
+ghost use Rattle.volume.specs.Catalogs.{IsSound, TellsCatalog};
+ghost use Rattle.volume.specs.Empty.{IsEmptyVolume, ZerosTo, empty_catalog, empty_home};
+ghost use Rattle.volume.specs.Limits.{SizesFit};
+
+use crate::Volume;
+use block_disk::{Disk, DiskErr};
+use careful_write::Down;
+use vms_base::{Moment, NodeName};
+use volume_format::{Home, layouts_are_read_as_written, write_home};
+
+// Closes the gate for good.
+fn close_gate<D: Disk>(disk: &mut D) -> Result<(), DiskErr>
+    requires size { 4096 ≤ (D.state disk.old).size }
+    requires settled { (D.state disk.old).pending ≡ [] }
+    ensures closed { OnOk result (IfSome (D.state disk.new).seen (λ blocks. gate_open blocks ≡ false)) }
+    ensures settled { OnOk result ((D.state disk.new).pending ≡ []) }
+    ensures counts { Counts result (D.state disk.old) (D.state disk.new) }
+{
+    disk.write(0, &[0; 512])?;
+    disk.barrier()
+}
+
+// Writes zeros to the blocks behind the home, up to an end.
+fn write_zeros<D: Disk>(disk: &mut D, end: u32) -> Result<(), DiskErr>
+    requires size { 4096 ≤ (D.state disk.old).size }
+    requires some { 519 ≤ end }
+    requires end { end ≤ 1096 }
+    requires closed { IfSome (D.state disk.old).seen (λ blocks. gate_open blocks ≡ false) }
+    requires settled { (D.state disk.old).pending ≡ [] }
+    ensures zeros { OnOk result (IfSome (D.state disk.new).seen (ZerosTo end)) }
+    ensures closed { OnOk result (IfSome (D.state disk.new).seen (λ blocks. gate_open blocks ≡ false)) }
+    ensures pending { OnOk result (length (D.state disk.new).pending < 1024) }
+    ensures counts { Counts result (D.state disk.old) (D.state disk.new) }
+{
+    for n in 519..end {
+        disk.write(n, &[0; 512])?;
+    }
+    Ok(())
+}
+
+// Writes an empty volume to a disk whose gate is closed.
+fn write_empty<D: Disk>(disk: &mut D, home: &Home) -> Result<(), DiskErr>
+    requires size { 4096 ≤ (D.state disk.old).size }
+    requires slots { home.now.slots ≤ 512 }
+    requires closed { IfSome (D.state disk.old).seen (λ blocks. gate_open blocks ≡ false) }
+    requires settled { (D.state disk.old).pending ≡ [] }
+    ensures empty { OnOk result (IfSome (D.state disk.new).seen (λ blocks. IsEmptyVolume home.now (content_of blocks))) }
+    ensures tells { OnOk result (IfSome (D.state disk.new).seen (λ blocks. TellsCatalog (empty_catalog home.now) (content_of blocks))) }
+    ensures closed { OnOk result (IfSome (D.state disk.new).seen (λ blocks. gate_open blocks ≡ false)) }
+    ensures settled { OnOk result ((D.state disk.new).pending ≡ []) }
+    ensures counts { Counts result (D.state disk.old) (D.state disk.new) }
+{
+    write_zeros(disk, 584 + home.slots)?;
+    let mut block = [0; 512];
+    write_home(home, &mut block);
+    layouts_are_read_as_written();
+    disk.write(518, &block)?;
+    disk.barrier()
+}
+
+fn format_disk<D: Disk>(disk: &mut D, home: &Home) -> Result<(), DiskErr>
+    requires size { 4096 ≤ (D.state disk.old).size }
+    requires slots { home.now.slots ≤ 512 }
+    requires settled { (D.state disk.old).pending ≡ [] }
+    ensures empty { OnOk result (IfSome (D.state disk.new).seen (λ blocks. IsEmptyVolume home.now (content_of blocks))) }
+    ensures tells { OnOk result (IfSome (D.state disk.new).seen (λ blocks. TellsCatalog (empty_catalog home.now) (content_of blocks))) }
+    ensures closed { OnOk result (IfSome (D.state disk.new).seen (λ blocks. gate_open blocks ≡ false)) }
+    ensures settled { OnOk result ((D.state disk.new).pending ≡ []) }
+    ensures counts { Counts result (D.state disk.old) (D.state disk.new) }
+{
+    close_gate(disk)?;
+    write_empty(disk, home)
+}
+
+impl<D: Disk> Volume<D> {
+    /// Writes an empty volume of a node, with so many log slots and blocks of the recovery unit journal. What stood in the
+    /// data area stays. After `Down` the disk may have anything.
+    pub fn format(mut disk: D, node: NodeName, slots: u32, blocks: u32) -> (D, Result<(), Down>)
+        requires sizes { SizesFit (D.state disk).size (record { blocks = (D.state disk).size; slots = slots; ru_blocks = blocks }) }
+        requires size { 4096 ≤ (D.state disk).size }
+        requires settled { (D.state disk).pending ≡ [] }
+        ensures empty { OnOk result.1 (IfSome (D.state result.0).seen (λ image. IsEmptyVolume (empty_home node (D.state disk).size slots blocks) (content_of image))) }
+        ensures tells { OnOk result.1 (IfSome (D.state result.0).seen (λ image. TellsCatalog (empty_catalog (empty_home node (D.state disk).size slots blocks)) (content_of image))) }
+        ensures sound { IsSound node (D.state disk).size (empty_catalog (empty_home node (D.state disk).size slots blocks)) }
+        ensures closed { OnOk result.1 (IfSome (D.state result.0).seen (λ image. gate_open image ≡ false)) }
+        ensures settled { OnOk result.1 ((D.state result.0).pending ≡ []) }
+        ensures counts { DownCounts result.1 (D.state disk) (D.state result.0) }
+    {
+        let home = Home {
+            version: 1,
+            blocks: disk.blocks(),
+            slots,
+            ru_blocks: blocks,
+            node,
+            boot: 0,
+            greatest_moment: Moment(0),
+            last: None,
+        };
+        match format_disk(&mut disk, &home) {
+            Ok(()) => (disk, Ok(())),
+            Err(err) => (disk, Err(Down::from(err))),
+        }
+    }
+}
