@@ -1,0 +1,4 @@
+pub mod FileLaws
+pub mod MapLaws
+pub mod PlacingLaws
+pub mod RecordLaws
