@@ -1,50 +1,40 @@
 -- What a transcript tells of a file's records agrees with the file's history, and each act keeps that.
-use Rattle.std.proofs.Common.{◌≡◌, ℕ, ◌+◌, List, [], ◌∷◌, ◌++◌, Bool, true, false, Option, Some, if◌then◌else◌, sym, ◌∙◌, ap, subst, inl, inr, ◌⊎◌}
+use Rattle.std.proofs.Common.{◌≡◌, ℕ, List, [], ◌∷◌, ◌++◌, Bool, true, false, Option, Some, if◌then◌else◌, sym, ◌∙◌, ap, subst, inl, inr, ◌⊎◌}
 use Rattle.std.specs.FinMap.{insert}
-use Rattle.std.proofs.lemmas.Bool.{false_from_ne_true}
 use Rattle.vms_model.specs.Ids.{Id}
 use Rattle.vms_model.specs.Keys.{Number}
 use Rattle.vms_model.specs.Transactions.{Outcome, Commit, Abort}
 use Rattle.records_model.specs.Records.{Records, applied}
-use Rattle.records_model.specs.History.{History, same_id, changes_by, records, changed, settled_at}
+use Rattle.records_model.specs.History.{History, same_id, changes_by, records, current, on_top, changed, settled_at}
 use Rattle.run_model.specs.Promises.{In}
-use Rattle.run_model.proofs.IdLemmas.{each_at, id_is, id_other, Distinct, minus, apart_minus}
-use Rattle.run_model.proofs.Soundness.{IsDrawn}
-use Rattle.run_model.proofs.NodeLemmas.{drawn_next, drawn_before}
+use Rattle.run_model.proofs.IdLemmas.{each_at, id_other, Distinct, minus, apart_minus}
 use Rattle.run_model.proofs.HistoryLemmas.{by_with_change, by_settled, committed_leaves, aborted_leaves}
 
--- The records told are those of the history. What each unsettled branch has put, as it is told, are its changes; and nothing is told of ids that are
--- not drawn yet.
-pub record Agrees (told : Records) (puts : Id → Records → Records) (boot drawn : ℕ) (serials : List Id) (h : History) : Type 0 where
+-- The records told are those of the history, and what each unsettled branch has put, as it is told, are its changes.
+pub record Agrees (told : Records) (puts : Id → Records → Records) (serials : List Id) (h : History) : Type 0 where
   pub settled : records h ≡ told
   pub live : (id : Id) → In id serials → (m : Records) → applied (changes_by id h.live) m ≡ puts id m
-  pub fresh : (id : Id) → (IsDrawn boot drawn id → ⊥) → (m : Records) → puts id m ≡ m
 
 -- the same is told
-pub agrees_as : (told now : Records) (puts shown : Id → Records → Records) (boot drawn : ℕ) (serials : List Id) (h : History) → Agrees told puts boot drawn serials h → told ≡ now → ((id : Id) (m : Records) → puts id m ≡ shown id m) →
-    Agrees now shown boot drawn serials h
-agrees_as told now puts shown boot drawn serials h a e same = record {
-  settled = a.settled ∙ e;
-  live = λ id i m. a.live id i m ∙ same id m;
-  fresh = λ id new m. sym (same id m) ∙ a.fresh id new m;
-}
+pub agrees_as : (told now : Records) (puts shown : Id → Records → Records) (serials : List Id) (h : History) → Agrees told puts serials h → told ≡ now → ((id : Id) (m : Records) → puts id m ≡ shown id m) → Agrees now shown serials h
+agrees_as told now puts shown serials h a e same = record { settled = a.settled ∙ e; live = λ id i m. a.live id i m ∙ same id m }
 
-module _ (told : Records) (puts : Id → Records → Records) (boot drawn : ℕ) (serials : List Id) (h : History) (a : Agrees told puts boot drawn serials h) where
-  pub changes_agree : (serial : Id) (number : ℕ) (before : Option (List ℕ)) (bytes : List ℕ) → IsDrawn boot drawn serial →
-      Agrees told (λ id m. if same_id id serial then insert (puts id m) (Number number) bytes else puts id m) boot drawn serials (changed serial (record { key = Number number; before = before; after = Some bytes }) h)
-  changes_agree serial number before bytes drawn_one = record {
+-- where nothing is unsettled, the records that stand are those of the history
+pub stands_agree : (puts : Id → Records → Records) (h : History) → h.live ≡ [] → Agrees (current h) puts [] h
+stands_agree puts h e = record { settled = sym (ap (λ live. on_top live (records h)) e); live = λ id i m. absurd i }
+
+module _ (told : Records) (puts : Id → Records → Records) (serials : List Id) (h : History) (a : Agrees told puts serials h) where
+  pub changes_agree : (serial : Id) (number : ℕ) (before : Option (List ℕ)) (bytes : List ℕ) →
+      Agrees told (λ id m. if same_id id serial then insert (puts id m) (Number number) bytes else puts id m) serials (changed serial (record { key = Number number; before = before; after = Some bytes }) h)
+  changes_agree serial number before bytes = record {
     settled = a.settled;
     live = λ id i m. ap (λ cs. applied cs m) (by_with_change id serial (record { key = Number number; before = before; after = Some bytes }) h.live) ∙ one_more id m (same_id id serial) (a.live id i m);
-    fresh = λ id new m. rw (other id new) (a.fresh id new m);
   }
     where
       one_more : (id : Id) (m : Records) (b : Bool) → applied (changes_by id h.live) m ≡ puts id m →
           applied (if b then record { key = Number number; before = before; after = Some bytes } ∷ changes_by id h.live else changes_by id h.live) m ≡ (if b then insert (puts id m) (Number number) bytes else puts id m)
       one_more id m true e = ap (λ x. insert x (Number number) bytes) e
       one_more id m false e = e
-
-      other : (id : Id) → (IsDrawn boot drawn id → ⊥) → same_id id serial ≡ false
-      other id new = false_from_ne_true _ (λ e. new (subst (IsDrawn boot drawn) (sym (id_is id serial e)) drawn_one))
 
   -- the branches that are left are others
   left : (id serial : Id) → Distinct serials → In id (minus serial serials) → same_id id serial ≡ false
@@ -59,25 +49,23 @@ module _ (told : Records) (puts : Id → Records → Records) (boot drawn : ℕ)
       go false more k = elim k [ inl e ↦ inl e | inr rest ↦ inr (more rest) ]
 
   settles_agree : (serial : Id) (outcome : Outcome) (moment : ℕ) (left_records : Records) → Distinct serials → records (settled_at serial outcome moment h) ≡ left_records →
-      Agrees left_records puts boot drawn (minus serial serials) (settled_at serial outcome moment h)
+      Agrees left_records puts (minus serial serials) (settled_at serial outcome moment h)
   settles_agree serial outcome moment left_records different leaves = record {
     settled = leaves;
     live = λ id i m. ap (λ cs. applied cs m) (by_settled id serial outcome moment h (left id serial different i)) ∙ a.live id (in_before id serial serials i) m;
-    fresh = a.fresh;
   }
 
-  pub commits_agree : (serial : Id) (moment : ℕ) → Distinct serials → In serial serials → Agrees (puts serial told) puts boot drawn (minus serial serials) (settled_at serial Commit moment h)
+  pub commits_agree : (serial : Id) (moment : ℕ) → Distinct serials → In serial serials → Agrees (puts serial told) puts (minus serial serials) (settled_at serial Commit moment h)
   commits_agree serial moment different i =
       settles_agree serial Commit moment (puts serial told) different (committed_leaves serial moment h ∙ ap (applied (changes_by serial h.live)) a.settled ∙ a.live serial i told)
 
-  pub aborts_agree : (serial : Id) (moment : ℕ) → Distinct serials → Agrees told puts boot drawn (minus serial serials) (settled_at serial Abort moment h)
+  pub aborts_agree : (serial : Id) (moment : ℕ) → Distinct serials → Agrees told puts (minus serial serials) (settled_at serial Abort moment h)
   aborts_agree serial moment different = settles_agree serial Abort moment told different (aborted_leaves serial moment h ∙ a.settled)
 
-  pub begins_agree : (next : Id) → (IsDrawn boot drawn next → ⊥) → changes_by next h.live ≡ [] → Agrees told puts boot (drawn + 1) (serials ++ next ∷ []) h
+  pub begins_agree : (next : Id) → ((m : Records) → puts next m ≡ m) → changes_by next h.live ≡ [] → Agrees told puts (serials ++ next ∷ []) h
   begins_agree next new none = record {
     settled = a.settled;
     live = λ id i m. elim (in_either id serials i) [ inl old ↦ a.live id old m | inr same ↦ fresh_one id m same ];
-    fresh = λ id k m. a.fresh id (λ d. k (drawn_next boot drawn id d)) m;
   }
     where
       in_either : (id : Id) (xs : List Id) → In id (xs ++ next ∷ []) → In id xs ⊎ (id ≡ next)
@@ -85,11 +73,4 @@ module _ (told : Records) (puts : Id → Records → Records) (boot drawn : ℕ)
       in_either id (x ∷ xs) i = elim i [ inl e ↦ inl (inl e) | inr more ↦ elim (in_either id xs more) [ inl k ↦ inl (inr k) | inr e ↦ inr e ] ]
 
       fresh_one : (id : Id) (m : Records) → id ≡ next → applied (changes_by id h.live) m ≡ puts id m
-      fresh_one id m e = subst (λ x. applied (changes_by x h.live) m ≡ puts x m) (sym e) (ap (λ cs. applied cs m) none ∙ sym (a.fresh next new m))
-
-  pub boots_agree : Agrees told puts (boot + 1) 0 [] h
-  boots_agree = record {
-    settled = a.settled;
-    live = λ id i m. absurd i;
-    fresh = λ id k m. a.fresh id (λ d. k (drawn_before boot drawn id d)) m;
-  }
+      fresh_one id m e = subst (λ x. applied (changes_by x h.live) m ≡ puts x m) (sym e) (ap (λ cs. applied cs m) none ∙ sym (new m))

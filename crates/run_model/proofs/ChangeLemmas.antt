@@ -1,5 +1,7 @@
 -- Unsettled changes of a file: one more of a branch, and the settlement of a branch.
-use Rattle.std.proofs.Common.{◌≡◌, ℕ, List, [], ◌∷◌, Bool, true, false, if◌then◌else◌, refl, sym, ap, subst}
+use Rattle.std.proofs.Common.{◌≡◌, ℕ, zero, suc, List, [], ◌∷◌, map, Bool, true, false, Option, Some, None, if◌then◌else◌, refl, sym, ap, subst}
+use Rattle.std.specs.Prelude.{slice_set}
+use Rattle.std.specs.Option.{option_map}
 use Rattle.std.specs.Str.{bytes_eq}
 use Rattle.std.proofs.lemmas.Bool.{cond_both}
 use Rattle.vms_model.specs.Ids.{Id}
@@ -9,15 +11,35 @@ use Rattle.records_model.specs.History.{History, LiveChanges, same_id, with_chan
 use Rattle.run_model.specs.World.{File, with_file}
 use Rattle.run_model.specs.Promises.{In}
 use Rattle.run_model.proofs.IdLemmas.{Each, id_other, Apart, Distinct, minus, distinct_minus, apart_minus, in_minus}
-use Rattle.run_model.proofs.Soundness.{IsSoundFile, HasChanges, serials_in}
+use Rattle.run_model.proofs.Soundness.{IsSoundFile, HasChanges, EachFile, serials_in}
 
 pub no_changes_sound : (serials : List Id) → IsSoundFile serials []
 no_changes_sound serials = record { different = tt; some = tt; known = tt }
 
-pub each_with_file : (P : File → Type 0) (name : List ℕ) (change : File → File) (files : List File) → ((f : File) → P f → P (change f)) → Each P files → Each P (with_file name change files)
+-- All files of a directory.
+
+pub each_file_as : (P Q : File → Type 0) (files : List (Option File)) → ((f : File) → P f → Q f) → EachFile P files → EachFile Q files
+each_file_as P Q [] g h = tt
+each_file_as P Q (None ∷ files) g h = each_file_as P Q files g h
+each_file_as P Q (Some f ∷ files) g h = (g f h.0, each_file_as P Q files g h.1)
+
+pub each_file_map : (P Q : File → Type 0) (change : File → File) (files : List (Option File)) → ((f : File) → P f → Q (change f)) → EachFile P files → EachFile Q (map (option_map change) files)
+each_file_map P Q change [] g h = tt
+each_file_map P Q change (None ∷ files) g h = each_file_map P Q change files g h
+each_file_map P Q change (Some f ∷ files) g h = (g f h.0, each_file_map P Q change files g h.1)
+
+pub each_file_placed : (P : File → Type 0) (f : File) (files : List (Option File)) (place : ℕ) → P f → EachFile P files → EachFile P (slice_set files place (Some f))
+each_file_placed P f [] place k h = tt
+each_file_placed P f (None ∷ files) zero k h = (k, h)
+each_file_placed P f (Some g ∷ files) zero k h = (k, h.1)
+each_file_placed P f (None ∷ files) (suc place) k h = each_file_placed P f files place k h
+each_file_placed P f (Some g ∷ files) (suc place) k h = (h.0, each_file_placed P f files place k h.1)
+
+pub each_with_file : (P : File → Type 0) (name : List ℕ) (change : File → File) (files : List (Option File)) → ((f : File) → P f → P (change f)) → EachFile P files → EachFile P (with_file name change files)
 each_with_file P name change [] g h = tt
-each_with_file P name change (f ∷ files) g h =
-    cond_both (bytes_eq name f.name) (change f ∷ files) (f ∷ with_file name change files) (Each P) (λ e. (g f h.0, h.1)) (λ e. (h.0, each_with_file P name change files g h.1))
+each_with_file P name change (None ∷ files) g h = each_with_file P name change files g h
+each_with_file P name change (Some f ∷ files) g h =
+    cond_both (bytes_eq name f.name) (Some (change f) ∷ files) (Some f ∷ with_file name change files) (EachFile P) (λ e. (g f h.0, h.1)) (λ e. (h.0, each_with_file P name change files g h.1))
 
 -- One more change.
 

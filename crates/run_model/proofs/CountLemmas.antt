@@ -1,16 +1,24 @@
 -- Steps in which no count of a disk rises, and that a transcript of such steps is determined.
-use Rattle.std.proofs.Common.{◌≡◌, ℕ, ◌+◌, ◌<◌, ◌^◌, ◌⊎◌, List, [], ◌∷◌, map, Bool, true, false, Option, Some, None, if◌then◌else◌, refl, sym, ◌∙◌, ap, subst, arith, inl, inr}
+use Rattle.std.proofs.Common.{◌≡◌, ℕ, ◌+◌, ◌<◌, ◌^◌, ◌⊎◌, List, [], ◌∷◌, ◌++◌, map, Bool, true, false, Option, Some, None, if◌then◌else◌, refl, sym, ◌∙◌, ap, subst, arith, append-nil, inl, inr}
+use Rattle.std.specs.Prelude.{not}
 use Rattle.std.specs.Str.{bytes_eq}
+use Rattle.vms_model.specs.Transactions.{Outcome, Commit, Abort, Reason}
 use Rattle.transcript_model.specs.Outside.{Rose}
-use Rattle.transcript_model.specs.Lines.{Line, Cause, Failed, Stopped, NoMemory, NormalCount}
-use Rattle.script_model.specs.Statements.{Statement, At, Boot, Reading, Blank, Says, Bad}
-use Rattle.run_model.specs.World.{World, Node, DiskCounts, disk_of}
-use Rattle.run_model.specs.Answers.{node_of, early, late, may_lack_memory}
-use Rattle.run_model.specs.Steps.{Choice, Whole, WithoutMemory, Cut, Allowed, NoneFalls, RoseAt, effect, succeeded, count_of}
-use Rattle.run_model.specs.Transcript.{Entry, Legal, Turn, reading_after}
-use Rattle.run_model.specs.Laws.{CanRise, SuccessIsGiven, IsDetermined, lacked_memory}
+use Rattle.transcript_model.specs.Lines as line
+use Rattle.transcript_model.specs.Lines.{Line, Cause, Failed, Stopped, NoMemory}
+use Rattle.script_model.specs.Statements.{Statement, At, Request, Boot, Reading, Blank, Says, Bad}
+use Rattle.transcript_model.specs.Script.{ScriptLine}
+use Rattle.script_model.specs.Grammar.{reading}
+use Rattle.run_model.specs.World.{World, Node, Settlement, DiskCounts, Act, Boots, Power, opened, disk_of, find_node, with_node, acted, powered}
+use Rattle.run_model.specs.Answers.{Row, node_of, early, late, rows, powers, spoils, bootable, may_lack_memory, takes_memory, last_line, last_lines, request_of}
+use Rattle.run_model.specs.Steps.{Effect, Choice, Whole, WithoutMemory, Unpowered, Cut, Allowed, NoneFalls, RoseAt, effect, whole, begun, readied, spoilt, stops_at, after_act, after_rows, succeeded, count_of}
+use Rattle.run_model.specs.Transcript.{Entry, Legal, Turn}
+use Rattle.run_model.specs.Laws.{AreOpening, CanRise, SuccessIsGiven, IsDetermined, lacked_memory}
+use Rattle.run_model.proofs.IdLemmas.{Each}
 use Rattle.run_model.proofs.StepLemmas.{none_falls_same, none_falls_on}
-use Rattle.run_model.proofs.AnswerLemmas.{served, late_found, rows_found, answer_found}
+use Rattle.run_model.proofs.FindLemmas.{each_with_node}
+use Rattle.run_model.proofs.AnswerLemmas.{says_bootable, served, late_found, rows_found, answer_found}
+use Rattle.run_model.proofs.ReadyLemmas.{powered_is, resolved, ready_node, is_ready}
 
 -- counts that neither fall nor are fallen from are the same
 falls_back : (olds news : List DiskCounts) → NoneFalls olds news → NoneFalls news olds → news ≡ olds
@@ -50,52 +58,192 @@ not_risen w node cause after same h rose =
     go None e r = r
 
 -- a success, as it is shown
-success_lines : (w : World) (s : Statement) → early w s ≡ None → late w s ≡ None → (effect w s Whole).lines ≡ (succeeded w s).lines
-success_lines w s e l = rw (e, l) refl
+success_lines : (w : World) (s : Statement) (taken : Bool) → early w s ≡ None → late (readied taken w s) s ≡ None → (effect w s (Whole taken)).lines ≡ (succeeded (readied taken w s) s).lines
+success_lines w s taken e l = rw (e, l) refl
 
-success_world : (w : World) (s : Statement) → early w s ≡ None → late w s ≡ None → (effect w s Whole).world ≡ (succeeded w s).world
-success_world w s e l = rw (e, l) refl
+success_world : (w : World) (s : Statement) (taken : Bool) → early w s ≡ None → late (readied taken w s) s ≡ None → (effect w s (Whole taken)).world ≡ (succeeded (readied taken w s) s).world
+success_world w s taken e l = rw (e, l) refl
 
 given : (w v : World) (s : Statement) (c : Choice) (lines : List Line) → Allowed w s c v.disks → lines ≡ (effect w s c).lines → v ≡ record (effect w s c).world { disks = v.disks } →
-    v.disks ≡ w.disks → CanRise w.disks → early w s ≡ None → late w s ≡ None →
-    ((lines ≡ (succeeded w s).lines) × (v ≡ record (succeeded w s).world { disks = v.disks })) ⊎ ((lines ≡ NoMemory ∷ []) × (may_lack_memory s ≡ true))
-given w v s Whole lines allowed shows goes same h e l = inl (shows ∙ success_lines w s e l, goes ∙ ap (λ (x : World). record x { disks = v.disks }) (success_world w s e l))
+    v.disks ≡ w.disks → CanRise w.disks → early w s ≡ None → ((taken : Bool) → late (readied taken w s) s ≡ None) →
+    ((taken : Bool) × (lines ≡ (succeeded (readied taken w s) s).lines) × (v ≡ record (succeeded (readied taken w s) s).world { disks = v.disks })) ⊎ ((lines ≡ NoMemory ∷ []) × (may_lack_memory w s ≡ true))
+given w v s (Whole taken) lines allowed shows goes same h e l =
+    inl (taken, shows ∙ success_lines w s taken e (l taken), goes ∙ ap (λ (x : World). record x { disks = v.disks }) (success_world w s taken e (l taken)))
 given w v s WithoutMemory lines allowed shows goes same h e l = inr (shows, allowed.1)
-given w v s (Cut done begun cause) lines allowed shows goes same h e l = absurd (not_risen w (node_of s) cause v.disks same h allowed.3)
+given w v s Unpowered lines allowed shows goes same h e l = absurd (not_risen w (node_of s) Failed v.disks same h allowed.2)
+given w v s (Cut taken done begun cause) lines allowed shows goes same h e l = absurd (not_risen w (node_of s) cause v.disks same h allowed.3)
 
 pub successes : SuccessIsGiven
 successes w v s lines step same h e l = given w v s step.choice lines step.allowed step.shows step.goes same h e l
 
--- where memory may be missing, no other answer says that it was
-has_memory : (w : World) (s : Statement) → early w s ≡ None → may_lack_memory s ≡ true → lacked_memory (effect w s Whole).lines ≡ false
-has_memory w (At node Boot) e m =
-    let there = served w node Boot e in
-    let shown : (succeeded w (At node Boot)).lines ≡ NormalCount (there.n.boot + 1) ∷ [] = rw (rows_found w node Boot there.n there.found, answer_found w node Boot there.n there.found) refl in
-    ap lacked_memory (success_lines w (At node Boot) e (late_found w node Boot there.n there.found) ∙ shown)
-has_memory w (At node _) e m = let none : ⊥ = cc in absurd none
+-- While no count rises, nothing is under way, and it makes no difference what was taken.
 
-one_lacked : (w : World) (s : Statement) (k l : List Line) → early w s ≡ None → may_lack_memory s ≡ true → k ≡ (effect w s Whole).lines → l ≡ NoMemory ∷ [] → lacked_memory k ≡ lacked_memory l → ⊥
-one_lacked w s k l e m p q same = let a = ap lacked_memory p in let b = ap lacked_memory q in let c = has_memory w s e m in cc
+abbrev IsQuiet : World → Type 0
+IsQuiet w = Each (λ n. n.under_way ≡ None) w.nodes
+
+same_with_node : (f g : Node → Node) (node : List ℕ) (ns : List Node) → ((n : Node) → n.under_way ≡ None → f n ≡ g n) → Each (λ n. n.under_way ≡ None) ns → with_node node f ns ≡ with_node node g ns
+same_with_node f g node [] same h = refl
+same_with_node f g node (n ∷ ns) same h = go (bytes_eq node n.name) (same_with_node f g node ns same h.1)
+  where
+    go : (b : Bool) → with_node node f ns ≡ with_node node g ns → ◌≡◌ {A = List Node} (if b then f n ∷ ns else n ∷ with_node node f ns) (if b then g n ∷ ns else n ∷ with_node node g ns)
+    go true more = ap (λ m. m ∷ ns) (same n h.0)
+    go false more = ap (λ ms. n ∷ ms) more
+
+either_taken : (a b : Bool) (n : Node) → resolved a None n ≡ resolved b None n
+either_taken true true n = refl
+either_taken true false n = refl
+either_taken false true n = refl
+either_taken false false n = refl
+
+same_powered : (a b : Bool) (stops : ℕ) (n : Node) → n.under_way ≡ None → powered a stops n ≡ powered b stops n
+same_powered a b stops n e =
+    let same : resolved a n.under_way n ≡ resolved b n.under_way n = subst (λ o. resolved a o n ≡ resolved b o n) (sym e) (either_taken a b n) in
+    powered_is a stops n ∙ ap (λ (m : Node). record m { calls = Power stops ∷ n.calls; under_way = None }) same ∙ sym (powered_is b stops n)
+
+same_ready : (a b : Bool) (w : World) (s : Statement) → IsQuiet w → readied a w s ≡ readied b w s
+same_ready a b w s quiet = go (powers (request_of s))
+  where
+    node : List ℕ
+    node = node_of s
+
+    spoil : Bool
+    spoil = spoils (request_of s)
+
+    go : (t : Bool) → ◌≡◌ {A = World} (if t then record w { nodes = with_node node (λ n. spoilt spoil (powered a (stops_at node w) n)) w.nodes } else w)
+        (if t then record w { nodes = with_node node (λ n. spoilt spoil (powered b (stops_at node w) n)) w.nodes } else w)
+    go true = ap (λ ns. record w { nodes = ns }) (same_with_node _ _ node w.nodes (λ n e. ap (spoilt spoil) (same_powered a b (stops_at node w) n e)) quiet)
+    go false = refl
+
+acted_quiet : (act : Act) (n : Node) → n.under_way ≡ None → (acted act n).under_way ≡ None
+acted_quiet Boots n e = e
+acted_quiet _ n e = e
+
+rows_quiet : (node : List ℕ) (rs : List Row) (w : World) → IsQuiet w → IsQuiet (after_rows node rs w)
+rows_quiet node [] w quiet = quiet
+rows_quiet node (r ∷ rs) w quiet = rows_quiet node rs (after_act node r.act w) (one r.act)
+  where
+    one : (o : Option Act) → IsQuiet (after_act node o w)
+    one None = quiet
+    one (Some act) = each_with_node (λ n. n.under_way ≡ None) node (acted act) w.nodes (λ n found e. acted_quiet act n e) quiet
+
+spoilt_quiet : (b : Bool) (n : Node) → n.under_way ≡ None → (spoilt b n).under_way ≡ None
+spoilt_quiet true n e = e
+spoilt_quiet false n e = e
+
+powered_quiet : (taken : Bool) (stops : ℕ) (n : Node) → (powered taken stops n).under_way ≡ None
+powered_quiet taken stops n = ap (λ (m : Node). m.under_way) (powered_is taken stops n)
+
+ready_quiet : (taken : Bool) (w : World) (s : Statement) → IsQuiet w → IsQuiet (readied taken w s)
+ready_quiet taken w s quiet = go (powers (request_of s))
+  where
+    node : List ℕ
+    node = node_of s
+
+    spoil : Bool
+    spoil = spoils (request_of s)
+
+    go : (t : Bool) → IsQuiet (if t then record w { nodes = with_node node (λ n. spoilt spoil (powered taken (stops_at node w) n)) w.nodes } else w)
+    go true = each_with_node (λ n. n.under_way ≡ None) node _ w.nodes (λ n found e. spoilt_quiet spoil (powered taken (stops_at node w) n) (powered_quiet taken (stops_at node w) n)) quiet
+    go false = quiet
+
+begun_quiet : (w : World) (s : Statement) (b : Option Line) → IsQuiet w → IsQuiet (begun w s b).world
+begun_quiet w s (Some refusal) quiet = quiet
+begun_quiet w s None quiet = rows_quiet (node_of s) (rows w s) w quiet
+
+whole_quiet : (w : World) (s : Statement) (taken : Bool) (a : Option Line) → IsQuiet w → IsQuiet (whole w (readied taken w s) s a).world
+whole_quiet w s taken (Some refusal) quiet = quiet
+whole_quiet w s taken None quiet = begun_quiet (readied taken w s) s (late (readied taken w s) s) (ready_quiet taken w s quiet)
+
+effect_quiet : (w : World) (s : Statement) (c : Choice) (after : List DiskCounts) → Allowed w s c after → after ≡ w.disks → CanRise w.disks → IsQuiet w → IsQuiet (effect w s c).world
+effect_quiet w s (Whole taken) after allowed same h quiet = whole_quiet w s taken (early w s) quiet
+effect_quiet w s WithoutMemory after allowed same h quiet = quiet
+effect_quiet w s Unpowered after allowed same h quiet = absurd (not_risen w (node_of s) Failed after same h allowed.2)
+effect_quiet w s (Cut taken done begun cause) after allowed same h quiet = absurd (not_risen w (node_of s) cause after same h allowed.3)
+
+turn_quiet : (w v : World) (r : Reading) (lines : List Line) → Turn w r lines v → v.disks ≡ w.disks → CanRise w.disks → IsQuiet w → IsQuiet v
+turn_quiet w v Blank lines turn same h quiet = subst IsQuiet (sym turn.1) quiet
+turn_quiet w v (Says s) lines turn same h quiet = subst IsQuiet (sym turn.goes) (effect_quiet w s turn.choice v.disks turn.allowed same h quiet)
+turn_quiet w v (Bad column) lines turn same h quiet = absurd turn
+
+-- Where memory may be missing, no other answer says that it was.
+
+-- a line that does not say that memory is missing
+abbrev is_other : Line → Bool
+is_other l = not (lacked_memory (l ∷ []))
+
+other_first : (l : Line) (ls : List Line) → is_other l ≡ true → lacked_memory (l ∷ ls) ≡ false
+other_first NoMemory ls h = let none : ⊥ = cc in absurd none
+other_first l ls h = refl
+
+last_not_memory : (o : Option Settlement) (n : ℕ) → lacked_memory ((elim o [ Some s ↦ last_line s | None ↦ [] ]) ++ line.NormalCount n ∷ []) ≡ false
+last_not_memory None n = refl
+last_not_memory (Some s) n = go s.outcome s.reason
+  where
+    go : (o : Outcome) (r : Option Reason) → lacked_memory ((elim o [ Commit ↦ line.LastCommitted s.tid s.serial s.moment ∷ [] | Abort ↦ elim r [ Some reason ↦ line.LastAborted s.tid s.serial reason s.moment ∷ [] | None ↦ [] ] ]) ++ line.NormalCount n ∷ []) ≡ false
+    go Commit r = refl
+    go Abort (Some reason) = refl
+    go Abort None = refl
+
+boot_begun : (w : World) (node : List ℕ) (n : Node) (b : Option Line) → find_node node w.nodes ≡ Some n → bootable n ≡ b → lacked_memory (begun w (At node Boot) b).lines ≡ false
+boot_begun w node n (Some refusal) found is = other_first refusal [] ((says_bootable is_other n refl refl (λ condition block. refl)).says refusal is)
+boot_begun w node n None found is =
+    let shown : (succeeded w (At node Boot)).lines ≡ (last_lines n ++ []) ++ line.NormalCount (n.boot + 1) ∷ [] = rw (rows_found w node Boot n found, answer_found w node Boot n found) refl in
+    ap lacked_memory shown ∙ plain n.last (n.boot + 1)
+  where
+    plain : (o : Option Settlement) (k : ℕ) → lacked_memory (((elim o [ Some s ↦ last_line s | None ↦ [] ]) ++ []) ++ line.NormalCount k ∷ []) ≡ false
+    plain o k = subst (λ xs. lacked_memory (xs ++ line.NormalCount k ∷ []) ≡ false) (sym (append-nil (elim o [ Some s ↦ last_line s | None ↦ [] ]))) (last_not_memory o k)
+
+boot_has_memory : (w : World) (node : List ℕ) (taken : Bool) → early w (At node Boot) ≡ None → lacked_memory (effect w (At node Boot) (Whole taken)).lines ≡ false
+boot_has_memory w node taken e =
+    let ready = is_ready taken w node Boot e in
+    let v = readied taken w (At node Boot) in
+    let n = ready_node taken (stops_at node w) Boot ready.n in
+    ap (λ o. lacked_memory (whole w v (At node Boot) o).lines) e ∙ ap (λ o. lacked_memory (begun v (At node Boot) o).lines) (late_found v node Boot n ready.ready) ∙ boot_begun v node n (bootable n) ready.ready refl
+
+only_boot : (w : World) (node : List ℕ) (request : Request) (n : Node) → find_node node w.nodes ≡ Some n → may_lack_memory w (At node request) ≡ true → takes_memory n request ≡ true
+only_boot w node request n found m = sym (rw (found, may_lack_memory) refl) ∙ m
+
+has_memory : (w : World) (node : List ℕ) (request : Request) (n : Node) (taken : Bool) → early w (At node request) ≡ None → takes_memory n request ≡ true → lacked_memory (effect w (At node request) (Whole taken)).lines ≡ false
+has_memory w node Boot n taken e m = boot_has_memory w node taken e
+has_memory w node _ n taken e m = let none : ⊥ = cc in absurd none
+
+one_lacked : (w : World) (s : Statement) (taken : Bool) (k l : List Line) → early w s ≡ None → may_lack_memory w s ≡ true → k ≡ (effect w s (Whole taken)).lines → l ≡ NoMemory ∷ [] → lacked_memory k ≡ lacked_memory l → ⊥
+one_lacked w (At node request) taken k l e m p q same =
+    let there = served w node request e in
+    let a = ap lacked_memory p in
+    let b = ap lacked_memory q in
+    let c = has_memory w node request there.n taken e (only_boot w node request there.n there.found m) in
+    cc
 
 -- two worlds after one effect, where no count rose
 same_world : (x w v u : World) → v.disks ≡ w.disks → u.disks ≡ w.disks → v ≡ record x { disks = v.disks } → u ≡ record x { disks = u.disks } → v ≡ u
 same_world x w v u e f p q = p ∙ (rw (e, f) refl ∙ sym q)
 
-same_choice : (w : World) (s : Statement) (c d : Choice) (k l : List Line) (v u : World) → v.disks ≡ w.disks → u.disks ≡ w.disks → CanRise w.disks → lacked_memory k ≡ lacked_memory l →
+same_effect : (w : World) (s : Statement) (a b : Bool) → IsQuiet w → effect w s (Whole a) ≡ effect w s (Whole b)
+same_effect w s a b quiet = ap (λ ready. whole w ready s (early w s)) (same_ready a b w s quiet)
+
+same_choice : (w : World) (s : Statement) (c d : Choice) (k l : List Line) (v u : World) → IsQuiet w → v.disks ≡ w.disks → u.disks ≡ w.disks → CanRise w.disks → lacked_memory k ≡ lacked_memory l →
     Allowed w s c v.disks → Allowed w s d u.disks → k ≡ (effect w s c).lines → l ≡ (effect w s d).lines →
     v ≡ record (effect w s c).world { disks = v.disks } → u ≡ record (effect w s d).world { disks = u.disks } → (k ≡ l) × (v ≡ u)
-same_choice w s Whole Whole k l v u e f h same a b p q x y = (p ∙ sym q, same_world (effect w s Whole).world w v u e f x y)
-same_choice w s WithoutMemory WithoutMemory k l v u e f h same a b p q x y = (p ∙ sym q, same_world w w v u e f x y)
-same_choice w s Whole WithoutMemory k l v u e f h same a b p q x y = absurd (one_lacked w s k l b.0 b.1 p q same)
-same_choice w s WithoutMemory Whole k l v u e f h same a b p q x y = absurd (one_lacked w s l k a.0 a.1 q p (sym same))
-same_choice w s Whole (Cut done begun cause) k l v u e f h same a b p q x y = absurd (not_risen w (node_of s) cause u.disks f h b.3)
-same_choice w s WithoutMemory (Cut done begun cause) k l v u e f h same a b p q x y = absurd (not_risen w (node_of s) cause u.disks f h b.3)
-same_choice w s (Cut done begun cause) d k l v u e f h same a b p q x y = absurd (not_risen w (node_of s) cause v.disks e h a.3)
+same_choice w s (Whole t) (Whole r) k l v u quiet e f h same a b p q x y =
+    let one = same_effect w s r t quiet in (
+      p ∙ sym (q ∙ ap (λ (z : Effect). z.lines) one),
+      same_world (effect w s (Whole t)).world w v u e f x (y ∙ ap (λ (z : Effect). record z.world { disks = u.disks }) one),
+    )
+same_choice w s WithoutMemory WithoutMemory k l v u quiet e f h same a b p q x y = (p ∙ sym q, same_world w w v u e f x y)
+same_choice w s (Whole t) WithoutMemory k l v u quiet e f h same a b p q x y = absurd (one_lacked w s t k l b.0 b.1 p q same)
+same_choice w s WithoutMemory (Whole r) k l v u quiet e f h same a b p q x y = absurd (one_lacked w s r l k a.0 a.1 q p (sym same))
+same_choice w s (Whole t) Unpowered k l v u quiet e f h same a b p q x y = absurd (not_risen w (node_of s) Failed u.disks f h b.2)
+same_choice w s WithoutMemory Unpowered k l v u quiet e f h same a b p q x y = absurd (not_risen w (node_of s) Failed u.disks f h b.2)
+same_choice w s (Whole t) (Cut taken done begun cause) k l v u quiet e f h same a b p q x y = absurd (not_risen w (node_of s) cause u.disks f h b.3)
+same_choice w s WithoutMemory (Cut taken done begun cause) k l v u quiet e f h same a b p q x y = absurd (not_risen w (node_of s) cause u.disks f h b.3)
+same_choice w s Unpowered d k l v u quiet e f h same a b p q x y = absurd (not_risen w (node_of s) Failed v.disks e h a.2)
+same_choice w s (Cut taken done begun cause) d k l v u quiet e f h same a b p q x y = absurd (not_risen w (node_of s) cause v.disks e h a.3)
 
-same_turn : (w : World) (r : Reading) (k l : List Line) (v u : World) → v.disks ≡ w.disks → u.disks ≡ w.disks → CanRise w.disks → lacked_memory k ≡ lacked_memory l → Turn w r k v → Turn w r l u → (k ≡ l) × (v ≡ u)
-same_turn w Blank k l v u e f h same a b = (a.0 ∙ sym b.0, a.1 ∙ sym b.1)
-same_turn w (Says s) k l v u e f h same a b = same_choice w s a.choice b.choice k l v u e f h same a.allowed b.allowed a.shows b.shows a.goes b.goes
-same_turn w (Bad column) k l v u e f h same a b = absurd a
+same_turn : (w : World) (r : Reading) (k l : List Line) (v u : World) → IsQuiet w → v.disks ≡ w.disks → u.disks ≡ w.disks → CanRise w.disks → lacked_memory k ≡ lacked_memory l → Turn w r k v → Turn w r l u → (k ≡ l) × (v ≡ u)
+same_turn w Blank k l v u quiet e f h same a b = (a.0 ∙ sym b.0, a.1 ∙ sym b.1)
+same_turn w (Says s) k l v u quiet e f h same a b = same_choice w s a.choice b.choice k l v u quiet e f h same a.allowed b.allowed a.shows b.shows a.goes b.goes
+same_turn w (Bad column) k l v u quiet e f h same a b = absurd a
 
 -- no count falls in a turn, nor in a transcript
 turn_up : (w v : World) (r : Reading) (lines : List Line) → Turn w r lines v → NoneFalls w.disks v.disks
@@ -105,33 +253,43 @@ turn_up w v (Bad column) lines turn = absurd turn
 
 pub legal_up : (opening w : World) (es : List Entry) → Legal opening es w → NoneFalls opening.disks w.disks
 legal_up opening w [] legal = subst (λ x. NoneFalls opening.disks x.disks) (sym legal) (none_falls_same opening.disks)
-legal_up opening w (e ∷ es) legal = none_falls_on opening.disks legal.0.disks w.disks (legal_up opening legal.0 es legal.1) (turn_up legal.0 w (reading_after es e.source) e.lines legal.2)
+legal_up opening w (e ∷ es) legal = none_falls_on opening.disks legal.0.disks w.disks (legal_up opening legal.0 es legal.1) (turn_up legal.0 w (reading e.source.text) e.lines legal.2)
 
 -- where no count rose up to the end, none had risen before the last turn
-mid_same : (opening mid w : World) (e : Entry) (es : List Entry) → w.disks ≡ opening.disks → Legal opening es mid → Turn mid (reading_after es e.source) e.lines w → mid.disks ≡ opening.disks
+mid_same : (opening mid w : World) (e : Entry) (es : List Entry) → w.disks ≡ opening.disks → Legal opening es mid → Turn mid (reading e.source.text) e.lines w → mid.disks ≡ opening.disks
 mid_same opening mid w e es same legal turn =
-    falls_back opening.disks mid.disks (legal_up opening mid es legal) (subst (λ disks. NoneFalls mid.disks disks) same (turn_up mid w (reading_after es e.source) e.lines turn))
+    falls_back opening.disks mid.disks (legal_up opening mid es legal) (subst (λ disks. NoneFalls mid.disks disks) same (turn_up mid w (reading e.source.text) e.lines turn))
+
+legal_quiet : (opening w : World) (es : List Entry) → Legal opening es w → w.disks ≡ opening.disks → CanRise opening.disks → IsQuiet opening → IsQuiet w
+legal_quiet opening w [] legal same low quiet = subst IsQuiet (sym legal) quiet
+legal_quiet opening w (e ∷ es) legal same low quiet =
+    let mid = mid_same opening legal.0 w e es same legal.1 legal.2 in
+    turn_quiet legal.0 w (reading e.source.text) e.lines legal.2 (same ∙ sym mid) (subst CanRise (sym mid) low) (legal_quiet opening legal.0 es legal.1 mid low quiet)
 
 same_entry : (e f : Entry) → e.source ≡ f.source → e.lines ≡ f.lines → e ≡ f
 same_entry e f p q = λ i. record { source = p i; lines = q i }
 
-both : (opening v u : World) (es fs : List Entry) → Legal opening es v → Legal opening fs u → v.disks ≡ opening.disks → u.disks ≡ opening.disks → CanRise opening.disks →
+both : (opening v u : World) (es fs : List Entry) → IsQuiet opening → Legal opening es v → Legal opening fs u → v.disks ≡ opening.disks → u.disks ≡ opening.disks → CanRise opening.disks →
     map (λ e. e.source) es ≡ map (λ e. e.source) fs → map (λ e. lacked_memory e.lines) es ≡ map (λ e. lacked_memory e.lines) fs → (es ≡ fs) × (v ≡ u)
-both opening v u [] [] h k a b low same lacked = (refl, h ∙ sym k)
-both opening v u [] (f ∷ fs) h k a b low same lacked = let none : ⊥ = cc in absurd none
-both opening v u (e ∷ es) [] h k a b low same lacked = let none : ⊥ = cc in absurd none
-both opening v u (e ∷ es) (f ∷ fs) h k a b low same lacked =
+both opening v u [] [] quiet h k a b low same lacked = (refl, h ∙ sym k)
+both opening v u [] (f ∷ fs) quiet h k a b low same lacked = let none : ⊥ = cc in absurd none
+both opening v u (e ∷ es) [] quiet h k a b low same lacked = let none : ⊥ = cc in absurd none
+both opening v u (e ∷ es) (f ∷ fs) quiet h k a b low same lacked =
     let x = mid_same opening h.0 v e es a h.1 h.2 in
     let y = mid_same opening k.0 u f fs b k.1 k.2 in
     let heads : e.source ≡ f.source = cc in
     let tails : map (λ e. e.source) es ≡ map (λ e. e.source) fs = cc in
     let lack : lacked_memory e.lines ≡ lacked_memory f.lines = cc in
     let lacks : map (λ e. lacked_memory e.lines) es ≡ map (λ e. lacked_memory e.lines) fs = cc in
-    let before = both opening h.0 k.0 es fs h.1 k.1 x y low tails lacks in
-    let turn : Turn h.0 (reading_after es e.source) f.lines u =
-    subst (λ r. Turn h.0 r f.lines u) (λ i. reading_after (sym before.0 i) (sym heads i)) (subst (λ m. Turn m (reading_after fs f.source) f.lines u) (sym before.1) k.2) in
-    let now = same_turn h.0 (reading_after es e.source) e.lines f.lines v u (a ∙ sym x) (b ∙ sym x) (subst CanRise (sym x) low) lack h.2 turn in
+    let before = both opening h.0 k.0 es fs quiet h.1 k.1 x y low tails lacks in
+    let turn : Turn h.0 (reading e.source.text) f.lines u =
+    subst (λ (source : ScriptLine). Turn h.0 (reading source.text) f.lines u) (sym heads) (subst (λ m. Turn m (reading f.source.text) f.lines u) (sym before.1) k.2) in
+    let now = same_turn h.0 (reading e.source.text) e.lines f.lines v u (legal_quiet opening h.0 es h.1 x low quiet) (a ∙ sym x) (b ∙ sym x) (subst CanRise (sym x) low) lack h.2 turn in
     (λ i. same_entry e f heads now.0 i ∷ before.0 i, now.1)
 
+opening_quiet : (nodes : List Node) → AreOpening nodes → Each (λ n. n.under_way ≡ None) nodes
+opening_quiet [] h = tt
+opening_quiet (n ∷ ns) h = (h.0.under_way, opening_quiet ns h.1)
+
 pub determined : IsDetermined
-determined opening v u es fs h k a b low same lacked = (both opening v u es fs h k a b low same lacked).0
+determined nodes disks v u es fs opening h k a b low same lacked = (both (opened nodes disks) v u es fs (opening_quiet nodes opening) h k a b low same lacked).0

@@ -1,77 +1,154 @@
 -- What every act keeps, every statement keeps: one induction over the rows of a statement, whatever the statement.
-use Rattle.std.proofs.Common.{◌≡◌, ℕ, List, [], ◌∷◌, take, drop, zero, suc, Bool, true, false, Option, Some, None, if◌then◌else◌, refl, sym, ap, subst, inr}
+use Rattle.std.proofs.Common.{◌≡◌, ℕ, List, [], ◌∷◌, take, drop, zero, suc, Bool, true, false, ◌||◌, Option, Some, None, if◌then◌else◌, refl, sym, ◌∙◌, ap, subst, inr}
 use Rattle.std.specs.Str.{bytes_eq}
-use Rattle.transcript_model.specs.Lines.{Line}
-use Rattle.script_model.specs.Statements.{Statement}
-use Rattle.run_model.specs.World.{World, DiskCounts, Node, Settlement, Act, Boots, Settles, find_node, acted, fallen, acts, with_node}
-use Rattle.run_model.specs.Answers.{Row, node_of, early, late, rows}
-use Rattle.run_model.specs.Steps.{Step, Choice, Whole, WithoutMemory, Cut, Allowed, after_act, after_rows, rows_if, act_begun, whole, effect}
+use Rattle.std.proofs.lemmas.Bool.{or_parts}
+use Rattle.transcript_model.specs.Lines.{Line, Cause}
+use Rattle.script_model.specs.Statements.{Statement, At, Request}
+use Rattle.run_model.specs.World.{World, DiskCounts, Node, Settlement, Act, Settles, is_durable, find_node, acted, powered, unpowered, fallen, acts, with_node}
+use Rattle.run_model.specs.Answers.{Row, early, late, rows, powers, spoils, occupies}
+use Rattle.run_model.specs.Steps.{Step, Choice, Whole, WithoutMemory, Unpowered, Cut, Allowed, after_act, after_rows, rows_if, rows_of, durable, act_begun, whole, begun, effect, readied, occupied, spoilt, stops_at}
 use Rattle.run_model.specs.Promises.{In, settlements_of}
-use Rattle.run_model.proofs.IdLemmas.{Each}
-use Rattle.run_model.proofs.Soundness.{IsSoundNode, IsSoundWorld}
-use Rattle.run_model.proofs.NodeLemmas.{acted_sound}
+use Rattle.run_model.proofs.FindLemmas.{found_each, each_with_node, other_node}
+use Rattle.run_model.proofs.ReadyLemmas.{acted_name, resolved, powered_is, powered_name, unpowered_name}
+use Rattle.run_model.proofs.Soundness.{IsSoundNode, IsSoundWorld, IsUnused, FitsAt, MayBeUnderWay, IsTimely}
+use Rattle.run_model.proofs.NodeLemmas.{acted_node, powered_node, unpowered_node, fallen_node, spoilt_node, unused_acted, unused_powered, unused_spoilt}
 use Rattle.run_model.proofs.ActLemmas.{MayAt, MayAll, rows_may}
 
--- what acts that may be done keep, and what a node that goes down keeps, whatever the counts of the disks
-pub record IsKept (P : World → Type 0) : Type 0 where
-  pub acting : (w : World) (node : List ℕ) (act : Act) → MayAt node (Some act) w → P w → P (acts node act w)
-  pub falling : (w : World) (node : List ℕ) (under_way : Option Act) → P w → P (record w { nodes = with_node node (fallen under_way) w.nodes })
+-- that this may be under way at the node of this name, where there is one
+abbrev pub MayFall : List ℕ → Option Act → World → Type 0
+MayFall node under_way w = (n : Node) → find_node node w.nodes ≡ Some n → MayBeUnderWay under_way n
+
+-- what a statement at this node keeps: through acts that may be done, where the node goes down, and where its disk runs again or does not, whatever the
+-- counts of the disks, and whether or not a node was in use
+pub record IsKept (node : List ℕ) (P : World → Type 0) : Type 0 where
+  pub acting : (w : World) (act : Act) → MayAt node (Some act) w → IsSoundWorld w → P w → P (acts node act w)
+  pub falling : (w : World) (under_way : Option Act) → MayFall node under_way w → P w → P (record w { nodes = with_node node (fallen under_way) w.nodes })
+  pub powering : (w : World) (taken : Bool) (stops : ℕ) (spoil : Bool) → IsSoundWorld w → P w → P (record w { nodes = with_node node (λ n. spoilt spoil (powered taken stops n)) w.nodes })
+  pub unpowering : (w : World) (stops : ℕ) (spoil : Bool) → P w → P (record w { nodes = with_node node (λ n. spoilt spoil (unpowered stops n)) w.nodes })
+  pub occupying : (w : World) (more : Bool) → P w → P (record w { in_use = w.in_use || more })
   pub counting : (w : World) (disks : List DiskCounts) → P w → P (record w { disks = disks })
 
-rows_keep : (P : World → Type 0) → IsKept P → (node : List ℕ) (rs : List Row) (w : World) → MayAll node rs w → P w → P (after_rows node rs w)
-rows_keep P kept node [] w may h = h
-rows_keep P kept node (r ∷ rs) w may h = rows_keep P kept node rs (after_act node r.act w) may.1 (one r.act may.0)
-  where
-    one : (o : Option Act) → MayAt node o w → P (after_act node o w)
-    one None m = h
-    one (Some act) m = kept.acting w node act m h
+-- Nodes stay sound.
+
+pub sound_kept : (node : List ℕ) → IsKept node IsSoundWorld
+sound_kept node = record {
+  acting = λ w act may sound h. (
+    each_with_node IsSoundNode node (acted act) w.nodes (λ n found k. acted_node act n (may.1 n found) k) h.0,
+    λ e. each_with_node IsUnused node (acted act) w.nodes (λ n found u. unused_acted act n (may.1 n found).0 (subst (IsTimely act) e may.0) u) (h.1 e),
+  );
+  falling = λ w under_way may h. (
+    each_with_node IsSoundNode node (fallen under_way) w.nodes (λ n found k. fallen_node under_way n (may n found) k) h.0,
+    λ e. each_with_node IsUnused node (fallen under_way) w.nodes (λ n found u. (refl, u.1, u.2)) (h.1 e),
+  );
+  powering = λ w taken stops spoil sound h. (
+    each_with_node IsSoundNode node _ w.nodes (λ n found k. spoilt_node spoil (powered taken stops n) (powered_node taken stops n k)) h.0,
+    λ e. each_with_node IsUnused node _ w.nodes (λ n found u. unused_spoilt spoil (powered taken stops n) (unused_powered taken stops n (found_each IsSoundNode node w.nodes n h.0 found) u)) (h.1 e),
+  );
+  unpowering = λ w stops spoil h. (
+    each_with_node IsSoundNode node _ w.nodes (λ n found k. spoilt_node spoil (unpowered stops n) (unpowered_node stops n k)) h.0,
+    λ e. each_with_node IsUnused node _ w.nodes (λ n found u. unused_spoilt spoil (unpowered stops n) (refl, u.1, u.2)) (h.1 e),
+  );
+  occupying = λ w more h. (h.0, λ e. h.1 (or_parts w.in_use more e).0);
+  counting = λ w disks h. h;
+}
+
+-- Rows.
+
+module _ (node : List ℕ) (P : World → Type 0) (kept : IsKept node P) where
+  pub rows_keep : (rs : List Row) (w : World) → MayAll node rs w → IsSoundWorld w → P w → P (after_rows node rs w)
+  rows_keep [] w may sound h = h
+  rows_keep (r ∷ rs) w may sound h = rows_keep rs (after_act node r.act w) may.1 (still r.act may.0) (one r.act may.0)
+    where
+      still : (o : Option Act) → MayAt node o w → IsSoundWorld (after_act node o w)
+      still None m = sound
+      still (Some act) m = (sound_kept node).acting w act m sound sound
+
+      one : (o : Option Act) → MayAt node o w → P (after_act node o w)
+      one None m = h
+      one (Some act) m = kept.acting w act m sound h
 
 may_take : (k : ℕ) (node : List ℕ) (rs : List Row) (w : World) → MayAll node rs w → MayAll node (take k rs) w
 may_take zero node rs w may = tt
 may_take (suc k) node [] w may = tt
 may_take (suc k) node (r ∷ rs) w may = (may.0, may_take k node rs (after_act node r.act w) may.1)
 
-may_if : (w : World) (s : Statement) (b : Option Line) → IsSoundWorld w → early w s ≡ None → late w s ≡ b → MayAll (node_of s) (rows_if b (rows w s)) w
-may_if w s (Some refusal) sound e l = tt
-may_if w s None sound e l = rows_may w s sound e l
-
-whole_keeps : (P : World → Type 0) → IsKept P → (w : World) (s : Statement) (a b : Option Line) → early w s ≡ a → late w s ≡ b → IsSoundWorld w → P w → P (whole w s a b).world
-whole_keeps P kept w s (Some refusal) b e l sound h = h
-whole_keeps P kept w s None (Some refusal) e l sound h = h
-whole_keeps P kept w s None None e l sound h = rows_keep P kept (node_of s) (rows w s) w (rows_may w s sound e l) h
-
-effect_keeps : (P : World → Type 0) → IsKept P → (w : World) (s : Statement) (c : Choice) (after : List DiskCounts) → Allowed w s c after → IsSoundWorld w → P w → P (effect w s c).world
-effect_keeps P kept w s Whole after allowed sound h = whole_keeps P kept w s (early w s) (late w s) refl refl sound h
-effect_keeps P kept w s WithoutMemory after allowed sound h = h
-effect_keeps P kept w s (Cut done begun cause) after allowed sound h =
-    let rs = rows_if (late w s) (rows w s) in
-    kept.falling (after_rows (node_of s) (take done rs) w) (node_of s) (act_begun begun (drop done rs))
-    (rows_keep P kept (node_of s) (take done rs) w (may_take done (node_of s) rs w (may_if w s (late w s) sound allowed.0 refl)) h)
-
-pub step_keeps : (P : World → Type 0) → IsKept P → (w v : World) (s : Statement) (lines : List Line) → Step w s lines v → IsSoundWorld w → P w → P v
-step_keeps P kept w v s lines step sound h =
-    subst P (sym step.goes) (kept.counting (effect w s step.choice).world v.disks (effect_keeps P kept w s step.choice v.disks step.allowed sound h))
-
--- Nodes stay sound.
-
-each_with_node : (P : Node → Type 0) (node : List ℕ) (change : Node → Node) (ns : List Node) → ((n : Node) → find_node node ns ≡ Some n → P n → P (change n)) → Each P ns → Each P (with_node node change ns)
-each_with_node P node change [] g h = tt
-each_with_node P node change (n ∷ ns) g h = go (bytes_eq node n.name) g (λ k. each_with_node P node change ns k h.1)
+-- what may be under way behind some rows
+may_fall : (b : Bool) (k : ℕ) (node : List ℕ) (rs : List Row) (w : World) → MayAll node rs w → MayFall node (act_begun b (drop k rs)) (after_rows node (take k rs) w)
+may_fall false k node rs w may = λ n found. tt
+may_fall true zero node [] w may = λ n found. tt
+may_fall true zero node (r ∷ rs) w may = one r.act may.0
   where
-    go : (b : Bool) → ((m : Node) → ◌≡◌ {A = Option Node} (if b then Some n else find_node node ns) (Some m) → P m → P (change m)) →
-        (((m : Node) → find_node node ns ≡ Some m → P m → P (change m)) → Each P (with_node node change ns)) → Each P (if b then change n ∷ ns else n ∷ with_node node change ns)
-    go true k more = (k n refl h.0, h.1)
-    go false k more = (h.0, more k)
+    one : (o : Option Act) → MayAt node o w → MayFall node (durable o) w
+    one None m = λ n found. tt
+    one (Some act) m = λ n found. filtered (is_durable act) refl n (m.1 n found).0
+      where
+        filtered : (b : Bool) → is_durable act ≡ b → (n : Node) → FitsAt act n → MayBeUnderWay (if b then Some act else None) n
+        filtered true e n fits = (e, fits)
+        filtered false e n fits = tt
+may_fall true (suc k) node [] w may = λ n found. tt
+may_fall true (suc k) node (r ∷ rs) w may = may_fall true k node rs (after_act node r.act w) may.1
 
-fallen_sound : (under_way : Option Act) (n : Node) → IsSoundNode n → IsSoundNode (fallen under_way n)
-fallen_sound under_way n h = h
+-- that a node is in use does not matter to rows
+occupied_rows : (s : Statement) (node : List ℕ) (rs : List Row) (w : World) → occupied s (after_rows node rs w) ≡ after_rows node rs (occupied s w)
+occupied_rows s node [] w = refl
+occupied_rows s node (r ∷ rs) w = occupied_rows s node rs (after_act node r.act w) ∙ ap (after_rows node rs) (one r.act)
+  where
+    one : (o : Option Act) → occupied s (after_act node o w) ≡ after_act node o (occupied s w)
+    one None = refl
+    one (Some act) = refl
 
-pub sound_kept : IsKept IsSoundWorld
-sound_kept = record {
-  acting = λ w node act may h. each_with_node IsSoundNode node (acted act) w.nodes (λ n found sound. acted_sound act n (may n found) sound) h;
-  falling = λ w node under_way h. each_with_node IsSoundNode node (fallen under_way) w.nodes (λ n found sound. fallen_sound under_way n sound) h;
-  counting = λ w disks h. h;
-}
+pub ready_kept : (node : List ℕ) (P : World → Type 0) → IsKept node P → (taken : Bool) (w : World) (request : Request) → IsSoundWorld w → P w → P (readied taken w (At node request))
+ready_kept node P kept taken w request sound h = go (powers request)
+  where
+    go : (b : Bool) → P (if b then record w { nodes = with_node node (λ n. spoilt (spoils request) (powered taken (stops_at node w) n)) w.nodes } else w)
+    go true = kept.powering w taken (stops_at node w) (spoils request) sound h
+    go false = h
+
+-- Statements.
+
+module _ (node : List ℕ) (request : Request) (P : World → Type 0) (kept : IsKept node P) (w : World) (sound : IsSoundWorld w) where
+  ready_sound : (taken : Bool) → IsSoundWorld (readied taken w (At node request))
+  ready_sound taken = ready_kept node IsSoundWorld (sound_kept node) taken w request sound sound
+
+  may_ready : (taken : Bool) → early w (At node request) ≡ None → MayAll node (rows (readied taken w (At node request)) (At node request)) (occupied (At node request) (readied taken w (At node request)))
+  may_ready taken e = rows_may taken w (At node request) sound (ready_sound taken) e
+
+  begun_keeps : (taken : Bool) (b : Option Line) → early w (At node request) ≡ None → P w → P (begun (readied taken w (At node request)) (At node request) b).world
+  begun_keeps taken (Some refusal) e h = ready_kept node P kept taken w request sound h
+  begun_keeps taken None e h =
+      let s = At node request in
+      let ready = readied taken w s in
+      subst P (sym (occupied_rows s node (rows ready s) ready)) (rows_keep node P kept (rows ready s) (occupied s ready) (may_ready taken e)
+      ((sound_kept node).occupying ready (occupies request) (ready_sound taken)) (kept.occupying ready (occupies request) (ready_kept node P kept taken w request sound h)))
+
+  whole_keeps : (taken : Bool) (a : Option Line) → early w (At node request) ≡ a → P w → P (whole w (readied taken w (At node request)) (At node request) a).world
+  whole_keeps taken (Some refusal) e h = h
+  whole_keeps taken None e h = begun_keeps taken (late (readied taken w (At node request)) (At node request)) e h
+
+  may_if : (v : World) (o : Option Line) (rs : List Row) → MayAll node rs v → MayAll node (rows_if o rs) v
+  may_if v (Some refusal) rs may = tt
+  may_if v None rs may = may
+
+  cut_keeps : (taken : Bool) (done : ℕ) (b : Bool) (cause : Cause) → early w (At node request) ≡ None → P w → P (effect w (At node request) (Cut taken done b cause)).world
+  cut_keeps taken done b cause e h =
+      let s = At node request in
+      let ready = readied taken w s in
+      let rs = rows_of ready s in
+      let may = may_if (occupied s ready) (late ready s) (rows ready s) (may_ready taken e) in
+      let sound_then = (sound_kept node).occupying ready (occupies request) (ready_sound taken) in
+      subst (λ v. P (record v { nodes = with_node node (fallen (act_begun b (drop done rs))) v.nodes })) (sym (occupied_rows s node (take done rs) ready))
+      (kept.falling (after_rows node (take done rs) (occupied s ready)) (act_begun b (drop done rs)) (may_fall b done node rs (occupied s ready) may)
+      (rows_keep node P kept (take done rs) (occupied s ready) (may_take done node rs (occupied s ready) may) sound_then (kept.occupying ready (occupies request) (ready_kept node P kept taken w request sound h))))
+
+  pub effect_keeps : (c : Choice) (after : List DiskCounts) → Allowed w (At node request) c after → P w → P (effect w (At node request) c).world
+  effect_keeps (Whole taken) after allowed h = whole_keeps taken (early w (At node request)) refl h
+  effect_keeps WithoutMemory after allowed h = h
+  effect_keeps Unpowered after allowed h = kept.occupying _ (occupies request) (kept.unpowering w (stops_at node w) (spoils request) h)
+  effect_keeps (Cut taken done b cause) after allowed h = cut_keeps taken done b cause allowed.0 h
+
+pub step_keeps : (node : List ℕ) (request : Request) (P : World → Type 0) → IsKept node P → (w v : World) (lines : List Line) → Step w (At node request) lines v → IsSoundWorld w → P w → P v
+step_keeps node request P kept w v lines step sound h =
+    subst P (sym step.goes) (kept.counting (effect w (At node request) step.choice).world v.disks (effect_keeps node request P kept w sound step.choice v.disks step.allowed h))
 
 -- Settlements stay.
 
@@ -79,13 +156,21 @@ abbrev pub settled_of : Option Node → List Settlement
 settled_of (Some n) = n.settled
 settled_of None = []
 
-pub acted_name : (act : Act) (n : Node) → (acted act n).name ≡ n.name
-acted_name Boots n = refl
-acted_name _ n = refl
-
 acted_settled : (s : Settlement) (act : Act) (n : Node) → In s n.settled → In s (acted act n).settled
 acted_settled s (Settles t) n i = inr i
 acted_settled s _ n i = i
+
+powered_settled : (s : Settlement) (taken : Bool) (stops : ℕ) (n : Node) → In s n.settled → In s (powered taken stops n).settled
+powered_settled s taken stops n i = subst (λ (m : Node). In s m.settled) (sym (powered_is taken stops n)) (go taken n.under_way)
+  where
+    go : (t : Bool) (o : Option Act) → In s (resolved t o n).settled
+    go true (Some act) = acted_settled s act n i
+    go true None = i
+    go false o = i
+
+spoilt_settled : (s : Settlement) (b : Bool) (n : Node) → In s n.settled → In s (spoilt b n).settled
+spoilt_settled s true n i = i
+spoilt_settled s false n i = i
 
 stay_with_node : (s : Settlement) (node name : List ℕ) (change : Node → Node) (ns : List Node) → ((n : Node) → (change n).name ≡ n.name) → ((n : Node) → In s n.settled → In s (change n).settled) →
     In s (settled_of (find_node node ns)) → In s (settled_of (find_node node (with_node name change ns)))
@@ -109,9 +194,35 @@ stay_with_node s node name change (n ∷ ns) named stays i = go (bytes_eq name n
 abbrev pub IsSettledAt : List ℕ → Settlement → World → Type 0
 IsSettledAt node s w = In s (settlements_of node w)
 
-pub settled_kept : (node : List ℕ) (s : Settlement) → IsKept (IsSettledAt node s)
-settled_kept node s = record {
-  acting = λ w name act may h. stay_with_node s node name (acted act) w.nodes (acted_name act) (acted_settled s act) h;
-  falling = λ w name under_way h. stay_with_node s node name (fallen under_way) w.nodes (λ n. refl) (λ n i. i) h;
+pub settled_kept : (node name : List ℕ) (s : Settlement) → IsKept name (IsSettledAt node s)
+settled_kept node name s = record {
+  acting = λ w act may sound h. stay_with_node s node name (acted act) w.nodes (acted_name act) (acted_settled s act) h;
+  falling = λ w under_way may h. stay_with_node s node name (fallen under_way) w.nodes (λ n. refl) (λ n i. i) h;
+  powering = λ w taken stops spoil sound h. stay_with_node s node name _ w.nodes (powered_name taken stops spoil) (λ n i. spoilt_settled s spoil (powered taken stops n) (powered_settled s taken stops n i)) h;
+  unpowering = λ w stops spoil h. stay_with_node s node name _ w.nodes (unpowered_name stops spoil) (λ n i. spoilt_settled s spoil (unpowered stops n) i) h;
+  occupying = λ w more h. h;
+  counting = λ w disks h. h;
+}
+
+-- A statement leaves the other nodes.
+
+pub others_kept : (node name : List ℕ) (o : Option Node) → bytes_eq name node ≡ false → IsKept name (λ w. find_node node w.nodes ≡ o)
+others_kept node name o apart = record {
+  acting = λ w act may sound h. other_node node name (acted act) w.nodes (acted_name act) apart ∙ h;
+  falling = λ w under_way may h. other_node node name (fallen under_way) w.nodes (λ n. refl) apart ∙ h;
+  powering = λ w taken stops spoil sound h. other_node node name _ w.nodes (powered_name taken stops spoil) apart ∙ h;
+  unpowering = λ w stops spoil h. other_node node name _ w.nodes (unpowered_name stops spoil) apart ∙ h;
+  occupying = λ w more h. h;
+  counting = λ w disks h. h;
+}
+
+-- Where no node is in use after a statement, none was before it.
+pub unused_kept : (node : List ℕ) (b : Bool) → IsKept node (λ w. w.in_use ≡ false → b ≡ false)
+unused_kept node b = record {
+  acting = λ w act may sound h. h;
+  falling = λ w under_way may h. h;
+  powering = λ w taken stops spoil sound h. h;
+  unpowering = λ w stops spoil h. h;
+  occupying = λ w more h e. h (or_parts w.in_use more e).0;
   counting = λ w disks h. h;
 }

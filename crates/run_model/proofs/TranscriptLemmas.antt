@@ -8,10 +8,10 @@ use Rattle.transcript_model.specs.Script.{ScriptLine, size_of, BeginsTooLong, Is
 use Rattle.transcript_model.specs.Emitting.{Shown, Emits, Adds}
 use Rattle.transcript_model.proofs.OutsideLemmas.{behind_on, behind_none}
 use Rattle.script_model.specs.Statements.{Statement, Blank, Says, Bad}
-use Rattle.script_model.specs.Opening.{reading_at}
+use Rattle.script_model.specs.Grammar.{reading}
 use Rattle.run_model.specs.World.{World}
 use Rattle.run_model.specs.Steps.{Step}
-use Rattle.run_model.specs.Transcript.{Entry, Legal, Turn, said, one_more_if_said, number_after, size_before, text_of, lines_then, Exit, Done, BadLine, TooLong, ReadFault, WriteFault, Memory, Continues, IsInLimits, AreInLimits, BeginsBad, EndsTooLong, CutIn, Ran}
+use Rattle.run_model.specs.Transcript.{Entry, Legal, Turn, number_after, size_before, text_of, lines_then, Exit, Done, BadLine, TooLong, ReadFault, WriteFault, Memory, Continues, IsInLimits, AreInLimits, BeginsBad, EndsTooLong, CutIn, Ran}
 
 -- What one emitted text adds: all of it, or where a write failed a front of it.
 
@@ -66,20 +66,19 @@ begins : (P : List ScriptLine → Type 0) (ahead later : Option (List ScriptLine
 begins P ahead None source told h = subst (λ o. IfSome o P) (sym told) tt
 begins P ahead (Some more) source told h = subst (λ o. IfSome o P) (sym told) (h more)
 
--- A run between two lines: from the opening world it reached this one, the next line has this number, so many statements were said and so many
--- bytes of the script were taken; ahead are the lines that are still to come.
-pub record Reached (opening : World) (script ahead : Option (List ScriptLine)) (old now : Option (List ℕ)) (number statements taken : ℕ) (w : World) : Type 0 where
+-- A run between two lines: from the opening world it reached this one, the next line has this number, and so many bytes of the script were taken;
+-- ahead are the lines that are still to come.
+pub record Reached (opening : World) (script ahead : Option (List ScriptLine)) (old now : Option (List ℕ)) (number taken : ℕ) (w : World) : Type 0 where
   pub entries : List Entry
   pub legal : Legal opening entries w
   pub limits : AreInLimits entries
   pub counted : number ≡ number_after entries
-  pub stated : statements ≡ said entries
   pub sized : taken ≡ size_before entries
   pub told : script ≡ option_map (lines_then entries) ahead
   pub shows : now ≡ behind old (text_of entries)
 
-pub reached_first : (opening : World) (script : Option (List ScriptLine)) (old : Option (List ℕ)) → Reached opening script script old old 1 0 0 opening
-reached_first opening script old = record { entries = []; legal = refl; limits = tt; counted = refl; stated = refl; sized = refl; told = told_at_first script; shows = sym (behind_none old) }
+pub reached_first : (opening : World) (script : Option (List ScriptLine)) (old : Option (List ℕ)) → Reached opening script script old old 1 0 opening
+reached_first opening script old = record { entries = []; legal = refl; limits = tt; counted = refl; sized = refl; told = told_at_first script; shows = sym (behind_none old) }
 
 -- a run that ended so, in this world
 pub record EndsIn (opening : World) (script : Option (List ScriptLine)) (old new : Option (List ℕ)) (exit : Exit) (w : World) : Type 0 where
@@ -89,7 +88,7 @@ pub record EndsIn (opening : World) (script : Option (List ScriptLine)) (old new
 pub ended_memory : (opening : World) (script : Option (List ScriptLine)) (old : Option (List ℕ)) → EndsIn opening script old old Memory opening
 ended_memory opening script old = record { ran = record { entries = []; closing = opening; legal = refl; in_limits = tt; added = []; shows = sym (behind_none old); ends = (refl, refl) }; closes = refl }
 
-module _ (opening : World) (script ahead : Option (List ScriptLine)) (old now : Option (List ℕ)) (number statements taken : ℕ) (w : World) (r : Reached opening script ahead old now number statements taken w) where
+module _ (opening : World) (script ahead : Option (List ScriptLine)) (old now : Option (List ℕ)) (number taken : ℕ) (w : World) (r : Reached opening script ahead old now number taken w) where
   -- the text after these lines, or a front of them
   text_after : (new : Option (List ℕ)) (lines : List Line) → new ≡ behind now (lines_text number lines) → new ≡ behind old (text_of r.entries ++ lines_text (number_after r.entries) lines)
   text_after new lines e = e ∙ ap (λ shown. behind shown (lines_text number lines)) r.shows ∙ behind_on old (text_of r.entries) (lines_text number lines) ∙ ap (λ n. behind old (text_of r.entries ++ lines_text n lines)) r.counted
@@ -153,50 +152,43 @@ module _ (opening : World) (script ahead : Option (List ScriptLine)) (old now : 
     in_limits = (subst (λ n. IsWithinLimits n source) r.sized within, subst (λ n. n ≤ 1000000) r.counted few)
 
     -- and is outside the grammar
-    pub line_bad : (column : ℕ) → reading_at statements source.text ≡ Bad column → IfSome ahead (BeginsBad r.entries column)
-    line_bad column bad = begins (BeginsBad r.entries column) ahead later source next (λ more. (in_limits, subst (λ n. reading_at n source.text ≡ Bad column) r.stated bad))
+    pub line_bad : (column : ℕ) → reading source.text ≡ Bad column → IfSome ahead (BeginsBad r.entries column)
+    line_bad column bad = begins (BeginsBad r.entries column) ahead later source next (λ more. (in_limits, bad))
 
     -- its number is one more
     one_more : (lines : List Line) → number + 1 ≡ number_after (record { source = source; lines = lines } ∷ r.entries)
     one_more lines = ap (λ n. n + 1) (r.counted ∙ add-one (length r.entries))
 
-    stated_more : (s : Statement) → reading_at statements source.text ≡ Says s → statements + 1 ≡ one_more_if_said (reading_at (said r.entries) source.text) (said r.entries)
-    stated_more s says = ap (λ n. n + 1) r.stated ∙ sym (ap (λ x. one_more_if_said x (said r.entries)) (subst (λ n. reading_at n source.text ≡ Says s) r.stated says))
-
-    legal_more : (s : Statement) (lines : List Line) (new : World) → reading_at statements source.text ≡ Says s → Step w s lines new → Legal opening (record { source = source; lines = lines } ∷ r.entries) new
-    legal_more s lines new says step = (w, r.legal, subst (λ x. Turn w x lines new) (sym (subst (λ n. reading_at n source.text ≡ Says s) r.stated says)) step)
+    legal_more : (s : Statement) (lines : List Line) (new : World) → reading source.text ≡ Says s → Step w s lines new → Legal opening (record { source = source; lines = lines } ∷ r.entries) new
+    legal_more s lines new says step = (w, r.legal, subst (λ x. Turn w x lines new) (sym says) step)
 
     -- and says nothing
-    pub reached_blank : reading_at statements source.text ≡ Blank → Reached opening script later old now (number + 1) statements (taken + size_of source) w
-    reached_blank blank =
-        let reads : reading_at (said r.entries) source.text ≡ Blank = subst (λ n. reading_at n source.text ≡ Blank) r.stated blank in
-        record {
-          entries = record { source = source; lines = [] } ∷ r.entries;
-          legal = (w, r.legal, subst (λ x. Turn w x [] w) (sym reads) (refl, refl));
-          limits = (in_limits, r.limits);
-          counted = one_more [];
-          stated = r.stated ∙ sym (ap (λ x. one_more_if_said x (said r.entries)) reads);
-          sized = ap (λ n. n + size_of source) r.sized;
-          told = told_next script ahead later r.entries (record { source = source; lines = [] }) r.told next;
-          shows = r.shows ∙ ap (behind old) (sym (append-nil (text_of r.entries)));
-        }
+    pub reached_blank : reading source.text ≡ Blank → Reached opening script later old now (number + 1) (taken + size_of source) w
+    reached_blank blank = record {
+      entries = record { source = source; lines = [] } ∷ r.entries;
+      legal = (w, r.legal, subst (λ x. Turn w x [] w) (sym blank) (refl, refl));
+      limits = (in_limits, r.limits);
+      counted = one_more [];
+      sized = ap (λ n. n + size_of source) r.sized;
+      told = told_next script ahead later r.entries (record { source = source; lines = [] }) r.told next;
+      shows = r.shows ∙ ap (behind old) (sym (append-nil (text_of r.entries)));
+    }
 
     -- and says a statement, whose lines were shown
-    pub reached_served : (s : Statement) (a b : Shown) (lines : List Line) (new : World) → reading_at statements source.text ≡ Says s → a.text ≡ now → a.number ≡ number → a.failed ≡ false → b.failed ≡ false →
-        Emits a lines b → Step w s lines new → Reached opening script later old b.text (number + 1) (statements + 1) (taken + size_of source) new
+    pub reached_served : (s : Statement) (a b : Shown) (lines : List Line) (new : World) → reading source.text ≡ Says s → a.text ≡ now → a.number ≡ number → a.failed ≡ false → b.failed ≡ false →
+        Emits a lines b → Step w s lines new → Reached opening script later old b.text (number + 1) (taken + size_of source) new
     reached_served s a b lines new says t n e f m step = record {
       entries = record { source = source; lines = lines } ∷ r.entries;
       legal = legal_more s lines new says step;
       limits = (in_limits, r.limits);
       counted = one_more lines;
-      stated = stated_more s says;
       sized = ap (λ n. n + size_of source) r.sized;
       told = told_next script ahead later r.entries (record { source = source; lines = lines }) r.told next;
       shows = text_after b.text lines (emitted_whole a b lines m e f ∙ ap (λ x. behind x (lines_text a.number lines)) t ∙ ap (λ n. behind now (lines_text n lines)) n);
     }
 
     -- and says a statement, and a write failed in its lines
-    pub ended_cut : (s : Statement) (a b : Shown) (lines : List Line) (new : World) → reading_at statements source.text ≡ Says s → a.text ≡ now → a.number ≡ number → a.failed ≡ false → b.failed ≡ true →
+    pub ended_cut : (s : Statement) (a b : Shown) (lines : List Line) (new : World) → reading source.text ≡ Says s → a.text ≡ now → a.number ≡ number → a.failed ≡ false → b.failed ≡ true →
         Emits a lines b → Step w s lines new → EndsIn opening script old b.text WriteFault new
     ended_cut s a b lines new says t n e f m step =
         let c : IsCutFrom (lines_text number lines) now b.text = subst (λ n. IsCutFrom (lines_text n lines) now b.text) n (subst (λ x. IsCutFrom (lines_text a.number lines) x b.text) t (emitted_cut a b lines m e f)) in

@@ -1,23 +1,33 @@
 -- What each statement answers and does. Each definition here that takes a request has one case for each statement, and no other definition
 -- of a step knows the statements.
-use Rattle.std.specs.Prelude.{ℕ, ◌+◌, List, [], ◌∷◌, Bool, true, false, ◌||◌, Option, Some, None, nat_le, nat_lt, map, length}
+use Rattle.std.specs.Prelude.{ℕ, ◌+◌, ◌-◌, ◌*◌, ◌/◌, List, [], ◌∷◌, Bool, true, false, not, ◌&&◌, ◌||◌, ◌==◌, Option, Some, None, min, nat_le, nat_lt, map, length}
 use Rattle.std.specs.Option.{option_and_then}
 use Rattle.std.specs.FinMap.{empty, entries, get, contains_key}
 use Rattle.vms_model.specs.Keys.{Key, Number}
 use Rattle.vms_model.specs.Transactions.{Commit, Abort, Reason, Aborted}
 use Rattle.transcript_model.specs.Lines as line
 use Rattle.transcript_model.specs.Lines.{Line}
-use Rattle.script_model.specs.Statements.{Statement, At, Request, Init, Boot, Create, SetFile, StartTrans, Put, EndTrans, AbortTrans, Dump, Form, Relative}
+use Rattle.script_model.specs.Statements.{Statement, At, Request, Init, Boot, Create, SetFile, StartTrans, Put, EndTrans, AbortTrans, Dump, Fuse, Crash, Form, Relative, Setting, RecoveryUnits, NoRecoveryUnits}
 use Rattle.records_model.specs.History.{current, first_to_change}
-use Rattle.run_model.specs.World.{World, Node, File, Branch, Act, Boots, Creates, Marks, Begins, Changes, Settles, find_node, find_file, find_label, labelled, find_branch, serials_of, next_id, next_moment}
+use Rattle.run_model.specs.World.{World, Node, File, Branch, Settlement, Volume, Sound, Faulty, Unknown, Act, Formats, Boots, ComesUp, Creates, Marks, Begins, Changes, Settles, Arms, Falls, find_node, find_file, free_place, find_label, labelled, find_branch, serials_of, longest_free, lowest_free, next_id, next_moment}
 
 -- how many labels a run makes, at the most
 abbrev pub label_limit : ℕ
 label_limit = 100000
 
--- Scaffolding: how many unsettled branches a node has, at the most
+-- Scaffolding: how many unsettled branches a node has, and how many changes a branch, at the most
 abbrev pub branch_limit : ℕ
 branch_limit = 1
+
+abbrev pub change_limit : ℕ
+change_limit = 16
+
+-- how often a node is booted, and the greatest moment with which it is, at the most
+abbrev pub boot_limit : ℕ
+boot_limit = 4294967295
+
+abbrev pub moment_limit : ℕ
+moment_limit = 24000000000000
 
 -- a part of a statement: perhaps an act, and then lines
 pub record Row : Type 0 where
@@ -58,11 +68,11 @@ unsettled_label w n name = elim (branch_labelled w n name) [ Some b ↦ None | N
 
 -- a file that is used: the node has none of this name
 abbrev pub there_is_file : Node → List ℕ → Option Line
-there_is_file n name = elim (find_file name n.files) [ Some f ↦ None | None ↦ Some line.FileNotFound ]
+there_is_file n name = elim (find_file name n.directory) [ Some f ↦ None | None ↦ Some line.FileNotFound ]
 
 -- what a file says of it, where there is one
 abbrev pub of_file : Node → List ℕ → (File → Option Line) → Option Line
-of_file n name says = elim (find_file name n.files) [ Some f ↦ says f | None ↦ None ]
+of_file n name says = elim (find_file name n.directory) [ Some f ↦ says f | None ↦ None ]
 
 -- a record's number is 0 or above the greatest, or its size is 0 or above the greatest
 abbrev pub fits_file : ℕ → ℕ → File → Option Line
@@ -77,23 +87,81 @@ unchanged_file n f = elim (first_to_change f.history (serials_of n.branches)) [ 
 abbrev pub no_record : ℕ → File → Option Line
 no_record number f = refused_if (contains_key (current f.history) (Number number)) line.RecordExists
 
+-- a file whose records are to be changed by a branch: it is not marked for recovery units
+abbrev pub is_marked : File → Option Line
+is_marked f = refused_if (not f.recovery_units) line.NotMarked
+
+-- a branch that is to make one more change: it has made all that it may
+abbrev pub one_more_change : Branch → Option Line
+one_more_change b = refused_if (nat_le change_limit b.changes) (line.QuotaExceeded line.Changes change_limit)
+
+-- a file that is to be made: there is one of this name
+abbrev pub new_file : Node → List ℕ → Option Line
+new_file n name = elim (find_file name n.directory) [ Some f ↦ Some line.FileExists | None ↦ None ]
+
+-- whether a number is from one to another
+abbrev pub is_within : ℕ → ℕ → ℕ → Bool
+is_within from to n = nat_le from n && nat_le n to
+
+-- whether a relative file may be so: its bucket has 1 to 16 blocks, a record at least one byte and so many that 32 bytes of a bucket are left, but
+-- at most 8,160, and it has a record's number
+abbrev pub is_file_form : ℕ → ℕ → Form → Bool
+is_file_form bucket size (Relative records) = is_within 1 16 bucket && is_within 1 (min 8160 (512 * bucket - 32)) size && nat_le 1 records
+
+-- whether a volume of so many log slots and journal blocks may be made on a disk: both are within their limits, and a block is left for files
+abbrev pub is_volume_form : ℕ → ℕ → Node → Bool
+is_volume_form slots journal n = is_within 64 512 slots && is_within 64 8192 journal && nat_lt (584 + slots + journal) n.blocks
+
+-- how many buckets a file takes: a bucket of so many blocks, less 16 bytes, has as many cells as hold records of this size with two bytes each
+abbrev pub buckets_for : ℕ → ℕ → Form → ℕ
+buckets_for bucket size (Relative records) = let cells = (512 * bucket - 16) / (size + 2) in (records + cells - 1) / cells
+
+-- how many blocks it takes
+abbrev pub blocks_for : ℕ → ℕ → Form → ℕ
+blocks_for bucket size form = buckets_for bucket size form * bucket
+
+-- a file is to be made: the directory is full, or no run of free blocks is as long as the file
+abbrev pub room_for : ℕ → Node → Option Line
+room_for need n = first_of (refused_if (is_full (free_place n.directory)) (line.QuotaExceeded line.Files 64))
+    (refused_if (nat_lt (longest_free n) need) (line.VolumeFull (longest_free n) need))
+  where
+    is_full : Option ℕ → Bool
+    is_full None = true
+    is_full (Some place) = false
+
+-- a node that is to be booted: its disk has no volume of it, it was booted as often as may be, or its greatest moment is too late
+abbrev pub bootable : Node → Option Line
+bootable n = elim n.volume [
+  | Sound ↦ first_of (refused_if (n.boot == boot_limit) (line.QuotaExceeded line.Boots boot_limit)) (refused_if (nat_lt moment_limit n.greatest) (line.QuotaExceeded line.Moments moment_limit))
+  | Faulty condition block ↦ Some (line.NoVolume n.name condition block)
+  | Unknown ↦ None
+]
+
+-- whether nothing is known of what the disk has
+abbrev pub is_unknown : Volume → Bool
+is_unknown Sound = false
+is_unknown (Faulty condition block) = false
+is_unknown Unknown = true
+
 -- Refusals that are known before the disk is read: the first that applies.
 
--- what refuses a request at a node that is up
+-- what refuses a request at a node that serves such requests
 abbrev pub early_up : World → Node → Request → Option Line
-early_up w n Init = None
-early_up w n Boot = None
-early_up w n (Create file bucket size form) = None
-early_up w n (SetFile file setting) = there_is_file n file
+early_up w n (Init slots journal) = first_of (refused_if w.in_use line.VolumeInUse) (refused_if (not (is_volume_form slots journal n)) line.BadParameter)
+early_up w n Boot = first_of (refused_if n.up line.NodeUp) (refused_if (is_unknown n.volume) line.NotInitialized)
+early_up w n (Create file bucket size form) = first_of (new_file n file) (refused_if (not (is_file_form bucket size form)) line.BadParameter)
+early_up w n (SetFile file setting) = first_of (there_is_file n file) (of_file n file (unchanged_file n))
 early_up w n (StartTrans label) = new_label w label
-early_up w n (Put label file number bytes) = first_of (made_label w n label) (first_of (there_is_file n file) (first_of (of_file n file (fits_file number (length bytes))) (unsettled_label w n label)))
+early_up w n (Put label file number bytes) = first_of (made_label w n label) (first_of (there_is_file n file) (first_of (of_file n file (fits_file number (length bytes))) (first_of (unsettled_label w n label) (of_file n file is_marked))))
 early_up w n (EndTrans label) = first_of (made_label w n label) (unsettled_label w n label)
 early_up w n (AbortTrans label) = first_of (made_label w n label) (unsettled_label w n label)
 early_up w n (Dump file) = first_of (there_is_file n file) (of_file n file (unchanged_file n))
+early_up w n (Fuse writes choice) = None
+early_up w n Crash = None
 
 -- whether a node that is down serves the request
 abbrev pub served_down : Request → Bool
-served_down Init = true
+served_down (Init slots journal) = true
 served_down Boot = true
 served_down (Create file bucket size form) = false
 served_down (SetFile file setting) = false
@@ -102,15 +170,12 @@ served_down (Put label file number bytes) = false
 served_down (EndTrans label) = false
 served_down (AbortTrans label) = false
 served_down (Dump file) = false
+served_down (Fuse writes choice) = true
+served_down Crash = false
 
--- what refuses a request at a node: it is down and does not serve such requests then, or what refuses it at a node that is up
+-- what refuses a request at a node: it is down and does not serve such requests then, or what refuses it at a node that serves them
 abbrev pub early_at : World → Node → Request → Option Line
-early_at w n request = first_of (refused_if (not_served n.up (served_down request)) line.NodeDown) (early_up w n request)
-  where
-    not_served : Bool → Bool → Bool
-    not_served true down = false
-    not_served false true = false
-    not_served false false = true
+early_at w n request = first_of (refused_if (not (n.up || served_down request)) line.NodeDown) (early_up w n request)
 
 -- what refuses a statement: there is no such node, or what refuses it there
 abbrev pub early : World → Statement → Option Line
@@ -119,67 +184,151 @@ early w (At node request) = elim (find_node node w.nodes) [ Some n ↦ early_at 
 -- Refusals by what the disk has, and by quotas: the first that applies where none of the early ones does.
 
 -- what refuses a request at its node, by what is on the disk or by a quota
-abbrev pub late_at : Node → Request → Option Line
-late_at n Init = None
-late_at n Boot = None
-late_at n (Create file bucket size form) = None
-late_at n (SetFile file setting) = None
-late_at n (StartTrans label) = refused_if (nat_le branch_limit (length n.branches)) (line.QuotaExceeded line.Branches branch_limit)
-late_at n (Put label file number bytes) = of_file n file (no_record number)
-late_at n (EndTrans label) = None
-late_at n (AbortTrans label) = None
-late_at n (Dump file) = None
+abbrev pub late_at : World → Node → Request → Option Line
+late_at w n (Init slots journal) = None
+late_at w n Boot = bootable n
+late_at w n (Create file bucket size form) = room_for (blocks_for bucket size form) n
+late_at w n (SetFile file setting) = None
+late_at w n (StartTrans label) = refused_if (nat_le branch_limit (length n.branches)) (line.QuotaExceeded line.Branches branch_limit)
+late_at w n (Put label file number bytes) = first_of (of_file n file (no_record number)) (option_and_then one_more_change (branch_labelled w n label))
+late_at w n (EndTrans label) = None
+late_at w n (AbortTrans label) = None
+late_at w n (Dump file) = None
+late_at w n (Fuse writes choice) = None
+late_at w n Crash = None
 
 -- what refuses a statement, by what is on the disk or by a quota
 abbrev pub late : World → Statement → Option Line
-late w (At node request) = elim (find_node node w.nodes) [ Some n ↦ late_at n request | None ↦ None ]
+late w (At node request) = elim (find_node node w.nodes) [ Some n ↦ late_at w n request | None ↦ None ]
 
--- Whether memory may be missing for the request, and whether it reads or writes the disk.
+-- What a request does with its node's disk and with memory.
 
--- statements that may be refused for want of memory
-abbrev pub may_lack_memory : Statement → Bool
-may_lack_memory (At node Init) = false
-may_lack_memory (At node Boot) = true
-may_lack_memory (At node (Create file bucket size form)) = false
-may_lack_memory (At node (SetFile file setting)) = false
-may_lack_memory (At node (StartTrans label)) = false
-may_lack_memory (At node (Put label file number bytes)) = false
-may_lack_memory (At node (EndTrans label)) = false
-may_lack_memory (At node (AbortTrans label)) = false
-may_lack_memory (At node (Dump file)) = false
+-- whether the disk is made to run again first
+abbrev pub powers : Request → Bool
+powers (Init slots journal) = true
+powers Boot = true
+powers (Create file bucket size form) = false
+powers (SetFile file setting) = false
+powers (StartTrans label) = false
+powers (Put label file number bytes) = false
+powers (EndTrans label) = false
+powers (AbortTrans label) = false
+powers (Dump file) = false
+powers (Fuse writes choice) = false
+powers Crash = false
 
--- statements in which a failure of the disk may come
-abbrev pub touches_disk : Statement → Bool
-touches_disk (At node Init) = false
-touches_disk (At node Boot) = false
-touches_disk (At node (Create file bucket size form)) = true
-touches_disk (At node (SetFile file setting)) = false
-touches_disk (At node (StartTrans label)) = false
-touches_disk (At node (Put label file number bytes)) = true
-touches_disk (At node (EndTrans label)) = false
-touches_disk (At node (AbortTrans label)) = true
-touches_disk (At node (Dump file)) = true
+-- whether nothing is known of what the disk has, from the moment at which it runs again to the success
+abbrev pub spoils : Request → Bool
+spoils (Init slots journal) = true
+spoils Boot = false
+spoils (Create file bucket size form) = false
+spoils (SetFile file setting) = false
+spoils (StartTrans label) = false
+spoils (Put label file number bytes) = false
+spoils (EndTrans label) = false
+spoils (AbortTrans label) = false
+spoils (Dump file) = false
+spoils (Fuse writes choice) = false
+spoils Crash = false
+
+-- whether no volume may be made any more once the request was answered with its success or with a failure of the disk
+abbrev pub occupies : Request → Bool
+occupies (Init slots journal) = false
+occupies Boot = true
+occupies (Create file bucket size form) = false
+occupies (SetFile file setting) = false
+occupies (StartTrans label) = false
+occupies (Put label file number bytes) = false
+occupies (EndTrans label) = false
+occupies (AbortTrans label) = false
+occupies (Dump file) = false
+occupies (Fuse writes choice) = false
+occupies Crash = false
+
+-- whether the disk is read or written, so that a failure of it may come
+abbrev pub touches : Request → Bool
+touches (Init slots journal) = true
+touches Boot = true
+touches (Create file bucket size form) = true
+touches (SetFile file setting) = true
+touches (StartTrans label) = false
+touches (Put label file number bytes) = true
+touches (EndTrans label) = true
+touches (AbortTrans label) = true
+touches (Dump file) = true
+touches (Fuse writes choice) = false
+touches Crash = false
+
+-- whether memory is taken, at a node that was up before or was not
+abbrev pub takes_memory : Node → Request → Bool
+takes_memory n (Init slots journal) = false
+takes_memory n Boot = not n.was_up
+takes_memory n (Create file bucket size form) = false
+takes_memory n (SetFile file setting) = false
+takes_memory n (StartTrans label) = false
+takes_memory n (Put label file number bytes) = false
+takes_memory n (EndTrans label) = false
+takes_memory n (AbortTrans label) = false
+takes_memory n (Dump file) = false
+takes_memory n (Fuse writes choice) = false
+takes_memory n Crash = false
+
+-- the request of a statement
+abbrev pub request_of : Statement → Request
+request_of (At node request) = request
+
+-- whether a statement may be refused for want of memory
+abbrev pub may_lack_memory : World → Statement → Bool
+may_lack_memory w (At node request) = elim (find_node node w.nodes) [ Some n ↦ takes_memory n request | None ↦ false ]
 
 -- What a success does, part after part, and its answer.
 
--- a new file, without records; its history begins at this moment
-abbrev pub created : List ℕ → ℕ → ℕ → Form → ℕ → File
-created name bucket size (Relative numbers) moment = record {
+-- the numbers of a file's records go up to this one
+abbrev pub greatest_of : Form → ℕ
+greatest_of (Relative records) = records
+
+-- a new file, which lies from this block on, without records; its history begins at this moment
+abbrev pub created : List ℕ → ℕ → ℕ → Form → ℕ → ℕ → File
+created name bucket size form start moment = record {
   name = name;
   bucket = bucket;
   record_size = size;
-  greatest_number = numbers;
+  greatest_number = greatest_of form;
+  start = start;
+  buckets = buckets_for bucket size form;
+  others = [];
   recovery_units = false;
   history = record { base = empty; moment = moment; settled = []; live = [] };
 }
 
+-- a file takes the lowest free place of the directory and the lowest run of free blocks that holds it
+abbrev pub creates : Node → (ℕ → File) → ℕ → List Row
+creates n made need = elim (free_place n.directory) [ Some place ↦ elim (lowest_free n need) [ Some start ↦ record { act = Some (Creates place (made start)); lines = [] } ∷ [] | None ↦ [] ] | None ↦ [] ]
+
+-- whether a setting marks a file for recovery units
+abbrev pub is_for_units : Setting → Bool
+is_for_units RecoveryUnits = true
+is_for_units NoRecoveryUnits = false
+
+-- a settlement as a boot shows it
+abbrev pub last_line : Settlement → List Line
+last_line s = elim s.outcome [ Commit ↦ line.LastCommitted s.tid s.serial s.moment ∷ [] | Abort ↦ elim s.reason [ Some reason ↦ line.LastAborted s.tid s.serial reason s.moment ∷ [] | None ↦ [] ] ]
+
+-- a boot shows the last settlement on the disk, where there is one
+abbrev pub last_lines : Node → List Line
+last_lines n = elim n.last [ Some s ↦ last_line s | None ↦ [] ]
+
+-- an act that shows nothing
+abbrev pub silent : Act → Row
+silent act = record { act = Some act; lines = [] }
+
 -- the first branch of a transaction has the transaction's id as its serial
 abbrev pub begun : Node → List ℕ → Row
-begun n label = record { act = Some (Begins (record { name = label; node = n.name; serial = next_id n }) (record { tid = next_id n; serial = next_id n })); lines = [] }
+begun n label = record { act = Some (Begins (record { name = label; node = n.name; serial = next_id n }) (record { tid = next_id n; serial = next_id n; changes = 0 })); lines = [] }
 
 -- the record of a file at a key as it stands, with the changes of unsettled branches
 abbrev pub record_at : Node → List ℕ → Key → Option (List ℕ)
-record_at n file key = elim (find_file file n.files) [ Some f ↦ get (current f.history) key | None ↦ None ]
+record_at n file key = elim (find_file file n.directory) [ Some f ↦ get (current f.history) key | None ↦ None ]
 
 -- a record is put by a branch, at a number that had none
 abbrev pub put_by : Node → List ℕ → ℕ → List ℕ → Branch → Row
@@ -199,7 +348,7 @@ to_branch w n label does = elim (branch_labelled w n label) [ Some b ↦ does b 
 
 -- the records of a file, in the order of their keys
 abbrev pub records_of : Node → List ℕ → List (Key × List ℕ)
-records_of n file = elim (find_file file n.files) [ Some f ↦ entries (current f.history) | None ↦ [] ]
+records_of n file = elim (find_file file n.directory) [ Some f ↦ entries (current f.history) | None ↦ [] ]
 
 -- a record is shown, and nothing is done
 abbrev pub shown_record : Key × List ℕ → Row
@@ -207,15 +356,17 @@ shown_record e = record { act = None; lines = line.Record e.0 e.1 ∷ [] }
 
 -- what a request does at its node, part after part
 abbrev pub rows_at : World → Node → Request → List Row
-rows_at w n Init = []
-rows_at w n Boot = record { act = Some Boots; lines = [] } ∷ []
-rows_at w n (Create file bucket size form) = record { act = Some (Creates (created file bucket size form n.greatest)); lines = [] } ∷ []
-rows_at w n (SetFile file setting) = record { act = Some (Marks file); lines = [] } ∷ []
+rows_at w n (Init slots journal) = silent (Formats slots journal) ∷ []
+rows_at w n Boot = record { act = Some Boots; lines = last_lines n } ∷ silent ComesUp ∷ []
+rows_at w n (Create file bucket size form) = creates n (λ start. created file bucket size form start n.greatest) (blocks_for bucket size form)
+rows_at w n (SetFile file setting) = silent (Marks file (is_for_units setting)) ∷ []
 rows_at w n (StartTrans label) = begun n label ∷ []
 rows_at w n (Put label file number bytes) = to_branch w n label (put_by n file number bytes)
 rows_at w n (EndTrans label) = to_branch w n label (committed n)
 rows_at w n (AbortTrans label) = to_branch w n label (aborted Aborted n)
 rows_at w n (Dump file) = map shown_record (records_of n file)
+rows_at w n (Fuse writes choice) = silent (Arms writes choice) ∷ []
+rows_at w n Crash = record { act = Some Falls; lines = line.Crashed n.name ∷ [] } ∷ []
 
 -- what a statement does, part after part
 abbrev pub rows : World → Statement → List Row
@@ -223,7 +374,7 @@ rows w (At node request) = elim (find_node node w.nodes) [ Some n ↦ rows_at w 
 
 -- what a request is answered at its node where it succeeds
 abbrev pub answer_at : Node → Request → Line
-answer_at n Init = line.Normal
+answer_at n (Init slots journal) = line.Normal
 answer_at n Boot = line.NormalCount (n.boot + 1)
 answer_at n (Create file bucket size form) = line.Normal
 answer_at n (SetFile file setting) = line.Normal
@@ -232,6 +383,8 @@ answer_at n (Put label file number bytes) = line.RecordNormal
 answer_at n (EndTrans label) = line.Normal
 answer_at n (AbortTrans label) = line.Normal
 answer_at n (Dump file) = line.NormalCount (length (records_of n file))
+answer_at n (Fuse writes choice) = line.Normal
+answer_at n Crash = line.Normal
 
 -- what a statement is answered where it succeeds
 abbrev pub answer : World → Statement → Line

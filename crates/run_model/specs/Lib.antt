@@ -1,3 +1,4 @@
+pub mod Extents
 pub mod World
 pub mod Answers
 pub mod Steps

@@ -1,9 +1,10 @@
 -- The world of a run: what the statements so far have made of the nodes.
-use Rattle.std.specs.Prelude.{ℕ, ◌+◌, List, [], ◌∷◌, Bool, true, false, Option, Some, None, if◌then◌else◌, map, ◌++◌, nat_le}
+use Rattle.std.specs.Prelude.{◌≡◌, ℕ, suc, ◌+◌, ◌-◌, ◌*◌, List, [], ◌∷◌, Bool, true, false, Option, Some, None, if◌then◌else◌, map, option_map, ◌++◌, nat_le, replicate, slice_set}
 use Rattle.std.specs.Str.{bytes_eq}
 use Rattle.vms_model.specs.Ids.{Id}
 use Rattle.vms_model.specs.Transactions.{Outcome, Reason}
 use Rattle.records_model.specs.Records.{Change}
+use Rattle.run_model.specs.Extents.{Extent, longest_run, lowest_run}
 use Rattle.records_model.specs.History.{History, same_id, current, changed, settled_at}
 
 -- a branch's end: how and when it was settled, and why where it was aborted
@@ -14,10 +15,11 @@ pub record Settlement : Type 0 where
   pub reason : Option Reason
   pub moment : ℕ
 
--- a branch that is not settled
+-- a branch that is not settled, and how many changes it made
 pub record Branch : Type 0 where
   pub tid : Id
   pub serial : Id
+  pub changes : ℕ
 
 -- a label, the node it was made for, and the branch that it names
 pub record Label : Type 0 where
@@ -25,37 +27,84 @@ pub record Label : Type 0 where
   pub node : List ℕ
   pub serial : Id
 
--- A file: how its buckets and records are sized, whether it is marked for recovery units, and its history. A bucket is counted in
--- blocks, a record in bytes; records have the numbers from 1 to the greatest.
+-- A file: how its buckets and records are sized, where its buckets lie, what else it has to itself, whether it is marked for recovery units, and its
+-- history. A bucket is counted in blocks, a record in bytes; records have the numbers from 1 to the greatest.
 pub record File : Type 0 where
   pub name : List ℕ
   pub bucket : ℕ
   pub record_size : ℕ
   pub greatest_number : ℕ
+  pub start : ℕ
+  pub buckets : ℕ
+  pub others : List Extent
   pub recovery_units : Bool
   pub history : History
 
--- one change of a node, which takes place whole or not at all; where a branch begins, a label is made for it
+-- the blocks of a file's buckets
+abbrev pub extent_of : File → Extent
+extent_of f = record { start = f.start; blocks = f.buckets * f.bucket }
+
+-- What a node's disk has: a volume of this node; none, for of the conditions of a volume this is the first that fails, at this block; or, after an
+-- INIT that failed, nothing that is known.
+pub data Volume : Type 0 where
+  Sound : Volume
+  Faulty : (condition block : ℕ) → Volume
+  Unknown : Volume
+
+-- One change of a node, which takes place whole or not at all. Where a branch begins, a label is made for it. A volume is made with so many log slots
+-- and blocks of a journal; a new file takes a place of the directory.
 pub data Act : Type 0 where
+  Formats : (slots journal : ℕ) → Act
   Boots : Act
-  Creates : File → Act
-  Marks : (file : List ℕ) → Act
+  ComesUp : Act
+  Creates : (place : ℕ) → File → Act
+  Marks : (file : List ℕ) → Bool → Act
   Begins : Label → Branch → Act
   Changes : (serial : Id) → (file : List ℕ) → Change → Act
   Settles : Settlement → Act
+  Arms : (writes choice : ℕ) → Act
+  Falls : Act
 
--- A node: its clock, how often it was booted, how many ids it drew since, the greatest moment on its disk, its settlements and its files, the newest
--- first, its unsettled branches in the order of their start; and, where it is down, the act that was under way.
+-- whether an act is one step of the disk, which a failure of the disk may find under way
+abbrev pub is_durable : Act → Bool
+is_durable Boots = true
+is_durable (Creates place file) = true
+is_durable (Marks file units) = true
+is_durable (Changes serial file change) = true
+is_durable (Settles s) = true
+is_durable (Formats slots journal) = false
+is_durable ComesUp = false
+is_durable (Begins label b) = false
+is_durable (Arms writes choice) = false
+is_durable Falls = false
+
+-- a call by which a disk is made to stop, or runs again after a power loss, with the count of its stops before that
+pub data Call : Type 0 where
+  Arm : (writes choice : ℕ) → Call
+  Power : (stops : ℕ) → Call
+
+-- A node. What its disk has, which outlasts the node's fall: the volume, its sizes, how often the node was booted, the greatest moment, the last
+-- settlement, and the directory, a place for each file number. What the node has of its own: whether it is up, and was up before in this run; its
+-- clock; how many ids it drew in this boot; and its unsettled branches in the order of their start. And of the run: its settlements and the calls that
+-- armed or powered its disk, the newest first. Where it fell in a statement that its disk did not serve, an act may be under way: whether it has
+-- taken place is settled when the disk runs again.
 pub record Node : Type 0 where
   pub name : List ℕ
-  pub up : Bool
-  pub clock : ℕ
+  pub blocks : ℕ
+  pub volume : Volume
+  pub slots : ℕ
+  pub journal : ℕ
   pub boot : ℕ
-  pub drawn : ℕ
   pub greatest : ℕ
-  pub settled : List Settlement
-  pub files : List File
+  pub last : Option Settlement
+  pub directory : List (Option File)
+  pub up : Bool
+  pub was_up : Bool
+  pub clock : ℕ
+  pub drawn : ℕ
   pub branches : List Branch
+  pub settled : List Settlement
+  pub calls : List Call
   pub under_way : Option Act
 
 -- how often calls of a disk failed, and how often it was stopped
@@ -63,11 +112,12 @@ pub record DiskCounts : Type 0 where
   pub faults : ℕ
   pub stops : ℕ
 
--- the nodes and their disks in the order of the rack, and the labels, the newest first
+-- the nodes and their disks in the order of the rack, the labels, the newest first, and whether a node was booted in this run
 pub record World : Type 0 where
   pub nodes : List Node
   pub disks : List DiskCounts
   pub labels : List Label
+  pub in_use : Bool
 
 -- Finding.
 
@@ -82,10 +132,23 @@ disk_of name [] disks = None
 disk_of name (n ∷ ns) [] = None
 disk_of name (n ∷ ns) (d ∷ ds) = if bytes_eq name n.name then Some d else disk_of name ns ds
 
--- the newest file of this name, where there is one
-abbrev pub find_file : List ℕ → List File → Option File
+-- the first file of this name in a directory, where there is one
+abbrev pub find_file : List ℕ → List (Option File) → Option File
 find_file name [] = None
-find_file name (f ∷ fs) = if bytes_eq name f.name then Some f else find_file name fs
+find_file name (None ∷ fs) = find_file name fs
+find_file name (Some f ∷ fs) = if bytes_eq name f.name then Some f else find_file name fs
+
+-- the lowest place of a directory that no file has, where there is one
+abbrev pub free_place : List (Option File) → Option ℕ
+free_place [] = None
+free_place (None ∷ fs) = Some 0
+free_place (Some f ∷ fs) = option_map suc (free_place fs)
+
+-- the blocks that the files of a directory have to themselves
+abbrev pub extents_of : List (Option File) → List Extent
+extents_of [] = []
+extents_of (None ∷ fs) = extents_of fs
+extents_of (Some f ∷ fs) = extent_of f ∷ f.others ++ extents_of fs
 
 -- the label of this name, whatever its node, where there is one
 abbrev pub find_label : List ℕ → List Label → Option Label
@@ -107,10 +170,16 @@ labelled node name ls = elim (find_label name ls) [ Some l ↦ (if bytes_eq node
 
 -- Changing.
 
--- the files with one change of the file of this name
-abbrev pub with_file : List ℕ → (File → File) → List File → List File
+-- the directory with one change of the file of this name
+abbrev pub with_file : List ℕ → (File → File) → List (Option File) → List (Option File)
 with_file name change [] = []
-with_file name change (f ∷ fs) = if bytes_eq name f.name then change f ∷ fs else f ∷ with_file name change fs
+with_file name change (None ∷ fs) = None ∷ with_file name change fs
+with_file name change (Some f ∷ fs) = if bytes_eq name f.name then Some (change f) ∷ fs else Some f ∷ with_file name change fs
+
+-- the branches with one change more of the one of this serial
+abbrev pub with_change_by : Id → List Branch → List Branch
+with_change_by serial [] = []
+with_change_by serial (b ∷ bs) = if same_id serial b.serial then record b { changes = b.changes + 1 } ∷ bs else b ∷ with_change_by serial bs
 
 -- the branches but for the one of this serial
 abbrev pub without_branch : Id → List Branch → List Branch
@@ -121,6 +190,18 @@ without_branch serial (b ∷ bs) = if same_id serial b.serial then bs else b ∷
 abbrev pub with_node : List ℕ → (Node → Node) → List Node → List Node
 with_node name change [] = []
 with_node name change (n ∷ ns) = if bytes_eq name n.name then change n ∷ ns else n ∷ with_node name change ns
+
+-- the first block behind the log slots and the journal: there begin the blocks for files
+abbrev pub area_start : Node → ℕ
+area_start n = 584 + n.slots + n.journal
+
+-- the longest run of free blocks of a node's disk
+abbrev pub longest_free : Node → ℕ
+longest_free n = longest_run (extents_of n.directory) (area_start n) (n.blocks - area_start n)
+
+-- where the lowest run of so many free blocks begins
+abbrev pub lowest_free : Node → ℕ → Option ℕ
+lowest_free n size = lowest_run (extents_of n.directory) size (area_start n) (n.blocks - area_start n)
 
 -- the id that a node draws next
 abbrev pub next_id : Node → Id
@@ -138,36 +219,75 @@ settled_file s f = record f { history = settled_at s.serial s.outcome s.moment f
 abbrev pub as_it_stands : ℕ → File → File
 as_it_stands moment f = record f { history = record { base = current f.history; moment = moment; settled = []; live = [] } }
 
--- What an act makes of its node. Scaffolding: a boot forgets the act that was under way when the node went down.
+-- a directory without files
+abbrev pub empty_directory : List (Option File)
+empty_directory = replicate 64 None
+
+-- what an act makes of its node
 abbrev pub acted : Act → Node → Node
-acted Boots n = record n { up = true; boot = n.boot + 1; drawn = 0; branches = []; files = map (as_it_stands n.greatest) n.files; under_way = None }
-acted (Creates file) n = record n { files = file ∷ n.files }
-acted (Marks file) n = record n { files = with_file file (λ f. record f { recovery_units = true }) n.files }
+acted (Formats slots journal) n = record n { volume = Sound; slots = slots; journal = journal; boot = 0; greatest = 0; last = None; directory = empty_directory }
+acted Boots n = record n { boot = n.boot + 1; drawn = 0; branches = []; directory = map (option_map (as_it_stands n.greatest)) n.directory }
+acted ComesUp n = record n { up = true; was_up = true }
+acted (Creates place file) n = record n { directory = slice_set n.directory place (Some file) }
+acted (Marks file units) n = record n { directory = with_file file (λ f. record f { recovery_units = units }) n.directory }
 acted (Begins label b) n = record n { drawn = n.drawn + 1; branches = n.branches ++ b ∷ [] }
-acted (Changes serial file change) n = record n { files = with_file file (λ f. record f { history = changed serial change f.history }) n.files }
-acted (Settles s) n = record n { greatest = s.moment; settled = s ∷ n.settled; branches = without_branch s.serial n.branches; files = map (settled_file s) n.files }
+acted (Changes serial file change) n = record n { branches = with_change_by serial n.branches; directory = with_file file (λ f. record f { history = changed serial change f.history }) n.directory }
+acted (Settles s) n = record n { greatest = s.moment; last = Some s; settled = s ∷ n.settled; branches = without_branch s.serial n.branches; directory = map (option_map (settled_file s)) n.directory }
+acted (Arms writes choice) n = record n { calls = Arm writes choice ∷ n.calls }
+acted Falls n = record n { up = false }
 
 -- A node goes down, and perhaps this act was under way. Its unsettled branches still stand here, and count only while the node is up.
 abbrev pub fallen : Option Act → Node → Node
 fallen under_way n = record n { up = false; under_way = under_way }
 
+-- Its disk runs again, after so many stops: an act that was under way has taken place, or has not.
+abbrev pub powered : Bool → ℕ → Node → Node
+powered taken stops n = record (settles_under_way taken n.under_way n) { calls = Power stops ∷ n.calls; under_way = None }
+  where
+    settles_under_way : Bool → Option Act → Node → Node
+    settles_under_way true (Some act) n = acted act n
+    settles_under_way true None n = n
+    settles_under_way false act n = n
+
+-- Its disk was to run again, after so many stops, and does not: what was under way still is.
+abbrev pub unpowered : ℕ → Node → Node
+unpowered stops n = record n { up = false; calls = Power stops ∷ n.calls }
+
 -- the labels after an act: where a branch begins, one more
 abbrev pub labels_after : Act → List Label → List Label
 labels_after (Begins label b) ls = label ∷ ls
+labels_after (Formats slots journal) ls = ls
 labels_after Boots ls = ls
-labels_after (Creates file) ls = ls
-labels_after (Marks file) ls = ls
+labels_after ComesUp ls = ls
+labels_after (Creates place file) ls = ls
+labels_after (Marks file units) ls = ls
 labels_after (Changes serial file change) ls = ls
 labels_after (Settles s) ls = ls
+labels_after (Arms writes choice) ls = ls
+labels_after Falls ls = ls
 
 -- an act at a node
 abbrev pub acts : List ℕ → Act → World → World
 acts node act w = record w { nodes = with_node node (acted act) w.nodes; labels = labels_after act w.labels }
 
--- a node before the first line: it is down, and its clock is at 0
-abbrev pub node_at_first : List ℕ → Node
-node_at_first name = record { name = name; up = false; clock = 0; boot = 0; drawn = 0; greatest = 0; settled = []; files = []; branches = []; under_way = None }
+-- no file has a branch since its base: its records are those of the base
+abbrev pub AreResting : List (Option File) → Type 0
+AreResting [] = Unit {0}
+AreResting (None ∷ fs) = AreResting fs
+AreResting (Some f ∷ fs) = (f.history.settled ≡ []) × (f.history.live ≡ []) × AreResting fs
 
--- the world before the first line: nodes of these names with these disks, and no label
-abbrev pub opened : List (List ℕ) → List DiskCounts → World
-opened names disks = record { nodes = map node_at_first names; disks = disks; labels = [] }
+-- a node as it is before the first line: it is down, and what its disk has is all that there is of it
+pub record IsOpening (n : Node) : Type 0 where
+  pub down : n.up ≡ false
+  pub was_down : n.was_up ≡ false
+  pub clock : n.clock ≡ 0
+  pub drawn : n.drawn ≡ 0
+  pub branches : n.branches ≡ []
+  pub settled : n.settled ≡ []
+  pub calls : n.calls ≡ []
+  pub under_way : n.under_way ≡ None
+  pub resting : AreResting n.directory
+
+-- the world before the first line: these nodes with these disks, and no label
+abbrev pub opened : List Node → List DiskCounts → World
+opened nodes disks = record { nodes = nodes; disks = disks; labels = []; in_use = false }

@@ -4,13 +4,14 @@
 ghost use Rattle.run_model.specs.Laws.{PromisesHold, RefusalsLeaveWorld, FailurePutsDown, SuccessIsGiven, IsDetermined};
 
 /// Every legal transcript of nodes that were down at first keeps the promises: a transaction that was ended is committed for good, one that
-/// was aborted is aborted for good, a dump shows just the records that were put by the transactions whose commitment was shown, and no branch
-/// is settled twice.
+/// was aborted is aborted for good, a dump shows just the records that stood when the node was last booted with what those transactions have
+/// put since then whose commitment was shown, and no branch is settled twice.
 pub fn promises_hold()
     ensures { PromisesHold }
 {}
 
-/// A statement that is refused, other than by a failure of a disk, shows its refusal alone and leaves the world.
+/// A statement that is refused, other than by a failure of a disk, shows its refusal alone and leaves the world, or the world that there is
+/// once its disk was made to run again.
 pub fn refusals_leave_world()
     ensures { RefusalsLeaveWorld }
 {}

@@ -1,59 +1,98 @@
 -- The grammar of a line: the words of each statement, in order.
 use Rattle.std.specs.Prelude.{ℕ, List, [], ◌∷◌, Bool, true, false, ◌==◌, Option, Some, None, if◌then◌else◌, codes}
+use Rattle.std.specs.Option.{option_map}
 use Rattle.std.specs.Str.{bytes_eq}
-use Rattle.vms_model.specs.Names.{upper, label_named}
+use Rattle.vms_model.specs.Names.{upper, node_named, label_named, file_named}
 use Rattle.vms_model.specs.Words.{number_up_to, among}
 use Rattle.script_model.specs.LineWords.{Word, words_of}
-use Rattle.script_model.specs.Operands.{bytes_said}
-use Rattle.script_model.specs.Known.{known_node, known_file}
+use Rattle.script_model.specs.Operands.{bytes_said, prefix_said}
 use Rattle.script_model.specs.Statements as says
-use Rattle.script_model.specs.Statements.{Statement, Reading}
+use Rattle.script_model.specs.Statements.{Statement, Reading, Setting, RecoveryUnits, NoRecoveryUnits}
 
--- the word that tells a statement from others
+-- the word that tells a statement to a node from others
 pub data Verb : Type 0 where
+  Init : Verb
+  Boot : Verb
+  Create : Verb
+  SetFile : Verb
   StartTrans : Verb
   Put : Verb
   EndTrans : Verb
   AbortTrans : Verb
   Dump : Verb
 
+-- the word that begins a statement of the world
+pub data WorldVerb : Type 0 where
+  Fuse : WorldVerb
+  Crash : WorldVerb
+
+-- what the first word of a line says: the node that is spoken to, or what is done to the world
+pub data First : Type 0 where
+  ToNode : List ℕ → First
+  ToWorld : WorldVerb → First
+
 -- the verbs as they are written
 abbrev pub verbs : List (List ℕ × Verb)
 verbs =
-    (codes "START_TRANS", StartTrans)
+    (codes "INIT", Init)
+    ∷ (codes "BOOT", Boot)
+    ∷ (codes "CREATE", Create)
+    ∷ (codes "SET_FILE", SetFile)
+    ∷ (codes "START_TRANS", StartTrans)
     ∷ (codes "PUT", Put)
     ∷ (codes "END_TRANS", EndTrans)
     ∷ (codes "ABORT_TRANS", AbortTrans)
     ∷ (codes "DUMP", Dump)
     ∷ []
 
--- what a word may be: a node with its colon, a verb, a label, a file, a number, bytes, or just this word
+-- those of the world
+abbrev pub world_verbs : List (List ℕ × WorldVerb)
+world_verbs = (codes "FUSE", Fuse) ∷ (codes "CRASH", Crash) ∷ []
+
+-- what a file may be marked with
+abbrev pub settings : List (List ℕ × Setting)
+settings = (codes "RU", RecoveryUnits) ∷ (codes "NORU", NoRecoveryUnits) ∷ []
+
+-- what a word may be: the first of a line, a verb, a node, a label, a file, a setting, a number of 32 or 64 bits, bytes, or just this word
 pub data Kind : Type 0 where
-  APrefix : Kind
+  AFirst : Kind
   AVerb : Kind
+  ANode : Kind
   ALabel : Kind
   AFile : Kind
+  ASetting : Kind
   ANumber : Kind
+  ALongNumber : Kind
   SomeBytes : Kind
   TheWord : List ℕ → Kind
 
 -- what such a word says
 abbrev pub Meaning : Kind → Type 0
-Meaning APrefix = List ℕ
+Meaning AFirst = First
 Meaning AVerb = Verb
+Meaning ANode = List ℕ
 Meaning ALabel = List ℕ
 Meaning AFile = List ℕ
+Meaning ASetting = Setting
 Meaning ANumber = ℕ
+Meaning ALongNumber = ℕ
 Meaning SomeBytes = List ℕ
 Meaning (TheWord name) = Unit {0}
 
--- what this text says as a word of this kind, where it is one; numbers have 32 bits
+-- a node and a colon behind it, or a verb of the world
+abbrev pub first_said : List ℕ → Option First
+first_said text = elim (prefix_said text) [ Some node ↦ Some (ToNode node) | None ↦ option_map ToWorld (among world_verbs text) ]
+
+-- what this text says as a word of this kind, where it is one
 abbrev pub meaning : (k : Kind) → List ℕ → Option (Meaning k)
-meaning APrefix text = known_node text
+meaning AFirst text = first_said text
 meaning AVerb text = among verbs text
+meaning ANode text = node_named text
 meaning ALabel text = label_named text
-meaning AFile text = known_file text
+meaning AFile text = file_named text
+meaning ASetting text = among settings text
 meaning ANumber text = number_up_to 4294967295 text
+meaning ALongNumber text = number_up_to 18446744073709551615 text
 meaning SomeBytes text = bytes_said text
 meaning (TheWord name) text = if bytes_eq name (upper text) then Some tt else None
 
@@ -73,27 +112,44 @@ reads (Then k next) (w ∷ ws) end = elim (meaning k w.text) [ Some m ↦ reads 
 reads (EndsOr s shape) [] end = says.Says s
 reads (EndsOr s shape) (w ∷ ws) end = reads shape (w ∷ ws) end
 
+-- the log slots and the journal's blocks of a volume for which none are said
+abbrev pub default_slots : ℕ
+default_slots = 128
+
+abbrev pub default_journal : ℕ
+default_journal = 1024
+
 -- the operands of each verb, and the statement to this node that they make
 abbrev pub operands : List ℕ → Verb → Shape
+operands n Init = EndsOr (says.At n (says.Init default_slots default_journal)) (Then ANumber λ slots. Then ANumber λ blocks. Ends (says.At n (says.Init slots blocks)))
+operands n Boot = Ends (says.At n says.Boot)
+operands n Create = Then AFile λ f. Then (TheWord (codes "REL")) λ _. Then ANumber λ bucket. Then ANumber λ size. Then ANumber λ records. Ends (says.At n (says.Create f bucket size (says.Relative records)))
+operands n SetFile = Then AFile λ f. Then ASetting λ setting. Ends (says.At n (says.SetFile f setting))
 operands n StartTrans = Then ALabel λ l. Ends (says.At n (says.StartTrans l))
 operands n Put = Then ALabel λ l. Then AFile λ f. Then ANumber λ k. Then SomeBytes λ bytes. Ends (says.At n (says.Put l f k bytes))
 operands n EndTrans = Then ALabel λ l. Ends (says.At n (says.EndTrans l))
 operands n AbortTrans = Then ALabel λ l. Ends (says.At n (says.AbortTrans l))
 operands n Dump = Then AFile λ f. Ends (says.At n (says.Dump f))
 
+-- those of each verb of the world
+abbrev pub world_operands : WorldVerb → Shape
+world_operands Fuse = Then ANode λ n. Then ANumber λ writes. Then ALongNumber λ choice. Ends (says.At n (says.Fuse writes choice))
+world_operands Crash = Then ANode λ n. Ends (says.At n says.Crash)
+
+-- what comes behind the first word
+abbrev pub behind_first : First → Shape
+behind_first (ToNode n) = Then AVerb λ v. operands n v
+behind_first (ToWorld v) = world_operands v
+
 -- a statement
 abbrev pub line_shape : Shape
-line_shape = Then APrefix λ n. Then AVerb λ v. operands n v
+line_shape = Then AFirst behind_first
 
 -- a line is skipped that has no word, or whose first word begins with an exclamation mark
 abbrev pub is_skipped : List Word → Bool
 is_skipped [] = true
 is_skipped (w ∷ ws) = elim w.text [ [] ↦ false | b ∷ bs ↦ b == 33 ]
 
--- what a line says that is skipped or wants these words
-abbrev pub reading_in : Shape → List ℕ → Reading
-reading_in shape line = if is_skipped (words_of line).words then says.Blank else reads shape (words_of line).words (words_of line).end
-
 -- what a line says
 abbrev pub reading : List ℕ → Reading
-reading = reading_in line_shape
+reading line = if is_skipped (words_of line).words then says.Blank else reads line_shape (words_of line).words (words_of line).end

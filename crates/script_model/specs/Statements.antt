@@ -5,13 +5,14 @@ use Rattle.std.specs.Prelude.{ℕ, List}
 pub data Form : Type 0 where
   Relative : (records : ℕ) → Form
 
--- what a file is marked with
+-- what a file is marked with, or is marked with no more
 pub data Setting : Type 0 where
   RecoveryUnits : Setting
+  NoRecoveryUnits : Setting
 
--- what is asked of a node; buckets are counted in blocks, records in bytes
+-- What is asked of a node, or done to it. A volume's journal and buckets are counted in blocks, records in bytes; a fuse in writes of blocks.
 pub data Request : Type 0 where
-  Init : Request
+  Init : (slots blocks : ℕ) → Request
   Boot : Request
   Create : (file : List ℕ) → (bucket size : ℕ) → Form → Request
   SetFile : (file : List ℕ) → Setting → Request
@@ -20,6 +21,8 @@ pub data Request : Type 0 where
   EndTrans : (label : List ℕ) → Request
   AbortTrans : (label : List ℕ) → Request
   Dump : (file : List ℕ) → Request
+  Fuse : (writes choice : ℕ) → Request
+  Crash : Request
 
 -- a request to the node of this name
 pub data Statement : Type 0 where

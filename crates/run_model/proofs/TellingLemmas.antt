@@ -1,0 +1,388 @@
+-- What each statement that is done tells of a file's records, and so each line of a transcript.
+use Rattle.std.proofs.Common.{◌≡◌, ℕ, ◌+◌, List, [], ◌∷◌, ◌++◌, Bool, true, false, not, ◌&&◌, Option, Some, None, if◌then◌else◌, refl, sym, ◌∙◌, ap, subst, append-nil}
+use Rattle.std.specs.Prelude.{length, slice_set}
+use Rattle.std.specs.Str.{bytes_eq}
+use Rattle.std.specs.Option.{option_map}
+use Rattle.std.specs.FinMap.{empty, insert}
+use Rattle.std.proofs.lemmas.Bool.{both_ways, false_from_ne_true, cond-false, and_right}
+use Rattle.std.proofs.lemmas.Slice.Eq.{bytes_eq-Decides}
+use Rattle.vms_model.specs.Ids.{Id}
+use Rattle.vms_model.specs.Keys.{Number}
+use Rattle.vms_model.specs.Transactions.{Outcome, Commit, Abort, Reason, Aborted}
+use Rattle.transcript_model.specs.Lines as line
+use Rattle.transcript_model.specs.Lines.{Line, Cause}
+use Rattle.script_model.specs.Statements.{At, Request, Init, Boot, Create, SetFile, StartTrans, Put, EndTrans, AbortTrans, Dump, Fuse, Crash, Form, Setting, Reading, Blank, Says, Bad}
+use Rattle.records_model.specs.Records.{Records, Change}
+use Rattle.records_model.specs.History.{same_id, settled_at, changed, current, records}
+use Rattle.run_model.specs.World.{World, Node, File, Branch, Settlement, Formats, Boots, ComesUp, Creates, Marks, Begins, Changes, Settles, Arms, Falls, find_node, find_file, free_place, lowest_free, labelled, serials_of, with_file, without_branch, as_it_stands, acted, acts, next_id, next_moment}
+use Rattle.run_model.specs.Answers.{Row, early, early_up, rows, rows_at, answer, answer_at, put_by, committed, aborted, created, creates, blocks_for, records_of, record_at, to_branch, refused_if, is_file_form, made_label, unsettled_label, there_is_file, of_file, fits_file, new_file, is_for_units, last_line, last_lines, served_down}
+use Rattle.run_model.specs.Steps.{Step, after_rows, lines_of_rows, readied, stops_at}
+use Rattle.run_model.specs.Transcript.{Entry, Turn}
+use Rattle.run_model.specs.Promises.{In, id_told, is_id, put_here, puts_told, booted_here, standing}
+use Rattle.run_model.specs.Laws.{is_refusal}
+use Rattle.run_model.proofs.IdLemmas.{each_at, in_map, id_is}
+use Rattle.run_model.proofs.FindLemmas.{found_name, found_each, changed_node, some_is, mapped_file, placed_file, labelled_serial}
+use Rattle.run_model.proofs.Soundness.{IsSoundNode, IsSoundWorld, IsDrawn}
+use Rattle.run_model.proofs.NodeLemmas.{serials_push, serials_changed, branches_minus}
+use Rattle.run_model.proofs.AgreementLemmas.{Agrees, agrees_as, stands_agree, changes_agree, commits_agree, aborts_agree, begins_agree}
+use Rattle.run_model.proofs.AnswerLemmas.{neither, served, served_up, rows_found, answer_found, is_labelled, row_of}
+use Rattle.run_model.proofs.EffectLemmas.{step_done}
+use Rattle.run_model.proofs.ReadyLemmas.{acted_name, ready_node, ready_nodes, is_ready}
+use Rattle.run_model.proofs.ActLemmas.{labelled_in, in_use_up}
+use Rattle.run_model.proofs.KeptLemmas.{step_keeps, others_kept, unused_kept}
+use Rattle.run_model.proofs.WayLemmas.{Way, Refuses, RefusesLate, Fails, Does, way, step_commits}
+use Rattle.run_model.proofs.LabelLemmas.{AreLabelled}
+use Rattle.run_model.proofs.FreshLemmas.{IsFresh, fresh_kept}
+use Rattle.run_model.proofs.ToldLemmas.{history_of, history_at, IsTold, told_by, told_booted, same_text, acts_told, file_after, next_unchanged, next_not_drawn, settled_history, shown_do_nothing, shown_commit_nothing, told_refused, put_refused, told_elsewhere, put_elsewhere, up_as_before, ready_up, powering_down}
+
+there_is : (n : Node) (file : List ℕ) → there_is_file n file ≡ None → (f : File) × (find_file file n.directory ≡ Some f)
+there_is n file e = go (find_file file n.directory) refl e
+  where
+    go : (o : Option File) → find_file file n.directory ≡ o → ◌≡◌ {A = Option Line} (elim o [ Some f ↦ None | None ↦ Some line.FileNotFound ]) None → (f : File) × (find_file file n.directory ≡ Some f)
+    go (Some f) is k = (f, is)
+    go None is k = let none : ⊥ = cc in absurd none
+
+not_there : (n : Node) (file : List ℕ) → new_file n file ≡ None → find_file file n.directory ≡ None
+not_there n file e = go (find_file file n.directory) refl e
+  where
+    go : (o : Option File) → find_file file n.directory ≡ o → ◌≡◌ {A = Option Line} (elim o [ Some f ↦ Some line.FileExists | None ↦ None ]) None → find_file file n.directory ≡ None
+    go (Some f) is k = let none : ⊥ = cc in absurd none
+    go None is k = is
+
+-- A boot that succeeds is told.
+booted : (node : List ℕ) (n : Node) (k : ℕ) → booted_here node (Says (At node Boot)) ((last_lines n ++ []) ++ line.NormalCount k ∷ []) ≡ true
+booted node n k = subst (λ xs. booted_here node (Says (At node Boot)) (xs ++ line.NormalCount k ∷ []) ≡ true) (sym (append-nil (last_lines n))) (go n.last)
+  where
+    lasts : (s : Settlement) (o : Outcome) (r : Option Reason) →
+        booted_here node (Says (At node Boot)) ((elim o [ Commit ↦ line.LastCommitted s.tid s.serial s.moment ∷ [] | Abort ↦ elim r [ Some reason ↦ line.LastAborted s.tid s.serial reason s.moment ∷ [] | None ↦ [] ] ]) ++ line.NormalCount k ∷ []) ≡ true
+    lasts s Commit r = rw (same_text node) refl
+    lasts s Abort (Some reason) = rw (same_text node) refl
+    lasts s Abort None = rw (same_text node) refl
+
+    go : (o : Option Settlement) → booted_here node (Says (At node Boot)) ((elim o [ Some s ↦ last_line s | None ↦ [] ]) ++ line.NormalCount k ∷ []) ≡ true
+    go (Some s) = lasts s s.outcome s.reason
+    go None = rw (same_text node) refl
+
+standing_is : (node file : List ℕ) (w : World) (n : Node) → find_node node w.nodes ≡ Some n → standing node file w ≡ current (history_at file n)
+standing_is node file w n found = rw (found, standing) (go (find_file file n.directory))
+  where
+    go : (o : Option File) → ◌≡◌ {A = Records} (elim o [ Some f ↦ current f.history | None ↦ empty ]) (current (history_of o))
+    go (Some f) = refl
+    go None = refl
+
+module _ (node file : List ℕ) (es : List Entry) (w : World) (sound : IsSoundWorld w) (same : AreLabelled es w) (fresh : IsFresh (λ id. puts_told node file id es) node w) (told : Records) (t : IsTold node file told (λ id. puts_told node file id es) w) where
+  abbrev puts : Id → Records → Records
+  puts id m = puts_told node file id es m
+
+  -- that a request to this node which does these rows from this world and is answered so tells what it does
+  abbrev RowsTell : World → Request → List Row → Line → Type 0
+  RowsTell u request rs last =
+      IsTold node file (told_by node file es (Says (At node request)) (lines_of_rows rs ++ last ∷ []) (after_rows node rs u) told) (λ id m. put_here node file id es (Says (At node request)) (lines_of_rows rs ++ last ∷ []) (puts id m)) (after_rows node rs u)
+
+  abbrev DoneTells : Request → World → Type 0
+  DoneTells request u = RowsTell u request (rows u (At node request)) (answer u (At node request))
+
+  -- a request that only a node which is up serves
+  at_up : (request : Request) → served_down request ≡ false → ((n : Node) → find_node node w.nodes ≡ Some n → n.up ≡ true → early_up w n request ≡ None → RowsTell w request (rows_at w n request) (answer_at n request)) →
+      early w (At node request) ≡ None → DoneTells request w
+  at_up request d tells e =
+      let there = served w node request e in
+      subst (λ rs. RowsTell w request rs (answer w (At node request))) (sym (rows_found w node request there.n there.found))
+      (subst (RowsTell w request (rows_at w there.n request)) (sym (answer_found w node request there.n there.found)) (tells there.n there.found (served_up w there.n request d there.passes_here) there.passes))
+
+  set_file_tells : (f : List ℕ) (setting : Setting) → early w (At node (SetFile f setting)) ≡ None → DoneTells (SetFile f setting) w
+  set_file_tells f setting = at_up (SetFile f setting) refl (λ n found up passes.
+      acts_told node file told puts w n (Marks f (is_for_units setting)) found (λ u. subst (Agrees told puts (serials_of n.branches)) (sym (still n)) (t n found up)))
+    where
+      mark : File → File
+      mark g = record g { recovery_units = is_for_units setting }
+
+      marked : (b : Bool) (o : Option File) → history_of (if b then option_map mark o else o) ≡ history_of o
+      marked true (Some g) = refl
+      marked true None = refl
+      marked false o = refl
+
+      still : (n : Node) → history_of (find_file file (with_file f mark n.directory)) ≡ history_at file n
+      still n = ap history_of (file_after file f mark n.directory (λ g. refl) (bytes_eq f file) refl) ∙ marked (bytes_eq f file) (find_file file n.directory)
+
+  start_tells : (label : List ℕ) → early w (At node (StartTrans label)) ≡ None → DoneTells (StartTrans label) w
+  start_tells label = at_up (StartTrans label) refl (λ n found up passes.
+      let b : Branch = record { tid = next_id n; serial = next_id n; changes = 0 } in
+      acts_told node file told puts w n (Begins (record { name = label; node = n.name; serial = next_id n }) b) found (λ u.
+      subst (λ serials. Agrees told puts serials (history_at file n)) (sym (serials_push n.branches b))
+      (begins_agree told puts (serials_of n.branches) (history_at file n) (t n found up) (next_id n) (fresh.0 n found (next_id n) (next_not_drawn n)) (next_unchanged file n (found_each IsSoundNode node w.nodes n sound.0 found)))))
+
+  -- the rows of what is done to the branch that a label names
+  branch_row : (request : Request) (n : Node) (label : List ℕ) (does : Branch → Row) (last : Line) → unsettled_label w n label ≡ None →
+      ((b : Branch) → In b.serial (serials_of n.branches) → labelled n.name label w.labels ≡ Some b.serial → RowsTell w request (does b ∷ []) last) → RowsTell w request (to_branch w n label does) last
+  branch_row request n label does last e tells =
+      let named = is_labelled w n label e in
+      subst (λ rs. RowsTell w request rs last) (sym (row_of w n label does named.branch named.named))
+      (tells named.branch (in_map (λ b. b.serial) named.branch n.branches (labelled_in w n label named.branch named.named)) (labelled_serial w n label named.branch named.named))
+
+  -- the branch of this label is the one that was told of it
+  told_serial : (n : Node) (label : List ℕ) (serial : Id) → find_node node w.nodes ≡ Some n → labelled n.name label w.labels ≡ Some serial → id_told node label es ≡ Some serial
+  told_serial n label serial found named = sym (same node label) ∙ ap (λ name. labelled name label w.labels) (sym (found_name node w.nodes n found)) ∙ named
+
+  -- what a PUT passes
+  put_unsettled : (n : Node) (label f : List ℕ) (number : ℕ) (bytes : List ℕ) → early_up w n (Put label f number bytes) ≡ None → (there_is_file n f ≡ None) × (unsettled_label w n label ≡ None)
+  put_unsettled n label f number bytes passes =
+      let behind_label = (neither (made_label w n label) _ passes).1 in
+      let behind_file = neither (there_is_file n f) _ behind_label in
+      let behind_size = (neither (of_file n f (fits_file number (length bytes))) _ behind_file.1).1 in
+      (behind_file.0, (neither (unsettled_label w n label) _ behind_size).0)
+
+  -- what is told to be put, after a record was put into a file
+  abbrev puts_more : ℕ → List ℕ → Bool → Bool → Option Id → Id → Records → Records
+  puts_more number bytes c t o id m = if c && t && is_id id o then insert (puts id m) (Number number) bytes else puts id m
+
+  -- a file with that change
+  abbrev put_file : Node → List ℕ → ℕ → List ℕ → Id → File → File
+  put_file n f number bytes serial g = record g { history = changed serial (record { key = Number number; before = record_at n f (Number number); after = Some bytes }) g.history }
+
+  put_history : (n : Node) (label f : List ℕ) (number : ℕ) (bytes : List ℕ) (serial : Id) (g : File) → find_file f n.directory ≡ Some g → id_told node label es ≡ Some serial → Agrees told puts (serials_of n.branches) (history_at file n) →
+      (t : Bool) → bytes_eq f file ≡ t → Agrees told (puts_more number bytes (bytes_eq node node) t (id_told node label es)) (serials_of n.branches)
+      (history_of (if t then option_map (put_file n f number bytes serial) (find_file file n.directory) else find_file file n.directory))
+  put_history n label f number bytes serial g there named a true is =
+      let found : find_file file n.directory ≡ Some g = subst (λ x. find_file x n.directory ≡ Some g) ((bytes_eq-Decides f file).0 is) there in
+      let one : Agrees told puts (serials_of n.branches) g.history = subst (λ o. Agrees told puts (serials_of n.branches) (history_of o)) found a in
+      let more : Agrees told (puts_more number bytes true true (Some serial)) (serials_of n.branches) (put_file n f number bytes serial g).history =
+      changes_agree told puts (serials_of n.branches) g.history one serial number (record_at n f (Number number)) bytes in
+      subst (λ c. Agrees told (puts_more number bytes c true (id_told node label es)) (serials_of n.branches) (history_of (option_map (put_file n f number bytes serial) (find_file file n.directory)))) (sym (same_text node))
+      (subst (λ o. Agrees told (puts_more number bytes true true (id_told node label es)) (serials_of n.branches) (history_of (option_map (put_file n f number bytes serial) o))) (sym found)
+      (subst (λ o. Agrees told (puts_more number bytes true true o) (serials_of n.branches) (put_file n f number bytes serial g).history) (sym named) more))
+  put_history n label f number bytes serial g there named a false is =
+      subst (λ c. Agrees told (puts_more number bytes c false (id_told node label es)) (serials_of n.branches) (history_at file n)) (sym (same_text node)) a
+
+  put_tells : (label f : List ℕ) (number : ℕ) (bytes : List ℕ) → early w (At node (Put label f number bytes)) ≡ None → DoneTells (Put label f number bytes) w
+  put_tells label f number bytes = at_up (Put label f number bytes) refl (λ n found up passes.
+      let parts = put_unsettled n label f number bytes passes in
+      let there = there_is n f parts.0 in
+      branch_row (Put label f number bytes) n label (put_by n f number bytes) line.RecordNormal parts.1 (λ b i named.
+      let c : Change = record { key = Number number; before = record_at n f (Number number); after = Some bytes } in
+      let now = puts_more number bytes (bytes_eq node node) (bytes_eq f file) (id_told node label es) in
+      acts_told node file told now w n (Changes b.serial f c) found (λ u.
+      subst (λ serials. Agrees told now serials (history_at file (acted (Changes b.serial f c) n))) (sym (serials_changed b.serial n.branches))
+      (subst (λ o. Agrees told now (serials_of n.branches) (history_of o)) (sym (file_after file f (put_file n f number bytes b.serial) n.directory (λ h. refl) (bytes_eq f file) refl))
+      (put_history n label f number bytes b.serial there.0 there.1 (told_serial n label b.serial found named) (t n found up) (bytes_eq f file) refl)))))
+
+  end_tells : (label : List ℕ) → early w (At node (EndTrans label)) ≡ None → DoneTells (EndTrans label) w
+  end_tells label = at_up (EndTrans label) refl (λ n found up passes.
+      branch_row (EndTrans label) n label (committed n) line.Normal (neither _ _ passes).1 (λ b i named.
+      let s : Settlement = record { tid = b.tid; serial = b.serial; outcome = Commit; reason = None; moment = next_moment n } in
+      acts_told node file (puts b.serial told) puts w n (Settles s) found (λ u.
+      subst (λ h. Agrees (puts b.serial told) puts (serials_of (without_branch b.serial n.branches)) h) (sym (settled_history file s n.directory))
+      (subst (λ serials. Agrees (puts b.serial told) puts serials (settled_at b.serial Commit (next_moment n) (history_at file n))) (sym (branches_minus b.serial n.branches))
+      (commits_agree told puts (serials_of n.branches) (history_at file n) (t n found up) b.serial (next_moment n) (found_each IsSoundNode node w.nodes n sound.0 found).0.different i)))))
+
+  abort_tells : (label : List ℕ) → early w (At node (AbortTrans label)) ≡ None → DoneTells (AbortTrans label) w
+  abort_tells label = at_up (AbortTrans label) refl (λ n found up passes.
+      branch_row (AbortTrans label) n label (aborted Aborted n) line.Normal (neither _ _ passes).1 (λ b i named.
+      let s : Settlement = record { tid = b.tid; serial = b.serial; outcome = Abort; reason = Some Aborted; moment = next_moment n } in
+      acts_told node file told puts w n (Settles s) found (λ u.
+      subst (λ h. Agrees told puts (serials_of (without_branch b.serial n.branches)) h) (sym (settled_history file s n.directory))
+      (subst (λ serials. Agrees told puts serials (settled_at b.serial Abort (next_moment n) (history_at file n))) (sym (branches_minus b.serial n.branches))
+      (aborts_agree told puts (serials_of n.branches) (history_at file n) (t n found up) b.serial (next_moment n) (found_each IsSoundNode node w.nodes n sound.0 found).0.different)))))
+
+  dump_tells : (f : List ℕ) → early w (At node (Dump f)) ≡ None → DoneTells (Dump f) w
+  dump_tells f = at_up (Dump f) refl (λ n found up passes m e u.
+      let shown = records_of n f in
+      let here : Agrees told puts (serials_of m.branches) (history_at file m) = t m (ap (λ (x : World). find_node node x.nodes) (sym (shown_do_nothing node shown w)) ∙ e) u in
+      agrees_as told _ puts puts (serials_of m.branches) (history_at file m) here (sym (shown_commit_nothing node file es shown (length shown) told)) (λ id k. refl))
+
+  crash_tells : early w (At node Crash) ≡ None → DoneTells Crash w
+  crash_tells = at_up Crash refl (λ n found up passes. acts_told node file told puts w n Falls found (λ u. let none : ⊥ = cc in absurd none))
+
+  fuse_tells : (writes choice : ℕ) → early w (At node (Fuse writes choice)) ≡ None → DoneTells (Fuse writes choice) w
+  fuse_tells writes choice e =
+      let request = Fuse writes choice in
+      let there = served w node request e in
+      subst (λ rs. RowsTell w request rs (answer w (At node request))) (sym (rows_found w node request there.n there.found))
+      (subst (RowsTell w request (rows_at w there.n request)) (sym (answer_found w node request there.n there.found)) (acts_told node file told puts w there.n (Arms writes choice) there.found (λ up. t there.n there.found up)))
+
+  -- A new file is told to have no records.
+
+  create_same : (n : Node) (f : List ℕ) → Agrees told puts (serials_of n.branches) (history_at file n) → find_file f n.directory ≡ None → (b : Bool) → bytes_eq f file ≡ b → told ≡ (if bytes_eq node node && b then empty else told)
+  create_same n f a none true is =
+      let found : find_file file n.directory ≡ None = subst (λ x. find_file x n.directory ≡ None) ((bytes_eq-Decides f file).0 is) none in
+      let settled : records (history_of None) ≡ told = subst (λ o. records (history_of o) ≡ told) found a.settled in
+      subst (λ c. told ≡ (if c && true then empty else told)) (sym (same_text node)) (sym settled)
+  create_same n f a none false is = subst (λ c. told ≡ (if c && false then empty else told)) (sym (same_text node)) refl
+
+  create_history : (n : Node) (f : List ℕ) (bucket size : ℕ) (form : Form) (start place : ℕ) → Agrees told puts (serials_of n.branches) (history_at file n) → find_file f n.directory ≡ None → free_place n.directory ≡ Some place →
+      Agrees told puts (serials_of n.branches) (history_of (find_file file (slice_set n.directory place (Some (created f bucket size form start n.greatest)))))
+  create_history n f bucket size form start place a none free =
+      subst (λ o. Agrees told puts (serials_of n.branches) (history_of o)) (sym (placed_file file (created f bucket size form start n.greatest) n.directory place free none)) (go (bytes_eq file f) refl)
+    where
+      go : (b : Bool) → bytes_eq file f ≡ b → Agrees told puts (serials_of n.branches) (history_of (if b then Some (created f bucket size form start n.greatest) else find_file file n.directory))
+      go true is =
+          let found : find_file file n.directory ≡ None = subst (λ x. find_file x n.directory ≡ None) (sym ((bytes_eq-Decides file f).0 is)) none in
+          let old : Agrees told puts (serials_of n.branches) (history_of None) = subst (λ o. Agrees told puts (serials_of n.branches) (history_of o)) found a in
+          record { settled = old.settled; live = old.live }
+      go false is = a
+
+  create_rows : (n : Node) (f : List ℕ) (bucket size : ℕ) (form : Form) → find_node node w.nodes ≡ Some n → n.up ≡ true → find_file f n.directory ≡ None →
+      RowsTell w (Create f bucket size form) (creates n (λ start. created f bucket size form start n.greatest) (blocks_for bucket size form)) line.Normal
+  create_rows n f bucket size form found up none = go (free_place n.directory) refl
+    where
+      now : told ≡ (if bytes_eq node node && bytes_eq f file then empty else told)
+      now = create_same n f (t n found up) none (bytes_eq f file) refl
+
+      with_start : (place : ℕ) → free_place n.directory ≡ Some place → (o : Option ℕ) →
+          RowsTell w (Create f bucket size form) (elim o [ Some start ↦ record { act = Some (Creates place (created f bucket size form start n.greatest)); lines = [] } ∷ [] | None ↦ [] ]) line.Normal
+      with_start place free (Some start) =
+          acts_told node file _ puts w n (Creates place (created f bucket size form start n.greatest)) found (λ u.
+          subst (λ m. Agrees m puts (serials_of n.branches) (history_of (find_file file (slice_set n.directory place (Some (created f bucket size form start n.greatest)))))) now (create_history n f bucket size form start place (t n found up) none free))
+      with_start place free None = λ m e u. subst (λ k. Agrees k puts (serials_of m.branches) (history_at file m)) now (t m e u)
+
+      go : (o : Option ℕ) → free_place n.directory ≡ o →
+          RowsTell w (Create f bucket size form) (elim o [ Some place ↦ elim (lowest_free n (blocks_for bucket size form)) [ Some start ↦ record { act = Some (Creates place (created f bucket size form start n.greatest)); lines = [] } ∷ [] | None ↦ [] ] | None ↦ [] ]) line.Normal
+      go (Some place) free = with_start place free (lowest_free n (blocks_for bucket size form))
+      go None free = λ m e u. subst (λ k. Agrees k puts (serials_of m.branches) (history_at file m)) now (t m e u)
+
+  create_tells : (f : List ℕ) (bucket size : ℕ) (form : Form) → early w (At node (Create f bucket size form)) ≡ None → DoneTells (Create f bucket size form) w
+  create_tells f bucket size form = at_up (Create f bucket size form) refl (λ n found up passes.
+      create_rows n f bucket size form found up (not_there n f (neither (new_file n f) (refused_if (not (is_file_form bucket size form)) line.BadParameter) passes).0))
+
+  -- A node whose disk is made to run again.
+
+  init_tells : (taken : Bool) (slots journal : ℕ) → early w (At node (Init slots journal)) ≡ None → DoneTells (Init slots journal) (readied taken w (At node (Init slots journal)))
+  init_tells taken slots journal e =
+      let request = Init slots journal in
+      let ready = readied taken w (At node request) in
+      let there = served w node request e in
+      let n = ready_node taken (stops_at node w) request there.n in
+      let found : find_node node ready.nodes ≡ Some n = ready_nodes taken w node request ∙ ap (option_map (ready_node taken (stops_at node w) request)) there.found in
+      let down : n.up ≡ false = ready_up taken (stops_at node w) true there.n (found_each IsSoundNode node w.nodes there.n sound.0 there.found).1 ∙ powering_down w node request there.n sound there.found there.passes refl in
+      subst (λ rs. RowsTell ready request rs (answer ready (At node request))) (sym (rows_found ready node request n found))
+      (acts_told node file _ _ ready n (Formats slots journal) found (λ up. absurd (both_ways n.up down up)))
+
+  boot_tells : (taken : Bool) → early w (At node Boot) ≡ None → DoneTells Boot (readied taken w (At node Boot))
+  boot_tells taken e =
+      let ready = readied taken w (At node Boot) in
+      let m = is_ready taken w node Boot e in
+      let n = ready_node taken (stops_at node w) Boot m.n in
+      let mid = acts node Boots ready in
+      let mid_found : find_node node mid.nodes ≡ Some (acted Boots n) = changed_node node (acted Boots) ready.nodes (acted_name Boots) ∙ ap (option_map (acted Boots)) m.ready in
+      let end_found : find_node node (acts node ComesUp mid).nodes ≡ Some (acted ComesUp (acted Boots n)) = changed_node node (acted ComesUp) mid.nodes (acted_name ComesUp) ∙ ap (option_map (acted ComesUp)) mid_found in
+      let stands : Agrees (current (history_at file (acted Boots n))) puts [] (history_at file (acted Boots n)) = stands_agree puts (history_at file (acted Boots n)) (no_live n) in
+      let tells : told_by node file es (Says (At node Boot)) ((last_lines n ++ []) ++ line.NormalCount (n.boot + 1) ∷ []) (acts node ComesUp mid) told ≡ current (history_at file (acted Boots n)) =
+      told_booted node file es (Says (At node Boot)) ((last_lines n ++ []) ++ line.NormalCount (n.boot + 1) ∷ []) (acts node ComesUp mid) told (booted node n (n.boot + 1)) ∙ standing_is node file (acts node ComesUp mid) (acted ComesUp (acted Boots n)) end_found in
+      subst (λ rs. RowsTell ready Boot rs (answer ready (At node Boot))) (sym (rows_found ready node Boot n m.ready))
+      (subst (RowsTell ready Boot (rows_at ready n Boot)) (sym (answer_found ready node Boot n m.ready))
+      (acts_told node file _ puts mid (acted Boots n) ComesUp mid_found (λ up. subst (λ k. Agrees k puts [] (history_at file (acted Boots n))) (sym tells) stands)))
+    where
+      stood : (g : ℕ) (o : Option File) → (history_of (option_map (as_it_stands g) o)).live ≡ []
+      stood g (Some f) = refl
+      stood g None = refl
+
+      no_live : (n : Node) → (history_at file (acted Boots n)).live ≡ []
+      no_live n = ap (λ o. (history_of o).live) (mapped_file file (as_it_stands n.greatest) n.directory (λ f. refl)) ∙ stood n.greatest (find_file file n.directory)
+
+  -- a statement to this node that is done
+  done_tells : (request : Request) (taken : Bool) → early w (At node request) ≡ None → DoneTells request (readied taken w (At node request))
+  done_tells (Init slots journal) taken e = init_tells taken slots journal e
+  done_tells Boot taken e = boot_tells taken e
+  done_tells (Create f bucket size form) taken e = create_tells f bucket size form e
+  done_tells (SetFile f setting) taken e = set_file_tells f setting e
+  done_tells (StartTrans label) taken e = start_tells label e
+  done_tells (Put label f number bytes) taken e = put_tells label f number bytes e
+  done_tells (EndTrans label) taken e = end_tells label e
+  done_tells (AbortTrans label) taken e = abort_tells label e
+  done_tells (Dump f) taken e = dump_tells f e
+  done_tells (Fuse writes choice) taken e = fuse_tells writes choice e
+  done_tells Crash taken e = crash_tells e
+
+-- What a statement tells, whichever way it ends.
+
+module _ (node file : List ℕ) (es : List Entry) (w v : World) (sound : IsSoundWorld w) (same : AreLabelled es w) (fresh : IsFresh (λ id. puts_told node file id es) node w) (told : Records) (t : IsTold node file told (λ id. puts_told node file id es) w) where
+  -- that a line which reads so, and for which these lines were shown, is told
+  abbrev LineTells : Reading → List Line → Type 0
+  LineTells reading lines = IsTold node file (told_by node file es reading lines v told) (λ id m. put_here node file id es reading lines (puts_told node file id es m)) v
+
+  refused_tells : (reading : Reading) (lines : List Line) (refusal : Line) → is_refusal refusal ≡ true → lines ≡ refusal ∷ [] → ((n : Node) → find_node node v.nodes ≡ Some n → n.up ≡ true → find_node node w.nodes ≡ Some n) → LineTells reading lines
+  refused_tells reading lines refusal is shows before =
+      subst (LineTells reading) (sym shows) (λ n found up. agrees_as told _ _ _ (serials_of n.branches) (history_at file n) (t n (before n found up) up) (sym (told_refused node file es reading refusal v told is))
+      (λ id m. sym (put_refused node file id es reading refusal (puts_told node file id es m) is)))
+
+  way_tells : (request : Request) (lines : List Line) → Way w node request lines v → LineTells (Says (At node request)) lines
+  way_tells request lines (Refuses refusal is shows goes) = refused_tells (Says (At node request)) lines refusal is shows (λ n found up. ap (λ (x : World). find_node node x.nodes) (sym goes) ∙ found)
+  way_tells request lines (RefusesLate taken refusal is e shows goes) =
+      refused_tells (Says (At node request)) lines refusal is shows (λ n found up. up_as_before taken w node request n sound e (ap (λ (x : World). find_node node x.nodes) (sym goes) ∙ found) up)
+  way_tells request lines (Fails front cause shows stay down) = λ n found up.
+      let is : Some n.up ≡ Some false = sym (ap (option_map (λ (x : Node). x.up)) found) ∙ down in
+      absurd (both_ways n.up (some_is n.up false is) up)
+  way_tells request lines (Does taken e l shows goes) =
+      let s = At node request in
+      let ready = readied taken w s in
+      let ls = lines_of_rows (rows ready s) ++ answer ready s ∷ [] in
+      subst (LineTells (Says s)) (sym shows)
+      (subst (λ x. IsTold node file (told_by node file es (Says s) ls x told) (λ id m. put_here node file id es (Says s) ls (puts_told node file id es m)) x) (sym goes) (done_tells node file es w sound same fresh told t request taken e))
+
+  other_tells : (x : List ℕ) (request : Request) (lines : List Line) → bytes_eq x node ≡ false → Step w (At x request) lines v → LineTells (Says (At x request)) lines
+  other_tells x request lines apart step n found up =
+      let there : find_node node w.nodes ≡ Some n =
+      sym (step_keeps x request (λ u. find_node node u.nodes ≡ find_node node w.nodes) (others_kept node x (find_node node w.nodes) apart) w v lines step sound refl) ∙ found in
+      let foreign = λ (serial : Id) (at : serial.node ≡ x) (k : Records). fresh.0 n there serial
+      (λ d. both_ways _ apart (subst (λ y. bytes_eq y node ≡ true) (sym (d.0 ∙ found_name node w.nodes n there) ∙ at) (same_text node))) k in
+      agrees_as told _ _ _ (serials_of n.branches) (history_at file n) (t n there up) (sym (told_elsewhere node file es x apart request lines v told (step_commits w x request sound v lines step) foreign))
+      (λ id m. sym (put_elsewhere node file es x apart id request lines (puts_told node file id es m)))
+
+  step_tells : (x : List ℕ) (request : Request) (lines : List Line) → Step w (At x request) lines v → LineTells (Says (At x request)) lines
+  step_tells x request lines step = go (bytes_eq x node) refl
+    where
+      go : (b : Bool) → bytes_eq x node ≡ b → LineTells (Says (At x request)) lines
+      go true is =
+          let at : x ≡ node = (bytes_eq-Decides x node).0 is in
+          subst (λ y. LineTells (Says (At y request)) lines) (sym at) (way_tells request lines (way w v node request lines (subst (λ y. Step w (At y request) lines v) at step)))
+      go false apart = other_tells x request lines apart step
+
+  pub turn_tells : (reading : Reading) (lines : List Line) → Turn w reading lines v → LineTells reading lines
+  turn_tells Blank lines turn = subst (LineTells Blank) (sym turn.0) (λ n found up. t n (ap (λ (x : World). find_node node x.nodes) (sym turn.1) ∙ found) up)
+  turn_tells (Says (At x request)) lines turn = step_tells x request lines turn
+  turn_tells (Bad column) lines turn = absurd turn
+
+  -- And nothing more is told of ids that were not drawn.
+
+  fresh_still : (x : List ℕ) (request : Request) (lines : List Line) → Step w (At x request) lines v → IsFresh (λ id. puts_told node file id es) node v
+  fresh_still x request lines step = step_keeps x request (IsFresh (λ id. puts_told node file id es) node) (fresh_kept (λ id. puts_told node file id es) node x) w v lines step sound fresh
+
+  put_here_fresh : (l f : List ℕ) (number : ℕ) (bytes : List ℕ) → Step w (At node (Put l f number bytes)) (line.RecordNormal ∷ []) v →
+      IsFresh (λ id m. if bytes_eq f file && is_id id (id_told node l es) then insert (puts_told node file id es m) (Number number) bytes else puts_told node file id es m) node v
+  put_here_fresh l f number bytes step =
+      let request = Put l f number bytes in
+      let done = (step_done w v (At node request) [] line.RecordNormal step refl refl).1 in
+      let there = served w node request done.none_early in
+      let n = there.n in
+      let sound_node = found_each IsSoundNode node w.nodes n sound.0 there.found in
+      let branch = is_labelled w n l (put_unsettled node file es w sound same fresh told t n l f number bytes there.passes).1 in
+      let serial = branch.branch.serial in
+      let named : id_told node l es ≡ Some serial = told_serial node file es w sound same fresh told t n l serial there.found (labelled_serial w n l branch.branch branch.named) in
+      let drawn : IsDrawn n.name n.boot n.drawn serial = each_at (IsDrawn n.name n.boot n.drawn) serial (serials_of n.branches) sound_node.0.drawn_live (in_map (λ b. b.serial) branch.branch n.branches (labelled_in w n l branch.branch branch.named)) in
+      let act = Changes serial f (record { key = Number number; before = record_at n f (Number number); after = Some bytes }) in
+      let rows_are : rows w (At node request) ≡ put_by n f number bytes branch.branch ∷ [] = rows_found w node request n there.found ∙ row_of w n l (put_by n f number bytes) branch.branch branch.named in
+      let new_node : find_node node v.nodes ≡ Some (acted act n) = ap (λ (x : World). find_node node x.nodes) done.goes ∙ ap (λ rs. find_node node (after_rows node rs w).nodes) rows_are
+      ∙ changed_node node (acted act) w.nodes (acted_name act) ∙ ap (option_map (acted act)) there.found in
+      let still = fresh_still node request (line.RecordNormal ∷ []) step in (
+        λ k found id new m.
+            let is : acted act n ≡ k = some_is (acted act n) k (sym new_node ∙ found) in
+            let old : IsDrawn n.name n.boot n.drawn id → ⊥ = subst (λ (x : Node). IsDrawn x.name x.boot x.drawn id → ⊥) (sym is) new in
+            let other : same_id id serial ≡ false = false_from_ne_true _ (λ e. old (subst (IsDrawn n.name n.boot n.drawn) (sym (id_is id serial e)) drawn)) in
+            cond-false (bytes_eq f file && is_id id (id_told node l es)) (insert (puts_told node file id es m) (Number number) bytes) (puts_told node file id es m) (and_right (bytes_eq f file) _ (ap (is_id id) named ∙ other)) ∙ still.0 k found id new m,
+        λ unused id m. absurd (both_ways w.in_use (step_keeps node request (λ (u : World). u.in_use ≡ false → w.in_use ≡ false) (unused_kept node w.in_use) w v (line.RecordNormal ∷ []) step sound (λ e. e) unused)
+            (in_use_up w node n sound there.found (served_up w n request refl there.passes_here))),
+      )
+
+  put_fresh : (x l f : List ℕ) (number : ℕ) (bytes : List ℕ) → Step w (At x (Put l f number bytes)) (line.RecordNormal ∷ []) v → (b : Bool) → bytes_eq x node ≡ b →
+      IsFresh (λ id m. if b && bytes_eq f file && is_id id (id_told x l es) then insert (puts_told node file id es m) (Number number) bytes else puts_told node file id es m) node v
+  put_fresh x l f number bytes step false apart = fresh_still x (Put l f number bytes) (line.RecordNormal ∷ []) step
+  put_fresh x l f number bytes step true is =
+      let at : x ≡ node = (bytes_eq-Decides x node).0 is in
+      subst (λ y. IsFresh (λ id m. if bytes_eq f file && is_id id (id_told y l es) then insert (puts_told node file id es m) (Number number) bytes else puts_told node file id es m) node v) (sym at)
+      (put_here_fresh l f number bytes (subst (λ y. Step w (At y (Put l f number bytes)) (line.RecordNormal ∷ []) v) at step))
+
+  pub turn_fresh : (reading : Reading) (lines : List Line) → Turn w reading lines v → IsFresh (λ id m. put_here node file id es reading lines (puts_told node file id es m)) node v
+  turn_fresh Blank lines turn = subst (IsFresh (λ id. puts_told node file id es) node) (sym turn.1) fresh
+  turn_fresh (Says (At x (Put l f number bytes))) (line.RecordNormal ∷ []) turn = put_fresh x l f number bytes turn (bytes_eq x node) refl
+  turn_fresh (Says (At x request)) lines turn = fresh_still x request lines turn
+  turn_fresh (Bad column) lines turn = absurd turn
