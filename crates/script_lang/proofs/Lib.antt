@@ -1,5 +1,5 @@
 pub mod PartingLemmas
 pub mod LiteralLemmas
 pub mod ReadsLemmas
-pub mod OpeningLemmas
 pub mod WhereLemmas
+pub mod TableLemmas

@@ -1,9 +1,9 @@
 -- A column is told exactly where no statement goes on.
 use Rattle.std.proofs.Common.{◌≡◌, ℕ, inl, inr, List, [], ◌∷◌, ◌++◌, Bool, true, false, refl, ap, sym, ◌∙◌, Option, Some, None}
-use Rattle.std.specs.Prelude.{if◌then◌else◌}
+use Rattle.std.specs.Prelude.{if◌then◌else◌, codes}
 use Rattle.script_model.specs.LineWords.{Word, words_of}
-use Rattle.script_model.specs.Statements.{Statement, Reading, Blank, Says, Bad}
-use Rattle.script_model.specs.Grammar.{Kind, Meaning, meaning, APrefix, AVerb, ALabel, AFile, ANumber, SomeBytes, Verb, StartTrans, Put, EndTrans, AbortTrans, Dump, Shape, Ends, Then, EndsOr, reads, operands, line_shape, is_skipped}
+use Rattle.script_model.specs.Statements.{Statement, Reading, Blank, Says, Bad, RecoveryUnits}
+use Rattle.script_model.specs.Grammar.{Kind, Meaning, meaning, AFirst, AVerb, ANode, ALabel, AFile, ASetting, ANumber, ALongNumber, SomeBytes, TheWord, Verb, Init, Boot, Create, SetFile, StartTrans, Put, EndTrans, AbortTrans, Dump, Fuse, Crash, First, ToNode, ToWorld, Shape, Ends, Then, EndsOr, reads, operands, behind_first, line_shape, is_skipped}
 use Rattle.script_lang.specs.Where.{CanGoOn, TellsWhere, LineTellsWhere}
 
 -- there is such a word
@@ -75,30 +75,51 @@ tells_where (Then k next) h (w ∷ ws) end = by_meaning k next w ws end (meaning
 tells_where (EndsOr s shape) h [] end = tt
 tells_where (EndsOr s shape) h (w ∷ ws) end = or_more s shape w ws end (reads shape (w ∷ ws) end) (tells_where shape h (w ∷ ws) end)
 
+a_node : Sample ANode
+a_node = record { text = codes "A"; meant = codes "A"; says = refl }
+
 a_label : Sample ALabel
-a_label = record { text = 84 ∷ []; meant = 84 ∷ []; says = refl }
+a_label = record { text = codes "T"; meant = codes "T"; says = refl }
 
 a_file : Sample AFile
-a_file = record { text = 70 ∷ []; meant = 70 ∷ []; says = refl }
+a_file = record { text = codes "F"; meant = codes "F"; says = refl }
+
+a_setting : Sample ASetting
+a_setting = record { text = codes "RU"; meant = RecoveryUnits; says = refl }
 
 a_number : Sample ANumber
-a_number = record { text = 49 ∷ []; meant = 1; says = refl }
+a_number = record { text = codes "1"; meant = 1; says = refl }
+
+a_long_number : Sample ALongNumber
+a_long_number = record { text = codes "1"; meant = 1; says = refl }
 
 some_bytes : Sample SomeBytes
 some_bytes = record { text = 34 ∷ 34 ∷ []; meant = []; says = refl }
 
-a_verb : Sample AVerb
-a_verb = record { text = 68 ∷ 85 ∷ 77 ∷ 80 ∷ []; meant = Dump; says = refl }
+rel : Sample (TheWord (codes "REL"))
+rel = record { text = codes "REL"; meant = tt; says = refl }
 
-a_prefix : Sample APrefix
-a_prefix = record { text = 65 ∷ 58 ∷ []; meant = 65 ∷ []; says = refl }
+a_verb : Sample AVerb
+a_verb = record { text = codes "DUMP"; meant = Dump; says = refl }
+
+a_first : Sample AFirst
+a_first = record { text = codes "A:"; meant = ToNode (codes "A"); says = refl }
 
 operands_writable : (n : List ℕ) (v : Verb) → IsWritable (operands n v)
+operands_writable n Init = (a_number, λ slots. (a_number, λ blocks. tt))
+operands_writable n Boot = tt
+operands_writable n Create = (a_file, λ f. (rel, λ w. (a_number, λ bucket. (a_number, λ size. (a_number, λ records. tt)))))
+operands_writable n SetFile = (a_file, λ f. (a_setting, λ setting. tt))
 operands_writable n StartTrans = (a_label, λ l. tt)
 operands_writable n Put = (a_label, λ l. (a_file, λ f. (a_number, λ k. (some_bytes, λ b. tt))))
 operands_writable n EndTrans = (a_label, λ l. tt)
 operands_writable n AbortTrans = (a_label, λ l. tt)
 operands_writable n Dump = (a_file, λ f. tt)
+
+behind_writable : (first : First) → IsWritable (behind_first first)
+behind_writable (ToNode n) = (a_verb, λ v. operands_writable n v)
+behind_writable (ToWorld Fuse) = (a_node, λ n. (a_number, λ writes. (a_long_number, λ choice. tt)))
+behind_writable (ToWorld Crash) = (a_node, λ n. tt)
 
 by_skipped : (b : Bool) (line : List ℕ) (r : Reading) → TellsWhere line_shape (words_of line).words (words_of line).end r → TellsWhere line_shape (words_of line).words (words_of line).end (if b then Blank else r)
 by_skipped true line r t = tt
@@ -107,4 +128,4 @@ by_skipped false line r t = t
 pub line_tells_where : (line : List ℕ) → LineTellsWhere line
 line_tells_where line =
     by_skipped (is_skipped (words_of line).words) line (reads line_shape (words_of line).words (words_of line).end)
-    (tells_where line_shape (a_prefix, λ n. (a_verb, λ v. operands_writable n v)) (words_of line).words (words_of line).end)
+    (tells_where line_shape (a_first, behind_writable) (words_of line).words (words_of line).end)

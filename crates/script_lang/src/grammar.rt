@@ -1,20 +1,87 @@
 // The statement of a line.
 ghost use Rattle.std.specs.Prelude.{◌≡◌, ◌≤◌, length};
-ghost use Rattle.script_model.specs.Grammar.{AVerb, Then, line_shape, operands as operands_of, reading, Verb as TheVerb};
+ghost use Rattle.script_model.specs.Grammar.{Ends, line_shape, behind_first as behind_first_of, operands as operands_of, world_operands as world_operands_of, reading, Verb as TheVerb, WorldVerb as TheWorldVerb, ToNode as ToTheNode};
 ghost use Rattle.script_lang.specs.Reads.{Reads};
-ghost use Rattle.script_lang.specs.Statements.{ReadsPlain, reading_of, statement_of, verb_of};
+ghost use Rattle.script_lang.specs.declared.literals.Literals.{Literals as LiteralsSaid};
+ghost use Rattle.script_lang.specs.Statements.{ReadsPlain, first_of, reading_of, statement_of, verb_of, world_verb_of};
 
 use crate::literals::Literals;
-use crate::statement::{Request, Statement, Verb};
+use crate::statement::{First, Form, Request, Statement, Verb, WorldVerb};
 use crate::words::{LineErr, Words};
 use vms_base::NodeName;
+
+// The log slots and the journal's blocks of a volume for which none are said.
+const SLOTS: u32 = 128;
+
+const BLOCKS: u32 = 1_024;
+
+// The statement, where the line ends here.
+fn ends(statement: Statement, words: &mut Words<'_>) -> Result<Statement, LineErr>
+    ensures { (lit : LiteralsSaid) → Reads (statement_of lit) (Ends (statement_of lit statement)) words.old result }
+{
+    words.end()?;
+    Ok(statement)
+}
+
+fn init(node: NodeName, words: &mut Words<'_>) -> Result<Statement, LineErr>
+    ensures { ReadsPlain (operands_of node TheVerb.Init) words.old result }
+{
+    if words.is_at_end() {
+        return Ok(Statement::At(
+            node,
+            Request::Init {
+                slots: SLOTS,
+                blocks: BLOCKS,
+            },
+        ));
+    }
+    let slots = words.number()?;
+    let blocks = words.number()?;
+    ends(Statement::At(node, Request::Init { slots, blocks }), words)
+}
+
+fn boot(node: NodeName, words: &mut Words<'_>) -> Result<Statement, LineErr>
+    ensures { ReadsPlain (operands_of node TheVerb.Boot) words.old result }
+{
+    ends(Statement::At(node, Request::Boot), words)
+}
+
+fn create(node: NodeName, words: &mut Words<'_>) -> Result<Statement, LineErr>
+    ensures { ReadsPlain (operands_of node TheVerb.Create) words.old result }
+{
+    let file = words.file()?;
+    words.the_word(b"REL")?;
+    let bucket = words.number()?;
+    let size = words.number()?;
+    let records = words.number()?;
+    let form = Form::Relative { records };
+    ends(
+        Statement::At(
+            node,
+            Request::Create {
+                file,
+                bucket,
+                size,
+                form,
+            },
+        ),
+        words,
+    )
+}
+
+fn set_file(node: NodeName, words: &mut Words<'_>) -> Result<Statement, LineErr>
+    ensures { ReadsPlain (operands_of node TheVerb.SetFile) words.old result }
+{
+    let file = words.file()?;
+    let setting = words.setting()?;
+    ends(Statement::At(node, Request::SetFile(file, setting)), words)
+}
 
 fn start_trans(node: NodeName, words: &mut Words<'_>) -> Result<Statement, LineErr>
     ensures { ReadsPlain (operands_of node TheVerb.StartTrans) words.old result }
 {
     let label = words.label()?;
-    words.end()?;
-    Ok(Statement::At(node, Request::StartTrans(label)))
+    ends(Statement::At(node, Request::StartTrans(label)), words)
 }
 
 fn put(node: NodeName, words: &mut Words<'_>, lit: &mut Literals) -> Result<Statement, LineErr>
@@ -25,32 +92,31 @@ fn put(node: NodeName, words: &mut Words<'_>, lit: &mut Literals) -> Result<Stat
     let file = words.file()?;
     let number = words.number()?;
     words.bytes(&mut lit.record)?;
-    words.end()?;
-    Ok(Statement::At(node, Request::Put(label, file, number)))
+    ends(
+        Statement::At(node, Request::Put(label, file, number)),
+        words,
+    )
 }
 
 fn end_trans(node: NodeName, words: &mut Words<'_>) -> Result<Statement, LineErr>
     ensures { ReadsPlain (operands_of node TheVerb.EndTrans) words.old result }
 {
     let label = words.label()?;
-    words.end()?;
-    Ok(Statement::At(node, Request::EndTrans(label)))
+    ends(Statement::At(node, Request::EndTrans(label)), words)
 }
 
 fn abort_trans(node: NodeName, words: &mut Words<'_>) -> Result<Statement, LineErr>
     ensures { ReadsPlain (operands_of node TheVerb.AbortTrans) words.old result }
 {
     let label = words.label()?;
-    words.end()?;
-    Ok(Statement::At(node, Request::AbortTrans(label)))
+    ends(Statement::At(node, Request::AbortTrans(label)), words)
 }
 
 fn dump(node: NodeName, words: &mut Words<'_>) -> Result<Statement, LineErr>
     ensures { ReadsPlain (operands_of node TheVerb.Dump) words.old result }
 {
     let file = words.file()?;
-    words.end()?;
-    Ok(Statement::At(node, Request::Dump(file)))
+    ends(Statement::At(node, Request::Dump(file)), words)
 }
 
 fn operands(
@@ -63,6 +129,10 @@ fn operands(
     ensures key { lit.new.key ≡ lit.old.key }
 {
     match verb {
+        Verb::Init => init(node, words),
+        Verb::Boot => boot(node, words),
+        Verb::Create => create(node, words),
+        Verb::SetFile => set_file(node, words),
         Verb::StartTrans => start_trans(node, words),
         Verb::Put => put(node, words, lit),
         Verb::EndTrans => end_trans(node, words),
@@ -71,13 +141,59 @@ fn operands(
     }
 }
 
+fn fuse(words: &mut Words<'_>) -> Result<Statement, LineErr>
+    ensures { ReadsPlain (world_operands_of TheWorldVerb.Fuse) words.old result }
+{
+    let node = words.node()?;
+    let writes = words.number()?;
+    let choice = words.long_number()?;
+    ends(Statement::At(node, Request::Fuse { writes, choice }), words)
+}
+
+fn crash(words: &mut Words<'_>) -> Result<Statement, LineErr>
+    ensures { ReadsPlain (world_operands_of TheWorldVerb.Crash) words.old result }
+{
+    let node = words.node()?;
+    ends(Statement::At(node, Request::Crash), words)
+}
+
+fn world_operands(verb: WorldVerb, words: &mut Words<'_>) -> Result<Statement, LineErr>
+    ensures { ReadsPlain (world_operands_of (world_verb_of verb)) words.old result }
+{
+    match verb {
+        WorldVerb::Fuse => fuse(words),
+        WorldVerb::Crash => crash(words),
+    }
+}
+
+fn to_node(node: NodeName, words: &mut Words<'_>, lit: &mut Literals) -> Result<Statement, LineErr>
+    ensures reads { Reads (statement_of lit.new) (behind_first_of (ToTheNode node)) words.old result }
+    ensures key { lit.new.key ≡ lit.old.key }
+{
+    let verb = words.verb()?;
+    operands(verb, node, words, lit)
+}
+
+fn behind_first(
+    first: First,
+    words: &mut Words<'_>,
+    lit: &mut Literals,
+) -> Result<Statement, LineErr>
+    ensures reads { Reads (statement_of lit.new) (behind_first_of (first_of first)) words.old result }
+    ensures key { lit.new.key ≡ lit.old.key }
+{
+    match first {
+        First::ToNode(node) => to_node(node, words, lit),
+        First::ToWorld(verb) => world_operands(verb, words),
+    }
+}
+
 fn statement(words: &mut Words<'_>, lit: &mut Literals) -> Result<Statement, LineErr>
     ensures reads { Reads (statement_of lit.new) line_shape words.old result }
     ensures key { lit.new.key ≡ lit.old.key }
 {
-    let node = words.prefix()?;
-    let verb = words.verb()?;
-    operands(verb, node, words, lit)
+    let first = words.first()?;
+    behind_first(first, words, lit)
 }
 
 /// What a line of at most 20,000 bytes says: None where it is skipped, else its statement, whose record's bytes are then in `lit`.

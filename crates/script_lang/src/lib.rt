@@ -3,10 +3,8 @@
 
 mod command;
 mod grammar;
-mod known;
 mod laws;
 mod literals;
-mod opening;
 mod operands;
 mod statement;
 mod take;
@@ -16,7 +14,6 @@ pub use command::is_run_form;
 pub use grammar::read_statement;
 pub use laws::columns_tell_where_no_statement_goes_on;
 pub use literals::{Literal, Literals};
-pub use opening::read_statement_at;
 pub use statement::{Form, Request, Setting, Statement};
 pub use words::LineErr;
 

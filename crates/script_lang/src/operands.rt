@@ -3,13 +3,17 @@ ghost use Rattle.std.specs.Prelude.{◌≡◌, ℕ, ◌≤◌, IfSome, Option};
 ghost use Rattle.std.specs.Option.{option_map};
 ghost use Rattle.vms_model.specs.Words.{number_up_to, among};
 ghost use Rattle.script_model.specs.Operands.{prefix_said};
-ghost use Rattle.script_model.specs.Grammar.{verbs};
-ghost use Rattle.script_lang.specs.Statements.{verb_of};
+ghost use Rattle.script_model.specs.Grammar.{verbs, world_verbs, settings, first_said};
+ghost use Rattle.script_lang.specs.Statements.{verb_of, world_verb_of, setting_of, first_of};
 
-use crate::statement::Verb;
+use crate::statement::{First, Setting, Verb, WorldVerb};
 use vms_base::{NodeName, find, part_at, read_digits};
 
-const VERBS: [(&[u8], Verb); 5] = [
+const VERBS: [(&[u8], Verb); 9] = [
+    (b"INIT", Verb::Init),
+    (b"BOOT", Verb::Boot),
+    (b"CREATE", Verb::Create),
+    (b"SET_FILE", Verb::SetFile),
     (b"START_TRANS", Verb::StartTrans),
     (b"PUT", Verb::Put),
     (b"END_TRANS", Verb::EndTrans),
@@ -17,11 +21,35 @@ const VERBS: [(&[u8], Verb); 5] = [
     (b"DUMP", Verb::Dump),
 ];
 
+const WORLD_VERBS: [(&[u8], WorldVerb); 2] = [
+    (b"FUSE", WorldVerb::Fuse),
+    (b"CRASH", WorldVerb::Crash),
+];
+
+const SETTINGS: [(&[u8], Setting); 2] = [
+    (b"RU", Setting::RecoveryUnits),
+    (b"NORU", Setting::NoRecoveryUnits),
+];
+
 /// The verb of a word in either case of letters.
 pub fn read_verb(text: &[u8]) -> Option<Verb>
     ensures { option_map verb_of result ≡ among verbs text.now }
 {
     find(&VERBS, text)
+}
+
+/// The verb of the world of a word in either case of letters.
+pub fn read_world_verb(text: &[u8]) -> Option<WorldVerb>
+    ensures { option_map world_verb_of result ≡ among world_verbs text.now }
+{
+    find(&WORLD_VERBS, text)
+}
+
+/// The setting of a word in either case of letters.
+pub fn read_setting(text: &[u8]) -> Option<Setting>
+    ensures { option_map setting_of result ≡ among settings text.now }
+{
+    find(&SETTINGS, text)
 }
 
 /// The number of 1 to 20 digits, at most the limit.
@@ -44,5 +72,18 @@ pub fn read_prefix(text: &[u8]) -> Option<NodeName>
         NodeName::new(node)
     } else {
         None
+    }
+}
+
+/// The node of a node and a colon, or the verb of the world.
+pub fn read_first(text: &[u8]) -> Option<First>
+    ensures { option_map first_of result ≡ first_said text.now }
+{
+    match read_prefix(text) {
+        Some(node) => Some(First::ToNode(node)),
+        None => {
+            let verb = read_world_verb(text)?;
+            Some(First::ToWorld(verb))
+        }
     }
 }

@@ -1,13 +1,12 @@
 // Operands from the words of a line.
 ghost use Rattle.std.specs.Prelude.{◌≡◌};
-ghost use Rattle.script_model.specs.Grammar.{APrefix, AVerb, ALabel, AFile, ANumber, SomeBytes, TheWord};
+ghost use Rattle.script_model.specs.Grammar.{AFirst, AVerb, ANode, ALabel, AFile, ASetting, ANumber, ALongNumber, SomeBytes, TheWord};
 ghost use Rattle.script_lang.specs.Reads.{Takes, Finishes};
-ghost use Rattle.script_lang.specs.Statements.{verb_of};
+ghost use Rattle.script_lang.specs.Statements.{first_of, verb_of, setting_of};
 
-use crate::known::{read_known_file, read_known_node};
 use crate::literals::Literal;
-use crate::operands::{read_number, read_verb};
-use crate::statement::Verb;
+use crate::operands::{read_first, read_number, read_setting, read_verb};
+use crate::statement::{First, Setting, Verb};
 use crate::words::{LineErr, Word, Words};
 use vms_base::{FileName, Label, NodeName, is_word};
 
@@ -23,12 +22,12 @@ impl Word<'_> {
 }
 
 impl<'a> Words<'a> {
-    pub fn prefix(&mut self) -> Result<NodeName, LineErr>
-        ensures { Takes APrefix (λ n. n) self.old result self.new }
+    pub fn first(&mut self) -> Result<First, LineErr>
+        ensures { Takes AFirst first_of self.old result self.new }
     {
         let word = self.word()?;
-        match read_known_node(word.text) {
-            Some(node) => Ok(node),
+        match read_first(word.text) {
+            Some(first) => Ok(first),
             None => Err(word.cannot_stand()),
         }
     }
@@ -39,6 +38,16 @@ impl<'a> Words<'a> {
         let word = self.word()?;
         match read_verb(word.text) {
             Some(verb) => Ok(verb),
+            None => Err(word.cannot_stand()),
+        }
+    }
+
+    pub fn node(&mut self) -> Result<NodeName, LineErr>
+        ensures { Takes ANode (λ n. n) self.old result self.new }
+    {
+        let word = self.word()?;
+        match NodeName::new(word.text) {
+            Some(node) => Ok(node),
             None => Err(word.cannot_stand()),
         }
     }
@@ -57,8 +66,18 @@ impl<'a> Words<'a> {
         ensures { Takes AFile (λ f. f) self.old result self.new }
     {
         let word = self.word()?;
-        match read_known_file(word.text) {
+        match FileName::new(word.text) {
             Some(file) => Ok(file),
+            None => Err(word.cannot_stand()),
+        }
+    }
+
+    pub fn setting(&mut self) -> Result<Setting, LineErr>
+        ensures { Takes ASetting setting_of self.old result self.new }
+    {
+        let word = self.word()?;
+        match read_setting(word.text) {
+            Some(setting) => Ok(setting),
             None => Err(word.cannot_stand()),
         }
     }
@@ -69,6 +88,16 @@ impl<'a> Words<'a> {
         let word = self.word()?;
         match read_number(u64::from(u32::MAX), word.text) {
             Some(n) => Ok(n as u32),
+            None => Err(word.cannot_stand()),
+        }
+    }
+
+    pub fn long_number(&mut self) -> Result<u64, LineErr>
+        ensures { Takes ALongNumber (λ n. n) self.old result self.new }
+    {
+        let word = self.word()?;
+        match read_number(u64::MAX, word.text) {
+            Some(n) => Ok(n),
             None => Err(word.cannot_stand()),
         }
     }

@@ -1,32 +1,178 @@
-// Lines with the columns at which they leave the grammar, and what they say.
+// Lines with what they say, or with the columns at which they leave the grammar.
 use super::*;
-use std::alloc::AllocError;
-use vms_base::NodeName;
+use std::alloc::Global;
+use std::process::Abort;
+use std::test::Fail;
+use vms_base::{FileName, Label, NodeName};
 
-// The column of a line that says no statement, 0 where it says one, and None where it is skipped.
-fn column(reading: &Result<Option<Statement>, LineErr>) -> Option<u32> {
-    match reading {
-        Ok(Some(_)) => Some(0),
-        Ok(None) => None,
-        Err(e) => Some(e.column),
+fn node() -> Result<NodeName, Fail> {
+    Ok(NodeName::new(b"A").ok_or("a name")?)
+}
+
+fn file() -> Result<FileName, Fail> {
+    Ok(FileName::new(b"F").ok_or("a name")?)
+}
+
+fn label() -> Result<Label, Fail> {
+    Ok(Label::new(b"T").ok_or("a name")?)
+}
+
+// The request to node A that each line says.
+fn say(rt: &impl Abort, alloc: Global, table: &[(&[u8], Request)]) -> Result<(), Fail> {
+    let node = node()?;
+    let mut lit = Literals::reserve(alloc)?;
+    for (line, request) in table {
+        assert!(rt; line.len() <= 20_000);
+        let want = Ok(Some(Statement::At(node, *request)));
+        assert_eq!(rt; read_statement(line, &mut lit), want, "{line:?}");
     }
+    Ok(())
 }
 
 #[test]
-fn lines_leave_the_grammar_at_their_columns(rt: HostRuntime) -> Result<(), AllocError> {
+fn lines_ask_nodes(rt: HostRuntime) -> Result<(), Fail> {
+    let (file, label) = (file()?, label()?);
+    let table: [(&[u8], Request); 17] = [
+        (
+            b"A: INIT",
+            Request::Init {
+                slots: 128,
+                blocks: 1_024,
+            },
+        ),
+        (
+            b" a:  init  ",
+            Request::Init {
+                slots: 128,
+                blocks: 1_024,
+            },
+        ),
+        (
+            b"A: INIT 8 0016",
+            Request::Init {
+                slots: 8,
+                blocks: 16,
+            },
+        ),
+        (
+            b"A: INIT 0 4294967295",
+            Request::Init {
+                slots: 0,
+                blocks: u32::MAX,
+            },
+        ),
+        (b"a: Boot", Request::Boot),
+        (
+            b"A: CREATE F REL 1 100 10",
+            Request::Create {
+                file,
+                bucket: 1,
+                size: 100,
+                form: Form::Relative { records: 10 },
+            },
+        ),
+        (
+            b"A: create f rel 02 0 4294967295",
+            Request::Create {
+                file,
+                bucket: 2,
+                size: 0,
+                form: Form::Relative { records: u32::MAX },
+            },
+        ),
+        (
+            b"A: SET_FILE F RU",
+            Request::SetFile(file, Setting::RecoveryUnits),
+        ),
+        (
+            b"A: set_file f ru",
+            Request::SetFile(file, Setting::RecoveryUnits),
+        ),
+        (
+            b"A: SET_FILE F noru",
+            Request::SetFile(file, Setting::NoRecoveryUnits),
+        ),
+        (b"A: START_TRANS t", Request::StartTrans(label)),
+        (
+            b"  a:   put  T f 007 %X0aFf  ",
+            Request::Put(label, file, 7),
+        ),
+        (
+            b"A: PUT T F 4294967295 \"a b\"",
+            Request::Put(label, file, u32::MAX),
+        ),
+        (
+            b"A: PUT T F 00000000000000000001 %X",
+            Request::Put(label, file, 1),
+        ),
+        (b"A: End_Trans T", Request::EndTrans(label)),
+        (b"A: ABORT_TRANS T", Request::AbortTrans(label)),
+        (b"A: dump F", Request::Dump(file)),
+    ];
+    say(&rt, rt.alloc(), &table)
+}
+
+#[test]
+fn lines_act_on_the_world(rt: HostRuntime) -> Result<(), Fail> {
+    let table: [(&[u8], Request); 6] = [
+        (
+            b"FUSE A 0 18446744073709551615",
+            Request::Fuse {
+                writes: 0,
+                choice: u64::MAX,
+            },
+        ),
+        (
+            b"fuse a 1 2",
+            Request::Fuse {
+                writes: 1,
+                choice: 2,
+            },
+        ),
+        (
+            b"Fuse A 4294967295 4294967296",
+            Request::Fuse {
+                writes: u32::MAX,
+                choice: 4_294_967_296,
+            },
+        ),
+        (
+            b"FUSE A 07 00000000000000000001",
+            Request::Fuse {
+                writes: 7,
+                choice: 1,
+            },
+        ),
+        (b"CRASH A", Request::Crash),
+        (b" crash  a ", Request::Crash),
+    ];
+    say(&rt, rt.alloc(), &table)
+}
+
+// The column of a line that says no statement, 0 where it says one, and None where it is skipped.
+fn column(alloc: Global, line: &[u8]) -> Result<Option<u32>, Fail> {
+    let mut lit = Literals::reserve(alloc)?;
+    if line.len() > 20_000 {
+        return Ok(None);
+    }
+    Ok(match read_statement(line, &mut lit) {
+        Ok(Some(_)) => Some(0),
+        Ok(None) => None,
+        Err(e) => Some(e.column),
+    })
+}
+
+#[test]
+fn lines_leave_the_grammar_at_their_columns(rt: HostRuntime) -> Result<(), Fail> {
     let table: [(&[u8], Option<u32>); 30] = [
         (b"", None),
         (b"   ", None),
         (b"!A: PUT", None),
         (b"  ! what ever", None),
-        (b"A: START_TRANS t", Some(0)),
-        (b"  a:   put  T f 007 %X0aFf  ", Some(0)),
-        (b"A: PUT T F 1 \"a b\"", Some(0)),
-        (b"A: PUT T F 1 \"\"", Some(0)),
-        (b"A: PUT T F 4294967295 %X", Some(0)),
+        (b"B: DUMP LEDGER.DAT", Some(0)),
         (b"A: END_TRANS abcdefghijklmno", Some(0)),
-        (b"A: ABORT_TRANS T", Some(0)),
-        (b"A: DUMP F", Some(0)),
+        (b"A: END_TRANS abcdefghijklmnop", Some(14)),
+        (b"A: PUT T F 1 \"\"", Some(0)),
         (b"A: PUT T F 1 \"a", Some(14)),
         (b"A: PUT T F 1 \"a\"b", Some(14)),
         (b"A: PUT T F 1 \"a\" b", Some(18)),
@@ -38,52 +184,64 @@ fn lines_leave_the_grammar_at_their_columns(rt: HostRuntime) -> Result<(), Alloc
         (b"A: PUT T F 1", Some(13)),
         (b"A: PUT T F 1  ", Some(15)),
         (b"A: PUT - F 1 \"a\"", Some(8)),
-        (b"A: PUT T G 1 \"a\"", Some(10)),
-        (b"A: END_TRANS abcdefghijklmnop", Some(14)),
+        (b"A: PUT T 1F 1 \"a\"", Some(10)),
         (b"A: START_TRANS T TIMEOUT 1", Some(18)),
-        (b"A: INIT", Some(4)),
-        (b"B: DUMP F", Some(1)),
         (b"A : DUMP F", Some(1)),
         (b"\tA: DUMP F", Some(1)),
+        (b"\"a\"b", Some(1)),
+        (b"ABCDEFG: BOOT", Some(1)),
+        (b"A:", Some(3)),
+        (b"A: ", Some(4)),
+        (b"A: FROB", Some(4)),
+        (b"A: FUSE A 1 2", Some(4)),
+        (b"FROB A", Some(1)),
     ];
-    let mut lit = Literals::reserve(rt.alloc())?;
     for (line, want) in table {
-        assert!(rt; line.len() <= 20_000);
-        assert_eq!(rt; column(&read_statement(line, &mut lit)), want, "{line:?}");
+        assert_eq!(rt; column(rt.alloc(), line)?, want, "{line:?}");
     }
     Ok(())
 }
 
 #[test]
-fn the_first_lines_are_fixed(rt: HostRuntime) -> Result<(), AllocError> {
-    let table: [(usize, &[u8], Option<u32>); 12] = [
-        (0, b"A: PUT T F 1 \"a\"", Some(4)),
-        (0, b"! first", None),
-        (0, b" a:  init ", Some(0)),
-        (0, b"A: INIT 8 1", Some(9)),
-        (0, b"A:", Some(3)),
-        (1, b"A: BOOT", Some(0)),
-        (1, b"A: INIT", Some(4)),
-        (2, b"A: CREATE F REL 1 100 10", Some(0)),
-        (2, b"A: CREATE F REL 1 0100 10", Some(19)),
-        (3, b"A: SET_FILE F RU", Some(0)),
-        (3, b"A: SET_FILE F NORU", Some(15)),
-        (4, b"A: PUT T F 1 \"a\"", Some(0)),
+fn lines_of_nodes_and_of_the_world_leave_it_at_theirs(rt: HostRuntime) -> Result<(), Fail> {
+    let table: [(&[u8], Option<u32>); 28] = [
+        (b"A:INIT", Some(1)),
+        (b"INIT", Some(1)),
+        (b"A: INIT x", Some(9)),
+        (b"A: INIT 8", Some(10)),
+        (b"A: INIT 8 1 1", Some(13)),
+        (b"A: BOOT now", Some(9)),
+        (b"CREATE F SEQ", Some(1)),
+        (b"A: CREATE F SEQ 1 100 10", Some(13)),
+        (b"A: CREATE F", Some(12)),
+        (b"A: CREATE F REL 1 100", Some(22)),
+        (b"A: CREATE F REL 1 4294967296 10", Some(19)),
+        (b"A: CREATE F REL 1 100 10 1", Some(26)),
+        (b"A: SET_FILE F", Some(14)),
+        (b"A: SET_FILE F AI", Some(15)),
+        (b"A: SET_FILE F RU RU", Some(18)),
+        (b"FUSE", Some(5)),
+        (b"FUSE A:", Some(6)),
+        (b"FUSE A x 1", Some(8)),
+        (b"FUSE A 4294967296 0", Some(8)),
+        (b"FUSE A 1", Some(9)),
+        (b"FUSE A 1 x", Some(10)),
+        (b"FUSE A 0 18446744073709551616", Some(10)),
+        (b"FUSE A 0 000000000000000000001", Some(10)),
+        (b"FUSE A 1 2 3", Some(12)),
+        (b"A: CRASH", Some(4)),
+        (b"CRASH", Some(6)),
+        (b"CRASH 1A", Some(7)),
+        (b"CRASH A B", Some(9)),
     ];
-    let mut lit = Literals::reserve(rt.alloc())?;
-    for (before, line, want) in table {
-        assert!(rt; line.len() <= 20_000);
-        assert_eq!(rt;
-            column(&read_statement_at(before, line, &mut lit)),
-            want,
-            "{line:?}"
-        );
+    for (line, want) in table {
+        assert_eq!(rt; column(rt.alloc(), line)?, want, "{line:?}");
     }
     Ok(())
 }
 
 #[test]
-fn a_record_is_kept_beside_its_statement(rt: HostRuntime) -> Result<(), AllocError> {
+fn a_record_is_kept_beside_its_statement(rt: HostRuntime) -> Result<(), Fail> {
     let mut lit = Literals::reserve(rt.alloc())?;
     let table: [(&[u8], &[u8]); 3] = [
         (b"A: PUT T F 1 \"x y\"", b"x y"),
@@ -99,10 +257,8 @@ fn a_record_is_kept_beside_its_statement(rt: HostRuntime) -> Result<(), AllocErr
 }
 
 #[test]
-fn a_command_names_each_node_and_its_image(rt: HostRuntime) -> Result<(), AllocError> {
-    let Some(node) = NodeName::new(b"A") else {
-        return Ok(assert!(rt; false));
-    };
+fn a_command_names_each_node_and_its_image(rt: HostRuntime) -> Result<(), Fail> {
+    let node = node()?;
     let table: [(&[&str], bool); 9] = [
         (&["dtm", "RUN", "A=ledger.img"], true),
         (&["", "RUN", "a=x=y"], true),

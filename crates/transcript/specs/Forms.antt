@@ -17,27 +17,42 @@ cause_of cause.Stopped = model.Stopped
 
 abbrev pub quota_of : Quota → model.Quota
 quota_of quota.Branches = model.Branches
+quota_of quota.Files = model.Files
+quota_of quota.Changes = model.Changes
+quota_of quota.Boots = model.Boots
+quota_of quota.Moments = model.Moments
 
 -- what the form shows
 abbrev pub line_of : Form → model.Line
 line_of (form.Record key bytes) = model.Record (key_of key) bytes.now
 line_of (form.Committed tid serial moment) = model.Committed (tid_of tid) (serial_of serial) moment.0
 line_of (form.Aborted tid serial reason moment) = model.Aborted (tid_of tid) (serial_of serial) (reason_of reason) moment.0
+line_of (form.LastCommitted tid serial moment) = model.LastCommitted (tid_of tid) (serial_of serial) moment.0
+line_of (form.LastAborted tid serial reason moment) = model.LastAborted (tid_of tid) (serial_of serial) (reason_of reason) moment.0
 line_of (form.Down node cause) = model.Down node (cause_of cause)
+line_of (form.Crashed node) = model.Crashed node
 line_of form.Normal = model.Normal
 line_of (form.NormalCount n) = model.NormalCount n
 line_of (form.NormalId id) = model.NormalId (id_of id)
 line_of form.RecordNormal = model.RecordNormal
 line_of form.NoSuchNode = model.NoSuchNode
 line_of form.NodeDown = model.NodeDown
+line_of form.NodeUp = model.NodeUp
+line_of form.VolumeInUse = model.VolumeInUse
+line_of form.NotInitialized = model.NotInitialized
 line_of form.BadLabel = model.BadLabel
 line_of form.FileNotFound = model.FileNotFound
+line_of form.FileExists = model.FileExists
+line_of form.BadParameter = model.BadParameter
 line_of form.BadRecordNumber = model.BadRecordNumber
 line_of form.BadRecordSize = model.BadRecordSize
 line_of form.NoSuchTransaction = model.NoSuchTransaction
+line_of form.NotMarked = model.NotMarked
 line_of (form.FileLocked serial) = model.FileLocked (serial_of serial)
+line_of (form.NoVolume node condition block) = model.NoVolume node condition block
 line_of form.RecordExists = model.RecordExists
 line_of (form.QuotaExceeded quota limit) = model.QuotaExceeded (quota_of quota) limit
+line_of (form.VolumeFull free need) = model.VolumeFull free need
 line_of form.NoMemory = model.NoMemory
 line_of (form.Broken cause) = model.Broken (cause_of cause)
 line_of (form.BadLine column) = model.BadLine column
@@ -47,4 +62,6 @@ line_of form.TooLong = model.TooLong
 abbrev pub HasTime : Form → Type 0
 HasTime (form.Committed tid serial moment) = CanBeWritten moment.0
 HasTime (form.Aborted tid serial reason moment) = CanBeWritten moment.0
+HasTime (form.LastCommitted tid serial moment) = CanBeWritten moment.0
+HasTime (form.LastAborted tid serial reason moment) = CanBeWritten moment.0
 HasTime _ = Unit {0}

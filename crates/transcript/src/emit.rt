@@ -271,6 +271,10 @@ impl<'a, K: Sink> SinkEmit<'a, K> {
     {
         match quota {
             Quota::Branches => self.put(b"BRANCHES"),
+            Quota::Files => self.put(b"FILES"),
+            Quota::Changes => self.put(b"CHANGES"),
+            Quota::Boots => self.put(b"BOOTS"),
+            Quota::Moments => self.put(b"MOMENTS"),
         }
     }
 
@@ -335,6 +339,26 @@ impl<'a, K: Sink> SinkEmit<'a, K> {
         self.put_time(moment);
     }
 
+    fn put_last_committed(&mut self, tid: &Tid, serial: &Serial, moment: Moment)
+        requires { CanBeWritten moment.0 }
+        ensures same_sink { self.new.sink.ghost_name ≡ self.old.sink.ghost_name }
+        ensures number { self.new.number ≡ self.old.number }
+        ensures appends { Appends (kept_by K.shown K.faults self.old) (line_words (model.LastCommitted (tid_of tid.now) (serial_of serial.now) moment.0)) (kept_by K.shown K.faults self.new) }
+    {
+        self.put(b"LAST ");
+        self.put_committed(tid, serial, moment);
+    }
+
+    fn put_last_aborted(&mut self, tid: &Tid, serial: &Serial, reason: Reason, moment: Moment)
+        requires { CanBeWritten moment.0 }
+        ensures same_sink { self.new.sink.ghost_name ≡ self.old.sink.ghost_name }
+        ensures number { self.new.number ≡ self.old.number }
+        ensures appends { Appends (kept_by K.shown K.faults self.old) (line_words (model.LastAborted (tid_of tid.now) (serial_of serial.now) (reason_of reason) moment.0)) (kept_by K.shown K.faults self.new) }
+    {
+        self.put(b"LAST ");
+        self.put_aborted(tid, serial, reason, moment);
+    }
+
     fn put_down(&mut self, node: &NodeName, cause: Cause)
         ensures same_sink { self.new.sink.ghost_name ≡ self.old.sink.ghost_name }
         ensures number { self.new.number ≡ self.old.number }
@@ -346,7 +370,47 @@ impl<'a, K: Sink> SinkEmit<'a, K> {
         self.put_cause(cause);
     }
 
-    fn put_quota_exceeded(&mut self, quota: Quota, limit: u32)
+    fn put_crashed(&mut self, node: &NodeName)
+        ensures same_sink { self.new.sink.ghost_name ≡ self.old.sink.ghost_name }
+        ensures number { self.new.number ≡ self.old.number }
+        ensures appends { Appends (kept_by K.shown K.faults self.old) (line_words (model.Crashed node.now)) (kept_by K.shown K.faults self.new) }
+    {
+        self.put(b"DOWN ");
+        self.put(node.bytes());
+        self.put(b" CRASH");
+    }
+
+    // Words, and two numbers behind them.
+    fn put_with_numbers(&mut self, words: &[u8], first: u64, second: u64)
+        ensures same_sink { self.new.sink.ghost_name ≡ self.old.sink.ghost_name }
+        ensures number { self.new.number ≡ self.old.number }
+        ensures appends { Appends (kept_by K.shown K.faults self.old) (words.now ++ (decimal first ++ (32 ∷ decimal second))) (kept_by K.shown K.faults self.new) }
+    {
+        self.put(words);
+        self.put_number(first);
+        self.put(b" ");
+        self.put_number(second);
+    }
+
+    fn put_no_volume(&mut self, node: &NodeName, condition: u32, block: u32)
+        ensures same_sink { self.new.sink.ghost_name ≡ self.old.sink.ghost_name }
+        ensures number { self.new.number ≡ self.old.number }
+        ensures appends { Appends (kept_by K.shown K.faults self.old) (line_words (model.NoVolume node.now condition block)) (kept_by K.shown K.faults self.new) }
+    {
+        self.put(b"VOLUME ");
+        self.put(node.bytes());
+        self.put_with_numbers(b" ", u64::from(condition), u64::from(block));
+    }
+
+    fn put_volume_full(&mut self, free: u64, need: u64)
+        ensures same_sink { self.new.sink.ghost_name ≡ self.old.sink.ghost_name }
+        ensures number { self.new.number ≡ self.old.number }
+        ensures appends { Appends (kept_by K.shown K.faults self.old) (line_words (model.VolumeFull free need)) (kept_by K.shown K.faults self.new) }
+    {
+        self.put_with_numbers(b"RMS$_FUL VOLUME ", free, need);
+    }
+
+    fn put_quota_exceeded(&mut self, quota: Quota, limit: u64)
         ensures same_sink { self.new.sink.ghost_name ≡ self.old.sink.ghost_name }
         ensures number { self.new.number ≡ self.old.number }
         ensures appends { Appends (kept_by K.shown K.faults self.old) (line_words (model.QuotaExceeded (quota_of quota) limit)) (kept_by K.shown K.faults self.new) }
@@ -354,7 +418,7 @@ impl<'a, K: Sink> SinkEmit<'a, K> {
         self.put(b"SS$_EXQUOTA ");
         self.put_quota(quota);
         self.put(b" ");
-        self.put_number(u64::from(limit));
+        self.put_number(limit);
     }
 
     // The words of a line.
@@ -370,21 +434,36 @@ impl<'a, K: Sink> SinkEmit<'a, K> {
             Form::Aborted(tid, serial, reason, moment) => {
                 self.put_aborted(tid, serial, *reason, *moment);
             }
+            Form::LastCommitted(tid, serial, moment) => {
+                self.put_last_committed(tid, serial, *moment);
+            }
+            Form::LastAborted(tid, serial, reason, moment) => {
+                self.put_last_aborted(tid, serial, *reason, *moment);
+            }
             Form::Down(node, cause) => self.put_down(node, *cause),
+            Form::Crashed(node) => self.put_crashed(node),
             Form::Normal => self.put(b"SS$_NORMAL"),
             Form::NormalCount(n) => self.put_with_number(b"SS$_NORMAL ", *n),
             Form::NormalId(id) => self.put_with_id(b"SS$_NORMAL ", id),
             Form::RecordNormal => self.put(b"RMS$_NORMAL"),
             Form::NoSuchNode => self.put(b"NOSUCHNODE"),
             Form::NodeDown => self.put(b"NODEDOWN"),
+            Form::NodeUp => self.put(b"NODEUP"),
+            Form::VolumeInUse => self.put(b"VOLINUSE"),
+            Form::NotInitialized => self.put(b"NOINIT"),
             Form::BadLabel => self.put(b"LABEL"),
             Form::FileNotFound => self.put(b"RMS$_FNF"),
+            Form::FileExists => self.put(b"RMS$_FEX"),
+            Form::BadParameter => self.put(b"SS$_BADPARAM"),
             Form::BadRecordNumber => self.put(b"RMS$_MRN"),
             Form::BadRecordSize => self.put(b"RMS$_RSZ"),
             Form::NoSuchTransaction => self.put(b"SS$_NOSUCHTID"),
+            Form::NotMarked => self.put(b"NOTRU"),
             Form::FileLocked(serial) => self.put_with_id(b"RMS$_FLK ", &serial.0),
+            Form::NoVolume(node, condition, block) => self.put_no_volume(node, *condition, *block),
             Form::RecordExists => self.put(b"RMS$_REX"),
             Form::QuotaExceeded(quota, limit) => self.put_quota_exceeded(*quota, *limit),
+            Form::VolumeFull(free, need) => self.put_volume_full(*free, *need),
             Form::NoMemory => self.put(b"SS$_INSFMEM"),
             Form::Broken(cause) => self.put_cause(*cause),
             Form::BadLine(column) => self.put_with_number(b"BADLINE ", u64::from(*column)),

@@ -1,7 +1,7 @@
 //! What the lines of a transcript show.
 use vms_base::{Id, Key, Moment, NodeName, Reason, Record, Serial, Tid};
 
-/// Why a node went down in a statement.
+/// Why a node went down in a statement that its disk did not serve.
 #[derive(Clone, Copy, Debug, PartialEq, Eq)]
 pub enum Cause {
     /// A call of its disk failed.
@@ -13,7 +13,16 @@ pub enum Cause {
 /// What a node has only so many of.
 #[derive(Clone, Copy, Debug, PartialEq, Eq)]
 pub enum Quota {
+    /// Unsettled branches of a node.
     Branches,
+    /// Files of a volume.
+    Files,
+    /// Changes of a branch.
+    Changes,
+    /// Boots of a volume.
+    Boots,
+    /// Moments, of which the greatest of a volume is one.
+    Moments,
 }
 
 /// What one line shows: an event, or the answer of a statement.
@@ -22,21 +31,37 @@ pub enum Form<'a> {
     Record(Key, &'a Record),
     Committed(Tid, Serial, Moment),
     Aborted(Tid, Serial, Reason, Moment),
+    /// The last settlement that a volume tells of was a commit.
+    LastCommitted(Tid, Serial, Moment),
+    /// It was an abort.
+    LastAborted(Tid, Serial, Reason, Moment),
     Down(NodeName, Cause),
+    Crashed(NodeName),
     Normal,
     NormalCount(u64),
     NormalId(Id),
     RecordNormal,
     NoSuchNode,
     NodeDown,
+    NodeUp,
+    VolumeInUse,
+    NotInitialized,
     BadLabel,
     FileNotFound,
+    FileExists,
+    BadParameter,
     BadRecordNumber,
     BadRecordSize,
     NoSuchTransaction,
+    NotMarked,
     FileLocked(Serial),
+    /// The node's disk has no volume: the first condition that fails, and the block where it does.
+    NoVolume(NodeName, u32, u32),
     RecordExists,
-    QuotaExceeded(Quota, u32),
+    /// The limit that would be passed.
+    QuotaExceeded(Quota, u64),
+    /// The longest free run of blocks, and the blocks that are wanted.
+    VolumeFull(u64, u64),
     NoMemory,
     Broken(Cause),
     BadLine(u32),

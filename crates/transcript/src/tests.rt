@@ -159,10 +159,13 @@ fn lines_have_their_bytes(rt: HostRuntime) -> Result<(), Fail> {
         out.emit(&Form::Record(Key::Number(3), &record));
         out.emit(&Form::Committed(tid, serial, Moment(445_343_760_000)));
         out.emit(&Form::Aborted(tid, serial, Reason::Vetoed, Moment(1)));
+        out.emit(&Form::LastCommitted(tid, serial, Moment(445_343_760_000)));
+        out.emit(&Form::LastAborted(tid, serial, Reason::SegFail, Moment(2)));
         out.emit(&Form::Down(node, Cause::Failed));
+        out.emit(&Form::Down(node, Cause::Stopped));
+        out.emit(&Form::Crashed(node));
         out.emit(&Form::NormalCount(2));
         out.emit(&Form::NormalId(tid.0));
-        out.emit(&Form::QuotaExceeded(Quota::Branches, 1));
         out.emit(&Form::BadLine(4));
         out.usage();
     }
@@ -170,12 +173,57 @@ fn lines_have_their_bytes(rt: HostRuntime) -> Result<(), Fail> {
 12 RECORD 3 %X22AF\n\
 12 COMMIT A.1.1 A.1.2 \"1-JAN-2000 10:00:00.00\"\n\
 12 ABORT A.1.1 A.1.2 DDTM$_VETOED \"17-NOV-1858 00:00:00.01\"\n\
+12 LAST COMMIT A.1.1 A.1.2 \"1-JAN-2000 10:00:00.00\"\n\
+12 LAST ABORT A.1.1 A.1.2 DDTM$_SEG_FAIL \"17-NOV-1858 00:00:00.02\"\n\
 12 DOWN A FAULT\n\
+12 DOWN A STOPPED\n\
+12 DOWN A CRASH\n\
 12 SS$_NORMAL 2\n\
 12 SS$_NORMAL A.1.1\n\
-12 SS$_EXQUOTA BRANCHES 1\n\
 12 BADLINE 4\n\
 usage: dtm RUN NODE=IMAGE ... or dtm MAKE n start\n";
+    assert_eq!(rt; bytes.as_slice(), want.as_slice());
+    Ok(())
+}
+
+#[test]
+fn refusals_and_a_record_without_bytes_have_their_bytes(rt: HostRuntime) -> Result<(), Fail> {
+    let mut bytes = Vec::new(rt.alloc());
+    {
+        let mut sink = WriterSink::new(&mut bytes);
+        let mut out = SinkEmit::new(rt.alloc(), &mut sink)?;
+        let record = Record::reserve(rt.alloc())?;
+        let node = NodeName::new(b"a").ok_or("a name")?;
+        out.at(1);
+        out.emit(&Form::Record(Key::Number(4), &record));
+        out.emit(&Form::NodeUp);
+        out.emit(&Form::VolumeInUse);
+        out.emit(&Form::NotInitialized);
+        out.emit(&Form::FileExists);
+        out.emit(&Form::BadParameter);
+        out.emit(&Form::NotMarked);
+        out.emit(&Form::NoVolume(node, 1, 518));
+        out.emit(&Form::QuotaExceeded(Quota::Branches, 1));
+        out.emit(&Form::QuotaExceeded(Quota::Files, 64));
+        out.emit(&Form::QuotaExceeded(Quota::Changes, 1_024));
+        out.emit(&Form::QuotaExceeded(Quota::Boots, 4_294_967_295));
+        out.emit(&Form::QuotaExceeded(Quota::Moments, 24_000_000_000_000));
+        out.emit(&Form::VolumeFull(7_000, 68_719_476_720));
+    }
+    let want = b"1 RECORD 4 \"\"\n\
+1 NODEUP\n\
+1 VOLINUSE\n\
+1 NOINIT\n\
+1 RMS$_FEX\n\
+1 SS$_BADPARAM\n\
+1 NOTRU\n\
+1 VOLUME A 1 518\n\
+1 SS$_EXQUOTA BRANCHES 1\n\
+1 SS$_EXQUOTA FILES 64\n\
+1 SS$_EXQUOTA CHANGES 1024\n\
+1 SS$_EXQUOTA BOOTS 4294967295\n\
+1 SS$_EXQUOTA MOMENTS 24000000000000\n\
+1 RMS$_FUL VOLUME 7000 68719476720\n";
     assert_eq!(rt; bytes.as_slice(), want.as_slice());
     Ok(())
 }

@@ -1,4 +1,4 @@
-use Rattle.script_lang.proofs.ReadsLemmas.{ended, missed, took, went_on}
+use Rattle.script_lang.proofs.ReadsLemmas.{missed, took}
 use Rattle.script_lang.proofs.grammar.put.Goals as goal
 
 pub returns-in_err-label-clause-reads : goal.returns-in_err-label-clause-reads
@@ -13,8 +13,5 @@ returns-in_err-number-clause-reads c = took c.label.ensures c.in_ok-label.was (t
 pub returns-in_err-bytes-clause-reads : goal.returns-in_err-bytes-clause-reads
 returns-in_err-bytes-clause-reads c = took c.label.ensures c.in_ok-label.was (took c.file.ensures c.in_ok-file.was (took c.number.ensures c.in_ok-number.was (missed c.bytes.ensures c.in_err-bytes.was c.from_residual-in_err-bytes.ensures.1)))
 
-pub returns-in_err-end-clause-reads : goal.returns-in_err-end-clause-reads
-returns-in_err-end-clause-reads c = took c.label.ensures c.in_ok-label.was (took c.file.ensures c.in_ok-file.was (took c.number.ensures c.in_ok-number.was (took c.bytes.ensures c.in_ok-bytes.was (went_on c.end.ensures c.in_err-end.was c.from_residual-in_err-end.ensures.1))))
-
 pub returns-clause-reads : goal.returns-clause-reads
-returns-clause-reads c = took c.label.ensures c.in_ok-label.was (took c.file.ensures c.in_ok-file.was (took c.number.ensures c.in_ok-number.was (took c.bytes.ensures c.in_ok-bytes.was (ended c.end.ensures c.in_ok-end.was))))
+returns-clause-reads c = took c.label.ensures c.in_ok-label.was (took c.file.ensures c.in_ok-file.was (took c.number.ensures c.in_ok-number.was (took c.bytes.ensures c.in_ok-bytes.was (c.ends.ensures (record { «record» = _; key = c.args.lit.now.key })))))

@@ -1,11 +1,8 @@
 use Rattle.script_lang.proofs.ReadsLemmas.{missed, took}
 use Rattle.script_lang.proofs.grammar.statement.Goals as goal
 
-pub returns-in_err-node-clause-reads : goal.returns-in_err-node-clause-reads
-returns-in_err-node-clause-reads c = missed c.prefix.ensures c.in_err-node.was c.from_residual.ensures.1
-
-pub returns-in_err-verb-clause-reads : goal.returns-in_err-verb-clause-reads
-returns-in_err-verb-clause-reads c = took c.prefix.ensures c.in_ok-node.was (missed c.verb.ensures c.in_err-verb.was c.from_residual-in_err-verb.ensures.1)
+pub returns-in_err-first-clause-reads : goal.returns-in_err-first-clause-reads
+returns-in_err-first-clause-reads c = missed c.first.ensures c.in_err-first.was c.from_residual.ensures.1
 
 pub returns-clause-reads : goal.returns-clause-reads
-returns-clause-reads c = took c.prefix.ensures c.in_ok-node.was (took c.verb.ensures c.in_ok-verb.was c.operands.ensures.reads)
+returns-clause-reads c = took c.first.ensures c.in_ok-first.was c.behind_first.ensures.reads

@@ -3,4 +3,4 @@ use Rattle.transcript.proofs.BufferedLemmas.{appends4}
 use Rattle.transcript.proofs.emit.SinkEmit.put_quota_exceeded.Goals as goal
 
 pub returns-clause-appends : goal.returns-clause-appends
-returns-clause-appends g c = appends4 _ _ _ _ _ _ _ _ _ _ c.put.ensures.appends c.put_quota.ensures.appends c.put-2.ensures.appends c.put_number.ensures.appends (rw c.from.ensures refl)
+returns-clause-appends g c = appends4 _ _ _ _ _ _ _ _ _ _ c.put.ensures.appends c.put_quota.ensures.appends c.put-2.ensures.appends c.put_number.ensures.appends refl

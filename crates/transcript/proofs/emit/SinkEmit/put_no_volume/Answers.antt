@@ -1,0 +1,6 @@
+use Rattle.std.proofs.Common.{refl}
+use Rattle.transcript.proofs.BufferedLemmas.{appends3}
+use Rattle.transcript.proofs.emit.SinkEmit.put_no_volume.Goals as goal
+
+pub returns-clause-appends : goal.returns-clause-appends
+returns-clause-appends g c = appends3 _ _ _ _ _ _ _ _ c.put.ensures.appends c.put-2.ensures.appends c.put_with_numbers.ensures.appends (rw (c.bytes.ensures.value, c.from.ensures, c.from-2.ensures) refl)
