@@ -1,5 +1,5 @@
 -- Steps that write only some blocks.
-use Rattle.std.proofs.Common.{◌≡◌, inl, inr, ⊎_elim, ℕ, Bool, true, false, List, [], ◌∷◌, ◌+◌, ◌≤◌, Result, length, set, Option, Some, None, option_map, MatchOption, IfSome, IsSomeAnd, refl, sym, ◌∙◌, ap, subst, arith, length-set, get_or-set_other}
+use Rattle.std.proofs.Common.{◌≡◌, inl, inr, ⊎_elim, ℕ, Bool, true, false, List, [], ◌∷◌, ◌+◌, ◌≤◌, Result, length, set, Option, Some, None, option_map, MatchOption, IfSome, IsSomeAnd, is_some, refl, sym, ◌∙◌, ap, subst, arith, length-set, get_or-set_other}
 use Rattle.block_disk.specs.Blocks.{has_number, with_number, SameBut}
 use Rattle.block_disk.specs.Disk.{DiskState, put, answered, is_failed, is_stopped, IsPowered, MayLeave}
 use Rattle.block_disk.specs.declared.disk.DiskErr.{DiskErr}
@@ -78,6 +78,14 @@ images_touched p s0 s Q touched settled each image left = cases s0.seen s.seen r
 pub leaves_touched : (p : ℕ → Bool) (s0 s : DiskState) (P : List (List ℕ) → Type 0) → Touches p s0 s → s0.pending ≡ [] → ((b image : List (List ℕ)) → s0.seen ≡ Some b → AgreesOff p b image → (fitting image ≡ true) × P (content_of image)) → Leaves P s
 leaves_touched p s0 s P touched settled each = images_touched p s0 s (λ image. (fitting image ≡ true) × P (content_of image)) touched settled each
 
+-- what is told stays told where a block is put
+pub told_put : (n : ℕ) (b : List ℕ) (s : DiskState) → is_some (put n b s).seen ≡ is_some s.seen
+told_put n b s = go s.seen
+  where
+    go : (o : Option (List (List ℕ))) → is_some (option_map (λ bs. set bs n b) o) ≡ is_some o
+    go None = refl
+    go (Some bs) = refl
+
 -- an answer after quiet steps
 pub quiet_put : (n : ℕ) (b : List ℕ) (s0 s new : DiskState) → Quiet s0 s → new ≡ put n b s → Quiet s0 new
 quiet_put n b s0 s new quiet is = record {
@@ -85,6 +93,7 @@ quiet_put n b s0 s new quiet is = record {
   calls = ap (λ (t : DiskState). t.calls) is ∙ quiet.calls;
   faults = ap (λ (t : DiskState). t.faults) is ∙ quiet.faults;
   stops = ap (λ (t : DiskState). t.stops) is ∙ quiet.stops;
+  told = ap (λ (t : DiskState). is_some t.seen) is ∙ told_put n b s ∙ quiet.told;
 }
 
 pub counts_put : {T : Type 0} (r : Result T DiskErr) (n : ℕ) (b : List ℕ) (s0 s new : DiskState) → Quiet s0 s → new ≡ answered r (put n b s) → Counts r s0 new
@@ -93,6 +102,7 @@ counts_put r n b s0 s new quiet is = record {
   calls = ap (λ (t : DiskState). t.calls) is ∙ quiet.calls;
   faults = ap (λ (t : DiskState). t.faults) is ∙ ap (counted (is_failed r)) quiet.faults;
   stops = ap (λ (t : DiskState). t.stops) is ∙ ap (counted (is_stopped r)) quiet.stops;
+  told = ap (λ (t : DiskState). is_some t.seen) is ∙ told_put n b s ∙ quiet.told;
 }
 
 pub counts_answer : {T : Type 0} (r : Result T DiskErr) (s0 s new : DiskState) → Quiet s0 s → new ≡ answered r s → Counts r s0 new
@@ -101,6 +111,7 @@ counts_answer r s0 s new quiet is = record {
   calls = ap (λ (t : DiskState). t.calls) is ∙ quiet.calls;
   faults = ap (λ (t : DiskState). t.faults) is ∙ ap (counted (is_failed r)) quiet.faults;
   stops = ap (λ (t : DiskState). t.stops) is ∙ ap (counted (is_stopped r)) quiet.stops;
+  told = ap (λ (t : DiskState). is_some t.seen) is ∙ quiet.told;
 }
 
 pub touches_write : (p : ℕ → Bool) (n : ℕ) (b : List ℕ) (s0 s new : DiskState) → Touches p s0 s → p n ≡ true → new ≡ put n b s → Touches p s0 new

@@ -27,6 +27,10 @@ pub trait Held {
 /// A file of one organization over a store. Contracts see it as a map from keys to records, which the head and the
 /// content's blocks determine.
 ///
+/// Each call answers whatever the disk has: what it asks for is told by the head, the key and the record alone. What it
+/// finds and sets is promised of blocks that are laid out. On others it still returns, and `set` stages no block outside
+/// the file's extent.
+///
 /// Each call wants 32 free frames, and gives back those that it takes. `Down` says that the disk went down in the call;
 /// nothing is staged then. The laws say that the map, its layout and the rooms rest on the blocks of the file's extent
 /// alone, so that what is staged elsewhere leaves them.
@@ -34,7 +38,7 @@ pub trait RecordFile {
     /// The map of a file, by its head and the blocks of the content, of which the first is block 518 of the disk.
     ghost map: { FileHead → List (List ℕ) → Map };
 
-    /// The head is that of a file of this organization.
+    /// The head is that of a file of this organization, and its numbers are in range whatever the blocks have.
     ghost form: { FileHead → Type 0 };
 
     /// The head is that of a new file.
@@ -67,10 +71,9 @@ pub trait RecordFile {
     ) -> Result<bool, Down>
         requires form { form head.now }
         requires placed { IsPlaced head.now store.old.disk }
-        requires valid { IfSome store.old.current (valid head.now) }
         requires frames { 32 ≤ free_frames store.old.pool }
-        ensures found { IfOk result (λ found. found ≡ true → IfSome store.old.current (λ blocks. map head.now blocks (key_of key.now) ≡ Some out.new)) }
-        ensures absent { IfOk result (λ found. found ≡ false → IfSome store.old.current (λ blocks. map head.now blocks (key_of key.now) ≡ None)) }
+        ensures found { IfOk result (λ found. found ≡ true → IfSome store.old.current (λ blocks. valid head.now blocks → map head.now blocks (key_of key.now) ≡ Some out.new)) }
+        ensures absent { IfOk result (λ found. found ≡ false → IfSome store.old.current (λ blocks. valid head.now blocks → map head.now blocks (key_of key.now) ≡ None)) }
         ensures same { OnOk result (store.new ≡ store.old) }
         ensures down { OnErr result (store.new ≡ fell result store.old) };
 
@@ -84,10 +87,9 @@ pub trait RecordFile {
     ) -> Result<bool, Down>
         requires form { form head.now }
         requires placed { IsPlaced head.now store.old.disk }
-        requires valid { IfSome store.old.current (valid head.now) }
         requires frames { 32 ≤ free_frames store.old.pool }
-        ensures found { IfOk result (λ is. is ≡ true → IfSome store.old.current (λ blocks. IsNext (map head.now blocks) (option_map key_of (option_copied after.entry)) (key_of found.new) out.new)) }
-        ensures none { IfOk result (λ is. is ≡ false → IfSome store.old.current (λ blocks. EndsAfter (map head.now blocks) (option_map key_of (option_copied after.entry)))) }
+        ensures found { IfOk result (λ is. is ≡ true → IfSome store.old.current (λ blocks. valid head.now blocks → IsNext (map head.now blocks) (option_map key_of (option_copied after.entry)) (key_of found.new) out.new)) }
+        ensures none { IfOk result (λ is. is ≡ false → IfSome store.old.current (λ blocks. valid head.now blocks → EndsAfter (map head.now blocks) (option_map key_of (option_copied after.entry)))) }
         ensures same { OnOk result (store.new ≡ store.old) }
         ensures down { OnErr result (store.new ≡ fell result store.old) };
 
@@ -102,15 +104,13 @@ pub trait RecordFile {
     ) -> Result<(), Down>
         requires form { form head.old }
         requires placed { IsPlaced head.old store.old.disk }
-        requires valid { IfSome store.old.current (valid head.old) }
         requires frames { 32 ≤ free_frames store.old.pool }
         requires staged { length store.old.touched ≤ 64 }
         requires suits { suits head.old (key_of key.now) (option_copied value) }
-        requires takes { IfSome store.old.current (λ blocks. takes head.old blocks (key_of key.now) (option_copied value)) }
-        ensures map { OnOk result (option_map (map head.new) store.new.current ≡ option_map (λ blocks. set_key (key_of key.now) (option_copied value.entry) (map head.old blocks)) store.old.current) }
-        ensures valid { OnOk result (IfSome store.new.current (valid head.new)) }
-        ensures used { OnOk result (IfSome store.old.current (λ blocks. head.new.used ≡ used_after head.old blocks (H.held held.now) (key_of key.now) (option_copied value.entry))) }
-        ensures rooms { OnOk result (IfSome store.old.current (λ before. IfSome store.new.current (λ after. (other : model.Key) → H.held held.now other ≡ true → room head.old before other ≤ room head.new after other))) }
+        ensures map { OnOk result (IfSome store.old.current (λ before. valid head.old before → takes head.old before (key_of key.now) (option_copied value.entry) → option_map (map head.new) store.new.current ≡ Some (set_key (key_of key.now) (option_copied value.entry) (map head.old before)))) }
+        ensures valid { OnOk result (IfSome store.old.current (λ before. valid head.old before → takes head.old before (key_of key.now) (option_copied value.entry) → IfSome store.new.current (valid head.new))) }
+        ensures used { OnOk result (IfSome store.old.current (λ before. valid head.old before → takes head.old before (key_of key.now) (option_copied value.entry) → head.new.used ≡ used_after head.old before (H.held held.now) (key_of key.now) (option_copied value.entry))) }
+        ensures rooms { OnOk result (IfSome store.old.current (λ before. valid head.old before → takes head.old before (key_of key.now) (option_copied value.entry) → IfSome store.new.current (λ after. (other : model.Key) → H.held held.now other ≡ true → room head.old before other ≤ room head.new after other))) }
         ensures file { OnOk result (SameFile head.old head.new) }
         ensures form { OnOk result (form head.new) }
         ensures staged { OnOk result (StagesIn head.old ((2 * head.old.levels + 2) * head.old.bucket) store.old store.new) }
@@ -121,9 +121,8 @@ pub trait RecordFile {
     fn need<D: Disk>(head: &FileHead, store: &mut Store<D>, size: u16) -> Result<u32, Down>
         requires form { form head.now }
         requires placed { IsPlaced head.now store.old.disk }
-        requires valid { IfSome store.old.current (valid head.now) }
         requires frames { 32 ≤ free_frames store.old.pool }
-        ensures need { IfOk result (λ free. IfSome store.old.current (λ blocks. free ≡ asks head.now blocks size)) }
+        ensures need { IfOk result (λ free. IfSome store.old.current (λ blocks. valid head.now blocks → free ≡ asks head.now blocks size)) }
         ensures same { OnOk result (store.new ≡ store.old) }
         ensures down { OnErr result (store.new ≡ fell result store.old) };
 

@@ -36,6 +36,15 @@ fn fits_behind(area: &Extent, before: &[Extent], e: &Extent) -> bool
     true
 }
 
+/// Whether the extent at a place of a list lies in the area, and has no block of an extent before it.
+pub fn fits_at(area: &Extent, extents: &[Extent], i: usize) -> bool
+    requires { i < length extents.now }
+    ensures yes { result ≡ true → FitsAt area.now extents.now i }
+    ensures no { result ≡ false → FitsAt area.now extents.now i → ⊥ }
+{
+    fits_behind(area, &extents[..i], &extents[i])
+}
+
 /// The first extent that does not lie in the area, or has a block of an extent before it.
 pub fn first_misfit(area: &Extent, extents: &[Extent]) -> Option<usize>
     ensures found { IfSome result (λ i. (i < length extents.now) × (FitsAt area.now extents.now i → ⊥)) }
@@ -43,7 +52,7 @@ pub fn first_misfit(area: &Extent, extents: &[Extent]) -> Option<usize>
     ensures none { IfNone result ((k : ℕ) → k < length extents.now → FitsAt area.now extents.now k) }
 {
     for i in 0..extents.len() {
-        if !fits_behind(area, &extents[..i], &extents[i]) {
+        if !fits_at(area, extents, i) {
             return Some(i);
         }
     }

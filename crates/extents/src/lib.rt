@@ -6,7 +6,7 @@ mod fits;
 mod runs;
 
 pub use extent::{Extent, all_extents, extents_of};
-pub use fits::first_misfit;
+pub use fits::{first_misfit, fits_at};
 pub use runs::{free_run, longest_free};
 
 #[cfg(test)]

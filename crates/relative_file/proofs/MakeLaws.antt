@@ -1,7 +1,9 @@
 -- Buckets of absent cells.
-use Rattle.std.proofs.Common.{◌≡◌, ◌⊎◌, ⊎_elim, inl, inr, ℕ, ◌<◌, ◌≤◌, ◌+◌, ◌-◌, ◌*◌, ◌/◌, ◌++◌, List, length, take, drop, replicate, get_or, Option, Some, None, IfSome, IsSomeAnd, option_map, refl, sym, ap, subst, ◌∙◌, arith, rules}
+use Rattle.std.proofs.Common.{◌≡◌, ◌⊎◌, ⊎_elim, inl, inr, ℕ, Bool, ◌<◌, ◌≤◌, ◌+◌, ◌-◌, ◌*◌, ◌/◌, ◌++◌, List, length, take, drop, replicate, get_or, Option, Some, None, IfSome, IsSomeAnd, option_map, refl, sym, ap, subst, ◌∙◌, arith, rules}
 use Rattle.std.proofs.lemmas.List.{same_lists, places, get_or-take, get_or-drop, get_or-append_right, get_or-replicate, get_or_past, length-replicate}
 use Rattle.std.proofs.lemmas.Bool.{cases_lt, cases_eq}
+use Rattle.block_disk.specs.Blocks.{block_at}
+use Rattle.careful_write.specs.State.{IsEither}
 use Rattle.careful_write.specs.Steps.{AgreesOff}
 use Rattle.file_base.specs.declared.head.FileHead.{FileHead}
 use Rattle.vms_model.specs.Keys.{Key, Number, Text, End}
@@ -68,3 +70,18 @@ empty_more h i size (Some b) next below from to whole empty e =
     (λ other. let less : j < i = omega arith in let apart = ranges_apart j i h.bucket less in
     bucket_bytes_agree _ b (bucket_first h j) h.bucket (λ k a z. block_at-with_bucket_other e.bytes b (bucket_first h i) h.bucket k (inl (omega arith))) ∙ empty j less)
     (cases_eq j i))
+
+-- of two contents that differ in the extent alone, either has the blocks of the first outside it
+pub either_agrees : (p : ℕ → Bool) (told now : Option (List (List ℕ))) (c : List (List ℕ)) → AgreesOut p told now → IsEither told now c → IfSome told (λ before. AgreesOff p before c)
+either_agrees p None now c agrees e = tt
+either_agrees p (Some a) None c agrees e = absurd agrees
+either_agrees p (Some a) (Some b) c agrees e = ⊎_elim
+    (λ before. let same : c ≡ a = cc in record { size = ap length same; others = λ k off. ap (λ x. block_at x k) same })
+    (λ after. let same : c ≡ b = cc in subst (AgreesOff p a) (sym same) agrees)
+    e
+
+pub agrees_more : (p : ℕ → Bool) (old now next : Option (List (List ℕ))) → AgreesOut p old now → AgreesOut p now next → AgreesOut p old next
+agrees_more p None now next first second = subst (λ (x : Option (List (List ℕ))). AgreesOut p x next) first second
+agrees_more p (Some a) None next first second = absurd first
+agrees_more p (Some a) (Some b) None first second = absurd second
+agrees_more p (Some a) (Some b) (Some c) first second = agrees_trans p a b c first second

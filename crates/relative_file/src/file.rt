@@ -142,6 +142,7 @@ fn next_in_bucket<D: Disk>(
     requires frames { 1 ≤ free_frames store.old.pool }
     ensures found { IfOk result (λ found. IfSome found (λ m. IfSome store.old.current (FindsCell head.now (n - 1) m out.new))) }
     ensures none { IfOk result (λ found. IfNone found (IfSome store.old.current (λ b. NoneFrom head.now b (n - 1) (last_in head.now n)))) }
+    ensures there { IfOk result (λ found. IfSome found (λ m. (n ≤ m) × (m ≤ head.now.mrn))) }
     ensures state { store.new ≡ record store.old { disk = answered result store.old.disk } }
 {
     let (first, _) = cell_place(head, n);
@@ -178,6 +179,7 @@ pub fn next_cell<D: Disk>(
     requires frames { 1 ≤ free_frames store.old.pool }
     ensures found { IfOk result (λ found. IfSome found (λ n. IfSome store.old.current (FindsCell head.now after n out.new))) }
     ensures none { IfOk result (λ found. IfNone found (IfSome store.old.current (λ b. NoneFrom head.now b after head.now.mrn))) }
+    ensures there { IfOk result (λ found. IfSome found (λ n. (after + 1 ≤ n) × (n ≤ head.now.mrn))) }
     ensures state { store.new ≡ record store.old { disk = answered result store.old.disk } }
 {
     let mut n = after;

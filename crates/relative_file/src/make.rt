@@ -63,28 +63,66 @@ fn fill_frame<D: Disk>(head: &FileHead, store: &mut Store<D>, frame: &Frame)
     fill_empty(head, bytes);
 }
 
-// Writes the i-th bucket, in a group of its own.
-fn write_empty<D: Disk>(head: &FileHead, store: &mut Store<D>, i: u32) -> Result<(), Down>
+// Stages the i-th bucket.
+fn stage_empty<D: Disk>(head: &FileHead, store: &mut Store<D>, i: u32)
     requires placed { IsPlaced head.now store.old.disk }
     requires there { i < head.now.alloc }
-    requires idle { IsIdle store.old }
     requires frames { 1 ≤ free_frames store.old.pool }
-    ensures ok { OnOk result (Empties head.now i store.old.current store.new.current) }
-    ensures idle { OnOk result (IsIdle store.new) }
+    requires room { length store.old.touched + head.now.bucket ≤ 512 }
+    ensures empty { Empties head.now i store.old.current store.new.current }
+    ensures rest { store.new ≡ record store.old { current = store.new.current; touched = store.new.touched } }
+    ensures few { length store.new.touched ≤ length store.old.touched + head.now.bucket }
     ensures whole { IfSome store.old.current (λ b. length b + 518 ≡ store.old.disk.size) }
-    ensures down { OnErr result (LeavesOut (in_extent head.now) store.old.current store.new.disk) }
-    ensures counts { Counts result store.old.disk store.new.disk }
-    ensures pool { store.new.pool ≡ store.old.pool }
 {
     let first = head.start + i * head.bucket as u32;
     let frame = take_frame(store);
     fill_frame(head, store, &frame);
     stage_bucket(store, &frame, first, head.bucket);
     give_frame(store, frame);
+}
+
+// Stages the buckets from one on up to an end.
+fn stage_many<D: Disk>(head: &FileHead, store: &mut Store<D>, from: u32, end: u32)
+    requires placed { IsPlaced head.now store.old.disk }
+    requires ordered { from ≤ end }
+    requires there { end ≤ head.now.alloc }
+    requires frames { 1 ≤ free_frames store.old.pool }
+    requires unstaged { store.old.touched ≡ [] }
+    requires few { (end - from) * head.now.bucket ≤ 512 }
+    ensures empty { IfSome store.old.current (EmptyTo head.now from) → IfSome store.new.current (EmptyTo head.now end) }
+    ensures outside { AgreesOut (in_extent head.now) store.old.current store.new.current }
+    ensures rest { store.new ≡ record store.old { current = store.new.current; touched = store.new.touched } }
+{
+    for i in from..end {
+        stage_empty(head, store, i);
+    }
+}
+
+// Writes the buckets from one on up to an end, in one group.
+fn write_many<D: Disk>(
+    head: &FileHead,
+    store: &mut Store<D>,
+    from: u32,
+    end: u32,
+) -> Result<(), Down>
+    requires placed { IsPlaced head.now store.old.disk }
+    requires ordered { from ≤ end }
+    requires there { end ≤ head.now.alloc }
+    requires frames { 1 ≤ free_frames store.old.pool }
+    requires idle { IsIdle store.old }
+    requires few { (end - from) * head.now.bucket ≤ 512 }
+    ensures empty { OnOk result (IfSome store.old.current (EmptyTo head.now from) → IfSome store.new.current (EmptyTo head.now end)) }
+    ensures outside { OnOk result (AgreesOut (in_extent head.now) store.old.current store.new.current) }
+    ensures idle { OnOk result (IsIdle store.new) }
+    ensures down { OnErr result (LeavesOut (in_extent head.now) store.old.current store.new.disk) }
+    ensures counts { Counts result store.old.disk store.new.disk }
+    ensures pool { store.new.pool ≡ store.old.pool }
+{
+    stage_many(head, store, from, end);
     store.apply()
 }
 
-/// Writes all buckets of the empty map.
+/// Writes all buckets of the empty map, as many in one group as it may have.
 pub fn make_file<D: Disk>(head: &FileHead, store: &mut Store<D>) -> Result<(), Down>
     requires form { IsRelative head.now }
     requires placed { IsPlaced head.now store.old.disk }
@@ -97,8 +135,12 @@ pub fn make_file<D: Disk>(head: &FileHead, store: &mut Store<D>) -> Result<(), D
     ensures counts { Counts result store.old.disk store.new.disk }
     ensures pool { store.new.pool ≡ store.old.pool }
 {
-    for i in 0..head.alloc {
-        write_empty(head, store, i)?;
+    let most = 512 / u32::from(head.bucket);
+    let mut at = 0;
+    while at < head.alloc {
+        let end = at + most.min(head.alloc - at);
+        write_many(head, store, at, end)?;
+        at = end;
     }
     Ok(())
 }

@@ -5,7 +5,7 @@ ghost use Rattle.careful_write.specs.State.{IsIdle};
 ghost use Rattle.vms_base.specs.Keys.{key_of};
 ghost use Rattle.change_set.specs.Maps.{set_key};
 ghost use Rattle.change_set.specs.Files.{IsPlaced, free_frames, in_extent};
-ghost use Rattle.relative_file.specs.Cells.{IsRelative, IsLaidOut, has_cell};
+ghost use Rattle.relative_file.specs.Cells.{IsRelative, has_cell};
 
 use crate::RelativeFile;
 use block_disk::{CrashDisk, Disk, MemPlatter};
@@ -63,15 +63,14 @@ fn set_beside<F: RecordFile, G: RecordFile, D: Disk, H: Held>(
 ) -> Result<(), Down>
     requires form { F.form head.old }
     requires placed { IsPlaced head.old store.old.disk }
-    requires valid { IfSome store.old.current (F.valid head.old) }
     requires frames { 32 ≤ free_frames store.old.pool }
     requires idle { IsIdle store.old }
     requires suits { F.suits head.old (key_of key.now) (option_copied value) }
-    requires takes { IfSome store.old.current (λ blocks. F.takes head.old blocks (key_of key.now) (option_copied value)) }
     requires other_form { G.form other.now }
     requires other_valid { IfSome store.old.current (G.valid other.now) }
     requires apart { (n : ℕ) → in_extent other.now n ≡ true → in_extent head.old n ≡ false }
-    ensures map { OnOk result (option_map (F.map head.new) store.new.current ≡ option_map (λ blocks. set_key (key_of key.now) (option_copied value.entry) (F.map head.old blocks)) store.old.current) }
+    ensures map { OnOk result (IfSome store.old.current (λ before. F.valid head.old before → F.takes head.old before (key_of key.now) (option_copied value.entry) → option_map (F.map head.new) store.new.current ≡ Some (set_key (key_of key.now) (option_copied value.entry) (F.map head.old before)))) }
+    ensures valid { OnOk result (IfSome store.old.current (λ before. F.valid head.old before → F.takes head.old before (key_of key.now) (option_copied value.entry) → IfSome store.new.current (F.valid head.new))) }
     ensures beside { OnOk result (option_map (G.map other.now) store.new.current ≡ option_map (G.map other.now) store.old.current) }
     ensures beside_valid { OnOk result (IfSome store.new.current (G.valid other.now)) }
     ensures idle { OnOk result (IsIdle store.new) }
@@ -90,14 +89,12 @@ fn put<D: Disk>(
 ) -> Result<(), Down>
     requires form { IsRelative head.old }
     requires placed { IsPlaced head.old store.old.disk }
-    requires valid { IfSome store.old.current (IsLaidOut head.old) }
     requires frames { 32 ≤ free_frames store.old.pool }
     requires idle { IsIdle store.old }
     requires there { has_cell head.old n ≡ true }
     requires value { IfSome (option_copied value) (λ r. (1 ≤ length r) × (length r ≤ head.old.mrs)) }
     ensures form { OnOk result (IsRelative head.new) }
     ensures placed { OnOk result (IsPlaced head.new store.new.disk) }
-    ensures valid { OnOk result (IfSome store.new.current (IsLaidOut head.new)) }
     ensures frames { OnOk result (32 ≤ free_frames store.new.pool) }
     ensures idle { OnOk result (IsIdle store.new) }
     ensures same { OnOk result ((head.new.mrs ≡ head.old.mrs) × (head.new.mrn ≡ head.old.mrn)) }
@@ -116,7 +113,6 @@ fn has_two<D: Disk>(
 ) -> Result<bool, Down>
     requires form { IsRelative head.now }
     requires placed { IsPlaced head.now store.old.disk }
-    requires valid { IfSome store.old.current (IsLaidOut head.now) }
     requires frames { 32 ≤ free_frames store.old.pool }
 {
     let [first, second] = [Key::Number(numbers[0]), Key::Number(numbers[1])];
@@ -198,5 +194,67 @@ fn run(alloc: Global) -> Result<Option<Result<bool, Down>>, AllocError> {
 #[test]
 fn records_are_found_where_they_were_set(rt: HostRuntime) -> Result<(), Fail> {
     assert_eq!(rt; run(rt.alloc())?, Some(Ok(true)));
+    Ok(())
+}
+
+// Makes a file of 341 buckets of three blocks, on a disk that stops after so many writes.
+fn make_many<D: Disk>(store: &mut Store<D>, name: FileName, writes: u32) -> Result<(), Down>
+    requires frames { 32 ≤ free_frames store.old.pool }
+    requires idle { IsIdle store.old }
+    requires size { store.old.disk.size ≡ 4096 }
+{
+    let head = FileHead {
+        name,
+        organization: Organization::Relative,
+        marks: NO_MARKS,
+        bucket: 3,
+        mrs: 1504,
+        mrn: 341,
+        key_pos: 0,
+        key_size: 0,
+        start: 600,
+        alloc: 341,
+        used: 341,
+        root: 0,
+        levels: 0,
+        count: 0,
+        ai: NO_JOURNAL,
+        bi: NO_JOURNAL,
+        bi_since: Moment(0),
+        save: NO_SAVE,
+    };
+    store.arm(writes, 0);
+    RelativeFile::make(&head, store)
+}
+
+// None where the store did not open.
+fn run_many(alloc: Global, writes: u32) -> Result<Option<Result<(), Down>>, AllocError> {
+    let disk = CrashDisk::new(alloc, MemPlatter::new(alloc, 4096)?)?;
+    let group = Group::reserve(alloc)?;
+    let pool = Pool::new(alloc, 32)?;
+    let Some(name) = FileName::new(b"F") else {
+        return Ok(None);
+    };
+    if disk.pending() != 0 || disk.blocks() != 4096 {
+        return Ok(None);
+    }
+    match Store::open(disk, group, pool) {
+        Ok(mut store) => {
+            if !store.fits() {
+                return Ok(None);
+            }
+            Ok(Some(make_many(&mut store, name, writes)))
+        }
+        Err(_) => Ok(None),
+    }
+}
+
+#[test]
+fn a_file_is_made_in_as_few_groups_as_it_takes(rt: HostRuntime) -> Result<(), Fail> {
+    // Two groups of 170 buckets and one of 1: of n blocks, n intents, an index of n / 128 + 1 blocks, n blocks, and the
+    // gate twice. So 2 * (510 + 4 + 1 + 510 + 1) + (3 + 1 + 1 + 3 + 1) writes.
+    let alloc = rt.alloc();
+    assert_eq!(rt; run_many(alloc, 2061)?, Some(Ok(())));
+    assert_eq!(rt; run_many(alloc, 2060)?, Some(Err(Down::Stopped)));
     Ok(())
 }

@@ -8,6 +8,7 @@ use Rattle.block_disk.specs.Blocks.{IsWhole, block_at, with_number}
 use Rattle.block_disk.specs.Disk.{DiskState, put}
 use Rattle.careful_write.specs.Content.{content_of, gate_open, home}
 use Rattle.careful_write.specs.Steps.{Quiet}
+use Rattle.careful_write.proofs.Touched.{told_put}
 use Rattle.volume_format.specs.declared.home.Home.{Home}
 use Rattle.volume_format.specs.Home.{home_block_of}
 use Rattle.volume.specs.Empty.{IsEmptyVolume, ZerosTo}
@@ -51,7 +52,7 @@ pub pending_put : (s new : DiskState) (n : ℕ) (b : List ℕ) → new ≡ put n
 pending_put s new n b is = subst (λ (t : DiskState). length t.pending ≤ length s.pending + 1) (sym is) (length-with_number n s.pending)
 
 pub quiet_put : (s0 s new : DiskState) (n : ℕ) (b : List ℕ) → Quiet s0 s → new ≡ put n b s → Quiet s0 new
-quiet_put s0 s new n b quiet is = subst (λ (t : DiskState). Quiet s0 t) (sym is) (record { size = quiet.size; calls = quiet.calls; faults = quiet.faults; stops = quiet.stops })
+quiet_put s0 s new n b quiet is = subst (λ (t : DiskState). Quiet s0 t) (sym is) (record { size = quiet.size; calls = quiet.calls; faults = quiet.faults; stops = quiet.stops; told = told_put n b s ∙ quiet.told })
 
 -- an empty volume stands behind a closed gate
 empty_of : (home_said : Home) (bs : Blocks) (b : List ℕ) → b ≡ home_block_of home_said → 518 < length bs → gate_open bs ≡ false → ZerosTo (584 + home_said.slots) bs → IsEmptyVolume home_said (content_of (set bs 518 b))

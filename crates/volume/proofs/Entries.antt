@@ -51,7 +51,7 @@ new_kept heads k f x (Some h) low new = λ g other below has same.
     let apart : g ≢ f = λ is. absurd (omega arith) in
     new g other below (sym (get_or-set_other heads f g x None apart) ∙ has) same
 
-entry_kept : (greatest : ℕ) (heads : List (Option FileHead)) (k f : ℕ) (block : List ℕ) (x o : Option FileHead) → k ≤ f → EntryFound greatest heads k block o → EntryFound greatest (set heads f x) k block o
+pub entry_kept : (greatest : ℕ) (heads : List (Option FileHead)) (k f : ℕ) (block : List ℕ) (x o : Option FileHead) → k ≤ f → EntryFound greatest heads k block o → EntryFound greatest (set heads f x) k block o
 entry_kept greatest heads k f block x o low found = record { tells = found.tells; one = found.one; fits = found.fits; new = new_kept heads k f x o low found.new }
 
 -- one more

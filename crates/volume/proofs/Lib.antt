@@ -1,5 +1,9 @@
 pub mod Empties
 pub mod EmptyCatalogs
 pub mod Entries
-pub mod Findings
+pub mod FirstFindings
+pub mod Listings
+pub mod Places
+pub mod Listed
 pub mod Staging
+pub mod Soundness

@@ -1,5 +1,5 @@
 -- What the home block, the directory and the journal's block of a content tell. The content is the list of a disk's blocks from 518 on.
-use Rattle.std.specs.Prelude.{◌≡◌, ℕ, ◌+◌, ◌<◌, List, Option, Some, None, slice_index_or, ⊤}
+use Rattle.std.specs.Prelude.{◌≡◌, ℕ, ◌+◌, ◌<◌, List, Option, Some, None, length, slice_index_or, ⊤}
 use Rattle.block_disk.specs.Blocks.{block_at}
 use Rattle.file_base.specs.declared.head.FileHead.{FileHead}
 use Rattle.volume_format.specs.declared.head.DirectoryEntry.{DirectoryEntry}
@@ -34,6 +34,10 @@ pub record TellsCatalog (v : Catalog) (content : List (List ℕ)) : Type 0 where
   pub home : HasHome (block_at content 0) v.home
   pub heads : TellsHeads v.heads content 64
   pub ru : HasRu (block_at content 65) v.ru
+
+-- the content's home and directory are these alone
+abbrev pub TellsOnly : Catalog → List (List ℕ) → Type 0
+TellsOnly v content = (u : Catalog) → TellsCatalog u content → length u.heads ≡ 64 → (u.home ≡ v.home) × (u.heads ≡ v.heads)
 
 -- no file of a lower number has this name
 abbrev pub NewName : List (Option FileHead) → ℕ → List ℕ → Type 0

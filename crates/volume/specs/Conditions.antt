@@ -7,7 +7,8 @@ use Rattle.volume_format.specs.declared.home.Sizes.{Sizes}
 use Rattle.volume_format.specs.Home.{IsHome, HasHome, IsSizes, HasSizes, sizes_of}
 use Rattle.extents.specs.Extents.{FitsAt, all_extents}
 use Rattle.volume.specs.Limits.{SizesFit, HomeFits, FileFits, EntryFits, data_area}
-use Rattle.volume.specs.Catalogs.{TellsEntry, TellsHeads}
+use Rattle.volume.specs.declared.catalog.Catalog.{Catalog}
+use Rattle.volume.specs.Catalogs.{TellsEntry, TellsHeads, TellsCatalog, IsSound}
 
 -- condition 1: the home block has the tag and version 1
 pub record HasFront (block : List ℕ) : Type 0 where
@@ -84,3 +85,7 @@ pub record IsFirstFinding (node : List ℕ) (fits : Bool) (content : List (List 
 -- all five hold
 abbrev pub IsValid : List ℕ → Bool → List (List ℕ) → Type 0
 IsValid node fits content = (number block : ℕ) → IsTested number block → Meets node fits content number block
+
+-- where a content tells a catalog with its 64 file numbers that is sound for its disk, all five hold
+abbrev pub SoundIsValid : Type 0
+SoundIsValid = (node : List ℕ) (content : List (List ℕ)) (v : Catalog) → TellsCatalog v content → IsSound node (length content + 518) v → length v.heads ≡ 64 → length (block_at content 0) ≡ 512 → IsValid node true content

@@ -1,7 +1,9 @@
 pub mod Catalogs
 pub mod Conditions
 pub mod Empty
+pub mod Findings
 pub mod Limits
+pub mod Listing
 pub mod Load
 pub mod Mount
 pub mod State

@@ -10,7 +10,7 @@ use Rattle.volume.specs.declared.catalog.Catalog.{Catalog}
 use Rattle.volume.specs.declared.load.LoadErr.{LoadErr}
 use Rattle.volume.specs.declared.load.LoadErr.TheVariants.{Finding, Down}
 use Rattle.volume.specs.Limits.{SizesFit, HomeFits, EntryFits}
-use Rattle.volume.specs.Catalogs.{TellsEntry, TellsCatalog, IsNew, head_at}
+use Rattle.volume.specs.Catalogs.{TellsEntry, TellsCatalog, TellsOnly, IsNew, head_at}
 use Rattle.volume.specs.Conditions.{HasFront, IsSized, IsOwned, IsFirstFinding, IsValid}
 
 -- a block has this home alone, and meets the first three conditions with it
@@ -68,6 +68,7 @@ HeadsSound greatest heads count = (f : ℕ) → f < count → EntrySound greates
 -- what a content tells where it meets the five conditions
 pub record Loaded (node : List ℕ) (fits : Bool) (v : Catalog) (content : List (List ℕ)) : Type 0 where
   pub tells : TellsCatalog v content
+  pub only : TellsOnly v content
   pub valid : IsValid node fits content
 
 -- what was found is the lowest failing condition at its lowest block

@@ -6,7 +6,7 @@ ghost use Rattle.careful_write.specs.Content.{content_of, gate_open};
 ghost use Rattle.careful_write.specs.Down.{Counts as DownCounts};
 ghost use Rattle.careful_write.specs.Steps.{Counts};
 ghost use Rattle.volume_format.specs.declared.home.Sizes.{Sizes as SizesSaid};
-ghost use Rattle.volume_format.specs.Home.{home_block_of};
+ghost use Rattle.volume_format.specs.Home.{IsHome, home_block_of};
 ghost use Rattle.volume.specs.Catalogs.{IsSound, TellsCatalog};
 ghost use Rattle.volume.specs.Empty.{IsEmptyVolume, ZerosTo, empty_catalog, empty_home};
 ghost use Rattle.volume.specs.Limits.{SizesFit};
@@ -88,6 +88,7 @@ impl<D: Disk> Volume<D> {
         requires sizes { SizesFit (D.state disk).size (record { blocks = (D.state disk).size; slots = slots; ru_blocks = blocks }) }
         requires size { 4096 ≤ (D.state disk).size }
         requires settled { (D.state disk).pending ≡ [] }
+        ensures ranges { IsHome (empty_home node (D.state disk).size slots blocks) }
         ensures empty { OnOk result.1 (IfSome (D.state result.0).seen (λ image. IsEmptyVolume (empty_home node (D.state disk).size slots blocks) (content_of image))) }
         ensures tells { OnOk result.1 (IfSome (D.state result.0).seen (λ image. TellsCatalog (empty_catalog (empty_home node (D.state disk).size slots blocks)) (content_of image))) }
         ensures sound { IsSound node (D.state disk).size (empty_catalog (empty_home node (D.state disk).size slots blocks)) }

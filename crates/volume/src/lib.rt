@@ -3,14 +3,21 @@
 
 mod catalog;
 mod empty;
+mod findings;
 mod law;
 mod limits;
+mod listing;
 mod load;
 mod volume;
 
 pub use catalog::{Catalog, data_area};
-pub use law::catalogs_stand_on_the_front;
+pub use findings::Findings;
+pub use law::{
+    catalogs_stand_on_the_front, first_findings_are_kept, listings_begin_with_the_first_finding,
+    sound_volumes_are_valid,
+};
 pub use limits::{Buckets, buckets_of, file_fits, sizes_fit};
+pub use listing::conditions;
 pub use load::Finding;
 pub use volume::{MountErr, Volume};
 

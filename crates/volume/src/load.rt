@@ -2,10 +2,12 @@
 ghost use Rattle.std.specs.Prelude.{◌≡◌, ◌≤◌, ◌<◌, ◌+◌, ℕ, Option, Some, None, true, false, IfOk, IfErr, IfSome, IfNone, OnOk, length};
 ghost use Rattle.block_disk.specs.Blocks.{block_at};
 ghost use Rattle.careful_write.specs.Down.{answered};
+ghost use Rattle.careful_write.specs.State.{EachWhole};
 ghost use Rattle.volume_format.specs.Home.{HasRu};
 ghost use Rattle.volume.specs.Load.{EntryFound, EntryMisses, HeadsFound, HeadsSound, HomeFound, HomeMisses, HomeSound, Loaded, LoadFinds, after_load};
 ghost use Rattle.volume.specs.Catalogs.{IsSound, NewName};
 ghost use Rattle.volume.specs.Limits.{FileFits};
+ghost use Rattle.volume.specs.Listing.{IsOfHome};
 
 use crate::catalog::{Catalog, data_area, is_new};
 use crate::limits::{file_fits, home_fits, sizes_fit};
@@ -76,7 +78,7 @@ fn suits(greatest: Moment, head: &FileHead, heads: &[Option<FileHead>; 64], f: u
 }
 
 // The entry of file number f, if it fits and its name is that of no lower number.
-fn entry_in(
+pub(crate) fn entry_in(
     block: &[u8; 512],
     greatest: Moment,
     heads: &[Option<FileHead>; 64],
@@ -99,12 +101,16 @@ fn entry_in(
     }
 }
 
-fn load_home<D: Disk>(store: &mut Store<D>, node: &NodeName) -> Result<Home, LoadErr>
+pub(crate) fn load_home<D: Disk>(store: &mut Store<D>, node: &NodeName) -> Result<Home, LoadErr>
     requires size { 4096 ≤ store.old.disk.size }
     ensures state { store.new ≡ record store.old { disk = after_load result store.old.disk } }
     ensures ok { IfOk result (λ home. IfSome store.old.current (λ c. HomeFound node.now store.old.fits (length c + 518) (block_at c 0) home)) }
     ensures sound { IfOk result (HomeSound node.now store.old.disk.size) }
+    ensures fits { OnOk result (store.old.fits ≡ true) }
+    ensures whole { IfSome store.old.current (λ c. length c + 518 ≡ store.old.disk.size) }
+    ensures each { IfSome store.old.current EachWhole }
     ensures err { IfErr result (LoadFinds node.now store.old.fits store.old.current) }
+    ensures home { IfErr result IsOfHome }
 {
     let disk = store.blocks();
     let fits = store.fits();
@@ -159,6 +165,9 @@ pub(crate) fn load<D: Disk>(store: &mut Store<D>, node: &NodeName) -> Result<Cat
     ensures state { store.new ≡ record store.old { disk = after_load result store.old.disk } }
     ensures ok { IfOk result (λ v. IfSome store.old.current (Loaded node.now store.old.fits v)) }
     ensures sound { IfOk result (IsSound node.now store.old.disk.size) }
+    ensures fits { OnOk result (store.old.fits ≡ true) }
+    ensures whole { IfSome store.old.current (λ c. length c + 518 ≡ store.old.disk.size) }
+    ensures each { IfSome store.old.current EachWhole }
     ensures count { IfOk result (λ v. length v.heads ≡ 64) }
     ensures err { IfErr result (LoadFinds node.now store.old.fits store.old.current) }
 {

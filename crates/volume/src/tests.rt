@@ -269,3 +269,150 @@ fn sizes_have_limits(rt: HostRuntime) {
         assert!(rt; !sizes_fit(&sizes, 5000));
     }
 }
+
+// The failing ones of the first five conditions. None where the disk went down.
+fn listed(
+    alloc: Global,
+    disk: CrashDisk<MemPlatter>,
+    node: NodeName,
+) -> Result<Option<Findings>, AllocError> {
+    let group = Group::reserve(alloc)?;
+    let pool = Pool::new(alloc, 1)?;
+    let mut out = Findings::reserve(alloc)?;
+    if disk.blocks() < 4096 {
+        return Ok(None);
+    }
+    match Store::inspect(disk, group, pool) {
+        Ok(mut store) => {
+            if store.blocks() < 4096 {
+                return Ok(None);
+            }
+            match conditions(&mut store, node, &mut out) {
+                Ok(()) => Ok(Some(out)),
+                Err(_) => Ok(None),
+            }
+        }
+        Err(_) => Ok(None),
+    }
+}
+
+#[test]
+fn each_failing_condition_is_listed(rt: HostRuntime) -> Result<(), Fail> {
+    let alloc = rt.alloc();
+    let (Some(a), Some(b)) = (NodeName::new(b"A"), NodeName::new(b"B")) else {
+        return Ok(assert!(rt; false));
+    };
+    // Bytes that are changed, the node, and what fails.
+    let table: [([(u32, usize, u8); 3], NodeName, &[(u8, u32)]); 8] = [
+        ([(519, 0, 0); 3], a, &[]),
+        ([(518, 0, 0), (518, 16, 1), (519, 0, 7)], b, &[(1, 518)]),
+        ([(518, 16, 1), (519, 0, 7), (520, 0, 7)], b, &[(2, 518)]),
+        ([(0, 0, 1), (1, 0, 1), (1, 1, 2)], a, &[(2, 518)]),
+        ([(519, 0, 7); 3], b, &[(3, 518)]),
+        (
+            [(519, 0, 7), (524, 9, 1), (582, 511, 1)],
+            a,
+            &[(4, 519), (4, 524), (4, 582)],
+        ),
+        ([(520, 0, 2), (583, 0, 1), (584, 0, 1)], a, &[(4, 520)]),
+        ([(583, 0, 1), (584, 0, 1), (1735, 0, 1)], a, &[]),
+    ];
+    for (bytes, node, want) in table {
+        let mut disk = changed(alloc, None)?;
+        for (block, byte, value) in bytes {
+            poke(&mut disk, block, byte, value);
+        }
+        let Some(out) = listed(alloc, disk, node)? else {
+            return Ok(assert!(rt; false));
+        };
+        assert!(rt; lists(out.items(), want));
+    }
+    Ok(())
+}
+
+// Whether these are the findings, as numbers and blocks.
+fn lists(found: &[Finding], want: &[(u8, u32)]) -> bool {
+    found.len() == want.len()
+        && found.iter().zip(want).all(|(x, (number, block))| x.number == *number
+            && x.block == *block)
+}
+
+#[test]
+fn each_file_that_fails_is_listed(rt: HostRuntime) -> Result<(), Fail> {
+    let alloc = rt.alloc();
+    let (Some(node), Some(f), Some(g), Some(h)) = (
+        NodeName::new(b"A"),
+        FileName::new(b"F"),
+        FileName::new(b"G"),
+        FileName::new(b"H"),
+    ) else {
+        return Ok(assert!(rt; false));
+    };
+    // Files 0, 2 and 7: name, first block and buckets of two blocks. The data area is 1736 to 4095.
+    let table: [([(FileName, u32, u32); 3], &[(u8, u32)]); 7] = [
+        ([(f, 1736, 10), (g, 1756, 10), (h, 1776, 10)], &[]),
+        (
+            [(f, 1736, 10), (f, 1756, 10), (f, 1776, 10)],
+            &[(4, 521), (4, 526)],
+        ),
+        // The name of file 2 is not tested against a file that does not fit itself.
+        (
+            [(f, 1736, 0), (f, 1756, 10), (f, 1776, 10)],
+            &[(4, 519), (4, 526)],
+        ),
+        ([(f, 1735, 10), (g, 1735, 10), (f, 1776, 10)], &[(4, 526)]),
+        (
+            [(f, 1735, 10), (g, 1755, 10), (h, 1774, 10)],
+            &[(5, 519), (5, 526)],
+        ),
+        (
+            [(f, 1736, 11), (g, 1756, 10), (h, 1736, 1)],
+            &[(5, 521), (5, 526)],
+        ),
+        (
+            [(f, 4076, 11), (g, 1756, 10), (h, 4094, 1)],
+            &[(5, 519), (5, 526)],
+        ),
+    ];
+    for (files, want) in table {
+        let mut disk = changed(alloc, None)?;
+        let [
+            (first, at, buckets),
+            (second, at_2, buckets_2),
+            (third, at_7, buckets_7),
+        ] = files;
+        put_file(&mut disk, 0, file(first, at, buckets));
+        put_file(&mut disk, 2, file(second, at_2, buckets_2));
+        put_file(&mut disk, 7, file(third, at_7, buckets_7));
+        let Some(out) = listed(alloc, disk, node)? else {
+            return Ok(assert!(rt; false));
+        };
+        assert!(rt; lists(out.items(), want));
+    }
+    Ok(())
+}
+
+#[test]
+fn the_first_thousand_findings_are_kept(rt: HostRuntime) -> Result<(), Fail> {
+    let mut out = Findings::reserve(rt.alloc())?;
+    for i in 0..600 {
+        out.add(Finding {
+            number: 9,
+            block: 600 - i,
+        });
+        out.add(Finding {
+            number: 8,
+            block: 600 - i,
+        });
+        out.add(Finding {
+            number: 8,
+            block: 600 - i,
+        });
+    }
+    let found = out.items();
+    assert_eq!(rt; found.len(), 1000);
+    assert!(rt; lists(&found[..2], &[(8, 1), (8, 2)]));
+    assert!(rt; lists(&found[599..601], &[(8, 600), (9, 1)]));
+    assert!(rt; lists(&found[999..], &[(9, 400)]));
+    Ok(())
+}

@@ -1,16 +1,16 @@
 //! A volume that is mounted.
-ghost use Rattle.std.specs.Prelude.{◌≡◌, ◌≤◌, ◌<◌, ◌+◌, ◌-◌, ℕ, Option, Some, None, false, IfOk, IfErr, IfSome, IfNone, OnOk, OnErr, IsErr, length, slice_set};
+ghost use Rattle.std.specs.Prelude.{◌≡◌, ◌≤◌, ◌<◌, ◌+◌, ◌-◌, ℕ, Option, Some, None, true, false, IfOk, IfErr, IfSome, IfNone, OnOk, OnErr, IsErr, length, slice_set};
 ghost use Rattle.std.specs.Option.{option_copied};
 ghost use Rattle.std.specs.Borrow.{Lends, sem};
 ghost use Rattle.block_disk.specs.Blocks.{has_number};
-ghost use Rattle.careful_write.specs.State.{IsReady};
+ghost use Rattle.careful_write.specs.State.{EachWhole, IsReady};
 ghost use Rattle.careful_write.specs.contracts.store.Store.{the_row as store_row};
 ghost use Rattle.file_base.specs.declared.head.FileHead.{FileHead as HeadSaid};
 ghost use Rattle.volume_format.specs.Home.{home_block_of, ru_block_of, sizes_of};
 ghost use Rattle.volume_format.specs.Head.{head_block_of};
 ghost use Rattle.extents.specs.Extents.{IsFreeRun, all_extents as extents_said};
 ghost use Rattle.volume.specs.contracts.volume.Volume.{the_row};
-ghost use Rattle.volume.specs.Catalogs.{IsSound, NewName, TellsCatalog, head_at};
+ghost use Rattle.volume.specs.Catalogs.{IsSound, NewName, TellsCatalog, TellsOnly, head_at};
 ghost use Rattle.volume.specs.Conditions.{IsValid};
 ghost use Rattle.volume.specs.Limits.{data_area as area_said};
 ghost use Rattle.volume.specs.State.{Holds, with_block};
@@ -69,8 +69,12 @@ impl<D: Disk> Volume<D> {
     pub fn mount(mut store: Store<D>, node: NodeName) -> Result<Volume<D>, MountErr<D>>
         requires size { 4096 ≤ store.disk.size }
         ensures store { IfOk result (λ v. v.store ≡ store) }
+        ensures whole { IfSome store.current (λ c. length c + 518 ≡ store.disk.size) }
+        ensures each { IfSome store.current EachWhole }
+        ensures fits { OnOk result (store.fits ≡ true) }
         ensures holds { IfOk result Holds }
         ensures sound { IfOk result (λ v. IsSound node store.disk.size v.catalog) }
+        ensures only { IfOk result (λ v. IfSome store.current (TellsOnly v.catalog)) }
         ensures valid { IfOk result (λ v. IfSome store.current (IsValid node store.fits)) }
         ensures err { IfErr result (Finds node store) }
     {
@@ -94,7 +98,8 @@ impl<D: Disk> Volume<D> {
 
     /// The file of a file number. None exactly where it has none.
     pub fn head(&self, file: u8) -> Option<&FileHead>
-        ensures { option_copied result ≡ head_at self.now.catalog.heads file }
+        ensures value { option_copied result ≡ head_at self.now.catalog.heads file }
+        ensures whole { length self.now.catalog.heads ≡ 64 }
     {
         if file < 64 {
             self.catalog.heads[file as usize].as_ref()
@@ -108,6 +113,7 @@ impl<D: Disk> Volume<D> {
         ensures found { IfSome result (λ f. (h : HeadSaid) × (f < 64) × (head_at self.now.catalog.heads f ≡ Some h) × (h.name ≡ name.now)) }
         ensures lowest { IfSome result (λ f. NewName self.now.catalog.heads f name.now) }
         ensures none { IfNone result (NewName self.now.catalog.heads 64 name.now) }
+        ensures whole { length self.now.catalog.heads ≡ 64 }
     {
         find_name(&self.catalog.heads, 64, name)
     }

@@ -1,4 +1,4 @@
-use Rattle.std.proofs.Common.{Result, Err, ◌≡◌, ◌+◌, ◌-◌, ◌*◌, ℕ, List, Option, IfSome, take, ap, subst, refl, ◌%◌, arith}
+use Rattle.std.proofs.Common.{Result, Err, ◌≡◌, ◌≤◌, ◌<◌, min, ◌+◌, ◌-◌, ◌*◌, ℕ, List, Option, IfSome, take, ap, subst, refl, ◌%◌, arith}
 use Rattle.block_disk.specs.Disk.{DiskState}
 use Rattle.careful_write.specs.Down.{answered}
 use Rattle.careful_write.specs.declared.down.Down.{Down}
@@ -53,3 +53,11 @@ returns-in-Some-clause-found g c =
     subst (λ (told : Option (List (List ℕ))). IfSome told (FindsCell h (c.args.n - 1) (c.args.n + (c.in-Some.k - (c.args.n - 1) % c.cells.result)) c.first_record-found.new.out)) current
     (scan_found c.take_frame-frame.new.store.current h c.args.n (c.cell_place-first.result.0 - 518) ((c.args.n - 1) % c.cells.result) ((c.args.n - 1) % c.cells.result + (c.last_number.result - c.args.n) + 1) c.last_number.result c.in-Some.k c.bytes.result.now c.first_record-found.new.out c.requires.form c.requires.placed.records read
     (omega (arith, c.cell_place-first.ensures.first)) (omega (arith, c.bytes.ensures.size, c.requires.placed.blocks)) range.0 range.1 (ap (λ m. (c.args.n - 1) % m) c.cells.ensures) c.last_number.ensures refl c.in-Some.ensures.found)
+
+there_in : (n mrn last from k extra : ℕ) → n ≤ mrn → last ≡ min mrn (n + extra) → k < from + (last - n) + 1 → n + (k - from) ≤ mrn
+there_in n mrn last from k extra le is below = omega arith
+
+pub returns-in-Some-clause-there : goal.returns-in-Some-clause-there
+returns-in-Some-clause-there g c =
+    let range = in_range c.args.n c.args.head.now.mrn c.requires.there in
+    (omega arith, there_in c.args.n c.args.head.now.mrn c.last_number.result ((c.args.n - 1) % c.cells.result) c.in-Some.k _ range.1 c.last_number.ensures c.in-Some.ensures.found.below)

@@ -5,7 +5,7 @@ use Rattle.volume_format.specs.Home.{HasRu}
 use Rattle.extents.specs.Extents.{FitsAt}
 use Rattle.volume.specs.Limits.{data_area}
 use Rattle.volume.specs.Load.{EntryMisses, HeadsFound}
-use Rattle.volume.proofs.Findings.{listed_finding_told, placed_finding_told, loaded_told, fit_all, fit_below, misfit_at}
+use Rattle.volume.proofs.FirstFindings.{listed_finding_told, placed_finding_told, loaded_told, fit_all, fit_below, misfit_at}
 use Rattle.volume.proofs.load.load.Goals as goal
 
 pub returns-in-Some-clause-err : goal.returns-in-Some-clause-err

@@ -1,10 +1,21 @@
-use Rattle.std.proofs.Common.{option_map}
+use Rattle.std.proofs.Common.{ℕ, List, Option, Some, None, IfSome, option_map}
 use Rattle.std.specs.Option.{option_copied}
+use Rattle.file_base.specs.declared.head.FileHead.{FileHead}
 use Rattle.vms_base.specs.Keys.{key_of}
+use Rattle.vms_model.specs.Keys.{Key, Number}
+use Rattle.change_set.specs.Maps.{IsNext}
+use Rattle.relative_file.specs.Cells.{map_of, IsLaidOut}
 use Rattle.relative_file.proofs.MapLaws.{next_found}
 use Rattle.relative_file.proofs.relative.RelativeFileRecordFile.next.Goals as goal
+
+laid_out_next : (h : FileHead) (told : Option (List (List ℕ))) (after : Option Key) (key : Key) (bytes : List ℕ) → IfSome told (λ b. IsNext (map_of h b) after key bytes)
+    → IfSome told (λ b. IsLaidOut h b → IsNext (map_of h b) after key bytes)
+laid_out_next h None after key bytes is = tt
+laid_out_next h (Some b) after key bytes is = λ valid. is
 
 pub returns-in-Ok-Some-clause-found : goal.returns-in-Ok-Some-clause-found
 returns-in-Ok-Some-clause-found g c = λ is.
     let found = rw c.in-Ok-Some.field-0-is at c.in-Ok-Some.ensures.found in
-    next_found c.args.store.now.current c.args.head.now c.in-Some.from c.in-Ok-Some.n (option_map key_of (option_copied c.args.after)) c.next_cell.new.out c.in-Some.ensures.some found
+    let after = option_map key_of (option_copied c.args.after) in
+    laid_out_next c.args.head.now c.args.store.now.current after (Number c.in-Ok-Some.n) c.next_cell.new.out
+    (next_found c.args.store.now.current c.args.head.now c.in-Some.from c.in-Ok-Some.n after c.next_cell.new.out c.in-Some.ensures.some found)

@@ -4,5 +4,5 @@ use Rattle.volume.specs.State.{VolumeState}
 use Rattle.volume.specs.Catalogs.{head_at}
 use Rattle.volume.proofs.volume.Volume.head.Goals as goal
 
-pub returns-else-file-lt64 : goal.returns-else-file-lt64
-returns-else-file-lt64 g c = sym (ap (λ (v : VolumeState). head_at v.catalog.heads c.args.file) (sym c.self.view_is) ∙ get_or_past c.self.inside.catalog.heads c.args.file None (omega (arith, c.self.invariant)))
+pub returns-else-file-lt64-clause-value : goal.returns-else-file-lt64-clause-value
+returns-else-file-lt64-clause-value g c = sym (ap (λ (v : VolumeState). head_at v.catalog.heads c.args.file) (sym c.self.view_is) ∙ get_or_past c.self.inside.catalog.heads c.args.file None (omega (arith, c.self.invariant)))

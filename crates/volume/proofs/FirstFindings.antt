@@ -149,7 +149,7 @@ tells_of : (greatest : ℕ) (heads : List (Option FileHead)) (c : Content) → H
 tells_of greatest heads c found f within = (found f within).tells
 
 -- condition 5 at a file number whose extents fit
-placed_of : (node : List ℕ) (fits : Bool) (c : Content) (home : Home) (heads : List (Option FileHead)) → Homed node fits c home → HeadsFound home.greatest_moment.0 heads 64 c → length heads ≡ 64
+pub placed_of : (node : List ℕ) (fits : Bool) (c : Content) (home : Home) (heads : List (Option FileHead)) → Homed node fits c home → HeadsFound home.greatest_moment.0 heads 64 c → length heads ≡ 64
     → (f : ℕ) → ((i : ℕ) → 4 * f ≤ i → i < 4 * f + 4 → FitsAt (data_area (sizes_of home)) (all_extents heads) i) → IsPlaced c f
 placed_of node fits c home heads homed found long f all = record {
   home = home;
@@ -209,6 +209,7 @@ pub loaded_of : (node : List ℕ) (fits : Bool) (c : Content) (v : Catalog) → 
     → ((k : ℕ) → k < 256 → FitsAt (data_area (sizes_of v.home)) (all_extents v.heads) k) → HasRu (block_at c 65) v.ru → Loaded node fits v c
 loaded_of node fits c v homed found long all ru = record {
   tells = record { ranges = homed.ranges; home = homed.stands; heads = tells_of v.home.greatest_moment.0 v.heads c found; ru = ru };
+  only = λ u tells many. (homed.one u.home tells.ranges tells.home, same_heads v.home.greatest_moment.0 v.heads u.heads c found long many tells.heads);
   valid = all_meet node fits c v.home v.heads homed found long all;
 }
 
