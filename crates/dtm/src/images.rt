@@ -2,7 +2,7 @@
 ghost use Rattle.std.specs.Prelude.{◌≡◌, ◌≤◌, ◌<◌, ◌*◌, ℕ, List, IfOk, IfErr, IfSome, OnErr, Some, None, MatchOption, [], map, string_bytes};
 ghost use Rattle.std.specs.Option.{option_map};
 ghost use Rattle.block_disk.specs.Disk.{DiskState};
-ghost use Rattle.dtm_run.specs.Racks.{names_in, disks_in, states_in, IsRack, AreSettled};
+ghost use Rattle.dtm_run.specs.Racks.{names_in, disks_in, states_in, IsRack};
 ghost use Rattle.script_model.specs.Command.{is_disk_of};
 ghost use Rattle.dtm.specs.Images.{node_and_image as node_and_image_of, is_for, Store, IsFileOf, IsImageOf, IsFilled};
 ghost use Rattle.dtm.specs.Causes.{WhyUnopened, WhyUnfilled};
@@ -136,7 +136,6 @@ pub fn add_images<'a, F: ImageFiles>(
     ensures filled { IfOk result (λ added. IsFilled (IsImageOf (F.store files.now) (λ image. (F.Image.state image).size)) (λ image. (F.Image.state image).size) (map string_bytes words.now) (names_in rack) (disks_in rack) (names_in added) (disks_in added)) }
     ensures why { IfErr result (λ e. WhyUnfilled (F.store files.now) (λ image. (F.Image.state image).size) (names_in rack) (map string_bytes words.now) e) }
     ensures rack { IsRack F.Image.state rack → IfOk result (λ added. IsRack F.Image.state added) }
-    ensures settled { AreSettled (states_in F.Image.state rack) → IfOk result (λ added. AreSettled (states_in F.Image.state added)) }
 {
     let mut rack = rack;
     let [word, rest @ ..] = words else {

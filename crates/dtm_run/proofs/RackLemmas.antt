@@ -12,7 +12,7 @@ use Rattle.dtm_run.specs.declared.rack.RackCause.TheVariants as cause
 use Rattle.std.proofs.lemmas.List.{map-append, length-append}
 use Rattle.dtm_run.specs.declared.rack.Place.{Place}
 use Rattle.dtm_run.specs.declared.rack.Rack.{Rack}
-use Rattle.dtm_run.specs.Racks.{names_in, states_in, is_among, refusal_of, AreSized, AreApart, AreSettled, IsRack}
+use Rattle.dtm_run.specs.Racks.{names_in, states_in, is_among, refusal_of, AreSized, AreApart, IsRack}
 
 -- a test of the elements is that of what is read off them
 pub any-map : {A B : Type 0} (p : B → Bool) (f : A → B) → (xs : List A) → list_any p (map f xs) ≡ list_any (λ x. p (f x)) xs
@@ -22,10 +22,6 @@ any-map p f (x ∷ xs) = ap (λ b. p (f x) || b) (any-map p f xs)
 pub sized_more : (ds : List DiskState) (d : DiskState) → 4096 ≤ d.size → d.size ≤ 65536 → AreSized ds → AreSized (ds ++ d ∷ [])
 sized_more [] d low high h = (low, high, tt)
 sized_more (e ∷ ds) d low high h = (h.0, h.1, sized_more ds d low high h.2)
-
-pub settled_more : (ds : List DiskState) (d : DiskState) → d.pending ≡ [] → AreSettled ds → AreSettled (ds ++ d ∷ [])
-settled_more [] d e h = (e, tt)
-settled_more (x ∷ ds) d e h = (h.0, settled_more ds d e h.1)
 
 -- what is refused, and what is not
 

@@ -1,85 +1,123 @@
 -- The top call: from what its parts do to what a run promises.
-use Rattle.std.proofs.Common.{◌≡◌, ℕ, ◌≤◌, List, [], ◌∷◌, ◌++◌, Bool, true, false, Option, Some, None, map, length, refl, sym, ◌∙◌, ap, subst, is_some, IsSome}
+use Rattle.std.proofs.Common.{◌≡◌, ℕ, ◌≤◌, List, [], ◌∷◌, ◌++◌, Bool, true, false, Option, Some, None, map, length, refl, sym, ◌∙◌, ap, subst, IsSome, arith}
 use Rattle.std.specs.Prelude.{◌&&◌}
 use Rattle.std.specs.Option.{option_map}
-use Rattle.std.proofs.lemmas.Slice.Eq.{bytes_eq-Decides}
 use Rattle.block_disk.specs.Disk.{DiskState}
 use Rattle.transcript_model.specs.Script.{ScriptLine, lines_of}
 use Rattle.transcript_model.specs.Outside.{Rose}
-use Rattle.run_model.specs.World.{World, Label, opened}
+use Rattle.run_model.specs.World.{World, Node, opened}
+use Rattle.run_model.specs.Laws.{AreOpening}
 use Rattle.run_model.proofs.PromiseLemmas.{promised}
 use Rattle.run_model.proofs.TranscriptLemmas.{ended_memory}
-use Rattle.dtm_run.specs.Standing.{node_a, counts_of, IsCounted, StandsFor}
-use Rattle.dtm_run.specs.Keeping.{kept_in, kept_down}
+use Rattle.dtm_node.specs.Nodes.{Passes, state_of}
+use Rattle.dtm_node.specs.Standing.{Kept, IsDown, StandsFor, counts_of, noted_all}
 use Rattle.dtm_run.specs.Racks.{names_in, states_in, AreSized, AreApart, IsRack}
-use Rattle.dtm_run.specs.Headline.{AreTold, AllGo, RunsTo, RunOver, is_served}
-use Rattle.dtm_run.specs.declared.node.State.{State}
-use Rattle.dtm_run.specs.declared.node.State.TheVariants as state
+use Rattle.dtm_run.specs.Headline.{AllGo, Leaves, RunsTo, RunOver, StandOn, StandsOn, is_served}
 use Rattle.dtm_run.specs.declared.rack.Place.{Place}
 use Rattle.dtm_run.specs.declared.rack.Rack.{Rack}
 use Rattle.dtm_run.specs.declared.top.Exit.{Exit}
 use Rattle.dtm_run.specs.declared.top.Exit.TheVariants as exit
-use Rattle.dtm_run.proofs.UsesLemmas.{goes_nowhere}
-use Rattle.dtm_run.proofs.Driving.{ends_to, stands_leaves}
+use Rattle.dtm_run.proofs.Driving.{ends_to}
+
+passes_nowhere : (d : DiskState) → Passes d d
+passes_nowhere d = record { size = refl; faults = λ h. omega arith; stops = λ h. omega arith; counted = λ h. h; told = refl }
+
+pub passes_to : (a b c : DiskState) → Passes a b → Passes b c → Passes a c
+passes_to a b c f g = record {
+  size = g.size ∙ f.size;
+  faults = λ h. omega (arith, f.faults h, g.faults (f.counted h));
+  stops = λ h. omega (arith, f.stops h, g.stops (f.counted h));
+  counted = λ h. g.counted (f.counted h);
+  told = g.told ∙ f.told;
+}
+
+pub passes_same : (a b : DiskState) → b ≡ a → Passes a b
+passes_same a b e = subst (Passes a) (sym e) (passes_nowhere a)
 
 pub all_stay : (ds : List DiskState) → AllGo ds ds
 all_stay [] = tt
-all_stay (d ∷ ds) = (goes_nowhere d, all_stay ds)
-
--- the only node
-pub served_one : (names : List (List ℕ)) → is_served names ≡ true → names ≡ node_a ∷ []
-served_one [] e = let none : ⊥ = cc in absurd none
-served_one (name ∷ []) e = ap (λ (x : List ℕ). x ∷ []) ((bytes_eq-Decides name node_a).0 e)
-served_one (name ∷ other ∷ names) e = let none : ⊥ = cc in absurd none
+all_stay (d ∷ ds) = (passes_nowhere d, all_stay ds)
 
 pub both_first : (a b : Bool) → (a && b) ≡ true → a ≡ true
 both_first true b e = refl
 both_first false b e = let none : ⊥ = cc in absurd none
 
-stands_first : (d : DiskState) → is_some d.seen ≡ true → IsCounted d → StandsFor 0 (kept_down true [] d) (opened (node_a ∷ []) (counts_of d ∷ []))
-stands_first d told counted = record { is = refl; fresh = refl; labels = refl; told = told; counts = counted }
+not_up : (b : Bool) → b ≡ false → b ≡ true → ⊥
+not_up b f t = let e : true ≡ false = sym t ∙ f in cc
+
+-- The opening world of one node stands for a node that was not booted.
+
+pub stands_first : (name : List ℕ) (d : DiskState) (n : Node) → StandsOn name d n → AreOpening (n ∷ []) → StandsFor d.calls (record { name = name; unknown = false; in_use = false; place = IsDown false d; labels = [] }) (opened (n ∷ []) (counts_of d ∷ []))
+stands_first name d n s o = record {
+  node = n;
+  nodes = refl;
+  disks = refl;
+  labels = refl;
+  in_use = refl;
+  name = s.name_is;
+  blocks = s.blocks;
+  clock = o.0.clock;
+  unknown = s.known;
+  place = record { down = o.0.down; reserved = λ was. absurd (not_up n.was_up o.0.was_down was); told = s.told; disk = s.has };
+  calls = ap (λ cs. noted_all cs d.calls) (sym o.0.calls);
+  counts = s.counted;
+}
+
+first_leaves : (name : List ℕ) (d : DiskState) (n : Node) → StandsOn name d n → AreOpening (n ∷ []) → Leaves (d ∷ []) (opened (n ∷ []) (counts_of d ∷ [])) (d ∷ [])
+first_leaves name d n s o = record { counts = refl; nodes = (record { down = λ e. s.has; up = λ e. absurd (not_up n.up o.0.down e); calls = ap (λ cs. noted_all cs d.calls) (sym o.0.calls) }, tt) }
 
 -- Where memory is missing nothing was done.
-pub memory_runs : {D : Type 0} (state_of : D → DiskState) (ps : List (Place D)) (script : Option (List ScriptLine)) (old : Option (List ℕ)) → map (λ p. p.name) ps ≡ node_a ∷ [] → AreTold (map (λ p. state_of p.disk) ps) →
-    RunsTo (opened (node_a ∷ []) (map counts_of (map (λ p. state_of p.disk) ps))) script old old exit.Memory (map (λ p. state_of p.disk) ps)
-memory_runs state_of [] script old e told = let none : ⊥ = cc in absurd none
-memory_runs state_of (p ∷ []) script old e told =
+pub memory_runs : {D : Type 0} (state_of : D → DiskState) (ps : List (Place D)) (script : Option (List ScriptLine)) (old : Option (List ℕ)) → is_served (map (λ p. p.name) ps) ≡ true → (nodes : List Node) → AreOpening nodes →
+    StandOn (map (λ p. p.name) ps) (map (λ p. state_of p.disk) ps) nodes → RunsTo (opened nodes (map counts_of (map (λ p. state_of p.disk) ps))) (map (λ p. state_of p.disk) ps) script old old exit.Memory (map (λ p. state_of p.disk) ps)
+memory_runs state_of [] script old e nodes o s = let none : ⊥ = cc in absurd none
+memory_runs state_of (p ∷ []) script old e [] o s = absurd s
+memory_runs state_of (p ∷ []) script old e (n ∷ m ∷ ns) o s = absurd s.1
+memory_runs state_of (p ∷ []) script old e (n ∷ []) o s =
     let d : DiskState = state_of p.disk in
-    let w : World = opened (node_a ∷ []) (counts_of d ∷ []) in
-    ends_to w script old old exit.Memory (d ∷ []) w (ended_memory w script old) (stands_leaves 0 (kept_down true [] d) w (stands_first d told.0 told.1))
-memory_runs state_of (p ∷ q ∷ ps) script old e told = let none : ⊥ = cc in absurd none
+    let w : World = opened (n ∷ []) (counts_of d ∷ []) in
+    ends_to w (d ∷ []) script old old exit.Memory (d ∷ []) w (ended_memory w script old) (first_leaves p.name d n s.0 o)
+memory_runs state_of (p ∷ q ∷ ps) script old e nodes o s = let none : ⊥ = cc in absurd none
 
 -- The only place of a rack was taken out, and put back with the disk that the run left.
-taken_only : {D : Type 0} (mid : List (Place D)) (p : Place D) → map (λ p. p.name) (mid ++ p ∷ []) ≡ node_a ∷ [] → mid ≡ []
+taken_only : {D : Type 0} (mid : List (Place D)) (p : Place D) → is_served (map (λ p. p.name) (mid ++ p ∷ [])) ≡ true → mid ≡ []
 taken_only [] p e = refl
 taken_only (q ∷ []) p e = let none : ⊥ = cc in absurd none
 taken_only (q ∷ r ∷ mid) p e = let none : ⊥ = cc in absurd none
 
-pub script_runs : {D : Type 0} (state_of : D → DiskState) (ps mid final : List (Place D)) (p q : Place D) (taken left : D) (s : State) (labels : List Label) (script ahead : Option (List ScriptLine)) (old new : Option (List ℕ)) (x : Exit) →
-    map (λ p. p.name) ps ≡ node_a ∷ [] → ps ≡ mid ++ p ∷ [] → final ≡ mid ++ q ∷ [] → taken ≡ p.disk → q.disk ≡ left → s ≡ state.Unbooted → labels ≡ [] → ahead ≡ script →
-    ((w : World) → StandsFor 0 (kept_in s labels (state_of taken)) w → RunsTo w ahead old new x (state_of left ∷ [])) →
-    AreTold (map (λ p. state_of p.disk) ps) → RunsTo (opened (node_a ∷ []) (map counts_of (map (λ p. state_of p.disk) ps))) script old new x (map (λ p. state_of p.disk) final)
-script_runs {D = D} state_of ps mid final p q taken left s labels script ahead old new x names parts ends is_taken is_left unbooted none is runs told =
-    let empty : mid ≡ [] = taken_only mid p (ap (map (λ p. p.name)) (sym parts) ∙ names) in
+one_runs : (name : List ℕ) (d left : DiskState) (k : Kept) (script : Option (List ScriptLine)) (old new : Option (List ℕ)) (x : Exit) → k ≡ record { name = name; unknown = false; in_use = false; place = IsDown false d; labels = [] } →
+    ((w : World) → StandsFor d.calls k w → RunsTo w (d ∷ []) script old new x (left ∷ [])) → (nodes : List Node) → AreOpening nodes → StandOn (name ∷ []) (d ∷ []) nodes → RunsTo (opened nodes (counts_of d ∷ [])) (d ∷ []) script old new x (left ∷ [])
+one_runs name d left k script old new x is runs [] o s = absurd s
+one_runs name d left k script old new x is runs (n ∷ m ∷ ns) o s = absurd s.1
+one_runs name d left k script old new x is runs (n ∷ []) o s = runs (opened (n ∷ []) (counts_of d ∷ [])) (subst (λ (j : Kept). StandsFor d.calls j (opened (n ∷ []) (counts_of d ∷ []))) (sym is) (stands_first name d n s.0 o))
+
+pub script_runs : {D : Type 0} (state : D → DiskState) (ps mid final : List (Place D)) (p q : Place D) (d left : DiskState) (k : Kept) (script : Option (List ScriptLine)) (old new : Option (List ℕ)) (x : Exit) →
+    is_served (map (λ p. p.name) ps) ≡ true → ps ≡ mid ++ p ∷ [] → final ≡ mid ++ q ∷ [] → state p.disk ≡ d → state q.disk ≡ left → k ≡ record { name = p.name; unknown = false; in_use = false; place = IsDown false d; labels = [] } →
+    ((w : World) → StandsFor d.calls k w → RunsTo w (d ∷ []) script old new x (left ∷ [])) → (nodes : List Node) → AreOpening nodes → StandOn (map (λ p. p.name) ps) (map (λ p. state p.disk) ps) nodes →
+    RunsTo (opened nodes (map counts_of (map (λ p. state p.disk) ps))) (map (λ p. state p.disk) ps) script old new x (map (λ p. state p.disk) final)
+script_runs {D = D} state ps mid final p q d left k script old new x one parts ends is_d is_left is runs =
+    let empty : mid ≡ [] = taken_only mid p (ap (λ (l : List (Place D)). is_served (map (λ p. p.name) l)) (sym parts) ∙ one) in
     let before : ps ≡ p ∷ [] = parts ∙ ap (λ (m : List (Place D)). m ++ p ∷ []) empty in
     let after : final ≡ q ∷ [] = ends ∙ ap (λ (m : List (Place D)). m ++ q ∷ []) empty in
-    let d : DiskState = state_of p.disk in
-    let one : AreTold (d ∷ []) = subst (λ (l : List (Place D)). AreTold (map (λ p. state_of p.disk) l)) before told in
-    let w : World = opened (node_a ∷ []) (counts_of d ∷ []) in
-    let first : StandsFor 0 (kept_in s labels d) w = subst (λ (z : State). StandsFor 0 (kept_in z labels d) w) (sym unbooted) (subst (λ (z : List Label). StandsFor 0 (kept_down true z d) w) (sym none) (stands_first d one.0 one.1)) in
-    let at_first : StandsFor 0 (kept_in s labels (state_of taken)) w = subst (λ (z : D). StandsFor 0 (kept_in s labels (state_of z)) w) (sym is_taken) first in
-    let ran : RunsTo w ahead old new x (state_of q.disk ∷ []) = subst (λ (z : D). RunsTo w ahead old new x (state_of z ∷ [])) (sym is_left) (runs w at_first) in
-    subst (λ (l : List (Place D)). RunsTo (opened (node_a ∷ []) (map counts_of (map (λ p. state_of p.disk) l))) script old new x (map (λ p. state_of p.disk) final)) (sym before)
-    (subst (λ (l : List (Place D)). RunsTo w script old new x (map (λ p. state_of p.disk) l)) (sym after)
-    (subst (λ (z : Option (List ScriptLine)). RunsTo w z old new x (state_of q.disk ∷ [])) is ran))
+    subst (λ (l : List (Place D)). (nodes : List Node) → AreOpening nodes → StandOn (map (λ p. p.name) l) (map (λ p. state p.disk) l) nodes → RunsTo (opened nodes (map counts_of (map (λ p. state p.disk) l))) (map (λ p. state p.disk) l) script old new x (map (λ p. state p.disk) final)) (sym before)
+    (subst (λ (l : List (Place D)). (nodes : List Node) → AreOpening nodes → StandOn (p.name ∷ []) (state p.disk ∷ []) nodes → RunsTo (opened nodes (counts_of (state p.disk) ∷ [])) (state p.disk ∷ []) script old new x (map (λ p. state p.disk) l)) (sym after)
+    (subst (λ (y : DiskState). (nodes : List Node) → AreOpening nodes → StandOn (p.name ∷ []) (y ∷ []) nodes → RunsTo (opened nodes (counts_of y ∷ [])) (y ∷ []) script old new x (state q.disk ∷ [])) (sym is_d)
+    (subst (λ (y : DiskState). (nodes : List Node) → AreOpening nodes → StandOn (p.name ∷ []) (d ∷ []) nodes → RunsTo (opened nodes (counts_of d ∷ [])) (d ∷ []) script old new x (y ∷ [])) (sym is_left) (one_runs p.name d left k script old new x is runs))))
+
+-- the disks over such a run
+pub script_goes : {D : Type 0} (state : D → DiskState) (ps mid final : List (Place D)) (p q : Place D) → is_served (map (λ p. p.name) ps) ≡ true → ps ≡ mid ++ p ∷ [] → final ≡ mid ++ q ∷ [] → Passes (state p.disk) (state q.disk) →
+    AllGo (map (λ p. state p.disk) ps) (map (λ p. state p.disk) final)
+script_goes {D = D} state ps mid final p q one parts ends passes =
+    let empty : mid ≡ [] = taken_only mid p (ap (λ (l : List (Place D)). is_served (map (λ p. p.name) l)) (sym parts) ∙ one) in
+    let before : ps ≡ p ∷ [] = parts ∙ ap (λ (m : List (Place D)). m ++ p ∷ []) empty in
+    let after : final ≡ q ∷ [] = ends ∙ ap (λ (m : List (Place D)). m ++ q ∷ []) empty in
+    subst (λ (l : List (Place D)). AllGo (map (λ p. state p.disk) l) (map (λ p. state p.disk) final)) (sym before) (subst (λ (l : List (Place D)). AllGo (state p.disk ∷ []) (map (λ p. state p.disk) l)) (sym after) (passes, tt))
 
 -- The whole run keeps its promises.
-pub run_over : (names : List (List ℕ)) (before after : List DiskState) (script old new old' new' : Option (List ℕ)) (x : Exit) → names ≡ node_a ∷ [] → old' ≡ old → new' ≡ new →
-    RunsTo (opened (node_a ∷ []) (map counts_of before)) (option_map lines_of script) old new x after → RunOver names before after script old' new' x
-run_over names before after script old new old' new' x is e f r =
-    subst (λ (n : List (List ℕ)). RunOver n before after script old' new' x) (sym is)
-    (subst (λ (z : Option (List ℕ)). RunOver (node_a ∷ []) before after script z new' x) (sym e) (subst (λ (z : Option (List ℕ)). RunOver (node_a ∷ []) before after script old z x) (sym f)
-    record { run = r; promises = promised (node_a ∷ []) (map counts_of before) r.ran.entries r.ran.closing r.ran.legal }))
+pub run_over : (nodes : List Node) (before after : List DiskState) (script old new old' new' : Option (List ℕ)) (x : Exit) → AreOpening nodes → old' ≡ old → new' ≡ new →
+    RunsTo (opened nodes (map counts_of before)) before (option_map lines_of script) old new x after → RunOver nodes before after script old' new' x
+run_over nodes before after script old new old' new' x opening e f r =
+    subst (λ (z : Option (List ℕ)). RunOver nodes before after script z new' x) (sym e) (subst (λ (z : Option (List ℕ)). RunOver nodes before after script old z x) (sym f)
+    record { run = r; promises = promised nodes (map counts_of before) r.ran.entries r.ran.closing opening r.ran.legal })
 
 -- The rack stays a rack.
 sized_on : (olds news : List DiskState) → AllGo olds news → AreSized olds → AreSized news
@@ -95,9 +133,21 @@ rack_on state_of old new names go r = record {
   sized = sized_on (states_in state_of old) (states_in state_of new) go r.sized;
 }
 
+-- the place that was taken out has a disk of a rack
+pub taken_sized : {D : Type 0} (state : D → DiskState) (ps mid : List (Place D)) (p : Place D) → is_served (map (λ p. p.name) ps) ≡ true → ps ≡ mid ++ p ∷ [] → AreSized (map (λ p. state p.disk) ps) → (4096 ≤ (state p.disk).size) × ((state p.disk).size ≤ 65536)
+taken_sized {D = D} state ps mid p one parts sized =
+    let empty : mid ≡ [] = taken_only mid p (ap (λ (l : List (Place D)). is_served (map (λ p. p.name) l)) (sym parts) ∙ one) in
+    let before : ps ≡ p ∷ [] = parts ∙ ap (λ (m : List (Place D)). m ++ p ∷ []) empty in
+    let h = subst (λ (l : List (Place D)). AreSized (map (λ p. state p.disk) l)) before sized in
+    (h.0, h.1)
+
 pub some_is : {A : Type 0} (o : Option A) → IsSome o → (x : A) × (o ≡ Some x)
 some_is (Some x) h = (x, refl)
 some_is None h = let none : ⊥ = cc in absurd none
+
+pub some_served : (names : List (List ℕ)) → is_served names ≡ true → 1 ≤ length names
+some_served [] e = let none : ⊥ = cc in absurd none
+some_served (n ∷ ns) e = omega arith
 
 -- what the emitter tells of its sink is so of the sink itself
 

@@ -43,8 +43,3 @@ pub record IsRack {D : Type 0} (state : D → DiskState) (rack : Rack D) : Type 
   pub apart : AreApart (names_in rack)
   pub few : length (names_in rack) ≤ 8
   pub sized : AreSized (states_in state rack)
-
--- on no disk is a write pending
-abbrev pub AreSettled : List DiskState → Type 0
-AreSettled [] = Unit {0}
-AreSettled (disk ∷ disks) = (disk.pending ≡ []) × AreSettled disks

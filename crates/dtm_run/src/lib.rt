@@ -1,14 +1,12 @@
 //! The run: a script's lines, served by nodes over their disks, and its transcript.
 #![tactic(auto)]
 
-mod cells;
-mod labels;
-mod node;
+mod law;
 mod rack;
-mod running;
 mod top;
 
-pub use labels::{LabelEntry, Labels};
+pub use dtm_node::{LabelEntry, Labels};
+pub use law::opening_nodes_exist;
 pub use rack::{Rack, RackCause, RackErr};
 pub use top::{Exit, run};
 

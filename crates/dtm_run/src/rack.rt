@@ -4,7 +4,7 @@ ghost use Rattle.std.specs.Option.{option_map};
 ghost use Rattle.std.specs.List.{list_any};
 ghost use Rattle.std.specs.Str.{bytes_eq};
 ghost use Rattle.block_disk.specs.Disk.{DiskState};
-ghost use Rattle.dtm_run.specs.Racks.{names_in, disks_in, states_in, refusal_of, IsRack, AreSettled};
+ghost use Rattle.dtm_run.specs.Racks.{names_in, disks_in, states_in, refusal_of, IsRack};
 
 use block_disk::Disk;
 use std::alloc::Global;
@@ -59,7 +59,6 @@ impl<D> Rack<D> {
     pub fn new(alloc: Global) -> Rack<D>
         ensures names { names_in result ≡ [] }
         ensures rack { (state : D → DiskState) → IsRack state result }
-        ensures settled { (state : D → DiskState) → AreSettled (states_in state result) }
     {
         Rack {
             places: Vec::new(alloc),
@@ -147,7 +146,6 @@ impl<D: Disk> Rack<D> {
         ensures accepted { OnOk result (refusal_of (names_in self.old) name (D.state disk).size ≡ None) }
         ensures added { OnOk result ((names_in self.new ≡ names_in self.old ++ name ∷ []) × (disks_in self.new ≡ disks_in self.old ++ disk ∷ [])) }
         ensures rack { IsRack D.state self.old → IsRack D.state self.new }
-        ensures settled { AreSettled (states_in D.state self.old) → (D.state disk).pending ≡ [] → AreSettled (states_in D.state self.new) }
     {
         if let Some(cause) = self.refusal(&name, disk.blocks()) {
             return Err(RackErr { disk, cause });

@@ -55,9 +55,32 @@ fn shown(alloc: Global, lines: &[u8], exit: Exit) -> Result<Vec<u8>, Fail> {
     Ok(sink.bytes().to_vec(alloc)?)
 }
 
+// Runs a script by node A over a disk, which it gives back.
+fn run_on(
+    alloc: Global,
+    disk: CrashDisk<MemPlatter>,
+    script: &[u8],
+) -> Result<(Vec<u8>, Rack<CrashDisk<MemPlatter>>), Fail> {
+    let mut words = Vec::new(alloc);
+    for word in ["dtm", "RUN", "a=image"] {
+        words.push(String::from_str(alloc, word)?)?;
+    }
+    let mut rack = Rack::new(alloc);
+    let name = NodeName::new(b"A").ok_or("a name")?;
+    if rack.add(name, disk).is_err() {
+        return Err(Fail::from("a node was refused"));
+    }
+    let mut source = MemSource::new(alloc, script.to_vec(alloc)?);
+    let mut sink = MemSink::new(alloc, 100_000)?;
+    if run(alloc, &words, &mut source, &mut sink, &mut rack) != Exit::Done {
+        return Err(Fail::from("another exit"));
+    }
+    Ok((sink.bytes().to_vec(alloc)?, rack))
+}
+
 #[test]
 fn scripts_show_their_transcripts(rt: HostRuntime) -> Result<(), Fail> {
-    let table: [(&[u8], &[u8], Exit); 6] = [
+    let table: [(&[u8], &[u8], Exit); 7] = [
         (b"", b"", Exit::Done),
         (
             COMMITTING,
@@ -80,15 +103,132 @@ fn scripts_show_their_transcripts(rt: HostRuntime) -> Result<(), Fail> {
             Exit::Done,
         ),
         (
-            b"A: DUMP F\nA: DUMP G\n",
-            b"5 SS$_NORMAL 0\n6 BADLINE 9\n",
+            b"A: DUMP F\nA: DUMP G\nB: DUMP F\nA: BOOT\nA: INIT\nA: SHOW F\n",
+            b"5 SS$_NORMAL 0\n6 RMS$_FNF\n7 NOSUCHNODE\n8 NODEUP\n9 VOLINUSE\n10 BADLINE 4\n",
             Exit::BadLine,
+        ),
+        (
+            b"A: CREATE F REL 1 1 1\nA: CREATE G REL 17 1 1\nA: CREATE G REL 1 481 1\nA: CREATE G REL 1 480 1\nA: CREATE H REL 16 8160 4294967295\nA: START_TRANS T\nA: PUT T G 1 \"g\"\nA: SET_FILE F NORU\nA: PUT T F 1 \"f\"\nA: SET_FILE G RU\nA: PUT T G 1 \"g\"\nA: SET_FILE G NORU\nCRASH A\nCRASH A\nFUSE A 0 0\nFUSE B 0 0\nA: DUMP G\nA: BOOT\nA: END_TRANS T\nA: DUMP G\n",
+            b"5 RMS$_FEX\n6 SS$_BADPARAM\n7 SS$_BADPARAM\n8 SS$_NORMAL\n9 RMS$_FUL VOLUME 6452 68719476720\n10 SS$_NORMAL A.1.1\n11 NOTRU\n12 SS$_NORMAL\n13 NOTRU\n14 SS$_NORMAL\n15 RMS$_NORMAL\n16 RMS$_FLK A.1.1\n17 DOWN A CRASH\n17 SS$_NORMAL\n18 NODEDOWN\n19 SS$_NORMAL\n20 NOSUCHNODE\n21 NODEDOWN\n22 DOWN A STOPPED\n22 STOPPED\n23 NODEDOWN\n24 NODEDOWN\n",
+            Exit::Done,
         ),
     ];
     for (lines, want, exit) in table {
         let text = shown(rt.alloc(), lines, exit)?;
         assert_eq!(rt; text, joined(rt.alloc(), &[OPENED, want])?);
     }
+    Ok(())
+}
+
+#[test]
+fn a_last_line_needs_no_line_feed(rt: HostRuntime) -> Result<(), Fail> {
+    let table: [(&[u8], &[u8], Exit); 3] = [
+        (b"A: PUT T F 1 \"a", b"1 BADLINE 14\n", Exit::BadLine),
+        (b"A: INIT", b"1 SS$_NORMAL\n", Exit::Done),
+        (b"! no statement", b"", Exit::Done),
+    ];
+    for (script, want, end) in table {
+        let mut source = MemSource::new(rt.alloc(), script.to_vec(rt.alloc())?);
+        let mut sink = MemSink::new(rt.alloc(), 100)?;
+        let platter = MemPlatter::new(rt.alloc(), 8_192)?;
+        let exit = run_over(rt.alloc(), platter, &mut source, &mut sink)?;
+        assert_eq!(rt; exit, end);
+        assert_eq!(rt; sink.bytes(), want);
+    }
+    Ok(())
+}
+
+// The disk of a rack's only node, after a power loss.
+fn disk_of(mut rack: Rack<CrashDisk<MemPlatter>>) -> Result<CrashDisk<MemPlatter>, Fail> {
+    match rack.take_last() {
+        Some(place) => Ok(place.disk),
+        None => Err(Fail::from("no disk")),
+    }
+}
+
+#[test]
+fn an_image_is_booted_again(rt: HostRuntime) -> Result<(), Fail> {
+    let disk = CrashDisk::new(rt.alloc(), MemPlatter::new(rt.alloc(), 8_192)?)?;
+    let (text, rack) = run_on(
+        rt.alloc(),
+        disk,
+        b"A: BOOT\nA: INIT 63 1024\nA: INIT 512 7096\nA: INIT 512 7095\nA: INIT\n",
+    )?;
+    assert_eq!(rt;
+        text.as_slice(),
+        b"1 VOLUME A 1 518\n2 SS$_BADPARAM\n3 SS$_BADPARAM\n4 SS$_NORMAL\n5 SS$_NORMAL\n".as_slice()
+    );
+    let script = joined(
+        rt.alloc(),
+        &[
+            b"A: BOOT\nA: CREATE F REL 1 100 10\nA: SET_FILE F RU\n",
+            COMMITTING,
+        ],
+    )?;
+    let (_, rack) = run_on(rt.alloc(), disk_of(rack)?, &script)?;
+    let (text, _) = run_on(rt.alloc(), disk_of(rack)?, b"A: BOOT\nA: DUMP F\n")?;
+    assert_eq!(rt;
+        text.as_slice(),
+        b"1 LAST COMMIT A.1.1 A.1.1 \"17-NOV-1858 00:00:00.01\"\n1 SS$_NORMAL 2\n2 RECORD 1 \"a\"\n2 SS$_NORMAL 1\n".as_slice()
+    );
+    Ok(())
+}
+
+// The lines of a script that is stopped after so many writes behind its START_TRANS, is booted again, and dumps its file.
+fn stopped(alloc: Global, writes: u32, choice: u64) -> Result<Vec<u8>, Fail> {
+    let fuse = format!(in alloc;
+        "A: START_TRANS T\nFUSE A {writes} {choice}\nA: PUT T F 1 \"a\"\nA: END_TRANS T\nA: DUMP F\nA: BOOT\nA: DUMP F\n"
+    )?;
+    shown(alloc, fuse.as_bytes(), Exit::Done)
+}
+
+// Whether these lines are somewhere in a text.
+fn has(text: &[u8], lines: &[u8]) -> bool {
+    text.windows(lines.len()).any(|part| part == lines)
+}
+
+#[test]
+fn a_stop_leaves_each_statement_whole_or_undone(rt: HostRuntime) -> Result<(), Fail> {
+    let text = stopped(rt.alloc(), 0, 0)?;
+    let want = joined(
+        rt.alloc(),
+        &[
+            OPENED,
+            b"5 SS$_NORMAL A.1.1\n6 SS$_NORMAL\n7 DOWN A STOPPED\n7 STOPPED\n8 NODEDOWN\n9 NODEDOWN\n10 SS$_NORMAL 2\n11 SS$_NORMAL 0\n",
+        ],
+    )?;
+    assert_eq!(rt; text, want);
+    for choice in [0u64, 5, 10, 15] {
+        for writes in 0..14u32 {
+            let text = stopped(rt.alloc(), writes, choice)?;
+            let committed = has(&text, b"COMMIT A.1.1");
+            let stopped = has(&text, b" STOPPED\n");
+            assert_eq!(rt; stopped, writes < 10, "{writes} {choice}");
+            let put = has(&text, b"7 RMS$_NORMAL\n");
+            assert!(rt; !committed || put, "{writes} {choice}");
+            let last = if stopped {
+                b"11 ".as_slice()
+            } else {
+                b"9 ".as_slice()
+            };
+            let record = joined(rt.alloc(), &[last, b"RECORD 1 \"a\"\n"])?;
+            assert!(rt; !put || has(&text, &record), "{writes} {choice}");
+        }
+    }
+    Ok(())
+}
+
+#[test]
+fn a_volume_has_64_files(rt: HostRuntime) -> Result<(), Fail> {
+    let mut script = joined(rt.alloc(), &[b"A: INIT\nA: BOOT\n"])?;
+    for number in 0..65u32 {
+        script.extend_from_slice(format!(in rt.alloc();
+            "A: CREATE F{number} REL 1 100 4\n"
+        )?.as_bytes())?;
+    }
+    let disk = CrashDisk::new(rt.alloc(), MemPlatter::new(rt.alloc(), 8_192)?)?;
+    let (text, _) = run_on(rt.alloc(), disk, &script)?;
+    assert!(rt; text.ends_with(b"\n66 SS$_NORMAL\n67 SS$_EXQUOTA FILES 64\n"));
     Ok(())
 }
 
@@ -142,61 +282,67 @@ fn faulted(alloc: Global, line: usize, late: bool) -> Result<Vec<u8>, Fail> {
         b"7 COMMIT A.1.1 A.1.1 \"17-NOV-1858 00:00:00.01\"\n7 SS$_NORMAL\n",
         b"8 RECORD 1 \"a\"\n8 SS$_NORMAL 1\n",
     ];
-    let fallen: [&[u8]; 8] = [
-        b"",
-        b"",
-        b"3 DOWN A FAULT\n3 FAULT\n",
-        b"",
-        b"",
-        b"6 DOWN A FAULT\n6 FAULT\n",
-        b"",
-        b"8 DOWN A FAULT\n8 FAULT\n",
-    ];
-    let down: [&[u8]; 8] = [
-        b"",
-        b"",
-        b"",
-        b"4 NODEDOWN\n",
-        b"5 NODEDOWN\n",
-        b"6 NODEDOWN\n",
-        b"7 NODEDOWN\n",
-        b"8 NODEDOWN\n",
-    ];
     let mut text = Vec::new(alloc);
-    for (i, ((whole, cut), after)) in normal.iter().zip(&fallen).zip(&down).enumerate() {
-        if i + 1 < line {
+    for (i, whole) in normal.iter().enumerate() {
+        let number = i + 1;
+        if number < line {
             text.extend_from_slice(whole)?;
-        } else if i + 1 == line {
+        } else if number > line {
+            let answer = if line == 1 && number == 2 {
+                "NOINIT"
+            } else {
+                "NODEDOWN"
+            };
+            text.extend_from_slice(format!(in alloc; "{number} {answer}\n")?.as_bytes())?;
+        } else {
             if late {
                 text.extend_from_slice(b"8 RECORD 1 \"a\"\n")?;
             }
-            text.extend_from_slice(cut)?;
-        } else {
-            text.extend_from_slice(after)?;
+            let fallen = format!(in alloc; "{line} DOWN A FAULT\n{line} FAULT\n")?;
+            text.extend_from_slice(fallen.as_bytes())?;
         }
     }
     Ok(text)
 }
 
+// The lines that the committing script shows where this call of the platter fails.
+fn shown_with_failing(alloc: Global, call: u32) -> Result<Vec<u8>, Fail> {
+    let mut platter = MemPlatter::new(alloc, 8_192)?;
+    platter.fail(call)?;
+    let mut source = MemSource::new(alloc, joined(alloc, &[OPENING, COMMITTING])?);
+    let mut sink = MemSink::new(alloc, 1_000)?;
+    if run_over(alloc, platter, &mut source, &mut sink)? != Exit::Done {
+        return Err(Fail::from("another exit"));
+    }
+    Ok(sink.bytes().to_vec(alloc)?)
+}
+
 #[test]
 fn a_failing_call_of_the_platter_puts_the_node_down(rt: HostRuntime) -> Result<(), Fail> {
-    // Calls 1 to 4 are those of CREATE, 5 to 8 of PUT, and 9 to 18 of DUMP.
-    for call in 1..20u32 {
-        let mut platter = MemPlatter::new(rt.alloc(), 8_192)?;
-        platter.fail(call)?;
-        let mut source = MemSource::new(rt.alloc(), joined(rt.alloc(), &[OPENING, COMMITTING])?);
-        let mut sink = MemSink::new(rt.alloc(), 1_000)?;
-        let exit = run_over(rt.alloc(), platter, &mut source, &mut sink)?;
-        let line = match call {
-            1..=4 => 3,
-            5..=8 => 6,
-            9..=18 => 8,
-            _ => 9,
-        };
-        assert_eq!(rt; exit, Exit::Done, "call {call}");
-        let want = faulted(rt.alloc(), line, line == 8 && call > 9)?;
-        assert_eq!(rt; sink.bytes(), want.as_slice(), "call {call}");
+    let mut line = 1;
+    let mut failed = [false; 9];
+    for call in 1..2_000u32 {
+        let text = shown_with_failing(rt.alloc(), call)?;
+        while line < 9
+            && text != faulted(rt.alloc(), line, false)?
+            && text != faulted(rt.alloc(), line, true)?
+        {
+            line += 1;
+        }
+        if line == 9 {
+            assert_eq!(rt;
+                text,
+                shown(rt.alloc(), COMMITTING, Exit::Done)?,
+                "call {call}"
+            );
+            break;
+        }
+        failed[line] = true;
     }
+    assert_eq!(rt;
+        failed,
+        [false, true, true, true, true, false, true, true, true]
+    );
     Ok(())
 }
 

@@ -7,18 +7,18 @@ ghost use Rattle.transcript_model.specs.Emitting.{Emits, Since};
 ghost use Rattle.transcript.specs.Emitters.{shown_by};
 ghost use Rattle.transcript.specs.Forms.{HasTime, line_of};
 ghost use Rattle.transcript.specs.Reading.{IsSound, lines_ahead, taken_bytes};
-ghost use Rattle.run_model.specs.World.{World, opened};
-ghost use Rattle.dtm_run.specs.Standing.{node_a, counts_of, StandsFor};
-ghost use Rattle.dtm_run.specs.Keeping.{kept_in, IsKept};
-ghost use Rattle.dtm_run.specs.Uses.{Goes};
-ghost use Rattle.dtm_run.specs.Racks.{names_in, disks_in, states_in, IsRack, AreSettled};
-ghost use Rattle.dtm_run.specs.Headline.{is_command as is_command_of, AreTold, AllGo, RunsTo, RunOver, Unread};
+ghost use Rattle.run_model.specs.World.{Node as NodeSaid, World, opened};
+ghost use Rattle.run_model.specs.Laws.{AreOpening};
+ghost use Rattle.dtm_node.specs.Standing.{StandsFor, counts_of};
+ghost use Rattle.dtm_node.specs.Nodes.{IsNode, Passes, kept_of, state_of};
+ghost use Rattle.dtm_run.specs.Racks.{names_in, disks_in, states_in, IsRack};
+ghost use Rattle.dtm_run.specs.Calls.{TellsOver};
+ghost use Rattle.dtm_run.specs.Headline.{is_command as is_command_of, is_served as is_served_of, StandOn, AllGo, RunsTo, RunOver, Unread};
 
-use crate::labels::Labels;
-use crate::node::Node;
 use crate::rack::{Place, Rack};
 use block_disk::Disk;
-use script_lang::{Literals, is_run_form, read_statement_at};
+use dtm_node::{Labels, Node};
+use script_lang::{Literals, is_run_form, read_statement};
 use std::alloc::Global;
 use transcript::{Emit, Form, LineBuffer, LineReader, Next, Sink, SinkEmit, Source};
 
@@ -52,10 +52,14 @@ pub fn run<S: Source, K: Sink, D: Disk + Drop>(
     rack: &mut Rack<D>,
 ) -> Exit
     requires rack { IsRack D.state rack.old }
-    requires settled { AreSettled (states_in D.state rack.old) }
-    // Where the words are a command, and it is known what the disks have: the transcript is legal and keeps its promises, and the disks have its records.
-    ensures runs { is_command_of (names_in rack.old) (map string_bytes words.now) ≡ true → AreTold (states_in D.state rack.old) →
-        RunOver (names_in rack.old) (states_in D.state rack.old) (states_in D.state rack.new) (S.left source.old) (K.shown sink.old) (K.shown sink.new) result }
+    // Where the words are a command: from all nodes that stand on the disks before the first line, the transcript is legal and keeps its promises, and the
+    // disks have what its nodes have.
+    ensures runs { is_command_of (names_in rack.old) (map string_bytes words.now) ≡ true → (nodes : List NodeSaid) → AreOpening nodes → StandOn (names_in rack.old) (states_in D.state rack.old) nodes →
+        RunOver nodes (states_in D.state rack.old) (states_in D.state rack.new) (S.left source.old) (K.shown sink.old) (K.shown sink.new) result }
+    // Whether or not the disks tell their content: what was shown for each line tells which calls armed or powered them, and each failure that is shown raised
+    // its count.
+    ensures calls { is_command_of (names_in rack.old) (map string_bytes words.now) ≡ true →
+        TellsOver (names_in rack.old) (states_in D.state rack.old) (states_in D.state rack.new) (option_map lines_of (S.left source.old)) (K.shown sink.old) (K.shown sink.new) result }
     ensures usage { is_command_of (names_in rack.old) (map string_bytes words.now) ≡ false → (result ≡ Exit.Memory) ⊎ Unread (K.shown sink.old) (K.shown sink.new) result }
     ensures commanded { is_command_of (names_in rack.old) (map string_bytes words.now) ≡ true → (result ≡ Exit.Usage → ⊥) }
     ensures unread { is_command_of (names_in rack.old) (map string_bytes words.now) ≡ false → (S.left source.new ≡ S.left source.old) × (disks_in rack.new ≡ disks_in rack.old) }
@@ -81,7 +85,7 @@ pub fn run<S: Source, K: Sink, D: Disk + Drop>(
     }
 }
 
-// Whether the words are a command over the nodes of the rack. Scaffolding: just the node A is served.
+// Whether the words are a command over the nodes of the rack. Scaffolding: a rack with one node alone is served.
 fn is_command<D>(rack: &Rack<D>, words: &[String]) -> bool
     ensures { result ≡ is_command_of (names_in rack.now) (map string_bytes words.now) }
 {
@@ -89,7 +93,7 @@ fn is_command<D>(rack: &Rack<D>, words: &[String]) -> bool
         return false;
     }
     match rack.name(0) {
-        Some(name) => name.bytes() == b"A".as_slice() && is_run_form(&[name], words),
+        Some(name) => is_run_form(&[name], words),
         None => false,
     }
 }
@@ -116,12 +120,12 @@ fn run_script<S: Source, K: Sink, D: Disk + Drop>(
     rack: &mut Rack<D>,
 ) -> Exit
     requires failed { out.old.failed ≡ false }
-    requires only { names_in rack.old ≡ node_a ∷ [] }
+    requires only { is_served_of (names_in rack.old) ≡ true }
     requires rack { IsRack D.state rack.old }
-    requires settled { AreSettled (states_in D.state rack.old) }
     ensures same_sink { out.new.sink.ghost_name ≡ out.old.sink.ghost_name }
-    ensures runs { AreTold (states_in D.state rack.old) →
-        RunsTo (opened (node_a ∷ []) (map counts_of (states_in D.state rack.old))) (option_map lines_of (S.left source.old)) (K.shown out.old.sink.now) (K.shown out.new.sink.now) result (states_in D.state rack.new) }
+    ensures runs { (nodes : List NodeSaid) → AreOpening nodes → StandOn (names_in rack.old) (states_in D.state rack.old) nodes →
+        RunsTo (opened nodes (map counts_of (states_in D.state rack.old))) (states_in D.state rack.old) (option_map lines_of (S.left source.old)) (K.shown out.old.sink.now) (K.shown out.new.sink.now) result (states_in D.state rack.new) }
+    ensures calls { TellsOver (names_in rack.old) (states_in D.state rack.old) (states_in D.state rack.new) (option_map lines_of (S.left source.old)) (K.shown out.old.sink.now) (K.shown out.new.sink.now) result }
     ensures commanded { result ≡ Exit.Usage → ⊥ }
     ensures read_fault { result ≡ Exit.ReadFault → Rose (S.faults source.old) (S.faults source.new) }
     ensures write_fault { result ≡ Exit.WriteFault → Rose (K.faults out.old.sink.now) (K.faults out.new.sink.now) }
@@ -142,20 +146,16 @@ fn run_script<S: Source, K: Sink, D: Disk + Drop>(
         unreachable!()
     };
     let Place { name, disk } = place;
-    let mut node = Node::new(name, disk);
-    let exit = drive(
+    let (exit, disk) = drive(
         alloc,
         source,
         &mut reader,
         &mut literals,
         &mut labels,
         out,
-        &mut node,
+        Node::new(name, disk),
     );
-    rack.put_back(Place {
-        name,
-        disk: node.into_disk(),
-    });
+    rack.put_back(Place { name, disk });
     exit
 }
 
@@ -171,56 +171,59 @@ fn close<K: Sink>(out: &mut SinkEmit<'_, K>, form: &Form<'_>, exit: Exit) -> Exi
     if out.failed() { Exit::WriteFault } else { exit }
 }
 
-// Serves line after line.
-fn drive<S: Source, K: Sink, D: Disk>(
+// Serves line after line, and gives the disk back.
+fn drive<S: Source, K: Sink, D: Disk + Drop>(
     alloc: Global,
     source: &mut S,
     reader: &mut LineReader,
     literals: &mut Literals,
     labels: &mut Labels,
     out: &mut SinkEmit<'_, K>,
-    node: &mut Node<D>,
-) -> Exit
+    node: Node<D>,
+) -> (Exit, D)
     requires sound { IsSound reader.old }
     requires first { taken_bytes reader.old ≡ 0 }
     requires failed { out.old.failed ≡ false }
-    requires name { node.old.name ≡ node_a }
-    requires size { 1739 ≤ (D.state node.old.disk).size }
-    requires kept { IsKept 0 node.old.state (D.state node.old.disk) }
+    requires kept { IsNode D.state 0 node }
     ensures same_sink { out.new.sink.ghost_name ≡ out.old.sink.ghost_name }
-    ensures runs { (w : World) → StandsFor 0 (kept_in node.old.state labels.old (D.state node.old.disk)) w →
-        RunsTo w (lines_ahead reader.old (S.left source.old)) (K.shown out.old.sink.now) (K.shown out.new.sink.now) result (D.state node.new.disk ∷ []) }
-    ensures commanded { result ≡ Exit.Usage → ⊥ }
-    ensures begun { result ≡ Exit.Memory → ⊥ }
-    ensures read_fault { result ≡ Exit.ReadFault → Rose (S.faults source.old) (S.faults source.new) }
-    ensures write_fault { result ≡ Exit.WriteFault → Rose (K.faults out.old.sink.now) (K.faults out.new.sink.now) }
-    ensures disk { Goes (D.state node.old.disk) (D.state node.new.disk) }
+    ensures runs { (w : World) → StandsFor (state_of D.state node).calls (kept_of D.state node labels.old) w →
+        RunsTo w (state_of D.state node ∷ []) (lines_ahead reader.old (S.left source.old)) (K.shown out.old.sink.now) (K.shown out.new.sink.now) result.0 (D.state result.1 ∷ []) }
+    ensures calls { TellsOver (node.name ∷ []) (state_of D.state node ∷ []) (D.state result.1 ∷ []) (lines_ahead reader.old (S.left source.old)) (K.shown out.old.sink.now) (K.shown out.new.sink.now) result.0 }
+    ensures commanded { result.0 ≡ Exit.Usage → ⊥ }
+    ensures begun { result.0 ≡ Exit.Memory → ⊥ }
+    ensures read_fault { result.0 ≡ Exit.ReadFault → Rose (S.faults source.old) (S.faults source.new) }
+    ensures write_fault { result.0 ≡ Exit.WriteFault → Rose (K.faults out.old.sink.now) (K.faults out.new.sink.now) }
+    ensures disk { Passes (state_of D.state node) (D.state result.1) }
 {
-    let mut said = 0;
+    let mut node = node;
     for number in 1..1_000_002 {
         match reader.next(source) {
-            Next::Failed => return Exit::ReadFault,
-            Next::End => return Exit::Done,
+            Next::Failed => return (Exit::ReadFault, node.into_disk()),
+            Next::End => return (Exit::Done, node.into_disk()),
             Next::TooLong => {
                 out.at(number);
-                return close(out, &Form::TooLong, Exit::TooLong);
+                let exit = close(out, &Form::TooLong, Exit::TooLong);
+                return (exit, node.into_disk());
             }
             Next::Line => {}
         }
         out.at(number);
         if number > MOST_LINES {
-            return close(out, &Form::TooLong, Exit::TooLong);
+            let exit = close(out, &Form::TooLong, Exit::TooLong);
+            return (exit, node.into_disk());
         }
-        let statement = match read_statement_at(said, reader.line(), literals) {
+        let statement = match read_statement(reader.line(), literals) {
             Ok(Some(statement)) => statement,
             Ok(None) => continue,
-            Err(e) => return close(out, &Form::BadLine(e.column), Exit::BadLine),
+            Err(e) => {
+                let exit = close(out, &Form::BadLine(e.column), Exit::BadLine);
+                return (exit, node.into_disk());
+            }
         };
-        node.serve(alloc, &statement, literals, labels, out);
+        node = node.serve(alloc, &statement, literals, labels, out);
         if out.failed() {
-            return Exit::WriteFault;
+            return (Exit::WriteFault, node.into_disk());
         }
-        said += 1;
     }
     unreachable!()
 }

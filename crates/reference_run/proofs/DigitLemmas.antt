@@ -39,3 +39,12 @@ seventeen = decimal_step 17 (lit≤ tt) (lit< tt) ∙ ap (λ d. d ++ codes "7") 
 pub first_moment : time_text 1 ≡ codes "17-NOV-1858 00:00:00.01"
 unfolding time_text day_after
 first_moment = ap (λ d. (d ++ codes "-NOV-1858") ++ codes " 00:00:00.01") seventeen
+
+pub fourteen : decimal 14 ≡ codes "14"
+fourteen = decimal_step 14 (lit≤ tt) (lit< tt) ∙ ap (λ d. d ++ codes "4") digit_1
+
+fifty_one : decimal 51 ≡ codes "51"
+fifty_one = decimal_step 51 (lit≤ tt) (lit< tt) ∙ ap (λ d. d ++ codes "1") digit_5
+
+pub block_518 : decimal 518 ≡ codes "518"
+block_518 = decimal_step 518 (lit≤ tt) (lit< tt) ∙ ap (λ d. d ++ codes "8") fifty_one

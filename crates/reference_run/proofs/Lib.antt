@@ -1,8 +1,6 @@
 pub mod DigitLemmas
 pub mod RunLemmas
-pub mod RowLemmas
-pub mod ChangeLemmas
-pub mod DumpLemmas
-pub mod ServeLemmas
 pub mod TurnLemmas
 pub mod ScriptLemmas
+pub mod RowLemmas
+pub mod ActLemmas

@@ -1,37 +1,101 @@
 -- What single scripts show.
-use Rattle.std.proofs.Common.{◌≡◌, refl, List, [], ◌∷◌, ◌++◌, Option, Some, None, codes, ℕ, ap, ◌∙◌, true}
-use Rattle.std.specs.FinMap.{get-empty, get-insert}
+use Rattle.std.proofs.Common.{◌≡◌, refl, List, [], ◌∷◌, ◌++◌, Option, Some, None, codes, ℕ, ap, ◌∙◌, true, false}
+use Rattle.std.specs.Prelude.{replicate}
+use Rattle.std.specs.FinMap.{empty, get-empty, get-insert}
+use Rattle.vms_model.specs.Ids.{Id}
 use Rattle.vms_model.specs.Keys.{Number}
 use Rattle.vms_model.specs.Transactions as settled
 use Rattle.records_model.specs.Records.{Change}
+use Rattle.records_model.specs.History.{SettledChanges, LiveChanges}
 use Rattle.records_model.proofs.KeyLemmas.{key_cmp_total}
 use Rattle.transcript_model.specs.Lines as line
+use Rattle.transcript_model.specs.Lines.{lines_text}
 use Rattle.transcript_model.specs.Script.{ScriptLine, lines_of}
 use Rattle.script_model.specs.Statements as said
-use Rattle.run_model.specs.World.{World}
+use Rattle.run_model.specs.World.{World, File, Branch, Label, Settlement, Sound, Power}
 use Rattle.run_model.specs.Steps.{effect, Whole}
-use Rattle.run_model.specs.Transcript.{Entry, Done, text_of}
+use Rattle.run_model.specs.Transcript.{Entry, Done, BadLine, text_of}
 use Rattle.reference_run.specs.Whole.{Ended, run_of, run_from}
-use Rattle.reference_run.specs.Rows.{fed, base_script, base_shown, CommittedRecordIsShown, AbortedRecordIsGone, UnsettledRecordStands, AnotherFirstLineIsBad}
-use Rattle.reference_run.proofs.DigitLemmas.{digit_0, digit_1, digit_2, digit_3, digit_4, digit_5, digit_6, digit_7, digit_8, digit_9, first_moment}
-use Rattle.reference_run.proofs.RunLemmas.{no_entries, one_entry, says, told, told_first, world_at, first_id, first_branch, first_label}
+use Rattle.reference_run.specs.Rows.{fed, disk_size, base_script, base_shown, CommittedRecordIsShown, AbortedRecordIsGone, UnsettledRecordStands, ZerosAreNoVolume, BootBehindCrashTellsLast, OpenQuoteIsBad}
+use Rattle.reference_run.proofs.DigitLemmas.{digit_0, digit_1, digit_2, digit_3, digit_4, digit_5, digit_6, digit_7, digit_8, digit_9, fourteen, block_518, first_moment}
+use Rattle.reference_world.proofs.EntryLemmas.{no_entries, one_entry}
+use Rattle.reference_run.proofs.RunLemmas.{says, told}
+
+-- what the base tells
+abbrev told_first : List Entry
+told_first = told (codes "A: SET_FILE F RU") (line.Normal ∷ []) (told (codes "A: CREATE F REL 1 100 10") (line.Normal ∷ [])
+    (told (codes "A: BOOT") (line.NormalCount 1 ∷ []) (told (codes "A: INIT 64 64") (line.Normal ∷ []) [])))
+
+-- the first id that the node draws
+abbrev first_id : Id
+first_id = record { node = codes "A"; boot = 1; seq = 1 }
+
+abbrev first_branch : ℕ → Branch
+first_branch changes = record { tid = first_id; serial = first_id; changes = changes }
+
+abbrev first_label : Label
+first_label = record { name = codes "T"; node = codes "A"; serial = first_id }
+
+-- the file F
+abbrev file_at : List SettledChanges → List LiveChanges → File
+file_at done live = record {
+  name = codes "F";
+  bucket = 1;
+  record_size = 100;
+  greatest_number = 10;
+  start = 712;
+  buckets = 3;
+  others = [];
+  recovery_units = true;
+  history = record { base = empty; moment = 0; settled = done; live = live };
+}
+
+-- the world behind the base, in which one id was drawn
+abbrev world_at : (greatest : ℕ) → Option Settlement → List Settlement → List Branch → List SettledChanges → List LiveChanges → World
+world_at greatest last settled branches done live = record {
+  nodes = record {
+    name = codes "A";
+    blocks = disk_size;
+    volume = Sound;
+    slots = 64;
+    journal = 64;
+    boot = 1;
+    greatest = greatest;
+    last = last;
+    directory = Some (file_at done live) ∷ replicate 63 None;
+    up = true;
+    was_up = true;
+    clock = 0;
+    drawn = 1;
+    branches = branches;
+    settled = settled;
+    calls = Power 0 ∷ Power 0 ∷ [];
+    under_way = None;
+  } ∷ [];
+  disks = record { faults = 0; stops = 0 } ∷ [];
+  labels = first_label ∷ [];
+  in_use = true;
+}
 
 -- this record is put at this number
 abbrev put_change : ℕ → List ℕ → Change
 put_change n bytes = record { key = Number n; before = None; after = Some bytes }
 
 abbrev begun : World
-begun = world_at 1 0 [] (first_branch ∷ []) [] [] (first_label ∷ [])
+begun = world_at 0 None [] (first_branch 0 ∷ []) [] []
 
 abbrev told_begun : List Entry
 told_begun = told (codes "A: START_TRANS T") (line.NormalId first_id ∷ []) told_first
 
 abbrev put : ℕ → List ℕ → World
-put n bytes = world_at 1 0 [] (first_branch ∷ []) [] (record { serial = first_id; changes = put_change n bytes ∷ [] } ∷ []) (first_label ∷ [])
+put n bytes = world_at 0 None [] (first_branch 1 ∷ []) [] (record { serial = first_id; changes = put_change n bytes ∷ [] } ∷ [])
+
+abbrev settlement : settled.Outcome → Option settled.Reason → Settlement
+settlement outcome reason = record { tid = first_id; serial = first_id; outcome = outcome; reason = reason; moment = 1 }
 
 abbrev settled_as : settled.Outcome → Option settled.Reason → World
-settled_as outcome reason = world_at 1 1 (record { tid = first_id; serial = first_id; outcome = outcome; reason = reason; moment = 1 } ∷ []) []
-    (record { serial = first_id; outcome = outcome; moment = 1; changes = put_change 1 (codes "a") ∷ [] } ∷ []) [] (first_label ∷ [])
+settled_as outcome reason = world_at 1 (Some (settlement outcome reason)) (settlement outcome reason ∷ []) []
+    (record { serial = first_id; outcome = outcome; moment = 1; changes = put_change 1 (codes "a") ∷ [] } ∷ []) []
 
 abbrev put_said : ℕ → List ℕ → said.Statement
 put_said n bytes = said.At (codes "A") (said.Put (codes "T") (codes "F") n bytes)
@@ -52,10 +116,10 @@ rest texts = lines_of (fed texts)
 abbrev done : List Entry → Ended
 done es = record { exit = Done; text = text_of es }
 
-puts_a : effect begun (put_said 1 (codes "a")) Whole ≡ record { lines = line.RecordNormal ∷ []; world = put 1 (codes "a") }
+puts_a : effect begun (put_said 1 (codes "a")) (Whole false) ≡ record { lines = line.RecordNormal ∷ []; world = put 1 (codes "a") }
 puts_a = rw (get-empty, get-empty) refl
 
-puts_j : effect begun (put_said 10 (codes "j")) Whole ≡ record { lines = line.RecordNormal ∷ []; world = put 10 (codes "j") }
+puts_j : effect begun (put_said 10 (codes "j")) (Whole false) ≡ record { lines = line.RecordNormal ∷ []; world = put 10 (codes "j") }
 puts_j = rw (get-empty, get-empty) refl
 
 abbrev told_put : List Entry
@@ -72,7 +136,7 @@ runs_to_put more = says begun told_begun (line_said (codes "A: PUT T F 1 \"a\"")
 abbrev committed : World
 committed = settled_as settled.Commit None
 
-dumps_record : effect committed dump_said Whole ≡ record { lines = line.Record (Number 1) (codes "a") ∷ line.NormalCount 1 ∷ []; world = committed }
+dumps_record : effect committed dump_said (Whole false) ≡ record { lines = line.Record (Number 1) (codes "a") ∷ line.NormalCount 1 ∷ []; world = committed }
 dumps_record = rw one_entry refl
 
 abbrev told_committed : List Entry
@@ -95,7 +159,7 @@ committed_record_is_shown = runs_to_put (rest (codes "A: END_TRANS T" ∷ codes 
 abbrev undone : World
 undone = settled_as settled.Abort (Some settled.Aborted)
 
-dumps_nothing : effect undone dump_said Whole ≡ record { lines = line.NormalCount 0 ∷ []; world = undone }
+dumps_nothing : effect undone dump_said (Whole false) ≡ record { lines = line.NormalCount 0 ∷ []; world = undone }
 dumps_nothing = rw no_entries refl
 
 abbrev told_aborted : List Entry
@@ -118,7 +182,7 @@ aborted_record_is_gone = runs_to_put (rest (codes "A: ABORT_TRANS T" ∷ codes "
 
 -- A record that is not settled.
 
-exists_already : effect (put 10 (codes "j")) (put_said 10 (codes "k")) Whole ≡ record { lines = line.RecordExists ∷ []; world = put 10 (codes "j") }
+exists_already : effect (put 10 (codes "j")) (put_said 10 (codes "k")) (Whole false) ≡ record { lines = line.RecordExists ∷ []; world = put 10 (codes "j") }
 exists_already = rw (get-insert key_cmp_total) refl
 
 abbrev told_exists : List Entry
@@ -127,7 +191,7 @@ told_exists = told (codes "A: PUT T F 10 \"k\"") (line.RecordExists ∷ []) told
 abbrev told_locked : List Entry
 told_locked = told (codes "A: DUMP F") (line.FileLocked first_id ∷ []) told_exists
 
-runs_to_put_j : run_of (script (codes "A: START_TRANS T" ∷ codes "A: PUT T F 10 \"j\"" ∷ codes "A: PUT T F 11 \"k\"" ∷ codes "A: PUT T F 10 \"k\"" ∷ codes "A: DUMP F" ∷ []))
+runs_to_put_j : run_of disk_size (script (codes "A: START_TRANS T" ∷ codes "A: PUT T F 10 \"j\"" ∷ codes "A: PUT T F 11 \"k\"" ∷ codes "A: PUT T F 10 \"k\"" ∷ codes "A: DUMP F" ∷ []))
     ≡ run_from (put 10 (codes "j")) told_put_j (rest (codes "A: PUT T F 10 \"k\"" ∷ codes "A: DUMP F" ∷ []))
 runs_to_put_j = says begun told_begun (line_said (codes "A: PUT T F 10 \"j\"")) (rest (codes "A: PUT T F 11 \"k\"" ∷ codes "A: PUT T F 10 \"k\"" ∷ codes "A: DUMP F" ∷ []))
     (put_said 10 (codes "j")) (line.RecordNormal ∷ []) (put 10 (codes "j")) refl refl puts_j
@@ -141,7 +205,34 @@ lock_text = simp (digit_1, digit_2, digit_3, digit_4, digit_5, digit_6, digit_7,
 pub unsettled_record_stands : UnsettledRecordStands
 unsettled_record_stands = runs_to_put_j ∙ shows_lock ∙ ap (λ t. record { exit = Done; text = t }) lock_text
 
--- A script that begins with a statement of another.
+-- A disk of zeros.
 
-pub another_first_line_is_bad : AnotherFirstLineIsBad
-another_first_line_is_bad = simp (digit_1, digit_4)
+abbrev told_zeros : List Entry
+told_zeros = told (codes "A: INIT 64 64") (line.VolumeInUse ∷ []) (told (codes "A: BOOT") (line.NormalCount 1 ∷ [])
+    (told (codes "A: INIT 64 64") (line.Normal ∷ []) (told (codes "A: BOOT") (line.NoVolume (codes "A") 1 518 ∷ []) [])))
+
+zeros_text : text_of told_zeros ≡ fed (codes "1 VOLUME A 1 518" ∷ codes "2 SS$_NORMAL" ∷ codes "3 SS$_NORMAL 1" ∷ codes "4 VOLINUSE" ∷ [])
+zeros_text = simp (digit_1, digit_2, digit_3, digit_4, block_518)
+
+pub zeros_are_no_volume : ZerosAreNoVolume
+zeros_are_no_volume = ap (λ t. record { exit = Done; text = t }) zeros_text
+
+-- A crash behind a commit.
+
+abbrev told_last : List Entry
+told_last = told (codes "A: BOOT") (line.LastCommitted first_id first_id 1 ∷ line.NormalCount 2 ∷ []) (told (codes "CRASH A") (line.Crashed (codes "A") ∷ line.Normal ∷ []) told_committed)
+
+last_text : text_of told_last ≡ fed (base_shown ++ codes "5 SS$_NORMAL A.1.1" ∷ codes "6 RMS$_NORMAL" ∷ codes "7 COMMIT A.1.1 A.1.1 \"17-NOV-1858 00:00:00.01\"" ∷ codes "7 SS$_NORMAL" ∷ codes "8 DOWN A CRASH" ∷ codes "8 SS$_NORMAL"
+    ∷ codes "9 LAST COMMIT A.1.1 A.1.1 \"17-NOV-1858 00:00:00.01\"" ∷ codes "9 SS$_NORMAL 2" ∷ [])
+last_text = simp (digit_1, digit_2, digit_3, digit_4, digit_5, digit_6, digit_7, digit_8, digit_9, first_moment)
+
+pub boot_behind_crash_tells_last : BootBehindCrashTellsLast
+boot_behind_crash_tells_last = runs_to_put (rest (codes "A: END_TRANS T" ∷ codes "CRASH A" ∷ codes "A: BOOT" ∷ [])) ∙ ap (λ t. record { exit = Done; text = t }) last_text
+
+-- A quote that is not closed.
+
+quote_text : lines_text 1 (line.BadLine 14 ∷ []) ≡ fed (codes "1 BADLINE 14" ∷ [])
+quote_text = simp (digit_1, fourteen)
+
+pub open_quote_is_bad : OpenQuoteIsBad
+open_quote_is_bad = ap (λ t. record { exit = BadLine; text = t }) quote_text

@@ -7,40 +7,57 @@ use Rattle.reference_run.specs.Whole.{run_of}
 abbrev pub fed : List (List ℕ) → List ℕ
 fed lines = flat_map (λ l. l ++ (10 ∷ [])) lines
 
+-- how many blocks the disk of a worked script has: eight more than a volume of the smallest journal takes to itself
+abbrev pub disk_size : ℕ
+disk_size = 720
+
 -- the statements that make the node and its file
 abbrev pub base_script : List (List ℕ)
-base_script = codes "A: INIT" ∷ codes "A: BOOT" ∷ codes "A: CREATE F REL 1 100 10" ∷ codes "A: SET_FILE F RU" ∷ []
+base_script = codes "A: INIT 64 64" ∷ codes "A: BOOT" ∷ codes "A: CREATE F REL 1 100 10" ∷ codes "A: SET_FILE F RU" ∷ []
 
 -- what they show
 abbrev pub base_shown : List (List ℕ)
 base_shown = codes "1 SS$_NORMAL" ∷ codes "2 SS$_NORMAL 1" ∷ codes "3 SS$_NORMAL" ∷ codes "4 SS$_NORMAL" ∷ []
 
--- a script of these lines behind those of the base ends so, and shows these lines behind those of the base
+-- a script of these lines ends well, and shows these lines
 abbrev pub Shows : List (List ℕ) → List (List ℕ) → Type 0
-Shows script shown = run_of (fed (base_script ++ script)) ≡ record { exit = Done; text = fed (base_shown ++ shown) }
+Shows script shown = run_of disk_size (fed script) ≡ record { exit = Done; text = fed shown }
 
 -- a record is put in a transaction that is committed, and is there then
 abbrev pub CommittedRecordIsShown : Type 0
 CommittedRecordIsShown = Shows
-    (codes "A: START_TRANS T" ∷ codes "A: PUT T F 1 \"a\"" ∷ codes "A: END_TRANS T" ∷ codes "A: DUMP F" ∷ [])
-    (codes "5 SS$_NORMAL A.1.1" ∷ codes "6 RMS$_NORMAL" ∷ codes "7 COMMIT A.1.1 A.1.1 \"17-NOV-1858 00:00:00.01\"" ∷ codes "7 SS$_NORMAL" ∷ codes "8 RECORD 1 \"a\"" ∷ codes "8 SS$_NORMAL 1" ∷ [])
+    (base_script ++ codes "A: START_TRANS T" ∷ codes "A: PUT T F 1 \"a\"" ∷ codes "A: END_TRANS T" ∷ codes "A: DUMP F" ∷ [])
+    (base_shown ++ codes "5 SS$_NORMAL A.1.1" ∷ codes "6 RMS$_NORMAL" ∷ codes "7 COMMIT A.1.1 A.1.1 \"17-NOV-1858 00:00:00.01\"" ∷ codes "7 SS$_NORMAL" ∷ codes "8 RECORD 1 \"a\"" ∷ codes "8 SS$_NORMAL 1" ∷ [])
 
 -- a script without lines shows nothing
 abbrev pub EmptyScriptShowsNothing : Type 0
-EmptyScriptShowsNothing = run_of [] ≡ record { exit = Done; text = [] }
+EmptyScriptShowsNothing = Shows [] []
 
 -- what was put in a transaction that is aborted is gone, and the transaction cannot be ended any more
 abbrev pub AbortedRecordIsGone : Type 0
 AbortedRecordIsGone = Shows
-    (codes "A: START_TRANS T" ∷ codes "A: PUT T F 1 \"a\"" ∷ codes "A: ABORT_TRANS T" ∷ codes "A: DUMP F" ∷ codes "A: END_TRANS T" ∷ [])
-    (codes "5 SS$_NORMAL A.1.1" ∷ codes "6 RMS$_NORMAL" ∷ codes "7 ABORT A.1.1 A.1.1 DDTM$_ABORTED \"17-NOV-1858 00:00:00.01\"" ∷ codes "7 SS$_NORMAL" ∷ codes "8 SS$_NORMAL 0" ∷ codes "9 SS$_NOSUCHTID" ∷ [])
+    (base_script ++ codes "A: START_TRANS T" ∷ codes "A: PUT T F 1 \"a\"" ∷ codes "A: ABORT_TRANS T" ∷ codes "A: DUMP F" ∷ codes "A: END_TRANS T" ∷ [])
+    (base_shown ++ codes "5 SS$_NORMAL A.1.1" ∷ codes "6 RMS$_NORMAL" ∷ codes "7 ABORT A.1.1 A.1.1 DDTM$_ABORTED \"17-NOV-1858 00:00:00.01\"" ∷ codes "7 SS$_NORMAL" ∷ codes "8 SS$_NORMAL 0" ∷ codes "9 SS$_NOSUCHTID" ∷ [])
 
 -- a record of an unsettled transaction stands in the way of another at its number, and of a dump; no record is put above the greatest number
 abbrev pub UnsettledRecordStands : Type 0
 UnsettledRecordStands = Shows
-    (codes "A: START_TRANS T" ∷ codes "A: PUT T F 10 \"j\"" ∷ codes "A: PUT T F 11 \"k\"" ∷ codes "A: PUT T F 10 \"k\"" ∷ codes "A: DUMP F" ∷ [])
-    (codes "5 SS$_NORMAL A.1.1" ∷ codes "6 RMS$_NORMAL" ∷ codes "7 RMS$_MRN" ∷ codes "8 RMS$_REX" ∷ codes "9 RMS$_FLK A.1.1" ∷ [])
+    (base_script ++ codes "A: START_TRANS T" ∷ codes "A: PUT T F 10 \"j\"" ∷ codes "A: PUT T F 11 \"k\"" ∷ codes "A: PUT T F 10 \"k\"" ∷ codes "A: DUMP F" ∷ [])
+    (base_shown ++ codes "5 SS$_NORMAL A.1.1" ∷ codes "6 RMS$_NORMAL" ∷ codes "7 RMS$_MRN" ∷ codes "8 RMS$_REX" ∷ codes "9 RMS$_FLK A.1.1" ∷ [])
 
--- a statement that does not stand first is a bad line from its second word on
-abbrev pub AnotherFirstLineIsBad : Type 0
-AnotherFirstLineIsBad = run_of (fed (codes "A: PUT T F 1 \"a\"" ∷ [])) ≡ record { exit = BadLine; text = fed (codes "1 BADLINE 4" ∷ []) }
+-- a disk of zeros has no volume, for the first condition of one fails at block 518; on it a volume is made
+abbrev pub ZerosAreNoVolume : Type 0
+ZerosAreNoVolume = Shows
+    (codes "A: BOOT" ∷ codes "A: INIT 64 64" ∷ codes "A: BOOT" ∷ codes "A: INIT 64 64" ∷ [])
+    (codes "1 VOLUME A 1 518" ∷ codes "2 SS$_NORMAL" ∷ codes "3 SS$_NORMAL 1" ∷ codes "4 VOLINUSE" ∷ [])
+
+-- a boot behind a crash tells the last settlement on the disk
+abbrev pub BootBehindCrashTellsLast : Type 0
+BootBehindCrashTellsLast = Shows
+    (base_script ++ codes "A: START_TRANS T" ∷ codes "A: PUT T F 1 \"a\"" ∷ codes "A: END_TRANS T" ∷ codes "CRASH A" ∷ codes "A: BOOT" ∷ [])
+    (base_shown ++ codes "5 SS$_NORMAL A.1.1" ∷ codes "6 RMS$_NORMAL" ∷ codes "7 COMMIT A.1.1 A.1.1 \"17-NOV-1858 00:00:00.01\"" ∷ codes "7 SS$_NORMAL" ∷ codes "8 DOWN A CRASH" ∷ codes "8 SS$_NORMAL"
+    ∷ codes "9 LAST COMMIT A.1.1 A.1.1 \"17-NOV-1858 00:00:00.01\"" ∷ codes "9 SS$_NORMAL 2" ∷ [])
+
+-- a record whose quote is not closed is a bad line from there on
+abbrev pub OpenQuoteIsBad : Type 0
+OpenQuoteIsBad = run_of disk_size (fed (codes "A: PUT T F 1 \"a" ∷ [])) ≡ record { exit = BadLine; text = fed (codes "1 BADLINE 14" ∷ []) }

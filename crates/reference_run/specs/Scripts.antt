@@ -2,11 +2,11 @@
 use Rattle.std.specs.Prelude.{◌≡◌, ℕ, ◌+◌, ◌<◌, List, [], ◌∷◌, Bool, true, false, Option, Some, None, length, take, drop}
 use Rattle.transcript_model.specs.Lines as model
 use Rattle.transcript_model.specs.Script.{ScriptLine, lines_of}
-use Rattle.run_model.specs.Transcript.{Entry, Exit, Done, BadLine, TooLong, said, number_after, size_before, text_of}
+use Rattle.run_model.specs.Transcript.{Entry, Exit, Done, BadLine, TooLong, number_after, size_before, text_of}
 use Rattle.reference_run.specs.declared.script.Reading.{Reading}
 use Rattle.reference_run.specs.declared.script.Ending.{Ending}
 use Rattle.reference_run.specs.declared.script.Ending.TheVariants as ending
-use Rattle.reference_run.specs.Served.{world_after}
+use Rattle.reference_run.specs.Served.{world_of}
 use Rattle.reference_run.specs.Whole.{run_from, entry}
 
 -- bytes without a line feed are one line, unless there are none
@@ -21,7 +21,6 @@ Feeds bytes (Some n) = (n < length bytes) × (lines_of bytes ≡ record { text =
 
 -- what is kept of these lines
 pub record Stands (r : Reading) (es : List Entry) : Type 0 where
-  pub said : r.said ≡ said es
   pub number : r.number ≡ number_after es
   pub size : r.size ≡ size_before es
   pub text : r.text.items ≡ text_of es
@@ -30,12 +29,12 @@ pub record Stands (r : Reading) (es : List Entry) : Type 0 where
 pub record GoesOn (old : Reading) (es : List Entry) (source : ScriptLine) (more : List ScriptLine) (new : Reading) : Type 0 where
   pub lines : List model.Line
   pub stands : Stands new (entry source lines ∷ es)
-  pub runs : run_from (world_after old.said old.running) es (source ∷ more) ≡ run_from (world_after new.said new.running) (entry source lines ∷ es) more
+  pub runs : run_from (world_of old.running) es (source ∷ more) ≡ run_from (world_of new.running) (entry source lines ∷ es) more
 
 -- a line was served, and the script goes on behind it or ends with it
 abbrev pub Turns : Reading → List Entry → ScriptLine → List ScriptLine → Bool → Reading → Type 0
 Turns old es source more true new = GoesOn old es source more new
-Turns old es source more false new = run_from (world_after old.said old.running) es (source ∷ more) ≡ record { exit = BadLine; text = new.text.items }
+Turns old es source more false new = run_from (world_of old.running) es (source ∷ more) ≡ record { exit = BadLine; text = new.text.items }
 
 abbrev pub exit_of : Ending → Exit
 exit_of ending.Done = Done
@@ -44,7 +43,7 @@ exit_of ending.TooLong = TooLong
 
 -- these lines of a script led to this end
 pub record RunsTo (old : Reading) (es : List Entry) (lines : List ScriptLine) (ending : Ending) (new : Reading) : Type 0 where
-  pub ended : record { exit = exit_of ending; text = new.text.items } ≡ run_from (world_after old.said old.running) es lines
+  pub ended : record { exit = exit_of ending; text = new.text.items } ≡ run_from (world_of old.running) es lines
 
 -- a line that may be past the limits was served, and the script goes on behind it or ends with it
 abbrev pub Steps : Reading → List Entry → ScriptLine → List ScriptLine → Option Ending → Reading → Type 0

@@ -1,90 +1,74 @@
 -- What serving a statement does.
-use Rattle.std.specs.Prelude.{◌≡◌, ℕ, zero, suc, List, [], ◌∷◌, true, Option, Some, None, map}
-use Rattle.std.specs.FinMap.{empty}
-use Rattle.vms_model.specs.Ids.{Id}
-use Rattle.script_model.specs.Statements.{Request, Statement, At, Init, Boot, Create, SetFile, Relative, RecoveryUnits}
-use Rattle.script_model.proofs.OpeningLemmas.{IsBehindOpening}
-use Rattle.reference_run.specs.Whole.{opening}
-use Rattle.run_model.specs.World.{World, Label, Settlement, Branch, File, find_branch}
-use Rattle.records_model.specs.History.{History, SettledChanges, LiveChanges}
-use Rattle.run_model.specs.Steps.{effect, Whole}
-use Rattle.reference_run.specs.declared.line.Line.{Line}
+use Rattle.std.specs.Prelude.{◌≡◌, ◌≤◌, ◌+◌, ℕ, List, [], ◌∷◌, ◌++◌, false, Option, Some, None, map, option_map}
+use Rattle.script_model.specs.Statements.{Request, Statement}
+use Rattle.run_model.specs.World as world
+use Rattle.run_model.specs.World.{World}
+use Rattle.run_model.specs.Answers.{rows_at, answer_at, last_line}
+use Rattle.run_model.specs.Steps.{effect, Whole, after_rows, lines_of_rows}
+use Rattle.transcript_model.specs.Lines as model
+use Rattle.reference_world.specs.declared.line.Line.{Line}
 use Rattle.reference_run.specs.declared.running.Running.{Running}
-use Rattle.reference_run.specs.declared.running.Named.{Named}
-use Rattle.reference_run.specs.declared.running.Named.TheVariants as named
-use Rattle.reference_run.specs.Standing.{id_at, label_of, change_of, settlement_of, done_of, live_of, branches_of, line_of}
+use Rattle.reference_world.specs.Standing.{own_name, branch_of, label_of, settlement_of, volume_of, call_of, directory_of, line_of}
 
--- the history of a file that was made without records
-abbrev pub history_of : List SettledChanges → List LiveChanges → History
-history_of done live = record { base = empty; moment = 0; settled = done; live = live }
-
--- the file F, which is marked
-abbrev pub file_f : List SettledChanges → List LiveChanges → File
-file_f done live = record {
-  name = 70 ∷ [];
-  bucket = 1;
-  record_size = 100;
-  greatest_number = 10;
-  recovery_units = true;
-  history = history_of done live;
+-- the node that is kept
+abbrev pub node_of : Running → world.Node
+node_of r = record {
+  name = own_name;
+  blocks = r.blocks;
+  volume = volume_of r.volume;
+  slots = r.slots;
+  journal = r.journal;
+  boot = r.boot;
+  greatest = r.greatest;
+  last = option_map settlement_of r.last;
+  directory = directory_of r.directory.items;
+  up = r.up;
+  was_up = r.was_up;
+  clock = 0;
+  drawn = r.drawn;
+  branches = map branch_of r.branches.items;
+  settled = map settlement_of r.settled.items;
+  calls = map call_of r.calls.items;
+  under_way = None;
 }
 
--- the world of the node A that was booted once, with the file F
-abbrev pub world_with : (drawn greatest : ℕ) → List Settlement → List Branch → List SettledChanges → List LiveChanges → List Label → World
-world_with drawn greatest settled branches done live labels = record {
-  nodes = record {
-    name = 65 ∷ [];
-    up = true;
-    clock = 0;
-    boot = 1;
-    drawn = drawn;
-    greatest = greatest;
-    settled = settled;
-    files = file_f done live ∷ [];
-    branches = branches;
-    under_way = None;
-  } ∷ [];
+-- the world of that node alone, whose disk never failed
+abbrev pub world_of : Running → World
+world_of r = record {
+  nodes = node_of r ∷ [];
   disks = record { faults = 0; stops = 0 } ∷ [];
-  labels = labels;
+  labels = map label_of r.labels.items;
+  in_use = r.in_use;
 }
 
--- the world that the node stands for
-abbrev pub world_up : Running → World
-world_up r = world_with r.drawn r.greatest (map settlement_of r.settled.items) (branches_of r.branch) (done_of r.settled.items)
-    (live_of r.branch (map change_of r.changes.items)) (map label_of r.labels.items)
+-- how the last settlement is told, where there is one
+abbrev pub last_lines_of : Option world.Settlement → List model.Line
+last_lines_of last = elim last [ Some s ↦ last_line s | None ↦ [] ]
 
--- what a label was found to name
-abbrev pub NamedIs : Named → Option ℕ → Option Id → Type 0
-NamedIs named.NotMade branch found = found ≡ None
-NamedIs named.Settled branch found = (id : Id) × (found ≡ Some id) × (find_branch id (branches_of branch) ≡ None)
-NamedIs (named.Unsettled seq) branch found = (found ≡ Some (id_at seq)) × (branch ≡ Some seq)
+-- how often the node was booted, how many ids it drew, and its greatest moment are at most so many
+pub record AreFew (n : ℕ) (r : Running) : Type 0 where
+  pub boot : r.boot ≤ n
+  pub drawn : r.drawn ≤ n
+  pub greatest : r.greatest ≤ n
 
--- the request was served whole: these lines were shown, and the node stands for the world after it
-pub record Serves (old : Running) (request : Request) (lines : List Line) (new : Running) : Type 0 where
-  pub shows : map line_of lines ≡ (effect (world_up old) (At (65 ∷ []) request) Whole).lines
-  pub goes : world_up new ≡ (effect (world_up old) (At (65 ∷ []) request) Whole).world
+-- none of these rose by more than one
+pub record RoseByOne (old new : Running) : Type 0 where
+  pub boot : new.boot ≤ old.boot + 1
+  pub drawn : new.drawn ≤ old.drawn + 1
+  pub greatest : new.greatest ≤ old.greatest + 1
 
--- what a statement asks
-abbrev pub request_in : Statement → Request
-request_in (At node request) = request
+-- none of these changed
+pub record SameCounts (old new : Running) : Type 0 where
+  pub boot : new.boot ≡ old.boot
+  pub drawn : new.drawn ≡ old.drawn
+  pub greatest : new.greatest ≡ old.greatest
 
--- the statements that may be said after so many
-abbrev pub Sayable : ℕ → Statement → Type 0
-Sayable zero s = s ≡ At (65 ∷ []) Init
-Sayable (suc zero) s = s ≡ At (65 ∷ []) Boot
-Sayable (suc (suc zero)) s = s ≡ At (65 ∷ []) (Create (70 ∷ []) 1 100 (Relative 10))
-Sayable (suc (suc (suc zero))) s = s ≡ At (65 ∷ []) (SetFile (70 ∷ []) RecoveryUnits)
-Sayable (suc (suc (suc (suc n)))) s = IsBehindOpening s
+-- a request that nothing refuses was done: these lines were shown, and the node stands for the world after it
+pub record Does (old : Running) (request : Request) (lines : List Line) (new : Running) : Type 0 where
+  pub shows : map line_of lines ≡ lines_of_rows (rows_at (world_of old) (node_of old) request) ++ answer_at (node_of old) request ∷ []
+  pub goes : world_of new ≡ after_rows own_name (rows_at (world_of old) (node_of old) request) (world_of old)
 
--- the world after so many statements; the code keeps nothing of it before the file is marked
-abbrev pub world_after : ℕ → Running → World
-world_after zero r = opening
-world_after (suc zero) r = opening
-world_after (suc (suc zero)) r = (effect opening (At (65 ∷ []) Boot) Whole).world
-world_after (suc (suc (suc zero))) r = (effect (effect opening (At (65 ∷ []) Boot) Whole).world (At (65 ∷ []) (Create (70 ∷ []) 1 100 (Relative 10))) Whole).world
-world_after (suc (suc (suc (suc n)))) r = world_up r
-
--- the statement that comes after so many was served whole: these lines were shown, and the code stands for the world after it
-pub record Served (before : ℕ) (old : Running) (s : Statement) (lines : List Line) (new : Running) : Type 0 where
-  pub shows : map line_of lines ≡ (effect (world_after before old) s Whole).lines
-  pub goes : world_after (suc before) new ≡ (effect (world_after before old) s Whole).world
+-- the statement was served whole: these lines were shown, and the node stands for the world after it
+pub record Serves (old : Running) (s : Statement) (lines : List Line) (new : Running) : Type 0 where
+  pub shows : map line_of lines ≡ (effect (world_of old) s (Whole false)).lines
+  pub goes : world_of new ≡ (effect (world_of old) s (Whole false)).world

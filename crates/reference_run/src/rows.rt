@@ -1,6 +1,6 @@
 //! What single scripts show, by their definition.
 
-ghost use Rattle.reference_run.specs.Rows.{CommittedRecordIsShown, EmptyScriptShowsNothing, AbortedRecordIsGone, UnsettledRecordStands, AnotherFirstLineIsBad};
+ghost use Rattle.reference_run.specs.Rows.{CommittedRecordIsShown, EmptyScriptShowsNothing, AbortedRecordIsGone, UnsettledRecordStands, ZerosAreNoVolume, BootBehindCrashTellsLast, OpenQuoteIsBad};
 
 /// A script without lines shows nothing.
 pub fn empty_script_shows_nothing()
@@ -22,7 +22,17 @@ pub fn unsettled_record_stands()
     ensures { UnsettledRecordStands }
 {}
 
-/// A script begins with its opening: another statement there is a bad line from its second word on.
-pub fn another_first_line_is_bad()
-    ensures { AnotherFirstLineIsBad }
+/// A disk of zeros has no volume, and one is made on it.
+pub fn zeros_are_no_volume()
+    ensures { ZerosAreNoVolume }
+{}
+
+/// A boot behind a crash tells the last settlement on the disk.
+pub fn boot_behind_crash_tells_last()
+    ensures { BootBehindCrashTellsLast }
+{}
+
+/// A record whose quote is not closed is a bad line from there on.
+pub fn open_quote_is_bad()
+    ensures { OpenQuoteIsBad }
 {}

@@ -1,286 +1,171 @@
-// A node that is up, and what it answers.
-ghost use Rattle.std.specs.Prelude.{◌≡◌, ◌+◌, ◌++◌, length, ℕ, List, [], ◌∷◌, Some, None, map, option_map, is_some, OnOk, IfOk};
-ghost use Rattle.std.specs.FinMap.{get, empty, entries};
-ghost use Rattle.records_model.specs.History.{SettledChanges, left_by, first_to_change};
-ghost use Rattle.transcript_model.specs.Lines as model;
-ghost use Rattle.vms_model.specs.Keys.{Number};
-ghost use Rattle.script_model.specs.Statements as said;
-ghost use Rattle.script_model.proofs.OpeningLemmas.{IsBehindOpening};
-ghost use Rattle.script_lang.specs.Statements.{statement_of};
-ghost use Rattle.run_model.specs.World.{labelled, find_branch, serials_of};
-ghost use Rattle.run_model.specs.Answers.{shown_record};
-ghost use Rattle.run_model.specs.Steps.{effect, Whole, lines_of_rows};
-ghost use Rattle.reference_run.specs.Standing.{id_at, line_of, label_of, branches_of, records_now, live_of, change_of, done_of};
-ghost use Rattle.reference_run.specs.Served.{world_up, world_with, history_of, Serves, Served, Sayable, request_in, NamedIs};
+// The node, and what it answers.
+ghost use Rattle.std.specs.Prelude.{◌≡◌, ◌||◌, ◌++◌, ℕ, List, [], ◌∷◌, false, None, map, OnOk, IfOk};
+ghost use Rattle.script_lang.specs.declared.literals.Literals.{Literals as LiteralsSaid};
+ghost use Rattle.script_lang.specs.Statements.{statement_of, request_of};
+ghost use Rattle.script_model.specs.Statements.{At};
+ghost use Rattle.run_model.specs.Answers as answers;
+ghost use Rattle.run_model.specs.Steps.{readied};
+ghost use Rattle.run_model.specs.World.{opened};
+ghost use Rattle.reference_world.specs.Standing.{own_name, line_of};
+ghost use Rattle.reference_run.specs.Served.{node_of, world_of, AreFew, RoseByOne, SameCounts, Serves, Does};
+ghost use Rattle.reference_run.specs.Whole.{opening};
 
-use crate::dump::{left, rows_shown};
-use crate::err::ReferenceErr;
-use crate::line::{Line, one};
-use crate::world::{Change, LabelEntry, Settled, find, is_changed, is_left, push_front};
+use reference_world::{
+    Branch, DiskCall, File, LabelEntry, Line, Settlement, Volume, empty_places, one, push_front,
+};
 use script_lang::{Literals, Request, Statement};
 use std::alloc::{AllocError, Global};
-use std::mem::replace;
-use vms_base::{Label, Outcome};
 
-/// The branch that a label names.
-#[derive(Clone, Copy, Debug, Drop)]
-pub enum Named {
-    NotMade,
-    Settled,
-    Unsettled(u32),
-}
-
-/// What is kept of a node that is up: labels, settled branches and changes, the newest first.
+/// What is kept of the node, in the order of a volume's sizes, its contents, and what the node has of its own. Labels, settlements and calls stand newest
+/// first, unsettled branches oldest first.
 #[derive(Drop)]
 pub struct Running {
-    pub labels: Vec<LabelEntry>,
-    pub drawn: u32,
+    pub blocks: u32,
+    pub volume: Volume,
+    pub slots: u32,
+    pub journal: u32,
+    pub boot: u32,
     pub greatest: u64,
-    pub settled: Vec<Settled>,
-    pub branch: Option<u32>,
-    pub changes: Vec<Change>,
+    pub last: Option<Settlement>,
+    pub directory: Vec<Option<File>>,
+    pub up: bool,
+    pub was_up: bool,
+    pub drawn: u32,
+    pub branches: Vec<Branch>,
+    pub settled: Vec<Settlement>,
+    pub calls: Vec<DiskCall>,
+    pub labels: Vec<LabelEntry>,
+    pub in_use: bool,
 }
 
 impl Running {
-    /// A node that has been booted, with its file.
-    pub fn new(alloc: Global) -> Running
-        ensures { world_up result ≡ world_with 0 0 [] [] [] [] [] }
+    /// A node that is down, whose disk has so many blocks, all of zeros.
+    pub fn new(alloc: Global, blocks: u32) -> Result<Running, AllocError>
+        ensures opening { IfOk result (λ r. world_of r ≡ opening blocks) }
+        ensures few { IfOk result (AreFew 0) }
     {
-        Running {
-            labels: Vec::new(alloc),
-            drawn: 0,
+        Ok(Running {
+            blocks,
+            volume: Volume::Faulty {
+                condition: 1,
+                block: 518,
+            },
+            slots: 0,
+            journal: 0,
+            boot: 0,
             greatest: 0,
+            last: None,
+            directory: empty_places(alloc, 64)?,
+            up: false,
+            was_up: false,
+            drawn: 0,
+            branches: Vec::new(alloc),
             settled: Vec::new(alloc),
-            branch: None,
-            changes: Vec::new(alloc),
-        }
+            calls: Vec::new(alloc),
+            labels: Vec::new(alloc),
+            in_use: false,
+        })
     }
 
-    fn named(&self, label: &Label) -> Named
-        ensures { NamedIs result self.now.branch (labelled (65 ∷ []) label.now (map label_of self.now.labels.items)) }
+    // The disk is made to run again, where the request does that.
+    fn ready(&mut self, request: &Request) -> Result<(), AllocError>
+        ensures readies { (lit : LiteralsSaid) → OnOk result (world_of self.new ≡ readied false (world_of self.old) (At own_name (request_of lit request.now))) }
+        ensures counts { SameCounts self.old self.new }
     {
-        let Some(entry) = find(self.labels.as_slice(), label) else {
-            return Named::NotMade;
-        };
-        match self.branch {
-            Some(seq) => {
-                if entry.seq == seq {
-                    Named::Unsettled(seq)
-                } else {
-                    Named::Settled
-                }
+        match request {
+            Request::Init { .. } => {
+                push_front(&mut self.calls, DiskCall::Power)?;
+                self.volume = Volume::Unknown;
+                Ok(())
             }
-            None => Named::Settled,
+            Request::Boot => push_front(&mut self.calls, DiskCall::Power),
+            _ => Ok(()),
         }
     }
 
-    /// START_TRANS.
-    pub fn start(&mut self, alloc: Global, label: Label) -> Result<Vec<Line>, ReferenceErr>
-        ensures { IfOk result (λ lines. Serves self.old (said.StartTrans label) lines.items self.new) }
+    // No volume may be made any more, where the request was a boot.
+    fn occupy(&mut self, request: &Request)
+        ensures occupies { (lit : LiteralsSaid) → world_of self.new ≡ record (world_of self.old) { in_use = self.old.in_use || answers.occupies (request_of lit request.now) } }
+        ensures counts { SameCounts self.old self.new }
     {
-        if let Some(_) = find(self.labels.as_slice(), &label) {
-            return Ok(one(alloc, Line::BadLabel)?);
-        }
-        if self.labels.len() >= 100_000 {
-            return Ok(one(alloc, Line::BadLabel)?);
-        }
-        if let Some(_) = self.branch {
-            return Ok(one(alloc, Line::TooManyBranches)?);
-        }
-        let Some(seq) = self.drawn.checked_add(1) else {
-            return Err(ReferenceErr::Overflow);
-        };
-        push_front(&mut self.labels, LabelEntry { name: label, seq })?;
-        self.drawn = seq;
-        self.branch = Some(seq);
-        self.changes = Vec::new(alloc);
-        Ok(one(alloc, Line::NormalId(seq))?)
-    }
-
-    // Whether a record of this number stands.
-    fn has_record(&self, number: u32) -> bool
-        ensures { result ≡ is_some (get (records_now self.now.branch self.now.changes.items self.now.settled.items) (Number number)) }
-    {
-        match self.branch {
-            Some(_) => is_changed(self.changes.as_slice(), number)
-                || is_left(self.settled.as_slice(), number),
-            None => is_left(self.settled.as_slice(), number),
+        if let Request::Boot = request {
+            self.in_use = true;
         }
     }
 
-    /// PUT.
-    pub fn put(
+    // What a request does that nothing refuses.
+    fn act(
         &mut self,
         alloc: Global,
-        label: &Label,
-        number: u32,
-        bytes: &[u8],
-    ) -> Result<Vec<Line>, ReferenceErr>
-        ensures { IfOk result (λ lines. Serves self.old (said.Put label.now (70 ∷ []) number bytes.now) lines.items self.new) }
+        request: &Request,
+        lit: &Literals,
+    ) -> Result<Vec<Line>, AllocError>
+        requires allowed { answers.late_at (world_of self.old) (node_of self.old) (request_of lit.now request.now) ≡ None }
+        requires few { AreFew 1000000 self.old }
+        ensures does { IfOk result (λ lines. Does self.old (request_of lit.now request.now) lines.items self.new) }
+        ensures counts { OnOk result (RoseByOne self.old self.new) }
     {
-        let named = self.named(label);
-        if let Named::NotMade = named {
-            return Ok(one(alloc, Line::BadLabel)?);
-        }
-        if number < 1 || 10 < number {
-            return Ok(one(alloc, Line::BadRecordNumber)?);
-        }
-        if bytes.len() < 1 || 100 < bytes.len() {
-            return Ok(one(alloc, Line::BadRecordSize)?);
-        }
-        let Named::Unsettled(_) = named else {
-            return Ok(one(alloc, Line::NoSuchTransaction)?);
-        };
-        if self.has_record(number) {
-            return Ok(one(alloc, Line::RecordExists)?);
-        }
-        push_front(
-            &mut self.changes,
-            Change {
-                number,
-                bytes: bytes.to_vec(alloc)?,
-            },
-        )?;
-        Ok(one(alloc, Line::RecordNormal)?)
-    }
-
-    // The branch is settled at the next moment, which is told.
-    fn settle(&mut self, alloc: Global, seq: u32, outcome: Outcome) -> Result<u64, ReferenceErr>
-        ensures moment { IfOk result (λ moment. moment ≡ self.old.greatest + 1) }
-        ensures settled { OnOk result (self.new.settled.items ≡ record { seq = seq; outcome = outcome; moment = self.old.greatest + 1; changes = self.old.changes } ∷ self.old.settled.items) }
-        ensures greatest { OnOk result (self.new.greatest ≡ self.old.greatest + 1) }
-        ensures branch { OnOk result (self.new.branch ≡ None) }
-        ensures drawn { self.new.drawn ≡ self.old.drawn }
-        ensures labels { self.new.labels ≡ self.old.labels }
-    {
-        let Some(moment) = self.greatest.checked_add(1) else {
-            return Err(ReferenceErr::Overflow);
-        };
-        let changes = replace(&mut self.changes, Vec::new(alloc));
-        push_front(
-            &mut self.settled,
-            Settled {
-                seq,
-                outcome,
-                moment,
-                changes,
-            },
-        )?;
-        self.greatest = moment;
-        self.branch = None;
-        Ok(moment)
-    }
-
-    /// END_TRANS.
-    pub fn end(&mut self, alloc: Global, label: &Label) -> Result<Vec<Line>, ReferenceErr>
-        ensures { IfOk result (λ lines. Serves self.old (said.EndTrans label.now) lines.items self.new) }
-    {
-        match self.named(label) {
-            Named::NotMade => Ok(one(alloc, Line::BadLabel)?),
-            Named::Settled => Ok(one(alloc, Line::NoSuchTransaction)?),
-            Named::Unsettled(seq) => {
-                let moment = self.settle(alloc, seq, Outcome::Commit)?;
-                let mut lines = one(alloc, Line::Normal)?;
-                push_front(&mut lines, Line::Committed(seq, moment))?;
-                Ok(lines)
+        match request {
+            Request::Init { slots, blocks } => self.init(alloc, *slots, *blocks),
+            Request::Boot => self.boot(alloc),
+            Request::Create {
+                file,
+                bucket,
+                size,
+                form,
+            } => self.create(alloc, *file, *bucket, *size, *form),
+            Request::SetFile(file, setting) => self.set_file(alloc, file, *setting),
+            Request::StartTrans(label) => self.start(alloc, *label),
+            Request::Put(label, file, number) => {
+                self.put(alloc, label, file, *number, lit.record.bytes())
             }
+            Request::EndTrans(label) => self.end(alloc, label),
+            Request::AbortTrans(label) => self.abort(alloc, label),
+            Request::Dump(file) => self.dump(alloc, file),
+            Request::Fuse { writes, choice } => self.arm(alloc, *writes, *choice),
+            Request::Crash => self.crash(alloc),
         }
     }
 
-    /// ABORT_TRANS.
-    pub fn abort(&mut self, alloc: Global, label: &Label) -> Result<Vec<Line>, ReferenceErr>
-        ensures { IfOk result (λ lines. Serves self.old (said.AbortTrans label.now) lines.items self.new) }
+    // Serves a request that nothing refuses before the disk is read.
+    fn serve_allowed(
+        &mut self,
+        alloc: Global,
+        request: &Request,
+        lit: &Literals,
+    ) -> Result<Vec<Line>, AllocError>
+        requires allowed { answers.early_at (world_of self.old) (node_of self.old) (request_of lit.now request.now) ≡ None }
+        requires few { AreFew 1000000 self.old }
+        ensures serves { IfOk result (λ lines. Serves self.old (At own_name (request_of lit.now request.now)) lines.items self.new) }
+        ensures counts { OnOk result (RoseByOne self.old self.new) }
     {
-        match self.named(label) {
-            Named::NotMade => Ok(one(alloc, Line::BadLabel)?),
-            Named::Settled => Ok(one(alloc, Line::NoSuchTransaction)?),
-            Named::Unsettled(seq) => {
-                let moment = self.settle(alloc, seq, Outcome::Abort)?;
-                let mut lines = one(alloc, Line::Normal)?;
-                push_front(&mut lines, Line::Aborted(seq, moment))?;
-                Ok(lines)
-            }
+        self.ready(request)?;
+        if let Some(refusal) = self.late(request) {
+            return one(alloc, refusal);
         }
+        let lines = self.act(alloc, request, lit)?;
+        self.occupy(request);
+        Ok(lines)
     }
 
-    // The unsettled branch, where it changed the file.
-    fn locked_by(&self) -> Option<u32>
-        ensures locked { (done : List SettledChanges) → first_to_change (history_of done (live_of self.now.branch (map change_of self.now.changes.items))) (serials_of (branches_of self.now.branch)) ≡ option_map id_at result }
-        ensures free { result ≡ None → live_of self.now.branch (map change_of self.now.changes.items) ≡ [] }
-    {
-        match self.branch {
-            Some(seq) => {
-                if self.changes.is_empty() {
-                    None
-                } else {
-                    Some(seq)
-                }
-            }
-            None => None,
-        }
-    }
-
-    // The lines of all records that committed branches left.
-    fn show_records(&self, alloc: Global) -> Result<Vec<Line>, AllocError>
-        ensures { let es = entries (left_by None (done_of self.now.settled.items) empty) in IfOk result (λ v. map line_of v.items ≡ lines_of_rows (map shown_record es) ++ model.NormalCount (length es) ∷ []) }
-    {
-        let rows = left(alloc, self.settled.as_slice())?;
-        rows_shown(alloc, rows.as_slice(), rows.len() as u64)
-    }
-
-    /// DUMP.
-    pub fn dump(&self, alloc: Global) -> Result<Vec<Line>, ReferenceErr>
-        ensures { IfOk result (λ lines. Serves self.now (said.Dump (70 ∷ [])) lines.items self.now) }
-    {
-        match self.locked_by() {
-            Some(seq) => Ok(one(alloc, Line::FileLocked(seq))?),
-            None => Ok(self.show_records(alloc)?),
-        }
-    }
-
-    /// Serves a request behind the opening of a script.
+    /// Serves a statement.
     pub fn serve(
         &mut self,
         alloc: Global,
         statement: &Statement,
         lit: &Literals,
-    ) -> Result<Vec<Line>, ReferenceErr>
-        requires { IsBehindOpening (statement_of lit.now statement.now) }
-        ensures { IfOk result (λ lines. Serves self.old (request_in (statement_of lit.now statement.now)) lines.items self.new) }
+    ) -> Result<Vec<Line>, AllocError>
+        requires { AreFew 1000000 self.old }
+        ensures serves { IfOk result (λ lines. Serves self.old (statement_of lit.now statement.now) lines.items self.new) }
+        ensures counts { OnOk result (RoseByOne self.old self.new) }
     {
-        let Statement::At(_, request) = statement;
-        match request {
-            Request::StartTrans(label) => self.start(alloc, *label),
-            Request::Put(label, _, number) => self.put(alloc, label, *number, lit.record.bytes()),
-            Request::EndTrans(label) => self.end(alloc, label),
-            Request::AbortTrans(label) => self.abort(alloc, label),
-            Request::Dump(_) => self.dump(alloc),
-            Request::Init | Request::Boot | Request::Create { .. } | Request::SetFile(_, _) => {
-                unreachable!()
-            }
+        let Statement::At(node, request) = statement;
+        if node.bytes() != b"A".as_slice() {
+            return one(alloc, Line::NoSuchNode);
         }
-    }
-}
-
-/// Serves the statement that comes after so many others.
-pub fn serve_after(
-    before: usize,
-    running: &mut Running,
-    alloc: Global,
-    statement: &Statement,
-    lit: &Literals,
-) -> Result<Vec<Line>, ReferenceErr>
-    requires { Sayable before (statement_of lit.now statement.now) }
-    ensures { IfOk result (λ lines. Served before running.old (statement_of lit.now statement.now) lines.items running.new) }
-{
-    match before {
-        0 => Ok(one(alloc, Line::Normal)?),
-        1 => Ok(one(alloc, Line::NormalCount(1))?),
-        2 => Ok(one(alloc, Line::Normal)?),
-        3 => {
-            *running = Running::new(alloc);
-            Ok(one(alloc, Line::Normal)?)
+        if let Some(refusal) = self.early(request, lit) {
+            return one(alloc, refusal);
         }
-        _ => running.serve(alloc, statement, lit),
+        self.serve_allowed(alloc, request, lit)
     }
 }

@@ -1,16 +1,16 @@
 // A whole script, line after line.
-ghost use Rattle.std.specs.Prelude.{true, OnOk, ◌≡◌, ◌+◌, ◌<◌, ◌≤◌, ℕ, List, [], ◌∷◌, length, take, drop, if◌then◌else◌, IfOk};
+ghost use Rattle.std.specs.Prelude.{true, None, ◌≡◌, ◌+◌, ◌<◌, ◌≤◌, ℕ, List, [], ◌∷◌, length, take, drop, if◌then◌else◌, IfOk};
 ghost use Rattle.transcript_model.specs.Script.{ScriptLine, lines_of};
 ghost use Rattle.run_model.specs.Transcript.{Entry};
 ghost use Rattle.script_lang.specs.declared.literals.Literals.{Literals as LiteralsSaid};
-ghost use Rattle.reference_run.specs.Whole.{is_in_limits, run_of};
+ghost use Rattle.reference_run.specs.Whole.{is_in_limits, opening, run_of};
+ghost use Rattle.reference_run.specs.Served.{world_of, AreFew};
 ghost use Rattle.reference_run.specs.Scripts.{Feeds, Stands, Turns, Steps, RunsTo, exit_of};
 
-use crate::err::ReferenceErr;
-use crate::line::{Line, one, put_lines};
-use crate::running::{Running, serve_after};
-use script_lang::{Literals, read_statement_at};
-use std::alloc::Global;
+use crate::running::Running;
+use reference_world::{Line, one, put_lines};
+use script_lang::{Literals, read_statement};
+use std::alloc::{AllocError, Global};
 use std::mem::replace;
 
 /// How a script ended.
@@ -31,7 +31,6 @@ pub struct Shown {
 /// What was made of the lines so far.
 #[derive(Drop)]
 pub struct Reading {
-    pub said: usize,
     pub number: u64,
     pub size: usize,
     pub running: Running,
@@ -59,14 +58,15 @@ fn feed_at(bytes: &[u8]) -> Option<usize>
 
 impl Reading {
     /// Before the first line.
-    fn new(alloc: Global) -> Result<Reading, ReferenceErr>
-        ensures { IfOk result (λ r. Stands r []) }
+    fn new(alloc: Global, blocks: u32) -> Result<Reading, AllocError>
+        ensures stands { IfOk result (λ r. Stands r []) }
+        ensures opening { IfOk result (λ r. world_of r.running ≡ opening blocks) }
+        ensures few { IfOk result (λ r. AreFew r.number r.running) }
     {
         Ok(Reading {
-            said: 0,
             number: 1,
             size: 0,
-            running: Running::new(alloc),
+            running: Running::new(alloc, blocks)?,
             literals: Literals::reserve(alloc)?,
             text: Vec::new(alloc),
         })
@@ -74,7 +74,9 @@ impl Reading {
 
     // Whether the next line is within the limits of a script.
     fn is_in_limits(&self, line: &[u8], ended: bool) -> bool
-        ensures short { result ≡ true → length line.now ≤ 20000 }
+        ensures line { result ≡ true → length line.now ≤ 20000 }
+        ensures number { result ≡ true → self.now.number ≤ 1000000 }
+        ensures size { result ≡ true → self.now.size ≤ 67108864 }
         ensures limits { (es : List Entry) → Stands self.now es → result ≡ is_in_limits es (record { text = line.now; ended = ended }) }
     {
         let size = line.len() + usize::from(ended);
@@ -84,50 +86,40 @@ impl Reading {
             && self.number <= 1_000_000
     }
 
-    // A line is passed that says so many statements.
-    fn pass(&mut self, line: &[u8], ended: bool, said: usize) -> Result<bool, ReferenceErr>
-        ensures on { IfOk result (λ on. on ≡ true) }
-        ensures said { OnOk result (self.new.said ≡ self.old.said + said) }
-        ensures number { OnOk result (self.new.number ≡ self.old.number + 1) }
-        ensures size { OnOk result (self.new.size ≡ self.old.size + (length line.now + (if ended then 1 else 0))) }
+    // A line is passed.
+    fn pass(&mut self, line: &[u8], ended: bool)
+        requires line { length line.now ≤ 20000 }
+        requires number { self.old.number ≤ 1000000 }
+        requires size { self.old.size ≤ 67108864 }
+        ensures number { self.new.number ≡ self.old.number + 1 }
+        ensures size { self.new.size ≡ self.old.size + (length line.now + (if ended then 1 else 0)) }
         ensures text { self.new.text ≡ self.old.text }
         ensures running { self.new.running ≡ self.old.running }
     {
-        let size = line.len().checked_add(usize::from(ended));
-        let (Some(size), Some(said), Some(number)) = (
-            size,
-            self.said.checked_add(said),
-            self.number.checked_add(1),
-        ) else {
-            return Err(ReferenceErr::Overflow);
-        };
-        let Some(size) = self.size.checked_add(size) else {
-            return Err(ReferenceErr::Overflow);
-        };
-        self.said = said;
-        self.number = number;
-        self.size = size;
-        Ok(true)
+        self.number += 1;
+        self.size += line.len() + usize::from(ended);
     }
 
     // Serves a line, and tells whether the script goes on behind it.
-    fn turn(&mut self, alloc: Global, line: &[u8], ended: bool) -> Result<bool, ReferenceErr>
-        requires { length line.now ≤ 20000 }
-        ensures { (es : List Entry) (more : List ScriptLine) → Stands self.old es → is_in_limits es (record { text = line.now; ended = ended }) ≡ true →
+    fn turn(&mut self, alloc: Global, line: &[u8], ended: bool) -> Result<bool, AllocError>
+        requires line { length line.now ≤ 20000 }
+        requires number { self.old.number ≤ 1000000 }
+        requires size { self.old.size ≤ 67108864 }
+        requires few { AreFew self.old.number self.old.running }
+        ensures turns { (es : List Entry) (more : List ScriptLine) → Stands self.old es → is_in_limits es (record { text = line.now; ended = ended }) ≡ true →
             IfOk result (λ on. Turns self.old es (record { text = line.now; ended = ended }) more on self.new) }
+        ensures few { IfOk result (λ on. on ≡ true → AreFew self.new.number self.new.running) }
     {
-        match read_statement_at(self.said, line, &mut self.literals) {
-            Ok(None) => self.pass(line, ended, 0),
+        match read_statement(line, &mut self.literals) {
+            Ok(None) => {
+                self.pass(line, ended);
+                Ok(true)
+            }
             Ok(Some(statement)) => {
-                let lines = serve_after(
-                    self.said,
-                    &mut self.running,
-                    alloc,
-                    &statement,
-                    &self.literals,
-                )?;
+                let lines = self.running.serve(alloc, &statement, &self.literals)?;
                 put_lines(&mut self.text, self.number, lines.as_slice())?;
-                self.pass(line, ended, 1)
+                self.pass(line, ended);
+                Ok(true)
             }
             Err(e) => {
                 let lines = one(alloc, Line::BadLine(e.column))?;
@@ -143,8 +135,10 @@ impl Reading {
         alloc: Global,
         line: &[u8],
         ended: bool,
-    ) -> Result<Option<Ending>, ReferenceErr>
-        ensures { (es : List Entry) (more : List ScriptLine) → Stands self.old es → IfOk result (λ ending. Steps self.old es (record { text = line.now; ended = ended }) more ending self.new) }
+    ) -> Result<Option<Ending>, AllocError>
+        requires { AreFew self.old.number self.old.running }
+        ensures steps { (es : List Entry) (more : List ScriptLine) → Stands self.old es → IfOk result (λ ending. Steps self.old es (record { text = line.now; ended = ended }) more ending self.new) }
+        ensures few { IfOk result (λ ending. ending ≡ None → AreFew self.new.number self.new.running) }
     {
         if self.is_in_limits(line, ended) {
             if self.turn(alloc, line, ended)? {
@@ -161,7 +155,8 @@ impl Reading {
 }
 
 // Serves the lines that are left, and tells how the script ended.
-fn run_on(alloc: Global, reading: &mut Reading, rest: &[u8]) -> Result<Ending, ReferenceErr>
+fn run_on(alloc: Global, reading: &mut Reading, rest: &[u8]) -> Result<Ending, AllocError>
+    requires { AreFew reading.old.number reading.old.running }
     ensures { (es : List Entry) → Stands reading.old es → IfOk result (λ ending. RunsTo reading.old es (lines_of rest.now) ending reading.new) }
 {
     if rest.is_empty() {
@@ -181,13 +176,13 @@ fn run_on(alloc: Global, reading: &mut Reading, rest: &[u8]) -> Result<Ending, R
     }
 }
 
-/// What a script shows where no disk fails, from its first line on, and how it ends.
+/// What a script shows where no disk fails, from its first line on, and how it ends. There is the node A, whose disk has so many blocks, all of zeros.
 ///
-/// An error comes only where there is no memory, where a number has more than 32 bits, or where a moment is past the year 9999.
-pub fn reference_transcript(alloc: Global, script: &[u8]) -> Result<Shown, ReferenceErr>
-    ensures { IfOk result (λ shown. record { exit = exit_of shown.ending; text = shown.text.items } ≡ run_of script.now) }
+/// An error comes only where there is no memory: the limits of a script keep each number within its type, and each moment within the year 9999.
+pub fn reference_transcript(alloc: Global, blocks: u32, script: &[u8]) -> Result<Shown, AllocError>
+    ensures { IfOk result (λ shown. record { exit = exit_of shown.ending; text = shown.text.items } ≡ run_of blocks script.now) }
 {
-    let mut reading = Reading::new(alloc)?;
+    let mut reading = Reading::new(alloc, blocks)?;
     match run_on(alloc, &mut reading, script) {
         Ok(ending) => Ok(Shown {
             ending,

@@ -1,8 +1,6 @@
-use Rattle.std.proofs.Common.{ap, ◌∙◌, sym, refl}
-use Rattle.reference_run.proofs.DumpLemmas.{dump_free}
+use Rattle.std.proofs.lemmas.Result.{IfOk-weaker}
+use Rattle.reference_run.proofs.ActLemmas.{dumps}
 use Rattle.reference_run.proofs.running.Running.dump.Goals as goal
 
-pub returns-in_ok-show_records-in-None : goal.returns-in_ok-show_records-in-None
-returns-in_ok-show_records-in-None c =
-    let e = dump_free c.args.self.now (c.in-None.ensures.free refl) in
-    record { shows = c.in_ok-show_records-in-None.ensures ∙ sym (ap (λ f. f.lines) e); goes = sym (ap (λ f. f.world) e) }
+pub returns-in-Some : goal.returns-in-Some
+returns-in-Some c = IfOk-weaker c.show_records.result _ _ (λ lines shown. dumps c.args.self.now c.args.name.now _ lines.items (rw c.as_slice.ensures.value at c.in-Some.ensures) shown) c.show_records.ensures

@@ -1,0 +1,175 @@
+-- What holds of the heads, also where a file is made or marked.
+use Rattle.std.proofs.Common.{◌≡◌, ◌⊎◌, ℕ, zero, suc, ◌+◌, ◌*◌, ◌<◌, List, [], ◌∷◌, ◌++◌, length, take, Bool, true, false, Option, Some, None, nat_le, nat_lt, slice_set, slice_index_or, refl, sym, ap, subst, ◌∙◌, arith, inl, inr, ⊎_elim}
+use Rattle.std.specs.Prelude.{◌&&◌}
+use Rattle.std.proofs.lemmas.Bool.Decides.{nat_tests}
+use Rattle.std.proofs.lemmas.List.{get_or-take, length-set, length-take}
+use Rattle.file_base.specs.declared.head.FileHead.{FileHead}
+use Rattle.extents.specs.declared.extent.Extent.{Extent as Area}
+use Rattle.extents.specs.Extents.{IsFreeRun, FitsAt, all_extents, covers, extents_of, is_used, nowhere}
+use Rattle.extents.proofs.Used.{covered, free_is, used_at, not_both, either_false}
+use Rattle.directory_model.specs.Files.{RestsOnExtent, RestOnExtents, AreNamedOnce, NoneNamed, Fit, IsNewHead, head_at}
+use Rattle.directory_model.specs.Laws.{KeepsHeads, marked}
+use Rattle.directory_model.proofs.Places.{within_list}
+use Rattle.directory_model.proofs.Apart.{own, four_each}
+
+-- What stands at a number once a file is there.
+
+head_set : (heads : List (Option FileHead)) (f g : ℕ) (new h : FileHead) → head_at (slice_set heads f (Some new)) g ≡ Some h → ((g ≡ f) × (h ≡ new)) ⊎ (head_at heads g ≡ Some h)
+head_set [] f g new h there = inr there
+head_set (o ∷ heads) zero zero new h there = inl (refl, (let e : new ≡ h = cc in sym e))
+head_set (o ∷ heads) zero (suc g) new h there = inr there
+head_set (o ∷ heads) (suc f) zero new h there = inr there
+head_set (o ∷ heads) (suc f) (suc g) new h there = ⊎_elim (λ here. inl (ap suc here.0, here.1)) (λ old. inr old) (head_set heads f g new h there)
+
+-- Names.
+
+creates_named : (heads : List (Option FileHead)) (f : ℕ) (h : FileHead) → AreNamedOnce heads → length heads ≡ 64 → NoneNamed heads 64 h.name → AreNamedOnce (slice_set heads f (Some h))
+creates_named heads f h once long none g other there lower third below there_too same =
+    ⊎_elim
+    (λ new. ⊎_elim
+    (λ new_too. absurd (let a = new.0 in let b = new_too.0 in omega arith))
+    (λ old_too. none lower third (let w = within_list heads lower third old_too in omega arith) old_too (same ∙ ap (λ (x : FileHead). x.name) new.1))
+    (head_set heads f lower h third there_too))
+    (λ old. ⊎_elim
+    (λ new_too. none g other (let w = within_list heads g other old in omega arith) old (sym same ∙ ap (λ (x : FileHead). x.name) new_too.1))
+    (λ old_too. once g other old lower third below old_too same)
+    (head_set heads f lower h third there_too))
+    (head_set heads f g h other there)
+
+marks_named : (heads : List (Option FileHead)) (f : ℕ) (h : FileHead) (units : Bool) → AreNamedOnce heads → head_at heads f ≡ Some h → AreNamedOnce (slice_set heads f (Some (marked units h)))
+marks_named heads f h units once is g other there lower third below there_too same =
+    let first = was g other there in
+    let second = was lower third there_too in
+    once g first.0 first.1 lower second.0 below second.1 (sym second.2 ∙ same ∙ first.2)
+  where
+    was : (g : ℕ) (other : FileHead) → head_at (slice_set heads f (Some (marked units h))) g ≡ Some other → (old : FileHead) × (head_at heads g ≡ Some old) × (other.name ≡ old.name)
+    was g other there = ⊎_elim (λ new. (h, ap (head_at heads) new.0 ∙ is, ap (λ (x : FileHead). x.name) new.1)) (λ old. (other, old, refl)) (head_set heads f g (marked units h) other there)
+
+-- Extents on which records rest.
+
+creates_resting : (heads : List (Option FileHead)) (f : ℕ) (h : FileHead) → RestOnExtents heads → RestsOnExtent h → RestOnExtents (slice_set heads f (Some h))
+creates_resting heads f h rest rests g other there = ⊎_elim (λ new. subst RestsOnExtent (sym new.1) rests) (λ old. rest g other old) (head_set heads f g h other there)
+
+marks_resting : (heads : List (Option FileHead)) (f : ℕ) (h : FileHead) (units : Bool) → RestOnExtents heads → head_at heads f ≡ Some h → RestOnExtents (slice_set heads f (Some (marked units h)))
+marks_resting heads f h units rest there = creates_resting heads f (marked units h) rest
+    (⊎_elim (λ form. inl (record { organization = form.organization; cells = form.cells; one = form.one; used = form.used })) (λ none. inr none) (rest f h there))
+
+-- Extents that fit.
+
+same_extents : (heads : List (Option FileHead)) (f : ℕ) (h : FileHead) (units : Bool) → head_at heads f ≡ Some h → all_extents heads ≡ all_extents (slice_set heads f (Some (marked units h)))
+same_extents [] f h units there = refl
+same_extents (None ∷ heads) zero h units there = let no : ⊥ = cc in absurd no
+same_extents (Some first ∷ heads) zero h units there = let same : first ≡ h = cc in ap (λ x. all_extents (Some x ∷ heads)) same
+same_extents (o ∷ heads) (suc f) h units there = ap (λ es. extents_of o ++ es) (same_extents heads f h units there)
+
+marks : (area : Area) (heads : List (Option FileHead)) (f : ℕ) (h : FileHead) (units : Bool) → Fit area heads → head_at heads f ≡ Some h → Fit area (slice_set heads f (Some (marked units h)))
+marks area heads f h units fit there = record {
+  heads_long = length-set heads f (Some (marked units h)) ∙ fit.heads_long;
+  behind = fit.behind;
+  each = subst (λ es. (i : ℕ) → i < 256 → FitsAt area es i) (same_extents heads f h units there) fit.each;
+}
+
+-- none of these has the block, where the one at no place has
+unused_all : (es : List Area) (n : ℕ) → ((j : ℕ) → j < length es → covers (slice_index_or es j nowhere) n ≡ true → ⊥) → is_used es n ≡ false
+unused_all [] n none = refl
+unused_all (e ∷ es) n none = either_false (covers e n) (is_used es n) (not_true (covers e n) (none 0 (omega arith))) (unused_all es n (λ j below. none (suc j) (omega arith)))
+  where
+    not_true : (b : Bool) → (b ≡ true → ⊥) → b ≡ false
+    not_true true never = absurd (never refl)
+    not_true false _ = refl
+
+pub none_of : (a b : ℕ) → a ≡ 0 → a * b ≡ 0
+none_of a b none = let zero_times : 0 * b ≡ 0 = omega arith in ap (λ x. x * b) none ∙ zero_times
+
+-- an extent of no blocks has none
+empty_extent : (from size n : ℕ) → size ≡ 0 → (nat_le from n && nat_lt n (from + size)) ≡ true → ⊥
+empty_extent from size n none has = some (grind (arith, nat_tests)) has
+  where
+    some : (nat_le from n && nat_lt n (from + size)) ≡ false → (nat_le from n && nat_lt n (from + size)) ≡ true → ⊥
+    some a b = let k : true ≡ false = sym b ∙ a in cc
+
+-- a block of an extent, once a file is made, was one of it, or is one of the new file
+new_covers : (heads : List (Option FileHead)) (f i n : ℕ) (h : FileHead) → IsNewHead h → covers (slice_index_or (all_extents (slice_set heads f (Some h))) i nowhere) n ≡ true →
+    (covers (slice_index_or (all_extents heads) i nowhere) n ≡ true) ⊎ ((i ≡ 4 * f) × (covers (own h) n ≡ true))
+new_covers [] f i n h new has = inl has
+new_covers (o ∷ heads) zero i n h new has = at i has
+  where
+    rest_of : (o : Option FileHead) (i : ℕ) → slice_index_or (all_extents (o ∷ heads)) (suc (suc (suc (suc i)))) nowhere ≡ slice_index_or (all_extents heads) i nowhere
+    rest_of None i = refl
+    rest_of (Some x) i = refl
+
+    at : (i : ℕ) → covers (slice_index_or (all_extents (Some h ∷ heads)) i nowhere) n ≡ true → (covers (slice_index_or (all_extents (o ∷ heads)) i nowhere) n ≡ true) ⊎ ((i ≡ 0) × (covers (own h) n ≡ true))
+    at zero has = inr (refl, has)
+    at (suc zero) has = absurd (empty_extent h.ai.start h.ai.blocks n new.ai has)
+    at (suc (suc zero)) has = absurd (empty_extent h.bi.start h.bi.blocks n new.bi has)
+    at (suc (suc (suc zero))) has = absurd (empty_extent h.save.start (h.save.alloc * h.bucket) n (none_of h.save.alloc h.bucket new.save) has)
+    at (suc (suc (suc (suc i)))) has = inl (ap (λ e. covers e n) (rest_of o i) ∙ has)
+new_covers (o ∷ heads) (suc f) i n h new has = at o i (λ j. new_covers heads f j n h new) has
+  where
+    after : (f j : ℕ) → j ≡ 4 * f → suc (suc (suc (suc j))) ≡ 4 * suc f
+    after f j is = omega arith
+
+    at : (o : Option FileHead) (i : ℕ) → ((j : ℕ) → covers (slice_index_or (all_extents (slice_set heads f (Some h))) j nowhere) n ≡ true → (covers (slice_index_or (all_extents heads) j nowhere) n ≡ true) ⊎ ((j ≡ 4 * f) × (covers (own h) n ≡ true))) →
+        covers (slice_index_or (all_extents (o ∷ slice_set heads f (Some h))) i nowhere) n ≡ true → (covers (slice_index_or (all_extents (o ∷ heads)) i nowhere) n ≡ true) ⊎ ((i ≡ 4 * suc f) × (covers (own h) n ≡ true))
+    at None zero more has = inl has
+    at None (suc zero) more has = inl has
+    at None (suc (suc zero)) more has = inl has
+    at None (suc (suc (suc zero))) more has = inl has
+    at None (suc (suc (suc (suc j)))) more has = ⊎_elim (λ old. inl old) (λ it. inr (after f j it.0, it.1)) (more j has)
+    at (Some x) zero more has = inl has
+    at (Some x) (suc zero) more has = inl has
+    at (Some x) (suc (suc zero)) more has = inl has
+    at (Some x) (suc (suc (suc zero))) more has = inl has
+    at (Some x) (suc (suc (suc (suc j)))) more has = ⊎_elim (λ old. inl old) (λ it. inr (after f j it.0, it.1)) (more j has)
+
+module _ (area : Area) (heads : List (Option FileHead)) (f : ℕ) (h : FileHead) (fit : Fit area heads) (new : IsNewHead h) (run : IsFreeRun area (all_extents heads) h.start (h.alloc * h.bucket)) where
+  long : length (all_extents heads) ≡ 256
+  long = let all = four_each heads in let count = fit.heads_long in omega arith
+
+  -- of two extents that fit, no block is one of both
+  pair : (i j n : ℕ) → j < i → i < 256 → covers (slice_index_or (all_extents heads) i nowhere) n ≡ true → covers (slice_index_or (all_extents heads) j nowhere) n ≡ true → ⊥
+  pair i j n below within has has_too =
+      let count = long in
+      let front : length (take i (all_extents heads)) ≡ i = omega (arith, length-take i (all_extents heads), count) in
+      let at : slice_index_or (take i (all_extents heads)) j nowhere ≡ slice_index_or (all_extents heads) j nowhere = get_or-take i (all_extents heads) j nowhere below in
+      not_both (is_used (take i (all_extents heads)) n) (used_at (take i (all_extents heads)) j n nowhere (omega (arith, front)) (ap (λ e. covers e n) at ∙ has_too)) ((fit.each i within).apart n has)
+
+  -- a block of the free run is free
+  run_is : (n : ℕ) → covers (own h) n ≡ true → (covers area n ≡ true) × (is_used (all_extents heads) n ≡ false)
+  run_is n has = let lies = covered (own h) n has in free_is area (all_extents heads) n (run.all n lies.0 lies.1)
+
+  run_apart : (i n : ℕ) → i < 256 → covers (slice_index_or (all_extents heads) i nowhere) n ≡ true → covers (own h) n ≡ true → ⊥
+  run_apart i n within has has_too = let count = long in not_both (is_used (all_extents heads) n) (used_at (all_extents heads) i n nowhere (omega arith) has) (run_is n has_too).1
+
+  abbrev made : List Area
+  made = all_extents (slice_set heads f (Some h))
+
+  made_pair : (i j n : ℕ) → j < i → i < 256 → covers (slice_index_or made i nowhere) n ≡ true → covers (slice_index_or made j nowhere) n ≡ true → ⊥
+  made_pair i j n below within has has_too =
+      ⊎_elim
+      (λ old. ⊎_elim (λ old_too. pair i j n below within old old_too) (λ it. run_apart i n within old it.1) (new_covers heads f j n h new has_too))
+      (λ it. ⊎_elim (λ old_too. run_apart j n (omega arith) old_too it.1) (λ it_too. let a = it.0 in let b = it_too.0 in absurd (omega arith)) (new_covers heads f j n h new has_too))
+      (new_covers heads f i n h new has)
+
+  creates : Fit area (slice_set heads f (Some h))
+  creates = record {
+    heads_long = length-set heads f (Some h) ∙ fit.heads_long;
+    behind = fit.behind;
+    each = λ i within. record {
+      inside = λ n has. ⊎_elim (λ old. (fit.each i within).inside n old) (λ it. (run_is n it.1).0) (new_covers heads f i n h new has);
+      apart = λ n has. unused_all (take i made) n (λ j below has_too.
+          let few = length-take i made in
+          let before : j < i = omega (arith, few) in
+          made_pair i j n before within has (sym (ap (λ e. covers e n) (get_or-take i made j nowhere before)) ∙ has_too));
+    };
+  }
+
+pub keeps_heads : KeepsHeads
+keeps_heads = record {
+  creates = λ area heads f h fit within new run. creates area heads f h fit new run;
+  creates_named = creates_named;
+  creates_resting = creates_resting;
+  marks = marks;
+  marks_named = marks_named;
+  marks_resting = marks_resting;
+}

@@ -1,0 +1,13 @@
+pub mod Places
+pub mod Finding
+pub mod Blocks
+pub mod Runs
+pub mod Histories
+pub mod Acts
+pub mod Numbers
+pub mod Changes
+pub mod Standing
+pub mod Showing
+pub mod Apart
+pub mod Heads
+pub mod Making

@@ -1,0 +1,77 @@
+//! What the definitions promise.
+ghost use Rattle.directory_model.specs.Laws.{FindsFiles, FindsPlaces, FindsRuns, KeepsChanges, KeepsFiles, KeepsHeads, KeepsNumbers, LieApart, MakesFiles, ShowsRecords, StandsOnExtents, TakesBlocks, TakesPutsBack, TellsChanges, WritesApart};
+
+/// The world finds by a name the file that the volume finds by it: the one of the lowest number. Where the volume finds none, so does the world.
+pub fn files_are_found_by_name()
+    ensures { FindsFiles }
+{}
+
+/// A new file's place in the world is the lowest file number that is free in the volume.
+pub fn places_are_found_alike()
+    ensures { FindsPlaces }
+{}
+
+/// A block is taken in the world exactly where an extent of the volume's files has it.
+pub fn blocks_are_taken_alike()
+    ensures { TakesBlocks }
+{}
+
+/// The world's longest run of free blocks, and its lowest one of a size, are those between the volume's extents.
+pub fn free_runs_are_found_alike()
+    ensures { FindsRuns }
+{}
+
+/// Each act of the world keeps its files those of the volume, where the volume changes with it.
+pub fn acts_keep_files()
+    ensures { KeepsFiles }
+{}
+
+/// Each act of the world keeps its unsettled changes those that the volume's branch has put.
+pub fn acts_keep_changes()
+    ensures { KeepsChanges }
+{}
+
+/// The records that a branch put stay numbers of their files.
+pub fn acts_keep_numbers()
+    ensures { KeepsNumbers }
+{}
+
+/// A file is locked by the unsettled branch exactly where that put a record of it.
+pub fn the_branch_locks()
+    ensures { TellsChanges }
+{}
+
+/// The records that a branch put are taken back one after another.
+pub fn puts_are_taken_back()
+    ensures { TakesPutsBack }
+{}
+
+/// The answers to 'which record is the next' are the entries of the world's file in their order.
+pub fn records_are_shown_in_order()
+    ensures { ShowsRecords }
+{}
+
+/// A content has the files that another has with which it agrees on their extents.
+pub fn files_stand_on_their_extents()
+    ensures { StandsOnExtents }
+{}
+
+/// Files lie in the area. A block of one file is none of another, and none of a free run.
+pub fn files_lie_apart()
+    ensures { LieApart }
+{}
+
+/// What is written in one file's extent leaves the other files, and what is written in a free run or before the area leaves all.
+pub fn writes_stay_apart()
+    ensures { WritesApart }
+{}
+
+/// The extents of the files fit, names are of one file, and records rest on extents, also where a file is made or marked.
+pub fn acts_keep_heads()
+    ensures { KeepsHeads }
+{}
+
+/// The head of a relative file that is made is that of the world's new file.
+pub fn new_files_are_alike()
+    ensures { MakesFiles }
+{}

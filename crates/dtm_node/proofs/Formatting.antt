@@ -1,0 +1,262 @@
+-- INIT: an empty volume, and what the node's disk has then.
+use Rattle.std.proofs.Common.{◌≡◌, ℕ, zero, suc, ◌+◌, ◌<◌, ◌≤◌, List, [], ◌∷◌, Bool, true, false, Option, Some, None, IfSome, is_some, get_or, replicate, take, refl, sym, ap, subst, ◌∙◌, arith, inl}
+use Rattle.std.specs.Prelude.{◌||◌, ◌&&◌, not, nat_le, nat_lt}
+use Rattle.std.proofs.lemmas.List.{length-replicate}
+use Rattle.std.proofs.lemmas.Bool.Decides.{nat_tests}
+use Rattle.vms_base.proofs.NameLemmas.{both}
+use Rattle.block_disk.specs.Blocks.{block_at}
+use Rattle.block_disk.specs.Disk.{DiskState, CallLog, noted}
+use Rattle.block_disk.specs.declared.disk.DiskCall.TheVariants as disk_call
+use Rattle.careful_write.specs.Content.{content_of, gate_open}
+use Rattle.careful_write.proofs.GroupParts.{stop_reading}
+use Rattle.careful_write.proofs.Images.{closed_fits}
+use Rattle.extents.specs.Extents.{FitsBehind, all_extents, covers, nowhere}
+use Rattle.file_base.specs.declared.head.FileHead.{FileHead}
+use Rattle.volume_format.specs.Home.{IsHome, HasHome, HasRu, ru_rows}
+use Rattle.volume_format.proofs.Homes.{home_written}
+use Rattle.volume_format.proofs.Splices.{laid_again}
+use Rattle.volume.specs.declared.catalog.Catalog.{Catalog}
+use Rattle.volume.specs.Catalogs.{IsNew, IsSound, TellsCatalog, TellsEntry}
+use Rattle.volume.specs.Empty.{IsEmptyVolume, empty_home}
+use Rattle.volume.specs.Limits.{EntryFits, SizesFit, data_area}
+use Rattle.transcript_model.specs.Outside.{Rose}
+use Rattle.transcript_model.specs.Lines as line
+use Rattle.transcript_model.specs.Lines.{Line, Cause, Failed}
+use Rattle.transcript_model.specs.Emitting.{Shown, Emits}
+use Rattle.script_model.specs.Statements.{At, Init}
+use Rattle.run_model.specs.World.{World, Node, Label, Formats, acted, fallen, with_node, powered, unpowered}
+use Rattle.run_model.specs.Answers.{early_at, first_of, refused_if, is_volume_form, is_within, silent}
+use Rattle.run_model.specs.Steps.{broken, count_of, dead, after_rows, occupied, spoilt, stops_at}
+use Rattle.run_model.proofs.StepLemmas.{step_unpowered}
+use Rattle.directory_model.specs.Laws.{KeepsFiles}
+use Rattle.dtm_node.specs.Keeping.{Serves}
+use Rattle.dtm_node.specs.Nodes.{Passes, kept_down}
+use Rattle.dtm_node.specs.Standing.{Kept, IsVolumeOf, StandsFor, counts_of}
+use Rattle.dtm_node.proofs.Booting.{as_it_was}
+use Rattle.dtm_node.proofs.NodeSteps.{changed_here, early_here, falls_here, first_step, one_changed, refused_here, rose_here, serves_both, stops_here, whole_step}
+
+-- No file is there.
+
+none_at : (n f : ℕ) → get_or (replicate {A = Option FileHead} n None) f None ≡ None
+none_at zero f = refl
+none_at (suc n) zero = refl
+none_at (suc n) (suc f) = none_at n f
+
+nowhere_at : (n i : ℕ) → get_or (all_extents (replicate {A = Option FileHead} n None)) i nowhere ≡ nowhere
+nowhere_at zero i = refl
+nowhere_at (suc n) zero = refl
+nowhere_at (suc n) (suc zero) = refl
+nowhere_at (suc n) (suc (suc zero)) = refl
+nowhere_at (suc n) (suc (suc (suc zero))) = refl
+nowhere_at (suc n) (suc (suc (suc (suc i)))) = nowhere_at n i
+
+le_of : (m n : ℕ) → nat_le m n ≡ true → m ≤ n
+le_of m n e = grind (arith, nat_tests)
+
+lt_of : (m n : ℕ) → nat_lt m n ≡ true → m < n
+lt_of m n e = grind (arith, nat_tests)
+
+covers_nothing : (n : ℕ) → covers nowhere n ≡ true → ⊥
+covers_nothing n e = let lt : n < 0 = lt_of n 0 ((both (nat_le 0 n) (nat_lt n 0) e).1) in omega arith
+
+abbrev pub no_heads : List (Option FileHead)
+no_heads = replicate 64 None
+
+-- what an empty volume tells
+abbrev pub empty_catalog : List ℕ → ℕ → ℕ → ℕ → Catalog
+empty_catalog name size slots journal = record { home = empty_home name size slots journal; heads = no_heads; ru = record { start = 584 + slots; blocks = journal; first = 0; end = 0 } }
+
+empty_tells : (name : List ℕ) (size slots journal : ℕ) (c : List (List ℕ)) → IsHome (empty_home name size slots journal) → IsEmptyVolume (empty_home name size slots journal) c → TellsCatalog (empty_catalog name size slots journal) c
+empty_tells name size slots journal c ranges empty = record {
+  ranges = ranges;
+  home = subst (λ b. HasHome b (empty_home name size slots journal)) (sym empty.home_block) (home_written (empty_home name size slots journal) (replicate {A = ℕ} 512 0) ranges (length-replicate {A = ℕ} 512 0));
+  heads = λ f below. subst (TellsEntry (block_at c (1 + f))) (sym (none_at 64 f)) (record { ranges = tt; bytes = sym (empty.zeros (1 + f) (omega arith) (omega arith)) });
+  ru = subst (λ b. HasRu b (record { start = 584 + slots; blocks = journal; first = 0; end = 0 })) (sym (empty.zeros 65 (omega arith) (omega arith)))
+      (laid_again 0 (ru_rows (record { start = 584 + slots; blocks = journal; first = 0; end = 0 })) (replicate {A = ℕ} 512 0) refl (refl, (refl, tt)) (length-replicate {A = ℕ} 512 0) (refl, (refl, tt)));
+}
+
+empty_sound : (name : List ℕ) (size slots journal : ℕ) → SizesFit size (record { blocks = size; slots = slots; ru_blocks = journal }) → IsSound name size (empty_catalog name size slots journal)
+empty_sound name size slots journal fit = record {
+  version = refl;
+  sizes = fit;
+  home = record { owner = refl; moment = omega arith };
+  files = λ f below. subst (EntryFits 0) (sym (none_at 64 f)) tt;
+  names = λ f below. subst (IsNew no_heads f) (sym (none_at 64 f)) tt;
+  extents = λ i below. subst (FitsBehind (data_area (record { blocks = size; slots = slots; ru_blocks = journal })) (take i (all_extents no_heads))) (sym (nowhere_at 64 i))
+      (record { inside = λ n e. absurd (covers_nothing n e); apart = λ n e. absurd (covers_nothing n e) });
+  ru_start = refl;
+  ru_blocks = refl;
+}
+
+-- whether a volume may be made so
+
+all_three : (a b c : Bool) → (a && b && c) ≡ true → (a ≡ true) × (b ≡ true) × (c ≡ true)
+all_three true true true e = (refl, refl, refl)
+all_three true true false e = let none : ⊥ = cc in absurd none
+all_three true false c e = let none : ⊥ = cc in absurd none
+all_three false b c e = let none : ⊥ = cc in absurd none
+
+three_true : (a b c : Bool) → a ≡ true → b ≡ true → c ≡ true → (a && b && c) ≡ true
+three_true true true true p q r = refl
+three_true true true false p q r = r
+three_true true false c p q r = let none : ⊥ = cc in absurd none
+three_true false b c p q r = let none : ⊥ = cc in absurd none
+
+within_of : (from to n : ℕ) → from ≤ n → n ≤ to → (nat_le from n && nat_le n to) ≡ true
+within_of from to n low high = grind (arith, nat_tests)
+
+lt_true : (m n : ℕ) → m < n → nat_lt m n ≡ true
+lt_true m n lt = grind (arith, nat_tests)
+
+form_fits : (slots journal size : ℕ) (n : Node) → n.blocks ≡ size → is_volume_form slots journal n ≡ true → SizesFit size (record { blocks = size; slots = slots; ru_blocks = journal })
+form_fits slots journal size n is e =
+    let p = all_three (is_within 64 512 slots) (is_within 64 8192 journal) (nat_lt (584 + slots + journal) n.blocks) e in
+    let s = both (nat_le 64 slots) (nat_le slots 512) p.0 in
+    let j = both (nat_le 64 journal) (nat_le journal 8192) p.1 in
+    record {
+      blocks = refl;
+      least_slots = le_of 64 slots s.0;
+      most_slots = le_of slots 512 s.1;
+      least_journal = le_of 64 journal j.0;
+      most_journal = le_of journal 8192 j.1;
+      room = subst (λ x. 584 + slots + journal < x) is (lt_of (584 + slots + journal) n.blocks p.2);
+    }
+
+fits_form : (slots journal size : ℕ) (n : Node) → n.blocks ≡ size → SizesFit size (record { blocks = size; slots = slots; ru_blocks = journal }) → is_volume_form slots journal n ≡ true
+fits_form slots journal size n is f =
+    three_true (is_within 64 512 slots) (is_within 64 8192 journal) (nat_lt (584 + slots + journal) n.blocks) (within_of 64 512 slots f.least_slots f.most_slots) (within_of 64 8192 journal f.least_journal f.most_journal)
+    (lt_true (584 + slots + journal) n.blocks (subst (λ x. 584 + slots + journal < x) (sym is) f.room))
+
+no_form : (slots journal size : ℕ) (n : Node) → n.blocks ≡ size → (SizesFit size (record { blocks = size; slots = slots; ru_blocks = journal }) → ⊥) → is_volume_form slots journal n ≡ false
+no_form slots journal size n is misfit = go (is_volume_form slots journal n) refl
+  where
+    go : (b : Bool) → is_volume_form slots journal n ≡ b → is_volume_form slots journal n ≡ false
+    go true e = absurd (misfit (form_fits slots journal size n is e))
+    go false e = e
+
+or_false : (b : Bool) → (b || false) ≡ b
+or_false true = refl
+or_false false = refl
+
+some_of : (o : Option (List (List ℕ))) → is_some o ≡ true → (b : List (List ℕ)) × (o ≡ Some b)
+some_of (Some b) e = (b, refl)
+some_of None e = let none : ⊥ = cc in absurd none
+
+-- the node was booted
+pub in_use_init : (log : CallLog) (w : World) (k : Kept) (slots journal : ℕ) (a b : Shown) → k.in_use ≡ true → StandsFor log k w → Emits a (line.VolumeInUse ∷ []) b → Serves log w (At k.name (Init slots journal)) a b k
+in_use_init log w k slots journal a b used h m =
+    refused_here log w k h (At k.name (Init slots journal)) line.VolumeInUse a b
+    (early_here log w k h (Init slots journal) ∙ serves_both log w k h (Init slots journal) refl
+    ∙ ap (λ (x : Bool). first_of (refused_if x line.VolumeInUse) (refused_if (not (is_volume_form slots journal h.node)) line.BadParameter)) (h.in_use ∙ used)) m
+
+module _ (log : CallLog) (w : World) (name : List ℕ) (unknown has_parts : Bool) (d0 : DiskState) (labels : List Label) (slots journal : ℕ) (h : StandsFor log (kept_down name unknown false has_parts d0 labels) w) where
+  abbrev old : Kept
+  old = kept_down name unknown false has_parts d0 labels
+
+  early_by : (form : Bool) → is_volume_form slots journal h.node ≡ form → early_at w h.node (Init slots journal) ≡ refused_if (not form) line.BadParameter
+  early_by form e = serves_both log w old h (Init slots journal) refl
+      ∙ ap (λ (x : Bool). first_of (refused_if x line.VolumeInUse) (refused_if (not (is_volume_form slots journal h.node)) line.BadParameter)) h.in_use
+      ∙ ap (λ (x : Bool). refused_if (not x) line.BadParameter) e
+
+  pub bad_init : (a b : Shown) → (SizesFit d0.size (record { blocks = d0.size; slots = slots; ru_blocks = journal }) → ⊥) → Emits a (line.BadParameter ∷ []) b → Serves log w (At name (Init slots journal)) a b old
+  bad_init a b misfit m = refused_here log w old h (At name (Init slots journal)) line.BadParameter a b (early_here log w old h (Init slots journal) ∙ early_by false (no_form slots journal d0.size h.node h.blocks misfit)) m
+
+  module _ (fit : SizesFit d0.size (record { blocks = d0.size; slots = slots; ru_blocks = journal })) where
+    none_early : early_at w h.node (Init slots journal) ≡ None
+    none_early = early_by true (fits_form slots journal d0.size h.node h.blocks fit)
+
+    -- the disk does not run again
+    pub init_unpowered : (d : DiskState) (a b : Shown) → Passes d0 d → d.calls ≡ noted (disk_call.Power d0.stops) d0.calls → Rose (count_of Failed (counts_of d0)) (count_of Failed (counts_of d)) →
+        Emits a (line.Down name Failed ∷ line.Broken Failed ∷ []) b → Serves log w (At name (Init slots journal)) a b (kept_down name true false has_parts d labels)
+    init_unpowered d a b passes calls rose m = record {
+      lines = broken (At name (Init slots journal)) Failed;
+      world = record (dead w (At name (Init slots journal))).world { disks = counts_of d ∷ [] };
+      step = step_unpowered w (At name (Init slots journal)) (counts_of d ∷ []) (early_here log w old h (Init slots journal) ∙ none_early) refl (rose_here log w old h Failed d rose) (falls_here log w old h d passes);
+      emits = m;
+      stands = record {
+        node = spoilt true (unpowered d0.stops h.node);
+        nodes = changed_here log w old h (λ n. spoilt true (unpowered (stops_at name w) n)) ∙ ap (λ s. spoilt true (unpowered s h.node) ∷ []) (stops_here log w old h);
+        disks = refl;
+        labels = h.labels;
+        in_use = or_false w.in_use ∙ h.in_use;
+        name = h.name;
+        blocks = h.blocks ∙ sym passes.size;
+        clock = h.clock;
+        unknown = refl;
+        place = record { down = refl; reserved = h.place.reserved; told = passes.told ∙ h.place.told; disk = tt };
+        calls = calls ∙ ap (noted (disk_call.Power d0.stops)) h.calls;
+        counts = passes.counted h.counts;
+      };
+    }
+
+    abbrev woken : Node
+    woken = spoilt true (powered false d0.stops h.node)
+
+    -- it went down while the volume was written
+    pub init_fell : (cause : Cause) (d : DiskState) (a b : Shown) → Passes d0 d → d.calls ≡ noted (disk_call.Power d0.stops) d0.calls → Rose (count_of cause (counts_of d0)) (count_of cause (counts_of d)) →
+        Emits a (line.Down name cause ∷ line.Broken cause ∷ []) b → Serves log w (At name (Init slots journal)) a b (kept_down name true false has_parts d labels)
+    init_fell cause d a b passes calls rose m = record {
+      lines = broken (At name (Init slots journal)) cause;
+      world = record (occupied (At name (Init slots journal)) (record w { nodes = with_node name (fallen None) (woken ∷ []) })) { disks = counts_of d ∷ [] };
+      step = first_step log w old h false (Init slots journal) refl none_early cause (counts_of d ∷ []) refl (rose_here log w old h cause d rose) (falls_here log w old h d passes);
+      emits = m;
+      stands = record {
+        node = fallen None woken;
+        nodes = one_changed name woken (fallen None) h.name;
+        disks = refl;
+        labels = h.labels;
+        in_use = or_false w.in_use ∙ h.in_use;
+        name = h.name;
+        blocks = h.blocks ∙ sym passes.size;
+        clock = h.clock;
+        unknown = refl;
+        place = record { down = refl; reserved = h.place.reserved; told = passes.told ∙ h.place.told; disk = tt };
+        calls = calls ∙ ap (noted (disk_call.Power d0.stops)) h.calls;
+        counts = passes.counted h.counts;
+      };
+    }
+
+    abbrev made : Node
+    made = acted (Formats slots journal) woken
+
+    made_volume : (c : List (List ℕ)) → KeepsFiles → IsHome (empty_home name d0.size slots journal) → IsEmptyVolume (empty_home name d0.size slots journal) c → IsVolumeOf c made
+    made_volume c keeps ranges empty = record {
+      catalog = empty_catalog name d0.size slots journal;
+      tells = empty_tells name d0.size slots journal c ranges empty;
+      sound = rw (h.name, h.blocks) (empty_sound name d0.size slots journal fit);
+      has = record { volume = refl; slots = refl; journal = refl; boot = refl; greatest = refl; last = refl; files = keeps.formats c woken slots journal };
+    }
+
+    pub init_done : (d : DiskState) (a b : Shown) → KeepsFiles → IsHome (empty_home name d0.size slots journal) → IfSome d.seen (λ image. IsEmptyVolume (empty_home name d0.size slots journal) (content_of image)) → IfSome d.seen (λ image. gate_open image ≡ false) → d.pending ≡ [] →
+        Passes d0 d → d.calls ≡ noted (disk_call.Power d0.stops) d0.calls → Emits a (line.Normal ∷ []) b → Serves log w (At name (Init slots journal)) a b (kept_down name false false has_parts d labels)
+    init_done d a b keeps ranges empty closed settled passes calls m =
+        let seen = some_of d.seen (passes.told ∙ h.place.told) in
+        let image = seen.0 in
+        let is_empty = subst (λ o. IfSome o (λ x. IsEmptyVolume (empty_home name d0.size slots journal) (content_of x))) seen.1 empty in
+        let is_closed = subst (λ o. IfSome o (λ x. gate_open x ≡ false)) seen.1 closed in
+        let alike = as_it_was d.seen image d seen.1 (stop_reading d d settled refl refl) in
+        record {
+          lines = line.Normal ∷ [];
+          world = record (occupied (At name (Init slots journal)) (after_rows name (silent (Formats slots journal) ∷ []) (record w { nodes = woken ∷ [] }))) { disks = counts_of d ∷ [] };
+          step = whole_step log w old h false (Init slots journal) refl none_early (silent (Formats slots journal) ∷ []) line.Normal (counts_of d ∷ []) refl refl refl (falls_here log w old h d passes);
+          emits = m;
+          stands = record {
+            node = made;
+            nodes = one_changed name woken (acted (Formats slots journal)) h.name;
+            disks = refl;
+            labels = h.labels;
+            in_use = or_false w.in_use ∙ h.in_use;
+            name = h.name;
+            blocks = h.blocks ∙ sym passes.size;
+            clock = h.clock;
+            unknown = refl;
+            place = record {
+              down = h.place.down;
+              reserved = h.place.reserved;
+              told = passes.told ∙ h.place.told;
+              disk = λ i left. let x = alike i left in (x.0 ∙ closed_fits image is_closed, inl (subst (λ y. IsVolumeOf y made) (sym x.1) (made_volume (content_of image) keeps ranges is_empty)));
+            };
+            calls = calls ∙ ap (noted (disk_call.Power d0.stops)) h.calls;
+            counts = passes.counted h.counts;
+          };
+        }

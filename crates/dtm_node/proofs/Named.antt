@@ -1,0 +1,237 @@
+-- What a label names, by the table and by the node's branch.
+use Rattle.std.proofs.Common.{◌≡◌, ℕ, ◌+◌, ◌<◌, List, [], ◌∷◌, ◌++◌, Bool, true, false, Option, Some, None, length, slice_set, nat_le, refl, sym, ◌∙◌, ap, subst, arith}
+use Rattle.std.specs.Prelude.{if◌then◌else◌, not, option_map}
+use Rattle.std.specs.Option.{option_and_then}
+use Rattle.std.specs.Str.{bytes_eq}
+use Rattle.std.proofs.lemmas.Bool.{le-leb}
+use Rattle.block_disk.specs.Disk.{CallLog}
+use Rattle.volume.specs.State.{VolumeState}
+use Rattle.volume_format.specs.declared.home.Ending.TheVariants as ending
+use Rattle.vms_base.specs.declared.outcomes.Reason.TheVariants as reason
+use Rattle.vms_model.specs.Ids.{Id}
+use Rattle.vms_model.specs.Transactions.{Commit, Abort, Aborted}
+use Rattle.vms_base.specs.Ids.{serial_of}
+use Rattle.vms_base.specs.declared.ids.Serial.{Serial}
+use Rattle.transcript_model.specs.Lines as line
+use Rattle.transcript_model.specs.Lines.{Line}
+use Rattle.transcript_model.specs.Emitting.{Shown, Emits}
+use Rattle.script_model.specs.Statements.{At, StartTrans, EndTrans, AbortTrans}
+use Rattle.records_model.specs.History.{same_id}
+use Rattle.run_model.specs.World.{World, Node, Label, Branch, Settlement, Settles, Begins, acted, find_label, find_branch, labelled, next_id, next_moment, without_branch}
+use Rattle.run_model.specs.Answers.{Row, made_label, unsettled_label, branch_labelled, new_label, refused_if, first_of, committed, aborted}
+use Rattle.directory_model.specs.Files.{AreChanged}
+use Rattle.dtm_node.specs.declared.labels.LabelEntry.{LabelEntry}
+use Rattle.dtm_node.specs.LabelTable.{label_of}
+use Rattle.dtm_node.specs.Standing.{Up, Putting, HasBranch, StandsUp, StandsFor, HasCatalog, branches_of, settlement_of}
+use Rattle.dtm_node.specs.Keeping.{Serves}
+use Rattle.dtm_node.specs.TheLaws.{TheLaws}
+use Rattle.dtm_node.specs.Uses.{Goes}
+use Rattle.dtm_node.specs.Writing.{settled_home}
+use Rattle.dtm_node.proofs.IdLemmas.{same_id-refl}
+use Rattle.dtm_node.proofs.UsesLemmas.{goes_nowhere}
+use Rattle.dtm_node.proofs.UpLemmas.{kept, disk_up, case_some, case_none, Standing, done_row}
+use Rattle.dtm_node.proofs.Groups.{Does, Means, Keeps}
+use Rattle.dtm_node.proofs.CatalogLemmas.{front_files, front_set, sound_settled}
+
+not_false : (b : Bool) → not b ≡ false → b ≡ true
+not_false true e = refl
+not_false false e = let none : ⊥ = cc in absurd none
+
+-- The table.
+
+pub same_node : (a b x y : List ℕ) (r : Bool) → x ≡ a → y ≡ b → r ≡ not (bytes_eq x y) → r ≡ false → bytes_eq a b ≡ true
+same_node a b x y r e f is no_difference = ap (λ t. bytes_eq t b) (sym e) ∙ ap (bytes_eq x) (sym f) ∙ not_false _ (sym is ∙ no_difference)
+
+pub labelled_entry : (node l : List ℕ) (ls : List Label) (r : Option LabelEntry) (e : LabelEntry) → option_map (label_of l) r ≡ find_label l ls → r ≡ Some e → bytes_eq node e.node ≡ true → labelled node l ls ≡ Some (serial_of e.serial)
+labelled_entry node l ls r e h is here =
+    let f : find_label l ls ≡ Some (label_of l e) = sym h ∙ ap (option_map (label_of l)) is in
+    case_some (find_label l ls) (λ label. if bytes_eq node label.node then Some label.serial else None) None (label_of l e) f ∙ ap (λ b. if b then Some (serial_of e.serial) else None) here
+
+-- the branch of a serial, where there is one of another serial or none
+pub other_branch : (id : Id) (branch : Option Putting) (s : Option Serial) (t : Serial) → option_map serial_of s ≡ option_map (λ (b : Putting). b.serial) branch → s ≡ Some t → same_id id (serial_of t) ≡ false → find_branch id (branches_of branch) ≡ None
+other_branch id None s t same is apart = refl
+other_branch id (Some b) s t same is apart =
+    let at : Some (serial_of t) ≡ Some b.serial = ap (option_map serial_of) (sym is) ∙ same in
+    let e : serial_of t ≡ b.serial = cc in
+    ap (λ (k : Bool). if k then Some (branch_as b) else None) (ap (same_id id) (sym e) ∙ apart)
+  where
+    branch_as : Putting → Branch
+    branch_as b = record { tid = b.serial; serial = b.serial; changes = length b.puts }
+
+pub no_branch : (id : Id) (branch : Option Putting) (s : Option Serial) → option_map serial_of s ≡ option_map (λ (b : Putting). b.serial) branch → s ≡ None → find_branch id (branches_of branch) ≡ None
+no_branch id None s same is = refl
+no_branch id (Some b) s same is =
+    let at : None ≡ Some b.serial = ap (option_map serial_of) (sym is) ∙ same in
+    let none : ⊥ = cc in absurd none
+
+-- the branch that the code has
+pub the_branch : (o : Option Putting) (id : Id) → option_map (λ (b : Putting). b.serial) o ≡ Some id → (b : Putting) × (o ≡ Some b) × (b.serial ≡ id)
+the_branch None id e = let none : ⊥ = cc in absurd none
+the_branch (Some b) id e = (b, refl, (let f : Some b.serial ≡ Some id = e in cc))
+
+-- What refuses a statement by its label.
+
+abbrev pub branch_as : Putting → Branch
+branch_as b = record { tid = b.serial; serial = b.serial; changes = length b.puts }
+
+module _ (log : CallLog) (w : World) (name : List ℕ) (u : Up) (labels : List Label) (h : StandsFor log (kept name u labels) w) (l : List ℕ) where
+  labelled_here : labelled h.node.name l w.labels ≡ labelled name l labels
+  labelled_here = ap (λ t. labelled t l w.labels) h.name ∙ ap (labelled name l) h.labels
+
+  pub made_none : labelled name l labels ≡ None → made_label w h.node l ≡ Some line.BadLabel
+  made_none f = case_none (labelled h.node.name l w.labels) (λ serial. None) (Some line.BadLabel) (labelled_here ∙ f)
+
+  pub made_some : (id : Id) → labelled name l labels ≡ Some id → made_label w h.node l ≡ None
+  made_some id f = case_some (labelled h.node.name l w.labels) (λ serial. None) (Some line.BadLabel) id (labelled_here ∙ f)
+
+  pub named_branch : (id : Id) (o : Option Branch) → labelled name l labels ≡ Some id → find_branch id (branches_of u.branch) ≡ o → branch_labelled w h.node l ≡ o
+  named_branch id o f g = ap (option_and_then (λ serial. find_branch serial h.node.branches)) (labelled_here ∙ f) ∙ ap (find_branch id) h.place.branches ∙ g
+
+  pub unsettled_none : (id : Id) → labelled name l labels ≡ Some id → find_branch id (branches_of u.branch) ≡ None → unsettled_label w h.node l ≡ Some line.NoSuchTransaction
+  unsettled_none id f g = case_none (branch_labelled w h.node l) (λ b. None) (Some line.NoSuchTransaction) (named_branch id None f g)
+
+  pub branch_there : (id : Id) (b : Putting) → u.branch ≡ Some b → b.serial ≡ id → labelled name l labels ≡ Some id → branch_labelled w h.node l ≡ Some (branch_as b)
+  branch_there id b at is f = named_branch id (Some (branch_as b)) f (ap (λ o. find_branch id (branches_of o)) at ∙ ap (λ (k : Bool). if k then Some (branch_as b) else None) (ap (same_id id) is ∙ same_id-refl id))
+
+  pub unsettled_some : (id : Id) (b : Putting) → u.branch ≡ Some b → b.serial ≡ id → labelled name l labels ≡ Some id → unsettled_label w h.node l ≡ None
+  unsettled_some id b at is f = case_some (branch_labelled w h.node l) (λ b. None) (Some line.NoSuchTransaction) (branch_as b) (branch_there id b at is f)
+
+  -- END_TRANS and ABORT_TRANS
+  pub uses_unmade : labelled name l labels ≡ None → first_of (made_label w h.node l) (unsettled_label w h.node l) ≡ Some line.BadLabel
+  uses_unmade f = ap (λ o. first_of o (unsettled_label w h.node l)) (made_none f)
+
+  pub uses_settled : (id : Id) → labelled name l labels ≡ Some id → find_branch id (branches_of u.branch) ≡ None → first_of (made_label w h.node l) (unsettled_label w h.node l) ≡ Some line.NoSuchTransaction
+  uses_settled id f g = ap (λ o. first_of o (unsettled_label w h.node l)) (made_some id f) ∙ unsettled_none id f g
+
+  uses_unsettled : (id : Id) (b : Putting) → u.branch ≡ Some b → b.serial ≡ id → labelled name l labels ≡ Some id → first_of (made_label w h.node l) (unsettled_label w h.node l) ≡ None
+  uses_unsettled id b at is f = ap (λ o. first_of o (unsettled_label w h.node l)) (made_some id f) ∙ unsettled_some id b at is f
+
+  -- the moment is the next one, since the clock stands at 0
+  next_is : next_moment h.node ≡ u.volume.catalog.home.greatest_moment.0 + 1
+  next_is =
+      let g = h.place.has.greatest in
+      let e : nat_le 0 (u.volume.catalog.home.greatest_moment.0 + 1) ≡ true = le-leb 0 (u.volume.catalog.home.greatest_moment.0 + 1) (omega arith) in
+      rw (h.clock, g, e) refl
+
+  pub end_does : (serial : Serial) (b : Putting) → u.branch ≡ Some b → b.serial ≡ serial_of serial → labelled name l labels ≡ Some (serial_of serial) →
+      (let m = u.volume.catalog.home.greatest_moment.0 + 1 in
+      Does w h.node (EndTrans l) (Settles (settlement_of m (record { tid = record { 0 = serial.0 }; serial = serial; ending = ending.Commit }))) (line.Committed (serial_of serial) (serial_of serial) m ∷ []) line.Normal)
+  end_does serial b at is f =
+      let row : ℕ → Id → Row = λ m id. record { act = Some (Settles (record { tid = id; serial = id; outcome = Commit; reason = None; moment = m })); lines = line.Committed id id m ∷ [] } in
+      record {
+        powers_not = refl;
+        touches_it = refl;
+        early_none = uses_unsettled (serial_of serial) b at is f;
+        late_none = refl;
+        rows_are = case_some (branch_labelled w h.node l) (λ b. committed h.node b ∷ []) [] (branch_as b) (branch_there (serial_of serial) b at is f) ∙ ap (λ m. row m b.serial ∷ []) next_is ∙ ap (λ id. row (u.volume.catalog.home.greatest_moment.0 + 1) id ∷ []) is;
+        answer_is = refl;
+      }
+
+  pub abort_does : (serial : Serial) (b : Putting) → u.branch ≡ Some b → b.serial ≡ serial_of serial → labelled name l labels ≡ Some (serial_of serial) →
+      (let m = u.volume.catalog.home.greatest_moment.0 + 1 in
+      Does w h.node (AbortTrans l) (Settles (settlement_of m (record { tid = record { 0 = serial.0 }; serial = serial; ending = ending.Abort reason.Aborted }))) (line.Aborted (serial_of serial) (serial_of serial) Aborted m ∷ []) line.Normal)
+  abort_does serial b at is f =
+      let row : ℕ → Id → Row = λ m id. record { act = Some (Settles (record { tid = id; serial = id; outcome = Abort; reason = Some Aborted; moment = m })); lines = line.Aborted id id Aborted m ∷ [] } in
+      record {
+        powers_not = refl;
+        touches_it = refl;
+        early_none = uses_unsettled (serial_of serial) b at is f;
+        late_none = refl;
+        rows_are = case_some (branch_labelled w h.node l) (λ b. aborted Aborted h.node b ∷ []) [] (branch_as b) (branch_there (serial_of serial) b at is f) ∙ ap (λ m. row m b.serial ∷ []) next_is ∙ ap (λ id. row (u.volume.catalog.home.greatest_moment.0 + 1) id ∷ []) is;
+        answer_is = refl;
+      }
+
+-- a branch that is settled leaves no branch
+pub settles_keeps : (u new : Up) (n : Node) (s : Settlement) (b : Putting) → TheLaws → StandsUp u n → u.branch ≡ Some b → b.serial ≡ s.serial → new.drawn ≡ u.drawn → new.branch ≡ None → Keeps new (acted (Settles s) n)
+settles_keeps u new n s b laws st at is drawn none = record {
+  up = st.up;
+  was_up = st.was_up;
+  drawn = st.drawn ∙ sym drawn;
+  branches = ap (without_branch s.serial) (st.branches ∙ ap branches_of at) ∙ ap (λ (k : Bool). if k then [] else branch_as b ∷ []) (ap (same_id s.serial) is ∙ same_id-refl s.serial) ∙ ap branches_of (sym none);
+  under_way = st.under_way;
+  changes = subst (λ o. HasBranch o (acted (Settles s) n)) (sym none) (laws.changes.settles n b.puts s (changed_by b st.changes at is));
+}
+  where
+    changed_by : (b : Putting) → HasBranch u.branch n → u.branch ≡ Some b → b.serial ≡ s.serial → AreChanged s.serial b.puts n.directory
+    changed_by b has at is = subst (λ id. AreChanged id b.puts n.directory) is (subst (λ o. HasBranch o n) at has)
+
+pub changes_of : (u : Up) (n : Node) (id : Id) (b : Putting) → HasBranch u.branch n → u.branch ≡ Some b → b.serial ≡ id → AreChanged id b.puts n.directory
+changes_of u n id b has at is = subst (λ id. AreChanged id b.puts n.directory) is (subst (λ o. HasBranch o n) at has)
+
+pub end_means : (node : List ℕ) (u : Up) (n : Node) (serial : Serial) (b : Putting) (bytes : List ℕ) (s : Standing node u n) → TheLaws → u.branch ≡ Some b → b.serial ≡ serial_of serial → u.volume.catalog.home.greatest_moment.0 < 24000001000002 →
+    (let m = u.volume.catalog.home.greatest_moment.0 + 1 in
+    Means node u n (Settles (settlement_of m (record { tid = record { 0 = serial.0 }; serial = serial; ending = ending.Commit }))) (slice_set s.up.content 0 bytes) (record u.volume.catalog { home = settled_home serial ending.Commit u.volume.catalog.home }))
+end_means node u n serial b bytes s laws at is early =
+    let v = u.volume.catalog in
+    let c = slice_set s.up.content 0 bytes in
+    let m = v.home.greatest_moment.0 + 1 in
+    let st : Settlement = settlement_of m (record { tid = record { 0 = serial.0 }; serial = serial; ending = ending.Commit }) in
+    let files = front_files node (disk_up u).size v s.up.content c n.directory laws.apart laws.stand s.is_up.sound s.up.has.files (front_set s.up.content 0 bytes (omega arith)) in
+    record {
+      has = record { volume = s.up.has.volume; slots = s.up.has.slots; journal = s.up.has.journal; boot = s.up.has.boot; greatest = refl; last = refl; files = laws.files.commits c v.heads n b.puts st files (changes_of u n (serial_of serial) b s.up.changes at is) refl };
+      sound = sound_settled node (disk_up u).size v serial ending.Commit early s.is_up.sound;
+      same = record { name = refl; blocks = refl; clock = refl; calls = refl };
+      disk = record { name = refl; blocks = refl; volume = refl; slots = refl; journal = refl; boot = refl; greatest = refl; last = refl; directory = refl };
+      durable = refl;
+    }
+
+-- START_TRANS
+
+module _ (log : CallLog) (w : World) (name : List ℕ) (u : Up) (labels : List Label) (h : StandsFor log (kept name u labels) w) (l : List ℕ) where
+  find_here : find_label l w.labels ≡ find_label l labels
+  find_here = ap (find_label l) h.labels
+
+  full_here : nat_le 100000 (length w.labels) ≡ nat_le 100000 (length labels)
+  full_here = ap (λ ls. nat_le 100000 (length ls)) h.labels
+
+  pub new_made : (label : Label) → find_label l labels ≡ Some label → new_label w l ≡ Some line.BadLabel
+  new_made label f = case_some (find_label l w.labels) (λ label. Some line.BadLabel) (refused_if (nat_le 100000 (length w.labels)) line.BadLabel) label (find_here ∙ f)
+
+  pub new_full : find_label l labels ≡ None → nat_le 100000 (length labels) ≡ true → new_label w l ≡ Some line.BadLabel
+  new_full f g = case_none (find_label l w.labels) (λ label. Some line.BadLabel) (refused_if (nat_le 100000 (length w.labels)) line.BadLabel) (find_here ∙ f) ∙ ap (λ b. refused_if b line.BadLabel) (full_here ∙ g)
+
+  pub new_none : find_label l labels ≡ None → nat_le 100000 (length labels) ≡ false → new_label w l ≡ None
+  new_none f g = case_none (find_label l w.labels) (λ label. Some line.BadLabel) (refused_if (nat_le 100000 (length w.labels)) line.BadLabel) (find_here ∙ f) ∙ ap (λ b. refused_if b line.BadLabel) (full_here ∙ g)
+
+  -- a branch is there already
+  pub quota_says : (b : Putting) → u.branch ≡ Some b → refused_if (nat_le 1 (length h.node.branches)) (line.QuotaExceeded line.Branches 1) ≡ Some (line.QuotaExceeded line.Branches 1)
+  quota_says b at = ap (λ bs. refused_if (nat_le 1 (length bs)) (line.QuotaExceeded line.Branches 1)) (h.place.branches ∙ ap branches_of at)
+
+  quota_none : u.branch ≡ None → refused_if (nat_le 1 (length h.node.branches)) (line.QuotaExceeded line.Branches 1) ≡ None
+  quota_none at = ap (λ bs. refused_if (nat_le 1 (length bs)) (line.QuotaExceeded line.Branches 1)) (h.place.branches ∙ ap branches_of at)
+
+  abbrev id_here : Id
+  id_here = record { node = name; boot = u.volume.catalog.home.boot; seq = u.drawn + 1 }
+
+  next_here : next_id h.node ≡ id_here
+  next_here = λ i. record { node = h.name i; boot = h.place.has.boot i; seq = h.place.drawn i + 1 }
+
+  abbrev begins_here : List ℕ → Id → Row
+  begins_here node id = record { act = Some (Begins (record { name = l; node = node; serial = id }) (record { tid = id; serial = id; changes = 0 })); lines = [] }
+
+  pub start_done : (new : Up) (a b : Shown) → TheLaws → u.branch ≡ None → find_label l labels ≡ None → nat_le 100000 (length labels) ≡ false → new.volume ≡ u.volume → new.drawn ≡ u.drawn + 1 → new.branch ≡ Some (record { serial = id_here; puts = [] }) →
+      Emits a (line.NormalId id_here ∷ []) b → Serves log w (At name (StartTrans l)) a b (kept name new (record { name = l; node = name; serial = id_here } ∷ labels))
+  start_done new a b laws none f g same drawn branch m =
+      let act = Begins (record { name = l; node = name; serial = id_here }) (record { tid = id_here; serial = id_here; changes = 0 }) in
+      done_row log w name u labels h (StartTrans l) act [] (line.NormalId id_here) new a b refl (new_none f g) (quota_none none)
+      (ap (λ node. begins_here node (next_id h.node) ∷ []) h.name ∙ ap (λ id. begins_here name id ∷ []) next_here) (ap (λ id. line.NormalId id) next_here)
+      (subst (λ (v : VolumeState). Goes (disk_up u) v.store.disk) (sym same) (goes_nowhere (disk_up u)))
+      (record { name = refl; blocks = refl; clock = refl; calls = refl })
+      (record {
+        content = h.place.content;
+        told = subst (λ (v : VolumeState). v.store.current ≡ Some h.place.content) (sym same) h.place.told;
+        up = h.place.up;
+        was_up = h.place.was_up;
+        drawn = ap (λ n. n + 1) h.place.drawn ∙ sym drawn;
+        branches = ap (λ bs. bs ++ record { tid = id_here; serial = id_here; changes = 0 } ∷ []) (h.place.branches ∙ ap branches_of none) ∙ ap branches_of (sym branch);
+        under_way = h.place.under_way;
+        has = subst (λ (v : VolumeState). HasCatalog h.place.content v.catalog (acted act h.node)) (sym same) (record { volume = h.place.has.volume; slots = h.place.has.slots; journal = h.place.has.journal; boot = h.place.has.boot; greatest = h.place.has.greatest; last = h.place.has.last; files = h.place.has.files });
+        changes = subst (λ o. HasBranch o (acted act h.node)) (sym branch) (laws.changes.begins h.node (record { name = l; node = name; serial = id_here }) (record { tid = id_here; serial = id_here; changes = 0 }) id_here (subst (λ o. HasBranch o h.node) none h.place.changes));
+      }) m
+
+  -- the same as the code has it: the ids that it drew, the puts and the node's name
+  pub start_as : (new : Up) (i j m : Id) (puts : List (ℕ × ℕ)) (node : List ℕ) (made : List Label) (a b : Shown) → TheLaws → u.branch ≡ None → find_label l labels ≡ None → nat_le 100000 (length labels) ≡ false → new.volume ≡ u.volume → new.drawn ≡ u.drawn + 1 →
+      i ≡ id_here → j ≡ id_here → m ≡ id_here → puts ≡ [] → node ≡ name → made ≡ record { name = l; node = node; serial = i } ∷ labels → new.branch ≡ Some (record { serial = j; puts = puts }) → Emits a (line.NormalId m ∷ []) b → Serves log w (At name (StartTrans l)) a b (kept name new made)
+  start_as new i j m puts node made a b laws none f g same drawn p q r e named is branch shown =
+      subst (λ ls. Serves log w (At name (StartTrans l)) a b (kept name new ls)) (sym (is ∙ (λ t. record { name = l; node = named t; serial = p t } ∷ labels)))
+      (start_done new a b laws none f g same drawn (branch ∙ (λ t. Some (record { serial = q t; puts = e t }))) (subst (λ x. Emits a (line.NormalId x ∷ []) b) r shown))

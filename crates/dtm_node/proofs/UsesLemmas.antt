@@ -1,0 +1,102 @@
+-- Calls of the store, one after another.
+use Rattle.std.proofs.Common.{◌≡◌, ℕ, ◌<◌, ◌≤◌, ◌^◌, [], Bool, true, false, Result, Ok, Err, OnOk, refl, ◌∙◌, arith, inl, inr}
+use Rattle.std.specs.Prelude.{nat_lt, IfErr}
+use Rattle.std.proofs.lemmas.Bool.{ltb-true, ltb-false}
+use Rattle.block_disk.specs.Counts.{counted}
+use Rattle.block_disk.specs.Disk.{DiskState}
+use Rattle.careful_write.specs.Down.{Counts, answered, is_failed, is_stopped}
+use Rattle.careful_write.specs.declared.down.Down.{Down}
+use Rattle.careful_write.specs.declared.down.Down.TheVariants as down
+use Rattle.transcript_model.specs.Outside.{Rose}
+use Rattle.transcript_model.proofs.OutsideLemmas.{rose_earlier}
+use Rattle.transcript_model.specs.Lines.{Cause, Failed, Stopped}
+use Rattle.run_model.specs.Steps.{count_of}
+use Rattle.dtm_node.specs.Standing.{counts_of, IsCounted}
+use Rattle.dtm_node.specs.Uses.{Goes, Uses, cause_of}
+
+up : (b : Bool) (n : ℕ) → n < 2 ^ 64 → (n ≤ counted b n) × (counted b n < 2 ^ 64)
+up true n h = (omega arith, omega arith)
+up false n h = (omega arith, h)
+
+raised : (n : ℕ) → Rose n (counted true n)
+raised n = elim (nat_lt n 18446744073709551615) as (λ t. nat_lt n 18446744073709551615 ≡ t → Rose n (counted true n)) [
+  | true ↦ λ t. let lt : n < 18446744073709551615 = ltb-true n 18446744073709551615 t in inl (omega arith)
+  | false ↦ λ t. let le : 18446744073709551615 ≤ n = ltb-false n 18446744073709551615 t in inr (omega arith)
+] refl
+
+caused : {T : Type 0} (q : Result T Down) (old new : DiskState) → new.faults ≡ counted (is_failed q) old.faults → new.stops ≡ counted (is_stopped q) old.stops → IfErr q (λ e. Rose (count_of (cause_of e) (counts_of old)) (count_of (cause_of e) (counts_of new)))
+caused (Ok x) old new f s = tt
+caused (Err down.Failed) old new f s = rw f (raised old.faults)
+caused (Err down.Stopped) old new f s = rw s (raised old.stops)
+
+-- a call that was counted
+pub uses_counts : {T : Type 0} (r : Result T Down) (old new : DiskState) → Counts r old new → OnOk r (new.pending ≡ []) → Uses r old new
+uses_counts r old new c ready = record {
+  goes = record {
+    size = c.size;
+    calls = c.calls;
+    faults = λ h. rw c.faults ((up (is_failed r) old.faults h.0).0);
+    stops = λ h. rw c.stops ((up (is_stopped r) old.stops h.1).0);
+    counted = λ h. (rw c.faults ((up (is_failed r) old.faults h.0).1), rw c.stops ((up (is_stopped r) old.stops h.1).1));
+    told = c.told;
+  };
+  cause = λ h. caused r old new c.faults c.stops;
+  ready = ready;
+}
+
+ok_so : {T : Type 0} {P : Type 0} (q : Result T Down) → P → OnOk q P
+ok_so (Ok x) p = p
+ok_so (Err e) p = tt
+
+-- one read
+pub uses_read : {T : Type 0} (r : Result T Down) (old new : DiskState) → new ≡ answered r old → old.pending ≡ [] → Uses r old new
+uses_read r old new is ready = rw is (record {
+  goes = record {
+    size = refl;
+    calls = refl;
+    faults = λ h. (up (is_failed r) old.faults h.0).0;
+    stops = λ h. (up (is_stopped r) old.stops h.1).0;
+    counted = λ h. ((up (is_failed r) old.faults h.0).1, (up (is_stopped r) old.stops h.1).1);
+    told = refl;
+  };
+  cause = λ h. caused r old (answered r old) refl refl;
+  ready = ok_so r ready;
+})
+
+-- no call
+pub goes_nowhere : (d : DiskState) → Goes d d
+goes_nowhere d = record { size = refl; calls = refl; faults = λ h. omega arith; stops = λ h. omega arith; counted = λ h. h; told = refl }
+
+pub goes_on : (a b c : DiskState) → Goes a b → Goes b c → Goes a c
+goes_on a b c f g = record {
+  size = g.size ∙ f.size;
+  calls = g.calls ∙ f.calls;
+  faults = λ h. omega (arith, f.faults h, g.faults (f.counted h));
+  stops = λ h. omega (arith, f.stops h, g.stops (f.counted h));
+  counted = λ h. g.counted (f.counted h);
+  told = g.told ∙ f.told;
+}
+
+-- a cause that comes later
+pub later_cause : (cause : Cause) (a b d : DiskState) → IsCounted a → Goes a b → Rose (count_of cause (counts_of b)) (count_of cause (counts_of d)) → Rose (count_of cause (counts_of a)) (count_of cause (counts_of d))
+later_cause Failed a b d h g r = rose_earlier _ _ _ (g.faults h) r
+later_cause Stopped a b d h g r = rose_earlier _ _ _ (g.stops h) r
+
+-- calls, and then one more
+pub uses_on : {T : Type 0} (r : Result T Down) (a b c : DiskState) → Goes a b → Uses r b c → Uses r a c
+uses_on (Ok x) a b c f u = record { goes = goes_on a b c f u.goes; cause = λ h. tt; ready = u.ready }
+uses_on (Err e) a b c f u = record { goes = goes_on a b c f u.goes; cause = λ h. later_cause (cause_of e) a b c h f (u.cause (f.counted h)); ready = tt }
+
+-- an error that is handed on
+pub uses_err : {S T : Type 0} (r : Result T Down) (q : Result S Down) (e : Down) (a b : DiskState) → r ≡ Err e → q ≡ Err e → Uses r a b → Uses q a b
+uses_err r q e a b is same u = record {
+  goes = u.goes;
+  cause = λ h. rw same (let k = u.cause h in rw is at k);
+  ready = rw same tt;
+}
+
+pub uses_done : {T : Type 0} (x : T) (a b : DiskState) → Goes a b → b.pending ≡ [] → Uses (Ok x) a b
+uses_done x a b f ready = record { goes = f; cause = λ h. tt; ready = ready }
+
+pub rose_of : {T : Type 0} (r : Result T Down) (e : Down) (old new : DiskState) → r ≡ Err e → Uses r old new → IsCounted old → Rose (count_of (cause_of e) (counts_of old)) (count_of (cause_of e) (counts_of new))
+rose_of r e old new is u h = let k = u.cause h in rw is at k

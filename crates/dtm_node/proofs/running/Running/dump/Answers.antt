@@ -1,0 +1,49 @@
+use Rattle.std.proofs.Common.{ap, sym, subst, ◌∙◌, refl}
+use Rattle.std.specs.Prelude.{option_map}
+use Rattle.volume.specs.declared.catalog.Catalog.{Catalog}
+use Rattle.script_model.specs.Statements.{Dump}
+use Rattle.transcript_model.specs.Lines as line
+use Rattle.vms_base.specs.Ids.{serial_of}
+use Rattle.dtm_node.specs.Keeping.{up_of}
+use Rattle.dtm_node.specs.Standing.{IsUp}
+use Rattle.dtm_node.proofs.RecordLemmas.{on_ok_then}
+use Rattle.dtm_node.proofs.UsesLemmas.{uses_read}
+use Rattle.dtm_node.proofs.UpLemmas.{refused_early}
+use Rattle.dtm_node.proofs.Files.{wants_not_found, wants_locked}
+use Rattle.dtm_node.proofs.Dumping.{dump_any}
+use Rattle.dtm_node.proofs.Calling.{replies_one}
+use Rattle.dtm_node.proofs.running.Running.dump.Goals as goal
+
+pub returns-in_default-clause-serves : goal.returns-in_default-clause-serves
+returns-in_default-clause-serves g c = λ labels log w h.
+    refused_early log w _ (up_of c.args.self.now) labels h (Dump c.args.name.now) line.FileNotFound _ _ (wants_not_found (up_of c.args.self.now) h.node c.args.name.now h.place c.the_laws.ensures c.in_default.ensures.none) c.emit.ensures.emits
+
+pub returns-in-Some-locked_by-clause-serves : goal.returns-in-Some-locked_by-clause-serves
+returns-in-Some-locked_by-clause-serves g c = λ labels log w h.
+    let found = rw (c.in-Some.file-is, c.in-Some.head-is) at c.in-Some.ensures.found in
+    refused_early log w _ (up_of c.args.self.now) labels h (Dump c.args.name.now) (line.FileLocked (serial_of c.in-Some-locked_by.serial)) _ _
+    (wants_locked (up_of c.args.self.now) h.node c.args.name.now c.in-Some.file c.in-Some.head (serial_of c.in-Some-locked_by.serial) h.place c.the_laws.ensures found.1 (sym c.locked_by.ensures ∙ ap (option_map serial_of) c.in-Some-locked_by.is)) c.emit-in-Some-locked_by.ensures.emits
+
+pub show_records-requires-clause-there : goal.show_records-requires-clause-there
+show_records-requires-clause-there g c =
+    let found = rw (c.in-Some.file-is, c.in-Some.head-is) at c.in-Some.ensures.found in
+    (c.in-Some.file, found.1.there)
+
+pub returns-clause-up : goal.returns-clause-up
+returns-clause-up g c = on_ok_then c.show_records.result (λ e. subst (IsUp c.args.self.now.volume.catalog.home.node) (sym e) c.requires.up) c.show_records.ensures.same
+
+pub returns-clause-uses : goal.returns-clause-uses
+returns-clause-uses g c = uses_read c.show_records.result _ _ c.show_records.ensures.disk c.requires.up.idle.ready.settled
+
+pub returns-clause-serves : goal.returns-clause-serves
+returns-clause-serves g c = λ labels log w h.
+    let found = rw (c.in-Some.file-is, c.in-Some.head-is) at c.in-Some.ensures.found in
+    let free = sym c.locked_by.ensures ∙ ap (option_map serial_of) c.in_default-locked_by.is in
+    dump_any log w _ (up_of c.args.self.now) labels h c.the_laws.ensures c.args.name.now c.in-Some.file c.in-Some.head found.1 free c.show_records.result (up_of c.show_records.new.self) _ _ _ c.requires.up (sym (ap (λ (v : Catalog). v.home.node) c.show_records.ensures.catalog)) c.show_records.ensures.same c.show_records.ensures.disk
+    (uses_read c.show_records.result _ _ c.show_records.ensures.disk c.requires.up.idle.ready.settled) (λ m same. c.show_records.ensures.shows h.place.content m h.place.told same)
+
+pub returns-in_default-clause-fine : goal.returns-in_default-clause-fine
+returns-in_default-clause-fine g c = replies_one _ _ _ c.emit.ensures.emits refl
+
+pub returns-in-Some-locked_by-clause-fine : goal.returns-in-Some-locked_by-clause-fine
+returns-in-Some-locked_by-clause-fine g c = replies_one _ _ _ c.emit-in-Some-locked_by.ensures.emits refl

@@ -1,0 +1,19 @@
+use Rattle.dtm_node.proofs.running.Running.serve.Goals as goal
+
+pub returns-in-Create-clause-serves : goal.returns-in-Create-clause-serves
+returns-in-Create-clause-serves g c = λ log w h. rw c.in-Create.is (c.create.ensures.serves c.args.labels.now log w h)
+
+pub returns-in-SetFile-clause-serves : goal.returns-in-SetFile-clause-serves
+returns-in-SetFile-clause-serves g c = λ log w h. rw c.in-SetFile.is (c.set_file.ensures.serves c.args.labels.now log w h)
+
+pub returns-in-Put-clause-serves : goal.returns-in-Put-clause-serves
+returns-in-Put-clause-serves g c = λ log w h. rw c.in-Put.is (rw c.bytes.ensures.value at c.put.ensures.serves log w h)
+
+pub returns-in-EndTrans-clause-serves : goal.returns-in-EndTrans-clause-serves
+returns-in-EndTrans-clause-serves g c = λ log w h. rw c.in-EndTrans.is (c.end.ensures.serves log w h)
+
+pub returns-in-AbortTrans-clause-serves : goal.returns-in-AbortTrans-clause-serves
+returns-in-AbortTrans-clause-serves g c = λ log w h. rw c.in-AbortTrans.is (c.abort.ensures.serves log w h)
+
+pub returns-in-Dump-clause-serves : goal.returns-in-Dump-clause-serves
+returns-in-Dump-clause-serves g c = λ log w h. rw c.in-Dump.is (c.dump.ensures.serves c.args.labels.now log w h)

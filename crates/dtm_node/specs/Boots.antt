@@ -1,0 +1,80 @@
+-- How a boot goes, from a disk that runs to the node that is up.
+use Rattle.std.specs.Prelude.{◌≡◌, ◌⊎◌, ℕ, ◌≤◌, List, Bool, true, Option, Some, None}
+use Rattle.block_disk.specs.Disk.{DiskState, MayLeave}
+use Rattle.careful_write.specs.Content.{content_of}
+use Rattle.careful_write.specs.Load.{fitting}
+use Rattle.careful_write.specs.State.{StoreState}
+use Rattle.transcript.specs.Forms.{line_of, HasTime}
+use Rattle.transcript_model.specs.Outside.{Rose}
+use Rattle.volume.specs.Conditions.{IsFirstFinding}
+use Rattle.volume.specs.State.{VolumeState}
+use Rattle.run_model.specs.World.{Node, Boots, ComesUp, Sound, Faulty, Unknown, acted, fallen}
+use Rattle.run_model.specs.Answers.{bootable}
+use Rattle.run_model.specs.Steps.{count_of}
+use Rattle.dtm_node.specs.declared.boot.Booted.{Booted}
+use Rattle.dtm_node.specs.declared.boot.Booted.TheVariants as booted
+use Rattle.dtm_node.specs.Standing.{Up, IsUp, StandsUp, HasCatalog, HasDisk, IsVolumeOf, IsCounted, counts_of}
+use Rattle.dtm_node.specs.Uses.{cause_of}
+use Rattle.dtm_node.specs.Calling.{IsBootRefusal}
+
+-- what a node keeps that has just come up with this volume
+abbrev pub fresh_up : VolumeState → Up
+fresh_up v = record { volume = v; drawn = 0; branch = None }
+
+abbrev pub disk_of : {D : Type 0} → (D → DiskState) → Booted D → DiskState
+disk_of state (booted.Up v) = v.store.disk
+disk_of state (booted.Refused disk group pool form) = state disk
+disk_of state (booted.Fell disk group pool down) = state disk
+
+abbrev pub pool_of : {D : Type 0} → Booted D → List (Option (List ℕ))
+pool_of (booted.Up v) = v.store.pool
+pool_of (booted.Refused disk group pool form) = pool
+pool_of (booted.Fell disk group pool down) = pool
+
+-- A content, where an open group fits or does not, is what a node's disk has.
+abbrev pub HasContent : Node → Bool → List (List ℕ) → Type 0
+HasContent n fits content = elim n.volume [ Sound ↦ (fits ≡ true) × IsVolumeOf content n | Faulty condition block ↦ IsFirstFinding n.name fits content condition block | Unknown ↦ ⊥ ]
+
+-- each image that a power loss may leave has this content, and its open group fits or does not as is said
+abbrev pub AllHave : Bool → List (List ℕ) → DiskState → Type 0
+AllHave fits content d = (image : List (List ℕ)) → MayLeave d image → (fitting image ≡ fits) × (content_of image ≡ content)
+
+-- what is said of a node on whose disk a boot is under way
+pub record IsBooting (name : List ℕ) (d : DiskState) (n : Node) : Type 0 where
+  pub name_is : n.name ≡ name
+  pub blocks : n.blocks ≡ d.size
+  pub under_way : n.under_way ≡ None
+
+-- its disk runs, and has what the node has
+pub record IsAwake (name : List ℕ) (d : DiskState) (n : Node) : Type 0 where
+  pub booting : IsBooting name d n
+  pub image : List (List ℕ)
+  pub told : d.seen ≡ Some image
+  pub has : HasContent n (fitting image) (content_of image)
+
+-- a store over it, which has what the node has
+pub record IsOpened (name : List ℕ) (s : StoreState) (n : Node) : Type 0 where
+  pub booting : IsBooting name s.disk n
+  pub content : List (List ℕ)
+  pub told : s.current ≡ Some content
+  pub alike : AllHave s.fits content s.disk
+  pub has : HasContent n s.fits content
+
+-- its volume
+pub record IsMounted (v : VolumeState) (n : Node) : Type 0 where
+  pub booting : IsBooting v.catalog.home.node v.store.disk n
+  pub content : List (List ℕ)
+  pub told : v.store.current ≡ Some content
+  pub has : HasCatalog content v.catalog n
+
+-- How a boot went of this node: it is up, or was refused, or the disk went down, perhaps while the boot count was raised.
+abbrev pub BootsTo : {D : Type 0} → (D → DiskState) → Node → Booted D → Type 0
+BootsTo state n (booted.Up v) = (bootable n ≡ None) × StandsUp (fresh_up v) (acted ComesUp (acted Boots n))
+BootsTo state n (booted.Refused disk group pool form) = (bootable n ≡ Some (line_of form)) × HasDisk n (state disk)
+BootsTo state n (booted.Fell disk group pool down) = HasDisk (fallen None n) (state disk) ⊎ ((bootable n ≡ None) × HasDisk (fallen (Some Boots) n) (state disk))
+
+-- What holds whatever the disk has: a volume that is up is in order, a refusal is one of a disk that runs, and a failure raised its count.
+abbrev pub IsBooted : {D : Type 0} → (D → DiskState) → List ℕ → DiskState → Booted D → Type 0
+IsBooted state name old (booted.Up v) = IsUp name (fresh_up v) × (v.catalog.home.greatest_moment.0 ≤ 24000000000000)
+IsBooted state name old (booted.Refused disk group pool form) = HasTime form × IsBootRefusal (line_of form)
+IsBooted state name old (booted.Fell disk group pool down) = IsCounted old → Rose (count_of (cause_of down) (counts_of old)) (count_of (cause_of down) (counts_of (state disk)))

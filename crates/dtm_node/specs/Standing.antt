@@ -1,0 +1,173 @@
+-- What a node stands for: a node of the world, by what its disk has and by what the program keeps of it.
+use Rattle.std.specs.Prelude.{◌≡◌, ◌⊎◌, ℕ, ◌<◌, ◌≤◌, ◌^◌, List, [], ◌∷◌, Bool, true, false, Option, Some, None, length, option_map, IfSome, is_some}
+use Rattle.block_disk.specs.Disk.{DiskState, CallLog, MayLeave, noted}
+use Rattle.block_disk.specs.declared.disk.DiskCall.TheVariants as disk_call
+use Rattle.careful_write.specs.Content.{content_of}
+use Rattle.careful_write.specs.Load.{fitting}
+use Rattle.careful_write.specs.State.{IsIdle, Leaves}
+use Rattle.change_set.specs.Files.{free_frames}
+use Rattle.volume_format.specs.declared.home.Home.{Home}
+use Rattle.volume_format.specs.declared.home.Settled.{Settled}
+use Rattle.volume_format.specs.declared.home.Ending.{Ending}
+use Rattle.volume_format.specs.declared.home.Ending.TheVariants as ending
+use Rattle.volume.specs.declared.catalog.Catalog.{Catalog}
+use Rattle.volume.specs.Catalogs.{TellsCatalog, IsSound}
+use Rattle.volume.specs.Conditions.{IsFirstFinding}
+use Rattle.volume.specs.State.{VolumeState, Holds}
+use Rattle.vms_model.specs.Ids.{Id}
+use Rattle.vms_model.specs.Transactions.{Outcome, Commit, Abort, Reason}
+use Rattle.vms_base.specs.Ids.{tid_of, serial_of}
+use Rattle.vms_base.specs.Outcomes.{reason_of}
+use Rattle.run_model.specs.World.{World, Node, Label, Branch, Act, DiskCounts, Settlement, Call, Arm, Power, Sound, Faulty, Unknown, acted}
+use Rattle.directory_model.specs.Files.{AreFiles, AreChanged, AreUnchanged, AreNumbers}
+
+-- how often a disk failed and was stopped
+abbrev pub counts_of : DiskState → DiskCounts
+counts_of d = record { faults = d.faults; stops = d.stops }
+
+-- its counts are numbers of 64 bits
+abbrev pub IsCounted : DiskState → Type 0
+IsCounted d = (d.faults < 2 ^ 64) × (d.stops < 2 ^ 64)
+
+-- calls of the world, the newest first, as a disk notes them behind those before
+abbrev pub noted_all : List Call → CallLog → CallLog
+noted_all [] log = log
+noted_all (Arm writes choice ∷ calls) log = noted (disk_call.Arm writes choice) (noted_all calls log)
+noted_all (Power stops ∷ calls) log = noted (disk_call.Power stops) (noted_all calls log)
+
+-- What the disk has.
+
+-- a settlement that a home tells, at this moment
+abbrev pub settlement_of : ℕ → Settled → Settlement
+settlement_of moment s = record { tid = tid_of s.tid; serial = serial_of s.serial; outcome = outcome_of s.ending; reason = reason_in s.ending; moment = moment }
+  where
+    outcome_of : Ending → Outcome
+    outcome_of ending.Commit = Commit
+    outcome_of (ending.Abort r) = Abort
+
+    reason_in : Ending → Option Reason
+    reason_in ending.Commit = None
+    reason_in (ending.Abort r) = Some (reason_of r)
+
+-- the last settlement that a home tells: its moment is the greatest
+abbrev pub last_of : Home → Option Settlement
+last_of h = option_map (settlement_of h.greatest_moment.0) h.last
+
+-- a node of the world has this volume's sizes, counts, last settlement and files
+pub record HasCatalog (content : List (List ℕ)) (v : Catalog) (n : Node) : Type 0 where
+  pub volume : n.volume ≡ Sound
+  pub slots : n.slots ≡ v.home.slots
+  pub journal : n.journal ≡ v.home.ru_blocks
+  pub boot : n.boot ≡ v.home.boot
+  pub greatest : n.greatest ≡ v.home.greatest_moment.0
+  pub last : n.last ≡ last_of v.home
+  pub files : AreFiles content v.heads n.directory
+
+-- a content is a volume of this node, and tells what the node has
+pub record IsVolumeOf (content : List (List ℕ)) (n : Node) : Type 0 where
+  pub catalog : Catalog
+  pub tells : TellsCatalog catalog content
+  pub sound : IsSound n.name n.blocks catalog
+  pub has : HasCatalog content catalog n
+
+-- a content is that of a node, or that of the node after the act that is under way
+abbrev pub IsEitherOf : Node → List (List ℕ) → Type 0
+IsEitherOf n content = IsVolumeOf content n ⊎ ((act : Act) × (n.under_way ≡ Some act) × IsVolumeOf content (acted act n))
+
+-- each image that a power loss may leave fails this condition first, at this block
+abbrev pub FailsFirst : List ℕ → ℕ → ℕ → DiskState → Type 0
+FailsFirst name condition block d = (image : List (List ℕ)) → MayLeave d image → IsFirstFinding name (fitting image) (content_of image) condition block
+
+-- what the disk of a node that is down has: where it is known, each image that a power loss may leave has it
+abbrev pub HasDisk : Node → DiskState → Type 0
+HasDisk n d = elim n.volume [ Sound ↦ Leaves (IsEitherOf n) d | Faulty condition block ↦ FailsFirst n.name condition block d × (n.under_way ≡ None) | Unknown ↦ Unit {0} ]
+
+-- What the program keeps of a node that is up.
+
+-- the unsettled branch with what it put
+pub record Putting : Type 0 where
+  pub serial : Id
+  pub puts : List (ℕ × ℕ)
+
+pub record Up : Type 0 where
+  pub volume : VolumeState
+  pub drawn : ℕ
+  pub branch : Option Putting
+
+-- what holds of it on any disk: the next group may be applied, nothing is staged, frames are free, and what it keeps of the disk is in order
+pub record IsUp (name : List ℕ) (r : Up) : Type 0 where
+  pub idle : IsIdle r.volume.store
+  pub frames : 32 ≤ free_frames r.volume.store.pool
+  pub sound : IsSound name r.volume.store.disk.size r.volume.catalog
+  pub holds : Holds r.volume
+  pub least : 4096 ≤ r.volume.store.disk.size
+  pub most : r.volume.store.disk.size ≤ 65536
+  pub numbers : IfSome r.branch (λ b. AreNumbers b.puts r.volume.catalog.heads × (length b.puts ≤ 16))
+
+-- the branches of the world
+abbrev pub branches_of : Option Putting → List Branch
+branches_of None = []
+branches_of (Some b) = record { tid = b.serial; serial = b.serial; changes = length b.puts } ∷ []
+
+-- the files have the changes of the unsettled branch alone, or none
+abbrev pub HasBranch : Option Putting → Node → Type 0
+HasBranch None n = AreUnchanged n.directory
+HasBranch (Some b) n = AreChanged b.serial b.puts n.directory
+
+-- a node of the world that is up, where the disk tells its content
+pub record StandsUp (r : Up) (n : Node) : Type 0 where
+  pub content : List (List ℕ)
+  pub told : r.volume.store.current ≡ Some content
+  pub up : n.up ≡ true
+  pub was_up : n.was_up ≡ true
+  pub drawn : n.drawn ≡ r.drawn
+  pub branches : n.branches ≡ branches_of r.branch
+  pub under_way : n.under_way ≡ None
+  pub has : HasCatalog content r.volume.catalog n
+  pub changes : HasBranch r.branch n
+
+-- a node of the world that is down: what its disk has, and what it reserved where it was up before
+pub record StandsDown (has_parts : Bool) (d : DiskState) (n : Node) : Type 0 where
+  pub down : n.up ≡ false
+  pub reserved : n.was_up ≡ true → has_parts ≡ true
+  pub told : is_some d.seen ≡ true
+  pub disk : HasDisk n d
+
+-- what stands over a node's disk
+pub data Place : Type 0 where
+  IsDown : (has_parts : Bool) → DiskState → Place
+  IsRunning : Up → Place
+
+abbrev pub disk_in : Place → DiskState
+disk_in (IsDown has_parts d) = d
+disk_in (IsRunning r) = r.volume.store.disk
+
+abbrev pub StandsIn : Place → Node → Type 0
+StandsIn (IsDown has_parts d) n = StandsDown has_parts d n
+StandsIn (IsRunning r) n = StandsUp r n
+
+-- what is kept of a rack with this one node: its name, whether nothing is known of its disk, whether a node was booted, its place, and the labels
+pub record Kept : Type 0 where
+  pub name : List ℕ
+  pub unknown : Bool
+  pub in_use : Bool
+  pub place : Place
+  pub labels : List Label
+
+abbrev pub is_unknown_flag : Node → Bool
+is_unknown_flag n = elim n.volume [ Sound ↦ false | Faulty condition block ↦ false | Unknown ↦ true ]
+
+-- a world with this node alone, whose disk noted these calls before the run
+pub record StandsFor (before : CallLog) (k : Kept) (w : World) : Type 0 where
+  pub node : Node
+  pub nodes : w.nodes ≡ node ∷ []
+  pub disks : w.disks ≡ counts_of (disk_in k.place) ∷ []
+  pub labels : w.labels ≡ k.labels
+  pub in_use : w.in_use ≡ k.in_use
+  pub name : node.name ≡ k.name
+  pub blocks : node.blocks ≡ (disk_in k.place).size
+  pub clock : node.clock ≡ 0
+  pub unknown : is_unknown_flag node ≡ k.unknown
+  pub place : StandsIn k.place node
+  pub calls : (disk_in k.place).calls ≡ noted_all node.calls before
+  pub counts : IsCounted (disk_in k.place)

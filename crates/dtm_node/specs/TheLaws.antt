@@ -1,0 +1,22 @@
+-- The laws that a node's statements rest on.
+use Rattle.careful_write.specs.State.{OneContent}
+use Rattle.volume.specs.Catalogs.{StandsOnTheFront}
+use Rattle.directory_model.specs.Laws.{FindsFiles, FindsPlaces, FindsRuns, KeepsFiles, KeepsChanges, KeepsNumbers, TellsChanges, TakesPutsBack, ShowsRecords, StandsOnExtents, LieApart, WritesApart, KeepsHeads, MakesFiles}
+
+pub record TheLaws : Type 0 where
+  pub finds : FindsFiles
+  pub places : FindsPlaces
+  pub runs : FindsRuns
+  pub files : KeepsFiles
+  pub changes : KeepsChanges
+  pub numbers : KeepsNumbers
+  pub tells : TellsChanges
+  pub back : TakesPutsBack
+  pub shows : ShowsRecords
+  pub stand : StandsOnExtents
+  pub apart : LieApart
+  pub writes : WritesApart
+  pub heads : KeepsHeads
+  pub makes : MakesFiles
+  pub one : OneContent
+  pub front : StandsOnTheFront

@@ -1,0 +1,15 @@
+//! One node over its disk: what is asked of it, answered step by step as the world of a run says.
+#![tactic(auto)]
+
+mod boot;
+mod labels;
+mod law;
+mod node;
+mod put;
+mod puts;
+mod records;
+mod running;
+mod sizes;
+
+pub use labels::{LabelEntry, Labels};
+pub use node::Node;

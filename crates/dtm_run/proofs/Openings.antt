@@ -1,0 +1,97 @@
+-- A node for each disk before a run.
+use Rattle.std.proofs.Common.{◌≡◌, ⊎_elim, ℕ, List, [], ◌∷◌, true, false, Option, Some, None, is_some, refl, ap}
+use Rattle.block_disk.specs.Disk.{DiskState}
+use Rattle.careful_write.specs.Content.{content_of}
+use Rattle.careful_write.specs.Load.{fitting}
+use Rattle.careful_write.proofs.GroupParts.{stop_reading}
+use Rattle.run_model.specs.World.{Node, IsOpening, Sound, Faulty}
+use Rattle.run_model.specs.Laws.{AreOpening}
+use Rattle.dtm_node.specs.Boots.{AllHave}
+use Rattle.dtm_node.specs.Standing.{IsVolumeOf, last_of}
+use Rattle.dtm_node.proofs.Booting.{as_it_was, have_disk}
+use Rattle.dtm_run.specs.Headline.{StandOn, StandsOn}
+use Rattle.dtm_run.specs.Openings.{AreMade, HasNone, HasVolume, IsMade, OpeningsExist}
+use Rattle.dtm_run.proofs.Files.{has_files}
+
+-- each image of a disk on which nothing is pending is what it reads as
+all_have : (d : DiskState) (image : List (List ℕ)) → d.seen ≡ Some image → d.pending ≡ [] → AllHave (fitting image) (content_of image) d
+all_have d image told settled = as_it_was d.seen image d told (stop_reading d d settled refl refl)
+
+is_told : (o : Option (List (List ℕ))) (image : List (List ℕ)) → o ≡ Some image → is_some o ≡ true
+is_told o image e = ap (λ (x : Option (List (List ℕ))). is_some x) e
+
+-- a node over a sound volume
+module _ (name : List ℕ) (d : DiskState) (m : IsMade name d) where
+  sound_opens : HasVolume name d.size m.image → (n : Node) × IsOpening n × StandsOn name d n
+  sound_opens v =
+      let files = has_files (content_of m.image) v.catalog.heads v.catalog.home.greatest_moment.0 v.whole in
+      let n : Node = record {
+        name = name;
+        blocks = d.size;
+        volume = Sound;
+        slots = v.catalog.home.slots;
+        journal = v.catalog.home.ru_blocks;
+        boot = v.catalog.home.boot;
+        greatest = v.catalog.home.greatest_moment.0;
+        last = last_of v.catalog.home;
+        directory = files.0;
+        up = false;
+        was_up = false;
+        clock = 0;
+        drawn = 0;
+        branches = [];
+        settled = [];
+        calls = [];
+        under_way = None;
+      } in
+      let volume : IsVolumeOf (content_of m.image) n = record {
+        catalog = v.catalog;
+        tells = v.tells;
+        sound = v.sound;
+        has = record { volume = refl; slots = refl; journal = refl; boot = refl; greatest = refl; last = refl; files = files.1 };
+      } in (
+        n,
+        record { down = refl; was_down = refl; clock = refl; drawn = refl; branches = refl; settled = refl; calls = refl; under_way = refl; resting = files.2 },
+        record { name_is = refl; blocks = refl; known = refl; told = is_told d.seen m.image m.told; counted = m.counted; has = have_disk n (fitting m.image) (content_of m.image) d refl (all_have d m.image m.told m.settled) (v.fits, volume) },
+      )
+
+  faulty_opens : HasNone name m.image → (n : Node) × IsOpening n × StandsOn name d n
+  faulty_opens f =
+      let n : Node = record {
+        name = name;
+        blocks = d.size;
+        volume = Faulty f.number f.block;
+        slots = 0;
+        journal = 0;
+        boot = 0;
+        greatest = 0;
+        last = None;
+        directory = [];
+        up = false;
+        was_up = false;
+        clock = 0;
+        drawn = 0;
+        branches = [];
+        settled = [];
+        calls = [];
+        under_way = None;
+      } in (
+        n,
+        record { down = refl; was_down = refl; clock = refl; drawn = refl; branches = refl; settled = refl; calls = refl; under_way = refl; resting = tt },
+        record { name_is = refl; blocks = refl; known = refl; told = is_told d.seen m.image m.told; counted = m.counted; has = have_disk n (fitting m.image) (content_of m.image) d refl (all_have d m.image m.told m.settled) f.finding },
+      )
+
+  opens : (n : Node) × IsOpening n × StandsOn name d n
+  opens = ⊎_elim sound_opens faulty_opens m.content
+
+all_open : (names : List (List ℕ)) (ds : List DiskState) → AreMade names ds → (nodes : List Node) × AreOpening nodes × StandOn names ds nodes
+all_open [] [] h = ([], tt, tt)
+all_open [] (d ∷ ds) h = absurd h
+all_open (name ∷ names) [] h = absurd h
+all_open (name ∷ names) (d ∷ ds) h =
+    let first = opens name d h.0 in
+    let rest = all_open names ds h.1 in
+    (first.0 ∷ rest.0, (first.1, rest.1), (first.2, rest.2))
+
+pub openings_exist : OpeningsExist
+openings_exist = record { one = opens; all = all_open }

@@ -1,5 +1,0 @@
-use Rattle.std.proofs.Common.{length}
-use Rattle.reference_run.proofs.dump.+rows_shown.Given as goal
-
-abbrev pub decreases-rows_shown : goal.decreases-rows_shown
-decreases-rows_shown l = length l.rows.now

@@ -1,0 +1,8 @@
+-- Histories by their unsettled branches.
+use Rattle.std.specs.Prelude.{List, []}
+use Rattle.std.specs.FinMap.{empty}
+use Rattle.records_model.specs.History.{History, LiveChanges}
+
+-- a history of unsettled branches alone
+abbrev pub only_live : List LiveChanges → History
+only_live live = record { base = empty; moment = 0; settled = []; live = live }

@@ -1,0 +1,279 @@
+// The files of the node, at their places.
+ghost use Rattle.std.specs.Prelude.{◌≡◌, ◌+◌, ◌^◌, ◌<◌, ◌≤◌, ℕ, suc, max, nat_le, if◌then◌else◌, List, map, option_map, replicate, length, IfSome, IfOk, Some, None};
+ghost use Rattle.run_model.specs.World as world;
+ghost use Rattle.run_model.specs.World.{extents_of};
+ghost use Rattle.run_model.specs.Extents as extents;
+ghost use Rattle.reference_world.specs.Standing.{file_of, directory_of, settlement_of};
+ghost use Rattle.reference_world.specs.Directories.{file_change_of, IsRuns};
+
+use crate::history::{as_it_stands, settled_file, with_change};
+use crate::lists::{push_front, take_first};
+use crate::world::{Change, File, OwnId, Settlement};
+use std::alloc::{AllocError, Global};
+use std::cmp::max;
+use std::mem::replace;
+use vms_base::FileName;
+
+/// So many places without files.
+pub fn empty_places(alloc: Global, n: usize) -> Result<Vec<Option<File>>, AllocError>
+    ensures { IfOk result (λ v. directory_of v.items ≡ replicate n None) }
+{
+    if n == 0 {
+        return Ok(Vec::new(alloc));
+    }
+    let mut all = empty_places(alloc, n - 1)?;
+    push_front(&mut all, None)?;
+    Ok(all)
+}
+
+/// The file of this name.
+pub fn find_file<'a>(files: &'a [Option<File>], name: &FileName) -> Option<&'a File>
+    ensures { option_map (λ f. file_of f.now) result ≡ world.find_file name.now (directory_of files.now) }
+{
+    match files {
+        [] => None,
+        [slot, rest @ ..] => match slot {
+            None => find_file(rest, name),
+            Some(f) => {
+                if name.bytes() == f.name.bytes() {
+                    Some(f)
+                } else {
+                    find_file(rest, name)
+                }
+            }
+        },
+    }
+}
+
+/// The lowest place without a file.
+pub fn free_place(files: &[Option<File>]) -> Option<usize>
+    ensures place { result ≡ world.free_place (directory_of files.now) }
+    ensures within { IfSome result (λ n. n < length files.now) }
+{
+    match files {
+        [] => None,
+        [slot, rest @ ..] => match slot {
+            None => Some(0),
+            Some(_) => match free_place(rest) {
+                Some(n) => Some(n + 1),
+                None => None,
+            },
+        },
+    }
+}
+
+/// Whether a file has this block.
+pub fn is_taken(files: &[Option<File>], block: u64) -> bool
+    ensures { result ≡ extents.is_taken (extents_of (directory_of files.now)) block }
+{
+    match files {
+        [] => false,
+        [slot, rest @ ..] => match slot {
+            None => is_taken(rest, block),
+            Some(f) => has_block(f, block) || is_taken(rest, block),
+        },
+    }
+}
+
+// Whether a file's buckets have this block.
+fn has_block(f: &File, block: u64) -> bool
+    ensures { result ≡ extents.in_extent block (world.extent_of (file_of f.now)) }
+{
+    if block < f.start {
+        return false;
+    }
+    match f.buckets.checked_mul(u64::from(f.bucket)) {
+        Some(blocks) => block - f.start < blocks,
+        None => true,
+    }
+}
+
+// A place of the directory then.
+fn settled_place(
+    alloc: Global,
+    place: Option<File>,
+    s: Settlement,
+) -> Result<Option<File>, AllocError>
+    ensures { IfOk result (λ p. option_map file_of p ≡ option_map (world.settled_file (settlement_of s)) (option_map file_of place)) }
+{
+    match place {
+        None => Ok(None),
+        Some(f) => match settled_file(alloc, f, s) {
+            Ok(f) => Ok(Some(f)),
+            Err(e) => Err(e),
+        },
+    }
+}
+
+/// The files after a branch was settled.
+pub fn settled_files(
+    alloc: Global,
+    files: Vec<Option<File>>,
+    s: Settlement,
+) -> Result<Vec<Option<File>>, AllocError>
+    ensures { IfOk result (λ v. directory_of v.items ≡ map (option_map (world.settled_file (settlement_of s))) (directory_of files.items)) }
+{
+    let mut rest = files;
+    match take_first(&mut rest) {
+        None => Ok(Vec::new(alloc)),
+        Some(slot) => {
+            let mut all = settled_files(alloc, rest, s)?;
+            push_front(&mut all, settled_place(alloc, slot, s)?)?;
+            Ok(all)
+        }
+    }
+}
+
+// A place of the directory then.
+fn standing_place(
+    alloc: Global,
+    place: Option<File>,
+    moment: u64,
+) -> Result<Option<File>, AllocError>
+    ensures { IfOk result (λ p. option_map file_of p ≡ option_map (world.as_it_stands moment) (option_map file_of place)) }
+{
+    match place {
+        None => Ok(None),
+        Some(f) => match as_it_stands(alloc, f, moment) {
+            Ok(f) => Ok(Some(f)),
+            Err(e) => Err(e),
+        },
+    }
+}
+
+/// The files as they stand at the node's boot.
+pub fn standing_files(
+    alloc: Global,
+    files: Vec<Option<File>>,
+    moment: u64,
+) -> Result<Vec<Option<File>>, AllocError>
+    ensures { IfOk result (λ v. directory_of v.items ≡ map (option_map (world.as_it_stands moment)) (directory_of files.items)) }
+{
+    let mut rest = files;
+    match take_first(&mut rest) {
+        None => Ok(Vec::new(alloc)),
+        Some(slot) => {
+            let mut all = standing_files(alloc, rest, moment)?;
+            push_front(&mut all, standing_place(alloc, slot, moment)?)?;
+            Ok(all)
+        }
+    }
+}
+
+/// What is changed of one file.
+#[derive(Drop)]
+pub enum FileChange {
+    /// It is marked for recovery units, or is no more.
+    Mark(bool),
+    /// A branch puts a record.
+    Put(OwnId, Change),
+}
+
+// A file with its change.
+fn changed_file(alloc: Global, file: File, change: FileChange) -> Result<File, AllocError>
+    ensures { IfOk result (λ f. file_of f ≡ file_change_of change (file_of file)) }
+{
+    let mut f = file;
+    match change {
+        FileChange::Mark(units) => {
+            f.recovery_units = units;
+            Ok(f)
+        }
+        FileChange::Put(serial, change) => {
+            let live = replace(&mut f.live, Vec::new(alloc));
+            f.live = with_change(alloc, live, serial, change)?;
+            Ok(f)
+        }
+    }
+}
+
+/// The files with one change of the file of this name.
+pub fn with_file(
+    alloc: Global,
+    files: Vec<Option<File>>,
+    name: &FileName,
+    change: FileChange,
+) -> Result<Vec<Option<File>>, AllocError>
+    ensures { IfOk result (λ v. directory_of v.items ≡ world.with_file name.now (file_change_of change) (directory_of files.items)) }
+{
+    let mut rest = files;
+    match take_first(&mut rest) {
+        None => Ok(Vec::new(alloc)),
+        Some(None) => {
+            let mut all = with_file(alloc, rest, name, change)?;
+            push_front(&mut all, None)?;
+            Ok(all)
+        }
+        Some(Some(f)) => {
+            if name.bytes() == f.name.bytes() {
+                push_front(&mut rest, Some(changed_file(alloc, f, change)?))?;
+                Ok(rest)
+            } else {
+                let mut all = with_file(alloc, rest, name, change)?;
+                push_front(&mut all, Some(f))?;
+                Ok(all)
+            }
+        }
+    }
+}
+
+/// Free blocks among some that stand one after another: how many there are from the first on, the most of them in a row, and where the lowest run that
+/// is long enough begins.
+#[derive(Clone, Copy, Drop)]
+pub struct Runs {
+    pub first: u64,
+    pub longest: u64,
+    pub lowest: Option<u64>,
+}
+
+// How many blocks are free from this one on, where so many are behind it.
+fn first_run(files: &[Option<File>], block: u64, behind: u64) -> u64
+    requires { behind < 2 ^ 63 }
+    ensures first { result ≡ (if extents.is_taken (extents_of (directory_of files.now)) block then 0 else suc behind) }
+    ensures short { result ≤ behind + 1 }
+{
+    if is_taken(files, block) {
+        0
+    } else {
+        behind + 1
+    }
+}
+
+// The lowest run, where the one that begins here has so many.
+fn lowest_run(need: u64, first: u64, block: u64, behind: Option<u64>) -> Option<u64>
+    ensures { result ≡ (if nat_le need first then Some block else behind) }
+{
+    if need <= first { Some(block) } else { behind }
+}
+
+// The runs with one block more in front.
+fn longer(files: &[Option<File>], need: u64, block: u64, runs: Runs) -> Runs
+    requires { runs.first < 2 ^ 63 }
+    ensures first { result.first ≡ (if extents.is_taken (extents_of (directory_of files.now)) block then 0 else suc runs.first) }
+    ensures longest { result.longest ≡ max result.first runs.longest }
+    ensures lowest { result.lowest ≡ (if nat_le need result.first then Some block else runs.lowest) }
+    ensures short { result.first ≤ runs.first + 1 }
+{
+    let first = first_run(files, block, runs.first);
+    Runs {
+        first,
+        longest: max(first, runs.longest),
+        lowest: lowest_run(need, first, block, runs.lowest),
+    }
+}
+
+/// The runs of free blocks among so many from the first on, where a run is long enough that has so many.
+pub fn free_runs(files: &[Option<File>], need: u64, start: u64, count: u64) -> Runs
+    requires { start + count ≤ 2 ^ 40 }
+    ensures { IsRuns (extents_of (directory_of files.now)) need start count result }
+{
+    let mut runs = Runs {
+        first: 0,
+        longest: 0,
+        lowest: None,
+    };
+    for k in 0..count {
+        runs = longer(files, need, start + (count - 1 - k), runs);
+    }
+    runs
+}
