@@ -337,53 +337,61 @@ fn lists(found: &[Finding], want: &[(u8, u32)]) -> bool {
             && x.block == *block)
 }
 
+// A file with a name of one letter.
+fn put_named<D: Disk>(disk: &mut D, number: u32, (letter, start, alloc): (u8, u32, u32)) {
+    if let Some(name) = FileName::new(&[letter]) {
+        put_file(disk, number, file(name, start, alloc));
+    }
+}
+
 #[test]
 fn each_file_that_fails_is_listed(rt: HostRuntime) -> Result<(), Fail> {
     let alloc = rt.alloc();
-    let (Some(node), Some(f), Some(g), Some(h)) = (
-        NodeName::new(b"A"),
-        FileName::new(b"F"),
-        FileName::new(b"G"),
-        FileName::new(b"H"),
-    ) else {
+    let Some(node) = NodeName::new(b"A") else {
         return Ok(assert!(rt; false));
     };
-    // Files 0, 2 and 7: name, first block and buckets of two blocks. The data area is 1736 to 4095.
-    let table: [([(FileName, u32, u32); 3], &[(u8, u32)]); 7] = [
-        ([(f, 1736, 10), (g, 1756, 10), (h, 1776, 10)], &[]),
+    let [f, g, h] = *b"FGH";
+    // Files 0, 2 and 7: name, first block and buckets of two blocks; and what fails. The data area is 1736 to 4095.
+    let table: [((u8, u32, u32), (u8, u32, u32), (u8, u32, u32), &[(u8, u32)]); 7] = [
+        ((f, 1736, 10), (g, 1756, 10), (h, 1776, 10), &[]),
         (
-            [(f, 1736, 10), (f, 1756, 10), (f, 1776, 10)],
+            (f, 1736, 10),
+            (f, 1756, 10),
+            (f, 1776, 10),
             &[(4, 521), (4, 526)],
         ),
         // The name of file 2 is not tested against a file that does not fit itself.
         (
-            [(f, 1736, 0), (f, 1756, 10), (f, 1776, 10)],
+            (f, 1736, 0),
+            (f, 1756, 10),
+            (f, 1776, 10),
             &[(4, 519), (4, 526)],
         ),
-        ([(f, 1735, 10), (g, 1735, 10), (f, 1776, 10)], &[(4, 526)]),
+        ((f, 1735, 10), (g, 1735, 10), (f, 1776, 10), &[(4, 526)]),
         (
-            [(f, 1735, 10), (g, 1755, 10), (h, 1774, 10)],
+            (f, 1735, 10),
+            (g, 1755, 10),
+            (h, 1774, 10),
             &[(5, 519), (5, 526)],
         ),
         (
-            [(f, 1736, 11), (g, 1756, 10), (h, 1736, 1)],
+            (f, 1736, 11),
+            (g, 1756, 10),
+            (h, 1736, 1),
             &[(5, 521), (5, 526)],
         ),
         (
-            [(f, 4076, 11), (g, 1756, 10), (h, 4094, 1)],
+            (f, 4076, 11),
+            (g, 1756, 10),
+            (h, 4094, 1),
             &[(5, 519), (5, 526)],
         ),
     ];
-    for (files, want) in table {
+    for (first, second, third, want) in table {
         let mut disk = changed(alloc, None)?;
-        let [
-            (first, at, buckets),
-            (second, at_2, buckets_2),
-            (third, at_7, buckets_7),
-        ] = files;
-        put_file(&mut disk, 0, file(first, at, buckets));
-        put_file(&mut disk, 2, file(second, at_2, buckets_2));
-        put_file(&mut disk, 7, file(third, at_7, buckets_7));
+        put_named(&mut disk, 0, first);
+        put_named(&mut disk, 2, second);
+        put_named(&mut disk, 7, third);
         let Some(out) = listed(alloc, disk, node)? else {
             return Ok(assert!(rt; false));
         };
