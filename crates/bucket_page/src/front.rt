@@ -1,4 +1,4 @@
-//! The bucket in the first bytes of a frame.
+//! The bucket in the first bytes of a frame, or of other bytes.
 ghost use Rattle.std.specs.Prelude.{◌↔◌, ◌≡◌, ◌≤◌, ◌<◌, ◌+◌, ℕ, true, false, [], length, take, drop};
 ghost use Rattle.bucket_page.specs.Pages.{slots_of, next_of, joined, suits, tag_of, header, u32_bytes, has_cells, IsPacked, Packs, inserted, removed, replaced, slot_at};
 
@@ -7,8 +7,8 @@ use crate::kind::PageKind;
 use crate::packed::{insert_slot, remove_slot, replace_slot, split_slots};
 use file_base::{splice, splice_zeros};
 
-/// Writes a bucket without slots.
-pub(crate) fn clear_front(frame: &mut [u8], size: usize, kind: PageKind, next: u32)
+/// Writes a bucket without slots into the first `size` bytes. What stands behind them stays, here and in the calls below.
+pub fn clear_front(frame: &mut [u8], size: usize, kind: PageKind, next: u32)
     requires least { 16 ≤ size }
     requires within { size ≤ length frame.old }
     ensures packed { Packs kind size [] next (take size frame.new) }
@@ -19,7 +19,7 @@ pub(crate) fn clear_front(frame: &mut [u8], size: usize, kind: PageKind, next: u
 }
 
 /// Writes another next bucket.
-pub(crate) fn link_front(frame: &mut [u8], size: usize, kind: PageKind, next: u32)
+pub fn link_front(frame: &mut [u8], size: usize, kind: PageKind, next: u32)
     requires within { size ≤ length frame.old }
     requires packed { IsPacked kind size (take size frame.old) }
     ensures packed { Packs kind size (slots_of kind (take size frame.old)) next (take size frame.new) }
@@ -29,13 +29,7 @@ pub(crate) fn link_front(frame: &mut [u8], size: usize, kind: PageKind, next: u3
 }
 
 /// Puts a slot in at place i. False exactly where it does not fit; then nothing changes.
-pub(crate) fn insert_front(
-    frame: &mut [u8],
-    size: usize,
-    kind: PageKind,
-    i: usize,
-    slot: &[u8],
-) -> bool
+pub fn insert_front(frame: &mut [u8], size: usize, kind: PageKind, i: usize, slot: &[u8]) -> bool
     requires within { size ≤ length frame.old }
     requires small { size ≤ 8192 }
     requires packed { IsPacked kind size (take size frame.old) }
@@ -50,7 +44,7 @@ pub(crate) fn insert_front(
 }
 
 /// Takes slot i out.
-pub(crate) fn remove_front(frame: &mut [u8], size: usize, kind: PageKind, i: usize)
+pub fn remove_front(frame: &mut [u8], size: usize, kind: PageKind, i: usize)
     requires within { size ≤ length frame.old }
     requires small { size ≤ 8192 }
     requires packed { IsPacked kind size (take size frame.old) }
@@ -62,7 +56,7 @@ pub(crate) fn remove_front(frame: &mut [u8], size: usize, kind: PageKind, i: usi
 }
 
 /// Puts another slot of the same length in the place of slot i.
-pub(crate) fn replace_front(frame: &mut [u8], size: usize, kind: PageKind, i: usize, slot: &[u8])
+pub fn replace_front(frame: &mut [u8], size: usize, kind: PageKind, i: usize, slot: &[u8])
     requires within { size ≤ length frame.old }
     requires small { size ≤ 8192 }
     requires packed { IsPacked kind size (take size frame.old) }
@@ -76,7 +70,7 @@ pub(crate) fn replace_front(frame: &mut [u8], size: usize, kind: PageKind, i: us
 }
 
 /// Parts a bucket: the slots of `low` from place `at` on go to `high`, which had none.
-pub(crate) fn split_front(low: &mut [u8], high: &mut [u8], size: usize, kind: PageKind, at: usize)
+pub fn split_front(low: &mut [u8], high: &mut [u8], size: usize, kind: PageKind, at: usize)
     requires low_within { size ≤ length low.old }
     requires high_within { size ≤ length high.old }
     requires small { size ≤ 8192 }

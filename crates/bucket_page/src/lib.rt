@@ -10,5 +10,7 @@ mod page;
 #[cfg(test)]
 mod tests;
 
+pub use front::{clear_front, insert_front, link_front, remove_front, replace_front, split_front};
 pub use kind::PageKind;
+pub use packed::slot_start;
 pub use page::Page;

@@ -7,7 +7,7 @@ use crate::kind::PageKind;
 use file_base::{splice, splice_zeros};
 
 /// Where slot i begins; at their number, where the slots end.
-pub(crate) fn slot_start(bytes: &[u8], kind: PageKind, i: usize) -> usize
+pub fn slot_start(bytes: &[u8], kind: PageKind, i: usize) -> usize
     requires packed { IsPacked kind (length bytes.now) bytes.now }
     requires there { i ≤ length (slots_of kind bytes.now) }
     requires small { length bytes.now ≤ 8192 }

@@ -38,7 +38,7 @@ impl Page {
 
     /// The first byte and the length of slot i.
     pub fn place(bytes: &[u8], kind: PageKind, i: u16) -> (u16, u16)
-        requires bucket { IsBucket kind (length bytes.now) bytes.now }
+        requires packed { IsPacked kind (length bytes.now) bytes.now }
         requires there { i < length (slots_of kind bytes.now) }
         requires small { length bytes.now ≤ 8192 }
         ensures first { result.0 ≡ reach (slots_of kind bytes.now) i }

@@ -10,8 +10,7 @@ use Rattle.bucket_page.specs.declared.kind.PageKind.TheVariants.{Seq}
 use Rattle.bucket_page.specs.Pages.{slots_of, joined, IsBucket}
 use Rattle.seq_file.specs.Placing.{slots_along, IsFilled, buckets_for}
 use Rattle.seq_file.specs.Records.{list_set, slot_sizes}
-use Rattle.seq_file.specs.Steps.{Changed, head_with}
-use Rattle.seq_file.specs.Layout.{bucket_first, bucket_at, slots_at, slot_of, record_of, records_in, capacity, IsRecord, IsLaidOut, Becomes}
+use Rattle.seq_file.specs.Layout.{bucket_first, bucket_at, slots_at, slot_of, record_of, records_in, capacity, head_with, IsRecord, IsLaidOut, Becomes, Changed}
 use Rattle.change_set.proofs.Extents.{ranges_apart}
 use Rattle.seq_file.proofs.PlacingLaws.{filled_is_placed, filled_push, filled_next, filled_take, filled_fewer, filled_sized, slots_along_same, slots_along_last, slots_along_set, along_long, along_take, joined_push, filled_alike}
 use Rattle.seq_file.proofs.RecordLaws.{list_set_next, list_set_stands}

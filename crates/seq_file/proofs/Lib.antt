@@ -1,4 +1,10 @@
+pub mod ChangeLaws
 pub mod FileLaws
+pub mod FrameSteps
+pub mod MakeLaws
 pub mod MapLaws
 pub mod PlacingLaws
 pub mod RecordLaws
+pub mod RewriteLaws
+pub mod SetLaws
+pub mod WalkLaws

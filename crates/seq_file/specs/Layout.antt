@@ -1,14 +1,15 @@
 -- How a sequential file lies on the disk, and the map that it means.
-use Rattle.std.specs.Prelude.{◌≡◌, ◌≤◌, ◌<◌, ℕ, suc, ◌+◌, ◌-◌, ◌*◌, ◌++◌, List, length, drop, map}
+use Rattle.std.specs.Prelude.{◌≡◌, ◌≢◌, ◌≤◌, ◌<◌, ◌⊎◌, ℕ, suc, ◌+◌, ◌-◌, ◌*◌, ◌++◌, List, length, drop, map, Option, Some, None, IfSome, IsSomeAnd, if◌then◌else◌, ◌&&◌, nat_le, nat_lt, nat_eq}
 use Rattle.std.specs.List.{All}
 use Rattle.file_base.specs.declared.head.FileHead.{FileHead}
 use Rattle.file_base.specs.declared.head.Organization.TheVariants.{Sequential}
+use Rattle.vms_model.specs.Keys.{Key, Number, Text, End}
 use Rattle.change_set.specs.Buckets.{bucket_bytes}
 use Rattle.change_set.specs.Maps.{Map}
 use Rattle.bucket_page.specs.declared.kind.PageKind.TheVariants.{Seq}
-use Rattle.bucket_page.specs.Pages.{slots_of, IsBucket, u16_bytes}
-use Rattle.seq_file.specs.Placing.{slots_along, BeginsAnew}
-use Rattle.seq_file.specs.Records.{map_of_list}
+use Rattle.bucket_page.specs.Pages.{slots_of, joined, IsBucket, u16_bytes}
+use Rattle.seq_file.specs.Placing.{slots_along, BeginsAnew, buckets_for}
+use Rattle.seq_file.specs.Records.{record_at, map_of_list, list_set, slot_sizes}
 
 -- the first block of the i-th bucket, in the content
 abbrev pub bucket_first : FileHead → ℕ → ℕ
@@ -48,6 +49,15 @@ pub record IsSequential (h : FileHead) : Type 0 where
   pub one : 1 ≤ h.used
   pub used : h.used ≤ h.alloc
 
+-- the head is that of a new file: one used bucket, and no record
+pub record IsFresh (h : FileHead) : Type 0 where
+  pub one : h.used ≡ 1
+  pub none : h.count ≡ 0
+
+-- a head with so many used buckets and records
+abbrev pub head_with : FileHead → ℕ → ℕ → FileHead
+head_with h u n = record h { used = u; count = n }
+
 -- a record of the file: 1 to mrs bytes
 pub record IsRecord (mrs : ℕ) (bytes : List ℕ) : Type 0 where
   pub one : 1 ≤ length bytes
@@ -64,3 +74,51 @@ pub record IsLaidOut (h : FileHead) (b : List (List ℕ)) : Type 0 where
 pub record Becomes (h : FileHead) (b : List (List ℕ)) (records : List (List ℕ)) : Type 0 where
   pub valid : IsLaidOut h b
   pub are : records_in h b ≡ records
+
+-- bucket i has these bytes, and the other buckets have theirs
+pub record Changed (h : FileHead) (i : ℕ) (bytes : List ℕ) (b c : List (List ℕ)) : Type 0 where
+  pub here : bucket_at h c i ≡ bytes
+  pub others : (k : ℕ) → k ≢ i → bucket_at h c k ≡ bucket_at h b k
+
+-- how many bytes the slots of the last used bucket take
+abbrev pub last_bytes : FileHead → List (List ℕ) → ℕ
+last_bytes h b = length (joined (slots_at h b (h.used - 1)))
+
+-- the free buckets that a record of this length more asks for: one where it does not fit into the last used bucket
+abbrev pub asks : FileHead → List (List ℕ) → ℕ → ℕ
+asks h b size = if nat_le (last_bytes h b + (size + 2)) (capacity h) then 0 else 1
+
+-- a key and a record of a sequential file
+abbrev pub Suits : FileHead → Key → Option (List ℕ) → Type 0
+Suits h (Number n) value = (1 ≤ n) × IfSome value (IsRecord h.mrs)
+Suits h (Text t) value = ⊥
+Suits h End value = ⊥
+
+-- a position that may be set: behind the last one where a bucket is free if it takes one, or one that stands to a record of the same length; the last one may go
+abbrev pub Takes : FileHead → List (List ℕ) → Key → Option (List ℕ) → Type 0
+Takes h b (Number n) (Some r) = ((n ≡ h.count + 1) × (h.used + asks h b (length r) ≤ h.alloc)) ⊎ IsSomeAnd (record_at (records_in h b) n) (λ old. length r ≡ length old)
+Takes h b (Number n) None = n ≡ h.count
+Takes h b (Text t) value = ⊥
+Takes h b End value = ⊥
+
+-- a file that is laid out, and takes this at a position
+abbrev pub TakesAt : FileHead → ℕ → Option (List ℕ) → List (List ℕ) → Type 0
+TakesAt h n value b = IsLaidOut h b × Takes h b (Number n) value
+
+-- the records once a key is set
+abbrev pub records_after : Key → Option (List ℕ) → List (List ℕ) → List (List ℕ)
+records_after (Number n) value records = list_set n value records
+records_after (Text t) value records = records
+records_after End value records = records
+
+-- how many buckets the placing of the records takes once a key is set
+abbrev pub used_after : FileHead → List (List ℕ) → Key → Option (List ℕ) → ℕ
+used_after h b key value = buckets_for (capacity h) (slot_sizes (records_after key value (records_in h b)))
+
+-- how many buckets are used once the slots of bucket k from slot j on are gone
+abbrev pub used_left : ℕ → ℕ → ℕ
+used_left j k = if nat_eq j 0 && nat_lt 0 k then k else k + 1
+
+-- the used buckets of a file that is laid out are as many as the placing of its records takes
+abbrev pub LaidOutIsPlaced : Type 0
+LaidOutIsPlaced = (h : FileHead) (b : List (List ℕ)) → 1 ≤ h.used → IsLaidOut h b → h.used ≡ buckets_for (capacity h) (slot_sizes (records_in h b))

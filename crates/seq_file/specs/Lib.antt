@@ -1,5 +1,5 @@
+pub mod Frames
 pub mod Layout
 pub mod Local
 pub mod Placing
 pub mod Records
-pub mod Steps

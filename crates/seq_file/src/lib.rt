@@ -1,9 +1,16 @@
-//! Sequential files: how records are placed into buckets, the map that they mean, and what keeps their layout.
+//! Sequential files: records one behind the other, by position.
 #![tactic(auto)]
 
+mod bucket;
+mod file;
 mod law;
+mod make;
+mod rewrite;
+mod sequential;
+mod spot;
+#[cfg(test)]
+mod tests;
+mod walk;
 
-pub use law::{
-    cut_keeps, drop_keeps, filled_is_placed, laid_out_is_placed, list_set_sets, next_keeps,
-    push_keeps, rests_on_extent, set_keeps, take_cuts,
-};
+pub use law::{filled_is_placed, laid_out_is_placed, list_set_sets, take_cuts};
+pub use sequential::SeqFile;

@@ -1,0 +1,134 @@
+-- A file in which a key was set.
+use Rattle.std.proofs.Common.{◌≡◌, ℕ, ◌<◌, ◌≤◌, ◌+◌, ◌-◌, ◌*◌, ◌==◌, ◌&&◌, Bool, true, false, List, [], ◌∷◌, ◌++◌, length, map, Option, nat_le, refl, sym, ap, subst, ◌∙◌, arith, length-append}
+use Rattle.std.proofs.lemmas.Bool.Decides.{nat_tests}
+use Rattle.std.proofs.lemmas.List.{length-map}
+use Rattle.file_base.specs.declared.head.FileHead.{FileHead}
+use Rattle.vms_model.specs.Keys.{Key, Number, Text, End}
+use Rattle.bucket_page.specs.Pages.{no_next, u16_at, suits, all_suit, joined}
+use Rattle.bucket_page.proofs.PageLaws.{both_true}
+use Rattle.change_set.specs.Maps.{set_key}
+use Rattle.indexed_file.specs.Slots.{Slot, IsOrdered, IsFor, lookup, room_of}
+use Rattle.indexed_file.specs.Parts.{bytes_of, has_place, added_by, added_buckets}
+use Rattle.indexed_file.specs.Chain.{kind_of, slot_of, capacity, slots_in, next_in, leaves_of, slots_along, all_slots_of, map_of, room_at, target_of, slots_set, added_by_set, used_after, IsChained}
+use Rattle.indexed_file.specs.Raws.{Parted, whole, in_two, in_three}
+use Rattle.indexed_file.specs.Sets.{with_parts, SetsTarget}
+use Rattle.indexed_file.proofs.PartLaws.{has_place_at, fits_parts}
+use Rattle.indexed_file.proofs.SlotLaws.{ordered_parts}
+use Rattle.indexed_file.proofs.SetLaws.{sets_for, sets_lookup, sets_rooms, sets_added}
+use Rattle.indexed_file.proofs.TargetLaws.{Target, target_is}
+use Rattle.indexed_file.proofs.ChainLaws.{grown_chain, grown_leaves}
+use Rattle.indexed_file.proofs.GrownLaws.{Room, grown_parts, ascend_ordered}
+
+slot_long : (m r l p : ℕ) → ((m == 4 + r) && (nat_le l r && nat_le p r)) ≡ true → m ≡ 4 + r
+slot_long m r l p h = grind (arith, nat_tests)
+
+-- the bytes of slots
+pub bytes_of_raws : (h : FileHead) (raws : List (List ℕ)) → all_suit (kind_of h) raws ≡ true → bytes_of (map (slot_of h) raws) ≡ length (joined raws)
+bytes_of_raws h [] suit = refl
+bytes_of_raws h (s ∷ ss) suit =
+    let both = both_true (suits (kind_of h) s) (all_suit (kind_of h) ss) suit in
+    omega (arith, slot_long (length s) (u16_at s 0) (u16_at s 2) (h.key_pos + h.key_size) both.0, bytes_of_raws h ss both.1, length-append s (joined ss))
+
+fits_test : (n cap : ℕ) → n ≤ cap → nat_le n cap ≡ true
+fits_test n cap h = grind (arith, nat_tests)
+
+over_test : (n cap : ℕ) → cap < n → nat_le n cap ≡ false
+over_test n cap h = grind (arith, nat_tests)
+
+-- the buckets that were added are those of the parts
+pub parted_added : (h : FileHead) (size fresh next i added : ℕ) (raws : List (List ℕ)) (low mid high : List ℕ) → 16 ≤ size → all_suit (kind_of h) raws ≡ true → Parted h size fresh next raws i added low mid high
+    → added ≡ added_buckets (size - 16) (map (slot_of h) raws)
+parted_added h size fresh next i added raws low mid high least suit (whole none packs) =
+    let count = bytes_of_raws h raws suit in
+    let fits = packs.packed.fits in
+    let same = ap (λ (ss : List (List ℕ)). length (joined ss)) packs.slots_are in
+    none ∙ sym (ap (λ t. added_by t (has_place (size - 16) (map (slot_of h) raws) (length (map (slot_of h) raws)))) (fits_test (bytes_of (map (slot_of h) raws)) (size - 16) (omega arith)))
+parted_added h size fresh next i added raws low mid high least suit (in_two j one over best first second) =
+    let count = bytes_of_raws h raws suit in
+    let slots = map (slot_of h) raws in
+    one ∙ sym (λ k. added_by (over_test (bytes_of slots) (size - 16) (omega arith) k) (has_place_at (size - 16) slots j (length slots) best.fits (fits_parts (size - 16) j (length slots) _ _ best.fits) k))
+parted_added h size fresh next i added raws low mid high least suit (in_three two over no_place first second third) =
+    let count = bytes_of_raws h raws suit in
+    let slots = map (slot_of h) raws in
+    two ∙ sym (λ k. added_by (over_test (bytes_of slots) (size - 16) (omega arith) k) ((ap (has_place (size - 16) slots) (length-map raws (slot_of h)) ∙ no_place) k))
+
+-- what a set needs of the file and its place
+pub record Placed (h : FileHead) (b : List (List ℕ)) : Type 0 where
+  pub some : 1 ≤ h.used
+  pub least : 1 ≤ h.bucket
+  pub numbers : h.alloc < no_next
+  pub within : h.start - 518 + h.alloc * h.bucket ≤ length b
+
+-- the bucket for a key is the one that was written
+pub record At (h : FileHead) (b : List (List ℕ)) (k : List ℕ) (n : ℕ) : Type 0 where
+  pub before : List ℕ
+  pub behind : List ℕ
+  pub is : leaves_of h b ≡ before ++ (n ∷ behind)
+  pub slots : all_slots_of h b ≡ slots_along h b before ++ (slots_in h b n ++ slots_along h b behind)
+  pub for : IsFor k (slots_along h b before) (slots_in h b n) (slots_along h b behind)
+
+at_target : (h : FileHead) (b : List (List ℕ)) (k : List ℕ) (n : ℕ) → n ≡ target_of h b k → Target h b k → At h b k n
+at_target h b k n same t = subst (λ (m : ℕ). At h b k m) (sym same) (record { before = t.before; behind = t.behind; is = t.is; slots = t.slots; for = t.for })
+
+-- what a set leaves
+pub record IsSet (h h' : FileHead) (b b' : List (List ℕ)) (held : List ℕ → Bool) (k : List ℕ) (v : Option (List ℕ)) : Type 0 where
+  pub valid : IsChained h' b'
+  pub map_is : map_of h' b' ≡ set_key (Text k) v (map_of h b)
+  pub rooms : (q : List ℕ) → held q ≡ true → room_at h b (Text q) ≤ room_at h' b' (Text q)
+
+pub is_set : (h : FileHead) (b : List (List ℕ)) (held : List ℕ → Bool) (k : List ℕ) (v : Option (List ℕ)) (n added : ℕ) (low mid high : List ℕ) → Placed h b → n < h.used → h.used + added ≤ h.alloc
+    → IsChained h b → SetsTarget h held k v b n added low mid high → IsSet h (record h { used = h.used + added }) b (with_parts h n added low mid high b) held k v
+is_set h b held k v n added low mid high placed below free valid sets =
+    let h' : FileHead = record h { used = h.used + added } in
+    let b' : List (List ℕ) = with_parts h n added low mid high b in
+    let leaf = sets.leaf in
+    let t = at_target h b k n sets.target (target_is h b k placed.some valid.ordered) in
+    let A = slots_along h b t.before in
+    let C = slots_along h b t.behind in
+    let L : List Slot = slots_set (capacity h) held k v (slots_in h b n) in
+    let for : IsFor k A L C = sets_for (capacity h) held k v A (slots_in h b n) C t.for in
+    let ordered : IsOrdered (map (slot_of h) leaf.raws) = subst IsOrdered (sym leaf.slots) (ordered_parts L C (ordered_parts A (L ++ C) for.ordered).1).0 in
+    let room : Room h b n added (next_in h b n) leaf.raws = record {
+      here = below;
+      free = free;
+      within = placed.within;
+      order = ascend_ordered h leaf.raws ordered;
+      kept = leaf.kept;
+      leads = (valid.leaves n below).leads;
+    } in
+    let by = grown_parts h b n added (next_in h b n) leaf.place leaf.raws low mid high room leaf.parted in
+    let chain = grown_chain h b b' t.before by.news t.behind n added (map (slot_of h) leaf.raws) placed.some (omega (arith, placed.numbers)) valid t.is by.grown in
+    let all : all_slots_of h' b' ≡ A ++ (L ++ C) = chain.all ∙ ap (λ (x : List Slot). A ++ (x ++ C)) leaf.slots in
+    record {
+      valid = record {
+        leaves = grown_leaves h b b' n added (next_in h b n) by.news (map (slot_of h) leaf.raws) valid by.grown;
+        reached = chain.reached;
+        once = chain.once;
+        leads = chain.leads;
+        ordered = subst IsOrdered (sym all) for.ordered;
+      };
+      map_is = λ i key. at_key h' b' A L C t.slots all t.for key i;
+      rooms = λ q is_held. let grows = sets_rooms (capacity h) held k v A (slots_in h b n) C q t.for is_held in
+          let old : room_of (all_slots_of h b) q ≡ room_of (A ++ (slots_in h b n ++ C)) q = ap (λ x. room_of x q) t.slots in
+          let new : room_of (all_slots_of h' b') q ≡ room_of (A ++ (L ++ C)) q = ap (λ x. room_of x q) all in
+          omega (arith, grows, old, new);
+    }
+  where
+    at_key : (h' : FileHead) (b' : List (List ℕ)) (A L C : List Slot) → all_slots_of h b ≡ A ++ (slots_in h b n ++ C) → all_slots_of h' b' ≡ A ++ (slots_set (capacity h) held k v (slots_in h b n) ++ C)
+        → IsFor k A (slots_in h b n) C → (key : Key) → map_of h' b' key ≡ set_key (Text k) v (map_of h b) key
+    at_key h' b' A L C old new for (Text q) =
+        ap (λ x. lookup x q) new ∙ sets_lookup (capacity h) held k v A (slots_in h b n) C q for ∙ ap (λ x. set_key (Text k) v (λ key. x) (Text q)) (ap (λ x. lookup x q) (sym old))
+    at_key h' b' A L C old new for (Number m) = refl
+    at_key h' b' A L C old new for End = refl
+
+-- and the used buckets
+pub set_used : (h : FileHead) (b : List (List ℕ)) (held : Key → Bool) (k : List ℕ) (v : Option (List ℕ)) (n added : ℕ) (low mid high : List ℕ) → 1 ≤ h.bucket
+    → SetsTarget h (λ t. held (Text t)) k v b n added low mid high → h.used + added ≡ used_after h b held (Text k) v
+set_used h b held k v n added low mid high least sets =
+    let leaf = sets.leaf in
+    let count : added ≡ added_by_set (capacity h) (λ t. held (Text t)) k v (slots_in h b (target_of h b k)) =
+    parted_added h (512 * h.bucket) h.used _ leaf.place added leaf.raws _ _ _ (omega arith) leaf.suit leaf.parted
+    ∙ ap (added_buckets (capacity h)) leaf.slots
+    ∙ sym (sets_added (capacity h) (λ t. held (Text t)) k v (slots_in h b n))
+    ∙ ap (λ m. added_by_set (capacity h) (λ t. held (Text t)) k v (slots_in h b m)) sets.target in
+    ap (λ m. h.used + m) count

@@ -1,0 +1,192 @@
+-- An indexed file's buckets in a list of blocks, and the map that they mean.
+use Rattle.std.specs.Prelude.{◌≡◌, ◌≤◌, ◌<◌, ◌⊎◌, ℕ, zero, suc, ◌+◌, ◌-◌, ◌*◌, ◌==◌, ◌&&◌, ◌||◌, Bool, true, false, List, [], ◌∷◌, ◌++◌, length, map, Option, Some, None, IfSome, if◌then◌else◌, nat_le, nat_lt, not}
+use Rattle.file_base.specs.declared.head.FileHead.{FileHead}
+use Rattle.file_base.specs.declared.head.Organization.TheVariants.{Indexed}
+use Rattle.file_base.specs.Bytes.{piece_at}
+use Rattle.vms_model.specs.Keys.{Key, Number, Text, End}
+use Rattle.bucket_page.specs.declared.kind.PageKind.{PageKind}
+use Rattle.bucket_page.specs.declared.kind.PageKind.TheVariants.{Data}
+use Rattle.bucket_page.specs.Pages.{u16_at, slots_of, next_of, no_next, key_in, IsBucket}
+use Rattle.change_set.specs.Buckets.{bucket_bytes}
+use Rattle.change_set.specs.Maps.{Map}
+use Rattle.indexed_file.specs.Slots.{Slot, lookup, put, tidied, room_of, size_of, bytes_before, IsOrdered}
+use Rattle.indexed_file.specs.Parts.{bytes_of, added_buckets}
+
+-- the kind of its buckets
+abbrev pub kind_of : FileHead → PageKind
+kind_of h = Data h.key_pos h.key_size
+
+-- the bytes that a bucket has for slots
+abbrev pub capacity : FileHead → ℕ
+capacity h = 512 * h.bucket - 16
+
+-- the record in a slot's bytes: none where the length is 0 or above the longest
+abbrev pub value_of : ℕ → List ℕ → Option (List ℕ)
+value_of mrs raw = if nat_le 1 (u16_at raw 2) && nat_le (u16_at raw 2) mrs then Some (piece_at raw 4 (u16_at raw 2)) else None
+
+-- what a slot's bytes mean
+abbrev pub slot_of : FileHead → List ℕ → Slot
+slot_of h raw = record { key = key_in (kind_of h) raw; room = u16_at raw 0; value = value_of h.mrs raw }
+
+-- the first block of bucket n, in the content
+abbrev pub bucket_first : FileHead → ℕ → ℕ
+bucket_first h n = h.start - 518 + n * h.bucket
+
+-- the bytes of bucket n
+abbrev pub bucket_at : FileHead → List (List ℕ) → ℕ → List ℕ
+bucket_at h blocks n = bucket_bytes blocks (bucket_first h n) h.bucket
+
+-- its slots
+abbrev pub slots_in : FileHead → List (List ℕ) → ℕ → List Slot
+slots_in h blocks n = map (slot_of h) (slots_of (kind_of h) (bucket_at h blocks n))
+
+-- the bucket that follows it
+abbrev pub next_in : FileHead → List (List ℕ) → ℕ → ℕ
+next_in h blocks n = next_of (bucket_at h blocks n)
+
+-- the buckets of a chain from one on, each the next of the one before, at most so many; one that is not used ends it
+abbrev pub chain_from : FileHead → List (List ℕ) → ℕ → ℕ → List ℕ
+chain_from h blocks zero n = []
+chain_from h blocks (suc more) n = n ∷ (if nat_lt (next_in h blocks n) h.used then chain_from h blocks more (next_in h blocks n) else [])
+
+-- the data buckets in the order of their keys: of all definitions here, a tree changes this one alone
+abbrev pub leaves_of : FileHead → List (List ℕ) → List ℕ
+leaves_of h blocks = chain_from h blocks h.used 0
+
+-- the slots of these buckets, one bucket behind the other
+abbrev pub slots_along : FileHead → List (List ℕ) → List ℕ → List Slot
+slots_along h blocks [] = []
+slots_along h blocks (n ∷ ns) = slots_in h blocks n ++ slots_along h blocks ns
+
+-- all slots of the file
+abbrev pub all_slots_of : FileHead → List (List ℕ) → List Slot
+all_slots_of h blocks = slots_along h blocks (leaves_of h blocks)
+
+-- what each key has
+abbrev pub map_of : FileHead → List (List ℕ) → Map
+map_of h blocks (Text k) = lookup (all_slots_of h blocks) k
+map_of h blocks (Number n) = None
+map_of h blocks End = None
+
+-- the length that a key may be set to in place
+abbrev pub room_at : FileHead → List (List ℕ) → Key → ℕ
+room_at h blocks (Text k) = room_of (all_slots_of h blocks) k
+room_at h blocks (Number n) = 0
+room_at h blocks End = 0
+
+-- the key of the first slot is at most the key
+abbrev pub begins_by : List ℕ → List Slot → Bool
+begins_by k [] = false
+begins_by k (s ∷ ss) = not (bytes_before k s.key)
+
+-- the last of these buckets that begins by the key, or the one before them
+abbrev pub target_in : FileHead → List (List ℕ) → List ℕ → ℕ → List ℕ → ℕ
+target_in h blocks k n [] = n
+target_in h blocks k n (m ∷ ms) = target_in h blocks k (if begins_by k (slots_in h blocks m) then m else n) ms
+
+-- the bucket for a key: the last one that begins by it, or the first one
+abbrev pub target_of : FileHead → List (List ℕ) → List ℕ → ℕ
+target_of h blocks k = target_in h blocks k 0 (leaves_of h blocks)
+
+-- the slots of a bucket once a key is set: those that stood there where the slot fits, else the tidied ones
+abbrev pub slots_set : ℕ → (List ℕ → Bool) → List ℕ → Option (List ℕ) → List Slot → List Slot
+slots_set cap held k v slots = if nat_le (bytes_of (put k v slots)) cap then put k v slots else put k v (tidied held slots)
+
+-- the buckets that a set adds: none where the slot fits, else those of the tidied slots' parts
+abbrev pub added_by_set : ℕ → (List ℕ → Bool) → List ℕ → Option (List ℕ) → List Slot → ℕ
+added_by_set cap held k v slots = if nat_le (bytes_of (put k v slots)) cap then 0 else added_buckets cap (put k v (tidied held slots))
+
+-- the used buckets once the key is set
+abbrev pub used_after : FileHead → List (List ℕ) → (Key → Bool) → Key → Option (List ℕ) → ℕ
+used_after h blocks held (Text k) v = h.used + added_by_set (capacity h) (λ t. held (Text t)) k v (slots_in h blocks (target_of h blocks k))
+used_after h blocks held (Number n) v = h.used
+used_after h blocks held End v = h.used
+
+-- the number is none of these
+abbrev pub IsNoneOf : ℕ → List ℕ → Type 0
+IsNoneOf n [] = Unit {0}
+IsNoneOf n (m ∷ ms) = (n ≡ m → ⊥) × IsNoneOf n ms
+
+-- no two are alike
+abbrev pub AllDiffer : List ℕ → Type 0
+AllDiffer [] = Unit {0}
+AllDiffer (n ∷ ns) = IsNoneOf n ns × AllDiffer ns
+
+-- all are below a bound
+abbrev pub AllBelow : ℕ → List ℕ → Type 0
+AllBelow bound [] = Unit {0}
+AllBelow bound (n ∷ ns) = (n < bound) × AllBelow bound ns
+
+-- a slot is absent, or its record has at most the longest length and has its key
+abbrev pub keeps_record : FileHead → List ℕ → Bool
+keeps_record h raw = (u16_at raw 2 == 0) || (nat_le (h.key_pos + h.key_size) (u16_at raw 2) && nat_le (u16_at raw 2) h.mrs)
+
+abbrev pub all_keep : FileHead → List (List ℕ) → Bool
+all_keep h [] = true
+all_keep h (s ∷ ss) = keeps_record h s && all_keep h ss
+
+-- a used bucket: it is laid out as one, its slots keep records, and it leads to a used bucket or to none
+pub record IsLeaf (h : FileHead) (bytes : List ℕ) : Type 0 where
+  pub bucket : IsBucket (kind_of h) (512 * h.bucket) bytes
+  pub kept : all_keep h (slots_of (kind_of h) bytes) ≡ true
+  pub leads : (next_of bytes < h.used) ⊎ (next_of bytes ≡ no_next)
+
+-- the first of these buckets, or this number where there are none
+abbrev pub first_or : List ℕ → ℕ → ℕ
+first_or [] end = end
+first_or (n ∷ ns) end = n
+
+-- each of these buckets leads to the next one, and the last one to this number
+abbrev pub Leads : FileHead → List (List ℕ) → List ℕ → ℕ → Type 0
+Leads h blocks [] end = Unit {0}
+Leads h blocks (n ∷ ns) end = (next_in h blocks n ≡ first_or ns end) × Leads h blocks ns end
+
+-- the blocks of an indexed file: its used buckets are laid out and reached once each, the last one has no next, and keys ascend along the chain
+pub record IsChained (h : FileHead) (blocks : List (List ℕ)) : Type 0 where
+  pub leaves : (n : ℕ) → n < h.used → IsLeaf h (bucket_at h blocks n)
+  pub reached : length (leaves_of h blocks) ≡ h.used
+  pub once : AllDiffer (leaves_of h blocks)
+  pub leads : Leads h blocks (leaves_of h blocks) no_next
+  pub ordered : IsOrdered (all_slots_of h blocks)
+
+-- the head is that of an indexed file
+pub record IsIndexed (h : FileHead) : Type 0 where
+  pub organization : h.organization ≡ Indexed
+  pub levels : h.levels ≡ 1
+  pub root : h.root ≡ 0
+  pub some : 1 ≤ h.used
+  pub within : h.used ≤ h.alloc
+  pub key : 1 ≤ h.key_size
+  pub short : h.key_size ≤ 64
+  pub holds : h.key_pos + h.key_size ≤ h.mrs
+
+-- a new file has one bucket
+abbrev pub IsNew : FileHead → Type 0
+IsNew h = h.used ≡ 1
+
+-- a key and a value of an indexed file: the key has its size, and a value has the key at its place and at most the longest length
+pub record SuitsText (h : FileHead) (k : List ℕ) (value : Option (List ℕ)) : Type 0 where
+  pub size : length k ≡ h.key_size
+  pub has : IfSome value (λ r. piece_at r h.key_pos h.key_size ≡ k)
+  pub most : IfSome value (λ r. length r ≤ h.mrs)
+
+abbrev pub Suits : FileHead → Key → Option (List ℕ) → Type 0
+Suits h (Text k) value = SuitsText h k value
+Suits h (Number n) value = ⊥
+Suits h End value = ⊥
+
+-- the free buckets that a set asks for
+abbrev pub asks : FileHead → List (List ℕ) → ℕ → ℕ
+asks h blocks size = if h.levels == 12 then 65537 else h.levels + 2
+
+-- the room of the key's slot holds the value, or enough buckets are free
+abbrev pub Takes : FileHead → List (List ℕ) → Key → Option (List ℕ) → Type 0
+Takes h blocks key value = (size_of value ≤ room_at h blocks key) ⊎ (h.used + asks h blocks (size_of value) ≤ h.alloc)
+
+pub record Adds (cap : ℕ) (held : List ℕ → Bool) (k : List ℕ) (v : Option (List ℕ)) (slots : List Slot) : Type 0 where
+  pub most : added_by_set cap held k v slots ≤ 2
+  pub only : bytes_of (put k v (tidied held slots)) ≤ cap → added_by_set cap held k v slots ≡ 0
+
+-- a set adds at most two buckets, and none where the tidied bucket holds the slot
+abbrev pub AddsFew : Type 0
+AddsFew = (cap : ℕ) (held : List ℕ → Bool) (k : List ℕ) (v : Option (List ℕ)) (slots : List Slot) → Adds cap held k v slots

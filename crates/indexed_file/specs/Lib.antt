@@ -1,0 +1,9 @@
+pub mod Behind
+pub mod Chain
+pub mod Local
+pub mod Made
+pub mod Parts
+pub mod Places
+pub mod Raws
+pub mod Sets
+pub mod Slots

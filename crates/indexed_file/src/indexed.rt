@@ -1,0 +1,147 @@
+//! An indexed file as a map from keys to records.
+ghost use Rattle.std.specs.Prelude.{◌≡◌, ◌≤◌, ◌<◌, ◌+◌, ℕ, List, Bool, true, false, Option, Some, None, OnOk, OnErr, IfOk, IfSome, option_map};
+ghost use Rattle.std.specs.Option.{option_copied};
+ghost use Rattle.vms_model.specs.Keys.{Text};
+ghost use Rattle.vms_base.specs.Keys.{key_of};
+ghost use Rattle.change_set.specs.Maps.{IsNext, EndsAfter};
+ghost use Rattle.change_set.specs.Files.{IsPlaced, free_frames, fell};
+ghost use Rattle.indexed_file.specs.Chain.{IsIndexed, IsChained, map_of};
+
+use crate::make::make_file;
+use crate::next::next_key;
+use crate::read::get_key;
+use crate::set::set_key;
+use block_disk::Disk;
+use careful_write::{Down, Store};
+use change_set::{Held, RecordFile};
+use file_base::FileHead;
+use vms_base::{Key, KeyText, Record};
+
+/// Files whose records are found by a key that is a part of them. The slots of the records stand in a chain of buckets, in
+/// the order of their keys.
+pub struct IndexedFile;
+
+// The first key behind another, or the first one, with its record.
+fn next_behind<D: Disk>(
+    head: &FileHead,
+    store: &mut Store<D>,
+    after: Option<&KeyText>,
+    found: &mut Key,
+    out: &mut Record,
+) -> Result<bool, Down>
+    requires form { IsIndexed head.now }
+    requires placed { IsPlaced head.now store.old.disk }
+    requires frames { 32 ≤ free_frames store.old.pool }
+    ensures found { IfOk result (λ is. is ≡ true → IfSome store.old.current (λ blocks. IsChained head.now blocks → IsNext (map_of head.now blocks) (option_map Text (option_copied after.entry)) (key_of found.new) out.new)) }
+    ensures none { IfOk result (λ is. is ≡ false → IfSome store.old.current (λ blocks. IsChained head.now blocks → EndsAfter (map_of head.now blocks) (option_map Text (option_copied after.entry)))) }
+    ensures same { OnOk result (store.new ≡ store.old) }
+    ensures down { OnErr result (store.new ≡ fell result store.old) }
+{
+    match next_key(head, store, after, out) {
+        Ok(Some(key)) => {
+            *found = Key::Text(key);
+            Ok(true)
+        }
+        Ok(None) => Ok(false),
+        Err(down) => {
+            store.unstage();
+            Err(down)
+        }
+    }
+}
+
+impl RecordFile for IndexedFile {
+    ghost use Rattle.indexed_file.specs.Chain.{map_of, IsChained, IsIndexed, IsNew, Suits, Takes, room_at, asks, used_after};
+    ghost use Rattle.indexed_file.specs.Local.{local_law, valid_local_law, room_local_law};
+
+    ghost map = { map_of };
+
+    ghost form = { IsIndexed };
+
+    ghost fresh = { IsNew };
+
+    ghost valid = { IsChained };
+
+    ghost suits = { Suits };
+
+    ghost takes = { Takes };
+
+    ghost room = { room_at };
+
+    ghost asks = { asks };
+
+    ghost used_after = { used_after };
+
+    ghost local = { local_law };
+
+    ghost valid_local = { valid_local_law };
+
+    ghost room_local = { room_local_law };
+
+    fn get<D: Disk>(
+        head: &FileHead,
+        store: &mut Store<D>,
+        key: &Key,
+        out: &mut Record,
+    ) -> Result<bool, Down> {
+        match key {
+            Key::Text(text) => {
+                let found = get_key(head, store, text.bytes(), out);
+                if found.is_err() {
+                    store.unstage();
+                }
+                found
+            }
+            _ => Ok(false),
+        }
+    }
+
+    fn next<D: Disk>(
+        head: &FileHead,
+        store: &mut Store<D>,
+        after: Option<&Key>,
+        found: &mut Key,
+        out: &mut Record,
+    ) -> Result<bool, Down> {
+        match after {
+            Some(Key::End) => Ok(false),
+            Some(Key::Text(text)) => next_behind(head, store, Some(text), found, out),
+            Some(Key::Number(_)) => next_behind(head, store, None, found, out),
+            None => next_behind(head, store, None, found, out),
+        }
+    }
+
+    fn set<D: Disk, H: Held>(
+        head: &mut FileHead,
+        store: &mut Store<D>,
+        key: &Key,
+        value: Option<&Record>,
+        held: &H,
+    ) -> Result<(), Down> {
+        match key {
+            Key::Text(text) => {
+                let done = set_key(head, store, text.bytes(), value, held);
+                if done.is_err() {
+                    store.unstage();
+                }
+                done
+            }
+            _ => Ok(()),
+        }
+    }
+
+    fn make<D: Disk>(head: &FileHead, store: &mut Store<D>) -> Result<(), Down> {
+        let done = make_file(head, store);
+        if done.is_err() {
+            store.unstage();
+        }
+        done
+    }
+
+    fn need<D: Disk>(head: &FileHead, _store: &mut Store<D>, _size: u16) -> Result<u32, Down> {
+        if head.levels == 12 {
+            return Ok(65537);
+        }
+        Ok(head.levels + 2)
+    }
+}

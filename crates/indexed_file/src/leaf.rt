@@ -1,0 +1,131 @@
+//! One bucket of a file, read into a frame.
+ghost use Rattle.std.specs.Prelude.{◌≡◌, ◌≤◌, ◌<◌, ◌+◌, ◌-◌, ◌*◌, ℕ, List, true, false, Some, None, length, take, drop, map, OnOk, IfOk, IfSome, IfNone};
+ghost use Rattle.careful_write.specs.Down.{answered};
+ghost use Rattle.frame_pool.specs.Pool.{IsOut};
+ghost use Rattle.file_base.specs.Bytes.{piece_at};
+ghost use Rattle.bucket_page.specs.Pages.{slots_of, next_of, key_in, slot_at, IsBucket, IsPacked, reach, u16_at};
+ghost use Rattle.change_set.specs.Buckets.{frame_of, with_frame};
+ghost use Rattle.change_set.specs.Files.{IsPlaced};
+ghost use Rattle.indexed_file.specs.Slots.{bytes_before};
+ghost use Rattle.std.specs.Ordering.{nat_cmp};
+ghost use Rattle.std.specs.Cmp.Lexicographic.{slice_cmp};
+ghost use Rattle.indexed_file.specs.Chain.{IsIndexed, kind_of, bucket_at, value_of, slot_of, begins_by};
+ghost use Rattle.indexed_file.specs.Places.{IsPlace, key_at};
+
+use block_disk::Disk;
+use bucket_page::{Page, PageKind};
+use careful_write::{Down, Store};
+use change_set::load_bucket;
+use file_base::FileHead;
+use frame_pool::Frame;
+use std::cmp::Ordering;
+use vms_base::{KeyText, Record};
+
+/// The kind of an indexed file's buckets.
+pub(crate) fn kind(head: &FileHead) -> PageKind
+    ensures { result ≡ kind_of head.now }
+{
+    PageKind::Data {
+        key_pos: head.key_pos,
+        key_size: head.key_size,
+    }
+}
+
+/// How many bytes a bucket has.
+pub(crate) fn bucket_size(head: &FileHead) -> usize
+    requires { head.now.bucket ≤ 16 }
+    ensures { result ≡ 512 * head.now.bucket }
+{
+    512 * head.bucket as usize
+}
+
+/// Reads bucket n into the front of a frame.
+pub(crate) fn load_leaf<D: Disk>(
+    head: &FileHead,
+    store: &mut Store<D>,
+    frame: &Frame,
+    n: u32,
+) -> Result<(), Down>
+    requires placed { IsPlaced head.now store.old.disk }
+    requires out { IsOut store.old.pool frame.now }
+    requires there { n < head.now.alloc }
+    ensures state { store.new ≡ with_frame frame.now (frame_of store.new.pool frame.now) (record store.old { disk = answered result store.old.disk }) }
+    ensures out { IsOut store.new.pool frame.now }
+    ensures read { OnOk result (IfSome store.old.current (λ blocks. take (512 * head.now.bucket) (frame_of store.new.pool frame.now) ≡ bucket_at head.now blocks n)) }
+{
+    load_bucket(
+        store,
+        frame,
+        head.start + n * head.bucket as u32,
+        head.bucket,
+    )
+}
+
+/// The bytes of slot i.
+pub(crate) fn slot<'a>(bytes: &'a [u8], head: &FileHead, i: u16) -> &'a [u8]
+    requires packed { IsPacked (kind_of head.now) (length bytes.now) bytes.now }
+    requires small { length bytes.now ≤ 8192 }
+    requires there { i < length (slots_of (kind_of head.now) bytes.now) }
+    ensures is { result.now ≡ slot_at (slots_of (kind_of head.now) bytes.now) i }
+    ensures key { 4 + (head.now.key_pos + head.now.key_size) ≤ length result.now }
+    ensures size { length result.now ≡ 4 + u16_at result.now 0 }
+    ensures room { u16_at result.now 2 ≤ u16_at result.now 0 }
+    ensures within { length result.now ≤ length bytes.now }
+{
+    let (at, size) = Page::place(bytes, kind(head), i);
+    &bytes[at as usize..at as usize + size as usize]
+}
+
+/// The key of a slot.
+pub(crate) fn slot_key(slot: &[u8], head: &FileHead) -> Option<KeyText>
+    requires form { IsIndexed head.now }
+    requires key { 4 + (head.now.key_pos + head.now.key_size) ≤ length slot.now }
+    ensures { result ≡ Some (key_in (kind_of head.now) slot.now) }
+{
+    let from = 4 + head.key_pos as usize;
+    KeyText::new(&slot[from..from + head.key_size as usize])
+}
+
+// The key of a slot against another.
+fn compare_key(slot: &[u8], head: &FileHead, key: &[u8]) -> Ordering
+    requires { 4 + (head.now.key_pos + head.now.key_size) ≤ length slot.now }
+    ensures { result ≡ slice_cmp nat_cmp (key_in (kind_of head.now) slot.now) key.now }
+{
+    let from = 4 + head.key_pos as usize;
+    slot[from..from + head.key_size as usize].cmp(key)
+}
+
+/// Where a key stands among the slots of a bucket: the number of slots with lesser keys, and whether the next has it.
+pub(crate) fn find_place(bytes: &[u8], head: &FileHead, count: u16, key: &[u8]) -> (u16, bool)
+    requires bucket { IsBucket (kind_of head.now) (length bytes.now) bytes.now }
+    requires small { length bytes.now ≤ 8192 }
+    requires counted { count ≡ length (slots_of (kind_of head.now) bytes.now) }
+    ensures { IsPlace head.now key.now (slots_of (kind_of head.now) bytes.now) result.0 result.1 }
+{
+    let mut low = 0;
+    let mut high = count;
+    while low < high {
+        let mid = low + (high - low) / 2;
+        match compare_key(slot(bytes, head, mid), head, key) {
+            Ordering::Less => low = mid + 1,
+            Ordering::Equal => return (mid, true),
+            Ordering::Greater => high = mid,
+        }
+    }
+    (low, false)
+}
+
+/// The record in a slot's bytes: true where it has one.
+pub(crate) fn read_record(slot: &[u8], mrs: u16, out: &mut Record) -> bool
+    requires whole { 4 + u16_at slot.now 2 ≤ length slot.now }
+    requires most { mrs ≤ 8160 }
+    ensures some { result ≡ true → value_of mrs slot.now ≡ Some out.new }
+    ensures none { result ≡ false → value_of mrs slot.now ≡ None }
+{
+    let size = slot[2] as u16 + 256 * slot[3] as u16;
+    if size == 0 || size > mrs {
+        return false;
+    }
+    out.set(&slot[4..4 + size as usize]);
+    true
+}

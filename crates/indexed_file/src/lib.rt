@@ -1,0 +1,20 @@
+//! Indexed files: sorted slots in a chain of buckets.
+#![tactic(auto)]
+
+mod indexed;
+mod law;
+mod leaf;
+mod make;
+mod next;
+mod parts;
+mod read;
+mod set;
+mod slots;
+mod walk;
+
+pub use indexed::IndexedFile;
+pub use law::{order_law, part_law, put_law, room_law, target_law, tidy_law};
+pub use make::make_file;
+pub use next::next_key;
+pub use read::get_key;
+pub use set::set_key;

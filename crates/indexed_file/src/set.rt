@@ -1,0 +1,497 @@
+//! A key that is set: the bucket for it is written anew, and parted where it overflows.
+ghost use Rattle.std.specs.Prelude.{◌≡◌, ◌≤◌, ◌<◌, ◌+◌, ◌-◌, ◌*◌, ℕ, List, Bool, true, false, Option, Some, None, length, take, drop, map, OnOk, OnErr, IfOk, IfSome, option_map};
+ghost use Rattle.std.specs.Option.{option_copied};
+ghost use Rattle.careful_write.specs.Down.{answered};
+ghost use Rattle.frame_pool.specs.Pool.{IsOut};
+ghost use Rattle.vms_model.specs.Keys.{Text};
+ghost use Rattle.bucket_page.specs.Pages.{slots_of, next_of, slot_at, joined, suits, inserted, IsPacked, IsBucket, Packs};
+ghost use Rattle.change_set.specs.Buckets.{frame_of, with_frame, with_bucket};
+ghost use Rattle.change_set.specs.Files.{IsPlaced, free_frames};
+ghost use Rattle.indexed_file.specs.Slots.{size_of};
+ghost use Rattle.indexed_file.specs.Chain.{IsIndexed, kind_of, bucket_first, all_keep, SuitsText};
+ghost use Rattle.indexed_file.specs.Places.{IsPlace};
+ghost use Rattle.indexed_file.specs.Raws.{slot_bytes, Means, tidied_raws, raws_added, place_added, Parted, SetsLeaf};
+ghost use Rattle.indexed_file.specs.Sets.{ChangesSlot, SetsFile, SetsLoaded, with_parts, with_blocks_of, touched_by};
+
+use crate::leaf::{bucket_size, find_place, kind, load_leaf, slot};
+use crate::parts::part;
+use crate::slots::{number_at, put_slot, tidy};
+use crate::walk::find_target;
+use block_disk::Disk;
+use bucket_page::{Page, insert_front, remove_front, replace_front};
+use careful_write::{Down, Store};
+use change_set::{Held, give_frame, stage_bucket, take_frame};
+use file_base::FileHead;
+use frame_pool::{FRAME_BYTES, Frame};
+use vms_base::Record;
+
+// Tidies a bucket and puts a slot at what was place i; where it does not fit, parts the bucket. Answers how many buckets
+// that adds.
+fn add_tidied<H: Held>(
+    head: &FileHead,
+    size: usize,
+    low: &mut [u8],
+    mid: &mut [u8],
+    high: &mut [u8],
+    count: u16,
+    i: u16,
+    slot: &[u8],
+    held: &H,
+) -> u32
+    requires form { IsIndexed head.now }
+    requires low_within { size ≤ length low.old }
+    requires mid_within { size ≤ length mid.old }
+    requires high_within { size ≤ length high.old }
+    requires small { size ≤ 8192 }
+    requires packed { IsPacked (kind_of head.now) size (take size low.old) }
+    requires counted { count ≡ length (slots_of (kind_of head.now) (take size low.old)) }
+    requires place { i ≤ count }
+    requires suits { suits (kind_of head.now) slot.now ≡ true }
+    requires alone { 16 + length slot.now ≤ size }
+    requires numbers { head.now.used ≤ 65536 }
+    ensures parted { let raws = tidied_raws head.now (λ t. H.held held.now (Text t)) (slots_of (kind_of head.now) (take size low.old)) in
+        let place = length (tidied_raws head.now (λ t. H.held held.now (Text t)) (take i (slots_of (kind_of head.now) (take size low.old)))) in
+        Parted head.now size head.now.used (next_of (take size low.old)) (inserted raws place slot.now) place result (take size low.new) (take size mid.new) (take size high.new) }
+    ensures few { result ≤ 2 }
+{
+    let at = tidy(head, low, size, count, i, held);
+    if insert_front(low, size, kind(head), at as usize, slot) {
+        return 0;
+    }
+    let number = number_at(&low[..size], 2);
+    part(head, size, low, mid, high, number, at, slot, head.used)
+}
+
+// Puts a slot at place i of a bucket; where it does not fit, tidies the bucket, and where it still does not, parts it.
+// Answers how many buckets that adds.
+fn add_slot<H: Held>(
+    head: &FileHead,
+    size: usize,
+    low: &mut [u8],
+    mid: &mut [u8],
+    high: &mut [u8],
+    count: u16,
+    i: u16,
+    slot: &[u8],
+    held: &H,
+) -> u32
+    requires form { IsIndexed head.now }
+    requires low_within { size ≤ length low.old }
+    requires mid_within { size ≤ length mid.old }
+    requires high_within { size ≤ length high.old }
+    requires small { size ≤ 8192 }
+    requires packed { IsPacked (kind_of head.now) size (take size low.old) }
+    requires counted { count ≡ length (slots_of (kind_of head.now) (take size low.old)) }
+    requires place { i ≤ count }
+    requires suits { suits (kind_of head.now) slot.now ≡ true }
+    requires alone { 16 + length slot.now ≤ size }
+    requires numbers { head.now.used ≤ 65536 }
+    ensures parted { Parted head.now size head.now.used (next_of (take size low.old))
+        (raws_added head.now (λ t. H.held held.now (Text t)) size (slots_of (kind_of head.now) (take size low.old)) i slot.now)
+        (place_added head.now (λ t. H.held held.now (Text t)) size (slots_of (kind_of head.now) (take size low.old)) i slot.now)
+        result (take size low.new) (take size mid.new) (take size high.new) }
+    ensures few { result ≤ 2 }
+{
+    if insert_front(low, size, kind(head), i as usize, slot) {
+        return 0;
+    }
+    add_tidied(head, size, low, mid, high, count, i, slot, held)
+}
+
+// Adds a record to a bucket, which has no slot of its key.
+fn add_record<H: Held>(
+    head: &FileHead,
+    size: usize,
+    low: &mut [u8],
+    mid: &mut [u8],
+    high: &mut [u8],
+    count: u16,
+    i: u16,
+    bytes: &[u8],
+    held: &H,
+) -> u32
+    requires form { IsIndexed head.now }
+    requires low_within { size ≤ length low.old }
+    requires mid_within { size ≤ length mid.old }
+    requires high_within { size ≤ length high.old }
+    requires small { size ≤ 8192 }
+    requires packed { IsPacked (kind_of head.now) size (take size low.old) }
+    requires counted { count ≡ length (slots_of (kind_of head.now) (take size low.old)) }
+    requires place { i ≤ count }
+    requires key { head.now.key_pos + head.now.key_size ≤ length bytes.now }
+    requires alone { 20 + length bytes.now ≤ size }
+    requires numbers { head.now.used ≤ 65536 }
+    ensures parted { let slot = slot_bytes (length bytes.now) (length bytes.now) 0 bytes.now in
+        Parted head.now size head.now.used (next_of (take size low.old))
+        (raws_added head.now (λ t. H.held held.now (Text t)) size (slots_of (kind_of head.now) (take size low.old)) i slot)
+        (place_added head.now (λ t. H.held held.now (Text t)) size (slots_of (kind_of head.now) (take size low.old)) i slot)
+        result (take size low.new) (take size mid.new) (take size high.new) }
+    ensures few { result ≤ 2 }
+{
+    let mut slot = [0; FRAME_BYTES];
+    let room = bytes.len() as u16;
+    put_slot(&mut slot, room, room, 0, bytes);
+    add_slot(
+        head,
+        size,
+        low,
+        mid,
+        high,
+        count,
+        i,
+        &slot[..4 + bytes.len()],
+        held,
+    )
+}
+
+// Writes the slot of a key with a room, and a record or none.
+fn make_slot(head: &FileHead, key: &[u8], value: Option<&Record>, room: u16, out: &mut [u8])
+    requires form { IsIndexed head.now }
+    requires suits { SuitsText head.now key.now (option_copied value) }
+    requires holds { size_of (option_copied value) ≤ room }
+    requires key_room { head.now.key_pos + head.now.key_size ≤ room }
+    requires within { 4 + room ≤ length out.old }
+    ensures { Means head.now key.now room (option_copied value.entry) (take (4 + room) out.new) }
+{
+    match value {
+        Some(record) => {
+            let bytes = record.bytes();
+            put_slot(out, room, bytes.len() as u16, 0, bytes);
+        }
+        None => put_slot(out, room, 0, head.key_pos, key),
+    }
+}
+
+// Sets a key whose slot has room for the value.
+fn change_slot(
+    head: &FileHead,
+    size: usize,
+    low: &mut [u8],
+    i: u16,
+    room: u16,
+    key: &[u8],
+    value: Option<&Record>,
+)
+    requires form { IsIndexed head.now }
+    requires low_within { size ≤ length low.old }
+    requires small { size ≤ 8192 }
+    requires packed { IsPacked (kind_of head.now) size (take size low.old) }
+    requires there { i < length (slots_of (kind_of head.now) (take size low.old)) }
+    requires suits { SuitsText head.now key.now (option_copied value) }
+    requires holds { size_of (option_copied value) ≤ room }
+    requires key_room { head.now.key_pos + head.now.key_size ≤ room }
+    requires same { length (slot_at (slots_of (kind_of head.now) (take size low.old)) i) ≡ 4 + room }
+    requires short { 4 + room ≤ 8192 }
+    ensures { ChangesSlot head.now key.now room (option_copied value.entry) size i (take size low.old) (take size low.new) }
+{
+    let mut slot = [0; FRAME_BYTES];
+    make_slot(head, key, value, room, &mut slot);
+    replace_front(
+        low,
+        size,
+        kind(head),
+        i as usize,
+        &slot[..4 + room as usize],
+    );
+}
+
+// The length of a value; none has no bytes.
+fn value_size(value: Option<&Record>) -> usize
+    ensures { result ≡ size_of (option_copied value.entry) }
+{
+    match value {
+        Some(record) => record.bytes().len(),
+        None => 0,
+    }
+}
+
+// Sets a key that has no slot in the bucket for it. Answers how many buckets that adds.
+fn set_missing<H: Held>(
+    head: &FileHead,
+    size: usize,
+    low: &mut [u8],
+    mid: &mut [u8],
+    high: &mut [u8],
+    count: u16,
+    i: u16,
+    key: &[u8],
+    value: Option<&Record>,
+    held: &H,
+) -> u32
+    requires form { IsIndexed head.now }
+    requires low_within { size ≤ length low.old }
+    requires mid_within { size ≤ length mid.old }
+    requires high_within { size ≤ length high.old }
+    requires small { size ≤ 8192 }
+    requires records { head.now.mrs + 32 ≤ size }
+    requires suits { SuitsText head.now key.now (option_copied value) }
+    requires numbers { head.now.used ≤ 65536 }
+    requires bucket { IsBucket (kind_of head.now) size (take size low.old) }
+    requires counted { count ≡ length (slots_of (kind_of head.now) (take size low.old)) }
+    requires place { IsPlace head.now key.now (slots_of (kind_of head.now) (take size low.old)) i false }
+    ensures sets { all_keep head.now (slots_of (kind_of head.now) (take size low.old)) ≡ true →
+        SetsLeaf head.now (λ t. H.held held.now (Text t)) key.now (option_copied value.entry) size head.now.used (take size low.old) result (take size low.new) (take size mid.new) (take size high.new) }
+    ensures few { result ≤ 2 }
+{
+    match value {
+        Some(record) => add_record(head, size, low, mid, high, count, i, record.bytes(), held),
+        None => 0,
+    }
+}
+
+// Sets a key that has slot i of the bucket for it. Answers how many buckets that adds.
+fn set_found<H: Held>(
+    head: &FileHead,
+    size: usize,
+    low: &mut [u8],
+    mid: &mut [u8],
+    high: &mut [u8],
+    count: u16,
+    i: u16,
+    key: &[u8],
+    value: Option<&Record>,
+    held: &H,
+) -> u32
+    requires form { IsIndexed head.now }
+    requires low_within { size ≤ length low.old }
+    requires mid_within { size ≤ length mid.old }
+    requires high_within { size ≤ length high.old }
+    requires small { size ≤ 8192 }
+    requires records { head.now.mrs + 32 ≤ size }
+    requires suits { SuitsText head.now key.now (option_copied value) }
+    requires numbers { head.now.used ≤ 65536 }
+    requires bucket { IsBucket (kind_of head.now) size (take size low.old) }
+    requires counted { count ≡ length (slots_of (kind_of head.now) (take size low.old)) }
+    requires place { IsPlace head.now key.now (slots_of (kind_of head.now) (take size low.old)) i true }
+    ensures sets { all_keep head.now (slots_of (kind_of head.now) (take size low.old)) ≡ true →
+        SetsLeaf head.now (λ t. H.held held.now (Text t)) key.now (option_copied value.entry) size head.now.used (take size low.old) result (take size low.new) (take size mid.new) (take size high.new) }
+    ensures few { result ≤ 2 }
+{
+    let room = number_at(slot(&low[..size], head, i), 0);
+    let long = value_size(value);
+    if long <= room as usize {
+        change_slot(head, size, low, i, room, key, value);
+        return 0;
+    }
+    match value {
+        Some(record) => {
+            remove_front(low, size, kind(head), i as usize);
+            add_record(
+                head,
+                size,
+                low,
+                mid,
+                high,
+                count - 1,
+                i,
+                record.bytes(),
+                held,
+            )
+        }
+        None => 0,
+    }
+}
+
+// Sets a key in the bucket for it, which may part in two or three. Answers how many buckets that adds.
+fn set_in_leaf<H: Held>(
+    head: &FileHead,
+    size: usize,
+    low: &mut [u8],
+    mid: &mut [u8],
+    high: &mut [u8],
+    key: &[u8],
+    value: Option<&Record>,
+    held: &H,
+) -> u32
+    requires form { IsIndexed head.now }
+    requires low_within { size ≤ length low.old }
+    requires mid_within { size ≤ length mid.old }
+    requires high_within { size ≤ length high.old }
+    requires small { size ≤ 8192 }
+    requires records { head.now.mrs + 32 ≤ size }
+    requires suits { SuitsText head.now key.now (option_copied value) }
+    requires numbers { head.now.used ≤ 65536 }
+    ensures sets { IsBucket (kind_of head.now) size (take size low.old) → all_keep head.now (slots_of (kind_of head.now) (take size low.old)) ≡ true →
+        SetsLeaf head.now (λ t. H.held held.now (Text t)) key.now (option_copied value.entry) size head.now.used (take size low.old) result (take size low.new) (take size mid.new) (take size high.new) }
+    ensures few { result ≤ 2 }
+{
+    match Page::slots(&low[..size], kind(head)) {
+        Some(count) => {
+            let (i, found) = find_place(&low[..size], head, count, key);
+            if found {
+                return set_found(head, size, low, mid, high, count, i, key, value, held);
+            }
+            set_missing(head, size, low, mid, high, count, i, key, value, held)
+        }
+        None => 0,
+    }
+}
+
+// Writes all bytes of a frame.
+fn fill_frame<D: Disk>(store: &mut Store<D>, frame: &Frame, bytes: &[u8; FRAME_BYTES])
+    requires { IsOut store.old.pool frame.now }
+    ensures put { store.new ≡ with_frame frame.now bytes.now store.old }
+    ensures out { IsOut store.new.pool frame.now }
+{
+    store.pool().bytes_mut(frame).copy_from_slice(bytes);
+}
+
+// Stages the front of some bytes as bucket n.
+fn stage_leaf<D: Disk>(
+    head: &FileHead,
+    store: &mut Store<D>,
+    frame: &Frame,
+    n: u32,
+    bytes: &[u8; FRAME_BYTES],
+)
+    requires placed { IsPlaced head.now store.old.disk }
+    requires out { IsOut store.old.pool frame.now }
+    requires there { n < head.now.alloc }
+    requires room { length store.old.touched ≤ 448 }
+    ensures state { store.new ≡ with_frame frame.now (frame_of store.new.pool frame.now) (record store.old {
+      current = option_map (λ blocks. with_bucket bytes.now blocks (bucket_first head.now n) head.now.bucket) store.old.current;
+      touched = with_blocks_of head.now n store.old.touched;
+    }) }
+    ensures out { IsOut store.new.pool frame.now }
+{
+    fill_frame(store, frame, bytes);
+    stage_bucket(
+        store,
+        frame,
+        head.start + n * head.bucket as u32,
+        head.bucket,
+    );
+}
+
+// Stages bucket n, and as many others as were added.
+fn stage_parts<D: Disk>(
+    head: &FileHead,
+    store: &mut Store<D>,
+    frame: &Frame,
+    n: u32,
+    added: u32,
+    low: &[u8; FRAME_BYTES],
+    mid: &[u8; FRAME_BYTES],
+    high: &[u8; FRAME_BYTES],
+)
+    requires placed { IsPlaced head.now store.old.disk }
+    requires out { IsOut store.old.pool frame.now }
+    requires there { n < head.now.alloc }
+    requires few { added ≤ 2 }
+    requires free { head.now.used + added ≤ head.now.alloc }
+    requires room { length store.old.touched ≤ 64 }
+    ensures state { store.new ≡ with_frame frame.now (frame_of store.new.pool frame.now) (record store.old {
+      current = option_map (with_parts head.now n added low.now mid.now high.now) store.old.current;
+      touched = touched_by head.now n added store.old.touched;
+    }) }
+    ensures out { IsOut store.new.pool frame.now }
+{
+    stage_leaf(head, store, frame, n, low);
+    if added == 0 {
+        return;
+    }
+    stage_leaf(head, store, frame, head.used, mid);
+    if added == 1 {
+        return;
+    }
+    stage_leaf(head, store, frame, head.used + 1, high);
+}
+
+// Reads a frame.
+fn read_frame<D: Disk>(store: &mut Store<D>, frame: &Frame, bytes: &mut [u8; FRAME_BYTES])
+    requires { IsOut store.old.pool frame.now }
+    ensures same { store.new ≡ store.old }
+    ensures bytes { bytes.new ≡ frame_of store.old.pool frame.now }
+{
+    bytes.copy_from_slice(store.pool().bytes(frame));
+}
+
+// Reads the bucket for a key, sets the key in it, and stages what it became. Where too few buckets are free, nothing is done.
+fn set_through<D: Disk, H: Held>(
+    head: &mut FileHead,
+    store: &mut Store<D>,
+    frame: &Frame,
+    key: &[u8],
+    value: Option<&Record>,
+    held: &H,
+) -> Result<(), Down>
+    requires form { IsIndexed head.old }
+    requires placed { IsPlaced head.old store.old.disk }
+    requires out { IsOut store.old.pool frame.now }
+    requires staged { length store.old.touched ≤ 64 }
+    requires suits { SuitsText head.old key.now (option_copied value) }
+    ensures sets { OnOk result (SetsFile head.old head.new (λ t. H.held held.now (Text t)) key.now (option_copied value.entry) store.old (record store.new { pool = store.old.pool })) }
+    ensures down { OnErr result (record store.new { pool = store.old.pool } ≡ record store.old { disk = answered result store.old.disk }) }
+    ensures head { OnErr result (head.new ≡ head.old) }
+    ensures pool { store.new ≡ with_frame frame.now (frame_of store.new.pool frame.now) (record store.new { pool = store.old.pool }) }
+    ensures out { IsOut store.new.pool frame.now }
+{
+    match find_target(head, store, frame, key) {
+        Ok(n) => match load_leaf(head, store, frame, n) {
+            Ok(()) => {
+                set_loaded(head, store, frame, n, key, value, held);
+                Ok(())
+            }
+            Err(down) => Err(down),
+        },
+        Err(down) => Err(down),
+    }
+}
+
+// Sets a key in the bucket that a frame has, and stages what it became. Where too few buckets are free, nothing is done.
+fn set_loaded<D: Disk, H: Held>(
+    head: &mut FileHead,
+    store: &mut Store<D>,
+    frame: &Frame,
+    n: u32,
+    key: &[u8],
+    value: Option<&Record>,
+    held: &H,
+)
+    requires form { IsIndexed head.old }
+    requires placed { IsPlaced head.old store.old.disk }
+    requires out { IsOut store.old.pool frame.now }
+    requires staged { length store.old.touched ≤ 64 }
+    requires suits { SuitsText head.old key.now (option_copied value) }
+    requires there { n < head.old.used }
+    ensures sets { SetsLoaded head.old head.new (λ t. H.held held.now (Text t)) key.now (option_copied value.entry) n (frame_of store.old.pool frame.now) frame.now store.old store.new }
+    ensures out { IsOut store.new.pool frame.now }
+{
+    let mut low = [0; FRAME_BYTES];
+    let mut mid = [0; FRAME_BYTES];
+    let mut high = [0; FRAME_BYTES];
+    read_frame(store, frame, &mut low);
+    let size = bucket_size(head);
+    let added = set_in_leaf(head, size, &mut low, &mut mid, &mut high, key, value, held);
+    let free = head.alloc - head.used;
+    if added > free {
+        return;
+    }
+    stage_parts(head, store, frame, n, added, &low, &mid, &high);
+    head.used += added;
+}
+
+/// Sets a key to a record, or takes its record away. Where the bucket for the key would have to part and too few buckets
+/// are free, nothing is done. `Down` says that the disk went down in the call. The store's frames are as before.
+pub fn set_key<D: Disk, H: Held>(
+    head: &mut FileHead,
+    store: &mut Store<D>,
+    key: &[u8],
+    value: Option<&Record>,
+    held: &H,
+) -> Result<(), Down>
+    requires form { IsIndexed head.old }
+    requires placed { IsPlaced head.old store.old.disk }
+    requires frames { 1 ≤ free_frames store.old.pool }
+    requires staged { length store.old.touched ≤ 64 }
+    requires suits { SuitsText head.old key.now (option_copied value) }
+    ensures sets { OnOk result (SetsFile head.old head.new (λ t. H.held held.now (Text t)) key.now (option_copied value.entry) store.old store.new) }
+    ensures whole { IfSome store.old.current (λ blocks. length blocks + 518 ≡ store.old.disk.size) }
+    ensures down { OnErr result (store.new ≡ record store.old { disk = answered result store.old.disk }) }
+    ensures head { OnErr result (head.new ≡ head.old) }
+{
+    let frame = take_frame(store);
+    let done = set_through(head, store, &frame, key, value, held);
+    give_frame(store, frame);
+    done
+}

@@ -1,0 +1,14 @@
+use Rattle.std.proofs.Common.{◌-◌, arith}
+use Rattle.seq_file.specs.Frames.{page_in}
+use Rattle.seq_file.proofs.WalkLaws.{last_found, last_none}
+use Rattle.seq_file.proofs.walk.last_spot.Goals as goal
+
+pub returns-then-slots-eq0-clause-none : goal.returns-then-slots-eq0-clause-none
+returns-then-slots-eq0-clause-none g c =
+    let h = c.args.head.now in
+    last_none c.args.store.now.current h (h.used - 1) c.in-Ok.slots (page_in h c.load_slots.new.store c.args.frame.now) (omega (arith, c.requires.form.one)) c.in-Ok.ensures.read c.in-Ok.ensures.number (omega (arith, c.if-slots-eq0.true)) c.requires.some
+
+pub returns-else-slots-eq0-clause-spot : goal.returns-else-slots-eq0-clause-spot
+returns-else-slots-eq0-clause-spot g c =
+    let h = c.args.head.now in
+    last_found c.args.store.now.current h (h.used - 1) c.in-Ok.slots (page_in h c.load_slots.new.store c.args.frame.now) (omega (arith, c.requires.form.one)) c.in-Ok.ensures.read c.in-Ok.ensures.number (omega (arith, c.if-slots-eq0.false))

@@ -1,0 +1,32 @@
+use Rattle.std.proofs.Common.{◌∙◌, ℕ, List, Option, IfSome, Result, Err, ap, sym, subst, arith}
+use Rattle.block_disk.specs.Disk.{DiskState}
+use Rattle.careful_write.specs.Down.{answered}
+use Rattle.careful_write.specs.declared.down.Down.{Down}
+use Rattle.careful_write.specs.State.{StoreState}
+use Rattle.change_set.specs.Files.{IsPlaced}
+use Rattle.seq_file.specs.Frames.{page_in, Reads}
+use Rattle.seq_file.proofs.FrameSteps.{in_frame_more}
+use Rattle.seq_file.proofs.WalkLaws.{walk_more}
+use Rattle.seq_file.proofs.walk.walk.Goals as goal
+
+pub returns-then-left-slots-clause-state : goal.returns-then-left-slots-clause-state
+returns-then-left-slots-clause-state g c =
+    in_frame_more c.args.frame.now c.args.store.now c.loop-bucket.store c.load_slots.new.store (λ (d : DiskState). d) c.loop-bucket.invariant.frame c.in-Ok.ensures.state
+
+pub returns-in-Err-clause-state : goal.returns-in-Err-clause-state
+returns-in-Err-clause-state g c =
+    let r : Result (Unit {0}) Down = Err c.in-Err.down in
+    in_frame_more c.args.frame.now c.args.store.now c.loop-bucket.store c.load_slots.new.store (answered r) c.loop-bucket.invariant.frame c.in-Err.ensures.state
+
+pub loop-bucket-preserved : goal.loop-bucket-preserved
+loop-bucket-preserved g c =
+    let h = c.args.head.now in
+    let page = page_in h c.load_slots.new.store c.args.frame.now in
+    let read = subst (λ (told : Option (List (List ℕ))). IfSome told (Reads h c.loop-bucket.bucket page)) c.loop-bucket.invariant.current c.in-Ok.ensures.read in
+    record {
+      frame = in_frame_more c.args.frame.now c.args.store.now c.loop-bucket.store c.load_slots.new.store (λ (d : DiskState). d) c.loop-bucket.invariant.frame c.in-Ok.ensures.state;
+      out = c.in-Ok.ensures.out;
+      placed = subst (λ (s : StoreState). IsPlaced h s.disk) (sym c.in-Ok.ensures.state) c.loop-bucket.invariant.placed;
+      current = ap (λ (s : StoreState). s.current) c.in-Ok.ensures.state ∙ c.loop-bucket.invariant.current;
+      place = walk_more c.args.store.now.current h c.loop-bucket.bucket c.args.n c.loop-bucket.left c.in-Ok.slots page (omega (arith, c.loop-bucket-test.true)) c.loop-bucket.invariant.place read c.in-Ok.ensures.number (omega (arith, c.if-left-slots.false));
+    }

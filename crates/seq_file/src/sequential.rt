@@ -1,0 +1,161 @@
+//! A sequential file as a map from positions to records.
+ghost use Rattle.std.specs.Prelude.{◌≡◌, ◌≤◌, ◌<◌, ◌+◌, ◌-◌, ◌*◌, ℕ, List, Bool, true, false, Option, Some, None, [], length, take, OnOk, OnErr, IfOk, IfSome, IfNone, option_map};
+ghost use Rattle.std.specs.Option.{option_copied};
+ghost use Rattle.vms_base.specs.Keys.{key_of};
+ghost use Rattle.change_set.specs.Files.{IsPlaced, free_frames, fell, StagesIn, SameFile};
+ghost use Rattle.seq_file.specs.Placing.{buckets_for};
+ghost use Rattle.seq_file.specs.Records.{cut_from, slot_sizes};
+ghost use Rattle.seq_file.specs.Layout.{map_of, records_in, capacity, IsSequential, IsLaidOut};
+
+use crate::file::{cut_positions, need_of, read_position, set_position};
+use crate::make::make_file;
+use block_disk::Disk;
+use careful_write::{Down, Store};
+use change_set::{Held, RecordFile, number_behind};
+use file_base::FileHead;
+use vms_base::{Key, Record};
+
+/// Files whose records stand one behind the other, at the positions from 1 to their number. A record goes into the last
+/// used bucket where it fits, and else into the next one.
+///
+/// `set` puts a record behind the last one, writes one of the same length over another, or takes the last one away. No
+/// position has room of its own: what was taken away is put back behind the last record.
+pub struct SeqFile;
+
+impl RecordFile for SeqFile {
+    ghost use Rattle.seq_file.specs.Layout.{map_of, IsSequential, IsFresh, IsLaidOut, Suits, Takes, asks, used_after};
+    ghost use Rattle.seq_file.specs.Local.{local_law, valid_local_law};
+    ghost use Rattle.std.specs.Prelude.{ℕ, refl};
+
+    ghost map = { map_of };
+
+    ghost form = { IsSequential };
+
+    ghost fresh = { IsFresh };
+
+    ghost valid = { IsLaidOut };
+
+    ghost suits = { Suits };
+
+    ghost takes = { Takes };
+
+    ghost room = { λ h blocks key. 0 };
+
+    ghost asks = { asks };
+
+    ghost used_after = { λ h blocks held key value. used_after h blocks key value };
+
+    ghost local = { local_law };
+
+    ghost valid_local = { valid_local_law };
+
+    ghost room_local = { λ h a b form agrees key. refl };
+
+    fn get<D: Disk>(
+        head: &FileHead,
+        store: &mut Store<D>,
+        key: &Key,
+        out: &mut Record,
+    ) -> Result<bool, Down> {
+        match key {
+            Key::Number(n) => {
+                if *n == 0 || *n > head.count {
+                    return Ok(false);
+                }
+                let found = read_position(head, store, *n, out);
+                if found.is_err() {
+                    store.unstage();
+                }
+                found
+            }
+            _ => Ok(false),
+        }
+    }
+
+    fn next<D: Disk>(
+        head: &FileHead,
+        store: &mut Store<D>,
+        after: Option<&Key>,
+        found: &mut Key,
+        out: &mut Record,
+    ) -> Result<bool, Down> {
+        let Some(from) = number_behind(after) else {
+            return Ok(false);
+        };
+        if from >= head.count {
+            return Ok(false);
+        }
+        match read_position(head, store, from + 1, out) {
+            Ok(true) => {
+                *found = Key::Number(from + 1);
+                Ok(true)
+            }
+            Ok(false) => Ok(false),
+            Err(down) => {
+                store.unstage();
+                Err(down)
+            }
+        }
+    }
+
+    fn set<D: Disk, H: Held>(
+        head: &mut FileHead,
+        store: &mut Store<D>,
+        key: &Key,
+        value: Option<&Record>,
+        _held: &H,
+    ) -> Result<(), Down> {
+        match key {
+            Key::Number(n) => {
+                let done = set_position(head, store, *n, value);
+                if done.is_err() {
+                    store.unstage();
+                }
+                done
+            }
+            _ => Ok(()),
+        }
+    }
+
+    fn need<D: Disk>(head: &FileHead, store: &mut Store<D>, size: u16) -> Result<u32, Down> {
+        let need = need_of(head, store, size);
+        if need.is_err() {
+            store.unstage();
+        }
+        need
+    }
+
+    fn make<D: Disk>(head: &FileHead, store: &mut Store<D>) -> Result<(), Down> {
+        let done = make_file(head, store);
+        if done.is_err() {
+            store.unstage();
+        }
+        done
+    }
+}
+
+impl SeqFile {
+    /// Stages the map without the positions from one on. Blocks of at most one bucket are staged.
+    pub fn cut<D: Disk>(head: &mut FileHead, store: &mut Store<D>, from: u32) -> Result<(), Down>
+        requires form { IsSequential head.old }
+        requires placed { IsPlaced head.old store.old.disk }
+        requires frames { 32 ≤ free_frames store.old.pool }
+        requires staged { length store.old.touched ≤ 64 }
+        requires first { 1 ≤ from }
+        requires last { from ≤ head.old.count }
+        ensures map { OnOk result (IfSome store.old.current (λ before. IsLaidOut head.old before → option_map (map_of head.new) store.new.current ≡ Some (cut_from from (map_of head.old before)))) }
+        ensures valid { OnOk result (IfSome store.old.current (λ before. IsLaidOut head.old before → IfSome store.new.current (IsLaidOut head.new))) }
+        ensures used { OnOk result (IfSome store.old.current (λ before. IsLaidOut head.old before → head.new.used ≡ buckets_for (capacity head.old) (slot_sizes (take (from - 1) (records_in head.old before))))) }
+        ensures file { OnOk result (SameFile head.old head.new) }
+        ensures form { OnOk result (IsSequential head.new) }
+        ensures staged { OnOk result (StagesIn head.old head.old.bucket store.old store.new) }
+        ensures head { OnErr result (head.new ≡ head.old) }
+        ensures down { OnErr result (store.new ≡ fell result store.old) }
+    {
+        let done = cut_positions(head, store, from);
+        if done.is_err() {
+            store.unstage();
+        }
+        done
+    }
+}
