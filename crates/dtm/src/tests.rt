@@ -115,7 +115,7 @@ fn images_are_opened_in_the_order_of_the_words(rt: HostRuntime) -> Result<(), Fa
 fn scripts_need_not_open_a_node(rt: HostRuntime) -> Result<(), Fail> {
     for (script, exit, text) in [
         (b"".as_slice(), Exit::Done, b"".as_slice()),
-        (b"A: PUT T F 1 \"a\"\n", Exit::BadLine, b"1 BADLINE 4\n"),
+        (b"A: PUT T F 1 \"a\"\n", Exit::Done, b"1 NODEDOWN\n"),
     ] {
         let mut words = Vec::new(rt.alloc());
         for word in ["dtm", "RUN", "A=image"] {
