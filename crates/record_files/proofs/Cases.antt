@@ -1,0 +1,58 @@
+-- What is so of a file of one organization is so by the head's organization.
+use Rattle.std.proofs.Common.{◌≡◌, ◌≤◌, ◌-◌, ℕ, take, Bool, true, List, Option, Some, Result, Ok, Err, OnOk, IfSome, option_map, sym, ap, subst}
+use Rattle.file_base.specs.declared.head.FileHead.{FileHead}
+use Rattle.file_base.specs.declared.head.Organization.{Organization}
+use Rattle.vms_model.specs.Keys.{Key}
+use Rattle.change_set.specs.Maps.{set_key}
+use Rattle.change_set.specs.Files.{SameFile}
+use Rattle.seq_file.specs.Placing.{buckets_for}
+use Rattle.seq_file.specs.Records.{cut_from, slot_sizes}
+use Rattle.seq_file.specs.Layout.{records_in, capacity}
+use Rattle.record_files.specs.Any.{map_by, FormBy, LaidOutBy, TakesBy, room_by, used_by, map_of, IsFile, IsLaidOut, Takes, room_at, used_after}
+
+-- a fact about the organizations of a head and of the same file's later head
+pub both : {T E : Type 0} (P : Organization → Organization → Type 0) (r : Result T E) (o : Organization) (h h' : FileHead) → h.organization ≡ o → OnOk r (SameFile h h') → OnOk r (P o o) → OnOk r (P h.organization h'.organization)
+both P (Ok x) o h h' is same p = subst (λ (q : Organization). P h.organization q) (sym (ap (λ (s : FileHead). s.organization) same.is)) (subst (λ (q : Organization). P q q) (sym is) p)
+both P (Err e) o h h' is same p = tt
+
+pub set_map : {T E : Type 0} (r : Result T E) (o : Organization) (h h' : FileHead) (k : Key) (v : Option (List ℕ)) (old new : Option (List (List ℕ))) → h.organization ≡ o → OnOk r (SameFile h h')
+    → OnOk r (IfSome old (λ before. LaidOutBy o h before → TakesBy o h before k v → option_map (map_by o h') new ≡ Some (set_key k v (map_by o h before))))
+    → OnOk r (IfSome old (λ before. IsLaidOut h before → Takes h before k v → option_map (map_of h') new ≡ Some (set_key k v (map_of h before))))
+set_map r o h h' k v old new is same p = both (λ a b. IfSome old (λ before. LaidOutBy a h before → TakesBy a h before k v → option_map (map_by b h') new ≡ Some (set_key k v (map_by a h before)))) r o h h' is same p
+
+pub set_valid : {T E : Type 0} (r : Result T E) (o : Organization) (h h' : FileHead) (k : Key) (v : Option (List ℕ)) (old new : Option (List (List ℕ))) → h.organization ≡ o → OnOk r (SameFile h h')
+    → OnOk r (IfSome old (λ before. LaidOutBy o h before → TakesBy o h before k v → IfSome new (LaidOutBy o h')))
+    → OnOk r (IfSome old (λ before. IsLaidOut h before → Takes h before k v → IfSome new (IsLaidOut h')))
+set_valid r o h h' k v old new is same p = both (λ a b. IfSome old (λ before. LaidOutBy a h before → TakesBy a h before k v → IfSome new (LaidOutBy b h'))) r o h h' is same p
+
+pub set_used : {T E : Type 0} (r : Result T E) (o : Organization) (h h' : FileHead) (held : Key → Bool) (k : Key) (v : Option (List ℕ)) (old : Option (List (List ℕ))) → h.organization ≡ o → OnOk r (SameFile h h')
+    → OnOk r (IfSome old (λ before. LaidOutBy o h before → TakesBy o h before k v → h'.used ≡ used_by o h before held k v))
+    → OnOk r (IfSome old (λ before. IsLaidOut h before → Takes h before k v → h'.used ≡ used_after h before held k v))
+set_used r o h h' held k v old is same p = both (λ a b. IfSome old (λ before. LaidOutBy a h before → TakesBy a h before k v → h'.used ≡ used_by a h before held k v)) r o h h' is same p
+
+pub set_rooms : {T E : Type 0} (r : Result T E) (o : Organization) (h h' : FileHead) (held : Key → Bool) (k : Key) (v : Option (List ℕ)) (old new : Option (List (List ℕ))) → h.organization ≡ o → OnOk r (SameFile h h')
+    → OnOk r (IfSome old (λ before. LaidOutBy o h before → TakesBy o h before k v → IfSome new (λ after. (other : Key) → held other ≡ true → room_by o h before other ≤ room_by o h' after other)))
+    → OnOk r (IfSome old (λ before. IsLaidOut h before → Takes h before k v → IfSome new (λ after. (other : Key) → held other ≡ true → room_at h before other ≤ room_at h' after other)))
+set_rooms r o h h' held k v old new is same p = both (λ a b. IfSome old (λ before. LaidOutBy a h before → TakesBy a h before k v → IfSome new (λ after. (other : Key) → held other ≡ true → room_by a h before other ≤ room_by b h' after other))) r o h h' is same p
+
+pub set_form : {T E : Type 0} (r : Result T E) (o : Organization) (h h' : FileHead) → h.organization ≡ o → OnOk r (SameFile h h') → OnOk r (FormBy o h') → OnOk r (IsFile h')
+set_form r o h h' is same p = both (λ a b. FormBy b h') r o h h' is same p
+
+pub cut_map : {T E : Type 0} (r : Result T E) (o : Organization) (h h' : FileHead) (from : ℕ) (old new : Option (List (List ℕ))) → h.organization ≡ o → OnOk r (SameFile h h')
+    → OnOk r (IfSome old (λ before. LaidOutBy o h before → option_map (map_by o h') new ≡ Some (cut_from from (map_by o h before))))
+    → OnOk r (IfSome old (λ before. IsLaidOut h before → option_map (map_of h') new ≡ Some (cut_from from (map_of h before))))
+cut_map r o h h' from old new is same p = both (λ a b. IfSome old (λ before. LaidOutBy a h before → option_map (map_by b h') new ≡ Some (cut_from from (map_by a h before)))) r o h h' is same p
+
+pub cut_valid : {T E : Type 0} (r : Result T E) (o : Organization) (h h' : FileHead) (old new : Option (List (List ℕ))) → h.organization ≡ o → OnOk r (SameFile h h')
+    → OnOk r (IfSome old (λ before. LaidOutBy o h before → IfSome new (LaidOutBy o h')))
+    → OnOk r (IfSome old (λ before. IsLaidOut h before → IfSome new (IsLaidOut h')))
+cut_valid r o h h' old new is same p = both (λ a b. IfSome old (λ before. LaidOutBy a h before → IfSome new (LaidOutBy b h'))) r o h h' is same p
+
+-- how many buckets the placing of the records below a position takes
+abbrev pub buckets_of : FileHead → ℕ → List (List ℕ) → ℕ
+buckets_of h from b = buckets_for (capacity h) (slot_sizes (take (from - 1) (records_in h b)))
+
+pub cut_used : {T E : Type 0} (r : Result T E) (o : Organization) (h h' : FileHead) (left : List (List ℕ) → ℕ) (old : Option (List (List ℕ))) → h.organization ≡ o → OnOk r (SameFile h h')
+    → OnOk r (IfSome old (λ before. LaidOutBy o h before → h'.used ≡ left before))
+    → OnOk r (IfSome old (λ before. IsLaidOut h before → h'.used ≡ left before))
+cut_used r o h h' left old is same p = both (λ a b. IfSome old (λ before. LaidOutBy a h before → h'.used ≡ left before)) r o h h' is same p

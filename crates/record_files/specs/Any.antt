@@ -1,0 +1,100 @@
+-- What a file of any organization is: by the head's organization, what its own organization says.
+use Rattle.std.specs.Prelude.{ℕ, Bool, List, Option}
+use Rattle.file_base.specs.declared.head.FileHead.{FileHead}
+use Rattle.file_base.specs.declared.head.Organization.{Organization}
+use Rattle.file_base.specs.declared.head.Organization.TheVariants.{Sequential, Relative, Indexed}
+use Rattle.vms_model.specs.Keys.{Key}
+use Rattle.change_set.specs.Maps.{Map}
+use Rattle.relative_file.specs.Cells as relative
+use Rattle.seq_file.specs.Layout as sequential
+use Rattle.indexed_file.specs.Chain as indexed
+
+-- the map of a file that is kept so
+abbrev pub map_by : Organization → FileHead → List (List ℕ) → Map
+map_by Sequential = sequential.map_of
+map_by Relative = relative.map_of
+map_by Indexed = indexed.map_of
+
+-- the head is that of a file that is kept so
+abbrev pub FormBy : Organization → FileHead → Type 0
+FormBy Sequential = sequential.IsSequential
+FormBy Relative = relative.IsRelative
+FormBy Indexed = indexed.IsIndexed
+
+-- the head is that of a new file that is kept so
+abbrev pub FreshBy : Organization → FileHead → Type 0
+FreshBy Sequential = sequential.IsFresh
+FreshBy Relative = λ h. relative.Anything
+FreshBy Indexed = indexed.IsNew
+
+-- the blocks are laid out as those of a file that is kept so
+abbrev pub LaidOutBy : Organization → FileHead → List (List ℕ) → Type 0
+LaidOutBy Sequential = sequential.IsLaidOut
+LaidOutBy Relative = relative.IsLaidOut
+LaidOutBy Indexed = indexed.IsChained
+
+-- a key and a record of a file that is kept so
+abbrev pub SuitsBy : Organization → FileHead → Key → Option (List ℕ) → Type 0
+SuitsBy Sequential = sequential.Suits
+SuitsBy Relative = relative.Suits
+SuitsBy Indexed = indexed.Suits
+
+-- the key may be set to the value
+abbrev pub TakesBy : Organization → FileHead → List (List ℕ) → Key → Option (List ℕ) → Type 0
+TakesBy Sequential = sequential.Takes
+TakesBy Relative = λ h blocks key value. relative.Anything
+TakesBy Indexed = indexed.Takes
+
+-- the length that a key may be set to in place
+abbrev pub room_by : Organization → FileHead → List (List ℕ) → Key → ℕ
+room_by Sequential = λ h blocks key. 0
+room_by Relative = λ h blocks key. h.mrs
+room_by Indexed = indexed.room_at
+
+-- the free buckets that a record of this length asks for
+abbrev pub asks_by : Organization → FileHead → List (List ℕ) → ℕ → ℕ
+asks_by Sequential = sequential.asks
+asks_by Relative = λ h blocks size. 0
+asks_by Indexed = indexed.asks
+
+-- the used buckets once the key is set to the value, while these keys are held
+abbrev pub used_by : Organization → FileHead → List (List ℕ) → (Key → Bool) → Key → Option (List ℕ) → ℕ
+used_by Sequential = λ h blocks held key value. sequential.used_after h blocks key value
+used_by Relative = λ h blocks held key value. h.used
+used_by Indexed = indexed.used_after
+
+-- the map of a file
+abbrev pub map_of : FileHead → List (List ℕ) → Map
+map_of h = map_by h.organization h
+
+-- the head is that of a file of its organization
+abbrev pub IsFile : FileHead → Type 0
+IsFile h = FormBy h.organization h
+
+-- the head is that of a new file
+abbrev pub IsNew : FileHead → Type 0
+IsNew h = FreshBy h.organization h
+
+-- the blocks of the extent are laid out as those of the file
+abbrev pub IsLaidOut : FileHead → List (List ℕ) → Type 0
+IsLaidOut h = LaidOutBy h.organization h
+
+-- a key that the file may have, and a record that it may keep there
+abbrev pub Suits : FileHead → Key → Option (List ℕ) → Type 0
+Suits h = SuitsBy h.organization h
+
+-- the key may be set to the value: its slot's room holds it, or enough buckets are free
+abbrev pub Takes : FileHead → List (List ℕ) → Key → Option (List ℕ) → Type 0
+Takes h = TakesBy h.organization h
+
+-- the length that a key of the file may be set to in place
+abbrev pub room_at : FileHead → List (List ℕ) → Key → ℕ
+room_at h = room_by h.organization h
+
+-- the free buckets that a record of this length asks for in the file
+abbrev pub asks : FileHead → List (List ℕ) → ℕ → ℕ
+asks h = asks_by h.organization h
+
+-- the used buckets of the file once the key is set to the value, while these keys are held
+abbrev pub used_after : FileHead → List (List ℕ) → (Key → Bool) → Key → Option (List ℕ) → ℕ
+used_after h = used_by h.organization h

@@ -1,0 +1,35 @@
+-- The laws of a file of any organization: its map, its layout and its rooms rest on the file's extent alone.
+use Rattle.std.specs.Prelude.{◌≡◌, List, ℕ, refl}
+use Rattle.file_base.specs.declared.head.FileHead.{FileHead}
+use Rattle.file_base.specs.declared.head.Organization.{Organization}
+use Rattle.file_base.specs.declared.head.Organization.TheVariants.{Sequential, Relative, Indexed}
+use Rattle.vms_model.specs.Keys.{Key}
+use Rattle.change_set.specs.Files.{AgreesOn}
+use Rattle.relative_file.specs.Local as relative
+use Rattle.seq_file.specs.Local as sequential
+use Rattle.indexed_file.specs.Local as indexed
+use Rattle.record_files.specs.Any.{map_by, FormBy, LaidOutBy, room_by, map_of, IsFile, IsLaidOut, room_at}
+
+map_local_by : (o : Organization) (h : FileHead) (a b : List (List ℕ)) → FormBy o h → AgreesOn h a b → map_by o h a ≡ map_by o h b
+map_local_by Sequential = sequential.local_law
+map_local_by Relative = relative.local_law
+map_local_by Indexed = indexed.local_law
+
+valid_local_by : (o : Organization) (h : FileHead) (a b : List (List ℕ)) → FormBy o h → AgreesOn h a b → LaidOutBy o h a → LaidOutBy o h b
+valid_local_by Sequential = sequential.valid_local_law
+valid_local_by Relative = relative.valid_local_law
+valid_local_by Indexed = indexed.valid_local_law
+
+room_local_by : (o : Organization) (h : FileHead) (a b : List (List ℕ)) → FormBy o h → AgreesOn h a b → (key : Key) → room_by o h a key ≡ room_by o h b key
+room_local_by Sequential h a b form agrees key = refl
+room_local_by Relative h a b form agrees key = refl
+room_local_by Indexed h a b form agrees key = indexed.room_local_law h a b form agrees key
+
+pub local_law : (h : FileHead) (a b : List (List ℕ)) → IsFile h → AgreesOn h a b → map_of h a ≡ map_of h b
+local_law h = map_local_by h.organization h
+
+pub valid_local_law : (h : FileHead) (a b : List (List ℕ)) → IsFile h → AgreesOn h a b → IsLaidOut h a → IsLaidOut h b
+valid_local_law h = valid_local_by h.organization h
+
+pub room_local_law : (h : FileHead) (a b : List (List ℕ)) → IsFile h → AgreesOn h a b → (key : Key) → room_at h a key ≡ room_at h b key
+room_local_law h = room_local_by h.organization h

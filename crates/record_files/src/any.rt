@@ -1,0 +1,132 @@
+//! A file of any organization as a map from keys to records.
+ghost use Rattle.std.specs.Prelude.{◌≡◌, ◌≤◌, ◌<◌, ◌+◌, ◌-◌, ◌*◌, ℕ, List, Bool, true, false, Option, Some, None, length, take, OnOk, OnErr, IfOk, IfSome, option_map};
+ghost use Rattle.std.specs.Option.{option_copied};
+ghost use Rattle.file_base.specs.declared.head.Organization.TheVariants.{Sequential};
+ghost use Rattle.vms_base.specs.Keys.{key_of};
+ghost use Rattle.change_set.specs.Files.{IsPlaced, free_frames, fell, StagesIn, SameFile};
+ghost use Rattle.seq_file.specs.Placing.{buckets_for};
+ghost use Rattle.seq_file.specs.Records.{cut_from, slot_sizes};
+ghost use Rattle.seq_file.specs.Layout.{records_in, capacity};
+ghost use Rattle.record_files.specs.Any.{map_of, IsFile, IsLaidOut};
+
+use block_disk::Disk;
+use careful_write::{Down, Store};
+use change_set::{Held, RecordFile};
+use file_base::{FileHead, Organization};
+use indexed_file::IndexedFile;
+use relative_file::RelativeFile;
+use seq_file::SeqFile;
+use vms_base::{Key, Record};
+
+/// Files of which the head alone tells how they keep their records. Each call does what it does for a file of that
+/// organization.
+pub struct AnyFile;
+
+impl RecordFile for AnyFile {
+    ghost use Rattle.record_files.specs.Any.{map_of, IsFile, IsNew, IsLaidOut, Suits, Takes, room_at, asks, used_after};
+    ghost use Rattle.record_files.specs.Local.{local_law, valid_local_law, room_local_law};
+
+    ghost map = { map_of };
+
+    ghost form = { IsFile };
+
+    ghost fresh = { IsNew };
+
+    ghost valid = { IsLaidOut };
+
+    ghost suits = { Suits };
+
+    ghost takes = { Takes };
+
+    ghost room = { room_at };
+
+    ghost asks = { asks };
+
+    ghost used_after = { used_after };
+
+    ghost local = { local_law };
+
+    ghost valid_local = { valid_local_law };
+
+    ghost room_local = { room_local_law };
+
+    fn get<D: Disk>(
+        head: &FileHead,
+        store: &mut Store<D>,
+        key: &Key,
+        out: &mut Record,
+    ) -> Result<bool, Down> {
+        match head.organization {
+            Organization::Sequential => SeqFile::get(head, store, key, out),
+            Organization::Relative => RelativeFile::get(head, store, key, out),
+            Organization::Indexed => IndexedFile::get(head, store, key, out),
+        }
+    }
+
+    fn next<D: Disk>(
+        head: &FileHead,
+        store: &mut Store<D>,
+        after: Option<&Key>,
+        found: &mut Key,
+        out: &mut Record,
+    ) -> Result<bool, Down> {
+        match head.organization {
+            Organization::Sequential => SeqFile::next(head, store, after, found, out),
+            Organization::Relative => RelativeFile::next(head, store, after, found, out),
+            Organization::Indexed => IndexedFile::next(head, store, after, found, out),
+        }
+    }
+
+    fn set<D: Disk, H: Held>(
+        head: &mut FileHead,
+        store: &mut Store<D>,
+        key: &Key,
+        value: Option<&Record>,
+        held: &H,
+    ) -> Result<(), Down> {
+        match head.organization {
+            Organization::Sequential => SeqFile::set(head, store, key, value, held),
+            Organization::Relative => RelativeFile::set(head, store, key, value, held),
+            Organization::Indexed => IndexedFile::set(head, store, key, value, held),
+        }
+    }
+
+    fn need<D: Disk>(head: &FileHead, store: &mut Store<D>, size: u16) -> Result<u32, Down> {
+        match head.organization {
+            Organization::Sequential => SeqFile::need(head, store, size),
+            Organization::Relative => RelativeFile::need(head, store, size),
+            Organization::Indexed => IndexedFile::need(head, store, size),
+        }
+    }
+
+    fn make<D: Disk>(head: &FileHead, store: &mut Store<D>) -> Result<(), Down> {
+        match head.organization {
+            Organization::Sequential => SeqFile::make(head, store),
+            Organization::Relative => RelativeFile::make(head, store),
+            Organization::Indexed => IndexedFile::make(head, store),
+        }
+    }
+}
+
+impl AnyFile {
+    /// Stages the map of a sequential file without the positions from one on. Blocks of at most one bucket are staged.
+    pub fn cut<D: Disk>(head: &mut FileHead, store: &mut Store<D>, from: u32) -> Result<(), Down>
+        requires sequential { head.old.organization ≡ Sequential }
+        requires form { IsFile head.old }
+        requires placed { IsPlaced head.old store.old.disk }
+        requires frames { 32 ≤ free_frames store.old.pool }
+        requires staged { length store.old.touched ≤ 64 }
+        requires first { 1 ≤ from }
+        requires last { from ≤ head.old.count }
+        ensures map { OnOk result (IfSome store.old.current (λ before. IsLaidOut head.old before → option_map (map_of head.new) store.new.current ≡ Some (cut_from from (map_of head.old before)))) }
+        ensures valid { OnOk result (IfSome store.old.current (λ before. IsLaidOut head.old before → IfSome store.new.current (IsLaidOut head.new))) }
+        ensures used { OnOk result (IfSome store.old.current (λ before. IsLaidOut head.old before → head.new.used ≡ buckets_for (capacity head.old) (slot_sizes (take (from - 1) (records_in head.old before))))) }
+        ensures file { OnOk result (SameFile head.old head.new) }
+        ensures form { OnOk result (IsFile head.new) }
+        ensures staged { OnOk result (StagesIn head.old head.old.bucket store.old store.new) }
+        ensures head { OnErr result (head.new ≡ head.old) }
+        ensures down { OnErr result (store.new ≡ fell result store.old) }
+    {
+        SeqFile::cut(head, store, from)
+    }
+}

@@ -1,0 +1,6 @@
+//! Files of any organization: each call goes to the organization that the head tells.
+#![tactic(auto)]
+
+mod any;
+
+pub use any::AnyFile;
