@@ -5,5 +5,6 @@ pub mod Made
 pub mod Parts
 pub mod Places
 pub mod Raws
+pub mod Samples
 pub mod Sets
 pub mod Slots

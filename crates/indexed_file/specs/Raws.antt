@@ -1,5 +1,5 @@
 -- Slots as bytes.
-use Rattle.std.specs.Prelude.{◌≡◌, ◌≤◌, ◌<◌, ℕ, ◌+◌, ◌-◌, ◌==◌, Bool, true, false, List, [], ◌∷◌, ◌++◌, length, map, replicate, take, drop, Option, if◌then◌else◌, nat_le}
+use Rattle.std.specs.Prelude.{◌≡◌, ◌≤◌, ◌<◌, ℕ, zero, suc, ◌+◌, ◌-◌, ◌==◌, Bool, true, false, List, [], ◌∷◌, ◌++◌, length, map, replicate, take, drop, Option, if◌then◌else◌, nat_le}
 use Rattle.file_base.specs.declared.head.FileHead.{FileHead}
 use Rattle.file_base.specs.Bytes.{piece_at}
 use Rattle.bucket_page.specs.Pages.{u16_at, u16_bytes, key_in, slots_of, next_of, suits, all_suit, slot_at, joined, inserted, Packs}

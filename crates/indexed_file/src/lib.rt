@@ -10,6 +10,8 @@ mod parts;
 mod read;
 mod set;
 mod slots;
+#[cfg(test)]
+mod tests;
 mod walk;
 
 pub use indexed::IndexedFile;

@@ -1,0 +1,437 @@
+//! Records that are put, changed and removed at random, beside a plain list of slots in a list of buckets.
+ghost use Rattle.std.specs.Prelude.{IfOk, ◌≡◌, ◌≤◌, ◌<◌, ◌+◌, ℕ, false, true, length, OnOk, IfSome};
+ghost use Rattle.careful_write.specs.State.{IsIdle};
+ghost use Rattle.change_set.specs.Files.{IsPlaced, free_frames};
+ghost use Rattle.std.specs.Option.{option_copied};
+ghost use Rattle.file_base.specs.Bytes.{piece_at};
+ghost use Rattle.indexed_file.specs.Chain.{IsIndexed, SuitsText};
+ghost use Rattle.indexed_file.specs.Samples.{HasFields, is_even_text};
+
+use crate::{IndexedFile, order_law, part_law, put_law, room_law, target_law, tidy_law};
+use block_disk::{CrashDisk, Disk, MemPlatter};
+use careful_write::{Down, Group, Store};
+use change_set::{Held, RecordFile};
+use file_base::{FileHead, Marks, Organization, Save, Span};
+use frame_pool::Pool;
+use std::alloc::{AllocError, Global};
+use std::test::Fail;
+use vms_base::{FileName, Key, KeyText, Moment, Record};
+
+const NO_MARKS: Marks = Marks {
+    ru: false,
+    ai: false,
+    bi: false,
+    save: false,
+};
+
+const NO_JOURNAL: Span = Span {
+    start: 0,
+    blocks: 0,
+    first: 0,
+    end: 0,
+};
+
+const NO_SAVE: Save = Save {
+    start: 0,
+    alloc: 0,
+    position: 0,
+    moment: Moment(0),
+    used: 0,
+    root: 0,
+    levels: 0,
+    count: 0,
+};
+
+const CAPACITY: usize = 1008;
+
+/// Keys whose first byte is even are held.
+struct SomeHeld;
+
+impl Held for SomeHeld {
+    ghost held = { λ some key. is_even_text key };
+
+    fn is_held(&self, key: &Key) -> bool {
+        match key {
+            Key::Text(text) => text.bytes()[0] % 2 == 0,
+            _ => false,
+        }
+    }
+}
+
+/// A slot of the plain program: the bytes of its record are all alike but for the key.
+#[derive(Clone, Copy, Debug, PartialEq, Eq, Drop)]
+struct Slot {
+    key: u16,
+    room: usize,
+    size: usize,
+    fill: u8,
+}
+
+fn is_held(key: u16) -> bool {
+    key / 256 % 2 == 0
+}
+
+fn bytes_of(slots: &[Slot]) -> usize {
+    let mut sum: usize = 0;
+    for slot in slots {
+        sum = sum.saturating_add(slot.room.saturating_add(4));
+    }
+    sum
+}
+
+// The slots with one set; tidied before, where that is asked.
+fn with_slot(
+    alloc: Global,
+    slots: &[Slot],
+    new: Slot,
+    tidied: bool,
+) -> Result<Vec<Slot>, AllocError> {
+    let mut out = Vec::new(alloc);
+    let mut done = false;
+    for slot in slots {
+        let mut slot = *slot;
+        if tidied && !is_held(slot.key) {
+            slot.room = slot.size;
+        }
+        if slot.key == new.key {
+            out.push(Slot {
+                room: slot.room.max(new.size),
+                ..new
+            })?;
+            done = true;
+            continue;
+        }
+        if slot.key > new.key && !done {
+            if new.size > 0 {
+                out.push(new)?;
+            }
+            done = true;
+        }
+        if tidied && slot.size == 0 && !is_held(slot.key) {
+            continue;
+        }
+        out.push(slot)?;
+    }
+    if !done && new.size > 0 {
+        out.push(new)?;
+    }
+    Ok(out)
+}
+
+// The place that parts the slots best, by trying each.
+fn plain_place(slots: &[Slot]) -> Option<usize> {
+    let mut best = None;
+    let mut least = CAPACITY + 1;
+    for j in 1..slots.len() {
+        let greater = bytes_of(&slots[..j]).max(bytes_of(&slots[j..]));
+        if greater < least {
+            least = greater;
+            best = Some(j);
+        }
+    }
+    best
+}
+
+fn plain_set(alloc: Global, buckets: &mut Vec<Vec<Slot>>, new: Slot) -> Result<(), AllocError> {
+    let mut target = 0;
+    for (n, bucket) in buckets.iter().enumerate() {
+        if let Some(first) = bucket.first() {
+            if first.key <= new.key {
+                target = n;
+            }
+        }
+    }
+    if target >= buckets.len() {
+        return Ok(());
+    }
+    let old = buckets.remove(target);
+    let mut slots = with_slot(alloc, &old, new, false)?;
+    if bytes_of(&slots) > CAPACITY {
+        slots = with_slot(alloc, &old, new, true)?;
+    }
+    if bytes_of(&slots) <= CAPACITY && target <= buckets.len() {
+        buckets.insert(target, slots)?;
+        return Ok(());
+    }
+    let cuts = match plain_place(&slots) {
+        Some(j) => [j, slots.len()],
+        None => {
+            let i = slots.iter().position(|s| s.key == new.key).unwrap_or(0);
+            [i, i.saturating_add(1)]
+        }
+    };
+    let mut from = 0;
+    for cut in [cuts[0], cuts[1], slots.len()] {
+        if from < cut && cut <= slots.len() && target <= buckets.len() {
+            buckets.insert(target, slots[from..cut].to_vec(alloc)?)?;
+            from = cut;
+            target = target.saturating_add(1);
+        }
+    }
+    Ok(())
+}
+
+/// A generator of numbers.
+#[derive(Drop)]
+struct Draws {
+    state: u32,
+}
+
+impl Draws {
+    fn below(&mut self, limit: u32) -> u32
+        requires { 1 ≤ limit }
+        ensures { result < limit }
+    {
+        self.state = self.state.wrapping_mul(1103515245).wrapping_add(12345);
+        self.state / 65536 % limit
+    }
+}
+
+// The bytes of a slot's record: its key stands at place 1.
+fn fill_record(out: &mut Record, slot: Slot) {
+    let mut bytes = [slot.fill; 900];
+    bytes[1] = (slot.key / 256) as u8;
+    bytes[2] = (slot.key % 256) as u8;
+    if slot.size <= 900 {
+        out.set(&bytes[..slot.size]);
+    }
+}
+
+fn head_of(name: FileName) -> FileHead
+    ensures form { IsIndexed result }
+    ensures fields { HasFields result }
+    ensures place { (result.start ≡ 600) × (result.alloc ≡ 900) × (result.bucket ≡ 2) × (result.used ≡ 1) }
+{
+    FileHead {
+        name,
+        organization: Organization::Indexed,
+        marks: NO_MARKS,
+        bucket: 2,
+        mrs: 900,
+        mrn: 0,
+        key_pos: 1,
+        key_size: 2,
+        start: 600,
+        alloc: 900,
+        used: 1,
+        root: 0,
+        levels: 1,
+        count: 0,
+        ai: NO_JOURNAL,
+        bi: NO_JOURNAL,
+        bi_since: Moment(0),
+        save: NO_SAVE,
+    }
+}
+
+// Sets one key in the file.
+fn put<D: Disk>(
+    head: &mut FileHead,
+    store: &mut Store<D>,
+    text: KeyText,
+    value: Option<&Record>,
+) -> Result<(), Down>
+    requires form { IsIndexed head.old }
+    requires placed { IsPlaced head.old store.old.disk }
+    requires frames { 32 ≤ free_frames store.old.pool }
+    requires idle { IsIdle store.old }
+    requires suits { SuitsText head.old text (option_copied value) }
+    requires fields { HasFields head.old }
+    ensures form { OnOk result (IsIndexed head.new) }
+    ensures placed { OnOk result (IsPlaced head.new store.new.disk) }
+    ensures frames { OnOk result (32 ≤ free_frames store.new.pool) }
+    ensures idle { OnOk result (IsIdle store.new) }
+    ensures fields { OnOk result (HasFields head.new) }
+{
+    IndexedFile::set(head, store, &Key::Text(text), value, &SomeHeld)?;
+    store.apply()
+}
+
+// Whether a record may be put at a key.
+fn fits(key: [u8; 2], value: &Record) -> bool
+    ensures { result ≡ true → (piece_at value.now 1 2 ≡ key) × (length value.now ≤ 900) }
+{
+    let bytes = value.bytes();
+    bytes.len() >= 3 && bytes.len() <= 900 && bytes[1..3] == key[..]
+}
+
+/// What a run found.
+#[derive(Debug, PartialEq, Eq, Drop)]
+enum Found {
+    Alike,
+    OtherUsed { step: u32, used: u32, plain: usize },
+    OtherRecord { step: u32 },
+    OtherList { at: u32 },
+    Down,
+}
+
+// Sets one slot in the file, and tells whether it is read back.
+fn set_and_get<D: Disk>(
+    head: &mut FileHead,
+    store: &mut Store<D>,
+    slot: Slot,
+    value: &mut Record,
+    out: &mut Record,
+) -> Result<bool, Down>
+    requires form { IsIndexed head.old }
+    requires placed { IsPlaced head.old store.old.disk }
+    requires frames { 32 ≤ free_frames store.old.pool }
+    requires idle { IsIdle store.old }
+    requires fields { HasFields head.old }
+    ensures form { IfOk result (λ same. same ≡ true → IsIndexed head.new) }
+    ensures placed { IfOk result (λ same. same ≡ true → IsPlaced head.new store.new.disk) }
+    ensures frames { IfOk result (λ same. same ≡ true → 32 ≤ free_frames store.new.pool) }
+    ensures idle { IfOk result (λ same. same ≡ true → IsIdle store.new) }
+    ensures fields { IfOk result (λ same. same ≡ true → HasFields head.new) }
+{
+    let key = [(slot.key / 256) as u8, (slot.key % 256) as u8];
+    let Some(text) = KeyText::new(&key) else {
+        return Ok(false);
+    };
+    fill_record(value, slot);
+    if slot.size == 0 {
+        put(head, store, text, None)?;
+        return Ok(!IndexedFile::get(head, store, &Key::Text(text), out)?);
+    }
+    if !fits(key, value) {
+        return Ok(false);
+    }
+    put(head, store, text, Some(value))?;
+    Ok(IndexedFile::get(head, store, &Key::Text(text), out)? && out.bytes() == value.bytes())
+}
+
+// Whether the file lists the records of the plain buckets.
+fn lists<D: Disk>(
+    head: &FileHead,
+    store: &mut Store<D>,
+    buckets: &[Vec<Slot>],
+    value: &mut Record,
+    out: &mut Record,
+) -> Result<Found, Down>
+    requires form { IsIndexed head.now }
+    requires placed { IsPlaced head.now store.old.disk }
+    requires frames { 32 ≤ free_frames store.old.pool }
+{
+    let mut at: u32 = 0;
+    let mut found = Key::End;
+    let mut some = false;
+    for bucket in buckets {
+        for slot in bucket {
+            if slot.size == 0 {
+                continue;
+            }
+            fill_record(value, *slot);
+            let last = found;
+            let after = if some { Some(&last) } else { None };
+            let there = IndexedFile::next(head, store, after, &mut found, out)?;
+            if !there || out.bytes() != value.bytes() {
+                return Ok(Found::OtherList { at });
+            }
+            some = true;
+            at = at.saturating_add(1);
+        }
+    }
+    let last = found;
+    let after = if some { Some(&last) } else { None };
+    if IndexedFile::next(head, store, after, &mut found, out)? {
+        return Ok(Found::OtherList { at });
+    }
+    Ok(Found::Alike)
+}
+
+// A size that is mostly short.
+fn draw_size(draws: &mut Draws) -> u32
+    ensures { result < 897 }
+{
+    if draws.below(12) == 0 {
+        return draws.below(897);
+    }
+    draws.below(40)
+}
+
+// The slot of one step.
+fn draw_slot(draws: &mut Draws) -> Slot {
+    let key = draws.below(700) as u16;
+    let size = 3 + draw_size(draws) as usize;
+    Slot {
+        key,
+        room: size,
+        size: if draws.below(4) == 0 { 0 } else { size },
+        fill: draws.below(256) as u8,
+    }
+}
+
+fn run_on<D: Disk>(
+    alloc: Global,
+    head: &mut FileHead,
+    store: &mut Store<D>,
+    steps: u32,
+) -> Result<Result<Found, Down>, AllocError>
+    requires form { IsIndexed head.old }
+    requires fresh { head.old.used ≡ 1 }
+    requires placed { IsPlaced head.old store.old.disk }
+    requires frames { 32 ≤ free_frames store.old.pool }
+    requires idle { IsIdle store.old }
+    requires fields { HasFields head.old }
+{
+    let mut buckets = Vec::new(alloc);
+    buckets.push(Vec::new(alloc))?;
+    let mut value = Record::reserve(alloc)?;
+    let mut out = Record::reserve(alloc)?;
+    let mut draws = Draws { state: 7 };
+    if let Err(down) = IndexedFile::make(head, store) {
+        return Ok(Err(down));
+    }
+    for step in 0..steps {
+        let slot = draw_slot(&mut draws);
+        plain_set(alloc, &mut buckets, slot)?;
+        match set_and_get(head, store, slot, &mut value, &mut out) {
+            Ok(true) => {}
+            Ok(false) => return Ok(Ok(Found::OtherRecord { step })),
+            Err(down) => return Ok(Err(down)),
+        }
+        if head.used as usize != buckets.len() {
+            return Ok(Ok(Found::OtherUsed {
+                step,
+                used: head.used,
+                plain: buckets.len(),
+            }));
+        }
+    }
+    Ok(lists(head, store, &buckets, &mut value, &mut out))
+}
+
+// None where the store did not open.
+fn run(alloc: Global, steps: u32) -> Result<Option<Found>, AllocError> {
+    let disk = CrashDisk::new(alloc, MemPlatter::new(alloc, 4096)?)?;
+    let group = Group::reserve(alloc)?;
+    let pool = Pool::new(alloc, 32)?;
+    let Some(name) = FileName::new(b"F") else {
+        return Ok(None);
+    };
+    if disk.pending() != 0 || disk.blocks() != 4096 {
+        return Ok(None);
+    }
+    let mut head = head_of(name);
+    match Store::open(disk, group, pool) {
+        Ok(mut store) => {
+            if !store.fits() {
+                return Ok(None);
+            }
+            Ok(Some(run_on(alloc, &mut head, &mut store, steps)?.unwrap_or(Found::Down)))
+        }
+        Err(_) => Ok(None),
+    }
+}
+
+#[test]
+fn a_file_is_a_plain_list_of_slots(rt: HostRuntime) -> Result<(), Fail> {
+    put_law();
+    target_law();
+    tidy_law();
+    room_law();
+    order_law();
+    part_law();
+    assert_eq!(rt; run(rt.alloc(), 2000)?, Some(Found::Alike));
+    Ok(())
+}
