@@ -1,10 +1,12 @@
 //! A file as a map from keys to records, whatever its organization.
-ghost use Rattle.std.specs.Prelude.{◌≡◌, ◌≤◌, ◌<◌, ◌+◌, ◌*◌, ℕ, List, Bool, true, false, Option, Some, None, length, OnOk, OnErr, IfOk, IfSome, IsTrue, option_map, MatchOption};
+ghost use Rattle.std.specs.Prelude.{◌≡◌, ◌≤◌, ◌<◌, ◌+◌, ◌*◌, ◌-◌, ℕ, List, Bool, true, false, Option, Some, None, length, OnOk, OnErr, IfOk, IfSome, IsTrue, option_map, MatchOption};
 ghost use Rattle.std.specs.Option.{option_copied};
 ghost use Rattle.careful_write.specs.State.{IsIdle};
 ghost use Rattle.careful_write.specs.Down.{Counts};
 ghost use Rattle.file_base.specs.declared.head.FileHead.{FileHead};
 ghost use Rattle.vms_model.specs.Keys as model;
+ghost use Rattle.records_model.specs.Slots.{Slot};
+ghost use Rattle.records_model.specs.Chain.{chain_back, chain_set};
 ghost use Rattle.vms_base.specs.Keys.{key_of};
 ghost use Rattle.change_set.specs.Maps.{Map, set_key, empty_map, IsNext, EndsAfter};
 ghost use Rattle.change_set.specs.Files.{IsPlaced, AgreesOn, free_frames, fell, StagesIn, SameFile, in_extent, AgreesOut, LeavesOut, unstaged};
@@ -62,6 +64,15 @@ pub trait RecordFile {
     /// The used buckets once the key is set to the value, while these keys are held.
     ghost used_after: { FileHead → List (List ℕ) → (model.Key → Bool) → model.Key → Option (List ℕ) → ℕ };
 
+    /// The used buckets of an indexed file in the order of their chain, each as its slots; none in another file.
+    ghost chain: { FileHead → List (List ℕ) → List (List Slot) };
+
+    /// Those of a new file.
+    ghost first_chain: { FileHead → List (List Slot) };
+
+    /// The key may be set back to the value in place.
+    ghost restores: { FileHead → List (List ℕ) → model.Key → Option (List ℕ) → Type 0 };
+
     /// True with the record that the key has; false exactly where it has none.
     fn get<D: Disk>(
         head: &FileHead,
@@ -111,9 +122,36 @@ pub trait RecordFile {
         ensures valid { OnOk result (IfSome store.old.current (λ before. valid head.old before → takes head.old before (key_of key.now) (option_copied value.entry) → IfSome store.new.current (valid head.new))) }
         ensures used { OnOk result (IfSome store.old.current (λ before. valid head.old before → takes head.old before (key_of key.now) (option_copied value.entry) → head.new.used ≡ used_after head.old before (H.held held.now) (key_of key.now) (option_copied value.entry))) }
         ensures rooms { OnOk result (IfSome store.old.current (λ before. valid head.old before → takes head.old before (key_of key.now) (option_copied value.entry) → IfSome store.new.current (λ after. (other : model.Key) → H.held held.now other ≡ true → room head.old before other ≤ room head.new after other))) }
+        ensures chain { OnOk result (IfSome store.old.current (λ before. valid head.old before → takes head.old before (key_of key.now) (option_copied value.entry) →
+            option_map (chain head.new) store.new.current ≡ Some (chain_set (512 * head.old.bucket - 16) (H.held held.now) (key_of key.now) (option_copied value.entry) (chain head.old before)))) }
+        ensures back { OnOk result (IfSome store.old.current (λ before. valid head.old before → takes head.old before (key_of key.now) (option_copied value.entry) → IfSome store.new.current (λ after. restores head.new after (key_of key.now) (map head.old before (key_of key.now))))) }
         ensures file { OnOk result (SameFile head.old head.new) }
         ensures form { OnOk result (form head.new) }
         ensures staged { OnOk result (StagesIn head.old ((2 * head.old.levels + 2) * head.old.bucket) store.old store.new) }
+        ensures head { OnErr result (head.new ≡ head.old) }
+        ensures down { OnErr result (store.new ≡ fell result store.old) };
+
+    /// Stages the map with that key set back in place to what it had, and no other one: where a key was set, it may be
+    /// set back so. Blocks of at most one bucket are staged.
+    fn restore<D: Disk>(
+        head: &mut FileHead,
+        store: &mut Store<D>,
+        key: &Key,
+        value: Option<&Record>,
+    ) -> Result<(), Down>
+        requires form { form head.old }
+        requires placed { IsPlaced head.old store.old.disk }
+        requires frames { 32 ≤ free_frames store.old.pool }
+        requires staged { length store.old.touched ≤ 480 }
+        requires suits { suits head.old (key_of key.now) (option_copied value) }
+        ensures map { OnOk result (IfSome store.old.current (λ before. valid head.old before → restores head.old before (key_of key.now) (option_copied value.entry) → option_map (map head.new) store.new.current ≡ Some (set_key (key_of key.now) (option_copied value.entry) (map head.old before)))) }
+        ensures valid { OnOk result (IfSome store.old.current (λ before. valid head.old before → restores head.old before (key_of key.now) (option_copied value.entry) → IfSome store.new.current (valid head.new))) }
+        ensures rooms { OnOk result (IfSome store.old.current (λ before. valid head.old before → restores head.old before (key_of key.now) (option_copied value.entry) → IfSome store.new.current (λ after. (other : model.Key) → room head.old before other ≤ room head.new after other))) }
+        ensures chain { OnOk result (IfSome store.old.current (λ before. valid head.old before → restores head.old before (key_of key.now) (option_copied value.entry) →
+            option_map (chain head.new) store.new.current ≡ Some (chain_back (key_of key.now) (option_copied value.entry) (chain head.old before)))) }
+        ensures file { OnOk result (SameFile head.old head.new) }
+        ensures form { OnOk result (form head.new) }
+        ensures staged { OnOk result (StagesIn head.old head.old.bucket store.old store.new) }
         ensures head { OnErr result (head.new ≡ head.old) }
         ensures down { OnErr result (store.new ≡ fell result store.old) };
 
@@ -136,6 +174,7 @@ pub trait RecordFile {
         requires frames { 32 ≤ free_frames store.old.pool }
         ensures map { OnOk result (IfSome store.new.current (λ blocks. map head.now blocks ≡ empty_map)) }
         ensures valid { OnOk result (IfSome store.new.current (valid head.now)) }
+        ensures chain { OnOk result (IfSome store.new.current (λ blocks. chain head.now blocks ≡ first_chain head.now)) }
         ensures idle { OnOk result (IsIdle store.new) }
         ensures outside { OnOk result (AgreesOut (in_extent head.now) store.old.current store.new.current) }
         ensures down { OnErr result (LeavesOut (in_extent head.now) store.old.current store.new.disk) }
@@ -151,4 +190,7 @@ pub trait RecordFile {
 
     /// So do the rooms.
     ghost room_local: { (head : FileHead) (a b : List (List ℕ)) → form head → AgreesOn head a b → (key : model.Key) → room head a key ≡ room head b key };
+
+    /// So does the chain.
+    ghost chain_local: { (head : FileHead) (a b : List (List ℕ)) → form head → AgreesOn head a b → chain head a ≡ chain head b };
 }

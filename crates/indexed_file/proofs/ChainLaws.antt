@@ -3,11 +3,12 @@ use Rattle.std.proofs.Common.{◌≡◌, ◌⊎◌, ⊎_elim, inl, inr, ℕ, zer
 use Rattle.std.proofs.lemmas.Bool.{cases_lt}
 use Rattle.file_base.specs.declared.head.FileHead.{FileHead}
 use Rattle.bucket_page.specs.Pages.{no_next, next_of, slots_of}
-use Rattle.indexed_file.specs.Slots.{Slot}
-use Rattle.indexed_file.specs.Chain.{kind_of, slot_of, bucket_at, next_in, chain_from, leaves_of, slots_along, all_slots_of, first_or, Leads, IsNoneOf, AllDiffer, AllBelow, IsLeaf, IsChained}
-use Rattle.indexed_file.proofs.SlotLaws.{if_true, if_false}
+use Rattle.records_model.specs.Slots.{Slot}
+use Rattle.indexed_file.specs.Chain.{kind_of, slot_of, bucket_at, next_in, chain_from, leaves_of, slots_along, all_slots_of, first_or, Leads, IsNoneOf, AllDiffer, AllBelow, IsLeaf, IsChained, slots_in, chain_of}
+use Rattle.records_model.proofs.SlotLaws.{if_true, if_false}
 use Rattle.indexed_file.proofs.WalkLaws.{lt_true, lt_false}
 use Rattle.indexed_file.proofs.TargetLaws.{slots_along-append, leaves_begin}
+use Rattle.std.proofs.lemmas.List.{map-append}
 
 -- lists of numbers
 
@@ -129,6 +130,10 @@ slots_same : (h : FileHead) (b b' : List (List ℕ)) (ms : List ℕ) → SameOn 
 slots_same h b b' [] same = refl
 slots_same h b b' (m ∷ ms) same = λ i. map (slot_of h) (slots_of (kind_of h) (same.0 i)) ++ slots_same h b b' ms same.1 i
 
+buckets_same : (h : FileHead) (b b' : List (List ℕ)) (ms : List ℕ) → SameOn h b b' ms → map (slots_in h b') ms ≡ map (slots_in h b) ms
+buckets_same h b b' [] same = refl
+buckets_same h b b' (m ∷ ms) same = λ i. map (slot_of h) (slots_of (kind_of h) (same.0 i)) ∷ buckets_same h b b' ms same.1 i
+
 -- bucket n was written, and the new ones of which it is now followed
 pub record Grown (h : FileHead) (b b' : List (List ℕ)) (n : ℕ) (news : List ℕ) (added end : ℕ) (slots : List Slot) : Type 0 where
   pub others : (m : ℕ) → m < h.used → (n ≡ m → ⊥) → bucket_at h b' m ≡ bucket_at h b m
@@ -152,6 +157,7 @@ pub record Chained (h h' : FileHead) (b b' : List (List ℕ)) (before news behin
   pub once : AllDiffer (leaves_of h' b')
   pub leads : Leads h' b' (leaves_of h' b') no_next
   pub all : all_slots_of h' b' ≡ slots_along h b before ++ (slots ++ slots_along h b behind)
+  pub chain : chain_of h' b' ≡ map (slots_in h b) before ++ (map (slots_in h b') (n ∷ news) ++ map (slots_in h b) behind)
 
 pub grown_chain : (h : FileHead) (b b' : List (List ℕ)) (before news behind : List ℕ) (n added : ℕ) (slots : List Slot) → 1 ≤ h.used → h.used + added ≤ no_next → IsChained h b
     → leaves_of h b ≡ before ++ (n ∷ behind) → Grown h b b' n news added (next_in h b n) slots → Chained h (record h { used = h.used + added }) b b' before news behind n slots
@@ -185,6 +191,8 @@ grown_chain h b b' before news behind n added slots some most valid is grown =
       leads = subst (λ (ns : List ℕ). Leads h' b' ns no_next) (sym leaves) way;
       all = ap (slots_along h b') leaves ∙ slots_along-append h b' before (n ∷ (news ++ behind))
           ∙ (λ i. slots_same h b b' before same_before i ++ (slots_along-append h b' (n ∷ news) behind ∙ (λ j. grown.slots_are j ++ slots_same h b b' behind same_behind j)) i);
+      chain = ap (map (slots_in h b')) leaves ∙ map-append (slots_in h b') before (n ∷ (news ++ behind))
+          ∙ (λ i. buckets_same h b b' before same_before i ++ (map-append (slots_in h b') (n ∷ news) behind ∙ (λ j. map (slots_in h b') (n ∷ news) ++ buckets_same h b b' behind same_behind j)) i);
     }
 
 leads_more : (used added next : ℕ) → (next < used) ⊎ (next ≡ no_next) → (next < used + added) ⊎ (next ≡ no_next)

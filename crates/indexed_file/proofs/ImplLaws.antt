@@ -1,5 +1,5 @@
 -- An indexed file as a map: the first key behind one, and what a set leaves.
-use Rattle.std.proofs.Common.{◌≡◌, ⊎_elim, inl, inr, ℕ, zero, suc, ◌<◌, ◌≤◌, ◌+◌, ◌*◌, ◌==◌, ◌&&◌, Bool, true, false, List, [], ◌∷◌, ◌++◌, length, drop, Option, Some, None, IfSome, MatchOption, IsSomeAnd, is_some, option_map, if◌then◌else◌, nat_le, max, refl, sym, ap, subst, ◌∙◌, arith}
+use Rattle.std.proofs.Common.{◌≡◌, ⊎_elim, inl, inr, ℕ, zero, suc, ◌<◌, ◌≤◌, ◌+◌, ◌*◌, ◌==◌, ◌&&◌, Bool, true, false, List, [], ◌∷◌, ◌++◌, length, drop, Option, Some, None, IfSome, MatchOption, IsSomeAnd, is_some, option_map, if◌then◌else◌, nat_le, max, refl, sym, ap, subst, ◌∙◌, arith, ◌-◌}
 use Rattle.std.proofs.lemmas.Bool.{cases_Bool}
 use Rattle.std.proofs.lemmas.Bool.Decides.{nat_tests}
 use Rattle.std.proofs.lemmas.Nat.{mul-le}
@@ -15,14 +15,16 @@ use Rattle.change_set.specs.Buckets.{with_bucket}
 use Rattle.change_set.specs.Maps.{set_key, IsNext, EndsAfter, is_after, key_before}
 use Rattle.change_set.specs.Files.{IsPlaced, StagesIn, SameFile, in_extent}
 use Rattle.change_set.proofs.Extents.{bucket_staged, stages_more, agrees_trans}
-use Rattle.indexed_file.specs.Slots.{Slot, same_bytes, bytes_before, slot_at, value_in, room_in, lookup, room_of, size_of, with_new, put, tidied, IsOrdered}
-use Rattle.indexed_file.specs.Parts.{bytes_of, added_buckets}
+use Rattle.records_model.specs.Slots.{Slot, same_bytes, bytes_before, slot_at, value_in, room_in, lookup, room_of, size_of, with_new, put, tidied, IsOrdered}
+use Rattle.records_model.specs.Parts.{bytes_of, added_buckets}
 use Rattle.indexed_file.specs.Behind.{is_behind, first_behind, IsFound}
-use Rattle.indexed_file.specs.Chain.{kind_of, capacity, bucket_first, bucket_at, slots_in, target_of, added_by_set, map_of, room_at, all_slots_of, asks, used_after, Takes, SuitsText, Suits, IsIndexed, IsChained}
+use Rattle.indexed_file.specs.Chain.{kind_of, capacity, bucket_first, bucket_at, slots_in, target_of, added_by_set, map_of, room_at, all_slots_of, asks, used_after, Takes, SuitsText, Suits, IsIndexed, IsChained, chain_of, Restores}
 use Rattle.indexed_file.specs.Sets.{with_parts, touched_by, with_blocks_of, SetsTarget, SetsFile, staged, too_full}
-use Rattle.indexed_file.proofs.SlotLaws.{same_bytes_are, same_self, if_true, if_false, put_cases, behind_absent, behind_trans, ordered_parts}
+use Rattle.records_model.proofs.SlotLaws.{same_bytes_are, same_self, if_true, if_false, put_cases, behind_absent, behind_trans, ordered_parts}
 use Rattle.indexed_file.proofs.TargetLaws.{target_is, lookup_in_target}
-use Rattle.indexed_file.proofs.FileLaws.{Placed, IsSet, is_set, set_used, bytes_of_raws}
+use Rattle.indexed_file.proofs.FileLaws.{Placed, IsSet, is_set, set_used}
+use Rattle.indexed_file.proofs.RawLaws.{bytes_of_raws}
+use Rattle.records_model.specs.Chain.{chain_set}
 
 -- the first slot behind a key
 
@@ -154,7 +156,7 @@ told_ends_end (Some b) h = λ valid. ends_end h b
 
 -- enough room
 
-placed_of : (h : FileHead) (b : List (List ℕ)) (disk : DiskState) → IsIndexed h → IsPlaced h disk → length b + 518 ≡ disk.size → Placed h b
+pub placed_of : (h : FileHead) (b : List (List ℕ)) (disk : DiskState) → IsIndexed h → IsPlaced h disk → length b + 518 ≡ disk.size → Placed h b
 placed_of h b disk form placed whole =
     let product : h.alloc * 1 ≤ h.alloc * h.bucket = mul-le h.alloc 1 h.alloc h.bucket (omega arith) placed.one in
     record {
@@ -169,7 +171,7 @@ new_small k None slots some small = refl
 new_small k (Some r) slots some small = absurd (omega arith)
 
 -- a value that its slot has room for takes no more bytes
-put_small : (k : List ℕ) (v : Option (List ℕ)) (slots : List Slot) → IfSome v (λ r. 1 ≤ length r) → IsOrdered slots → size_of v ≤ room_of slots k → bytes_of (put k v slots) ≡ bytes_of slots
+pub put_small : (k : List ℕ) (v : Option (List ℕ)) (slots : List Slot) → IfSome v (λ r. 1 ≤ length r) → IsOrdered slots → size_of v ≤ room_of slots k → bytes_of (put k v slots) ≡ bytes_of slots
 put_small k v [] some ordered small = new_small k v [] some small
 put_small k v (s ∷ ss) some ordered small =
     put_cases (λ l. bytes_of l ≡ bytes_of (s ∷ ss)) (same_bytes k s.key) (bytes_before k s.key) _ _ _
@@ -210,16 +212,20 @@ pub record SetTold (h h' : FileHead) (held : Key → Bool) (k : List ℕ) (v : O
   pub valid : IfSome told (λ b. IsChained h b → Takes h b (Text k) v → IfSome now (IsChained h'))
   pub used : IfSome told (λ b. IsChained h b → Takes h b (Text k) v → h'.used ≡ used_after h b held (Text k) v)
   pub rooms : IfSome told (λ b. IsChained h b → Takes h b (Text k) v → IfSome now (λ a. (other : Key) → held other ≡ true → room_at h b other ≤ room_at h' a other))
+  pub chain : IfSome told (λ b. IsChained h b → Takes h b (Text k) v → option_map (chain_of h') now ≡ Some (chain_set (512 * h.bucket - 16) held (Text k) v (chain_of h b)))
+  pub back : IfSome told (λ b. IsChained h b → Takes h b (Text k) v → IfSome now (λ a. Restores h' a (Text k) (map_of h b (Text k))))
 
 staged_told : (h : FileHead) (held : Key → Bool) (k : List ℕ) (v : Option (List ℕ)) (told now : Told) (disk : DiskState) (n added : ℕ) (low mid high : List ℕ) → IsIndexed h → IsPlaced h disk → n < h.used → h.used + added ≤ h.alloc
     → IfSome told (λ b. length b + 518 ≡ disk.size) → now ≡ option_map (with_parts h n added low mid high) told
     → IfSome told (λ b. IsChained h b → SetsTarget h (λ t. held (Text t)) k v b n added low mid high) → SetTold h (record h { used = h.used + added }) held k v told now
-staged_told h held k v None now disk n added low mid high form placed below free whole is sets = record { map_is = tt; valid = tt; used = tt; rooms = tt }
+staged_told h held k v None now disk n added low mid high form placed below free whole is sets = record { map_is = tt; valid = tt; used = tt; rooms = tt; chain = tt; back = tt }
 staged_told h held k v (Some b) now disk n added low mid high form placed below free whole is sets = record {
   map_is = λ valid takes. ap (option_map (map_of h')) is ∙ ap Some (this valid).map_is;
   valid = λ valid takes. subst (λ (o : Told). IfSome o (IsChained h')) (sym is) (this valid).valid;
   used = λ valid takes. set_used h b held k v n added low mid high placed.one (sets valid);
   rooms = λ valid takes. subst (λ (o : Told). IfSome o (λ a. (other : Key) → held other ≡ true → room_at h b other ≤ room_at h' a other)) (sym is) (λ other is_held. room_kept valid other is_held);
+  chain = λ valid takes. ap (option_map (chain_of h')) is ∙ ap Some (this valid).chain;
+  back = λ valid takes. subst (λ (o : Told). IfSome o (λ a. Restores h' a (Text k) (map_of h b (Text k)))) (sym is) (this valid).back;
 }
   where
     h' : FileHead
@@ -235,12 +241,14 @@ staged_told h held k v (Some b) now disk n added low mid high form placed below 
 
 full_told : (h : FileHead) (held : Key → Bool) (k : List ℕ) (v : Option (List ℕ)) (told : Told) (n added : ℕ) (low mid high : List ℕ) → IsIndexed h → 1 ≤ h.bucket → IfSome v (λ r. 1 ≤ length r) → n < h.used → added ≤ 2 → h.alloc < h.used + added
     → IfSome told (λ b. IsChained h b → SetsTarget h (λ t. held (Text t)) k v b n added low mid high) → SetTold h h held k v told told
-full_told h held k v None n added low mid high form one some below few full sets = record { map_is = tt; valid = tt; used = tt; rooms = tt }
+full_told h held k v None n added low mid high form one some below few full sets = record { map_is = tt; valid = tt; used = tt; rooms = tt; chain = tt; back = tt }
 full_told h held k v (Some b) n added low mid high form one some below few full sets = record {
   map_is = λ valid takes. absurd (wrong valid takes);
   valid = λ valid takes. absurd (wrong valid takes);
   used = λ valid takes. absurd (wrong valid takes);
   rooms = λ valid takes. absurd (wrong valid takes);
+  chain = λ valid takes. absurd (wrong valid takes);
+  back = λ valid takes. absurd (wrong valid takes);
 }
   where
     wrong : IsChained h b → Takes h b (Text k) v → ⊥
@@ -259,7 +267,7 @@ match_same : (p : ℕ → Bool) (a : Told) → MatchOption a (a ≡ None) (λ x.
 match_same p None = refl
 match_same p (Some x) = record { size = refl; others = λ k off. refl }
 
-stages_none : (h : FileHead) (limit : ℕ) (s : StoreState) → StagesIn h limit s s
+pub stages_none : (h : FileHead) (limit : ℕ) (s : StoreState) → StagesIn h limit s s
 stages_none h limit s = record { rest = refl; blocks = match_same (in_extent h) s.current; touched = λ n has. inl has; few = omega arith }
 
 stages_both : (h : FileHead) (x y : ℕ) (s0 s1 s2 : StoreState) → StagesIn h x s0 s1 → StagesIn h y s1 s2 → StagesIn h (x + y) s0 s2
@@ -318,7 +326,7 @@ pub record SetClauses (h h' : FileHead) (held : Key → Bool) (k : List ℕ) (v 
 limit_is : (h : FileHead) (s s' : StoreState) → h.levels ≡ 1 → StagesIn h (4 * h.bucket) s s' → StagesIn h ((2 * h.levels + 2) * h.bucket) s s'
 limit_is h s s' one stages = subst (λ (l : ℕ). StagesIn h ((2 * l + 2) * h.bucket) s s') (sym one) stages
 
-value_some : (h : FileHead) (k : List ℕ) (v : Option (List ℕ)) → 1 ≤ h.key_size → SuitsText h k v → IfSome v (λ r. 1 ≤ length r)
+pub value_some : (h : FileHead) (k : List ℕ) (v : Option (List ℕ)) → 1 ≤ h.key_size → SuitsText h k v → IfSome v (λ r. 1 ≤ length r)
 value_some h k None one suits = tt
 value_some h k (Some r) one suits = omega (arith, ap length suits.has, suits.size, length-take h.key_size (drop h.key_pos r), length-drop h.key_pos r)
 
@@ -330,7 +338,7 @@ set_clauses h h' held k v s s' form placed suits whole (staged n added low mid h
     let clauses : SetClauses h now held k v s after = record {
       told = staged_told h held k v s.current after.current s.disk n added low mid high form placed below free whole refl sets;
       file = record { is = refl };
-      form = record { organization = form.organization; levels = form.levels; root = form.root; some = let one = form.some in omega arith; within = free; key = form.key; short = form.short; holds = form.holds };
+      form = record { organization = form.organization; levels = form.levels; root = form.root; some = let one = form.some in omega arith; within = free; key = form.key; short = form.short; holds = form.holds; count = form.count };
       stages = limit_is h s after form.levels (stages_parts h n added low mid high s below few free);
     } in
     subst (λ (x : FileHead). SetClauses h x held k v s s') (sym head) (subst (λ (t : StoreState). SetClauses h now held k v s t) (sym state) clauses)
@@ -349,6 +357,8 @@ pub record KeyClauses (h h' : FileHead) (held : Key → Bool) (key : Key) (v : O
   pub valid : IfSome s.current (λ b. IsChained h b → Takes h b key v → IfSome s'.current (IsChained h'))
   pub used : IfSome s.current (λ b. IsChained h b → Takes h b key v → h'.used ≡ used_after h b held key v)
   pub rooms : IfSome s.current (λ b. IsChained h b → Takes h b key v → IfSome s'.current (λ a. (other : Key) → held other ≡ true → room_at h b other ≤ room_at h' a other))
+  pub chain : IfSome s.current (λ b. IsChained h b → Takes h b key v → option_map (chain_of h') s'.current ≡ Some (chain_set (512 * h.bucket - 16) held key v (chain_of h b)))
+  pub back : IfSome s.current (λ b. IsChained h b → Takes h b key v → IfSome s'.current (λ a. Restores h' a key (map_of h b key)))
   pub file : SameFile h h'
   pub form : IsIndexed h'
   pub stages : StagesIn h ((2 * h.levels + 2) * h.bucket) s s'
@@ -362,6 +372,8 @@ key_clauses h h' held key k v s s' is form placed suits whole sets =
       valid = made.told.valid;
       used = made.told.used;
       rooms = made.told.rooms;
+      chain = made.told.chain;
+      back = made.told.back;
       file = made.file;
       form = made.form;
       stages = made.stages;

@@ -1,23 +1,23 @@
 -- A key that is set in the bytes of a bucket.
-use Rattle.std.proofs.Common.{◌≡◌, ⊎_elim, ℕ, zero, suc, ◌<◌, ◌≤◌, ◌+◌, ◌-◌, ◌==◌, ◌&&◌, Bool, true, false, List, [], ◌∷◌, ◌++◌, length, take, drop, map, Option, Some, None, if◌then◌else◌, nat_le, refl, sym, ap, subst, ◌∙◌, arith, length-append}
+use Rattle.std.proofs.Common.{◌≡◌, ⊎_elim, ℕ, zero, suc, ◌<◌, ◌≤◌, ◌+◌, ◌-◌, ◌==◌, ◌&&◌, Bool, true, false, List, [], ◌∷◌, ◌++◌, length, take, drop, map, Option, Some, None, nat_le, refl, sym, ap, subst, ◌∙◌, arith, length-append}
 use Rattle.std.proofs.lemmas.Bool.{cases_Bool}
 use Rattle.std.proofs.lemmas.Bool.Decides.{nat_tests}
-use Rattle.std.proofs.lemmas.List.{take_at, drop_at, take-append-drop, drop_more, length-take-le, length-take, length-drop, map-append}
+use Rattle.std.proofs.lemmas.List.{take_at, drop_at, take-append-drop, drop_more, length-take-le, length-drop, map-append, length-map}
 use Rattle.file_base.specs.declared.head.FileHead.{FileHead}
 use Rattle.bucket_page.specs.Pages.{u16_at, slots_of, next_of, suits, all_suit, joined, slot_at, inserted, removed, replaced, IsBucket, Packs}
 use Rattle.bucket_page.proofs.PageLaws.{all_suit-append, all_suit-take, all_suit-drop, length-joined-inserted}
 use Rattle.bucket_page.proofs.Orders.{ascend_at}
-use Rattle.indexed_file.specs.Slots.{Slot, bytes_before, with_value, size_of, put, tidied, AllBefore, AllBehind}
-use Rattle.indexed_file.specs.Parts.{bytes_of}
+use Rattle.records_model.specs.Slots.{Slot, bytes_before, with_value, size_of, put, tidied, AllBefore, AllBehind}
+use Rattle.records_model.specs.Parts.{bytes_of}
 use Rattle.indexed_file.specs.Chain.{kind_of, slot_of, value_of, keeps_record, all_keep, slots_set}
 use Rattle.indexed_file.specs.Places.{key_at, IsPlace}
 use Rattle.indexed_file.specs.Raws.{Means, tidied_raws, fits_in, raws_added, place_added, slots_at, Parted, whole, SetsLeaf}
 use Rattle.indexed_file.specs.Sets.{ChangesSlot}
 use Rattle.indexed_file.proofs.LeafLaws.{slot_suits}
-use Rattle.indexed_file.proofs.SlotLaws.{if_true, if_false, tidy_before, tidy_behind}
-use Rattle.indexed_file.proofs.SetLaws.{put_between, put_none_between, put_at, put_tidied, tidied-append, set_fits, set_over, max_right, max_left}
-use Rattle.indexed_file.proofs.RawLaws.{all_keep-append, all_keep-take, all_keep-drop, tidies_all, tidied_raws-append}
-use Rattle.indexed_file.proofs.FileLaws.{bytes_of_raws}
+use Rattle.records_model.proofs.SlotLaws.{if_true, if_false, tidy_before, tidy_behind}
+use Rattle.indexed_file.proofs.SetLaws.{put_between, put_none_between, put_at, put_tidied, tidied-append, set_fits, set_over, max_right, max_left, place_at, place_between}
+use Rattle.indexed_file.proofs.RawLaws.{all_keep-append, all_keep-take, all_keep-drop, tidies_all, tidied_raws-append, bytes_of_raws, value_size}
+use Rattle.records_model.specs.Chain.{place_of}
 
 abbrev Raws : Type 0
 Raws = List (List ℕ)
@@ -44,6 +44,10 @@ map_about h raws i below = ap (map (slot_of h)) (parted_list raws i below) ∙ m
 map_split : (h : FileHead) (raws : Raws) (i : ℕ) → map (slot_of h) raws ≡ map (slot_of h) (take i raws) ++ map (slot_of h) (drop i raws)
 map_split h raws i = ap (map (slot_of h)) (sym (take-append-drop i raws)) ∙ map-append (slot_of h) (take i raws) (drop i raws)
 
+-- the number of slots before a place
+place_is : (h : FileHead) (s : Raws) (i : ℕ) {n : ℕ} → i ≤ length s → n ≡ length (map (slot_of h) (take i s)) → i ≡ n
+place_is h s i within is = omega (arith, is, length-map (take i s) (slot_of h), length-take-le i s within)
+
 -- in place
 
 slot_with : (k key : List ℕ) (room n : ℕ) (v value : Option (List ℕ)) → key ≡ k → n ≡ room → size_of v ≤ room
@@ -55,6 +59,7 @@ pub sets_in_place : (h : FileHead) (held : List ℕ → Bool) (k : List ℕ) (v 
 sets_in_place h held k v size fresh i room old low mid high least bucket kept place room_is holds changes =
     let s = slots_of (kind_of h) old in
     let below = place.there refl in
+    let within = place.within in
     let raws = replaced s i changes.raw in
     let A = map (slot_of h) (take i s) in
     let B = map (slot_of h) (drop (i + 1) s) in
@@ -73,6 +78,7 @@ sets_in_place h held k v size fresh i room old low mid high least bucket kept pl
       slots = sym put_is ∙ sym (set_fits (size - 16) held k v (map (slot_of h) s) fits);
       suit = suit;
       kept = all_keep-append h (take i s) (changes.raw ∷ drop (i + 1) s) (all_keep-take h i s kept) (λ j. changes.means.kept j && all_keep-drop h (i + 1) s kept j);
+      at = place_is h s i within (ap (place_of k) (map-append (slot_of h) (take i s) (changes.raw ∷ drop (i + 1) s)) ∙ place_at k A B (slot_of h changes.raw) lower (ap (λ (x : Slot). x.key) changes.means.is));
       parted = whole refl changes.packs;
     }
 
@@ -91,6 +97,8 @@ sets_nothing h held k size fresh i old mid high least bucket kept place =
       slots = sym put_is ∙ sym (set_fits (size - 16) held k None (map (slot_of h) s) fits);
       suit = bucket.packed.suit;
       kept = kept;
+      at = place_is h s i place.within
+          (ap (place_of k) (map_split h s i) ∙ place_between k (map (slot_of h) (take i s)) (map (slot_of h) (drop i s)) (before_place h k s i place.within place.lower) (behind_place h k s i (place.higher refl)));
       parted = whole refl (record { packed = bucket.packed; slots_are = refl; next_is = refl });
     }
 
@@ -102,6 +110,7 @@ pub record About (h : FileHead) (held : List ℕ → Bool) (k r : List ℕ) (slo
   pub suit_b : all_suit (kind_of h) b ≡ true
   pub kept_a : all_keep h a ≡ true
   pub kept_b : all_keep h b ≡ true
+  pub lower : AllBefore k (map (slot_of h) a)
   pub plain : put k (Some r) slots ≡ map (slot_of h) a ++ (record { key = k; room = length r; value = Some r } ∷ map (slot_of h) b)
   pub tidy : put k (Some r) (tidied held slots) ≡ tidied held (map (slot_of h) a) ++ (record { key = k; room = length r; value = Some r } ∷ tidied held (map (slot_of h) b))
 
@@ -128,13 +137,14 @@ fits_says m n size h = grind (arith, nat_tests)
 over_says : (m n size : ℕ) → nat_le (16 + m + n) size ≡ false → size < 16 + m + n
 over_says m n size h = grind (arith, nat_tests)
 
-record Added (h : FileHead) (held : List ℕ → Bool) (k r : List ℕ) (size : ℕ) (slots : List Slot) (raws : Raws) : Type 0 where
+record Added (h : FileHead) (held : List ℕ → Bool) (k r : List ℕ) (size : ℕ) (slots : List Slot) (raws : Raws) (place : ℕ) : Type 0 where
   pub slots_are : map (slot_of h) raws ≡ slots_set (size - 16) held k (Some r) slots
   pub suit : all_suit (kind_of h) raws ≡ true
   pub kept : all_keep h raws ≡ true
+  pub at : place ≡ place_of k (map (slot_of h) raws)
 
 added_raws : (h : FileHead) (held : List ℕ → Bool) (k r : List ℕ) (size i : ℕ) (slots : List Slot) (s a b : Raws) (x : List ℕ) → 16 ≤ size → 1 ≤ h.key_size → s ≡ a ++ b → i ≡ length a → About h held k r slots a b → Means h k (length r) (Some r) x
-    → Added h held k r size slots (raws_added h held size s i x)
+    → Added h held k r size slots (raws_added h held size s i x) (place_added h held size s i x)
 added_raws h held k r size i slots s a b x least one s_is i_is about means =
     let new : Slot = record { key = k; room = length r; value = Some r } in
     let plain_list : inserted s i x ≡ a ++ (x ∷ b) = ap (λ (t : Raws). inserted t i x) s_is ∙ inserted_between a b i x i_is in
@@ -148,6 +158,9 @@ added_raws h held k r size i slots s a b x least one s_is i_is about means =
       slots_are = ap (map (slot_of h)) choice ∙ put_is ∙ sym (set_fits (size - 16) held k (Some r) slots (omega (arith, bytes, room)));
       suit = ap (all_suit (kind_of h)) choice ∙ plain.suit;
       kept = ap (all_keep h) choice ∙ plain.kept;
+      at = let place = if_true (fits_in size s x) i (length (tidied_raws h held (take i s))) fits in
+          let count = ap (place_of k) (ap (map (slot_of h)) choice ∙ plain.slots) ∙ place_at k (map (slot_of h) a) (map (slot_of h) b) new about.lower refl in
+          omega (arith, place, count, i_is, length-map a (slot_of h));
     })
     (λ over. let n = length (tidied_raws h held (take i s)) in
     let choice : raws_added h held size s i x ≡ inserted (tidied_raws h held s) n x = if_false (fits_in size s x) _ _ over in
@@ -163,6 +176,10 @@ added_raws h held k r size i slots s a b x least one s_is i_is about means =
       slots_are = ap (map (slot_of h)) choice ∙ tidy.slots ∙ (λ j. ta.is j ++ (new ∷ tb.is j)) ∙ sym about.tidy ∙ sym (set_over (size - 16) held k (Some r) slots (omega (arith, bytes, full)));
       suit = ap (all_suit (kind_of h)) choice ∙ tidy.suit;
       kept = ap (all_keep h) choice ∙ tidy.kept;
+      at = let place = if_false (fits_in size s x) i n over in
+          let lower : AllBefore k (map (slot_of h) (tidied_raws h held a)) = subst (AllBefore k) (sym ta.is) (tidy_before held k (map (slot_of h) a) about.lower) in
+          let count = ap (place_of k) (ap (map (slot_of h)) choice ∙ tidy.slots) ∙ place_at k (map (slot_of h) (tidied_raws h held a)) (map (slot_of h) (tidied_raws h held b)) new lower refl in
+          omega (arith, place, count, ap (λ (t : Raws). length (tidied_raws h held t)) front, length-map (tidied_raws h held a) (slot_of h));
     })
     (cases_Bool (fits_in size s x))
 
@@ -179,6 +196,7 @@ sets_added h held k r size fresh i added next s a b x old low mid high least one
       slots = made.slots_are;
       suit = made.suit;
       kept = made.kept;
+      at = made.at;
       parted = subst (λ (n : ℕ). Parted h size fresh n raws place added low mid high) next_is parted;
     }
 
@@ -199,18 +217,12 @@ sets_new h held k r size fresh i added x old low mid high least one bucket kept 
       suit_b = all_suit-drop (kind_of h) i s bucket.packed.suit;
       kept_a = all_keep-take h i s kept;
       kept_b = all_keep-drop h i s kept;
+      lower = lower;
       plain = ap (put k (Some r)) (map_split h s i) ∙ put_between k r A B lower higher;
       tidy = ap (λ (t : List Slot). put k (Some r) (tidied held t)) (map_split h s i) ∙ ap (put k (Some r)) (tidied-append held A B)
           ∙ put_between k r (tidied held A) (tidied held B) (tidy_before held k A lower) (tidy_behind held k B higher);
     } in
     sets_added h held k r size fresh i added (next_of old) s a b x old low mid high least one refl (sym (take-append-drop i s)) (sym (length-take-le i s place.within)) about means parted
-
-value_size : (mrs : ℕ) (raw : List ℕ) → size_of (value_of mrs raw) ≤ u16_at raw 2
-value_size mrs raw = choice (nat_le 1 (u16_at raw 2) && nat_le (u16_at raw 2) mrs)
-  where
-    choice : (t : Bool) → size_of (if t then Some (take (u16_at raw 2) (drop 4 raw)) else None) ≤ u16_at raw 2
-    choice true = omega (arith, length-take (u16_at raw 2) (drop 4 raw))
-    choice false = omega arith
 
 -- a key whose slot is too short
 pub sets_grown : (h : FileHead) (held : List ℕ → Bool) (k r : List ℕ) (size fresh i added : ℕ) (x old gone low mid high : List ℕ) → 16 ≤ size → 1 ≤ h.key_size → IsBucket (kind_of h) size old → all_keep h (slots_of (kind_of h) old) ≡ true
@@ -238,6 +250,7 @@ sets_grown h held k r size fresh i added x old gone low mid high least one bucke
       suit_b = all_suit-drop (kind_of h) (i + 1) s bucket.packed.suit;
       kept_a = all_keep-take h i s kept;
       kept_b = all_keep-drop h (i + 1) s kept;
+      lower = lower;
       plain = ap (put k (Some r)) whole_list ∙ put_at k (Some r) A B (record { key = k; room = room; value = value }) lower refl
           ∙ ap (λ n. A ++ (record { key = k; room = n; value = Some r } ∷ B)) (max_right room (length r) (omega (arith, short)));
       tidy = ap (λ (t : List Slot). put k (Some r) (tidied held t)) whole_list

@@ -1,4 +1,5 @@
 pub mod AddLaws
+pub mod BackLaws
 pub mod ChainLaws
 pub mod FileLaws
 pub mod GrownLaws
@@ -7,13 +8,13 @@ pub mod LeafLaws
 pub mod LeafSetLaws
 pub mod MakeLaws
 pub mod NextLaws
-pub mod PartLaws
+pub mod PartedLaws
 pub mod PlaceLaws
 pub mod RawLaws
 pub mod ReadLaws
+pub mod RestoreLaws
 pub mod SetLaws
 pub mod ShareLaws
-pub mod SlotLaws
 pub mod StoreLaws
 pub mod TargetLaws
 pub mod ThroughLaws

@@ -10,8 +10,8 @@ use Rattle.careful_write.specs.Steps.{AgreesOff}
 use Rattle.change_set.specs.Files.{in_extent, AgreesOut}
 use Rattle.change_set.proofs.Extents.{agrees_bucket}
 use Rattle.change_set.proofs.BucketLaws.{bucket_bytes-with_bucket}
-use Rattle.indexed_file.specs.Slots.{Slot, lookup, IsOrdered}
-use Rattle.indexed_file.specs.Chain.{kind_of, slot_of, bucket_first, bucket_at, next_in, chain_from, leaves_of, slots_along, all_slots_of, map_of, all_keep, AllDiffer, Leads, IsLeaf, IsChained}
+use Rattle.records_model.specs.Slots.{Slot, lookup, IsOrdered}
+use Rattle.indexed_file.specs.Chain.{kind_of, slot_of, bucket_first, bucket_at, next_in, chain_from, leaves_of, slots_along, all_slots_of, map_of, all_keep, AllDiffer, Leads, IsLeaf, IsChained, slots_in, chain_of, first_chain}
 use Rattle.indexed_file.specs.Made.{MakesLeaf}
 
 same_either : (t : Bool) (ns : List ℕ) → (if t then ns else ns) ≡ ns
@@ -28,6 +28,9 @@ blank_leaves h b blank = ap (λ m. chain_from h b m 0) blank.one ∙ ap (λ ns. 
 
 blank_slots : (h : FileHead) (b : List (List ℕ)) → IsBlank h b → all_slots_of h b ≡ []
 blank_slots h b blank = ap (slots_along h b) (blank_leaves h b blank) ∙ ap (λ (raws : List (List ℕ)). map (slot_of h) raws ++ []) blank.holds.slots_are
+
+pub blank_chain : (h : FileHead) (b : List (List ℕ)) → IsBlank h b → chain_of h b ≡ first_chain h
+blank_chain h b blank = ap (map (slots_in h b)) (blank_leaves h b blank) ∙ ap (λ (raws : List (List ℕ)). map (slot_of h) raws ∷ []) blank.holds.slots_are
 
 pub blank_map : (h : FileHead) (b : List (List ℕ)) → IsBlank h b → map_of h b ≡ empty_map
 blank_map h b blank = λ i key. at_key key i
@@ -69,6 +72,10 @@ made_blank (Some b) now h size one some from to whole makes =
 pub told_map : (now : Option (List (List ℕ))) (h : FileHead) → IfSome now (IsBlank h) → IfSome now (λ b. map_of h b ≡ empty_map)
 told_map None h blank = tt
 told_map (Some b) h blank = blank_map h b blank
+
+pub told_chain : (now : Option (List (List ℕ))) (h : FileHead) → IfSome now (IsBlank h) → IfSome now (λ b. chain_of h b ≡ first_chain h)
+told_chain None h blank = tt
+told_chain (Some b) h blank = blank_chain h b blank
 
 pub told_valid : (now : Option (List (List ℕ))) (h : FileHead) → IfSome now (IsBlank h) → IfSome now (IsChained h)
 told_valid None h blank = tt

@@ -1,5 +1,5 @@
 -- The first slot behind a key.
-use Rattle.std.proofs.Common.{◌≡◌, ⊎_elim, ℕ, zero, suc, ◌<◌, ◌≤◌, ◌+◌, ◌-◌, ◌*◌, ◌&&◌, Bool, true, false, List, [], ◌∷◌, ◌++◌, length, take, drop, map, Option, Some, None, IfSome, IfNone, is_some, if◌then◌else◌, nat_lt, refl, sym, ap, subst, ◌∙◌, arith}
+use Rattle.std.proofs.Common.{◌≡◌, ⊎_elim, ℕ, zero, suc, ◌<◌, ◌≤◌, ◌+◌, ◌-◌, ◌*◌, ◌&&◌, Bool, true, false, List, [], ◌∷◌, ◌++◌, length, take, drop, map, Option, Some, None, IfSome, IfNone, is_some, if◌then◌else◌, nat_lt, refl, sym, ap, subst, ◌∙◌, arith, Ordering}
 use Rattle.std.specs.Ordering.{nat_cmp, is_lt, ordering_reverse}
 use Rattle.std.specs.Cmp.Lexicographic.{slice_cmp}
 use Rattle.std.proofs.lemmas.Cmp.{nat_list_cmp_total, tied_itself}
@@ -8,15 +8,29 @@ use Rattle.std.proofs.lemmas.List.{drop_more, length-take-le}
 use Rattle.file_base.specs.declared.head.FileHead.{FileHead}
 use Rattle.bucket_page.specs.Pages.{slot_at, slots_of, key_in, ascend, IsBucket}
 use Rattle.bucket_page.proofs.Orders.{ascend_at}
-use Rattle.indexed_file.specs.Slots.{Slot, bytes_before}
+use Rattle.records_model.specs.Slots.{Slot, bytes_before}
 use Rattle.indexed_file.specs.Chain.{kind_of, slot_of, value_of, bucket_at, slots_in, next_in, chain_from, slots_along, all_slots_of, IsChained}
 use Rattle.indexed_file.specs.Places.{key_at, IsPlace}
 use Rattle.indexed_file.specs.Behind.{is_behind, first_behind, IsFound, StartsBehind}
-use Rattle.indexed_file.proofs.SlotLaws.{less_is, or_slot, or_if, if_same, if_true, if_false}
+use Rattle.records_model.proofs.SlotLaws.{or_slot, if_true, if_false}
 use Rattle.indexed_file.proofs.WalkLaws.{lt_true, lt_false}
+use Rattle.std.specs.declared.cmp.Ordering.TheVariants.{Less, Equal, Greater}
 
 abbrev Told : Type 0
 Told = Option (List (List ℕ))
+
+less_is : (o : Ordering) → is_lt o ≡ true → o ≡ Less
+less_is Less h = refl
+less_is Equal h = cc
+less_is Greater h = cc
+
+or_if : (t : Bool) (s : Slot) (x y : Option Slot) → (if t then Some s else or_slot x y) ≡ or_slot (if t then Some s else x) y
+or_if true s x y = refl
+or_if false s x y = refl
+
+if_same : {X : Type 0} (t : Bool) (a x y : X) → x ≡ y → (if t then a else x) ≡ (if t then a else y)
+if_same true a x y e = refl
+if_same false a x y e = e
 
 pub not_before : (a b : List ℕ) → bytes_before a b ≡ true → bytes_before b a ≡ false
 not_before a b h = ap is_lt (nat_list_cmp_total.antisymm b a ∙ ap ordering_reverse (less_is (slice_cmp nat_cmp a b) h))

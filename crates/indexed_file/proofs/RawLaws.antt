@@ -8,10 +8,11 @@ use Rattle.file_base.specs.Bytes.{piece_at, spliced}
 use Rattle.file_base.proofs.Splices.{take-spliced, length-spliced}
 use Rattle.bucket_page.specs.Pages.{u16_at, key_in, suits, all_suit, joined}
 use Rattle.bucket_page.proofs.PageLaws.{both_true, all_suit-append}
-use Rattle.indexed_file.specs.Slots.{size_of, tidied_slot, tidied}
+use Rattle.records_model.specs.Slots.{size_of, tidied_slot, tidied}
 use Rattle.indexed_file.specs.Chain.{kind_of, slot_of, value_of, keeps_record, all_keep, SuitsText}
 use Rattle.indexed_file.specs.Raws.{slot_bytes, Means, shortened, tidied_raw, tidied_raws, one_of}
-use Rattle.indexed_file.proofs.SlotLaws.{if_true, if_false}
+use Rattle.records_model.proofs.SlotLaws.{if_true, if_false}
+use Rattle.records_model.specs.Parts.{bytes_of}
 
 -- bytes of a slot
 
@@ -321,3 +322,21 @@ means_none h k room v raw is suits fits written =
 
 pub record_key : (h : FileHead) (k r : List ℕ) → 1 ≤ h.key_size → SuitsText h k (Some r) → h.key_pos + h.key_size ≤ length r
 record_key h k r one suits = omega (arith, ap length suits.has, suits.size, length-take h.key_size (drop h.key_pos r), length-drop h.key_pos r, one)
+
+slot_long : (m r l p : ℕ) → ((m == 4 + r) && (nat_le l r && nat_le p r)) ≡ true → m ≡ 4 + r
+slot_long m r l p h = grind (arith, nat_tests)
+
+-- the bytes of slots
+pub bytes_of_raws : (h : FileHead) (raws : List (List ℕ)) → all_suit (kind_of h) raws ≡ true → bytes_of (map (slot_of h) raws) ≡ length (joined raws)
+bytes_of_raws h [] suit = refl
+bytes_of_raws h (s ∷ ss) suit =
+    let both = both_true (suits (kind_of h) s) (all_suit (kind_of h) ss) suit in
+    omega (arith, slot_long (length s) (u16_at s 0) (u16_at s 2) (h.key_pos + h.key_size) both.0, bytes_of_raws h ss both.1, length-append s (joined ss))
+
+-- a record is in its slot's room
+pub value_size : (mrs : ℕ) (raw : List ℕ) → size_of (value_of mrs raw) ≤ u16_at raw 2
+value_size mrs raw = choice (nat_le 1 (u16_at raw 2) && nat_le (u16_at raw 2) mrs)
+  where
+    choice : (t : Bool) → size_of (if t then Some (take (u16_at raw 2) (drop 4 raw)) else None) ≤ u16_at raw 2
+    choice true = omega (arith, length-take (u16_at raw 2) (drop 4 raw))
+    choice false = omega arith

@@ -4,7 +4,7 @@ use Rattle.std.proofs.lemmas.List.{length-take-le}
 use Rattle.careful_write.specs.declared.down.Down.{Down}
 use Rattle.file_base.specs.declared.head.FileHead.{FileHead}
 use Rattle.bucket_page.specs.Pages.{slots_of, IsBucket}
-use Rattle.indexed_file.specs.Slots.{value_in, lookup}
+use Rattle.records_model.specs.Slots.{value_in, lookup}
 use Rattle.indexed_file.specs.Chain.{kind_of, slot_of, bucket_at, slots_in, target_of, all_slots_of, IsChained}
 use Rattle.indexed_file.proofs.TargetLaws.{lookup_in_target}
 

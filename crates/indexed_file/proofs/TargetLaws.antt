@@ -4,11 +4,12 @@ use Rattle.std.proofs.lemmas.Bool.{cases_Bool}
 use Rattle.std.proofs.lemmas.List.{append-nil}
 use Rattle.file_base.specs.declared.head.FileHead.{FileHead}
 use Rattle.bucket_page.specs.Pages.{slot_at}
-use Rattle.indexed_file.specs.Slots.{Slot, same_bytes, bytes_before, AllBehind, AllBefore, IsOrdered, IsFor, value_in}
-use Rattle.indexed_file.specs.Slots as slots
-use Rattle.indexed_file.specs.Chain.{slot_of, slots_in, next_in, chain_from, leaves_of, slots_along, all_slots_of, begins_by, target_in, target_of}
+use Rattle.records_model.specs.Slots.{Slot, same_bytes, bytes_before, AllBehind, AllBefore, IsOrdered, IsFor, value_in}
+use Rattle.records_model.specs.Slots as slots
+use Rattle.indexed_file.specs.Chain.{slot_of, slots_in, next_in, chain_from, leaves_of, slots_along, all_slots_of, target_in, target_of}
+use Rattle.records_model.specs.Chain.{begins_by}
 use Rattle.indexed_file.specs.Places.{key_at}
-use Rattle.indexed_file.proofs.SlotLaws.{same_bytes_are, same_self, before_not_same, behind_not_same, before_total, behind_trans, before_later, behind_parts, behind_both, ordered_parts, target_tells, if_true, if_false}
+use Rattle.records_model.proofs.SlotLaws.{same_bytes_are, same_self, before_not_same, behind_not_same, before_total, behind_trans, before_later, behind_parts, behind_both, ordered_parts, target_tells, if_true, if_false}
 
 -- keys of slots before one in order
 earlier : (a : List Slot) (s : Slot) (x : List Slot) → IsOrdered (a ++ s ∷ x) → AllBefore s.key a
@@ -38,7 +39,7 @@ unbegun_higher : (k : List ℕ) (target : List Slot) → begins_by k target ≡ 
 unbegun_higher k [] begins ordered = tt
 unbegun_higher k (s ∷ ss) begins ordered = let less = not_false (bytes_before k s.key) begins in (less, behind_trans k s.key ss less ordered.0)
 
-abbrev NoneBegins : FileHead → List (List ℕ) → List ℕ → List ℕ → Type 0
+abbrev pub NoneBegins : FileHead → List (List ℕ) → List ℕ → List ℕ → Type 0
 NoneBegins h b k [] = Unit {0}
 NoneBegins h b k (m ∷ ms) = (begins_by k (slots_in h b m) ≡ false) × NoneBegins h b k ms
 
@@ -110,6 +111,8 @@ pub record Target (h : FileHead) (b : List (List ℕ)) (k : List ℕ) : Type 0 w
   pub is : leaves_of h b ≡ before ++ (target_of h b k ∷ behind)
   pub slots : all_slots_of h b ≡ slots_along h b before ++ (slots_in h b (target_of h b k) ++ slots_along h b behind)
   pub for : IsFor k (slots_along h b before) (slots_in h b (target_of h b k)) (slots_along h b behind)
+  pub first : (before ≡ []) ⊎ (begins_by k (slots_in h b (target_of h b k)) ≡ true)
+  pub none : NoneBegins h b k behind
 
 pub target_is : (h : FileHead) (b : List (List ℕ)) (k : List ℕ) → 1 ≤ h.used → IsOrdered (all_slots_of h b) → Target h b k
 target_is h b k some ordered =
@@ -124,6 +127,8 @@ target_is h b k some ordered =
       behind = s.between;
       is = leaves;
       slots = all;
+      first = s.first;
+      none = s.none;
       for = record {
         lower = ⊎_elim
             (λ empty. subst (λ (ns : List ℕ). AllBefore k (slots_along h b ns)) (sym empty) tt)

@@ -6,8 +6,9 @@ use Rattle.block_disk.specs.Disk.{DiskState}
 use Rattle.careful_write.specs.State.{StoreState}
 use Rattle.file_base.specs.declared.head.FileHead.{FileHead}
 use Rattle.change_set.specs.Buckets.{frame_of, with_frame}
-use Rattle.indexed_file.specs.Chain.{slots_in, next_in, chain_from, begins_by, target_in, target_of, IsChained}
-use Rattle.indexed_file.proofs.SlotLaws.{if_true, if_false}
+use Rattle.indexed_file.specs.Chain.{slots_in, next_in, chain_from, target_in, target_of, IsChained}
+use Rattle.records_model.specs.Chain.{begins_by}
+use Rattle.records_model.proofs.SlotLaws.{if_true, if_false}
 
 -- a frame that is read once more
 pub read_again : (f : ℕ) (s0 s1 s2 : StoreState) (D : DiskState → DiskState) → s1 ≡ with_frame f (frame_of s1.pool f) s0 → s2 ≡ with_frame f (frame_of s2.pool f) (record s1 { disk = D s1.disk })

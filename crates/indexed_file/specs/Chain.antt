@@ -1,5 +1,5 @@
 -- An indexed file's buckets in a list of blocks, and the map that they mean.
-use Rattle.std.specs.Prelude.{◌≡◌, ◌≤◌, ◌<◌, ◌⊎◌, ℕ, zero, suc, ◌+◌, ◌-◌, ◌*◌, ◌==◌, ◌&&◌, ◌||◌, Bool, true, false, List, [], ◌∷◌, ◌++◌, length, map, Option, Some, None, IfSome, if◌then◌else◌, nat_le, nat_lt, not}
+use Rattle.std.specs.Prelude.{◌≡◌, ◌≤◌, ◌<◌, ◌⊎◌, ℕ, zero, suc, ◌+◌, ◌-◌, ◌*◌, ◌==◌, ◌&&◌, ◌||◌, Bool, true, List, [], ◌∷◌, ◌++◌, length, map, Option, Some, None, IfSome, if◌then◌else◌, nat_le, nat_lt}
 use Rattle.file_base.specs.declared.head.FileHead.{FileHead}
 use Rattle.file_base.specs.declared.head.Organization.TheVariants.{Indexed}
 use Rattle.file_base.specs.Bytes.{piece_at}
@@ -9,8 +9,9 @@ use Rattle.bucket_page.specs.declared.kind.PageKind.TheVariants.{Data}
 use Rattle.bucket_page.specs.Pages.{u16_at, slots_of, next_of, no_next, key_in, IsBucket}
 use Rattle.change_set.specs.Buckets.{bucket_bytes}
 use Rattle.change_set.specs.Maps.{Map}
-use Rattle.indexed_file.specs.Slots.{Slot, lookup, put, tidied, room_of, size_of, bytes_before, IsOrdered}
-use Rattle.indexed_file.specs.Parts.{bytes_of, added_buckets}
+use Rattle.records_model.specs.Slots.{Slot, lookup, put, tidied, room_of, size_of, IsOrdered}
+use Rattle.records_model.specs.Parts.{bytes_of, added_buckets}
+use Rattle.records_model.specs.Chain.{begins_by}
 
 -- the kind of its buckets
 abbrev pub kind_of : FileHead → PageKind
@@ -62,6 +63,14 @@ slots_along h blocks (n ∷ ns) = slots_in h blocks n ++ slots_along h blocks ns
 abbrev pub all_slots_of : FileHead → List (List ℕ) → List Slot
 all_slots_of h blocks = slots_along h blocks (leaves_of h blocks)
 
+-- the slots of each bucket, in the order of the chain
+abbrev pub chain_of : FileHead → List (List ℕ) → List (List Slot)
+chain_of h blocks = map (slots_in h blocks) (leaves_of h blocks)
+
+-- a new file has one bucket without slots
+abbrev pub first_chain : FileHead → List (List Slot)
+first_chain h = [] ∷ []
+
 -- what each key has
 abbrev pub map_of : FileHead → List (List ℕ) → Map
 map_of h blocks (Text k) = lookup (all_slots_of h blocks) k
@@ -73,11 +82,6 @@ abbrev pub room_at : FileHead → List (List ℕ) → Key → ℕ
 room_at h blocks (Text k) = room_of (all_slots_of h blocks) k
 room_at h blocks (Number n) = 0
 room_at h blocks End = 0
-
--- the key of the first slot is at most the key
-abbrev pub begins_by : List ℕ → List Slot → Bool
-begins_by k [] = false
-begins_by k (s ∷ ss) = not (bytes_before k s.key)
 
 -- the last of these buckets that begins by the key, or the one before them
 abbrev pub target_in : FileHead → List (List ℕ) → List ℕ → ℕ → List ℕ → ℕ
@@ -159,6 +163,7 @@ pub record IsIndexed (h : FileHead) : Type 0 where
   pub key : 1 ≤ h.key_size
   pub short : h.key_size ≤ 64
   pub holds : h.key_pos + h.key_size ≤ h.mrs
+  pub count : h.count ≡ 0
 
 -- a new file has one bucket
 abbrev pub IsNew : FileHead → Type 0
@@ -182,6 +187,10 @@ asks h blocks size = if h.levels == 12 then 65537 else h.levels + 2
 -- the room of the key's slot holds the value, or enough buckets are free
 abbrev pub Takes : FileHead → List (List ℕ) → Key → Option (List ℕ) → Type 0
 Takes h blocks key value = (size_of value ≤ room_at h blocks key) ⊎ (h.used + asks h blocks (size_of value) ≤ h.alloc)
+
+-- the room of the key's slot holds the value
+abbrev pub Restores : FileHead → List (List ℕ) → Key → Option (List ℕ) → Type 0
+Restores h blocks key value = size_of value ≤ room_at h blocks key
 
 pub record Adds (cap : ℕ) (held : List ℕ → Bool) (k : List ℕ) (v : Option (List ℕ)) (slots : List Slot) : Type 0 where
   pub most : added_by_set cap held k v slots ≤ 2

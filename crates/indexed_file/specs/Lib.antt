@@ -1,10 +1,9 @@
+pub mod Backs
 pub mod Behind
 pub mod Chain
 pub mod Local
 pub mod Made
-pub mod Parts
 pub mod Places
 pub mod Raws
 pub mod Samples
 pub mod Sets
-pub mod Slots

@@ -7,8 +7,8 @@ use Rattle.vms_model.specs.Keys.{Key, Number, Text, End}
 use Rattle.bucket_page.specs.Pages.{slots_of, next_of, no_next}
 use Rattle.change_set.specs.Files.{AgreesOn}
 use Rattle.change_set.proofs.Extents.{extent_bucket}
-use Rattle.indexed_file.specs.Slots.{Slot, lookup, room_of, IsOrdered}
-use Rattle.indexed_file.specs.Chain.{kind_of, slot_of, bucket_at, next_in, chain_from, leaves_of, slots_along, all_slots_of, map_of, room_at, AllBelow, AllDiffer, Leads, IsLeaf, IsIndexed, IsChained}
+use Rattle.records_model.specs.Slots.{Slot, lookup, room_of, IsOrdered}
+use Rattle.indexed_file.specs.Chain.{kind_of, slot_of, bucket_at, slots_in, next_in, chain_from, leaves_of, slots_along, all_slots_of, chain_of, map_of, room_at, AllBelow, AllDiffer, Leads, IsLeaf, IsIndexed, IsChained}
 
 -- a used bucket is the same
 bucket_local : (h : FileHead) (a b : List (List ℕ)) → IsIndexed h → AgreesOn h a b → (n : ℕ) → n < h.used → bucket_at h a n ≡ bucket_at h b n
@@ -35,6 +35,13 @@ choice_below used x false f = tt
 pub chain_used : (h : FileHead) (b : List (List ℕ)) (fuel n : ℕ) → n < h.used → AllBelow h.used (chain_from h b fuel n)
 chain_used h b zero n below = tt
 chain_used h b (suc fuel) n below = (below, choice_below h.used (chain_from h b fuel (next_in h b n)) (nat_lt (next_in h b n) h.used) (λ under. chain_used h b fuel (next_in h b n) (below_of (nat_lt (next_in h b n) h.used) (next_in h b n) h.used refl under)))
+
+leaf_local : (h : FileHead) (a b : List (List ℕ)) → IsIndexed h → AgreesOn h a b → (n : ℕ) → n < h.used → slots_in h a n ≡ slots_in h b n
+leaf_local h a b form agrees n below = ap (λ (bytes : List ℕ). map (slot_of h) (slots_of (kind_of h) bytes)) (bucket_local h a b form agrees n below)
+
+buckets_local : (h : FileHead) (a b : List (List ℕ)) → IsIndexed h → AgreesOn h a b → (ns : List ℕ) → AllBelow h.used ns → map (slots_in h a) ns ≡ map (slots_in h b) ns
+buckets_local h a b form agrees [] below = refl
+buckets_local h a b form agrees (n ∷ ns) below = λ i. leaf_local h a b form agrees n below.0 i ∷ buckets_local h a b form agrees ns below.1 i
 
 slots_local : (h : FileHead) (a b : List (List ℕ)) → IsIndexed h → AgreesOn h a b → (ns : List ℕ) → AllBelow h.used ns → slots_along h a ns ≡ slots_along h b ns
 slots_local h a b form agrees [] below = refl
@@ -76,3 +83,6 @@ pub room_local_law : (h : FileHead) (a b : List (List ℕ)) → IsIndexed h → 
 room_local_law h a b form agrees (Number m) = refl
 room_local_law h a b form agrees (Text t) = ap (λ (slots : List Slot). room_of slots t) (all_slots_local h a b form agrees)
 room_local_law h a b form agrees End = refl
+
+pub chain_local_law : (h : FileHead) (a b : List (List ℕ)) → IsIndexed h → AgreesOn h a b → chain_of h a ≡ chain_of h b
+chain_local_law h a b form agrees = buckets_local h a b form agrees (leaves_of h a) (chain_used h a h.used 0 form.some) ∙ ap (map (slots_in h b)) (leaves_local h a b form agrees)

@@ -1,11 +1,12 @@
 -- Slots as bytes.
-use Rattle.std.specs.Prelude.{◌≡◌, ◌≤◌, ◌<◌, ℕ, zero, suc, ◌+◌, ◌-◌, ◌==◌, Bool, true, false, List, [], ◌∷◌, ◌++◌, length, map, replicate, take, drop, Option, if◌then◌else◌, nat_le}
+use Rattle.std.specs.Prelude.{◌≡◌, ◌≤◌, ◌<◌, ℕ, ◌+◌, ◌-◌, ◌==◌, Bool, true, false, List, [], ◌∷◌, ◌++◌, length, map, replicate, take, drop, Option, if◌then◌else◌, nat_le}
 use Rattle.file_base.specs.declared.head.FileHead.{FileHead}
 use Rattle.file_base.specs.Bytes.{piece_at}
 use Rattle.bucket_page.specs.Pages.{u16_at, u16_bytes, key_in, slots_of, next_of, suits, all_suit, slot_at, joined, inserted, Packs}
-use Rattle.indexed_file.specs.Slots.{Slot}
+use Rattle.records_model.specs.Slots.{Slot}
 use Rattle.indexed_file.specs.Chain.{kind_of, slot_of, keeps_record, all_keep, slots_set}
-use Rattle.indexed_file.specs.Parts.{fits_at, greater_part, has_place, IsBest}
+use Rattle.records_model.specs.Parts.{fits_at, greater_part, has_place, IsBest}
+use Rattle.records_model.specs.Chain.{place_of}
 
 -- the bytes of a slot: its room, its record's length, and a piece at a place of the room, which is zero elsewhere
 abbrev pub slot_bytes : ℕ → ℕ → ℕ → List ℕ → List ℕ
@@ -85,4 +86,5 @@ pub record SetsLeaf (h : FileHead) (held : List ℕ → Bool) (k : List ℕ) (v 
   pub slots : map (slot_of h) raws ≡ slots_set (size - 16) held k v (slots_at h old)
   pub suit : all_suit (kind_of h) raws ≡ true
   pub kept : all_keep h raws ≡ true
+  pub at : place ≡ place_of k (map (slot_of h) raws)
   pub parted : Parted h size fresh (next_of old) raws place added low mid high

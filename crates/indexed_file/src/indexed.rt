@@ -10,6 +10,7 @@ ghost use Rattle.indexed_file.specs.Chain.{IsIndexed, IsChained, map_of};
 use crate::make::make_file;
 use crate::next::next_key;
 use crate::read::get_key;
+use crate::restore::restore_key;
 use crate::set::set_key;
 use block_disk::Disk;
 use careful_write::{Down, Store};
@@ -51,8 +52,8 @@ fn next_behind<D: Disk>(
 }
 
 impl RecordFile for IndexedFile {
-    ghost use Rattle.indexed_file.specs.Chain.{map_of, IsChained, IsIndexed, IsNew, Suits, Takes, room_at, asks, used_after};
-    ghost use Rattle.indexed_file.specs.Local.{local_law, valid_local_law, room_local_law};
+    ghost use Rattle.indexed_file.specs.Chain.{map_of, IsChained, IsIndexed, IsNew, Suits, Takes, Restores, room_at, asks, used_after, chain_of, first_chain};
+    ghost use Rattle.indexed_file.specs.Local.{local_law, valid_local_law, room_local_law, chain_local_law};
 
     ghost map = { map_of };
 
@@ -72,11 +73,19 @@ impl RecordFile for IndexedFile {
 
     ghost used_after = { used_after };
 
+    ghost chain = { chain_of };
+
+    ghost first_chain = { first_chain };
+
+    ghost restores = { Restores };
+
     ghost local = { local_law };
 
     ghost valid_local = { valid_local_law };
 
     ghost room_local = { room_local_law };
+
+    ghost chain_local = { chain_local_law };
 
     fn get<D: Disk>(
         head: &FileHead,
@@ -121,6 +130,24 @@ impl RecordFile for IndexedFile {
         match key {
             Key::Text(text) => {
                 let done = set_key(head, store, text.bytes(), value, held);
+                if done.is_err() {
+                    store.unstage();
+                }
+                done
+            }
+            _ => Ok(()),
+        }
+    }
+
+    fn restore<D: Disk>(
+        head: &mut FileHead,
+        store: &mut Store<D>,
+        key: &Key,
+        value: Option<&Record>,
+    ) -> Result<(), Down> {
+        match key {
+            Key::Text(text) => {
+                let done = restore_key(head, store, text.bytes(), value);
                 if done.is_err() {
                     store.unstage();
                 }

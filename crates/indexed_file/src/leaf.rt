@@ -6,10 +6,10 @@ ghost use Rattle.file_base.specs.Bytes.{piece_at};
 ghost use Rattle.bucket_page.specs.Pages.{slots_of, next_of, key_in, slot_at, IsBucket, IsPacked, reach, u16_at};
 ghost use Rattle.change_set.specs.Buckets.{frame_of, with_frame};
 ghost use Rattle.change_set.specs.Files.{IsPlaced};
-ghost use Rattle.indexed_file.specs.Slots.{bytes_before};
+ghost use Rattle.records_model.specs.Slots.{bytes_before};
 ghost use Rattle.std.specs.Ordering.{nat_cmp};
 ghost use Rattle.std.specs.Cmp.Lexicographic.{slice_cmp};
-ghost use Rattle.indexed_file.specs.Chain.{IsIndexed, kind_of, bucket_at, value_of, slot_of, begins_by};
+ghost use Rattle.indexed_file.specs.Chain.{IsIndexed, kind_of, bucket_at, value_of, slot_of};
 ghost use Rattle.indexed_file.specs.Places.{IsPlace, key_at};
 
 use block_disk::Disk;

@@ -8,6 +8,7 @@ mod make;
 mod next;
 mod parts;
 mod read;
+mod restore;
 mod set;
 mod slots;
 #[cfg(test)]
@@ -19,4 +20,5 @@ pub use law::{order_law, part_law, put_law, room_law, target_law, tidy_law};
 pub use make::make_file;
 pub use next::next_key;
 pub use read::get_key;
+pub use restore::restore_key;
 pub use set::set_key;

@@ -2,7 +2,7 @@
 ghost use Rattle.std.specs.Prelude.{◌≡◌, ◌≤◌, ◌<◌, ◌+◌, ◌-◌, ◌*◌, ◌==◌, ◌&&◌, ◌||◌, ℕ, List, Bool, true, false, [], length, take, drop, map, max, nat_lt, nat_le};
 ghost use Rattle.bucket_page.specs.Pages.{slots_of, next_of, joined, suits, reach, inserted, IsPacked, Packs};
 ghost use Rattle.indexed_file.specs.Chain.{kind_of, slot_of};
-ghost use Rattle.indexed_file.specs.Parts.{bytes_of, fits_at, has_place, IsBest};
+ghost use Rattle.records_model.specs.Parts.{bytes_of, fits_at, has_place, IsBest};
 ghost use Rattle.indexed_file.specs.Raws.{Parted};
 
 use crate::leaf::kind;

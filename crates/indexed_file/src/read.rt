@@ -5,7 +5,7 @@ ghost use Rattle.frame_pool.specs.Pool.{IsOut};
 ghost use Rattle.bucket_page.specs.Pages.{slots_of, IsBucket};
 ghost use Rattle.change_set.specs.Buckets.{frame_of, with_frame};
 ghost use Rattle.change_set.specs.Files.{IsPlaced, free_frames};
-ghost use Rattle.indexed_file.specs.Slots.{lookup};
+ghost use Rattle.records_model.specs.Slots.{lookup};
 ghost use Rattle.indexed_file.specs.Chain.{IsIndexed, IsChained, kind_of, slot_of, slots_in, target_of, all_slots_of};
 
 use crate::leaf::{bucket_size, find_place, kind, load_leaf, read_record, slot};

@@ -7,7 +7,7 @@ ghost use Rattle.vms_model.specs.Keys.{Text};
 ghost use Rattle.bucket_page.specs.Pages.{slots_of, next_of, slot_at, joined, suits, inserted, IsPacked, IsBucket, Packs};
 ghost use Rattle.change_set.specs.Buckets.{frame_of, with_frame, with_bucket};
 ghost use Rattle.change_set.specs.Files.{IsPlaced, free_frames};
-ghost use Rattle.indexed_file.specs.Slots.{size_of};
+ghost use Rattle.records_model.specs.Slots.{size_of};
 ghost use Rattle.indexed_file.specs.Chain.{IsIndexed, kind_of, bucket_first, all_keep, SuitsText};
 ghost use Rattle.indexed_file.specs.Places.{IsPlace};
 ghost use Rattle.indexed_file.specs.Raws.{slot_bytes, Means, tidied_raws, raws_added, place_added, Parted, SetsLeaf};
@@ -162,8 +162,8 @@ fn make_slot(head: &FileHead, key: &[u8], value: Option<&Record>, room: u16, out
     }
 }
 
-// Sets a key whose slot has room for the value.
-fn change_slot(
+/// Sets a key whose slot has room for the value.
+pub(crate) fn change_slot(
     head: &FileHead,
     size: usize,
     low: &mut [u8],
@@ -195,8 +195,8 @@ fn change_slot(
     );
 }
 
-// The length of a value; none has no bytes.
-fn value_size(value: Option<&Record>) -> usize
+/// The length of a value; none has no bytes.
+pub(crate) fn value_size(value: Option<&Record>) -> usize
     ensures { result ≡ size_of (option_copied value.entry) }
 {
     match value {
@@ -336,8 +336,8 @@ fn fill_frame<D: Disk>(store: &mut Store<D>, frame: &Frame, bytes: &[u8; FRAME_B
     store.pool().bytes_mut(frame).copy_from_slice(bytes);
 }
 
-// Stages the front of some bytes as bucket n.
-fn stage_leaf<D: Disk>(
+/// Stages the front of some bytes as bucket n.
+pub(crate) fn stage_leaf<D: Disk>(
     head: &FileHead,
     store: &mut Store<D>,
     frame: &Frame,
@@ -347,7 +347,7 @@ fn stage_leaf<D: Disk>(
     requires placed { IsPlaced head.now store.old.disk }
     requires out { IsOut store.old.pool frame.now }
     requires there { n < head.now.alloc }
-    requires room { length store.old.touched ≤ 448 }
+    requires room { length store.old.touched ≤ 496 }
     ensures state { store.new ≡ with_frame frame.now (frame_of store.new.pool frame.now) (record store.old {
       current = option_map (λ blocks. with_bucket bytes.now blocks (bucket_first head.now n) head.now.bucket) store.old.current;
       touched = with_blocks_of head.now n store.old.touched;
@@ -397,8 +397,12 @@ fn stage_parts<D: Disk>(
     stage_leaf(head, store, frame, head.used + 1, high);
 }
 
-// Reads a frame.
-fn read_frame<D: Disk>(store: &mut Store<D>, frame: &Frame, bytes: &mut [u8; FRAME_BYTES])
+/// Reads a frame.
+pub(crate) fn read_frame<D: Disk>(
+    store: &mut Store<D>,
+    frame: &Frame,
+    bytes: &mut [u8; FRAME_BYTES],
+)
     requires { IsOut store.old.pool frame.now }
     ensures same { store.new ≡ store.old }
     ensures bytes { bytes.new ≡ frame_of store.old.pool frame.now }

@@ -171,6 +171,69 @@ fn plain_set(alloc: Global, buckets: &mut Vec<Vec<Slot>>, new: Slot) -> Result<(
     Ok(())
 }
 
+// What a key has.
+fn plain_slot(buckets: &[Vec<Slot>], key: u16) -> Slot {
+    let mut found = Slot {
+        key,
+        room: 0,
+        size: 0,
+        fill: 0,
+    };
+    for bucket in buckets {
+        for slot in bucket {
+            if slot.key == key {
+                found = *slot;
+            }
+        }
+    }
+    found
+}
+
+// The bucket with a key set back to what it had: its slot keeps its room.
+fn with_back(alloc: Global, slots: &[Slot], old: Slot) -> Result<Vec<Slot>, AllocError> {
+    let mut out = Vec::new(alloc);
+    for slot in slots {
+        if slot.key == old.key {
+            out.push(Slot {
+                room: slot.room,
+                ..old
+            })?;
+        } else {
+            out.push(*slot)?;
+        }
+    }
+    Ok(out)
+}
+
+fn plain_back(
+    alloc: Global,
+    buckets: &[Vec<Slot>],
+    old: Slot,
+) -> Result<Vec<Vec<Slot>>, AllocError> {
+    let mut out = Vec::new(alloc);
+    for bucket in buckets {
+        out.push(with_back(alloc, bucket, old)?)?;
+    }
+    Ok(out)
+}
+
+// Sets one slot, and sometimes sets its key back; answers what it was set back to.
+fn plain_step(
+    alloc: Global,
+    draws: &mut Draws,
+    buckets: &mut Vec<Vec<Slot>>,
+    slot: Slot,
+) -> Result<Option<Slot>, AllocError> {
+    if draws.below(4) > 0 {
+        plain_set(alloc, buckets, slot)?;
+        return Ok(None);
+    }
+    let old = plain_slot(buckets, slot.key);
+    plain_set(alloc, buckets, slot)?;
+    *buckets = plain_back(alloc, buckets, old)?;
+    Ok(Some(old))
+}
+
 /// A generator of numbers.
 #[derive(Drop)]
 struct Draws {
@@ -224,12 +287,13 @@ fn head_of(name: FileName) -> FileHead
     }
 }
 
-// Sets one key in the file.
+// Sets one key in the file, or sets it back.
 fn put<D: Disk>(
     head: &mut FileHead,
     store: &mut Store<D>,
     text: KeyText,
     value: Option<&Record>,
+    back: bool,
 ) -> Result<(), Down>
     requires form { IsIndexed head.old }
     requires placed { IsPlaced head.old store.old.disk }
@@ -243,7 +307,11 @@ fn put<D: Disk>(
     ensures idle { OnOk result (IsIdle store.new) }
     ensures fields { OnOk result (HasFields head.new) }
 {
-    IndexedFile::set(head, store, &Key::Text(text), value, &SomeHeld)?;
+    if back {
+        IndexedFile::restore(head, store, &Key::Text(text), value)?;
+    } else {
+        IndexedFile::set(head, store, &Key::Text(text), value, &SomeHeld)?;
+    }
     store.apply()
 }
 
@@ -265,11 +333,12 @@ enum Found {
     Down,
 }
 
-// Sets one slot in the file, and tells whether it is read back.
+// Sets one slot in the file, or sets it back, and tells whether it is read again.
 fn set_and_get<D: Disk>(
     head: &mut FileHead,
     store: &mut Store<D>,
     slot: Slot,
+    back: bool,
     value: &mut Record,
     out: &mut Record,
 ) -> Result<bool, Down>
@@ -290,14 +359,43 @@ fn set_and_get<D: Disk>(
     };
     fill_record(value, slot);
     if slot.size == 0 {
-        put(head, store, text, None)?;
+        put(head, store, text, None, back)?;
         return Ok(!IndexedFile::get(head, store, &Key::Text(text), out)?);
     }
     if !fits(key, value) {
         return Ok(false);
     }
-    put(head, store, text, Some(value))?;
+    put(head, store, text, Some(value), back)?;
     Ok(IndexedFile::get(head, store, &Key::Text(text), out)? && out.bytes() == value.bytes())
+}
+
+// Sets one slot in the file, and then sets its key back where there is something to set it back to.
+fn set_and_back<D: Disk>(
+    head: &mut FileHead,
+    store: &mut Store<D>,
+    slot: Slot,
+    old: Option<Slot>,
+    value: &mut Record,
+    out: &mut Record,
+) -> Result<bool, Down>
+    requires form { IsIndexed head.old }
+    requires placed { IsPlaced head.old store.old.disk }
+    requires frames { 32 ≤ free_frames store.old.pool }
+    requires idle { IsIdle store.old }
+    requires fields { HasFields head.old }
+    ensures form { IfOk result (λ same. same ≡ true → IsIndexed head.new) }
+    ensures placed { IfOk result (λ same. same ≡ true → IsPlaced head.new store.new.disk) }
+    ensures frames { IfOk result (λ same. same ≡ true → 32 ≤ free_frames store.new.pool) }
+    ensures idle { IfOk result (λ same. same ≡ true → IsIdle store.new) }
+    ensures fields { IfOk result (λ same. same ≡ true → HasFields head.new) }
+{
+    if !set_and_get(head, store, slot, false, value, out)? {
+        return Ok(false);
+    }
+    match old {
+        Some(old) => set_and_get(head, store, old, true, value, out),
+        None => Ok(true),
+    }
 }
 
 // Whether the file lists the records of the plain buckets.
@@ -384,8 +482,8 @@ fn run_on<D: Disk>(
     }
     for step in 0..steps {
         let slot = draw_slot(&mut draws);
-        plain_set(alloc, &mut buckets, slot)?;
-        match set_and_get(head, store, slot, &mut value, &mut out) {
+        let old = plain_step(alloc, &mut draws, &mut buckets, slot)?;
+        match set_and_back(head, store, slot, old, &mut value, &mut out) {
             Ok(true) => {}
             Ok(false) => return Ok(Ok(Found::OtherRecord { step })),
             Err(down) => return Ok(Err(down)),

@@ -5,8 +5,9 @@ ghost use Rattle.frame_pool.specs.Pool.{IsOut};
 ghost use Rattle.bucket_page.specs.Pages.{slots_of, next_of, key_in, IsBucket};
 ghost use Rattle.change_set.specs.Buckets.{frame_of, with_frame};
 ghost use Rattle.change_set.specs.Files.{IsPlaced};
-ghost use Rattle.indexed_file.specs.Slots.{bytes_before};
-ghost use Rattle.indexed_file.specs.Chain.{IsIndexed, IsChained, kind_of, slot_of, slots_in, next_in, begins_by, target_of};
+ghost use Rattle.records_model.specs.Slots.{bytes_before};
+ghost use Rattle.indexed_file.specs.Chain.{IsIndexed, IsChained, kind_of, slot_of, slots_in, next_in, target_of};
+ghost use Rattle.records_model.specs.Chain.{begins_by};
 
 use crate::leaf::{bucket_size, kind, load_leaf, slot};
 use block_disk::Disk;

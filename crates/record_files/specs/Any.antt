@@ -1,9 +1,10 @@
 -- What a file of any organization is: by the head's organization, what its own organization says.
-use Rattle.std.specs.Prelude.{ℕ, Bool, List, Option}
+use Rattle.std.specs.Prelude.{ℕ, Bool, List, [], Option}
 use Rattle.file_base.specs.declared.head.FileHead.{FileHead}
 use Rattle.file_base.specs.declared.head.Organization.{Organization}
 use Rattle.file_base.specs.declared.head.Organization.TheVariants.{Sequential, Relative, Indexed}
 use Rattle.vms_model.specs.Keys.{Key}
+use Rattle.records_model.specs.Slots.{Slot}
 use Rattle.change_set.specs.Maps.{Map}
 use Rattle.relative_file.specs.Cells as relative
 use Rattle.seq_file.specs.Layout as sequential
@@ -63,6 +64,24 @@ used_by Sequential = λ h blocks held key value. sequential.used_after h blocks 
 used_by Relative = λ h blocks held key value. h.used
 used_by Indexed = indexed.used_after
 
+-- the used buckets in the order of their chain, each as its slots; only an indexed file keeps them in one
+abbrev pub chain_by : Organization → FileHead → List (List ℕ) → List (List Slot)
+chain_by Sequential = λ h blocks. []
+chain_by Relative = λ h blocks. []
+chain_by Indexed = indexed.chain_of
+
+-- those of a new file
+abbrev pub first_by : Organization → FileHead → List (List Slot)
+first_by Sequential = λ h. []
+first_by Relative = λ h. []
+first_by Indexed = indexed.first_chain
+
+-- the key may be set back to the value in place
+abbrev pub RestoresBy : Organization → FileHead → List (List ℕ) → Key → Option (List ℕ) → Type 0
+RestoresBy Sequential = sequential.Takes
+RestoresBy Relative = λ h blocks key value. relative.Anything
+RestoresBy Indexed = indexed.Restores
+
 -- the map of a file
 abbrev pub map_of : FileHead → List (List ℕ) → Map
 map_of h = map_by h.organization h
@@ -98,3 +117,15 @@ asks h = asks_by h.organization h
 -- the used buckets of the file once the key is set to the value, while these keys are held
 abbrev pub used_after : FileHead → List (List ℕ) → (Key → Bool) → Key → Option (List ℕ) → ℕ
 used_after h = used_by h.organization h
+
+-- the chain of a file
+abbrev pub chain_of : FileHead → List (List ℕ) → List (List Slot)
+chain_of h = chain_by h.organization h
+
+-- the chain of a new file
+abbrev pub first_chain_of : FileHead → List (List Slot)
+first_chain_of h = first_by h.organization h
+
+-- a key of the file may be set back to the value in place
+abbrev pub Restores : FileHead → List (List ℕ) → Key → Option (List ℕ) → Type 0
+Restores h = RestoresBy h.organization h

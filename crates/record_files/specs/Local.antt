@@ -1,4 +1,4 @@
--- The laws of a file of any organization: its map, its layout and its rooms rest on the file's extent alone.
+-- The laws of a file of any organization: its map, its layout, its rooms and its chain rest on the file's extent alone.
 use Rattle.std.specs.Prelude.{◌≡◌, List, ℕ, refl}
 use Rattle.file_base.specs.declared.head.FileHead.{FileHead}
 use Rattle.file_base.specs.declared.head.Organization.{Organization}
@@ -8,7 +8,7 @@ use Rattle.change_set.specs.Files.{AgreesOn}
 use Rattle.relative_file.specs.Local as relative
 use Rattle.seq_file.specs.Local as sequential
 use Rattle.indexed_file.specs.Local as indexed
-use Rattle.record_files.specs.Any.{map_by, FormBy, LaidOutBy, room_by, map_of, IsFile, IsLaidOut, room_at}
+use Rattle.record_files.specs.Any.{map_by, FormBy, LaidOutBy, room_by, chain_by, map_of, IsFile, IsLaidOut, room_at, chain_of}
 
 map_local_by : (o : Organization) (h : FileHead) (a b : List (List ℕ)) → FormBy o h → AgreesOn h a b → map_by o h a ≡ map_by o h b
 map_local_by Sequential = sequential.local_law
@@ -25,6 +25,11 @@ room_local_by Sequential h a b form agrees key = refl
 room_local_by Relative h a b form agrees key = refl
 room_local_by Indexed h a b form agrees key = indexed.room_local_law h a b form agrees key
 
+chain_local_by : (o : Organization) (h : FileHead) (a b : List (List ℕ)) → FormBy o h → AgreesOn h a b → chain_by o h a ≡ chain_by o h b
+chain_local_by Sequential h a b form agrees = refl
+chain_local_by Relative h a b form agrees = refl
+chain_local_by Indexed h a b form agrees = indexed.chain_local_law h a b form agrees
+
 pub local_law : (h : FileHead) (a b : List (List ℕ)) → IsFile h → AgreesOn h a b → map_of h a ≡ map_of h b
 local_law h = map_local_by h.organization h
 
@@ -33,3 +38,6 @@ valid_local_law h = valid_local_by h.organization h
 
 pub room_local_law : (h : FileHead) (a b : List (List ℕ)) → IsFile h → AgreesOn h a b → (key : Key) → room_at h a key ≡ room_at h b key
 room_local_law h = room_local_by h.organization h
+
+pub chain_local_law : (h : FileHead) (a b : List (List ℕ)) → IsFile h → AgreesOn h a b → chain_of h a ≡ chain_of h b
+chain_local_law h = chain_local_by h.organization h

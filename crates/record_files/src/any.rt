@@ -7,8 +7,12 @@ ghost use Rattle.change_set.specs.Files.{IsPlaced, free_frames, fell, StagesIn, 
 ghost use Rattle.seq_file.specs.Placing.{buckets_for};
 ghost use Rattle.seq_file.specs.Records.{cut_from, slot_sizes};
 ghost use Rattle.seq_file.specs.Layout.{records_in, capacity};
-ghost use Rattle.record_files.specs.Any.{map_of, IsFile, IsLaidOut};
+ghost use Rattle.record_files.specs.Any.{map_of, IsFile, IsLaidOut, Suits};
 
+use crate::checks::{
+    forms_indexed, forms_relative, forms_sequential, suits_indexed, suits_relative,
+    suits_sequential,
+};
 use block_disk::Disk;
 use careful_write::{Down, Store};
 use change_set::{Held, RecordFile};
@@ -23,8 +27,8 @@ use vms_base::{Key, Record};
 pub struct AnyFile;
 
 impl RecordFile for AnyFile {
-    ghost use Rattle.record_files.specs.Any.{map_of, IsFile, IsNew, IsLaidOut, Suits, Takes, room_at, asks, used_after};
-    ghost use Rattle.record_files.specs.Local.{local_law, valid_local_law, room_local_law};
+    ghost use Rattle.record_files.specs.Any.{map_of, IsFile, IsNew, IsLaidOut, Suits, Takes, Restores, room_at, asks, used_after, chain_of, first_chain_of};
+    ghost use Rattle.record_files.specs.Local.{local_law, valid_local_law, room_local_law, chain_local_law};
 
     ghost map = { map_of };
 
@@ -44,11 +48,19 @@ impl RecordFile for AnyFile {
 
     ghost used_after = { used_after };
 
+    ghost chain = { chain_of };
+
+    ghost first_chain = { first_chain_of };
+
+    ghost restores = { Restores };
+
     ghost local = { local_law };
 
     ghost valid_local = { valid_local_law };
 
     ghost room_local = { room_local_law };
+
+    ghost chain_local = { chain_local_law };
 
     fn get<D: Disk>(
         head: &FileHead,
@@ -91,6 +103,19 @@ impl RecordFile for AnyFile {
         }
     }
 
+    fn restore<D: Disk>(
+        head: &mut FileHead,
+        store: &mut Store<D>,
+        key: &Key,
+        value: Option<&Record>,
+    ) -> Result<(), Down> {
+        match head.organization {
+            Organization::Sequential => SeqFile::restore(head, store, key, value),
+            Organization::Relative => RelativeFile::restore(head, store, key, value),
+            Organization::Indexed => IndexedFile::restore(head, store, key, value),
+        }
+    }
+
     fn need<D: Disk>(head: &FileHead, store: &mut Store<D>, size: u16) -> Result<u32, Down> {
         match head.organization {
             Organization::Sequential => SeqFile::need(head, store, size),
@@ -109,6 +134,30 @@ impl RecordFile for AnyFile {
 }
 
 impl AnyFile {
+    /// Whether a head has numbers that one of a file of its organization may have.
+    pub fn is_formed(head: &FileHead) -> bool
+        ensures formed { result ≡ true → IsFile head.now }
+        ensures exact { IsFile head.now → result ≡ true }
+    {
+        match head.organization {
+            Organization::Sequential => forms_sequential(head),
+            Organization::Relative => forms_relative(head),
+            Organization::Indexed => forms_indexed(head),
+        }
+    }
+
+    /// Whether a file may have this key, and keep this record there.
+    pub fn is_suited(head: &FileHead, key: &Key, value: Option<&Record>) -> bool
+        ensures suited { result ≡ true → Suits head.now (key_of key.now) (option_copied value.entry) }
+        ensures exact { Suits head.now (key_of key.now) (option_copied value.entry) → result ≡ true }
+    {
+        match head.organization {
+            Organization::Sequential => suits_sequential(head, key, value),
+            Organization::Relative => suits_relative(head, key, value),
+            Organization::Indexed => suits_indexed(head, key, value),
+        }
+    }
+
     /// Stages the map of a sequential file without the positions from one on. Blocks of at most one bucket are staged.
     pub fn cut<D: Disk>(head: &mut FileHead, store: &mut Store<D>, from: u32) -> Result<(), Down>
         requires sequential { head.old.organization ≡ Sequential }

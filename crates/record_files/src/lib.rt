@@ -2,5 +2,6 @@
 #![tactic(auto)]
 
 mod any;
+mod checks;
 
 pub use any::AnyFile;

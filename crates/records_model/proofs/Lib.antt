@@ -1,2 +1,5 @@
 pub mod KeyLemmas
 pub mod RecordsLemmas
+pub mod SlotLaws
+pub mod PartLaws
+pub mod ChainLemmas

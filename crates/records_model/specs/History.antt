@@ -1,10 +1,13 @@
 -- A file's history: its base, the branches settled since with their changes of it, and the unsettled ones with theirs. Settled branches and the
 -- changes of a branch stand newest first; unsettled branches stand in the order of their first change, the newest last.
 use Rattle.std.specs.Prelude.{ℕ, ◌==◌, ◌&&◌, List, [], ◌∷◌, Bool, true, false, Option, Some, None, if◌then◌else◌, nat_le}
+use Rattle.std.specs.List.{list_any}
+use Rattle.std.specs.Ordering.{eq_by_cmp}
 use Rattle.std.specs.Str.{bytes_eq}
+use Rattle.vms_model.specs.Keys.{Key}
 use Rattle.vms_model.specs.Ids.{Id}
 use Rattle.vms_model.specs.Transactions.{Outcome, Commit, Abort}
-use Rattle.records_model.specs.Records.{Records, Change, applied}
+use Rattle.records_model.specs.Records.{Records, Change, key_cmp, applied}
 
 -- whether two ids are one
 abbrev pub same_id : Id → Id → Bool
@@ -62,14 +65,27 @@ abbrev pub with_change : Id → Change → List LiveChanges → List LiveChanges
 with_change serial c [] = record { serial = serial; changes = c ∷ [] } ∷ []
 with_change serial c (l ∷ ls) = if same_id serial l.serial then record l { changes = c ∷ l.changes } ∷ ls else l ∷ with_change serial c ls
 
+-- more changes of an unsettled branch, the newest first
+abbrev pub with_changes : Id → List Change → List LiveChanges → List LiveChanges
+with_changes serial [] ls = ls
+with_changes serial (c ∷ cs) ls = with_change serial c (with_changes serial cs ls)
+
 -- the unsettled branches but for one
 abbrev pub without : Id → List LiveChanges → List LiveChanges
 without serial [] = []
 without serial (l ∷ ls) = if same_id serial l.serial then ls else l ∷ without serial ls
 
--- a file after one more change of an unsettled branch
-abbrev pub changed : Id → Change → History → History
-changed serial c h = record h { live = with_change serial c h.live }
+-- a file after more changes of an unsettled branch, the newest first
+abbrev pub changed_with : Id → List Change → History → History
+changed_with serial cs h = record h { live = with_changes serial cs h.live }
+
+-- whether one of these changes is of this key
+abbrev pub changes_key : Key → List Change → Bool
+changes_key key cs = list_any (λ c. eq_by_cmp key_cmp key c.key) cs
+
+-- whether a key is held: an unsettled branch changed it
+abbrev pub is_held : History → Key → Bool
+is_held h key = list_any (λ l. changes_key key l.changes) h.live
 
 -- a file after a branch was settled that made these changes: it joins the settled ones, unless it changed nothing
 abbrev pub settled_with : Id → Outcome → ℕ → List Change → History → History

@@ -1,3 +1,7 @@
 pub mod Records
 pub mod History
+pub mod Slots
+pub mod Parts
+pub mod Chain
+pub mod Placing
 pub mod Laws

@@ -1,5 +1,5 @@
 -- The map of a relative file once a cell was written, and its law.
-use Rattle.std.proofs.Common.{◌≡◌, ◌≢◌, ⊎_elim, ℕ, ◌≤◌, ◌+◌, ◌-◌, ◌*◌, ◌/◌, Bool, true, false, List, [], length, take, Option, Some, None, IfSome, option_map, unwrap_or, if◌then◌else◌, refl, sym, ap, subst, ◌∙◌, arith}
+use Rattle.std.proofs.Common.{◌≡◌, ◌≢◌, ⊎_elim, ℕ, ◌≤◌, ◌+◌, ◌-◌, ◌*◌, ◌/◌, Bool, true, false, List, [], length, take, Option, Some, None, IfSome, option_map, Result, Ok, Err, OnOk, unwrap_or, if◌then◌else◌, refl, sym, ap, subst, ◌∙◌, arith}
 use Rattle.std.proofs.lemmas.Bool.{cases_eq}
 use Rattle.careful_write.specs.State.{StoreState}
 use Rattle.file_base.specs.declared.head.FileHead.{FileHead}
@@ -10,7 +10,7 @@ use Rattle.change_set.specs.Maps.{set_key, same_key, StartsAt, StartsNowhere, ke
 use Rattle.change_set.proofs.Extents.{bucket_staged, stages_more}
 use Rattle.change_set.proofs.NumberKeys.{same_test, other_test, below_number, number_after, after_number}
 use Rattle.file_base.specs.Bytes.{spliced}
-use Rattle.relative_file.specs.Cells.{IsRelative, has_cell, cells_in, first_of, place_of, cell_at, cell_of, record_in, map_of, Suits, WritesCell, FindsCell, NoneFrom}
+use Rattle.relative_file.specs.Cells.{IsRelative, has_cell, cells_in, first_of, place_of, cell_at, cell_of, record_in, map_of, Suits, WritesCell, FindsCell, NoneFrom, IsLaidOut, Anything}
 use Rattle.relative_file.specs.Local.{bucket_below}
 use Rattle.relative_file.proofs.Places.{bucket_within, cell_within, in_range, apart}
 use Rattle.relative_file.proofs.CellLaws.{length-cell_of, record_in-cell_of, record_in-cell_of_none}
@@ -79,18 +79,22 @@ map_set h n v old new form placed suits whole writes =
         ap Some (map_after h b n v writes.bytes form placed.records (omega (arith, lies, placed.to, placed.from, whole)) is long suits)
 
 -- what is staged lies in the extent
-pub staged_in : (h : FileHead) (n : ℕ) (value : List ℕ) (old new : StoreState) → IsRelative h → has_cell h n ≡ true → WritesCell h n value old new → StagesIn h ((2 * h.levels + 2) * h.bucket) old new
+staged_in : (h : FileHead) (n : ℕ) (value : List ℕ) (old new : StoreState) → IsRelative h → has_cell h n ≡ true → WritesCell h n value old new → StagesIn h h.bucket old new
 staged_in h n value old new form there writes =
     let range = in_range n h.mrn there in
     let below = bucket_below n h.alloc (cells_in h) range.0 (omega (arith, range.1, form.cells)) form.one in
-    stages_more h h.bucket ((2 * h.levels + 2) * h.bucket) old new (enough h.levels h.bucket) (bucket_staged h ((n - 1) / cells_in h) writes.bytes old new below writes.state)
+    bucket_staged h ((n - 1) / cells_in h) writes.bytes old new below writes.state
+
+-- one bucket is no more than what a change may stage
+pub stages_two : (h : FileHead) (old new : StoreState) → StagesIn h h.bucket old new → StagesIn h ((2 * h.levels + 2) * h.bucket) old new
+stages_two h old new stages = stages_more h h.bucket ((2 * h.levels + 2) * h.bucket) old new (enough h.levels h.bucket) stages
   where
     enough : (levels size : ℕ) → size ≤ (2 * levels + 2) * size
     enough levels size = let e : (2 * levels + 2) * size ≡ 2 * (levels * size) + 2 * size = omega arith in omega arith
 
 pub record Finished (h : FileHead) (key : Key) (v : Option (List ℕ)) (old new : StoreState) : Type 0 where
   pub map_is : option_map (map_of h) new.current ≡ option_map (λ b. set_key key v (map_of h b)) old.current
-  pub staged : StagesIn h ((2 * h.levels + 2) * h.bucket) old new
+  pub staged : StagesIn h h.bucket old new
 
 -- a call that wrote a cell has set the key
 pub finished : (h : FileHead) (key : Key) (n : ℕ) (v : Option (List ℕ)) (value : List ℕ) (old new : StoreState) → key ≡ Number n → value ≡ unwrap_or v [] → Suits h key v → IsRelative h → IsPlaced h old.disk
@@ -102,6 +106,20 @@ finished h key n v value old new is bytes suits form placed whole writes =
       map_is = map_set h n v old new form placed suits' whole writes' ∙ ap (λ (k : Key). option_map (λ b. set_key k v (map_of h b)) old.current) (sym is);
       staged = staged_in h n value old new form suits'.0 writes;
     }
+
+-- what a call told of the blocks, by its answer
+
+pub told_map : {E : Type 0} {M : Type 0} (r : Result (Unit {0}) E) (h : FileHead) (told : Option (List (List ℕ))) (now : Option M) (f : List (List ℕ) → M) → OnOk r (now ≡ option_map f told)
+    → OnOk r (IfSome told (λ b. IsLaidOut h b → Anything → now ≡ Some (f b)))
+told_map (Ok x) h None now f is = tt
+told_map (Ok x) h (Some b) now f is = λ valid any. is
+told_map (Err e) h told now f is = tt
+
+pub told_valid : {E : Type 0} (r : Result (Unit {0}) E) (h : FileHead) (told now : Option (List (List ℕ))) → OnOk r (IfSome told (λ b. IsLaidOut h b → IfSome now (IsLaidOut h)))
+    → OnOk r (IfSome told (λ b. IsLaidOut h b → Anything → IfSome now (IsLaidOut h)))
+told_valid (Ok x) h None now is = tt
+told_valid (Ok x) h (Some b) now is = λ valid any. is valid
+told_valid (Err e) h told now is = tt
 
 -- the next key
 

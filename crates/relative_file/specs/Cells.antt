@@ -75,6 +75,9 @@ pub record IsRelative (h : FileHead) : Type 0 where
   pub cells : h.mrn ≤ h.alloc * cells_in h
   pub one : 1 ≤ cells_in h
   pub used : h.used ≡ h.alloc
+  pub root : h.root ≡ 0
+  pub levels : h.levels ≡ 0
+  pub count : h.count ≡ 0
 
 -- the bucket of cell n is staged, with this record in the cell
 pub record WritesCell (h : FileHead) (n : ℕ) (value : List ℕ) (old new : StoreState) : Type 0 where

@@ -3,7 +3,9 @@ ghost use Rattle.std.specs.Prelude.{◌≡◌, ◌≤◌, ◌<◌, ◌+◌, ◌-
 ghost use Rattle.std.specs.Option.{option_copied};
 ghost use Rattle.careful_write.specs.State.{StoreState};
 ghost use Rattle.vms_base.specs.Keys.{key_of};
-ghost use Rattle.relative_file.specs.Cells.{IsRelative};
+ghost use Rattle.change_set.specs.Files.{IsPlaced, StagesIn, free_frames, fell};
+ghost use Rattle.change_set.specs.Maps.{set_key};
+ghost use Rattle.relative_file.specs.Cells.{map_of, IsRelative, IsLaidOut, Suits};
 
 use crate::file::{get_cell, next_cell, set_cell};
 use crate::make::make_file;
@@ -27,8 +29,37 @@ fn value_bytes<'a>(value: Option<&'a Record>) -> &'a [u8]
     }
 }
 
+// Stages the bucket of a key's cell, with this value in the cell.
+fn set_record<D: Disk>(
+    head: &FileHead,
+    store: &mut Store<D>,
+    key: &Key,
+    value: Option<&Record>,
+) -> Result<(), Down>
+    requires form { IsRelative head.now }
+    requires placed { IsPlaced head.now store.old.disk }
+    requires frames { 32 ≤ free_frames store.old.pool }
+    requires room { length store.old.touched ≤ 480 }
+    requires suits { Suits head.now (key_of key.now) (option_copied value) }
+    ensures map { OnOk result (option_map (map_of head.now) store.new.current ≡ option_map (λ before. set_key (key_of key.now) (option_copied value.entry) (map_of head.now before)) store.old.current) }
+    ensures valid { OnOk result (IfSome store.old.current (λ before. IsLaidOut head.now before → IfSome store.new.current (IsLaidOut head.now))) }
+    ensures staged { OnOk result (StagesIn head.now head.now.bucket store.old store.new) }
+    ensures down { OnErr result (store.new ≡ fell result store.old) }
+{
+    match key {
+        Key::Number(n) => {
+            let done = set_cell(head, store, *n, value_bytes(value));
+            if done.is_err() {
+                store.unstage();
+            }
+            done
+        }
+        _ => Ok(()),
+    }
+}
+
 impl RecordFile for RelativeFile {
-    ghost use Rattle.std.specs.Prelude.{ℕ, refl};
+    ghost use Rattle.std.specs.Prelude.{ℕ, [], refl};
     ghost use Rattle.relative_file.specs.Cells.{map_of, IsLaidOut, IsRelative, Suits, Anything};
     ghost use Rattle.relative_file.specs.Local.{local_law, valid_local_law};
 
@@ -50,11 +81,19 @@ impl RecordFile for RelativeFile {
 
     ghost used_after = { λ h blocks held key value. h.used };
 
+    ghost chain = { λ h blocks. [] };
+
+    ghost first_chain = { λ h. [] };
+
+    ghost restores = { λ h blocks key value. Anything };
+
     ghost local = { local_law };
 
     ghost valid_local = { valid_local_law };
 
     ghost room_local = { λ h a b form agrees key. refl };
+
+    ghost chain_local = { λ h a b form agrees. refl };
 
     fn get<D: Disk>(
         head: &FileHead,
@@ -107,16 +146,16 @@ impl RecordFile for RelativeFile {
         value: Option<&Record>,
         _held: &H,
     ) -> Result<(), Down> {
-        match key {
-            Key::Number(n) => {
-                let done = set_cell(head, store, *n, value_bytes(value));
-                if done.is_err() {
-                    store.unstage();
-                }
-                done
-            }
-            _ => Ok(()),
-        }
+        set_record(head, store, key, value)
+    }
+
+    fn restore<D: Disk>(
+        head: &mut FileHead,
+        store: &mut Store<D>,
+        key: &Key,
+        value: Option<&Record>,
+    ) -> Result<(), Down> {
+        set_record(head, store, key, value)
     }
 
     fn make<D: Disk>(head: &FileHead, store: &mut Store<D>) -> Result<(), Down> {

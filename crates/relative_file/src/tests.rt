@@ -103,6 +103,29 @@ fn put<D: Disk>(
     store.apply()
 }
 
+// The same in place, as a change is undone.
+fn put_back<D: Disk>(
+    head: &mut FileHead,
+    store: &mut Store<D>,
+    n: u32,
+    value: Option<&Record>,
+) -> Result<(), Down>
+    requires form { IsRelative head.old }
+    requires placed { IsPlaced head.old store.old.disk }
+    requires frames { 32 ≤ free_frames store.old.pool }
+    requires idle { IsIdle store.old }
+    requires there { has_cell head.old n ≡ true }
+    requires value { IfSome (option_copied value) (λ r. (1 ≤ length r) × (length r ≤ head.old.mrs)) }
+    ensures form { OnOk result (IsRelative head.new) }
+    ensures placed { OnOk result (IsPlaced head.new store.new.disk) }
+    ensures frames { OnOk result (32 ≤ free_frames store.new.pool) }
+    ensures idle { OnOk result (IsIdle store.new) }
+    ensures same { OnOk result ((head.new.mrs ≡ head.old.mrs) × (head.new.mrn ≡ head.old.mrn)) }
+{
+    RelativeFile::restore(head, store, &Key::Number(n), value)?;
+    store.apply()
+}
+
 // Whether the file has records at these two numbers alone, the second with these bytes.
 fn has_two<D: Disk>(
     head: &FileHead,
@@ -126,7 +149,7 @@ fn has_two<D: Disk>(
     Ok(starts && goes_on && ends && there && absent)
 }
 
-// Makes a file, sets three records of it, removes one, and tells whether the two others are there.
+// Makes a file, sets records of it, removes one, sets another back to none, and tells whether the two others are there.
 fn keeps_two<D: Disk>(
     store: &mut Store<D>,
     name: FileName,
@@ -163,6 +186,8 @@ fn keeps_two<D: Disk>(
     put(&mut head, store, 42, Some(value))?;
     put(&mut head, store, 80, Some(value))?;
     put(&mut head, store, 42, None)?;
+    put(&mut head, store, 43, Some(value))?;
+    put_back(&mut head, store, 43, None)?;
     has_two(&head, store, [41, 80], value.bytes(), out)
 }
 

@@ -43,7 +43,7 @@ same_file : (h h' : FileHead) (u n : ℕ) → h' ≡ head_with h u n → SameFil
 same_file h h' u n is = subst (SameFile h) (sym is) (record { is = refl })
 
 same_form : (h h' : FileHead) (u n : ℕ) → h' ≡ head_with h u n → IsSequential h → 1 ≤ u → u ≤ h.alloc → IsSequential h'
-same_form h h' u n is form one most = subst IsSequential (sym is) (record { organization = form.organization; one = one; used = most })
+same_form h h' u n is form one most = subst IsSequential (sym is) (record { organization = form.organization; one = one; used = most; root = form.root; levels = form.levels })
 
 changed_some : (h h' : FileHead) (w : Rewrite) (given : Blocks → Type 0) (after : Blocks → Blocks) (f : ℕ) (s0 s2 s3 : StoreState) → IsPlaced h s0.disk → IsSequential h → IfSome s0.current (λ b. length b + 518 ≡ s0.disk.size) → Lent f s0 s2
     → MayWrite h w → IfSome s0.current (Leads h w (page_in h s2 f) given after) → Written h w f s2 s3 → h' ≡ head_with h w.used w.count → Changes h h' given after s0 s3

@@ -1,18 +1,19 @@
 -- A sequential file once one of its buckets was written.
 use Rattle.std.proofs.Common.{◌≡◌, ◌≢◌, ◌⊎◌, ⊎_elim, inl, inr, ℕ, zero, suc, ◌<◌, ◌≤◌, ◌+◌, ◌-◌, ◌*◌, ◌++◌, List, [], ◌∷◌, length, take, drop, set, map, get_or, Some, refl, sym, ap, subst, ◌∙◌, arith, length-append, length-set, append_assoc}
 use Rattle.std.specs.List.{All}
-use Rattle.std.proofs.lemmas.List.{map_push, map-set, take-map, length_push, length-take-le, take_at, length-map}
+use Rattle.std.proofs.lemmas.List.{map_push, map-append, map-set, take-map, length_push, length-take-le, take_at, length-map}
 use Rattle.std.proofs.lemmas.Bool.{cases_lt, cases_eq}
 use Rattle.file_base.specs.declared.head.FileHead.{FileHead}
 use Rattle.change_set.specs.Buckets.{with_bucket}
 use Rattle.change_set.proofs.BucketLaws.{block_at-with_bucket_other, bucket_bytes_agree, bucket_bytes-with_bucket}
 use Rattle.bucket_page.specs.declared.kind.PageKind.TheVariants.{Seq}
 use Rattle.bucket_page.specs.Pages.{slots_of, joined, IsBucket}
+use Rattle.records_model.specs.Placing.{filled_by, first_bucket}
 use Rattle.seq_file.specs.Placing.{slots_along, IsFilled, buckets_for}
 use Rattle.seq_file.specs.Records.{list_set, slot_sizes}
-use Rattle.seq_file.specs.Layout.{bucket_first, bucket_at, slots_at, slot_of, record_of, records_in, capacity, head_with, IsRecord, IsLaidOut, Becomes, Changed}
+use Rattle.seq_file.specs.Layout.{bucket_first, bucket_at, slots_at, slot_of, record_of, records_in, capacity, last_bytes, head_with, IsRecord, IsLaidOut, Becomes, Changed, AskedIsPlaced, AppendTakes}
 use Rattle.change_set.proofs.Extents.{ranges_apart}
-use Rattle.seq_file.proofs.PlacingLaws.{filled_is_placed, filled_push, filled_next, filled_take, filled_fewer, filled_sized, slots_along_same, slots_along_last, slots_along_set, along_long, along_take, joined_push, filled_alike}
+use Rattle.seq_file.proofs.PlacingLaws.{filled_is_placed, filled_last, filled_one_more, filled_push, filled_next, filled_take, filled_fewer, filled_sized, slots_along_same, slots_along_last, slots_along_set, along_long, along_take, joined_push, filled_alike}
 use Rattle.seq_file.proofs.RecordLaws.{list_set_next, list_set_stands}
 
 abbrev Blocks : Type 0
@@ -62,6 +63,17 @@ sizes_are mrs (s ∷ ss) all =
 pub used_is : (h : FileHead) (b : Blocks) → 1 ≤ h.used → IsLaidOut h b → h.used ≡ buckets_for (capacity h) (slot_sizes (records_in h b))
 used_is h b one valid =
     sym (filled_is_placed (capacity h) (slots_at h b) h.used one (filled_of h b valid)) ∙ ap (buckets_for (capacity h)) (sizes_are h.mrs (slots_along (slots_at h b) h.used) valid.records)
+
+-- what a record more asks for is what its placing takes more
+pub asked_is_placed : AskedIsPlaced
+asked_is_placed h b r one valid =
+    let cap = capacity h in
+    let rs = records_in h b in
+    let filled = ap (filled_by cap first_bucket) (sym (sizes_are h.mrs (slots_along (slots_at h b) h.used) valid.records)) ∙ filled_last cap (slots_at h b) h.used one (filled_of h b valid) in
+    filled_one_more cap (slot_sizes rs) (length r + 2) h.used (last_bytes h b) filled ∙ ap (buckets_for cap) (sym (map-append (λ (x : List ℕ). length x + 2) rs (r ∷ [])))
+
+pub append_takes : AppendTakes
+append_takes h b r one valid fits = let is = asked_is_placed h b r one valid in omega (arith, is, fits)
 
 -- what a layout needs
 laid_out : (h : FileHead) (u n : ℕ) (c : Blocks) (rs : List (List ℕ)) → ((i : ℕ) → i < u → IsBucket Seq (512 * h.bucket) (bucket_at h c i)) → IsFilled (capacity h) (slots_at h c) u

@@ -1,11 +1,12 @@
 -- The placing of slots.
-use Rattle.std.proofs.Common.{◌≡◌, ◌≢◌, ◌⊎◌, ⊎_elim, ◌≤◌, ◌<◌, ℕ, zero, suc, ◌+◌, ◌-◌, ◌++◌, List, [], ◌∷◌, length, map, take, set, get_or, if◌then◌else◌, nat_le, refl, sym, ap, subst, ◌∙◌, arith, length-append}
+use Rattle.std.proofs.Common.{◌≡◌, ◌≢◌, ◌⊎◌, ⊎_elim, ◌≤◌, ◌<◌, ℕ, zero, suc, ◌+◌, ◌-◌, ◌++◌, List, [], ◌∷◌, length, map, take, set, get_or, Bool, true, false, if◌then◌else◌, nat_le, refl, sym, ap, subst, ◌∙◌, arith, length-append}
 use Rattle.std.proofs.lemmas.List.{map-append, set-append_left, set-append_right, take-append-le, get_or_append_left, get_or-append-add}
 use Rattle.std.proofs.lemmas.Bool.Decides.{nat_tests}
 use Rattle.std.proofs.lemmas.Bool.{cases_lt, cases_eq}
 use Rattle.bucket_page.specs.Pages.{joined}
 use Rattle.bucket_page.proofs.PageLaws.{joined-append}
-use Rattle.seq_file.specs.Placing.{Filled, filled_more, filled_by, first_bucket, slots_along, BeginsAnew, IsFilled, FilledIsPlaced}
+use Rattle.records_model.specs.Placing.{Filled, filled_more, filled_by, first_bucket}
+use Rattle.seq_file.specs.Placing.{slots_along, BeginsAnew, IsFilled, FilledIsPlaced, PrefixPlaces, buckets_for}
 
 abbrev Slots : Type 0
 Slots = List (List ℕ)
@@ -67,6 +68,40 @@ filled_is cap S (suc n) filled =
 pub filled_is_placed : FilledIsPlaced
 filled_is_placed cap S zero one filled = absurd (omega arith)
 filled_is_placed cap S (suc n) one filled = ap (λ (f : Filled). f.buckets) (filled_is cap S n filled)
+
+-- what the last of them has
+pub filled_last : (cap : ℕ) (S : ℕ → Slots) (used : ℕ) → 1 ≤ used → IsFilled cap S used → filled_by cap first_bucket (map length (slots_along S used)) ≡ fill used (length (joined (S (used - 1))))
+filled_last cap S zero one filled = absurd (omega arith)
+filled_last cap S (suc n) one filled = let e : n ≡ suc n - 1 = omega arith in filled_is cap S n filled ∙ ap (λ m. fill (suc n) (length (joined (S m)))) e
+
+-- one slot more
+pub filled_one_more : (cap : ℕ) (sizes : List ℕ) (size n m : ℕ) → filled_by cap first_bucket sizes ≡ fill n m → n + (if nat_le (m + size) cap then 0 else 1) ≡ buckets_for cap (sizes ++ size ∷ [])
+filled_one_more cap sizes size n m filled =
+    added (nat_le (m + size) cap) ∙ ap (λ (f : Filled). (filled_more cap f size).buckets) (sym filled) ∙ ap (λ (f : Filled). f.buckets) (sym (filled_by-append cap first_bucket sizes (size ∷ [])))
+  where
+    added : (t : Bool) → n + (if t then 0 else 1) ≡ (if t then n else n + 1)
+    added true = omega arith
+    added false = refl
+
+-- the first slots
+more_grows : (cap : ℕ) (f : Filled) (size : ℕ) → f.buckets ≤ (filled_more cap f size).buckets
+more_grows cap f size = grows (nat_le (f.bytes + size) cap)
+  where
+    grows : (t : Bool) → f.buckets ≤ (if t then f.buckets else f.buckets + 1)
+    grows true = omega arith
+    grows false = omega arith
+
+by_grows : (cap : ℕ) (f : Filled) (sizes : List ℕ) → f.buckets ≤ (filled_by cap f sizes).buckets
+by_grows cap f [] = omega arith
+by_grows cap f (size ∷ sizes) = omega (arith, more_grows cap f size, by_grows cap (filled_more cap f size) sizes)
+
+prefix_by : (cap : ℕ) (f : Filled) (sizes : List ℕ) (n : ℕ) → (filled_by cap f (take n sizes)).buckets ≤ (filled_by cap f sizes).buckets
+prefix_by cap f sizes zero = by_grows cap f sizes
+prefix_by cap f [] (suc n) = omega arith
+prefix_by cap f (size ∷ sizes) (suc n) = prefix_by cap (filled_more cap f size) sizes n
+
+pub prefix_places : PrefixPlaces
+prefix_places cap sizes n = prefix_by cap first_bucket sizes n
 
 -- buckets that are the same have the same slots along them
 pub slots_along_same : (S T : ℕ → Slots) (n : ℕ) → ((i : ℕ) → i < n → T i ≡ S i) → slots_along T n ≡ slots_along S n

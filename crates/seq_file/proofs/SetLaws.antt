@@ -1,7 +1,9 @@
 -- The map of a file once its records have changed.
-use Rattle.std.proofs.Common.{◌≡◌, ◌⊎◌, ⊎_elim, ℕ, zero, suc, ◌<◌, ◌≤◌, ◌+◌, ◌-◌, ◌*◌, true, List, [], length, take, Option, Some, None, IfSome, IsSomeAnd, option_map, refl, sym, ap, subst, ◌∙◌, arith}
+use Rattle.std.proofs.Common.{◌≡◌, ◌⊎◌, ⊎_elim, inl, inr, ℕ, zero, suc, ◌<◌, ◌≤◌, ◌+◌, ◌-◌, ◌*◌, ◌++◌, true, List, [], ◌∷◌, length, length-append, take, get_or, Option, Some, None, IfSome, IsSomeAnd, option_map, refl, sym, ap, subst, ◌∙◌, arith}
 use Rattle.std.proofs.lemmas.Bool.{cases_lt}
+use Rattle.std.proofs.lemmas.List.{length-take-le}
 use Rattle.std.proofs.lemmas.Nat.{mul-le}
+use Rattle.std.proofs.lemmas.Option.{slice_get-get_or}
 use Rattle.careful_write.specs.State.{StoreState}
 use Rattle.file_base.specs.declared.head.FileHead.{FileHead}
 use Rattle.vms_model.specs.Keys.{Key, Number, Text, End}
@@ -11,11 +13,11 @@ use Rattle.change_set.proofs.Extents.{stages_more}
 use Rattle.change_set.proofs.NumberKeys.{below_number, number_after, after_number}
 use Rattle.seq_file.specs.Placing.{buckets_for}
 use Rattle.seq_file.specs.Records.{record_at, map_of_list, list_set, cut_from, slot_sizes, MaySet}
-use Rattle.seq_file.specs.Layout.{map_of, records_in, capacity, used_after, IsSequential, IsLaidOut, Takes, TakesAt, Becomes}
+use Rattle.seq_file.specs.Layout.{map_of, records_in, capacity, asks, used_after, IsSequential, IsLaidOut, Takes, TakesAt, Becomes}
 use Rattle.seq_file.specs.Frames.{Changes}
-use Rattle.seq_file.proofs.FileLaws.{used_is}
+use Rattle.seq_file.proofs.FileLaws.{used_is, asked_is_placed}
 use Rattle.seq_file.proofs.MapLaws.{map_set, map_cut}
-use Rattle.seq_file.proofs.RecordLaws.{record_at_past}
+use Rattle.seq_file.proofs.RecordLaws.{record_at_past, record_at_set, list_set_none, list_set_next, list_set_stands}
 
 abbrev Blocks : Type 0
 Blocks = List (List ℕ)
@@ -46,22 +48,89 @@ has h h' (Some c) after b file form becomes = record {
   used = used_is h' c form.one becomes.valid ∙ ap (buckets_for (capacity h')) (ap slot_sizes becomes.are) ∙ ap (λ cap. buckets_for cap (slot_sizes (after (records_in h b)))) (ap capacity file.is);
 }
 
+-- What stood there may be set back.
+
+take_last : (rs : List (List ℕ)) (m : ℕ) → length rs ≡ suc m → take m rs ++ get_or rs m [] ∷ [] ≡ rs
+take_last [] m is = absurd (omega arith)
+take_last (x ∷ []) zero is = refl
+take_last (x ∷ y ∷ rs) zero is = absurd (omega arith)
+take_last (x ∷ rs) (suc m) is = ap (λ t. x ∷ t) (take_last rs m (omega arith))
+
+-- the last record, once it went
+back_behind : (h h' : FileHead) (n : ℕ) (b c : Blocks) → 1 ≤ n → IsSequential h → SameFile h h' → IsSequential h' → TakesAt h n None b → Becomes h' c (list_set n None (records_in h b)) → Takes h' c (Number n) (record_at (records_in h b) n)
+back_behind h h' n b c one form file form' given becomes =
+    let rs = records_in h b in
+    let m = n - 1 in
+    let r = get_or rs m [] in
+    let number : n ≡ suc m = omega arith in
+    let size : length rs ≡ suc m = let count = given.0.count in let last = given.1 in omega (arith, count, last) in
+    let at : record_at rs n ≡ Some r = ap (record_at rs) number ∙ slice_get-get_or rs m [] (omega (arith, size)) in
+    let left : records_in h' c ≡ take m rs = becomes.are ∙ list_set_none n rs (omega (arith, size)) in
+    let fewer = length-take-le m rs (omega (arith, size)) in
+    let next : n ≡ h'.count + 1 = let count = becomes.valid.count in omega (arith, count, ap length left, fewer) in
+    let whole : records_in h' c ++ r ∷ [] ≡ rs = ap (λ xs. xs ++ r ∷ []) left ∙ take_last rs m size in
+    let used : h'.used + asks h' c (length r) ≡ h.used = asked_is_placed h' c r form'.one becomes.valid ∙ ap (λ xs. buckets_for (capacity h') (slot_sizes xs)) whole
+    ∙ ap (λ cap. buckets_for cap (slot_sizes rs)) (ap capacity file.is) ∙ sym (used_is h b form.one given.0) in
+    let alloc : h'.alloc ≡ h.alloc = ap (λ (x : FileHead). x.alloc) file.is in
+    let fits : h'.used + asks h' c (length r) ≤ h'.alloc = let most = form.used in omega (arith, used, alloc, most) in
+    subst (λ (o : Option (List ℕ)). Takes h' c (Number n) o) (sym at) (inl (next, fits))
+
+-- none, once a record was put behind the others
+back_none : (h h' : FileHead) (n : ℕ) (r : List ℕ) (b c : Blocks) → IsLaidOut h b → n ≡ h.count + 1 → Becomes h' c (list_set n (Some r) (records_in h b)) → Takes h' c (Number n) (record_at (records_in h b) n)
+back_none h h' n r b c valid next becomes =
+    let rs = records_in h b in
+    let count = valid.count in
+    let now = becomes.valid.count in
+    let at : record_at rs n ≡ None = record_at_past rs n (omega (arith, count, next)) in
+    let more = ap length (becomes.are ∙ list_set_next n r rs (omega (arith, count, next))) in
+    let last : n ≡ h'.count = omega (arith, now, more, length-append rs (r ∷ []), count, next) in
+    subst (λ (o : Option (List ℕ)). Takes h' c (Number n) o) (sym at) last
+
+-- a record of the same length
+back_same : (h h' : FileHead) (n : ℕ) (r : List ℕ) (b c : Blocks) → 1 ≤ n → IsSomeAnd (record_at (records_in h b) n) (λ old. length r ≡ length old) → Becomes h' c (list_set n (Some r) (records_in h b)) → Takes h' c (Number n) (record_at (records_in h b) n)
+back_same h h' n r b c one stands becomes = go (record_at rs n) stands
+  where
+    rs : List (List ℕ)
+    rs = records_in h b
+
+    within : n ≤ length rs
+    within = ⊎_elim (λ less. omega arith) (λ past. absurd (none_stands (record_at rs n) r (record_at_past rs n (omega arith)) stands)) (cases_lt n (length rs + 1))
+
+    at : record_at (records_in h' c) n ≡ Some r
+    at = ap (λ xs. record_at xs n) (becomes.are ∙ list_set_stands n r rs one within) ∙ (record_at_set rs n n r one within).0 refl
+
+    go : (o : Option (List ℕ)) → IsSomeAnd o (λ old. length r ≡ length old) → Takes h' c (Number n) o
+    go None same = absurd same
+    go (Some old) same = inr (subst (λ (x : Option (List ℕ)). IsSomeAnd x (λ now. length old ≡ length now)) (sym at) (sym same))
+
+back_again : (h h' : FileHead) (n : ℕ) (v : Option (List ℕ)) (b c : Blocks) → 1 ≤ n → IsSequential h → SameFile h h' → IsSequential h' → TakesAt h n v b → Becomes h' c (list_set n v (records_in h b)) → Takes h' c (Number n) (record_at (records_in h b) n)
+back_again h h' n None b c one form file form' given becomes = back_behind h h' n b c one form file form' given becomes
+back_again h h' n (Some r) b c one form file form' given becomes =
+    ⊎_elim (λ next. back_none h h' n r b c given.0 next.0 becomes) (λ stands. back_same h h' n r b c one stands becomes) given.1
+
+back_told : (h h' : FileHead) (n : ℕ) (v : Option (List ℕ)) (b : Blocks) (now : Option Blocks) → 1 ≤ n → IsSequential h → SameFile h h' → IsSequential h' → TakesAt h n v b → IsSomeAnd now (λ c. Becomes h' c (list_set n v (records_in h b)))
+    → IfSome now (λ c. Takes h' c (Number n) (record_at (records_in h b) n))
+back_told h h' n v b None one form file form' given becomes = tt
+back_told h h' n v b (Some c) one form file form' given becomes = back_again h h' n v b c one form file form' given becomes
+
 -- a position was set
 pub record IsSet (h h' : FileHead) (key : Key) (v : Option (List ℕ)) (told now : Option Blocks) : Type 0 where
   pub map_is : IfSome told (λ b. IsLaidOut h b → Takes h b key v → option_map (map_of h') now ≡ Some (set_key key v (map_of h b)))
   pub valid : IfSome told (λ b. IsLaidOut h b → Takes h b key v → IfSome now (IsLaidOut h'))
   pub used : IfSome told (λ b. IsLaidOut h b → Takes h b key v → h'.used ≡ used_after h b key v)
+  pub back : IfSome told (λ b. IsLaidOut h b → Takes h b key v → IfSome now (λ c. Takes h' c key (map_of h b key)))
 
-set_number : (h h' : FileHead) (n : ℕ) (v : Option (List ℕ)) (told now : Option Blocks) → 1 ≤ n → SameFile h h' → IsSequential h' → IfSome told (λ b. TakesAt h n v b → IsSomeAnd now (λ c. Becomes h' c (list_set n v (records_in h b)))) → IsSet h h' (Number n) v told now
-set_number h h' n v None now one file form becomes = record { map_is = tt; valid = tt; used = tt }
-set_number h h' n v (Some b) now one file form becomes = record {
+set_number : (h h' : FileHead) (n : ℕ) (v : Option (List ℕ)) (told now : Option Blocks) → 1 ≤ n → IsSequential h → SameFile h h' → IsSequential h' → IfSome told (λ b. TakesAt h n v b → IsSomeAnd now (λ c. Becomes h' c (list_set n v (records_in h b)))) → IsSet h h' (Number n) v told now
+set_number h h' n v None now one was file form becomes = record { map_is = tt; valid = tt; used = tt; back = tt }
+set_number h h' n v (Some b) now one was file form becomes = record {
   map_is = λ valid takes. (has h h' now (list_set n v) b file form (becomes (valid, takes))).map_is ∙ ap Some (map_set n v (records_in h b) (may_set h n v b one (valid, takes)));
   valid = λ valid takes. (has h h' now (list_set n v) b file form (becomes (valid, takes))).valid;
   used = λ valid takes. (has h h' now (list_set n v) b file form (becomes (valid, takes))).used;
+  back = λ valid takes. back_told h h' n v b now one was file form (valid, takes) (becomes (valid, takes));
 }
 
-pub set_done : (h h' : FileHead) (key : Key) (n : ℕ) (v : Option (List ℕ)) (s s' : StoreState) → key ≡ Number n → 1 ≤ n → Changes h h' (TakesAt h n v) (list_set n v) s s' → IsSet h h' key v s.current s'.current
-set_done h h' key n v s s' is one changes = subst (λ (k : Key). IsSet h h' k v s.current s'.current) (sym is) (set_number h h' n v s.current s'.current one changes.file changes.form changes.becomes)
+pub set_done : (h h' : FileHead) (key : Key) (n : ℕ) (v : Option (List ℕ)) (s s' : StoreState) → key ≡ Number n → 1 ≤ n → IsSequential h → Changes h h' (TakesAt h n v) (list_set n v) s s' → IsSet h h' key v s.current s'.current
+set_done h h' key n v s s' is one was changes = subst (λ (k : Key). IsSet h h' k v s.current s'.current) (sym is) (set_number h h' n v s.current s'.current one was changes.file changes.form changes.becomes)
 
 -- the positions from one on were taken away
 pub record IsCut (h h' : FileHead) (n : ℕ) (told now : Option Blocks) : Type 0 where

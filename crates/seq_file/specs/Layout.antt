@@ -1,5 +1,5 @@
 -- How a sequential file lies on the disk, and the map that it means.
-use Rattle.std.specs.Prelude.{◌≡◌, ◌≢◌, ◌≤◌, ◌<◌, ◌⊎◌, ℕ, suc, ◌+◌, ◌-◌, ◌*◌, ◌++◌, List, length, drop, map, Option, Some, None, IfSome, IsSomeAnd, if◌then◌else◌, ◌&&◌, nat_le, nat_lt, nat_eq}
+use Rattle.std.specs.Prelude.{◌≡◌, ◌≢◌, ◌≤◌, ◌<◌, ◌⊎◌, ℕ, suc, ◌+◌, ◌-◌, ◌*◌, ◌++◌, List, [], ◌∷◌, length, drop, map, Option, Some, None, IfSome, IsSomeAnd, if◌then◌else◌, ◌&&◌, nat_le, nat_lt, nat_eq}
 use Rattle.std.specs.List.{All}
 use Rattle.file_base.specs.declared.head.FileHead.{FileHead}
 use Rattle.file_base.specs.declared.head.Organization.TheVariants.{Sequential}
@@ -48,6 +48,8 @@ pub record IsSequential (h : FileHead) : Type 0 where
   pub organization : h.organization ≡ Sequential
   pub one : 1 ≤ h.used
   pub used : h.used ≤ h.alloc
+  pub root : h.root ≡ 0
+  pub levels : h.levels ≡ 0
 
 -- the head is that of a new file: one used bucket, and no record
 pub record IsFresh (h : FileHead) : Type 0 where
@@ -122,3 +124,11 @@ used_left j k = if nat_eq j 0 && nat_lt 0 k then k else k + 1
 -- the used buckets of a file that is laid out are as many as the placing of its records takes
 abbrev pub LaidOutIsPlaced : Type 0
 LaidOutIsPlaced = (h : FileHead) (b : List (List ℕ)) → 1 ≤ h.used → IsLaidOut h b → h.used ≡ buckets_for (capacity h) (slot_sizes (records_in h b))
+
+-- what a record more asks for makes as many used buckets as the placing of the records with it behind them takes
+abbrev pub AskedIsPlaced : Type 0
+AskedIsPlaced = (h : FileHead) (b : List (List ℕ)) (r : List ℕ) → 1 ≤ h.used → IsLaidOut h b → h.used + asks h b (length r) ≡ buckets_for (capacity h) (slot_sizes (records_in h b ++ r ∷ []))
+
+-- so a record may be put behind the others exactly where their placing with it fits the file
+abbrev pub AppendTakes : Type 0
+AppendTakes = (h : FileHead) (b : List (List ℕ)) (r : List ℕ) → 1 ≤ h.used → IsLaidOut h b → buckets_for (capacity h) (slot_sizes (records_in h b ++ r ∷ [])) ≤ h.alloc → h.used + asks h b (length r) ≤ h.alloc

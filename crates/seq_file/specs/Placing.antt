@@ -1,27 +1,7 @@
 -- How slots are placed into buckets, one after the other.
-use Rattle.std.specs.Prelude.{◌≡◌, ◌≤◌, ◌<◌, ℕ, zero, suc, ◌+◌, ◌++◌, List, [], ◌∷◌, length, map, if◌then◌else◌, nat_le}
+use Rattle.std.specs.Prelude.{◌≡◌, ◌≤◌, ◌<◌, ℕ, zero, suc, ◌+◌, ◌++◌, List, [], ◌∷◌, length, take, map}
+use Rattle.records_model.specs.Placing.{filled_by, first_bucket}
 use Rattle.bucket_page.specs.Pages.{joined}
-
--- how many buckets are used, and how many bytes of the last of them
-pub record Filled : Type 0 where
-  pub buckets : ℕ
-  pub bytes : ℕ
-
--- a slot more of this size: in the last used bucket where it fits, else in the next
-abbrev pub filled_more : ℕ → Filled → ℕ → Filled
-filled_more cap f size = record {
-  buckets = if nat_le (f.bytes + size) cap then f.buckets else f.buckets + 1;
-  bytes = if nat_le (f.bytes + size) cap then f.bytes + size else size;
-}
-
--- slots more of these sizes, one after the other
-abbrev pub filled_by : ℕ → Filled → List ℕ → Filled
-filled_by cap f [] = f
-filled_by cap f (size ∷ sizes) = filled_by cap (filled_more cap f size) sizes
-
--- one used bucket, empty
-abbrev pub first_bucket : Filled
-first_bucket = record { buckets = 1; bytes = 0 }
 
 -- how many buckets the placing of slots of these sizes takes
 abbrev pub buckets_for : ℕ → List ℕ → ℕ
@@ -45,3 +25,7 @@ pub record IsFilled (cap : ℕ) (S : ℕ → List (List ℕ)) (used : ℕ) : Typ
 -- buckets that were filled in turn are as many as the placing of their slots takes
 abbrev pub FilledIsPlaced : Type 0
 FilledIsPlaced = (cap : ℕ) (S : ℕ → List (List ℕ)) (used : ℕ) → 1 ≤ used → IsFilled cap S used → buckets_for cap (map length (slots_along S used)) ≡ used
+
+-- the placing of the first slots takes at most as many buckets as that of all
+abbrev pub PrefixPlaces : Type 0
+PrefixPlaces = (cap : ℕ) (sizes : List ℕ) (n : ℕ) → buckets_for cap (take n sizes) ≤ buckets_for cap sizes

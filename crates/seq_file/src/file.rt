@@ -121,7 +121,7 @@ fn write_back<D: Disk>(
     requires placed { IsPlaced head.old store.old.disk }
     requires may { IfSome rewrite (MayWrite head.old) }
     requires lent { IsOut store.old.pool frame }
-    requires room { length store.old.touched ≤ 64 }
+    requires room { length store.old.touched ≤ 480 }
     ensures written { IfSome rewrite (λ w. Written head.old w frame store.old store.new) }
     ensures tells { IfSome rewrite (λ w. head.new ≡ head_with head.old w.used w.count) }
     ensures given { IfNone rewrite (store.new ≡ record store.old { pool = slice_set store.old.pool frame None }) }
@@ -146,7 +146,7 @@ pub fn set_position<D: Disk>(
     requires form { IsSequential head.old }
     requires placed { IsPlaced head.old store.old.disk }
     requires frames { 1 ≤ free_frames store.old.pool }
-    requires room { length store.old.touched ≤ 64 }
+    requires room { length store.old.touched ≤ 480 }
     requires suits { Suits head.old (Number n) (option_copied value) }
     ensures done { OnOk result (Changes head.old head.new (TakesAt head.old n (option_copied value.entry)) (list_set n (option_copied value.entry)) store.old store.new) }
     ensures head { OnErr result (head.new ≡ head.old) }
@@ -170,7 +170,7 @@ pub fn cut_positions<D: Disk>(head: &mut FileHead, store: &mut Store<D>, n: u32)
     requires form { IsSequential head.old }
     requires placed { IsPlaced head.old store.old.disk }
     requires frames { 1 ≤ free_frames store.old.pool }
-    requires room { length store.old.touched ≤ 64 }
+    requires room { length store.old.touched ≤ 480 }
     requires from { 1 ≤ n }
     requires to { n ≤ head.old.count }
     ensures done { OnOk result (Changes head.old head.new (IsLaidOut head.old) (take (n - 1)) store.old store.new) }

@@ -12,5 +12,8 @@ mod spot;
 mod tests;
 mod walk;
 
-pub use law::{filled_is_placed, laid_out_is_placed, list_set_sets, take_cuts};
+pub use law::{
+    append_takes, asked_is_placed, filled_is_placed, laid_out_is_placed, list_set_sets,
+    prefix_places, take_cuts,
+};
 pub use sequential::SeqFile;

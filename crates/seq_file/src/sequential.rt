@@ -3,9 +3,10 @@ ghost use Rattle.std.specs.Prelude.{◌≡◌, ◌≤◌, ◌<◌, ◌+◌, ◌-
 ghost use Rattle.std.specs.Option.{option_copied};
 ghost use Rattle.vms_base.specs.Keys.{key_of};
 ghost use Rattle.change_set.specs.Files.{IsPlaced, free_frames, fell, StagesIn, SameFile};
+ghost use Rattle.change_set.specs.Maps.{set_key};
 ghost use Rattle.seq_file.specs.Placing.{buckets_for};
 ghost use Rattle.seq_file.specs.Records.{cut_from, slot_sizes};
-ghost use Rattle.seq_file.specs.Layout.{map_of, records_in, capacity, IsSequential, IsLaidOut};
+ghost use Rattle.seq_file.specs.Layout.{map_of, records_in, capacity, used_after, IsSequential, IsLaidOut, Suits, Takes};
 
 use crate::file::{cut_positions, need_of, read_position, set_position};
 use crate::make::make_file;
@@ -22,10 +23,44 @@ use vms_base::{Key, Record};
 /// position has room of its own: what was taken away is put back behind the last record.
 pub struct SeqFile;
 
+// Sets the position that a key tells. Blocks of one bucket are staged.
+fn set_record<D: Disk>(
+    head: &mut FileHead,
+    store: &mut Store<D>,
+    key: &Key,
+    value: Option<&Record>,
+) -> Result<(), Down>
+    requires form { IsSequential head.old }
+    requires placed { IsPlaced head.old store.old.disk }
+    requires frames { 32 ≤ free_frames store.old.pool }
+    requires room { length store.old.touched ≤ 480 }
+    requires suits { Suits head.old (key_of key.now) (option_copied value) }
+    ensures map { OnOk result (IfSome store.old.current (λ before. IsLaidOut head.old before → Takes head.old before (key_of key.now) (option_copied value.entry) → option_map (map_of head.new) store.new.current ≡ Some (set_key (key_of key.now) (option_copied value.entry) (map_of head.old before)))) }
+    ensures valid { OnOk result (IfSome store.old.current (λ before. IsLaidOut head.old before → Takes head.old before (key_of key.now) (option_copied value.entry) → IfSome store.new.current (IsLaidOut head.new))) }
+    ensures used { OnOk result (IfSome store.old.current (λ before. IsLaidOut head.old before → Takes head.old before (key_of key.now) (option_copied value.entry) → head.new.used ≡ used_after head.old before (key_of key.now) (option_copied value.entry))) }
+    ensures back { OnOk result (IfSome store.old.current (λ before. IsLaidOut head.old before → Takes head.old before (key_of key.now) (option_copied value.entry) → IfSome store.new.current (λ after. Takes head.new after (key_of key.now) (map_of head.old before (key_of key.now))))) }
+    ensures file { OnOk result (SameFile head.old head.new) }
+    ensures form { OnOk result (IsSequential head.new) }
+    ensures staged { OnOk result (StagesIn head.old head.old.bucket store.old store.new) }
+    ensures head { OnErr result (head.new ≡ head.old) }
+    ensures down { OnErr result (store.new ≡ fell result store.old) }
+{
+    match key {
+        Key::Number(n) => {
+            let done = set_position(head, store, *n, value);
+            if done.is_err() {
+                store.unstage();
+            }
+            done
+        }
+        _ => Ok(()),
+    }
+}
+
 impl RecordFile for SeqFile {
     ghost use Rattle.seq_file.specs.Layout.{map_of, IsSequential, IsFresh, IsLaidOut, Suits, Takes, asks, used_after};
     ghost use Rattle.seq_file.specs.Local.{local_law, valid_local_law};
-    ghost use Rattle.std.specs.Prelude.{ℕ, refl};
+    ghost use Rattle.std.specs.Prelude.{ℕ, [], refl};
 
     ghost map = { map_of };
 
@@ -45,11 +80,19 @@ impl RecordFile for SeqFile {
 
     ghost used_after = { λ h blocks held key value. used_after h blocks key value };
 
+    ghost chain = { λ h blocks. [] };
+
+    ghost first_chain = { λ h. [] };
+
+    ghost restores = { Takes };
+
     ghost local = { local_law };
 
     ghost valid_local = { valid_local_law };
 
     ghost room_local = { λ h a b form agrees key. refl };
+
+    ghost chain_local = { λ h a b form agrees. refl };
 
     fn get<D: Disk>(
         head: &FileHead,
@@ -105,16 +148,16 @@ impl RecordFile for SeqFile {
         value: Option<&Record>,
         _held: &H,
     ) -> Result<(), Down> {
-        match key {
-            Key::Number(n) => {
-                let done = set_position(head, store, *n, value);
-                if done.is_err() {
-                    store.unstage();
-                }
-                done
-            }
-            _ => Ok(()),
-        }
+        set_record(head, store, key, value)
+    }
+
+    fn restore<D: Disk>(
+        head: &mut FileHead,
+        store: &mut Store<D>,
+        key: &Key,
+        value: Option<&Record>,
+    ) -> Result<(), Down> {
+        set_record(head, store, key, value)
     }
 
     fn need<D: Disk>(head: &FileHead, store: &mut Store<D>, size: u16) -> Result<u32, Down> {

@@ -99,6 +99,27 @@ fn put<D: Disk>(
     store.apply()
 }
 
+// The same in place, as a change is undone.
+fn put_back<D: Disk>(
+    head: &mut FileHead,
+    store: &mut Store<D>,
+    n: u32,
+    value: Option<&Record>,
+) -> Result<(), Down>
+    requires form { IsSequential head.old }
+    requires placed { IsPlaced head.old store.old.disk }
+    requires frames { 32 ≤ free_frames store.old.pool }
+    requires idle { IsIdle store.old }
+    requires suits { Suits head.old (Number n) (option_copied value) }
+    ensures form { OnOk result (IsSequential head.new) }
+    ensures placed { OnOk result (IsPlaced head.new store.new.disk) }
+    ensures frames { OnOk result (32 ≤ free_frames store.new.pool) }
+    ensures idle { OnOk result (IsIdle store.new) }
+{
+    SeqFile::restore(head, store, &Key::Number(n), value)?;
+    store.apply()
+}
+
 // Sets a position to a record of these bytes, where they are as many as a record may have.
 fn write<D: Disk>(
     head: &mut FileHead,
@@ -188,7 +209,7 @@ fn begins_with<D: Disk>(
 }
 
 // Fills a bucket with two records to the last byte and two buckets more, writes a record over one, takes the last one
-// away, cuts over all buckets, and begins anew.
+// away, puts it behind the others and sets it back to none, cuts over all buckets, and begins anew.
 fn fills_and_cuts<D: Disk>(
     head: &mut FileHead,
     store: &mut Store<D>,
@@ -215,6 +236,8 @@ fn fills_and_cuts<D: Disk>(
     let third = ends_with(head, store, 3, 5, second, out)?;
     write(head, store, 3, &[8], out)?;
     put(head, store, 5, None)?;
+    write(head, store, 5, second, out)?;
+    put_back(head, store, 5, None)?;
     let gone = ends_with(head, store, 2, 4, first, out)?;
     cut(head, store, 4)?;
     let over = ends_with(head, store, 2, 3, &[8], out)?;

@@ -1,4 +1,5 @@
-use Rattle.indexed_file.proofs.PartLaws.{parts_keep, adds_few}
+use Rattle.records_model.proofs.PartLaws.{parts_keep}
+use Rattle.indexed_file.proofs.PartedLaws.{adds_few}
 use Rattle.indexed_file.proofs.law.part_law.Goals as goal
 
 pub returns-clause-parts : goal.returns-clause-parts

@@ -1,6 +1,6 @@
 use Rattle.std.proofs.Common.{◌≡◌, true, false, sym, ap, ◌∙◌, rules}
 use Rattle.bucket_page.specs.Pages.{slots_of}
-use Rattle.indexed_file.specs.Slots.{value_in}
+use Rattle.records_model.specs.Slots.{value_in}
 use Rattle.indexed_file.specs.Chain.{kind_of, value_of}
 use Rattle.indexed_file.proofs.TargetLaws.{found_at, missing_at}
 use Rattle.indexed_file.proofs.read.read_slot.Goals as goal

@@ -3,7 +3,7 @@ use Rattle.vms_model.specs.Keys.{Text}
 use Rattle.std.specs.Option.{option_copied}
 use Rattle.bucket_page.specs.declared.kind.PageKind.{PageKind}
 use Rattle.bucket_page.specs.Pages.{u16_at, slots_of, next_of, slot_at, removed, IsPacked, Packs}
-use Rattle.indexed_file.specs.Slots.{size_of}
+use Rattle.records_model.specs.Slots.{size_of}
 use Rattle.indexed_file.specs.Chain.{kind_of, SuitsText}
 use Rattle.indexed_file.specs.Raws.{slot_bytes, Means}
 use Rattle.indexed_file.proofs.RawLaws.{means_some, record_key}

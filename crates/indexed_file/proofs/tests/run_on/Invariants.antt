@@ -1,4 +1,4 @@
-use Rattle.std.proofs.Common.{◌≡◌, ◌≤◌}
+use Rattle.std.proofs.Common.{◌≤◌}
 use Rattle.careful_write.specs.State.{IsIdle}
 use Rattle.change_set.specs.Files.{IsPlaced, free_frames}
 use Rattle.indexed_file.specs.Chain.{IsIndexed}

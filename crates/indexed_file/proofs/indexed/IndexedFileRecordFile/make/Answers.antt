@@ -1,6 +1,6 @@
 use Rattle.std.proofs.Common.{Result, Ok, Err, OnOk, arith}
 use Rattle.indexed_file.specs.Made.{MakesLeaf}
-use Rattle.indexed_file.proofs.MakeLaws.{made_blank, told_map, told_valid, made_out}
+use Rattle.indexed_file.proofs.MakeLaws.{made_blank, told_map, told_chain, told_valid, made_out}
 use Rattle.indexed_file.proofs.indexed.IndexedFileRecordFile.make.Goals as goal
 
 on_ok_then : {T E A B : Type 0} (r : Result T E) → (A → B) → OnOk r A → OnOk r B
@@ -12,6 +12,14 @@ returns-else-is_err-clause-map g c =
     let h = c.args.head.now in
     on_ok_then c.make_file-done.result (λ (makes : MakesLeaf h c.args.store.now.current c.make_file-done.new.store.current).
     told_map c.make_file-done.new.store.current h (made_blank c.args.store.now.current c.make_file-done.new.store.current h c.args.store.now.disk.size c.requires.fresh (omega (arith, c.requires.form.some, c.requires.form.within))
+    c.requires.placed.from c.requires.placed.to c.make_file-done.ensures.whole makes))
+    c.make_file-done.ensures.ok
+
+pub returns-else-is_err-clause-chain : goal.returns-else-is_err-clause-chain
+returns-else-is_err-clause-chain g c =
+    let h = c.args.head.now in
+    on_ok_then c.make_file-done.result (λ (makes : MakesLeaf h c.args.store.now.current c.make_file-done.new.store.current).
+    told_chain c.make_file-done.new.store.current h (made_blank c.args.store.now.current c.make_file-done.new.store.current h c.args.store.now.disk.size c.requires.fresh (omega (arith, c.requires.form.some, c.requires.form.within))
     c.requires.placed.from c.requires.placed.to c.make_file-done.ensures.whole makes))
     c.make_file-done.ensures.ok
 

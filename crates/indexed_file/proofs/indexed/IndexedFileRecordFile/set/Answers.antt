@@ -48,6 +48,22 @@ returns-else-is_err-clause-rooms g c =
     c.set_key-done.ensures.whole sets).rooms)
     c.set_key-done.ensures.sets
 
+pub returns-else-is_err-clause-chain : goal.returns-else-is_err-clause-chain
+returns-else-is_err-clause-chain g c =
+    let key : key_of c.args.key.now ≡ Text c.bytes.result.now = ap key_of c.in-Text.is ∙ ap Text (sym c.bytes.ensures.value) in
+    on_ok_then c.set_key-done.result (λ (sets : SetsFile c.args.head.now c.set_key-done.new.head (λ t. g.H.Held.held c.args.held.now (Text t)) c.bytes.result.now (option_copied c.args.value) c.args.store.now c.set_key-done.new.store).
+    (key_clauses c.args.head.now c.set_key-done.new.head (λ (x : Key). g.H.Held.held c.args.held.now x) (key_of c.args.key.now) c.bytes.result.now (option_copied c.args.value) c.args.store.now c.set_key-done.new.store key c.requires.form c.requires.placed c.requires.suits
+    c.set_key-done.ensures.whole sets).chain)
+    c.set_key-done.ensures.sets
+
+pub returns-else-is_err-clause-back : goal.returns-else-is_err-clause-back
+returns-else-is_err-clause-back g c =
+    let key : key_of c.args.key.now ≡ Text c.bytes.result.now = ap key_of c.in-Text.is ∙ ap Text (sym c.bytes.ensures.value) in
+    on_ok_then c.set_key-done.result (λ (sets : SetsFile c.args.head.now c.set_key-done.new.head (λ t. g.H.Held.held c.args.held.now (Text t)) c.bytes.result.now (option_copied c.args.value) c.args.store.now c.set_key-done.new.store).
+    (key_clauses c.args.head.now c.set_key-done.new.head (λ (x : Key). g.H.Held.held c.args.held.now x) (key_of c.args.key.now) c.bytes.result.now (option_copied c.args.value) c.args.store.now c.set_key-done.new.store key c.requires.form c.requires.placed c.requires.suits
+    c.set_key-done.ensures.whole sets).back)
+    c.set_key-done.ensures.sets
+
 pub returns-else-is_err-clause-file : goal.returns-else-is_err-clause-file
 returns-else-is_err-clause-file g c =
     let key : key_of c.args.key.now ≡ Text c.bytes.result.now = ap key_of c.in-Text.is ∙ ap Text (sym c.bytes.ensures.value) in

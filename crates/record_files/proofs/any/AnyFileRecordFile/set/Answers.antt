@@ -1,10 +1,10 @@
-use Rattle.std.proofs.Common.{subst}
+use Rattle.std.proofs.Common.{◌-◌, ◌*◌, subst}
 use Rattle.file_base.specs.declared.head.Organization.{Organization}
 use Rattle.file_base.specs.declared.head.Organization.TheVariants.{Sequential, Relative, Indexed}
 use Rattle.std.specs.Option.{option_copied}
 use Rattle.vms_model.specs.Keys.{Key}
 use Rattle.vms_base.specs.Keys.{key_of}
-use Rattle.record_files.proofs.Cases.{set_map, set_valid, set_used, set_rooms, set_form}
+use Rattle.record_files.proofs.Cases.{set_map, set_valid, set_used, set_rooms, set_chain, set_back, set_form}
 use Rattle.record_files.specs.Any.{FormBy, SuitsBy}
 use Rattle.record_files.proofs.any.AnyFileRecordFile.set.Goals as goal
 
@@ -91,3 +91,15 @@ returns-in-Indexed-clause-rooms g c =
 pub returns-in-Indexed-clause-form : goal.returns-in-Indexed-clause-form
 returns-in-Indexed-clause-form g c =
     set_form c.set-in-Indexed.result Indexed c.args.head.now c.set-in-Indexed.new.head c.in-Indexed.is c.set-in-Indexed.ensures.file c.set-in-Indexed.ensures.form
+
+pub returns-in-Sequential-clause-back : goal.returns-in-Sequential-clause-back
+returns-in-Sequential-clause-back g c =
+    set_back c.set.result Sequential c.args.head.now c.set.new.head (key_of c.args.key.now) (option_copied c.args.value) c.args.store.now.current c.set.new.store.current c.in-Sequential.is c.set.ensures.file c.set.ensures.back
+
+pub returns-in-Indexed-clause-back : goal.returns-in-Indexed-clause-back
+returns-in-Indexed-clause-back g c =
+    set_back c.set-in-Indexed.result Indexed c.args.head.now c.set-in-Indexed.new.head (key_of c.args.key.now) (option_copied c.args.value) c.args.store.now.current c.set-in-Indexed.new.store.current c.in-Indexed.is c.set-in-Indexed.ensures.file c.set-in-Indexed.ensures.back
+
+pub returns-in-Indexed-clause-chain : goal.returns-in-Indexed-clause-chain
+returns-in-Indexed-clause-chain g c =
+    set_chain c.set-in-Indexed.result Indexed c.args.head.now c.set-in-Indexed.new.head (512 * c.args.head.now.bucket - 16) (λ (k : Key). g.H.Held.held c.args.held.now k) (key_of c.args.key.now) (option_copied c.args.value) c.args.store.now.current c.set-in-Indexed.new.store.current c.in-Indexed.is c.set-in-Indexed.ensures.file c.set-in-Indexed.ensures.chain

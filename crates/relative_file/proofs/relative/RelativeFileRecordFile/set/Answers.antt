@@ -1,38 +1,28 @@
-use Rattle.std.proofs.Common.{◌≡◌, ℕ, List, Option, Some, None, IfSome, option_map, Result, Ok, Err, OnOk, ap}
+use Rattle.std.proofs.Common.{◌-◌, ◌*◌, Result, Ok, Err, OnOk}
 use Rattle.std.specs.Option.{option_copied}
 use Rattle.vms_base.specs.Keys.{key_of}
-use Rattle.file_base.specs.declared.head.FileHead.{FileHead}
-use Rattle.relative_file.specs.Cells.{WritesCell, IsLaidOut, Anything}
-use Rattle.relative_file.proofs.LayoutLaws.{layout_set}
-use Rattle.relative_file.proofs.MapLaws.{finished}
+use Rattle.vms_model.specs.Keys.{Key}
+use Rattle.change_set.specs.Files.{StagesIn}
+use Rattle.change_set.specs.Maps.{set_key}
+use Rattle.change_set.proofs.NoChain.{none_set}
+use Rattle.relative_file.specs.Cells.{map_of, IsLaidOut, Anything}
+use Rattle.relative_file.proofs.MapLaws.{stages_two, told_map, told_valid}
 use Rattle.relative_file.proofs.relative.RelativeFileRecordFile.set.Goals as goal
 
 on_ok_then : {T E A B : Type 0} (r : Result T E) → (A → B) → OnOk r A → OnOk r B
 on_ok_then (Ok x) f a = f a
 on_ok_then (Err e) f a = tt
 
-laid_out_then : (h : FileHead) (told : Option (List (List ℕ))) {Q : Type 0} → (IfSome told (IsLaidOut h) → Q) → IfSome told (λ b. IsLaidOut h b → Anything → Q)
-laid_out_then h None f = tt
-laid_out_then h (Some b) f = λ valid takes. f valid
+pub returns-clause-staged : goal.returns-clause-staged
+returns-clause-staged g c = on_ok_then c.set_record.result (λ (s : StagesIn c.args.head.now c.args.head.now.bucket c.args.store.now c.set_record.new.store). stages_two c.args.head.now c.args.store.now c.set_record.new.store s) c.set_record.ensures.staged
 
-told_then : (h : FileHead) {M : Type 0} (told : Option (List (List ℕ))) (now : Option M) (f : List (List ℕ) → M) → now ≡ option_map f told → IfSome told (λ b. IsLaidOut h b → Anything → now ≡ Some (f b))
-told_then h None now f is = tt
-told_then h (Some b) now f is = λ valid takes. is
+pub returns-clause-chain : goal.returns-clause-chain
+returns-clause-chain g c =
+    none_set (IsLaidOut c.args.head.now) (λ b. Anything) c.set_record.result c.args.head.now c.args.head.now.bucket c.args.store.now c.set_record.new.store (512 * c.args.head.now.bucket - 16) (λ (k : Key). g.H.Held.held c.args._held.now k)
+    (key_of c.args.key.now) (option_copied c.args.value) c.set_record.ensures.staged
 
-pub returns-else-is_err-clause-map : goal.returns-else-is_err-clause-map
-returns-else-is_err-clause-map g c =
-    on_ok_then c.set_cell-done.result (λ (w : WritesCell c.args.head.now c.in-Number.n c.value_bytes.result.now c.args.store.now c.set_cell-done.new.store).
-    told_then c.args.head.now c.args.store.now.current _ _ (finished c.args.head.now (key_of c.args.key.now) c.in-Number.n (option_copied c.args.value) _ _ _ (ap key_of c.in-Number.is) c.value_bytes.ensures c.requires.suits c.requires.form c.requires.placed c.set_cell-done.ensures.whole w).map_is)
-    c.set_cell-done.ensures.ok
+pub returns-clause-map : goal.returns-clause-map
+returns-clause-map g c = told_map c.set_record.result c.args.head.now c.args.store.now.current _ (λ b. set_key (key_of c.args.key.now) (option_copied c.args.value) (map_of c.args.head.now b)) c.set_record.ensures.map
 
-pub returns-else-is_err-clause-staged : goal.returns-else-is_err-clause-staged
-returns-else-is_err-clause-staged g c =
-    on_ok_then c.set_cell-done.result (λ (w : WritesCell c.args.head.now c.in-Number.n c.value_bytes.result.now c.args.store.now c.set_cell-done.new.store).
-    (finished c.args.head.now (key_of c.args.key.now) c.in-Number.n (option_copied c.args.value) _ _ _ (ap key_of c.in-Number.is) c.value_bytes.ensures c.requires.suits c.requires.form c.requires.placed c.set_cell-done.ensures.whole w).staged)
-    c.set_cell-done.ensures.ok
-
-pub returns-else-is_err-clause-valid : goal.returns-else-is_err-clause-valid
-returns-else-is_err-clause-valid g c =
-    on_ok_then c.set_cell-done.result (λ (w : WritesCell c.args.head.now c.in-Number.n c.value_bytes.result.now c.args.store.now c.set_cell-done.new.store).
-    laid_out_then c.args.head.now c.args.store.now.current (λ valid. layout_set c.args.head.now (key_of c.args.key.now) c.in-Number.n (option_copied c.args.value) _ _ _ (ap key_of c.in-Number.is) c.value_bytes.ensures c.requires.suits c.requires.form c.requires.placed c.set_cell-done.ensures.whole valid w))
-    c.set_cell-done.ensures.ok
+pub returns-clause-valid : goal.returns-clause-valid
+returns-clause-valid g c = told_valid c.set_record.result c.args.head.now c.args.store.now.current c.set_record.new.store.current c.set_record.ensures.valid
