@@ -3,13 +3,15 @@ use Rattle.std.proofs.Common.{◌≡◌, ℕ, ◌+◌, ◌<◌, List, [], ◌∷
 use Rattle.std.specs.Option.{option_map, option_and_then}
 use Rattle.std.proofs.lemmas.Bool.{cond_both, leb-false, or_left, or_right, or_from, true_from_ne_false, both_ways}
 use Rattle.vms_model.specs.Ids.{Id}
-use Rattle.vms_model.specs.Keys.{Key, Number}
+use Rattle.vms_model.specs.Keys.{Key}
 use Rattle.vms_model.specs.Transactions.{Commit, Abort, Aborted}
 use Rattle.transcript_model.specs.Lines as line
-use Rattle.script_model.specs.Statements.{Statement, At, Request, Init, Boot, Create, SetFile, StartTrans, Put, EndTrans, AbortTrans, Dump, Fuse, Crash, Form}
+use Rattle.script_model.specs.Statements.{Statement, At, Request, Init, Boot, Create, SetFile, StartTrans, Records, EndTrans, AbortTrans, Dump, Fuse, Crash, Form}
+use Rattle.records_model.specs.Records.{Change}
 use Rattle.records_model.specs.History.{same_id}
 use Rattle.run_model.specs.World.{World, Node, Branch, Act, Formats, Boots, ComesUp, Creates, Marks, Begins, Changes, Settles, Arms, Falls, find_node, find_branch, free_place, lowest_free, labelled, next_id, next_moment, serials_of, acted, powered}
-use Rattle.run_model.specs.Answers.{Row, node_of, early, rows, rows_at, to_branch, branch_labelled, shown_record, created, creates, blocks_for, put_by, record_at, committed, aborted, is_for_units, refused_if, is_volume_form, served_down, powers, occupies}
+use Rattle.run_model.specs.Answers.{Row, node_of, early, rows, rows_at, to_branch, branch_labelled, shown_record, created, creates, blocks_for, change_act, changes_at, operated, committed, aborted, is_for_units, is_volume_form, served_down, powers, occupies}
+use Rattle.run_model.specs.Operations.{refused_if}
 use Rattle.run_model.specs.Steps.{after_act, readied, occupied, spoilt, stops_at}
 use Rattle.run_model.specs.Promises.{In}
 use Rattle.run_model.proofs.IdLemmas.{in_map}
@@ -66,6 +68,10 @@ module _ (w : World) (node : List ℕ) (n : Node) (found : find_node node w.node
       go (Some b) e = h b (in_map (λ b. b.serial) b n.branches (labelled_in v n label b e))
       go None e = tt
 
+  may_change : (serial : Id) (file : List ℕ) (cs : List Change) → In serial (serials_of n.branches) → n.under_way ≡ None → MayAt node (change_act serial file cs) w × Unit {0}
+  may_change serial file [] i rest = (tt, tt)
+  may_change serial file (c ∷ cs) i rest = may_one (Changes serial file (c ∷ cs)) tt (i, rest)
+
   may_create : (file : List ℕ) (bucket size : ℕ) (form : Form) → n.under_way ≡ None → MayAll node (creates n (λ start. created file bucket size form start n.greatest) (blocks_for bucket size form)) w
   may_create file bucket size form rest = go (free_place n.directory)
     where
@@ -86,7 +92,7 @@ up_may : (w v : World) (n : Node) (node : List ℕ) (request : Request) → find
 up_may w v n node (Create file bucket size form) found used rest p = may_create v node n found file bucket size form rest
 up_may w v n node (SetFile file setting) found used rest p = may_one v node n found (Marks file (is_for_units setting)) tt (tt, rest)
 up_may w v n node (StartTrans label) found used rest p = may_one v node n found (Begins (record { name = label; node = n.name; serial = next_id n }) (record { tid = next_id n; serial = next_id n; changes = 0 })) used ((refl, refl), rest)
-up_may w v n node (Put label file number bytes) found used rest p = may_to_branch v node n found w label (put_by n file number bytes) (λ b i. may_one v node n found (Changes b.serial file (record { key = Number number; before = record_at n file (Number number); after = Some bytes })) tt (i, rest))
+up_may w v n node (Records label file op) found used rest p = may_to_branch v node n found w label (operated n file op) (λ b i. may_change v node n found b.serial file (changes_at n file op) i rest)
 up_may w v n node (EndTrans label) found used rest p = may_to_branch v node n found w label (committed n) (λ b i. may_one v node n found (Settles (record { tid = b.tid; serial = b.serial; outcome = Commit; reason = None; moment = next_moment n })) tt ((i, later_moment n), rest))
 up_may w v n node (AbortTrans label) found used rest p = may_to_branch v node n found w label (aborted Aborted n) (λ b i. may_one v node n found (Settles (record { tid = b.tid; serial = b.serial; outcome = Abort; reason = Some Aborted; moment = next_moment n })) tt ((i, later_moment n), rest))
 up_may w v n node (Dump file) found used rest p = may_show v node _
@@ -134,7 +140,7 @@ served_may taken w node Boot sound ready_sound there =
 served_may taken w node (Create file bucket size form) sound ready_sound there = plain_may w node (Create file bucket size form) sound there refl refl
 served_may taken w node (SetFile file setting) sound ready_sound there = plain_may w node (SetFile file setting) sound there refl refl
 served_may taken w node (StartTrans label) sound ready_sound there = plain_may w node (StartTrans label) sound there refl refl
-served_may taken w node (Put label file number bytes) sound ready_sound there = plain_may w node (Put label file number bytes) sound there refl refl
+served_may taken w node (Records label file op) sound ready_sound there = plain_may w node (Records label file op) sound there refl refl
 served_may taken w node (EndTrans label) sound ready_sound there = plain_may w node (EndTrans label) sound there refl refl
 served_may taken w node (AbortTrans label) sound ready_sound there = plain_may w node (AbortTrans label) sound there refl refl
 served_may taken w node (Dump file) sound ready_sound there = plain_may w node (Dump file) sound there refl refl

@@ -1,14 +1,12 @@
 -- What a transcript tells of a file's records agrees with the file's history, and each act keeps that.
-use Rattle.std.proofs.Common.{◌≡◌, ℕ, List, [], ◌∷◌, ◌++◌, Bool, true, false, Option, Some, if◌then◌else◌, sym, ◌∙◌, ap, subst, inl, inr, ◌⊎◌}
-use Rattle.std.specs.FinMap.{insert}
+use Rattle.std.proofs.Common.{◌≡◌, ℕ, List, [], ◌∷◌, ◌++◌, Bool, true, false, if◌then◌else◌, sym, ◌∙◌, ap, subst, inl, inr, ◌⊎◌}
 use Rattle.vms_model.specs.Ids.{Id}
-use Rattle.vms_model.specs.Keys.{Number}
 use Rattle.vms_model.specs.Transactions.{Outcome, Commit, Abort}
-use Rattle.records_model.specs.Records.{Records, applied}
-use Rattle.records_model.specs.History.{History, same_id, changes_by, records, current, on_top, changed, settled_at}
+use Rattle.records_model.specs.Records.{Records, Change, applied}
+use Rattle.records_model.specs.History.{History, same_id, changes_by, records, current, on_top, changed_with, settled_at}
 use Rattle.run_model.specs.Promises.{In}
 use Rattle.run_model.proofs.IdLemmas.{each_at, id_other, Distinct, minus, apart_minus}
-use Rattle.run_model.proofs.HistoryLemmas.{by_with_change, by_settled, committed_leaves, aborted_leaves}
+use Rattle.run_model.proofs.HistoryLemmas.{by_with_changes, applied_append, by_settled, committed_leaves, aborted_leaves}
 
 -- The records told are those of the history, and what each unsettled branch has put, as it is told, are its changes.
 pub record Agrees (told : Records) (puts : Id → Records → Records) (serials : List Id) (h : History) : Type 0 where
@@ -24,17 +22,16 @@ pub stands_agree : (puts : Id → Records → Records) (h : History) → h.live 
 stands_agree puts h e = record { settled = sym (ap (λ live. on_top live (records h)) e); live = λ id i m. absurd i }
 
 module _ (told : Records) (puts : Id → Records → Records) (serials : List Id) (h : History) (a : Agrees told puts serials h) where
-  pub changes_agree : (serial : Id) (number : ℕ) (before : Option (List ℕ)) (bytes : List ℕ) →
-      Agrees told (λ id m. if same_id id serial then insert (puts id m) (Number number) bytes else puts id m) serials (changed serial (record { key = Number number; before = before; after = Some bytes }) h)
-  changes_agree serial number before bytes = record {
+  pub changes_agree : (serial : Id) (cs : List Change) → Agrees told (λ id m. if same_id id serial then applied cs (puts id m) else puts id m) serials (changed_with serial cs h)
+  changes_agree serial cs = record {
     settled = a.settled;
-    live = λ id i m. ap (λ cs. applied cs m) (by_with_change id serial (record { key = Number number; before = before; after = Some bytes }) h.live) ∙ one_more id m (same_id id serial) (a.live id i m);
+    live = λ id i m. ap (λ ds. applied ds m) (by_with_changes id serial cs h.live) ∙ more id m (same_id id serial) (a.live id i m);
   }
     where
-      one_more : (id : Id) (m : Records) (b : Bool) → applied (changes_by id h.live) m ≡ puts id m →
-          applied (if b then record { key = Number number; before = before; after = Some bytes } ∷ changes_by id h.live else changes_by id h.live) m ≡ (if b then insert (puts id m) (Number number) bytes else puts id m)
-      one_more id m true e = ap (λ x. insert x (Number number) bytes) e
-      one_more id m false e = e
+      more : (id : Id) (m : Records) (b : Bool) → applied (changes_by id h.live) m ≡ puts id m →
+          applied (if b then cs ++ changes_by id h.live else changes_by id h.live) m ≡ (if b then applied cs (puts id m) else puts id m)
+      more id m true e = applied_append cs (changes_by id h.live) m ∙ ap (applied cs) e
+      more id m false e = e
 
   -- the branches that are left are others
   left : (id serial : Id) → Distinct serials → In id (minus serial serials) → same_id id serial ≡ false

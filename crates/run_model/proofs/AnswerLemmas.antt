@@ -1,13 +1,16 @@
 -- What refuses a statement, and how a success is answered: what holds of each statement.
-use Rattle.std.proofs.Common.{◌≡◌, ℕ, ◌==◌, List, [], ◌∷◌, Bool, true, false, Option, Some, None, refl, ◌∙◌, ap}
+use Rattle.std.proofs.Common.{◌≡◌, ℕ, ◌+◌, ◌==◌, List, [], ◌∷◌, Bool, true, false, Option, Some, None, refl, ◌∙◌, ap}
 use Rattle.std.specs.Prelude.{nat_lt}
 use Rattle.std.specs.Option.{option_and_then}
+use Rattle.vms_model.specs.Keys.{Key, Number, Text}
 use Rattle.transcript_model.specs.Lines as line
 use Rattle.transcript_model.specs.Lines.{Line, Cause}
-use Rattle.script_model.specs.Statements.{Statement, At, Request, Init, Boot, Create, SetFile, StartTrans, Put, EndTrans, AbortTrans, Dump, Fuse, Crash}
+use Rattle.script_model.specs.Statements.{Statement, At, Request, Init, Boot, Create, SetFile, StartTrans, Records, EndTrans, AbortTrans, Dump, Fuse, Crash, Operation, Put, Update, Delete, Truncate, Get, Next}
+use Rattle.records_model.specs.Records.{Records as TheRecords}
 use Rattle.records_model.specs.History.{first_to_change}
-use Rattle.run_model.specs.World.{World, Node, File, Branch, Volume, Sound, Faulty, Unknown, find_file, find_label, labelled, find_node, serials_of}
-use Rattle.run_model.specs.Answers.{Row, to_branch, served_down, early, early_at, early_up, late, late_at, rows, rows_at, answer, answer_at, first_of, refused_if, made_label, branch_labelled, unsettled_label, there_is_file, of_file, unchanged_file, one_more_change, bootable, boot_limit, moment_limit}
+use Rattle.run_model.specs.World.{World, Node, File, Organization, Sequential, Relative, Indexed, Branch, Volume, Sound, Faulty, Unknown, find_file, find_label, labelled, find_node, serials_of}
+use Rattle.run_model.specs.Answers.{Row, to_branch, served_down, early, early_at, early_up, late, late_at, rows, rows_at, answer, answer_at, made_label, branch_labelled, unsettled_label, there_is_file, of_file, unchanged_file, more_changes, changes_at, operation_told, bootable, boot_limit, moment_limit}
+use Rattle.run_model.specs.Operations.{first_of, refused_if, first_behind, in_order, record_in, standing_of, count_of, key_refused, place_refused, delete_refused, truncate_refused, after_refused, form_refused, put_refused, other_refused, update_refused, missing, at_end, data_refused, put_answer, found_answer, next_answer, operation_answer}
 use Rattle.run_model.specs.Laws.{is_refusal}
 
 -- a line that may stand here passes this test
@@ -70,6 +73,73 @@ refuses_unchanged n f = says_case is_refusal (first_to_change f.history (serials
 refuses_free : (n : Node) (file : List ℕ) → Refuses (first_of (there_is_file n file) (of_file n file (unchanged_file n)))
 refuses_free n file = says_first is_refusal _ _ (refuses_file n file) (refuses_of_file n file _ (refuses_unchanged n))
 
+-- What refuses an operation on records.
+
+refuses_key : (o : Organization) (key : Key) → Refuses (key_refused o key)
+refuses_key Sequential (Number n) = says_none is_refusal
+refuses_key (Relative greatest) (Number n) = says_if is_refusal _ _ refl
+refuses_key (Indexed position size) (Text bytes) = says_if is_refusal _ _ refl
+refuses_key _ _ = says_some is_refusal _ refl
+
+refuses_place : (o : Organization) (number : Option ℕ) → Refuses (place_refused o number)
+refuses_place Sequential None = says_none is_refusal
+refuses_place (Relative greatest) (Some n) = refuses_key (Relative greatest) (Number n)
+refuses_place (Indexed position size) None = says_none is_refusal
+refuses_place Sequential (Some n) = says_some is_refusal _ refl
+refuses_place (Relative greatest) None = says_some is_refusal _ refl
+refuses_place (Indexed position size) (Some n) = says_some is_refusal _ refl
+
+refuses_delete : (o : Organization) → Refuses (delete_refused o)
+refuses_delete Sequential = says_some is_refusal _ refl
+refuses_delete _ = says_none is_refusal
+
+refuses_truncate : (o : Organization) → Refuses (truncate_refused o)
+refuses_truncate Sequential = says_none is_refusal
+refuses_truncate _ = says_some is_refusal _ refl
+
+refuses_after : (o : Organization) (after : Option Key) → Refuses (after_refused o after)
+refuses_after o None = says_none is_refusal
+refuses_after o (Some key) = refuses_key o key
+
+refuses_form : (f : File) (op : Operation) → Refuses (form_refused f op)
+refuses_form f (Put number bytes) = says_first is_refusal _ _ (refuses_place f.organization number) (says_if is_refusal _ _ refl)
+refuses_form f (Update key bytes) = says_first is_refusal _ _ (refuses_key f.organization key) (says_if is_refusal _ _ refl)
+refuses_form f (Delete key) = says_first is_refusal _ _ (refuses_key f.organization key) (refuses_delete f.organization)
+refuses_form f (Truncate number) = refuses_truncate f.organization
+refuses_form f (Get key) = refuses_key f.organization key
+refuses_form f (Next after) = refuses_after f.organization after
+
+refuses_put : (o : Organization) (m : TheRecords) (number : Option ℕ) (bytes : List ℕ) → Refuses (put_refused o m number bytes)
+refuses_put o m (Some number) bytes = says_if is_refusal _ _ refl
+refuses_put Sequential m None bytes = says_none is_refusal
+refuses_put (Relative greatest) m None bytes = says_none is_refusal
+refuses_put (Indexed position size) m None bytes = says_if is_refusal _ _ refl
+
+refuses_other : (o : Organization) (key : Key) (old new : List ℕ) → Refuses (other_refused o key old new)
+refuses_other Sequential key old new = says_if is_refusal _ _ refl
+refuses_other (Relative greatest) key old new = says_none is_refusal
+refuses_other (Indexed position size) key old new = says_if is_refusal _ _ refl
+
+refuses_update : (o : Organization) (key : Key) (old : Option (List ℕ)) (new : List ℕ) → Refuses (update_refused o key old new)
+refuses_update o key None new = says_some is_refusal _ refl
+refuses_update o key (Some old) new = refuses_other o key old new
+
+refuses_missing : (o : Option (List ℕ)) → Refuses (missing o)
+refuses_missing None = says_some is_refusal _ refl
+refuses_missing (Some bytes) = says_none is_refusal
+
+refuses_end : (o : Option (Key × List ℕ)) → Refuses (at_end o)
+refuses_end None = says_some is_refusal _ refl
+refuses_end (Some e) = says_none is_refusal
+
+refuses_data : (f : File) (op : Operation) → Refuses (data_refused f op)
+refuses_data f (Put number bytes) = refuses_put f.organization (standing_of f) number bytes
+refuses_data f (Update key bytes) = refuses_update f.organization key (record_in f key) bytes
+refuses_data f (Delete key) = refuses_missing (record_in f key)
+refuses_data f (Truncate number) = says_if is_refusal _ _ refl
+refuses_data f (Get key) = refuses_missing (record_in f key)
+refuses_data f (Next after) = refuses_end (first_behind after (in_order f))
+
 refuses_up : (w : World) (n : Node) (request : Request) → Refuses (early_up w n request)
 refuses_up w n (Init slots journal) = says_first is_refusal _ _ (says_if is_refusal _ _ refl) (says_if is_refusal _ _ refl)
 refuses_up w n Boot = says_first is_refusal _ _ (says_if is_refusal _ _ refl) (says_if is_refusal _ _ refl)
@@ -77,9 +147,9 @@ refuses_up w n (Create file bucket size form) =
     says_first is_refusal _ _ (says_case is_refusal (find_file file n.directory) (λ f. Some line.FileExists) _ (λ f. says_some is_refusal _ refl) (says_none is_refusal)) (says_if is_refusal _ _ refl)
 refuses_up w n (SetFile file setting) = refuses_free n file
 refuses_up w n (StartTrans label) = says_case is_refusal (find_label label w.labels) (λ l. Some line.BadLabel) _ (λ l. says_some is_refusal _ refl) (says_if is_refusal _ _ refl)
-refuses_up w n (Put label file number bytes) =
+refuses_up w n (Records label file op) =
     says_first is_refusal _ _ (refuses_made w n label) (says_first is_refusal _ _ (refuses_file n file)
-    (says_first is_refusal _ _ (refuses_of_file n file _ (λ f. says_first is_refusal _ _ (says_if is_refusal _ _ refl) (says_if is_refusal _ _ refl)))
+    (says_first is_refusal _ _ (refuses_of_file n file _ (λ f. refuses_form f op))
     (says_first is_refusal _ _ (refuses_unsettled w n label) (refuses_of_file n file _ (λ f. says_if is_refusal _ _ refl)))))
 refuses_up w n (EndTrans label) = refuses_label w n label
 refuses_up w n (AbortTrans label) = refuses_label w n label
@@ -95,9 +165,10 @@ refuses_late_at : (w : World) (n : Node) (request : Request) → Refuses (late_a
 refuses_late_at w n Boot = says_bootable is_refusal n refl refl (λ condition block. refl)
 refuses_late_at w n (Create file bucket size form) = says_first is_refusal _ _ (says_if is_refusal _ _ refl) (says_if is_refusal _ _ refl)
 refuses_late_at w n (StartTrans label) = says_if is_refusal _ _ refl
-refuses_late_at w n (Put label file number bytes) = says_first is_refusal _ _ (refuses_of_file n file _ (λ f. says_if is_refusal _ _ refl)) (go (branch_labelled w n label))
+refuses_late_at w n (Records label file op) =
+    says_first is_refusal _ _ (refuses_of_file n file _ (λ f. refuses_data f op)) (says_first is_refusal _ _ (go (branch_labelled w n label)) (refuses_of_file n file _ (λ f. says_if is_refusal _ _ refl)))
   where
-    go : (o : Option Branch) → Refuses (option_and_then one_more_change o)
+    go : (o : Option Branch) → Refuses (option_and_then (more_changes (changes_at n file op)) o)
     go (Some b) = says_if is_refusal _ _ refl
     go None = says_none is_refusal
 refuses_late_at w n _ = says_none is_refusal
@@ -145,8 +216,39 @@ rows_found w node request n found = rw (found, rows) refl
 pub late_found : (w : World) (node : List ℕ) (request : Request) (n : Node) → find_node node w.nodes ≡ Some n → late w (At node request) ≡ late_at w n request
 late_found w node request n found = rw (found, late) refl
 
+-- what holds of the answers of operations, whatever is found
+pub operation_told_is : (P : Line → Type 0) → P line.RecordNormal → ((position : ℕ) → P (line.RecordPosition position)) → ((bytes : List ℕ) → P (line.RecordFound bytes)) → ((key : Key) (bytes : List ℕ) → P (line.NextFound key bytes)) →
+    (n : Node) (file : List ℕ) (op : Operation) → P (operation_told n file op)
+operation_told_is P normal position found next n file op = go (find_file file n.directory)
+  where
+    put_is : (o : Organization) (count : ℕ) → P (put_answer o count)
+    put_is Sequential count = position (count + 1)
+    put_is (Relative greatest) count = normal
+    put_is (Indexed at size) count = normal
+
+    found_is : (o : Option (List ℕ)) → P (found_answer o)
+    found_is (Some bytes) = found bytes
+    found_is None = normal
+
+    next_is : (o : Option (Key × List ℕ)) → P (next_answer o)
+    next_is (Some e) = next e.0 e.1
+    next_is None = normal
+
+    answer_is : (f : File) (op : Operation) → P (operation_answer f op)
+    answer_is f (Put number bytes) = put_is f.organization (count_of f)
+    answer_is f (Update key bytes) = normal
+    answer_is f (Delete key) = normal
+    answer_is f (Truncate number) = normal
+    answer_is f (Get key) = found_is (record_in f key)
+    answer_is f (Next after) = next_is (first_behind after (in_order f))
+
+    go : (o : Option File) → P (elim o [ Some f ↦ operation_answer f op | None ↦ line.RecordNormal ])
+    go (Some f) = answer_is f op
+    go None = normal
+
 answer_at_succeeds : (n : Node) (request : Request) → is_refusal (answer_at n request) ≡ false
 answer_at_succeeds n Boot = refl
+answer_at_succeeds n (Records label file op) = operation_told_is (λ line. is_refusal line ≡ false) refl (λ position. refl) (λ bytes. refl) (λ key bytes. refl) n file op
 answer_at_succeeds n _ = refl
 
 -- the answer of a success is no refusal
@@ -160,6 +262,7 @@ is_failure answer = false
 
 answer_at_no_failure : (n : Node) (request : Request) → is_failure (answer_at n request) ≡ false
 answer_at_no_failure n Boot = refl
+answer_at_no_failure n (Records label file op) = operation_told_is (λ line. is_failure line ≡ false) refl (λ position. refl) (λ bytes. refl) (λ key bytes. refl) n file op
 answer_at_no_failure n _ = refl
 
 -- nor a failure

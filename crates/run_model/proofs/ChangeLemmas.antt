@@ -7,7 +7,7 @@ use Rattle.std.proofs.lemmas.Bool.{cond_both}
 use Rattle.vms_model.specs.Ids.{Id}
 use Rattle.vms_model.specs.Transactions.{Outcome}
 use Rattle.records_model.specs.Records.{Change}
-use Rattle.records_model.specs.History.{History, LiveChanges, same_id, with_change, without, changes_by, settled_with, settled_at}
+use Rattle.records_model.specs.History.{History, LiveChanges, same_id, with_change, with_changes, without, changes_by, settled_with, settled_at}
 use Rattle.run_model.specs.World.{File, with_file}
 use Rattle.run_model.specs.Promises.{In}
 use Rattle.run_model.proofs.IdLemmas.{Each, id_other, Apart, Distinct, minus, distinct_minus, apart_minus, in_minus}
@@ -67,12 +67,16 @@ known_with_change serials serial c [] i h = (i, tt)
 known_with_change serials serial c (l ∷ ls) i h =
     cond_both (same_id serial l.serial) (record l { changes = c ∷ l.changes } ∷ ls) (l ∷ with_change serial c ls) (Each (λ l. In l.serial serials)) (λ e. h) (λ e. (h.0, known_with_change serials serial c ls i h.1))
 
-pub changed_sound : (serials : List Id) (serial : Id) (c : Change) (live : List LiveChanges) → In serial serials → IsSoundFile serials live → IsSoundFile serials (with_change serial c live)
+changed_sound : (serials : List Id) (serial : Id) (c : Change) (live : List LiveChanges) → In serial serials → IsSoundFile serials live → IsSoundFile serials (with_change serial c live)
 changed_sound serials serial c live i h = record {
   different = distinct_with_change serial c live h.different;
   some = some_with_change serial c live h.some;
   known = known_with_change serials serial c live i h.known;
 }
+
+pub changes_sound_file : (serials : List Id) (serial : Id) (cs : List Change) (live : List LiveChanges) → In serial serials → IsSoundFile serials live → IsSoundFile serials (with_changes serial cs live)
+changes_sound_file serials serial [] live i h = h
+changes_sound_file serials serial (c ∷ cs) live i h = changed_sound serials serial c (with_changes serial cs live) i (changes_sound_file serials serial cs live i h)
 
 -- A settlement.
 

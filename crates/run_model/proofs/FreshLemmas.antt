@@ -50,7 +50,7 @@ module _ (puts : Id → Records → Records) where
   fresh_acted (Creates place file) n b timely unused h = h
   fresh_acted (Marks file units) n b timely unused h = h
   fresh_acted (Begins label branch) n b timely unused h = λ id new m. h id (λ d. new (drawn_next n.name n.boot n.drawn id d)) m
-  fresh_acted (Changes serial file change) n b timely unused h = h
+  fresh_acted (Changes serial file changes) n b timely unused h = h
   fresh_acted (Settles s) n b timely unused h = h
   fresh_acted (Arms writes choice) n b timely unused h = h
   fresh_acted Falls n b timely unused h = h

@@ -1,9 +1,9 @@
 -- A history and the changes of one branch in it: one more change, and the settlement of a branch.
-use Rattle.std.proofs.Common.{◌≡◌, ℕ, List, [], ◌∷◌, Bool, true, false, if◌then◌else◌, refl, sym, ◌∙◌, ap}
+use Rattle.std.proofs.Common.{◌≡◌, ℕ, List, [], ◌∷◌, ◌++◌, Bool, true, false, if◌then◌else◌, refl, sym, ◌∙◌, ap}
 use Rattle.vms_model.specs.Ids.{Id}
 use Rattle.vms_model.specs.Transactions.{Outcome, Commit, Abort}
-use Rattle.records_model.specs.Records.{Change, applied}
-use Rattle.records_model.specs.History.{History, LiveChanges, same_id, changes_by, with_change, without, records, settled_at, settled_with}
+use Rattle.records_model.specs.Records.{Records, Change, set_key, applied}
+use Rattle.records_model.specs.History.{History, LiveChanges, same_id, changes_by, with_change, with_changes, without, records, settled_at, settled_with}
 use Rattle.run_model.proofs.IdLemmas.{id_is, Apart}
 use Rattle.run_model.proofs.Soundness.{serials_in}
 
@@ -30,6 +30,25 @@ by_with_change id serial c (l ∷ ls) = go (same_id serial l.serial) (same_id id
     go true true e k more = rw (same_as id serial l.serial e, k) refl
     go true false e k more = rw (same_as id serial l.serial e, k) refl
     go false t e k more = rw k (rest t k e more)
+
+-- after more changes of a branch
+pub by_with_changes : (id serial : Id) (cs : List Change) (ls : List LiveChanges) → changes_by id (with_changes serial cs ls) ≡ (if same_id id serial then cs ++ changes_by id ls else changes_by id ls)
+by_with_changes id serial [] ls = go (same_id id serial)
+  where
+    go : (b : Bool) → changes_by id ls ≡ (if b then changes_by id ls else changes_by id ls)
+    go true = refl
+    go false = refl
+by_with_changes id serial (c ∷ cs) ls = by_with_change id serial c (with_changes serial cs ls) ∙ go (same_id id serial) (by_with_changes id serial cs ls)
+  where
+    go : (b : Bool) → changes_by id (with_changes serial cs ls) ≡ (if b then cs ++ changes_by id ls else changes_by id ls) →
+        (if b then c ∷ changes_by id (with_changes serial cs ls) else changes_by id (with_changes serial cs ls)) ≡ (if b then c ∷ (cs ++ changes_by id ls) else changes_by id ls)
+    go true more = ap (λ ds. c ∷ ds) more
+    go false more = more
+
+-- changes behind others are applied before them
+pub applied_append : (cs ds : List Change) (m : Records) → applied (cs ++ ds) m ≡ applied cs (applied ds m)
+applied_append [] ds m = refl
+applied_append (c ∷ cs) ds m = ap (λ k. set_key k c.key c.after) (applied_append cs ds m)
 
 -- the changes of another branch, where those of one are gone
 pub by_without : (id serial : Id) (ls : List LiveChanges) → same_id id serial ≡ false → changes_by id (without serial ls) ≡ changes_by id ls

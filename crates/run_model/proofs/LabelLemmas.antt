@@ -6,9 +6,10 @@ use Rattle.std.proofs.lemmas.Slice.Eq.{bytes_eq-Decides}
 use Rattle.vms_model.specs.Ids.{Id}
 use Rattle.transcript_model.specs.Lines as line
 use Rattle.transcript_model.specs.Lines.{Line, Cause}
-use Rattle.script_model.specs.Statements.{Statement, At, Request, Init, Boot, Create, SetFile, StartTrans, Put, EndTrans, AbortTrans, Dump, Fuse, Crash, Reading, Blank, Says, Bad}
+use Rattle.script_model.specs.Statements.{Statement, At, Request, Init, Boot, Create, SetFile, StartTrans, Records, EndTrans, AbortTrans, Dump, Fuse, Crash, Reading, Blank, Says, Bad}
 use Rattle.run_model.specs.World.{World, Label, find_label, labelled, next_id}
-use Rattle.run_model.specs.Answers.{early, rows, answer, begun, refused_if, label_limit, new_label}
+use Rattle.run_model.specs.Answers.{early, rows, answer, begun, label_limit, new_label}
+use Rattle.run_model.specs.Operations.{refused_if}
 use Rattle.run_model.specs.Steps.{after_rows, lines_of_rows, readied, stops_at, broken}
 use Rattle.run_model.specs.Transcript.{Entry, Turn}
 use Rattle.run_model.specs.Promises.{id_here, id_told}
@@ -99,7 +100,7 @@ module _ (es : List Entry) (w : World) (same : AreLabelled es w) where
   done_labels at Boot taken e = plain_labels at Boot [] taken refl e
   done_labels at (Create file bucket size form) taken e = plain_labels at (Create file bucket size form) [] taken refl e
   done_labels at (SetFile file setting) taken e = plain_labels at (SetFile file setting) [] taken refl e
-  done_labels at (Put label file number bytes) taken e = plain_labels at (Put label file number bytes) [] taken refl e
+  done_labels at (Records label file op) taken e = plain_labels at (Records label file op) [] taken refl e
   done_labels at (EndTrans label) taken e = plain_labels at (EndTrans label) [] taken refl e
   done_labels at (AbortTrans label) taken e = plain_labels at (AbortTrans label) [] taken refl e
   done_labels at (Dump file) taken e = plain_labels at (Dump file) [] taken refl e

@@ -1,16 +1,16 @@
 -- Each act that may be done keeps what holds of its node.
-use Rattle.std.proofs.Common.{◌≡◌, ℕ, ◌+◌, ◌≤◌, List, [], ◌∷◌, ◌++◌, map, Bool, true, false, Option, Some, None, if◌then◌else◌, refl, sym, ◌∙◌, ap, subst, inl, inr, arith}
+use Rattle.std.proofs.Common.{◌≡◌, ℕ, ◌+◌, ◌≤◌, List, [], ◌∷◌, ◌++◌, map, length, Bool, true, false, Option, Some, None, if◌then◌else◌, refl, sym, ◌∙◌, ap, subst, inl, inr, arith}
 use Rattle.std.specs.Option.{option_map}
 use Rattle.std.proofs.lemmas.Bool.{cond_both, false_from_ne_true, both_ways}
 use Rattle.vms_model.specs.Ids.{Id}
 use Rattle.records_model.specs.Records.{Change}
-use Rattle.records_model.specs.History.{same_id, changed}
-use Rattle.run_model.specs.World.{Node, File, Branch, Settlement, Act, Formats, Boots, ComesUp, Creates, Marks, Begins, Changes, Settles, Arms, Falls, Power, is_durable, acted, powered, unpowered, fallen, with_file, with_change_by, without_branch, serials_of, next_id, settled_file, as_it_stands, empty_directory}
+use Rattle.records_model.specs.History.{same_id}
+use Rattle.run_model.specs.World.{Node, File, Branch, Settlement, Act, Formats, Boots, ComesUp, Creates, Marks, Begins, Changes, Settles, Arms, Falls, Power, is_durable, acted, powered, unpowered, fallen, with_file, with_changes_by, changed_file, without_branch, serials_of, next_id, settled_file, as_it_stands, empty_directory}
 use Rattle.run_model.specs.Steps.{spoilt}
 use Rattle.run_model.specs.Promises.{In}
 use Rattle.run_model.proofs.IdLemmas.{Each, each_as, each_at, each_push, in_front, id_is, id_itself, id_other, Apart, Distinct, distinct_push, minus, each_minus, distinct_minus, apart_minus}
 use Rattle.run_model.proofs.Soundness.{IsSound, IsSoundNode, IsSoundFile, IsUnused, IsDrawn, IsTimely, EachFile, FitsAt, MayAct, MayBeUnderWay, settled_serials}
-use Rattle.run_model.proofs.ChangeLemmas.{no_changes_sound, each_file_as, each_file_map, each_file_placed, each_with_file, changed_sound, settled_sound}
+use Rattle.run_model.proofs.ChangeLemmas.{no_changes_sound, each_file_as, each_file_map, each_file_placed, each_with_file, changes_sound_file, settled_sound}
 use Rattle.run_model.proofs.ReadyLemmas.{resolved, powered_is}
 
 pub drawn_next : (name : List ℕ) (boot drawn : ℕ) (id : Id) → IsDrawn name boot drawn id → IsDrawn name boot (drawn + 1) id
@@ -72,24 +72,24 @@ marks_sound : (file : List ℕ) (units : Bool) (n : Node) → HasSoundParts n �
 marks_sound file units n h =
     with_files n _ h (each_with_file (λ f. IsSoundFile (serials_of n.branches) f.history.live) file (λ f. record f { recovery_units = units }) n.directory (λ f sound. sound) h.sound_files)
 
-pub serials_changed : (serial : Id) (bs : List Branch) → serials_of (with_change_by serial bs) ≡ serials_of bs
-serials_changed serial [] = refl
-serials_changed serial (b ∷ bs) = go (same_id serial b.serial) (serials_changed serial bs)
+pub serials_changed : (serial : Id) (more : ℕ) (bs : List Branch) → serials_of (with_changes_by serial more bs) ≡ serials_of bs
+serials_changed serial more [] = refl
+serials_changed serial more (b ∷ bs) = go (same_id serial b.serial) (serials_changed serial more bs)
   where
-    go : (t : Bool) → serials_of (with_change_by serial bs) ≡ serials_of bs → serials_of (if t then record b { changes = b.changes + 1 } ∷ bs else b ∷ with_change_by serial bs) ≡ b.serial ∷ serials_of bs
+    go : (t : Bool) → serials_of (with_changes_by serial more bs) ≡ serials_of bs → serials_of (if t then record b { changes = b.changes + more } ∷ bs else b ∷ with_changes_by serial more bs) ≡ b.serial ∷ serials_of bs
     go true e = refl
     go false e = ap (λ xs. b.serial ∷ xs) e
 
-first_changed : (serial : Id) (bs : List Branch) → Each (λ b. b.tid ≡ b.serial) bs → Each (λ b. b.tid ≡ b.serial) (with_change_by serial bs)
-first_changed serial [] h = tt
-first_changed serial (b ∷ bs) h =
-    cond_both (same_id serial b.serial) (record b { changes = b.changes + 1 } ∷ bs) (b ∷ with_change_by serial bs) (Each (λ b. b.tid ≡ b.serial)) (λ e. h) (λ e. (h.0, first_changed serial bs h.1))
+first_changed : (serial : Id) (more : ℕ) (bs : List Branch) → Each (λ b. b.tid ≡ b.serial) bs → Each (λ b. b.tid ≡ b.serial) (with_changes_by serial more bs)
+first_changed serial more [] h = tt
+first_changed serial more (b ∷ bs) h =
+    cond_both (same_id serial b.serial) (record b { changes = b.changes + more } ∷ bs) (b ∷ with_changes_by serial more bs) (Each (λ b. b.tid ≡ b.serial)) (λ e. h) (λ e. (h.0, first_changed serial more bs h.1))
 
-changes_sound : (serial : Id) (file : List ℕ) (change : Change) (n : Node) → FitsAt (Changes serial file change) n → HasSoundParts n → HasSoundParts (acted (Changes serial file change) n)
-changes_sound serial file change n may h =
-    let same = sym (serials_changed serial n.branches) in
+changes_sound : (serial : Id) (file : List ℕ) (cs : List Change) (n : Node) → FitsAt (Changes serial file cs) n → HasSoundParts n → HasSoundParts (acted (Changes serial file cs) n)
+changes_sound serial file cs n may h =
+    let same = sym (serials_changed serial (length cs) n.branches) in
     record {
-      first = first_changed serial n.branches h.first;
+      first = first_changed serial (length cs) n.branches h.first;
       different = subst Distinct same h.different;
       drawn_live = subst (Each (IsDrawn n.name n.boot n.drawn)) same h.drawn_live;
       unsettled = subst (Each (λ x. Apart x (settled_serials n.settled))) same h.unsettled;
@@ -97,9 +97,9 @@ changes_sound serial file change n may h =
       once = h.once;
       descends = h.descends;
       latest = h.latest;
-      sound_files = subst (λ xs. EachFile (λ f. IsSoundFile xs f.history.live) (with_file file (λ f. record f { history = changed serial change f.history }) n.directory)) same
-          (each_with_file (λ f. IsSoundFile (serials_of n.branches) f.history.live) file (λ f. record f { history = changed serial change f.history }) n.directory
-          (λ f sound. changed_sound (serials_of n.branches) serial change f.history.live may sound) h.sound_files);
+      sound_files = subst (λ xs. EachFile (λ f. IsSoundFile xs f.history.live) (with_file file (changed_file serial cs) n.directory)) same
+          (each_with_file (λ f. IsSoundFile (serials_of n.branches) f.history.live) file (changed_file serial cs) n.directory
+          (λ f sound. changes_sound_file (serials_of n.branches) serial cs f.history.live may sound) h.sound_files);
     }
 
 pub serials_push : (bs : List Branch) (b : Branch) → serials_of (bs ++ b ∷ []) ≡ serials_of bs ++ b.serial ∷ []
@@ -182,7 +182,7 @@ acted_sound ComesUp n fits h = h
 acted_sound (Creates place file) n fits h = creates_sound place file n fits h
 acted_sound (Marks file units) n fits h = marks_sound file units n h
 acted_sound (Begins label b) n fits h = begun_at_next n b fits.0 fits.1 h
-acted_sound (Changes serial file change) n fits h = changes_sound serial file change n fits h
+acted_sound (Changes serial file changes) n fits h = changes_sound serial file changes n fits h
 acted_sound (Settles s) n fits h = settles_sound s n fits h
 acted_sound (Arms writes choice) n fits h = h
 acted_sound Falls n fits h = h
@@ -199,7 +199,7 @@ acted_node ComesUp n may h = quiet_node (acted ComesUp n) (acted_sound ComesUp n
 acted_node (Creates place file) n may h = quiet_node (acted (Creates place file) n) (acted_sound (Creates place file) n may.0 h.0) may.1
 acted_node (Marks file units) n may h = quiet_node (acted (Marks file units) n) (acted_sound (Marks file units) n may.0 h.0) may.1
 acted_node (Begins label b) n may h = quiet_node (acted (Begins label b) n) (acted_sound (Begins label b) n may.0 h.0) may.1
-acted_node (Changes serial file change) n may h = quiet_node (acted (Changes serial file change) n) (acted_sound (Changes serial file change) n may.0 h.0) may.1
+acted_node (Changes serial file changes) n may h = quiet_node (acted (Changes serial file changes) n) (acted_sound (Changes serial file changes) n may.0 h.0) may.1
 acted_node (Settles s) n may h = quiet_node (acted (Settles s) n) (acted_sound (Settles s) n may.0 h.0) may.1
 acted_node (Arms writes choice) n may h = h
 acted_node Falls n may h = quiet_node (acted Falls n) (acted_sound Falls n may.0 h.0) may.1
@@ -239,7 +239,7 @@ unused_acted ComesUp n fits timely u = let none : ⊥ = cc in absurd none
 unused_acted (Creates place file) n fits timely u = u
 unused_acted (Marks file units) n fits timely u = u
 unused_acted (Begins label b) n fits timely u = let none : ⊥ = cc in absurd none
-unused_acted (Changes serial file change) n fits timely u = absurd (none_there serial n.branches u.2 fits)
+unused_acted (Changes serial file changes) n fits timely u = absurd (none_there serial n.branches u.2 fits)
 unused_acted (Settles s) n fits timely u = absurd (none_there s.serial n.branches u.2 fits.0)
 unused_acted (Arms writes choice) n fits timely u = u
 unused_acted Falls n fits timely u = (refl, u.1, u.2)

@@ -12,13 +12,14 @@ use Rattle.transcript_model.specs.Lines as line
 use Rattle.transcript_model.specs.Lines.{Line}
 use Rattle.script_model.specs.Statements.{Statement, At, StartTrans, EndTrans, AbortTrans, Dump, Reading, Blank, Says, Bad}
 use Rattle.script_model.specs.Grammar.{reading}
-use Rattle.records_model.specs.Records.{Records, Change}
+use Rattle.records_model.specs.Records.{Records as TheRecords, Change}
 use Rattle.records_model.specs.History.{History, LiveChanges, same_id, changes_by, changed_it, first_to_change, current, records, on_top}
 use Rattle.run_model.specs.World.{World, Node, File, Branch, Settlement, DiskCounts, IsOpening, AreResting, opened, find_node, find_file, labelled, serials_of, acted, with_node, Settles, next_moment}
-use Rattle.run_model.specs.Answers.{committed, aborted, branch_labelled, first_of, unsettled_label, there_is_file, of_file, unchanged_file, shown_record, records_of}
+use Rattle.run_model.specs.Answers.{committed, aborted, branch_labelled, unsettled_label, there_is_file, of_file, unchanged_file, shown_record, records_of}
+use Rattle.run_model.specs.Operations.{first_of}
 use Rattle.run_model.specs.Steps.{Step, after_rows, lines_of_rows}
 use Rattle.run_model.specs.Transcript.{Entry, Legal, Turn}
-use Rattle.run_model.specs.Promises.{In, SaidThere, WasBegun, IsSettledSo, SettledOnce, Descends, settlements_of, id_here, id_told, puts_told, told_here, standing, Tells, Shows}
+use Rattle.run_model.specs.Promises.{In, SaidThere, WasBegun, IsSettledSo, SettledOnce, Descends, settlements_of, id_here, id_told, told_by, Account, account_here, standing, Tells, Shows}
 use Rattle.run_model.specs.Laws.{AreOpening, PromisesHold}
 use Rattle.run_model.proofs.IdLemmas.{Each, each_at, id_itself}
 use Rattle.run_model.proofs.FindLemmas.{found_name, found_each, changed_node, found_file_each, labelled_serial}
@@ -81,28 +82,28 @@ opened_labels nodes disks = λ node label. refl
 -- What is told of a file's records.
 
 -- a legal transcript tells of them
-legal_tells : (node file : List ℕ) (opening : World) (es : List Entry) (w : World) → Legal opening es w → (m : Records) × Tells node file opening es w m
-legal_tells node file opening [] w legal = (standing node file opening, (legal, refl))
+legal_tells : (node file : List ℕ) (opening : World) (es : List Entry) (w : World) → Legal opening es w → (a : Account) × Tells node file opening es w a
+legal_tells node file opening [] w legal = (record { records = standing node file opening; told = [] }, (legal, refl))
 legal_tells node file opening (e ∷ es) w legal =
     let before = legal_tells node file opening es legal.0 legal.1 in
-    (told_here node file es e w before.0, (legal.0, before.0, before.1, legal.2, refl))
+    (account_here node file es e legal.0 w before.0, (legal.0, before.0, before.1, legal.2, refl))
 
 -- and the path by which it tells is one by which it is legal
-tells_legal : (node file : List ℕ) (opening : World) (es : List Entry) (w : World) (m : Records) → Tells node file opening es w m → Legal opening es w
-tells_legal node file opening [] w m tells = tells.0
-tells_legal node file opening (e ∷ es) w m tells = (tells.0, tells_legal node file opening es tells.0 tells.1 tells.2, tells.3)
+tells_legal : (node file : List ℕ) (opening : World) (es : List Entry) (w : World) (a : Account) → Tells node file opening es w a → Legal opening es w
+tells_legal node file opening [] w a tells = tells.0
+tells_legal node file opening (e ∷ es) w a tells = (tells.0, tells_legal node file opening es tells.0 tells.1 tells.2, tells.3)
 
 -- what is told agrees with the world
-pub record IsToldOf (node file : List ℕ) (es : List Entry) (w : World) (m : Records) : Type 0 where
-  pub told : IsTold node file m (λ id. puts_told node file id es) w
-  pub fresh : IsFresh (λ id. puts_told node file id es) node w
+pub record IsToldOf (node file : List ℕ) (w : World) (a : Account) : Type 0 where
+  pub is_told : IsTold node file a.records (λ id. told_by id a.told) w
+  pub fresh : IsFresh (λ id. told_by id a.told) node w
 
-told_of : (node file : List ℕ) (nodes : List Node) (disks : List DiskCounts) → AreOpening nodes → (es : List Entry) (w : World) (m : Records) → Tells node file (opened nodes disks) es w m → IsToldOf node file es w m
-told_of node file nodes disks opening [] w m tells = record {
-  told = λ n found up. absurd (both_ways n.up (found_each IsUnused node nodes n (opening_unused nodes opening) (ap (λ (x : World). find_node node x.nodes) (sym tells.0) ∙ found)).0 up);
+told_of : (node file : List ℕ) (nodes : List Node) (disks : List DiskCounts) → AreOpening nodes → (es : List Entry) (w : World) (a : Account) → Tells node file (opened nodes disks) es w a → IsToldOf node file w a
+told_of node file nodes disks opening [] w a tells = subst (IsToldOf node file w) (sym tells.1) (record {
+  is_told = λ n found up. absurd (both_ways n.up (found_each IsUnused node nodes n (opening_unused nodes opening) (ap (λ (x : World). find_node node x.nodes) (sym tells.0) ∙ found)).0 up);
   fresh = (λ n found id new k. refl, λ unused id k. refl);
-}
-told_of node file nodes disks opening (e ∷ es) w m tells =
+})
+told_of node file nodes disks opening (e ∷ es) w a tells =
     let first = opened nodes disks in
     let mid = tells.0 in
     let old = tells.1 in
@@ -110,10 +111,10 @@ told_of node file nodes disks opening (e ∷ es) w m tells =
     let legal = tells_legal node file first es mid old tells.2 in
     let sound = legal_sound first mid es legal (opened_sound nodes disks opening) in
     let labels = legal_labels first mid es (opened_labels nodes disks) legal in
-    record {
-      told = subst (λ k. IsTold node file k (λ id. puts_told node file id (e ∷ es)) w) (sym tells.4) (turn_tells node file es mid w sound labels before.fresh old before.told (reading e.source.text) e.lines tells.3);
-      fresh = turn_fresh node file es mid w sound labels before.fresh old before.told (reading e.source.text) e.lines tells.3;
-    }
+    subst (IsToldOf node file w) (sym tells.4) (record {
+      is_told = turn_tells node file es mid w sound labels old.told before.fresh old.records before.is_told (reading e.source.text) e.lines tells.3;
+      fresh = turn_fresh node file es mid w sound labels old.told before.fresh old.records before.is_told (reading e.source.text) e.lines tells.3;
+    })
 
 -- each settlement of the one world is one of the other
 pub record SettledStays (w v : World) : Type 0 where
@@ -299,7 +300,7 @@ shown_lines : (es : List (Key × List ℕ)) → lines_of_rows (map shown_record 
 shown_lines [] = refl
 shown_lines (e ∷ es) = ap (λ lines. line.Record e.0 e.1 ∷ lines) (shown_lines es)
 
-dump_shows_told : (node file : List ℕ) (w v : World) (events : List Line) (count : ℕ) (told : Records) (puts : Id → Records → Records) → IsSoundWorld w → IsTold node file told puts w → (taken : Bool) × IsDone w (At node (Dump file)) taken events (line.NormalCount count) v →
+dump_shows_told : (node file : List ℕ) (w v : World) (events : List Line) (count : ℕ) (told : TheRecords) (puts : Id → TheRecords → TheRecords) → IsSoundWorld w → IsTold node file told puts w → (taken : Bool) × IsDone w (At node (Dump file)) taken events (line.NormalCount count) v →
     Shows events count told
 dump_shows_told node file w v events count told puts sound t whole =
     let done = whole.1 in
@@ -333,10 +334,10 @@ promised nodes disks es closing are_opening legal =
     let opening = opened nodes disks in
     let sound = opened_sound nodes disks are_opening in
     let labels = opened_labels nodes disks in
-    let path_shows = λ (before : List Entry) (node file : List ℕ) (events : List Line) (count : ℕ) (mid new : World) (m : Records) (tells : Tells node file opening before mid m)
+    let path_shows = λ (before : List Entry) (node file : List ℕ) (events : List Line) (count : ℕ) (mid new : World) (a : Account) (tells : Tells node file opening before mid a)
     (step : Step mid (At node (Dump file)) (events ++ line.NormalCount count ∷ []) new).
-    dump_shows_told node file mid new events count m (λ id. puts_told node file id before) (legal_sound opening mid before (tells_legal node file opening before mid m tells) sound)
-    (told_of node file nodes disks are_opening before mid m tells).told (step_done mid new (At node (Dump file)) events (line.NormalCount count) step refl refl) in
+    dump_shows_told node file mid new events count a.records (λ id. told_by id a.told) (legal_sound opening mid before (tells_legal node file opening before mid a tells) sound)
+    (told_of node file nodes disks are_opening before mid a tells).is_told (step_done mid new (At node (Dump file)) events (line.NormalCount count) step refl refl) in
     record {
       ends = λ before node label events there.
           let was = said_step opening closing es before (At node (EndTrans label)) events line.Normal sound legal there in

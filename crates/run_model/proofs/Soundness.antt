@@ -55,7 +55,7 @@ Fits ComesUp name boot drawn greatest settled branches = Unit {0}
 Fits (Creates place file) name boot drawn greatest settled branches = file.history.live ≡ []
 Fits (Marks file units) name boot drawn greatest settled branches = Unit {0}
 Fits (Begins label b) name boot drawn greatest settled branches = (b.serial ≡ record { node = name; boot = boot; seq = drawn + 1 }) × (b.tid ≡ b.serial)
-Fits (Changes serial file change) name boot drawn greatest settled branches = In serial (serials_of branches)
+Fits (Changes serial file changes) name boot drawn greatest settled branches = In serial (serials_of branches)
 Fits (Settles s) name boot drawn greatest settled branches = In s.serial (serials_of branches) × (greatest < s.moment)
 Fits (Arms writes choice) name boot drawn greatest settled branches = Unit {0}
 Fits Falls name boot drawn greatest settled branches = Unit {0}

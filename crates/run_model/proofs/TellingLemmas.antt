@@ -1,31 +1,32 @@
 -- What each statement that is done tells of a file's records, and so each line of a transcript.
-use Rattle.std.proofs.Common.{◌≡◌, ℕ, ◌+◌, List, [], ◌∷◌, ◌++◌, Bool, true, false, not, ◌&&◌, Option, Some, None, if◌then◌else◌, refl, sym, ◌∙◌, ap, subst, append-nil}
+use Rattle.std.proofs.Common.{◌≡◌, ℕ, ◌+◌, ◌-◌, List, [], ◌∷◌, ◌++◌, map, drop, Bool, true, false, not, ◌&&◌, Option, Some, None, if◌then◌else◌, refl, sym, ◌∙◌, ap, subst, append-nil}
 use Rattle.std.specs.Prelude.{length, slice_set}
 use Rattle.std.specs.Str.{bytes_eq}
 use Rattle.std.specs.Option.{option_map}
-use Rattle.std.specs.FinMap.{empty, insert}
-use Rattle.std.proofs.lemmas.Bool.{both_ways, false_from_ne_true, cond-false, and_right}
+use Rattle.std.specs.FinMap.{empty}
+use Rattle.std.proofs.lemmas.Bool.{both_ways, false_from_ne_true, cond-false}
 use Rattle.std.proofs.lemmas.Slice.Eq.{bytes_eq-Decides}
 use Rattle.vms_model.specs.Ids.{Id}
-use Rattle.vms_model.specs.Keys.{Number}
+use Rattle.vms_model.specs.Keys.{Key}
 use Rattle.vms_model.specs.Transactions.{Outcome, Commit, Abort, Reason, Aborted}
 use Rattle.transcript_model.specs.Lines as line
 use Rattle.transcript_model.specs.Lines.{Line, Cause}
-use Rattle.script_model.specs.Statements.{At, Request, Init, Boot, Create, SetFile, StartTrans, Put, EndTrans, AbortTrans, Dump, Fuse, Crash, Form, Setting, Reading, Blank, Says, Bad}
-use Rattle.records_model.specs.Records.{Records, Change}
-use Rattle.records_model.specs.History.{same_id, settled_at, changed, current, records}
-use Rattle.run_model.specs.World.{World, Node, File, Branch, Settlement, Formats, Boots, ComesUp, Creates, Marks, Begins, Changes, Settles, Arms, Falls, find_node, find_file, free_place, lowest_free, labelled, serials_of, with_file, without_branch, as_it_stands, acted, acts, next_id, next_moment}
-use Rattle.run_model.specs.Answers.{Row, early, early_up, rows, rows_at, answer, answer_at, put_by, committed, aborted, created, creates, blocks_for, records_of, record_at, to_branch, refused_if, is_file_form, made_label, unsettled_label, there_is_file, of_file, fits_file, new_file, is_for_units, last_line, last_lines, served_down}
-use Rattle.run_model.specs.Steps.{Step, after_rows, lines_of_rows, readied, stops_at}
+use Rattle.script_model.specs.Statements.{At, Request, Init, Boot, Create, SetFile, StartTrans, Records, EndTrans, AbortTrans, Dump, Fuse, Crash, Form, Setting, Operation, Put, Update, Delete, Truncate, Get, Next, Reading, Blank, Says, Bad}
+use Rattle.records_model.specs.Records.{Records as TheRecords, Change, set_key, applied}
+use Rattle.records_model.specs.History.{same_id, settled_at, current, records}
+use Rattle.run_model.specs.World.{World, Node, File, Organization, Sequential, Relative, Indexed, Branch, Settlement, Formats, Boots, ComesUp, Creates, Marks, Begins, Changes, Settles, Arms, Falls, find_node, find_file, free_place, lowest_free, labelled, serials_of, with_file, changed_file, without_branch, as_it_stands, acted, acts, next_id, next_moment}
+use Rattle.run_model.specs.Answers.{Row, early, early_up, rows, rows_at, answer, answer_at, change_act, changes_at, operated, operation_told, committed, aborted, created, creates, blocks_for, records_of, to_branch, is_file_form, made_label, unsettled_label, there_is_file, of_file, new_file, is_for_units, last_line, last_lines, served_down}
+use Rattle.run_model.specs.Operations.{refused_if, in_order, count_of, place_refused, form_refused, removed, key_put, changes_of, put_answer, operation_answer}
+use Rattle.run_model.specs.Steps.{Step, after_act, after_rows, lines_of_rows, readied, stops_at}
 use Rattle.run_model.specs.Transcript.{Entry, Turn}
-use Rattle.run_model.specs.Promises.{In, id_told, is_id, put_here, puts_told, booted_here, standing}
+use Rattle.run_model.specs.Promises.{In, Told, with_sets, told_by, put_sets, sets_of, one_told, file_of, sets_here, id_told, commits_here, booted_here, standing}
 use Rattle.run_model.specs.Laws.{is_refusal}
 use Rattle.run_model.proofs.IdLemmas.{each_at, in_map, id_is}
 use Rattle.run_model.proofs.FindLemmas.{found_name, found_each, changed_node, some_is, mapped_file, placed_file, labelled_serial}
 use Rattle.run_model.proofs.Soundness.{IsSoundNode, IsSoundWorld, IsDrawn}
 use Rattle.run_model.proofs.NodeLemmas.{serials_push, serials_changed, branches_minus}
 use Rattle.run_model.proofs.AgreementLemmas.{Agrees, agrees_as, stands_agree, changes_agree, commits_agree, aborts_agree, begins_agree}
-use Rattle.run_model.proofs.AnswerLemmas.{neither, served, served_up, rows_found, answer_found, is_labelled, row_of}
+use Rattle.run_model.proofs.AnswerLemmas.{neither, served, served_up, rows_found, answer_found, operation_told_is, is_failure, is_labelled, row_of}
 use Rattle.run_model.proofs.EffectLemmas.{step_done}
 use Rattle.run_model.proofs.ReadyLemmas.{acted_name, ready_node, ready_nodes, is_ready}
 use Rattle.run_model.proofs.ActLemmas.{labelled_in, in_use_up}
@@ -33,7 +34,7 @@ use Rattle.run_model.proofs.KeptLemmas.{step_keeps, others_kept, unused_kept}
 use Rattle.run_model.proofs.WayLemmas.{Way, Refuses, RefusesLate, Fails, Does, way, step_commits}
 use Rattle.run_model.proofs.LabelLemmas.{AreLabelled}
 use Rattle.run_model.proofs.FreshLemmas.{IsFresh, fresh_kept}
-use Rattle.run_model.proofs.ToldLemmas.{history_of, history_at, IsTold, told_by, told_booted, same_text, acts_told, file_after, next_unchanged, next_not_drawn, settled_history, shown_do_nothing, shown_commit_nothing, told_refused, put_refused, told_elsewhere, put_elsewhere, up_as_before, ready_up, powering_down}
+use Rattle.run_model.proofs.ToldLemmas.{history_of, history_at, IsTold, records_after, records_booted, same_text, acts_told, file_after, next_unchanged, next_not_drawn, settled_history, shown_do_nothing, shown_commit_nothing, records_refused, nothing_told, tells_change, refusal_tells_none, records_elsewhere, sets_elsewhere, up_as_before, ready_up, powering_down}
 
 there_is : (n : Node) (file : List ℕ) → there_is_file n file ≡ None → (f : File) × (find_file file n.directory ≡ Some f)
 there_is n file e = go (find_file file n.directory) refl e
@@ -64,20 +65,49 @@ booted node n k = subst (λ xs. booted_here node (Says (At node Boot)) (xs ++ li
     go None = rw (same_text node) refl
 
 standing_is : (node file : List ℕ) (w : World) (n : Node) → find_node node w.nodes ≡ Some n → standing node file w ≡ current (history_at file n)
-standing_is node file w n found = rw (found, standing) (go (find_file file n.directory))
+standing_is node file w n found = rw (found, standing, file_of) (go (find_file file n.directory))
   where
-    go : (o : Option File) → ◌≡◌ {A = Records} (elim o [ Some f ↦ current f.history | None ↦ empty ]) (current (history_of o))
+    go : (o : Option File) → ◌≡◌ {A = TheRecords} (elim o [ Some f ↦ current f.history | None ↦ empty ]) (current (history_of o))
     go (Some f) = refl
     go None = refl
 
-module _ (node file : List ℕ) (es : List Entry) (w : World) (sound : IsSoundWorld w) (same : AreLabelled es w) (fresh : IsFresh (λ id. puts_told node file id es) node w) (told : Records) (t : IsTold node file told (λ id. puts_told node file id es) w) where
-  abbrev puts : Id → Records → Records
-  puts id m = puts_told node file id es m
+-- What an operation tells to be set are its changes.
+
+put_are : (o : Organization) (count : ℕ) (number : Option ℕ) (bytes : List ℕ) (m : TheRecords) → place_refused o number ≡ None → with_sets (put_sets o number bytes (put_answer o count)) m ≡ set_key m (key_put o count number bytes) (Some bytes)
+put_are Sequential count None bytes m e = refl
+put_are Sequential count (Some n) bytes m e = let none : ⊥ = cc in absurd none
+put_are (Relative greatest) count None bytes m e = let none : ⊥ = cc in absurd none
+put_are (Relative greatest) count (Some n) bytes m e = refl
+put_are (Indexed position size) count None bytes m e = refl
+put_are (Indexed position size) count (Some n) bytes m e = let none : ⊥ = cc in absurd none
+
+removed_are : (es : List (Key × List ℕ)) (m : TheRecords) → with_sets (map (λ e. (e.0, None)) es) m ≡ applied (map removed es) m
+removed_are [] m = refl
+removed_are (e ∷ es) m = ap (λ k. set_key k e.0 None) (removed_are es m)
+
+sets_are : (f : File) (op : Operation) (m : TheRecords) → form_refused f op ≡ None → with_sets (sets_of op (operation_answer f op) f) m ≡ applied (changes_of f op) m
+sets_are f (Put number bytes) m e = put_are f.organization (count_of f) number bytes m (neither _ _ e).0
+sets_are f (Update key bytes) m e = refl
+sets_are f (Delete key) m e = refl
+sets_are f (Truncate number) m e = removed_are (drop (number - 1) (in_order f)) m
+sets_are f (Get key) m e = refl
+sets_are f (Next after) m e = refl
+
+form_passes : (n : Node) (file : List ℕ) (op : Operation) (f : File) → find_file file n.directory ≡ Some f → of_file n file (λ g. form_refused g op) ≡ None → form_refused f op ≡ None
+form_passes n file op f found e = go (find_file file n.directory) found e
+  where
+    go : (o : Option File) → o ≡ Some f → ◌≡◌ {A = Option Line} (elim o [ Some g ↦ form_refused g op | None ↦ None ]) None → form_refused f op ≡ None
+    go (Some g) is k = subst (λ x. form_refused x op ≡ None) (some_is g f is) k
+    go None is k = let none : ⊥ = cc in absurd none
+
+module _ (node file : List ℕ) (es : List Entry) (w : World) (sound : IsSoundWorld w) (same : AreLabelled es w) (sets : List Told) (fresh : IsFresh (λ id. told_by id sets) node w) (told : TheRecords) (t : IsTold node file told (λ id. told_by id sets) w) where
+  abbrev puts : Id → TheRecords → TheRecords
+  puts id m = told_by id sets m
 
   -- that a request to this node which does these rows from this world and is answered so tells what it does
   abbrev RowsTell : World → Request → List Row → Line → Type 0
   RowsTell u request rs last =
-      IsTold node file (told_by node file es (Says (At node request)) (lines_of_rows rs ++ last ∷ []) (after_rows node rs u) told) (λ id m. put_here node file id es (Says (At node request)) (lines_of_rows rs ++ last ∷ []) (puts id m)) (after_rows node rs u)
+      IsTold node file (records_after node file sets (Says (At node request)) (lines_of_rows rs ++ last ∷ []) (after_rows node rs u) told) (λ id. told_by id (sets_here node file es w (Says (At node request)) (lines_of_rows rs ++ last ∷ []) sets)) (after_rows node rs u)
 
   abbrev DoneTells : Request → World → Type 0
   DoneTells request u = RowsTell u request (rows u (At node request)) (answer u (At node request))
@@ -124,47 +154,66 @@ module _ (node file : List ℕ) (es : List Entry) (w : World) (sound : IsSoundWo
   told_serial : (n : Node) (label : List ℕ) (serial : Id) → find_node node w.nodes ≡ Some n → labelled n.name label w.labels ≡ Some serial → id_told node label es ≡ Some serial
   told_serial n label serial found named = sym (same node label) ∙ ap (λ name. labelled name label w.labels) (sym (found_name node w.nodes n found)) ∙ named
 
-  -- what a PUT passes
-  put_unsettled : (n : Node) (label f : List ℕ) (number : ℕ) (bytes : List ℕ) → early_up w n (Put label f number bytes) ≡ None → (there_is_file n f ≡ None) × (unsettled_label w n label ≡ None)
-  put_unsettled n label f number bytes passes =
+  -- what an operation passes
+  pub operation_passes : (n : Node) (label f : List ℕ) (op : Operation) → early_up w n (Records label f op) ≡ None → (there_is_file n f ≡ None) × (of_file n f (λ g. form_refused g op) ≡ None) × (unsettled_label w n label ≡ None)
+  operation_passes n label f op passes =
       let behind_label = (neither (made_label w n label) _ passes).1 in
       let behind_file = neither (there_is_file n f) _ behind_label in
-      let behind_size = (neither (of_file n f (fits_file number (length bytes))) _ behind_file.1).1 in
-      (behind_file.0, (neither (unsettled_label w n label) _ behind_size).0)
+      let behind_form = neither (of_file n f (λ g. form_refused g op)) _ behind_file.1 in
+      (behind_file.0, behind_form.0, (neither (unsettled_label w n label) _ behind_form.1).0)
 
-  -- what is told to be put, after a record was put into a file
-  abbrev puts_more : ℕ → List ℕ → Bool → Bool → Option Id → Id → Records → Records
-  puts_more number bytes c t o id m = if c && t && is_id id o then insert (puts id m) (Number number) bytes else puts id m
+  -- what is told to be set, after an operation
+  abbrev sets_more : List ℕ → List ℕ → Operation → Line → Bool → List Told
+  sets_more label f op answer b = if b then one_told (id_told node label es) (file_of node file w) (sets_of op answer) sets else sets
 
-  -- a file with that change
-  abbrev put_file : Node → List ℕ → ℕ → List ℕ → Id → File → File
-  put_file n f number bytes serial g = record g { history = changed serial (record { key = Number number; before = record_at n f (Number number); after = Some bytes }) g.history }
+  -- a file after the changes of an operation: it agrees with what is told then
+  operation_history : (n : Node) (label f : List ℕ) (op : Operation) (serial : Id) (g : File) → find_node node w.nodes ≡ Some n → find_file f n.directory ≡ Some g → form_refused g op ≡ None → id_told node label es ≡ Some serial →
+      Agrees told puts (serials_of n.branches) (history_at file n) → (t : Bool) → bytes_eq f file ≡ t →
+      Agrees told (λ id. told_by id (sets_more label f op (operation_told n f op) t)) (serials_of n.branches) (history_of (if t then option_map (changed_file serial (changes_at n f op)) (find_file file n.directory) else find_file file n.directory))
+  operation_history n label f op serial g found there form named a true is =
+      let same_name : f ≡ file = (bytes_eq-Decides f file).0 is in
+      let here : find_file file n.directory ≡ Some g = subst (λ x. find_file x n.directory ≡ Some g) same_name there in
+      let at_node : file_of node file w ≡ Some g = rw (found, file_of) here in
+      let changes : changes_at n f op ≡ changes_of g op = rw (there, changes_at) refl in
+      let answer : operation_told n f op ≡ operation_answer g op = rw (there, operation_told) refl in
+      let one : Agrees told puts (serials_of n.branches) g.history = subst (λ o. Agrees told puts (serials_of n.branches) (history_of o)) here a in
+      let more = changes_agree told puts (serials_of n.branches) g.history one serial (changes_of g op) in
+      let same_sets = agrees_as told told _ (λ id. told_by id (record { tid = serial; sets = sets_of op (operation_answer g op) g } ∷ sets)) (serials_of n.branches) _ more refl
+      (λ id m. ap (λ k. if same_id id serial then k else puts id m) (sym (sets_are g op (puts id m) form))) in
+      let now : sets_more label f op (operation_told n f op) true ≡ record { tid = serial; sets = sets_of op (operation_answer g op) g } ∷ sets = rw (named, at_node, answer) refl in
+      subst (λ s. Agrees told (λ id. told_by id s) (serials_of n.branches) (history_of (option_map (changed_file serial (changes_at n f op)) (find_file file n.directory)))) (sym now)
+      (subst (λ cs. Agrees told (λ id. told_by id (record { tid = serial; sets = sets_of op (operation_answer g op) g } ∷ sets)) (serials_of n.branches) (history_of (option_map (changed_file serial cs) (find_file file n.directory)))) (sym changes)
+      (subst (λ o. Agrees told (λ id. told_by id (record { tid = serial; sets = sets_of op (operation_answer g op) g } ∷ sets)) (serials_of n.branches) (history_of (option_map (changed_file serial (changes_of g op)) o))) (sym here) same_sets))
+  operation_history n label f op serial g found there form named a false is = a
 
-  put_history : (n : Node) (label f : List ℕ) (number : ℕ) (bytes : List ℕ) (serial : Id) (g : File) → find_file f n.directory ≡ Some g → id_told node label es ≡ Some serial → Agrees told puts (serials_of n.branches) (history_at file n) →
-      (t : Bool) → bytes_eq f file ≡ t → Agrees told (puts_more number bytes (bytes_eq node node) t (id_told node label es)) (serials_of n.branches)
-      (history_of (if t then option_map (put_file n f number bytes serial) (find_file file n.directory) else find_file file n.directory))
-  put_history n label f number bytes serial g there named a true is =
-      let found : find_file file n.directory ≡ Some g = subst (λ x. find_file x n.directory ≡ Some g) ((bytes_eq-Decides f file).0 is) there in
-      let one : Agrees told puts (serials_of n.branches) g.history = subst (λ o. Agrees told puts (serials_of n.branches) (history_of o)) found a in
-      let more : Agrees told (puts_more number bytes true true (Some serial)) (serials_of n.branches) (put_file n f number bytes serial g).history =
-      changes_agree told puts (serials_of n.branches) g.history one serial number (record_at n f (Number number)) bytes in
-      subst (λ c. Agrees told (puts_more number bytes c true (id_told node label es)) (serials_of n.branches) (history_of (option_map (put_file n f number bytes serial) (find_file file n.directory)))) (sym (same_text node))
-      (subst (λ o. Agrees told (puts_more number bytes true true (id_told node label es)) (serials_of n.branches) (history_of (option_map (put_file n f number bytes serial) o))) (sym found)
-      (subst (λ o. Agrees told (puts_more number bytes true true o) (serials_of n.branches) (put_file n f number bytes serial g).history) (sym named) more))
-  put_history n label f number bytes serial g there named a false is =
-      subst (λ c. Agrees told (puts_more number bytes c false (id_told node label es)) (serials_of n.branches) (history_at file n)) (sym (same_text node)) a
-
-  put_tells : (label f : List ℕ) (number : ℕ) (bytes : List ℕ) → early w (At node (Put label f number bytes)) ≡ None → DoneTells (Put label f number bytes) w
-  put_tells label f number bytes = at_up (Put label f number bytes) refl (λ n found up passes.
-      let parts = put_unsettled n label f number bytes passes in
+  operation_tells : (label f : List ℕ) (op : Operation) → early w (At node (Records label f op)) ≡ None → DoneTells (Records label f op) w
+  operation_tells label f op = at_up (Records label f op) refl (λ n found up passes.
+      let parts = operation_passes n label f op passes in
       let there = there_is n f parts.0 in
-      branch_row (Put label f number bytes) n label (put_by n f number bytes) line.RecordNormal parts.1 (λ b i named.
-      let c : Change = record { key = Number number; before = record_at n f (Number number); after = Some bytes } in
-      let now = puts_more number bytes (bytes_eq node node) (bytes_eq f file) (id_told node label es) in
-      acts_told node file told now w n (Changes b.serial f c) found (λ u.
-      subst (λ serials. Agrees told now serials (history_at file (acted (Changes b.serial f c) n))) (sym (serials_changed b.serial n.branches))
-      (subst (λ o. Agrees told now (serials_of n.branches) (history_of o)) (sym (file_after file f (put_file n f number bytes b.serial) n.directory (λ h. refl) (bytes_eq f file) refl))
-      (put_history n label f number bytes b.serial there.0 there.1 (told_serial n label b.serial found named) (t n found up) (bytes_eq f file) refl)))))
+      branch_row (Records label f op) n label (operated n f op) (operation_told n f op) parts.2 (λ b i named.
+      let now = λ (id : Id). told_by id (sets_more label f op (operation_told n f op) (bytes_eq node node && bytes_eq f file)) in
+      let agrees : Agrees told now (serials_of n.branches) (history_of (if bytes_eq f file then option_map (changed_file b.serial (changes_at n f op)) (find_file file n.directory) else find_file file n.directory)) =
+      subst (λ c. Agrees told (λ id. told_by id (sets_more label f op (operation_told n f op) (c && bytes_eq f file))) (serials_of n.branches) (history_of (if bytes_eq f file then option_map (changed_file b.serial (changes_at n f op)) (find_file file n.directory) else find_file file n.directory))) (sym (same_text node))
+      (operation_history n label f op b.serial there.0 found there.1 (form_passes n f op there.0 there.1 parts.1) (told_serial n label b.serial found named) (t n found up) (bytes_eq f file) refl) in
+      subst (λ k. IsTold node file k now (after_act node (change_act b.serial f (changes_at n f op)) w)) (sym (operation_told_is (λ answer. commits_here sets (answer ∷ []) told ≡ told) refl (λ position. refl) (λ bytes. refl) (λ key bytes. refl) n f op))
+      (after_changes now n found f b.serial (changes_at n f op) agrees)))
+    where
+      -- changes of this node's files, or none
+      after_changes : (now : Id → TheRecords → TheRecords) (n : Node) → find_node node w.nodes ≡ Some n → (f : List ℕ) (serial : Id) (cs : List Change) →
+          Agrees told now (serials_of n.branches) (history_of (if bytes_eq f file then option_map (changed_file serial cs) (find_file file n.directory) else find_file file n.directory)) →
+          IsTold node file told now (after_act node (change_act serial f cs) w)
+      after_changes now n found f serial [] a = λ m e u.
+          let same_node : n ≡ m = some_is n m (sym found ∙ e) in
+          subst (λ (x : Node). Agrees told now (serials_of x.branches) (history_at file x)) same_node (subst (Agrees told now (serials_of n.branches)) (unchanged (bytes_eq f file) (find_file file n.directory)) a)
+        where
+          unchanged : (b : Bool) (o : Option File) → history_of (if b then option_map (changed_file serial []) o else o) ≡ history_of o
+          unchanged true (Some g) = refl
+          unchanged true None = refl
+          unchanged false o = refl
+      after_changes now n found f serial (c ∷ cs) a =
+          acts_told node file told now w n (Changes serial f (c ∷ cs)) found (λ u.
+          subst (λ serials. Agrees told now serials (history_at file (acted (Changes serial f (c ∷ cs)) n))) (sym (serials_changed serial (length (c ∷ cs)) n.branches))
+          (subst (λ o. Agrees told now (serials_of n.branches) (history_of o)) (sym (file_after file f (changed_file serial (c ∷ cs)) n.directory (λ g. refl) (bytes_eq f file) refl)) a))
 
   end_tells : (label : List ℕ) → early w (At node (EndTrans label)) ≡ None → DoneTells (EndTrans label) w
   end_tells label = at_up (EndTrans label) refl (λ n found up passes.
@@ -188,7 +237,7 @@ module _ (node file : List ℕ) (es : List Entry) (w : World) (sound : IsSoundWo
   dump_tells f = at_up (Dump f) refl (λ n found up passes m e u.
       let shown = records_of n f in
       let here : Agrees told puts (serials_of m.branches) (history_at file m) = t m (ap (λ (x : World). find_node node x.nodes) (sym (shown_do_nothing node shown w)) ∙ e) u in
-      agrees_as told _ puts puts (serials_of m.branches) (history_at file m) here (sym (shown_commit_nothing node file es shown (length shown) told)) (λ id k. refl))
+      agrees_as told _ puts puts (serials_of m.branches) (history_at file m) here (sym (shown_commit_nothing sets shown (length shown) told)) (λ id k. refl))
 
   crash_tells : early w (At node Crash) ≡ None → DoneTells Crash w
   crash_tells = at_up Crash refl (λ n found up passes. acts_told node file told puts w n Falls found (λ u. let none : ⊥ = cc in absurd none))
@@ -266,8 +315,8 @@ module _ (node file : List ℕ) (es : List Entry) (w : World) (sound : IsSoundWo
       let mid_found : find_node node mid.nodes ≡ Some (acted Boots n) = changed_node node (acted Boots) ready.nodes (acted_name Boots) ∙ ap (option_map (acted Boots)) m.ready in
       let end_found : find_node node (acts node ComesUp mid).nodes ≡ Some (acted ComesUp (acted Boots n)) = changed_node node (acted ComesUp) mid.nodes (acted_name ComesUp) ∙ ap (option_map (acted ComesUp)) mid_found in
       let stands : Agrees (current (history_at file (acted Boots n))) puts [] (history_at file (acted Boots n)) = stands_agree puts (history_at file (acted Boots n)) (no_live n) in
-      let tells : told_by node file es (Says (At node Boot)) ((last_lines n ++ []) ++ line.NormalCount (n.boot + 1) ∷ []) (acts node ComesUp mid) told ≡ current (history_at file (acted Boots n)) =
-      told_booted node file es (Says (At node Boot)) ((last_lines n ++ []) ++ line.NormalCount (n.boot + 1) ∷ []) (acts node ComesUp mid) told (booted node n (n.boot + 1)) ∙ standing_is node file (acts node ComesUp mid) (acted ComesUp (acted Boots n)) end_found in
+      let tells : records_after node file sets (Says (At node Boot)) ((last_lines n ++ []) ++ line.NormalCount (n.boot + 1) ∷ []) (acts node ComesUp mid) told ≡ current (history_at file (acted Boots n)) =
+      records_booted node file sets (Says (At node Boot)) ((last_lines n ++ []) ++ line.NormalCount (n.boot + 1) ∷ []) (acts node ComesUp mid) told (booted node n (n.boot + 1)) ∙ standing_is node file (acts node ComesUp mid) (acted ComesUp (acted Boots n)) end_found in
       subst (λ rs. RowsTell ready Boot rs (answer ready (At node Boot))) (sym (rows_found ready node Boot n m.ready))
       (subst (RowsTell ready Boot (rows_at ready n Boot)) (sym (answer_found ready node Boot n m.ready))
       (acts_told node file _ puts mid (acted Boots n) ComesUp mid_found (λ up. subst (λ k. Agrees k puts [] (history_at file (acted Boots n))) (sym tells) stands)))
@@ -286,7 +335,7 @@ module _ (node file : List ℕ) (es : List Entry) (w : World) (sound : IsSoundWo
   done_tells (Create f bucket size form) taken e = create_tells f bucket size form e
   done_tells (SetFile f setting) taken e = set_file_tells f setting e
   done_tells (StartTrans label) taken e = start_tells label e
-  done_tells (Put label f number bytes) taken e = put_tells label f number bytes e
+  done_tells (Records label f op) taken e = operation_tells label f op e
   done_tells (EndTrans label) taken e = end_tells label e
   done_tells (AbortTrans label) taken e = abort_tells label e
   done_tells (Dump f) taken e = dump_tells f e
@@ -295,15 +344,15 @@ module _ (node file : List ℕ) (es : List Entry) (w : World) (sound : IsSoundWo
 
 -- What a statement tells, whichever way it ends.
 
-module _ (node file : List ℕ) (es : List Entry) (w v : World) (sound : IsSoundWorld w) (same : AreLabelled es w) (fresh : IsFresh (λ id. puts_told node file id es) node w) (told : Records) (t : IsTold node file told (λ id. puts_told node file id es) w) where
+module _ (node file : List ℕ) (es : List Entry) (w v : World) (sound : IsSoundWorld w) (same : AreLabelled es w) (sets : List Told) (fresh : IsFresh (λ id. told_by id sets) node w) (told : TheRecords) (t : IsTold node file told (λ id. told_by id sets) w) where
   -- that a line which reads so, and for which these lines were shown, is told
   abbrev LineTells : Reading → List Line → Type 0
-  LineTells reading lines = IsTold node file (told_by node file es reading lines v told) (λ id m. put_here node file id es reading lines (puts_told node file id es m)) v
+  LineTells reading lines = IsTold node file (records_after node file sets reading lines v told) (λ id. told_by id (sets_here node file es w reading lines sets)) v
 
   refused_tells : (reading : Reading) (lines : List Line) (refusal : Line) → is_refusal refusal ≡ true → lines ≡ refusal ∷ [] → ((n : Node) → find_node node v.nodes ≡ Some n → n.up ≡ true → find_node node w.nodes ≡ Some n) → LineTells reading lines
   refused_tells reading lines refusal is shows before =
-      subst (LineTells reading) (sym shows) (λ n found up. agrees_as told _ _ _ (serials_of n.branches) (history_at file n) (t n (before n found up) up) (sym (told_refused node file es reading refusal v told is))
-      (λ id m. sym (put_refused node file id es reading refusal (puts_told node file id es m) is)))
+      subst (LineTells reading) (sym shows) (λ n found up. agrees_as told _ _ _ (serials_of n.branches) (history_at file n) (t n (before n found up) up) (sym (records_refused node file sets reading refusal v told is))
+      (λ id m. sym (nothing_told node file es w reading refusal sets (refusal_tells_none refusal is) id m)))
 
   way_tells : (request : Request) (lines : List Line) → Way w node request lines v → LineTells (Says (At node request)) lines
   way_tells request lines (Refuses refusal is shows goes) = refused_tells (Says (At node request)) lines refusal is shows (λ n found up. ap (λ (x : World). find_node node x.nodes) (sym goes) ∙ found)
@@ -317,16 +366,16 @@ module _ (node file : List ℕ) (es : List Entry) (w v : World) (sound : IsSound
       let ready = readied taken w s in
       let ls = lines_of_rows (rows ready s) ++ answer ready s ∷ [] in
       subst (LineTells (Says s)) (sym shows)
-      (subst (λ x. IsTold node file (told_by node file es (Says s) ls x told) (λ id m. put_here node file id es (Says s) ls (puts_told node file id es m)) x) (sym goes) (done_tells node file es w sound same fresh told t request taken e))
+      (subst (λ x. IsTold node file (records_after node file sets (Says s) ls x told) (λ id. told_by id (sets_here node file es w (Says s) ls sets)) x) (sym goes) (done_tells node file es w sound same sets fresh told t request taken e))
 
   other_tells : (x : List ℕ) (request : Request) (lines : List Line) → bytes_eq x node ≡ false → Step w (At x request) lines v → LineTells (Says (At x request)) lines
   other_tells x request lines apart step n found up =
       let there : find_node node w.nodes ≡ Some n =
       sym (step_keeps x request (λ u. find_node node u.nodes ≡ find_node node w.nodes) (others_kept node x (find_node node w.nodes) apart) w v lines step sound refl) ∙ found in
-      let foreign = λ (serial : Id) (at : serial.node ≡ x) (k : Records). fresh.0 n there serial
+      let foreign = λ (serial : Id) (at : serial.node ≡ x) (k : TheRecords). fresh.0 n there serial
       (λ d. both_ways _ apart (subst (λ y. bytes_eq y node ≡ true) (sym (d.0 ∙ found_name node w.nodes n there) ∙ at) (same_text node))) k in
-      agrees_as told _ _ _ (serials_of n.branches) (history_at file n) (t n there up) (sym (told_elsewhere node file es x apart request lines v told (step_commits w x request sound v lines step) foreign))
-      (λ id m. sym (put_elsewhere node file es x apart id request lines (puts_told node file id es m)))
+      agrees_as told _ _ _ (serials_of n.branches) (history_at file n) (t n there up) (sym (records_elsewhere node file sets x apart request lines v told (step_commits w x request sound v lines step) foreign))
+      (λ id m. ap (λ s. told_by id s m) (sym (sets_elsewhere node file sets x apart es w request lines)))
 
   step_tells : (x : List ℕ) (request : Request) (lines : List Line) → Step w (At x request) lines v → LineTells (Says (At x request)) lines
   step_tells x request lines step = go (bytes_eq x node) refl
@@ -344,45 +393,76 @@ module _ (node file : List ℕ) (es : List Entry) (w v : World) (sound : IsSound
 
   -- And nothing more is told of ids that were not drawn.
 
-  fresh_still : (x : List ℕ) (request : Request) (lines : List Line) → Step w (At x request) lines v → IsFresh (λ id. puts_told node file id es) node v
-  fresh_still x request lines step = step_keeps x request (IsFresh (λ id. puts_told node file id es) node) (fresh_kept (λ id. puts_told node file id es) node x) w v lines step sound fresh
+  fresh_still : (x : List ℕ) (request : Request) (lines : List Line) → Step w (At x request) lines v → IsFresh (λ id. told_by id sets) node v
+  fresh_still x request lines step = step_keeps x request (IsFresh (λ id. told_by id sets) node) (fresh_kept (λ id. told_by id sets) node x) w v lines step sound fresh
 
-  put_here_fresh : (l f : List ℕ) (number : ℕ) (bytes : List ℕ) → Step w (At node (Put l f number bytes)) (line.RecordNormal ∷ []) v →
-      IsFresh (λ id m. if bytes_eq f file && is_id id (id_told node l es) then insert (puts_told node file id es m) (Number number) bytes else puts_told node file id es m) node v
-  put_here_fresh l f number bytes step =
-      let request = Put l f number bytes in
-      let done = (step_done w v (At node request) [] line.RecordNormal step refl refl).1 in
+  -- what is as fresh as other things told
+  fresh_as : (puts shown : Id → TheRecords → TheRecords) → ((id : Id) (m : TheRecords) → shown id m ≡ puts id m) → IsFresh puts node v → IsFresh shown node v
+  fresh_as puts shown alike h = (λ k found id new m. alike id m ∙ h.0 k found id new m, λ unused id m. alike id m ∙ h.1 unused id m)
+
+  -- an operation that was done was one of a branch of this node
+  done_fresh : (l f : List ℕ) (op : Operation) (answer : Line) → is_refusal answer ≡ false → is_failure answer ≡ false → Step w (At node (Records l f op)) (answer ∷ []) v →
+      IsFresh (λ id. told_by id (sets_here node file es w (Says (At node (Records l f op))) (answer ∷ []) sets)) node v
+  done_fresh l f op answer succeeds no_failure step =
+      let request = Records l f op in
+      let done = (step_done w v (At node request) [] answer step succeeds no_failure).1 in
       let there = served w node request done.none_early in
       let n = there.n in
       let sound_node = found_each IsSoundNode node w.nodes n sound.0 there.found in
-      let branch = is_labelled w n l (put_unsettled node file es w sound same fresh told t n l f number bytes there.passes).1 in
+      let branch = is_labelled w n l (operation_passes node file es w sound same sets fresh told t n l f op there.passes).2 in
       let serial = branch.branch.serial in
-      let named : id_told node l es ≡ Some serial = told_serial node file es w sound same fresh told t n l serial there.found (labelled_serial w n l branch.branch branch.named) in
+      let named : id_told node l es ≡ Some serial = told_serial node file es w sound same sets fresh told t n l serial there.found (labelled_serial w n l branch.branch branch.named) in
       let drawn : IsDrawn n.name n.boot n.drawn serial = each_at (IsDrawn n.name n.boot n.drawn) serial (serials_of n.branches) sound_node.0.drawn_live (in_map (λ b. b.serial) branch.branch n.branches (labelled_in w n l branch.branch branch.named)) in
-      let act = Changes serial f (record { key = Number number; before = record_at n f (Number number); after = Some bytes }) in
-      let rows_are : rows w (At node request) ≡ put_by n f number bytes branch.branch ∷ [] = rows_found w node request n there.found ∙ row_of w n l (put_by n f number bytes) branch.branch branch.named in
-      let new_node : find_node node v.nodes ≡ Some (acted act n) = ap (λ (x : World). find_node node x.nodes) done.goes ∙ ap (λ rs. find_node node (after_rows node rs w).nodes) rows_are
-      ∙ changed_node node (acted act) w.nodes (acted_name act) ∙ ap (option_map (acted act)) there.found in
-      let still = fresh_still node request (line.RecordNormal ∷ []) step in (
+      let rows_are : rows w (At node request) ≡ operated n f op branch.branch ∷ [] = rows_found w node request n there.found ∙ row_of w n l (operated n f op) branch.branch branch.named in
+      let goes : find_node node v.nodes ≡ find_node node (after_act node (change_act serial f (changes_at n f op)) w).nodes = ap (λ (x : World). find_node node x.nodes) done.goes ∙ ap (λ rs. find_node node (after_rows node rs w).nodes) rows_are in
+      let still = fresh_still node request (answer ∷ []) step in (
         λ k found id new m.
-            let is : acted act n ≡ k = some_is (acted act n) k (sym new_node ∙ found) in
-            let old : IsDrawn n.name n.boot n.drawn id → ⊥ = subst (λ (x : Node). IsDrawn x.name x.boot x.drawn id → ⊥) (sym is) new in
+            let old : IsDrawn n.name n.boot n.drawn id → ⊥ = λ d. new (drawn_after n there.found serial f (changes_at n f op) k (sym goes ∙ found) id d) in
             let other : same_id id serial ≡ false = false_from_ne_true _ (λ e. old (subst (IsDrawn n.name n.boot n.drawn) (sym (id_is id serial e)) drawn)) in
-            cond-false (bytes_eq f file && is_id id (id_told node l es)) (insert (puts_told node file id es m) (Number number) bytes) (puts_told node file id es m) (and_right (bytes_eq f file) _ (ap (is_id id) named ∙ other)) ∙ still.0 k found id new m,
-        λ unused id m. absurd (both_ways w.in_use (step_keeps node request (λ (u : World). u.in_use ≡ false → w.in_use ≡ false) (unused_kept node w.in_use) w v (line.RecordNormal ∷ []) step sound (λ e. e) unused)
+            others id serial m (id_told node l es) named (file_of node file w) (bytes_eq node node && bytes_eq f file) other ∙ still.0 k found id new m,
+        λ unused id m. absurd (both_ways w.in_use (step_keeps node request (λ (u : World). u.in_use ≡ false → w.in_use ≡ false) (unused_kept node w.in_use) w v (answer ∷ []) step sound (λ e. e) unused)
             (in_use_up w node n sound there.found (served_up w n request refl there.passes_here))),
       )
+    where
+      -- the ids that were drawn before are drawn after
+      drawn_after : (n : Node) → find_node node w.nodes ≡ Some n → (serial : Id) (f : List ℕ) (cs : List Change) (k : Node) → find_node node (after_act node (change_act serial f cs) w).nodes ≡ Some k →
+          (id : Id) → IsDrawn n.name n.boot n.drawn id → IsDrawn k.name k.boot k.drawn id
+      drawn_after n found serial f [] k e id d = subst (λ (x : Node). IsDrawn x.name x.boot x.drawn id) (some_is n k (sym found ∙ e)) d
+      drawn_after n found serial f (c ∷ cs) k e id d =
+          let act = Changes serial f (c ∷ cs) in
+          let is : acted act n ≡ k = some_is (acted act n) k (sym (changed_node node (acted act) w.nodes (acted_name act) ∙ ap (option_map (acted act)) found) ∙ e) in
+          subst (λ (x : Node). IsDrawn x.name x.boot x.drawn id) is d
 
-  put_fresh : (x l f : List ℕ) (number : ℕ) (bytes : List ℕ) → Step w (At x (Put l f number bytes)) (line.RecordNormal ∷ []) v → (b : Bool) → bytes_eq x node ≡ b →
-      IsFresh (λ id m. if b && bytes_eq f file && is_id id (id_told x l es) then insert (puts_told node file id es m) (Number number) bytes else puts_told node file id es m) node v
-  put_fresh x l f number bytes step false apart = fresh_still x (Put l f number bytes) (line.RecordNormal ∷ []) step
-  put_fresh x l f number bytes step true is =
+      -- of other ids nothing more is told
+      others : (id serial : Id) (m : TheRecords) (o : Option Id) → o ≡ Some serial → (g : Option File) (b : Bool) → same_id id serial ≡ false → told_by id (if b then one_told o g (sets_of op answer) sets else sets) m ≡ told_by id sets m
+      others id serial m o named g false other = refl
+      others id serial m o named None true other = subst (λ x. told_by id (one_told x None (sets_of op answer) sets) m ≡ told_by id sets m) (sym named) refl
+      others id serial m o named (Some g) true other =
+          subst (λ x. told_by id (one_told x (Some g) (sets_of op answer) sets) m ≡ told_by id sets m) (sym named) (cond-false (same_id id serial) (with_sets (sets_of op answer g) (told_by id sets m)) (told_by id sets m) other)
+
+  operation_fresh : (x l f : List ℕ) (op : Operation) (answer : Line) → Step w (At x (Records l f op)) (answer ∷ []) v → (b : Bool) → bytes_eq x node ≡ b → (c : Bool) → tells_change answer ≡ c →
+      IsFresh (λ id. told_by id (sets_here node file es w (Says (At x (Records l f op))) (answer ∷ []) sets)) node v
+  operation_fresh x l f op answer step b is false none =
+      fresh_as (λ id. told_by id sets) _ (nothing_told node file es w (Says (At x (Records l f op))) answer sets none) (fresh_still x (Records l f op) (answer ∷ []) step)
+  operation_fresh x l f op answer step false apart true tells =
+      fresh_as (λ id. told_by id sets) _ (λ id m. ap (λ s. told_by id s m) (sets_elsewhere node file sets x apart es w (Records l f op) (answer ∷ []))) (fresh_still x (Records l f op) (answer ∷ []) step)
+  operation_fresh x l f op answer step true is true tells =
       let at : x ≡ node = (bytes_eq-Decides x node).0 is in
-      subst (λ y. IsFresh (λ id m. if bytes_eq f file && is_id id (id_told y l es) then insert (puts_told node file id es m) (Number number) bytes else puts_told node file id es m) node v) (sym at)
-      (put_here_fresh l f number bytes (subst (λ y. Step w (At y (Put l f number bytes)) (line.RecordNormal ∷ []) v) at step))
+      subst (λ y. IsFresh (λ id. told_by id (sets_here node file es w (Says (At y (Records l f op))) (answer ∷ []) sets)) node v) (sym at)
+      (done_fresh l f op answer (succeeds answer tells) (no_failure answer tells) (subst (λ y. Step w (At y (Records l f op)) (answer ∷ []) v) at step))
+    where
+      succeeds : (a : Line) → tells_change a ≡ true → is_refusal a ≡ false
+      succeeds line.RecordNormal e = refl
+      succeeds (line.RecordPosition position) e = refl
+      succeeds a e = let none : ⊥ = cc in absurd none
 
-  pub turn_fresh : (reading : Reading) (lines : List Line) → Turn w reading lines v → IsFresh (λ id m. put_here node file id es reading lines (puts_told node file id es m)) node v
-  turn_fresh Blank lines turn = subst (IsFresh (λ id. puts_told node file id es) node) (sym turn.1) fresh
-  turn_fresh (Says (At x (Put l f number bytes))) (line.RecordNormal ∷ []) turn = put_fresh x l f number bytes turn (bytes_eq x node) refl
+      no_failure : (a : Line) → tells_change a ≡ true → is_failure a ≡ false
+      no_failure line.RecordNormal e = refl
+      no_failure (line.RecordPosition position) e = refl
+      no_failure a e = let none : ⊥ = cc in absurd none
+
+  pub turn_fresh : (reading : Reading) (lines : List Line) → Turn w reading lines v → IsFresh (λ id. told_by id (sets_here node file es w reading lines sets)) node v
+  turn_fresh Blank lines turn = subst (IsFresh (λ id. told_by id sets) node) (sym turn.1) fresh
+  turn_fresh (Says (At x (Records l f op))) (answer ∷ []) turn = operation_fresh x l f op answer turn (bytes_eq x node) refl (tells_change answer) refl
   turn_fresh (Says (At x request)) lines turn = fresh_still x request lines turn
   turn_fresh (Bad column) lines turn = absurd turn

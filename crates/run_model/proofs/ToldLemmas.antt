@@ -1,5 +1,5 @@
 -- What a transcript tells of a file's records agrees with the world that it leads to, while the file's node is up.
-use Rattle.std.proofs.Common.{◌≡◌, ℕ, List, [], ◌∷◌, ◌++◌, map, Bool, true, false, not, Option, Some, None, if◌then◌else◌, refl, sym, ◌∙◌, ap, subst}
+use Rattle.std.proofs.Common.{◌≡◌, ℕ, List, [], ◌∷◌, ◌++◌, map, Bool, true, false, not, ◌&&◌, Option, Some, None, if◌then◌else◌, refl, sym, ◌∙◌, ap, subst}
 use Rattle.std.specs.Str.{bytes_eq}
 use Rattle.std.specs.Option.{option_map}
 use Rattle.std.specs.FinMap.{empty}
@@ -9,14 +9,15 @@ use Rattle.vms_model.specs.Ids.{Id}
 use Rattle.vms_model.specs.Keys.{Key}
 use Rattle.transcript_model.specs.Lines as line
 use Rattle.transcript_model.specs.Lines.{Line, Cause}
-use Rattle.script_model.specs.Statements.{At, Request, Init, Boot, Create, Put, Reading, Says}
-use Rattle.records_model.specs.Records.{Records}
-use Rattle.records_model.specs.History.{History, LiveChanges, changes_by, settled_at}
-use Rattle.run_model.specs.World.{World, Node, File, Settlement, Act, Formats, Boots, ComesUp, Creates, Marks, Begins, Changes, Settles, Arms, Falls, find_node, find_file, serials_of, with_file, settled_file, acted, acts, next_id, is_durable, powered}
-use Rattle.run_model.specs.Answers.{early, early_up, shown_record, refused_if, is_unknown, is_volume_form, powers, spoils}
+use Rattle.script_model.specs.Statements.{At, Request, Init, Boot, Create, Records, Operation, Put, Update, Delete, Truncate, Get, Next, Reading, Says}
+use Rattle.records_model.specs.Records.{Records as TheRecords}
+use Rattle.records_model.specs.History.{History, LiveChanges, same_id, changes_by, settled_at}
+use Rattle.run_model.specs.World.{World, Node, File, Organization, Sequential, Relative, Indexed, Settlement, Act, Formats, Boots, ComesUp, Creates, Marks, Begins, Changes, Settles, Arms, Falls, find_node, find_file, serials_of, with_file, settled_file, acted, acts, next_id, is_durable, powered}
+use Rattle.run_model.specs.Answers.{early, early_up, shown_record, is_unknown, is_volume_form, powers, spoils}
+use Rattle.run_model.specs.Operations.{refused_if}
 use Rattle.run_model.specs.Steps.{after_rows, lines_of_rows, readied, spoilt, stops_at}
 use Rattle.run_model.specs.Transcript.{Entry}
-use Rattle.run_model.specs.Promises.{In, put_here, puts_told, commits_here, booted_here, created_here, standing}
+use Rattle.run_model.specs.Promises.{In, Told, with_sets, told_by, put_sets, sets_of, one_told, file_of, sets_here, id_told, commits_here, booted_here, created_here, standing}
 use Rattle.run_model.specs.Laws.{is_refusal}
 use Rattle.run_model.proofs.IdLemmas.{Each, each_at, id_itself}
 use Rattle.run_model.proofs.FindLemmas.{found_each, changed_node, some_is, found_file_each, changed_file, other_file, mapped_file}
@@ -38,12 +39,12 @@ abbrev pub history_at : List ℕ → Node → History
 history_at file n = history_of (find_file file n.directory)
 
 -- while the node of this name is up, what is told agrees with the history of its file
-abbrev pub IsTold : List ℕ → List ℕ → Records → (Id → Records → Records) → World → Type 0
+abbrev pub IsTold : List ℕ → List ℕ → TheRecords → (Id → TheRecords → TheRecords) → World → Type 0
 IsTold node file told puts w = (n : Node) → find_node node w.nodes ≡ Some n → n.up ≡ true → Agrees told puts (serials_of n.branches) (history_at file n)
 
 -- the records that a line leaves which reads so, and for which these lines were shown
-abbrev pub told_by : List ℕ → List ℕ → List Entry → Reading → List Line → World → Records → Records
-told_by node file es reading lines v m = if booted_here node reading lines then standing node file v else if created_here node file reading lines then empty else commits_here node file es lines m
+abbrev pub records_after : List ℕ → List ℕ → List Told → Reading → List Line → World → TheRecords → TheRecords
+records_after node file told reading lines v m = if booted_here node reading lines then standing node file v else if created_here node file reading lines then empty else commits_here told lines m
 
 pub same_text : (xs : List ℕ) → bytes_eq xs xs ≡ true
 same_text xs = (bytes_eq-Decides xs xs).1 refl
@@ -59,24 +60,71 @@ created_refused : (node file : List ℕ) (reading : Reading) (refusal : Line) �
 created_refused node file (Says (At n (Create f bucket size form))) line.Normal h = let none : ⊥ = cc in absurd none
 created_refused node file reading refusal h = refl
 
-commits_refused : (node file : List ℕ) (es : List Entry) (refusal : Line) (m : Records) → is_refusal refusal ≡ true → commits_here node file es (refusal ∷ []) m ≡ m
-commits_refused node file es (line.Committed tid serial moment) m h = let none : ⊥ = cc in absurd none
-commits_refused node file es refusal m h = refl
+commits_refused : (told : List Told) (refusal : Line) (m : TheRecords) → is_refusal refusal ≡ true → commits_here told (refusal ∷ []) m ≡ m
+commits_refused told (line.Committed tid serial moment) m h = let none : ⊥ = cc in absurd none
+commits_refused told refusal m h = refl
 
-pub put_refused : (node file : List ℕ) (id : Id) (es : List Entry) (reading : Reading) (refusal : Line) (m : Records) → is_refusal refusal ≡ true → put_here node file id es reading (refusal ∷ []) m ≡ m
-put_refused node file id es (Says (At n (Put l f number bytes))) line.RecordNormal m h = let none : ⊥ = cc in absurd none
-put_refused node file id es reading refusal m h = refl
+-- whether an answer is one of those by which records are changed
+abbrev pub tells_change : Line → Bool
+tells_change line.RecordNormal = true
+tells_change (line.RecordPosition position) = true
+tells_change answer = false
 
-pub told_refused : (node file : List ℕ) (es : List Entry) (reading : Reading) (refusal : Line) (v : World) (m : Records) → is_refusal refusal ≡ true → told_by node file es reading (refusal ∷ []) v m ≡ m
-told_refused node file es reading refusal v m h =
-    rw (booted_refused node reading refusal h, created_refused node file reading refusal h) (commits_refused node file es refusal m h)
+pub refusal_tells_none : (refusal : Line) → is_refusal refusal ≡ true → tells_change refusal ≡ false
+refusal_tells_none line.RecordNormal h = let none : ⊥ = cc in absurd none
+refusal_tells_none (line.RecordPosition position) h = let none : ⊥ = cc in absurd none
+refusal_tells_none refusal h = refl
 
-pub told_booted : (node file : List ℕ) (es : List Entry) (reading : Reading) (lines : List Line) (v : World) (m : Records) → booted_here node reading lines ≡ true → told_by node file es reading lines v m ≡ standing node file v
-told_booted node file es reading lines v m h = rw h refl
+none_put : (o : Organization) (number : Option ℕ) (bytes : List ℕ) (answer : Line) → tells_change answer ≡ false → put_sets o number bytes answer ≡ []
+none_put o number bytes line.RecordNormal h = let none : ⊥ = cc in absurd none
+none_put o number bytes (line.RecordPosition position) h = let none : ⊥ = cc in absurd none
+none_put Sequential None bytes answer h = refl
+none_put Sequential (Some n) bytes answer h = refl
+none_put (Relative greatest) None bytes answer h = refl
+none_put (Relative greatest) (Some n) bytes answer h = refl
+none_put (Indexed position size) None bytes answer h = refl
+none_put (Indexed position size) (Some n) bytes answer h = refl
+
+none_set : (op : Operation) (answer : Line) (f : File) → tells_change answer ≡ false → sets_of op answer f ≡ []
+none_set (Put number bytes) answer f h = none_put f.organization number bytes answer h
+none_set (Update key bytes) line.RecordNormal f h = let none : ⊥ = cc in absurd none
+none_set (Delete key) line.RecordNormal f h = let none : ⊥ = cc in absurd none
+none_set (Truncate number) line.RecordNormal f h = let none : ⊥ = cc in absurd none
+none_set (Update key bytes) answer f h = refl
+none_set (Delete key) answer f h = refl
+none_set (Truncate number) answer f h = refl
+none_set (Get key) answer f h = refl
+none_set (Next after) answer f h = refl
+
+-- an answer by which nothing is changed tells nothing more of what a transaction has set
+pub nothing_told : (node file : List ℕ) (es : List Entry) (w : World) (reading : Reading) (answer : Line) (told : List Told) → tells_change answer ≡ false → (id : Id) (m : TheRecords) →
+    told_by id (sets_here node file es w reading (answer ∷ []) told) m ≡ told_by id told m
+nothing_told node file es w (Says (At n (Records l f op))) answer told h id m = go (bytes_eq n node && bytes_eq f file)
+  where
+    one : (o : Option Id) (g : Option File) → told_by id (one_told o g (sets_of op answer) told) m ≡ told_by id told m
+    one (Some tid) (Some g) = ap (λ sets. if same_id id tid then with_sets sets (told_by id told m) else told_by id told m) (none_set op answer g h) ∙ either (same_id id tid)
+      where
+        either : (b : Bool) → (if b then told_by id told m else told_by id told m) ≡ told_by id told m
+        either true = refl
+        either false = refl
+    one (Some tid) None = refl
+    one None g = refl
+
+    go : (b : Bool) → told_by id (if b then one_told (id_told n l es) (file_of node file w) (sets_of op answer) told else told) m ≡ told_by id told m
+    go true = one (id_told n l es) (file_of node file w)
+    go false = refl
+nothing_told node file es w reading answer told h id m = refl
+
+pub records_refused : (node file : List ℕ) (told : List Told) (reading : Reading) (refusal : Line) (v : World) (m : TheRecords) → is_refusal refusal ≡ true → records_after node file told reading (refusal ∷ []) v m ≡ m
+records_refused node file told reading refusal v m h =
+    rw (booted_refused node reading refusal h, created_refused node file reading refusal h) (commits_refused told refusal m h)
+
+pub records_booted : (node file : List ℕ) (told : List Told) (reading : Reading) (lines : List Line) (v : World) (m : TheRecords) → booted_here node reading lines ≡ true → records_after node file told reading lines v m ≡ standing node file v
+records_booted node file told reading lines v m h = rw h refl
 
 -- A statement to another node tells nothing of this one.
 
-module _ (node file : List ℕ) (es : List Entry) (x : List ℕ) (apart : bytes_eq x node ≡ false) where
+module _ (node file : List ℕ) (told : List Told) (x : List ℕ) (apart : bytes_eq x node ≡ false) where
   booted_elsewhere : (request : Request) (lines : List Line) → booted_here node (Says (At x request)) lines ≡ false
   booted_elsewhere Boot lines = and_left (bytes_eq x node) _ apart
   booted_elsewhere request lines = refl
@@ -85,22 +133,22 @@ module _ (node file : List ℕ) (es : List Entry) (x : List ℕ) (apart : bytes_
   created_elsewhere (Create f bucket size form) (line.Normal ∷ []) = and_left (bytes_eq x node) _ apart
   created_elsewhere request lines = refl
 
-  commits_elsewhere : (lines : List Line) (m : Records) → Each (CommitsAt x) lines → ((serial : Id) → serial.node ≡ x → (k : Records) → puts_told node file serial es k ≡ k) → commits_here node file es lines m ≡ m
+  commits_elsewhere : (lines : List Line) (m : TheRecords) → Each (CommitsAt x) lines → ((serial : Id) → serial.node ≡ x → (k : TheRecords) → told_by serial told k ≡ k) → commits_here told lines m ≡ m
   commits_elsewhere [] m h k = refl
-  commits_elsewhere (line.Committed tid serial moment ∷ lines) m h k = ap (commits_here node file es lines) (k serial h.0 m) ∙ commits_elsewhere lines m h.1 k
+  commits_elsewhere (line.Committed tid serial moment ∷ lines) m h k = ap (commits_here told lines) (k serial h.0 m) ∙ commits_elsewhere lines m h.1 k
   commits_elsewhere (other ∷ lines) m h k = commits_elsewhere lines m h.1 k
 
-  pub put_elsewhere : (id : Id) (request : Request) (lines : List Line) (m : Records) → put_here node file id es (Says (At x request)) lines m ≡ m
-  put_elsewhere id (Put l f number bytes) (line.RecordNormal ∷ []) m = rw apart refl
-  put_elsewhere id request lines m = refl
+  pub sets_elsewhere : (es : List Entry) (w : World) (request : Request) (lines : List Line) → sets_here node file es w (Says (At x request)) lines told ≡ told
+  sets_elsewhere es w (Records l f op) (answer ∷ []) = rw apart refl
+  sets_elsewhere es w request lines = refl
 
-  pub told_elsewhere : (request : Request) (lines : List Line) (v : World) (m : Records) → Each (CommitsAt x) lines → ((serial : Id) → serial.node ≡ x → (k : Records) → puts_told node file serial es k ≡ k) →
-      told_by node file es (Says (At x request)) lines v m ≡ m
-  told_elsewhere request lines v m h k = rw (booted_elsewhere request lines, created_elsewhere request lines) (commits_elsewhere lines m h k)
+  pub records_elsewhere : (request : Request) (lines : List Line) (v : World) (m : TheRecords) → Each (CommitsAt x) lines → ((serial : Id) → serial.node ≡ x → (k : TheRecords) → told_by serial told k ≡ k) →
+      records_after node file told (Says (At x request)) lines v m ≡ m
+  records_elsewhere request lines v m h k = rw (booted_elsewhere request lines, created_elsewhere request lines) (commits_elsewhere lines m h k)
 
 -- One act at the node.
 
-pub acts_told : (node file : List ℕ) (told : Records) (puts : Id → Records → Records) (w : World) (n : Node) (act : Act) → find_node node w.nodes ≡ Some n →
+pub acts_told : (node file : List ℕ) (told : TheRecords) (puts : Id → TheRecords → TheRecords) (w : World) (n : Node) (act : Act) → find_node node w.nodes ≡ Some n →
     ((acted act n).up ≡ true → Agrees told puts (serials_of (acted act n).branches) (history_at file (acted act n))) → IsTold node file told puts (acts node act w)
 acts_told node file told puts w n act found h k e up =
     let same = some_is (acted act n) k (sym (changed_node node (acted act) w.nodes (acted_name act) ∙ ap (option_map (acted act)) found) ∙ e) in
@@ -144,9 +192,9 @@ pub shown_do_nothing : (node : List ℕ) (es : List (Key × List ℕ)) (w : Worl
 shown_do_nothing node [] w = refl
 shown_do_nothing node (e ∷ es) w = shown_do_nothing node es w
 
-pub shown_commit_nothing : (node file : List ℕ) (before : List Entry) (es : List (Key × List ℕ)) (count : ℕ) (m : Records) → commits_here node file before (lines_of_rows (map shown_record es) ++ line.NormalCount count ∷ []) m ≡ m
-shown_commit_nothing node file before [] count m = refl
-shown_commit_nothing node file before (e ∷ es) count m = shown_commit_nothing node file before es count m
+pub shown_commit_nothing : (told : List Told) (es : List (Key × List ℕ)) (count : ℕ) (m : TheRecords) → commits_here told (lines_of_rows (map shown_record es) ++ line.NormalCount count ∷ []) m ≡ m
+shown_commit_nothing told [] count m = refl
+shown_commit_nothing told (e ∷ es) count m = shown_commit_nothing told es count m
 
 -- A node whose disk is made to run again was down, and is.
 
@@ -162,7 +210,7 @@ resolved_up true (Some act) n may = go act may.0
     go Boots d = refl
     go (Creates place file) d = refl
     go (Marks file units) d = refl
-    go (Changes serial file change) d = refl
+    go (Changes serial file changes) d = refl
     go (Settles s) d = refl
 resolved_up true None n may = refl
 resolved_up false o n may = refl

@@ -5,15 +5,17 @@ use Rattle.vms_model.specs.Keys.{Key}
 use Rattle.vms_model.specs.Transactions.{Outcome, Commit, Abort, Reason, Aborted}
 use Rattle.transcript_model.specs.Lines as line
 use Rattle.transcript_model.specs.Lines.{Line, Cause}
-use Rattle.script_model.specs.Statements.{At, Request, Init, Boot, Create, SetFile, StartTrans, Put, EndTrans, AbortTrans, Dump, Fuse, Crash, Form}
+use Rattle.script_model.specs.Statements.{At, Request, Init, Boot, Create, SetFile, StartTrans, Records, EndTrans, AbortTrans, Dump, Fuse, Crash, Form}
+use Rattle.vms_model.specs.Ids.{Id}
+use Rattle.records_model.specs.Records.{Change}
 use Rattle.run_model.specs.World.{World, Node, DiskCounts, Settlement, Branch, Act, Creates, find_node, free_place, lowest_free, serials_of}
-use Rattle.run_model.specs.Answers.{Row, early, late, rows, rows_at, answer, answer_at, last_line, last_lines, to_branch, branch_labelled, shown_record, records_of, created, creates, blocks_for, put_by, committed, aborted, touches}
+use Rattle.run_model.specs.Answers.{Row, early, late, rows, rows_at, answer, answer_at, last_line, last_lines, to_branch, branch_labelled, shown_record, records_of, created, creates, blocks_for, change_act, changes_at, operated, committed, aborted, touches}
 use Rattle.run_model.specs.Steps.{Step, Choice, Whole, WithoutMemory, Unpowered, Cut, Allowed, after_act, after_rows, lines_of_rows, rows_if, rows_of, broken, whole, begun, effect, readied, occupied, stops_at}
 use Rattle.run_model.specs.Promises.{In}
 use Rattle.run_model.specs.Laws.{is_refusal}
 use Rattle.run_model.proofs.IdLemmas.{Each, each_as, each_at, in_map}
 use Rattle.run_model.proofs.FindLemmas.{found_name, found_each}
-use Rattle.run_model.proofs.AnswerLemmas.{refuses_early, refuses_late, rows_found, answer_found}
+use Rattle.run_model.proofs.AnswerLemmas.{refuses_early, refuses_late, rows_found, answer_found, operation_told_is}
 use Rattle.run_model.proofs.ReadyLemmas.{ready_node, ready_labels, is_ready}
 use Rattle.run_model.proofs.Soundness.{IsSoundNode, IsSoundWorld, IsDrawn}
 use Rattle.run_model.proofs.ActLemmas.{labelled_in}
@@ -74,6 +76,10 @@ created_makes_none node n file bucket size form = go (free_place n.directory)
     go (Some place) = with_start place (lowest_free n (blocks_for bucket size form))
     go None = tt
 
+changes_make_none : (node : List ℕ) (serial : Id) (file : List ℕ) (cs : List Change) (w : World) → (after_act node (change_act serial file cs) w).labels ≡ w.labels
+changes_make_none node serial file [] w = refl
+changes_make_none node serial file (c ∷ cs) w = refl
+
 -- whether a request makes a label where it succeeds
 abbrev pub makes_label : Request → Bool
 makes_label (StartTrans label) = true
@@ -85,7 +91,7 @@ rows_make_none node w n Boot h = (λ w. refl, (λ w. refl, tt))
 rows_make_none node w n (Create file bucket size form) h = created_makes_none node n file bucket size form
 rows_make_none node w n (SetFile file setting) h = (λ w. refl, tt)
 rows_make_none node w n (StartTrans label) h = let none : ⊥ = cc in absurd none
-rows_make_none node w n (Put label file number bytes) h = each_branch (MakesNone node) w n label (put_by n file number bytes) (λ b i w. refl)
+rows_make_none node w n (Records label file op) h = each_branch (MakesNone node) w n label (operated n file op) (λ b i w. changes_make_none node b.serial file (changes_at n file op) w)
 rows_make_none node w n (EndTrans label) h = each_branch (MakesNone node) w n label (committed n) (λ b i w. refl)
 rows_make_none node w n (AbortTrans label) h = each_branch (MakesNone node) w n label (aborted Aborted n) (λ b i w. refl)
 rows_make_none node w n (Dump file) h = each_shown (MakesNone node) (records_of n file) (λ e w. refl)
@@ -160,6 +166,7 @@ refusal_commits node _ h = tt
 
 answer_commits : (node : List ℕ) (n : Node) (request : Request) → CommitsAt node (answer_at n request)
 answer_commits node n Boot = tt
+answer_commits node n (Records label file op) = operation_told_is (CommitsAt node) tt (λ position. tt) (λ bytes. tt) (λ key bytes. tt) n file op
 answer_commits node n _ = tt
 
 last_commits : (node : List ℕ) (n : Node) → Each (CommitsAt node) (last_lines n)
@@ -180,7 +187,7 @@ rows_commit node w n Boot h = (last_commits node n, (tt, tt))
 rows_commit node w n (Create file bucket size form) h = each_created (λ r. Each (CommitsAt node) r.lines) n file bucket size form (λ act. tt)
 rows_commit node w n (SetFile file setting) h = (tt, tt)
 rows_commit node w n (StartTrans label) h = (tt, tt)
-rows_commit node w n (Put label file number bytes) h = each_branch (λ r. Each (CommitsAt node) r.lines) w n label (put_by n file number bytes) (λ b i. tt)
+rows_commit node w n (Records label file op) h = each_branch (λ r. Each (CommitsAt node) r.lines) w n label (operated n file op) (λ b i. tt)
 rows_commit node w n (EndTrans label) h = each_branch (λ r. Each (CommitsAt node) r.lines) w n label (committed n) (λ b i. (each_at (λ id. id.node ≡ node) b.serial (serials_of n.branches) h (in_map (λ b. b.serial) b n.branches i), tt))
 rows_commit node w n (AbortTrans label) h = each_branch (λ r. Each (CommitsAt node) r.lines) w n label (aborted Aborted n) (λ b i. (tt, tt))
 rows_commit node w n (Dump file) h = each_shown (λ r. Each (CommitsAt node) r.lines) (records_of n file) (λ e. (tt, tt))

@@ -2,14 +2,19 @@
 -- of a step knows the statements.
 use Rattle.std.specs.Prelude.{ℕ, ◌+◌, ◌-◌, ◌*◌, ◌/◌, List, [], ◌∷◌, Bool, true, false, not, ◌&&◌, ◌||◌, ◌==◌, Option, Some, None, min, nat_le, nat_lt, map, length}
 use Rattle.std.specs.Option.{option_and_then}
-use Rattle.std.specs.FinMap.{empty, entries, get, contains_key}
-use Rattle.vms_model.specs.Keys.{Key, Number}
+use Rattle.std.specs.FinMap.{empty}
+use Rattle.vms_model.specs.Keys.{Key}
+use Rattle.vms_model.specs.Ids.{Id}
 use Rattle.vms_model.specs.Transactions.{Commit, Abort, Reason, Aborted}
 use Rattle.transcript_model.specs.Lines as line
 use Rattle.transcript_model.specs.Lines.{Line}
-use Rattle.script_model.specs.Statements.{Statement, At, Request, Init, Boot, Create, SetFile, StartTrans, Put, EndTrans, AbortTrans, Dump, Fuse, Crash, Form, Relative, Setting, RecoveryUnits, NoRecoveryUnits}
-use Rattle.records_model.specs.History.{current, first_to_change}
-use Rattle.run_model.specs.World.{World, Node, File, Branch, Settlement, Volume, Sound, Faulty, Unknown, Act, Formats, Boots, ComesUp, Creates, Marks, Begins, Changes, Settles, Arms, Falls, find_node, find_file, free_place, find_label, labelled, find_branch, serials_of, longest_free, lowest_free, next_id, next_moment}
+use Rattle.script_model.specs.Statements.{Statement, At, Request, Init, Boot, Create, SetFile, StartTrans, Records, EndTrans, AbortTrans, Dump, Fuse, Crash, Form, Sequential, Relative, Indexed, Setting, Operation, RecoveryUnits, NoRecoveryUnits}
+use Rattle.records_model.specs.Records.{Change}
+use Rattle.records_model.specs.Slots.{Slot}
+use Rattle.records_model.specs.History.{first_to_change}
+use Rattle.run_model.specs.World as world
+use Rattle.run_model.specs.World.{World, Node, File, Organization, Branch, Settlement, Volume, Sound, Faulty, Unknown, Act, Formats, Boots, ComesUp, Creates, Marks, Begins, Changes, Settles, Arms, Falls, find_node, find_file, free_place, find_label, labelled, find_branch, serials_of, longest_free, lowest_free, next_id, next_moment}
+use Rattle.run_model.specs.Operations.{first_of, refused_if, in_order, form_refused, data_refused, changes_of, file_full, operation_answer}
 
 -- how many labels a run makes, at the most
 abbrev pub label_limit : ℕ
@@ -40,16 +45,6 @@ node_of (At node request) = node
 
 -- Single causes of refusals.
 
--- the first of two that applies
-abbrev pub first_of : Option Line → Option Line → Option Line
-first_of (Some refusal) other = Some refusal
-first_of None other = other
-
--- a refusal where a test holds
-abbrev pub refused_if : Bool → Line → Option Line
-refused_if true refusal = Some refusal
-refused_if false refusal = None
-
 -- a label that is to be made: it exists, or the run has made all that it may
 abbrev pub new_label : World → List ℕ → Option Line
 new_label w name = elim (find_label name w.labels) [ Some label ↦ Some line.BadLabel | None ↦ refused_if (nat_le label_limit (length w.labels)) line.BadLabel ]
@@ -74,26 +69,26 @@ there_is_file n name = elim (find_file name n.directory) [ Some f ↦ None | Non
 abbrev pub of_file : Node → List ℕ → (File → Option Line) → Option Line
 of_file n name says = elim (find_file name n.directory) [ Some f ↦ says f | None ↦ None ]
 
--- a record's number is 0 or above the greatest, or its size is 0 or above the greatest
-abbrev pub fits_file : ℕ → ℕ → File → Option Line
-fits_file number size f = first_of (refused_if (nat_lt number 1 || nat_lt f.greatest_number number) line.BadRecordNumber)
-    (refused_if (nat_lt size 1 || nat_lt f.record_size size) line.BadRecordSize)
-
 -- a file that is to be shown: an unsettled branch changed it, the earliest begun of which is named
 abbrev pub unchanged_file : Node → File → Option Line
 unchanged_file n f = elim (first_to_change f.history (serials_of n.branches)) [ Some serial ↦ Some (line.FileLocked serial) | None ↦ None ]
 
--- a record that is to be new: there is one of this number
-abbrev pub no_record : ℕ → File → Option Line
-no_record number f = refused_if (contains_key (current f.history) (Number number)) line.RecordExists
-
--- a file whose records are to be changed by a branch: it is not marked for recovery units
+-- a file whose records are to be read or changed by a branch: it is not marked for recovery units
 abbrev pub is_marked : File → Option Line
 is_marked f = refused_if (not f.recovery_units) line.NotMarked
 
--- a branch that is to make one more change: it has made all that it may
-abbrev pub one_more_change : Branch → Option Line
-one_more_change b = refused_if (nat_le change_limit b.changes) (line.QuotaExceeded line.Changes change_limit)
+-- a branch that is to make more changes: with them it has made more than it may
+abbrev pub more_changes : List Change → Branch → Option Line
+more_changes cs b = refused_if (nat_lt change_limit (b.changes + length cs)) (line.QuotaExceeded line.Changes change_limit)
+
+-- the changes of an operation, where its file is there
+abbrev pub changes_at : Node → List ℕ → Operation → List Change
+changes_at n file op = elim (find_file file n.directory) [ Some f ↦ changes_of f op | None ↦ [] ]
+
+-- an operation of a branch: the records that stand refuse it, it makes too many changes, or its file has too few free buckets
+abbrev pub operation_refused : World → Node → (label file : List ℕ) → Operation → Option Line
+operation_refused w n label file op = first_of (of_file n file (λ f. data_refused f op))
+    (first_of (option_and_then (more_changes (changes_at n file op)) (branch_labelled w n label)) (of_file n file (λ f. file_full f op)))
 
 -- a file that is to be made: there is one of this name
 abbrev pub new_file : Node → List ℕ → Option Line
@@ -103,17 +98,26 @@ new_file n name = elim (find_file name n.directory) [ Some f ↦ Some line.FileE
 abbrev pub is_within : ℕ → ℕ → ℕ → Bool
 is_within from to n = nat_le from n && nat_le n to
 
--- whether a relative file may be so: its bucket has 1 to 16 blocks, a record at least one byte and so many that 32 bytes of a bucket are left, but
--- at most 8,160, and it has a record's number
+-- whether buckets and records may be sized so: a bucket has 1 to 16 blocks, a record at least one byte and so many that 32 bytes of a bucket are left, but
+-- at most 8,160
+abbrev pub are_sizes : ℕ → ℕ → Bool
+are_sizes bucket size = is_within 1 16 bucket && is_within 1 (min 8160 (512 * bucket - 32)) size
+
+-- whether a file may be so: it has a bucket, or a record's number; a key has 1 to 64 bytes, which the longest record holds
 abbrev pub is_file_form : ℕ → ℕ → Form → Bool
-is_file_form bucket size (Relative records) = is_within 1 16 bucket && is_within 1 (min 8160 (512 * bucket - 32)) size && nat_le 1 records
+is_file_form bucket size (Sequential buckets) = are_sizes bucket size && nat_le 1 buckets
+is_file_form bucket size (Relative records) = are_sizes bucket size && nat_le 1 records
+is_file_form bucket size (Indexed buckets position key_size) = are_sizes bucket size && nat_le 1 buckets && is_within 1 64 key_size && nat_le (position + key_size) size
 
 -- whether a volume of so many log slots and journal blocks may be made on a disk: both are within their limits, and a block is left for files
 abbrev pub is_volume_form : ℕ → ℕ → Node → Bool
 is_volume_form slots journal n = is_within 64 512 slots && is_within 64 8192 journal && nat_lt (584 + slots + journal) n.blocks
 
--- how many buckets a file takes: a bucket of so many blocks, less 16 bytes, has as many cells as hold records of this size with two bytes each
+-- how many buckets a file takes: as many as are said, or, in a relative file, those that hold all its cells. A bucket of so many blocks, less 16 bytes, has
+-- as many cells as hold records of this size with two bytes each.
 abbrev pub buckets_for : ℕ → ℕ → Form → ℕ
+buckets_for bucket size (Sequential buckets) = buckets
+buckets_for bucket size (Indexed buckets position key_size) = buckets
 buckets_for bucket size (Relative records) = let cells = (512 * bucket - 16) / (size + 2) in (records + cells - 1) / cells
 
 -- how many blocks it takes
@@ -152,7 +156,7 @@ early_up w n Boot = first_of (refused_if n.up line.NodeUp) (refused_if (is_unkno
 early_up w n (Create file bucket size form) = first_of (new_file n file) (refused_if (not (is_file_form bucket size form)) line.BadParameter)
 early_up w n (SetFile file setting) = first_of (there_is_file n file) (of_file n file (unchanged_file n))
 early_up w n (StartTrans label) = new_label w label
-early_up w n (Put label file number bytes) = first_of (made_label w n label) (first_of (there_is_file n file) (first_of (of_file n file (fits_file number (length bytes))) (first_of (unsettled_label w n label) (of_file n file is_marked))))
+early_up w n (Records label file op) = first_of (made_label w n label) (first_of (there_is_file n file) (first_of (of_file n file (λ f. form_refused f op)) (first_of (unsettled_label w n label) (of_file n file is_marked))))
 early_up w n (EndTrans label) = first_of (made_label w n label) (unsettled_label w n label)
 early_up w n (AbortTrans label) = first_of (made_label w n label) (unsettled_label w n label)
 early_up w n (Dump file) = first_of (there_is_file n file) (of_file n file (unchanged_file n))
@@ -166,7 +170,7 @@ served_down Boot = true
 served_down (Create file bucket size form) = false
 served_down (SetFile file setting) = false
 served_down (StartTrans label) = false
-served_down (Put label file number bytes) = false
+served_down (Records label file op) = false
 served_down (EndTrans label) = false
 served_down (AbortTrans label) = false
 served_down (Dump file) = false
@@ -190,7 +194,7 @@ late_at w n Boot = bootable n
 late_at w n (Create file bucket size form) = room_for (blocks_for bucket size form) n
 late_at w n (SetFile file setting) = None
 late_at w n (StartTrans label) = refused_if (nat_le branch_limit (length n.branches)) (line.QuotaExceeded line.Branches branch_limit)
-late_at w n (Put label file number bytes) = first_of (of_file n file (no_record number)) (option_and_then one_more_change (branch_labelled w n label))
+late_at w n (Records label file op) = operation_refused w n label file op
 late_at w n (EndTrans label) = None
 late_at w n (AbortTrans label) = None
 late_at w n (Dump file) = None
@@ -210,7 +214,7 @@ powers Boot = true
 powers (Create file bucket size form) = false
 powers (SetFile file setting) = false
 powers (StartTrans label) = false
-powers (Put label file number bytes) = false
+powers (Records label file op) = false
 powers (EndTrans label) = false
 powers (AbortTrans label) = false
 powers (Dump file) = false
@@ -224,7 +228,7 @@ spoils Boot = false
 spoils (Create file bucket size form) = false
 spoils (SetFile file setting) = false
 spoils (StartTrans label) = false
-spoils (Put label file number bytes) = false
+spoils (Records label file op) = false
 spoils (EndTrans label) = false
 spoils (AbortTrans label) = false
 spoils (Dump file) = false
@@ -238,7 +242,7 @@ occupies Boot = true
 occupies (Create file bucket size form) = false
 occupies (SetFile file setting) = false
 occupies (StartTrans label) = false
-occupies (Put label file number bytes) = false
+occupies (Records label file op) = false
 occupies (EndTrans label) = false
 occupies (AbortTrans label) = false
 occupies (Dump file) = false
@@ -252,7 +256,7 @@ touches Boot = true
 touches (Create file bucket size form) = true
 touches (SetFile file setting) = true
 touches (StartTrans label) = false
-touches (Put label file number bytes) = true
+touches (Records label file op) = true
 touches (EndTrans label) = true
 touches (AbortTrans label) = true
 touches (Dump file) = true
@@ -266,7 +270,7 @@ takes_memory n Boot = not n.was_up
 takes_memory n (Create file bucket size form) = false
 takes_memory n (SetFile file setting) = false
 takes_memory n (StartTrans label) = false
-takes_memory n (Put label file number bytes) = false
+takes_memory n (Records label file op) = false
 takes_memory n (EndTrans label) = false
 takes_memory n (AbortTrans label) = false
 takes_memory n (Dump file) = false
@@ -283,9 +287,17 @@ may_lack_memory w (At node request) = elim (find_node node w.nodes) [ Some n ↦
 
 -- What a success does, part after part, and its answer.
 
--- the numbers of a file's records go up to this one
-abbrev pub greatest_of : Form → ℕ
-greatest_of (Relative records) = records
+-- how a file of this form keeps its records
+abbrev pub organized : Form → Organization
+organized (Sequential buckets) = world.Sequential
+organized (Relative records) = world.Relative records
+organized (Indexed buckets position key_size) = world.Indexed position key_size
+
+-- the chain of a new file: one bucket without slots, where it is indexed
+abbrev pub first_chain : Form → List (List Slot)
+first_chain (Sequential buckets) = []
+first_chain (Relative records) = []
+first_chain (Indexed buckets position key_size) = [] ∷ []
 
 -- a new file, which lies from this block on, without records; its history begins at this moment
 abbrev pub created : List ℕ → ℕ → ℕ → Form → ℕ → ℕ → File
@@ -293,12 +305,13 @@ created name bucket size form start moment = record {
   name = name;
   bucket = bucket;
   record_size = size;
-  greatest_number = greatest_of form;
+  organization = organized form;
   start = start;
   buckets = buckets_for bucket size form;
   others = [];
   recovery_units = false;
   history = record { base = empty; moment = moment; settled = []; live = [] };
+  chain = first_chain form;
 }
 
 -- a file takes the lowest free place of the directory and the lowest run of free blocks that holds it
@@ -326,13 +339,14 @@ silent act = record { act = Some act; lines = [] }
 abbrev pub begun : Node → List ℕ → Row
 begun n label = record { act = Some (Begins (record { name = label; node = n.name; serial = next_id n }) (record { tid = next_id n; serial = next_id n; changes = 0 })); lines = [] }
 
--- the record of a file at a key as it stands, with the changes of unsettled branches
-abbrev pub record_at : Node → List ℕ → Key → Option (List ℕ)
-record_at n file key = elim (find_file file n.directory) [ Some f ↦ get (current f.history) key | None ↦ None ]
+-- changes of a branch are one act; where there are none, nothing is done
+abbrev pub change_act : Id → List ℕ → List Change → Option Act
+change_act serial file [] = None
+change_act serial file (c ∷ cs) = Some (Changes serial file (c ∷ cs))
 
--- a record is put by a branch, at a number that had none
-abbrev pub put_by : Node → List ℕ → ℕ → List ℕ → Branch → Row
-put_by n file number bytes b = record { act = Some (Changes b.serial file (record { key = Number number; before = record_at n file (Number number); after = Some bytes })); lines = [] }
+-- an operation of a branch makes its changes
+abbrev pub operated : Node → List ℕ → Operation → Branch → Row
+operated n file op b = record { act = change_act b.serial file (changes_at n file op); lines = [] }
 
 -- a branch is committed at the node's next moment, and that is shown
 abbrev pub committed : Node → Branch → Row
@@ -348,7 +362,7 @@ to_branch w n label does = elim (branch_labelled w n label) [ Some b ↦ does b 
 
 -- the records of a file, in the order of their keys
 abbrev pub records_of : Node → List ℕ → List (Key × List ℕ)
-records_of n file = elim (find_file file n.directory) [ Some f ↦ entries (current f.history) | None ↦ [] ]
+records_of n file = elim (find_file file n.directory) [ Some f ↦ in_order f | None ↦ [] ]
 
 -- a record is shown, and nothing is done
 abbrev pub shown_record : Key × List ℕ → Row
@@ -361,7 +375,7 @@ rows_at w n Boot = record { act = Some Boots; lines = last_lines n } ∷ silent 
 rows_at w n (Create file bucket size form) = creates n (λ start. created file bucket size form start n.greatest) (blocks_for bucket size form)
 rows_at w n (SetFile file setting) = silent (Marks file (is_for_units setting)) ∷ []
 rows_at w n (StartTrans label) = begun n label ∷ []
-rows_at w n (Put label file number bytes) = to_branch w n label (put_by n file number bytes)
+rows_at w n (Records label file op) = to_branch w n label (operated n file op)
 rows_at w n (EndTrans label) = to_branch w n label (committed n)
 rows_at w n (AbortTrans label) = to_branch w n label (aborted Aborted n)
 rows_at w n (Dump file) = map shown_record (records_of n file)
@@ -372,6 +386,10 @@ rows_at w n Crash = record { act = Some Falls; lines = line.Crashed n.name ∷ [
 abbrev pub rows : World → Statement → List Row
 rows w (At node request) = elim (find_node node w.nodes) [ Some n ↦ rows_at w n request | None ↦ [] ]
 
+-- what an operation is answered where it succeeds
+abbrev pub operation_told : Node → List ℕ → Operation → Line
+operation_told n file op = elim (find_file file n.directory) [ Some f ↦ operation_answer f op | None ↦ line.RecordNormal ]
+
 -- what a request is answered at its node where it succeeds
 abbrev pub answer_at : Node → Request → Line
 answer_at n (Init slots journal) = line.Normal
@@ -379,7 +397,7 @@ answer_at n Boot = line.NormalCount (n.boot + 1)
 answer_at n (Create file bucket size form) = line.Normal
 answer_at n (SetFile file setting) = line.Normal
 answer_at n (StartTrans label) = line.NormalId (next_id n)
-answer_at n (Put label file number bytes) = line.RecordNormal
+answer_at n (Records label file op) = operation_told n file op
 answer_at n (EndTrans label) = line.Normal
 answer_at n (AbortTrans label) = line.Normal
 answer_at n (Dump file) = line.NormalCount (length (records_of n file))

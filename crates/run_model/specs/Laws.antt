@@ -1,7 +1,7 @@
 -- What holds of all steps and of all legal transcripts.
 use Rattle.std.specs.Prelude.{◌≡◌, ◌+◌, ◌<◌, ◌^◌, ◌⊎◌, List, [], ◌∷◌, ◌++◌, Bool, true, false, Some, None, map}
 use Rattle.std.specs.Option.{option_map}
-use Rattle.transcript_model.specs.Lines.{Line, Cause, Record, Committed, Aborted, LastCommitted, LastAborted, Down, Crashed, Normal, NormalCount, NormalId, RecordNormal, NoSuchNode, NodeDown, NodeUp, VolumeInUse, NotInitialized, BadLabel, FileNotFound, FileExists, BadParameter, BadRecordNumber, BadRecordSize, NoSuchTransaction, NotMarked, FileLocked, NoVolume, RecordExists, QuotaExceeded, VolumeFull, NoMemory, Broken, BadLine, TooLong}
+use Rattle.transcript_model.specs.Lines.{Line, Cause, Record, Committed, Aborted, LastCommitted, LastAborted, Down, Crashed, Normal, NormalCount, NormalId, RecordNormal, RecordPosition, RecordFound, NextFound, NoSuchNode, NodeDown, NodeUp, VolumeInUse, NotInitialized, BadLabel, FileNotFound, FileExists, BadParameter, BadOperation, BadRecordNumber, BadRecordSize, NoSuchTransaction, NotMarked, FileLocked, NoVolume, RecordExists, KeyExists, RecordNotFound, EndOfFile, KeyChanged, QuotaExceeded, VolumeFull, FileFull, NoMemory, Broken, BadLine, TooLong}
 use Rattle.script_model.specs.Statements.{Statement}
 use Rattle.run_model.specs.World.{World, Node, DiskCounts, IsOpening, opened, find_node}
 use Rattle.run_model.specs.Answers.{node_of, early, late, may_lack_memory}
@@ -31,6 +31,9 @@ is_refusal Normal = false
 is_refusal (NormalCount n) = false
 is_refusal (NormalId id) = false
 is_refusal RecordNormal = false
+is_refusal (RecordPosition position) = false
+is_refusal (RecordFound bytes) = false
+is_refusal (NextFound key bytes) = false
 is_refusal NoSuchNode = true
 is_refusal NodeDown = true
 is_refusal NodeUp = true
@@ -40,6 +43,7 @@ is_refusal BadLabel = true
 is_refusal FileNotFound = true
 is_refusal FileExists = true
 is_refusal BadParameter = true
+is_refusal BadOperation = true
 is_refusal BadRecordNumber = true
 is_refusal BadRecordSize = true
 is_refusal NoSuchTransaction = true
@@ -47,8 +51,13 @@ is_refusal NotMarked = true
 is_refusal (NoVolume node condition block) = true
 is_refusal (FileLocked serial) = true
 is_refusal RecordExists = true
+is_refusal KeyExists = true
+is_refusal RecordNotFound = true
+is_refusal EndOfFile = true
+is_refusal KeyChanged = true
 is_refusal (QuotaExceeded quota limit) = true
 is_refusal (VolumeFull free need) = true
+is_refusal (FileFull free need) = true
 is_refusal NoMemory = true
 is_refusal (Broken cause) = false
 is_refusal (BadLine column) = false

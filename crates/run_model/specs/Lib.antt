@@ -1,5 +1,6 @@
 pub mod Extents
 pub mod World
+pub mod Operations
 pub mod Answers
 pub mod Steps
 pub mod Transcript

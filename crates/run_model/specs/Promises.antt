@@ -1,17 +1,19 @@
 -- What a run promises of its transcript, in the words of those who keep records in its files.
-use Rattle.std.specs.Prelude.{◌≡◌, ℕ, ◌<◌, ◌⊎◌, List, [], ◌∷◌, ◌++◌, Bool, true, false, ◌&&◌, if◌then◌else◌, Option, Some, None, map, length}
+use Rattle.std.specs.Prelude.{◌≡◌, ℕ, ◌<◌, ◌⊎◌, List, [], ◌∷◌, ◌++◌, Bool, true, false, ◌&&◌, if◌then◌else◌, ◌-◌, Option, Some, None, map, length, drop}
 use Rattle.std.specs.Str.{bytes_eq}
-use Rattle.std.specs.FinMap.{empty, entries, insert}
+use Rattle.std.specs.FinMap.{empty, entries}
 use Rattle.vms_model.specs.Ids.{Id}
-use Rattle.vms_model.specs.Keys.{Number}
+use Rattle.vms_model.specs.Keys.{Key, Number, Text}
 use Rattle.vms_model.specs.Transactions.{Outcome, Commit, Abort, Reason, Aborted}
 use Rattle.transcript_model.specs.Lines as line
 use Rattle.transcript_model.specs.Lines.{Line}
-use Rattle.script_model.specs.Statements.{Statement, At, Reading, Says, Boot, Create, StartTrans, Put, EndTrans, AbortTrans, Dump}
+use Rattle.script_model.specs.Statements.{Statement, At, Reading, Says, Boot, Create, StartTrans, Records, EndTrans, AbortTrans, Dump, Operation, Put, Update, Delete, Truncate}
 use Rattle.script_model.specs.Grammar.{reading}
-use Rattle.records_model.specs.Records.{Records}
+use Rattle.records_model.specs.Records as base
+use Rattle.records_model.specs.Records.{set_key}
 use Rattle.records_model.specs.History.{same_id, current}
-use Rattle.run_model.specs.World.{World, Settlement, find_node, find_file}
+use Rattle.run_model.specs.World.{World, Settlement, File, Organization, Indexed, find_node, find_file}
+use Rattle.run_model.specs.Operations.{in_order, key_within}
 use Rattle.run_model.specs.Steps.{Step}
 use Rattle.run_model.specs.Transcript.{Entry, Turn}
 
@@ -44,26 +46,61 @@ abbrev pub id_told : List ℕ → List ℕ → List Entry → Option Id
 id_told node label [] = None
 id_told node label (e ∷ es) = id_here node label (reading e.source.text) e.lines (id_told node label es)
 
--- whether a label names this transaction
-abbrev pub is_id : Id → Option Id → Bool
-is_id id (Some other) = same_id id other
-is_id id None = false
+-- A key that was set: to a record, or to none.
+abbrev pub Set : Type 0
+Set = Key × Option (List ℕ)
 
--- the records after a line, where it was a PUT of this transaction into this file of this node that succeeded; else as before
-abbrev pub put_here : List ℕ → List ℕ → Id → List Entry → Reading → List Line → Records → Records
-put_here node file id es (Says (At n (Put l f number bytes))) (line.RecordNormal ∷ []) m = if bytes_eq n node && bytes_eq f file && is_id id (id_told n l es) then insert m (Number number) bytes else m
-put_here node file id es reading lines m = m
+-- records with these keys set, the newest last set first
+abbrev pub with_sets : List Set → base.Records → base.Records
+with_sets [] m = m
+with_sets (k ∷ ks) m = set_key (with_sets ks m) k.0 k.1
 
--- the records after all that a transaction has put into a file
-abbrev pub puts_told : List ℕ → List ℕ → Id → List Entry → Records → Records
-puts_told node file id [] m = m
-puts_told node file id (e ∷ es) m = put_here node file id es (reading e.source.text) e.lines (puts_told node file id es m)
+-- what a transaction has set of a file's keys, in one statement
+pub record Told : Type 0 where
+  pub tid : Id
+  pub sets : List Set
 
--- each COMMIT line leaves what its transaction had put
-abbrev pub commits_here : List ℕ → List ℕ → List Entry → List Line → Records → Records
-commits_here node file es [] m = m
-commits_here node file es (line.Committed tid serial moment ∷ lines) m = commits_here node file es lines (puts_told node file serial es m)
-commits_here node file es (other ∷ lines) m = commits_here node file es lines m
+-- records with all that a transaction has set on top, of what is told, the newest first
+abbrev pub told_by : Id → List Told → base.Records → base.Records
+told_by id [] m = m
+told_by id (t ∷ ts) m = if same_id id t.tid then with_sets t.sets (told_by id ts m) else told_by id ts m
+
+-- What a PUT has set that was answered so: a record at the number that was said, at the position that was answered, or, in an indexed file, at its own key.
+abbrev pub put_sets : Organization → Option ℕ → List ℕ → Line → List Set
+put_sets organization (Some number) bytes line.RecordNormal = (Number number, Some bytes) ∷ []
+put_sets organization None bytes (line.RecordPosition position) = (Number position, Some bytes) ∷ []
+put_sets (Indexed position size) None bytes line.RecordNormal = (Text (key_within position size bytes), Some bytes) ∷ []
+put_sets organization number bytes answer = []
+
+-- What an operation on a file has set that was answered so, the newest first: the record of a key, or none; and none at the positions from the last that
+-- stood down to one. One that is refused, or only reads, has set nothing.
+abbrev pub sets_of : Operation → Line → File → List Set
+sets_of (Put number bytes) answer f = put_sets f.organization number bytes answer
+sets_of (Update key bytes) line.RecordNormal f = (key, Some bytes) ∷ []
+sets_of (Delete key) line.RecordNormal f = (key, None) ∷ []
+sets_of (Truncate number) line.RecordNormal f = map (λ e. (e.0, None)) (drop (number - 1) (in_order f))
+sets_of op answer f = []
+
+-- the file of this name at a node
+abbrev pub file_of : List ℕ → List ℕ → World → Option File
+file_of node file w = elim (find_node node w.nodes) [ Some n ↦ find_file file n.directory | None ↦ None ]
+
+-- what is told, and what a transaction has set, where there is the file and the transaction
+abbrev pub one_told : Option Id → Option File → (File → List Set) → List Told → List Told
+one_told (Some id) (Some f) sets before = record { tid = id; sets = sets f } ∷ before
+one_told (Some id) None sets before = before
+one_told None f sets before = before
+
+-- what is told after a line, of a file of this node that stood so before: more, where it was an operation on it
+abbrev pub sets_here : List ℕ → List ℕ → List Entry → World → Reading → List Line → List Told → List Told
+sets_here node file es w (Says (At n (Records l f op))) (answer ∷ []) before = if bytes_eq n node && bytes_eq f file then one_told (id_told n l es) (file_of node file w) (sets_of op answer) before else before
+sets_here node file es w reading lines before = before
+
+-- each COMMIT line leaves what its transaction had set
+abbrev pub commits_here : List Told → List Line → base.Records → base.Records
+commits_here told [] m = m
+commits_here told (line.Committed tid serial moment ∷ lines) m = commits_here told lines (told_by serial told m)
+commits_here told (other ∷ lines) m = commits_here told lines m
 
 -- whether a line is a boot of this node that succeeded
 abbrev pub booted_here : List ℕ → Reading → List Line → Bool
@@ -81,21 +118,33 @@ created_here node file (Says (At n (Create f bucket size form))) (line.Normal �
 created_here node file reading lines = false
 
 -- the records of a file as they stand in a world, with the changes of unsettled branches; none where there is no such file
-abbrev pub standing : List ℕ → List ℕ → World → Records
-standing node file w = elim (find_node node w.nodes) [ Some n ↦ elim (find_file file n.directory) [ Some f ↦ current f.history | None ↦ empty ] | None ↦ empty ]
+abbrev pub standing : List ℕ → List ℕ → World → base.Records
+standing node file w = elim (file_of node file w) [ Some f ↦ current f.history | None ↦ empty ]
 
--- The records that a line leaves of a file, of which it found these: those that stand, after a boot of the node; none, after the file was made; else what
--- the transactions leave on top whose COMMIT lines it showed, in the order of these lines.
-abbrev pub told_here : List ℕ → List ℕ → List Entry → Entry → World → Records → Records
-told_here node file es e w m = if booted_here node (reading e.source.text) e.lines then standing node file w
+-- What is told of a file: its records, which committed transactions leave, and what each transaction has set, the newest first.
+pub record Account : Type 0 where
+  pub records : base.Records
+  pub told : List Told
+
+-- The records that a line leaves of a file: those that stand, after a boot of the node; none, after the file was made; else what the transactions leave on
+-- top of what it found whose COMMIT lines it showed, in the order of these lines.
+abbrev pub records_here : List ℕ → List ℕ → Entry → World → Account → base.Records
+records_here node file e w a = if booted_here node (reading e.source.text) e.lines then standing node file w
     else if created_here node file (reading e.source.text) e.lines then empty
-    else commits_here node file es e.lines m
+    else commits_here a.told e.lines a.records
 
--- These entries lead from the opening world to this one, and tell that the file has these records: from those that stood when the node was last booted, or
--- none where the file was made since, each COMMIT line since then leaves what its transaction had put.
-abbrev pub Tells : List ℕ → List ℕ → World → List Entry → World → Records → Type 0
-Tells node file opening [] w m = (w ≡ opening) × (m ≡ standing node file opening)
-Tells node file opening (e ∷ es) w m = (mid : World) × (before : Records) × Tells node file opening es mid before × Turn mid (reading e.source.text) e.lines w × (m ≡ told_here node file es e w before)
+-- what is told after a line, from what was told before it; the line was said in one world and led to another
+abbrev pub account_here : List ℕ → List ℕ → List Entry → Entry → (before after : World) → Account → Account
+account_here node file es e before after a = record {
+  records = records_here node file e after a;
+  told = sets_here node file es before (reading e.source.text) e.lines a.told;
+}
+
+-- These entries lead from the opening world to this one, and tell this of the file: from the records that stood when the node was last booted, or none
+-- where the file was made since, each COMMIT line since then leaves what its transaction had set.
+abbrev pub Tells : List ℕ → List ℕ → World → List Entry → World → Account → Type 0
+Tells node file opening [] w a = (w ≡ opening) × (a ≡ record { records = standing node file opening; told = [] })
+Tells node file opening (e ∷ es) w a = (mid : World) × (before : Account) × Tells node file opening es mid before × Turn mid (reading e.source.text) e.lines w × (a ≡ account_here node file es e mid w before)
 
 -- a transaction was settled so, at this moment, by the settlement of its first branch
 abbrev pub IsSettledSo : List ℕ → Id → Outcome → Option Reason → ℕ → World → Type 0
@@ -117,7 +166,7 @@ SettledOnce [] = Unit {0}
 SettledOnce (s ∷ ss) = ((t : Settlement) → In t ss → t.serial ≡ s.serial → ⊥) × SettledOnce ss
 
 -- these lines and this number are those of just these records, in the order of their keys
-abbrev pub Shows : List Line → ℕ → Records → Type 0
+abbrev pub Shows : List Line → ℕ → base.Records → Type 0
 Shows events count m = (events ≡ map (λ e. line.Record e.0 e.1) (entries m)) × (count ≡ length (entries m))
 
 -- what is promised of the entries of a legal transcript, which lead from the opening world to the closing one
@@ -130,9 +179,9 @@ pub record Promises (opening : World) (es : List Entry) (closing : World) : Type
       (tid : Id) × (moment : ℕ) × (events ≡ line.Aborted tid tid Aborted moment ∷ []) × WasBegun before node label tid × IsSettledSo node tid Abort (Some Aborted) moment closing
   -- Each dump that succeeded showed just the records that the entries before it tell of the file, in the order of their keys, and their number;
   pub dumps : (before : List Entry) (node file : List ℕ) (events : List Line) (count : ℕ) → SaidThere es before (At node (Dump file)) events (line.NormalCount count) →
-      (mid : World) × (m : Records) × Tells node file opening before mid m × Shows events count m
+      (mid : World) × (a : Account) × Tells node file opening before mid a × Shows events count a.records
   -- and so by every path of worlds by which those entries lead to one in which the dump may show this.
   pub dumps_by_all : (before : List Entry) (node file : List ℕ) (events : List Line) (count : ℕ) → SaidThere es before (At node (Dump file)) events (line.NormalCount count) →
-      (mid new : World) (m : Records) → Tells node file opening before mid m → Step mid (At node (Dump file)) (events ++ line.NormalCount count ∷ []) new → Shows events count m
+      (mid new : World) (a : Account) → Tells node file opening before mid a → Step mid (At node (Dump file)) (events ++ line.NormalCount count ∷ []) new → Shows events count a.records
   -- No branch is settled twice, so none is both committed and aborted, and moments ascend.
   pub once : (node : List ℕ) → SettledOnce (settlements_of node closing) × Descends (settlements_of node closing)

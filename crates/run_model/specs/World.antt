@@ -1,11 +1,13 @@
 -- The world of a run: what the statements so far have made of the nodes.
-use Rattle.std.specs.Prelude.{◌≡◌, ℕ, suc, ◌+◌, ◌-◌, ◌*◌, List, [], ◌∷◌, Bool, true, false, Option, Some, None, if◌then◌else◌, map, option_map, ◌++◌, nat_le, replicate, slice_set}
+use Rattle.std.specs.Prelude.{◌≡◌, ℕ, suc, ◌+◌, ◌-◌, ◌*◌, List, [], ◌∷◌, Bool, true, false, Option, Some, None, if◌then◌else◌, map, length, option_map, ◌++◌, nat_le, replicate, slice_set}
 use Rattle.std.specs.Str.{bytes_eq}
 use Rattle.vms_model.specs.Ids.{Id}
-use Rattle.vms_model.specs.Transactions.{Outcome, Reason}
+use Rattle.vms_model.specs.Transactions.{Outcome, Commit, Abort, Reason}
 use Rattle.records_model.specs.Records.{Change}
+use Rattle.records_model.specs.Slots.{Slot}
+use Rattle.records_model.specs.Chain.{chain_changed, chain_undone}
+use Rattle.records_model.specs.History.{History, same_id, current, changes_by, changed_with, is_held, settled_at}
 use Rattle.run_model.specs.Extents.{Extent, longest_run, lowest_run}
-use Rattle.records_model.specs.History.{History, same_id, current, changed, settled_at}
 
 -- a branch's end: how and when it was settled, and why where it was aborted
 pub record Settlement : Type 0 where
@@ -27,18 +29,26 @@ pub record Label : Type 0 where
   pub node : List ℕ
   pub serial : Id
 
--- A file: how its buckets and records are sized, where its buckets lie, what else it has to itself, whether it is marked for recovery units, and its
--- history. A bucket is counted in blocks, a record in bytes; records have the numbers from 1 to the greatest.
+-- How a file keeps its records: one behind the other, at the positions from 1 on; in cells, at the numbers from 1 to the greatest; or by a key of this
+-- size, in bytes, which stands at this position of each record, from 0.
+pub data Organization : Type 0 where
+  Sequential : Organization
+  Relative : (greatest : ℕ) → Organization
+  Indexed : (position size : ℕ) → Organization
+
+-- A file: how its buckets and records are sized, how it keeps records, where its buckets lie, what else it has to itself, whether it is marked for
+-- recovery units, its history, and, where it is indexed, the chain of its used buckets. A bucket is counted in blocks, a record in bytes.
 pub record File : Type 0 where
   pub name : List ℕ
   pub bucket : ℕ
   pub record_size : ℕ
-  pub greatest_number : ℕ
+  pub organization : Organization
   pub start : ℕ
   pub buckets : ℕ
   pub others : List Extent
   pub recovery_units : Bool
   pub history : History
+  pub chain : List (List Slot)
 
 -- the blocks of a file's buckets
 abbrev pub extent_of : File → Extent
@@ -52,7 +62,7 @@ pub data Volume : Type 0 where
   Unknown : Volume
 
 -- One change of a node, which takes place whole or not at all. Where a branch begins, a label is made for it. A volume is made with so many log slots
--- and blocks of a journal; a new file takes a place of the directory.
+-- and blocks of a journal; a new file takes a place of the directory. The changes of one statement are one act; they stand newest first.
 pub data Act : Type 0 where
   Formats : (slots journal : ℕ) → Act
   Boots : Act
@@ -60,7 +70,7 @@ pub data Act : Type 0 where
   Creates : (place : ℕ) → File → Act
   Marks : (file : List ℕ) → Bool → Act
   Begins : Label → Branch → Act
-  Changes : (serial : Id) → (file : List ℕ) → Change → Act
+  Changes : (serial : Id) → (file : List ℕ) → List Change → Act
   Settles : Settlement → Act
   Arms : (writes choice : ℕ) → Act
   Falls : Act
@@ -70,7 +80,7 @@ abbrev pub is_durable : Act → Bool
 is_durable Boots = true
 is_durable (Creates place file) = true
 is_durable (Marks file units) = true
-is_durable (Changes serial file change) = true
+is_durable (Changes serial file changes) = true
 is_durable (Settles s) = true
 is_durable (Formats slots journal) = false
 is_durable ComesUp = false
@@ -176,10 +186,10 @@ with_file name change [] = []
 with_file name change (None ∷ fs) = None ∷ with_file name change fs
 with_file name change (Some f ∷ fs) = if bytes_eq name f.name then Some (change f) ∷ fs else Some f ∷ with_file name change fs
 
--- the branches with one change more of the one of this serial
-abbrev pub with_change_by : Id → List Branch → List Branch
-with_change_by serial [] = []
-with_change_by serial (b ∷ bs) = if same_id serial b.serial then record b { changes = b.changes + 1 } ∷ bs else b ∷ with_change_by serial bs
+-- the branches with so many changes more of the one of this serial
+abbrev pub with_changes_by : Id → ℕ → List Branch → List Branch
+with_changes_by serial more [] = []
+with_changes_by serial more (b ∷ bs) = if same_id serial b.serial then record b { changes = b.changes + more } ∷ bs else b ∷ with_changes_by serial more bs
 
 -- the branches but for the one of this serial
 abbrev pub without_branch : Id → List Branch → List Branch
@@ -211,9 +221,23 @@ next_id n = record { node = n.name; boot = n.boot; seq = n.drawn + 1 }
 abbrev pub next_moment : Node → ℕ
 next_moment n = if nat_le n.clock (n.greatest + 1) then n.greatest + 1 else n.clock
 
+-- how many bytes a bucket of a file has for records: 16 are its header
+abbrev pub capacity : File → ℕ
+capacity f = 512 * f.bucket - 16
+
+-- A file after changes of an unsettled branch. In a chain the rooms of keys that unsettled branches have changed are held, so that each of them can be
+-- set back in place.
+abbrev pub changed_file : Id → List Change → File → File
+changed_file serial cs f = record f { history = changed_with serial cs f.history; chain = chain_changed (capacity f) (is_held f.history) cs f.chain }
+
+-- a chain after the branch that made these changes was settled: an abort undoes them
+abbrev pub settled_chain : Outcome → List Change → List (List Slot) → List (List Slot)
+settled_chain Commit cs chain = chain
+settled_chain Abort cs chain = chain_undone cs chain
+
 -- every file notes that a branch was settled; only those that it changed have changes of it
 abbrev pub settled_file : Settlement → File → File
-settled_file s f = record f { history = settled_at s.serial s.outcome s.moment f.history }
+settled_file s f = record f { history = settled_at s.serial s.outcome s.moment f.history; chain = settled_chain s.outcome (changes_by s.serial f.history.live) f.chain }
 
 -- Scaffolding: a restart undoes nothing; what unsettled branches had changed stays, and is no more theirs
 abbrev pub as_it_stands : ℕ → File → File
@@ -231,7 +255,7 @@ acted ComesUp n = record n { up = true; was_up = true }
 acted (Creates place file) n = record n { directory = slice_set n.directory place (Some file) }
 acted (Marks file units) n = record n { directory = with_file file (λ f. record f { recovery_units = units }) n.directory }
 acted (Begins label b) n = record n { drawn = n.drawn + 1; branches = n.branches ++ b ∷ [] }
-acted (Changes serial file change) n = record n { branches = with_change_by serial n.branches; directory = with_file file (λ f. record f { history = changed serial change f.history }) n.directory }
+acted (Changes serial file changes) n = record n { branches = with_changes_by serial (length changes) n.branches; directory = with_file file (changed_file serial changes) n.directory }
 acted (Settles s) n = record n { greatest = s.moment; last = Some s; settled = s ∷ n.settled; branches = without_branch s.serial n.branches; directory = map (option_map (settled_file s)) n.directory }
 acted (Arms writes choice) n = record n { calls = Arm writes choice ∷ n.calls }
 acted Falls n = record n { up = false }
@@ -261,7 +285,7 @@ labels_after Boots ls = ls
 labels_after ComesUp ls = ls
 labels_after (Creates place file) ls = ls
 labels_after (Marks file units) ls = ls
-labels_after (Changes serial file change) ls = ls
+labels_after (Changes serial file changes) ls = ls
 labels_after (Settles s) ls = ls
 labels_after (Arms writes choice) ls = ls
 labels_after Falls ls = ls

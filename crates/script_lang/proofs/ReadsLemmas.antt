@@ -1,5 +1,5 @@
 -- Shapes, and the words that are left.
-use Rattle.std.proofs.Common.{◌≡◌, ℕ, List, [], ◌∷◌, false, refl, ◌∙◌, Result, Ok, Err}
+use Rattle.std.proofs.Common.{◌≡◌, ℕ, List, [], ◌∷◌, true, false, refl, ◌∙◌, Result, Ok, Err}
 use Rattle.std.specs.Result.{IsErrAnd}
 use Rattle.std.proofs.lemmas.Result.{err_from_is_err_and}
 use Rattle.script_model.specs.LineWords.{Ahead, Word, is_empty}
@@ -20,6 +20,14 @@ took {next = next} t e rest = record { is = t.is next ∙ rw e rest.is }
 -- no such word was there
 pub missed : {V : Type 0} {k : Kind} {meant : V → Meaning k} {next : Meaning k → Shape} {view : Statement → model.Statement} {old mid : Ahead} {r : Result V LineErr} {e : LineErr} {result : Result Statement LineErr} → Takes k meant old r mid → r ≡ Err e → IsErrAnd result (λ y. y ≡ e) → Reads view (Then k next) old result
 missed {next = next} {result = result} t e p = let q = err_from_is_err_and result p in record { is = t.is next ∙ rw (e, q.1, q.2) refl }
+
+ends_here : (s : model.Statement) (shape : Shape) (ws : List Word) (end : ℕ) → is_empty ws ≡ true → reads (EndsOr s shape) ws end ≡ model.Says s
+ends_here s shape [] end h = refl
+ends_here s shape (w ∷ ws) end h = cc
+
+-- no word was left
+pub or_ended : {view : Statement → model.Statement} {old : Ahead} {shape : Shape} (v : Statement) → is_empty old.words ≡ true → Reads view (EndsOr (view v) shape) old (Ok v)
+or_ended {view = view} {old = old} {shape = shape} v h = record { is = ends_here (view v) shape old.words old.end h }
 
 -- a word was left
 pub or_went_on : {view : Statement → model.Statement} {old : Ahead} {result : Result Statement LineErr} {shape : Shape} (s : model.Statement) → is_empty old.words ≡ false → Reads view shape old result → Reads view (EndsOr s shape) old result

@@ -3,7 +3,8 @@ use Rattle.std.proofs.Common.{◌≡◌, ℕ, inl, inr, List, [], ◌∷◌, ◌
 use Rattle.std.specs.Prelude.{if◌then◌else◌, codes}
 use Rattle.script_model.specs.LineWords.{Word, words_of}
 use Rattle.script_model.specs.Statements.{Statement, Reading, Blank, Says, Bad, RecoveryUnits}
-use Rattle.script_model.specs.Grammar.{Kind, Meaning, meaning, AFirst, AVerb, ANode, ALabel, AFile, ASetting, ANumber, ALongNumber, SomeBytes, TheWord, Verb, Init, Boot, Create, SetFile, StartTrans, Put, EndTrans, AbortTrans, Dump, Fuse, Crash, First, ToNode, ToWorld, Shape, Ends, Then, EndsOr, reads, operands, behind_first, line_shape, is_skipped}
+use Rattle.script_model.specs.Operands.{KeyWord, Numbered, Spelled}
+use Rattle.script_model.specs.Grammar.{Kind, Meaning, meaning, AFirst, AVerb, ANode, ALabel, AFile, AnOrganization, ASetting, ANumber, ALongNumber, SomeBytes, AKey, Verb, Init, Boot, Create, SetFile, StartTrans, Put, Update, Delete, Truncate, Get, Next, EndTrans, AbortTrans, Dump, Fuse, Crash, Organization, Sequential, Relative, Indexed, First, ToNode, ToWorld, Shape, Ends, Then, EndsOr, reads, form_operands, put_operands, operands, behind_first, line_shape, is_skipped}
 use Rattle.script_lang.specs.Where.{CanGoOn, TellsWhere, LineTellsWhere}
 
 -- there is such a word
@@ -96,8 +97,11 @@ a_long_number = record { text = codes "1"; meant = 1; says = refl }
 some_bytes : Sample SomeBytes
 some_bytes = record { text = 34 ∷ 34 ∷ []; meant = []; says = refl }
 
-rel : Sample (TheWord (codes "REL"))
-rel = record { text = codes "REL"; meant = tt; says = refl }
+a_key : Sample AKey
+a_key = record { text = codes "1"; meant = Numbered 1; says = refl }
+
+an_organization : Sample AnOrganization
+an_organization = record { text = codes "REL"; meant = Relative; says = refl }
 
 a_verb : Sample AVerb
 a_verb = record { text = codes "DUMP"; meant = Dump; says = refl }
@@ -105,13 +109,27 @@ a_verb = record { text = codes "DUMP"; meant = Dump; says = refl }
 a_first : Sample AFirst
 a_first = record { text = codes "A:"; meant = ToNode (codes "A"); says = refl }
 
+form_writable : (n f : List ℕ) (o : Organization) (bucket size count : ℕ) → IsWritable (form_operands n f o bucket size count)
+form_writable n f Sequential bucket size count = tt
+form_writable n f Relative bucket size count = tt
+form_writable n f Indexed bucket size count = (a_number, λ position. (a_number, λ key_size. tt))
+
+put_writable : (n l f : List ℕ) (k : KeyWord) → IsWritable (put_operands n l f k)
+put_writable n l f (Numbered number) = (some_bytes, λ b. tt)
+put_writable n l f (Spelled bytes) = tt
+
 operands_writable : (n : List ℕ) (v : Verb) → IsWritable (operands n v)
 operands_writable n Init = (a_number, λ slots. (a_number, λ blocks. tt))
 operands_writable n Boot = tt
-operands_writable n Create = (a_file, λ f. (rel, λ w. (a_number, λ bucket. (a_number, λ size. (a_number, λ records. tt)))))
+operands_writable n Create = (a_file, λ f. (an_organization, λ o. (a_number, λ bucket. (a_number, λ size. (a_number, λ count. form_writable n f o bucket size count)))))
 operands_writable n SetFile = (a_file, λ f. (a_setting, λ setting. tt))
 operands_writable n StartTrans = (a_label, λ l. tt)
-operands_writable n Put = (a_label, λ l. (a_file, λ f. (a_number, λ k. (some_bytes, λ b. tt))))
+operands_writable n Put = (a_label, λ l. (a_file, λ f. (a_key, λ k. put_writable n l f k)))
+operands_writable n Update = (a_label, λ l. (a_file, λ f. (a_key, λ k. (some_bytes, λ b. tt))))
+operands_writable n Delete = (a_label, λ l. (a_file, λ f. (a_key, λ k. tt)))
+operands_writable n Truncate = (a_label, λ l. (a_file, λ f. (a_number, λ k. tt)))
+operands_writable n Get = (a_label, λ l. (a_file, λ f. (a_key, λ k. tt)))
+operands_writable n Next = (a_label, λ l. (a_file, λ f. (a_key, λ k. tt)))
 operands_writable n EndTrans = (a_label, λ l. tt)
 operands_writable n AbortTrans = (a_label, λ l. tt)
 operands_writable n Dump = (a_file, λ f. tt)

@@ -1,5 +1,9 @@
 -- The statements that the code's values are.
-use Rattle.std.specs.Prelude.{Result, Ok, Err, Option, Some, None}
+use Rattle.std.specs.Prelude.{ℕ, List, Result, Ok, Err, Option, Some, None}
+use Rattle.std.specs.Option.{option_map}
+use Rattle.vms_model.specs.Keys.{Key}
+use Rattle.script_model.specs.Operands as operands
+use Rattle.script_model.specs.Operands.{key_of}
 use Rattle.script_model.specs.LineWords.{Ahead}
 use Rattle.script_model.specs.Statements as model
 use Rattle.script_model.specs.Grammar as grammar
@@ -9,6 +13,12 @@ use Rattle.script_lang.specs.declared.words.LineErr.{LineErr}
 use Rattle.script_lang.specs.declared.literals.Literals.{Literals}
 use Rattle.script_lang.specs.declared.statement.Form.{Form}
 use Rattle.script_lang.specs.declared.statement.Form.TheVariants as form
+use Rattle.script_lang.specs.declared.statement.Organization.{Organization}
+use Rattle.script_lang.specs.declared.statement.Organization.TheVariants as organization
+use Rattle.script_lang.specs.declared.statement.KeyWord.{KeyWord}
+use Rattle.script_lang.specs.declared.statement.KeyWord.TheVariants as key_word
+use Rattle.script_lang.specs.declared.statement.Operation.{Operation}
+use Rattle.script_lang.specs.declared.statement.Operation.TheVariants as operation
 use Rattle.script_lang.specs.declared.statement.Setting.{Setting}
 use Rattle.script_lang.specs.declared.statement.Setting.TheVariants as setting
 use Rattle.script_lang.specs.declared.statement.Verb.{Verb}
@@ -23,7 +33,14 @@ use Rattle.script_lang.specs.declared.statement.Statement.{Statement}
 use Rattle.script_lang.specs.declared.statement.Statement.TheVariants as statement
 
 abbrev pub form_of : Form → model.Form
+form_of (form.Sequential buckets) = model.Sequential buckets
 form_of (form.Relative records) = model.Relative records
+form_of (form.Indexed buckets position key_size) = model.Indexed buckets position key_size
+
+abbrev pub organization_of : Organization → grammar.Organization
+organization_of organization.Sequential = grammar.Sequential
+organization_of organization.Relative = grammar.Relative
+organization_of organization.Indexed = grammar.Indexed
 
 abbrev pub setting_of : Setting → model.Setting
 setting_of setting.RecoveryUnits = model.RecoveryUnits
@@ -36,6 +53,11 @@ verb_of verb.Create = grammar.Create
 verb_of verb.SetFile = grammar.SetFile
 verb_of verb.StartTrans = grammar.StartTrans
 verb_of verb.Put = grammar.Put
+verb_of verb.Update = grammar.Update
+verb_of verb.Delete = grammar.Delete
+verb_of verb.Truncate = grammar.Truncate
+verb_of verb.Get = grammar.Get
+verb_of verb.Next = grammar.Next
 verb_of verb.EndTrans = grammar.EndTrans
 verb_of verb.AbortTrans = grammar.AbortTrans
 verb_of verb.Dump = grammar.Dump
@@ -48,6 +70,24 @@ abbrev pub first_of : First → grammar.First
 first_of (first.ToNode node) = grammar.ToNode node
 first_of (first.ToWorld v) = grammar.ToWorld (world_verb_of v)
 
+-- a word for a key, where these are its bytes if it has bytes
+abbrev pub word_in : List ℕ → KeyWord → operands.KeyWord
+word_in bytes (key_word.Number n) = operands.Numbered n
+word_in bytes key_word.Bytes = operands.Spelled bytes
+
+-- the key that it stands for
+abbrev pub key_in : List ℕ → KeyWord → Key
+key_in bytes word = key_of (word_in bytes word)
+
+-- an operation, where these bytes are kept beside it
+abbrev pub operation_of : Literals → Operation → model.Operation
+operation_of lit (operation.Put number) = model.Put number lit.record
+operation_of lit (operation.Update key) = model.Update (key_in lit.key key) lit.record
+operation_of lit (operation.Delete key) = model.Delete (key_in lit.key key)
+operation_of lit (operation.Truncate number) = model.Truncate number
+operation_of lit (operation.Get key) = model.Get (key_in lit.key key)
+operation_of lit (operation.Next after) = model.Next (option_map (key_in lit.key) after)
+
 -- a request, where these bytes are kept beside it
 abbrev pub request_of : Literals → Request → model.Request
 request_of lit (request.Init slots blocks) = model.Init slots blocks
@@ -55,7 +95,7 @@ request_of lit request.Boot = model.Boot
 request_of lit (request.Create file bucket size form) = model.Create file bucket size (form_of form)
 request_of lit (request.SetFile file setting) = model.SetFile file (setting_of setting)
 request_of lit (request.StartTrans label) = model.StartTrans label
-request_of lit (request.Put label file number) = model.Put label file number lit.record
+request_of lit (request.Records label file operation) = model.Records label file (operation_of lit operation)
 request_of lit (request.EndTrans label) = model.EndTrans label
 request_of lit (request.AbortTrans label) = model.AbortTrans label
 request_of lit (request.Dump file) = model.Dump file

@@ -1,14 +1,16 @@
 // The statement of a line.
 ghost use Rattle.std.specs.Prelude.{◌≡◌, ◌≤◌, length};
-ghost use Rattle.script_model.specs.Grammar.{Ends, line_shape, behind_first as behind_first_of, operands as operands_of, world_operands as world_operands_of, reading, Verb as TheVerb, WorldVerb as TheWorldVerb, ToNode as ToTheNode};
+ghost use Rattle.script_model.specs.Grammar.{Ends, line_shape, behind_first as behind_first_of, operands as operands_of, form_operands as form_operands_of, world_operands as world_operands_of, reading, Verb as TheVerb, WorldVerb as TheWorldVerb, ToNode as ToTheNode};
+ghost use Rattle.script_model.specs.Statements.{At as AtNode, Create as CreateOf};
 ghost use Rattle.script_lang.specs.Reads.{Reads};
 ghost use Rattle.script_lang.specs.declared.literals.Literals.{Literals as LiteralsSaid};
-ghost use Rattle.script_lang.specs.Statements.{ReadsPlain, first_of, reading_of, statement_of, verb_of, world_verb_of};
+ghost use Rattle.script_lang.specs.Statements.{ReadsPlain, first_of, form_of, organization_of, reading_of, statement_of, verb_of, world_verb_of};
 
 use crate::literals::Literals;
-use crate::statement::{First, Form, Request, Statement, Verb, WorldVerb};
+use crate::records::{delete, get, next, put, truncate, update};
+use crate::statement::{First, Form, Organization, Request, Statement, Verb, WorldVerb};
 use crate::words::{LineErr, Words};
-use vms_base::NodeName;
+use vms_base::{FileName, NodeName};
 
 // The log slots and the journal's blocks of a volume for which none are said.
 const SLOTS: u32 = 128;
@@ -16,7 +18,7 @@ const SLOTS: u32 = 128;
 const BLOCKS: u32 = 1_024;
 
 // The statement, where the line ends here.
-fn ends(statement: Statement, words: &mut Words<'_>) -> Result<Statement, LineErr>
+pub fn ends(statement: Statement, words: &mut Words<'_>) -> Result<Statement, LineErr>
     ensures { (lit : LiteralsSaid) → Reads (statement_of lit) (Ends (statement_of lit statement)) words.old result }
 {
     words.end()?;
@@ -46,15 +48,17 @@ fn boot(node: NodeName, words: &mut Words<'_>) -> Result<Statement, LineErr>
     ends(Statement::At(node, Request::Boot), words)
 }
 
-fn create(node: NodeName, words: &mut Words<'_>) -> Result<Statement, LineErr>
-    ensures { ReadsPlain (operands_of node TheVerb.Create) words.old result }
+// A file is made, where the line ends here.
+fn created(
+    node: NodeName,
+    file: FileName,
+    bucket: u32,
+    size: u32,
+    form: Form,
+    words: &mut Words<'_>,
+) -> Result<Statement, LineErr>
+    ensures { ReadsPlain (Ends (AtNode node (CreateOf file bucket size (form_of form)))) words.old result }
 {
-    let file = words.file()?;
-    words.the_word(b"REL")?;
-    let bucket = words.number()?;
-    let size = words.number()?;
-    let records = words.number()?;
-    let form = Form::Relative { records };
     ends(
         Statement::At(
             node,
@@ -67,6 +71,51 @@ fn create(node: NodeName, words: &mut Words<'_>) -> Result<Statement, LineErr>
         ),
         words,
     )
+}
+
+// What stands behind the count of a new file's buckets or records.
+fn form_operands(
+    node: NodeName,
+    file: FileName,
+    organization: Organization,
+    bucket: u32,
+    size: u32,
+    count: u32,
+    words: &mut Words<'_>,
+) -> Result<Statement, LineErr>
+    ensures { ReadsPlain (form_operands_of node file (organization_of organization) bucket size count) words.old result }
+{
+    match organization {
+        Organization::Sequential => {
+            let form = Form::Sequential { buckets: count };
+            created(node, file, bucket, size, form, words)
+        }
+        Organization::Relative => {
+            let form = Form::Relative { records: count };
+            created(node, file, bucket, size, form, words)
+        }
+        Organization::Indexed => {
+            let position = words.number()?;
+            let key_size = words.number()?;
+            let form = Form::Indexed {
+                buckets: count,
+                position,
+                key_size,
+            };
+            created(node, file, bucket, size, form, words)
+        }
+    }
+}
+
+fn create(node: NodeName, words: &mut Words<'_>) -> Result<Statement, LineErr>
+    ensures { ReadsPlain (operands_of node TheVerb.Create) words.old result }
+{
+    let file = words.file()?;
+    let organization = words.organization()?;
+    let bucket = words.number()?;
+    let size = words.number()?;
+    let count = words.number()?;
+    form_operands(node, file, organization, bucket, size, count, words)
 }
 
 fn set_file(node: NodeName, words: &mut Words<'_>) -> Result<Statement, LineErr>
@@ -82,20 +131,6 @@ fn start_trans(node: NodeName, words: &mut Words<'_>) -> Result<Statement, LineE
 {
     let label = words.label()?;
     ends(Statement::At(node, Request::StartTrans(label)), words)
-}
-
-fn put(node: NodeName, words: &mut Words<'_>, lit: &mut Literals) -> Result<Statement, LineErr>
-    ensures reads { Reads (statement_of lit.new) (operands_of node TheVerb.Put) words.old result }
-    ensures key { lit.new.key ≡ lit.old.key }
-{
-    let label = words.label()?;
-    let file = words.file()?;
-    let number = words.number()?;
-    words.bytes(&mut lit.record)?;
-    ends(
-        Statement::At(node, Request::Put(label, file, number)),
-        words,
-    )
 }
 
 fn end_trans(node: NodeName, words: &mut Words<'_>) -> Result<Statement, LineErr>
@@ -125,8 +160,7 @@ fn operands(
     words: &mut Words<'_>,
     lit: &mut Literals,
 ) -> Result<Statement, LineErr>
-    ensures reads { Reads (statement_of lit.new) (operands_of node (verb_of verb)) words.old result }
-    ensures key { lit.new.key ≡ lit.old.key }
+    ensures { Reads (statement_of lit.new) (operands_of node (verb_of verb)) words.old result }
 {
     match verb {
         Verb::Init => init(node, words),
@@ -135,6 +169,11 @@ fn operands(
         Verb::SetFile => set_file(node, words),
         Verb::StartTrans => start_trans(node, words),
         Verb::Put => put(node, words, lit),
+        Verb::Update => update(node, words, lit),
+        Verb::Delete => delete(node, words, lit),
+        Verb::Truncate => truncate(node, words),
+        Verb::Get => get(node, words, lit),
+        Verb::Next => next(node, words, lit),
         Verb::EndTrans => end_trans(node, words),
         Verb::AbortTrans => abort_trans(node, words),
         Verb::Dump => dump(node, words),
@@ -167,8 +206,7 @@ fn world_operands(verb: WorldVerb, words: &mut Words<'_>) -> Result<Statement, L
 }
 
 fn to_node(node: NodeName, words: &mut Words<'_>, lit: &mut Literals) -> Result<Statement, LineErr>
-    ensures reads { Reads (statement_of lit.new) (behind_first_of (ToTheNode node)) words.old result }
-    ensures key { lit.new.key ≡ lit.old.key }
+    ensures { Reads (statement_of lit.new) (behind_first_of (ToTheNode node)) words.old result }
 {
     let verb = words.verb()?;
     operands(verb, node, words, lit)
@@ -179,8 +217,7 @@ fn behind_first(
     words: &mut Words<'_>,
     lit: &mut Literals,
 ) -> Result<Statement, LineErr>
-    ensures reads { Reads (statement_of lit.new) (behind_first_of (first_of first)) words.old result }
-    ensures key { lit.new.key ≡ lit.old.key }
+    ensures { Reads (statement_of lit.new) (behind_first_of (first_of first)) words.old result }
 {
     match first {
         First::ToNode(node) => to_node(node, words, lit),
@@ -189,20 +226,18 @@ fn behind_first(
 }
 
 fn statement(words: &mut Words<'_>, lit: &mut Literals) -> Result<Statement, LineErr>
-    ensures reads { Reads (statement_of lit.new) line_shape words.old result }
-    ensures key { lit.new.key ≡ lit.old.key }
+    ensures { Reads (statement_of lit.new) line_shape words.old result }
 {
     let first = words.first()?;
     behind_first(first, words, lit)
 }
 
-/// What a line of at most 20,000 bytes says: None where it is skipped, else its statement, whose record's bytes are then in `lit`.
+/// What a line of at most 20,000 bytes says: None where it is skipped, else its statement, whose record's and key's bytes are then in `lit`.
 ///
 /// An error tells the column, counted from 1, of the first word that cannot stand where it does, or that behind the line where a word is missing.
 pub fn read_statement(line: &[u8], lit: &mut Literals) -> Result<Option<Statement>, LineErr>
     requires { length line.now ≤ 20000 }
-    ensures reading { reading_of lit.new result ≡ reading line.now }
-    ensures key { lit.new.key ≡ lit.old.key }
+    ensures { reading_of lit.new result ≡ reading line.now }
 {
     let mut words = Words::new(line);
     if words.is_skipped() {

@@ -6,6 +6,7 @@ mod grammar;
 mod laws;
 mod literals;
 mod operands;
+mod records;
 mod statement;
 mod take;
 mod words;
@@ -14,7 +15,7 @@ pub use command::is_run_form;
 pub use grammar::read_statement;
 pub use laws::columns_tell_where_no_statement_goes_on;
 pub use literals::{Literal, Literals};
-pub use statement::{Form, Request, Setting, Statement};
+pub use statement::{Form, KeyWord, Operation, Request, Setting, Statement};
 pub use words::LineErr;
 
 #[cfg(test)]

@@ -3,19 +3,24 @@ ghost use Rattle.std.specs.Prelude.{◌≡◌, ℕ, ◌≤◌, IfSome, Option};
 ghost use Rattle.std.specs.Option.{option_map};
 ghost use Rattle.vms_model.specs.Words.{number_up_to, among};
 ghost use Rattle.script_model.specs.Operands.{prefix_said};
-ghost use Rattle.script_model.specs.Grammar.{verbs, world_verbs, settings, first_said};
-ghost use Rattle.script_lang.specs.Statements.{verb_of, world_verb_of, setting_of, first_of};
+ghost use Rattle.script_model.specs.Grammar.{verbs, world_verbs, organizations, settings, first_said};
+ghost use Rattle.script_lang.specs.Statements.{verb_of, world_verb_of, organization_of, setting_of, first_of};
 
-use crate::statement::{First, Setting, Verb, WorldVerb};
+use crate::statement::{First, Organization, Setting, Verb, WorldVerb};
 use vms_base::{NodeName, find, part_at, read_digits};
 
-const VERBS: [(&[u8], Verb); 9] = [
+const VERBS: [(&[u8], Verb); 14] = [
     (b"INIT", Verb::Init),
     (b"BOOT", Verb::Boot),
     (b"CREATE", Verb::Create),
     (b"SET_FILE", Verb::SetFile),
     (b"START_TRANS", Verb::StartTrans),
     (b"PUT", Verb::Put),
+    (b"UPDATE", Verb::Update),
+    (b"DELETE", Verb::Delete),
+    (b"TRUNCATE", Verb::Truncate),
+    (b"GET", Verb::Get),
+    (b"NEXT", Verb::Next),
     (b"END_TRANS", Verb::EndTrans),
     (b"ABORT_TRANS", Verb::AbortTrans),
     (b"DUMP", Verb::Dump),
@@ -24,6 +29,12 @@ const VERBS: [(&[u8], Verb); 9] = [
 const WORLD_VERBS: [(&[u8], WorldVerb); 2] = [
     (b"FUSE", WorldVerb::Fuse),
     (b"CRASH", WorldVerb::Crash),
+];
+
+const ORGANIZATIONS: [(&[u8], Organization); 3] = [
+    (b"SEQ", Organization::Sequential),
+    (b"REL", Organization::Relative),
+    (b"IDX", Organization::Indexed),
 ];
 
 const SETTINGS: [(&[u8], Setting); 2] = [
@@ -43,6 +54,13 @@ pub fn read_world_verb(text: &[u8]) -> Option<WorldVerb>
     ensures { option_map world_verb_of result ≡ among world_verbs text.now }
 {
     find(&WORLD_VERBS, text)
+}
+
+/// The organization of a word in either case of letters.
+pub fn read_organization(text: &[u8]) -> Option<Organization>
+    ensures { option_map organization_of result ≡ among organizations text.now }
+{
+    find(&ORGANIZATIONS, text)
 }
 
 /// The setting of a word in either case of letters.

@@ -4,8 +4,28 @@ use vms_base::{FileName, Label, NodeName};
 /// What a new file's records are kept as.
 #[derive(Clone, Copy, Debug, PartialEq, Eq, Drop)]
 pub enum Form {
+    /// One behind the other, in so many buckets.
+    Sequential {
+        buckets: u32,
+    },
     /// In numbered cells, at most so many.
-    Relative { records: u32 },
+    Relative {
+        records: u32,
+    },
+    /// In so many buckets, by a key of so many bytes that stands at this position of each record.
+    Indexed {
+        buckets: u32,
+        position: u32,
+        key_size: u32,
+    },
+}
+
+/// The word that tells how a new file keeps its records.
+#[derive(Clone, Copy, Debug, PartialEq, Eq, Drop)]
+pub enum Organization {
+    Sequential,
+    Relative,
+    Indexed,
 }
 
 /// What a file is marked with, or is marked with no more.
@@ -24,6 +44,11 @@ pub enum Verb {
     SetFile,
     StartTrans,
     Put,
+    Update,
+    Delete,
+    Truncate,
+    Get,
+    Next,
     EndTrans,
     AbortTrans,
     Dump,
@@ -45,7 +70,29 @@ pub enum First {
     ToWorld(WorldVerb),
 }
 
-/// What is asked of a node, or done to it. Records' bytes are kept beside the statement, in its `Literals`.
+/// A word that stands for the key of a record.
+#[derive(Clone, Copy, Debug, PartialEq, Eq, Drop)]
+pub enum KeyWord {
+    Number(u32),
+    /// Bytes, which are kept beside the statement.
+    Bytes,
+}
+
+/// What is asked of the records of a file.
+#[derive(Clone, Copy, Debug, PartialEq, Eq, Drop)]
+pub enum Operation {
+    /// A record is put at this number, or where its file puts it.
+    Put(Option<u32>),
+    Update(KeyWord),
+    Delete(KeyWord),
+    /// The records from this position on go.
+    Truncate(u32),
+    Get(KeyWord),
+    /// The first record, or the first behind this key, is asked for.
+    Next(Option<KeyWord>),
+}
+
+/// What is asked of a node, or done to it. The bytes of a record and of a key are kept beside the statement, in its `Literals`.
 #[derive(Clone, Copy, Debug, PartialEq, Eq, Drop)]
 pub enum Request {
     /// A volume is made with so many log slots, and so many blocks of journal.
@@ -63,8 +110,7 @@ pub enum Request {
     },
     SetFile(FileName, Setting),
     StartTrans(Label),
-    /// The record of this number is put.
-    Put(Label, FileName, u32),
+    Records(Label, FileName, Operation),
     EndTrans(Label),
     AbortTrans(Label),
     Dump(FileName),

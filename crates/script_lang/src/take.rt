@@ -1,14 +1,14 @@
 // Operands from the words of a line.
 ghost use Rattle.std.specs.Prelude.{◌≡◌};
-ghost use Rattle.script_model.specs.Grammar.{AFirst, AVerb, ANode, ALabel, AFile, ASetting, ANumber, ALongNumber, SomeBytes, TheWord};
+ghost use Rattle.script_model.specs.Grammar.{AFirst, AVerb, ANode, ALabel, AFile, AnOrganization, ASetting, ANumber, ALongNumber, SomeBytes, AKey};
 ghost use Rattle.script_lang.specs.Reads.{Takes, Finishes};
-ghost use Rattle.script_lang.specs.Statements.{first_of, verb_of, setting_of};
+ghost use Rattle.script_lang.specs.Statements.{first_of, verb_of, organization_of, setting_of, word_in};
 
 use crate::literals::Literal;
-use crate::operands::{read_first, read_number, read_setting, read_verb};
-use crate::statement::{First, Setting, Verb};
+use crate::operands::{read_first, read_number, read_organization, read_setting, read_verb};
+use crate::statement::{First, KeyWord, Organization, Setting, Verb};
 use crate::words::{LineErr, Word, Words};
-use vms_base::{FileName, Label, NodeName, is_word};
+use vms_base::{FileName, Label, NodeName};
 
 impl Word<'_> {
     // The error of a word that cannot stand where it does.
@@ -72,6 +72,16 @@ impl<'a> Words<'a> {
         }
     }
 
+    pub fn organization(&mut self) -> Result<Organization, LineErr>
+        ensures { Takes AnOrganization organization_of self.old result self.new }
+    {
+        let word = self.word()?;
+        match read_organization(word.text) {
+            Some(organization) => Ok(organization),
+            None => Err(word.cannot_stand()),
+        }
+    }
+
     pub fn setting(&mut self) -> Result<Setting, LineErr>
         ensures { Takes ASetting setting_of self.old result self.new }
     {
@@ -113,12 +123,16 @@ impl<'a> Words<'a> {
         }
     }
 
-    pub fn the_word(&mut self, name: &[u8]) -> Result<(), LineErr>
-        ensures { Takes (TheWord name.now) (λ _. tt) self.old result self.new }
+    /// A number, or bytes, which are then kept there.
+    pub fn key(&mut self, to: &mut Literal) -> Result<KeyWord, LineErr>
+        ensures { Takes AKey (word_in to.new) self.old result self.new }
     {
         let word = self.word()?;
-        if is_word(name, word.text) {
-            Ok(())
+        if let Some(n) = read_number(u64::from(u32::MAX), word.text) {
+            return Ok(KeyWord::Number(n as u32));
+        }
+        if to.take_bytes(word.text) {
+            Ok(KeyWord::Bytes)
         } else {
             Err(word.cannot_stand())
         }

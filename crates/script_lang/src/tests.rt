@@ -32,7 +32,7 @@ fn say(rt: &impl Abort, alloc: Global, table: &[(&[u8], Request)]) -> Result<(),
 #[test]
 fn lines_ask_nodes(rt: HostRuntime) -> Result<(), Fail> {
     let (file, label) = (file()?, label()?);
-    let table: [(&[u8], Request); 17] = [
+    let table: [(&[u8], Request); 19] = [
         (
             b"A: INIT",
             Request::Init {
@@ -95,21 +95,85 @@ fn lines_ask_nodes(rt: HostRuntime) -> Result<(), Fail> {
         (b"A: START_TRANS t", Request::StartTrans(label)),
         (
             b"  a:   put  T f 007 %X0aFf  ",
-            Request::Put(label, file, 7),
+            Request::Records(label, file, Operation::Put(Some(7))),
         ),
         (
             b"A: PUT T F 4294967295 \"a b\"",
-            Request::Put(label, file, u32::MAX),
+            Request::Records(label, file, Operation::Put(Some(u32::MAX))),
         ),
         (
             b"A: PUT T F 00000000000000000001 %X",
-            Request::Put(label, file, 1),
+            Request::Records(label, file, Operation::Put(Some(1))),
+        ),
+        (
+            b"A: CREATE F SEQ 1 100 4",
+            Request::Create {
+                file,
+                bucket: 1,
+                size: 100,
+                form: Form::Sequential { buckets: 4 },
+            },
+        ),
+        (
+            b"A: create F idx 1 40 20 0 2",
+            Request::Create {
+                file,
+                bucket: 1,
+                size: 40,
+                form: Form::Indexed {
+                    buckets: 20,
+                    position: 0,
+                    key_size: 2,
+                },
+            },
         ),
         (b"A: End_Trans T", Request::EndTrans(label)),
         (b"A: ABORT_TRANS T", Request::AbortTrans(label)),
         (b"A: dump F", Request::Dump(file)),
     ];
     say(&rt, rt.alloc(), &table)
+}
+
+#[test]
+fn lines_ask_for_records(rt: HostRuntime) -> Result<(), Fail> {
+    let (file, label) = (file()?, label()?);
+    let operations: [(&[u8], Operation); 15] = [
+        (b"A: PUT T F \"7\"", Operation::Put(None)),
+        (b"A: PUT T F %X", Operation::Put(None)),
+        (
+            b"A: UPDATE T F 0 \"a\"",
+            Operation::Update(KeyWord::Number(0)),
+        ),
+        (
+            b"A: update t f \"aa\" \"ab\"",
+            Operation::Update(KeyWord::Bytes),
+        ),
+        (
+            b"A: DELETE T F 4294967295",
+            Operation::Delete(KeyWord::Number(u32::MAX)),
+        ),
+        (b"A: DELETE T F %X00", Operation::Delete(KeyWord::Bytes)),
+        (b"A: TRUNCATE T F 0", Operation::Truncate(0)),
+        (b"A: Truncate T F 012", Operation::Truncate(12)),
+        (b"A: GET T F 1", Operation::Get(KeyWord::Number(1))),
+        (b"A: get T F \"\"", Operation::Get(KeyWord::Bytes)),
+        (b"A: NEXT T F", Operation::Next(None)),
+        (b"A: NEXT T F  ", Operation::Next(None)),
+        (b"A: NEXT T F 0", Operation::Next(Some(KeyWord::Number(0)))),
+        (
+            b"A: next T F \"zz\" ",
+            Operation::Next(Some(KeyWord::Bytes)),
+        ),
+        (
+            b"A: PUT T F 00000000000000000007 \"x\"",
+            Operation::Put(Some(7)),
+        ),
+    ];
+    for (line, operation) in operations {
+        let table = [(line, Request::Records(label, file, operation))];
+        say(&rt, rt.alloc(), &table)?;
+    }
+    Ok(())
 }
 
 #[test]
@@ -164,7 +228,7 @@ fn column(alloc: Global, line: &[u8]) -> Result<Option<u32>, Fail> {
 
 #[test]
 fn lines_leave_the_grammar_at_their_columns(rt: HostRuntime) -> Result<(), Fail> {
-    let table: [(&[u8], Option<u32>); 30] = [
+    let table: [(&[u8], Option<u32>); 43] = [
         (b"", None),
         (b"   ", None),
         (b"!A: PUT", None),
@@ -178,7 +242,20 @@ fn lines_leave_the_grammar_at_their_columns(rt: HostRuntime) -> Result<(), Fail>
         (b"A: PUT T F 1 \"a\" b", Some(18)),
         (b"A: PUT T F 1 %xAA", Some(14)),
         (b"A: PUT T F 1 %XA", Some(14)),
-        (b"A: PUT T F \"a\"", Some(12)),
+        (b"A: PUT T F \"a\"", Some(0)),
+        (b"A: PUT T F \"a\" \"b\"", Some(16)),
+        (b"A: PUT T F", Some(11)),
+        (b"A: UPDATE T F 1", Some(16)),
+        (b"A: UPDATE T F x \"a\"", Some(15)),
+        (b"A: DELETE T F", Some(14)),
+        (b"A: DELETE T F 1 1", Some(17)),
+        (b"A: TRUNCATE T F \"1\"", Some(17)),
+        (b"A: GET - F 1", Some(8)),
+        (b"A: GET T F 1 \"a\"", Some(14)),
+        (b"A: NEXT - F", Some(9)),
+        (b"A: NEXT T", Some(10)),
+        (b"A: NEXT T F x", Some(13)),
+        (b"A: NEXT T F 1 1", Some(15)),
         (b"A: PUT T F 4294967296 \"a\"", Some(12)),
         (b"A: PUT T F 000000000000000000001 \"a\"", Some(12)),
         (b"A: PUT T F 1", Some(13)),
@@ -204,7 +281,7 @@ fn lines_leave_the_grammar_at_their_columns(rt: HostRuntime) -> Result<(), Fail>
 
 #[test]
 fn lines_of_nodes_and_of_the_world_leave_it_at_theirs(rt: HostRuntime) -> Result<(), Fail> {
-    let table: [(&[u8], Option<u32>); 28] = [
+    let table: [(&[u8], Option<u32>); 33] = [
         (b"A:INIT", Some(1)),
         (b"INIT", Some(1)),
         (b"A: INIT x", Some(9)),
@@ -212,7 +289,12 @@ fn lines_of_nodes_and_of_the_world_leave_it_at_theirs(rt: HostRuntime) -> Result
         (b"A: INIT 8 1 1", Some(13)),
         (b"A: BOOT now", Some(9)),
         (b"CREATE F SEQ", Some(1)),
-        (b"A: CREATE F SEQ 1 100 10", Some(13)),
+        (b"A: CREATE F SEQ 1 100", Some(22)),
+        (b"A: CREATE F SEQ 1 100 10 0", Some(26)),
+        (b"A: CREATE F IDX 1 100 10", Some(25)),
+        (b"A: CREATE F IDX 1 100 10 0", Some(27)),
+        (b"A: CREATE F IDX 1 100 10 0 2 ALT", Some(30)),
+        (b"A: CREATE F SEK 1 100 10", Some(13)),
         (b"A: CREATE F", Some(12)),
         (b"A: CREATE F REL 1 100", Some(22)),
         (b"A: CREATE F REL 1 4294967296 10", Some(19)),
@@ -253,6 +335,9 @@ fn a_record_is_kept_beside_its_statement(rt: HostRuntime) -> Result<(), Fail> {
         assert!(rt; read_statement(line, &mut lit).is_ok());
         assert_eq!(rt; lit.record.bytes(), record);
     }
+    assert!(rt; read_statement(b"A: UPDATE T F \"key\" \"new\"", &mut lit).is_ok());
+    assert_eq!(rt; lit.key.bytes(), b"key".as_slice());
+    assert_eq!(rt; lit.record.bytes(), b"new".as_slice());
     Ok(())
 }
 

@@ -1,11 +1,10 @@
 -- The grammar of a line: the words of each statement, in order.
 use Rattle.std.specs.Prelude.{ℕ, List, [], ◌∷◌, Bool, true, false, ◌==◌, Option, Some, None, if◌then◌else◌, codes}
 use Rattle.std.specs.Option.{option_map}
-use Rattle.std.specs.Str.{bytes_eq}
-use Rattle.vms_model.specs.Names.{upper, node_named, label_named, file_named}
+use Rattle.vms_model.specs.Names.{node_named, label_named, file_named}
 use Rattle.vms_model.specs.Words.{number_up_to, among}
 use Rattle.script_model.specs.LineWords.{Word, words_of}
-use Rattle.script_model.specs.Operands.{bytes_said, prefix_said}
+use Rattle.script_model.specs.Operands.{KeyWord, Numbered, Spelled, bytes_said, key_word_said, key_of, prefix_said}
 use Rattle.script_model.specs.Statements as says
 use Rattle.script_model.specs.Statements.{Statement, Reading, Setting, RecoveryUnits, NoRecoveryUnits}
 
@@ -17,6 +16,11 @@ pub data Verb : Type 0 where
   SetFile : Verb
   StartTrans : Verb
   Put : Verb
+  Update : Verb
+  Delete : Verb
+  Truncate : Verb
+  Get : Verb
+  Next : Verb
   EndTrans : Verb
   AbortTrans : Verb
   Dump : Verb
@@ -25,6 +29,12 @@ pub data Verb : Type 0 where
 pub data WorldVerb : Type 0 where
   Fuse : WorldVerb
   Crash : WorldVerb
+
+-- how a new file keeps its records
+pub data Organization : Type 0 where
+  Sequential : Organization
+  Relative : Organization
+  Indexed : Organization
 
 -- what the first word of a line says: the node that is spoken to, or what is done to the world
 pub data First : Type 0 where
@@ -40,6 +50,11 @@ verbs =
     ∷ (codes "SET_FILE", SetFile)
     ∷ (codes "START_TRANS", StartTrans)
     ∷ (codes "PUT", Put)
+    ∷ (codes "UPDATE", Update)
+    ∷ (codes "DELETE", Delete)
+    ∷ (codes "TRUNCATE", Truncate)
+    ∷ (codes "GET", Get)
+    ∷ (codes "NEXT", Next)
     ∷ (codes "END_TRANS", EndTrans)
     ∷ (codes "ABORT_TRANS", AbortTrans)
     ∷ (codes "DUMP", Dump)
@@ -49,22 +64,27 @@ verbs =
 abbrev pub world_verbs : List (List ℕ × WorldVerb)
 world_verbs = (codes "FUSE", Fuse) ∷ (codes "CRASH", Crash) ∷ []
 
+-- the organizations as they are written
+abbrev pub organizations : List (List ℕ × Organization)
+organizations = (codes "SEQ", Sequential) ∷ (codes "REL", Relative) ∷ (codes "IDX", Indexed) ∷ []
+
 -- what a file may be marked with
 abbrev pub settings : List (List ℕ × Setting)
 settings = (codes "RU", RecoveryUnits) ∷ (codes "NORU", NoRecoveryUnits) ∷ []
 
--- what a word may be: the first of a line, a verb, a node, a label, a file, a setting, a number of 32 or 64 bits, bytes, or just this word
+-- what a word may be: the first of a line, a verb, a node, a label, a file, an organization, a setting, a number of 32 or 64 bits, bytes, or a key
 pub data Kind : Type 0 where
   AFirst : Kind
   AVerb : Kind
   ANode : Kind
   ALabel : Kind
   AFile : Kind
+  AnOrganization : Kind
   ASetting : Kind
   ANumber : Kind
   ALongNumber : Kind
   SomeBytes : Kind
-  TheWord : List ℕ → Kind
+  AKey : Kind
 
 -- what such a word says
 abbrev pub Meaning : Kind → Type 0
@@ -73,11 +93,12 @@ Meaning AVerb = Verb
 Meaning ANode = List ℕ
 Meaning ALabel = List ℕ
 Meaning AFile = List ℕ
+Meaning AnOrganization = Organization
 Meaning ASetting = Setting
 Meaning ANumber = ℕ
 Meaning ALongNumber = ℕ
 Meaning SomeBytes = List ℕ
-Meaning (TheWord name) = Unit {0}
+Meaning AKey = KeyWord
 
 -- a node and a colon behind it, or a verb of the world
 abbrev pub first_said : List ℕ → Option First
@@ -90,11 +111,12 @@ meaning AVerb text = among verbs text
 meaning ANode text = node_named text
 meaning ALabel text = label_named text
 meaning AFile text = file_named text
+meaning AnOrganization text = among organizations text
 meaning ASetting text = among settings text
 meaning ANumber text = number_up_to 4294967295 text
 meaning ALongNumber text = number_up_to 18446744073709551615 text
 meaning SomeBytes text = bytes_said text
-meaning (TheWord name) text = if bytes_eq name (upper text) then Some tt else None
+meaning AKey text = key_word_said text
 
 -- the words that a line still wants: none, and the line says this; a word of this kind, and then those that its meaning asks for;
 -- or none or these
@@ -119,14 +141,30 @@ default_slots = 128
 abbrev pub default_journal : ℕ
 default_journal = 1024
 
+-- the operands behind the count of a new file's buckets or records
+abbrev pub form_operands : List ℕ → List ℕ → Organization → (bucket size count : ℕ) → Shape
+form_operands n f Sequential bucket size count = Ends (says.At n (says.Create f bucket size (says.Sequential count)))
+form_operands n f Relative bucket size count = Ends (says.At n (says.Create f bucket size (says.Relative count)))
+form_operands n f Indexed bucket size count = Then ANumber λ position. Then ANumber λ key_size. Ends (says.At n (says.Create f bucket size (says.Indexed count position key_size)))
+
+-- the operands behind the first word that is put: a number has a record behind it, and bytes are the record
+abbrev pub put_operands : List ℕ → List ℕ → List ℕ → KeyWord → Shape
+put_operands n l f (Numbered number) = Then SomeBytes λ bytes. Ends (says.At n (says.Records l f (says.Put (Some number) bytes)))
+put_operands n l f (Spelled bytes) = Ends (says.At n (says.Records l f (says.Put None bytes)))
+
 -- the operands of each verb, and the statement to this node that they make
 abbrev pub operands : List ℕ → Verb → Shape
 operands n Init = EndsOr (says.At n (says.Init default_slots default_journal)) (Then ANumber λ slots. Then ANumber λ blocks. Ends (says.At n (says.Init slots blocks)))
 operands n Boot = Ends (says.At n says.Boot)
-operands n Create = Then AFile λ f. Then (TheWord (codes "REL")) λ _. Then ANumber λ bucket. Then ANumber λ size. Then ANumber λ records. Ends (says.At n (says.Create f bucket size (says.Relative records)))
+operands n Create = Then AFile λ f. Then AnOrganization λ o. Then ANumber λ bucket. Then ANumber λ size. Then ANumber λ count. form_operands n f o bucket size count
 operands n SetFile = Then AFile λ f. Then ASetting λ setting. Ends (says.At n (says.SetFile f setting))
 operands n StartTrans = Then ALabel λ l. Ends (says.At n (says.StartTrans l))
-operands n Put = Then ALabel λ l. Then AFile λ f. Then ANumber λ k. Then SomeBytes λ bytes. Ends (says.At n (says.Put l f k bytes))
+operands n Put = Then ALabel λ l. Then AFile λ f. Then AKey λ k. put_operands n l f k
+operands n Update = Then ALabel λ l. Then AFile λ f. Then AKey λ k. Then SomeBytes λ bytes. Ends (says.At n (says.Records l f (says.Update (key_of k) bytes)))
+operands n Delete = Then ALabel λ l. Then AFile λ f. Then AKey λ k. Ends (says.At n (says.Records l f (says.Delete (key_of k))))
+operands n Truncate = Then ALabel λ l. Then AFile λ f. Then ANumber λ k. Ends (says.At n (says.Records l f (says.Truncate k)))
+operands n Get = Then ALabel λ l. Then AFile λ f. Then AKey λ k. Ends (says.At n (says.Records l f (says.Get (key_of k))))
+operands n Next = Then ALabel λ l. Then AFile λ f. EndsOr (says.At n (says.Records l f (says.Next None))) (Then AKey λ k. Ends (says.At n (says.Records l f (says.Next (Some (key_of k))))))
 operands n EndTrans = Then ALabel λ l. Ends (says.At n (says.EndTrans l))
 operands n AbortTrans = Then ALabel λ l. Ends (says.At n (says.AbortTrans l))
 operands n Dump = Then AFile λ f. Ends (says.At n (says.Dump f))

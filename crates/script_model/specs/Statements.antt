@@ -1,14 +1,27 @@
 -- The statements of a script, and what a line says.
-use Rattle.std.specs.Prelude.{ℕ, List}
+use Rattle.std.specs.Prelude.{ℕ, List, Option}
+use Rattle.vms_model.specs.Keys.{Key}
 
--- what a new file's records are kept as: in numbered cells, at most so many
+-- what a new file's records are kept as: one behind the other in so many buckets; in numbered cells, at most so many; or in so many buckets by a key of
+-- this size, which stands at this position of each record
 pub data Form : Type 0 where
+  Sequential : (buckets : ℕ) → Form
   Relative : (records : ℕ) → Form
+  Indexed : (buckets position size : ℕ) → Form
 
 -- what a file is marked with, or is marked with no more
 pub data Setting : Type 0 where
   RecoveryUnits : Setting
   NoRecoveryUnits : Setting
+
+-- What is asked of the records of a file. A record is put at a number, or where its file puts it; the next record is the first one, or the first behind a key.
+pub data Operation : Type 0 where
+  Put : (number : Option ℕ) → (bytes : List ℕ) → Operation
+  Update : Key → (bytes : List ℕ) → Operation
+  Delete : Key → Operation
+  Truncate : (number : ℕ) → Operation
+  Get : Key → Operation
+  Next : (after : Option Key) → Operation
 
 -- What is asked of a node, or done to it. A volume's journal and buckets are counted in blocks, records in bytes; a fuse in writes of blocks.
 pub data Request : Type 0 where
@@ -17,7 +30,7 @@ pub data Request : Type 0 where
   Create : (file : List ℕ) → (bucket size : ℕ) → Form → Request
   SetFile : (file : List ℕ) → Setting → Request
   StartTrans : (label : List ℕ) → Request
-  Put : (label file : List ℕ) → (number : ℕ) → (bytes : List ℕ) → Request
+  Records : (label file : List ℕ) → Operation → Request
   EndTrans : (label : List ℕ) → Request
   AbortTrans : (label : List ℕ) → Request
   Dump : (file : List ℕ) → Request

@@ -298,15 +298,50 @@ impl<'a, K: Sink> SinkEmit<'a, K> {
         self.put_id(id);
     }
 
+    // Words, and a record with its key behind them.
+    fn put_keyed(&mut self, words: &[u8], key: &Key, shown: &Record)
+        ensures same_sink { self.new.sink.ghost_name ≡ self.old.sink.ghost_name }
+        ensures number { self.new.number ≡ self.old.number }
+        ensures appends { Appends (kept_by K.shown K.faults self.old) (words.now ++ (key_text (key_of key.now) ++ (32 ∷ bytes_text shown.now))) (kept_by K.shown K.faults self.new) }
+    {
+        self.put(words);
+        self.put_key(key);
+        self.put(b" ");
+        self.put_bytes(shown.bytes());
+    }
+
     fn put_record(&mut self, key: &Key, shown: &Record)
         ensures same_sink { self.new.sink.ghost_name ≡ self.old.sink.ghost_name }
         ensures number { self.new.number ≡ self.old.number }
         ensures appends { Appends (kept_by K.shown K.faults self.old) (line_words (model.Record (key_of key.now) shown.now)) (kept_by K.shown K.faults self.new) }
     {
-        self.put(b"RECORD ");
-        self.put_key(key);
-        self.put(b" ");
+        self.put_keyed(b"RECORD ", key, shown);
+    }
+
+    fn put_next_found(&mut self, key: &Key, shown: &Record)
+        ensures same_sink { self.new.sink.ghost_name ≡ self.old.sink.ghost_name }
+        ensures number { self.new.number ≡ self.old.number }
+        ensures appends { Appends (kept_by K.shown K.faults self.old) (line_words (model.NextFound (key_of key.now) shown.now)) (kept_by K.shown K.faults self.new) }
+    {
+        self.put_keyed(b"RMS$_NORMAL ", key, shown);
+    }
+
+    fn put_found(&mut self, shown: &Record)
+        ensures same_sink { self.new.sink.ghost_name ≡ self.old.sink.ghost_name }
+        ensures number { self.new.number ≡ self.old.number }
+        ensures appends { Appends (kept_by K.shown K.faults self.old) (line_words (model.RecordFound shown.now)) (kept_by K.shown K.faults self.new) }
+    {
+        self.put(b"RMS$_NORMAL ");
         self.put_bytes(shown.bytes());
+    }
+
+    fn put_position(&mut self, position: u32)
+        ensures same_sink { self.new.sink.ghost_name ≡ self.old.sink.ghost_name }
+        ensures number { self.new.number ≡ self.old.number }
+        ensures appends { Appends (kept_by K.shown K.faults self.old) (line_words (model.RecordPosition position)) (kept_by K.shown K.faults self.new) }
+    {
+        self.put(b"RMS$_NORMAL ");
+        self.put_number(u64::from(position));
     }
 
     fn put_committed(&mut self, tid: &Tid, serial: &Serial, moment: Moment)
@@ -410,6 +445,14 @@ impl<'a, K: Sink> SinkEmit<'a, K> {
         self.put_with_numbers(b"RMS$_FUL VOLUME ", free, need);
     }
 
+    fn put_file_full(&mut self, free: u32, need: u32)
+        ensures same_sink { self.new.sink.ghost_name ≡ self.old.sink.ghost_name }
+        ensures number { self.new.number ≡ self.old.number }
+        ensures appends { Appends (kept_by K.shown K.faults self.old) (line_words (model.FileFull free need)) (kept_by K.shown K.faults self.new) }
+    {
+        self.put_with_numbers(b"RMS$_FUL FILE ", u64::from(free), u64::from(need));
+    }
+
     fn put_quota_exceeded(&mut self, quota: Quota, limit: u64)
         ensures same_sink { self.new.sink.ghost_name ≡ self.old.sink.ghost_name }
         ensures number { self.new.number ≡ self.old.number }
@@ -446,6 +489,9 @@ impl<'a, K: Sink> SinkEmit<'a, K> {
             Form::NormalCount(n) => self.put_with_number(b"SS$_NORMAL ", *n),
             Form::NormalId(id) => self.put_with_id(b"SS$_NORMAL ", id),
             Form::RecordNormal => self.put(b"RMS$_NORMAL"),
+            Form::RecordPosition(position) => self.put_position(*position),
+            Form::RecordFound(record) => self.put_found(record),
+            Form::NextFound(key, record) => self.put_next_found(key, record),
             Form::NoSuchNode => self.put(b"NOSUCHNODE"),
             Form::NodeDown => self.put(b"NODEDOWN"),
             Form::NodeUp => self.put(b"NODEUP"),
@@ -455,6 +501,7 @@ impl<'a, K: Sink> SinkEmit<'a, K> {
             Form::FileNotFound => self.put(b"RMS$_FNF"),
             Form::FileExists => self.put(b"RMS$_FEX"),
             Form::BadParameter => self.put(b"SS$_BADPARAM"),
+            Form::BadOperation => self.put(b"RMS$_IOP"),
             Form::BadRecordNumber => self.put(b"RMS$_MRN"),
             Form::BadRecordSize => self.put(b"RMS$_RSZ"),
             Form::NoSuchTransaction => self.put(b"SS$_NOSUCHTID"),
@@ -462,8 +509,13 @@ impl<'a, K: Sink> SinkEmit<'a, K> {
             Form::FileLocked(serial) => self.put_with_id(b"RMS$_FLK ", &serial.0),
             Form::NoVolume(node, condition, block) => self.put_no_volume(node, *condition, *block),
             Form::RecordExists => self.put(b"RMS$_REX"),
+            Form::KeyExists => self.put(b"RMS$_DUP"),
+            Form::RecordNotFound => self.put(b"RMS$_RNF"),
+            Form::EndOfFile => self.put(b"RMS$_EOF"),
+            Form::KeyChanged => self.put(b"RMS$_CHG"),
             Form::QuotaExceeded(quota, limit) => self.put_quota_exceeded(*quota, *limit),
             Form::VolumeFull(free, need) => self.put_volume_full(*free, *need),
+            Form::FileFull(free, need) => self.put_file_full(*free, *need),
             Form::NoMemory => self.put(b"SS$_INSFMEM"),
             Form::Broken(cause) => self.put_cause(*cause),
             Form::BadLine(column) => self.put_with_number(b"BADLINE ", u64::from(*column)),

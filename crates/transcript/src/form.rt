@@ -41,6 +41,11 @@ pub enum Form<'a> {
     NormalCount(u64),
     NormalId(Id),
     RecordNormal,
+    /// The position at which a record was put.
+    RecordPosition(u32),
+    RecordFound(&'a Record),
+    /// The record with the next key.
+    NextFound(Key, &'a Record),
     NoSuchNode,
     NodeDown,
     NodeUp,
@@ -50,6 +55,7 @@ pub enum Form<'a> {
     FileNotFound,
     FileExists,
     BadParameter,
+    BadOperation,
     BadRecordNumber,
     BadRecordSize,
     NoSuchTransaction,
@@ -58,10 +64,16 @@ pub enum Form<'a> {
     /// The node's disk has no volume: the first condition that fails, and the block where it does.
     NoVolume(NodeName, u32, u32),
     RecordExists,
+    KeyExists,
+    RecordNotFound,
+    EndOfFile,
+    KeyChanged,
     /// The limit that would be passed.
     QuotaExceeded(Quota, u64),
     /// The longest free run of blocks, and the blocks that are wanted.
     VolumeFull(u64, u64),
+    /// The free buckets of a file, and the buckets that are wanted.
+    FileFull(u32, u32),
     NoMemory,
     Broken(Cause),
     BadLine(u32),

@@ -4,7 +4,7 @@ use crate::{
 };
 use std::io::{self, Read};
 use std::test::Fail;
-use vms_base::{Id, Key, Moment, NodeName, Reason, Record, Serial, Tid};
+use vms_base::{Id, Key, KeyText, Moment, NodeName, Reason, Record, Serial, Tid};
 
 // Gives at most so many bytes at a time.
 #[derive(Drop)]
@@ -152,6 +152,7 @@ fn lines_have_their_bytes(rt: HostRuntime) -> Result<(), Fail> {
         let mut record = Record::reserve(rt.alloc())?;
         let node = NodeName::new(b"a").ok_or("a name")?;
         let (tid, serial) = (Tid(id(1)?), Serial(id(2)?));
+        let text = KeyText::new(b"aa").ok_or("a key")?;
         record.set(b"x y");
         out.at(12);
         out.emit(&Form::Record(Key::Number(3), &record));
@@ -166,6 +167,11 @@ fn lines_have_their_bytes(rt: HostRuntime) -> Result<(), Fail> {
         out.emit(&Form::Crashed(node));
         out.emit(&Form::NormalCount(2));
         out.emit(&Form::NormalId(tid.0));
+        out.emit(&Form::RecordPosition(70));
+        record.set(b"w");
+        out.emit(&Form::RecordFound(&record));
+        out.emit(&Form::NextFound(Key::Number(9), &record));
+        out.emit(&Form::NextFound(Key::Text(text), &record));
         out.emit(&Form::BadLine(4));
         out.usage();
     }
@@ -180,6 +186,10 @@ fn lines_have_their_bytes(rt: HostRuntime) -> Result<(), Fail> {
 12 DOWN A CRASH\n\
 12 SS$_NORMAL 2\n\
 12 SS$_NORMAL A.1.1\n\
+12 RMS$_NORMAL 70\n\
+12 RMS$_NORMAL \"w\"\n\
+12 RMS$_NORMAL 9 \"w\"\n\
+12 RMS$_NORMAL \"aa\" \"w\"\n\
 12 BADLINE 4\n\
 usage: dtm RUN NODE=IMAGE ... or dtm MAKE n start\n";
     assert_eq!(rt; bytes.as_slice(), want.as_slice());
@@ -209,6 +219,12 @@ fn refusals_and_a_record_without_bytes_have_their_bytes(rt: HostRuntime) -> Resu
         out.emit(&Form::QuotaExceeded(Quota::Boots, 4_294_967_295));
         out.emit(&Form::QuotaExceeded(Quota::Moments, 24_000_000_000_000));
         out.emit(&Form::VolumeFull(7_000, 68_719_476_720));
+        out.emit(&Form::FileFull(1, 3));
+        out.emit(&Form::BadOperation);
+        out.emit(&Form::KeyExists);
+        out.emit(&Form::RecordNotFound);
+        out.emit(&Form::EndOfFile);
+        out.emit(&Form::KeyChanged);
     }
     let want = b"1 RECORD 4 \"\"\n\
 1 NODEUP\n\
@@ -223,7 +239,13 @@ fn refusals_and_a_record_without_bytes_have_their_bytes(rt: HostRuntime) -> Resu
 1 SS$_EXQUOTA CHANGES 1024\n\
 1 SS$_EXQUOTA BOOTS 4294967295\n\
 1 SS$_EXQUOTA MOMENTS 24000000000000\n\
-1 RMS$_FUL VOLUME 7000 68719476720\n";
+1 RMS$_FUL VOLUME 7000 68719476720\n\
+1 RMS$_FUL FILE 1 3\n\
+1 RMS$_IOP\n\
+1 RMS$_DUP\n\
+1 RMS$_RNF\n\
+1 RMS$_EOF\n\
+1 RMS$_CHG\n";
     assert_eq!(rt; bytes.as_slice(), want.as_slice());
     Ok(())
 }

@@ -32,6 +32,9 @@ pub data Line : Type 0 where
   NormalCount : ℕ → Line
   NormalId : Id → Line
   RecordNormal : Line
+  RecordPosition : (position : ℕ) → Line
+  RecordFound : (bytes : List ℕ) → Line
+  NextFound : Key → (bytes : List ℕ) → Line
   NoSuchNode : Line
   NodeDown : Line
   NodeUp : Line
@@ -41,6 +44,7 @@ pub data Line : Type 0 where
   FileNotFound : Line
   FileExists : Line
   BadParameter : Line
+  BadOperation : Line
   BadRecordNumber : Line
   BadRecordSize : Line
   NoSuchTransaction : Line
@@ -48,8 +52,13 @@ pub data Line : Type 0 where
   FileLocked : (serial : Id) → Line
   NoVolume : (node : List ℕ) → (condition block : ℕ) → Line
   RecordExists : Line
+  KeyExists : Line
+  RecordNotFound : Line
+  EndOfFile : Line
+  KeyChanged : Line
   QuotaExceeded : Quota → (limit : ℕ) → Line
   VolumeFull : (free need : ℕ) → Line
+  FileFull : (free need : ℕ) → Line
   NoMemory : Line
   Broken : Cause → Line
   BadLine : (column : ℕ) → Line
@@ -85,6 +94,9 @@ line_words Normal = codes "SS$_NORMAL"
 line_words (NormalCount n) = codes "SS$_NORMAL " ++ decimal n
 line_words (NormalId id) = codes "SS$_NORMAL " ++ id_text id
 line_words RecordNormal = codes "RMS$_NORMAL"
+line_words (RecordPosition position) = codes "RMS$_NORMAL " ++ decimal position
+line_words (RecordFound bytes) = codes "RMS$_NORMAL " ++ bytes_text bytes
+line_words (NextFound key bytes) = codes "RMS$_NORMAL " ++ (key_text key ++ (32 ∷ bytes_text bytes))
 line_words NoSuchNode = codes "NOSUCHNODE"
 line_words NodeDown = codes "NODEDOWN"
 line_words NodeUp = codes "NODEUP"
@@ -94,6 +106,7 @@ line_words BadLabel = codes "LABEL"
 line_words FileNotFound = codes "RMS$_FNF"
 line_words FileExists = codes "RMS$_FEX"
 line_words BadParameter = codes "SS$_BADPARAM"
+line_words BadOperation = codes "RMS$_IOP"
 line_words BadRecordNumber = codes "RMS$_MRN"
 line_words BadRecordSize = codes "RMS$_RSZ"
 line_words NoSuchTransaction = codes "SS$_NOSUCHTID"
@@ -101,8 +114,13 @@ line_words NotMarked = codes "NOTRU"
 line_words (FileLocked serial) = codes "RMS$_FLK " ++ id_text serial
 line_words (NoVolume node condition block) = codes "VOLUME " ++ (node ++ (32 ∷ (decimal condition ++ (32 ∷ decimal block))))
 line_words RecordExists = codes "RMS$_REX"
+line_words KeyExists = codes "RMS$_DUP"
+line_words RecordNotFound = codes "RMS$_RNF"
+line_words EndOfFile = codes "RMS$_EOF"
+line_words KeyChanged = codes "RMS$_CHG"
 line_words (QuotaExceeded quota limit) = codes "SS$_EXQUOTA " ++ (quota_text quota ++ (32 ∷ decimal limit))
 line_words (VolumeFull free need) = codes "RMS$_FUL VOLUME " ++ (decimal free ++ (32 ∷ decimal need))
+line_words (FileFull free need) = codes "RMS$_FUL FILE " ++ (decimal free ++ (32 ∷ decimal need))
 line_words NoMemory = codes "SS$_INSFMEM"
 line_words (Broken cause) = cause_text cause
 line_words (BadLine column) = codes "BADLINE " ++ decimal column

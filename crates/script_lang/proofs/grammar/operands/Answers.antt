@@ -1,28 +1,43 @@
 use Rattle.script_lang.proofs.grammar.operands.Goals as goal
 
-pub returns-in-Init-clause-reads : goal.returns-in-Init-clause-reads
-returns-in-Init-clause-reads c = rw c.in-Init.is (c.init.ensures c.args.lit.now)
+pub returns-in-Init : goal.returns-in-Init
+returns-in-Init c = rw c.in-Init.is (c.init.ensures c.args.lit.now)
 
-pub returns-in-Boot-clause-reads : goal.returns-in-Boot-clause-reads
-returns-in-Boot-clause-reads c = rw c.in-Boot.is (c.boot.ensures c.args.lit.now)
+pub returns-in-Boot : goal.returns-in-Boot
+returns-in-Boot c = rw c.in-Boot.is (c.boot.ensures c.args.lit.now)
 
-pub returns-in-Create-clause-reads : goal.returns-in-Create-clause-reads
-returns-in-Create-clause-reads c = rw c.in-Create.is (c.create.ensures c.args.lit.now)
+pub returns-in-Create : goal.returns-in-Create
+returns-in-Create c = rw c.in-Create.is (c.create.ensures c.args.lit.now)
 
-pub returns-in-SetFile-clause-reads : goal.returns-in-SetFile-clause-reads
-returns-in-SetFile-clause-reads c = rw c.in-SetFile.is (c.set_file.ensures c.args.lit.now)
+pub returns-in-SetFile : goal.returns-in-SetFile
+returns-in-SetFile c = rw c.in-SetFile.is (c.set_file.ensures c.args.lit.now)
 
-pub returns-in-StartTrans-clause-reads : goal.returns-in-StartTrans-clause-reads
-returns-in-StartTrans-clause-reads c = rw c.in-StartTrans.is (c.start_trans.ensures c.args.lit.now)
+pub returns-in-StartTrans : goal.returns-in-StartTrans
+returns-in-StartTrans c = rw c.in-StartTrans.is (c.start_trans.ensures c.args.lit.now)
 
-pub returns-in-Put-clause-reads : goal.returns-in-Put-clause-reads
-returns-in-Put-clause-reads c = rw c.in-Put.is (c.put.ensures.reads)
+pub returns-in-Put : goal.returns-in-Put
+returns-in-Put c = rw c.in-Put.is c.put.ensures
 
-pub returns-in-EndTrans-clause-reads : goal.returns-in-EndTrans-clause-reads
-returns-in-EndTrans-clause-reads c = rw c.in-EndTrans.is (c.end_trans.ensures c.args.lit.now)
+pub returns-in-Update : goal.returns-in-Update
+returns-in-Update c = rw c.in-Update.is c.update.ensures
 
-pub returns-in-AbortTrans-clause-reads : goal.returns-in-AbortTrans-clause-reads
-returns-in-AbortTrans-clause-reads c = rw c.in-AbortTrans.is (c.abort_trans.ensures c.args.lit.now)
+pub returns-in-Delete : goal.returns-in-Delete
+returns-in-Delete c = rw c.in-Delete.is c.delete.ensures
 
-pub returns-in-Dump-clause-reads : goal.returns-in-Dump-clause-reads
-returns-in-Dump-clause-reads c = rw c.in-Dump.is (c.dump.ensures c.args.lit.now)
+pub returns-in-Truncate : goal.returns-in-Truncate
+returns-in-Truncate c = rw c.in-Truncate.is (c.truncate.ensures c.args.lit.now)
+
+pub returns-in-Get : goal.returns-in-Get
+returns-in-Get c = rw c.in-Get.is c.get.ensures
+
+pub returns-in-Next : goal.returns-in-Next
+returns-in-Next c = rw c.in-Next.is c.next.ensures
+
+pub returns-in-EndTrans : goal.returns-in-EndTrans
+returns-in-EndTrans c = rw c.in-EndTrans.is (c.end_trans.ensures c.args.lit.now)
+
+pub returns-in-AbortTrans : goal.returns-in-AbortTrans
+returns-in-AbortTrans c = rw c.in-AbortTrans.is (c.abort_trans.ensures c.args.lit.now)
+
+pub returns-in-Dump : goal.returns-in-Dump
+returns-in-Dump c = rw c.in-Dump.is (c.dump.ensures c.args.lit.now)

@@ -1,8 +1,8 @@
 use Rattle.script_lang.proofs.ReadsLemmas.{missed, took}
 use Rattle.script_lang.proofs.grammar.to_node.Goals as goal
 
-pub returns-in_err-verb-clause-reads : goal.returns-in_err-verb-clause-reads
-returns-in_err-verb-clause-reads c = missed c.verb.ensures c.in_err-verb.was c.from_residual.ensures.1
+pub returns-in_err-verb : goal.returns-in_err-verb
+returns-in_err-verb c = missed c.verb.ensures c.in_err-verb.was c.from_residual.ensures.1
 
-pub returns-clause-reads : goal.returns-clause-reads
-returns-clause-reads c = took c.verb.ensures c.in_ok-verb.was c.operands.ensures.reads
+pub returns : goal.returns
+returns c = took c.verb.ensures c.in_ok-verb.was c.operands.ensures

@@ -1,6 +1,4 @@
-use Rattle.std.proofs.Common.{refl}
-use Rattle.transcript.proofs.BufferedLemmas.{appends4}
 use Rattle.transcript.proofs.emit.SinkEmit.put_record.Goals as goal
 
 pub returns-clause-appends : goal.returns-clause-appends
-returns-clause-appends g c = appends4 _ _ _ _ _ _ _ _ _ _ c.put.ensures.appends c.put_key.ensures.appends c.put-2.ensures.appends c.put_bytes.ensures.appends (rw c.bytes.ensures.value refl)
+returns-clause-appends g c = c.put_keyed.ensures.appends

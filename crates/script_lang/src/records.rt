@@ -1,0 +1,99 @@
+// The statements on records.
+ghost use Rattle.script_model.specs.Grammar.{Ends, operands as operands_of, Verb as TheVerb};
+ghost use Rattle.script_model.specs.Statements.{At, Records};
+ghost use Rattle.script_lang.specs.Reads.{Reads};
+ghost use Rattle.script_lang.specs.declared.literals.Literals.{Literals as LiteralsSaid};
+ghost use Rattle.script_lang.specs.Statements.{ReadsPlain, statement_of, operation_of};
+
+use crate::grammar::ends;
+use crate::literals::Literals;
+use crate::statement::{KeyWord, Operation, Request, Statement};
+use crate::words::{LineErr, Words};
+use vms_base::{FileName, Label, NodeName};
+
+// A request on the records of a file, where the line ends here.
+fn operation(
+    node: NodeName,
+    label: Label,
+    file: FileName,
+    operation: Operation,
+    words: &mut Words<'_>,
+) -> Result<Statement, LineErr>
+    ensures { (lit : LiteralsSaid) → Reads (statement_of lit) (Ends (At node (Records label file (operation_of lit operation)))) words.old result }
+{
+    ends(
+        Statement::At(node, Request::Records(label, file, operation)),
+        words,
+    )
+}
+
+pub fn put(node: NodeName, words: &mut Words<'_>, lit: &mut Literals) -> Result<Statement, LineErr>
+    ensures { Reads (statement_of lit.new) (operands_of node TheVerb.Put) words.old result }
+{
+    let label = words.label()?;
+    let file = words.file()?;
+    match words.key(&mut lit.record)? {
+        KeyWord::Number(number) => {
+            words.bytes(&mut lit.record)?;
+            operation(node, label, file, Operation::Put(Some(number)), words)
+        }
+        KeyWord::Bytes => operation(node, label, file, Operation::Put(None), words),
+    }
+}
+
+pub fn update(
+    node: NodeName,
+    words: &mut Words<'_>,
+    lit: &mut Literals,
+) -> Result<Statement, LineErr>
+    ensures { Reads (statement_of lit.new) (operands_of node TheVerb.Update) words.old result }
+{
+    let label = words.label()?;
+    let file = words.file()?;
+    let key = words.key(&mut lit.key)?;
+    words.bytes(&mut lit.record)?;
+    operation(node, label, file, Operation::Update(key), words)
+}
+
+pub fn delete(
+    node: NodeName,
+    words: &mut Words<'_>,
+    lit: &mut Literals,
+) -> Result<Statement, LineErr>
+    ensures { Reads (statement_of lit.new) (operands_of node TheVerb.Delete) words.old result }
+{
+    let label = words.label()?;
+    let file = words.file()?;
+    let key = words.key(&mut lit.key)?;
+    operation(node, label, file, Operation::Delete(key), words)
+}
+
+pub fn truncate(node: NodeName, words: &mut Words<'_>) -> Result<Statement, LineErr>
+    ensures { ReadsPlain (operands_of node TheVerb.Truncate) words.old result }
+{
+    let label = words.label()?;
+    let file = words.file()?;
+    let number = words.number()?;
+    operation(node, label, file, Operation::Truncate(number), words)
+}
+
+pub fn get(node: NodeName, words: &mut Words<'_>, lit: &mut Literals) -> Result<Statement, LineErr>
+    ensures { Reads (statement_of lit.new) (operands_of node TheVerb.Get) words.old result }
+{
+    let label = words.label()?;
+    let file = words.file()?;
+    let key = words.key(&mut lit.key)?;
+    operation(node, label, file, Operation::Get(key), words)
+}
+
+pub fn next(node: NodeName, words: &mut Words<'_>, lit: &mut Literals) -> Result<Statement, LineErr>
+    ensures { Reads (statement_of lit.new) (operands_of node TheVerb.Next) words.old result }
+{
+    let label = words.label()?;
+    let file = words.file()?;
+    if words.is_at_end() {
+        return Ok(Statement::At(node, Request::Records(label, file, Operation::Next(None))));
+    }
+    let key = words.key(&mut lit.key)?;
+    operation(node, label, file, Operation::Next(Some(key)), words)
+}

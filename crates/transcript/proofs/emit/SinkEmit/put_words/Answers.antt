@@ -1,0 +1,16 @@
+use Rattle.transcript.proofs.emit.SinkEmit.put_words.Goals as goal
+
+pub returns-in-RecordPosition-clause-appends : goal.returns-in-RecordPosition-clause-appends
+returns-in-RecordPosition-clause-appends g c = rw c.in-RecordPosition.is c.put_position.ensures.appends
+
+pub returns-in-RecordFound-clause-appends : goal.returns-in-RecordFound-clause-appends
+returns-in-RecordFound-clause-appends g c = rw c.in-RecordFound.is c.put_found.ensures.appends
+
+pub returns-in-NextFound-clause-appends : goal.returns-in-NextFound-clause-appends
+returns-in-NextFound-clause-appends g c = rw c.in-NextFound.is c.put_next_found.ensures.appends
+
+pub returns-in-NoSuchTransaction-clause-appends : goal.returns-in-NoSuchTransaction-clause-appends
+returns-in-NoSuchTransaction-clause-appends g c = rw c.in-NoSuchTransaction.is c.put-in-NoSuchTransaction.ensures.appends
+
+pub returns-in-FileFull-clause-appends : goal.returns-in-FileFull-clause-appends
+returns-in-FileFull-clause-appends g c = rw c.in-FileFull.is c.put_file_full.ensures.appends
