@@ -7,15 +7,13 @@ use Rattle.std.proofs.lemmas.List.{get_or-take, length-take}
 use Rattle.block_disk.specs.Blocks.{block_at}
 use Rattle.careful_write.specs.Steps.{AgreesOff}
 use Rattle.file_base.specs.declared.head.FileHead.{FileHead}
-use Rattle.change_set.specs.Files.{in_extent}
+use Rattle.change_set.specs.Files.{AgreesOn, in_extent}
 use Rattle.extents.specs.declared.extent.Extent.{Extent as Area}
 use Rattle.extents.specs.Extents.{IsFreeRun, all_extents, covers, extent, is_used, nowhere}
 use Rattle.extents.proofs.Used.{covered, covering, free_is, used_at, not_both}
-use Rattle.run_model.specs.World.{File}
-use Rattle.directory_model.specs.Files.{AreFiles, RestOnExtents, Fit, head_at}
+use Rattle.directory_model.specs.Files.{Fit, head_at}
 use Rattle.directory_model.specs.Laws.{LieApart, SameBut, WritesApart}
 use Rattle.directory_model.proofs.Places.{within_list}
-use Rattle.directory_model.proofs.Standing.{map_rests, stands_on_extents}
 
 -- the blocks of a file's buckets
 abbrev pub own : FileHead → Area
@@ -108,22 +106,18 @@ module _ (area : Area) (heads : List (Option FileHead)) (fit : Fit area heads) w
       go true is = absurd (never is)
       go false is = is
 
-  in_file : (f : ℕ) (h : FileHead) (a b : List (List ℕ)) → RestOnExtents heads → head_at heads f ≡ Some h → AgreesOff (in_extent h) a b → SameBut f heads a b
-  in_file f h a b rests there agrees g other differs there_too =
-      map_rests other a b (rests g other there_too) (λ n in_it. sym (agrees.others n (apart g f n other h (λ e. differs (sym e)) there_too there in_it)))
+  in_file : (f : ℕ) (h : FileHead) (a b : List (List ℕ)) → head_at heads f ≡ Some h → AgreesOff (in_extent h) a b → SameBut f heads a b
+  in_file f h a b there agrees g other differs there_too n in_it = sym (agrees.others n (apart g f n other h (λ e. differs (sym e)) there_too there in_it))
 
-  in_free : (directory : List (Option File)) (h : FileHead) (a b : List (List ℕ)) → RestOnExtents heads → IsFreeRun area (all_extents heads) h.start (h.alloc * h.bucket) → AgreesOff (in_extent h) a b → AreFiles a heads directory → AreFiles b heads directory
-  in_free directory h a b rests run agrees are = stands_on_extents a b heads directory rests (λ g other there n in_it. sym (agrees.others n (not_in g n other there in_it))) are
+  in_free : (h : FileHead) (a b : List (List ℕ)) → IsFreeRun area (all_extents heads) h.start (h.alloc * h.bucket) → AgreesOff (in_extent h) a b → (g : ℕ) (other : FileHead) → head_at heads g ≡ Some other → AgreesOn other a b
+  in_free h a b run agrees g other there n in_it = sym (agrees.others n (go (in_extent h n) refl))
     where
-      not_in : (g n : ℕ) (other : FileHead) → head_at heads g ≡ Some other → in_extent other n ≡ true → in_extent h n ≡ false
-      not_in g n other there in_it = go (in_extent h n) refl
-        where
-          go : (b : Bool) → in_extent h n ≡ b → in_extent h n ≡ false
-          go true is = absurd (not_both (in_extent other n) in_it (free g n h other run there is))
-          go false is = is
+      go : (b : Bool) → in_extent h n ≡ b → in_extent h n ≡ false
+      go true is = absurd (not_both (in_extent other n) in_it (free g n h other run there is))
+      go false is = is
 
-  before : (directory : List (Option File)) (a b : List (List ℕ)) → RestOnExtents heads → ((n : ℕ) → area.start ≤ n + 518 → block_at a n ≡ block_at b n) → AreFiles a heads directory → AreFiles b heads directory
-  before directory a b rests agrees are = stands_on_extents a b heads directory rests (λ g other there n in_it. agrees n (within g n other there in_it).0) are
+  before : (a b : List (List ℕ)) → ((n : ℕ) → area.start ≤ n + 518 → block_at a n ≡ block_at b n) → (g : ℕ) (other : FileHead) → head_at heads g ≡ Some other → AgreesOn other a b
+  before a b agrees g other there n in_it = agrees n (within g n other there in_it).0
 
   lies : (f : ℕ) (h : FileHead) → head_at heads f ≡ Some h → 1 ≤ h.alloc * h.bucket → (area.start ≤ h.start) × (h.start + h.alloc * h.bucket ≤ area.end)
   lies f h there some = whole (h.alloc * h.bucket) refl some
@@ -154,7 +148,7 @@ lie_apart = record {
 
 pub writes_apart : WritesApart
 writes_apart = record {
-  in_file = λ area heads f h a b fit rests. in_file area heads fit f h a b rests;
-  in_free = λ area heads directory h a b fit rests. in_free area heads fit directory h a b rests;
-  before = λ area heads directory a b fit rests. before area heads fit directory a b rests;
+  in_file = λ area heads f h a b fit. in_file area heads fit f h a b;
+  in_free = λ area heads h a b fit. in_free area heads fit h a b;
+  before = λ area heads a b fit. before area heads fit a b;
 }

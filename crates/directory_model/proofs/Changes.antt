@@ -1,25 +1,22 @@
 -- Unsettled changes over each act of the world.
 use Rattle.std.proofs.Common.{◌≡◌, ◌≢◌, ◌⊎◌, ℕ, zero, suc, List, [], ◌∷◌, ◌++◌, map, Bool, true, false, Option, Some, None, replicate, slice_set, if◌then◌else◌, refl, sym, ap, subst, ◌∙◌, inl, inr, ⊎_elim}
-use Rattle.std.specs.Prelude.{◌||◌, not}
 use Rattle.std.specs.Str.{bytes_eq}
 use Rattle.std.specs.Option.{option_map}
 use Rattle.std.specs.FinMap.{get}
 use Rattle.std.proofs.lemmas.Bool.{cases_eq}
 use Rattle.std.proofs.lemmas.List.{get_or-set_same, get_or-set_other}
 use Rattle.file_base.specs.declared.head.FileHead.{FileHead}
-use Rattle.change_set.specs.Maps.{Map, map_of_records, same_key, set_key}
-use Rattle.change_set.proofs.Changes.{agree}
+use Rattle.change_set.specs.Maps.{Map, Found, applied, map_of_records, undone}
+use Rattle.change_set.proofs.Changes.{agree, undone-applied}
 use Rattle.vms_model.specs.Ids.{Id}
-use Rattle.vms_model.specs.Keys.{Key, Number}
 use Rattle.records_model.specs.Records.{Change}
-use Rattle.records_model.specs.History.{records, current, changed}
-use Rattle.records_model.proofs.RecordsLemmas as lemmas
-use Rattle.run_model.specs.World.{Node, File, Settlement, Boots, Creates, Marks, Changes, Settles, acted, as_it_stands, settled_file, with_file}
-use Rattle.directory_model.specs.Files.{IsFoundAt, HasChanges, AreChanged, AreUnchanged, AreNumbers, head_at, file_at, has_put, has_changed, without_puts}
+use Rattle.records_model.specs.History.{records, current, changed_with}
+use Rattle.run_model.specs.World.{Node, File, Settlement, Boots, Creates, Marks, Changes, Settles, acted, as_it_stands, changed_file, settled_file, with_file}
+use Rattle.directory_model.specs.Files.{IsFoundAt, Note, HasChanges, AreChanged, AreUnchanged, AreNoted, AreOwn, head_at, file_at, map_undone, notes_of}
 use Rattle.directory_model.specs.Laws.{KeepsChanges}
 use Rattle.directory_model.proofs.Places.{file_mapped, within_list}
+use Rattle.directory_model.proofs.Notes.{all_noted, are_noted-append, map_undone-append, map_undone-noted, none_noted, not_noted_there, notes_of-append}
 use Rattle.directory_model.proofs.Histories.{current_settled, current_changed, live_changed, live_settled}
-use Rattle.directory_model.proofs.Numbers.{put_here, put_elsewhere, changed_here, changed_elsewhere, none_put, unchanged_there}
 
 -- What stands at a place of a changed directory.
 
@@ -59,21 +56,21 @@ with_there name change (Some first ∷ directory) f file there = go (bytes_eq na
 
 -- A file whose history is the same.
 
-changes_as : (serial : Id) (puts : List (ℕ × ℕ)) (f : ℕ) (old file : File) → file.history ≡ old.history → HasChanges serial puts f old → HasChanges serial puts f file
-changes_as serial puts f old file same has = record {
+changes_as : (serial : Id) (notes : List Note) (f : ℕ) (old file : File) → file.history ≡ old.history → HasChanges serial notes f old → HasChanges serial notes f file
+changes_as serial notes f old file same has = record {
   changes = has.changes;
   live = ap (λ h. h.live) same ∙ has.live;
-  some = has.some;
-  settled = λ key. ap (λ h. get (records h) key) same ∙ has.settled key ∙ ap (λ h. without_puts puts f (map_of_records (current h)) key) (sym same);
+  noted = has.noted;
+  settled = λ key. ap (λ h. get (records h) key) same ∙ has.settled key ∙ ap (λ h. map_undone (notes_of f notes) (map_of_records (current h)) key) (sym same);
 }
 
--- a file without unsettled changes, in which no record was put
-none_by : (serial : Id) (puts : List (ℕ × ℕ)) (f : ℕ) (file : File) → has_changed puts f ≡ false → file.history.live ≡ [] → HasChanges serial puts f file
-none_by serial puts f file none live = record {
+-- a file without unsettled changes, of which nothing was noted
+none_by : (serial : Id) (notes : List Note) (f : ℕ) (file : File) → notes_of f notes ≡ [] → file.history.live ≡ [] → HasChanges serial notes f file
+none_by serial notes f file none live = record {
   changes = [];
   live = live;
-  some = sym (ap not none);
-  settled = λ key. ap (λ m. get m key) (sym (current_settled file.history live)) ∙ ap (λ b. if b then None else get (current file.history) key) (sym (none_put puts f key none));
+  noted = subst (λ ns. AreNoted f ns []) (sym none) tt;
+  settled = λ key. ap (λ m. get m key) (sym (current_settled file.history live)) ∙ ap (λ ns. map_undone ns (map_of_records (current file.history)) key) (sym none);
 }
 
 -- Acts.
@@ -84,10 +81,10 @@ boots n f file there = let old = mapped_there (as_it_stands n.greatest) n.direct
 creates : (n : Node) (f : ℕ) (file : File) → AreUnchanged n.directory → file.history.live ≡ [] → AreUnchanged (acted (Creates f file) n).directory
 creates n f file are live g other there = ⊎_elim (λ here. ap (λ (x : File). x.history.live) here.1 ∙ live) (λ old. are g other old) (set_there n.directory f g file other there)
 
-creates_beside : (heads : List (Option FileHead)) (n : Node) (f : ℕ) (file : File) (serial : Id) (puts : List (ℕ × ℕ)) → AreNumbers puts heads → head_at heads f ≡ None → file.history.live ≡ [] → AreChanged serial puts n.directory →
-    AreChanged serial puts (acted (Creates f file) n).directory
-creates_beside heads n f file serial puts numbers none live are g other there =
-    ⊎_elim (λ here. subst (λ x. HasChanges serial puts x other) (sym here.0) (none_by serial puts f other (unchanged_there heads puts f numbers none) (ap (λ (x : File). x.history.live) here.1 ∙ live))) (λ old. are g other old)
+creates_beside : (heads : List (Option FileHead)) (n : Node) (f : ℕ) (file : File) (serial : Id) (notes : List Note) → AreOwn notes heads → head_at heads f ≡ None → file.history.live ≡ [] → AreChanged serial notes n.directory →
+    AreChanged serial notes (acted (Creates f file) n).directory
+creates_beside heads n f file serial notes own none live are g other there =
+    ⊎_elim (λ here. subst (λ x. HasChanges serial notes x other) (sym here.0) (none_by serial notes f other (not_noted_there heads notes f own none) (ap (λ (x : File). x.history.live) here.1 ∙ live))) (λ old. are g other old)
     (set_there n.directory f g file other there)
 
 marks : (n : Node) (name : List ℕ) (units : Bool) → AreUnchanged n.directory → AreUnchanged (acted (Marks name units) n).directory
@@ -95,72 +92,59 @@ marks n name units are f file there =
     let old = with_there name (λ file. record file { recovery_units = units }) n.directory f file there in
     ⊎_elim (λ same. ap (λ (x : File). x.history.live) same ∙ are f old.0 old.1) (λ same. ap (λ (x : File). x.history.live) same ∙ are f old.0 old.1) old.2
 
-marks_beside : (n : Node) (name : List ℕ) (units : Bool) (serial : Id) (puts : List (ℕ × ℕ)) → AreChanged serial puts n.directory → AreChanged serial puts (acted (Marks name units) n).directory
-marks_beside n name units serial puts are f file there =
+marks_beside : (n : Node) (name : List ℕ) (units : Bool) (serial : Id) (notes : List Note) → AreChanged serial notes n.directory → AreChanged serial notes (acted (Marks name units) n).directory
+marks_beside n name units serial notes are f file there =
     let old = with_there name (λ file. record file { recovery_units = units }) n.directory f file there in
-    changes_as serial puts f old.0 file (⊎_elim (λ same. ap (λ (x : File). x.history) same) (λ same. ap (λ (x : File). x.history) same) old.2) (are f old.0 old.1)
+    changes_as serial notes f old.0 file (⊎_elim (λ same. ap (λ (x : File). x.history) same) (λ same. ap (λ (x : File). x.history) same) old.2) (are f old.0 old.1)
 
--- A record is put where there was none.
+-- Changes that noted what they found.
 
-put_settled : (puts : List (ℕ × ℕ)) (f number : ℕ) (key : Key) (m : Map) (bytes : Option (List ℕ)) (settled : Option (List ℕ)) → m (Number number) ≡ None → settled ≡ without_puts puts f m key →
-    settled ≡ without_puts (puts ++ (f, number) ∷ []) f (set_key (Number number) bytes m) key
-put_settled puts f number key m bytes settled none was =
-    was ∙ go (same_key key (Number number)) refl ∙ ap (λ b. if b then None else set_key (Number number) bytes m key) (sym (put_here puts f number key))
-  where
-    nothing : (b : Bool) (o : Option (List ℕ)) → o ≡ None → (if b then None else o) ≡ None
-    nothing true o e = refl
-    nothing false o e = e
-
-    or_true : (b : Bool) → (b || true) ≡ true
-    or_true true = refl
-    or_true false = refl
-
-    or_false : (b : Bool) → (b || false) ≡ b
-    or_false true = refl
-    or_false false = refl
-
-    go : (t : Bool) → same_key key (Number number) ≡ t → without_puts puts f m key ≡ (if (has_put puts f key || same_key key (Number number)) then None else (if same_key key (Number number) then bytes else m key))
-    go true is = nothing (has_put puts f key) (m key) (ap m (lemmas.same_key key (Number number) is) ∙ none)
-        ∙ sym (ap (λ t. if (has_put puts f key || t) then None else (if t then bytes else m key)) is ∙ ap (λ b. if b then None else bytes) (or_true (has_put puts f key)))
-    go false is = sym (ap (λ t. if (has_put puts f key || t) then None else (if t then bytes else m key)) is ∙ ap (λ b. if b then None else m key) (or_false (has_put puts f key)))
-
-put_in : (serial : Id) (puts : List (ℕ × ℕ)) (f number : ℕ) (file : File) (c : Change) → HasChanges serial puts f file → c.key ≡ Number number → get (current file.history) c.key ≡ None →
-    HasChanges serial (puts ++ (f, number) ∷ []) f (record file { history = changed serial c file.history })
-put_in serial puts f number file c has is none = record {
-  changes = c ∷ has.changes;
-  live = live_changed serial c has.changes file.history has.live;
-  some = sym (ap not (changed_here puts f number));
-  settled = λ key. put_settled puts f number key (map_of_records (current file.history)) c.after (get (records file.history) key) (ap (get (current file.history)) (sym is) ∙ none) (has.settled key)
-      ∙ ap (λ (m : Map). without_puts (puts ++ (f, number) ∷ []) f m key) now;
+changed_in : (serial : Id) (made notes : List Note) (f : ℕ) (file : File) (cs : List Change) → HasChanges serial notes f file → AreNoted f made cs → Found cs (map_of_records (current file.history)) → HasChanges serial (made ++ notes) f (changed_file serial cs file)
+changed_in serial made notes f file cs has noted found = record {
+  changes = cs ++ has.changes;
+  live = live_changed serial cs has.changes file.history has.live;
+  noted = subst (λ ns. AreNoted f ns (cs ++ has.changes)) (sym here) (are_noted-append f made (notes_of f notes) cs has.changes noted has.noted);
+  settled = λ key. has.settled key ∙ ap (λ (m : Map). m key) (sym back);
 }
   where
-    now : set_key (Number number) c.after (map_of_records (current file.history)) ≡ map_of_records (current (changed serial c file.history))
-    now = sym (ap map_of_records (current_changed serial c has.changes file.history has.live) ∙ agree.applied_alike (c ∷ []) (current file.history) ∙ ap (λ k. set_key k c.after (map_of_records (current file.history))) is)
+    here : notes_of f (made ++ notes) ≡ made ++ notes_of f notes
+    here = notes_of-append f made notes ∙ ap (λ ns. ns ++ notes_of f notes) (all_noted f made cs noted)
 
-put_beside : (serial : Id) (puts : List (ℕ × ℕ)) (f g number : ℕ) (file : File) → g ≢ f → HasChanges serial puts g file → HasChanges serial (puts ++ (f, number) ∷ []) g file
-put_beside serial puts f g number file other has = record {
+    now : map_of_records (current (changed_with serial cs file.history)) ≡ applied cs (map_of_records (current file.history))
+    now = ap map_of_records (current_changed serial cs has.changes file.history has.live) ∙ agree.applied_alike cs (current file.history)
+
+    back : map_undone (notes_of f (made ++ notes)) (map_of_records (current (changed_with serial cs file.history))) ≡ map_undone (notes_of f notes) (map_of_records (current file.history))
+    back = ap (λ ns. map_undone ns (map_of_records (current (changed_with serial cs file.history)))) here
+        ∙ map_undone-append made (notes_of f notes) (map_of_records (current (changed_with serial cs file.history)))
+        ∙ ap (map_undone (notes_of f notes)) (map_undone-noted f made cs (map_of_records (current (changed_with serial cs file.history))) noted ∙ ap (undone cs) now ∙ undone-applied cs (map_of_records (current file.history)) found)
+
+changed_beside : (serial : Id) (made notes : List Note) (f g : ℕ) (file : File) (cs : List Change) → g ≢ f → AreNoted f made cs → HasChanges serial notes g file → HasChanges serial (made ++ notes) g file
+changed_beside serial made notes f g file cs other noted has = record {
   changes = has.changes;
   live = has.live;
-  some = has.some ∙ ap not (sym (changed_elsewhere puts f g number other));
-  settled = λ key. has.settled key ∙ ap (λ b. if b then None else get (current file.history) key) (sym (put_elsewhere puts f g number key other));
+  noted = subst (λ ns. AreNoted g ns has.changes) (sym beside) has.noted;
+  settled = λ key. has.settled key ∙ ap (λ ns. map_undone ns (map_of_records (current file.history)) key) (sym beside);
 }
+  where
+    beside : notes_of g (made ++ notes) ≡ notes_of g notes
+    beside = notes_of-append g made notes ∙ ap (λ ns. ns ++ notes_of g notes) (none_noted f g made cs other noted)
 
-puts_one : (n : Node) (name : List ℕ) (serial : Id) (puts : List (ℕ × ℕ)) (f number : ℕ) (file : File) (c : Change) → AreChanged serial puts n.directory → IsFoundAt name n.directory f file → c.key ≡ Number number → get (current file.history) c.key ≡ None →
-    AreChanged serial (puts ++ (f, number) ∷ []) (acted (Changes serial name c) n).directory
-puts_one n name serial puts f number file c are found is none g other there =
-    let new : File = record file { history = changed serial c file.history } in
-    let set : file_at (slice_set n.directory f (Some new)) g ≡ Some other = ap (λ fs. file_at fs g) (sym (found.changed (λ file. record file { history = changed serial c file.history }))) ∙ there in
+changes : (n : Node) (name : List ℕ) (serial : Id) (made notes : List Note) (f : ℕ) (file : File) (cs : List Change) → AreChanged serial notes n.directory → IsFoundAt name n.directory f file → AreNoted f made cs → Found cs (map_of_records (current file.history)) →
+    AreChanged serial (made ++ notes) (acted (Changes serial name cs) n).directory
+changes n name serial made notes f file cs are at noted found g other there =
+    let new : File = changed_file serial cs file in
+    let set : file_at (slice_set n.directory f (Some new)) g ≡ Some other = ap (λ fs. file_at fs g) (sym (at.changed (changed_file serial cs))) ∙ there in
     elim (cases_eq g f) [
       | inl here ↦
-          let it : Some other ≡ Some new = sym set ∙ ap (file_at (slice_set n.directory f (Some new))) here ∙ get_or-set_same n.directory f (Some new) None (within_list n.directory f file found.there) in
+          let it : Some other ≡ Some new = sym set ∙ ap (file_at (slice_set n.directory f (Some new))) here ∙ get_or-set_same n.directory f (Some new) None (within_list n.directory f file at.there) in
           let same : other ≡ new = cc in
-          subst (λ x. HasChanges serial (puts ++ (f, number) ∷ []) x other) (sym here)
-          (subst (λ x. HasChanges serial (puts ++ (f, number) ∷ []) f x) (sym same) (put_in serial puts f number file c (are f file found.there) is none))
-      | inr beside ↦ put_beside serial puts f g number other beside (are g other (sym (get_or-set_other n.directory f g (Some new) None beside) ∙ set))
+          subst (λ x. HasChanges serial (made ++ notes) x other) (sym here)
+          (subst (λ x. HasChanges serial (made ++ notes) f x) (sym same) (changed_in serial made notes f file cs (are f file at.there) noted found))
+      | inr beside ↦ changed_beside serial made notes f g other cs beside noted (are g other (sym (get_or-set_other n.directory f g (Some new) None beside) ∙ set))
     ]
 
-settles : (n : Node) (puts : List (ℕ × ℕ)) (s : Settlement) → AreChanged s.serial puts n.directory → AreUnchanged (acted (Settles s) n).directory
-settles n puts s are f file there =
+settles : (n : Node) (notes : List Note) (s : Settlement) → AreChanged s.serial notes n.directory → AreUnchanged (acted (Settles s) n).directory
+settles n notes s are f file there =
     let old = mapped_there (settled_file s) n.directory f file there in
     let has = are f old.0 old.1 in
     ap (λ (x : File). x.history.live) old.2 ∙ live_settled s.serial s.outcome s.moment has.changes old.0.history has.live
@@ -174,6 +158,6 @@ keeps_changes = record {
   creates_beside = creates_beside;
   marks = marks;
   marks_beside = marks_beside;
-  puts = puts_one;
+  changes = changes;
   settles = settles;
 }

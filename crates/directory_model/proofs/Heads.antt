@@ -7,7 +7,8 @@ use Rattle.file_base.specs.declared.head.FileHead.{FileHead}
 use Rattle.extents.specs.declared.extent.Extent.{Extent as Area}
 use Rattle.extents.specs.Extents.{IsFreeRun, FitsAt, all_extents, covers, extents_of, is_used, nowhere}
 use Rattle.extents.proofs.Used.{covered, free_is, used_at, not_both, either_false}
-use Rattle.directory_model.specs.Files.{RestsOnExtent, RestOnExtents, AreNamedOnce, NoneNamed, Fit, IsNewHead, head_at}
+use Rattle.script_model.specs.Statements.{Form}
+use Rattle.directory_model.specs.Files.{AreNamedOnce, NoneNamed, Fit, IsNewHead, head_at}
 use Rattle.directory_model.specs.Laws.{KeepsHeads, marked}
 use Rattle.directory_model.proofs.Places.{within_list}
 use Rattle.directory_model.proofs.Apart.{own, four_each}
@@ -36,37 +37,29 @@ creates_named heads f h once long none g other there lower third below there_too
     (head_set heads f lower h third there_too))
     (head_set heads f g h other there)
 
-marks_named : (heads : List (Option FileHead)) (f : ℕ) (h : FileHead) (units : Bool) → AreNamedOnce heads → head_at heads f ≡ Some h → AreNamedOnce (slice_set heads f (Some (marked units h)))
-marks_named heads f h units once is g other there lower third below there_too same =
+-- what stands at a number under the name that stood there before
+named_still : (heads : List (Option FileHead)) (f : ℕ) (h new : FileHead) → AreNamedOnce heads → head_at heads f ≡ Some h → new.name ≡ h.name → AreNamedOnce (slice_set heads f (Some new))
+named_still heads f h new once is name g other there lower third below there_too same =
     let first = was g other there in
     let second = was lower third there_too in
     once g first.0 first.1 lower second.0 below second.1 (sym second.2 ∙ same ∙ first.2)
   where
-    was : (g : ℕ) (other : FileHead) → head_at (slice_set heads f (Some (marked units h))) g ≡ Some other → (old : FileHead) × (head_at heads g ≡ Some old) × (other.name ≡ old.name)
-    was g other there = ⊎_elim (λ new. (h, ap (head_at heads) new.0 ∙ is, ap (λ (x : FileHead). x.name) new.1)) (λ old. (other, old, refl)) (head_set heads f g (marked units h) other there)
-
--- Extents on which records rest.
-
-creates_resting : (heads : List (Option FileHead)) (f : ℕ) (h : FileHead) → RestOnExtents heads → RestsOnExtent h → RestOnExtents (slice_set heads f (Some h))
-creates_resting heads f h rest rests g other there = ⊎_elim (λ new. subst RestsOnExtent (sym new.1) rests) (λ old. rest g other old) (head_set heads f g h other there)
-
-marks_resting : (heads : List (Option FileHead)) (f : ℕ) (h : FileHead) (units : Bool) → RestOnExtents heads → head_at heads f ≡ Some h → RestOnExtents (slice_set heads f (Some (marked units h)))
-marks_resting heads f h units rest there = creates_resting heads f (marked units h) rest
-    (⊎_elim (λ form. inl (record { organization = form.organization; cells = form.cells; one = form.one; used = form.used })) (λ none. inr none) (rest f h there))
+    was : (g : ℕ) (other : FileHead) → head_at (slice_set heads f (Some new)) g ≡ Some other → (old : FileHead) × (head_at heads g ≡ Some old) × (other.name ≡ old.name)
+    was g other there = ⊎_elim (λ it. (h, ap (head_at heads) it.0 ∙ is, ap (λ (x : FileHead). x.name) it.1 ∙ name)) (λ old. (other, old, refl)) (head_set heads f g new other there)
 
 -- Extents that fit.
 
-same_extents : (heads : List (Option FileHead)) (f : ℕ) (h : FileHead) (units : Bool) → head_at heads f ≡ Some h → all_extents heads ≡ all_extents (slice_set heads f (Some (marked units h)))
-same_extents [] f h units there = refl
-same_extents (None ∷ heads) zero h units there = let no : ⊥ = cc in absurd no
-same_extents (Some first ∷ heads) zero h units there = let same : first ≡ h = cc in ap (λ x. all_extents (Some x ∷ heads)) same
-same_extents (o ∷ heads) (suc f) h units there = ap (λ es. extents_of o ++ es) (same_extents heads f h units there)
+same_extents : (heads : List (Option FileHead)) (f : ℕ) (h new : FileHead) → extents_of (Some h) ≡ extents_of (Some new) → head_at heads f ≡ Some h → all_extents heads ≡ all_extents (slice_set heads f (Some new))
+same_extents [] f h new same there = refl
+same_extents (None ∷ heads) zero h new same there = let no : ⊥ = cc in absurd no
+same_extents (Some first ∷ heads) zero h new same there = let it : first ≡ h = cc in ap (λ (x : FileHead). all_extents (Some x ∷ heads)) it ∙ ap (λ es. es ++ all_extents heads) same
+same_extents (o ∷ heads) (suc f) h new same there = ap (λ es. extents_of o ++ es) (same_extents heads f h new same there)
 
-marks : (area : Area) (heads : List (Option FileHead)) (f : ℕ) (h : FileHead) (units : Bool) → Fit area heads → head_at heads f ≡ Some h → Fit area (slice_set heads f (Some (marked units h)))
-marks area heads f h units fit there = record {
-  heads_long = length-set heads f (Some (marked units h)) ∙ fit.heads_long;
+fit_still : (area : Area) (heads : List (Option FileHead)) (f : ℕ) (h new : FileHead) → Fit area heads → head_at heads f ≡ Some h → extents_of (Some h) ≡ extents_of (Some new) → Fit area (slice_set heads f (Some new))
+fit_still area heads f h new fit there same = record {
+  heads_long = length-set heads f (Some new) ∙ fit.heads_long;
   behind = fit.behind;
-  each = subst (λ es. (i : ℕ) → i < 256 → FitsAt area es i) (same_extents heads f h units there) fit.each;
+  each = subst (λ es. (i : ℕ) → i < 256 → FitsAt area es i) (same_extents heads f h new same there) fit.each;
 }
 
 -- none of these has the block, where the one at no place has
@@ -89,10 +82,10 @@ empty_extent from size n none has = some (grind (arith, nat_tests)) has
     some a b = let k : true ≡ false = sym b ∙ a in cc
 
 -- a block of an extent, once a file is made, was one of it, or is one of the new file
-new_covers : (heads : List (Option FileHead)) (f i n : ℕ) (h : FileHead) → IsNewHead h → covers (slice_index_or (all_extents (slice_set heads f (Some h))) i nowhere) n ≡ true →
+new_covers : (heads : List (Option FileHead)) (f i n : ℕ) (form : Form) (h : FileHead) → IsNewHead form h → covers (slice_index_or (all_extents (slice_set heads f (Some h))) i nowhere) n ≡ true →
     (covers (slice_index_or (all_extents heads) i nowhere) n ≡ true) ⊎ ((i ≡ 4 * f) × (covers (own h) n ≡ true))
-new_covers [] f i n h new has = inl has
-new_covers (o ∷ heads) zero i n h new has = at i has
+new_covers [] f i n form h new has = inl has
+new_covers (o ∷ heads) zero i n form h new has = at i has
   where
     rest_of : (o : Option FileHead) (i : ℕ) → slice_index_or (all_extents (o ∷ heads)) (suc (suc (suc (suc i)))) nowhere ≡ slice_index_or (all_extents heads) i nowhere
     rest_of None i = refl
@@ -104,7 +97,7 @@ new_covers (o ∷ heads) zero i n h new has = at i has
     at (suc (suc zero)) has = absurd (empty_extent h.bi.start h.bi.blocks n new.bi has)
     at (suc (suc (suc zero))) has = absurd (empty_extent h.save.start (h.save.alloc * h.bucket) n (none_of h.save.alloc h.bucket new.save) has)
     at (suc (suc (suc (suc i)))) has = inl (ap (λ e. covers e n) (rest_of o i) ∙ has)
-new_covers (o ∷ heads) (suc f) i n h new has = at o i (λ j. new_covers heads f j n h new) has
+new_covers (o ∷ heads) (suc f) i n form h new has = at o i (λ j. new_covers heads f j n form h new) has
   where
     after : (f j : ℕ) → j ≡ 4 * f → suc (suc (suc (suc j))) ≡ 4 * suc f
     after f j is = omega arith
@@ -122,7 +115,7 @@ new_covers (o ∷ heads) (suc f) i n h new has = at o i (λ j. new_covers heads 
     at (Some x) (suc (suc (suc zero))) more has = inl has
     at (Some x) (suc (suc (suc (suc j)))) more has = ⊎_elim (λ old. inl old) (λ it. inr (after f j it.0, it.1)) (more j has)
 
-module _ (area : Area) (heads : List (Option FileHead)) (f : ℕ) (h : FileHead) (fit : Fit area heads) (new : IsNewHead h) (run : IsFreeRun area (all_extents heads) h.start (h.alloc * h.bucket)) where
+module _ (area : Area) (heads : List (Option FileHead)) (f : ℕ) (form : Form) (h : FileHead) (fit : Fit area heads) (new : IsNewHead form h) (run : IsFreeRun area (all_extents heads) h.start (h.alloc * h.bucket)) where
   long : length (all_extents heads) ≡ 256
   long = let all = four_each heads in let count = fit.heads_long in omega arith
 
@@ -147,16 +140,16 @@ module _ (area : Area) (heads : List (Option FileHead)) (f : ℕ) (h : FileHead)
   made_pair : (i j n : ℕ) → j < i → i < 256 → covers (slice_index_or made i nowhere) n ≡ true → covers (slice_index_or made j nowhere) n ≡ true → ⊥
   made_pair i j n below within has has_too =
       ⊎_elim
-      (λ old. ⊎_elim (λ old_too. pair i j n below within old old_too) (λ it. run_apart i n within old it.1) (new_covers heads f j n h new has_too))
-      (λ it. ⊎_elim (λ old_too. run_apart j n (omega arith) old_too it.1) (λ it_too. let a = it.0 in let b = it_too.0 in absurd (omega arith)) (new_covers heads f j n h new has_too))
-      (new_covers heads f i n h new has)
+      (λ old. ⊎_elim (λ old_too. pair i j n below within old old_too) (λ it. run_apart i n within old it.1) (new_covers heads f j n form h new has_too))
+      (λ it. ⊎_elim (λ old_too. run_apart j n (omega arith) old_too it.1) (λ it_too. let a = it.0 in let b = it_too.0 in absurd (omega arith)) (new_covers heads f j n form h new has_too))
+      (new_covers heads f i n form h new has)
 
   creates : Fit area (slice_set heads f (Some h))
   creates = record {
     heads_long = length-set heads f (Some h) ∙ fit.heads_long;
     behind = fit.behind;
     each = λ i within. record {
-      inside = λ n has. ⊎_elim (λ old. (fit.each i within).inside n old) (λ it. (run_is n it.1).0) (new_covers heads f i n h new has);
+      inside = λ n has. ⊎_elim (λ old. (fit.each i within).inside n old) (λ it. (run_is n it.1).0) (new_covers heads f i n form h new has);
       apart = λ n has. unused_all (take i made) n (λ j below has_too.
           let few = length-take i made in
           let before : j < i = omega (arith, few) in
@@ -166,10 +159,10 @@ module _ (area : Area) (heads : List (Option FileHead)) (f : ℕ) (h : FileHead)
 
 pub keeps_heads : KeepsHeads
 keeps_heads = record {
-  creates = λ area heads f h fit within new run. creates area heads f h fit new run;
+  creates = λ area heads f form h fit within new run. creates area heads f form h fit new run;
   creates_named = creates_named;
-  creates_resting = creates_resting;
-  marks = marks;
-  marks_named = marks_named;
-  marks_resting = marks_resting;
+  marks = λ area heads f h units fit there. fit_still area heads f h (marked units h) fit there refl;
+  marks_named = λ heads f h units once there. named_still heads f h (marked units h) once there refl;
+  changes = λ area heads f h new fit there same. fit_still area heads f h new fit there (ap (λ (x : FileHead). extents_of (Some x)) (sym same.is));
+  changes_named = λ heads f h new once there same. named_still heads f h new once there (ap (λ (x : FileHead). x.name) same.is);
 }

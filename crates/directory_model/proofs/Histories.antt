@@ -1,15 +1,16 @@
 -- The history of a file that one unsettled branch alone changed, or none.
-use Rattle.std.proofs.Common.{◌≡◌, ℕ, List, [], ◌∷◌, Bool, true, false, Some, None, if◌then◌else◌, refl, sym, ap, ◌∙◌}
+use Rattle.std.proofs.Common.{◌≡◌, ℕ, List, [], ◌∷◌, ◌++◌, true, false, Some, None, if◌then◌else◌, refl, sym, ap, ◌∙◌}
 use Rattle.std.specs.Prelude.{not}
 use Rattle.vms_model.specs.Ids.{Id}
 use Rattle.vms_model.specs.Transactions.{Outcome, Commit, Abort}
-use Rattle.records_model.specs.Records.{Records, Change, applied, set_key}
-use Rattle.records_model.specs.History.{History, records, current, on_top, changes_by, with_change, without, changed, settled_at, settled_with, changed_it, first_to_change}
+use Rattle.records_model.specs.Records.{Records, Change, applied}
+use Rattle.records_model.specs.History.{History, records, current, on_top, changes_by, with_change, with_changes, without, changed_with, settled_at, settled_with, changed_it, first_to_change}
 use Rattle.run_model.specs.World.{File}
 use Rattle.run_model.proofs.IdLemmas.{id_itself}
-use Rattle.run_model.proofs.HistoryLemmas.{committed_leaves, aborted_leaves}
-use Rattle.directory_model.specs.Files.{HasChanges, has_changed, is_empty, live_by}
+use Rattle.run_model.proofs.HistoryLemmas.{applied_append, committed_leaves, aborted_leaves}
+use Rattle.directory_model.specs.Files.{Note, HasChanges, has_changed, is_empty, live_by, notes_of}
 use Rattle.directory_model.specs.Laws.{TellsChanges}
+use Rattle.directory_model.proofs.Notes.{has_noted, empty_alike}
 
 on_top_live : (serial : Id) (cs : List Change) (m : Records) → on_top (live_by serial cs) m ≡ applied cs m
 on_top_live serial [] m = refl
@@ -18,6 +19,10 @@ on_top_live serial (c ∷ cs) m = refl
 changes_live : (serial : Id) (cs : List Change) → changes_by serial (live_by serial cs) ≡ cs
 changes_live serial [] = refl
 changes_live serial (c ∷ cs) = ap (λ b. if b then c ∷ cs else []) (id_itself serial)
+
+-- the branch's changes of the file are these
+pub changes_of : (serial : Id) (h : History) (cs : List Change) → h.live ≡ live_by serial cs → changes_by serial h.live ≡ cs
+changes_of serial h cs live = ap (changes_by serial) live ∙ changes_live serial cs
 
 change_live : (serial : Id) (c : Change) (cs : List Change) → with_change serial c (live_by serial cs) ≡ live_by serial (c ∷ cs)
 change_live serial c [] = refl
@@ -35,18 +40,23 @@ current_by serial cs h live = ap (λ ls. on_top ls (records h)) live ∙ on_top_
 pub current_settled : (h : History) → h.live ≡ [] → current h ≡ records h
 current_settled h live = ap (λ ls. on_top ls (records h)) live
 
--- one more change of the branch
-pub live_changed : (serial : Id) (c : Change) (cs : List Change) (h : History) → h.live ≡ live_by serial cs → (changed serial c h).live ≡ live_by serial (c ∷ cs)
-live_changed serial c cs h live = ap (with_change serial c) live ∙ change_live serial c cs
+-- more changes of the branch
+changes_more : (serial : Id) (cs ds : List Change) → with_changes serial cs (live_by serial ds) ≡ live_by serial (cs ++ ds)
+changes_more serial [] ds = refl
+changes_more serial (c ∷ cs) ds = ap (with_change serial c) (changes_more serial cs ds) ∙ change_live serial c (cs ++ ds)
 
-pub current_changed : (serial : Id) (c : Change) (cs : List Change) (h : History) → h.live ≡ live_by serial cs → current (changed serial c h) ≡ set_key (current h) c.key c.after
-current_changed serial c cs h live =
-    current_by serial (c ∷ cs) (changed serial c h) (live_changed serial c cs h live)
-    ∙ ap (λ m. set_key m c.key c.after) (sym (current_by serial cs h live))
+pub live_changed : (serial : Id) (cs ds : List Change) (h : History) → h.live ≡ live_by serial ds → (changed_with serial cs h).live ≡ live_by serial (cs ++ ds)
+live_changed serial cs ds h live = ap (with_changes serial cs) live ∙ changes_more serial cs ds
+
+pub current_changed : (serial : Id) (cs ds : List Change) (h : History) → h.live ≡ live_by serial ds → current (changed_with serial cs h) ≡ applied cs (current h)
+current_changed serial cs ds h live =
+    current_by serial (cs ++ ds) (changed_with serial cs h) (live_changed serial cs ds h live)
+    ∙ applied_append cs ds (records h)
+    ∙ ap (applied cs) (sym (current_by serial ds h live))
 
 -- the branch is settled
 pub live_settled : (serial : Id) (outcome : Outcome) (moment : ℕ) (cs : List Change) (h : History) → h.live ≡ live_by serial cs → (settled_at serial outcome moment h).live ≡ []
-live_settled serial outcome moment cs h live = go cs live (ap (changes_by serial) live ∙ changes_live serial cs)
+live_settled serial outcome moment cs h live = go cs live (changes_of serial h cs live)
   where
     go : (cs : List Change) → h.live ≡ live_by serial cs → changes_by serial h.live ≡ cs → (settled_at serial outcome moment h).live ≡ []
     go [] live is = ap (λ ds. (settled_with serial outcome moment ds h).live) is ∙ live
@@ -56,7 +66,7 @@ pub current_committed : (serial : Id) (moment : ℕ) (cs : List Change) (h : His
 current_committed serial moment cs h live =
     current_settled (settled_at serial Commit moment h) (live_settled serial Commit moment cs h live)
     ∙ committed_leaves serial moment h
-    ∙ ap (λ ds. applied ds (records h)) (ap (changes_by serial) live ∙ changes_live serial cs)
+    ∙ ap (λ ds. applied ds (records h)) (changes_of serial h cs live)
     ∙ sym (current_by serial cs h live)
 
 pub current_aborted : (serial : Id) (moment : ℕ) (cs : List Change) (h : History) → h.live ≡ live_by serial cs → current (settled_at serial Abort moment h) ≡ records h
@@ -69,13 +79,10 @@ tested : (serial : Id) (h : History) (cs : List Change) → changes_by serial h.
 tested serial h [] is = ap (λ cs. elim cs [ [] ↦ false | c ∷ ds ↦ true ]) is
 tested serial h (c ∷ cs) is = ap (λ cs. elim cs [ [] ↦ false | c ∷ ds ↦ true ]) is
 
-not_not : (b : Bool) → not (not b) ≡ b
-not_not true = refl
-not_not false = refl
-
-first_by : (serial : Id) (puts : List (ℕ × ℕ)) (f : ℕ) (file : File) → HasChanges serial puts f file → first_to_change file.history (serial ∷ []) ≡ (if has_changed puts f then Some serial else None)
-first_by serial puts f file has =
-    let test : changed_it file.history serial ≡ has_changed puts f = tested serial file.history has.changes (ap (changes_by serial) has.live ∙ changes_live serial has.changes) ∙ ap not has.some ∙ not_not (has_changed puts f) in
+first_by : (serial : Id) (notes : List Note) (f : ℕ) (file : File) → HasChanges serial notes f file → first_to_change file.history (serial ∷ []) ≡ (if has_changed notes f then Some serial else None)
+first_by serial notes f file has =
+    let test : changed_it file.history serial ≡ has_changed notes f = tested serial file.history has.changes (changes_of serial file.history has.changes has.live)
+    ∙ ap not (sym (empty_alike f (notes_of f notes) has.changes has.noted)) ∙ sym (has_noted notes f) in
     ap (λ b. if b then Some serial else None) test
 
 first_of_none : (file : File) (serials : List Id) → file.history.live ≡ [] → first_to_change file.history serials ≡ None

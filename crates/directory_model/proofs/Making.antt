@@ -1,4 +1,4 @@
--- The head of a relative file, and the file that is made with it.
+-- The head of a file that is made, and the file that is made with it.
 use Rattle.std.proofs.Common.{◌≡◌, ℕ, ◌+◌, ◌-◌, ◌*◌, ◌/◌, ◌≤◌, List, false, nat_le, nat_lt, refl, sym, ap, subst, ◌∙◌, arith, inl, inr}
 use Rattle.std.specs.Prelude.{◌&&◌, ◌||◌}
 use Rattle.std.specs.FinMap.{get-empty}
@@ -6,12 +6,17 @@ use Rattle.std.proofs.lemmas.Bool.{cases_lt}
 use Rattle.std.proofs.lemmas.Bool.Decides.{nat_tests}
 use Rattle.file_base.specs.declared.head.FileHead.{FileHead}
 use Rattle.change_set.specs.Maps.{Map, empty_map}
-use Rattle.relative_file.specs.Cells.{IsRelative, cells_in, map_of}
+use Rattle.relative_file.specs.Cells.{IsRelative, cells_in}
+use Rattle.seq_file.specs.Layout.{IsSequential, IsFresh}
+use Rattle.indexed_file.specs.Chain.{IsIndexed}
+use Rattle.record_files.specs.Any as any
+use Rattle.record_files.specs.Any.{map_of, chain_of, first_chain_of, first_by, FormBy, FreshBy, IsLaidOut, IsNew}
+use Rattle.script_model.specs.Statements.{Form}
 use Rattle.script_model.specs.Statements as form
 use Rattle.records_model.specs.Records.{key_cmp}
-use Rattle.run_model.specs.Answers.{blocks_for, created}
+use Rattle.run_model.specs.Answers.{created, first_chain, organized}
 use Rattle.run_model.specs.Extents.{is_taken}
-use Rattle.directory_model.specs.Files.{IsFile, IsSized, IsNewHead, others_of}
+use Rattle.directory_model.specs.Files.{IsFile, IsNewHead, organized_by, others_of}
 use Rattle.directory_model.specs.Laws.{MakesFiles}
 use Rattle.directory_model.proofs.Heads.{none_of}
 
@@ -28,50 +33,92 @@ one_cell room cell some fits = elim (cases_lt (room / cell) 1) [
 cells_enough : (numbers cells : ℕ) → 1 ≤ cells → numbers ≤ (numbers + cells - 1) / cells * cells
 cells_enough numbers cells some = omega arith
 
-relative : (h : FileHead) → IsSized h → IsRelative h
-relative h sized = record {
-  organization = sized.organization;
-  cells = subst (λ x. h.mrn ≤ x * cells_in h) (sym sized.buckets) (cells_enough h.mrn (cells_in h) one);
+-- Its form.
+
+sequential : (buckets : ℕ) (h : FileHead) → IsNewHead (form.Sequential buckets) h → IsSequential h × IsFresh h
+sequential buckets h new =
+    (record { organization = new.organized.0; one = let used = new.organized.1 in omega arith; used = let used = new.organized.1 in let some = new.some in omega arith; root = new.root; levels = new.organized.2 }, record { one = new.organized.1; none = new.count })
+
+relative : (records : ℕ) (h : FileHead) → IsNewHead (form.Relative records) h → IsRelative h
+relative records h new = record {
+  organization = new.organized.0;
+  cells = subst (λ x. x ≤ h.alloc * cells_in h) (sym new.organized.1) (subst (λ x. records ≤ x * cells_in h) (sym new.buckets) (cells_enough records (cells_in h) one));
   one = one;
-  used = sized.used;
+  used = new.organized.2;
+  root = new.root;
+  levels = new.organized.3;
+  count = new.count;
 }
   where
     one : 1 ≤ cells_in h
-    one = let room = sized.room in one_cell (512 * h.bucket - 16) (h.mrs + 2) (omega arith) (omega arith)
+    one = let room = new.room in one_cell (512 * h.bucket - 16) (h.mrs + 2) (omega arith) (omega arith)
+
+indexed : (buckets position size : ℕ) (h : FileHead) → IsNewHead (form.Indexed buckets position size) h → IsIndexed h
+indexed buckets position size h new = record {
+  organization = new.organized.0;
+  levels = new.organized.4;
+  root = new.root;
+  some = let used = new.organized.3 in omega arith;
+  within = let used = new.organized.3 in let some = new.some in omega arith;
+  key = subst (λ x. 1 ≤ x) (sym new.organized.2) new.organized.5;
+  short = subst (λ x. x ≤ 64) (sym new.organized.2) new.organized.6;
+  holds = let at = new.organized.1 in let long = new.organized.2 in let fits = new.organized.7 in omega arith;
+  count = new.count;
+}
+
+new_form : (f : Form) (h : FileHead) → IsNewHead f h → any.IsFile h × IsNew h
+new_form (form.Sequential buckets) h new = let both = sequential buckets h new in (subst (λ o. FormBy o h) (sym new.organized.0) both.0, subst (λ o. FreshBy o h) (sym new.organized.0) both.1)
+new_form (form.Relative records) h new = (subst (λ o. FormBy o h) (sym new.organized.0) (relative records h new), subst (λ o. FreshBy o h) (sym new.organized.0) tt)
+new_form (form.Indexed buckets position size) h new =
+    (subst (λ o. FormBy o h) (sym new.organized.0) (indexed buckets position size h new), subst (λ o. FreshBy o h) (sym new.organized.0) new.organized.3)
+
+-- The file.
+
+new_organization : (f : Form) (h : FileHead) → IsNewHead f h → organized f ≡ organized_by h.organization h
+new_organization (form.Sequential buckets) h new = ap (λ o. organized_by o h) (sym new.organized.0)
+new_organization (form.Relative records) h new = ap (λ n. organized (form.Relative n)) (sym new.organized.1) ∙ ap (λ o. organized_by o h) (sym new.organized.0)
+new_organization (form.Indexed buckets position size) h new =
+    ap (λ p. organized (form.Indexed buckets p size)) (sym new.organized.1) ∙ ap (λ s. organized (form.Indexed buckets h.key_pos s)) (sym new.organized.2) ∙ ap (λ o. organized_by o h) (sym new.organized.0)
+
+new_chain : (f : Form) (h : FileHead) → IsNewHead f h → first_chain f ≡ first_chain_of h
+new_chain (form.Sequential buckets) h new = ap (λ o. first_by o h) (sym new.organized.0)
+new_chain (form.Relative records) h new = ap (λ o. first_by o h) (sym new.organized.0)
+new_chain (form.Indexed buckets position size) h new = ap (λ o. first_by o h) (sym new.organized.0)
 
 -- an extent of no blocks takes none
 nothing : (from size n : ℕ) → size ≡ 0 → (nat_le from n && nat_lt n (from + size)) ≡ false
 nothing from size n none = grind (arith, nat_tests)
 
-no_others : (h : FileHead) (n : ℕ) → IsNewHead h → false ≡ is_taken (others_of h) n
-no_others h n new =
+no_others : (f : Form) (h : FileHead) (n : ℕ) → IsNewHead f h → false ≡ is_taken (others_of h) n
+no_others f h n new =
     ap (λ b. b || false) (sym (nothing h.ai.start h.ai.blocks n new.ai))
     ∙ ap (λ b. (nat_le h.ai.start n && nat_lt n (h.ai.start + h.ai.blocks)) || (b || false)) (sym (nothing h.bi.start h.bi.blocks n new.bi))
     ∙ ap (λ b. (nat_le h.ai.start n && nat_lt n (h.ai.start + h.ai.blocks)) || ((nat_le h.bi.start n && nat_lt n (h.bi.start + h.bi.blocks)) || (b || false)))
     (sym (nothing h.save.start (h.save.alloc * h.bucket) n (none_of h.save.alloc h.bucket new.save)))
 
-file : (content : List (List ℕ)) (h : FileHead) (moment : ℕ) → IsNewHead h → map_of h content ≡ empty_map → IsFile content h (created h.name h.bucket h.mrs (form.Relative h.mrn) h.start moment)
-file content h moment new none = record {
+new_file : (content : List (List ℕ)) (f : Form) (h : FileHead) (moment : ℕ) → IsNewHead f h → map_of h content ≡ empty_map → IsLaidOut h content → chain_of h content ≡ first_chain_of h → IsFile content h (created h.name h.bucket h.mrs f h.start moment)
+new_file content f h moment new none laid chain = record {
   name = refl;
   bucket = refl;
   record_size = refl;
-  numbers = refl;
+  organization = new_organization f h new;
   start = refl;
-  buckets = sym new.sized.buckets;
-  others = λ n. no_others h n new;
+  buckets = sym new.buckets;
+  others = λ n. no_others f h n new;
   units = sym new.unmarked;
+  form = (new_form f h new).0;
+  laid = laid;
   records = λ key. get-empty key_cmp key ∙ ap (λ (m : Map). m key) (sym none);
+  chain = new_chain f h new ∙ sym chain;
 }
 
-blocks : (h : FileHead) → IsSized h → h.alloc * h.bucket ≡ blocks_for h.bucket h.mrs (form.Relative h.mrn)
-blocks h sized = ap (λ x. x * h.bucket) sized.buckets
+-- Its blocks.
 
--- a file that has a number has a block
-some_product : (a b c n : ℕ) → n ≤ a * c → 1 ≤ n → 1 ≤ b → 1 ≤ a * b
-some_product a b c n few one least = grind arith
+some_product : (a b : ℕ) → 1 ≤ a → 1 ≤ b → 1 ≤ a * b
+some_product a b one least = grind arith
 
-some : (h : FileHead) → IsSized h → 1 ≤ h.mrn → 1 ≤ h.alloc * h.bucket
-some h sized one = let form = relative h sized in let room = sized.room in some_product h.alloc h.bucket (cells_in h) h.mrn form.cells one (omega arith)
+some : (f : Form) (h : FileHead) → IsNewHead f h → 1 ≤ h.alloc * h.bucket
+some f h new = some_product h.alloc h.bucket new.some (let room = new.room in omega arith)
 
 pub makes_files : MakesFiles
-makes_files = record { relative = relative; file = file; blocks = blocks; some = some }
+makes_files = record { form = new_form; file = new_file; blocks = λ f h new. ap (λ x. x * h.bucket) new.buckets; some = some }

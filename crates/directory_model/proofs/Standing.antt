@@ -1,31 +1,61 @@
 -- Files rest on their extents.
-use Rattle.std.proofs.Common.{◌≡◌, ℕ, List, false, None, nat_le, if◌then◌else◌, refl, sym, ap, ◌∙◌, arith, ⊎_elim}
-use Rattle.std.specs.Prelude.{◌&&◌}
-use Rattle.std.proofs.lemmas.Bool.Decides.{nat_tests}
+use Rattle.std.proofs.Common.{◌≡◌, ℕ, List, Option, Some, None, refl, ap, ◌∙◌}
 use Rattle.file_base.specs.declared.head.FileHead.{FileHead}
+use Rattle.file_base.specs.declared.head.Organization.{Organization as Kept}
+use Rattle.file_base.specs.declared.head.Organization.TheVariants.{Sequential, Relative, Indexed}
 use Rattle.change_set.specs.Files.{AgreesOn}
-use Rattle.relative_file.specs.Cells.{map_of, record_in, cell_at}
-use Rattle.relative_file.specs.Local.{local_law}
-use Rattle.vms_model.specs.Keys.{Key, Number, Text, End}
-use Rattle.directory_model.specs.Files.{RestsOnExtent, head_at, file_at}
+use Rattle.change_set.specs.Maps.{Map}
+use Rattle.relative_file.specs.Local as relative
+use Rattle.seq_file.specs.Local as sequential
+use Rattle.indexed_file.specs.Local as indexed
+use Rattle.record_files.specs.Any.{map_by, chain_by, FormBy, LaidOutBy}
+use Rattle.run_model.specs.World.{File}
+use Rattle.directory_model.specs.Files.{IsFile, IsPlace, head_at, file_at}
 use Rattle.directory_model.specs.Laws.{StandsOnExtents}
-use Rattle.directory_model.proofs.Acts.{place_moved}
 
--- where there is no number there is no record
-no_cell : (n mrn : ℕ) → mrn ≡ 0 → (nat_le 1 n && nat_le n mrn) ≡ false
-no_cell n mrn none = grind (arith, nat_tests)
+-- By organization, the keys, the layout and the chain are the same in contents that agree on the extent.
 
-no_record : (h : FileHead) (content : List (List ℕ)) (key : Key) → h.mrn ≡ 0 → map_of h content key ≡ None
-no_record h content (Number m) none = ap (λ b. if b then record_in h.mrs (cell_at h content m) else None) (no_cell m h.mrn none)
-no_record h content (Text t) none = refl
-no_record h content End none = refl
+map_stands : (o : Kept) (h : FileHead) (a b : List (List ℕ)) → FormBy o h → AgreesOn h a b → map_by o h a ≡ map_by o h b
+map_stands Sequential h a b form agrees = sequential.local_law h a b form agrees
+map_stands Relative h a b form agrees = relative.local_law h a b form agrees
+map_stands Indexed h a b form agrees = indexed.local_law h a b form agrees
 
-pub map_rests : (h : FileHead) (a b : List (List ℕ)) → RestsOnExtent h → AgreesOn h a b → map_of h b ≡ map_of h a
-map_rests h a b rests agrees = ⊎_elim (λ form. sym (local_law h a b form agrees)) (λ none i key. (no_record h b key none ∙ sym (no_record h a key none)) i) rests
+laid_stands : (o : Kept) (h : FileHead) (a b : List (List ℕ)) → FormBy o h → AgreesOn h a b → LaidOutBy o h a → LaidOutBy o h b
+laid_stands Sequential h a b form agrees laid = sequential.valid_local_law h a b form agrees laid
+laid_stands Relative h a b form agrees laid = relative.valid_local_law h a b form agrees laid
+laid_stands Indexed h a b form agrees laid = indexed.valid_local_law h a b form agrees laid
+
+chain_stands : (o : Kept) (h : FileHead) (a b : List (List ℕ)) → FormBy o h → AgreesOn h a b → chain_by o h a ≡ chain_by o h b
+chain_stands Sequential h a b form agrees = refl
+chain_stands Relative h a b form agrees = refl
+chain_stands Indexed h a b form agrees = indexed.chain_local_law h a b form agrees
+
+-- So the file stands.
+pub file_stands : (a b : List (List ℕ)) (h : FileHead) (file : File) → AgreesOn h a b → IsFile a h file → IsFile b h file
+file_stands a b h file agrees is = record {
+  name = is.name;
+  bucket = is.bucket;
+  record_size = is.record_size;
+  organization = is.organization;
+  start = is.start;
+  buckets = is.buckets;
+  others = is.others;
+  units = is.units;
+  form = is.form;
+  laid = laid_stands h.organization h a b is.form agrees is.laid;
+  records = λ key. is.records key ∙ ap (λ (m : Map). m key) (map_stands h.organization h a b is.form agrees);
+  chain = is.chain ∙ chain_stands h.organization h a b is.form agrees;
+}
+
+pub place_stands : (a b : List (List ℕ)) (o : Option FileHead) (p : Option File) → ((h : FileHead) → o ≡ Some h → AgreesOn h a b) → IsPlace a o p → IsPlace b o p
+place_stands a b None None agree is = tt
+place_stands a b None (Some file) agree is = absurd is
+place_stands a b (Some h) None agree is = absurd is
+place_stands a b (Some h) (Some file) agree is = file_stands a b h file (agree h refl) is
 
 pub stands_on_extents : StandsOnExtents
-stands_on_extents a b heads directory rest agree are = record {
+stands_on_extents a b heads directory agree are = record {
   heads_long = are.heads_long;
   directory_long = are.directory_long;
-  each = λ f. place_moved a b (head_at heads f) (file_at directory f) (λ h there. map_rests h a b (rest f h there) (agree f h there)) (are.each f);
+  each = λ f. place_stands a b (head_at heads f) (file_at directory f) (agree f) (are.each f);
 }

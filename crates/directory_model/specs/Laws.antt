@@ -1,25 +1,31 @@
 -- What holds of the files of a volume and of the world. A head is a file of the volume's directory, and a file is one of the world's; f is a file's
 -- number in the one and its place in the other.
-use Rattle.std.specs.Prelude.{◌≡◌, ◌≢◌, ℕ, ◌+◌, ◌*◌, ◌<◌, ◌≤◌, ◌++◌, List, [], ◌∷◌, Bool, true, false, Option, Some, None, length, if◌then◌else◌, replicate, slice_set, take}
+use Rattle.std.specs.Prelude.{◌≡◌, ◌≢◌, ℕ, ◌+◌, ◌-◌, ◌*◌, ◌<◌, ◌≤◌, ◌++◌, List, [], ◌∷◌, Bool, true, false, Option, Some, None, length, if◌then◌else◌, map, replicate, slice_set, take, drop}
 use Rattle.std.specs.FinMap.{entries, get}
 use Rattle.block_disk.specs.Blocks.{block_at}
 use Rattle.careful_write.specs.Steps.{AgreesOff}
 use Rattle.file_base.specs.declared.head.FileHead.{FileHead}
-use Rattle.change_set.specs.Files.{AgreesOn, in_extent}
-use Rattle.change_set.specs.Maps.{Map, IsNext, EndsAfter, empty_map, set_key}
+use Rattle.file_base.specs.declared.head.Organization.TheVariants.{Sequential, Indexed}
+use Rattle.change_set.specs.Files.{AgreesOn, SameFile, in_extent}
+use Rattle.change_set.specs.Maps.{Map, IsNext, EndsAfter, Found, applied, empty_map, map_of_records, set_key}
 use Rattle.extents.specs.declared.extent.Extent.{Extent as Area}
 use Rattle.extents.specs.Extents.{IsFreeRun, all_extents, is_used}
-use Rattle.relative_file.specs.Cells.{IsRelative, map_of, has_cell}
-use Rattle.script_model.specs.Statements as form
+use Rattle.record_files.specs.Any as any
+use Rattle.record_files.specs.Any.{map_of, chain_of, first_chain_of, IsLaidOut, IsNew, Suits, Restores, room_at, asks}
+use Rattle.seq_file.specs.Layout.{records_in}
+use Rattle.seq_file.specs.Records.{cut_from}
+use Rattle.script_model.specs.Statements.{Form, Put, Update}
 use Rattle.vms_model.specs.Ids.{Id}
 use Rattle.vms_model.specs.Keys.{Key, Number}
 use Rattle.vms_model.specs.Transactions.{Commit, Abort}
 use Rattle.records_model.specs.Records.{Records, Change}
+use Rattle.records_model.specs.Chain.{chain_changed}
 use Rattle.records_model.specs.History.{current, first_to_change}
 use Rattle.run_model.specs.Answers.{blocks_for, created}
+use Rattle.run_model.specs.Operations.{count_of, first_behind, in_order, need_of, removed, used}
 use Rattle.run_model.specs.Extents.{is_taken}
 use Rattle.run_model.specs.World.{Node, File, Label, Branch, Settlement, Formats, Boots, Creates, Marks, Begins, Changes, Settles, acted, area_start, extents_of, find_file, free_place, longest_free, lowest_free}
-use Rattle.directory_model.specs.Files.{AreFiles, IsFile, NoneNamed, IsNamed, IsFoundAt, RestsOnExtent, RestOnExtents, AreNamedOnce, IsSized, IsNewHead, Fit, HasChanges, AreChanged, AreUnchanged, AreNumbers, head_at, has_changed, without_puts, IsShown}
+use Rattle.directory_model.specs.Files.{AreFiles, IsFile, NoneNamed, IsNamed, IsFoundAt, AreNamedOnce, IsNewHead, Fit, Note, has_changed, holds, AreNoted, AreOwn, cut_notes, HasChanges, AreChanged, AreUnchanged, IsWithin, CanUndo, AreUndoable, AreUndone, chain_undone, head_at, IsShown}
 
 -- a file is found by its name: the one of the lowest number that has it, and none where none has it. So it is changed there.
 pub record FindsFiles : Type 0 where
@@ -56,13 +62,18 @@ pub record FindsRuns : Type 0 where
 abbrev pub marked : Bool → FileHead → FileHead
 marked units h = record h { marks = record h.marks { ru = units } }
 
--- the keys of all files but this one have in one content what they have in another
+-- all files but this one have in one content the blocks that they have in another
 abbrev pub SameBut : ℕ → List (Option FileHead) → List (List ℕ) → List (List ℕ) → Type 0
-SameBut f heads a b = (g : ℕ) (h : FileHead) → g ≢ f → head_at heads g ≡ Some h → map_of h b ≡ map_of h a
+SameBut f heads a b = (g : ℕ) (h : FileHead) → g ≢ f → head_at heads g ≡ Some h → AgreesOn h a b
 
--- in one content the keys of each file have what they have in another without the records that were put
-abbrev pub TakesBack : List (ℕ × ℕ) → List (Option FileHead) → List (List ℕ) → List (List ℕ) → Type 0
-TakesBack puts heads a b = (f : ℕ) (h : FileHead) → head_at heads f ≡ Some h → map_of h b ≡ without_puts puts f (map_of h a)
+-- A file was changed from one content to another: its head, its buckets, its records and its chain are those after these changes, while the keys that
+-- the notes hold were held.
+pub record IsChanged (f : ℕ) (notes : List Note) (cs : List Change) (a : List (List ℕ)) (h : FileHead) (b : List (List ℕ)) (new : FileHead) : Type 0 where
+  pub same : SameFile h new
+  pub form : any.IsFile new
+  pub laid : IsLaidOut new b
+  pub map : map_of new b ≡ applied cs (map_of h a)
+  pub chain : chain_of new b ≡ chain_changed (512 * h.bucket - 16) (holds f notes) cs (chain_of h a)
 
 -- The files stay those of the heads over each act that changes the directory. How the content changes with it is told by what the keys of the files have.
 pub record KeepsFiles : Type 0 where
@@ -72,12 +83,12 @@ pub record KeepsFiles : Type 0 where
       AreFiles content (slice_set heads f (Some h)) (acted (Creates f file) n).directory
   pub marks : (content : List (List ℕ)) (heads : List (Option FileHead)) (n : Node) (f : ℕ) (h : FileHead) (name : List ℕ) (units : Bool) → AreFiles content heads n.directory → IsNamed heads f h name →
       AreFiles content (slice_set heads f (Some (marked units h))) (acted (Marks name units) n).directory
-  pub changes : (a b : List (List ℕ)) (heads : List (Option FileHead)) (n : Node) (f : ℕ) (h : FileHead) (name : List ℕ) (serial : Id) (puts : List (ℕ × ℕ)) (c : Change) → AreFiles a heads n.directory → AreChanged serial puts n.directory →
-      IsNamed heads f h name → map_of h b ≡ set_key c.key c.after (map_of h a) → SameBut f heads a b → AreFiles b heads (acted (Changes serial name c) n).directory
-  pub commits : (content : List (List ℕ)) (heads : List (Option FileHead)) (n : Node) (puts : List (ℕ × ℕ)) (s : Settlement) → AreFiles content heads n.directory → AreChanged s.serial puts n.directory → s.outcome ≡ Commit →
+  pub changes : (a b : List (List ℕ)) (heads : List (Option FileHead)) (n : Node) (f : ℕ) (h new : FileHead) (name : List ℕ) (serial : Id) (notes : List Note) (cs : List Change) → AreFiles a heads n.directory → AreChanged serial notes n.directory →
+      IsNamed heads f h name → IsChanged f notes cs a h b new → SameBut f heads a b → AreFiles b (slice_set heads f (Some new)) (acted (Changes serial name cs) n).directory
+  pub commits : (content : List (List ℕ)) (heads : List (Option FileHead)) (n : Node) (notes : List Note) (s : Settlement) → AreFiles content heads n.directory → AreChanged s.serial notes n.directory → s.outcome ≡ Commit →
       AreFiles content heads (acted (Settles s) n).directory
-  pub aborts : (a b : List (List ℕ)) (heads : List (Option FileHead)) (n : Node) (puts : List (ℕ × ℕ)) (s : Settlement) → AreFiles a heads n.directory → AreChanged s.serial puts n.directory → s.outcome ≡ Abort → TakesBack puts heads a b →
-      AreFiles b heads (acted (Settles s) n).directory
+  pub aborts : (a b : List (List ℕ)) (heads new : List (Option FileHead)) (n : Node) (notes : List Note) (s : Settlement) → AreFiles a heads n.directory → AreChanged s.serial notes n.directory → s.outcome ≡ Abort → AreUndone a heads notes [] b new →
+      AreFiles b new (acted (Settles s) n).directory
 
 -- The unsettled changes over each act: they are those of one branch, or there are none.
 pub record KeepsChanges : Type 0 where
@@ -85,32 +96,74 @@ pub record KeepsChanges : Type 0 where
   pub boots : (n : Node) → AreUnchanged (acted Boots n).directory
   pub begins : (n : Node) (label : Label) (b : Branch) (serial : Id) → AreUnchanged n.directory → AreChanged serial [] (acted (Begins label b) n).directory
   pub creates : (n : Node) (f : ℕ) (file : File) → AreUnchanged n.directory → file.history.live ≡ [] → AreUnchanged (acted (Creates f file) n).directory
-  pub creates_beside : (heads : List (Option FileHead)) (n : Node) (f : ℕ) (file : File) (serial : Id) (puts : List (ℕ × ℕ)) → AreNumbers puts heads → head_at heads f ≡ None → file.history.live ≡ [] → AreChanged serial puts n.directory →
-      AreChanged serial puts (acted (Creates f file) n).directory
+  pub creates_beside : (heads : List (Option FileHead)) (n : Node) (f : ℕ) (file : File) (serial : Id) (notes : List Note) → AreOwn notes heads → head_at heads f ≡ None → file.history.live ≡ [] → AreChanged serial notes n.directory →
+      AreChanged serial notes (acted (Creates f file) n).directory
   pub marks : (n : Node) (name : List ℕ) (units : Bool) → AreUnchanged n.directory → AreUnchanged (acted (Marks name units) n).directory
-  pub marks_beside : (n : Node) (name : List ℕ) (units : Bool) (serial : Id) (puts : List (ℕ × ℕ)) → AreChanged serial puts n.directory → AreChanged serial puts (acted (Marks name units) n).directory
-  -- a record is put where there was none
-  pub puts : (n : Node) (name : List ℕ) (serial : Id) (puts : List (ℕ × ℕ)) (f number : ℕ) (file : File) (c : Change) → AreChanged serial puts n.directory → IsFoundAt name n.directory f file → c.key ≡ Number number → get (current file.history) c.key ≡ None →
-      AreChanged serial (puts ++ (f, number) ∷ []) (acted (Changes serial name c) n).directory
-  pub settles : (n : Node) (puts : List (ℕ × ℕ)) (s : Settlement) → AreChanged s.serial puts n.directory → AreUnchanged (acted (Settles s) n).directory
+  pub marks_beside : (n : Node) (name : List ℕ) (units : Bool) (serial : Id) (notes : List Note) → AreChanged serial notes n.directory → AreChanged serial notes (acted (Marks name units) n).directory
+  -- changes that noted what they found are noted before those that the branch made before them
+  pub changes : (n : Node) (name : List ℕ) (serial : Id) (made notes : List Note) (f : ℕ) (file : File) (cs : List Change) → AreChanged serial notes n.directory → IsFoundAt name n.directory f file → AreNoted f made cs →
+      Found cs (map_of_records (current file.history)) → AreChanged serial (made ++ notes) (acted (Changes serial name cs) n).directory
+  pub settles : (n : Node) (notes : List Note) (s : Settlement) → AreChanged s.serial notes n.directory → AreUnchanged (acted (Settles s) n).directory
 
--- The records that were put stay numbers of their files, where a file is made or marked, and where one more is put.
-pub record KeepsNumbers : Type 0 where
-  pub begins : (heads : List (Option FileHead)) → AreNumbers [] heads
-  pub creates : (heads : List (Option FileHead)) (puts : List (ℕ × ℕ)) (f : ℕ) (h : FileHead) → head_at heads f ≡ None → AreNumbers puts heads → AreNumbers puts (slice_set heads f (Some h))
-  pub marks : (heads : List (Option FileHead)) (puts : List (ℕ × ℕ)) (f : ℕ) (h : FileHead) (units : Bool) → head_at heads f ≡ Some h → AreNumbers puts heads → AreNumbers puts (slice_set heads f (Some (marked units h)))
-  pub puts : (heads : List (Option FileHead)) (puts : List (ℕ × ℕ)) (f number : ℕ) (h : FileHead) → head_at heads f ≡ Some h → has_cell h number ≡ true → AreNumbers puts heads → AreNumbers (puts ++ (f, number) ∷ []) heads
+-- The branch's changes stay those of files that are there, where a file is made, marked or changed.
+pub record KeepsOwn : Type 0 where
+  pub begins : (heads : List (Option FileHead)) → AreOwn [] heads
+  pub sets : (heads : List (Option FileHead)) (notes : List Note) (f : ℕ) (h : FileHead) → f < length heads → AreOwn notes heads → AreOwn notes (slice_set heads f (Some h))
+  pub changes : (heads : List (Option FileHead)) (notes : List Note) (f : ℕ) (h : FileHead) (key : Key) (before : Option (List ℕ)) → head_at heads f ≡ Some h → AreOwn notes heads → AreOwn (record { file = f; key = key; before = before } ∷ notes) heads
+  pub cuts : (heads : List (Option FileHead)) (notes : List Note) (f position : ℕ) (h : FileHead) (records : List (List ℕ)) → head_at heads f ≡ Some h → AreOwn notes heads → AreOwn (cut_notes f position records ++ notes) heads
 
--- a file is locked by the branch exactly where that put a record of it
+-- What the branch changed can be undone, also once a file is made or marked, and once one more key is set, or a sequential file is cut.
+pub record KeepsUndo : Type 0 where
+  pub begins : (content : List (List ℕ)) (heads : List (Option FileHead)) → AreUndoable content heads []
+  pub stands : (a b : List (List ℕ)) (heads : List (Option FileHead)) (directory : List (Option File)) (notes : List Note) → ((f : ℕ) (h : FileHead) → head_at heads f ≡ Some h → AgreesOn h a b) → AreFiles a heads directory →
+      AreUndoable a heads notes → AreUndoable b heads notes
+  pub creates : (a b : List (List ℕ)) (heads : List (Option FileHead)) (directory : List (Option File)) (f : ℕ) (h : FileHead) (notes : List Note) → AreFiles a heads directory → head_at heads f ≡ None → AreOwn notes heads → SameBut f heads a b →
+      AreUndoable a heads notes → AreUndoable b (slice_set heads f (Some h)) notes
+  pub marks : (content : List (List ℕ)) (heads : List (Option FileHead)) (f : ℕ) (h : FileHead) (units : Bool) (notes : List Note) → head_at heads f ≡ Some h → AreUndoable content heads notes → AreUndoable content (slice_set heads f (Some (marked units h))) notes
+  pub sets : (a b : List (List ℕ)) (heads : List (Option FileHead)) (directory : List (Option File)) (f : ℕ) (h new : FileHead) (notes : List Note) (key : Key) (value : Option (List ℕ)) → AreFiles a heads directory → head_at heads f ≡ Some h → IsWithin a h → Suits h key value →
+      SameFile h new → any.IsFile new → IsLaidOut new b → map_of new b ≡ set_key key value (map_of h a) → Restores new b key (map_of h a key) → ((other : Key) → holds f notes other ≡ true → room_at h a other ≤ room_at new b other) → SameBut f heads a b →
+      AreUndoable a heads notes → AreUndoable b (slice_set heads f (Some new)) (record { file = f; key = key; before = map_of h a key } ∷ notes)
+  pub cuts : (a b : List (List ℕ)) (heads : List (Option FileHead)) (directory : List (Option File)) (f from : ℕ) (h new : FileHead) (notes : List Note) → AreFiles a heads directory → head_at heads f ≡ Some h → h.organization ≡ Sequential → 1 ≤ from →
+      SameFile h new → any.IsFile new → IsLaidOut new b → map_of new b ≡ cut_from from (map_of h a) → SameBut f heads a b →
+      AreUndoable a heads notes → AreUndoable b (slice_set heads f (Some new)) (cut_notes f from (drop (from - 1) (records_in h a)) ++ notes)
+
+-- A file is locked by the branch exactly where that changed it.
 pub record TellsChanges : Type 0 where
-  pub changed : (serial : Id) (puts : List (ℕ × ℕ)) (f : ℕ) (file : File) → HasChanges serial puts f file → first_to_change file.history (serial ∷ []) ≡ (if has_changed puts f then Some serial else None)
+  pub changed : (serial : Id) (notes : List Note) (f : ℕ) (file : File) → HasChanges serial notes f file → first_to_change file.history (serial ∷ []) ≡ (if has_changed notes f then Some serial else None)
   pub unchanged : (file : File) (serials : List Id) → file.history.live ≡ [] → first_to_change file.history serials ≡ None
 
--- The records that were put are taken back one after another.
-pub record TakesPutsBack : Type 0 where
-  pub none : (heads : List (Option FileHead)) (a : List (List ℕ)) → TakesBack [] heads a a
-  pub one : (heads : List (Option FileHead)) (a b c : List (List ℕ)) (puts : List (ℕ × ℕ)) (f number : ℕ) (h : FileHead) → TakesBack puts heads a b → head_at heads f ≡ Some h → map_of h c ≡ set_key (Number number) None (map_of h b) →
-      SameBut f heads b c → TakesBack (puts ++ (f, number) ∷ []) heads a c
+-- The changes are undone one after another, from the newest on: each can be undone, and then those that are left can.
+pub record Undoes : Type 0 where
+  pub none : (content : List (List ℕ)) (heads : List (Option FileHead)) (directory : List (Option File)) (notes : List Note) → AreFiles content heads directory → AreUndoable content heads notes → AreUndone content heads [] notes content heads
+  pub can : (content : List (List ℕ)) (h : FileHead) (n : Note) (left : List Note) → any.IsFile h → IsLaidOut h content → CanUndo h content (n ∷ left) → Suits h n.key n.before × Restores h content n.key n.before
+  pub one : (a b c : List (List ℕ)) (heads mid : List (Option FileHead)) (undone left : List Note) (n : Note) (h new : FileHead) → AreUndone a heads undone (n ∷ left) b mid → head_at mid n.file ≡ Some h → SameFile h new → any.IsFile new → IsLaidOut new c →
+      map_of new c ≡ set_key n.key n.before (map_of h b) → chain_of new c ≡ chain_undone (n ∷ []) (chain_of h b) → ((other : Key) → room_at h b other ≤ room_at new c other) → SameBut n.file mid b c →
+      AreUndone a heads (undone ++ n ∷ []) left c (slice_set mid n.file (Some new))
+
+-- How a file of the world tells what is asked of its records, by what the head and the buckets tell.
+pub record ReadsFiles : Type 0 where
+  -- a sequential file has as many records as the head says
+  pub count : (content : List (List ℕ)) (h : FileHead) (file : File) → IsFile content h file → h.organization ≡ Sequential → count_of file ≡ h.count
+  -- the used buckets are those of the head
+  pub used : (content : List (List ℕ)) (h : FileHead) (file : File) → IsFile content h file → used file ≡ h.used
+  -- the next record, or none
+  pub next : (content : List (List ℕ)) (h : FileHead) (file : File) (after : Option Key) (key : Key) (bytes : List ℕ) → IsFile content h file → IsNext (map_of h content) after key bytes → first_behind after (in_order file) ≡ Some (key, bytes)
+  pub end : (content : List (List ℕ)) (h : FileHead) (file : File) (after : Option Key) → IsFile content h file → EndsAfter (map_of h content) after → first_behind after (in_order file) ≡ None
+  -- the buckets that a record asks for which is put, or takes the place of another
+  pub put : (content : List (List ℕ)) (h : FileHead) (file : File) (number : Option ℕ) (bytes : List ℕ) → IsFile content h file → need_of file (Put number bytes) ≡ asks h content (length bytes)
+  pub update : (content : List (List ℕ)) (h : FileHead) (file : File) (key : Key) (bytes : List ℕ) → IsFile content h file → h.organization ≡ Indexed → need_of file (Update key bytes) ≡ asks h content (length bytes)
+  -- what is removed where a sequential file is cut: the changes found what they noted, and without them the file is cut
+  pub removed : (content : List (List ℕ)) (h : FileHead) (file : File) (f from : ℕ) → IsFile content h file → h.organization ≡ Sequential → 1 ≤ from →
+      AreNoted f (cut_notes f from (drop (from - 1) (records_in h content))) (map removed (drop (from - 1) (in_order file))) × Found (map removed (drop (from - 1) (in_order file))) (map_of h content)
+      × (applied (map removed (drop (from - 1) (in_order file))) (map_of h content) ≡ cut_from from (map_of h content))
+  -- the record of a position, from which on the records are those behind it
+  pub position : (content : List (List ℕ)) (h : FileHead) (position : ℕ) (bytes : List ℕ) → h.organization ≡ Sequential → 1 ≤ position → map_of h content (Number position) ≡ Some bytes →
+      drop (position - 1) (records_in h content) ≡ bytes ∷ drop position (records_in h content)
+  -- as many records as numbers of 32 bits tell, where a bucket has at most 16 blocks; in a sequential file one more may come
+  pub few : (content : List (List ℕ)) (h : FileHead) (file : File) → IsFile content h file → h.mrn ≤ 4294967295 → h.bucket ≤ 16 → h.used ≤ 65536 → length (in_order file) ≤ 4294967295
+  pub below : (content : List (List ℕ)) (h : FileHead) (file : File) → IsFile content h file → h.organization ≡ Sequential → h.bucket ≤ 16 → h.used ≤ 65536 → h.count < 4294967295
+  -- there are records that the keys have
+  pub some : (content : List (List ℕ)) (h : FileHead) → any.IsFile h → IsLaidOut h content → (m : Records) × ((key : Key) → get m key ≡ map_of h content key)
 
 -- The records of a file are shown in the order of their keys by asking for the next one again and again: of what the keys have, each answer is the next of
 -- the entries, and where none is left all were shown.
@@ -122,8 +175,7 @@ pub record ShowsRecords : Type 0 where
 
 -- contents that agree on each file's extent have the same files
 abbrev pub StandsOnExtents : Type 0
-StandsOnExtents = (a b : List (List ℕ)) (heads : List (Option FileHead)) (directory : List (Option File)) → RestOnExtents heads → ((f : ℕ) (h : FileHead) → head_at heads f ≡ Some h → AgreesOn h a b) → AreFiles a heads directory →
-    AreFiles b heads directory
+StandsOnExtents = (a b : List (List ℕ)) (heads : List (Option FileHead)) (directory : List (Option File)) → ((f : ℕ) (h : FileHead) → head_at heads f ≡ Some h → AgreesOn h a b) → AreFiles a heads directory → AreFiles b heads directory
 
 -- Files whose extents fit lie in the area, and apart: a block of one is none of another. A file's blocks are counted from 518 on, as in the content.
 pub record LieApart : Type 0 where
@@ -136,24 +188,23 @@ pub record LieApart : Type 0 where
 
 -- So what is written in one file's extent leaves the others, what is written in a free run leaves all, and so does what is written before the area.
 pub record WritesApart : Type 0 where
-  pub in_file : (area : Area) (heads : List (Option FileHead)) (f : ℕ) (h : FileHead) (a b : List (List ℕ)) → Fit area heads → RestOnExtents heads → head_at heads f ≡ Some h → AgreesOff (in_extent h) a b → SameBut f heads a b
-  pub in_free : (area : Area) (heads : List (Option FileHead)) (directory : List (Option File)) (h : FileHead) (a b : List (List ℕ)) → Fit area heads → RestOnExtents heads → IsFreeRun area (all_extents heads) h.start (h.alloc * h.bucket) →
-      AgreesOff (in_extent h) a b → AreFiles a heads directory → AreFiles b heads directory
-  pub before : (area : Area) (heads : List (Option FileHead)) (directory : List (Option File)) (a b : List (List ℕ)) → Fit area heads → RestOnExtents heads → ((n : ℕ) → area.start ≤ n + 518 → block_at a n ≡ block_at b n) → AreFiles a heads directory →
-      AreFiles b heads directory
+  pub in_file : (area : Area) (heads : List (Option FileHead)) (f : ℕ) (h : FileHead) (a b : List (List ℕ)) → Fit area heads → head_at heads f ≡ Some h → AgreesOff (in_extent h) a b → SameBut f heads a b
+  pub in_free : (area : Area) (heads : List (Option FileHead)) (h : FileHead) (a b : List (List ℕ)) → Fit area heads → IsFreeRun area (all_extents heads) h.start (h.alloc * h.bucket) → AgreesOff (in_extent h) a b →
+      (f : ℕ) (other : FileHead) → head_at heads f ≡ Some other → AgreesOn other a b
+  pub before : (area : Area) (heads : List (Option FileHead)) (a b : List (List ℕ)) → Fit area heads → ((n : ℕ) → area.start ≤ n + 518 → block_at a n ≡ block_at b n) → (f : ℕ) (h : FileHead) → head_at heads f ≡ Some h → AgreesOn h a b
 
--- The extents fit, names are of one file, and records rest on extents, also where a file is made in a free run under a new name, or is marked.
+-- The extents fit and names are of one file, also where a file is made in a free run under a new name, is marked, or is changed.
 pub record KeepsHeads : Type 0 where
-  pub creates : (area : Area) (heads : List (Option FileHead)) (f : ℕ) (h : FileHead) → Fit area heads → f < 64 → IsNewHead h → IsFreeRun area (all_extents heads) h.start (h.alloc * h.bucket) → Fit area (slice_set heads f (Some h))
+  pub creates : (area : Area) (heads : List (Option FileHead)) (f : ℕ) (form : Form) (h : FileHead) → Fit area heads → f < 64 → IsNewHead form h → IsFreeRun area (all_extents heads) h.start (h.alloc * h.bucket) → Fit area (slice_set heads f (Some h))
   pub creates_named : (heads : List (Option FileHead)) (f : ℕ) (h : FileHead) → AreNamedOnce heads → length heads ≡ 64 → NoneNamed heads 64 h.name → AreNamedOnce (slice_set heads f (Some h))
-  pub creates_resting : (heads : List (Option FileHead)) (f : ℕ) (h : FileHead) → RestOnExtents heads → RestsOnExtent h → RestOnExtents (slice_set heads f (Some h))
   pub marks : (area : Area) (heads : List (Option FileHead)) (f : ℕ) (h : FileHead) (units : Bool) → Fit area heads → head_at heads f ≡ Some h → Fit area (slice_set heads f (Some (marked units h)))
   pub marks_named : (heads : List (Option FileHead)) (f : ℕ) (h : FileHead) (units : Bool) → AreNamedOnce heads → head_at heads f ≡ Some h → AreNamedOnce (slice_set heads f (Some (marked units h)))
-  pub marks_resting : (heads : List (Option FileHead)) (f : ℕ) (h : FileHead) (units : Bool) → RestOnExtents heads → head_at heads f ≡ Some h → RestOnExtents (slice_set heads f (Some (marked units h)))
+  pub changes : (area : Area) (heads : List (Option FileHead)) (f : ℕ) (h new : FileHead) → Fit area heads → head_at heads f ≡ Some h → SameFile h new → Fit area (slice_set heads f (Some new))
+  pub changes_named : (heads : List (Option FileHead)) (f : ℕ) (h new : FileHead) → AreNamedOnce heads → head_at heads f ≡ Some h → SameFile h new → AreNamedOnce (slice_set heads f (Some new))
 
--- The head of a relative file, and the file that is made with it.
+-- The head of a file that is made, and the file that is made with it.
 pub record MakesFiles : Type 0 where
-  pub relative : (h : FileHead) → IsSized h → IsRelative h
-  pub file : (content : List (List ℕ)) (h : FileHead) (moment : ℕ) → IsNewHead h → map_of h content ≡ empty_map → IsFile content h (created h.name h.bucket h.mrs (form.Relative h.mrn) h.start moment)
-  pub blocks : (h : FileHead) → IsSized h → h.alloc * h.bucket ≡ blocks_for h.bucket h.mrs (form.Relative h.mrn)
-  pub some : (h : FileHead) → IsSized h → 1 ≤ h.mrn → 1 ≤ h.alloc * h.bucket
+  pub form : (f : Form) (h : FileHead) → IsNewHead f h → any.IsFile h × IsNew h
+  pub file : (content : List (List ℕ)) (f : Form) (h : FileHead) (moment : ℕ) → IsNewHead f h → map_of h content ≡ empty_map → IsLaidOut h content → chain_of h content ≡ first_chain_of h → IsFile content h (created h.name h.bucket h.mrs f h.start moment)
+  pub blocks : (f : Form) (h : FileHead) → IsNewHead f h → h.alloc * h.bucket ≡ blocks_for h.bucket h.mrs f
+  pub some : (f : Form) (h : FileHead) → IsNewHead f h → 1 ≤ h.alloc * h.bucket

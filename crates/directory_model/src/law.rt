@@ -1,5 +1,5 @@
 //! What the definitions promise.
-ghost use Rattle.directory_model.specs.Laws.{FindsFiles, FindsPlaces, FindsRuns, KeepsChanges, KeepsFiles, KeepsHeads, KeepsNumbers, LieApart, MakesFiles, ShowsRecords, StandsOnExtents, TakesBlocks, TakesPutsBack, TellsChanges, WritesApart};
+ghost use Rattle.directory_model.specs.Laws.{FindsFiles, FindsPlaces, FindsRuns, KeepsChanges, KeepsFiles, KeepsHeads, KeepsOwn, KeepsUndo, LieApart, MakesFiles, ReadsFiles, ShowsRecords, StandsOnExtents, TakesBlocks, TellsChanges, Undoes, WritesApart};
 
 /// The world finds by a name the file that the volume finds by it: the one of the lowest number. Where the volume finds none, so does the world.
 pub fn files_are_found_by_name()
@@ -26,24 +26,34 @@ pub fn acts_keep_files()
     ensures { KeepsFiles }
 {}
 
-/// Each act of the world keeps its unsettled changes those that the volume's branch has put.
+/// Each act of the world keeps its unsettled changes those that the volume's branch has noted.
 pub fn acts_keep_changes()
     ensures { KeepsChanges }
 {}
 
-/// The records that a branch put stay numbers of their files.
-pub fn acts_keep_numbers()
-    ensures { KeepsNumbers }
+/// The changes of a branch stay those of files that are there.
+pub fn acts_keep_own()
+    ensures { KeepsOwn }
 {}
 
-/// A file is locked by the unsettled branch exactly where that put a record of it.
+/// The changes of a branch can be undone, whatever it changes next.
+pub fn acts_keep_undo()
+    ensures { KeepsUndo }
+{}
+
+/// A file is locked by the unsettled branch exactly where that changed it.
 pub fn the_branch_locks()
     ensures { TellsChanges }
 {}
 
-/// The records that a branch put are taken back one after another.
-pub fn puts_are_taken_back()
-    ensures { TakesPutsBack }
+/// The changes of a branch are undone one after another, from the newest on.
+pub fn changes_are_undone()
+    ensures { Undoes }
+{}
+
+/// The world's file tells what is asked of its records as the volume's file does.
+pub fn records_are_read_alike()
+    ensures { ReadsFiles }
 {}
 
 /// The answers to 'which record is the next' are the entries of the world's file in their order.
@@ -66,12 +76,12 @@ pub fn writes_stay_apart()
     ensures { WritesApart }
 {}
 
-/// The extents of the files fit, names are of one file, and records rest on extents, also where a file is made or marked.
+/// The extents of the files fit and names are of one file, also where a file is made, marked or changed.
 pub fn acts_keep_heads()
     ensures { KeepsHeads }
 {}
 
-/// The head of a relative file that is made is that of the world's new file.
+/// The head of a file that is made is that of the world's new file.
 pub fn new_files_are_alike()
     ensures { MakesFiles }
 {}

@@ -5,8 +5,9 @@
 mod law;
 
 pub use law::{
-    acts_keep_changes, acts_keep_files, acts_keep_heads, acts_keep_numbers, blocks_are_taken_alike,
-    files_are_found_by_name, files_lie_apart, files_stand_on_their_extents,
-    free_runs_are_found_alike, new_files_are_alike, places_are_found_alike, puts_are_taken_back,
-    records_are_shown_in_order, the_branch_locks, writes_stay_apart,
+    acts_keep_changes, acts_keep_files, acts_keep_heads, acts_keep_own, acts_keep_undo,
+    blocks_are_taken_alike, changes_are_undone, files_are_found_by_name, files_lie_apart,
+    files_stand_on_their_extents, free_runs_are_found_alike, new_files_are_alike,
+    places_are_found_alike, records_are_read_alike, records_are_shown_in_order, the_branch_locks,
+    writes_stay_apart,
 };
