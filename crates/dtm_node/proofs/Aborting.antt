@@ -1,10 +1,11 @@
 -- ABORT_TRANS, from what the code knows.
-use Rattle.std.proofs.Common.{◌≡◌, ℕ, ◌+◌, ◌<◌, ◌≤◌, List, [], ◌∷◌, Some, None, Result, Ok, Err, IfSome, length, option_map, slice_set, nat_le, refl, sym, ap, subst, arith}
+use Rattle.std.proofs.Common.{◌≡◌, ℕ, ◌+◌, ◌<◌, ◌≤◌, List, [], ◌∷◌, Some, None, Result, Ok, Err, IfSome, length, option_map, slice_set, refl, sym, ap, subst, arith}
 use Rattle.block_disk.specs.Disk.{CallLog}
 use Rattle.careful_write.specs.declared.down.Down.{Down}
-use Rattle.careful_write.specs.Steps.{AgreesOff}
 use Rattle.change_set.specs.Files.{fell}
+use Rattle.careful_write.specs.State.{StoreState}
 use Rattle.volume.specs.declared.catalog.Catalog.{Catalog}
+use Rattle.volume.specs.Catalogs.{IsSound}
 use Rattle.volume.specs.State.{VolumeState, with_block}
 use Rattle.volume_format.specs.declared.home.Ending.TheVariants as ending
 use Rattle.vms_base.specs.declared.outcomes.Reason.TheVariants as reason
@@ -16,35 +17,41 @@ use Rattle.transcript_model.specs.Emitting.{Shown, Emits}
 use Rattle.transcript_model.proofs.EmittingLemmas.{emits_on}
 use Rattle.script_model.specs.Statements.{At, AbortTrans}
 use Rattle.run_model.specs.World.{World, Node, Label, Settlement, Settles, labelled}
-use Rattle.directory_model.specs.Files.{AreNumbers}
-use Rattle.directory_model.specs.Laws.{TakesBack}
-use Rattle.dtm_node.specs.Standing.{Up, IsUp, Putting, StandsFor, settlement_of}
+use Rattle.directory_model.specs.Files.{AreOwn, AreUndone}
+use Rattle.dtm_node.specs.Standing.{Up, IsUp, Unsettled, StandsFor, settlement_of}
 use Rattle.dtm_node.specs.Keeping.{Serves, Breaks}
 use Rattle.dtm_node.specs.TheLaws.{TheLaws}
-use Rattle.dtm_node.specs.Undoing.{TakenOut}
+use Rattle.node_files.specs.Staging.{Undone}
 use Rattle.dtm_node.specs.Uses.{Goes, Uses}
-use Rattle.dtm_node.specs.Writing.{Writes, settled_home}
+use Rattle.node_files.specs.Writing.{Writes, settled_home}
 use Rattle.dtm_node.proofs.UsesLemmas.{uses_read, rose_of}
 use Rattle.dtm_node.proofs.UpLemmas.{kept, dropped, disk_up, Standing, breaks_first, read_down, group_up}
 use Rattle.dtm_node.proofs.Groups.{Means, standing_of, group_done, group_broken}
-use Rattle.dtm_node.proofs.Named.{abort_does, settles_keeps, changes_of}
-use Rattle.dtm_node.proofs.Putting.{out_some}
-use Rattle.dtm_node.proofs.Undoing.{taken_disk, taken_content, taken_sound, taken_most, taken_least, taken_frames, taken_holds}
-use Rattle.dtm_node.proofs.CatalogLemmas.{front_files, front_set, sound_settled}
+use Rattle.dtm_node.proofs.Named.{abort_does, settles_keeps, changes_of, undoable_of}
+use Rattle.dtm_node.proofs.Undoing.{undone_disk, undone_content, undone_sound, undone_most, undone_least, undone_frames, undone_holds}
+use Rattle.node_files.proofs.CatalogLemmas.{front_files, front_set, sound_settled}
 
 abbrev settlement : Up → Serial → Settlement
 settlement u serial = settlement_of (u.volume.catalog.home.greatest_moment.0 + 1) (record { tid = record { 0 = serial.0 }; serial = serial; ending = ending.Abort reason.Aborted })
 
+-- a catalog with the branch settled, and that with what it changed set back
 abbrev catalog_after : Catalog → Serial → Catalog
 catalog_after v serial = record v { home = settled_home serial (ending.Abort reason.Aborted) v.home }
 
-abort_means : (node : List ℕ) (u : Up) (n : Node) (serial : Serial) (b : Putting) (c : List (List ℕ)) (bytes : List ℕ) (s : Standing node u n) → TheLaws → u.branch ≡ Some b → b.serial ≡ serial_of serial → u.volume.catalog.home.greatest_moment.0 < 24000001000002 → TakesBack b.puts u.volume.catalog.heads s.up.content c →
-    Means node u n (Settles (settlement u serial)) (slice_set c 0 bytes) (catalog_after u.volume.catalog serial)
-abort_means node u n serial b c bytes s laws at is early back =
+abbrev catalog_back : Up → VolumeState → Catalog
+catalog_back u mid = record u.volume.catalog { heads = mid.catalog.heads }
+
+sound_back : (node : List ℕ) (u : Up) (b : Unsettled) (mid : VolumeState) → IsUp node u → Undone b.notes u.volume mid → IsSound node (disk_up u).size (catalog_back u mid)
+sound_back node u b mid up t = subst (λ k. IsSound node (disk_up u).size k) t.catalog (t.sound node up.sound)
+
+abort_means : (node : List ℕ) (u : Up) (n : Node) (serial : Serial) (b : Unsettled) (mid : VolumeState) (c : List (List ℕ)) (bytes : List ℕ) (s : Standing node u n) → TheLaws → Undone b.notes u.volume mid → u.branch ≡ Some b → b.serial ≡ serial_of serial → u.volume.catalog.home.greatest_moment.0 < 24000001000002 →
+    AreUndone s.up.content u.volume.catalog.heads b.notes [] c mid.catalog.heads → Means node u n (Settles (settlement u serial)) (slice_set c 0 bytes) (catalog_after (catalog_back u mid) serial)
+abort_means node u n serial b mid c bytes s laws t at is early back =
     let v = u.volume.catalog in
     let d = slice_set c 0 bytes in
     let st : Settlement = settlement u serial in
-    let taken = laws.files.aborts s.up.content c v.heads n b.puts st s.up.has.files (changes_of u n (serial_of serial) b s.up.changes at is) refl back in
+    let sound = sound_back node u b mid s.is_up t in
+    let files = laws.files.aborts s.up.content c v.heads mid.catalog.heads n b.notes st s.up.has.files (changes_of s.up.content v.heads u n (serial_of serial) b s.up.changes at is) refl back in
     record {
       has = record {
         volume = s.up.has.volume;
@@ -53,53 +60,50 @@ abort_means node u n serial b c bytes s laws at is early back =
         boot = s.up.has.boot;
         greatest = refl;
         last = refl;
-        files = front_files node (disk_up u).size v c d _ laws.apart laws.stand s.is_up.sound taken (front_set c 0 bytes (omega arith));
+        files = front_files node (disk_up u).size (catalog_back u mid) c d _ laws.apart laws.stand sound files (front_set c 0 bytes (omega arith));
       };
-      sound = sound_settled node (disk_up u).size v serial (ending.Abort reason.Aborted) early s.is_up.sound;
+      sound = sound_settled node (disk_up u).size (catalog_back u mid) serial (ending.Abort reason.Aborted) early sound;
       same = record { name = refl; blocks = refl; clock = refl; calls = refl };
       disk = record { name = refl; blocks = refl; volume = refl; slots = refl; journal = refl; boot = refl; greatest = refl; last = refl; directory = refl };
       durable = refl;
     }
 
-module _ (name : List ℕ) (u : Up) (serial : Serial) (laws : TheLaws) (up : IsUp name u) (early : u.volume.catalog.home.greatest_moment.0 < 24000001000002) (b : Putting) (at : u.branch ≡ Some b) (mid : VolumeState) (t : TakenOut b.puts u.volume mid) where
-  same_catalog : catalog_after mid.catalog serial ≡ catalog_after u.volume.catalog serial
+module _ (name : List ℕ) (u : Up) (serial : Serial) (laws : TheLaws) (up : IsUp name u) (early : u.volume.catalog.home.greatest_moment.0 < 24000001000002) (b : Unsettled) (at : u.branch ≡ Some b) (mid : VolumeState) (t : Undone b.notes u.volume mid) where
+  same_catalog : catalog_after mid.catalog serial ≡ catalog_after (catalog_back u mid) serial
   same_catalog = ap (λ (k : Catalog). catalog_after k serial) t.catalog
 
   pub abort_up : {T : Type 0} (r : Result T Down) (x : T) (new : Up) (bytes : List ℕ) → r ≡ Ok x → Writes r (with_block 518 bytes mid.store).current (catalog_after mid.catalog serial) mid new.volume → new.branch ≡ None → IsUp name new
   abort_up r x new bytes is wr none =
-      group_up r x name mid new _ (catalog_after mid.catalog serial) is wr (taken_frames name u b b.puts mid laws up at t) (taken_holds name u b b.puts mid laws up at t)
-      (sound_settled name mid.store.disk.size mid.catalog serial (ending.Abort reason.Aborted) (subst (λ (k : Catalog). k.home.greatest_moment.0 < 24000001000002) (sym t.catalog) early) (taken_sound name u b b.puts mid laws up at t))
-      (taken_least name u b b.puts mid laws up at t) (taken_most name u b b.puts mid laws up at t)
-      (subst (λ o. IfSome o (λ b. AreNumbers b.puts mid.catalog.heads × (length b.puts ≤ 16))) (sym none) tt)
+      group_up r x name mid new _ (catalog_after mid.catalog serial) is wr (undone_frames name u b.notes b.notes [] mid up t) (undone_holds name u b.notes b.notes [] mid up t)
+      (sound_settled name mid.store.disk.size mid.catalog serial (ending.Abort reason.Aborted) (subst (λ (k : Catalog). k.home.greatest_moment.0 < 24000001000002) (sym t.catalog) early) (undone_sound name u b.notes b.notes [] mid up t))
+      (undone_least name u b.notes b.notes [] mid up t) (undone_most name u b.notes b.notes [] mid up t)
+      (subst (λ o. IfSome o (λ b. AreOwn b.notes mid.catalog.heads × (length b.notes ≤ 16))) (sym none) tt)
 
   module _ (log : CallLog) (w : World) (labels : List Label) (h : StandsFor log (kept name u labels) w) (l : List ℕ) (made : labelled name l labels ≡ Some (serial_of serial)) (own : b.serial ≡ serial_of serial) where
-    abbrev out_here : (c : List (List ℕ)) × (mid.store.current ≡ Some c) × AgreesOff (nat_le 66) h.place.content c
-    out_here = out_some (nat_le 66) u.volume.store.current mid.store.current h.place.content h.place.told t.front
-
-    back_here : TakesBack b.puts u.volume.catalog.heads h.place.content out_here.0
-    back_here = subst (λ o. IfSome o (TakesBack b.puts u.volume.catalog.heads h.place.content)) out_here.1 (subst (λ o. IfSome o (λ a. IfSome mid.store.current (TakesBack b.puts u.volume.catalog.heads a))) h.place.told t.back)
+    abbrev out_here : (c : List (List ℕ)) × (mid.store.current ≡ Some c) × AreUndone h.place.content u.volume.catalog.heads b.notes [] c mid.catalog.heads
+    out_here = t.back h.place.content h.node.directory h.place.told h.place.has.files (undoable_of h.place.content u.volume.catalog.heads u h.node b h.place.changes at)
 
     pub abort_done : {T : Type 0} (r : Result T Down) (x : T) (new : Up) (bytes : List ℕ) (a d e : Shown) → r ≡ Ok x → Writes r (with_block 518 bytes mid.store).current (catalog_after mid.catalog serial) mid new.volume → Goes (disk_up u) (disk_up new) → new.drawn ≡ u.drawn → new.branch ≡ None →
         Emits a (line.Aborted (serial_of serial) (serial_of serial) Aborted (u.volume.catalog.home.greatest_moment.0 + 1) ∷ []) d → Emits d (line.Normal ∷ []) e → Serves log w (At name (AbortTrans l)) a e (kept name new labels)
     abort_done r x new bytes a d e is wr goes drawn none m o =
-        group_done r x log w name u new labels h (AbortTrans l) (Settles (settlement u serial)) (line.Aborted (serial_of serial) (serial_of serial) Aborted (u.volume.catalog.home.greatest_moment.0 + 1) ∷ []) line.Normal (slice_set out_here.0 0 bytes) (catalog_after u.volume.catalog serial) mid _ a e
-        (abort_does log w name u labels h l serial b at own made) (abort_means name u h.node serial b out_here.0 bytes (standing_of log w name u labels h up) laws at own early back_here) is
+        group_done r x log w name u new labels h (AbortTrans l) (Settles (settlement u serial)) (line.Aborted (serial_of serial) (serial_of serial) Aborted (u.volume.catalog.home.greatest_moment.0 + 1) ∷ []) line.Normal (slice_set out_here.0 0 bytes) (catalog_after (catalog_back u mid) serial) mid _ a e
+        (abort_does log w name u labels h l serial b at own made) (abort_means name u h.node serial b mid out_here.0 bytes (standing_of log w name u labels h up) laws t at own early out_here.2) is
         (subst (λ k. Writes r (with_block 518 bytes mid.store).current k mid new.volume) same_catalog wr) (ap (option_map (λ (blocks : List (List ℕ)). slice_set blocks 0 bytes)) out_here.1) goes
-        (settles_keeps u new h.node (settlement u serial) b laws h.place at own drawn none) (emits_on a d e _ _ m o)
+        (settles_keeps _ _ u new h.node (settlement u serial) b laws h.place at own drawn none) (emits_on a d e _ _ m o)
 
     pub abort_broken : {T : Type 0} (r : Result T Down) (x : Down) (new : VolumeState) (bytes : List ℕ) (a : Shown) → r ≡ Err x → Writes r (with_block 518 bytes mid.store).current (catalog_after mid.catalog serial) mid new → Uses r (disk_up u) new.store.disk →
         Breaks log w (At name (AbortTrans l)) name x a a (dropped name labels new.store.disk)
     abort_broken r x new bytes a is wr uses =
-        group_broken r x log w name u labels h up (AbortTrans l) (Settles (settlement u serial)) (line.Aborted (serial_of serial) (serial_of serial) Aborted (u.volume.catalog.home.greatest_moment.0 + 1) ∷ []) line.Normal (slice_set out_here.0 0 bytes) (catalog_after u.volume.catalog serial) mid new _ a
-        (abort_does log w name u labels h l serial b at own made) (abort_means name u h.node serial b out_here.0 bytes (standing_of log w name u labels h up) laws at own early back_here) is
+        group_broken r x log w name u labels h up (AbortTrans l) (Settles (settlement u serial)) (line.Aborted (serial_of serial) (serial_of serial) Aborted (u.volume.catalog.home.greatest_moment.0 + 1) ∷ []) line.Normal (slice_set out_here.0 0 bytes) (catalog_after (catalog_back u mid) serial) mid new _ a
+        (abort_does log w name u labels h l serial b at own made) (abort_means name u h.node serial b mid out_here.0 bytes (standing_of log w name u labels h up) laws t at own early out_here.2) is
         (subst (λ k. Writes r (with_block 518 bytes mid.store).current k mid new) same_catalog wr) (ap (option_map (λ (blocks : List (List ℕ)). slice_set blocks 0 bytes)) out_here.1)
-        (taken_content name u b b.puts mid laws up at t) (taken_disk name u b b.puts mid laws up at t) (taken_holds name u b b.puts mid laws up at t) uses
+        (undone_content name u b.notes b.notes [] mid up t) (undone_disk name u b.notes b.notes [] mid up t) (undone_holds name u b.notes b.notes [] mid up t) uses
 
--- a removal could not be read
-pub abort_unread : {T : Type 0} (r : Result T Down) (e : Down) (log : CallLog) (w : World) (name : List ℕ) (u : Up) (labels : List Label) (h : StandsFor log (kept name u labels) w) → IsUp name u → TheLaws → (l : List ℕ) (serial : Serial) (b : Putting) (new : VolumeState) (a : Shown) →
-    u.branch ≡ Some b → b.serial ≡ serial_of serial → labelled name l labels ≡ Some (serial_of serial) → r ≡ Err e → new ≡ record u.volume { store = fell r u.volume.store } → Breaks log w (At name (AbortTrans l)) name e a a (dropped name labels new.store.disk)
+-- a bucket could not be read
+pub abort_unread : {T : Type 0} (r : Result T Down) (e : Down) (log : CallLog) (w : World) (name : List ℕ) (u : Up) (labels : List Label) (h : StandsFor log (kept name u labels) w) → IsUp name u → TheLaws → (l : List ℕ) (serial : Serial) (b : Unsettled) (new : VolumeState) (a : Shown) →
+    u.branch ≡ Some b → b.serial ≡ serial_of serial → labelled name l labels ≡ Some (serial_of serial) → r ≡ Err e → new.store ≡ fell r u.volume.store → Breaks log w (At name (AbortTrans l)) name e a a (dropped name labels new.store.disk)
 abort_unread r e log w name u labels h up laws l serial b new a at own made is down =
-    let disk = ap (λ (v : VolumeState). v.store.disk) down in
+    let disk = ap (λ (s : StoreState). s.disk) down in
     let uses = uses_read r (disk_up u) new.store.disk disk up.idle.ready.settled in
     breaks_first log w name u labels h (AbortTrans l) e new.store.disk a refl refl (abort_does log w name u labels h l serial b at own made).early_none uses.goes (rose_of r e (disk_up u) new.store.disk is uses h.counts)
     (read_down r name u h.node new.store.disk laws.one (standing_of log w name u labels h up) disk)

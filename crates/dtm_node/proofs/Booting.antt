@@ -16,10 +16,11 @@ use Rattle.volume.specs.Catalogs.{IsSound, TellsCatalog, TellsOnly}
 use Rattle.volume.specs.Conditions.{IsFirstFinding, IsValid, SoundIsValid}
 use Rattle.volume.specs.State.{VolumeState, Holds}
 use Rattle.run_model.specs.World.{Node, Act, Volume, Sound, Faulty, Unknown, Boots, ComesUp, acted, fallen}
-use Rattle.run_model.specs.Answers.{bootable, boot_limit, first_of, moment_limit, refused_if}
+use Rattle.run_model.specs.Answers.{bootable, boot_limit, moment_limit}
+use Rattle.run_model.specs.Operations.{first_of, refused_if}
 use Rattle.dtm_node.specs.Boots.{AllHave, HasContent, IsAwake, IsMounted, IsOpened, fresh_up}
 use Rattle.dtm_node.specs.Standing.{FailsFirst, HasCatalog, HasDisk, IsEitherOf, IsVolumeOf, StandsUp, last_of}
-use Rattle.directory_model.specs.Laws.{KeepsChanges, KeepsFiles, WritesApart}
+use Rattle.directory_model.specs.Laws.{KeepsChanges, KeepsFiles, StandsOnExtents, WritesApart}
 use Rattle.dtm_node.proofs.Fronts.{SameDisk, before_files, same_disk_has, same_fallen, same_some}
 
 abbrev Content : Type 0
@@ -220,10 +221,10 @@ abbrev pub raised : Home → Home
 raised h = record h { boot = h.boot + 1 }
 
 -- the catalog after the boot is that of the node after it
-pub raised_catalog : (v : VolumeState) (n : Node) (m : IsMounted v n) (bytes : List ℕ) → WritesApart → KeepsFiles → IsSound v.catalog.home.node v.store.disk.size v.catalog → HasCatalog (slice_set m.content 0 bytes) (record v.catalog { home = raised v.catalog.home }) (acted Boots n)
-raised_catalog v n m bytes apart keeps sound =
+pub raised_catalog : (v : VolumeState) (n : Node) (m : IsMounted v n) (bytes : List ℕ) → WritesApart → StandsOnExtents → KeepsFiles → IsSound v.catalog.home.node v.store.disk.size v.catalog → HasCatalog (slice_set m.content 0 bytes) (record v.catalog { home = raised v.catalog.home }) (acted Boots n)
+raised_catalog v n m bytes apart stand keeps sound =
     let c = slice_set m.content 0 bytes in
-    let files = before_files v.catalog.home.node v.store.disk.size v.catalog m.content 0 bytes n.directory apart (omega arith) sound m.has.files in
+    let files = before_files v.catalog.home.node v.store.disk.size v.catalog m.content 0 bytes n.directory apart stand (omega arith) sound m.has.files in
     record {
       volume = m.has.volume;
       slots = m.has.slots;
@@ -246,9 +247,9 @@ raised_sound name size v s = record {
   ru_blocks = s.ru_blocks;
 }
 
-pub raise_up : (v new : VolumeState) (n : Node) (bytes : List ℕ) → WritesApart → KeepsFiles → KeepsChanges → IsSound v.catalog.home.node v.store.disk.size v.catalog → new.store.current ≡ option_map (λ b. slice_set b 0 bytes) v.store.current → new.catalog ≡ record v.catalog { home = raised v.catalog.home } → IsMounted v n →
+pub raise_up : (v new : VolumeState) (n : Node) (bytes : List ℕ) → WritesApart → StandsOnExtents → KeepsFiles → KeepsChanges → IsSound v.catalog.home.node v.store.disk.size v.catalog → new.store.current ≡ option_map (λ b. slice_set b 0 bytes) v.store.current → new.catalog ≡ record v.catalog { home = raised v.catalog.home } → IsMounted v n →
     StandsUp (fresh_up new) (acted ComesUp (acted Boots n))
-raise_up v new n bytes apart keeps changes sound current catalog m = record {
+raise_up v new n bytes apart stand keeps changes sound current catalog m = record {
   content = slice_set m.content 0 bytes;
   told = current ∙ ap (option_map (λ b. slice_set b 0 bytes)) m.told;
   up = refl;
@@ -258,13 +259,13 @@ raise_up v new n bytes apart keeps changes sound current catalog m = record {
   under_way = m.booting.under_way;
   has = subst (λ k. HasCatalog (slice_set m.content 0 bytes) k (acted ComesUp (acted Boots n))) (sym catalog)
       (same_disk_has (acted ComesUp (acted Boots n)) (acted Boots n) (slice_set m.content 0 bytes) (record v.catalog { home = raised v.catalog.home })
-      (record { name = refl; blocks = refl; volume = refl; slots = refl; journal = refl; boot = refl; greatest = refl; last = refl; directory = refl }) (raised_catalog v n m bytes apart keeps sound));
+      (record { name = refl; blocks = refl; volume = refl; slots = refl; journal = refl; boot = refl; greatest = refl; last = refl; directory = refl }) (raised_catalog v n m bytes apart stand keeps sound));
   changes = changes.boots n;
 }
 
-pub raise_fell : (v : VolumeState) (n : Node) (d : DiskState) (bytes : List ℕ) (after : Option Content) (k : Catalog) → WritesApart → KeepsFiles → IsIdle v.store → Holds v → IsSound v.catalog.home.node v.store.disk.size v.catalog → after ≡ option_map (λ b. slice_set b 0 bytes) v.store.current →
+pub raise_fell : (v : VolumeState) (n : Node) (d : DiskState) (bytes : List ℕ) (after : Option Content) (k : Catalog) → WritesApart → StandsOnExtents → KeepsFiles → IsIdle v.store → Holds v → IsSound v.catalog.home.node v.store.disk.size v.catalog → after ≡ option_map (λ b. slice_set b 0 bytes) v.store.current →
     k ≡ record v.catalog { home = raised v.catalog.home } → IfSome after (TellsCatalog k) → Leaves (IsEither (content v.store) after) d → IsMounted v n → HasDisk (fallen (Some Boots) n) d
-raise_fell v n d bytes after k apart keeps idle holds sound at is tells leaves m =
+raise_fell v n d bytes after k apart stand keeps idle holds sound at is tells leaves m =
     disk_sound (fallen (Some Boots) n) d m.has.volume (λ image left.
     let l = leaves image left in (
       l.0,
@@ -285,4 +286,4 @@ raise_fell v n d bytes after k apart keeps idle holds sound at is tells leaves m
 
     taken : IsVolumeOf c (acted Boots (fallen (Some Boots) n))
     taken = volume_same (acted Boots (fallen (Some Boots) n)) (acted Boots n) c (record { name = refl; blocks = refl; volume = refl; slots = refl; journal = refl; boot = refl; greatest = refl; last = refl; directory = refl })
-        (record { catalog = record v.catalog { home = raised v.catalog.home }; tells = told; sound = rw (m.booting.name_is, m.booting.blocks) (raised_sound _ _ v.catalog sound); has = raised_catalog v n m bytes apart keeps sound })
+        (record { catalog = record v.catalog { home = raised v.catalog.home }; tells = told; sound = rw (m.booting.name_is, m.booting.blocks) (raised_sound _ _ v.catalog sound); has = raised_catalog v n m bytes apart stand keeps sound })

@@ -22,7 +22,8 @@ use Rattle.dtm_node.specs.Keeping.{IsToUp}
 use Rattle.dtm_node.specs.Nodes.{Passes, last_lines_of, place_armed}
 use Rattle.dtm_node.specs.Standing.{Place, IsCounted, IsDown, IsRunning, counts_of, disk_in, last_of}
 use Rattle.dtm_node.specs.Uses.{Goes}
-use Rattle.dtm_node.specs.Calling.{ShowsFine, Replies, HasRisen, Answers, AnswersAt, IsBootRefusal, IsFine, answer_in, calls_after}
+use Rattle.dtm_node.specs.Calling.{ShowsFine, Replies, HasRisen, Answers, AnswersAt, IsBootRefusal, answer_in, calls_after}
+use Rattle.node_files.specs.Forms.{IsFine}
 use Rattle.dtm_node.proofs.Passing.{goes_passes}
 
 -- Lines without a failure.
@@ -136,7 +137,7 @@ up_calls lit request.Crash l stops calls h = absurd h
 up_calls lit (request.Create file bucket size form) l stops calls h = refl
 up_calls lit (request.SetFile file setting) l stops calls h = refl
 up_calls lit (request.StartTrans label) l stops calls h = refl
-up_calls lit (request.Put label file number) l stops calls h = refl
+up_calls lit (request.Records label file operation) l stops calls h = refl
 up_calls lit (request.EndTrans label) l stops calls h = refl
 up_calls lit (request.AbortTrans label) l stops calls h = refl
 up_calls lit (request.Dump file) l stops calls h = refl

@@ -7,16 +7,17 @@ use Rattle.script_model.specs.Statements.{SetFile, Setting}
 use Rattle.transcript_model.specs.Lines as line
 use Rattle.transcript_model.specs.Lines.{Line}
 use Rattle.run_model.specs.World.{World, Node, File, find_file, serials_of, Marks, acted}
-use Rattle.run_model.specs.Answers.{first_of, there_is_file, of_file, unchanged_file, is_for_units}
+use Rattle.run_model.specs.Answers.{there_is_file, of_file, unchanged_file, is_for_units}
+use Rattle.run_model.specs.Operations.{first_of}
 use Rattle.volume.specs.declared.catalog.Catalog.{Catalog}
-use Rattle.directory_model.specs.Files.{IsFile, IsNamed, NoneNamed, IsFoundAt, AreNumbers, file_at, head_at}
+use Rattle.directory_model.specs.Files.{IsFile, IsNamed, NoneNamed, IsFoundAt, AreOwn, file_at, head_at}
 use Rattle.directory_model.specs.Laws.{FindsFiles, TellsChanges, marked}
-use Rattle.dtm_node.specs.Standing.{Up, Putting, HasBranch, StandsUp, branches_of}
+use Rattle.dtm_node.specs.Standing.{Up, Unsettled, HasBranch, StandsUp, branches_of}
 use Rattle.dtm_node.specs.Keeping.{locker_of}
 use Rattle.dtm_node.specs.TheLaws.{TheLaws}
 use Rattle.dtm_node.proofs.UpLemmas.{disk_up, case_some, case_none, Standing}
 use Rattle.dtm_node.proofs.Groups.{Means, Does, Keeps}
-use Rattle.dtm_node.proofs.CatalogLemmas.{front_files, front_set, sound_marked}
+use Rattle.node_files.proofs.CatalogLemmas.{front_files, front_set, front_undo, sound_marked}
 
 -- the file that is found by a name
 pub record Found (u : Up) (n : Node) (c : List (List ℕ)) (name : List ℕ) (f : ℕ) (h : FileHead) : Type 0 where
@@ -31,12 +32,12 @@ pub no_file : (u : Up) (n : Node) (name : List ℕ) → StandsUp u n → FindsFi
 no_file u n name s finds none = finds.none s.content u.volume.catalog.heads n.directory name s.has.files none
 
 -- the branch that changed it
-locks : (branch : Option Putting) (n : Node) (f : ℕ) (file : File) → TellsChanges → HasBranch branch n → file_at n.directory f ≡ Some file → first_to_change file.history (serials_of (branches_of branch)) ≡ locker_of branch f
-locks None n f file tells has there = tells.unchanged file [] (has f file there)
-locks (Some b) n f file tells has there = tells.changed b.serial b.puts f file (has f file there)
+locks : (c : List (List ℕ)) (heads : List (Option FileHead)) (branch : Option Unsettled) (n : Node) (f : ℕ) (file : File) → TellsChanges → HasBranch c heads branch n → file_at n.directory f ≡ Some file → first_to_change file.history (serials_of (branches_of branch)) ≡ locker_of branch f
+locks c heads None n f file tells has there = tells.unchanged file [] (has f file there)
+locks c heads (Some b) n f file tells has there = tells.changed b.serial b.notes f file (has.0 f file there)
 
 pub locked : (u : Up) (n : Node) (f : ℕ) (file : File) → StandsUp u n → TellsChanges → file_at n.directory f ≡ Some file → first_to_change file.history (serials_of n.branches) ≡ locker_of u.branch f
-locked u n f file s tells there = ap (λ bs. first_to_change file.history (serials_of bs)) s.branches ∙ locks u.branch n f file tells s.changes there
+locked u n f file s tells there = ap (λ bs. first_to_change file.history (serials_of bs)) s.branches ∙ locks s.content u.volume.catalog.heads u.branch n f file tells s.changes there
 
 -- What refuses a statement that wants a file which no branch changed.
 
@@ -84,26 +85,32 @@ marks_means node u n name units f h bytes s laws below named =
     let files = front_files node (disk_up u).size v s.up.content c n.directory laws.apart laws.stand s.is_up.sound s.up.has.files (front_set s.up.content (519 + f - 518) bytes (omega arith)) in
     record {
       has = record { volume = s.up.has.volume; slots = s.up.has.slots; journal = s.up.has.journal; boot = s.up.has.boot; greatest = s.up.has.greatest; last = s.up.has.last; files = laws.files.marks c v.heads n f h name units files named };
-      sound = sound_marked node (disk_up u).size v f h units s.up.has.files.heads_long named.there s.is_up.sound;
+      sound = sound_marked node (disk_up u).size v f h units laws.heads s.up.has.files.heads_long named.there s.is_up.sound;
       same = record { name = refl; blocks = refl; clock = refl; calls = refl };
       disk = record { name = refl; blocks = refl; volume = refl; slots = refl; journal = refl; boot = refl; greatest = refl; last = refl; directory = refl };
       durable = refl;
     }
 
-marks_branch : (branch : Option Putting) (n : Node) (name : List ℕ) (units : Bool) → TheLaws → HasBranch branch n → HasBranch branch (acted (Marks name units) n)
-marks_branch None n name units laws has = laws.changes.marks n name units has
-marks_branch (Some b) n name units laws has = laws.changes.marks_beside n name units b.serial b.puts has
+marks_branch : (node : List ℕ) (u : Up) (n : Node) (branch : Option Unsettled) (name : List ℕ) (units : Bool) (f : ℕ) (h : FileHead) (bytes : List ℕ) (s : Standing node u n) → TheLaws → f < 64 → head_at u.volume.catalog.heads f ≡ Some h → HasBranch s.up.content u.volume.catalog.heads branch n →
+    HasBranch (slice_set s.up.content (519 + f - 518) bytes) (slice_set u.volume.catalog.heads f (Some (marked units h))) branch (acted (Marks name units) n)
+marks_branch node u n None name units f h bytes s laws below there has = laws.changes.marks n name units has
+marks_branch node u n (Some b) name units f h bytes s laws below there has = (
+  laws.changes.marks_beside n name units b.serial b.notes has.0,
+  laws.undo.marks (slice_set s.up.content (519 + f - 518) bytes) u.volume.catalog.heads f h units b.notes there
+      (front_undo node (disk_up u).size u.volume.catalog s.up.content (slice_set s.up.content (519 + f - 518) bytes) n.directory b.notes laws.apart laws.undo s.is_up.sound s.up.has.files (front_set s.up.content (519 + f - 518) bytes (omega arith)) has.1),
+)
 
-pub marks_keeps : (u new : Up) (n : Node) (name : List ℕ) (units : Bool) → TheLaws → StandsUp u n → new.drawn ≡ u.drawn → new.branch ≡ u.branch → Keeps new (acted (Marks name units) n)
-marks_keeps u new n name units laws s drawn branch = record {
-  up = s.up;
-  was_up = s.was_up;
-  drawn = s.drawn ∙ sym drawn;
-  branches = s.branches ∙ ap branches_of (sym branch);
-  under_way = s.under_way;
-  changes = subst (λ o. HasBranch o (acted (Marks name units) n)) (sym branch) (marks_branch u.branch n name units laws s.changes);
+pub marks_keeps : (node : List ℕ) (u new : Up) (n : Node) (name : List ℕ) (units : Bool) (f : ℕ) (h : FileHead) (bytes : List ℕ) (s : Standing node u n) → TheLaws → f < 64 → head_at u.volume.catalog.heads f ≡ Some h → new.drawn ≡ u.drawn → new.branch ≡ u.branch →
+    Keeps (slice_set s.up.content (519 + f - 518) bytes) (record u.volume.catalog { heads = slice_set u.volume.catalog.heads f (Some (marked units h)) }) new (acted (Marks name units) n)
+marks_keeps node u new n name units f h bytes s laws below there drawn branch = record {
+  up = s.up.up;
+  was_up = s.up.was_up;
+  drawn = s.up.drawn ∙ sym drawn;
+  branches = s.up.branches ∙ ap branches_of (sym branch);
+  under_way = s.up.under_way;
+  changes = subst (λ o. HasBranch (slice_set s.up.content (519 + f - 518) bytes) (slice_set u.volume.catalog.heads f (Some (marked units h))) o (acted (Marks name units) n)) (sym branch) (marks_branch node u n u.branch name units f h bytes s laws below there s.up.changes);
 }
 
-pub marks_numbers : (branch : Option Putting) (v : Catalog) (f : ℕ) (h : FileHead) (units : Bool) → TheLaws → head_at v.heads f ≡ Some h → IfSome branch (λ b. AreNumbers b.puts v.heads × (length b.puts ≤ 16)) → IfSome branch (λ b. AreNumbers b.puts (slice_set v.heads f (Some (marked units h))) × (length b.puts ≤ 16))
-marks_numbers None v f h units laws there has = tt
-marks_numbers (Some b) v f h units laws there has = (laws.numbers.marks v.heads b.puts f h units there has.0, has.1)
+pub marks_own : (branch : Option Unsettled) (v : Catalog) (f : ℕ) (h : FileHead) (units : Bool) → TheLaws → f < length v.heads → IfSome branch (λ b. AreOwn b.notes v.heads × (length b.notes ≤ 16)) → IfSome branch (λ b. AreOwn b.notes (slice_set v.heads f (Some (marked units h))) × (length b.notes ≤ 16))
+marks_own None v f h units laws below has = tt
+marks_own (Some b) v f h units laws below has = (laws.own.sets v.heads b.notes f (marked units h) below has.0, has.1)

@@ -25,7 +25,8 @@ use Rattle.transcript_model.specs.Lines.{Line, Cause, Failed}
 use Rattle.transcript_model.specs.Emitting.{Shown, Emits}
 use Rattle.script_model.specs.Statements.{At, Init}
 use Rattle.run_model.specs.World.{World, Node, Label, Formats, acted, fallen, with_node, powered, unpowered}
-use Rattle.run_model.specs.Answers.{early_at, first_of, refused_if, is_volume_form, is_within, silent}
+use Rattle.run_model.specs.Answers.{early_at, is_volume_form, is_within, silent}
+use Rattle.run_model.specs.Operations.{first_of, refused_if}
 use Rattle.run_model.specs.Steps.{broken, count_of, dead, after_rows, occupied, spoilt, stops_at}
 use Rattle.run_model.proofs.StepLemmas.{step_unpowered}
 use Rattle.directory_model.specs.Laws.{KeepsFiles}

@@ -1,22 +1,17 @@
 -- What rests on a volume's front blocks and what does not, and a node's parts that its disk has.
-use Rattle.std.proofs.Common.{◌≡◌, ⊎_elim, inl, inr, ℕ, ◌+◌, ◌-◌, ◌*◌, ◌/◌, ◌<◌, ◌≤◌, ◌++◌, List, [], ◌∷◌, false, Option, Some, None, length, slice_set, refl, sym, ap, subst, ◌∙◌, arith, get_or-set_other}
-use Rattle.std.proofs.lemmas.List.{get_or_past}
-use Rattle.std.proofs.lemmas.Bool.{cases_lt}
-use Rattle.file_base.specs.declared.head.FileHead.{FileHead}
-use Rattle.file_base.specs.declared.head.Organization.{Organization}
-use Rattle.file_base.specs.declared.head.Organization.TheVariants.{Sequential, Relative, Indexed}
+use Rattle.std.proofs.Common.{◌≡◌, ℕ, ◌<◌, ◌++◌, List, [], ◌∷◌, false, Option, Some, None, slice_set, refl, sym, ap, subst, ◌∙◌, arith, get_or-set_other}
 use Rattle.volume_format.specs.Home.{sizes_of}
 use Rattle.volume.specs.declared.catalog.Catalog.{Catalog}
 use Rattle.volume.specs.Catalogs.{IsSound}
-use Rattle.volume.specs.Limits.{FileFits, EntryFits, KeysFit, RootFits, data_area, file_buckets, cells_of}
+use Rattle.volume.specs.Limits.{data_area}
 use Rattle.run_model.specs.World.{World, Node, File, Act, fallen, DiskCounts}
 use Rattle.run_model.specs.Answers.{Row, early, late, rows, answer, powers, request_of, node_of}
 use Rattle.run_model.specs.Steps.{Step, NoneFalls, lines_of_rows, after_rows, readied, occupied}
 use Rattle.run_model.proofs.StepLemmas.{step_whole}
 use Rattle.script_model.specs.Statements.{Statement}
 use Rattle.transcript_model.specs.Lines.{Line}
-use Rattle.directory_model.specs.Files.{AreFiles, RestsOnExtent, head_at}
-use Rattle.directory_model.specs.Laws.{WritesApart}
+use Rattle.directory_model.specs.Files.{AreFiles}
+use Rattle.directory_model.specs.Laws.{StandsOnExtents, WritesApart}
 use Rattle.dtm_node.specs.Standing.{HasCatalog}
 
 pub case_some : {A B : Type 0} (o : Option A) (says : A → B) (other : B) (a : A) → o ≡ Some a → elim o [ Some a ↦ says a | None ↦ other ] ≡ says a
@@ -66,30 +61,10 @@ step_done w s rs l disks p e lt r an counts =
     (subst (λ v. Step w s (lines_of_rows (rows v s) ++ answer v s ∷ []) (record (occupied s (after_rows (node_of s) (rows v s) v)) { disks = disks })) same
     (step_whole w s false disks e (ap (λ v. late v s) same ∙ lt) counts)))
 
--- Where a relative file's cells are.
-
-head_below : (heads : List (Option FileHead)) (f : ℕ) (h : FileHead) → length heads ≡ 64 → head_at heads f ≡ Some h → f < 64
-head_below heads f h long there = ⊎_elim (λ lt. lt) (λ past. let none = get_or_past heads f None (omega (arith, long, past)) in let no_way : ⊥ = cc in absurd no_way) (cases_lt f 64)
-
-ceiling : (n c : ℕ) → 1 ≤ c → n ≤ (n + c - 1) / c * c
-ceiling n c one = search arith
-
-organized : (o : Organization) (h : FileHead) → h.organization ≡ o → KeysFit o h → RootFits o h (file_buckets h) → 1 ≤ cells_of h → RestsOnExtent h
-organized Sequential h is keys root one = inr keys.0
-organized Relative h is keys root one = inl (record { organization = is; cells = rw root.3 (ceiling h.mrn (cells_of h) one); one = one; used = root.4 ∙ sym root.3 })
-organized Indexed h is keys root one = inr keys.0
-
-some_cells : (bucket mrs : ℕ) → mrs + 32 ≤ 512 * bucket → 1 ≤ (512 * bucket - 16) / (mrs + 2)
-some_cells bucket mrs fits = search arith
-
-rests_fit : (greatest : ℕ) (h : FileHead) → FileFits greatest h → RestsOnExtent h
-rests_fit greatest h f = organized h.organization h refl f.keys f.buckets.root (some_cells h.bucket h.mrs f.bucket.record_fits)
-
 -- what is written before the data area leaves the files
-pub before_files : (name : List ℕ) (size : ℕ) (v : Catalog) (a : List (List ℕ)) (k : ℕ) (bytes : List ℕ) (directory : List (Option File)) → WritesApart → k < 66 → IsSound name size v → AreFiles a v.heads directory → AreFiles (slice_set a k bytes) v.heads directory
-before_files name size v a k bytes directory law below sound files =
-    law.before (data_area (sizes_of v.home)) v.heads directory a (slice_set a k bytes)
-    (record { heads_long = files.heads_long; behind = omega arith; each = sound.extents })
-    (λ f h there. rests_fit v.home.greatest_moment.0 h (subst (λ o. EntryFits v.home.greatest_moment.0 o) there (sound.files f (head_below v.heads f h files.heads_long there))))
-    (λ n behind. sym (get_or-set_other a k n bytes [] (λ same. let no_way : ⊥ = omega (arith, same, below, behind) in no_way)))
+pub before_files : (name : List ℕ) (size : ℕ) (v : Catalog) (a : List (List ℕ)) (k : ℕ) (bytes : List ℕ) (directory : List (Option File)) → WritesApart → StandsOnExtents → k < 66 → IsSound name size v → AreFiles a v.heads directory → AreFiles (slice_set a k bytes) v.heads directory
+before_files name size v a k bytes directory law stand below sound files =
+    stand a (slice_set a k bytes) v.heads directory
+    (law.before (data_area (sizes_of v.home)) v.heads a (slice_set a k bytes) (record { heads_long = files.heads_long; behind = omega arith; each = sound.extents })
+    (λ n behind. sym (get_or-set_other a k n bytes [] (λ same. let no_way : ⊥ = omega (arith, same, below, behind) in no_way))))
     files

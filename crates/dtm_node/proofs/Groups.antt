@@ -15,7 +15,7 @@ use Rattle.run_model.specs.Steps.{lines_of_rows}
 use Rattle.dtm_node.specs.Standing.{Up, IsUp, HasCatalog, StandsUp, StandsFor, HasBranch, branches_of}
 use Rattle.dtm_node.specs.Uses.{Goes, Uses}
 use Rattle.dtm_node.specs.Keeping.{Serves, Breaks}
-use Rattle.dtm_node.specs.Writing.{Writes}
+use Rattle.node_files.specs.Writing.{Writes}
 use Rattle.dtm_node.proofs.UsesLemmas.{rose_of}
 use Rattle.dtm_node.proofs.UpLemmas.{kept, dropped, disk_up, Same, SameDisk, Standing, done_row, breaks_act, group_down, told_seen, told_content, volume_now, same_fallen}
 
@@ -39,16 +39,16 @@ pub record Does (w : World) (n : Node) (req : Request) (act : Act) (ls : List Li
 abbrev pub standing_of : (log : CallLog) (w : World) (name : List ℕ) (u : Up) (labels : List Label) (h : StandsFor log (kept name u labels) w) → IsUp name u → Standing name u h.node
 standing_of log w name u labels h up = record { is_up = up; up = h.place; named = h.name; sized = h.blocks }
 
--- what a node keeps of itself over an act, and what the code keeps then
-pub record Keeps (u : Up) (m : Node) : Type 0 where
+-- what a node keeps of itself over an act, and what the code keeps then, with this content and this catalog
+pub record Keeps (c : List (List ℕ)) (v : Catalog) (u : Up) (m : Node) : Type 0 where
   pub up : m.up ≡ true
   pub was_up : m.was_up ≡ true
   pub drawn : m.drawn ≡ u.drawn
   pub branches : m.branches ≡ branches_of u.branch
   pub under_way : m.under_way ≡ None
-  pub changes : HasBranch u.branch m
+  pub changes : HasBranch c v.heads u.branch m
 
-pub group_stands : {T : Type 0} (r : Result T Down) (x : T) (u : Up) (m : Node) (old : VolumeState) (after : Option (List (List ℕ))) (c : List (List ℕ)) (v : Catalog) → r ≡ Ok x → Writes r after v old u.volume → after ≡ Some c → HasCatalog c v m → Keeps u m → StandsUp u m
+pub group_stands : {T : Type 0} (r : Result T Down) (x : T) (u : Up) (m : Node) (old : VolumeState) (after : Option (List (List ℕ))) (c : List (List ℕ)) (v : Catalog) → r ≡ Ok x → Writes r after v old u.volume → after ≡ Some c → HasCatalog c v m → Keeps c v u m → StandsUp u m
 group_stands r x u m old after c v is w at has k = record {
   content = c;
   told = (let e = rw is at w.current in e) ∙ at;
@@ -58,11 +58,11 @@ group_stands r x u m old after c v is w at has k = record {
   branches = k.branches;
   under_way = k.under_way;
   has = subst (λ j. HasCatalog c j m) (sym w.catalog) has;
-  changes = k.changes;
+  changes = subst (λ j. HasBranch c j.heads u.branch m) (sym w.catalog) k.changes;
 }
 
 pub group_done : {T : Type 0} (r : Result T Down) (x : T) (log : CallLog) (w : World) (name : List ℕ) (u new : Up) (labels : List Label) (h : StandsFor log (kept name u labels) w) (req : Request) (act : Act) (ls : List Line) (l : Line) (c : List (List ℕ)) (v : Catalog) (old : VolumeState) (after : Option (List (List ℕ))) (a b : Shown) →
-    Does w h.node req act ls l → Means name u h.node act c v → r ≡ Ok x → Writes r after v old new.volume → after ≡ Some c → Goes (disk_up u) (disk_up new) → Keeps new (acted act h.node) → Emits a (lines_of_rows (record { act = Some act; lines = ls } ∷ []) ++ l ∷ []) b →
+    Does w h.node req act ls l → Means name u h.node act c v → r ≡ Ok x → Writes r after v old new.volume → after ≡ Some c → Goes (disk_up u) (disk_up new) → Keeps c v new (acted act h.node) → Emits a (lines_of_rows (record { act = Some act; lines = ls } ∷ []) ++ l ∷ []) b →
     Serves log w (At name req) a b (kept name new (labels_after act labels))
 group_done r x log w name u new labels h req act ls l c v old after a b does means is wr at goes keeps m =
     done_row log w name u labels h req act ls l new a b does.powers_not does.early_none does.late_none does.rows_are does.answer_is goes means.same (group_stands r x new (acted act h.node) old after c v is wr at means.has keeps) m

@@ -1,91 +1,95 @@
 -- CREATE.
-use Rattle.std.proofs.Common.{◌≡◌, ⊎_elim, inl, ℕ, zero, suc, ◌+◌, ◌-◌, ◌*◌, ◌<◌, ◌≤◌, List, [], ◌∷◌, Bool, true, false, Option, Some, None, Result, Ok, Err, IfSome, is_some, length, option_map, slice_set, nat_le, nat_lt, refl, sym, ap, subst, ◌∙◌, arith}
+use Rattle.std.proofs.Common.{◌≡◌, inl, ℕ, ◌+◌, ◌-◌, ◌*◌, ◌<◌, ◌≤◌, List, [], ◌∷◌, Bool, true, false, Option, Some, None, Result, Ok, Err, IfSome, is_some, length, option_map, slice_set, nat_le, nat_lt, refl, sym, ap, subst, ◌∙◌, arith}
 use Rattle.std.specs.Prelude.{◌&&◌, not}
-use Rattle.std.proofs.lemmas.Bool.{cases_eq}
 use Rattle.std.proofs.lemmas.Bool.Decides.{nat_tests}
 use Rattle.block_disk.specs.Disk.{DiskState, CallLog}
 use Rattle.careful_write.specs.Content.{content_of}
 use Rattle.careful_write.specs.declared.down.Down.{Down}
 use Rattle.careful_write.specs.State.{IsIdle}
 use Rattle.careful_write.specs.Steps.{AgreesOff}
-use Rattle.change_set.specs.Files.{AgreesOut, IsPlaced, LeavesOut, free_frames, in_extent}
+use Rattle.change_set.specs.Files.{AgreesOn, AgreesOut, IsPlaced, LeavesOut, free_frames, in_extent}
 use Rattle.change_set.specs.Maps.{empty_map}
 use Rattle.file_base.specs.declared.head.FileHead.{FileHead}
-use Rattle.relative_file.specs.Cells.{map_of}
-use Rattle.relative_file.specs.Local.{local_law}
+use Rattle.record_files.specs.Any.{IsLaidOut, chain_of, first_chain_of, map_of}
+use Rattle.record_files.specs.Local.{chain_local_law, local_law, valid_local_law}
 use Rattle.extents.specs.declared.extent.Extent.{Extent as Area}
 use Rattle.extents.specs.Extents.{IsFreeRun, all_extents}
 use Rattle.volume.specs.declared.catalog.Catalog.{Catalog}
-use Rattle.volume.specs.Catalogs.{IsSound, IsNew, TellsCatalog}
-use Rattle.volume.specs.Limits.{FileFits, EntryFits, data_area}
+use Rattle.volume.specs.Catalogs.{IsSound, TellsCatalog}
+use Rattle.volume.specs.Limits.{FileFits, KeysFit, RootFits, data_area, file_buckets}
 use Rattle.volume.specs.State.{VolumeState, Holds, with_block}
 use Rattle.volume_format.specs.Home.{sizes_of}
 use Rattle.transcript_model.specs.Lines as line
 use Rattle.transcript_model.specs.Lines.{Line}
 use Rattle.transcript_model.specs.Emitting.{Shown, Emits}
-use Rattle.script_model.specs.Statements.{At, Create, Form, Relative}
+use Rattle.script_model.specs.Statements.{At, Create}
+use Rattle.script_lang.specs.declared.statement.Form.{Form as CodeForm}
+use Rattle.script_lang.specs.declared.statement.Form.TheVariants as code_form
+use Rattle.script_lang.specs.Statements.{form_of}
 use Rattle.run_model.specs.World.{World, Node, File, Label, Creates, acted, fallen, find_file, free_place, longest_free, lowest_free}
-use Rattle.run_model.specs.Answers.{Row, new_file, first_of, refused_if, is_file_form, room_for, created}
-use Rattle.directory_model.specs.Files.{AreFiles, AreNamedOnce, AreNumbers, IsNamed, IsNewHead, NoneNamed, head_at}
+use Rattle.run_model.specs.Answers.{Row, new_file, is_file_form, room_for, created}
+use Rattle.run_model.specs.Operations.{first_of, refused_if}
+use Rattle.directory_model.specs.Files.{AreFiles, AreOwn, IsNamed, IsOrganized, NoneNamed, head_at}
 use Rattle.directory_model.specs.Laws.{area_of}
-use Rattle.dtm_node.specs.declared.sizes.Sizes.{Sizes}
-use Rattle.dtm_node.specs.NewFile.{AreSizes, buckets_in, new_head}
-use Rattle.dtm_node.specs.Standing.{Up, IsUp, Putting, HasBranch, StandsUp, StandsDown, StandsFor, branches_of}
+use Rattle.node_files.specs.declared.sizes.Sizes.{Sizes}
+use Rattle.node_files.specs.NewFile.{AreSizes, buckets_in, kept_by, new_head}
+use Rattle.dtm_node.specs.Standing.{Up, IsUp, Unsettled, HasBranch, StandsUp, StandsDown, StandsFor, branches_of}
 use Rattle.dtm_node.specs.Keeping.{Serves, Breaks}
 use Rattle.dtm_node.specs.TheLaws.{TheLaws}
 use Rattle.dtm_node.specs.Uses.{Goes, Uses}
-use Rattle.dtm_node.specs.Writing.{Writes}
+use Rattle.node_files.specs.Writing.{Writes}
 use Rattle.dtm_node.proofs.UsesLemmas.{rose_of}
 use Rattle.dtm_node.proofs.UpLemmas.{kept, dropped, disk_up, case_some, case_none, Standing, fallen_down, same_fallen, volume_in, told_seen, tells_now, breaks_first, breaks_act, group_down, group_up}
 use Rattle.dtm_node.proofs.Groups.{Does, Means, Keeps, standing_of, group_done}
 use Rattle.dtm_node.proofs.Files.{found_file, no_file}
-use Rattle.dtm_node.proofs.Putting.{off_front, holds_out, out_some}
-use Rattle.dtm_node.proofs.CatalogLemmas.{head_set, head_other, head_below, fit_of, rest_all, front_files, front_set}
+use Rattle.node_files.proofs.NewHead.{new_head_is}
+use Rattle.node_files.proofs.CatalogLemmas.{fit_of, front_agrees, front_files, front_set, holds_out, named_once, off_front, out_some, sound_set}
 
 -- The head of a new file.
 
-pub is_new_head : (name : List ℕ) (s : Sizes) (start : ℕ) → AreSizes s → IsNewHead (new_head name s start)
-is_new_head name s start a = record { sized = record { organization = refl; room = a.record_fits; buckets = refl; used = refl }; unmarked = refl; ai = refl; bi = refl; save = refl }
+right_of : (a b : Bool) → (a && b) ≡ true → b ≡ true
+right_of true b e = e
+right_of false b e = let none : ⊥ = cc in absurd none
 
-pub new_fits : (greatest : ℕ) (name : List ℕ) (s : Sizes) (start : ℕ) → AreSizes s → 1 ≤ buckets_in s → FileFits greatest (new_head name s start)
-new_fits greatest name s start a some = record {
-  bucket = record { least_blocks = a.least_blocks; most_blocks = a.most_blocks; least_record = a.least_record; most_record = a.most_record; record_fits = a.record_fits };
-  keys = (a.numbers, refl, refl);
-  buckets = record { least = some; most = omega arith; root = (refl, refl, refl, refl, refl) };
-  ai = record { blocks = (refl, refl); ordered = omega arith; most = omega arith };
-  bi = record { blocks = (refl, refl); ordered = omega arith; most = omega arith };
-  since = omega arith;
-  save = refl;
-}
+least_one : (n : ℕ) → nat_le 1 n ≡ true → 1 ≤ n
+least_one n e = grind (arith, nat_tests)
+
+-- the keys and the buckets of a form
+keys_new : (form : CodeForm) (name : List ℕ) (bucket mrs start : ℕ) → is_file_form bucket mrs (form_of form) ≡ true → IsOrganized (form_of form) (new_head name (record { bucket = bucket; mrs = mrs; form = form }) start) →
+    KeysFit (kept_by form) (new_head name (record { bucket = bucket; mrs = mrs; form = form }) start)
+keys_new (code_form.Sequential buckets) name bucket mrs start fine o = (refl, refl, refl)
+keys_new (code_form.Relative records) name bucket mrs start fine o = (least_one records (right_of _ (nat_le 1 records) fine), refl, refl)
+keys_new (code_form.Indexed buckets position size) name bucket mrs start fine o = (refl, o.5, o.6, o.7)
+
+buckets_new : (form : CodeForm) (name : List ℕ) (bucket mrs start : ℕ) → 1 ≤ buckets_in (record { bucket = bucket; mrs = mrs; form = form }) →
+    (let h = new_head name (record { bucket = bucket; mrs = mrs; form = form }) start in
+    (1 ≤ h.used) × (h.used ≤ h.alloc) × RootFits (kept_by form) h (file_buckets h))
+buckets_new (code_form.Sequential buckets) name bucket mrs start some = (omega arith, some, (refl, refl))
+buckets_new (code_form.Relative records) name bucket mrs start some = (some, omega arith, (refl, refl, refl, refl, refl))
+buckets_new (code_form.Indexed buckets position size) name bucket mrs start some = (omega arith, some, (omega arith, refl))
+
+pub new_fits : (greatest : ℕ) (name : List ℕ) (s : Sizes) (start : ℕ) → AreSizes s → FileFits greatest (new_head name s start)
+new_fits greatest name s start a =
+    let new = new_head_is name s start a in
+    let b = buckets_new s.form name s.bucket s.mrs start new.some in
+    record {
+      bucket = record { least_blocks = a.least_blocks; most_blocks = a.most_blocks; least_record = a.least_record; most_record = a.most_record; record_fits = a.record_fits };
+      keys = keys_new s.form name s.bucket s.mrs start a.form new.organized;
+      buckets = record { least = b.0; most = b.1; root = b.2 };
+      ai = record { blocks = (refl, refl); ordered = omega arith; most = omega arith };
+      bi = record { blocks = (refl, refl); ordered = omega arith; most = omega arith };
+      since = omega arith;
+      save = refl;
+    }
 
 -- The catalog with it.
 
-named_new : (heads : List (Option FileHead)) (g : ℕ) (o : Option FileHead) → head_at heads g ≡ o → AreNamedOnce heads → IsNew heads g o
-named_new heads g None is once = tt
-named_new heads g (Some h) is once = once g h is
-
-named_once : (node : List ℕ) (size : ℕ) (v : Catalog) → length v.heads ≡ 64 → IsSound node size v → AreNamedOnce v.heads
-named_once node size v long sound = λ f h there. subst (λ o. IsNew v.heads f o) there (sound.names f (head_below v.heads f h long there))
-
-pub sound_made : (node : List ℕ) (size : ℕ) (v : Catalog) (f : ℕ) (name : List ℕ) (s : Sizes) (start : ℕ) → TheLaws → length v.heads ≡ 64 → f < 64 → NoneNamed v.heads 64 name → AreSizes s → 1 ≤ buckets_in s →
+pub sound_made : (node : List ℕ) (size : ℕ) (v : Catalog) (f : ℕ) (name : List ℕ) (s : Sizes) (start : ℕ) → TheLaws → length v.heads ≡ 64 → f < 64 → NoneNamed v.heads 64 name → AreSizes s →
     IsFreeRun (data_area (sizes_of v.home)) (all_extents v.heads) start (buckets_in s * s.bucket) → IsSound node size v → IsSound node size (record v { heads = slice_set v.heads f (Some (new_head name s start)) })
-sound_made node size v f name s start laws long below none a some run sound =
+sound_made node size v f name s start laws long below none a run sound =
     let h = new_head name s start in
-    let fit = laws.heads.creates (data_area (sizes_of v.home)) v.heads f h (fit_of node size v long sound) below (is_new_head name s start a) run in
-    let once = laws.heads.creates_named v.heads f h (named_once node size v long sound) long none in
-    record {
-      version = sound.version;
-      sizes = sound.sizes;
-      home = sound.home;
-      files = λ g lt. ⊎_elim
-          (λ same. subst (λ o. EntryFits v.home.greatest_moment.0 o) (sym (ap (head_at (slice_set v.heads f (Some h))) same ∙ head_set v.heads f h long below)) (new_fits v.home.greatest_moment.0 name s start a some))
-          (λ apart. subst (λ o. EntryFits v.home.greatest_moment.0 o) (sym (head_other v.heads f g h apart)) (sound.files g lt))
-          (cases_eq g f);
-      names = λ g lt. named_new (slice_set v.heads f (Some h)) g (head_at (slice_set v.heads f (Some h)) g) refl once;
-      extents = fit.each;
-      ru_start = sound.ru_start;
-      ru_blocks = sound.ru_blocks;
-    }
+    sound_set node size v f h long below (laws.heads.creates (data_area (sizes_of v.home)) v.heads f (form_of s.form) h (fit_of node size v long sound) below (new_head_is name s start a) run)
+    (laws.heads.creates_named v.heads f h (named_once node size v long sound) long none) (new_fits v.home.greatest_moment.0 name s start a) sound
 
 pub new_placed : (node : List ℕ) (v : Catalog) (disk : DiskState) (name : List ℕ) (s : Sizes) (start : ℕ) → TheLaws → AreSizes s → 1 ≤ buckets_in s * s.bucket → IsFreeRun (data_area (sizes_of v.home)) (all_extents v.heads) start (buckets_in s * s.bucket) → IsSound node disk.size v → disk.size ≤ 65536 →
     IsPlaced (new_head name s start) disk
@@ -157,6 +161,8 @@ room_there node u n f most need st laws room enough =
 -- The buckets of the new file are written.
 pub record MadeRecords (h : FileHead) (old mid : VolumeState) : Type 0 where
   pub map_is : IfSome mid.store.current (λ c. map_of h c ≡ empty_map)
+  pub laid : IfSome mid.store.current (IsLaidOut h)
+  pub chain : IfSome mid.store.current (λ c. chain_of h c ≡ first_chain_of h)
   pub outside : AgreesOut (in_extent h) old.store.current mid.store.current
   pub idle : IsIdle mid.store
   pub catalog : mid.catalog ≡ old.catalog
@@ -172,8 +178,7 @@ pub record New (node : List ℕ) (u : Up) (name : List ℕ) (s : Sizes) (f start
   pub whole : length u.volume.catalog.heads ≡ 64
   pub none : NoneNamed u.volume.catalog.heads 64 name
   pub sizes : AreSizes s
-  pub some : 1 ≤ buckets_in s
-  pub form : is_file_form s.bucket s.mrs (Relative s.mrn) ≡ true
+  pub form : is_file_form s.bucket s.mrs (form_of s.form) ≡ true
   pub room : Room u.volume.catalog f most
   pub enough : buckets_in s * s.bucket ≤ most
   pub run : IsFreeRun (data_area (sizes_of u.volume.catalog.home)) (all_extents u.volume.catalog.heads) start (buckets_in s * s.bucket)
@@ -190,7 +195,7 @@ module _ (node : List ℕ) (u : Up) (name : List ℕ) (s : Sizes) (f start most 
   area_here = data_area (sizes_of v_here.home)
 
   some_here : 1 ≤ buckets_in s * s.bucket
-  some_here = laws.makes.some head_here (is_new_head name s start new.sizes).sized new.sizes.numbers
+  some_here = laws.makes.some (form_of s.form) head_here (new_head_is name s start new.sizes)
 
   from_here : 584 ≤ start
   from_here = let lies = laws.apart.run_lies area_here v_here.heads start (buckets_in s * s.bucket) new.run some_here in omega (arith, lies.0)
@@ -202,11 +207,14 @@ module _ (node : List ℕ) (u : Up) (name : List ℕ) (s : Sizes) (f start most 
   made_holds mid m = subst (λ k. IfSome mid.store.current (TellsCatalog k)) (sym m.catalog) (holds_out (in_extent head_here) v_here u.volume.store.current mid.store.current laws.front front_off m.outside up.holds)
 
   pub new_sound : IsSound node (disk_up u).size (record v_here { heads = slice_set v_here.heads f (Some head_here) })
-  new_sound = sound_made node (disk_up u).size v_here f name s start laws new.whole new.room.below new.none new.sizes new.some new.run up.sound
+  new_sound = sound_made node (disk_up u).size v_here f name s start laws new.whole new.room.below new.none new.sizes new.run up.sound
 
   -- other contents of a volume that agree but in the free run have the same files
+  others_stay : (a c : List (List ℕ)) → AgreesOff (in_extent head_here) a c → (g : ℕ) (other : FileHead) → head_at v_here.heads g ≡ Some other → AgreesOn other a c
+  others_stay a c off = laws.writes.in_free area_here v_here.heads head_here a c (fit_of node (disk_up u).size v_here new.whole up.sound) new.run off
+
   files_stay : (n : Node) (a c : List (List ℕ)) → AreFiles a v_here.heads n.directory → AgreesOff (in_extent head_here) a c → AreFiles c v_here.heads n.directory
-  files_stay n a c files off = laws.writes.in_free area_here v_here.heads n.directory head_here a c (fit_of node (disk_up u).size v_here new.whole up.sound) (rest_all node (disk_up u).size v_here new.whole up.sound) new.run off files
+  files_stay n a c files off = laws.stand a c v_here.heads n.directory (others_stay a c off) files
 
   -- its buckets were not all written
   pub made_down : (n : Node) (st : Standing node u n) (d : DiskState) → LeavesOut (in_extent head_here) u.volume.store.current d → is_some d.seen ≡ is_some (disk_up u).seen → StandsDown true d (fallen None n)
@@ -220,32 +228,36 @@ module _ (node : List ℕ) (u : Up) (name : List ℕ) (s : Sizes) (f start most 
       ))
 
   abbrev pub file_here : Node → File
-  file_here n = created name s.bucket s.mrs (Relative s.mrn) start n.greatest
+  file_here n = created name s.bucket s.mrs (form_of s.form) start n.greatest
 
   abbrev row_here : Node → ℕ → ℕ → Row
-  row_here n place start = record { act = Some (Creates place (created name s.bucket s.mrs (Relative s.mrn) start n.greatest)); lines = [] }
+  row_here n place start = record { act = Some (Creates place (created name s.bucket s.mrs (form_of s.form) start n.greatest)); lines = [] }
 
-  pub made_does : (w : World) (n : Node) → Standing node u n → Does w n (Create name s.bucket s.mrs (Relative s.mrn)) (Creates f (file_here n)) [] line.Normal
+  pub made_does : (w : World) (n : Node) → Standing node u n → Does w n (Create name s.bucket s.mrs (form_of s.form)) (Creates f (file_here n)) [] line.Normal
   made_does w n st =
       let lowest = laws.runs.lowest st.up.content v_here.heads n area_here (buckets_in s * s.bucket) start st.up.has.files (area_same node u n st) some_here new.run new.lowest in
       record {
         powers_not = refl;
         touches_it = refl;
-        early_none = create_early u n name (is_file_form s.bucket s.mrs (Relative s.mrn)) laws st.up new.none new.form;
+        early_none = create_early u n name (is_file_form s.bucket s.mrs (form_of s.form)) laws st.up new.none new.form;
         late_none = room_there node u n f most (buckets_in s * s.bucket) st laws new.room new.enough;
         rows_are = case_some (free_place n.directory) (λ place. elim (lowest_free n (buckets_in s * s.bucket)) [ Some start ↦ row_here n place start ∷ [] | None ↦ [] ]) [] f (place_is u n f most laws st.up new.room)
             ∙ case_some (lowest_free n (buckets_in s * s.bucket)) (λ start. row_here n f start ∷ []) [] start lowest;
         answer_is = refl;
       }
 
-  pub made_means : (n : Node) (st : Standing node u n) (c : List (List ℕ)) (bytes : List ℕ) → AgreesOff (in_extent head_here) st.up.content c → map_of head_here c ≡ empty_map →
+  below_here : 519 + f - 518 < 66
+  below_here = let below = new.room.below in omega (arith, below)
+
+  pub made_means : (n : Node) (st : Standing node u n) (c : List (List ℕ)) (bytes : List ℕ) → AgreesOff (in_extent head_here) st.up.content c → map_of head_here c ≡ empty_map → IsLaidOut head_here c → chain_of head_here c ≡ first_chain_of head_here →
       Means node u n (Creates f (file_here n)) (slice_set c (519 + f - 518) bytes) (record v_here { heads = slice_set v_here.heads f (Some head_here) })
-  made_means n st c bytes off map =
-      let k : 519 + f - 518 < 66 = let below = new.room.below in omega (arith, below) in
-      let agree = front_set c (519 + f - 518) bytes k in
+  made_means n st c bytes off map laid chain =
+      let agree = front_set c (519 + f - 518) bytes below_here in
       let d = slice_set c (519 + f - 518) bytes in
       let files = front_files node (disk_up u).size v_here c d n.directory laws.apart laws.stand up.sound (files_stay n st.up.content c st.up.has.files off) agree in
-      let here = local_law head_here c d (laws.makes.relative head_here (is_new_head name s start new.sizes).sized) (λ m within. agree m (in_extent_from start (buckets_in s * s.bucket) m from_here within)) in
+      let is_new = new_head_is name s start new.sizes in
+      let form = (laws.makes.form (form_of s.form) head_here is_new).0 in
+      let on : AgreesOn head_here c d = λ m within. agree m (in_extent_from start (buckets_in s * s.bucket) m from_here within) in
       record {
         has = record {
           volume = st.up.has.volume;
@@ -254,7 +266,8 @@ module _ (node : List ℕ) (u : Up) (name : List ℕ) (s : Sizes) (f start most 
           boot = st.up.has.boot;
           greatest = st.up.has.greatest;
           last = st.up.has.last;
-          files = laws.files.creates d v_here.heads n f head_here (file_here n) files new.room.below (laws.makes.file d head_here n.greatest (is_new_head name s start new.sizes) (sym here ∙ map));
+          files = laws.files.creates d v_here.heads n f head_here (file_here n) files new.room.below
+              (laws.makes.file d (form_of s.form) head_here n.greatest is_new (sym (local_law head_here c d form on) ∙ map) (valid_local_law head_here c d form on laid) (sym (chain_local_law head_here c d form on) ∙ chain));
         };
         sound = new_sound;
         same = record { name = refl; blocks = refl; clock = refl; calls = refl };
@@ -262,23 +275,31 @@ module _ (node : List ℕ) (u : Up) (name : List ℕ) (s : Sizes) (f start most 
         durable = refl;
       }
 
-  made_branch : (branch : Option Putting) (n : Node) → IfSome branch (λ b. AreNumbers b.puts v_here.heads × (length b.puts ≤ 16)) → HasBranch branch n → HasBranch branch (acted (Creates f (file_here n)) n)
-  made_branch None n numbers has = laws.changes.creates n f (file_here n) has refl
-  made_branch (Some b) n numbers has = laws.changes.creates_beside v_here.heads n f (file_here n) b.serial b.puts numbers.0 new.room.free refl has
+  made_branch : (n : Node) (st : Standing node u n) (c : List (List ℕ)) (bytes : List ℕ) (branch : Option Unsettled) → AgreesOff (in_extent head_here) st.up.content c → IfSome branch (λ b. AreOwn b.notes v_here.heads × (length b.notes ≤ 16)) → HasBranch st.up.content v_here.heads branch n →
+      HasBranch (slice_set c (519 + f - 518) bytes) (slice_set v_here.heads f (Some head_here)) branch (acted (Creates f (file_here n)) n)
+  made_branch n st c bytes None off own has = laws.changes.creates n f (file_here n) has refl
+  made_branch n st c bytes (Some b) off own has =
+      let agree = front_set c (519 + f - 518) bytes below_here in
+      let d = slice_set c (519 + f - 518) bytes in (
+        laws.changes.creates_beside v_here.heads n f (file_here n) b.serial b.notes own.0 new.room.free refl has.0,
+        laws.undo.creates st.up.content d v_here.heads n.directory f head_here b.notes st.up.has.files new.room.free own.0
+            (λ g other unlike there m within. others_stay st.up.content c off g other there m within ∙ front_agrees node (disk_up u).size v_here g other c d laws.apart new.whole up.sound there agree m within) has.1,
+      )
 
-  pub made_keeps : (after : Up) (n : Node) → StandsUp u n → after.drawn ≡ u.drawn → after.branch ≡ u.branch → Keeps after (acted (Creates f (file_here n)) n)
-  made_keeps after n st drawn branch = record {
-    up = st.up;
-    was_up = st.was_up;
-    drawn = st.drawn ∙ sym drawn;
-    branches = st.branches ∙ ap branches_of (sym branch);
-    under_way = st.under_way;
-    changes = subst (λ o. HasBranch o (acted (Creates f (file_here n)) n)) (sym branch) (made_branch u.branch n up.numbers st.changes);
+  pub made_keeps : (after : Up) (n : Node) (st : Standing node u n) (c : List (List ℕ)) (bytes : List ℕ) → AgreesOff (in_extent head_here) st.up.content c → after.drawn ≡ u.drawn → after.branch ≡ u.branch →
+      Keeps (slice_set c (519 + f - 518) bytes) (record v_here { heads = slice_set v_here.heads f (Some head_here) }) after (acted (Creates f (file_here n)) n)
+  made_keeps after n st c bytes off drawn branch = record {
+    up = st.up.up;
+    was_up = st.up.was_up;
+    drawn = st.up.drawn ∙ sym drawn;
+    branches = st.up.branches ∙ ap branches_of (sym branch);
+    under_way = st.up.under_way;
+    changes = subst (λ o. HasBranch (slice_set c (519 + f - 518) bytes) (slice_set v_here.heads f (Some head_here)) o (acted (Creates f (file_here n)) n)) (sym branch) (made_branch n st c bytes u.branch off up.own st.up.changes);
   }
 
-  made_numbers : (branch : Option Putting) → IfSome branch (λ b. AreNumbers b.puts v_here.heads × (length b.puts ≤ 16)) → IfSome branch (λ b. AreNumbers b.puts (slice_set v_here.heads f (Some head_here)) × (length b.puts ≤ 16))
-  made_numbers None has = tt
-  made_numbers (Some b) has = (laws.numbers.creates v_here.heads b.puts f head_here new.room.free has.0, has.1)
+  made_own : (branch : Option Unsettled) → IfSome branch (λ b. AreOwn b.notes v_here.heads × (length b.notes ≤ 16)) → IfSome branch (λ b. AreOwn b.notes (slice_set v_here.heads f (Some head_here)) × (length b.notes ≤ 16))
+  made_own None has = tt
+  made_own (Some b) has = (laws.own.sets v_here.heads b.notes f head_here (subst (λ n. f < n) (sym new.whole) new.room.below) has.0, has.1)
 
   -- the catalog as the second group makes it
   abbrev pub after_here : VolumeState → List ℕ → Option (List (List ℕ))
@@ -295,7 +316,7 @@ module _ (node : List ℕ) (u : Up) (name : List ℕ) (s : Sizes) (f start most 
       group_up r x node mid after (after_here mid bytes) (record v_here { heads = slice_set v_here.heads f (Some head_here) }) is (subst (λ k. Writes r (after_here mid bytes) k mid after.volume) (same_catalog mid m) wr)
       (subst (λ p. 32 ≤ free_frames p) (sym m.pool) up.frames) (made_holds mid m) (subst (λ k. IsSound node k (record v_here { heads = slice_set v_here.heads f (Some head_here) })) (sym m.size) new_sound)
       (subst (λ k. 4096 ≤ k) (sym m.size) up.least) (subst (λ k. k ≤ 65536) (sym m.size) up.most)
-      (subst (λ o. IfSome o (λ b. AreNumbers b.puts (slice_set v_here.heads f (Some head_here)) × (length b.puts ≤ 16))) (sym branch) (made_numbers u.branch up.numbers))
+      (subst (λ o. IfSome o (λ b. AreOwn b.notes (slice_set v_here.heads f (Some head_here)) × (length b.notes ≤ 16))) (sym branch) (made_own u.branch up.own))
 
   module _ (log : CallLog) (w : World) (labels : List Label) (h : StandsFor log (kept node u labels) w) where
     abbrev out_here : (mid : VolumeState) → MadeRecords head_here u.volume mid → (c : List (List ℕ)) × (mid.store.current ≡ Some c) × AgreesOff (in_extent head_here) h.place.content c
@@ -304,40 +325,42 @@ module _ (node : List ℕ) (u : Up) (name : List ℕ) (s : Sizes) (f start most 
     map_here : (mid : VolumeState) (m : MadeRecords head_here u.volume mid) → map_of head_here (out_here mid m).0 ≡ empty_map
     map_here mid m = subst (λ o. IfSome o (λ c. map_of head_here c ≡ empty_map)) (out_here mid m).1 m.map_is
 
-    pub made_first : {T : Type 0} (r : Result T Down) (e : Down) (d : DiskState) (a : Shown) → r ≡ Err e → LeavesOut (in_extent head_here) u.volume.store.current d → Uses r (disk_up u) d → Breaks log w (At node (Create name s.bucket s.mrs (Relative s.mrn))) node e a a (dropped node labels d)
+    laid_here : (mid : VolumeState) (m : MadeRecords head_here u.volume mid) → IsLaidOut head_here (out_here mid m).0
+    laid_here mid m = subst (λ o. IfSome o (IsLaidOut head_here)) (out_here mid m).1 m.laid
+
+    chain_here : (mid : VolumeState) (m : MadeRecords head_here u.volume mid) → chain_of head_here (out_here mid m).0 ≡ first_chain_of head_here
+    chain_here mid m = subst (λ o. IfSome o (λ c. chain_of head_here c ≡ first_chain_of head_here)) (out_here mid m).1 m.chain
+
+    pub made_first : {T : Type 0} (r : Result T Down) (e : Down) (d : DiskState) (a : Shown) → r ≡ Err e → LeavesOut (in_extent head_here) u.volume.store.current d → Uses r (disk_up u) d → Breaks log w (At node (Create name s.bucket s.mrs (form_of s.form))) node e a a (dropped node labels d)
     made_first r e d a is leaves uses =
         let st = standing_of log w node u labels h up in
-        breaks_first log w node u labels h (Create name s.bucket s.mrs (Relative s.mrn)) e d a refl refl (made_does w h.node st).early_none uses.goes (rose_of r e (disk_up u) d is uses h.counts) (made_down h.node st d leaves uses.goes.told)
+        breaks_first log w node u labels h (Create name s.bucket s.mrs (form_of s.form)) e d a refl refl (made_does w h.node st).early_none uses.goes (rose_of r e (disk_up u) d is uses h.counts) (made_down h.node st d leaves uses.goes.told)
 
     pub made_done : {T : Type 0} (r : Result T Down) (x : T) (after : Up) (mid : VolumeState) (bytes : List ℕ) (a b : Shown) → MadeRecords head_here u.volume mid → r ≡ Ok x → Writes r (after_here mid bytes) (catalog_here mid) mid after.volume → Goes (disk_up u) (disk_up after) →
-        after.drawn ≡ u.drawn → after.branch ≡ u.branch → Emits a (line.Normal ∷ []) b → Serves log w (At node (Create name s.bucket s.mrs (Relative s.mrn))) a b (kept node after labels)
+        after.drawn ≡ u.drawn → after.branch ≡ u.branch → Emits a (line.Normal ∷ []) b → Serves log w (At node (Create name s.bucket s.mrs (form_of s.form))) a b (kept node after labels)
     made_done r x after mid bytes a b m is wr goes drawn branch shown =
         let st = standing_of log w node u labels h up in
         let out = out_here mid m in
-        group_done r x log w node u after labels h (Create name s.bucket s.mrs (Relative s.mrn)) (Creates f (file_here h.node)) [] line.Normal (slice_set out.0 (519 + f - 518) bytes) (record v_here { heads = slice_set v_here.heads f (Some head_here) }) mid (after_here mid bytes) a b
-        (made_does w h.node st) (made_means h.node st out.0 bytes out.2 (map_here mid m)) is (subst (λ k. Writes r (after_here mid bytes) k mid after.volume) (same_catalog mid m) wr)
-        (ap (option_map (λ (blocks : List (List ℕ)). slice_set blocks (519 + f - 518) bytes)) out.1) goes (made_keeps after h.node h.place drawn branch) shown
+        group_done r x log w node u after labels h (Create name s.bucket s.mrs (form_of s.form)) (Creates f (file_here h.node)) [] line.Normal (slice_set out.0 (519 + f - 518) bytes) (record v_here { heads = slice_set v_here.heads f (Some head_here) }) mid (after_here mid bytes) a b
+        (made_does w h.node st) (made_means h.node st out.0 bytes out.2 (map_here mid m) (laid_here mid m) (chain_here mid m)) is (subst (λ k. Writes r (after_here mid bytes) k mid after.volume) (same_catalog mid m) wr)
+        (ap (option_map (λ (blocks : List (List ℕ)). slice_set blocks (519 + f - 518) bytes)) out.1) goes (made_keeps after h.node st out.0 bytes out.2 drawn branch) shown
 
     pub made_broken : {T : Type 0} (r : Result T Down) (e : Down) (mid after : VolumeState) (bytes : List ℕ) (a : Shown) → MadeRecords head_here u.volume mid → r ≡ Err e → Writes r (after_here mid bytes) (catalog_here mid) mid after → Uses r (disk_up u) after.store.disk →
-        Breaks log w (At node (Create name s.bucket s.mrs (Relative s.mrn))) node e a a (dropped node labels after.store.disk)
+        Breaks log w (At node (Create name s.bucket s.mrs (form_of s.form))) node e a a (dropped node labels after.store.disk)
     made_broken r e mid after bytes a m is wr uses =
         let st = standing_of log w node u labels h up in
         let out = out_here mid m in
         let does = made_does w h.node st in
-        let means = made_means h.node st out.0 bytes out.2 (map_here mid m) in
+        let means = made_means h.node st out.0 bytes out.2 (map_here mid m) (laid_here mid m) (chain_here mid m) in
         let act = Creates f (file_here h.node) in
         let was = volume_in (fallen (Some act) h.node) h.node out.0 v_here node (disk_up u).size (same_fallen (Some act) h.node) st.named st.sized
         (laws.front v_here h.place.content out.0 (λ k below. sym (out.2.others k (front_off k below))) (tells_now node u h.node st)) up.sound
         (record { volume = h.place.has.volume; slots = h.place.has.slots; journal = h.place.has.journal; boot = h.place.has.boot; greatest = h.place.has.greatest; last = h.place.has.last; files = files_stay h.node h.place.content out.0 h.place.has.files out.2 }) in
-        breaks_act log w node u labels h (Create name s.bucket s.mrs (Relative s.mrn)) act [] e after.store.disk a refl refl does.early_none does.late_none does.rows_are refl uses.goes (rose_of r e (disk_up u) after.store.disk is uses h.counts)
+        breaks_act log w node u labels h (Create name s.bucket s.mrs (form_of s.form)) act [] e after.store.disk a refl refl does.early_none does.late_none does.rows_are refl uses.goes (rose_of r e (disk_up u) after.store.disk is uses h.counts)
         (group_down r e node u h.node act out.0 (slice_set out.0 (519 + f - 518) bytes) (after_here mid bytes) (record v_here { heads = slice_set v_here.heads f (Some head_here) }) mid after is st was
         (sym m.idle.current ∙ out.1) (m.told ∙ told_seen node u h.node st) (made_holds mid m) (ap (option_map (λ (blocks : List (List ℕ)). slice_set blocks (519 + f - 518) bytes)) out.1)
         (subst (λ k. Writes r (after_here mid bytes) k mid after) (same_catalog mid m) wr) means.sound means.disk refl refl means.has)
 
 -- the request in the words of the code
-pub same_request : (name : List ℕ) (b m r bucket size records : ℕ) (form : Form) → b ≡ bucket → m ≡ size → r ≡ records → form ≡ Relative records → Create name b m (Relative r) ≡ Create name bucket size form
-same_request name b m r bucket size records form p q t is = (λ i. Create name (p i) (q i) (Relative (t i))) ∙ ap (λ f. Create name bucket size f) (sym is)
-
-pub left_some : (a b : ℕ) → 1 ≤ a * b → 1 ≤ a
-left_some zero b e = let no_way : ⊥ = omega (arith, e) in absurd no_way
-left_some (suc a) b e = omega arith
+pub same_request : (name : List ℕ) (b m bucket size : ℕ) (f form : CodeForm) → b ≡ bucket → m ≡ size → f ≡ form → Create name b m (form_of f) ≡ Create name bucket size (form_of form)
+same_request name b m bucket size f form p q is = λ i. Create name (p i) (q i) (form_of (is i))

@@ -1,10 +1,12 @@
 -- What a label names, by the table and by the node's branch.
-use Rattle.std.proofs.Common.{◌≡◌, ℕ, ◌+◌, ◌<◌, List, [], ◌∷◌, ◌++◌, Bool, true, false, Option, Some, None, length, slice_set, nat_le, refl, sym, ◌∙◌, ap, subst, arith}
+use Rattle.std.proofs.Common.{◌≡◌, ℕ, ◌+◌, ◌<◌, List, [], ◌∷◌, ◌++◌, Bool, true, false, Option, Some, None, IfSome, IsSome, is_some, length, slice_set, nat_le, refl, sym, ◌∙◌, ap, subst, arith}
 use Rattle.std.specs.Prelude.{if◌then◌else◌, not, option_map}
 use Rattle.std.specs.Option.{option_and_then}
 use Rattle.std.specs.Str.{bytes_eq}
 use Rattle.std.proofs.lemmas.Bool.{le-leb}
 use Rattle.block_disk.specs.Disk.{CallLog}
+use Rattle.file_base.specs.declared.head.FileHead.{FileHead}
+use Rattle.volume.specs.declared.catalog.Catalog.{Catalog}
 use Rattle.volume.specs.State.{VolumeState}
 use Rattle.volume_format.specs.declared.home.Ending.TheVariants as ending
 use Rattle.vms_base.specs.declared.outcomes.Reason.TheVariants as reason
@@ -13,25 +15,25 @@ use Rattle.vms_model.specs.Transactions.{Commit, Abort, Aborted}
 use Rattle.vms_base.specs.Ids.{serial_of}
 use Rattle.vms_base.specs.declared.ids.Serial.{Serial}
 use Rattle.transcript_model.specs.Lines as line
-use Rattle.transcript_model.specs.Lines.{Line}
 use Rattle.transcript_model.specs.Emitting.{Shown, Emits}
 use Rattle.script_model.specs.Statements.{At, StartTrans, EndTrans, AbortTrans}
 use Rattle.records_model.specs.History.{same_id}
 use Rattle.run_model.specs.World.{World, Node, Label, Branch, Settlement, Settles, Begins, acted, find_label, find_branch, labelled, next_id, next_moment, without_branch}
-use Rattle.run_model.specs.Answers.{Row, made_label, unsettled_label, branch_labelled, new_label, refused_if, first_of, committed, aborted}
-use Rattle.directory_model.specs.Files.{AreChanged}
+use Rattle.run_model.specs.Answers.{Row, made_label, unsettled_label, branch_labelled, new_label, committed, aborted}
+use Rattle.run_model.specs.Operations.{refused_if, first_of}
+use Rattle.directory_model.specs.Files.{AreChanged, AreUndoable, Note}
 use Rattle.dtm_node.specs.declared.labels.LabelEntry.{LabelEntry}
 use Rattle.dtm_node.specs.LabelTable.{label_of}
-use Rattle.dtm_node.specs.Standing.{Up, Putting, HasBranch, StandsUp, StandsFor, HasCatalog, branches_of, settlement_of}
+use Rattle.dtm_node.specs.Standing.{Up, Unsettled, HasBranch, StandsUp, StandsFor, HasCatalog, branches_of, settlement_of}
 use Rattle.dtm_node.specs.Keeping.{Serves}
 use Rattle.dtm_node.specs.TheLaws.{TheLaws}
 use Rattle.dtm_node.specs.Uses.{Goes}
-use Rattle.dtm_node.specs.Writing.{settled_home}
+use Rattle.node_files.specs.Writing.{settled_home}
 use Rattle.dtm_node.proofs.IdLemmas.{same_id-refl}
 use Rattle.dtm_node.proofs.UsesLemmas.{goes_nowhere}
 use Rattle.dtm_node.proofs.UpLemmas.{kept, disk_up, case_some, case_none, Standing, done_row}
 use Rattle.dtm_node.proofs.Groups.{Does, Means, Keeps}
-use Rattle.dtm_node.proofs.CatalogLemmas.{front_files, front_set, sound_settled}
+use Rattle.node_files.proofs.CatalogLemmas.{front_files, front_set, sound_settled}
 
 not_false : (b : Bool) → not b ≡ false → b ≡ true
 not_false true e = refl
@@ -48,31 +50,59 @@ labelled_entry node l ls r e h is here =
     case_some (find_label l ls) (λ label. if bytes_eq node label.node then Some label.serial else None) None (label_of l e) f ∙ ap (λ b. if b then Some (serial_of e.serial) else None) here
 
 -- the branch of a serial, where there is one of another serial or none
-pub other_branch : (id : Id) (branch : Option Putting) (s : Option Serial) (t : Serial) → option_map serial_of s ≡ option_map (λ (b : Putting). b.serial) branch → s ≡ Some t → same_id id (serial_of t) ≡ false → find_branch id (branches_of branch) ≡ None
+pub other_branch : (id : Id) (branch : Option Unsettled) (s : Option Serial) (t : Serial) → option_map serial_of s ≡ option_map (λ (b : Unsettled). b.serial) branch → s ≡ Some t → same_id id (serial_of t) ≡ false → find_branch id (branches_of branch) ≡ None
 other_branch id None s t same is apart = refl
 other_branch id (Some b) s t same is apart =
     let at : Some (serial_of t) ≡ Some b.serial = ap (option_map serial_of) (sym is) ∙ same in
     let e : serial_of t ≡ b.serial = cc in
     ap (λ (k : Bool). if k then Some (branch_as b) else None) (ap (same_id id) (sym e) ∙ apart)
   where
-    branch_as : Putting → Branch
-    branch_as b = record { tid = b.serial; serial = b.serial; changes = length b.puts }
+    branch_as : Unsettled → Branch
+    branch_as b = record { tid = b.serial; serial = b.serial; changes = length b.notes }
 
-pub no_branch : (id : Id) (branch : Option Putting) (s : Option Serial) → option_map serial_of s ≡ option_map (λ (b : Putting). b.serial) branch → s ≡ None → find_branch id (branches_of branch) ≡ None
+pub no_branch : (id : Id) (branch : Option Unsettled) (s : Option Serial) → option_map serial_of s ≡ option_map (λ (b : Unsettled). b.serial) branch → s ≡ None → find_branch id (branches_of branch) ≡ None
 no_branch id None s same is = refl
 no_branch id (Some b) s same is =
     let at : None ≡ Some b.serial = ap (option_map serial_of) (sym is) ∙ same in
     let none : ⊥ = cc in absurd none
 
 -- the branch that the code has
-pub the_branch : (o : Option Putting) (id : Id) → option_map (λ (b : Putting). b.serial) o ≡ Some id → (b : Putting) × (o ≡ Some b) × (b.serial ≡ id)
+pub the_branch : (o : Option Unsettled) (id : Id) → option_map (λ (b : Unsettled). b.serial) o ≡ Some id → (b : Unsettled) × (o ≡ Some b) × (b.serial ≡ id)
 the_branch None id e = let none : ⊥ = cc in absurd none
 the_branch (Some b) id e = (b, refl, (let f : Some b.serial ≡ Some id = e in cc))
 
+pub is_some_of : (o : Option Unsettled) (id : Id) → option_map (λ (b : Unsettled). b.serial) o ≡ Some id → IsSome o
+is_some_of None id e = let no_way : ⊥ = cc in absurd no_way
+is_some_of (Some b) id e = refl
+
+-- the unsettled branch by the serial and the notes that the code has
+abbrev pub unsettled_as : List Note → Option Serial → Option Unsettled
+unsettled_as notes o = option_map (λ serial. record { serial = serial_of serial; notes = notes }) o
+
+pub none_unsettled : (notes : List Note) (o : Option Serial) → o ≡ None → unsettled_as notes o ≡ None
+none_unsettled notes o e = ap (unsettled_as notes) e
+
+pub some_unsettled : (notes : List Note) (o : Option Serial) → is_some o ≡ true → (b : Unsettled) × (unsettled_as notes o ≡ Some b)
+some_unsettled notes None e = let none : ⊥ = cc in absurd none
+some_unsettled notes (Some s) e = (record { serial = serial_of s; notes = notes }, refl)
+
+pub no_unsettled : (notes : List Note) (o : Option Serial) → is_some o ≡ false → unsettled_as notes o ≡ None
+no_unsettled notes None e = refl
+no_unsettled notes (Some s) e = let none : ⊥ = cc in absurd none
+
+-- what holds of it, and what holds with its notes
+pub unsettled_has : (notes : List Note) (o : Option Serial) (P : Unsettled → Type 0) → IsSome (unsettled_as notes o) → IfSome (unsettled_as notes o) P → (s : Serial) × P (record { serial = serial_of s; notes = notes })
+unsettled_has notes None P some h = let none : ⊥ = cc in absurd none
+unsettled_has notes (Some s) P some h = (s, h)
+
+pub if_unsettled : (notes : List Note) (o : Option Serial) (P : Unsettled → Type 0) → ((s : Serial) → P (record { serial = serial_of s; notes = notes })) → IfSome (unsettled_as notes o) P
+if_unsettled notes None P f = tt
+if_unsettled notes (Some s) P f = f s
+
 -- What refuses a statement by its label.
 
-abbrev pub branch_as : Putting → Branch
-branch_as b = record { tid = b.serial; serial = b.serial; changes = length b.puts }
+abbrev pub branch_as : Unsettled → Branch
+branch_as b = record { tid = b.serial; serial = b.serial; changes = length b.notes }
 
 module _ (log : CallLog) (w : World) (name : List ℕ) (u : Up) (labels : List Label) (h : StandsFor log (kept name u labels) w) (l : List ℕ) where
   labelled_here : labelled h.node.name l w.labels ≡ labelled name l labels
@@ -90,10 +120,10 @@ module _ (log : CallLog) (w : World) (name : List ℕ) (u : Up) (labels : List L
   pub unsettled_none : (id : Id) → labelled name l labels ≡ Some id → find_branch id (branches_of u.branch) ≡ None → unsettled_label w h.node l ≡ Some line.NoSuchTransaction
   unsettled_none id f g = case_none (branch_labelled w h.node l) (λ b. None) (Some line.NoSuchTransaction) (named_branch id None f g)
 
-  pub branch_there : (id : Id) (b : Putting) → u.branch ≡ Some b → b.serial ≡ id → labelled name l labels ≡ Some id → branch_labelled w h.node l ≡ Some (branch_as b)
+  pub branch_there : (id : Id) (b : Unsettled) → u.branch ≡ Some b → b.serial ≡ id → labelled name l labels ≡ Some id → branch_labelled w h.node l ≡ Some (branch_as b)
   branch_there id b at is f = named_branch id (Some (branch_as b)) f (ap (λ o. find_branch id (branches_of o)) at ∙ ap (λ (k : Bool). if k then Some (branch_as b) else None) (ap (same_id id) is ∙ same_id-refl id))
 
-  pub unsettled_some : (id : Id) (b : Putting) → u.branch ≡ Some b → b.serial ≡ id → labelled name l labels ≡ Some id → unsettled_label w h.node l ≡ None
+  pub unsettled_some : (id : Id) (b : Unsettled) → u.branch ≡ Some b → b.serial ≡ id → labelled name l labels ≡ Some id → unsettled_label w h.node l ≡ None
   unsettled_some id b at is f = case_some (branch_labelled w h.node l) (λ b. None) (Some line.NoSuchTransaction) (branch_as b) (branch_there id b at is f)
 
   -- END_TRANS and ABORT_TRANS
@@ -103,7 +133,7 @@ module _ (log : CallLog) (w : World) (name : List ℕ) (u : Up) (labels : List L
   pub uses_settled : (id : Id) → labelled name l labels ≡ Some id → find_branch id (branches_of u.branch) ≡ None → first_of (made_label w h.node l) (unsettled_label w h.node l) ≡ Some line.NoSuchTransaction
   uses_settled id f g = ap (λ o. first_of o (unsettled_label w h.node l)) (made_some id f) ∙ unsettled_none id f g
 
-  uses_unsettled : (id : Id) (b : Putting) → u.branch ≡ Some b → b.serial ≡ id → labelled name l labels ≡ Some id → first_of (made_label w h.node l) (unsettled_label w h.node l) ≡ None
+  uses_unsettled : (id : Id) (b : Unsettled) → u.branch ≡ Some b → b.serial ≡ id → labelled name l labels ≡ Some id → first_of (made_label w h.node l) (unsettled_label w h.node l) ≡ None
   uses_unsettled id b at is f = ap (λ o. first_of o (unsettled_label w h.node l)) (made_some id f) ∙ unsettled_some id b at is f
 
   -- the moment is the next one, since the clock stands at 0
@@ -113,7 +143,7 @@ module _ (log : CallLog) (w : World) (name : List ℕ) (u : Up) (labels : List L
       let e : nat_le 0 (u.volume.catalog.home.greatest_moment.0 + 1) ≡ true = le-leb 0 (u.volume.catalog.home.greatest_moment.0 + 1) (omega arith) in
       rw (h.clock, g, e) refl
 
-  pub end_does : (serial : Serial) (b : Putting) → u.branch ≡ Some b → b.serial ≡ serial_of serial → labelled name l labels ≡ Some (serial_of serial) →
+  pub end_does : (serial : Serial) (b : Unsettled) → u.branch ≡ Some b → b.serial ≡ serial_of serial → labelled name l labels ≡ Some (serial_of serial) →
       (let m = u.volume.catalog.home.greatest_moment.0 + 1 in
       Does w h.node (EndTrans l) (Settles (settlement_of m (record { tid = record { 0 = serial.0 }; serial = serial; ending = ending.Commit }))) (line.Committed (serial_of serial) (serial_of serial) m ∷ []) line.Normal)
   end_does serial b at is f =
@@ -127,7 +157,7 @@ module _ (log : CallLog) (w : World) (name : List ℕ) (u : Up) (labels : List L
         answer_is = refl;
       }
 
-  pub abort_does : (serial : Serial) (b : Putting) → u.branch ≡ Some b → b.serial ≡ serial_of serial → labelled name l labels ≡ Some (serial_of serial) →
+  pub abort_does : (serial : Serial) (b : Unsettled) → u.branch ≡ Some b → b.serial ≡ serial_of serial → labelled name l labels ≡ Some (serial_of serial) →
       (let m = u.volume.catalog.home.greatest_moment.0 + 1 in
       Does w h.node (AbortTrans l) (Settles (settlement_of m (record { tid = record { 0 = serial.0 }; serial = serial; ending = ending.Abort reason.Aborted }))) (line.Aborted (serial_of serial) (serial_of serial) Aborted m ∷ []) line.Normal)
   abort_does serial b at is f =
@@ -141,24 +171,26 @@ module _ (log : CallLog) (w : World) (name : List ℕ) (u : Up) (labels : List L
         answer_is = refl;
       }
 
+-- the branch's changes
+pub changes_of : (c : List (List ℕ)) (heads : List (Option FileHead)) (u : Up) (n : Node) (id : Id) (b : Unsettled) → HasBranch c heads u.branch n → u.branch ≡ Some b → b.serial ≡ id → AreChanged id b.notes n.directory
+changes_of c heads u n id b has at is = subst (λ id. AreChanged id b.notes n.directory) is ((subst (λ o. HasBranch c heads o n) at has).0)
+
+-- they can be undone
+pub undoable_of : (c : List (List ℕ)) (heads : List (Option FileHead)) (u : Up) (n : Node) (b : Unsettled) → HasBranch c heads u.branch n → u.branch ≡ Some b → AreUndoable c heads b.notes
+undoable_of c heads u n b has at = (subst (λ o. HasBranch c heads o n) at has).1
+
 -- a branch that is settled leaves no branch
-pub settles_keeps : (u new : Up) (n : Node) (s : Settlement) (b : Putting) → TheLaws → StandsUp u n → u.branch ≡ Some b → b.serial ≡ s.serial → new.drawn ≡ u.drawn → new.branch ≡ None → Keeps new (acted (Settles s) n)
-settles_keeps u new n s b laws st at is drawn none = record {
+pub settles_keeps : (c : List (List ℕ)) (v : Catalog) (u new : Up) (n : Node) (s : Settlement) (b : Unsettled) → TheLaws → StandsUp u n → u.branch ≡ Some b → b.serial ≡ s.serial → new.drawn ≡ u.drawn → new.branch ≡ None → Keeps c v new (acted (Settles s) n)
+settles_keeps c v u new n s b laws st at is drawn none = record {
   up = st.up;
   was_up = st.was_up;
   drawn = st.drawn ∙ sym drawn;
   branches = ap (without_branch s.serial) (st.branches ∙ ap branches_of at) ∙ ap (λ (k : Bool). if k then [] else branch_as b ∷ []) (ap (same_id s.serial) is ∙ same_id-refl s.serial) ∙ ap branches_of (sym none);
   under_way = st.under_way;
-  changes = subst (λ o. HasBranch o (acted (Settles s) n)) (sym none) (laws.changes.settles n b.puts s (changed_by b st.changes at is));
+  changes = subst (λ o. HasBranch c v.heads o (acted (Settles s) n)) (sym none) (laws.changes.settles n b.notes s (changes_of st.content u.volume.catalog.heads u n s.serial b st.changes at is));
 }
-  where
-    changed_by : (b : Putting) → HasBranch u.branch n → u.branch ≡ Some b → b.serial ≡ s.serial → AreChanged s.serial b.puts n.directory
-    changed_by b has at is = subst (λ id. AreChanged id b.puts n.directory) is (subst (λ o. HasBranch o n) at has)
 
-pub changes_of : (u : Up) (n : Node) (id : Id) (b : Putting) → HasBranch u.branch n → u.branch ≡ Some b → b.serial ≡ id → AreChanged id b.puts n.directory
-changes_of u n id b has at is = subst (λ id. AreChanged id b.puts n.directory) is (subst (λ o. HasBranch o n) at has)
-
-pub end_means : (node : List ℕ) (u : Up) (n : Node) (serial : Serial) (b : Putting) (bytes : List ℕ) (s : Standing node u n) → TheLaws → u.branch ≡ Some b → b.serial ≡ serial_of serial → u.volume.catalog.home.greatest_moment.0 < 24000001000002 →
+pub end_means : (node : List ℕ) (u : Up) (n : Node) (serial : Serial) (b : Unsettled) (bytes : List ℕ) (s : Standing node u n) → TheLaws → u.branch ≡ Some b → b.serial ≡ serial_of serial → u.volume.catalog.home.greatest_moment.0 < 24000001000002 →
     (let m = u.volume.catalog.home.greatest_moment.0 + 1 in
     Means node u n (Settles (settlement_of m (record { tid = record { 0 = serial.0 }; serial = serial; ending = ending.Commit }))) (slice_set s.up.content 0 bytes) (record u.volume.catalog { home = settled_home serial ending.Commit u.volume.catalog.home }))
 end_means node u n serial b bytes s laws at is early =
@@ -168,7 +200,7 @@ end_means node u n serial b bytes s laws at is early =
     let st : Settlement = settlement_of m (record { tid = record { 0 = serial.0 }; serial = serial; ending = ending.Commit }) in
     let files = front_files node (disk_up u).size v s.up.content c n.directory laws.apart laws.stand s.is_up.sound s.up.has.files (front_set s.up.content 0 bytes (omega arith)) in
     record {
-      has = record { volume = s.up.has.volume; slots = s.up.has.slots; journal = s.up.has.journal; boot = s.up.has.boot; greatest = refl; last = refl; files = laws.files.commits c v.heads n b.puts st files (changes_of u n (serial_of serial) b s.up.changes at is) refl };
+      has = record { volume = s.up.has.volume; slots = s.up.has.slots; journal = s.up.has.journal; boot = s.up.has.boot; greatest = refl; last = refl; files = laws.files.commits c v.heads n b.notes st files (changes_of s.up.content v.heads u n (serial_of serial) b s.up.changes at is) refl };
       sound = sound_settled node (disk_up u).size v serial ending.Commit early s.is_up.sound;
       same = record { name = refl; blocks = refl; clock = refl; calls = refl };
       disk = record { name = refl; blocks = refl; volume = refl; slots = refl; journal = refl; boot = refl; greatest = refl; last = refl; directory = refl };
@@ -194,7 +226,7 @@ module _ (log : CallLog) (w : World) (name : List ℕ) (u : Up) (labels : List L
   new_none f g = case_none (find_label l w.labels) (λ label. Some line.BadLabel) (refused_if (nat_le 100000 (length w.labels)) line.BadLabel) (find_here ∙ f) ∙ ap (λ b. refused_if b line.BadLabel) (full_here ∙ g)
 
   -- a branch is there already
-  pub quota_says : (b : Putting) → u.branch ≡ Some b → refused_if (nat_le 1 (length h.node.branches)) (line.QuotaExceeded line.Branches 1) ≡ Some (line.QuotaExceeded line.Branches 1)
+  pub quota_says : (b : Unsettled) → u.branch ≡ Some b → refused_if (nat_le 1 (length h.node.branches)) (line.QuotaExceeded line.Branches 1) ≡ Some (line.QuotaExceeded line.Branches 1)
   quota_says b at = ap (λ bs. refused_if (nat_le 1 (length bs)) (line.QuotaExceeded line.Branches 1)) (h.place.branches ∙ ap branches_of at)
 
   quota_none : u.branch ≡ None → refused_if (nat_le 1 (length h.node.branches)) (line.QuotaExceeded line.Branches 1) ≡ None
@@ -209,7 +241,7 @@ module _ (log : CallLog) (w : World) (name : List ℕ) (u : Up) (labels : List L
   abbrev begins_here : List ℕ → Id → Row
   begins_here node id = record { act = Some (Begins (record { name = l; node = node; serial = id }) (record { tid = id; serial = id; changes = 0 })); lines = [] }
 
-  pub start_done : (new : Up) (a b : Shown) → TheLaws → u.branch ≡ None → find_label l labels ≡ None → nat_le 100000 (length labels) ≡ false → new.volume ≡ u.volume → new.drawn ≡ u.drawn + 1 → new.branch ≡ Some (record { serial = id_here; puts = [] }) →
+  pub start_done : (new : Up) (a b : Shown) → TheLaws → u.branch ≡ None → find_label l labels ≡ None → nat_le 100000 (length labels) ≡ false → new.volume ≡ u.volume → new.drawn ≡ u.drawn + 1 → new.branch ≡ Some (record { serial = id_here; notes = [] }) →
       Emits a (line.NormalId id_here ∷ []) b → Serves log w (At name (StartTrans l)) a b (kept name new (record { name = l; node = name; serial = id_here } ∷ labels))
   start_done new a b laws none f g same drawn branch m =
       let act = Begins (record { name = l; node = name; serial = id_here }) (record { tid = id_here; serial = id_here; changes = 0 }) in
@@ -226,12 +258,15 @@ module _ (log : CallLog) (w : World) (name : List ℕ) (u : Up) (labels : List L
         branches = ap (λ bs. bs ++ record { tid = id_here; serial = id_here; changes = 0 } ∷ []) (h.place.branches ∙ ap branches_of none) ∙ ap branches_of (sym branch);
         under_way = h.place.under_way;
         has = subst (λ (v : VolumeState). HasCatalog h.place.content v.catalog (acted act h.node)) (sym same) (record { volume = h.place.has.volume; slots = h.place.has.slots; journal = h.place.has.journal; boot = h.place.has.boot; greatest = h.place.has.greatest; last = h.place.has.last; files = h.place.has.files });
-        changes = subst (λ o. HasBranch o (acted act h.node)) (sym branch) (laws.changes.begins h.node (record { name = l; node = name; serial = id_here }) (record { tid = id_here; serial = id_here; changes = 0 }) id_here (subst (λ o. HasBranch o h.node) none h.place.changes));
+        changes = subst (λ (v : VolumeState). HasBranch h.place.content v.catalog.heads new.branch (acted act h.node)) (sym same) (subst (λ o. HasBranch h.place.content u.volume.catalog.heads o (acted act h.node)) (sym branch) (
+          laws.changes.begins h.node (record { name = l; node = name; serial = id_here }) (record { tid = id_here; serial = id_here; changes = 0 }) id_here (subst (λ o. HasBranch h.place.content u.volume.catalog.heads o h.node) none h.place.changes),
+          laws.undo.begins h.place.content u.volume.catalog.heads,
+        ));
       }) m
 
-  -- the same as the code has it: the ids that it drew, the puts and the node's name
-  pub start_as : (new : Up) (i j m : Id) (puts : List (ℕ × ℕ)) (node : List ℕ) (made : List Label) (a b : Shown) → TheLaws → u.branch ≡ None → find_label l labels ≡ None → nat_le 100000 (length labels) ≡ false → new.volume ≡ u.volume → new.drawn ≡ u.drawn + 1 →
-      i ≡ id_here → j ≡ id_here → m ≡ id_here → puts ≡ [] → node ≡ name → made ≡ record { name = l; node = node; serial = i } ∷ labels → new.branch ≡ Some (record { serial = j; puts = puts }) → Emits a (line.NormalId m ∷ []) b → Serves log w (At name (StartTrans l)) a b (kept name new made)
-  start_as new i j m puts node made a b laws none f g same drawn p q r e named is branch shown =
+  -- the same as the code has it: the ids that it drew, the notes and the node's name
+  pub start_as : (new : Up) (i j m : Id) (notes : List Note) (node : List ℕ) (made : List Label) (a b : Shown) → TheLaws → u.branch ≡ None → find_label l labels ≡ None → nat_le 100000 (length labels) ≡ false → new.volume ≡ u.volume → new.drawn ≡ u.drawn + 1 →
+      i ≡ id_here → j ≡ id_here → m ≡ id_here → notes ≡ [] → node ≡ name → made ≡ record { name = l; node = node; serial = i } ∷ labels → new.branch ≡ Some (record { serial = j; notes = notes }) → Emits a (line.NormalId m ∷ []) b → Serves log w (At name (StartTrans l)) a b (kept name new made)
+  start_as new i j m notes node made a b laws none f g same drawn p q r e named is branch shown =
       subst (λ ls. Serves log w (At name (StartTrans l)) a b (kept name new ls)) (sym (is ∙ (λ t. record { name = l; node = named t; serial = p t } ∷ labels)))
-      (start_done new a b laws none f g same drawn (branch ∙ (λ t. Some (record { serial = q t; puts = e t }))) (subst (λ x. Emits a (line.NormalId x ∷ []) b) r shown))
+      (start_done new a b laws none f g same drawn (branch ∙ (λ t. Some (record { serial = q t; notes = e t }))) (subst (λ x. Emits a (line.NormalId x ∷ []) b) r shown))

@@ -13,7 +13,8 @@ use Rattle.transcript_model.specs.Emitting.{Shown, Emits}
 use Rattle.transcript_model.proofs.EmittingLemmas.{emits_on}
 use Rattle.script_model.specs.Statements.{At, Request, Boot, Fuse, Crash}
 use Rattle.run_model.specs.World.{World, Node, Label, Act, Settlement, Call, Arm, Power, Volume, Sound, Faulty, Unknown, Boots, ComesUp, Arms, Falls, acted, with_node, fallen, powered, unpowered}
-use Rattle.run_model.specs.Answers.{early_at, first_of, refused_if, served_down, rows_at, bootable, last_line, last_lines}
+use Rattle.run_model.specs.Answers.{early_at, served_down, rows_at, bootable, last_line, last_lines}
+use Rattle.run_model.specs.Operations.{first_of, refused_if}
 use Rattle.run_model.specs.Steps.{count_of, lines_of_rows, after_rows, occupied, broken, dead, stops_at}
 use Rattle.run_model.proofs.ReadyLemmas.{powered_is, powered_name}
 use Rattle.run_model.proofs.StepLemmas.{step_unpowered}
@@ -26,11 +27,12 @@ use Rattle.script_lang.specs.declared.literals.Literals.{Literals}
 use Rattle.script_lang.specs.declared.statement.Request as code
 use Rattle.script_lang.specs.declared.statement.Request.TheVariants as request
 use Rattle.script_lang.specs.Statements.{request_of}
+use Rattle.file_base.specs.declared.head.FileHead.{FileHead}
 use Rattle.dtm_node.specs.declared.running.Running.{Running}
 use Rattle.dtm_node.specs.Uses.{cause_of}
 use Rattle.dtm_node.specs.Keeping.{Breaks, IsToUp, Serves, kept_fallen, kept_up, up_of}
 use Rattle.dtm_node.specs.Nodes.{IsNode, IsPlaceOf, Passes, kept_down, kept_of, last_lines_of, place_armed, place_of}
-use Rattle.dtm_node.specs.Standing.{Kept, Place, Up, IsUp, Putting, HasBranch, IsDown, IsRunning, StandsIn, StandsUp, StandsDown, StandsFor, HasDisk, IsEitherOf, IsVolumeOf, counts_of, disk_in, is_unknown_flag, noted_all}
+use Rattle.dtm_node.specs.Standing.{Kept, Place, Up, IsUp, Unsettled, HasBranch, IsDown, IsRunning, StandsIn, StandsUp, StandsDown, StandsFor, HasDisk, IsEitherOf, IsVolumeOf, counts_of, disk_in, is_unknown_flag, noted_all}
 use Rattle.dtm_node.proofs.Fronts.{same_disk_has}
 use Rattle.dtm_node.proofs.Booting.{ContentBy, disk_sound, idle_leaves}
 use Rattle.dtm_node.proofs.NodeSteps.{Wakes, begun_step, boot_down, boot_up, changed_here, disk_kept, done_here, down_refuses, early_here, falls_here, first_step, late_step, no_memory, nothing_behind, one_changed, powered_blocks, powered_clock, refused_here, rose_here, serves_both, stops_here, wakes, whole_step}
@@ -40,9 +42,9 @@ same_passes w c d = record { size = refl; faults = λ _. omega arith; stops = λ
 
 -- FUSE
 
-branch_kept : (o : Option Putting) (n : Node) (cs : List Call) → HasBranch o n → HasBranch o (record n { calls = cs })
-branch_kept None n cs h = h
-branch_kept (Some b) n cs h = h
+branch_kept : (c : List (List ℕ)) (heads : List (Option FileHead)) (o : Option Unsettled) (n : Node) (cs : List Call) → HasBranch c heads o n → HasBranch c heads o (record n { calls = cs })
+branch_kept c heads None n cs h = h
+branch_kept c heads (Some b) n cs h = h
 
 armed_stands : (writes choice : ℕ) (p : Place) (n : Node) → StandsIn p n → StandsIn (place_armed writes choice p) (acted (Arms writes choice) n)
 armed_stands writes choice (IsDown has_parts d) n s = record {
@@ -60,7 +62,7 @@ armed_stands writes choice (IsRunning r) n s = record {
   branches = s.branches;
   under_way = s.under_way;
   has = same_disk_has (acted (Arms writes choice) n) n s.content r.volume.catalog (record { name = refl; blocks = refl; volume = refl; slots = refl; journal = refl; boot = refl; greatest = refl; last = refl; directory = refl }) s.has;
-  changes = branch_kept r.branch n (Arm writes choice ∷ n.calls) s.changes;
+  changes = branch_kept s.content r.volume.catalog.heads r.branch n (Arm writes choice ∷ n.calls) s.changes;
 }
 
 armed_disk : (writes choice : ℕ) (p : Place) → disk_in (place_armed writes choice p) ≡ armed writes choice (disk_in p)
@@ -83,7 +85,7 @@ armed_kept name r writes choice h = record {
   holds = h.holds;
   least = h.least;
   most = h.most;
-  numbers = h.numbers;
+  own = h.own;
 }
 
 -- and after one statement more
@@ -341,7 +343,7 @@ not_down lit request.Crash h = absurd h
 not_down lit (request.Create file bucket size form) h = refl
 not_down lit (request.SetFile file setting) h = refl
 not_down lit (request.StartTrans label) h = refl
-not_down lit (request.Put label file number) h = refl
+not_down lit (request.Records label file operation) h = refl
 not_down lit (request.EndTrans label) h = refl
 not_down lit (request.AbortTrans label) h = refl
 not_down lit (request.Dump file) h = refl

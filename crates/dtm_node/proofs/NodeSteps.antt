@@ -13,7 +13,8 @@ use Rattle.transcript_model.specs.Lines.{Line, Cause, Failed}
 use Rattle.transcript_model.specs.Emitting.{Shown, Emits}
 use Rattle.script_model.specs.Statements.{Statement, At, Request, Boot}
 use Rattle.run_model.specs.World.{World, Node, Act, Call, Power, DiskCounts, Volume, Sound, Faulty, Unknown, Boots, ComesUp, Falls, acted, labels_after, with_node, fallen, powered, disk_of, find_node}
-use Rattle.run_model.specs.Answers.{Row, early, early_at, early_up, first_of, refused_if, served_down, late, late_at, rows, rows_at, answer, answer_at, powers, spoils, touches, occupies, takes_memory, is_unknown}
+use Rattle.run_model.specs.Answers.{Row, early, early_at, early_up, served_down, late, late_at, rows, rows_at, answer, answer_at, powers, spoils, touches, occupies, takes_memory, is_unknown}
+use Rattle.run_model.specs.Operations.{first_of, refused_if}
 use Rattle.run_model.specs.Steps.{Step, NoneFalls, RoseAt, count_of, lines_of_rows, after_rows, act_begun, readied, occupied, broken, spoilt, stops_at}
 use Rattle.run_model.proofs.ReadyLemmas.{acted_name, powered_is, powered_name, resolved}
 use Rattle.run_model.proofs.StepLemmas.{none_falls_same, step_early, step_late, step_whole, step_without_memory, step_cut, step_cut_at_first}

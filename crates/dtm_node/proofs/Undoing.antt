@@ -1,163 +1,159 @@
--- What a branch put is taken back.
-use Rattle.std.proofs.Common.{◌≡◌, ℕ, zero, suc, ◌+◌, ◌*◌, ◌<◌, ◌≤◌, ◌++◌, List, [], ◌∷◌, Bool, true, false, Option, Some, None, Result, IfSome, IfNone, length, map, take, slice_index_or, option_map, nat_le, refl, sym, ap, subst, ◌∙◌, arith, length-append}
+-- What a branch changed is set back.
+use Rattle.std.proofs.Common.{◌≡◌, ℕ, zero, suc, ◌+◌, ◌*◌, ◌<◌, ◌≤◌, ◌++◌, List, [], ◌∷◌, Bool, true, Option, Some, None, Result, IfSome, IsSome, length, take, drop, get_or, refl, sym, ap, subst, ◌∙◌, arith, length-append, length-set, drop-cons}
+use Rattle.std.specs.Prelude.{◌==◌, IsSomeAnd, MatchOption, if◌then◌else◌}
 use Rattle.std.proofs.lemmas.List.Elements.{All-get_or}
 use Rattle.std.proofs.lemmas.Bool.Decides.{nat_tests}
 use Rattle.block_disk.specs.Disk.{DiskState}
 use Rattle.careful_write.specs.declared.down.Down.{Down}
 use Rattle.careful_write.specs.State.{StoreState, IsReady, content}
-use Rattle.change_set.specs.Files.{AgreesOut, fell, free_frames, in_extent}
-use Rattle.change_set.specs.Maps.{set_key}
-use Rattle.change_set.proofs.Extents.{agrees_trans}
+use Rattle.careful_write.specs.Steps.{AgreesOff}
+use Rattle.change_set.specs.Files.{fell, free_frames}
 use Rattle.file_base.specs.declared.head.FileHead.{FileHead}
-use Rattle.relative_file.specs.Cells.{map_of}
 use Rattle.volume.specs.declared.catalog.Catalog.{Catalog}
-use Rattle.volume.specs.Catalogs.{IsSound, TellsCatalog}
-use Rattle.volume.specs.Limits.{data_area}
+use Rattle.volume.specs.Catalogs.{IsSound}
 use Rattle.volume.specs.State.{VolumeState, Holds}
-use Rattle.volume_format.specs.Home.{sizes_of}
-use Rattle.vms_model.specs.Keys.{Key, Number}
-use Rattle.directory_model.specs.Files.{IsOwnNumber, AreNumbers, head_at}
-use Rattle.directory_model.specs.Laws.{TakesBack}
-use Rattle.dtm_node.specs.declared.put.Put.{Put}
-use Rattle.dtm_node.specs.Puts.{pair_of}
-use Rattle.dtm_node.specs.Standing.{Up, IsUp, Putting}
+use Rattle.directory_model.specs.Files.{AreOwn, AreUndone, CanUndo, IsPlaceUndone, IsUndone, Note, head_at, notes_of}
+use Rattle.node_files.specs.Staging.{SetsNoteBack, UndoneTo, is_of_file}
+use Rattle.dtm_node.specs.Standing.{Up, IsUp, Unsettled}
 use Rattle.dtm_node.specs.TheLaws.{TheLaws}
-use Rattle.dtm_node.specs.Undoing.{TakesOut, TakenOut}
-use Rattle.dtm_node.proofs.CatalogLemmas.{fit_of, rest_all}
-use Rattle.dtm_node.proofs.Putting.{holds_out}
+use Rattle.node_files.proofs.CatalogLemmas.{head_below, same_but, sound_changed}
 
--- The places of what was put.
+-- The notes, one after another.
 
-pub pair_at : (ps : List Put) (i : ℕ) (d : Put) → i < length ps → pair_of (slice_index_or ps i d) ≡ slice_index_or (map pair_of ps) i (0, 0)
-pair_at [] i d below = absurd (omega arith)
-pair_at (p ∷ ps) zero d below = refl
-pair_at (p ∷ ps) (suc i) d below = pair_at ps i d (omega arith)
+take_suc : (ns : List Note) (i : ℕ) (n : Note) (rest : List Note) → drop i ns ≡ n ∷ rest → take (suc i) ns ≡ take i ns ++ n ∷ []
+take_suc [] zero n rest at = let none : ⊥ = cc in absurd none
+take_suc [] (suc i) n rest at = let none : ⊥ = cc in absurd none
+take_suc (m ∷ ns) zero n rest at = let same : m ≡ n = cc in ap (λ k. k ∷ []) same
+take_suc (m ∷ ns) (suc i) n rest at = ap (λ t. m ∷ t) (take_suc ns i n rest at)
 
-pub own_at : (heads : List (Option FileHead)) (ps : List (ℕ × ℕ)) (i : ℕ) → AreNumbers ps heads → i < length ps → IsOwnNumber heads (slice_index_or ps i (0, 0))
-own_at heads ps i own below = All-get_or (IsOwnNumber heads) ps i (0, 0) below own
+pub take_step : (ns : List Note) (i : ℕ) (n : Note) (rest : List Note) → drop i ns ≡ n ∷ rest → take (i + 1) ns ≡ take i ns ++ n ∷ []
+take_step ns i n rest at = (let one : i + 1 ≡ suc i = omega arith in ap (λ k. take k ns) one) ∙ take_suc ns i n rest at
 
-take_suc : (ps : List (ℕ × ℕ)) (i : ℕ) → i < length ps → take (suc i) ps ≡ take i ps ++ slice_index_or ps i (0, 0) ∷ []
-take_suc [] i below = absurd (omega arith)
-take_suc (p ∷ ps) zero below = refl
-take_suc (p ∷ ps) (suc i) below = ap (λ t. p ∷ t) (take_suc ps i (omega arith))
+pub take_all : (ns : List Note) → take (length ns) ns ≡ ns
+take_all [] = refl
+take_all (n ∷ ns) = ap (λ t. n ∷ t) (take_all ns)
 
-pub take_more : (ps : List (ℕ × ℕ)) (i : ℕ) → i < length ps → take (i + 1) ps ≡ take i ps ++ slice_index_or ps i (0, 0) ∷ []
-take_more ps i below = (let one : i + 1 ≡ suc i = omega arith in ap (λ k. take k ps) one) ∙ take_suc ps i below
+pub drop_all' : (ns : List Note) → drop (length ns) ns ≡ []
+drop_all' [] = refl
+drop_all' (n ∷ ns) = drop_all' ns
 
-pub take_all' : (ps : List (ℕ × ℕ)) → take (length ps) ps ≡ ps
-take_all' [] = refl
-take_all' (p ∷ ps) = ap (λ t. p ∷ t) (take_all' ps)
+pub length_take : (ns : List Note) (i : ℕ) → length (take i ns) ≤ i
+length_take ns zero = omega arith
+length_take [] (suc i) = omega arith
+length_take (n ∷ ns) (suc i) = let rest = length_take ns i in omega (arith, rest)
 
-pub length-take' : (ps : List (ℕ × ℕ)) (i : ℕ) → length (take i ps) ≤ i
-length-take' ps zero = omega arith
-length-take' [] (suc i) = omega arith
-length-take' (p ∷ ps) (suc i) = let rest = length-take' ps i in omega (arith, rest)
+-- a note's file is there
+pub own_at : (heads : List (Option FileHead)) (ns : List Note) (i : ℕ) (n : Note) (rest : List Note) → i < length ns → AreOwn ns heads → drop i ns ≡ n ∷ rest → IsSome (head_at heads n.file)
+own_at heads ns i n rest below own at =
+    let e = drop-cons ns i n below in
+    let same : get_or ns i n ≡ n = cc in
+    subst (λ (m : Note). IsSome (head_at heads m.file)) same (All-get_or (λ (m : Note). IsSome (head_at heads m.file)) ns i n below own)
 
--- One after another.
+pub none_own : (o : Option FileHead) → o ≡ None → IsSome o → ⊥
+none_own None is some = let none : ⊥ = cc in none
+none_own (Some h) is some = let none : ⊥ = cc in none
 
-agrees_same : (p : ℕ → Bool) (o : Option (List (List ℕ))) → AgreesOut p o o
-agrees_same p None = refl
-agrees_same p (Some a) = record { size = refl; others = λ n off. refl }
+-- the files stay there
+pub own_set_back : (laws : TheLaws) (ns : List Note) (n : Note) (old mid : VolumeState) → length old.catalog.heads ≡ 64 → SetsNoteBack n old mid → AreOwn ns old.catalog.heads → AreOwn ns mid.catalog.heads
+own_set_back laws ns n old mid long s own =
+    subst (λ (k : Catalog). AreOwn ns k.heads) (sym s.stages.catalog) (laws.own.sets old.catalog.heads ns n.file s.new (let below = head_below old.catalog.heads n.file s.head long s.there in omega (arith, below, long)) own)
 
-out_trans : (p : ℕ → Bool) (a b c : Option (List (List ℕ))) → AgreesOut p a b → AgreesOut p b c → AgreesOut p a c
-out_trans p None b c f g = let h = rw f at g in h
-out_trans p (Some a) None c f g = absurd f
-out_trans p (Some a) (Some b) None f g = absurd g
-out_trans p (Some a) (Some b) (Some c) f g = agrees_trans p a b c f g
+-- One after another is undone.
 
-out_more : (p q : ℕ → Bool) (a b : Option (List (List ℕ))) → ((n : ℕ) → q n ≡ false → p n ≡ false) → AgreesOut p a b → AgreesOut q a b
-out_more p q None b more f = f
-out_more p q (Some a) None more f = absurd f
-out_more p q (Some a) (Some b) more f = record { size = f.size; others = λ n off. f.others n (more n off) }
+pub undone_none : (laws : TheLaws) (ns : List Note) (v : VolumeState) → UndoneTo ns [] ns v v
+undone_none laws ns v = record {
+  rest = refl;
+  catalog = refl;
+  long = refl;
+  few = omega arith;
+  holds = λ h. h;
+  sound = λ node s. s;
+  back = λ a directory told files can. (a, told, laws.back.none a v.catalog.heads directory ns files can);
+}
 
-none_back : (heads : List (Option FileHead)) (laws : TheLaws) (o : Option (List (List ℕ))) → IfSome o (λ a. IfSome o (TakesBack [] heads a))
-none_back heads laws None = tt
-none_back heads laws (Some a) = laws.back.none heads a
+eq_same : (n : ℕ) → (n == n) ≡ true
+eq_same n = grind (arith, nat_tests)
 
-pub taken_none : (laws : TheLaws) (v : VolumeState) → TakenOut [] v v
-taken_none laws v = record { rest = refl; catalog = refl; few = omega arith; front = agrees_same (nat_le 66) v.store.current; back = none_back v.catalog.heads laws v.store.current }
+-- a file of which changes were undone
+undone_there : (c : List (List ℕ)) (o : Option FileHead) (undone left : List Note) (b : List (List ℕ)) (h : FileHead) → IsPlaceUndone c o undone left b (Some h) → (old : FileHead) × IsUndone c old undone left b h
+undone_there c None undone left b h is = absurd is
+undone_there c (Some old) undone left b h is = (old, is)
 
-same_maps : (x y : Key → Option (List ℕ)) → ◌≡◌ {A = Option (Key → Option (List ℕ))} (Some x) (Some y) → x ≡ y
-same_maps x y e = cc
+blocks_at : (p : ℕ → Bool) (old new : Option (List (List ℕ))) (a b : List (List ℕ)) → old ≡ Some a → new ≡ Some b → MatchOption old (new ≡ None) (λ a. IsSomeAnd new (AgreesOff p a)) → AgreesOff p a b
+blocks_at p old new a b was now blocks = let h = rw (was, now) at blocks in h
 
-is_false : (b : Bool) → (b ≡ true → ⊥) → b ≡ false
-is_false true so = absurd (so refl)
-is_false false so = refl
+more_back : (laws : TheLaws) (name : List ℕ) (size : ℕ) (heads : List (Option FileHead)) (undone left : List Note) (n : Note) (mid new : VolumeState) (a b : List (List ℕ)) → length mid.catalog.heads ≡ 64 → IsSound name size mid.catalog → SetsNoteBack n mid new → mid.store.current ≡ Some b →
+    AreUndone a heads undone (n ∷ left) b mid.catalog.heads → (c : List (List ℕ)) × (new.store.current ≡ Some c) × AreUndone a heads (undone ++ n ∷ []) left c new.catalog.heads
+more_back laws name size heads undone left n mid new a b long sound s told back =
+    let there = s.there in
+    let at = subst (λ o. IsPlaceUndone a (head_at heads n.file) (notes_of n.file undone) (notes_of n.file (n ∷ left)) b o) there (back.each n.file) in
+    let is = (undone_there a (head_at heads n.file) (notes_of n.file undone) (notes_of n.file (n ∷ left)) b s.head at).1 in
+    let can : CanUndo s.head b (n ∷ notes_of n.file left) = subst (λ (t : Bool). CanUndo s.head b (if t then n ∷ notes_of n.file left else notes_of n.file left)) (eq_same n.file) is.can in
+    let may = laws.back.can b s.head n (notes_of n.file left) is.form is.laid can in
+    let c = s.back b told is.form is.laid may.0 may.1 in
+    let set = c.2 in
+    let off = blocks_at (is_of_file n.file s.head) mid.store.current new.store.current b c.0 told c.1 s.stages.blocks in
+    let apart = same_but name size mid.catalog n.file s.head b c.0 laws.apart long sound there off in (
+      c.0,
+      c.1,
+      subst (λ (k : Catalog). AreUndone a heads (undone ++ n ∷ []) left c.0 k.heads) (sym s.stages.catalog)
+          (laws.back.one a b c.0 heads mid.catalog.heads undone left n s.head s.new back there s.stages.same set.form set.laid set.map set.chain set.rooms apart),
+    )
 
-below_front : (n : ℕ) → nat_le 66 n ≡ false → n < 66
-below_front n e = grind (arith, nat_tests)
-
-more_back : (laws : TheLaws) (name : List ℕ) (size : ℕ) (v : Catalog) (puts : List (ℕ × ℕ)) (put : ℕ × ℕ) (h : FileHead) (a b c : Option (List (List ℕ))) → length v.heads ≡ 64 → IsSound name size v → head_at v.heads put.0 ≡ Some h →
-    option_map (map_of h) c ≡ option_map (λ blocks. set_key (Number put.1) None (map_of h blocks)) b → AgreesOut (in_extent h) b c → IfSome a (λ x. IfSome b (TakesBack puts v.heads x)) → IfSome a (λ x. IfSome c (TakesBack (puts ++ put ∷ []) v.heads x))
-more_back laws name size v puts put h None b c long sound there map out back = tt
-more_back laws name size v puts put h (Some a) b None long sound there map out back = tt
-more_back laws name size v puts put h (Some a) None (Some c) long sound there map out back = let none : ⊥ = cc in absurd none
-more_back laws name size v puts put h (Some a) (Some b) (Some c) long sound there map out back =
-    laws.back.one v.heads a b c puts put.0 put.1 h back there (same_maps _ _ map) (laws.writes.in_file (data_area (sizes_of v.home)) v.heads put.0 h b c (fit_of name size v long sound) (rest_all name size v long sound) there out)
-
-pub taken_more : (laws : TheLaws) (name : List ℕ) (puts : List (ℕ × ℕ)) (put : ℕ × ℕ) (old mid new : VolumeState) → length old.catalog.heads ≡ 64 → IsSound name old.store.disk.size old.catalog → TakenOut puts old mid → TakesOut put mid new → TakenOut (puts ++ put ∷ []) old new
-taken_more laws name puts put old mid new long sound t o =
-    let there : head_at old.catalog.heads put.0 ≡ Some o.head = ap (λ (k : Catalog). head_at k.heads put.0) (sym t.catalog) ∙ o.there in
-    let fit = fit_of name old.store.disk.size old.catalog long sound in
+pub undone_more : (laws : TheLaws) (name : List ℕ) (all undone left : List Note) (n : Note) (old mid new : VolumeState) → length old.catalog.heads ≡ 64 → IsSound name old.store.disk.size old.catalog → UndoneTo all undone (n ∷ left) old mid → SetsNoteBack n mid new → UndoneTo all (undone ++ n ∷ []) left old new
+undone_more laws name all undone left n old mid new long sound t s =
+    let whole : length mid.catalog.heads ≡ 64 = t.long ∙ long in
     record {
-      rest = o.stages.rest ∙ (λ i. record (t.rest i) { current = new.store.current; touched = new.store.touched });
-      catalog = o.catalog ∙ t.catalog;
-      few = (let few = o.stages.few in let before = t.few in let small = o.small in let more = length-append puts (put ∷ []) in omega (arith, few, before, small, more));
-      front = out_trans (nat_le 66) old.store.current mid.store.current new.store.current t.front
-          (out_more (in_extent o.head) (nat_le 66) mid.store.current new.store.current (λ n off. is_false _ (λ within. let in_area = laws.apart.within (data_area (sizes_of old.catalog.home)) old.catalog.heads put.0 n o.head fit there within in let low = below_front n off in omega (arith, in_area.0, low))) o.stages.blocks);
-      back = more_back laws name old.store.disk.size old.catalog puts put o.head old.store.current mid.store.current new.store.current long sound there o.map o.stages.blocks t.back;
+      rest = s.stages.rest ∙ (λ i. record (t.rest i) { current = new.store.current; touched = new.store.touched });
+      catalog = s.stages.catalog ∙ (λ i. record (t.catalog i) { heads = sym (ap (λ (k : Catalog). k.heads) s.stages.catalog) i });
+      long = ap (λ (k : Catalog). length k.heads) s.stages.catalog ∙ length-set mid.catalog.heads n.file (Some s.new) ∙ t.long;
+      few = (let few = s.stages.few in let before = t.few in let more = length-append undone (n ∷ []) in omega (arith, few, before, more));
+      holds = λ h. s.stages.holds (t.holds h);
+      sound = λ node h. subst (λ k. IsSound node old.store.disk.size k) (sym s.stages.catalog) (sound_changed node old.store.disk.size mid.catalog n.file s.head s.new laws.heads whole s.there s.stages.same s.stages.fits (t.sound node h));
+      back = λ a directory told files can.
+          let b = t.back a directory told files can in
+          more_back laws name old.store.disk.size old.catalog.heads undone left n mid new a b.0 whole (t.sound name sound) s b.1 b.2;
     }
 
-pub taken_down : {T : Type 0} (r : Result T Down) (puts : List (ℕ × ℕ)) (old mid new : VolumeState) → TakenOut puts old mid → new ≡ record mid { store = fell r mid.store } → new ≡ record old { store = fell r old.store }
-taken_down r puts old mid new t is = is ∙ (λ i. record { catalog = t.catalog i; store = fell r (t.rest i) })
+pub undone_down : {T : Type 0} (r : Result T Down) (all undone left : List Note) (old mid new : VolumeState) → UndoneTo all undone left old mid → new ≡ record mid { store = fell r mid.store } → new.store ≡ fell r old.store
+undone_down r all undone left old mid new t is = ap (λ (v : VolumeState). v.store) is ∙ (λ i. fell r (t.rest i))
 
--- the branch whose puts are gone through
-pub which : (o : Option Putting) (i n : ℕ) → IfSome o (λ b. n ≡ length b.puts) → IfNone o (n ≡ 0) → i < n → (b : Putting) × (o ≡ Some b) × (i < length b.puts)
-which None i n some none lt = let no_way : ⊥ = omega (arith, none, lt) in absurd no_way
-which (Some b) i n some none lt = (b, refl, omega (arith, some, lt))
-
-pub at_some : (P : Putting → Type 0) (o : Option Putting) (b : Putting) → o ≡ Some b → IfSome o P → P b
+-- the unsettled branch
+pub at_some : (P : Unsettled → Type 0) (o : Option Unsettled) (b : Unsettled) → o ≡ Some b → IfSome o P → P b
 at_some P o b is h = subst (λ x. IfSome x P) is h
 
-pub if_branch : (P : Putting → Type 0) (o : Option Putting) → ((b : Putting) → o ≡ Some b → P b) → IfSome o P
-if_branch P None f = tt
-if_branch P (Some b) f = f b refl
+-- What holds of a volume with changes undone.
 
--- What holds of a volume with the removals staged.
+module _ (name : List ℕ) (u : Up) (all undone left : List Note) (mid : VolumeState) (up : IsUp name u) (t : UndoneTo all undone left u.volume mid) where
+  pub undone_disk : mid.store.disk ≡ u.volume.store.disk
+  undone_disk = ap (λ (s : StoreState). s.disk) t.rest
 
-module _ (name : List ℕ) (u : Up) (b : Putting) (puts : List (ℕ × ℕ)) (mid : VolumeState) (laws : TheLaws) (up : IsUp name u) (at : u.branch ≡ Some b) (t : TakenOut puts u.volume mid) where
-  pub taken_disk : mid.store.disk ≡ u.volume.store.disk
-  taken_disk = ap (λ (s : StoreState). s.disk) t.rest
+  pub undone_content : content mid.store ≡ content u.volume.store
+  undone_content = ap content t.rest
 
-  pub taken_content : content mid.store ≡ content u.volume.store
-  taken_content = ap content t.rest
+  pub undone_pool : mid.store.pool ≡ u.volume.store.pool
+  undone_pool = ap (λ (s : StoreState). s.pool) t.rest
 
-  pub taken_pool : mid.store.pool ≡ u.volume.store.pool
-  taken_pool = ap (λ (s : StoreState). s.pool) t.rest
+  pub undone_ready : IsReady mid.store
+  undone_ready = subst (λ (s : StoreState). IsReady s) (sym t.rest) (record { fitting = up.idle.ready.fitting; settled = up.idle.ready.settled; closed = up.idle.ready.closed })
 
-  pub taken_ready : IsReady mid.store
-  taken_ready = subst (λ (s : StoreState). IsReady s) (sym t.rest) (record { fitting = up.idle.ready.fitting; settled = up.idle.ready.settled; closed = up.idle.ready.closed })
+  pub undone_sound : IsSound name mid.store.disk.size mid.catalog
+  undone_sound = subst (λ (d : DiskState). IsSound name d.size mid.catalog) (sym undone_disk) (t.sound name up.sound)
 
-  pub taken_sound : IsSound name mid.store.disk.size mid.catalog
-  taken_sound = subst (λ k. IsSound name mid.store.disk.size k) (sym t.catalog) (subst (λ (d : DiskState). IsSound name d.size u.volume.catalog) (sym taken_disk) up.sound)
+  pub undone_most : mid.store.disk.size ≤ 65536
+  undone_most = subst (λ (d : DiskState). d.size ≤ 65536) (sym undone_disk) up.most
 
-  pub taken_most : mid.store.disk.size ≤ 65536
-  taken_most = subst (λ (d : DiskState). d.size ≤ 65536) (sym taken_disk) up.most
+  pub undone_least : 4096 ≤ mid.store.disk.size
+  undone_least = subst (λ (d : DiskState). 4096 ≤ d.size) (sym undone_disk) up.least
 
-  pub taken_least : 4096 ≤ mid.store.disk.size
-  taken_least = subst (λ (d : DiskState). 4096 ≤ d.size) (sym taken_disk) up.least
+  pub undone_frames : 32 ≤ free_frames mid.store.pool
+  undone_frames = subst (λ p. 32 ≤ free_frames p) (sym undone_pool) up.frames
 
-  pub taken_frames : 32 ≤ free_frames mid.store.pool
-  taken_frames = subst (λ p. 32 ≤ free_frames p) (sym taken_pool) up.frames
+  pub undone_few : length mid.store.touched ≤ 17 * length undone
+  undone_few = let none = ap length up.idle.unstaged in let few = t.few in omega (arith, none, few)
 
-  pub taken_few : length mid.store.touched ≤ 16 * length puts
-  taken_few = let none = ap length up.idle.unstaged in let few = t.few in omega (arith, none, few)
+  pub undone_holds : Holds mid
+  undone_holds = t.holds up.holds
 
-  pub taken_holds : Holds mid
-  taken_holds = subst (λ k. IfSome mid.store.current (TellsCatalog k)) (sym t.catalog) (holds_out (nat_le 66) u.volume.catalog u.volume.store.current mid.store.current laws.front (λ n below. under n below) t.front up.holds)
-    where
-      under : (n : ℕ) → n < 66 → nat_le 66 n ≡ false
-      under n below = grind (arith, nat_tests)
-
-  pub taken_numbers : AreNumbers b.puts u.volume.catalog.heads × (length b.puts ≤ 16)
-  taken_numbers = at_some (λ b. AreNumbers b.puts u.volume.catalog.heads × (length b.puts ≤ 16)) u.branch b at up.numbers
+  pub undone_home : mid.catalog.home ≡ u.volume.catalog.home
+  undone_home = ap (λ (k : Catalog). k.home) t.catalog

@@ -18,15 +18,16 @@ use Rattle.transcript_model.specs.Lines.{Line, Cause}
 use Rattle.transcript_model.specs.Emitting.{Shown, Emits}
 use Rattle.transcript_model.proofs.EmittingLemmas.{emits_nothing}
 use Rattle.script_model.specs.Statements.{Statement, At, Request}
-use Rattle.directory_model.specs.Files.{AreNumbers}
+use Rattle.directory_model.specs.Files.{AreOwn}
 use Rattle.run_model.specs.World.{World, Node, Label, Act, DiskCounts, Sound, is_durable, acted, labels_after, with_node, fallen, disk_of, find_node}
-use Rattle.run_model.specs.Answers.{Row, early, early_at, early_up, first_of, refused_if, served_down, late, late_at, rows, rows_at, answer, answer_at, powers, touches, occupies, request_of, node_of}
+use Rattle.run_model.specs.Answers.{Row, early, early_at, early_up, served_down, late, late_at, rows, rows_at, answer, answer_at, powers, touches, occupies, request_of, node_of}
+use Rattle.run_model.specs.Operations.{first_of, refused_if}
 use Rattle.run_model.specs.Steps.{Step, NoneFalls, RoseAt, count_of, lines_of_rows, after_rows, act_begun, durable, readied, occupied, broken}
 use Rattle.run_model.proofs.StepLemmas.{none_falls_same, step_early, step_late, step_whole, step_cut, step_cut_at_first}
 use Rattle.dtm_node.specs.Standing.{Kept, IsDown, IsRunning, Up, IsUp, HasCatalog, IsVolumeOf, IsEitherOf, StandsUp, StandsDown, StandsFor, HasDisk, counts_of, is_unknown_flag, noted_all}
 use Rattle.dtm_node.specs.Uses.{Goes, cause_of}
 use Rattle.dtm_node.specs.Keeping.{Serves, Breaks}
-use Rattle.dtm_node.specs.Writing.{Writes}
+use Rattle.node_files.specs.Writing.{Writes}
 
 -- what is kept of a rack with this one node that is up, or that fell
 abbrev pub kept : List ℕ → Up → List Label → Kept
@@ -319,8 +320,8 @@ group_down r e name u n act d c after v old new is s was before seen holds at w 
 
 -- A group was written: what holds of a node that is up on any disk still does.
 pub group_up : {T : Type 0} (r : Result T Down) (x : T) (name : List ℕ) (old : VolumeState) (u : Up) (after : Option (List (List ℕ))) (v : Catalog) → r ≡ Ok x → Writes r after v old u.volume → 32 ≤ free_frames old.store.pool → Holds old →
-    IsSound name old.store.disk.size v → 4096 ≤ old.store.disk.size → old.store.disk.size ≤ 65536 → IfSome u.branch (λ b. AreNumbers b.puts v.heads × (length b.puts ≤ 16)) → IsUp name u
-group_up r x name old u after v is w frames holds sound least most numbers =
+    IsSound name old.store.disk.size v → 4096 ≤ old.store.disk.size → old.store.disk.size ≤ 65536 → IfSome u.branch (λ b. AreOwn b.notes v.heads × (length b.notes ≤ 16)) → IsUp name u
+group_up r x name old u after v is w frames holds sound least most own =
     let content = rw is at w.current in
     let same = w.catalog in
     let sized = w.counts.size in
@@ -331,5 +332,5 @@ group_up r x name old u after v is w frames holds sound least most numbers =
       holds = subst (λ o. IfSome o (TellsCatalog u.volume.catalog)) (sym content) (subst (λ k. IfSome after (TellsCatalog k)) (sym same) (w.tells holds));
       least = subst (λ m. 4096 ≤ m) (sym sized) least;
       most = subst (λ m. m ≤ 65536) (sym sized) most;
-      numbers = subst (λ k. IfSome u.branch (λ b. AreNumbers b.puts k.heads × (length b.puts ≤ 16))) (sym same) numbers;
+      own = subst (λ k. IfSome u.branch (λ b. AreOwn b.notes k.heads × (length b.notes ≤ 16))) (sym same) own;
     }

@@ -48,6 +48,10 @@ ok_so : {T : Type 0} {P : Type 0} (q : Result T Down) → P → OnOk q P
 ok_so (Ok x) p = p
 ok_so (Err e) p = tt
 
+pub on_ok_then : {T E A B : Type 0} (r : Result T E) → (A → B) → OnOk r A → OnOk r B
+on_ok_then (Ok x) f a = f a
+on_ok_then (Err e) f a = tt
+
 -- one read
 pub uses_read : {T : Type 0} (r : Result T Down) (old new : DiskState) → new ≡ answered r old → old.pending ≡ [] → Uses r old new
 uses_read r old new is ready = rw is (record {

@@ -5,10 +5,11 @@ use Rattle.block_disk.specs.Disk.{DiskState, CallLog, noted}
 use Rattle.block_disk.specs.declared.disk.DiskCall.TheVariants as disk_call
 use Rattle.transcript_model.specs.Outside.{Rose}
 use Rattle.transcript_model.specs.Emitting.{Shown, Emits}
-use Rattle.transcript_model.specs.Lines.{Line, Cause, Down, Broken, Normal, NormalCount, NoVolume, QuotaExceeded}
+use Rattle.transcript_model.specs.Lines.{Line, Broken, Normal, NormalCount, NoVolume, QuotaExceeded}
 use Rattle.script_model.specs.Statements.{Statement, Request, Init, Boot, Fuse}
 use Rattle.run_model.specs.Answers.{node_of, request_of}
 use Rattle.run_model.specs.Steps.{count_of}
+use Rattle.node_files.specs.Forms.{IsFine, failure_in}
 use Rattle.dtm_node.specs.Nodes.{Passes}
 use Rattle.dtm_node.specs.Standing.{IsCounted, counts_of}
 
@@ -33,12 +34,6 @@ has_powered request answer = false
 abbrev pub calls_after : Request → Line → ℕ → CallLog → CallLog
 calls_after (Fuse writes choice) Normal stops calls = noted (disk_call.Arm writes choice) calls
 calls_after request answer stops calls = if has_powered request answer then noted (disk_call.Power stops) calls else calls
-
--- the cause of the failure of a disk that a line shows, where it shows one
-abbrev pub failure_in : Line → Option Cause
-failure_in (Down node cause) = Some cause
-failure_in (Broken cause) = Some cause
-failure_in line = None
 
 -- a failure that a line shows raised the count of its cause
 abbrev pub HasRisen : DiskState → DiskState → Line → Type 0
@@ -69,10 +64,6 @@ pub record AnswersAt (name : List ℕ) (s : Statement) (a b : Shown) (old new : 
   pub lines : List Line
   pub emits : Emits a lines b
   pub tells : TellsAt name s lines old new
-
--- a line that shows no failure of a disk
-abbrev pub IsFine : Line → Type 0
-IsFine line = failure_in line ≡ None
 
 -- lines were shown, none of which shows a failure of a disk
 pub record ShowsFine (a b : Shown) : Type 0 where

@@ -13,21 +13,16 @@ use Rattle.script_lang.specs.declared.statement.Request.TheVariants as request
 use Rattle.directory_model.specs.Files.{has_changed}
 use Rattle.run_model.specs.World.{World, Label, find_branch}
 use Rattle.run_model.specs.Steps.{Step}
-use Rattle.dtm_node.specs.Puts.{puts_of}
-use Rattle.dtm_node.specs.declared.running.Branch.{Branch}
+use Rattle.node_files.specs.Notes.{notes_in}
 use Rattle.dtm_node.specs.declared.running.Running.{Running}
 use Rattle.dtm_node.specs.declared.running.Named.{Named}
 use Rattle.dtm_node.specs.declared.running.Named.TheVariants as named
 use Rattle.dtm_node.specs.Uses.{cause_of}
-use Rattle.dtm_node.specs.Standing.{Kept, IsDown, IsRunning, Up, Putting, StandsFor, branches_of}
-
--- the unsettled branch as the code has it
-abbrev pub putting_of : Branch → Putting
-putting_of b = record { serial = serial_of b.serial; puts = puts_of b.puts }
+use Rattle.dtm_node.specs.Standing.{Kept, IsDown, IsRunning, Up, Unsettled, StandsFor, branches_of}
 
 -- what the code keeps of a node that is up
 abbrev pub up_of : {D : Type 0} → Running D → Up
-up_of r = record { volume = r.volume; drawn = r.drawn; branch = option_map putting_of r.branch }
+up_of r = record { volume = r.volume; drawn = r.drawn; branch = option_map (λ serial. record { serial = serial_of serial; notes = notes_in r.buffers.undo }) r.branch }
 
 -- a rack with this one node, which is up
 abbrev pub kept_up : {D : Type 0} → Running D → List Label → Kept
@@ -38,9 +33,9 @@ abbrev pub kept_fallen : List ℕ → List Label → DiskState → Kept
 kept_fallen name labels d = record { name = name; unknown = false; in_use = true; place = IsDown true d; labels = labels }
 
 -- the branch that changed a file
-abbrev pub locker_of : Option Putting → ℕ → Option Id
+abbrev pub locker_of : Option Unsettled → ℕ → Option Id
 locker_of None file = None
-locker_of (Some b) file = if has_changed b.puts file then Some b.serial else None
+locker_of (Some b) file = if has_changed b.notes file then Some b.serial else None
 
 -- a request that a node has to be up for
 abbrev pub IsToUp : Request → Type 0
@@ -51,10 +46,10 @@ IsToUp request.Crash = ⊥
 IsToUp _ = Unit {0}
 
 -- what a label was found to name, where the node has this unsettled branch
-abbrev pub LabelIs : Named → Option Putting → Option Id → Type 0
+abbrev pub LabelIs : Named → Option Unsettled → Option Id → Type 0
 LabelIs named.NotMade branch found = found ≡ None
 LabelIs named.Settled branch found = (id : Id) × (found ≡ Some id) × (find_branch id (branches_of branch) ≡ None)
-LabelIs (named.Unsettled serial) branch found = (found ≡ Some (serial_of serial)) × (option_map (λ (b : Putting). b.serial) branch ≡ Some (serial_of serial))
+LabelIs (named.Unsettled serial) branch found = (found ≡ Some (serial_of serial)) × (option_map (λ (b : Unsettled). b.serial) branch ≡ Some (serial_of serial))
 
 -- a statement was served: these lines were shown, by a step to a world for which what is kept then stands
 pub record Serves (before : CallLog) (w : World) (s : Statement) (a b : Shown) (k : Kept) : Type 0 where

@@ -1,14 +1,10 @@
 pub mod LabelTable
-pub mod Records
-pub mod Puts
 pub mod Standing
 pub mod Uses
 pub mod Keeping
-pub mod Writing
 pub mod TheLaws
 pub mod Listing
-pub mod NewFile
-pub mod Undoing
+pub mod Operating
 pub mod Boots
 pub mod Nodes
 pub mod Calling

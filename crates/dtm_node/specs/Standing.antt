@@ -19,7 +19,8 @@ use Rattle.vms_model.specs.Transactions.{Outcome, Commit, Abort, Reason}
 use Rattle.vms_base.specs.Ids.{tid_of, serial_of}
 use Rattle.vms_base.specs.Outcomes.{reason_of}
 use Rattle.run_model.specs.World.{World, Node, Label, Branch, Act, DiskCounts, Settlement, Call, Arm, Power, Sound, Faulty, Unknown, acted}
-use Rattle.directory_model.specs.Files.{AreFiles, AreChanged, AreUnchanged, AreNumbers}
+use Rattle.file_base.specs.declared.head.FileHead.{FileHead}
+use Rattle.directory_model.specs.Files.{Note, AreFiles, AreChanged, AreUnchanged, AreOwn, AreUndoable}
 
 -- how often a disk failed and was stopped
 abbrev pub counts_of : DiskState → DiskCounts
@@ -84,15 +85,15 @@ HasDisk n d = elim n.volume [ Sound ↦ Leaves (IsEitherOf n) d | Faulty conditi
 
 -- What the program keeps of a node that is up.
 
--- the unsettled branch with what it put
-pub record Putting : Type 0 where
+-- the unsettled branch with what it noted of its changes, the newest first
+pub record Unsettled : Type 0 where
   pub serial : Id
-  pub puts : List (ℕ × ℕ)
+  pub notes : List Note
 
 pub record Up : Type 0 where
   pub volume : VolumeState
   pub drawn : ℕ
-  pub branch : Option Putting
+  pub branch : Option Unsettled
 
 -- what holds of it on any disk: the next group may be applied, nothing is staged, frames are free, and what it keeps of the disk is in order
 pub record IsUp (name : List ℕ) (r : Up) : Type 0 where
@@ -102,17 +103,17 @@ pub record IsUp (name : List ℕ) (r : Up) : Type 0 where
   pub holds : Holds r.volume
   pub least : 4096 ≤ r.volume.store.disk.size
   pub most : r.volume.store.disk.size ≤ 65536
-  pub numbers : IfSome r.branch (λ b. AreNumbers b.puts r.volume.catalog.heads × (length b.puts ≤ 16))
+  pub own : IfSome r.branch (λ b. AreOwn b.notes r.volume.catalog.heads × (length b.notes ≤ 16))
 
 -- the branches of the world
-abbrev pub branches_of : Option Putting → List Branch
+abbrev pub branches_of : Option Unsettled → List Branch
 branches_of None = []
-branches_of (Some b) = record { tid = b.serial; serial = b.serial; changes = length b.puts } ∷ []
+branches_of (Some b) = record { tid = b.serial; serial = b.serial; changes = length b.notes } ∷ []
 
--- the files have the changes of the unsettled branch alone, or none
-abbrev pub HasBranch : Option Putting → Node → Type 0
-HasBranch None n = AreUnchanged n.directory
-HasBranch (Some b) n = AreChanged b.serial b.puts n.directory
+-- the files have the changes of the unsettled branch alone, which can be undone, or none
+abbrev pub HasBranch : List (List ℕ) → List (Option FileHead) → Option Unsettled → Node → Type 0
+HasBranch content heads None n = AreUnchanged n.directory
+HasBranch content heads (Some b) n = AreChanged b.serial b.notes n.directory × AreUndoable content heads b.notes
 
 -- a node of the world that is up, where the disk tells its content
 pub record StandsUp (r : Up) (n : Node) : Type 0 where
@@ -124,7 +125,7 @@ pub record StandsUp (r : Up) (n : Node) : Type 0 where
   pub branches : n.branches ≡ branches_of r.branch
   pub under_way : n.under_way ≡ None
   pub has : HasCatalog content r.volume.catalog n
-  pub changes : HasBranch r.branch n
+  pub changes : HasBranch content r.volume.catalog.heads r.branch n
 
 -- a node of the world that is down: what its disk has, and what it reserved where it was up before
 pub record StandsDown (has_parts : Bool) (d : DiskState) (n : Node) : Type 0 where

@@ -1,7 +1,7 @@
 -- The laws that a node's statements rest on.
 use Rattle.careful_write.specs.State.{OneContent}
 use Rattle.volume.specs.Catalogs.{StandsOnTheFront}
-use Rattle.directory_model.specs.Laws.{FindsFiles, FindsPlaces, FindsRuns, KeepsFiles, KeepsChanges, KeepsNumbers, TellsChanges, TakesPutsBack, ShowsRecords, StandsOnExtents, LieApart, WritesApart, KeepsHeads, MakesFiles}
+use Rattle.directory_model.specs.Laws.{FindsFiles, FindsPlaces, FindsRuns, KeepsFiles, KeepsChanges, KeepsOwn, KeepsUndo, TellsChanges, Undoes, ReadsFiles, ShowsRecords, StandsOnExtents, LieApart, WritesApart, KeepsHeads, MakesFiles}
 
 pub record TheLaws : Type 0 where
   pub finds : FindsFiles
@@ -9,9 +9,11 @@ pub record TheLaws : Type 0 where
   pub runs : FindsRuns
   pub files : KeepsFiles
   pub changes : KeepsChanges
-  pub numbers : KeepsNumbers
+  pub own : KeepsOwn
+  pub undo : KeepsUndo
   pub tells : TellsChanges
-  pub back : TakesPutsBack
+  pub back : Undoes
+  pub reads : ReadsFiles
   pub shows : ShowsRecords
   pub stand : StandsOnExtents
   pub apart : LieApart

@@ -1,5 +1,5 @@
 //! A boot: a disk that runs is brought to a volume whose boot count is raised.
-ghost use Rattle.std.specs.Prelude.{◌≡◌, ◌<◌, ◌≤◌, ◌==◌, ℕ, [], true, option_map, nat_lt};
+ghost use Rattle.std.specs.Prelude.{◌≡◌, ◌<◌, ◌≤◌, ◌==◌, [], true, option_map, nat_lt};
 ghost use Rattle.careful_write.specs.State.{IsIdle};
 ghost use Rattle.change_set.specs.Files.{free_frames};
 ghost use Rattle.volume.specs.Catalogs.{IsSound};
@@ -7,17 +7,20 @@ ghost use Rattle.volume.specs.State.{Holds};
 ghost use Rattle.transcript.specs.Forms.{HasTime, line_of};
 ghost use Rattle.std.specs.Option.{IfSome, IfNone};
 ghost use Rattle.transcript_model.specs.Lines as line;
-ghost use Rattle.run_model.specs.Answers.{boot_limit, first_of, moment_limit, refused_if};
+ghost use Rattle.run_model.specs.Answers.{boot_limit, moment_limit};
+ghost use Rattle.run_model.specs.Operations.{first_of, refused_if};
 ghost use Rattle.run_model.specs.World.{Node as NodeSaid};
 ghost use Rattle.dtm_node.specs.Boots.{BootsTo, IsBooted, IsMounted, IsOpened, IsAwake, disk_of, pool_of};
 ghost use Rattle.dtm_node.specs.Uses.{Goes};
 ghost use Rattle.dtm_node.specs.Calling.{IsBootRefusal};
 
-use crate::records::write_home;
 use block_disk::Disk;
 use careful_write::{Down, Group, OpenErr, Store};
-use directory_model::{acts_keep_changes, acts_keep_files, writes_stay_apart};
+use directory_model::{
+    acts_keep_changes, acts_keep_files, files_stand_on_their_extents, writes_stay_apart,
+};
 use frame_pool::Pool;
+use node_files::write_home;
 use transcript::{Form, Quota};
 use vms_base::NodeName;
 use volume::{MountErr, Volume, sound_volumes_are_valid};
@@ -134,6 +137,7 @@ fn raise_boot<D: Disk>(mut volume: Volume<D>) -> Booted<D>
     home.boot += 1;
     acts_keep_files();
     acts_keep_changes();
+    files_stand_on_their_extents();
     writes_stay_apart();
     match write_home(&mut volume, &home) {
         Ok(()) => Booted::Up(volume),

@@ -1,5 +1,5 @@
 //! The labels of a run, in a table.
-ghost use Rattle.std.specs.Prelude.{◌≡◌, ℕ, ◌+◌, ◌<◌, ◌≤◌, List, [], ◌∷◌, None, length, IfOk, option_map, nat_le};
+ghost use Rattle.std.specs.Prelude.{◌≡◌, ◌<◌, List, [], ◌∷◌, None, length, IfOk, option_map, nat_le};
 ghost use Rattle.run_model.specs.Answers.{label_limit};
 ghost use Rattle.run_model.specs.World.{find_label};
 ghost use Rattle.vms_base.specs.Ids.{serial_of};

@@ -3,9 +3,9 @@ ghost use Rattle.dtm_node.specs.TheLaws.{TheLaws};
 
 use careful_write::one_content;
 use directory_model::{
-    acts_keep_changes, acts_keep_files, acts_keep_heads, acts_keep_numbers,
-    files_are_found_by_name, files_lie_apart, files_stand_on_their_extents,
-    free_runs_are_found_alike, new_files_are_alike, places_are_found_alike, puts_are_taken_back,
+    acts_keep_changes, acts_keep_files, acts_keep_heads, acts_keep_own, acts_keep_undo,
+    changes_are_undone, files_are_found_by_name, files_lie_apart, files_stand_on_their_extents,
+    free_runs_are_found_alike, new_files_are_alike, places_are_found_alike, records_are_read_alike,
     records_are_shown_in_order, the_branch_locks, writes_stay_apart,
 };
 use volume::catalogs_stand_on_the_front;
@@ -19,10 +19,12 @@ pub(crate) fn the_laws()
     free_runs_are_found_alike();
     acts_keep_files();
     acts_keep_changes();
-    acts_keep_numbers();
+    acts_keep_own();
+    acts_keep_undo();
     acts_keep_heads();
     the_branch_locks();
-    puts_are_taken_back();
+    changes_are_undone();
+    records_are_read_alike();
     records_are_shown_in_order();
     files_stand_on_their_extents();
     files_lie_apart();

@@ -5,11 +5,8 @@ mod boot;
 mod labels;
 mod law;
 mod node;
-mod put;
-mod puts;
-mod records;
+mod operate;
 mod running;
-mod sizes;
 
 pub use labels::{LabelEntry, Labels};
 pub use node::Node;

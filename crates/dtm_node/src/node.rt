@@ -4,11 +4,10 @@ ghost use Rattle.block_disk.specs.Disk.{CallLog};
 ghost use Rattle.change_set.specs.Files.{free_frames};
 ghost use Rattle.transcript_model.specs.Emitting.{Emits, Since};
 ghost use Rattle.transcript_model.specs.Lines as line;
-ghost use Rattle.transcript.specs.Forms.{HasTime, cause_of as cause_said, line_of};
+ghost use Rattle.transcript.specs.Forms.{cause_of as cause_said};
 ghost use Rattle.script_lang.specs.Statements.{request_of, statement_of};
 ghost use Rattle.script_model.specs.Statements as said;
 ghost use Rattle.run_model.specs.World.{World, Label as LabelSaid};
-ghost use Rattle.run_model.specs.Answers.{last_lines};
 ghost use Rattle.dtm_node.specs.Keeping.{Serves, IsToUp};
 ghost use Rattle.dtm_node.specs.Uses.{cause_of as cause_kept};
 ghost use Rattle.dtm_node.specs.Calling.{Answers, AnswersAt};
@@ -23,10 +22,11 @@ use block_disk::Disk;
 use careful_write::{Down, Group};
 use directory_model::acts_keep_files;
 use frame_pool::Pool;
+use node_files::Buffers;
 use script_lang::{Literals, Request, Statement};
 use std::alloc::{AllocError, Global};
 use transcript::{Cause, Emit, Form};
-use vms_base::{NodeName, Record};
+use vms_base::NodeName;
 use volume::{Volume, sizes_fit};
 use volume_format::{Ending, Home, Sizes};
 
@@ -37,7 +37,7 @@ const FRAMES: u32 = 64;
 struct Parts {
     group: Group,
     pool: Pool,
-    found: Record,
+    room: Buffers,
 }
 
 // What stands over a node's disk.
@@ -74,7 +74,7 @@ fn reserve_parts(alloc: Global) -> Result<Parts, AllocError>
     Ok(Parts {
         group: Group::reserve(alloc)?,
         pool: Pool::new(alloc, FRAMES)?,
-        found: Record::reserve(alloc)?,
+        room: Buffers::reserve(alloc)?,
     })
 }
 
@@ -136,7 +136,7 @@ impl<D: Disk + Drop> Node<D> {
         match self.place {
             Place::Down(disk, _parts) => disk,
             Place::Up(running) => {
-                let (store, _found) = running.into_parts();
+                let (store, _room) = running.into_parts();
                 let (disk, _group, _pool) = store.into_parts();
                 disk
             }
@@ -446,9 +446,9 @@ fn fallen<D: Disk>(running: Running<D>) -> Place<D>
     ensures down { place_of D.state result ≡ IsDown true running.volume.store.disk }
     ensures parts { 32 ≤ free_frames running.volume.store.pool → HasParts result }
 {
-    let (store, found) = running.into_parts();
+    let (store, room) = running.into_parts();
     let (disk, group, pool) = store.into_parts();
-    Place::Down(disk, Some(Parts { group, pool, found }))
+    Place::Down(disk, Some(Parts { group, pool, room }))
 }
 
 // Writes an empty volume to the disk of a node that is down, and says whether nothing is known of what the disk has then.
@@ -554,10 +554,10 @@ fn boot_with<D: Disk, E: Emit>(
     ensures serves { (has_parts : Bool) (ls : List LabelSaid) (log : CallLog) (w : World) → StandsFor log (kept_down name false in_use has_parts (D.state disk) ls) w →
         Serves log w (said.At name said.Boot) (E.shows out.old) (E.shows out.new) (kept_of D.state result ls) }
 {
-    let Parts { group, pool, found } = parts;
+    let Parts { group, pool, room } = parts;
     if let Err(e) = disk.power() {
         show_fall(name, Down::from(e), out);
-        return down_node(name, true, disk, Parts { group, pool, found });
+        return down_node(name, true, disk, Parts { group, pool, room });
     }
     match open_disk(disk, group, pool, name) {
         Booted::Up(volume) => {
@@ -567,16 +567,16 @@ fn boot_with<D: Disk, E: Emit>(
                 name,
                 unknown: false,
                 in_use: true,
-                place: Place::Up(Running::new(volume, found)),
+                place: Place::Up(Running::new(volume, room)),
             }
         }
         Booted::Refused(disk, group, pool, form) => {
             out.emit(&form);
-            down_node(name, in_use, disk, Parts { group, pool, found })
+            down_node(name, in_use, disk, Parts { group, pool, room })
         }
         Booted::Fell(disk, group, pool, down) => {
             show_fall(name, down, out);
-            down_node(name, true, disk, Parts { group, pool, found })
+            down_node(name, true, disk, Parts { group, pool, room })
         }
     }
 }

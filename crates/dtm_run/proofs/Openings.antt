@@ -6,6 +6,7 @@ use Rattle.careful_write.specs.Load.{fitting}
 use Rattle.careful_write.proofs.GroupParts.{stop_reading}
 use Rattle.run_model.specs.World.{Node, IsOpening, Sound, Faulty}
 use Rattle.run_model.specs.Laws.{AreOpening}
+use Rattle.directory_model.specs.Laws.{ReadsFiles}
 use Rattle.dtm_node.specs.Boots.{AllHave}
 use Rattle.dtm_node.specs.Standing.{IsVolumeOf, last_of}
 use Rattle.dtm_node.proofs.Booting.{as_it_was, have_disk}
@@ -21,10 +22,10 @@ is_told : (o : Option (List (List ℕ))) (image : List (List ℕ)) → o ≡ Som
 is_told o image e = ap (λ (x : Option (List (List ℕ))). is_some x) e
 
 -- a node over a sound volume
-module _ (name : List ℕ) (d : DiskState) (m : IsMade name d) where
+module _ (reads : ReadsFiles) (name : List ℕ) (d : DiskState) (m : IsMade name d) where
   sound_opens : HasVolume name d.size m.image → (n : Node) × IsOpening n × StandsOn name d n
   sound_opens v =
-      let files = has_files (content_of m.image) v.catalog.heads v.catalog.home.greatest_moment.0 v.whole in
+      let files = has_files reads (content_of m.image) v.catalog.heads v.catalog.home.greatest_moment.0 v.whole v.files in
       let n : Node = record {
         name = name;
         blocks = d.size;
@@ -84,14 +85,14 @@ module _ (name : List ℕ) (d : DiskState) (m : IsMade name d) where
   opens : (n : Node) × IsOpening n × StandsOn name d n
   opens = ⊎_elim sound_opens faulty_opens m.content
 
-all_open : (names : List (List ℕ)) (ds : List DiskState) → AreMade names ds → (nodes : List Node) × AreOpening nodes × StandOn names ds nodes
-all_open [] [] h = ([], tt, tt)
-all_open [] (d ∷ ds) h = absurd h
-all_open (name ∷ names) [] h = absurd h
-all_open (name ∷ names) (d ∷ ds) h =
-    let first = opens name d h.0 in
-    let rest = all_open names ds h.1 in
+all_open : (reads : ReadsFiles) (names : List (List ℕ)) (ds : List DiskState) → AreMade names ds → (nodes : List Node) × AreOpening nodes × StandOn names ds nodes
+all_open reads [] [] h = ([], tt, tt)
+all_open reads [] (d ∷ ds) h = absurd h
+all_open reads (name ∷ names) [] h = absurd h
+all_open reads (name ∷ names) (d ∷ ds) h =
+    let first = opens reads name d h.0 in
+    let rest = all_open reads names ds h.1 in
     (first.0 ∷ rest.0, (first.1, rest.1), (first.2, rest.2))
 
-pub openings_exist : OpeningsExist
-openings_exist = record { one = opens; all = all_open }
+pub openings_exist : ReadsFiles → OpeningsExist
+openings_exist reads = record { one = opens reads; all = all_open reads }

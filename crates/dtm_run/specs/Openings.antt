@@ -1,23 +1,35 @@
 -- The nodes that a run may begin with.
-use Rattle.std.specs.Prelude.{◌≡◌, ◌⊎◌, ℕ, List, [], ◌∷◌, true, Some, length}
+use Rattle.std.specs.Prelude.{◌≡◌, ◌⊎◌, ℕ, List, [], ◌∷◌, true, Option, Some, length}
 use Rattle.block_disk.specs.Disk.{DiskState}
 use Rattle.careful_write.specs.Content.{content_of}
 use Rattle.careful_write.specs.Load.{fitting}
+use Rattle.file_base.specs.declared.head.FileHead.{FileHead}
+use Rattle.record_files.specs.Any.{IsFile, IsLaidOut}
 use Rattle.volume.specs.declared.catalog.Catalog.{Catalog}
 use Rattle.volume.specs.Catalogs.{IsSound, TellsCatalog}
 use Rattle.volume.specs.Conditions.{IsFirstFinding}
 use Rattle.run_model.specs.World.{Node, IsOpening}
 use Rattle.run_model.specs.Laws.{AreOpening}
+use Rattle.directory_model.specs.Files.{head_at}
 use Rattle.dtm_node.specs.Standing.{IsCounted}
 use Rattle.dtm_run.specs.Headline.{StandOn, StandsOn}
 
--- the blocks of a disk of this size have a sound volume of the node of this name, and an open group fits
+-- a head is one of a file of its organization, whose buckets are laid out
+abbrev pub HasLayout : List (List ℕ) → FileHead → Type 0
+HasLayout content h = IsFile h × IsLaidOut h content
+
+-- so is each head
+abbrev pub AreLaidOut : List (List ℕ) → List (Option FileHead) → Type 0
+AreLaidOut content heads = (f : ℕ) (h : FileHead) → head_at heads f ≡ Some h → HasLayout content h
+
+-- the blocks of a disk of this size have a sound volume of the node of this name, whose files are laid out, and an open group fits
 pub record HasVolume (name : List ℕ) (size : ℕ) (image : List (List ℕ)) : Type 0 where
   pub fits : fitting image ≡ true
   pub catalog : Catalog
   pub tells : TellsCatalog catalog (content_of image)
   pub sound : IsSound name size catalog
   pub whole : length catalog.heads ≡ 64
+  pub files : AreLaidOut (content_of image) catalog.heads
 
 -- they have none, for of the conditions of a volume one fails first
 pub record HasNone (name : List ℕ) (image : List (List ℕ)) : Type 0 where

@@ -1,8 +1,12 @@
 //! What the definitions promise.
 ghost use Rattle.dtm_run.specs.Openings.{OpeningsExist};
 
-/// On each disk that tells its content and on which nothing is pending, there stands a node as before the first line: over its volume, or over the first
+use directory_model::records_are_read_alike;
+
+/// On each disk that tells its content, on which nothing is pending, and whose files are laid out, there stands a node as before the first line: over its volume, or over the first
 /// condition that fails. So the promises of a run are not empty.
 pub fn opening_nodes_exist()
     ensures { OpeningsExist }
-{}
+{
+    records_are_read_alike();
+}

@@ -42,7 +42,7 @@ fn joined(alloc: Global, parts: &[&[u8]]) -> Result<Vec<u8>, Fail> {
 // Runs these lines behind the opening.
 fn shown(alloc: Global, lines: &[u8], exit: Exit) -> Result<Vec<u8>, Fail> {
     let mut source = MemSource::new(alloc, joined(alloc, &[OPENING, lines])?);
-    let mut sink = MemSink::new(alloc, 1_000)?;
+    let mut sink = MemSink::new(alloc, 2_000)?;
     if run_over(
         alloc,
         MemPlatter::new(alloc, 8_192)?,
@@ -80,7 +80,7 @@ fn run_on(
 
 #[test]
 fn scripts_show_their_transcripts(rt: HostRuntime) -> Result<(), Fail> {
-    let table: [(&[u8], &[u8], Exit); 7] = [
+    let table: [(&[u8], &[u8], Exit); 12] = [
         (b"", b"", Exit::Done),
         (
             COMMITTING,
@@ -112,11 +112,130 @@ fn scripts_show_their_transcripts(rt: HostRuntime) -> Result<(), Fail> {
             b"5 RMS$_FEX\n6 SS$_BADPARAM\n7 SS$_BADPARAM\n8 SS$_NORMAL\n9 RMS$_FUL VOLUME 6452 68719476720\n10 SS$_NORMAL A.1.1\n11 NOTRU\n12 SS$_NORMAL\n13 NOTRU\n14 SS$_NORMAL\n15 RMS$_NORMAL\n16 RMS$_FLK A.1.1\n17 DOWN A CRASH\n17 SS$_NORMAL\n18 NODEDOWN\n19 SS$_NORMAL\n20 NOSUCHNODE\n21 NODEDOWN\n22 DOWN A STOPPED\n22 STOPPED\n23 NODEDOWN\n24 NODEDOWN\n",
             Exit::Done,
         ),
+        (
+            b"A: CREATE S SEQ 1 100 4\nA: SET_FILE S RU\nA: START_TRANS T\nA: PUT T S \"x\"\nA: ABORT_TRANS T\nA: START_TRANS U\nA: PUT U S \"y\"\nA: UPDATE U S 1 \"zz\"\nA: DELETE U S 1\nA: TRUNCATE U S 1\nA: PUT U S \"w\"\nA: END_TRANS U\nA: DUMP S\n",
+            b"5 SS$_NORMAL\n6 SS$_NORMAL\n7 SS$_NORMAL A.1.1\n8 RMS$_NORMAL 1\n9 ABORT A.1.1 A.1.1 DDTM$_ABORTED \"17-NOV-1858 00:00:00.01\"\n9 SS$_NORMAL\n10 SS$_NORMAL A.1.2\n11 RMS$_NORMAL 1\n12 RMS$_RSZ\n13 RMS$_IOP\n14 RMS$_NORMAL\n15 RMS$_NORMAL 1\n16 COMMIT A.1.2 A.1.2 \"17-NOV-1858 00:00:00.02\"\n16 SS$_NORMAL\n17 RECORD 1 \"w\"\n17 SS$_NORMAL 1\n",
+            Exit::Done,
+        ),
+        (
+            b"A: CREATE I IDX 1 40 20 0 2\nA: SET_FILE I RU\nA: START_TRANS T\nA: PUT T I \"bb1\"\nA: PUT T I \"aa2\"\nA: PUT T I \"aa9\"\nA: UPDATE T I \"aa\" \"ab2\"\nA: PUT T I \"a\"\nA: END_TRANS T\nA: START_TRANS U\nA: DELETE U I \"aa\"\nA: PUT U I \"ab3\"\nA: ABORT_TRANS U\nA: DUMP I\n",
+            b"5 SS$_NORMAL\n6 SS$_NORMAL\n7 SS$_NORMAL A.1.1\n8 RMS$_NORMAL\n9 RMS$_NORMAL\n10 RMS$_DUP\n11 RMS$_CHG\n12 RMS$_RSZ\n13 COMMIT A.1.1 A.1.1 \"17-NOV-1858 00:00:00.01\"\n13 SS$_NORMAL\n14 SS$_NORMAL A.1.2\n15 RMS$_NORMAL\n16 RMS$_NORMAL\n17 ABORT A.1.2 A.1.2 DDTM$_ABORTED \"17-NOV-1858 00:00:00.02\"\n17 SS$_NORMAL\n18 RECORD \"aa\" \"aa2\"\n18 RECORD \"bb\" \"bb1\"\n18 SS$_NORMAL 2\n",
+            Exit::Done,
+        ),
+        (
+            b"A: CREATE I IDX 1 40 2 0 2\nA: START_TRANS T\nA: PUT T I \"aa\"\nA: SET_FILE I RU\nA: PUT T I \"aa\"\nA: GET T I \"aa\"\nA: NEXT T I\n",
+            b"5 SS$_NORMAL\n6 SS$_NORMAL A.1.1\n7 NOTRU\n8 SS$_NORMAL\n9 RMS$_FUL FILE 1 3\n10 RMS$_RNF\n11 RMS$_EOF\n",
+            Exit::Done,
+        ),
+        (
+            b"A: CREATE S SEQ 1 400 3\nA: SET_FILE S RU\nA: START_TRANS T\nA: PUT T S 1 \"a\"\nA: PUT T S \"a\"\nA: PUT T S \"b\"\nA: PUT T S \"c\"\nA: TRUNCATE T S 4\nA: TRUNCATE T S 0\nA: TRUNCATE T S 2\nA: NEXT T S 1\nA: GET T S 0\nA: NEXT T S 0\nA: GET T S \"a\"\nA: DELETE T S \"a\"\nA: UPDATE T S 1 \"z\"\nA: ABORT_TRANS T\nA: DUMP S\n",
+            b"5 SS$_NORMAL\n6 SS$_NORMAL\n7 SS$_NORMAL A.1.1\n8 SS$_BADPARAM\n9 RMS$_NORMAL 1\n10 RMS$_NORMAL 2\n11 RMS$_NORMAL 3\n12 RMS$_RNF\n13 RMS$_RNF\n14 RMS$_NORMAL\n15 RMS$_EOF\n16 RMS$_RNF\n17 RMS$_NORMAL 1 \"a\"\n18 SS$_BADPARAM\n19 SS$_BADPARAM\n20 RMS$_NORMAL\n21 ABORT A.1.1 A.1.1 DDTM$_ABORTED \"17-NOV-1858 00:00:00.01\"\n21 SS$_NORMAL\n22 SS$_NORMAL 0\n",
+            Exit::Done,
+        ),
+        (
+            b"A: START_TRANS T\nA: PUT T F 2 \"two\"\nA: UPDATE T F 2 \"too\"\nA: UPDATE T F 3 \"no\"\nA: GET T F 2\nA: DELETE T F 2\nA: GET T F 2\nA: NEXT T F 0\nA: NEXT T F\nA: TRUNCATE T F 1\nA: PUT T F \"x\"\nA: END_TRANS T\nA: DUMP F\n",
+            b"5 SS$_NORMAL A.1.1\n6 RMS$_NORMAL\n7 RMS$_NORMAL\n8 RMS$_RNF\n9 RMS$_NORMAL \"too\"\n10 RMS$_NORMAL\n11 RMS$_RNF\n12 RMS$_MRN\n13 RMS$_EOF\n14 RMS$_IOP\n15 SS$_BADPARAM\n16 COMMIT A.1.1 A.1.1 \"17-NOV-1858 00:00:00.01\"\n16 SS$_NORMAL\n17 SS$_NORMAL 0\n",
+            Exit::Done,
+        ),
     ];
     for (lines, want, exit) in table {
         let text = shown(rt.alloc(), lines, exit)?;
         assert_eq!(rt; text, joined(rt.alloc(), &[OPENED, want])?);
     }
+    Ok(())
+}
+
+// The line with a record of so many x behind these words.
+fn putting(alloc: Global, words: &[u8], count: usize) -> Result<Vec<u8>, Fail> {
+    let record = repeated(alloc, b'x', count)?;
+    joined(alloc, &[words, record.as_slice(), b"\"\n"])
+}
+
+#[test]
+fn a_truncate_goes_across_buckets(rt: HostRuntime) -> Result<(), Fail> {
+    let alloc = rt.alloc();
+    let put = putting(alloc, b"A: PUT T S \"", 240)?;
+    let three = joined(alloc, &[put.as_slice(), put.as_slice(), put.as_slice()])?;
+    let lines = joined(
+        alloc,
+        &[
+            b"A: CREATE S SEQ 1 400 4\nA: SET_FILE S RU\nA: START_TRANS T\n",
+            three.as_slice(),
+            three.as_slice(),
+            three.as_slice(),
+            b"A: TRUNCATE T S 2\nA: PUT T S \"a\"\nA: PUT T S \"b\"\nA: ABORT_TRANS T\nA: DUMP S\n",
+        ],
+    )?;
+    let text = shown(alloc, lines.as_slice(), Exit::Done)?;
+    let want =
+        b"5 SS$_NORMAL\n6 SS$_NORMAL\n7 SS$_NORMAL A.1.1\n8 RMS$_NORMAL 1\n9 RMS$_NORMAL 2\n10 RMS$_NORMAL 3\n11 RMS$_NORMAL 4\n12 RMS$_NORMAL 5\n13 RMS$_NORMAL 6\n14 RMS$_NORMAL 7\n15 RMS$_NORMAL 8\n16 RMS$_FUL FILE 0 1\n17 RMS$_NORMAL\n18 RMS$_NORMAL 2\n19 SS$_EXQUOTA CHANGES 16\n20 ABORT A.1.1 A.1.1 DDTM$_ABORTED \"17-NOV-1858 00:00:00.01\"\n20 SS$_NORMAL\n21 SS$_NORMAL 0\n";
+    assert_eq!(rt; text, joined(alloc, &[OPENED, want])?);
+    Ok(())
+}
+
+#[test]
+fn an_abort_puts_back_what_a_truncate_took(rt: HostRuntime) -> Result<(), Fail> {
+    let alloc = rt.alloc();
+    let put = putting(alloc, b"A: PUT T S \"", 240)?;
+    let record = repeated(alloc, b'x', 240)?;
+    let lines = joined(
+        alloc,
+        &[
+            b"A: CREATE S SEQ 1 400 2\nA: SET_FILE S RU\nA: START_TRANS T\n",
+            put.as_slice(),
+            put.as_slice(),
+            put.as_slice(),
+            b"A: END_TRANS T\nA: START_TRANS U\nA: TRUNCATE U S 1\nA: PUT U S \"a\"\nA: ABORT_TRANS U\nA: DUMP S\n",
+        ],
+    )?;
+    let text = shown(alloc, lines.as_slice(), Exit::Done)?;
+    let want = joined(
+        alloc,
+        &[
+            OPENED,
+            b"5 SS$_NORMAL\n6 SS$_NORMAL\n7 SS$_NORMAL A.1.1\n8 RMS$_NORMAL 1\n9 RMS$_NORMAL 2\n10 RMS$_NORMAL 3\n11 COMMIT A.1.1 A.1.1 \"17-NOV-1858 00:00:00.01\"\n11 SS$_NORMAL\n12 SS$_NORMAL A.1.2\n13 RMS$_NORMAL\n14 RMS$_NORMAL 1\n15 ABORT A.1.2 A.1.2 DDTM$_ABORTED \"17-NOV-1858 00:00:00.02\"\n15 SS$_NORMAL\n16 RECORD 1 \"",
+            record.as_slice(),
+            b"\"\n16 RECORD 2 \"",
+            record.as_slice(),
+            b"\"\n16 RECORD 3 \"",
+            record.as_slice(),
+            b"\"\n16 SS$_NORMAL 3\n",
+        ],
+    )?;
+    assert_eq!(rt; text, want);
+    Ok(())
+}
+
+#[test]
+fn an_abort_sets_back_the_keys_of_parted_buckets(rt: HostRuntime) -> Result<(), Fail> {
+    let alloc = rt.alloc();
+    let record = repeated(alloc, b'x', 118)?;
+    let lines = joined(
+        alloc,
+        &[
+            b"A: CREATE S IDX 1 200 9 0 2\nA: SET_FILE S RU\nA: START_TRANS T\n",
+            putting(alloc, b"A: PUT T S \"aa", 118)?.as_slice(),
+            putting(alloc, b"A: PUT T S \"ee", 118)?.as_slice(),
+            b"A: END_TRANS T\nA: START_TRANS U\nA: DELETE U S \"aa\"\n",
+            putting(alloc, b"A: PUT U S \"bb", 118)?.as_slice(),
+            putting(alloc, b"A: PUT U S \"cc", 118)?.as_slice(),
+            putting(alloc, b"A: PUT U S \"dd", 118)?.as_slice(),
+            b"A: UPDATE U S \"ee\" \"eey\"\nA: NEXT U S \"dd\"\nA: ABORT_TRANS U\nA: DUMP S\n",
+        ],
+    )?;
+    let text = shown(alloc, lines.as_slice(), Exit::Done)?;
+    let want = joined(
+        alloc,
+        &[
+            OPENED,
+            b"5 SS$_NORMAL\n6 SS$_NORMAL\n7 SS$_NORMAL A.1.1\n8 RMS$_NORMAL\n9 RMS$_NORMAL\n10 COMMIT A.1.1 A.1.1 \"17-NOV-1858 00:00:00.01\"\n10 SS$_NORMAL\n11 SS$_NORMAL A.1.2\n12 RMS$_NORMAL\n13 RMS$_NORMAL\n14 RMS$_NORMAL\n15 RMS$_NORMAL\n16 RMS$_NORMAL\n17 RMS$_NORMAL \"ee\" \"eey\"\n18 ABORT A.1.2 A.1.2 DDTM$_ABORTED \"17-NOV-1858 00:00:00.02\"\n18 SS$_NORMAL\n19 RECORD \"aa\" \"aa",
+            record.as_slice(),
+            b"\"\n19 RECORD \"ee\" \"ee",
+            record.as_slice(),
+            b"\"\n19 SS$_NORMAL 2\n",
+        ],
+    )?;
+    assert_eq!(rt; text, want);
     Ok(())
 }
 
@@ -310,7 +429,7 @@ fn shown_with_failing(alloc: Global, call: u32) -> Result<Vec<u8>, Fail> {
     let mut platter = MemPlatter::new(alloc, 8_192)?;
     platter.fail(call)?;
     let mut source = MemSource::new(alloc, joined(alloc, &[OPENING, COMMITTING])?);
-    let mut sink = MemSink::new(alloc, 1_000)?;
+    let mut sink = MemSink::new(alloc, 2_000)?;
     if run_over(alloc, platter, &mut source, &mut sink)? != Exit::Done {
         return Err(Fail::from("another exit"));
     }

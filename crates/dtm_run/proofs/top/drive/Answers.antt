@@ -39,7 +39,7 @@ returns-in-Err-clause-runs g c = λ w h.
     let close = c.close-exit-in-Err.ensures in
     runs_as _ _ _ _ _ _ _ _ _ close.exit c.into_disk-in-Err.ensures
     (going_bad _ (state_of g.D.Disk.state c.args.node) _ _ _ _ _ _ (kept_of g.D.Disk.state l.node l.labels) (λ v s. stands_leaves g.D.Disk.state l.number l.node l.labels (state_of g.D.Disk.state c.args.node) v l.invariant.kept s) (l.invariant.going w h) _ _ c.in-Line.ensures.tells c.in-Line.ensures.taken.0 c.if-number-gt-MOST_LINES.false _ _ _
-    (ap (λ s. s.text) at) (ap (λ s. s.number) at) (ap (λ s. s.failed) at ∙ l.invariant.failed) close.emits (read_bad c.in-Err.e.column _ _ c.line.ensures c.in-Err.ensures.reading))
+    (ap (λ s. s.text) at) (ap (λ s. s.number) at) (ap (λ s. s.failed) at ∙ l.invariant.failed) close.emits (read_bad c.in-Err.e.column _ _ c.line.ensures c.in-Err.ensures))
 
 pub returns-then-failed-clause-runs : goal.returns-then-failed-clause-runs
 returns-then-failed-clause-runs g c = λ w h.
@@ -49,7 +49,7 @@ returns-then-failed-clause-runs g c = λ w h.
     runs_as _ _ _ _ _ _ _ _ _ refl c.into_disk-then-failed.ensures
     (going_cut _ (state_of g.D.Disk.state c.args.node) _ _ _ _ _ _ (kept_of g.D.Disk.state l.node l.labels) (λ v s. stands_leaves g.D.Disk.state l.number l.node l.labels (state_of g.D.Disk.state c.args.node) v l.invariant.kept s) (l.invariant.going w h) _ _ c.in-Line.ensures.tells c.in-Line.ensures.taken.0 c.if-number-gt-MOST_LINES.false
     (statement_of c.read_statement.new.lit some.statement) _ _ (kept_of g.D.Disk.state c.serve-node.result c.serve-node.new.labels)
-    (ap (λ s. s.text) at) (ap (λ s. s.number) at) (ap (λ s. s.failed) at ∙ l.invariant.failed) (read_says c.read_statement.new.lit some.field-0 some.statement _ _ some.field-0-is c.line.ensures some.ensures.reading)
+    (ap (λ s. s.text) at) (ap (λ s. s.number) at) (ap (λ s. s.failed) at ∙ l.invariant.failed) (read_says c.read_statement.new.lit some.field-0 some.statement _ _ some.field-0-is c.line.ensures some.ensures)
     (λ v s. c.serve-node.ensures.serves _ v s)
     (λ v s. stands_leaves g.D.Disk.state (l.number + 1) c.serve-node.result c.serve-node.new.labels (state_of g.D.Disk.state c.args.node) v (c.serve-node.ensures.kept l.number l.invariant.kept) s) (sym c.failed.ensures ∙ c.if-failed.true))
 
@@ -71,10 +71,10 @@ loop-number-preserved-in-Ok-None g c =
       going = λ w h.
           going_blank _ (state_of g.D.Disk.state c.args.node) _ _ _ _ _ _ (kept_of g.D.Disk.state l.node l.labels) (λ v s. stands_leaves g.D.Disk.state l.number l.node l.labels (state_of g.D.Disk.state c.args.node) v l.invariant.kept s) (l.invariant.going w h) _ _ c.in-Line.ensures.tells c.in-Line.ensures.taken.0 c.if-number-gt-MOST_LINES.false
           _ _ _ refl c.in-Line.ensures.taken.1 (ap (λ s. s.text) at)
-          (read_blank c.read_statement.new.lit none.field-0 _ _ none.field-0-is c.line.ensures none.ensures.reading);
+          (read_blank c.read_statement.new.lit none.field-0 _ _ none.field-0-is c.line.ensures none.ensures);
       name = l.invariant.name;
       telling = telling_blank _ _ _ _ _ _ _ _ _ l.invariant.telling _ _ c.in-Line.ensures.tells c.in-Line.ensures.taken.0 c.if-number-gt-MOST_LINES.false _ _ _ refl c.in-Line.ensures.taken.1 (ap (λ s. s.text) at)
-          (read_blank c.read_statement.new.lit none.field-0 _ _ none.field-0-is c.line.ensures none.ensures.reading);
+          (read_blank c.read_statement.new.lit none.field-0 _ _ none.field-0-is c.line.ensures none.ensures);
     }
 
 pub loop-number-preserved : goal.loop-number-preserved
@@ -95,11 +95,11 @@ loop-number-preserved g c =
       going = λ w h.
           going_served _ (state_of g.D.Disk.state c.args.node) _ _ _ _ _ _ (kept_of g.D.Disk.state l.node l.labels) (λ v s. stands_leaves g.D.Disk.state l.number l.node l.labels (state_of g.D.Disk.state c.args.node) v l.invariant.kept s) (l.invariant.going w h) _ _ c.in-Line.ensures.tells c.in-Line.ensures.taken.0 c.if-number-gt-MOST_LINES.false
           (statement_of c.read_statement.new.lit some.statement) _ _ (kept_of g.D.Disk.state c.serve-node.result c.serve-node.new.labels)
-          (ap (λ s. s.text) at) (ap (λ s. s.number) at) (ap (λ s. s.failed) at ∙ l.invariant.failed) (read_says c.read_statement.new.lit some.field-0 some.statement _ _ some.field-0-is c.line.ensures some.ensures.reading)
+          (ap (λ s. s.text) at) (ap (λ s. s.number) at) (ap (λ s. s.failed) at ∙ l.invariant.failed) (read_says c.read_statement.new.lit some.field-0 some.statement _ _ some.field-0-is c.line.ensures some.ensures)
           (λ v s. c.serve-node.ensures.serves _ v s) _ _ refl c.in-Line.ensures.taken.1 (sym c.failed.ensures ∙ c.if-failed.false);
       name = c.serve-node.ensures.name ∙ l.invariant.name;
       telling = telling_served _ _ _ _ _ _ _ _ _ l.invariant.telling _ _ (ap (λ s. s.text) at) (ap (λ s. s.number) at) (ap (λ s. s.failed) at ∙ l.invariant.failed) _ _ c.in-Line.ensures.tells c.in-Line.ensures.taken.0 c.if-number-gt-MOST_LINES.false
-          (statement_of c.read_statement.new.lit some.statement) _ (read_says c.read_statement.new.lit some.field-0 some.statement _ _ some.field-0-is c.line.ensures some.ensures.reading)
+          (statement_of c.read_statement.new.lit some.statement) _ (read_says c.read_statement.new.lit some.field-0 some.statement _ _ some.field-0-is c.line.ensures some.ensures)
           (answers_named _ _ _ _ _ _ _ l.invariant.name c.serve-node.ensures.tells) _ _ refl c.in-Line.ensures.taken.1 (sym c.failed.ensures ∙ c.if-failed.false);
     }
 
@@ -131,7 +131,7 @@ returns-in-Err-clause-calls g c =
     let close = c.close-exit-in-Err.ensures in
     tells_as _ _ _ _ _ _ _ _ _ close.exit c.into_disk-in-Err.ensures
     (tells_bad _ _ _ _ _ _ _ _ _ l.invariant.telling _ _ (ap (λ s. s.text) at) (ap (λ s. s.number) at) (ap (λ s. s.failed) at ∙ l.invariant.failed) _ _ c.in-Line.ensures.tells c.in-Line.ensures.taken.0 c.if-number-gt-MOST_LINES.false
-    _ close.emits (read_bad c.in-Err.e.column _ _ c.line.ensures c.in-Err.ensures.reading))
+    _ close.emits (read_bad c.in-Err.e.column _ _ c.line.ensures c.in-Err.ensures))
 
 pub returns-then-failed-clause-calls : goal.returns-then-failed-clause-calls
 returns-then-failed-clause-calls g c =
@@ -140,7 +140,7 @@ returns-then-failed-clause-calls g c =
     let some = c.in-Ok-Some in
     tells_as _ _ _ _ _ _ _ _ _ refl c.into_disk-then-failed.ensures
     (tells_cut _ _ _ _ _ _ _ _ _ l.invariant.telling _ _ (ap (λ s. s.text) at) (ap (λ s. s.number) at) (ap (λ s. s.failed) at ∙ l.invariant.failed) _ _ c.in-Line.ensures.tells c.in-Line.ensures.taken.0 c.if-number-gt-MOST_LINES.false
-    (statement_of c.read_statement.new.lit some.statement) _ (read_says c.read_statement.new.lit some.field-0 some.statement _ _ some.field-0-is c.line.ensures some.ensures.reading)
+    (statement_of c.read_statement.new.lit some.statement) _ (read_says c.read_statement.new.lit some.field-0 some.statement _ _ some.field-0-is c.line.ensures some.ensures)
     (answers_named _ _ _ _ _ _ _ l.invariant.name c.serve-node.ensures.tells) (sym c.failed.ensures ∙ c.if-failed.true))
 
 pub loop-number-init : goal.loop-number-init

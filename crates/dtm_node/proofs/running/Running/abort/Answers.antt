@@ -3,8 +3,7 @@ use Rattle.script_model.specs.Statements.{AbortTrans}
 use Rattle.transcript_model.specs.Lines as line
 use Rattle.dtm_node.specs.Keeping.{up_of}
 use Rattle.dtm_node.proofs.UpLemmas.{refused_early}
-use Rattle.dtm_node.proofs.Named.{uses_unmade, uses_settled}
-use Rattle.dtm_node.proofs.PutServing.{is_some_of}
+use Rattle.dtm_node.proofs.Named.{is_some_of, uses_unmade, uses_settled}
 use Rattle.dtm_node.proofs.Calling.{replies_one}
 use Rattle.dtm_node.proofs.running.Running.abort.Goals as goal
 

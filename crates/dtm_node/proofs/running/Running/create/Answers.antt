@@ -2,23 +2,24 @@ use Rattle.std.proofs.Common.{◌≡◌, ◌<◌, ◌≤◌, ◌*◌, ◌+◌, �
 use Rattle.change_set.specs.Files.{IsPlaced, LeavesOut, in_extent}
 use Rattle.extents.specs.Extents.{IsFreeRun, all_extents}
 use Rattle.file_base.specs.declared.head.FileHead.{FileHead}
+use Rattle.record_files.specs.Any as any
 use Rattle.volume.specs.declared.catalog.Catalog.{Catalog}
 use Rattle.volume.specs.Limits.{data_area}
 use Rattle.volume.specs.State.{with_block}
 use Rattle.volume_format.specs.Head.{head_block_of}
 use Rattle.volume_format.specs.Home.{sizes_of}
-use Rattle.script_model.specs.Statements.{At, Create, Relative}
+use Rattle.script_model.specs.Statements.{At, Create}
 use Rattle.script_lang.specs.Statements.{form_of}
 use Rattle.transcript_model.specs.Lines as line
 use Rattle.run_model.specs.Answers.{is_file_form, blocks_for, room_for}
 use Rattle.dtm_node.specs.Keeping.{Serves, Breaks, kept_fallen, up_of}
-use Rattle.dtm_node.specs.NewFile.{buckets_in, new_head}
-use Rattle.dtm_node.specs.Writing.{Writes}
-use Rattle.dtm_node.proofs.RecordLemmas.{on_ok_then}
-use Rattle.dtm_node.proofs.UsesLemmas.{uses_counts, uses_on}
+use Rattle.node_files.specs.NewFile.{buckets_in, new_head}
+use Rattle.node_files.specs.Writing.{Writes}
+use Rattle.dtm_node.proofs.UsesLemmas.{on_ok_then, uses_counts, uses_on}
 use Rattle.dtm_node.proofs.UpLemmas.{kept, refused_early, refused_late, renamed}
 use Rattle.dtm_node.proofs.Groups.{standing_of}
-use Rattle.dtm_node.proofs.Made.{Room, New, MadeRecords, create_exists, create_bad, create_early, room_no_place, room_full, new_placed, made_first, made_done, made_broken, made_up, same_request, left_some}
+use Rattle.dtm_node.proofs.Made.{Room, New, MadeRecords, create_exists, create_bad, create_early, room_no_place, room_full, new_placed, made_first, made_done, made_broken, made_up, same_request}
+use Rattle.node_files.proofs.NewHead.{new_head_is}
 use Rattle.dtm_node.proofs.Calling.{replies_one}
 use Rattle.dtm_node.proofs.running.Running.create.Goals as goal
 
@@ -30,12 +31,12 @@ pub returns-in_default-sizes_of-clause-serves : goal.returns-in_default-sizes_of
 returns-in_default-sizes_of-clause-serves g c = λ labels log w h.
     refused_early log w _ (up_of c.args.self.now) labels h (Create c.args.name c.args.bucket c.args.size (form_of c.args.form)) line.BadParameter _ _
     (create_bad (up_of c.args.self.now) h.node c.args.name (is_file_form c.args.bucket c.args.size (form_of c.args.form)) c.the_laws.ensures h.place c.in_default.ensures.none
-    (ap (is_file_form c.args.bucket c.args.size) c.records_of.ensures ∙ sym c.in_default-sizes_of.ensures.form)) c.emit-in_default-sizes_of.ensures.emits
+    (sym c.in_default-sizes_of.ensures.form)) c.emit-in_default-sizes_of.ensures.emits
 
 pub returns-in_default-free_file-clause-serves : goal.returns-in_default-free_file-clause-serves
 returns-in_default-free_file-clause-serves g c = λ labels log w h.
     refused_late log w _ (up_of c.args.self.now) labels h (Create c.args.name c.args.bucket c.args.size (form_of c.args.form)) (line.QuotaExceeded line.Files 64) _ _ refl
-    (create_early (up_of c.args.self.now) h.node c.args.name (is_file_form c.args.bucket c.args.size (form_of c.args.form)) c.the_laws.ensures h.place c.in_default.ensures.none (ap (is_file_form c.args.bucket c.args.size) c.records_of.ensures ∙ sym c.in-Some-sizes_of.ensures.form))
+    (create_early (up_of c.args.self.now) h.node c.args.name (is_file_form c.args.bucket c.args.size (form_of c.args.form)) c.the_laws.ensures h.place c.in_default.ensures.none (sym c.in-Some-sizes_of.ensures.form))
     (room_no_place (up_of c.args.self.now) h.node _ c.the_laws.ensures h.place c.in_default-free_file.ensures.none) c.emit-in_default-free_file.ensures.emits
 
 pub returns-then-from-need-clause-serves : goal.returns-then-from-need-clause-serves
@@ -45,10 +46,10 @@ returns-then-from-need-clause-serves g c = λ labels log w h.
     let most = c.longest_free-free.result in
     let need = c.blocks-need.result in
     let room : Room c.args.self.now.volume.catalog c.in-Some-free_file.file most = record { below = c.in-Some-free_file.ensures.found.0; free = c.in-Some-free_file.ensures.found.1; lowest = c.in-Some-free_file.ensures.lowest; some = c.longest_free-free.ensures.found; longest = c.longest_free-free.ensures.longest } in
-    let blocks : blocks_for c.args.bucket c.args.size (form_of c.args.form) ≡ need = ap (blocks_for c.args.bucket c.args.size) c.records_of.ensures ∙ sym (c.blocks-need.ensures.value ∙ (λ i. blocks_for (e.0 i) (e.1 i) (Relative (e.2 i)))) in
+    let blocks : blocks_for c.args.bucket c.args.size (form_of c.args.form) ≡ need = sym (c.blocks-need.ensures.value ∙ (λ i. blocks_for (e.0 i) (e.1 i) (form_of (e.2 i)))) in
     let st = standing_of log w _ (up_of c.args.self.now) labels h c.requires.up in
     refused_late log w _ (up_of c.args.self.now) labels h (Create c.args.name c.args.bucket c.args.size (form_of c.args.form)) (line.VolumeFull c.from-then-from-need.result need) _ _ refl
-    (create_early (up_of c.args.self.now) h.node c.args.name (is_file_form c.args.bucket c.args.size (form_of c.args.form)) c.the_laws.ensures h.place c.in_default.ensures.none (ap (is_file_form c.args.bucket c.args.size) c.records_of.ensures ∙ sym c.in-Some-sizes_of.ensures.form))
+    (create_early (up_of c.args.self.now) h.node c.args.name (is_file_form c.args.bucket c.args.size (form_of c.args.form)) c.the_laws.ensures h.place c.in_default.ensures.none (sym c.in-Some-sizes_of.ensures.form))
     (ap (λ k. room_for k h.node) blocks ∙ room_full _ (up_of c.args.self.now) h.node c.in-Some-free_file.file most need st c.the_laws.ensures room (let f = c.from.ensures in let t = c.if-from-need.true in omega (arith, f, t)) ∙ ap (λ m. Some (line.VolumeFull m need)) (sym c.from-then-from-need.ensures))
     c.emit-then-from-need.ensures.emits
 
@@ -69,20 +70,18 @@ returns-in-Err-clause-serves g c = λ labels log w h.
     let room : Room c.args.self.now.volume.catalog c.in-Some-free_file.file most = record { below = c.in-Some-free_file.ensures.found.0; free = c.in-Some-free_file.ensures.found.1; lowest = c.in-Some-free_file.ensures.lowest; some = c.longest_free-free.ensures.found; longest = c.longest_free-free.ensures.longest } in
     let run = subst (λ k. IsFreeRun (data_area (sizes_of c.args.self.now.volume.catalog.home)) (all_extents c.args.self.now.volume.catalog.heads) c.in-Some-free_run.start k) value c.in-Some-free_run.ensures.found in
     let lowest = subst (λ k. (lower : ℕ) → lower < c.in-Some-free_run.start → IsFreeRun (data_area (sizes_of c.args.self.now.volume.catalog.home)) (all_extents c.args.self.now.volume.catalog.heads) lower k → ⊥) value c.in-Some-free_run.ensures.lowest in
-    let some : 1 ≤ buckets_in s * s.bucket = subst (λ k. 1 ≤ k) value c.blocks-need.ensures.some in
     let enough : buckets_in s * s.bucket ≤ most = (let f = c.from.ensures in let t = c.if-from-need.false in omega (arith, f, t, value)) in
     let new : New c.args.self.now.volume.catalog.home.node (up_of c.args.self.now) c.args.name s c.in-Some-free_file.file c.in-Some-free_run.start most = record {
       whole = c.file.ensures.whole;
       none = c.in_default.ensures.none;
       sizes = c.in-Some-sizes_of.ensures.fits;
-      some = left_some (buckets_in s) s.bucket some;
-      form = (λ i. is_file_form (e.0 i) (e.1 i) (Relative (e.2 i))) ∙ sym c.in-Some-sizes_of.ensures.form;
+      form = (λ i. is_file_form (e.0 i) (e.1 i) (form_of (e.2 i))) ∙ sym c.in-Some-sizes_of.ensures.form;
       room = room;
       enough = enough;
       run = run;
       lowest = lowest;
     } in
-    let req = same_request c.args.name _ _ _ c.args.bucket c.args.size _ (form_of c.args.form) e.0 e.1 e.2 c.records_of.ensures in
+    let req = same_request c.args.name _ _ c.args.bucket c.args.size s.form c.args.form e.0 e.1 e.2 in
     let leaves = subst (λ (x : FileHead). LeavesOut (in_extent x) c.args.self.now.volume.store.current c.make_records.new.volume.store.disk) c.head-head.ensures c.in-Err.ensures.down in
     let uses = uses_counts c.make_records.result _ _ c.make_records.ensures.counts (on_ok_then c.make_records.result (λ i. i.ready.settled) c.make_records.ensures.idle) in
     subst (λ q. Breaks log w (At c.args.self.now.volume.catalog.home.node q) c.args.self.now.volume.catalog.home.node c.in-Err.down (g.E.Emit.shows c.args.out.now) (g.E.Emit.shows c.args.out.now) (kept_fallen c.args.self.now.volume.catalog.home.node labels c.make_records.new.volume.store.disk)) req
@@ -97,22 +96,20 @@ returns-in-Err-write_head-clause-serves g c = λ labels log w h.
     let room : Room c.args.self.now.volume.catalog c.in-Some-free_file.file most = record { below = c.in-Some-free_file.ensures.found.0; free = c.in-Some-free_file.ensures.found.1; lowest = c.in-Some-free_file.ensures.lowest; some = c.longest_free-free.ensures.found; longest = c.longest_free-free.ensures.longest } in
     let run = subst (λ k. IsFreeRun (data_area (sizes_of c.args.self.now.volume.catalog.home)) (all_extents c.args.self.now.volume.catalog.heads) c.in-Some-free_run.start k) value c.in-Some-free_run.ensures.found in
     let lowest = subst (λ k. (lower : ℕ) → lower < c.in-Some-free_run.start → IsFreeRun (data_area (sizes_of c.args.self.now.volume.catalog.home)) (all_extents c.args.self.now.volume.catalog.heads) lower k → ⊥) value c.in-Some-free_run.ensures.lowest in
-    let some : 1 ≤ buckets_in s * s.bucket = subst (λ k. 1 ≤ k) value c.blocks-need.ensures.some in
     let enough : buckets_in s * s.bucket ≤ most = (let f = c.from.ensures in let t = c.if-from-need.false in omega (arith, f, t, value)) in
     let new : New c.args.self.now.volume.catalog.home.node (up_of c.args.self.now) c.args.name s c.in-Some-free_file.file c.in-Some-free_run.start most = record {
       whole = c.file.ensures.whole;
       none = c.in_default.ensures.none;
       sizes = c.in-Some-sizes_of.ensures.fits;
-      some = left_some (buckets_in s) s.bucket some;
-      form = (λ i. is_file_form (e.0 i) (e.1 i) (Relative (e.2 i))) ∙ sym c.in-Some-sizes_of.ensures.form;
+      form = (λ i. is_file_form (e.0 i) (e.1 i) (form_of (e.2 i))) ∙ sym c.in-Some-sizes_of.ensures.form;
       room = room;
       enough = enough;
       run = run;
       lowest = lowest;
     } in
-    let req = same_request c.args.name _ _ _ c.args.bucket c.args.size _ (form_of c.args.form) e.0 e.1 e.2 c.records_of.ensures in
+    let req = same_request c.args.name _ _ c.args.bucket c.args.size s.form c.args.form e.0 e.1 e.2 in
     let made : MadeRecords (new_head c.args.name s c.in-Some-free_run.start) c.args.self.now.volume c.make_records.new.volume = subst (λ (x : FileHead). MadeRecords x c.args.self.now.volume c.make_records.new.volume) c.head-head.ensures
-    (record { map_is = c.in-Ok.ensures.map; outside = c.in-Ok.ensures.outside; idle = c.in-Ok.ensures.idle; catalog = c.make_records.ensures.catalog; size = c.make_records.ensures.counts.size; told = c.make_records.ensures.counts.told; pool = c.make_records.ensures.pool }) in
+    (record { map_is = c.in-Ok.ensures.map; laid = c.in-Ok.ensures.laid; chain = c.in-Ok.ensures.chain; outside = c.in-Ok.ensures.outside; idle = c.in-Ok.ensures.idle; catalog = c.make_records.ensures.catalog; size = c.make_records.ensures.counts.size; told = c.make_records.ensures.counts.told; pool = c.make_records.ensures.pool }) in
     let wr = subst (λ (x : FileHead). Writes c.write_head.result (with_block (519 + c.in-Some-free_file.file) (head_block_of c.head-head.result) c.make_records.new.volume.store).current (record c.make_records.new.volume.catalog { heads = slice_set c.make_records.new.volume.catalog.heads c.in-Some-free_file.file (Some x) }) c.make_records.new.volume c.write_head.new.volume) c.head-head.ensures c.write_head.ensures in
     let first = uses_counts c.make_records.result c.args.self.now.volume.store.disk c.make_records.new.volume.store.disk c.make_records.ensures.counts (on_ok_then c.make_records.result (λ i. i.ready.settled) c.make_records.ensures.idle) in
     let uses = uses_on c.write_head.result _ _ _ first.goes (uses_counts c.write_head.result c.make_records.new.volume.store.disk c.write_head.new.volume.store.disk wr.counts wr.ready) in
@@ -128,22 +125,20 @@ returns-in-Ok-write_head-clause-up g c =
     let room : Room c.args.self.now.volume.catalog c.in-Some-free_file.file most = record { below = c.in-Some-free_file.ensures.found.0; free = c.in-Some-free_file.ensures.found.1; lowest = c.in-Some-free_file.ensures.lowest; some = c.longest_free-free.ensures.found; longest = c.longest_free-free.ensures.longest } in
     let run = subst (λ k. IsFreeRun (data_area (sizes_of c.args.self.now.volume.catalog.home)) (all_extents c.args.self.now.volume.catalog.heads) c.in-Some-free_run.start k) value c.in-Some-free_run.ensures.found in
     let lowest = subst (λ k. (lower : ℕ) → lower < c.in-Some-free_run.start → IsFreeRun (data_area (sizes_of c.args.self.now.volume.catalog.home)) (all_extents c.args.self.now.volume.catalog.heads) lower k → ⊥) value c.in-Some-free_run.ensures.lowest in
-    let some : 1 ≤ buckets_in s * s.bucket = subst (λ k. 1 ≤ k) value c.blocks-need.ensures.some in
     let enough : buckets_in s * s.bucket ≤ most = (let f = c.from.ensures in let t = c.if-from-need.false in omega (arith, f, t, value)) in
     let new : New c.args.self.now.volume.catalog.home.node (up_of c.args.self.now) c.args.name s c.in-Some-free_file.file c.in-Some-free_run.start most = record {
       whole = c.file.ensures.whole;
       none = c.in_default.ensures.none;
       sizes = c.in-Some-sizes_of.ensures.fits;
-      some = left_some (buckets_in s) s.bucket some;
-      form = (λ i. is_file_form (e.0 i) (e.1 i) (Relative (e.2 i))) ∙ sym c.in-Some-sizes_of.ensures.form;
+      form = (λ i. is_file_form (e.0 i) (e.1 i) (form_of (e.2 i))) ∙ sym c.in-Some-sizes_of.ensures.form;
       room = room;
       enough = enough;
       run = run;
       lowest = lowest;
     } in
-    let req = same_request c.args.name _ _ _ c.args.bucket c.args.size _ (form_of c.args.form) e.0 e.1 e.2 c.records_of.ensures in
+    let req = same_request c.args.name _ _ c.args.bucket c.args.size s.form c.args.form e.0 e.1 e.2 in
     let made : MadeRecords (new_head c.args.name s c.in-Some-free_run.start) c.args.self.now.volume c.make_records.new.volume = subst (λ (x : FileHead). MadeRecords x c.args.self.now.volume c.make_records.new.volume) c.head-head.ensures
-    (record { map_is = c.in-Ok.ensures.map; outside = c.in-Ok.ensures.outside; idle = c.in-Ok.ensures.idle; catalog = c.make_records.ensures.catalog; size = c.make_records.ensures.counts.size; told = c.make_records.ensures.counts.told; pool = c.make_records.ensures.pool }) in
+    (record { map_is = c.in-Ok.ensures.map; laid = c.in-Ok.ensures.laid; chain = c.in-Ok.ensures.chain; outside = c.in-Ok.ensures.outside; idle = c.in-Ok.ensures.idle; catalog = c.make_records.ensures.catalog; size = c.make_records.ensures.counts.size; told = c.make_records.ensures.counts.told; pool = c.make_records.ensures.pool }) in
     let wr = subst (λ (x : FileHead). Writes c.write_head.result (with_block (519 + c.in-Some-free_file.file) (head_block_of c.head-head.result) c.make_records.new.volume.store).current (record c.make_records.new.volume.catalog { heads = slice_set c.make_records.new.volume.catalog.heads c.in-Some-free_file.file (Some x) }) c.make_records.new.volume c.write_head.new.volume) c.head-head.ensures c.write_head.ensures in
     let first = uses_counts c.make_records.result c.args.self.now.volume.store.disk c.make_records.new.volume.store.disk c.make_records.ensures.counts (on_ok_then c.make_records.result (λ i. i.ready.settled) c.make_records.ensures.idle) in
     let uses = uses_on c.write_head.result _ _ _ first.goes (uses_counts c.write_head.result c.make_records.new.volume.store.disk c.write_head.new.volume.store.disk wr.counts wr.ready) in
@@ -158,22 +153,20 @@ returns-in-Ok-write_head-clause-serves g c = λ labels log w h.
     let room : Room c.args.self.now.volume.catalog c.in-Some-free_file.file most = record { below = c.in-Some-free_file.ensures.found.0; free = c.in-Some-free_file.ensures.found.1; lowest = c.in-Some-free_file.ensures.lowest; some = c.longest_free-free.ensures.found; longest = c.longest_free-free.ensures.longest } in
     let run = subst (λ k. IsFreeRun (data_area (sizes_of c.args.self.now.volume.catalog.home)) (all_extents c.args.self.now.volume.catalog.heads) c.in-Some-free_run.start k) value c.in-Some-free_run.ensures.found in
     let lowest = subst (λ k. (lower : ℕ) → lower < c.in-Some-free_run.start → IsFreeRun (data_area (sizes_of c.args.self.now.volume.catalog.home)) (all_extents c.args.self.now.volume.catalog.heads) lower k → ⊥) value c.in-Some-free_run.ensures.lowest in
-    let some : 1 ≤ buckets_in s * s.bucket = subst (λ k. 1 ≤ k) value c.blocks-need.ensures.some in
     let enough : buckets_in s * s.bucket ≤ most = (let f = c.from.ensures in let t = c.if-from-need.false in omega (arith, f, t, value)) in
     let new : New c.args.self.now.volume.catalog.home.node (up_of c.args.self.now) c.args.name s c.in-Some-free_file.file c.in-Some-free_run.start most = record {
       whole = c.file.ensures.whole;
       none = c.in_default.ensures.none;
       sizes = c.in-Some-sizes_of.ensures.fits;
-      some = left_some (buckets_in s) s.bucket some;
-      form = (λ i. is_file_form (e.0 i) (e.1 i) (Relative (e.2 i))) ∙ sym c.in-Some-sizes_of.ensures.form;
+      form = (λ i. is_file_form (e.0 i) (e.1 i) (form_of (e.2 i))) ∙ sym c.in-Some-sizes_of.ensures.form;
       room = room;
       enough = enough;
       run = run;
       lowest = lowest;
     } in
-    let req = same_request c.args.name _ _ _ c.args.bucket c.args.size _ (form_of c.args.form) e.0 e.1 e.2 c.records_of.ensures in
+    let req = same_request c.args.name _ _ c.args.bucket c.args.size s.form c.args.form e.0 e.1 e.2 in
     let made : MadeRecords (new_head c.args.name s c.in-Some-free_run.start) c.args.self.now.volume c.make_records.new.volume = subst (λ (x : FileHead). MadeRecords x c.args.self.now.volume c.make_records.new.volume) c.head-head.ensures
-    (record { map_is = c.in-Ok.ensures.map; outside = c.in-Ok.ensures.outside; idle = c.in-Ok.ensures.idle; catalog = c.make_records.ensures.catalog; size = c.make_records.ensures.counts.size; told = c.make_records.ensures.counts.told; pool = c.make_records.ensures.pool }) in
+    (record { map_is = c.in-Ok.ensures.map; laid = c.in-Ok.ensures.laid; chain = c.in-Ok.ensures.chain; outside = c.in-Ok.ensures.outside; idle = c.in-Ok.ensures.idle; catalog = c.make_records.ensures.catalog; size = c.make_records.ensures.counts.size; told = c.make_records.ensures.counts.told; pool = c.make_records.ensures.pool }) in
     let wr = subst (λ (x : FileHead). Writes c.write_head.result (with_block (519 + c.in-Some-free_file.file) (head_block_of c.head-head.result) c.make_records.new.volume.store).current (record c.make_records.new.volume.catalog { heads = slice_set c.make_records.new.volume.catalog.heads c.in-Some-free_file.file (Some x) }) c.make_records.new.volume c.write_head.new.volume) c.head-head.ensures c.write_head.ensures in
     let first = uses_counts c.make_records.result c.args.self.now.volume.store.disk c.make_records.new.volume.store.disk c.make_records.ensures.counts (on_ok_then c.make_records.result (λ i. i.ready.settled) c.make_records.ensures.idle) in
     let uses = uses_on c.write_head.result _ _ _ first.goes (uses_counts c.write_head.result c.make_records.new.volume.store.disk c.write_head.new.volume.store.disk wr.counts wr.ready) in
@@ -196,3 +189,11 @@ returns-then-from-need-clause-fine g c = replies_one _ _ _ c.emit-then-from-need
 
 pub returns-in-Ok-write_head-clause-fine : goal.returns-in-Ok-write_head-clause-fine
 returns-in-Ok-write_head-clause-fine g c = replies_one _ _ _ c.emit-in-Ok-write_head.ensures.emits refl
+
+pub make_records-requires-clause-form : goal.make_records-requires-clause-form
+make_records-requires-clause-form g c =
+    subst (λ (x : FileHead). any.IsFile x) (sym c.head-head.ensures) ((c.the_laws.ensures.makes.form _ _ (new_head_is c.args.name c.in-Some-sizes_of.sizes c.in-Some-free_run.start c.in-Some-sizes_of.ensures.fits)).0)
+
+pub make_records-requires-clause-fresh : goal.make_records-requires-clause-fresh
+make_records-requires-clause-fresh g c =
+    subst (λ (x : FileHead). any.IsNew x) (sym c.head-head.ensures) ((c.the_laws.ensures.makes.form _ _ (new_head_is c.args.name c.in-Some-sizes_of.sizes c.in-Some-free_run.start c.in-Some-sizes_of.ensures.fits)).1)

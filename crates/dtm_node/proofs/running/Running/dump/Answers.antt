@@ -6,10 +6,9 @@ use Rattle.transcript_model.specs.Lines as line
 use Rattle.vms_base.specs.Ids.{serial_of}
 use Rattle.dtm_node.specs.Keeping.{up_of}
 use Rattle.dtm_node.specs.Standing.{IsUp}
-use Rattle.dtm_node.proofs.RecordLemmas.{on_ok_then}
-use Rattle.dtm_node.proofs.UsesLemmas.{uses_read}
+use Rattle.dtm_node.proofs.UsesLemmas.{on_ok_then, uses_read}
 use Rattle.dtm_node.proofs.UpLemmas.{refused_early}
-use Rattle.dtm_node.proofs.Files.{wants_not_found, wants_locked}
+use Rattle.dtm_node.proofs.Files.{found_file, wants_not_found, wants_locked}
 use Rattle.dtm_node.proofs.Dumping.{dump_any}
 use Rattle.dtm_node.proofs.Calling.{replies_one}
 use Rattle.dtm_node.proofs.running.Running.dump.Goals as goal
@@ -40,7 +39,9 @@ returns-clause-serves g c = λ labels log w h.
     let found = rw (c.in-Some.file-is, c.in-Some.head-is) at c.in-Some.ensures.found in
     let free = sym c.locked_by.ensures ∙ ap (option_map serial_of) c.in_default-locked_by.is in
     dump_any log w _ (up_of c.args.self.now) labels h c.the_laws.ensures c.args.name.now c.in-Some.file c.in-Some.head found.1 free c.show_records.result (up_of c.show_records.new.self) _ _ _ c.requires.up (sym (ap (λ (v : Catalog). v.home.node) c.show_records.ensures.catalog)) c.show_records.ensures.same c.show_records.ensures.disk
-    (uses_read c.show_records.result _ _ c.show_records.ensures.disk c.requires.up.idle.ready.settled) (λ m same. c.show_records.ensures.shows h.place.content m h.place.told same)
+    (uses_read c.show_records.result _ _ c.show_records.ensures.disk c.requires.up.idle.ready.settled) (λ m few same.
+    let x = found_file (up_of c.args.self.now) h.node c.args.name.now c.in-Some.file c.in-Some.head h.place c.the_laws.ensures.finds found.1 in
+    c.show_records.ensures.shows h.place.content m h.place.told x.is.form x.is.laid few same)
 
 pub returns-in_default-clause-fine : goal.returns-in_default-clause-fine
 returns-in_default-clause-fine g c = replies_one _ _ _ c.emit.ensures.emits refl

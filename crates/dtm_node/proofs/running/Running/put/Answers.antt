@@ -1,32 +1,21 @@
-use Rattle.std.proofs.Common.{refl}
+use Rattle.std.proofs.Common.{sym, subst}
+use Rattle.transcript.specs.Forms.{line_of}
+use Rattle.vms_base.specs.Keys.{key_of}
 use Rattle.script_model.specs.Statements.{Put}
-use Rattle.transcript_model.specs.Lines as line
+use Rattle.run_model.specs.Operations.{place_refused}
+use Rattle.directory_model.specs.Files.{organized_by}
 use Rattle.dtm_node.specs.Keeping.{up_of}
-use Rattle.dtm_node.proofs.UpLemmas.{refused_early}
-use Rattle.dtm_node.proofs.Putting.{put_unmade}
-use Rattle.dtm_node.proofs.PutServing.{is_some_of}
-use Rattle.dtm_node.proofs.Calling.{replies_one}
+use Rattle.dtm_node.specs.Operating.{IsPut, Told}
+use Rattle.dtm_node.proofs.Fitting.{both_none, put_nowhere, put_by_key}
 use Rattle.dtm_node.proofs.running.Running.put.Goals as goal
 
-pub returns-in-NotMade-clause-serves : goal.returns-in-NotMade-clause-serves
-returns-in-NotMade-clause-serves g c = λ log w h.
-    let n = rw c.in-NotMade.is at c.branch_labelled.ensures in
-    refused_early log w _ (up_of c.args.self.now) c.args.labels.now h (Put c.args.label.now c.args.name.now c.args.number c.args.bytes.now) line.BadLabel _ _ (put_unmade log w _ (up_of c.args.self.now) c.args.labels.now h c.args.label.now c.args.name.now c.args.number c.args.bytes.now n) c.emit.ensures.emits
+pub returns-in-Sequential-clause-operates : goal.returns-in-Sequential-clause-operates
+returns-in-Sequential-clause-operates g c =
+    subst (λ n. Told c.append.result line_of (Put n c.args.bytes.now) c.args.file c.args.head (up_of c.args.self.now) (up_of c.append.new.self))
+    (sym (put_nowhere c.args.head.organization c.args.head c.args.number c.in-Sequential.is (both_none (place_refused (organized_by c.args.head.organization c.args.head) c.args.number) _ c.requires.fits).0)) c.append.ensures.operates
 
-pub returns-in-Settled-clause-serves : goal.returns-in-Settled-clause-serves
-returns-in-Settled-clause-serves g c = λ log w h.
-    let n = rw c.in-Settled.is at c.branch_labelled.ensures in
-    c.put_settled.ensures.serves c.args.labels.now c.args.label.now n.0 log w h n.1 n.2
-
-pub put_unsettled-requires-clause-branch : goal.put_unsettled-requires-clause-branch
-put_unsettled-requires-clause-branch g c =
-    let n = rw c.in-Unsettled.is at c.branch_labelled.ensures in
-    is_some_of (up_of c.args.self.now).branch _ n.1
-
-pub returns-in-Unsettled-clause-serves : goal.returns-in-Unsettled-clause-serves
-returns-in-Unsettled-clause-serves g c = λ log w h.
-    let n = rw c.in-Unsettled.is at c.branch_labelled.ensures in
-    c.put_unsettled.ensures.serves c.args.labels.now c.args.label.now _ log w h n.0 n.1
-
-pub returns-in-NotMade-clause-fine : goal.returns-in-NotMade-clause-fine
-returns-in-NotMade-clause-fine g c = replies_one _ _ _ c.emit.ensures.emits refl
+pub returns-in-Some-key_within-clause-operates : goal.returns-in-Some-key_within-clause-operates
+returns-in-Some-key_within-clause-operates g c =
+    c.put_new-in-Indexed.ensures.operates c.args.number
+    (subst (λ o. IsPut o c.args.head c.args.number c.args.bytes.now (key_of c.in-Some-key_within.key)) (sym c.in-Indexed.is)
+    (put_by_key c.args.head.organization c.args.head c.args.number c.in-Indexed.is (both_none (place_refused (organized_by c.args.head.organization c.args.head) c.args.number) _ c.requires.fits).0, c.in-Some-key_within.ensures.key))

@@ -6,8 +6,8 @@ returns-in-Create-clause-serves g c = λ log w h. rw c.in-Create.is (c.create.en
 pub returns-in-SetFile-clause-serves : goal.returns-in-SetFile-clause-serves
 returns-in-SetFile-clause-serves g c = λ log w h. rw c.in-SetFile.is (c.set_file.ensures.serves c.args.labels.now log w h)
 
-pub returns-in-Put-clause-serves : goal.returns-in-Put-clause-serves
-returns-in-Put-clause-serves g c = λ log w h. rw c.in-Put.is (rw c.bytes.ensures.value at c.put.ensures.serves log w h)
+pub returns-in-Records-clause-serves : goal.returns-in-Records-clause-serves
+returns-in-Records-clause-serves g c = λ log w h. rw c.in-Records.is (c.operate.ensures.serves log w h)
 
 pub returns-in-EndTrans-clause-serves : goal.returns-in-EndTrans-clause-serves
 returns-in-EndTrans-clause-serves g c = λ log w h. rw c.in-EndTrans.is (c.end.ensures.serves log w h)

@@ -1,64 +1,63 @@
-use Rattle.std.proofs.Common.{Option, IfSome, ap, sym, subst, ◌∙◌, arith, List, ℕ, refl}
+use Rattle.std.proofs.Common.{◌∷◌, [], Option, IfSome, ap, sym, subst, ◌∙◌, arith, List, ℕ, refl}
+use Rattle.std.specs.Prelude.{option_map}
+use Rattle.std.specs.Option.{option_copied}
 use Rattle.change_set.specs.Files.{IsPlaced}
 use Rattle.change_set.specs.Maps.{IsNext, EndsAfter}
-use Rattle.relative_file.specs.Cells.{map_of}
-use Rattle.vms_model.specs.Keys.{Number}
+use Rattle.record_files.specs.Any.{IsFile, IsLaidOut, map_of}
+use Rattle.vms_base.specs.Keys.{key_of}
+use Rattle.transcript_model.specs.Emitting.{Emits}
+use Rattle.transcript_model.specs.Lines as line
 use Rattle.transcript_model.proofs.EmittingLemmas.{since_on}
 use Rattle.dtm_node.specs.Keeping.{up_of}
-use Rattle.dtm_node.specs.Records.{after_number}
 use Rattle.dtm_node.specs.Standing.{Up}
-use Rattle.dtm_node.proofs.CatalogLemmas.{placed}
-use Rattle.dtm_node.proofs.Dumping.{next_shown, emits_next, shows_all, ends_behind}
+use Rattle.node_files.proofs.CatalogLemmas.{placed}
+use Rattle.dtm_node.proofs.Dumping.{emits_next, shows_all, shows_most}
 use Rattle.dtm_node.proofs.Calling.{fine_more, replies_after}
 use Rattle.dtm_node.proofs.running.Running.show_records.Goals as goal
 
 pub next_record-requires-clause-placed : goal.next_record-requires-clause-placed
 next_record-requires-clause-placed g c =
-    subst (λ (u : Up). IsPlaced c.args.head.now u.volume.store.disk) (sym c.loop-after.invariant.same)
+    subst (λ (u : Up). IsPlaced c.args.head.now u.volume.store.disk) (sym c.loop-count.invariant.same)
     (placed _ c.args.self.now.volume.catalog c.requires.there.0 c.args.head.now _ c.the_laws.ensures.apart c.requires.whole c.requires.up.sound c.requires.up.most c.requires.there.1)
 
-pub returns-in-Err-clause-shows : goal.returns-in-Err-clause-shows
-returns-in-Err-clause-shows g c = λ content m told same.
-    let s = c.loop-after.invariant.shows content m told same in
-    (c.loop-after.count, s.0.few, s.1)
-
-pub returns-in-Ok-None-clause-shows : goal.returns-in-Ok-None-clause-shows
-returns-in-Ok-None-clause-shows g c = λ content m told same.
-    let s = c.loop-after.invariant.shows content m told same in
-    let here = ap (λ (u : Up). u.volume.store.current) c.loop-after.invariant.same ∙ told in
-    let ends = rw c.in-Ok-None.field-0-is at c.in-Ok-None.ensures.none in
-    shows_all c.the_laws.ensures.shows m c.args.head.now content c.loop-after.count c.loop-after.after _ _ _ same s.0
-    (subst (λ (o : Option (List (List ℕ))). IfSome o (λ c'. EndsAfter (map_of c.args.head.now c') (after_number c.loop-after.after))) here ends) s.1 c.emit.ensures.emits
-
-pub loop-after-preserved : goal.loop-after-preserved
-loop-after-preserved g c =
-    let behind = rw c.in-Ok-Some.field-0-is at c.in-Ok-Some.ensures.behind in
-    let found = rw c.in-Ok-Some.field-0-is at c.in-Ok-Some.ensures.found in
+pub loop-count-preserved : goal.loop-count-preserved
+loop-count-preserved g c =
+    let head = c.args.head.now in
     record {
-      same = (λ i. record (up_of c.loop-after.self) { volume = c.in-Ok-Some.ensures.same i }) ∙ c.loop-after.invariant.same;
-      place = c.emit-in-Ok-Some.ensures.same_place ∙ c.loop-after.invariant.place;
-      since = since_on _ _ _ c.loop-after.invariant.since c.emit-in-Ok-Some.ensures.since;
-      fine = fine_more _ _ _ _ c.loop-after.invariant.fine c.emit-in-Ok-Some.ensures.emits refl;
-      few = omega (arith, behind.0, c.loop-after.invariant.few);
-      within = behind.1;
-      shows = λ content m told same.
-          let s = c.loop-after.invariant.shows content m told same in
-          let here = ap (λ (u : Up). u.volume.store.current) c.loop-after.invariant.same ∙ told in
-          let next = subst (λ (o : Option (List (List ℕ))). IfSome o (λ c'. IsNext (map_of c.args.head.now c') (after_number c.loop-after.after) (Number c.in-Ok-Some.number) c.next_record.new.found)) here found in
-          let n = next_shown c.the_laws.ensures.shows m c.args.head.now content c.loop-after.count c.loop-after.after c.in-Ok-Some.number c.next_record.new.found same s.0 behind.0 next in
-          (n.0, emits_next m c.loop-after.count c.in-Ok-Some.number c.next_record.new.found _ _ _ n.1 s.1 c.emit-in-Ok-Some.ensures.emits);
+      same = (λ i. record (up_of c.loop-count.self) { volume = c.in-Ok-true.ensures.same i }) ∙ c.loop-count.invariant.same;
+      place = c.emit.ensures.same_place ∙ c.loop-count.invariant.place;
+      since = since_on _ _ _ c.loop-count.invariant.since c.emit.ensures.since;
+      fine = fine_more _ _ _ _ c.loop-count.invariant.fine c.emit.ensures.emits refl;
+      most = (let lt = c.loop-count-test.true in omega (arith, lt));
+      shows = λ content m told form laid same.
+          let s = c.loop-count.invariant.shows content m told form laid same in
+          let here = ap (λ (u : Up). u.volume.store.current) c.loop-count.invariant.same ∙ told in
+          let found = c.in-Ok-true.ensures.found c.in-Ok-true.field-0-test in
+          let at = subst (λ (o : Option (List (List ℕ))). IfSome o (λ c'. IsFile head → IsLaidOut head c' → IsNext (map_of head c') (option_map key_of (option_copied c.as_ref.result)) (key_of c.next_record.new.key) c.next_record.new.found)) here found in
+          let next = subst (λ a. IsNext (map_of head content) (option_map key_of a) (key_of c.next_record.new.key) c.next_record.new.found) c.as_ref.ensures.value (at form laid) in
+          let n = c.the_laws.ensures.shows.next m (map_of head content) c.loop-count.count (option_map key_of c.loop-count.after) (key_of c.next_record.new.key) c.next_record.new.found same s.0 next in
+          (n.0, emits_next m c.loop-count.count (key_of c.next_record.new.key) c.next_record.new.found _ _ _ n.1 s.1 c.emit.ensures.emits);
     }
 
+pub returns-in-Ok-false-clause-shows : goal.returns-in-Ok-false-clause-shows
+returns-in-Ok-false-clause-shows g c = λ content m told form laid few same.
+    let head = c.args.head.now in
+    let s = c.loop-count.invariant.shows content m told form laid same in
+    let here = ap (λ (u : Up). u.volume.store.current) c.loop-count.invariant.same ∙ told in
+    let none = c.in-Ok-false.ensures.none c.in-Ok-false.field-0-test in
+    let at = subst (λ (o : Option (List (List ℕ))). IfSome o (λ c'. IsFile head → IsLaidOut head c' → EndsAfter (map_of head c') (option_map key_of (option_copied c.as_ref.result)))) here none in
+    let ends = subst (λ a. EndsAfter (map_of head content) (option_map key_of a)) c.as_ref.ensures.value (at form laid) in
+    shows_all c.the_laws.ensures.shows m (map_of head content) c.loop-count.count (option_map key_of c.loop-count.after) _ _ _ same s.0 ends s.1
+    (subst (λ n. Emits (g.E.Emit.shows c.loop-count.out) (line.NormalCount n ∷ []) (g.E.Emit.shows c.emit-in-Ok-false.new.self)) c.from.ensures c.emit-in-Ok-false.ensures.emits)
+
 pub returns-clause-shows : goal.returns-clause-shows
-returns-clause-shows g c = λ content m told same.
-    let s = c.loop-after.invariant.shows content m told same in
-    shows_all c.the_laws.ensures.shows m c.args.head.now content c.loop-after.count c.loop-after.after _ _ _ same s.0 (ends_behind c.args.head.now content c.loop-after.after c.loop-after-test.false) s.1 c.emit-2.ensures.emits
+returns-clause-shows g c = λ content m told form laid few same.
+    let s = c.loop-count.invariant.shows content m told form laid same in
+    shows_most m c.loop-count.count 4294967295 (option_map key_of c.loop-count.after) _ _ _ few c.loop-count-test.false s.0 s.1
+    (subst (λ n. Emits (g.E.Emit.shows c.loop-count.out) (line.NormalCount n ∷ []) (g.E.Emit.shows c.emit-2.new.self)) c.from-2.ensures c.emit-2.ensures.emits)
 
-pub returns-in-Err-clause-fine : goal.returns-in-Err-clause-fine
-returns-in-Err-clause-fine g c = c.loop-after.invariant.fine
-
-pub returns-in-Ok-None-clause-fine : goal.returns-in-Ok-None-clause-fine
-returns-in-Ok-None-clause-fine g c = replies_after _ _ _ _ c.loop-after.invariant.fine c.emit.ensures.emits refl
+pub returns-in-Ok-false-clause-fine : goal.returns-in-Ok-false-clause-fine
+returns-in-Ok-false-clause-fine g c = replies_after _ _ _ _ c.loop-count.invariant.fine c.emit-in-Ok-false.ensures.emits refl
 
 pub returns-clause-fine : goal.returns-clause-fine
-returns-clause-fine g c = replies_after _ _ _ _ c.loop-after.invariant.fine c.emit-2.ensures.emits refl
+returns-clause-fine g c = replies_after _ _ _ _ c.loop-count.invariant.fine c.emit-2.ensures.emits refl

@@ -1,25 +1,15 @@
-use Rattle.std.proofs.Common.{◌≡◌, Option, Some, None, is_some, true, false, sym, ◌∙◌, ap, refl}
+use Rattle.std.proofs.Common.{sym, ◌∙◌, ap, refl}
 use Rattle.std.specs.Prelude.{option_map}
 use Rattle.script_model.specs.Statements.{StartTrans}
 use Rattle.transcript_model.specs.Lines as line
 use Rattle.volume_format.specs.declared.home.Home.{Home}
 use Rattle.dtm_node.specs.LabelTable.{label_of}
-use Rattle.dtm_node.specs.Keeping.{up_of, putting_of}
-use Rattle.dtm_node.specs.declared.running.Branch.{Branch}
-use Rattle.dtm_node.specs.Standing.{Putting}
+use Rattle.dtm_node.specs.Keeping.{up_of}
+use Rattle.node_files.specs.Notes.{notes_in}
 use Rattle.dtm_node.proofs.UpLemmas.{refused_early, refused_late}
-use Rattle.dtm_node.proofs.Named.{new_made, new_full, new_none, quota_says, start_as}
+use Rattle.dtm_node.proofs.Named.{new_made, new_full, new_none, no_unsettled, quota_says, some_unsettled, start_as}
 use Rattle.dtm_node.proofs.Calling.{replies_one}
 use Rattle.dtm_node.proofs.running.Running.start.Goals as goal
-
--- a branch of the code's
-there : (o : Option Branch) → is_some o ≡ true → (b : Putting) × (option_map putting_of o ≡ Some b)
-there None e = let none : ⊥ = cc in absurd none
-there (Some b) e = (putting_of b, refl)
-
-none_there : (o : Option Branch) → is_some o ≡ false → option_map putting_of o ≡ None
-none_there None e = refl
-none_there (Some b) e = let none : ⊥ = cc in absurd none
 
 pub returns-in-Some-clause-serves : goal.returns-in-Some-clause-serves
 returns-in-Some-clause-serves g c = λ log w h.
@@ -33,16 +23,16 @@ returns-then-is_full-clause-serves g c = λ log w h.
 
 pub returns-then-is_some-clause-serves : goal.returns-then-is_some-clause-serves
 returns-then-is_some-clause-serves g c = λ log w h.
-    let b = there c.args.self.now.branch (sym c.is_some.ensures ∙ c.if-is_some.true) in
+    let b = some_unsettled (notes_in c.args.self.now.buffers.undo) c.args.self.now.branch (sym c.is_some.ensures ∙ c.if-is_some.true) in
     refused_late log w _ (up_of c.args.self.now) c.args.labels.now h (StartTrans c.args.label) (line.QuotaExceeded line.Branches 1) _ _ refl
     (new_none log w _ (up_of c.args.self.now) c.args.labels.now h c.args.label (sym c.find.ensures ∙ ap (option_map (label_of c.args.label)) c.in_default.is) (sym c.is_full.ensures ∙ c.if-is_full.false))
     (quota_says log w _ (up_of c.args.self.now) c.args.labels.now h c.args.label b.0 b.1) c.emit-then-is_some.ensures.emits
 
 pub returns-clause-serves : goal.returns-clause-serves
 returns-clause-serves g c = λ log w h.
-    start_as log w _ (up_of c.args.self.now) c.args.labels.now h c.args.label _ _ _ _ _ _ _ _ _ c.the_laws.ensures (none_there c.args.self.now.branch (sym c.is_some.ensures ∙ c.if-is_some.false))
+    start_as log w _ (up_of c.args.self.now) c.args.labels.now h c.args.label _ _ _ _ _ _ _ _ _ c.the_laws.ensures (no_unsettled (notes_in c.args.self.now.buffers.undo) c.args.self.now.branch (sym c.is_some.ensures ∙ c.if-is_some.false))
     (sym c.find.ensures ∙ ap (option_map (label_of c.args.label)) c.in_default.is) (sym c.is_full.ensures ∙ c.if-is_full.false) refl refl
-    c.next_id.ensures c.next_id-2.ensures c.next_id-id.ensures c.new.ensures.none (ap (λ (h : Home). h.node) c.home.ensures) c.insert.ensures refl c.emit-2.ensures.emits
+    c.next_id.ensures c.next_id-2.ensures c.next_id-id.ensures c.clear.ensures (ap (λ (h : Home). h.node) c.home.ensures) c.insert.ensures refl c.emit-2.ensures.emits
 
 pub returns-in-Some-clause-fine : goal.returns-in-Some-clause-fine
 returns-in-Some-clause-fine g c = replies_one _ _ _ c.emit.ensures.emits refl

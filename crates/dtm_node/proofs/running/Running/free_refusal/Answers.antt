@@ -1,0 +1,5 @@
+use Rattle.node_files.proofs.CatalogLemmas.{placed}
+use Rattle.dtm_node.proofs.running.Running.free_refusal.Goals as goal
+
+pub need_buckets-requires-clause-placed : goal.need_buckets-requires-clause-placed
+need_buckets-requires-clause-placed g c = placed _ c.args.self.now.volume.catalog c.args.file c.args.head.now _ c.the_laws.ensures.apart c.requires.whole c.requires.up.sound c.requires.up.most c.requires.there

@@ -1,0 +1,253 @@
+-- Changes of a volume's catalog and of its front blocks.
+use Rattle.std.proofs.Common.{◌≡◌, ◌≢◌, ⊎_elim, ℕ, zero, suc, ◌+◌, ◌-◌, ◌*◌, ◌<◌, ◌≤◌, List, [], Bool, true, false, Option, Some, None, IfSome, length, slice_set, nat_lt, nat_le, refl, sym, ap, subst, ◌∙◌, arith, get_or-set_same, get_or-set_other}
+use Rattle.std.specs.Prelude.{◌&&◌, ◌||◌, ◌==◌, ◌⊎◌}
+use Rattle.std.proofs.lemmas.List.{get_or_past}
+use Rattle.std.proofs.lemmas.Bool.{cases_lt, cases_eq}
+use Rattle.std.proofs.lemmas.Bool.Decides.{nat_tests}
+use Rattle.block_disk.specs.Blocks.{block_at}
+use Rattle.block_disk.specs.Disk.{DiskState}
+use Rattle.careful_write.specs.Steps.{AgreesOff}
+use Rattle.file_base.specs.declared.head.FileHead.{FileHead}
+use Rattle.file_base.specs.declared.head.Organization.{Organization}
+use Rattle.file_base.specs.declared.head.Organization.TheVariants.{Sequential, Relative, Indexed}
+use Rattle.volume_format.specs.declared.home.Ending.{Ending}
+use Rattle.volume_format.specs.Home.{sizes_of}
+use Rattle.vms_base.specs.declared.ids.Serial.{Serial}
+use Rattle.change_set.specs.Files.{AgreesOn, AgreesOut, IsPlaced, SameFile, in_extent}
+use Rattle.record_files.specs.Any as any
+use Rattle.record_files.specs.Any.{FormBy}
+use Rattle.volume.specs.declared.catalog.Catalog.{Catalog}
+use Rattle.volume.specs.Catalogs.{IsSound, IsNew, StandsOnTheFront, TellsCatalog}
+use Rattle.volume.specs.Limits.{FileFits, EntryFits, SaveFits, KeysFit, RootFits, data_area, file_buckets, save_buckets}
+use Rattle.volume.specs.declared.limits.Buckets.{Buckets}
+use Rattle.run_model.specs.World.{File}
+use Rattle.directory_model.specs.Files.{AreFiles, AreNamedOnce, AreUndoable, Fit, Note, head_at}
+use Rattle.directory_model.specs.Laws.{KeepsHeads, KeepsUndo, LieApart, SameBut, StandsOnExtents, marked}
+use Rattle.node_files.specs.Staging.{is_of_file}
+use Rattle.node_files.specs.Writing.{settled_home}
+use Rattle.node_files.proofs.FormLemmas.{RootIs, root_is}
+
+-- Heads.
+
+pub head_below : (heads : List (Option FileHead)) (f : ℕ) (h : FileHead) → length heads ≡ 64 → head_at heads f ≡ Some h → f < 64
+head_below heads f h long there = ⊎_elim (λ lt. lt) (λ past. let none = get_or_past heads f None (omega (arith, long, past)) in let no_way : ⊥ = cc in absurd no_way) (cases_lt f 64)
+
+pub head_set : (heads : List (Option FileHead)) (f : ℕ) (h : FileHead) → length heads ≡ 64 → f < 64 → head_at (slice_set heads f (Some h)) f ≡ Some h
+head_set heads f h long below = get_or-set_same heads f (Some h) None (omega (arith, long, below))
+
+pub head_other : (heads : List (Option FileHead)) (f g : ℕ) (h : FileHead) → g ≢ f → head_at (slice_set heads f (Some h)) g ≡ head_at heads g
+head_other heads f g h apart = get_or-set_other heads f g (Some h) None apart
+
+pub fits_at : (name : List ℕ) (size : ℕ) (v : Catalog) (f : ℕ) (h : FileHead) → length v.heads ≡ 64 → IsSound name size v → head_at v.heads f ≡ Some h → FileFits v.home.greatest_moment.0 h
+fits_at name size v f h long sound there = subst (λ o. EntryFits v.home.greatest_moment.0 o) there (sound.files f (head_below v.heads f h long there))
+
+-- Extents.
+
+pub fit_of : (name : List ℕ) (size : ℕ) (v : Catalog) → length v.heads ≡ 64 → IsSound name size v → Fit (data_area (sizes_of v.home)) v.heads
+fit_of name size v long sound = record { heads_long = long; behind = omega arith; each = sound.extents }
+
+in_extent_first : (start count : ℕ) → 1 ≤ count → (nat_le (start - 518) (start - 518) && nat_lt (start - 518) (start - 518 + count)) ≡ true
+in_extent_first start count some = grind (arith, nat_tests)
+
+in_extent_last : (start count : ℕ) → 1 ≤ count → (nat_le (start - 518) (start - 518 + count - 1) && nat_lt (start - 518 + count - 1) (start - 518 + count)) ≡ true
+in_extent_last start count some = grind (arith, nat_tests)
+
+some_blocks : (a b : ℕ) → 1 ≤ a → 1 ≤ b → 1 ≤ a * b
+some_blocks zero b p q = let no_way : ⊥ = omega (arith, p) in absurd no_way
+some_blocks (suc a) zero p q = let no_way : ⊥ = omega (arith, q) in absurd no_way
+some_blocks (suc a) (suc b) p q = omega arith
+
+pub placed : (name : List ℕ) (v : Catalog) (f : ℕ) (h : FileHead) (disk : DiskState) → LieApart → length v.heads ≡ 64 → IsSound name disk.size v → disk.size ≤ 65536 → head_at v.heads f ≡ Some h → IsPlaced h disk
+placed name v f h disk apart long sound most there =
+    let fits = fits_at name disk.size v f h long sound there in
+    let fit = fit_of name disk.size v long sound in
+    let some = some_blocks h.alloc h.bucket (omega (arith, fits.buckets.least, fits.buckets.most)) fits.bucket.least_blocks in
+    let first = apart.within _ v.heads f (h.start - 518) h fit there (in_extent_first h.start (h.alloc * h.bucket) some) in
+    let last = apart.within _ v.heads f (h.start - 518 + h.alloc * h.bucket - 1) h fit there (in_extent_last h.start (h.alloc * h.bucket) some) in
+    record {
+      from = omega (arith, first.0);
+      to = omega (arith, first.0, last.1, sound.sizes.blocks);
+      fits = most;
+      blocks = fits.bucket.most_blocks;
+      one = fits.bucket.least_blocks;
+      least = fits.bucket.least_record;
+      records = fits.bucket.record_fits;
+      greatest = fits.bucket.most_record;
+    }
+
+-- The front blocks are none of a file's.
+
+pub front_agrees : (name : List ℕ) (size : ℕ) (v : Catalog) (f : ℕ) (h : FileHead) (a b : List (List ℕ)) → LieApart → length v.heads ≡ 64 → IsSound name size v → head_at v.heads f ≡ Some h → ((n : ℕ) → 66 ≤ n → block_at a n ≡ block_at b n) → AgreesOn h a b
+front_agrees name size v f h a b apart long sound there agree = λ n within.
+    let in_area = apart.within _ v.heads f n h (fit_of name size v long sound) there within in
+    agree n (omega (arith, in_area.0))
+
+pub front_files : (name : List ℕ) (size : ℕ) (v : Catalog) (a b : List (List ℕ)) (directory : List (Option File)) → LieApart → StandsOnExtents → IsSound name size v → AreFiles a v.heads directory → ((n : ℕ) → 66 ≤ n → block_at a n ≡ block_at b n) → AreFiles b v.heads directory
+front_files name size v a b directory apart stand sound files agree = stand a b v.heads directory (λ f h there. front_agrees name size v f h a b apart files.heads_long sound there agree) files
+
+pub front_set : (a : List (List ℕ)) (k : ℕ) (bytes : List ℕ) → k < 66 → (n : ℕ) → 66 ≤ n → block_at a n ≡ block_at (slice_set a k bytes) n
+front_set a k bytes below n behind = sym (get_or-set_other a k n bytes [] (λ same. let no_way : ⊥ = omega (arith, same, below, behind) in no_way))
+
+-- what can be undone still can
+pub front_undo : (name : List ℕ) (size : ℕ) (v : Catalog) (a b : List (List ℕ)) (directory : List (Option File)) (notes : List Note) → LieApart → KeepsUndo → IsSound name size v → AreFiles a v.heads directory → ((n : ℕ) → 66 ≤ n → block_at a n ≡ block_at b n) → AreUndoable a v.heads notes →
+    AreUndoable b v.heads notes
+front_undo name size v a b directory notes apart law sound files agree can = law.stands a b v.heads directory notes (λ f h there. front_agrees name size v f h a b apart files.heads_long sound there agree) files can
+
+-- A branch is settled.
+
+save_later : (m : Bool) (g j : ℕ) (h : FileHead) → g ≤ j → SaveFits m g h → SaveFits m j h
+save_later true g j h le f = record { buckets = f.buckets; position = f.position; moment = omega (arith, f.moment, le) }
+save_later false g j h le f = f
+
+pub fits_later : (g j : ℕ) (h : FileHead) → g ≤ j → FileFits g h → FileFits j h
+fits_later g j h le f = record { bucket = f.bucket; keys = f.keys; buckets = f.buckets; ai = f.ai; bi = f.bi; since = omega (arith, f.since, le); save = save_later h.marks.save g j h le f.save }
+
+entry_later : (g j : ℕ) (o : Option FileHead) → g ≤ j → EntryFits g o → EntryFits j o
+entry_later g j None le f = f
+entry_later g j (Some h) le f = fits_later g j h le f
+
+pub sound_settled : (name : List ℕ) (size : ℕ) (v : Catalog) (serial : Serial) (ending : Ending) → v.home.greatest_moment.0 < 24000001000002 → IsSound name size v → IsSound name size (record v { home = settled_home serial ending v.home })
+sound_settled name size v serial ending early s = record {
+  version = s.version;
+  sizes = s.sizes;
+  home = record { owner = s.home.owner; moment = omega arith };
+  files = λ f below. entry_later v.home.greatest_moment.0 (v.home.greatest_moment.0 + 1) (head_at v.heads f) (omega arith) (s.files f below);
+  names = s.names;
+  extents = s.extents;
+  ru_start = s.ru_start;
+  ru_blocks = s.ru_blocks;
+}
+
+-- A catalog with another head at a file number.
+
+pub named_new : (heads : List (Option FileHead)) (g : ℕ) (o : Option FileHead) → head_at heads g ≡ o → AreNamedOnce heads → IsNew heads g o
+named_new heads g None is once = tt
+named_new heads g (Some h) is once = once g h is
+
+pub named_once : (node : List ℕ) (size : ℕ) (v : Catalog) → length v.heads ≡ 64 → IsSound node size v → AreNamedOnce v.heads
+named_once node size v long sound = λ f h there. subst (λ o. IsNew v.heads f o) there (sound.names f (head_below v.heads f h long there))
+
+pub sound_set : (name : List ℕ) (size : ℕ) (v : Catalog) (f : ℕ) (h : FileHead) → length v.heads ≡ 64 → f < 64 → Fit (data_area (sizes_of v.home)) (slice_set v.heads f (Some h)) → AreNamedOnce (slice_set v.heads f (Some h)) → FileFits v.home.greatest_moment.0 h → IsSound name size v →
+    IsSound name size (record v { heads = slice_set v.heads f (Some h) })
+sound_set name size v f h long below fit once fits sound = record {
+  version = sound.version;
+  sizes = sound.sizes;
+  home = sound.home;
+  files = λ g lt. ⊎_elim
+      (λ same. subst (λ o. EntryFits v.home.greatest_moment.0 o) (sym (ap (head_at (slice_set v.heads f (Some h))) same ∙ head_set v.heads f h long below)) fits)
+      (λ apart. subst (λ o. EntryFits v.home.greatest_moment.0 o) (sym (head_other v.heads f g h apart)) (sound.files g lt))
+      (cases_eq g f);
+  names = λ g lt. named_new (slice_set v.heads f (Some h)) g (head_at (slice_set v.heads f (Some h)) g) refl once;
+  extents = fit.each;
+  ru_start = sound.ru_start;
+  ru_blocks = sound.ru_blocks;
+}
+
+-- A file is marked.
+
+root_marked : (o : Organization) (units : Bool) (h : FileHead) (b : Buckets) → RootFits o h b → RootFits o (marked units h) b
+root_marked Sequential units h b f = f
+root_marked Relative units h b f = f
+root_marked Indexed units h b f = f
+
+keys_marked : (o : Organization) (units : Bool) (h : FileHead) → KeysFit o h → KeysFit o (marked units h)
+keys_marked Sequential units h f = f
+keys_marked Relative units h f = f
+keys_marked Indexed units h f = f
+
+pub fits_marked : (g : ℕ) (units : Bool) (h : FileHead) → FileFits g h → FileFits g (marked units h)
+fits_marked g units h f = record { bucket = record { least_blocks = f.bucket.least_blocks; most_blocks = f.bucket.most_blocks; least_record = f.bucket.least_record; most_record = f.bucket.most_record; record_fits = f.bucket.record_fits }; keys = keys_marked h.organization units h f.keys; buckets = record { least = f.buckets.least; most = f.buckets.most; root = root_marked h.organization units h (file_buckets h) f.buckets.root }; ai = f.ai; bi = f.bi; since = f.since; save = save_marked h.marks.save f.save }
+  where
+    save_marked : (m : Bool) → SaveFits m g h → SaveFits m g (marked units h)
+    save_marked true s = record { buckets = record { least = s.buckets.least; most = s.buckets.most; root = root_marked h.organization units h (save_buckets h.save) s.buckets.root }; position = s.position; moment = s.moment }
+    save_marked false s = s
+
+pub sound_marked : (name : List ℕ) (size : ℕ) (v : Catalog) (f : ℕ) (h : FileHead) (units : Bool) → KeepsHeads → length v.heads ≡ 64 → head_at v.heads f ≡ Some h → IsSound name size v → IsSound name size (record v { heads = slice_set v.heads f (Some (marked units h)) })
+sound_marked name size v f h units law long there s =
+    sound_set name size v f (marked units h) long (head_below v.heads f h long there) (law.marks (data_area (sizes_of v.home)) v.heads f h units (fit_of name size v long s) there) (law.marks_named v.heads f h units (named_once name size v long s) there)
+    (fits_marked v.home.greatest_moment.0 units h (fits_at name size v f h long s there)) s
+
+-- A file is changed: its head is one of the same file.
+
+-- the head with other used buckets, another root, other levels and another count
+abbrev moved : FileHead → ℕ → ℕ → ℕ → ℕ → FileHead
+moved h used root levels count = record h { used = used; root = root; levels = levels; count = count }
+
+keys_moved : (o : Organization) (h : FileHead) (used root levels count : ℕ) → KeysFit o h → KeysFit o (moved h used root levels count)
+keys_moved Sequential h used root levels count f = f
+keys_moved Relative h used root levels count f = f
+keys_moved Indexed h used root levels count f = f
+
+root_moved : (o : Organization) (h : FileHead) (used root levels count : ℕ) (b : Buckets) → RootFits o h b → RootFits o (moved h used root levels count) b
+root_moved Sequential h used root levels count b f = f
+root_moved Relative h used root levels count b f = f
+root_moved Indexed h used root levels count b f = f
+
+buckets_moved : (o : Organization) (h : FileHead) (used root levels count : ℕ) → FormBy o (moved h used root levels count) → RootIs o (moved h used root levels count) → 1 ≤ h.alloc → RootFits o h (file_buckets h) →
+    (1 ≤ used) × (used ≤ h.alloc) × RootFits o (moved h used root levels count) (file_buckets (moved h used root levels count))
+buckets_moved Sequential h used root levels count form is some f = (form.one, form.used, (is.0, is.1))
+buckets_moved Relative h used root levels count form is some f = ((let e = form.used in omega (arith, e, some)), (let e = form.used in omega (arith, e)), (is.0, is.1, is.2, f.3, form.used ∙ f.3))
+buckets_moved Indexed h used root levels count form is some f = (form.some, form.within, ((let e = form.root in let one = form.some in omega (arith, e, one)), is))
+
+fits_moved : (g : ℕ) (h : FileHead) (used root levels count : ℕ) → any.IsFile (moved h used root levels count) → RootIs h.organization (moved h used root levels count) → FileFits g h → FileFits g (moved h used root levels count)
+fits_moved g h used root levels count form is f =
+    let b = buckets_moved h.organization h used root levels count form is (omega (arith, f.buckets.least, f.buckets.most)) f.buckets.root in
+    record {
+      bucket = record { least_blocks = f.bucket.least_blocks; most_blocks = f.bucket.most_blocks; least_record = f.bucket.least_record; most_record = f.bucket.most_record; record_fits = f.bucket.record_fits };
+      keys = keys_moved h.organization h used root levels count f.keys;
+      buckets = record { least = b.0; most = b.1; root = b.2 };
+      ai = f.ai;
+      bi = f.bi;
+      since = f.since;
+      save = save_moved h.marks.save f.save;
+    }
+  where
+    save_moved : (m : Bool) → SaveFits m g h → SaveFits m g (moved h used root levels count)
+    save_moved true s = record { buckets = record { least = s.buckets.least; most = s.buckets.most; root = root_moved h.organization h used root levels count (save_buckets h.save) s.buckets.root }; position = s.position; moment = s.moment }
+    save_moved false s = s
+
+-- the head of the same file fits as it did
+pub fits_same : (g : ℕ) (h new : FileHead) → SameFile h new → any.IsFile new ⊎ (new ≡ h) → FileFits g h → FileFits g new
+fits_same g h new same form f = ⊎_elim
+    (λ is.
+    let at : any.IsFile (moved h new.used new.root new.levels new.count) = subst any.IsFile same.is is in
+    subst (FileFits g) (sym same.is) (fits_moved g h new.used new.root new.levels new.count at (root_is (moved h new.used new.root new.levels new.count) at) f))
+    (λ is. subst (FileFits g) (sym is) f)
+    form
+
+pub sound_changed : (name : List ℕ) (size : ℕ) (v : Catalog) (f : ℕ) (h new : FileHead) → KeepsHeads → length v.heads ≡ 64 → head_at v.heads f ≡ Some h → SameFile h new → any.IsFile new ⊎ (new ≡ h) → IsSound name size v → IsSound name size (record v { heads = slice_set v.heads f (Some new) })
+sound_changed name size v f h new law long there same form s =
+    sound_set name size v f new long (head_below v.heads f h long there) (law.changes (data_area (sizes_of v.home)) v.heads f h new (fit_of name size v long s) there same) (law.changes_named v.heads f h new (named_once name size v long s) there same)
+    (fits_same v.home.greatest_moment.0 h new same form (fits_at name size v f h long s there)) s
+
+-- What is staged or written outside the front blocks leaves the catalog.
+
+pub off_front : (h : FileHead) (n : ℕ) → n < 66 → (in_extent h n ≡ true → 66 ≤ n) → in_extent h n ≡ false
+off_front h n below behind = is_false (in_extent h n) (λ t. let b = behind t in omega arith)
+  where
+    is_false : (b : Bool) → (b ≡ true → ⊥) → b ≡ false
+    is_false true so = absurd (so refl)
+    is_false false so = refl
+
+-- a file of the catalog has no front block
+pub file_off_front : (name : List ℕ) (size : ℕ) (v : Catalog) (f : ℕ) (h : FileHead) → LieApart → length v.heads ≡ 64 → IsSound name size v → head_at v.heads f ≡ Some h → (n : ℕ) → n < 66 → in_extent h n ≡ false
+file_off_front name size v f h apart long sound there = λ n below. off_front h n below (λ t. let in_area = apart.within (data_area (sizes_of v.home)) v.heads f n h (fit_of name size v long sound) there t in omega (arith, in_area.0))
+
+pub holds_out : (p : ℕ → Bool) (v : Catalog) (old new : Option (List (List ℕ))) → StandsOnTheFront → ((n : ℕ) → n < 66 → p n ≡ false) → AgreesOut p old new → IfSome old (TellsCatalog v) → IfSome new (TellsCatalog v)
+holds_out p v None new front off out holds = subst (λ o. IfSome o (TellsCatalog v)) (sym out) tt
+holds_out p v (Some a) None front off out holds = absurd out
+holds_out p v (Some a) (Some c) front off out holds = front v a c (λ n below. sym (out.others n (off n below))) holds
+
+-- a content but for some blocks
+pub out_some : (p : ℕ → Bool) (old after : Option (List (List ℕ))) (a : List (List ℕ)) → old ≡ Some a → AgreesOut p old after → (c : List (List ℕ)) × (after ≡ Some c) × AgreesOff p a c
+out_some p old None a is out = absurd (let o = rw is at out in o)
+out_some p old (Some c) a is out = (c, refl, (let o = rw is at out in o))
+
+-- the blocks of a file and its directory block: the other files keep theirs
+pub same_but : (name : List ℕ) (size : ℕ) (v : Catalog) (f : ℕ) (h : FileHead) (a b : List (List ℕ)) → LieApart → length v.heads ≡ 64 → IsSound name size v → head_at v.heads f ≡ Some h → AgreesOff (is_of_file f h) a b → SameBut f v.heads a b
+same_but name size v f h a b apart long sound there off = λ g other unlike at n within.
+    let fit = fit_of name size v long sound in
+    let away = apart.apart (data_area (sizes_of v.home)) v.heads g f n other h fit (λ e. unlike (sym e)) at there within in
+    let area = apart.within (data_area (sizes_of v.home)) v.heads g n other fit at within in
+    let behind : (n == 1 + f) ≡ false = (let below = head_below v.heads f h long there in grind (arith, nat_tests)) in
+    sym (off.others n (ap (λ (t : Bool). t || (n == 1 + f)) away ∙ behind))

@@ -1,0 +1,7 @@
+pub mod CatalogLemmas
+pub mod FormLemmas
+pub mod NewHead
+pub mod NoteLemmas
+pub mod RestoreLemmas
+pub mod StagingLemmas
+pub mod StagingTells

@@ -1,0 +1,57 @@
+use Rattle.std.proofs.Common.{◌≡◌, ◌+◌, ◌*◌, Some, IfSome, slice_set, subst, sym, ◌∙◌, ap, arith}
+use Rattle.careful_write.specs.State.{StoreState}
+use Rattle.change_set.specs.Files.{IsPlaced, StagesIn}
+use Rattle.vms_base.specs.Keys.{key_of}
+use Rattle.std.specs.Option.{option_copied}
+use Rattle.volume.specs.Catalogs.{TellsCatalog}
+use Rattle.volume.specs.State.{Holds, VolumeState}
+use Rattle.directory_model.specs.Files.{holds}
+use Rattle.node_files.specs.Notes.{notes_in}
+use Rattle.node_files.proofs.CatalogLemmas.{head_below, placed}
+use Rattle.node_files.proofs.StagingLemmas.{behind_front, stages_moved, within_of}
+use Rattle.node_files.proofs.StagingTells.{SetIn, set_few, told_set}
+use Rattle.node_files.proofs.records.stage_value.Goals as goal
+
+pub set-requires-clause-placed : goal.set-requires-clause-placed
+set-requires-clause-placed g c =
+    let v = c.args.volume.now in
+    let h = c.args.head.now in
+    subst (λ (x : StoreState). IsPlaced h x.disk) (sym (c.store.ensures.value ∙ ap (λ (u : VolumeState). u.store) c.blocks_are_whole.ensures.same)) (placed c.requires.sound.0 v.catalog c.args.file h v.store.disk c.files_lie_apart.ensures c.requires.whole c.requires.sound.1 c.requires.most c.requires.there)
+
+pub stage_moved-requires-clause-room : goal.stage_moved-requires-clause-room
+stage_moved-requires-clause-room g c =
+    let v = c.args.volume.now in
+    let h = c.args.head.now in
+    let lies = placed c.requires.sound.0 v.catalog c.args.file h v.store.disk c.files_lie_apart.ensures c.requires.whole c.requires.sound.1 c.requires.most c.requires.there in
+    let few = set_few h (c.is_formed.ensures.formed c.if-not-is_formed.false) lies.blocks in
+    let stages = subst (λ (x : StoreState). StagesIn h ((2 * h.levels + 2) * h.bucket) x c.set.new.store) (c.store.ensures.value ∙ ap (λ (u : VolumeState). u.store) c.blocks_are_whole.ensures.same) c.in_ok-set.ensures.staged in
+    let more = stages.few in
+    let staged = c.requires.staged in
+    omega (arith, more, few, staged)
+
+pub returns-clause-stages : goal.returns-clause-stages
+returns-clause-stages g c =
+    let v = c.args.volume.now in
+    let h = c.args.head.now in
+    let lies = placed c.requires.sound.0 v.catalog c.args.file h v.store.disk c.files_lie_apart.ensures c.requires.whole c.requires.sound.1 c.requires.most c.requires.there in
+    let few = set_few h (c.is_formed.ensures.formed c.if-not-is_formed.false) lies.blocks in
+    let same = c.blocks_are_whole.ensures.same in
+    stages_moved c.args.file h c.set.new.head ((2 * h.levels + 2) * h.bucket) 65 v c.stage_moved.new.volume c.set.new.store c.catalogs_stand_on_the_front.ensures (behind_front c.requires.sound.0 v.store.disk.size v.catalog c.args.file h c.files_lie_apart.ensures c.requires.whole c.requires.sound.1 c.requires.there)
+    (subst (λ (x : StoreState). StagesIn h ((2 * h.levels + 2) * h.bucket) x c.set.new.store) (c.store.ensures.value ∙ ap (λ (u : VolumeState). u.store) same) c.in_ok-set.ensures.staged) (omega (arith, few))
+    c.in_ok-set.ensures.file c.in_ok-set.ensures.form c.stage_moved.ensures.store
+    (subst (λ (u : VolumeState). c.stage_moved.new.volume.catalog ≡ record u.catalog { heads = slice_set u.catalog.heads c.args.file (Some c.set.new.head) }) same c.stage_moved.ensures.catalog)
+    (subst (λ (u : VolumeState). IfSome c.set.new.store.current (TellsCatalog u.catalog) → Holds c.stage_moved.new.volume) same c.stage_moved.ensures.holds)
+
+pub returns-clause-sets : goal.returns-clause-sets
+returns-clause-sets g c =
+    let v = c.args.volume.now in
+    let h = c.args.head.now in
+    let key = key_of c.args.key.now in
+    let value = option_copied c.args.value in
+    let notes = notes_in c.args.undo.now in
+    λ a told form laid suits takes.
+    told_set c.args.file h c.set.new.head v.store c.set.new.store c.stage_moved.new.volume.store (head_below v.catalog.heads c.args.file h c.requires.whole c.requires.there) (behind_front c.requires.sound.0 v.store.disk.size v.catalog c.args.file h c.files_lie_apart.ensures c.requires.whole c.requires.sound.1 c.requires.there)
+    c.in_ok-set.ensures.file c.in_ok-set.ensures.form c.stage_moved.ensures.store notes key value a
+    (subst (λ (x : StoreState). SetIn h (holds c.args.file notes) key value x c.set.new.store c.set.new.head) (c.store.ensures.value ∙ ap (λ (u : VolumeState). u.store) c.blocks_are_whole.ensures.same)
+    (record { map = c.in_ok-set.ensures.map; valid = c.in_ok-set.ensures.valid; rooms = c.in_ok-set.ensures.rooms; chain = c.in_ok-set.ensures.chain; back = c.in_ok-set.ensures.back }))
+    (within_of h v.store a (placed c.requires.sound.0 v.catalog c.args.file h v.store.disk c.files_lie_apart.ensures c.requires.whole c.requires.sound.1 c.requires.most c.requires.there) told c.blocks_are_whole.ensures.whole c.blocks_are_whole.ensures.each) told laid takes

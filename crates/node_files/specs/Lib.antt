@@ -1,0 +1,5 @@
+pub mod Notes
+pub mod Staging
+pub mod NewFile
+pub mod Writing
+pub mod Forms
