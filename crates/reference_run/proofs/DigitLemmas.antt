@@ -33,12 +33,37 @@ digit_9 = decimal_digit 9 (lit< tt)
 pub digit_0 : decimal 0 ≡ codes "0"
 digit_0 = decimal_digit 0 (lit< tt)
 
-seventeen : decimal 17 ≡ codes "17"
+pub ten : decimal 10 ≡ codes "10"
+ten = decimal_step 10 (lit≤ tt) (lit< tt) ∙ ap (λ d. d ++ codes "0") digit_1
+
+pub eleven : decimal 11 ≡ codes "11"
+eleven = decimal_step 11 (lit≤ tt) (lit< tt) ∙ ap (λ d. d ++ codes "1") digit_1
+
+pub twelve : decimal 12 ≡ codes "12"
+twelve = decimal_step 12 (lit≤ tt) (lit< tt) ∙ ap (λ d. d ++ codes "2") digit_1
+
+pub thirteen : decimal 13 ≡ codes "13"
+thirteen = decimal_step 13 (lit≤ tt) (lit< tt) ∙ ap (λ d. d ++ codes "3") digit_1
+
+pub fifteen : decimal 15 ≡ codes "15"
+fifteen = decimal_step 15 (lit≤ tt) (lit< tt) ∙ ap (λ d. d ++ codes "5") digit_1
+
+pub sixteen : decimal 16 ≡ codes "16"
+sixteen = decimal_step 16 (lit≤ tt) (lit< tt) ∙ ap (λ d. d ++ codes "6") digit_1
+
+pub seventeen : decimal 17 ≡ codes "17"
 seventeen = decimal_step 17 (lit≤ tt) (lit< tt) ∙ ap (λ d. d ++ codes "7") digit_1
 
 pub first_moment : time_text 1 ≡ codes "17-NOV-1858 00:00:00.01"
 unfolding time_text day_after
 first_moment = ap (λ d. (d ++ codes "-NOV-1858") ++ codes " 00:00:00.01") seventeen
+
+pub eighteen : decimal 18 ≡ codes "18"
+eighteen = decimal_step 18 (lit≤ tt) (lit< tt) ∙ ap (λ d. d ++ codes "8") digit_1
+
+pub second_moment : time_text 2 ≡ codes "17-NOV-1858 00:00:00.02"
+unfolding time_text day_after
+second_moment = ap (λ d. (d ++ codes "-NOV-1858") ++ codes " 00:00:00.02") seventeen
 
 pub fourteen : decimal 14 ≡ codes "14"
 fourteen = decimal_step 14 (lit≤ tt) (lit< tt) ∙ ap (λ d. d ++ codes "4") digit_1

@@ -4,3 +4,6 @@ pub mod TurnLemmas
 pub mod ScriptLemmas
 pub mod RowLemmas
 pub mod ActLemmas
+pub mod OperateLemmas
+pub mod SequentialRow
+pub mod IndexedRow

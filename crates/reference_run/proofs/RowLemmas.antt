@@ -12,42 +12,43 @@ use Rattle.transcript_model.specs.Lines as line
 use Rattle.transcript_model.specs.Lines.{lines_text}
 use Rattle.transcript_model.specs.Script.{ScriptLine, lines_of}
 use Rattle.script_model.specs.Statements as said
-use Rattle.run_model.specs.World.{World, File, Branch, Label, Settlement, Sound, Power}
+use Rattle.run_model.specs.World.{World, File, Branch, Label, Settlement, Relative, Indexed, Sound, Power}
 use Rattle.run_model.specs.Steps.{effect, Whole}
 use Rattle.run_model.specs.Transcript.{Entry, Done, BadLine, text_of}
 use Rattle.reference_run.specs.Whole.{Ended, run_of, run_from}
-use Rattle.reference_run.specs.Rows.{fed, disk_size, base_script, base_shown, CommittedRecordIsShown, AbortedRecordIsGone, UnsettledRecordStands, ZerosAreNoVolume, BootBehindCrashTellsLast, OpenQuoteIsBad}
+use Rattle.reference_run.specs.Rows.{fed, disk_size, base_script, base_shown, CommittedRecordIsShown, AbortedRecordIsGone, UnsettledRecordStands, ZerosAreNoVolume, BootBehindCrashTellsLast, OpenQuoteIsBad, FileIsFull}
 use Rattle.reference_run.proofs.DigitLemmas.{digit_0, digit_1, digit_2, digit_3, digit_4, digit_5, digit_6, digit_7, digit_8, digit_9, fourteen, block_518, first_moment}
 use Rattle.reference_world.proofs.EntryLemmas.{no_entries, one_entry}
 use Rattle.reference_run.proofs.RunLemmas.{says, told}
 
 -- what the base tells
-abbrev told_first : List Entry
+abbrev pub told_first : List Entry
 told_first = told (codes "A: SET_FILE F RU") (line.Normal ∷ []) (told (codes "A: CREATE F REL 1 100 10") (line.Normal ∷ [])
     (told (codes "A: BOOT") (line.NormalCount 1 ∷ []) (told (codes "A: INIT 64 64") (line.Normal ∷ []) [])))
 
 -- the first id that the node draws
-abbrev first_id : Id
+abbrev pub first_id : Id
 first_id = record { node = codes "A"; boot = 1; seq = 1 }
 
-abbrev first_branch : ℕ → Branch
+abbrev pub first_branch : ℕ → Branch
 first_branch changes = record { tid = first_id; serial = first_id; changes = changes }
 
-abbrev first_label : Label
+abbrev pub first_label : Label
 first_label = record { name = codes "T"; node = codes "A"; serial = first_id }
 
 -- the file F
-abbrev file_at : List SettledChanges → List LiveChanges → File
+abbrev pub file_at : List SettledChanges → List LiveChanges → File
 file_at done live = record {
   name = codes "F";
   bucket = 1;
   record_size = 100;
-  greatest_number = 10;
+  organization = Relative 10;
   start = 712;
   buckets = 3;
   others = [];
   recovery_units = true;
   history = record { base = empty; moment = 0; settled = done; live = live };
+  chain = [];
 }
 
 -- the world behind the base, in which one id was drawn
@@ -90,7 +91,7 @@ told_begun = told (codes "A: START_TRANS T") (line.NormalId first_id ∷ []) tol
 abbrev put : ℕ → List ℕ → World
 put n bytes = world_at 0 None [] (first_branch 1 ∷ []) [] (record { serial = first_id; changes = put_change n bytes ∷ [] } ∷ [])
 
-abbrev settlement : settled.Outcome → Option settled.Reason → Settlement
+abbrev pub settlement : settled.Outcome → Option settled.Reason → Settlement
 settlement outcome reason = record { tid = first_id; serial = first_id; outcome = outcome; reason = reason; moment = 1 }
 
 abbrev settled_as : settled.Outcome → Option settled.Reason → World
@@ -98,22 +99,22 @@ settled_as outcome reason = world_at 1 (Some (settlement outcome reason)) (settl
     (record { serial = first_id; outcome = outcome; moment = 1; changes = put_change 1 (codes "a") ∷ [] } ∷ []) []
 
 abbrev put_said : ℕ → List ℕ → said.Statement
-put_said n bytes = said.At (codes "A") (said.Put (codes "T") (codes "F") n bytes)
+put_said n bytes = said.At (codes "A") (said.Records (codes "T") (codes "F") (said.Put (Some n) bytes))
 
 abbrev dump_said : said.Statement
 dump_said = said.At (codes "A") (said.Dump (codes "F"))
 
-abbrev line_said : List ℕ → ScriptLine
+abbrev pub line_said : List ℕ → ScriptLine
 line_said text = record { text = text; ended = true }
 
 -- the lines behind the opening, and behind those the rest
 abbrev script : List (List ℕ) → List ℕ
 script texts = fed (base_script ++ texts)
 
-abbrev rest : List (List ℕ) → List ScriptLine
+abbrev pub rest : List (List ℕ) → List ScriptLine
 rest texts = lines_of (fed texts)
 
-abbrev done : List Entry → Ended
+abbrev pub done : List Entry → Ended
 done es = record { exit = Done; text = text_of es }
 
 puts_a : effect begun (put_said 1 (codes "a")) (Whole false) ≡ record { lines = line.RecordNormal ∷ []; world = put 1 (codes "a") }
@@ -236,3 +237,67 @@ quote_text = simp (digit_1, fourteen)
 
 pub open_quote_is_bad : OpenQuoteIsBad
 open_quote_is_bad = ap (λ t. record { exit = BadLine; text = t }) quote_text
+
+-- A file with too few buckets.
+
+abbrev small_file : File
+small_file = record {
+  name = codes "I";
+  bucket = 1;
+  record_size = 40;
+  organization = Indexed 0 2;
+  start = 715;
+  buckets = 2;
+  others = [];
+  recovery_units = true;
+  history = record { base = empty; moment = 0; settled = []; live = [] };
+  chain = [] ∷ [];
+}
+
+abbrev with_small : World
+with_small = record {
+  nodes = record {
+    name = codes "A";
+    blocks = disk_size;
+    volume = Sound;
+    slots = 64;
+    journal = 64;
+    boot = 1;
+    greatest = 0;
+    last = None;
+    directory = Some (file_at [] []) ∷ Some small_file ∷ replicate 62 None;
+    up = true;
+    was_up = true;
+    clock = 0;
+    drawn = 1;
+    branches = first_branch 0 ∷ [];
+    settled = [];
+    calls = Power 0 ∷ Power 0 ∷ [];
+    under_way = None;
+  } ∷ [];
+  disks = record { faults = 0; stops = 0 } ∷ [];
+  labels = first_label ∷ [];
+  in_use = true;
+}
+
+abbrev told_small : List Entry
+told_small = told (codes "A: START_TRANS T") (line.NormalId first_id ∷ []) (told (codes "A: SET_FILE I RU") (line.Normal ∷ [])
+    (told (codes "A: CREATE I IDX 1 40 2 0 2") (line.Normal ∷ []) told_first))
+
+abbrev put_small : said.Statement
+put_small = said.At (codes "A") (said.Records (codes "T") (codes "I") (said.Put None (codes "aa")))
+
+is_full : effect with_small put_small (Whole false) ≡ record { lines = line.FileFull 1 3 ∷ []; world = with_small }
+is_full = rw get-empty refl
+
+abbrev told_full : List Entry
+told_full = told (codes "A: PUT T I \"aa\"") (line.FileFull 1 3 ∷ []) told_small
+
+shows_full : run_from with_small told_small (line_said (codes "A: PUT T I \"aa\"") ∷ []) ≡ done told_full
+shows_full = says with_small told_small (line_said (codes "A: PUT T I \"aa\"")) [] put_small (line.FileFull 1 3 ∷ []) with_small refl refl is_full
+
+full_text : text_of told_full ≡ fed (base_shown ++ codes "5 SS$_NORMAL" ∷ codes "6 SS$_NORMAL" ∷ codes "7 SS$_NORMAL A.1.1" ∷ codes "8 RMS$_FUL FILE 1 3" ∷ [])
+full_text = simp (digit_1, digit_2, digit_3, digit_4, digit_5, digit_6, digit_7, digit_8)
+
+pub file_is_full : FileIsFull
+file_is_full = shows_full ∙ ap (λ t. record { exit = Done; text = t }) full_text

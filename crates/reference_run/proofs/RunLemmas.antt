@@ -1,5 +1,5 @@
 -- Steps of a run of which each statement is whole.
-use Rattle.std.proofs.Common.{◌≡◌, refl, List, [], ◌∷◌, ℕ, true, false}
+use Rattle.std.proofs.Common.{◌≡◌, refl, List, ◌∷◌, ℕ, true, false}
 use Rattle.transcript_model.specs.Lines.{Line}
 use Rattle.transcript_model.specs.Script.{ScriptLine}
 use Rattle.script_model.specs.Statements.{Statement, Says}

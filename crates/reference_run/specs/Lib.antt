@@ -2,3 +2,4 @@ pub mod Whole
 pub mod Served
 pub mod Rows
 pub mod Scripts
+pub mod Operations

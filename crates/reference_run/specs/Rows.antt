@@ -61,3 +61,33 @@ BootBehindCrashTellsLast = Shows
 -- a record whose quote is not closed is a bad line from there on
 abbrev pub OpenQuoteIsBad : Type 0
 OpenQuoteIsBad = run_of disk_size (fed (codes "A: PUT T F 1 \"a" ∷ [])) ≡ record { exit = BadLine; text = fed (codes "1 BADLINE 14" ∷ []) }
+
+-- a record put into an indexed file whose buckets are too few for it is refused: one is free, and three are wanted
+abbrev pub FileIsFull : Type 0
+FileIsFull = Shows
+    (base_script ++ codes "A: CREATE I IDX 1 40 2 0 2" ∷ codes "A: SET_FILE I RU" ∷ codes "A: START_TRANS T" ∷ codes "A: PUT T I \"aa\"" ∷ [])
+    (base_shown ++ codes "5 SS$_NORMAL" ∷ codes "6 SS$_NORMAL" ∷ codes "7 SS$_NORMAL A.1.1" ∷ codes "8 RMS$_FUL FILE 1 3" ∷ [])
+
+-- a sequential file: an aborted record's position is free again, a record keeps its length, is not deleted, and goes where the file is truncated
+abbrev pub SequentialFileIsTruncated : Type 0
+SequentialFileIsTruncated = Shows
+    (base_script ++ codes "A: CREATE S SEQ 1 100 4" ∷ codes "A: SET_FILE S RU" ∷ codes "A: START_TRANS T" ∷ codes "A: PUT T S \"x\"" ∷ codes "A: ABORT_TRANS T" ∷ codes "A: START_TRANS U"
+    ∷ codes "A: PUT U S \"y\"" ∷ codes "A: UPDATE U S 1 \"zz\"" ∷ codes "A: DELETE U S 1" ∷ codes "A: TRUNCATE U S 1" ∷ codes "A: PUT U S \"w\"" ∷ codes "A: END_TRANS U" ∷ codes "A: DUMP S" ∷ [])
+    (base_shown ++ codes "5 SS$_NORMAL" ∷ codes "6 SS$_NORMAL" ∷ codes "7 SS$_NORMAL A.1.1" ∷ codes "8 RMS$_NORMAL 1" ∷ codes "9 ABORT A.1.1 A.1.1 DDTM$_ABORTED \"17-NOV-1858 00:00:00.01\"" ∷ codes "9 SS$_NORMAL"
+    ∷ codes "10 SS$_NORMAL A.1.2" ∷ codes "11 RMS$_NORMAL 1" ∷ codes "12 RMS$_RSZ" ∷ codes "13 RMS$_IOP" ∷ codes "14 RMS$_NORMAL" ∷ codes "15 RMS$_NORMAL 1"
+    ∷ codes "16 COMMIT A.1.2 A.1.2 \"17-NOV-1858 00:00:00.02\"" ∷ codes "16 SS$_NORMAL" ∷ codes "17 RECORD 1 \"w\"" ∷ codes "17 SS$_NORMAL 1" ∷ [])
+
+-- how many blocks a disk has that holds an indexed file of twenty buckets too
+abbrev pub larger_disk : ℕ
+larger_disk = 752
+
+-- an indexed file: a key stands once, and is that of its record, which holds it; what an aborted transaction deleted and put is undone
+abbrev pub IndexedFileIsRestored : Type 0
+IndexedFileIsRestored = run_of larger_disk (fed (base_script ++ codes "A: CREATE I IDX 1 40 20 0 2" ∷ codes "A: SET_FILE I RU" ∷ codes "A: START_TRANS T" ∷ codes "A: PUT T I \"bb1\"" ∷ codes "A: PUT T I \"aa2\"" ∷ codes "A: PUT T I \"aa9\""
+    ∷ codes "A: UPDATE T I \"aa\" \"ab2\"" ∷ codes "A: PUT T I \"a\"" ∷ codes "A: END_TRANS T" ∷ codes "A: START_TRANS U" ∷ codes "A: DELETE U I \"aa\"" ∷ codes "A: PUT U I \"ab3\"" ∷ codes "A: ABORT_TRANS U" ∷ codes "A: DUMP I" ∷ []))
+    ≡ record {
+      exit = Done;
+      text = fed (base_shown ++ codes "5 SS$_NORMAL" ∷ codes "6 SS$_NORMAL" ∷ codes "7 SS$_NORMAL A.1.1" ∷ codes "8 RMS$_NORMAL" ∷ codes "9 RMS$_NORMAL" ∷ codes "10 RMS$_DUP" ∷ codes "11 RMS$_CHG" ∷ codes "12 RMS$_RSZ"
+          ∷ codes "13 COMMIT A.1.1 A.1.1 \"17-NOV-1858 00:00:00.01\"" ∷ codes "13 SS$_NORMAL" ∷ codes "14 SS$_NORMAL A.1.2" ∷ codes "15 RMS$_NORMAL" ∷ codes "16 RMS$_NORMAL"
+          ∷ codes "17 ABORT A.1.2 A.1.2 DDTM$_ABORTED \"17-NOV-1858 00:00:00.02\"" ∷ codes "17 SS$_NORMAL" ∷ codes "18 RECORD \"aa\" \"aa2\"" ∷ codes "18 RECORD \"bb\" \"bb1\"" ∷ codes "18 SS$_NORMAL 2" ∷ []);
+    }

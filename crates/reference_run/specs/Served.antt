@@ -1,6 +1,8 @@
 -- What serving a statement does.
 use Rattle.std.specs.Prelude.{◌≡◌, ◌≤◌, ◌+◌, ℕ, List, [], ◌∷◌, ◌++◌, false, Option, Some, None, map, option_map}
 use Rattle.script_model.specs.Statements.{Request, Statement}
+use Rattle.script_lang.specs.declared.statement.Request.{Request as Asking}
+use Rattle.script_lang.specs.declared.statement.Request.TheVariants as asking
 use Rattle.run_model.specs.World as world
 use Rattle.run_model.specs.World.{World}
 use Rattle.run_model.specs.Answers.{rows_at, answer_at, last_line}
@@ -9,6 +11,20 @@ use Rattle.transcript_model.specs.Lines as model
 use Rattle.reference_world.specs.declared.line.Line.{Line}
 use Rattle.reference_run.specs.declared.running.Running.{Running}
 use Rattle.reference_world.specs.Standing.{own_name, branch_of, label_of, settlement_of, volume_of, call_of, directory_of, line_of}
+
+-- the request is none of records
+abbrev pub IsPlain : Asking → Type 0
+IsPlain (asking.Records label file operation) = ⊥
+IsPlain (asking.Init slots blocks) = Unit {0}
+IsPlain asking.Boot = Unit {0}
+IsPlain (asking.Create file bucket size form) = Unit {0}
+IsPlain (asking.SetFile file setting) = Unit {0}
+IsPlain (asking.StartTrans label) = Unit {0}
+IsPlain (asking.EndTrans label) = Unit {0}
+IsPlain (asking.AbortTrans label) = Unit {0}
+IsPlain (asking.Dump file) = Unit {0}
+IsPlain (asking.Fuse writes choice) = Unit {0}
+IsPlain asking.Crash = Unit {0}
 
 -- the node that is kept
 abbrev pub node_of : Running → world.Node

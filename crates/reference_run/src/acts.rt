@@ -1,39 +1,44 @@
 // What each request does that nothing refuses.
-ghost use Rattle.std.specs.Prelude.{◌≡◌, ◌+◌, ◌<◌, ◌++◌, ℕ, List, [], ◌∷◌, Some, None, map, option_map, length, OnOk, IfOk, IfSome};
+ghost use Rattle.std.specs.Prelude.{◌≡◌, ◌+◌, ◌<◌, ◌≤◌, ◌++◌, ℕ, List, [], ◌∷◌, Some, None, map, option_map, length, OnOk, IfOk, IfSome};
 ghost use Rattle.std.specs.FinMap.{entries};
-ghost use Rattle.vms_model.specs.Keys.{Number};
 ghost use Rattle.script_lang.specs.Statements.{form_of, setting_of};
 ghost use Rattle.script_model.specs.Statements as said;
 ghost use Rattle.records_model.specs.History.{current};
 ghost use Rattle.run_model.specs.Answers as answers;
-ghost use Rattle.run_model.specs.Answers.{record_at, last_lines, records_of, shown_record};
+ghost use Rattle.run_model.specs.Answers.{shown_record};
+ghost use Rattle.run_model.specs.Operations as operations;
 ghost use Rattle.run_model.specs.Steps.{lines_of_rows};
 ghost use Rattle.run_model.specs.World as world;
 ghost use Rattle.run_model.specs.World.{acts};
 ghost use Rattle.transcript_model.specs.Lines as model;
-ghost use Rattle.reference_world.specs.Standing.{own_name, id_of, branch_of, settlement_of, history_of, file_of, line_of};
+ghost use Rattle.reference_world.specs.Standing.{own_name, id_of, changes_of, branch_of, settlement_of, history_of, organization_of, chain_of, file_of, line_of};
+ghost use Rattle.reference_run.specs.Operations.{asked_of};
 ghost use Rattle.reference_run.specs.Served.{node_of, world_of, last_lines_of, AreFew, RoseByOne, SameCounts, Does};
 
+use crate::asked::Asked;
+use crate::records::{changes_asked, operation_answer};
 use crate::refusals::{blocks_for, buckets_for};
 use crate::running::Running;
 use reference_world::{
-    Branch, Change, DiskCall, File, FileChange, LabelEntry, Line, OwnId, Settlement, Volume,
-    WrittenMoment, empty_places, find_file, free_place, one, push_back, push_front, records_of,
-    rows_shown, same_id, settled_files, standing_files, take_first, with_file,
+    Branch, Bucket, Change, DiskCall, File, FileChange, LabelEntry, Line, Organization, OwnId,
+    Settlement, Volume, WrittenMoment, empty_places, find_file, free_place, one, push_back,
+    push_front, records_of, rows_shown, same_id, settled_files, standing_files, take_first,
+    with_file,
 };
 use script_lang::{Form, Setting};
 use std::alloc::{AllocError, Global};
 use std::mem::replace;
 use vms_base::{FileName, Label, Outcome};
 
-// The branches with one change more of one of them.
-fn with_change_by(
+// The branches with so many changes more of one of them.
+fn with_changes_by(
     alloc: Global,
     branches: Vec<Branch>,
     serial: OwnId,
+    more: u32,
 ) -> Result<Vec<Branch>, AllocError>
-    requires { IfSome (world.find_branch (id_of serial) (map branch_of branches.items)) (λ b. b.changes < 16) }
-    ensures { IfOk result (λ v. map branch_of v.items ≡ world.with_change_by (id_of serial) (map branch_of branches.items)) }
+    requires { IfSome (world.find_branch (id_of serial) (map branch_of branches.items)) (λ b. b.changes + more ≤ 16) }
+    ensures { IfOk result (λ v. map branch_of v.items ≡ world.with_changes_by (id_of serial) more (map branch_of branches.items)) }
 {
     let mut rest = branches;
     match take_first(&mut rest) {
@@ -44,12 +49,12 @@ fn with_change_by(
                     &mut rest,
                     Branch {
                         serial: first.serial,
-                        changes: first.changes + 1,
+                        changes: first.changes + more,
                     },
                 )?;
                 Ok(rest)
             } else {
-                let mut all = with_change_by(alloc, rest, serial)?;
+                let mut all = with_changes_by(alloc, rest, serial, more)?;
                 push_front(&mut all, first)?;
                 Ok(all)
             }
@@ -110,6 +115,36 @@ fn last_then(alloc: Global, last: Option<Settlement>, line: Line) -> Result<Vec<
     }
 }
 
+// How a file of this form keeps its records.
+fn organized(form: Form) -> Organization
+    ensures { organization_of result ≡ answers.organized (form_of form) }
+{
+    match form {
+        Form::Sequential { .. } => Organization::Sequential,
+        Form::Relative { records } => Organization::Relative { greatest: records },
+        Form::Indexed {
+            position,
+            key_size,
+            ..
+        } => Organization::Indexed {
+            position,
+            size: key_size,
+        },
+    }
+}
+
+// The chain of a new file: one bucket without slots, where it is indexed.
+fn first_chain(alloc: Global, form: Form) -> Result<Vec<Bucket>, AllocError>
+    ensures { IfOk result (λ v. chain_of v.items ≡ answers.first_chain (form_of form)) }
+{
+    let mut chain = Vec::new(alloc);
+    if let Form::Indexed { .. } = form {
+        let slots = Vec::new(alloc);
+        push_front(&mut chain, Bucket { slots })?;
+    }
+    Ok(chain)
+}
+
 // A new file that lies from this block on.
 fn new_file(
     alloc: Global,
@@ -119,15 +154,15 @@ fn new_file(
     form: Form,
     start: u64,
     moment: u64,
-) -> File
-    ensures { file_of result ≡ answers.created name bucket size (form_of form) start moment }
+) -> Result<File, AllocError>
+    ensures { IfOk result (λ f. file_of f ≡ answers.created name bucket size (form_of form) start moment) }
 {
-    let Form::Relative { records } = form;
-    File {
+    let chain = first_chain(alloc, form)?;
+    Ok(File {
         name,
         bucket,
         record_size: size,
-        greatest_number: records,
+        organization: organized(form),
         start,
         buckets: buckets_for(bucket, size, form),
         recovery_units: false,
@@ -135,7 +170,28 @@ fn new_file(
         moment,
         settled: Vec::new(alloc),
         live: Vec::new(alloc),
-    }
+        chain,
+    })
+}
+
+/// What an operation changes, the newest change first, and what it is answered.
+#[derive(Drop)]
+pub struct Told {
+    pub changes: Vec<Change>,
+    pub line: Line,
+}
+
+// The same of a file that is there.
+fn told_of(alloc: Global, f: &File, asked: Asked<'_>) -> Result<Told, AllocError>
+    ensures changes { IfOk result (λ t. changes_of t.changes.items ≡ operations.changes_of (file_of f.now) (asked_of asked.entry)) }
+    ensures line { IfOk result (λ t. line_of t.line ≡ operations.operation_answer (file_of f.now) (asked_of asked.entry)) }
+{
+    let all = records_of(alloc, f)?;
+    let rows = all.as_slice();
+    Ok(Told {
+        changes: changes_asked(alloc, f, rows, asked)?,
+        line: operation_answer(alloc, f, rows, asked)?,
+    })
 }
 
 // The lines of all records of a file, and their count.
@@ -199,7 +255,7 @@ impl Running {
         let Some(start) = self.lowest_free(need) else {
             return Ok(lines);
         };
-        let file = new_file(alloc, name, bucket, size, form, start, self.greatest);
+        let file = new_file(alloc, name, bucket, size, form, start, self.greatest)?;
         self.place(place, file);
         Ok(lines)
     }
@@ -253,31 +309,62 @@ impl Running {
         one(alloc, Line::NormalId(serial))
     }
 
-    /// PUT, where there is no record of this number.
-    pub fn put(
+    // What an operation changes, and what it is answered.
+    fn told(&self, alloc: Global, name: &FileName, asked: Asked<'_>) -> Result<Told, AllocError>
+        ensures changes { IfOk result (λ t. changes_of t.changes.items ≡ answers.changes_at (node_of self.now) name.now (asked_of asked.entry)) }
+        ensures line { IfOk result (λ t. line_of t.line ≡ answers.operation_told (node_of self.now) name.now (asked_of asked.entry)) }
+    {
+        match find_file(self.directory.as_slice(), name) {
+            None => Ok(Told {
+                changes: Vec::new(alloc),
+                line: Line::RecordNormal,
+            }),
+            Some(f) => told_of(alloc, f, asked),
+        }
+    }
+
+    // A branch makes changes of a file.
+    fn change(
+        &mut self,
+        alloc: Global,
+        serial: OwnId,
+        name: &FileName,
+        changes: Vec<Change>,
+    ) -> Result<(), AllocError>
+        requires found { IfSome (world.find_branch (id_of serial) (map branch_of self.old.branches.items)) (λ b. b.changes + length changes.items ≤ 16) }
+        requires few { length changes.items ≤ 16 }
+        ensures changes { OnOk result (world_of self.new ≡ acts own_name (world.Changes (id_of serial) name.now (changes_of changes.items)) (world_of self.old)) }
+        ensures counts { SameCounts self.old self.new }
+    {
+        let more = changes.len() as u32;
+        let branches = replace(&mut self.branches, Vec::new(alloc));
+        self.branches = with_changes_by(alloc, branches, serial, more)?;
+        let files = replace(&mut self.directory, Vec::new(alloc));
+        self.directory = with_file(alloc, files, name, FileChange::Set(serial, changes))?;
+        Ok(())
+    }
+
+    /// PUT, UPDATE, DELETE, TRUNCATE, GET and NEXT, where nothing refuses them.
+    pub fn operate(
         &mut self,
         alloc: Global,
         label: &Label,
         name: &FileName,
-        number: u32,
-        bytes: &[u8],
+        asked: Asked<'_>,
     ) -> Result<Vec<Line>, AllocError>
-        requires { answers.late_at (world_of self.old) (node_of self.old) (said.Put label.now name.now number bytes.now) ≡ None }
-        ensures does { IfOk result (λ lines. Does self.old (said.Put label.now name.now number bytes.now) lines.items self.new) }
+        requires { answers.late_at (world_of self.old) (node_of self.old) (said.Records label.now name.now (asked_of asked)) ≡ None }
+        ensures does { IfOk result (λ lines. Does self.old (said.Records label.now name.now (asked_of asked.entry)) lines.items self.new) }
         ensures counts { OnOk result (RoseByOne self.old self.new) }
     {
-        let lines = one(alloc, Line::RecordNormal)?;
+        let told = self.told(alloc, name, asked)?;
+        let lines = one(alloc, told.line)?;
         let Some(b) = self.branch_labelled(label) else {
             return Ok(lines);
         };
-        let change = Change {
-            number,
-            bytes: bytes.to_vec(alloc)?,
-        };
-        let branches = replace(&mut self.branches, Vec::new(alloc));
-        self.branches = with_change_by(alloc, branches, b.serial)?;
-        let files = replace(&mut self.directory, Vec::new(alloc));
-        self.directory = with_file(alloc, files, name, FileChange::Put(b.serial, change))?;
+        if told.changes.is_empty() {
+            return Ok(lines);
+        }
+        self.change(alloc, b.serial, name, told.changes)?;
         Ok(lines)
     }
 

@@ -2,6 +2,9 @@
 #![tactic(auto)]
 
 mod acts;
+mod asked;
+mod forms;
+mod records;
 mod refusals;
 mod rows;
 mod running;
@@ -9,7 +12,8 @@ mod script;
 
 pub use rows::{
     aborted_record_is_gone, boot_behind_crash_tells_last, committed_record_is_shown,
-    empty_script_shows_nothing, open_quote_is_bad, unsettled_record_stands, zeros_are_no_volume,
+    empty_script_shows_nothing, file_is_full, indexed_file_is_restored, open_quote_is_bad,
+    sequential_file_is_truncated, unsettled_record_stands, zeros_are_no_volume,
 };
 pub use script::{Ending, Shown, reference_transcript};
 

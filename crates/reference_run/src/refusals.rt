@@ -1,39 +1,29 @@
 // What refuses a request.
-ghost use Rattle.std.specs.Prelude.{◌≡◌, ◌+◌, ◌-◌, ◌^◌, ◌≤◌, ◌<◌, ℕ, List, length, map, option_map, IfSome, Some};
+ghost use Rattle.std.specs.Prelude.{◌≡◌, ◌+◌, ◌-◌, ◌^◌, ◌≤◌, ◌<◌, ℕ, List, length, map, option_map, IfOk, IfSome, Some, ◌&&◌, nat_le};
 ghost use Rattle.std.specs.Option.{option_and_then};
 ghost use Rattle.script_model.specs.Statements as said;
 ghost use Rattle.script_lang.specs.declared.literals.Literals.{Literals as LiteralsSaid};
 ghost use Rattle.script_lang.specs.Statements.{form_of, request_of};
+ghost use Rattle.records_model.specs.Records.{Change};
 ghost use Rattle.run_model.specs.Answers as answers;
+ghost use Rattle.run_model.specs.Operations as operations;
 ghost use Rattle.run_model.specs.World as world;
-ghost use Rattle.reference_world.specs.Standing.{own_name, id_of, branch_of, label_of, settlement_of, volume_of, directory_of, line_of};
-ghost use Rattle.reference_run.specs.Served.{node_of, world_of};
+ghost use Rattle.reference_world.specs.Standing.{own_name, id_of, branch_of, label_of, settlement_of, volume_of, directory_of, file_of, line_of};
+ghost use Rattle.reference_run.specs.Operations.{asked_of};
+ghost use Rattle.reference_run.specs.Served.{node_of, world_of, IsPlain};
 
+use crate::asked::{Asked, asked_by};
+use crate::forms::{first_of, form_refused, refused_if};
+use crate::records::{changes_asked, data_refused, file_full};
 use crate::running::Running;
 use reference_world::{
-    Branch, LabelEntry, Line, OwnId, Quota, Runs, Volume, find_file, first_to_change, free_place,
-    free_runs, has_record, same_id,
+    Branch, File, LabelEntry, Line, OwnId, Quota, Runs, Volume, capacity, find_file,
+    first_to_change, free_place, free_runs, records_of, same_id,
 };
 use script_lang::{Form, Literals, Request};
+use std::alloc::{AllocError, Global};
 use std::cmp::min;
 use vms_base::{FileName, Label};
-
-// The first of two that applies.
-fn first_of(a: Option<Line>, b: Option<Line>) -> Option<Line>
-    ensures { option_map line_of result ≡ answers.first_of (option_map line_of a) (option_map line_of b) }
-{
-    match a {
-        Some(refusal) => Some(refusal),
-        None => b,
-    }
-}
-
-// A refusal where a test holds.
-fn refused_if(holds: bool, refusal: Line) -> Option<Line>
-    ensures { option_map line_of result ≡ answers.refused_if holds (line_of refusal) }
-{
-    if holds { Some(refusal) } else { None }
-}
 
 // The label of this name.
 fn find_label(labels: &[LabelEntry], name: &Label) -> Option<LabelEntry>
@@ -75,13 +65,47 @@ fn is_within(from: u64, to: u64, n: u64) -> bool
     from <= n && n <= to
 }
 
+// Whether buckets and records may be sized so.
+fn are_sizes(bucket: u32, size: u32) -> bool
+    ensures { result ≡ answers.are_sizes bucket size }
+{
+    let most = min(8160, (512 * u64::from(bucket)).saturating_sub(32));
+    is_within(1, 16, u64::from(bucket)) && is_within(1, most, u64::from(size))
+}
+
+// Whether a key of so many bytes at this position is within a record of this size.
+fn is_key_form(size: u32, position: u32, key_size: u32) -> bool
+    ensures { result ≡ (answers.is_within 1 64 key_size && nat_le (position + key_size) size) }
+{
+    is_within(1, 64, u64::from(key_size))
+        && u64::from(position) + u64::from(key_size) <= u64::from(size)
+}
+
 /// Whether a file may be so.
 pub fn is_file_form(bucket: u32, size: u32, form: Form) -> bool
     ensures { result ≡ answers.is_file_form bucket size (form_of form) }
 {
-    let Form::Relative { records } = form;
-    let most = min(8160, (512 * u64::from(bucket)).saturating_sub(32));
-    is_within(1, 16, u64::from(bucket)) && is_within(1, most, u64::from(size)) && 1 <= records
+    match form {
+        Form::Sequential { buckets } => are_sizes(bucket, size) && 1 <= buckets,
+        Form::Relative { records } => are_sizes(bucket, size) && 1 <= records,
+        Form::Indexed {
+            buckets,
+            position,
+            key_size,
+        } => are_sizes(bucket, size) && 1 <= buckets && is_key_form(size, position, key_size),
+    }
+}
+
+// How many buckets hold so many cells.
+fn buckets_of_cells(bucket: u32, size: u32, records: u32) -> u64
+    ensures buckets { result ≡ answers.buckets_for bucket size (said.Relative records) }
+    ensures few { result < 2 ^ 32 }
+{
+    let cells = capacity(bucket) / (u64::from(size) + 2);
+    if cells == 0 {
+        return 0;
+    }
+    (u64::from(records) + cells - 1) / cells
 }
 
 /// How many buckets a file takes.
@@ -89,12 +113,11 @@ pub fn buckets_for(bucket: u32, size: u32, form: Form) -> u64
     ensures buckets { result ≡ answers.buckets_for bucket size (form_of form) }
     ensures few { result < 2 ^ 32 }
 {
-    let Form::Relative { records } = form;
-    let cells = (512 * u64::from(bucket)).saturating_sub(16) / (u64::from(size) + 2);
-    if cells == 0 {
-        return 0;
+    match form {
+        Form::Sequential { buckets } => u64::from(buckets),
+        Form::Relative { records } => buckets_of_cells(bucket, size, records),
+        Form::Indexed { buckets, .. } => u64::from(buckets),
     }
-    (u64::from(records) + cells - 1) / cells
 }
 
 /// How many blocks it takes.
@@ -189,11 +212,15 @@ impl Running {
         }
     }
 
-    fn one_more_change(&self, name: &Label) -> Option<Line>
-        ensures { option_map line_of result ≡ option_and_then answers.one_more_change (answers.branch_labelled (world_of self.now) (node_of self.now) name.now) }
+    fn more_changes(&self, name: &Label, more: usize) -> Option<Line>
+        requires { more < 2 ^ 63 }
+        ensures { (cs : List Change) → length cs ≡ more → option_map line_of result ≡ option_and_then (answers.more_changes cs) (answers.branch_labelled (world_of self.now) (node_of self.now) name.now) }
     {
         match self.branch_labelled(name) {
-            Some(b) => refused_if(16 <= b.changes, Line::QuotaExceeded(Quota::Changes, 16)),
+            Some(b) => refused_if(
+                16 < u64::from(b.changes) + more as u64,
+                Line::QuotaExceeded(Quota::Changes, 16),
+            ),
             None => None,
         }
     }
@@ -216,20 +243,11 @@ impl Running {
         }
     }
 
-    fn fits_file(&self, name: &FileName, number: u32, size: usize) -> Option<Line>
-        ensures { option_map line_of result ≡ answers.of_file (node_of self.now) name.now (answers.fits_file number size) }
+    fn fits_file(&self, name: &FileName, asked: Asked<'_>) -> Option<Line>
+        ensures { option_map line_of result ≡ answers.of_file (node_of self.now) name.now (λ f. operations.form_refused f (asked_of asked.entry)) }
     {
         let f = find_file(self.directory.as_slice(), name)?;
-        first_of(
-            refused_if(
-                number < 1 || f.greatest_number < number,
-                Line::BadRecordNumber,
-            ),
-            refused_if(
-                size < 1 || (f.record_size as usize) < size,
-                Line::BadRecordSize,
-            ),
-        )
+        form_refused(f, asked)
     }
 
     fn unchanged_file(&self, name: &FileName) -> Option<Line>
@@ -242,11 +260,43 @@ impl Running {
         }
     }
 
-    fn no_record(&self, name: &FileName, number: u32) -> Option<Line>
-        ensures { option_map line_of result ≡ answers.of_file (node_of self.now) name.now (answers.no_record number) }
+    // What refuses an operation on a file that is there.
+    fn refused_in(
+        &self,
+        alloc: Global,
+        label: &Label,
+        f: &File,
+        asked: Asked<'_>,
+    ) -> Result<Option<Line>, AllocError>
+        ensures { IfOk result (λ refusal. option_map line_of refusal ≡ operations.first_of (operations.data_refused (file_of f.now) (asked_of asked.entry))
+            (operations.first_of (option_and_then (answers.more_changes (operations.changes_of (file_of f.now) (asked_of asked.entry))) (answers.branch_labelled (world_of self.now) (node_of self.now) label.now)) (operations.file_full (file_of f.now) (asked_of asked.entry)))) }
     {
-        let f = find_file(self.directory.as_slice(), name)?;
-        refused_if(has_record(f, number), Line::RecordExists)
+        let all = records_of(alloc, f)?;
+        let rows = all.as_slice();
+        let changes = changes_asked(alloc, f, rows, asked)?;
+        Ok(first_of(
+            data_refused(f, rows, asked),
+            first_of(
+                self.more_changes(label, changes.len()),
+                file_full(f, rows, asked),
+            ),
+        ))
+    }
+
+    // What refuses an operation of a branch by the records that stand, by a quota, or for want of buckets.
+    fn operation_refused(
+        &self,
+        alloc: Global,
+        label: &Label,
+        name: &FileName,
+        asked: Asked<'_>,
+    ) -> Result<Option<Line>, AllocError>
+        ensures { IfOk result (λ refusal. option_map line_of refusal ≡ answers.operation_refused (world_of self.now) (node_of self.now) label.now name.now (asked_of asked.entry)) }
+    {
+        match find_file(self.directory.as_slice(), name) {
+            None => Ok(self.more_changes(label, 0)),
+            Some(f) => self.refused_in(alloc, label, f, asked),
+        }
     }
 
     fn is_marked(&self, name: &FileName) -> Option<Line>
@@ -329,8 +379,8 @@ impl Running {
                 first_of(self.there_is_file(file), self.unchanged_file(file))
             }
             Request::StartTrans(label) => self.new_label(label),
-            Request::Put(label, file, number) => {
-                self.early_put(label, file, *number, lit.record.bytes().len())
+            Request::Records(label, file, operation) => {
+                self.early_records(label, file, asked_by(operation, lit))
             }
             Request::EndTrans(label) => {
                 first_of(self.made_label(label), self.unsettled_label(label))
@@ -344,15 +394,15 @@ impl Running {
         }
     }
 
-    fn early_put(&self, label: &Label, file: &FileName, number: u32, size: usize) -> Option<Line>
-        ensures { (bytes : List ℕ) → length bytes ≡ size → option_map line_of result ≡ answers.early_up (world_of self.now) (node_of self.now) (said.Put label.now file.now number bytes) }
+    fn early_records(&self, label: &Label, file: &FileName, asked: Asked<'_>) -> Option<Line>
+        ensures { option_map line_of result ≡ answers.early_up (world_of self.now) (node_of self.now) (said.Records label.now file.now (asked_of asked.entry)) }
     {
         first_of(
             self.made_label(label),
             first_of(
                 self.there_is_file(file),
                 first_of(
-                    self.fits_file(file, number, size),
+                    self.fits_file(file, asked),
                     first_of(self.unsettled_label(label), self.is_marked(file)),
                 ),
             ),
@@ -370,8 +420,9 @@ impl Running {
         )
     }
 
-    /// What refuses a request by what the disk has, or by a quota.
-    pub fn late(&self, request: &Request) -> Option<Line>
+    // What refuses a request that is none of records, by what the disk has or by a quota.
+    fn late_plain(&self, request: &Request) -> Option<Line>
+        requires { IsPlain request.now }
         ensures { (lit : LiteralsSaid) → option_map line_of result ≡ answers.late_at (world_of self.now) (node_of self.now) (request_of lit request.now) }
     {
         match request {
@@ -386,11 +437,24 @@ impl Running {
                 1 <= self.branches.len(),
                 Line::QuotaExceeded(Quota::Branches, 1),
             ),
-            Request::Put(label, file, number) => first_of(
-                self.no_record(file, *number),
-                self.one_more_change(label),
-            ),
             _ => None,
+        }
+    }
+
+    /// What refuses a request by what the disk has, or by a quota.
+    pub fn late(
+        &self,
+        alloc: Global,
+        request: &Request,
+        lit: &Literals,
+    ) -> Result<Option<Line>, AllocError>
+        ensures { IfOk result (λ refusal. option_map line_of refusal ≡ answers.late_at (world_of self.now) (node_of self.now) (request_of lit.now request.now)) }
+    {
+        match request {
+            Request::Records(label, file, operation) => {
+                self.operation_refused(alloc, label, file, asked_by(operation, lit))
+            }
+            _ => Ok(self.late_plain(request)),
         }
     }
 }

@@ -1,6 +1,6 @@
 //! What single scripts show, by their definition.
 
-ghost use Rattle.reference_run.specs.Rows.{CommittedRecordIsShown, EmptyScriptShowsNothing, AbortedRecordIsGone, UnsettledRecordStands, ZerosAreNoVolume, BootBehindCrashTellsLast, OpenQuoteIsBad};
+ghost use Rattle.reference_run.specs.Rows.{CommittedRecordIsShown, EmptyScriptShowsNothing, AbortedRecordIsGone, UnsettledRecordStands, ZerosAreNoVolume, BootBehindCrashTellsLast, OpenQuoteIsBad, FileIsFull, SequentialFileIsTruncated, IndexedFileIsRestored};
 
 /// A script without lines shows nothing.
 pub fn empty_script_shows_nothing()
@@ -35,4 +35,19 @@ pub fn boot_behind_crash_tells_last()
 /// A record whose quote is not closed is a bad line from there on.
 pub fn open_quote_is_bad()
     ensures { OpenQuoteIsBad }
+{}
+
+/// A record put into an indexed file whose buckets are too few for it is refused with the free and the wanted ones.
+pub fn file_is_full()
+    ensures { FileIsFull }
+{}
+
+/// A sequential file gives a position again that was aborted or truncated, and keeps the length of its records.
+pub fn sequential_file_is_truncated()
+    ensures { SequentialFileIsTruncated }
+{}
+
+/// An indexed file keeps a key once, at its own record, and has again what an aborted transaction deleted.
+pub fn indexed_file_is_restored()
+    ensures { IndexedFileIsRestored }
 {}

@@ -10,6 +10,7 @@ ghost use Rattle.reference_world.specs.Standing.{own_name, line_of};
 ghost use Rattle.reference_run.specs.Served.{node_of, world_of, AreFew, RoseByOne, SameCounts, Serves, Does};
 ghost use Rattle.reference_run.specs.Whole.{opening};
 
+use crate::asked::asked_by;
 use reference_world::{
     Branch, DiskCall, File, LabelEntry, Line, Settlement, Volume, empty_places, one, push_front,
 };
@@ -116,8 +117,8 @@ impl Running {
             } => self.create(alloc, *file, *bucket, *size, *form),
             Request::SetFile(file, setting) => self.set_file(alloc, file, *setting),
             Request::StartTrans(label) => self.start(alloc, *label),
-            Request::Put(label, file, number) => {
-                self.put(alloc, label, file, *number, lit.record.bytes())
+            Request::Records(label, file, operation) => {
+                self.operate(alloc, label, file, asked_by(operation, lit))
             }
             Request::EndTrans(label) => self.end(alloc, label),
             Request::AbortTrans(label) => self.abort(alloc, label),
@@ -140,7 +141,7 @@ impl Running {
         ensures counts { OnOk result (RoseByOne self.old self.new) }
     {
         self.ready(request)?;
-        if let Some(refusal) = self.late(request) {
+        if let Some(refusal) = self.late(alloc, request, lit)? {
             return one(alloc, refusal);
         }
         let lines = self.act(alloc, request, lit)?;

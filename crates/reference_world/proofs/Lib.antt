@@ -1,3 +1,5 @@
 pub mod EntryLemmas
 pub mod ChangeLemmas
 pub mod RunsLemmas
+pub mod PartLemmas
+pub mod FileLemmas

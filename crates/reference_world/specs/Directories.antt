@@ -1,17 +1,16 @@
 -- Changes of the directory's files, and runs of free blocks.
 use Rattle.std.specs.Prelude.{◌≡◌, ℕ, List}
-use Rattle.records_model.specs.History as history
 use Rattle.run_model.specs.World as world
 use Rattle.run_model.specs.Extents.{Extent, run_from, longest_run, lowest_run}
 use Rattle.reference_world.specs.declared.directory.FileChange.{FileChange}
 use Rattle.reference_world.specs.declared.directory.FileChange.TheVariants as change
 use Rattle.reference_world.specs.declared.directory.Runs.{Runs}
-use Rattle.reference_world.specs.Standing.{id_of, change_of}
+use Rattle.reference_world.specs.Standing.{id_of, changes_of}
 
 -- the change of a file
 abbrev pub file_change_of : FileChange → world.File → world.File
 file_change_of (change.Mark units) f = record f { recovery_units = units }
-file_change_of (change.Put serial c) f = record f { history = history.changed (id_of serial) (change_of c) f.history }
+file_change_of (change.Set serial cs) f = world.changed_file (id_of serial) (changes_of cs.items) f
 
 -- the runs of free blocks among so many from the first on
 pub record IsRuns (extents : List Extent) (need start count : ℕ) (runs : Runs) : Type 0 where

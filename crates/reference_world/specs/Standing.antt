@@ -1,18 +1,29 @@
 -- The world that the code's values stand for: there is the node A.
-use Rattle.std.specs.Prelude.{ℕ, List, [], ◌∷◌, Option, Some, None, map, option_map}
+use Rattle.std.specs.Prelude.{ℕ, List, [], ◌∷◌, Option, Some, None, map, option_map, Vec}
+use Rattle.std.specs.Borrow.{Bor}
+use Rattle.std.specs.declared.alloc.Global.{Global}
 use Rattle.std.specs.FinMap.{empty}
 use Rattle.vms_model.specs.Ids.{Id}
-use Rattle.vms_model.specs.Keys.{Key, Number}
+use Rattle.vms_model.specs.Keys as key
 use Rattle.vms_model.specs.Transactions as settled
 use Rattle.vms_base.specs.Outcomes.{outcome_of}
 use Rattle.vms_base.specs.declared.outcomes.Outcome.{Outcome}
 use Rattle.vms_base.specs.declared.outcomes.Outcome.TheVariants as outcome
 use Rattle.records_model.specs.Records as records
+use Rattle.records_model.specs.Slots as slots
 use Rattle.records_model.specs.History as history
 use Rattle.transcript_model.specs.Lines as model
 use Rattle.run_model.specs.World as world
 use Rattle.reference_world.specs.declared.world.OwnId.{OwnId}
+use Rattle.reference_world.specs.declared.keys.Key.{Key}
+use Rattle.reference_world.specs.declared.keys.Key.TheVariants as owned
+use Rattle.reference_world.specs.declared.keys.KeyRef.{KeyRef}
+use Rattle.reference_world.specs.declared.keys.KeyRef.TheVariants as lent
 use Rattle.reference_world.specs.declared.world.Change.{Change}
+use Rattle.reference_world.specs.declared.world.Organization.{Organization}
+use Rattle.reference_world.specs.declared.world.Organization.TheVariants as organization
+use Rattle.reference_world.specs.declared.world.Slot.{Slot}
+use Rattle.reference_world.specs.declared.world.Bucket.{Bucket}
 use Rattle.reference_world.specs.declared.world.LiveChanges.{LiveChanges}
 use Rattle.reference_world.specs.declared.world.SettledChanges.{SettledChanges}
 use Rattle.reference_world.specs.declared.world.File.{File}
@@ -37,9 +48,24 @@ own_name = 65 ∷ []
 abbrev pub id_of : OwnId → Id
 id_of i = record { node = own_name; boot = i.boot; seq = i.seq }
 
--- a record was put where none was
+-- the bytes of a record, where there is one
+abbrev pub value_of : Option (Vec ℕ Global) → Option (List ℕ)
+value_of v = option_map (λ bytes. bytes.items) v
+
+-- the same, where they lie elsewhere
+abbrev pub lent_value : Option (Bor (List ℕ)) → Option (List ℕ)
+lent_value v = option_map (λ bytes. bytes.now) v
+
+abbrev pub key_of : Key → key.Key
+key_of (owned.Number n) = key.Number n
+key_of (owned.Text bytes) = key.Text bytes.items
+
+abbrev pub lent_key : KeyRef → key.Key
+lent_key (lent.Number n) = key.Number n
+lent_key (lent.Text bytes) = key.Text bytes.now
+
 abbrev pub change_of : Change → records.Change
-change_of c = record { key = Number c.number; before = None; after = Some c.bytes.items }
+change_of c = record { key = key_of c.key; before = value_of c.before; after = value_of c.after }
 
 abbrev pub changes_of : List Change → List records.Change
 changes_of cs = map change_of cs
@@ -57,18 +83,36 @@ base_of cs = records.applied (changes_of cs) empty
 abbrev pub history_of : File → history.History
 history_of f = record { base = base_of f.base.items; moment = f.moment; settled = map done_of f.settled.items; live = map live_of f.live.items }
 
+abbrev pub organization_of : Organization → world.Organization
+organization_of organization.Sequential = world.Sequential
+organization_of (organization.Relative greatest) = world.Relative greatest
+organization_of (organization.Indexed position size) = world.Indexed position size
+
+abbrev pub slot_of : Slot → slots.Slot
+slot_of s = record { key = s.key.items; room = s.room; value = value_of s.value }
+
+abbrev pub slots_of : List Slot → List slots.Slot
+slots_of ss = map slot_of ss
+
+abbrev pub bucket_of : Bucket → List slots.Slot
+bucket_of b = slots_of b.slots.items
+
+abbrev pub chain_of : List Bucket → List (List slots.Slot)
+chain_of bs = map bucket_of bs
+
 -- a file has nothing to itself besides its buckets
 abbrev pub file_of : File → world.File
 file_of f = record {
   name = f.name;
   bucket = f.bucket;
   record_size = f.record_size;
-  greatest_number = f.greatest_number;
+  organization = organization_of f.organization;
   start = f.start;
   buckets = f.buckets;
   others = [];
   recovery_units = f.recovery_units;
   history = history_of f;
+  chain = chain_of f.chain.items;
 }
 
 abbrev pub directory_of : List (Option File) → List (Option world.File)
@@ -100,8 +144,8 @@ call_of (call.Arm writes choice) = world.Arm writes choice
 call_of call.Power = world.Power 0
 
 -- a record at its key
-abbrev pub entry_of : Row → Key × List ℕ
-entry_of r = (Number r.number, r.bytes.now)
+abbrev pub entry_of : Row → key.Key × List ℕ
+entry_of r = (lent_key r.key, r.bytes.now)
 
 abbrev pub quota_of : Quota → model.Quota
 quota_of quota.Branches = model.Branches
@@ -112,7 +156,7 @@ quota_of quota.Moments = model.Moments
 
 -- what the line shows
 abbrev pub line_of : Line → model.Line
-line_of (line.Record number bytes) = model.Record (Number number) bytes.items
+line_of (line.Record k bytes) = model.Record (key_of k) bytes.items
 line_of (line.Committed i moment) = model.Committed (id_of i) (id_of i) moment.hundredths
 line_of (line.Aborted i moment) = model.Aborted (id_of i) (id_of i) settled.Aborted moment.hundredths
 line_of (line.LastCommitted i moment) = model.LastCommitted (id_of i) (id_of i) moment.hundredths
@@ -122,6 +166,9 @@ line_of line.Normal = model.Normal
 line_of (line.NormalCount n) = model.NormalCount n
 line_of (line.NormalId i) = model.NormalId (id_of i)
 line_of line.RecordNormal = model.RecordNormal
+line_of (line.RecordPosition n) = model.RecordPosition n
+line_of (line.RecordFound bytes) = model.RecordFound bytes.items
+line_of (line.NextFound k bytes) = model.NextFound (key_of k) bytes.items
 line_of line.NoSuchNode = model.NoSuchNode
 line_of line.NodeDown = model.NodeDown
 line_of line.NodeUp = model.NodeUp
@@ -131,6 +178,7 @@ line_of line.BadLabel = model.BadLabel
 line_of line.FileNotFound = model.FileNotFound
 line_of line.FileExists = model.FileExists
 line_of line.BadParameter = model.BadParameter
+line_of line.BadOperation = model.BadOperation
 line_of line.BadRecordNumber = model.BadRecordNumber
 line_of line.BadRecordSize = model.BadRecordSize
 line_of line.NoSuchTransaction = model.NoSuchTransaction
@@ -138,7 +186,12 @@ line_of line.NotMarked = model.NotMarked
 line_of (line.FileLocked i) = model.FileLocked (id_of i)
 line_of (line.NoVolume condition block) = model.NoVolume own_name condition block
 line_of line.RecordExists = model.RecordExists
+line_of line.KeyExists = model.KeyExists
+line_of line.RecordNotFound = model.RecordNotFound
+line_of line.EndOfFile = model.EndOfFile
+line_of line.KeyChanged = model.KeyChanged
 line_of (line.QuotaExceeded q limit) = model.QuotaExceeded (quota_of q) limit
 line_of (line.VolumeFull free need) = model.VolumeFull free need
+line_of (line.FileFull free need) = model.FileFull free need
 line_of (line.BadLine column) = model.BadLine column
 line_of line.TooLong = model.TooLong

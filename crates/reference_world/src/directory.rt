@@ -1,12 +1,13 @@
 // The files of the node, at their places.
-ghost use Rattle.std.specs.Prelude.{◌≡◌, ◌+◌, ◌^◌, ◌<◌, ◌≤◌, ℕ, suc, max, nat_le, if◌then◌else◌, List, map, option_map, replicate, length, IfSome, IfOk, Some, None};
+ghost use Rattle.std.specs.Prelude.{◌≡◌, ◌+◌, ◌-◌, ◌*◌, ◌^◌, ◌<◌, ◌≤◌, ℕ, suc, max, nat_le, if◌then◌else◌, List, map, option_map, replicate, length, IfSome, IfOk, Some, None};
 ghost use Rattle.run_model.specs.World as world;
 ghost use Rattle.run_model.specs.World.{extents_of};
 ghost use Rattle.run_model.specs.Extents as extents;
-ghost use Rattle.reference_world.specs.Standing.{file_of, directory_of, settlement_of};
+ghost use Rattle.reference_world.specs.Standing.{id_of, changes_of, file_of, directory_of, settlement_of};
 ghost use Rattle.reference_world.specs.Directories.{file_change_of, IsRuns};
 
-use crate::history::{as_it_stands, settled_file, with_change};
+use crate::chain::chain_changed;
+use crate::history::{as_it_stands, settled_file, with_changes};
 use crate::lists::{push_front, take_first};
 use crate::world::{Change, File, OwnId, Settlement};
 use std::alloc::{AllocError, Global};
@@ -165,8 +166,33 @@ pub fn standing_files(
 pub enum FileChange {
     /// It is marked for recovery units, or is no more.
     Mark(bool),
-    /// A branch puts a record.
-    Put(OwnId, Change),
+    /// A branch makes changes, which stand newest first.
+    Set(OwnId, Vec<Change>),
+}
+
+/// How many bytes a bucket of so many blocks has for records.
+pub fn capacity(bucket: u32) -> u64
+    ensures { result ≡ 512 * bucket - 16 }
+{
+    (512 * u64::from(bucket)).saturating_sub(16)
+}
+
+// A file after changes of an unsettled branch.
+fn set_file(
+    alloc: Global,
+    file: File,
+    serial: OwnId,
+    changes: Vec<Change>,
+) -> Result<File, AllocError>
+    ensures { IfOk result (λ f. file_of f ≡ world.changed_file (id_of serial) (changes_of changes.items) (file_of file)) }
+{
+    let mut f = file;
+    let cap = capacity(f.bucket);
+    let chain = replace(&mut f.chain, Vec::new(alloc));
+    f.chain = chain_changed(alloc, cap, f.live.as_slice(), changes.as_slice(), chain)?;
+    let live = replace(&mut f.live, Vec::new(alloc));
+    f.live = with_changes(alloc, live, serial, changes)?;
+    Ok(f)
 }
 
 // A file with its change.
@@ -179,11 +205,7 @@ fn changed_file(alloc: Global, file: File, change: FileChange) -> Result<File, A
             f.recovery_units = units;
             Ok(f)
         }
-        FileChange::Put(serial, change) => {
-            let live = replace(&mut f.live, Vec::new(alloc));
-            f.live = with_change(alloc, live, serial, change)?;
-            Ok(f)
-        }
+        FileChange::Set(serial, changes) => set_file(alloc, f, serial, changes),
     }
 }
 

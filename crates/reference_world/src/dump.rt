@@ -1,25 +1,27 @@
-// The records of a file in the order of their numbers.
+// The records of a file in the order of their keys.
 ghost use Rattle.std.specs.Prelude.{◌≡◌, ◌++◌, List, [], ◌∷◌, map, IfOk, None};
 ghost use Rattle.std.specs.FinMap.{empty, entries};
-ghost use Rattle.std.specs.FinMap.Entries.{put};
-ghost use Rattle.vms_model.specs.Keys.{Number};
-ghost use Rattle.records_model.specs.Records.{Records, key_cmp, applied};
+ghost use Rattle.std.specs.FinMap.Entries.{put, find, where_key};
+ghost use Rattle.records_model.specs.Records.{Records, key_cmp, set_key, applied};
 ghost use Rattle.records_model.specs.History.{left_by, on_top, current};
 ghost use Rattle.transcript_model.specs.Lines as model;
 ghost use Rattle.run_model.specs.Answers.{shown_record};
 ghost use Rattle.run_model.specs.Steps.{lines_of_rows};
-ghost use Rattle.reference_world.specs.Standing.{changes_of, done_of, live_of, history_of, entry_of, line_of};
+ghost use Rattle.reference_world.specs.Standing.{lent_key, lent_value, changes_of, done_of, live_of, history_of, entry_of, line_of};
+ghost use Rattle.reference_world.specs.Lists.{is_other};
 
+use crate::keys::KeyRef;
 use crate::line::{Line, one};
 use crate::lists::push_front;
+use crate::slots::lend_value;
 use crate::world::{Change, File, LiveChanges, Row, SettledChanges};
 use std::alloc::{AllocError, Global};
 use std::cmp::Ordering;
 use vms_base::Outcome;
 
-// The rows with one more at its place, in the stead of another of its number.
+// The rows with one more at its place, in the stead of another of its key.
 fn with_row<'a>(alloc: Global, rows: &[Row<'a>], row: Row<'a>) -> Result<Vec<Row<'a>>, AllocError>
-    ensures { IfOk result (λ v. map entry_of v.items ≡ put key_cmp (Number row.entry.number) row.entry.bytes.now (map entry_of rows.now)) }
+    ensures { IfOk result (λ v. map entry_of v.items ≡ put key_cmp (lent_key row.entry.key) row.entry.bytes.now (map entry_of rows.now)) }
 {
     match rows {
         [] => {
@@ -27,7 +29,7 @@ fn with_row<'a>(alloc: Global, rows: &[Row<'a>], row: Row<'a>) -> Result<Vec<Row
             push_front(&mut all, row)?;
             Ok(all)
         }
-        [r, rest @ ..] => match row.number.cmp(&r.number) {
+        [r, rest @ ..] => match row.key.compare(r.key) {
             Ordering::Less => {
                 let mut all = rows.to_vec(alloc)?;
                 push_front(&mut all, row)?;
@@ -35,7 +37,8 @@ fn with_row<'a>(alloc: Global, rows: &[Row<'a>], row: Row<'a>) -> Result<Vec<Row
             }
             Ordering::Equal => {
                 let mut all = rest.to_vec(alloc)?;
-                push_front(&mut all, row)?;
+                let bytes = row.bytes;
+                push_front(&mut all, Row { key: r.key, bytes })?;
                 Ok(all)
             }
             Ordering::Greater => {
@@ -44,6 +47,57 @@ fn with_row<'a>(alloc: Global, rows: &[Row<'a>], row: Row<'a>) -> Result<Vec<Row
                 Ok(all)
             }
         },
+    }
+}
+
+// The rows but for those of this key.
+fn without_row<'a>(
+    alloc: Global,
+    rows: &[Row<'a>],
+    key: KeyRef<'_>,
+) -> Result<Vec<Row<'a>>, AllocError>
+    ensures { IfOk result (λ v. map entry_of v.items ≡ where_key key_cmp (is_other (lent_key key.entry)) (map entry_of rows.now)) }
+{
+    match rows {
+        [] => Ok(Vec::new(alloc)),
+        [r, rest @ ..] => {
+            let mut all = without_row(alloc, rest, key)?;
+            if !key.is(r.key) {
+                push_front(&mut all, *r)?;
+            }
+            Ok(all)
+        }
+    }
+}
+
+// The rows with this at a key: a record, or none.
+fn set_row<'a>(
+    alloc: Global,
+    rows: &[Row<'a>],
+    key: KeyRef<'a>,
+    value: Option<&'a [u8]>,
+) -> Result<Vec<Row<'a>>, AllocError>
+    ensures { (m : Records) → map entry_of rows.now ≡ entries m → IfOk result (λ v. map entry_of v.items ≡ entries (set_key m (lent_key key.entry) (lent_value value.entry))) }
+{
+    match value {
+        Some(bytes) => with_row(alloc, rows, Row { key, bytes }),
+        None => without_row(alloc, rows, key),
+    }
+}
+
+/// The record of this key.
+pub fn find_row<'a>(rows: &[Row<'a>], key: KeyRef<'_>) -> Option<&'a [u8]>
+    ensures { lent_value result ≡ find key_cmp (lent_key key.entry) (map entry_of rows.now) }
+{
+    match rows {
+        [] => None,
+        [r, rest @ ..] => {
+            if key.is(r.key) {
+                Some(r.bytes)
+            } else {
+                find_row(rest, key)
+            }
+        }
     }
 }
 
@@ -59,14 +113,7 @@ fn with_changes<'a>(
         [] => rows.to_vec(alloc),
         [c, rest @ ..] => {
             let before = with_changes(alloc, rows, rest)?;
-            with_row(
-                alloc,
-                before.as_slice(),
-                Row {
-                    number: c.number,
-                    bytes: c.bytes.as_slice(),
-                },
-            )
+            set_row(alloc, before.as_slice(), c.key.lend(), lend_value(&c.after))
         }
     }
 }
@@ -130,7 +177,10 @@ pub fn rows_shown(alloc: Global, rows: &[Row<'_>], count: u64) -> Result<Vec<Lin
         [] => one(alloc, Line::NormalCount(count)),
         [r, rest @ ..] => {
             let mut lines = rows_shown(alloc, rest, count)?;
-            push_front(&mut lines, Line::Record(r.number, r.bytes.to_vec(alloc)?))?;
+            push_front(
+                &mut lines,
+                Line::Record(r.key.own(alloc)?, r.bytes.to_vec(alloc)?),
+            )?;
             Ok(lines)
         }
     }

@@ -1,17 +1,18 @@
 // What branches changed of a file.
-ghost use Rattle.std.specs.Prelude.{◌≡◌, true, ◌||◌, ℕ, List, [], ◌∷◌, ◌++◌, map, option_map, is_some, None, OnOk, IfOk};
-ghost use Rattle.std.specs.FinMap.{get};
-ghost use Rattle.vms_model.specs.Keys.{Number};
-ghost use Rattle.records_model.specs.Records.{Records, applied};
+ghost use Rattle.std.specs.Prelude.{◌≡◌, true, ℕ, List, [], ◌∷◌, map, option_map, None, OnOk, IfOk};
+ghost use Rattle.vms_base.specs.Outcomes.{outcome_of};
+ghost use Rattle.records_model.specs.Records.{applied};
 ghost use Rattle.records_model.specs.History as history;
-ghost use Rattle.records_model.specs.History.{left_by, on_top, current};
+ghost use Rattle.records_model.specs.History.{left_by, on_top};
 ghost use Rattle.run_model.specs.World as world;
 ghost use Rattle.run_model.specs.World.{serials_of};
-ghost use Rattle.reference_world.specs.Standing.{id_of, change_of, changes_of, live_of, done_of, base_of, history_of, file_of, branch_of, settlement_of};
+ghost use Rattle.reference_world.specs.Standing.{id_of, lent_key, change_of, changes_of, live_of, done_of, base_of, history_of, chain_of, file_of, branch_of, settlement_of};
 ghost use Rattle.reference_world.specs.Histories.{only_live};
 
-use crate::lists::{push_front, take_first};
-use crate::world::{Branch, Change, File, LiveChanges, OwnId, SettledChanges, Settlement};
+use crate::chain::chain_undone;
+use crate::keys::KeyRef;
+use crate::lists::{append, push_front, take_first};
+use crate::world::{Branch, Bucket, Change, File, LiveChanges, OwnId, SettledChanges, Settlement};
 use std::alloc::{AllocError, Global};
 use std::mem::replace;
 use vms_base::Outcome;
@@ -24,54 +25,24 @@ pub fn same_id(a: OwnId, b: OwnId) -> bool
     a.boot == b.boot && a.seq == b.seq
 }
 
-// Whether there is a change of this number.
-fn is_changed(changes: &[Change], number: u32) -> bool
-    ensures { (m : Records) → is_some (get (applied (changes_of changes.now) m) (Number number)) ≡ (result || is_some (get m (Number number))) }
+// Whether one of these changes is of this key.
+fn changes_key(changes: &[Change], key: KeyRef<'_>) -> bool
+    ensures { result ≡ history.changes_key (lent_key key.entry) (changes_of changes.now) }
 {
     match changes {
         [] => false,
-        [c, rest @ ..] => c.number == number || is_changed(rest, number),
+        [c, rest @ ..] => key.is(c.key.lend()) || changes_key(rest, key),
     }
 }
 
-// Whether committed branches left a record of this number.
-fn is_left(settled: &[SettledChanges], number: u32) -> bool
-    ensures { (m : Records) → is_some (get (left_by None (map done_of settled.now) m) (Number number)) ≡ (result || is_some (get m (Number number))) }
-{
-    match settled {
-        [] => false,
-        [s, rest @ ..] => match s.outcome {
-            Outcome::Commit => is_changed(s.changes.as_slice(), number) || is_left(rest, number),
-            Outcome::Abort => is_left(rest, number),
-        },
-    }
-}
-
-// Whether unsettled branches put a record of this number.
-fn is_on_top(live: &[LiveChanges], number: u32) -> bool
-    ensures { (m : Records) → is_some (get (on_top (map live_of live.now) m) (Number number)) ≡ (result || is_some (get m (Number number))) }
+/// Whether a key is held: an unsettled branch changed it.
+pub fn is_held(live: &[LiveChanges], key: KeyRef<'_>) -> bool
+    ensures { result ≡ history.is_held (only_live (map live_of live.now)) (lent_key key.entry) }
 {
     match live {
         [] => false,
-        [l, rest @ ..] => is_changed(l.changes.as_slice(), number) || is_on_top(rest, number),
+        [l, rest @ ..] => changes_key(l.changes.as_slice(), key) || is_held(rest, key),
     }
-}
-
-// Whether a record of this number was put before the boot, or left by a committed branch.
-fn is_below(file: &File, number: u32) -> bool
-    ensures { result ≡ is_some (get (left_by None (map done_of file.now.settled.items) (base_of file.now.base.items)) (Number number)) }
-{
-    let settled = file.settled.as_slice();
-    let base = file.base.as_slice();
-    is_left(settled, number) || is_changed(base, number)
-}
-
-/// Whether a record of this number stands.
-pub fn has_record(file: &File, number: u32) -> bool
-    ensures { result ≡ is_some (get (current (history_of file.now)) (Number number)) }
-{
-    let live = file.live.as_slice();
-    is_on_top(live, number) || is_below(file, number)
 }
 
 // Whether an unsettled branch made changes.
@@ -106,8 +77,8 @@ pub fn first_to_change(file: &File, branches: &[Branch]) -> Option<OwnId>
     }
 }
 
-/// One more change of a branch.
-pub fn with_change(
+// One more change of a branch.
+fn with_change(
     alloc: Global,
     live: Vec<LiveChanges>,
     serial: OwnId,
@@ -134,6 +105,25 @@ pub fn with_change(
                 push_front(&mut all, first)?;
                 Ok(all)
             }
+        }
+    }
+}
+
+/// More changes of a branch, the newest first.
+pub fn with_changes(
+    alloc: Global,
+    live: Vec<LiveChanges>,
+    serial: OwnId,
+    changes: Vec<Change>,
+) -> Result<Vec<LiveChanges>, AllocError>
+    ensures { IfOk result (λ v. map live_of v.items ≡ history.with_changes (id_of serial) (changes_of changes.items) (map live_of live.items)) }
+{
+    let mut rest = changes;
+    match take_first(&mut rest) {
+        None => Ok(live),
+        Some(newest) => {
+            let before = with_changes(alloc, live, serial, rest)?;
+            with_change(alloc, before, serial, newest)
         }
     }
 }
@@ -171,6 +161,21 @@ fn part(alloc: Global, live: Vec<LiveChanges>, serial: OwnId) -> Result<Parted, 
     }
 }
 
+// A chain after the branch that made these changes was settled.
+fn settled_chain(
+    alloc: Global,
+    outcome: Outcome,
+    changes: &[Change],
+    chain: Vec<Bucket>,
+) -> Result<Vec<Bucket>, AllocError>
+    ensures { IfOk result (λ v. chain_of v.items ≡ world.settled_chain (outcome_of outcome) (changes_of changes.now) (chain_of chain.items)) }
+{
+    match outcome {
+        Outcome::Commit => Ok(chain),
+        Outcome::Abort => chain_undone(alloc, changes, chain),
+    }
+}
+
 /// A file after a branch was settled.
 pub fn settled_file(alloc: Global, file: File, s: Settlement) -> Result<File, AllocError>
     ensures { IfOk result (λ f. file_of f ≡ world.settled_file (settlement_of s) (file_of file)) }
@@ -185,6 +190,8 @@ pub fn settled_file(alloc: Global, file: File, s: Settlement) -> Result<File, Al
         s.serial,
     )?;
     settled_one.live = parted.others;
+    let chain = replace(&mut settled_one.chain, Vec::new(alloc));
+    settled_one.chain = settled_chain(alloc, s.outcome, parted.changes.as_slice(), chain)?;
     push_front(
         &mut settled_one.settled,
         SettledChanges {
@@ -202,12 +209,7 @@ pub fn settled_file(alloc: Global, file: File, s: Settlement) -> Result<File, Al
 fn onto(newer: Vec<Change>, older: Vec<Change>) -> Result<Vec<Change>, AllocError>
     ensures { IfOk result (λ v. base_of v.items ≡ applied (changes_of newer.items) (base_of older.items)) }
 {
-    let mut all = newer;
-    let mut more = older;
-    match all.append(&mut more) {
-        Ok(()) => Ok(all),
-        Err(_) => Err(AllocError),
-    }
+    append(newer, older)
 }
 
 // What committed branches leave on top of a base.

@@ -4,10 +4,11 @@ ghost use Rattle.std.specs.List.{list_all};
 ghost use Rattle.vms_model.specs.Ids.{Id};
 ghost use Rattle.vms_model.specs.Texts.{id_text, is_plain as is_plain_byte, hex_digit as hex_digit_of, hex_byte, bytes_text};
 ghost use Rattle.transcript_model.specs.Lines as model;
-ghost use Rattle.vms_model.specs.Keys.{Number};
+ghost use Rattle.vms_model.specs.Keys.{key_text};
 ghost use Rattle.transcript_model.specs.Lines.{quoted_time, quota_text, line_words, line_text, lines_text};
-ghost use Rattle.reference_world.specs.Standing.{own_name, id_of, line_of, quota_of};
+ghost use Rattle.reference_world.specs.Standing.{own_name, id_of, key_of, line_of, quota_of};
 
+use crate::keys::Key;
 use crate::moment::WrittenMoment;
 use crate::world::OwnId;
 use itoa::Buffer;
@@ -27,7 +28,7 @@ pub enum Quota {
 /// What a line shows.
 #[derive(Drop)]
 pub enum Line {
-    Record(u32, Vec<u8>),
+    Record(Key, Vec<u8>),
     Committed(OwnId, WrittenMoment),
     Aborted(OwnId, WrittenMoment),
     LastCommitted(OwnId, WrittenMoment),
@@ -37,6 +38,9 @@ pub enum Line {
     NormalCount(u64),
     NormalId(OwnId),
     RecordNormal,
+    RecordPosition(u64),
+    RecordFound(Vec<u8>),
+    NextFound(Key, Vec<u8>),
     NoSuchNode,
     NodeDown,
     NodeUp,
@@ -46,6 +50,7 @@ pub enum Line {
     FileNotFound,
     FileExists,
     BadParameter,
+    BadOperation,
     BadRecordNumber,
     BadRecordSize,
     NoSuchTransaction,
@@ -53,8 +58,13 @@ pub enum Line {
     FileLocked(OwnId),
     NoVolume(u32, u64),
     RecordExists,
+    KeyExists,
+    RecordNotFound,
+    EndOfFile,
+    KeyChanged,
     QuotaExceeded(Quota, u64),
     VolumeFull(u64, u64),
+    FileFull(u64, u64),
     BadLine(u32),
     TooLong,
 }
@@ -165,13 +175,36 @@ fn put_settled(
     put_time(out, moment)
 }
 
-fn put_record(out: &mut Vec<u8>, number: u32, bytes: &[u8]) -> Result<(), AllocError>
-    ensures { OnOk result (out.new.items ≡ out.old.items ++ line_words (model.Record (Number number) bytes.now)) }
+fn put_key(out: &mut Vec<u8>, key: &Key) -> Result<(), AllocError>
+    ensures { OnOk result (out.new.items ≡ out.old.items ++ key_text (key_of key.now)) }
 {
-    put(out, b"RECORD ")?;
-    put_number(out, u64::from(number))?;
+    match key {
+        Key::Number(n) => put_number(out, *n),
+        Key::Text(bytes) => put_bytes(out, bytes.as_slice()),
+    }
+}
+
+// A record with its key, behind other words.
+fn put_record(out: &mut Vec<u8>, words: &[u8], key: &Key, bytes: &[u8]) -> Result<(), AllocError>
+    ensures { OnOk result (out.new.items ≡ out.old.items ++ (words.now ++ (key_text (key_of key.now) ++ (32 ∷ bytes_text bytes.now)))) }
+{
+    put(out, words)?;
+    put_key(out, key)?;
     put(out, b" ")?;
     put_bytes(out, bytes)
+}
+
+fn put_found(out: &mut Vec<u8>, bytes: &[u8]) -> Result<(), AllocError>
+    ensures { OnOk result (out.new.items ≡ out.old.items ++ line_words (model.RecordFound bytes.now)) }
+{
+    put(out, b"RMS$_NORMAL ")?;
+    put_bytes(out, bytes)
+}
+
+fn put_next(out: &mut Vec<u8>, key: &Key, bytes: &[u8]) -> Result<(), AllocError>
+    ensures { OnOk result (out.new.items ≡ out.old.items ++ line_words (model.NextFound (key_of key.now) bytes.now)) }
+{
+    put_record(out, b"RMS$_NORMAL ", key, bytes)
 }
 
 fn put_with_number(out: &mut Vec<u8>, words: &[u8], n: u64) -> Result<(), AllocError>
@@ -239,7 +272,7 @@ fn put_words(out: &mut Vec<u8>, line: &Line) -> Result<(), AllocError>
     ensures { OnOk result (out.new.items ≡ out.old.items ++ line_words (line_of line.now)) }
 {
     match line {
-        Line::Record(number, bytes) => put_record(out, *number, bytes.as_slice()),
+        Line::Record(key, bytes) => put_record(out, b"RECORD ", key, bytes.as_slice()),
         Line::Committed(id, moment) => put_settled(out, b"COMMIT ", *id, b"", *moment),
         Line::Aborted(id, moment) => put_settled(out, b"ABORT ", *id, b"DDTM$_ABORTED ", *moment),
         Line::LastCommitted(id, moment) => put_settled(out, b"LAST COMMIT ", *id, b"", *moment),
@@ -251,6 +284,9 @@ fn put_words(out: &mut Vec<u8>, line: &Line) -> Result<(), AllocError>
         Line::NormalCount(n) => put_with_number(out, b"SS$_NORMAL ", *n),
         Line::NormalId(id) => put_with_id(out, b"SS$_NORMAL ", *id),
         Line::RecordNormal => put(out, b"RMS$_NORMAL"),
+        Line::RecordPosition(n) => put_with_number(out, b"RMS$_NORMAL ", *n),
+        Line::RecordFound(bytes) => put_found(out, bytes.as_slice()),
+        Line::NextFound(key, bytes) => put_next(out, key, bytes.as_slice()),
         Line::NoSuchNode => put(out, b"NOSUCHNODE"),
         Line::NodeDown => put(out, b"NODEDOWN"),
         Line::NodeUp => put(out, b"NODEUP"),
@@ -260,6 +296,7 @@ fn put_words(out: &mut Vec<u8>, line: &Line) -> Result<(), AllocError>
         Line::FileNotFound => put(out, b"RMS$_FNF"),
         Line::FileExists => put(out, b"RMS$_FEX"),
         Line::BadParameter => put(out, b"SS$_BADPARAM"),
+        Line::BadOperation => put(out, b"RMS$_IOP"),
         Line::BadRecordNumber => put(out, b"RMS$_MRN"),
         Line::BadRecordSize => put(out, b"RMS$_RSZ"),
         Line::NoSuchTransaction => put(out, b"SS$_NOSUCHTID"),
@@ -267,8 +304,13 @@ fn put_words(out: &mut Vec<u8>, line: &Line) -> Result<(), AllocError>
         Line::FileLocked(id) => put_with_id(out, b"RMS$_FLK ", *id),
         Line::NoVolume(condition, block) => put_no_volume(out, *condition, *block),
         Line::RecordExists => put(out, b"RMS$_REX"),
+        Line::KeyExists => put(out, b"RMS$_DUP"),
+        Line::RecordNotFound => put(out, b"RMS$_RNF"),
+        Line::EndOfFile => put(out, b"RMS$_EOF"),
+        Line::KeyChanged => put(out, b"RMS$_CHG"),
         Line::QuotaExceeded(quota, limit) => put_quota(out, *quota, *limit),
         Line::VolumeFull(free, need) => { put_with_numbers(out, b"RMS$_FUL VOLUME ", *free, *need) }
+        Line::FileFull(free, need) => put_with_numbers(out, b"RMS$_FUL FILE ", *free, *need),
         Line::BadLine(column) => put_with_number(out, b"BADLINE ", u64::from(*column)),
         Line::TooLong => put(out, b"TOOLONG"),
     }

@@ -1,5 +1,5 @@
 // Elements in front of lists.
-ghost use Rattle.std.specs.Prelude.{◌≡◌, ℕ, List, [], ◌∷◌, ◌++◌, OnOk, Some, None};
+ghost use Rattle.std.specs.Prelude.{◌≡◌, ℕ, List, [], ◌∷◌, ◌++◌, OnOk, IfOk, Some, None};
 ghost use Rattle.reference_world.specs.Lists.{joined};
 
 use std::alloc::AllocError;
@@ -20,6 +20,18 @@ pub fn push_back<T: Drop>(items: &mut Vec<T>, item: T) -> Result<(), AllocError>
 {
     match items.push(item) {
         Ok(()) => Ok(()),
+        Err(_) => Err(AllocError),
+    }
+}
+
+/// Elements, and others behind them.
+pub fn append<T: Drop>(front: Vec<T>, behind: Vec<T>) -> Result<Vec<T>, AllocError>
+    ensures { IfOk result (λ v. v.items ≡ front.items ++ behind.items) }
+{
+    let mut all = front;
+    let mut more = behind;
+    match all.append(&mut more) {
+        Ok(()) => Ok(all),
         Err(_) => Err(AllocError),
     }
 }

@@ -1,4 +1,5 @@
 // What the statements so far have made of the node.
+use crate::keys::{Key, KeyRef};
 use crate::moment::WrittenMoment;
 use vms_base::{FileName, Label, Outcome};
 
@@ -9,11 +10,12 @@ pub struct OwnId {
     pub seq: u32,
 }
 
-/// A record that was put where none was.
+/// A key that was set from one record to another; None is no record.
 #[derive(Drop)]
 pub struct Change {
-    pub number: u32,
-    pub bytes: Vec<u8>,
+    pub key: Key,
+    pub before: Option<Vec<u8>>,
+    pub after: Option<Vec<u8>>,
 }
 
 /// What an unsettled branch changed of a file, the newest first.
@@ -32,13 +34,37 @@ pub struct SettledChanges {
     pub changes: Vec<Change>,
 }
 
-/// A file. Its base is what was put before the node's boot, the newest first; settled branches stand newest first, unsettled ones oldest first.
+/// How a file keeps its records: one behind the other; in cells, at the numbers from 1 to the greatest; or by a key of so many bytes, which stands at a
+/// position of each record, from 0.
+#[derive(Clone, Copy, Drop)]
+pub enum Organization {
+    Sequential,
+    Relative { greatest: u32 },
+    Indexed { position: u32, size: u32 },
+}
+
+/// A slot of an indexed file: its key, its room in bytes, and its record where it has one.
+#[derive(Drop)]
+pub struct Slot {
+    pub key: Vec<u8>,
+    pub room: usize,
+    pub value: Option<Vec<u8>>,
+}
+
+/// The slots of a bucket, in the order of their keys.
+#[derive(Drop)]
+pub struct Bucket {
+    pub slots: Vec<Slot>,
+}
+
+/// A file. Its base is what was changed before the node's boot, the newest first; settled branches stand newest first, unsettled ones oldest first. The
+/// chain is the used buckets of an indexed file.
 #[derive(Drop)]
 pub struct File {
     pub name: FileName,
     pub bucket: u32,
     pub record_size: u32,
-    pub greatest_number: u32,
+    pub organization: Organization,
     pub start: u64,
     pub buckets: u64,
     pub recovery_units: bool,
@@ -46,6 +72,7 @@ pub struct File {
     pub moment: u64,
     pub settled: Vec<SettledChanges>,
     pub live: Vec<LiveChanges>,
+    pub chain: Vec<Bucket>,
 }
 
 /// An unsettled branch, and how many changes it made.
@@ -88,6 +115,6 @@ pub enum DiskCall {
 /// A record as a dump shows it.
 #[derive(Clone, Copy, Drop)]
 pub struct Row<'a> {
-    pub number: u32,
+    pub key: KeyRef<'a>,
     pub bytes: &'a [u8],
 }

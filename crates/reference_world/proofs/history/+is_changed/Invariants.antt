@@ -1,5 +1,0 @@
-use Rattle.std.proofs.Common.{length}
-use Rattle.reference_world.proofs.history.+is_changed.Given as goal
-
-abbrev pub decreases-is_changed : goal.decreases-is_changed
-decreases-is_changed l = length l.changes.now
