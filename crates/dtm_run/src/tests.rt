@@ -210,16 +210,21 @@ fn an_abort_puts_back_what_a_truncate_took(rt: HostRuntime) -> Result<(), Fail> 
 fn an_abort_sets_back_the_keys_of_parted_buckets(rt: HostRuntime) -> Result<(), Fail> {
     let alloc = rt.alloc();
     let record = repeated(alloc, b'x', 118)?;
+    let aa = putting(alloc, b"A: PUT T S \"aa", 118)?;
+    let ee = putting(alloc, b"A: PUT T S \"ee", 118)?;
+    let bb = putting(alloc, b"A: PUT U S \"bb", 118)?;
+    let cc = putting(alloc, b"A: PUT U S \"cc", 118)?;
+    let dd = putting(alloc, b"A: PUT U S \"dd", 118)?;
     let lines = joined(
         alloc,
         &[
             b"A: CREATE S IDX 1 200 9 0 2\nA: SET_FILE S RU\nA: START_TRANS T\n",
-            putting(alloc, b"A: PUT T S \"aa", 118)?.as_slice(),
-            putting(alloc, b"A: PUT T S \"ee", 118)?.as_slice(),
+            aa.as_slice(),
+            ee.as_slice(),
             b"A: END_TRANS T\nA: START_TRANS U\nA: DELETE U S \"aa\"\n",
-            putting(alloc, b"A: PUT U S \"bb", 118)?.as_slice(),
-            putting(alloc, b"A: PUT U S \"cc", 118)?.as_slice(),
-            putting(alloc, b"A: PUT U S \"dd", 118)?.as_slice(),
+            bb.as_slice(),
+            cc.as_slice(),
+            dd.as_slice(),
             b"A: UPDATE U S \"ee\" \"eey\"\nA: NEXT U S \"dd\"\nA: ABORT_TRANS U\nA: DUMP S\n",
         ],
     )?;
