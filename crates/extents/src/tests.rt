@@ -1,14 +1,7 @@
 // Free runs worked out by hand.
 use super::*;
-use file_base::{FileHead, Marks, Organization, Save, Span};
+use file_base::{FileHead, Marks, NO_SPAN, Organization, Save, Span};
 use vms_base::{FileName, Moment};
-
-const NO_SPAN: Span = Span {
-    start: 0,
-    blocks: 0,
-    first: 0,
-    end: 0,
-};
 
 // A file with buckets of two blocks, a journal of after images of five, and a saved copy.
 fn file(name: FileName, start: u32, alloc: u32, ai: u32, save: u32) -> FileHead {

@@ -21,6 +21,14 @@ pub struct Marks {
     pub save: bool,
 }
 
+/// No mark.
+pub const NO_MARKS: Marks = Marks {
+    ru: false,
+    ai: false,
+    bi: false,
+    save: false,
+};
+
 /// A journal's ring of blocks, and the positions between which its entries lie.
 #[derive(Clone, Copy, Debug, PartialEq, Eq, Drop)]
 pub struct Span {
@@ -31,6 +39,14 @@ pub struct Span {
     pub first: u64,
     pub end: u64,
 }
+
+/// No journal.
+pub const NO_SPAN: Span = Span {
+    start: 0,
+    blocks: 0,
+    first: 0,
+    end: 0,
+};
 
 /// The saved copy of a file. Sizes are in buckets.
 #[derive(Clone, Copy, Debug, PartialEq, Eq, Drop)]
@@ -47,6 +63,18 @@ pub struct Save {
     pub levels: u32,
     pub count: u32,
 }
+
+/// No saved copy.
+pub const NO_SAVE: Save = Save {
+    start: 0,
+    alloc: 0,
+    position: 0,
+    moment: Moment(0),
+    used: 0,
+    root: 0,
+    levels: 0,
+    count: 0,
+};
 
 /// What the directory tells of a file: its name, how its records are kept, and where it lies.
 ///

@@ -5,4 +5,4 @@ mod bytes;
 mod head;
 
 pub use bytes::{splice, splice_zeros};
-pub use head::{FileHead, Marks, Organization, Save, Span};
+pub use head::{FileHead, Marks, NO_MARKS, NO_SAVE, NO_SPAN, Organization, Save, Span};

@@ -6,34 +6,9 @@ ghost use Rattle.run_model.specs.Answers.{are_sizes, blocks_for, buckets_for, is
 ghost use Rattle.directory_model.specs.Files.{IsNewHead};
 ghost use Rattle.node_files.specs.NewFile.{AreSizes, buckets_in, new_head, plain_head_of};
 
-use file_base::{FileHead, Marks, Organization, Save, Span};
+use file_base::{FileHead, NO_MARKS, NO_SAVE, NO_SPAN, Organization};
 use script_lang::Form;
 use vms_base::{FileName, Moment};
-
-const NO_SPAN: Span = Span {
-    start: 0,
-    blocks: 0,
-    first: 0,
-    end: 0,
-};
-
-const NO_SAVE: Save = Save {
-    start: 0,
-    alloc: 0,
-    position: 0,
-    moment: Moment(0),
-    used: 0,
-    root: 0,
-    levels: 0,
-    count: 0,
-};
-
-const NO_MARKS: Marks = Marks {
-    ru: false,
-    ai: false,
-    bi: false,
-    save: false,
-};
 
 /// How a file is sized: a bucket in blocks, the longest record in bytes, and how its records are kept.
 #[derive(Clone, Copy, Debug, PartialEq, Eq, Drop)]

@@ -11,36 +11,11 @@ use crate::RelativeFile;
 use block_disk::{CrashDisk, Disk, MemPlatter};
 use careful_write::{Down, Group, Store};
 use change_set::{Held, RecordFile};
-use file_base::{FileHead, Marks, Organization, Save, Span};
+use file_base::{FileHead, NO_MARKS, NO_SAVE, NO_SPAN, Organization};
 use frame_pool::Pool;
 use std::alloc::{AllocError, Global};
 use std::test::Fail;
 use vms_base::{FileName, Key, Moment, Record};
-
-const NO_MARKS: Marks = Marks {
-    ru: false,
-    ai: false,
-    bi: false,
-    save: false,
-};
-
-const NO_JOURNAL: Span = Span {
-    start: 0,
-    blocks: 0,
-    first: 0,
-    end: 0,
-};
-
-const NO_SAVE: Save = Save {
-    start: 0,
-    alloc: 0,
-    position: 0,
-    moment: Moment(0),
-    used: 0,
-    root: 0,
-    levels: 0,
-    count: 0,
-};
 
 struct NoneHeld;
 
@@ -176,8 +151,8 @@ fn keeps_two<D: Disk>(
         root: 0,
         levels: 0,
         count: 0,
-        ai: NO_JOURNAL,
-        bi: NO_JOURNAL,
+        ai: NO_SPAN,
+        bi: NO_SPAN,
         bi_since: Moment(0),
         save: NO_SAVE,
     };
@@ -243,8 +218,8 @@ fn make_many<D: Disk>(store: &mut Store<D>, name: FileName, writes: u32) -> Resu
         root: 0,
         levels: 0,
         count: 0,
-        ai: NO_JOURNAL,
-        bi: NO_JOURNAL,
+        ai: NO_SPAN,
+        bi: NO_SPAN,
         bi_since: Moment(0),
         save: NO_SAVE,
     };

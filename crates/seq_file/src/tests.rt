@@ -10,36 +10,11 @@ use crate::SeqFile;
 use block_disk::{CrashDisk, Disk, MemPlatter};
 use careful_write::{Down, Group, Store};
 use change_set::{Held, RecordFile};
-use file_base::{FileHead, Marks, Organization, Save, Span};
+use file_base::{FileHead, NO_MARKS, NO_SAVE, NO_SPAN, Organization};
 use frame_pool::Pool;
 use std::alloc::{AllocError, Global};
 use std::test::Fail;
 use vms_base::{FileName, Key, Moment, Record};
-
-const NO_MARKS: Marks = Marks {
-    ru: false,
-    ai: false,
-    bi: false,
-    save: false,
-};
-
-const NO_JOURNAL: Span = Span {
-    start: 0,
-    blocks: 0,
-    first: 0,
-    end: 0,
-};
-
-const NO_SAVE: Save = Save {
-    start: 0,
-    alloc: 0,
-    position: 0,
-    moment: Moment(0),
-    used: 0,
-    root: 0,
-    levels: 0,
-    count: 0,
-};
 
 struct NoneHeld;
 
@@ -71,8 +46,8 @@ fn new_head(name: FileName, bucket: u16, mrs: u16) -> FileHead
         root: 0,
         levels: 0,
         count: 0,
-        ai: NO_JOURNAL,
-        bi: NO_JOURNAL,
+        ai: NO_SPAN,
+        bi: NO_SPAN,
         bi_since: Moment(0),
         save: NO_SAVE,
     }

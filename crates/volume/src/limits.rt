@@ -2,7 +2,7 @@
 ghost use Rattle.std.specs.Prelude.{◌≡◌, ◌≤◌, ◌<◌, ◌+◌, ◌-◌, ◌/◌, ℕ, true, false};
 ghost use Rattle.volume.specs.Limits.{BlocksFit, BucketFits, BucketsFit, CopyFits, FileFits, HomeFits, KeysFit, RootFits, SaveFits, SizesFit, SpanFits, buckets_of as buckets_said, cells_of as cells_said, file_buckets as file_buckets_said, save_buckets as save_buckets_said};
 
-use file_base::{FileHead, Organization, Save, Span};
+use file_base::{FileHead, NO_SAVE, Organization, Save, Span};
 use vms_base::{Moment, NodeName};
 use volume_format::{Home, Sizes};
 
@@ -21,17 +21,6 @@ pub struct Buckets {
     /// How many records a sequential file has.
     pub count: u32,
 }
-
-const NO_SAVE: Save = Save {
-    start: 0,
-    alloc: 0,
-    position: 0,
-    moment: Moment(0),
-    used: 0,
-    root: 0,
-    levels: 0,
-    count: 0,
-};
 
 /// Whether a disk of so many blocks may have a volume of these sizes.
 pub fn sizes_fit(sizes: &Sizes, disk: u32) -> bool

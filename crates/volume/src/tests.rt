@@ -2,19 +2,12 @@
 use super::*;
 use block_disk::{CrashDisk, Disk, MemPlatter};
 use careful_write::{Group, Store};
-use file_base::{FileHead, Marks, Organization, Save, Span};
+use file_base::{FileHead, Marks, NO_SPAN, Organization, Save};
 use frame_pool::Pool;
 use std::alloc::{AllocError, Global};
 use std::test::Fail;
 use vms_base::{FileName, Moment, NodeName};
 use volume_format::{DirectoryEntry, Sizes, write_directory};
-
-const NO_SPAN: Span = Span {
-    start: 0,
-    blocks: 0,
-    first: 0,
-    end: 0,
-};
 
 // A sequential file of so many buckets of two blocks.
 fn file(name: FileName, start: u32, alloc: u32) -> FileHead {
