@@ -7,3 +7,8 @@ pub mod Places
 pub mod Listed
 pub mod Staging
 pub mod Soundness
+mod Deciding
+mod LimitsDecided
+mod HomesDecided
+mod EntriesDecided
+mod ContentsDecided

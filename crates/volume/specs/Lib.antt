@@ -1,5 +1,6 @@
 pub mod Catalogs
 pub mod Conditions
+pub mod Contents
 pub mod Empty
 pub mod Findings
 pub mod Limits
