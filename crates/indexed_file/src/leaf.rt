@@ -7,7 +7,7 @@ ghost use Rattle.bucket_page.specs.Pages.{slots_of, next_of, key_in, slot_at, Is
 ghost use Rattle.change_set.specs.Buckets.{frame_of, with_frame};
 ghost use Rattle.change_set.specs.Files.{IsPlaced};
 ghost use Rattle.records_model.specs.Slots.{bytes_before};
-ghost use Rattle.std.specs.Ordering.{nat_cmp};
+ghost use Rattle.std.specs.Ordering.{nat_cmp, is_lt, ordering_reverse};
 ghost use Rattle.std.specs.Cmp.Lexicographic.{slice_cmp};
 ghost use Rattle.indexed_file.specs.Chain.{IsIndexed, kind_of, bucket_at, value_of, slot_of};
 ghost use Rattle.indexed_file.specs.Places.{IsPlace, key_at};
@@ -86,10 +86,11 @@ pub(crate) fn slot_key(slot: &[u8], head: &FileHead) -> Option<KeyText>
     KeyText::new(&slot[from..from + head.key_size as usize])
 }
 
-// The key of a slot against another.
-fn compare_key(slot: &[u8], head: &FileHead, key: &[u8]) -> Ordering
+/// The key of a slot against another.
+pub(crate) fn compare_key(slot: &[u8], head: &FileHead, key: &[u8]) -> Ordering
     requires { 4 + (head.now.key_pos + head.now.key_size) ≤ length slot.now }
-    ensures { result ≡ slice_cmp nat_cmp (key_in (kind_of head.now) slot.now) key.now }
+    ensures is { result ≡ slice_cmp nat_cmp (key_in (kind_of head.now) slot.now) key.now }
+    ensures above { bytes_before key.now (key_in (kind_of head.now) slot.now) ≡ is_lt (ordering_reverse result) }
 {
     let from = 4 + head.key_pos as usize;
     slot[from..from + head.key_size as usize].cmp(key)

@@ -5,11 +5,12 @@ ghost use Rattle.frame_pool.specs.Pool.{IsOut};
 ghost use Rattle.bucket_page.specs.Pages.{slots_of, next_of, key_in, IsBucket};
 ghost use Rattle.change_set.specs.Buckets.{frame_of, with_frame};
 ghost use Rattle.change_set.specs.Files.{IsPlaced};
-ghost use Rattle.records_model.specs.Slots.{bytes_before};
-ghost use Rattle.indexed_file.specs.Chain.{IsIndexed, IsChained, kind_of, slot_of, slots_in, next_in, target_of};
+ghost use Rattle.indexed_file.specs.Chain.{IsIndexed, IsChained, kind_of, slots_in, next_in, target_of};
+ghost use Rattle.indexed_file.specs.Places.{begins_above};
+ghost use Rattle.indexed_file.specs.Raws.{slots_at};
 ghost use Rattle.records_model.specs.Chain.{begins_by};
 
-use crate::leaf::{bucket_size, kind, load_leaf, slot};
+use crate::leaf::{bucket_size, compare_key, kind, load_leaf, slot};
 use block_disk::Disk;
 use bucket_page::Page;
 use careful_write::{Down, Store};
@@ -17,24 +18,31 @@ use file_base::FileHead;
 use frame_pool::Frame;
 use std::cmp::Ordering;
 
-// Whether a key comes before that of a slot.
-fn key_below(key: &[u8], slot: &[u8], head: &FileHead) -> bool
-    requires { 4 + (head.now.key_pos + head.now.key_size) ≤ length slot.now }
-    ensures { result ≡ bytes_before key.now (key_in (kind_of head.now) slot.now) }
+// The bucket that follows one, where it is used.
+fn used_behind(head: &FileHead, bytes: &[u8]) -> Option<u32>
+    requires { 16 ≤ length bytes.now }
+    ensures some { IfSome result (λ next. (next ≡ next_of bytes.now) × (next < head.now.used)) }
+    ensures none { IfNone result (head.now.used ≤ next_of bytes.now) }
 {
-    let from = 4 + head.key_pos as usize;
-    key.cmp(&slot[from..from + head.key_size as usize]) == Ordering::Less
+    let next = Page::next(bytes);
+    if next < head.used { Some(next) } else { None }
 }
 
-// Whether the first key of a bucket is at most a key.
-fn begins(head: &FileHead, bytes: &[u8], key: &[u8]) -> bool
-    requires { length bytes.now ≤ 8192 }
-    ensures { IsBucket (kind_of head.now) (length bytes.now) bytes.now → result ≡ begins_by key.now (map (slot_of head.now) (slots_of (kind_of head.now) bytes.now)) }
+// The target once bucket n is passed, and the bucket to look at next: none where no later one can begin by the key.
+fn pass(head: &FileHead, bytes: &[u8], n: u32, target: u32, key: &[u8]) -> (u32, Option<u32>)
+    requires header { 16 ≤ length bytes.now }
+    requires small { length bytes.now ≤ 8192 }
+    ensures target { IsBucket (kind_of head.now) (length bytes.now) bytes.now → result.0 ≡ (if begins_by key.now (slots_at head.now bytes.now) then n else target) }
+    ensures either { (result.0 ≡ n) ⊎ (result.0 ≡ target) }
+    ensures next { IfSome result.1 (λ next. (next ≡ next_of bytes.now) × (next < head.now.used)) }
+    ensures last { IfNone result.1 (IsBucket (kind_of head.now) (length bytes.now) bytes.now → (head.now.used ≤ next_of bytes.now) ⊎ (begins_above key.now (slots_at head.now bytes.now) ≡ true)) }
 {
     match Page::slots(bytes, kind(head)) {
-        Some(0) => false,
-        Some(_) => !key_below(key, slot(bytes, head, 0), head),
-        None => false,
+        Some(count) if count > 0 => match compare_key(slot(bytes, head, 0), head, key) {
+            Ordering::Greater => (target, None),
+            _ => (n, used_behind(head, bytes)),
+        },
+        _ => (target, used_behind(head, bytes)),
     }
 }
 
@@ -45,7 +53,7 @@ pub(crate) fn chosen(first: bool, one: u32, other: u32) -> u32
     if first { one } else { other }
 }
 
-// Reads bucket n: it is the target where it begins by the key; and which one is next.
+// Reads bucket n, and passes it.
 fn visit<D: Disk>(
     head: &FileHead,
     store: &mut Store<D>,
@@ -53,7 +61,7 @@ fn visit<D: Disk>(
     n: u32,
     target: u32,
     key: &[u8],
-) -> Result<(u32, u32), Down>
+) -> Result<(u32, Option<u32>), Down>
     requires placed { IsPlaced head.now store.old.disk }
     requires out { IsOut store.old.pool frame.now }
     requires there { n < head.now.used }
@@ -61,16 +69,17 @@ fn visit<D: Disk>(
     ensures state { store.new ≡ with_frame frame.now (frame_of store.new.pool frame.now) (record store.old { disk = answered result store.old.disk }) }
     ensures out { IsOut store.new.pool frame.now }
     ensures target { IfOk result (λ to. IfSome store.old.current (λ blocks. IsChained head.now blocks → to.0 ≡ (if begins_by key.now (slots_in head.now blocks n) then n else target))) }
-    ensures next { IfOk result (λ to. IfSome store.old.current (λ blocks. to.1 ≡ next_in head.now blocks n)) }
     ensures either { IfOk result (λ to. (to.0 ≡ n) ⊎ (to.0 ≡ target)) }
+    ensures next { IfOk result (λ to. IfSome to.1 (λ next. (next < head.now.used) × IfSome store.old.current (λ blocks. next ≡ next_in head.now blocks n))) }
+    ensures last { IfOk result (λ to. IfNone to.1 (IfSome store.old.current (λ blocks. IsChained head.now blocks → (head.now.used ≤ next_in head.now blocks n) ⊎ (begins_above key.now (slots_in head.now blocks n) ≡ true)))) }
 {
     load_leaf(head, store, frame, n)?;
     let bytes = &store.pool().bytes(frame)[..bucket_size(head)];
-    let to = chosen(begins(head, bytes, key), n, target);
-    Ok((to, Page::next(bytes)))
+    Ok(pass(head, bytes, n, target, key))
 }
 
-/// The bucket for a key: the last one of the chain whose first key is at most the key, or the first one.
+/// The bucket for a key: the last one of the chain whose first key is at most the key, or the first one. Keys ascend along
+/// the chain, so it is walked up to the first bucket whose first key is above the key.
 pub(crate) fn find_target<D: Disk>(
     head: &FileHead,
     store: &mut Store<D>,
@@ -89,13 +98,13 @@ pub(crate) fn find_target<D: Disk>(
     let mut n = 0;
     for i in 0..head.used {
         match visit(head, store, frame, n, target, key) {
-            Ok((to, next)) => {
-                target = to;
-                if next >= head.used {
-                    return Ok(target);
+            Ok((to, next)) => match next {
+                Some(next) => {
+                    target = to;
+                    n = next;
                 }
-                n = next;
-            }
+                None => return Ok(to),
+            },
             Err(down) => return Err(down),
         }
     }

@@ -14,7 +14,7 @@ loop-low-preserved-in-Less c =
     let k = c.args.key.now in
     let slots = slots_of (kind_of h) c.args.bytes.now in
     let mid = c.loop-low.low + (c.loop-low.high - c.loop-low.low) / 2 in
-    let less : slice_cmp nat_cmp (key_at h slots mid) k ≡ Less = ap (λ s. slice_cmp nat_cmp (key_in (kind_of h) s) k) (sym c.slot.ensures.is) ∙ sym c.in-Less.ensures in
+    let less : slice_cmp nat_cmp (key_at h slots mid) k ≡ Less = ap (λ s. slice_cmp nat_cmp (key_in (kind_of h) s) k) (sym c.slot.ensures.is) ∙ sym c.in-Less.ensures.is in
     record {
       order = omega (arith, c.loop-low-test.true);
       within = c.loop-low.invariant.within;
@@ -28,7 +28,7 @@ returns-in-Equal c =
     let k = c.args.key.now in
     let slots = slots_of (kind_of h) c.args.bytes.now in
     let mid = c.loop-low.low + (c.loop-low.high - c.loop-low.low) / 2 in
-    let same : slice_cmp nat_cmp (key_at h slots mid) k ≡ Equal = ap (λ s. slice_cmp nat_cmp (key_in (kind_of h) s) k) (sym c.slot.ensures.is) ∙ sym c.in-Equal.ensures in
+    let same : slice_cmp nat_cmp (key_at h slots mid) k ≡ Equal = ap (λ s. slice_cmp nat_cmp (key_in (kind_of h) s) k) (sym c.slot.ensures.is) ∙ sym c.in-Equal.ensures.is in
     place_of_equal h k slots mid c.requires.bucket.order (omega (arith, c.loop-low-test.true, c.loop-low.invariant.within)) same
 
 pub loop-low-preserved : goal.loop-low-preserved
@@ -37,7 +37,7 @@ loop-low-preserved c =
     let k = c.args.key.now in
     let slots = slots_of (kind_of h) c.args.bytes.now in
     let mid = c.loop-low.low + (c.loop-low.high - c.loop-low.low) / 2 in
-    let more : slice_cmp nat_cmp (key_at h slots mid) k ≡ Greater = ap (λ s. slice_cmp nat_cmp (key_in (kind_of h) s) k) (sym c.slot.ensures.is) ∙ sym c.in-Greater.ensures in
+    let more : slice_cmp nat_cmp (key_at h slots mid) k ≡ Greater = ap (λ s. slice_cmp nat_cmp (key_in (kind_of h) s) k) (sym c.slot.ensures.is) ∙ sym c.in-Greater.ensures.is in
     record {
       order = omega (arith, c.loop-low-test.true);
       within = omega (arith, c.loop-low-test.true, c.loop-low.invariant.within);
