@@ -1,10 +1,10 @@
 //! A key that is set: the bucket for it is written anew, and parted where it overflows.
-ghost use Rattle.std.specs.Prelude.{◌≡◌, ◌≤◌, ◌<◌, ◌+◌, ◌-◌, ◌*◌, ℕ, List, Bool, true, false, Option, Some, None, length, take, drop, map, OnOk, OnErr, IfOk, IfSome, option_map};
+ghost use Rattle.std.specs.Prelude.{◌≡◌, ◌≤◌, ◌<◌, ◌+◌, ◌-◌, ◌*◌, ℕ, List, Bool, true, false, [], Option, Some, None, length, take, drop, map, OnOk, OnErr, IfOk, IfSome, option_map};
 ghost use Rattle.std.specs.Option.{option_copied};
 ghost use Rattle.careful_write.specs.Down.{answered};
 ghost use Rattle.frame_pool.specs.Pool.{IsOut};
 ghost use Rattle.vms_model.specs.Keys.{Text};
-ghost use Rattle.bucket_page.specs.Pages.{slots_of, next_of, slot_at, joined, suits, inserted, IsPacked, IsBucket, Packs};
+ghost use Rattle.bucket_page.specs.Pages.{slots_of, next_of, slot_at, joined, suits, inserted, IsPacked, IsBucket, Packs, Holds};
 ghost use Rattle.change_set.specs.Buckets.{frame_of, with_frame, with_bucket};
 ghost use Rattle.change_set.specs.Files.{IsPlaced, free_frames};
 ghost use Rattle.records_model.specs.Slots.{size_of};
@@ -18,7 +18,7 @@ use crate::parts::part;
 use crate::slots::{number_at, put_slot, tidy};
 use crate::walk::find_target;
 use block_disk::Disk;
-use bucket_page::{Page, insert_front, remove_front, replace_front};
+use bucket_page::{Page, clear_front, insert_front, remove_front, replace_front};
 use careful_write::{Down, Store};
 use change_set::{Held, give_frame, stage_bucket, take_frame};
 use file_base::FileHead;
@@ -292,7 +292,18 @@ fn set_found<H: Held>(
     }
 }
 
-// Sets a key in the bucket for it, which may part in two or three. Answers how many buckets that adds.
+// Makes a bucket without slots of bytes that are not laid out as one. It leads where they led a walk.
+fn clear_leaf(head: &FileHead, size: usize, low: &mut [u8])
+    requires least { 16 ≤ size }
+    requires within { size ≤ length low.old }
+    ensures { Holds (kind_of head.now) size [] (next_of (take size low.old)) (take size low.new) }
+{
+    let next = Page::next(&low[..size]);
+    clear_front(low, size, kind(head), next);
+}
+
+// Sets a key in the bucket for it, which may part in two or three. Bytes that are not laid out as a bucket are one without
+// slots. Answers how many buckets that adds.
 fn set_in_leaf<H: Held>(
     head: &FileHead,
     size: usize,
@@ -323,7 +334,10 @@ fn set_in_leaf<H: Held>(
             }
             set_missing(head, size, low, mid, high, count, i, key, value, held)
         }
-        None => 0,
+        None => {
+            clear_leaf(head, size, low);
+            set_missing(head, size, low, mid, high, 0, 0, key, value, held)
+        }
     }
 }
 
@@ -477,7 +491,7 @@ fn set_loaded<D: Disk, H: Held>(
 
 /// Sets a key to a record, or takes its record away. Where the bucket for the key would have to part and too few buckets
 /// are free, nothing is done. `Down` says that the disk went down in the call. The store's frames are as before.
-pub fn set_key<D: Disk, H: Held>(
+pub(crate) fn set_key<D: Disk, H: Held>(
     head: &mut FileHead,
     store: &mut Store<D>,
     key: &[u8],
