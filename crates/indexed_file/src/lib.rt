@@ -17,8 +17,3 @@ mod walk;
 
 pub use indexed::IndexedFile;
 pub use law::{order_law, part_law, put_law, room_law, target_law, tidy_law};
-pub use make::make_file;
-pub use next::next_key;
-pub use read::get_key;
-pub use restore::restore_key;
-pub use set::set_key;

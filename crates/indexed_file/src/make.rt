@@ -30,7 +30,7 @@ fn clear_frame<D: Disk>(head: &FileHead, store: &mut Store<D>, frame: &Frame)
 }
 
 /// Writes the one bucket of the empty map.
-pub fn make_file<D: Disk>(head: &FileHead, store: &mut Store<D>) -> Result<(), Down>
+pub(crate) fn make_file<D: Disk>(head: &FileHead, store: &mut Store<D>) -> Result<(), Down>
     requires form { IsIndexed head.now }
     requires placed { IsPlaced head.now store.old.disk }
     requires idle { IsIdle store.old }

@@ -119,7 +119,7 @@ fn find_next<D: Disk>(
 
 /// The first key behind another, or the first one, with its record. None exactly where there is none. `Down` says that the
 /// disk went down in the call. The store's frames are as before.
-pub fn next_key<D: Disk>(
+pub(crate) fn next_key<D: Disk>(
     head: &FileHead,
     store: &mut Store<D>,
     after: Option<&KeyText>,

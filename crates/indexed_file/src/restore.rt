@@ -134,7 +134,7 @@ fn restore_through<D: Disk>(
 
 /// Sets a key back in place to a record or to none, and stages the one bucket for it. Where the key has no slot there, or
 /// one with less room, nothing is done. `Down` says that the disk went down in the call. The store's frames are as before.
-pub fn restore_key<D: Disk>(
+pub(crate) fn restore_key<D: Disk>(
     head: &FileHead,
     store: &mut Store<D>,
     key: &[u8],
