@@ -76,6 +76,14 @@ pub(crate) fn slot<'a>(bytes: &'a [u8], head: &FileHead, i: u16) -> &'a [u8]
     &bytes[at as usize..at as usize + size as usize]
 }
 
+/// The number of two bytes of a slot.
+pub(crate) fn number_at(slot: &[u8], at: usize) -> u16
+    requires { at + 2 ≤ length slot.now }
+    ensures { result ≡ u16_at slot.now at }
+{
+    u16::from_le_bytes([slot[at], slot[at + 1]])
+}
+
 /// The key of a slot.
 pub(crate) fn slot_key(slot: &[u8], head: &FileHead) -> Option<KeyText>
     requires form { IsIndexed head.now }
@@ -123,7 +131,7 @@ pub(crate) fn read_record(slot: &[u8], mrs: u16, out: &mut Record) -> bool
     ensures some { result ≡ true → value_of mrs slot.now ≡ Some out.new }
     ensures none { result ≡ false → value_of mrs slot.now ≡ None }
 {
-    let size = slot[2] as u16 + 256 * slot[3] as u16;
+    let size = number_at(slot, 2);
     if size == 0 || size > mrs {
         return false;
     }

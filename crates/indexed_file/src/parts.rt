@@ -38,13 +38,6 @@ fn bytes_to(bytes: &[u8], head: &FileHead, i: u16, slot: &[u8], j: u32) -> u32
     start_at(bytes, head, j - 1) - 16 + slot.len() as u32
 }
 
-// The greater of two numbers.
-fn greater_of(a: u32, b: u32) -> u32
-    ensures { result ≡ max a b }
-{
-    if a < b { b } else { a }
-}
-
 // Whether a place whose greater part has so many bytes is better than the best one, which is 0 where there is none.
 fn is_better(greater: u32, capacity: u32, best: u32, least: u32) -> bool
     ensures { result ≡ (nat_le greater capacity && (best == 0 || nat_lt greater least)) }
@@ -72,7 +65,7 @@ fn best_place(bytes: &[u8], head: &FileHead, count: u16, i: u16, slot: &[u8]) ->
     for j in 1..count as u32 + 1 {
         let low = bytes_to(bytes, head, i, slot, j);
         let high = total - low;
-        let greater = greater_of(low, high);
+        let greater = low.max(high);
         let better = is_better(greater, capacity, best, least);
         best = chosen(better, j, best);
         least = chosen(better, greater, least);

@@ -10,9 +10,8 @@ ghost use Rattle.indexed_file.specs.Chain.{IsIndexed, kind_of, SuitsText};
 ghost use Rattle.indexed_file.specs.Places.{IsPlace};
 ghost use Rattle.indexed_file.specs.Backs.{TriesBytes, RestoresFile, RestoresLoaded};
 
-use crate::leaf::{bucket_size, find_place, kind, load_leaf, slot};
+use crate::leaf::{bucket_size, find_place, kind, load_leaf, number_at, slot};
 use crate::set::{change_slot, read_frame, stage_leaf, value_size};
-use crate::slots::number_at;
 use crate::walk::find_target;
 use block_disk::Disk;
 use bucket_page::Page;

@@ -13,9 +13,9 @@ ghost use Rattle.indexed_file.specs.Places.{IsPlace};
 ghost use Rattle.indexed_file.specs.Raws.{slot_bytes, Means, tidied_raws, raws_added, place_added, Parted, SetsLeaf};
 ghost use Rattle.indexed_file.specs.Sets.{ChangesSlot, SetsFile, SetsLoaded, with_parts, with_blocks_of, touched_by};
 
-use crate::leaf::{bucket_size, find_place, kind, load_leaf, slot};
+use crate::leaf::{bucket_size, find_place, kind, load_leaf, number_at, slot};
 use crate::parts::part;
-use crate::slots::{number_at, put_slot, tidy};
+use crate::slots::{put_slot, tidy};
 use crate::walk::find_target;
 use block_disk::Disk;
 use bucket_page::{Page, clear_front, insert_front, remove_front, replace_front};

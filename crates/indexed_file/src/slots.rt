@@ -5,7 +5,7 @@ ghost use Rattle.bucket_page.specs.Pages.{slots_of, next_of, key_in, slot_at, su
 ghost use Rattle.indexed_file.specs.Chain.{IsIndexed, kind_of};
 ghost use Rattle.indexed_file.specs.Raws.{slot_bytes, shortened, tidied_raw, tidied_raws, one_of, TidiesSlot};
 
-use crate::leaf::{kind, slot, slot_key};
+use crate::leaf::{kind, number_at, slot, slot_key};
 use bucket_page::{insert_front, remove_front};
 use change_set::Held;
 use file_base::{FileHead, splice, splice_zeros};
@@ -19,25 +19,10 @@ pub(crate) fn put_slot(out: &mut [u8], room: u16, size: u16, at: u16, piece: &[u
     ensures { take (4 + room) out.new ≡ slot_bytes room size at piece.now }
 {
     splice_zeros(out, 0, 4 + room as usize);
-    splice(
-        out,
-        0,
-        &[
-            (room % 256) as u8,
-            (room / 256) as u8,
-            (size % 256) as u8,
-            (size / 256) as u8,
-        ],
-    );
+    let [room_low, room_high] = room.to_le_bytes();
+    let [size_low, size_high] = size.to_le_bytes();
+    splice(out, 0, &[room_low, room_high, size_low, size_high]);
     splice(out, 4 + at as usize, piece);
-}
-
-/// The number of two bytes of a slot.
-pub(crate) fn number_at(slot: &[u8], at: usize) -> u16
-    requires { at + 2 ≤ length slot.now }
-    ensures { result ≡ u16_at slot.now at }
-{
-    slot[at] as u16 + 256 * slot[at + 1] as u16
 }
 
 // Whether the key of a slot is held.

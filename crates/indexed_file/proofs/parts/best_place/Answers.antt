@@ -29,8 +29,8 @@ loop-j-preserved c =
     let size = length-inserted s c.args.i c.args.slot.now in
     let all = ap bytes_of (take_all (c.args.count + 1) slots (omega (arith, count, size, c.requires.counted))) in
     record {
-      best = best_more (length c.args.bytes.now - 16) slots c.loop-j.j c.loop-j.best c.loop-j.least c.bytes_to-low.result c.bytes_to-total.result c.greater_of-greater.result c.chosen-best.result c.chosen-least.result c.is_better-better.result
-          c.loop-j.auto.j (omega (arith, c.loop-j-test.true, count, size, c.requires.counted)) c.bytes_to-low.ensures.is (omega (arith, c.bytes_to-low.ensures.is, c.bytes_to-total.ensures.is, all, bytes_all slots c.loop-j.j)) c.greater_of-greater.ensures
+      best = best_more (length c.args.bytes.now - 16) slots c.loop-j.j c.loop-j.best c.loop-j.least c.bytes_to-low.result c.bytes_to-total.result c.max-greater.result c.chosen-best.result c.chosen-least.result c.is_better-better.result
+          c.loop-j.auto.j (omega (arith, c.loop-j-test.true, count, size, c.requires.counted)) c.bytes_to-low.ensures.is (omega (arith, c.bytes_to-low.ensures.is, c.bytes_to-total.ensures.is, all, bytes_all slots c.loop-j.j)) c.max-greater.ensures
           c.is_better-better.ensures c.chosen-best.ensures c.chosen-least.ensures c.loop-j.invariant.best;
     }
 
