@@ -1,5 +1,5 @@
 -- A key that is set in the bytes of a bucket.
-use Rattle.std.proofs.Common.{◌≡◌, ⊎_elim, ℕ, zero, suc, ◌<◌, ◌≤◌, ◌+◌, ◌-◌, ◌==◌, ◌&&◌, Bool, true, false, List, [], ◌∷◌, ◌++◌, length, take, drop, map, Option, Some, None, nat_le, refl, sym, ap, subst, ◌∙◌, arith, length-append}
+use Rattle.std.proofs.Common.{◌≡◌, inl, inr, ⊎_elim, ℕ, zero, suc, ◌<◌, ◌≤◌, ◌+◌, ◌-◌, ◌==◌, ◌&&◌, Bool, true, false, List, [], ◌∷◌, ◌++◌, length, take, drop, map, Option, Some, None, nat_le, refl, sym, ap, subst, ◌∙◌, arith, length-append}
 use Rattle.std.proofs.lemmas.Bool.{cases_Bool}
 use Rattle.std.proofs.lemmas.Bool.Decides.{nat_tests}
 use Rattle.std.proofs.lemmas.List.{take_at, drop_at, take-append-drop, drop_more, length-take-le, length-drop, map-append, length-map}
@@ -11,9 +11,10 @@ use Rattle.records_model.specs.Slots.{Slot, bytes_before, with_value, size_of, p
 use Rattle.records_model.specs.Parts.{bytes_of}
 use Rattle.indexed_file.specs.Chain.{kind_of, slot_of, value_of, keeps_record, all_keep, slots_set}
 use Rattle.indexed_file.specs.Places.{key_at, IsPlace}
-use Rattle.indexed_file.specs.Raws.{Means, tidied_raws, fits_in, raws_added, place_added, slots_at, Parted, whole, SetsLeaf}
+use Rattle.indexed_file.specs.Raws.{written_slot, Means, tidied_raws, fits_in, raws_added, place_added, slots_at, Parted, whole, SetsLeaf}
 use Rattle.indexed_file.specs.Sets.{ChangesSlot}
 use Rattle.indexed_file.proofs.LeafLaws.{slot_suits}
+use Rattle.indexed_file.proofs.TargetLaws.{missing_at}
 use Rattle.records_model.proofs.SlotLaws.{if_true, if_false, tidy_before, tidy_behind}
 use Rattle.indexed_file.proofs.SetLaws.{put_between, put_none_between, put_at, put_tidied, tidied-append, set_fits, set_over, max_right, max_left, place_at, place_between}
 use Rattle.indexed_file.proofs.RawLaws.{all_keep-append, all_keep-take, all_keep-drop, tidies_all, tidied_raws-append, bytes_of_raws, value_size}
@@ -48,6 +49,19 @@ map_split h raws i = ap (map (slot_of h)) (sym (take-append-drop i raws)) ∙ ma
 place_is : (h : FileHead) (s : Raws) (i : ℕ) {n : ℕ} → i ≤ length s → n ≡ length (map (slot_of h) (take i s)) → i ≡ n
 place_is h s i within is = omega (arith, is, length-map (take i s) (slot_of h), length-take-le i s within)
 
+-- the slot of a key that was written
+
+seam_at : (a b : Raws) (x : List ℕ) (n : ℕ) → n ≡ length a → slot_at (a ++ (x ∷ b)) n ≡ x
+seam_at [] b x zero is = refl
+seam_at [] b x (suc n) is = absurd (omega arith)
+seam_at (y ∷ a) b x zero is = absurd (omega arith)
+seam_at (y ∷ a) b x (suc n) is = seam_at a b x n (omega arith)
+
+written_at : (h : FileHead) (k : List ℕ) (room : ℕ) (v : Option (List ℕ)) (x : List ℕ) (raws : Raws) (n : ℕ) → slot_at raws n ≡ x → Means h k room v x → slot_at raws n ≡ written_slot h k (u16_at (slot_at raws n) 0) v
+written_at h k room v x raws n at means =
+    let room_is : u16_at (slot_at raws n) 0 ≡ room = ap (λ y. u16_at y 0) at ∙ ap (λ (s : Slot). s.room) means.is in
+    at ∙ means.bytes ∙ ap (λ m. written_slot h k m v) (sym room_is)
+
 -- in place
 
 slot_with : (k key : List ℕ) (room n : ℕ) (v value : Option (List ℕ)) → key ≡ k → n ≡ room → size_of v ≤ room
@@ -79,6 +93,7 @@ sets_in_place h held k v size fresh i room old low mid high least bucket kept pl
       suit = suit;
       kept = all_keep-append h (take i s) (changes.raw ∷ drop (i + 1) s) (all_keep-take h i s kept) (λ j. changes.means.kept j && all_keep-drop h (i + 1) s kept j);
       at = place_is h s i within (ap (place_of k) (map-append (slot_of h) (take i s) (changes.raw ∷ drop (i + 1) s)) ∙ place_at k A B (slot_of h changes.raw) lower (ap (λ (x : Slot). x.key) changes.means.is));
+      written = inr (written_at h k room v changes.raw raws i (seam_at (take i s) (drop (i + 1) s) changes.raw i (sym (length-take-le i s within))) changes.means);
       parted = whole refl changes.packs;
     }
 
@@ -99,6 +114,7 @@ sets_nothing h held k size fresh i old mid high least bucket kept place =
       kept = kept;
       at = place_is h s i place.within
           (ap (place_of k) (map_split h s i) ∙ place_between k (map (slot_of h) (take i s)) (map (slot_of h) (drop i s)) (before_place h k s i place.within place.lower) (behind_place h k s i (place.higher refl)));
+      written = inl (missing_at h k s i place.lower (place.higher refl));
       parted = whole refl (record { packed = bucket.packed; slots_are = refl; next_is = refl });
     }
 
@@ -142,6 +158,7 @@ record Added (h : FileHead) (held : List ℕ → Bool) (k r : List ℕ) (size : 
   pub suit : all_suit (kind_of h) raws ≡ true
   pub kept : all_keep h raws ≡ true
   pub at : place ≡ place_of k (map (slot_of h) raws)
+  pub written : slot_at raws place ≡ written_slot h k (u16_at (slot_at raws place) 0) (Some r)
 
 added_raws : (h : FileHead) (held : List ℕ → Bool) (k r : List ℕ) (size i : ℕ) (slots : List Slot) (s a b : Raws) (x : List ℕ) → 16 ≤ size → 1 ≤ h.key_size → s ≡ a ++ b → i ≡ length a → About h held k r slots a b → Means h k (length r) (Some r) x
     → Added h held k r size slots (raws_added h held size s i x) (place_added h held size s i x)
@@ -161,6 +178,8 @@ added_raws h held k r size i slots s a b x least one s_is i_is about means =
       at = let place = if_true (fits_in size s x) i (length (tidied_raws h held (take i s))) fits in
           let count = ap (place_of k) (ap (map (slot_of h)) choice ∙ plain.slots) ∙ place_at k (map (slot_of h) a) (map (slot_of h) b) new about.lower refl in
           omega (arith, place, count, i_is, length-map a (slot_of h));
+      written = let place = if_true (fits_in size s x) i (length (tidied_raws h held (take i s))) fits in
+          written_at h k (length r) (Some r) x (raws_added h held size s i x) (place_added h held size s i x) ((λ j. slot_at ((choice ∙ plain_list) j) (place j)) ∙ seam_at a b x i i_is) means;
     })
     (λ over. let n = length (tidied_raws h held (take i s)) in
     let choice : raws_added h held size s i x ≡ inserted (tidied_raws h held s) n x = if_false (fits_in size s x) _ _ over in
@@ -180,6 +199,9 @@ added_raws h held k r size i slots s a b x least one s_is i_is about means =
           let lower : AllBefore k (map (slot_of h) (tidied_raws h held a)) = subst (AllBefore k) (sym ta.is) (tidy_before held k (map (slot_of h) a) about.lower) in
           let count = ap (place_of k) (ap (map (slot_of h)) choice ∙ tidy.slots) ∙ place_at k (map (slot_of h) (tidied_raws h held a)) (map (slot_of h) (tidied_raws h held b)) new lower refl in
           omega (arith, place, count, ap (λ (t : Raws). length (tidied_raws h held t)) front, length-map (tidied_raws h held a) (slot_of h));
+      written = let place = if_false (fits_in size s x) i n over in
+          written_at h k (length r) (Some r) x (raws_added h held size s i x) (place_added h held size s i x)
+          ((λ j. slot_at ((choice ∙ list) j) (place j)) ∙ seam_at (tidied_raws h held a) (tidied_raws h held b) x n (ap (λ (t : Raws). length (tidied_raws h held t)) front)) means;
     })
     (cases_Bool (fits_in size s x))
 
@@ -197,6 +219,7 @@ sets_added h held k r size fresh i added next s a b x old low mid high least one
       suit = made.suit;
       kept = made.kept;
       at = made.at;
+      written = inr made.written;
       parted = subst (λ (n : ℕ). Parted h size fresh n raws place added low mid high) next_is parted;
     }
 

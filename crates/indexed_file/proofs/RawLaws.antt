@@ -106,6 +106,7 @@ means_record h k r room one key most holds has =
       kept = kept_full (u16_at raw 2) (h.key_pos + h.key_size) h.mrs (omega (arith, size_is)) (omega (arith, size_is));
       is = λ i. record { key = key_is i; room = room_is i; value = value_is i };
       size = long;
+      bytes = refl;
     }
 
 -- and one without
@@ -123,6 +124,7 @@ means_absent h k room size holds =
       kept = kept_none (u16_at raw 2) (h.key_pos + h.key_size) h.mrs size_is;
       is = λ i. record { key = key_is i; room = room_is i; value = value_is i };
       size = long;
+      bytes = refl;
     }
 
 -- tidied bytes

@@ -1,9 +1,10 @@
 -- Slots as bytes.
-use Rattle.std.specs.Prelude.{◌≡◌, ◌≤◌, ◌<◌, ℕ, ◌+◌, ◌-◌, ◌==◌, Bool, true, false, List, [], ◌∷◌, ◌++◌, length, map, replicate, take, drop, Option, if◌then◌else◌, nat_le}
+use Rattle.std.specs.Prelude.{◌≡◌, ◌≤◌, ◌<◌, ◌⊎◌, ℕ, ◌+◌, ◌-◌, ◌==◌, Bool, true, false, List, [], ◌∷◌, ◌++◌, length, map, replicate, take, drop, Option, Some, None, if◌then◌else◌, nat_le}
 use Rattle.file_base.specs.declared.head.FileHead.{FileHead}
 use Rattle.file_base.specs.Bytes.{piece_at}
 use Rattle.bucket_page.specs.Pages.{u16_at, u16_bytes, key_in, slots_of, next_of, suits, all_suit, slot_at, joined, inserted, Packs}
 use Rattle.records_model.specs.Slots.{Slot}
+use Rattle.records_model.specs.Slots as slots_model
 use Rattle.indexed_file.specs.Chain.{kind_of, slot_of, keeps_record, all_keep, slots_set}
 use Rattle.records_model.specs.Parts.{fits_at, greater_part, has_place, IsBest}
 use Rattle.records_model.specs.Chain.{place_of}
@@ -12,12 +13,18 @@ use Rattle.records_model.specs.Chain.{place_of}
 abbrev pub slot_bytes : ℕ → ℕ → ℕ → List ℕ → List ℕ
 slot_bytes room size at piece = u16_bytes room ++ (u16_bytes size ++ (replicate at 0 ++ (piece ++ replicate (room - at - length piece) 0)))
 
+-- the bytes of a slot that is written: the record stands at the front of its room, or the key in its place; all else is zero
+abbrev pub written_slot : FileHead → List ℕ → ℕ → Option (List ℕ) → List ℕ
+written_slot h k room None = slot_bytes room 0 h.key_pos k
+written_slot h k room (Some r) = slot_bytes room (length r) 0 r
+
 -- bytes of a slot with this key, room and value
 pub record Means (h : FileHead) (k : List ℕ) (room : ℕ) (v : Option (List ℕ)) (raw : List ℕ) : Type 0 where
   pub suit : suits (kind_of h) raw ≡ true
   pub kept : keeps_record h raw ≡ true
   pub is : slot_of h raw ≡ record { key = k; room = room; value = v }
   pub size : length raw ≡ 4 + room
+  pub bytes : raw ≡ written_slot h k room v
 
 -- the bytes of a slot whose room is its record's length; where no key is in the record, its own bytes
 abbrev pub shortened : FileHead → List ℕ → List ℕ
@@ -79,7 +86,7 @@ raws_added h held size raws i slot = if fits_in size raws slot then inserted raw
 abbrev pub place_added : FileHead → (List ℕ → Bool) → ℕ → List (List ℕ) → ℕ → List ℕ → ℕ
 place_added h held size raws i slot = if fits_in size raws slot then i else length (tidied_raws h held (take i raws))
 
--- a key was set in the bucket for it
+-- a key was set in the bucket for it: where it has a slot, that was written anew
 pub record SetsLeaf (h : FileHead) (held : List ℕ → Bool) (k : List ℕ) (v : Option (List ℕ)) (size fresh : ℕ) (old : List ℕ) (added : ℕ) (low mid high : List ℕ) : Type 0 where
   pub raws : List (List ℕ)
   pub place : ℕ
@@ -87,4 +94,5 @@ pub record SetsLeaf (h : FileHead) (held : List ℕ → Bool) (k : List ℕ) (v 
   pub suit : all_suit (kind_of h) raws ≡ true
   pub kept : all_keep h raws ≡ true
   pub at : place ≡ place_of k (map (slot_of h) raws)
+  pub written : (slots_model.slot_at k (map (slot_of h) raws) ≡ None) ⊎ (slot_at raws place ≡ written_slot h k (u16_at (slot_at raws place) 0) v)
   pub parted : Parted h size fresh (next_of old) raws place added low mid high
