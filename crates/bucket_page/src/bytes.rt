@@ -12,7 +12,7 @@ pub(crate) fn read_u16(bytes: &[u8], at: usize) -> u16
     requires { at + 2 ≤ length bytes.now }
     ensures { result ≡ u16_at bytes.now at }
 {
-    bytes[at] as u16 + 256 * bytes[at + 1] as u16
+    u16::from_le_bytes([bytes[at], bytes[at + 1]])
 }
 
 /// The number of four bytes.
@@ -20,7 +20,7 @@ pub(crate) fn read_u32(bytes: &[u8], at: usize) -> u32
     requires { at + 4 ≤ length bytes.now }
     ensures { result ≡ u32_at bytes.now at }
 {
-    read_u16(bytes, at) as u32 + 65536 * read_u16(bytes, at + 2) as u32
+    u32::from_le_bytes([bytes[at], bytes[at + 1], bytes[at + 2], bytes[at + 3]])
 }
 
 /// Whether all bytes are zero.
@@ -59,19 +59,22 @@ fn tag(kind: PageKind) -> u8
 pub(crate) fn front(kind: PageKind, count: u16, used: u16, next: u32) -> [u8; 16]
     ensures { result ≡ header (tag_of kind) count used next }
 {
+    let [c0, c1] = count.to_le_bytes();
+    let [u0, u1] = used.to_le_bytes();
+    let [n0, n1, n2, n3] = next.to_le_bytes();
     [
         tag(kind),
         0,
-        (count % 256) as u8,
-        (count / 256) as u8,
-        (used % 256) as u8,
-        (used / 256) as u8,
+        c0,
+        c1,
+        u0,
+        u1,
         0,
         0,
-        (next % 256) as u8,
-        (next / 256 % 256) as u8,
-        (next / 65536 % 256) as u8,
-        (next / 16777216) as u8,
+        n0,
+        n1,
+        n2,
+        n3,
         0,
         0,
         0,
@@ -86,16 +89,8 @@ pub(crate) fn put_counts(bytes: &mut [u8], count: usize, used: usize)
     requires within { 6 ≤ length bytes.old }
     ensures { bytes.new ≡ spliced bytes.old 2 (u16_bytes count ++ u16_bytes used) }
 {
-    splice(
-        bytes,
-        2,
-        &[
-            (count % 256) as u8,
-            (count / 256) as u8,
-            (used % 256) as u8,
-            (used / 256) as u8,
-        ],
-    );
+    splice(bytes, 2, &(count as u16).to_le_bytes());
+    splice(bytes, 4, &(used as u16).to_le_bytes());
 }
 
 /// Writes the number of the next bucket.
@@ -103,16 +98,7 @@ pub(crate) fn put_next(bytes: &mut [u8], next: u32)
     requires { 12 ≤ length bytes.old }
     ensures { bytes.new ≡ spliced bytes.old 8 (u32_bytes next) }
 {
-    splice(
-        bytes,
-        8,
-        &[
-            (next % 256) as u8,
-            (next / 256 % 256) as u8,
-            (next / 65536 % 256) as u8,
-            (next / 16777216) as u8,
-        ],
-    );
+    splice(bytes, 8, &next.to_le_bytes());
 }
 
 /// Makes room for a piece and writes it, and moves what stood from there to `end` behind it.

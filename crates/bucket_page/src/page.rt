@@ -6,9 +6,7 @@ ghost use Rattle.bucket_page.specs.Frames.{frame_bytes, bucket_in, slots_in, nex
 ghost use Rattle.bucket_page.specs.Pages.{slots_of, next_of, joined, suits, ascend, may_follow, has_cells, IsPacked, Packs, IsBucket, Holds, reach, inserted, removed, replaced, slot_at};
 
 use crate::bytes::{front_len, read_u32};
-use crate::front::{
-    clear_front, insert_front, link_front, remove_front, replace_front, split_front,
-};
+use crate::front::{clear_front, insert_front, remove_front, replace_front, split_front};
 use crate::kind::PageKind;
 use crate::layout::count_slots;
 use crate::packed::slot_start;
@@ -63,19 +61,6 @@ impl Page {
     {
         let bytes = pool.bytes_mut(f);
         clear_front(bytes, size as usize, kind, next);
-    }
-
-    /// Gives a bucket another next bucket.
-    pub fn link(pool: &mut Pool, f: &Frame, size: u16, kind: PageKind, next: u32)
-        requires out { IsOut pool.old f.now }
-        requires small { size ≤ 8192 }
-        requires bucket { IsBucket kind size (bucket_in pool.old f.now size) }
-        requires next { may_follow kind next ≡ true }
-        ensures bucket { Holds kind size (slots_in kind pool.old f.now size) next (bucket_in pool.new f.now size) }
-        ensures rest { pool.new ≡ with_bucket_in pool.old f.now size (bucket_in pool.new f.now size) }
-    {
-        let bytes = pool.bytes_mut(f);
-        link_front(bytes, size as usize, kind, next);
     }
 
     /// Puts a slot in at place i. False exactly where it does not fit; then nothing changes.
