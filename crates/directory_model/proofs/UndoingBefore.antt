@@ -22,9 +22,10 @@ use Rattle.indexed_file.specs.Chain as indexed
 use Rattle.indexed_file.specs.Chain.{kind_of, slot_of, value_of, keeps_record, all_keep, slots_in, slots_along, leaves_of, AllBelow}
 use Rattle.indexed_file.specs.Local.{chain_used}
 use Rattle.relative_file.specs.Cells as relative
-use Rattle.relative_file.specs.Cells.{IsRelative, has_cell, cells_in, cells_end, first_of, place_of, cell_at, record_in, size_in}
+use Rattle.relative_file.specs.Cells.{IsRelative, has_cell, cells_in, cells_end, first_of, place_of, bucket_at, cell_at, record_in, size_in}
 use Rattle.relative_file.specs.Local.{bucket_within}
 use Rattle.relative_file.proofs.Places.{place_within, places_fit}
+use Rattle.relative_file.proofs.ReadLaws.{length-as_read}
 use Rattle.directory_model.specs.Files.{IsWithin}
 
 -- Sequential files: a record of the list is one of the file.
@@ -81,10 +82,10 @@ record_of_cell mrs cell long =
 pub cell_suits : (content : List (List ℕ)) (h : FileHead) (n : ℕ) → IsRelative h → IsWithin content h → has_cell h n ≡ true → IfSome (relative.map_of h content (Number n)) (λ r. (1 ≤ length r) × (length r ≤ h.mrs))
 cell_suits content h n form within there =
     let lies = bucket_within n h.mrn h.alloc (cells_in h) h.bucket there form.cells form.one in
-    let long = bucket_long content (first_of h n) h.bucket within.whole (omega (arith, lies, within.from, within.to)) in
     let fits = cell_fits n h.bucket h.mrs form.one in
+    let long = length-as_read h (bucket_bytes content (first_of h n) h.bucket) (omega (arith, fits)) (bucket_long content (first_of h n) h.bucket within.whole (omega (arith, lies, within.from, within.to))) in
     subst (λ (t : Bool). IfSome (if t then record_in h.mrs (cell_at h content n) else None) (λ r. (1 ≤ length r) × (length r ≤ h.mrs))) (sym there)
-    (record_of_cell h.mrs (cell_at h content n) (cell_long (bucket_bytes content (first_of h n) h.bucket) (place_of h n) (h.mrs + 2) (omega (arith, fits, long))))
+    (record_of_cell h.mrs (cell_at h content n) (cell_long (bucket_at h content (first_of h n)) (place_of h n) (h.mrs + 2) (omega (arith, fits, long))))
 
 -- Indexed files: a slot that has a record has its key in it.
 

@@ -4,4 +4,5 @@ pub mod LayoutLaws
 pub mod MakeLaws
 pub mod MapLaws
 pub mod Places
+pub mod ReadLaws
 pub mod Scans

@@ -12,11 +12,12 @@ use Rattle.change_set.specs.Buckets.{bucket_bytes, with_bucket}
 use Rattle.change_set.specs.Files.{in_extent, AgreesOut}
 use Rattle.change_set.specs.Maps.{empty_map}
 use Rattle.change_set.proofs.BucketLaws.{block_at-with_bucket_other, bucket_bytes_agree, bucket_bytes-with_bucket}
-use Rattle.relative_file.specs.Cells.{IsRelative, has_cell, cells_in, place_of, record_in, size_in, map_of, front_of, empty_bucket, bucket_first, EmptyTo, Empties}
+use Rattle.relative_file.specs.Cells.{IsRelative, has_cell, cells_in, place_of, record_in, size_in, map_of, front_of, empty_bucket, as_read, bucket_first, EmptyTo, Empties}
 use Rattle.change_set.proofs.Extents.{ranges_apart, agrees_bucket, agrees_trans}
 use Rattle.relative_file.specs.Local.{bucket_within}
 use Rattle.relative_file.proofs.CellLaws.{record_none}
 use Rattle.relative_file.proofs.MapLaws.{if_none}
+use Rattle.relative_file.proofs.ReadLaws.{as_read_same}
 
 -- a front over zeros
 pub filled : (bytes F : List ℕ) (n : ℕ) → length F ≡ 16 → 16 ≤ n → n ≤ length bytes → take n (spliced (spliced bytes 0 (replicate n 0)) 0 F) ≡ F ++ replicate (n - 16) 0
@@ -49,7 +50,7 @@ map_empty (Some b) h form empty = λ i key. at_key key i
     at_key : (key : Key) → map_of h b key ≡ empty_map key
     at_key (Number m) = if_none (has_cell h m) _ (λ there.
         let below = bucket_within m h.mrn h.alloc (cells_in h) 1 there form.cells form.one in
-        ap (λ x. record_in h.mrs (piece_at x (place_of h m) (h.mrs + 2))) (empty ((m - 1) / cells_in h) (omega (arith, below))) ∙ record_in_empty h (place_of h m) (omega arith))
+        ap (λ x. record_in h.mrs (piece_at (as_read h x) (place_of h m) (h.mrs + 2))) (empty ((m - 1) / cells_in h) (omega (arith, below))) ∙ ap (λ x. record_in h.mrs (piece_at x (place_of h m) (h.mrs + 2))) (as_read_same h (empty_bucket h) refl) ∙ record_in_empty h (place_of h m) (omega arith))
     at_key (Text t) = refl
     at_key End = refl
 

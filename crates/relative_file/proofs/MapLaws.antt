@@ -4,13 +4,13 @@ use Rattle.std.proofs.lemmas.Bool.{cases_eq}
 use Rattle.careful_write.specs.State.{StoreState}
 use Rattle.file_base.specs.declared.head.FileHead.{FileHead}
 use Rattle.vms_model.specs.Keys.{Key, Number, Text, End}
-use Rattle.change_set.specs.Buckets.{bucket_bytes, with_bucket}
+use Rattle.change_set.specs.Buckets.{with_bucket}
 use Rattle.change_set.specs.Files.{IsPlaced, StagesIn}
 use Rattle.change_set.specs.Maps.{set_key, same_key, StartsAt, StartsNowhere, key_before, is_after, IsNext, EndsAfter}
 use Rattle.change_set.proofs.Extents.{bucket_staged, stages_more}
 use Rattle.change_set.proofs.NumberKeys.{same_test, other_test, below_number, number_after, after_number}
 use Rattle.file_base.specs.Bytes.{spliced}
-use Rattle.relative_file.specs.Cells.{IsRelative, has_cell, cells_in, first_of, place_of, cell_at, cell_of, record_in, map_of, Suits, WritesCell, FindsCell, NoneFrom, IsLaidOut, Anything}
+use Rattle.relative_file.specs.Cells.{IsRelative, has_cell, cells_in, first_of, place_of, cell_at, bucket_at, cell_of, record_in, map_of, Suits, WritesCell, FindsCell, NoneFrom, IsLaidOut, Anything}
 use Rattle.relative_file.specs.Local.{bucket_below}
 use Rattle.relative_file.proofs.Places.{bucket_within, cell_within, in_range, apart}
 use Rattle.relative_file.proofs.CellLaws.{length-cell_of, record_in-cell_of, record_in-cell_of_none}
@@ -42,7 +42,7 @@ pub less_one : (m n : ℕ) → 1 ≤ m → 1 ≤ n → m ≢ n → m - 1 ≢ n -
 less_one m n a b not e = not (omega arith)
 
 pub map_after : (h : FileHead) (b : List (List ℕ)) (n : ℕ) (v : Option (List ℕ)) (bytes : List ℕ) → IsRelative h → h.mrs + 32 ≤ 512 * h.bucket → first_of h n + h.bucket ≤ length b
-    → take (512 * h.bucket) bytes ≡ spliced (bucket_bytes b (first_of h n) h.bucket) (place_of h n) (cell_of h.mrs (unwrap_or v [])) → length (bucket_bytes b (first_of h n) h.bucket) ≡ 512 * h.bucket
+    → take (512 * h.bucket) bytes ≡ spliced (bucket_at h b (first_of h n)) (place_of h n) (cell_of h.mrs (unwrap_or v [])) → length (bucket_at h b (first_of h n)) ≡ 512 * h.bucket
     → Suits h (Number n) v → map_of h (with_bucket bytes b (first_of h n) h.bucket) ≡ set_key (Number n) v (map_of h b)
 map_after h b n v bytes form records within is long suits =
     let size = length-cell_of h.mrs (unwrap_or v []) (value_holds h.mrs v suits.1) in
@@ -70,8 +70,8 @@ map_set h n v old new form placed suits whole writes =
     ap (λ (s : StoreState). option_map (map_of h) s.current) writes.state ∙ told old.current whole writes.is writes.long
   where
     told : (current : Option (List (List ℕ))) → IfSome current (λ b. length b + 518 ≡ old.disk.size)
-        → IfSome current (λ b. take (512 * h.bucket) writes.bytes ≡ spliced (bucket_bytes b (first_of h n) h.bucket) (place_of h n) (cell_of h.mrs (unwrap_or v [])))
-        → IfSome current (λ b. length (bucket_bytes b (first_of h n) h.bucket) ≡ 512 * h.bucket)
+        → IfSome current (λ b. take (512 * h.bucket) writes.bytes ≡ spliced (bucket_at h b (first_of h n)) (place_of h n) (cell_of h.mrs (unwrap_or v [])))
+        → IfSome current (λ b. length (bucket_at h b (first_of h n)) ≡ 512 * h.bucket)
         → option_map (map_of h) (option_map (λ b. with_bucket writes.bytes b (first_of h n) h.bucket) current) ≡ option_map (λ b. set_key (Number n) v (map_of h b)) current
     told None whole is long = refl
     told (Some b) whole is long =

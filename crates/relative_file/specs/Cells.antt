@@ -1,5 +1,5 @@
 -- The cells of a relative file, and the map that they mean.
-use Rattle.std.specs.Prelude.{◌≡◌, ◌≤◌, ◌<◌, ℕ, ◌+◌, ◌-◌, ◌*◌, ◌/◌, ◌%◌, ◌&&◌, ◌++◌, Bool, true, List, [], ◌∷◌, length, take, drop, replicate, Option, Some, None, IfSome, option_map, if◌then◌else◌, nat_le, min, slice_index}
+use Rattle.std.specs.Prelude.{◌≡◌, ◌≤◌, ◌<◌, ℕ, ◌+◌, ◌-◌, ◌*◌, ◌/◌, ◌%◌, ◌&&◌, ◌++◌, Bool, true, List, [], ◌∷◌, length, take, drop, replicate, Option, Some, None, IfSome, option_map, if◌then◌else◌, nat_le, min, slice_index, bytes_eq}
 use Rattle.careful_write.specs.State.{StoreState}
 use Rattle.file_base.specs.declared.head.FileHead.{FileHead}
 use Rattle.file_base.specs.declared.head.Organization.TheVariants.{Relative}
@@ -36,9 +36,29 @@ first_of h n = h.start - 518 + (n - 1) / cells_in h * h.bucket
 abbrev pub place_of : FileHead → ℕ → ℕ
 place_of h n = 16 + (n - 1) % cells_in h * (h.mrs + 2)
 
--- the bytes of cell n
+-- the header of every bucket: the kind 2, the number of cells, their bytes, and no next bucket
+abbrev pub front_of : FileHead → List ℕ
+front_of h = 2 ∷ 0 ∷ cells_in h % 256 ∷ cells_in h / 256 ∷ cells_in h * (h.mrs + 2) % 256 ∷ cells_in h * (h.mrs + 2) / 256 ∷ 0 ∷ 0 ∷ 255 ∷ 255 ∷ 255 ∷ 255 ∷ 0 ∷ 0 ∷ 0 ∷ 0 ∷ []
+
+-- a bucket of absent cells
+abbrev pub empty_bucket : FileHead → List ℕ
+empty_bucket h = front_of h ++ replicate (512 * h.bucket - 16) 0
+
+-- the bytes begin with this header
+abbrev pub has_front : FileHead → List ℕ → Bool
+has_front h bytes = bytes_eq (take 16 bytes) (front_of h)
+
+-- the bytes of a bucket as they are read: where they do not begin with this header, those of absent cells
+abbrev pub as_read : FileHead → List ℕ → List ℕ
+as_read h bytes = if has_front h bytes then bytes else empty_bucket h
+
+-- the bucket from a block of the content on, as it is read
+abbrev pub bucket_at : FileHead → List (List ℕ) → ℕ → List ℕ
+bucket_at h blocks first = as_read h (bucket_bytes blocks first h.bucket)
+
+-- the bytes of cell n, as they are read
 abbrev pub cell_at : FileHead → List (List ℕ) → ℕ → List ℕ
-cell_at h blocks n = piece_at (bucket_bytes blocks (first_of h n) h.bucket) (place_of h n) (h.mrs + 2)
+cell_at h blocks n = piece_at (bucket_at h blocks (first_of h n)) (place_of h n) (h.mrs + 2)
 
 -- the bytes of cell k of a bucket, from 0
 abbrev pub cell_in : ℕ → List ℕ → ℕ → List ℕ
@@ -79,11 +99,11 @@ pub record IsRelative (h : FileHead) : Type 0 where
   pub levels : h.levels ≡ 0
   pub count : h.count ≡ 0
 
--- the bucket of cell n is staged, with this record in the cell
+-- the bucket of cell n is staged as it is read, with this record in the cell
 pub record WritesCell (h : FileHead) (n : ℕ) (value : List ℕ) (old new : StoreState) : Type 0 where
   pub bytes : List ℕ
-  pub is : IfSome old.current (λ b. take (512 * h.bucket) bytes ≡ spliced (bucket_bytes b (first_of h n) h.bucket) (place_of h n) (cell_of h.mrs value))
-  pub long : IfSome old.current (λ b. length (bucket_bytes b (first_of h n) h.bucket) ≡ 512 * h.bucket)
+  pub is : IfSome old.current (λ b. take (512 * h.bucket) bytes ≡ spliced (bucket_at h b (first_of h n)) (place_of h n) (cell_of h.mrs value))
+  pub long : IfSome old.current (λ b. length (bucket_at h b (first_of h n)) ≡ 512 * h.bucket)
   pub state : new ≡ record old {
     current = option_map (λ b. with_bucket bytes b (first_of h n) h.bucket) old.current;
     touched = with_numbers (518 + first_of h n) h.bucket old.touched;
@@ -109,14 +129,6 @@ pub record FindsCell (h : FileHead) (after n : ℕ) (bytes : List ℕ) (b : List
 -- no condition
 abbrev pub Anything : Type 0
 Anything = Unit {0}
-
--- the header of every bucket: the kind 2, the number of cells, their bytes, and no next bucket
-abbrev pub front_of : FileHead → List ℕ
-front_of h = 2 ∷ 0 ∷ cells_in h % 256 ∷ cells_in h / 256 ∷ cells_in h * (h.mrs + 2) % 256 ∷ cells_in h * (h.mrs + 2) / 256 ∷ 0 ∷ 0 ∷ 255 ∷ 255 ∷ 255 ∷ 255 ∷ 0 ∷ 0 ∷ 0 ∷ 0 ∷ []
-
--- a bucket of absent cells
-abbrev pub empty_bucket : FileHead → List ℕ
-empty_bucket h = front_of h ++ replicate (512 * h.bucket - 16) 0
 
 -- the first block of the i-th bucket, in the content
 abbrev pub bucket_first : FileHead → ℕ → ℕ

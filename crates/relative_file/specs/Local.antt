@@ -9,7 +9,7 @@ use Rattle.file_base.specs.Bytes.{piece_at}
 use Rattle.change_set.specs.Files.{AgreesOn}
 use Rattle.change_set.proofs.BucketLaws.{bucket_bytes_agree}
 use Rattle.change_set.proofs.Extents.{ranges_apart, in_extent_is, extent_bucket}
-use Rattle.relative_file.specs.Cells.{map_of, IsRelative, IsLaidOut, has_cell, cells_in, cells_end, first_of, place_of, record_in, size_in}
+use Rattle.relative_file.specs.Cells.{map_of, IsRelative, IsLaidOut, has_cell, cells_in, cells_end, first_of, place_of, record_in, size_in, as_read}
 
 pub in_range : (n mrn : ℕ) → (nat_le 1 n && nat_le n mrn) ≡ true → (1 ≤ n) × (n ≤ mrn)
 in_range n mrn there = grind (arith, nat_tests)
@@ -30,7 +30,7 @@ local_law h a b form agrees = λ i key. at_key key i
     at_key : (key : Key) → map_of h a key ≡ map_of h b key
     at_key (Number m) = if_same (has_cell h m) _ _ (λ there.
         let lies = bucket_within m h.mrn h.alloc (cells_in h) h.bucket there form.cells form.one in
-        ap (λ x. record_in h.mrs (piece_at x (place_of h m) (h.mrs + 2)))
+        ap (λ x. record_in h.mrs (piece_at (as_read h x) (place_of h m) (h.mrs + 2)))
         (bucket_bytes_agree a b (first_of h m) h.bucket (λ k from to. agrees k (in_extent_is (h.start - 518) (h.alloc * h.bucket) k (omega arith) (omega (arith, lies))))))
     at_key (Text t) = refl
     at_key End = refl
@@ -42,6 +42,6 @@ pub valid_local_law : (h : FileHead) (a b : List (List ℕ)) → IsRelative h �
 valid_local_law h a b form agrees valid = record {
   headers = λ i below. ap (take 16) (sym (extent_bucket h a b i below agrees)) ∙ valid.headers i below;
   rests = λ i below. ap (drop (cells_end h)) (sym (extent_bucket h a b i below agrees)) ∙ valid.rests i below;
-  sizes = λ n from to. let same = ap (λ x. size_in (piece_at x (place_of h n) (h.mrs + 2))) (extent_bucket h a b ((n - 1) / cells_in h) (bucket_below n h.alloc (cells_in h) from to form.one) agrees) in
+  sizes = λ n from to. let same = ap (λ x. size_in (piece_at (as_read h x) (place_of h n) (h.mrs + 2))) (extent_bucket h a b ((n - 1) / cells_in h) (bucket_below n h.alloc (cells_in h) from to form.one) agrees) in
       let was = valid.sizes n from to in omega (arith, same);
 }

@@ -7,7 +7,7 @@ use file_base::{splice, splice_zeros};
 use vms_base::Record;
 
 /// The record of a cell, where it has one.
-pub fn read_cell(bytes: &[u8], at: usize, mrs: usize, out: &mut Record) -> bool
+pub(crate) fn read_cell(bytes: &[u8], at: usize, mrs: usize, out: &mut Record) -> bool
     requires within { at + mrs + 2 ≤ length bytes.now }
     requires longest { mrs ≤ 8160 }
     ensures some { result ≡ true → record_in mrs (piece_at bytes.now at (mrs + 2)) ≡ Some out.new }
@@ -22,7 +22,7 @@ pub fn read_cell(bytes: &[u8], at: usize, mrs: usize, out: &mut Record) -> bool
 }
 
 /// The first cell of a bucket that has a record, from cell `from` on and up to below cell `to`.
-pub fn first_record(
+pub(crate) fn first_record(
     bytes: &[u8],
     mrs: usize,
     from: usize,
@@ -44,7 +44,7 @@ pub fn first_record(
 }
 
 /// Writes a cell with this record, and zeros behind it; an absent one has no bytes.
-pub fn write_cell(bytes: &mut [u8], at: usize, mrs: usize, value: &[u8])
+pub(crate) fn write_cell(bytes: &mut [u8], at: usize, mrs: usize, value: &[u8])
     requires within { at + mrs + 2 ≤ length bytes.old }
     requires longest { mrs ≤ 8160 }
     requires holds { length value.now ≤ mrs }

@@ -8,21 +8,14 @@ ghost use Rattle.change_set.specs.Buckets.{frame_of, with_frame, bucket_bytes, w
 ghost use Rattle.change_set.specs.Files.{IsPlaced, free_frames, fell, unstaged};
 ghost use Rattle.relative_file.specs.Cells.{IsRelative, has_cell, cells_in, first_of, place_of, cell_at, cell_of, record_in, last_in, WritesCell, FindsCell, NoneFrom};
 
+use crate::bucket::{cells, read_bucket};
 use crate::cell::{first_record, read_cell, write_cell};
 use block_disk::Disk;
 use careful_write::{Down, Store};
-use change_set::{give_frame, load_bucket, stage_bucket, take_frame};
+use change_set::{give_frame, stage_bucket, take_frame};
 use file_base::FileHead;
 use frame_pool::Frame;
 use vms_base::Record;
-
-// How many cells a bucket has.
-fn cells(head: &FileHead) -> u32
-    requires { head.now.mrs + 32 ≤ 512 * head.now.bucket }
-    ensures { result ≡ cells_in head.now }
-{
-    (512 * head.bucket as u32 - 16) / (head.mrs as u32 + 2)
-}
 
 // The number of the first block of the bucket of cell n, and the cell's first byte in it.
 fn cell_place(head: &FileHead, n: u32) -> (u32, usize)
@@ -45,7 +38,7 @@ fn cell_place(head: &FileHead, n: u32) -> (u32, usize)
 }
 
 /// Reads the record of cell n: true where it has one. The store's frames are as before.
-pub fn get_cell<D: Disk>(
+pub(crate) fn get_cell<D: Disk>(
     head: &FileHead,
     store: &mut Store<D>,
     n: u32,
@@ -61,7 +54,7 @@ pub fn get_cell<D: Disk>(
 {
     let (first, place) = cell_place(head, n);
     let frame = take_frame(store);
-    let loaded = load_bucket(store, &frame, first, head.bucket);
+    let loaded = read_bucket(head, store, &frame, first);
     let found = read_cell(store.pool().bytes(&frame), place, head.mrs as usize, out);
     give_frame(store, frame);
     match loaded {
@@ -84,7 +77,7 @@ fn put_cell<D: Disk>(store: &mut Store<D>, frame: &Frame, place: usize, mrs: u16
 }
 
 /// Stages the bucket of cell n with this record in the cell; an absent one has no bytes.
-pub fn set_cell<D: Disk>(
+pub(crate) fn set_cell<D: Disk>(
     head: &FileHead,
     store: &mut Store<D>,
     n: u32,
@@ -102,7 +95,7 @@ pub fn set_cell<D: Disk>(
 {
     let (first, place) = cell_place(head, n);
     let frame = take_frame(store);
-    match load_bucket(store, &frame, first, head.bucket) {
+    match read_bucket(head, store, &frame, first) {
         Ok(()) => {
             put_cell(store, &frame, place, head.mrs, value);
             stage_bucket(store, &frame, first, head.bucket);
@@ -149,7 +142,7 @@ fn next_in_bucket<D: Disk>(
     let from = (n - 1) % cells(head);
     let to = from + (last_number(head, n) - n) + 1;
     let frame = take_frame(store);
-    let loaded = load_bucket(store, &frame, first, head.bucket);
+    let loaded = read_bucket(head, store, &frame, first);
     let found = first_record(
         store.pool().bytes(&frame),
         head.mrs as usize,
@@ -168,7 +161,7 @@ fn next_in_bucket<D: Disk>(
 }
 
 /// The first cell behind one that has a record. Each bucket is read once.
-pub fn next_cell<D: Disk>(
+pub(crate) fn next_cell<D: Disk>(
     head: &FileHead,
     store: &mut Store<D>,
     after: u32,

@@ -1,6 +1,7 @@
 //! Relative files: each record stands in the cell of its number, and all cells have one size.
 #![tactic(auto)]
 
+mod bucket;
 mod cell;
 mod file;
 mod make;
@@ -8,6 +9,4 @@ mod relative;
 #[cfg(test)]
 mod tests;
 
-pub use file::{get_cell, next_cell, set_cell};
-pub use make::make_file;
 pub use relative::RelativeFile;

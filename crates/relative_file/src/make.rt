@@ -7,48 +7,12 @@ ghost use Rattle.change_set.specs.Buckets.{frame_of, with_frame};
 ghost use Rattle.change_set.specs.Files.{IsPlaced, free_frames, in_extent, AgreesOut, LeavesOut, unstaged};
 ghost use Rattle.relative_file.specs.Cells.{IsRelative, cells_in, empty_bucket, EmptyTo, Empties};
 
+use crate::bucket::fill_empty;
 use block_disk::Disk;
 use careful_write::{Down, Store};
 use change_set::{give_frame, stage_bucket, take_frame};
-use file_base::{FileHead, splice, splice_zeros};
+use file_base::FileHead;
 use frame_pool::Frame;
-
-// Writes a bucket of absent cells over the front of some bytes.
-fn fill_empty(head: &FileHead, bytes: &mut [u8])
-    requires long { length bytes.old ≡ 8192 }
-    requires one { 1 ≤ head.now.bucket }
-    requires blocks { head.now.bucket ≤ 16 }
-    requires records { head.now.mrs + 32 ≤ 512 * head.now.bucket }
-    ensures { take (512 * head.now.bucket) bytes.new ≡ empty_bucket head.now }
-{
-    let size = 512 * head.bucket as usize;
-    let width = head.mrs as usize + 2;
-    let cells = (size - 16) / width;
-    let used = cells * width;
-    splice_zeros(bytes, 0, size);
-    splice(
-        bytes,
-        0,
-        &[
-            2,
-            0,
-            (cells % 256) as u8,
-            (cells / 256) as u8,
-            (used % 256) as u8,
-            (used / 256) as u8,
-            0,
-            0,
-            255,
-            255,
-            255,
-            255,
-            0,
-            0,
-            0,
-            0,
-        ],
-    );
-}
 
 // Fills the front of a frame with a bucket of absent cells.
 fn fill_frame<D: Disk>(head: &FileHead, store: &mut Store<D>, frame: &Frame)
@@ -123,7 +87,7 @@ fn write_many<D: Disk>(
 }
 
 /// Writes all buckets of the empty map, as many in one group as it may have.
-pub fn make_file<D: Disk>(head: &FileHead, store: &mut Store<D>) -> Result<(), Down>
+pub(crate) fn make_file<D: Disk>(head: &FileHead, store: &mut Store<D>) -> Result<(), Down>
     requires form { IsRelative head.now }
     requires placed { IsPlaced head.now store.old.disk }
     requires idle { IsIdle store.old }

@@ -3,16 +3,15 @@ use Rattle.block_disk.specs.Disk.{DiskState}
 use Rattle.careful_write.specs.Down.{answered}
 use Rattle.careful_write.specs.declared.down.Down.{Down}
 use Rattle.careful_write.specs.State.{StoreState}
-use Rattle.change_set.specs.Buckets.{bucket_bytes}
 use Rattle.change_set.proofs.Frames.{read_and_given, frame_is}
-use Rattle.relative_file.specs.Cells.{FindsCell, NoneFrom, last_in}
+use Rattle.relative_file.specs.Cells.{FindsCell, NoneFrom, last_in, bucket_at}
 use Rattle.relative_file.proofs.Places.{in_range}
 use Rattle.relative_file.proofs.CellMoves.{cell_lies}
 use Rattle.relative_file.proofs.Scans.{scan_none, scan_found}
 use Rattle.relative_file.proofs.file.next_in_bucket.Goals as goal
 
-pub load_bucket-loaded-requires-clause-in_home : goal.load_bucket-loaded-requires-clause-in_home
-load_bucket-loaded-requires-clause-in_home g c =
+pub read_bucket-loaded-requires-clause-in_home : goal.read_bucket-loaded-requires-clause-in_home
+read_bucket-loaded-requires-clause-in_home g c =
     cell_lies c.args.head.now c.args.store.now.disk _ c.args.n _ c.requires.form c.requires.placed c.requires.there c.cell_place-first.ensures.first
     (ap (λ (s : StoreState). s.disk.size) c.take_frame-frame.ensures.state)
 
@@ -34,8 +33,8 @@ returns-in-None-clause-none g c =
     let h = c.args.head.now in
     let f = c.take_frame-frame.result in
     let range = in_range c.args.n h.mrn c.requires.there in
-    let frame = frame_is c.pool.result.now c.load_bucket-loaded.new.store.pool f c.bytes.result.now c.pool.ensures.value c.bytes.ensures.value in
-    let read = subst (λ (b : List ℕ). IfSome c.take_frame-frame.new.store.current (λ (blocks : List (List ℕ)). take (512 * h.bucket) b ≡ bucket_bytes blocks (c.cell_place-first.result.0 - 518) h.bucket)) frame c.in-Ok.ensures.read in
+    let frame = frame_is c.pool.result.now c.read_bucket-loaded.new.store.pool f c.bytes.result.now c.pool.ensures.value c.bytes.ensures.value in
+    let read = subst (λ (b : List ℕ). IfSome c.take_frame-frame.new.store.current (λ (blocks : List (List ℕ)). take (512 * h.bucket) b ≡ bucket_at h blocks (c.cell_place-first.result.0 - 518))) frame c.in-Ok.ensures.read in
     let current = ap (λ (s : StoreState). s.current) c.take_frame-frame.ensures.state in
     subst (λ (told : Option (List (List ℕ))). IfSome told (λ (b : List (List ℕ)). NoneFrom h b (c.args.n - 1) (last_in h c.args.n))) current
     (subst (λ (last : ℕ). IfSome c.take_frame-frame.new.store.current (λ (b : List (List ℕ)). NoneFrom h b (c.args.n - 1) last)) c.last_number.ensures
@@ -47,8 +46,8 @@ returns-in-Some-clause-found g c =
     let h = c.args.head.now in
     let f = c.take_frame-frame.result in
     let range = in_range c.args.n h.mrn c.requires.there in
-    let frame = frame_is c.pool.result.now c.load_bucket-loaded.new.store.pool f c.bytes.result.now c.pool.ensures.value c.bytes.ensures.value in
-    let read = subst (λ (b : List ℕ). IfSome c.take_frame-frame.new.store.current (λ (blocks : List (List ℕ)). take (512 * h.bucket) b ≡ bucket_bytes blocks (c.cell_place-first.result.0 - 518) h.bucket)) frame c.in-Ok.ensures.read in
+    let frame = frame_is c.pool.result.now c.read_bucket-loaded.new.store.pool f c.bytes.result.now c.pool.ensures.value c.bytes.ensures.value in
+    let read = subst (λ (b : List ℕ). IfSome c.take_frame-frame.new.store.current (λ (blocks : List (List ℕ)). take (512 * h.bucket) b ≡ bucket_at h blocks (c.cell_place-first.result.0 - 518))) frame c.in-Ok.ensures.read in
     let current = ap (λ (s : StoreState). s.current) c.take_frame-frame.ensures.state in
     subst (λ (told : Option (List (List ℕ))). IfSome told (FindsCell h (c.args.n - 1) (c.args.n + (c.in-Some.k - (c.args.n - 1) % c.cells.result)) c.first_record-found.new.out)) current
     (scan_found c.take_frame-frame.new.store.current h c.args.n (c.cell_place-first.result.0 - 518) ((c.args.n - 1) % c.cells.result) ((c.args.n - 1) % c.cells.result + (c.last_number.result - c.args.n) + 1) c.last_number.result c.in-Some.k c.bytes.result.now c.first_record-found.new.out c.requires.form c.requires.placed.records read

@@ -4,16 +4,16 @@ use Rattle.block_disk.specs.Disk.{DiskState}
 use Rattle.careful_write.specs.Down.{answered}
 use Rattle.careful_write.specs.State.{StoreState}
 use Rattle.file_base.specs.Bytes.{spliced}
-use Rattle.change_set.specs.Buckets.{frame_of, bucket_bytes, with_bucket, with_numbers}
+use Rattle.change_set.specs.Buckets.{frame_of, with_bucket, with_numbers}
 use Rattle.change_set.proofs.Frames.{lent_taken, lent_read, lent_written, lent_staged, lent_out, lent_given, put_more}
-use Rattle.relative_file.specs.Cells.{place_of, first_of, cell_of}
+use Rattle.relative_file.specs.Cells.{place_of, first_of, cell_of, bucket_at}
 use Rattle.relative_file.proofs.Places.{cell_within}
 use Rattle.relative_file.proofs.CellLaws.{length-cell_of}
 use Rattle.relative_file.proofs.CellMoves.{cell_lies, bucket_told, long_told}
 use Rattle.relative_file.proofs.file.set_cell.Goals as goal
 
-pub load_bucket-requires-clause-in_home : goal.load_bucket-requires-clause-in_home
-load_bucket-requires-clause-in_home g c =
+pub read_bucket-requires-clause-in_home : goal.read_bucket-requires-clause-in_home
+read_bucket-requires-clause-in_home g c =
     cell_lies c.args.head.now c.args.store.now.disk _ c.args.n _ c.requires.form c.requires.placed c.requires.there c.cell_place-first.ensures.first
     (ap (λ (s : StoreState). s.disk.size) c.take_frame-frame.ensures.state)
 
@@ -38,7 +38,7 @@ returns-in-Ok-clause-ok g c =
     let first = c.cell_place-first.result.0 in
     let place = c.cell_place-first.result.1 in
     let s1 = c.take_frame-frame.new.store in
-    let s2 = c.load_bucket.new.store in
+    let s2 = c.read_bucket.new.store in
     let s3 = c.put_cell.new.store in
     let s4 = c.stage_bucket.new.store in
     let cell = cell_of h.mrs c.args.value.now in
@@ -59,11 +59,11 @@ returns-in-Ok-clause-ok g c =
     let current = ap (λ (s : StoreState). s.current) c.take_frame-frame.ensures.state in
     record {
       bytes = bytes;
-      is = subst (λ (told : Option (List (List ℕ))). IfSome told (λ (b : List (List ℕ)). take (512 * h.bucket) bytes ≡ spliced (bucket_bytes b (first_of h n) h.bucket) (place_of h n) cell)) current
-          (bucket_told s1.current (first - 518) (first_of h n) h.bucket place (place_of h n) frame cell c.in-Ok.ensures.read at c.cell_place-first.ensures.place
+      is = subst (λ (told : Option (List (List ℕ))). IfSome told (λ (b : List (List ℕ)). take (512 * h.bucket) bytes ≡ spliced (bucket_at h b (first_of h n)) (place_of h n) cell)) current
+          (bucket_told s1.current (bucket_at h) (first - 518) (first_of h n) (512 * h.bucket) place (place_of h n) frame cell c.in-Ok.ensures.read at c.cell_place-first.ensures.place
           (omega (arith, size, cell_within n h.bucket h.mrs c.requires.form.one c.requires.placed.records)) (omega (arith, c.put_cell.ensures.size, c.requires.placed.blocks)));
-      long = subst (λ (told : Option (List (List ℕ))). IfSome told (λ (b : List (List ℕ)). length (bucket_bytes b (first_of h n) h.bucket) ≡ 512 * h.bucket)) current
-          (long_told s1.current (first - 518) (first_of h n) h.bucket frame c.in-Ok.ensures.read at (omega (arith, c.put_cell.ensures.size, c.requires.placed.blocks)));
+      long = subst (λ (told : Option (List (List ℕ))). IfSome told (λ (b : List (List ℕ)). length (bucket_at h b (first_of h n)) ≡ 512 * h.bucket)) current
+          (long_told s1.current (bucket_at h) (first - 518) (first_of h n) (512 * h.bucket) frame c.in-Ok.ensures.read at (omega (arith, c.put_cell.ensures.size, c.requires.placed.blocks)));
       state = given ∙ (λ k. record s0 {
         current = option_map (λ (b : List (List ℕ)). with_bucket bytes b (at k) h.bucket) s0.current;
         touched = with_numbers (c.cell_place-first.ensures.first k) h.bucket s0.touched;
