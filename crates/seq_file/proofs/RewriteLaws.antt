@@ -121,15 +121,24 @@ standing h n k j b used there place valid =
     }
 
 -- a record that was read at a place
-pub read_found : (told : Option Blocks) (h : FileHead) (n k j : ℕ) (bytes out : List ℕ) → h.mrs ≤ 8160 → k < h.used → IfSome told (λ b. IsLaidOut h b → IsAt h n k j bytes b)
-    → (IsRecord 8160 (record_of (get_or (slots_of Seq bytes) j [])) → out ≡ record_of (get_or (slots_of Seq bytes) j [])) → IfSome told (λ b. IsLaidOut h b → record_at (records_in h b) n ≡ Some out)
-read_found None h n k j bytes out most used at is = tt
-read_found (Some b) h n k j bytes out most used at is = λ valid.
-    let place = at valid in
-    let stands = standing h n k j b used place.there place.number valid in
+standing_record : (h : FileHead) (n k j : ℕ) (bytes : List ℕ) (b : Blocks) → k < h.used → IsAt h n k j bytes b → IsLaidOut h b → IsRecord h.mrs (record_of (get_or (slots_of Seq bytes) j []))
+standing_record h n k j bytes b used place valid =
     let same : record_of (get_or (slots_of Seq bytes) j []) ≡ record_of (get_or (slots_at h b k) j []) = ap (λ x. record_of (get_or (slots_of Seq x) j [])) place.page in
-    let here : IsRecord 8160 (record_of (get_or (slots_at h b k) j [])) = record { one = stands.one.one; most = let few = stands.one.most in omega arith } in
-    stands.at ∙ ap Some (sym same ∙ sym (is (subst (IsRecord 8160) (sym same) here)))
+    subst (IsRecord h.mrs) (sym same) (standing h n k j b used place.there place.number valid).one
+
+pub read_found : (told : Option Blocks) (h : FileHead) (n k j : ℕ) (bytes out : List ℕ) → k < h.used → IfSome told (λ b. IsLaidOut h b → IsAt h n k j bytes b)
+    → out ≡ record_of (get_or (slots_of Seq bytes) j []) → IfSome told (λ b. IsLaidOut h b → record_at (records_in h b) n ≡ Some out)
+read_found None h n k j bytes out used at is = tt
+read_found (Some b) h n k j bytes out used at is = λ valid.
+    let place = at valid in
+    let same : record_of (get_or (slots_of Seq bytes) j []) ≡ record_of (get_or (slots_at h b k) j []) = ap (λ x. record_of (get_or (slots_of Seq x) j [])) place.page in
+    (standing h n k j b used place.there place.number valid).at ∙ ap Some (sym same ∙ sym is)
+
+-- a slot that has no record of the file stands only where the file is not laid out
+pub read_none : (told : Option Blocks) (h : FileHead) (n k j : ℕ) (bytes : List ℕ) → k < h.used → IfSome told (λ b. IsLaidOut h b → IsAt h n k j bytes b)
+    → (IsRecord h.mrs (record_of (get_or (slots_of Seq bytes) j [])) → ⊥) → IfSome told (λ b. IsLaidOut h b → ⊥)
+read_none None h n k j bytes used at none = tt
+read_none (Some b) h n k j bytes used at none = λ valid. none (standing_record h n k j bytes b used (at valid) valid)
 
 -- another record of the same length
 abbrev SameNumbers : FileHead → ℕ → Rewrite → Type 0

@@ -16,9 +16,7 @@ use file_base::{FileHead, splice};
 use frame_pool::Frame;
 use vms_base::Record;
 
-// A record's greatest length, and that of its slot.
-const MOST: usize = 8160;
-
+// The greatest length of a record's slot.
 const SLOT: usize = 8162;
 
 // The size of a bucket in bytes.
@@ -103,39 +101,46 @@ pub fn clear_page<D: Disk>(head: &FileHead, store: &mut Store<D>, frame: &Frame)
     Page::clear(store.pool(), frame, size, PageKind::Seq, u32::MAX);
 }
 
-// Reads the record of slot i of a bucket; one of a length that no record has is not read.
-fn read_slot(bucket: &[u8], i: u16, out: &mut Record)
+// Reads the record of slot i of a bucket. False exactly where it has no byte or more than the file's records may have.
+fn read_slot(bucket: &[u8], i: u16, mrs: u16, out: &mut Record) -> bool
     requires bucket { IsBucket Seq (length bucket.now) bucket.now }
     requires there { i < length (slots_of Seq bucket.now) }
     requires small { length bucket.now ≤ 8192 }
-    ensures { IsRecord 8160 (record_of (slot_at (slots_of Seq bucket.now) i)) → out.new ≡ record_of (slot_at (slots_of Seq bucket.now) i) }
+    requires most { mrs ≤ 8160 }
+    ensures found { (result ≡ true) ↔ IsRecord mrs (record_of (slot_at (slots_of Seq bucket.now) i)) }
+    ensures read { result ≡ true → out.new ≡ record_of (slot_at (slots_of Seq bucket.now) i) }
 {
     let (first, size) = Page::place(bucket, PageKind::Seq, i);
     let from = first as usize + 2;
     let end = first as usize + size as usize;
-    if from <= end && end - from <= MOST {
-        out.set(&bucket[from..end]);
+    if end <= from || end - from > mrs as usize {
+        return false;
     }
+    out.set(&bucket[from..end]);
+    true
 }
 
-/// Reads the record of slot i of the bucket in a frame.
+/// Reads the record of slot i of the bucket in a frame. False exactly where it has no byte or more than the file's
+/// records may have.
 pub fn read_record<D: Disk>(
     head: &FileHead,
     store: &mut Store<D>,
     frame: &Frame,
     i: u16,
     out: &mut Record,
-)
+) -> bool
     requires blocks { head.now.bucket ≤ 16 }
+    requires most { head.now.mrs ≤ 8160 }
     requires out { IsOut store.old.pool frame.now }
     requires bucket { IsBucket Seq (512 * head.now.bucket) (page_in head.now store.old frame.now) }
     requires there { i < length (slots_of Seq (page_in head.now store.old frame.now)) }
     ensures same { store.new ≡ store.old }
-    ensures read { IsRecord 8160 (record_of (slot_at (slots_of Seq (page_in head.now store.old frame.now)) i)) → out.new ≡ record_of (slot_at (slots_of Seq (page_in head.now store.old frame.now)) i) }
+    ensures found { (result ≡ true) ↔ IsRecord head.now.mrs (record_of (slot_at (slots_of Seq (page_in head.now store.old frame.now)) i)) }
+    ensures read { result ≡ true → out.new ≡ record_of (slot_at (slots_of Seq (page_in head.now store.old frame.now)) i) }
 {
     let size = bucket_size(head) as usize;
     let bytes = store.pool().bytes(frame);
-    read_slot(&bytes[..size], i, out);
+    read_slot(&bytes[..size], i, head.mrs, out)
 }
 
 // Writes the slot of a record.
@@ -144,8 +149,7 @@ fn write_slot(slot: &mut [u8], value: &[u8])
     requires most { length value.now ≤ 8160 }
     ensures { take (length value.now + 2) slot.new ≡ slot_of value.now }
 {
-    let size = value.len();
-    splice(slot, 0, &[(size % 256) as u8, (size / 256) as u8]);
+    splice(slot, 0, &(value.len() as u16).to_le_bytes());
     splice(slot, 2, value);
 }
 

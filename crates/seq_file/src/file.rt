@@ -6,7 +6,7 @@ ghost use Rattle.frame_pool.specs.Pool.{IsOut};
 ghost use Rattle.vms_model.specs.Keys.{Number};
 ghost use Rattle.change_set.specs.Files.{IsPlaced, free_frames};
 ghost use Rattle.seq_file.specs.Records.{list_set, record_at};
-ghost use Rattle.seq_file.specs.Layout.{records_in, asks, head_with, IsSequential, IsLaidOut, Suits, TakesAt};
+ghost use Rattle.seq_file.specs.Layout.{records_in, asks, head_with, IsRecord, IsSequential, IsLaidOut, Suits, TakesAt};
 ghost use Rattle.seq_file.specs.Frames.{InFrame, Changes, MayWrite, Written};
 
 use crate::bucket::{load_slots, read_record, slots_end};
@@ -20,7 +20,8 @@ use file_base::FileHead;
 use frame_pool::Frame;
 use vms_base::Record;
 
-// Reads the record of position n by way of a frame. False only where the file is not laid out.
+// Reads the record of position n by way of a frame. False only where the file is not laid out: a slot whose length is
+// none of its records is read as none.
 fn read_in_frame<D: Disk>(
     head: &FileHead,
     store: &mut Store<D>,
@@ -35,20 +36,19 @@ fn read_in_frame<D: Disk>(
     requires to { n ≤ head.now.count }
     ensures found { IfOk result (λ found. found ≡ true → IfSome store.old.current (λ b. IsLaidOut head.now b → record_at (records_in head.now b) n ≡ Some out.new)) }
     ensures absent { IfOk result (λ found. found ≡ false → IfSome store.old.current (λ b. IsLaidOut head.now b → ⊥)) }
+    ensures record { IfOk result (λ found. found ≡ true → IsRecord head.now.mrs out.new) }
     ensures state { InFrame frame.now (record store.old { disk = answered result store.old.disk }) store.new }
     ensures lent { IsOut store.new.pool frame.now }
 {
     match locate(head, store, frame, n) {
-        Ok(Some(spot)) => {
-            read_record(head, store, frame, spot.slot, out);
-            Ok(true)
-        }
+        Ok(Some(spot)) => { Ok(read_record(head, store, frame, spot.slot, out)) }
         Ok(None) => Ok(false),
         Err(down) => Err(down),
     }
 }
 
-/// Reads the record of position n. False only where the file is not laid out.
+/// Reads the record of position n. False only where the file is not laid out: a slot whose length is none of its records
+/// is read as none.
 pub fn read_position<D: Disk>(
     head: &FileHead,
     store: &mut Store<D>,
@@ -62,6 +62,7 @@ pub fn read_position<D: Disk>(
     requires to { n ≤ head.now.count }
     ensures found { IfOk result (λ found. found ≡ true → IfSome store.old.current (λ b. IsLaidOut head.now b → record_at (records_in head.now b) n ≡ Some out.new)) }
     ensures absent { IfOk result (λ found. found ≡ false → IfSome store.old.current (λ b. IsLaidOut head.now b → ⊥)) }
+    ensures record { IfOk result (λ found. found ≡ true → IsRecord head.now.mrs out.new) }
     ensures state { store.new ≡ record store.old { disk = answered result store.old.disk } }
 {
     let frame = take_frame(store);

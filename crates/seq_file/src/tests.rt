@@ -183,15 +183,44 @@ fn begins_with<D: Disk>(
     Ok(one && two && need == free)
 }
 
-// Fills a bucket with two records to the last byte and two buckets more, writes a record over one, takes the last one
-// away, puts it behind the others and sets it back to none, cuts over all buckets, and begins anew.
+// Whether the first record has these bytes, and is read as none by a head whose records have at most a byte less.
+fn is_bounded<D: Disk>(
+    head: &FileHead,
+    store: &mut Store<D>,
+    bytes: &[u8],
+    out: &mut Record,
+) -> Result<bool, Down>
+    requires form { IsSequential head.now }
+    requires placed { IsPlaced head.now store.old.disk }
+    requires frames { 32 ≤ free_frames store.old.pool }
+    ensures same { OnOk result (store.new ≡ store.old) }
+{
+    if bytes.len() < 2 || bytes.len() > head.mrs as usize {
+        return Ok(false);
+    }
+    let most = bytes.len() as u16;
+    let fitting = FileHead { mrs: most, ..*head };
+    let shorter = FileHead {
+        mrs: most - 1,
+        ..*head
+    };
+    let mut found = Key::End;
+    let there = SeqFile::get(&fitting, store, &Key::Number(1), out)? && out.bytes() == bytes;
+    let longer = SeqFile::get(&shorter, store, &Key::Number(1), out)?;
+    let first = SeqFile::next(&shorter, store, None, &mut found, out)?;
+    Ok(there && !longer && !first)
+}
+
+// Fills a bucket with two records to the last byte and two buckets more, reads one by other heads, writes a record over
+// one, takes the last one away, puts it behind the others and sets it back to none, cuts over all buckets, and begins
+// anew.
 fn fills_and_cuts<D: Disk>(
     head: &mut FileHead,
     store: &mut Store<D>,
     first: &[u8],
     second: &[u8],
     out: &mut Record,
-) -> Result<[bool; 9], Down>
+) -> Result<[bool; 10], Down>
     requires form { IsSequential head.old }
     requires placed { IsPlaced head.old store.old.disk }
     requires frames { 32 ≤ free_frames store.old.pool }
@@ -203,6 +232,7 @@ fn fills_and_cuts<D: Disk>(
     write(head, store, 2, second, out)?;
     let full = ends_with(head, store, 1, 2, second, out)?;
     let kept = begins_with(head, store, first, second, 1, out)?;
+    let bounded = is_bounded(head, store, first, out)?;
     write(head, store, 3, &[9], out)?;
     let next = ends_with(head, store, 2, 3, &[9], out)?;
     let still = begins_with(head, store, first, second, 0, out)?;
@@ -222,7 +252,9 @@ fn fills_and_cuts<D: Disk>(
     cut(head, store, 1)?;
     write(head, store, 1, &[7], out)?;
     let anew = ends_with(head, store, 1, 1, &[7], out)?;
-    Ok([full, kept, next, still, third, gone, over, again, anew])
+    Ok([
+        full, kept, bounded, next, still, third, gone, over, again, anew,
+    ])
 }
 
 // None where the store did not open, or a bucket of so many blocks is too small for the records.
@@ -232,7 +264,7 @@ fn run(
     mrs: u16,
     first: &[u8],
     second: &[u8],
-) -> Result<Option<Result<[bool; 9], Down>>, AllocError>
+) -> Result<Option<Result<[bool; 10], Down>>, AllocError>
     requires blocks { (1 ≤ bucket) × (bucket ≤ 16) }
     requires records { (1 ≤ mrs) × (mrs + 32 ≤ 512 * bucket) × (mrs ≤ 8160) }
 {
@@ -263,16 +295,16 @@ fn buckets_are_filled_to_the_last_byte_and_cut(rt: HostRuntime) -> Result<(), Fa
     // 512 - 16 is 248 twice, and a slot has two bytes more than its record.
     assert_eq!(rt;
         run(rt.alloc(), 1, 480, &[1; 246], &[2; 246])?,
-        Some(Ok([true; 9]))
+        Some(Ok([true; 10]))
     );
     // 8,192 - 16 is 8,162 and 14, either way round.
     assert_eq!(rt;
         run(rt.alloc(), 16, 8160, &[1; 8160], &[2; 12])?,
-        Some(Ok([true; 9]))
+        Some(Ok([true; 10]))
     );
     assert_eq!(rt;
         run(rt.alloc(), 16, 8160, &[1; 12], &[2; 8160])?,
-        Some(Ok([true; 9]))
+        Some(Ok([true; 10]))
     );
     Ok(())
 }

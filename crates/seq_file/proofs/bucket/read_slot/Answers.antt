@@ -2,6 +2,6 @@ use Rattle.std.proofs.Common.{◌∙◌, drop, ap, arith}
 use Rattle.seq_file.proofs.FrameSteps.{behind_length}
 use Rattle.seq_file.proofs.bucket.read_slot.Goals as goal
 
-pub returns-then-end-from-le-MOST : goal.returns-then-end-from-le-MOST
-returns-then-end-from-le-MOST c = λ is.
+pub returns-clause-read : goal.returns-clause-read
+returns-clause-read c = λ is.
     c.set.ensures ∙ behind_length c.args.bucket.now c.place-first.result.0 c.place-first.result.1 (omega arith) ∙ ap (drop 2) c.place-first.ensures.slot

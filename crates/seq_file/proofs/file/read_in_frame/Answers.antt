@@ -1,5 +1,6 @@
+use Rattle.std.proofs.Common.{arith}
 use Rattle.seq_file.specs.Frames.{page_in}
-use Rattle.seq_file.proofs.RewriteLaws.{read_found}
+use Rattle.seq_file.proofs.RewriteLaws.{read_found, read_none}
 use Rattle.seq_file.proofs.file.read_in_frame.Goals as goal
 
 pub returns-in-Ok-Some-clause-found : goal.returns-in-Ok-Some-clause-found
@@ -7,4 +8,11 @@ returns-in-Ok-Some-clause-found g c = λ is.
     let h = c.args.head.now in
     let spot = rw c.in-Ok-Some.field-0-is at c.in-Ok-Some.ensures.spot in
     let below = rw c.in-Ok-Some.field-0-is at c.in-Ok-Some.ensures.below in
-    read_found c.args.store.now.current h c.args.n c.in-Ok-Some.spot.bucket c.in-Ok-Some.spot.slot (page_in h c.locate.new.store c.args.frame.now) c.read_record.new.out c.requires.placed.greatest below spot c.read_record.ensures.read
+    read_found c.args.store.now.current h c.args.n c.in-Ok-Some.spot.bucket c.in-Ok-Some.spot.slot (page_in h c.locate.new.store c.args.frame.now) c.read_record.new.out below spot (c.read_record.ensures.read is)
+
+pub returns-in-Ok-Some-clause-absent : goal.returns-in-Ok-Some-clause-absent
+returns-in-Ok-Some-clause-absent g c = λ is.
+    let h = c.args.head.now in
+    let spot = rw c.in-Ok-Some.field-0-is at c.in-Ok-Some.ensures.spot in
+    let below = rw c.in-Ok-Some.field-0-is at c.in-Ok-Some.ensures.below in
+    read_none c.args.store.now.current h c.args.n c.in-Ok-Some.spot.bucket c.in-Ok-Some.spot.slot (page_in h c.locate.new.store c.args.frame.now) below spot (λ kept. grind (arith, c.read_record.ensures.found.1 kept, is))
