@@ -1,5 +1,5 @@
 //! The records of a volume's files, and the groups that change a volume.
-ghost use Rattle.std.specs.Prelude.{◌≡◌, ◌≢◌, ◌⊎◌, ◌<◌, ◌≤◌, ◌+◌, ◌*◌, ℕ, List, true, false, Option, Some, None, length, OnOk, OnErr, IfOk, IfSome, if◌then◌else◌, option_map, slice_set};
+ghost use Rattle.std.specs.Prelude.{◌≡◌, ◌≢◌, ◌⊎◌, ◌<◌, ◌≤◌, ◌+◌, ◌*◌, ℕ, List, true, false, Option, Some, None, Ok, length, OnOk, OnErr, IfOk, IfSome, if◌then◌else◌, option_map, slice_set};
 ghost use Rattle.std.specs.Option.{option_copied};
 ghost use Rattle.careful_write.specs.Down.{Counts};
 ghost use Rattle.careful_write.specs.State.{EachWhole, IsIdle, IsReady, Leaves, content};
@@ -57,6 +57,7 @@ pub fn read_record<D: Disk>(
     requires placed { IsPlaced head.now volume.old.store.disk }
     requires frames { 32 ≤ free_frames volume.old.store.pool }
     ensures found { IfOk result (λ there. IfSome volume.old.store.current (λ content. IsFile head.now → IsLaidOut head.now content → map_of head.now content (key_of key.now) ≡ (if there then Some found.new else None))) }
+    ensures unformed { (IsFile head.now → ⊥) → result ≡ Ok false }
     ensures same { OnOk result (volume.new ≡ volume.old) }
     ensures down { OnErr result (volume.new ≡ record volume.old { store = fell result volume.old.store }) }
 {
@@ -67,6 +68,7 @@ pub fn read_record<D: Disk>(
 }
 
 /// Whether a file has a record behind a key, or any where none is said; its key and the record are then in `key` and `found`.
+/// A head that is none of a file of its organization is read as that of an empty file.
 pub fn next_record<D: Disk>(
     volume: &mut Volume<D>,
     head: &FileHead,
@@ -78,6 +80,7 @@ pub fn next_record<D: Disk>(
     requires frames { 32 ≤ free_frames volume.old.store.pool }
     ensures found { IfOk result (λ there. there ≡ true → IfSome volume.old.store.current (λ content. IsFile head.now → IsLaidOut head.now content → IsNext (map_of head.now content) (option_map key_of (option_copied after.entry)) (key_of key.new) found.new)) }
     ensures none { IfOk result (λ there. there ≡ false → IfSome volume.old.store.current (λ content. IsFile head.now → IsLaidOut head.now content → EndsAfter (map_of head.now content) (option_map key_of (option_copied after.entry)))) }
+    ensures unformed { (IsFile head.now → ⊥) → result ≡ Ok false }
     ensures same { OnOk result (volume.new ≡ volume.old) }
     ensures down { OnErr result (volume.new ≡ record volume.old { store = fell result volume.old.store }) }
 {
@@ -87,7 +90,8 @@ pub fn next_record<D: Disk>(
     AnyFile::next(head, volume.store(), after, key, found)
 }
 
-/// How many free buckets a record of so many bytes asks for.
+/// How many free buckets a record of so many bytes asks for: more than a disk has, where the head is none of a file of its
+/// organization.
 pub fn need_buckets<D: Disk>(
     volume: &mut Volume<D>,
     head: &FileHead,
@@ -96,6 +100,7 @@ pub fn need_buckets<D: Disk>(
     requires placed { IsPlaced head.now volume.old.store.disk }
     requires frames { 32 ≤ free_frames volume.old.store.pool }
     ensures need { IfOk result (λ need. IfSome volume.old.store.current (λ content. IsFile head.now → IsLaidOut head.now content → need ≡ asks head.now content size)) }
+    ensures unformed { (IsFile head.now → ⊥) → result ≡ Ok 65537 }
     ensures same { OnOk result (volume.new ≡ volume.old) }
     ensures down { OnErr result (volume.new ≡ record volume.old { store = fell result volume.old.store }) }
 {
@@ -126,6 +131,7 @@ fn is_moved(old: &FileHead, new: &FileHead) -> bool
 }
 
 /// Stages a record of this key, or its removal, and the head where that changes. The rooms of the keys that are noted stay.
+/// Nothing is staged where the head is none of a file of its organization.
 pub fn stage_value<D: Disk>(
     volume: &mut Volume<D>,
     file: u8,
@@ -143,6 +149,7 @@ pub fn stage_value<D: Disk>(
     requires staged { length volume.old.store.touched ≤ 64 }
     ensures stages { OnOk result (StagesFile file head.old 65 volume.old volume.new head.new) }
     ensures sets { OnOk result (TellsSet file head.old (notes_in undo.now) (key_of key.now) (option_copied value.entry) volume.old volume.new head.new) }
+    ensures unformed { (IsFile head.old → ⊥) → (result ≡ Ok tt) × (volume.new ≡ volume.old) × (head.new ≡ head.old) }
     ensures down { OnErr result (volume.new ≡ record volume.old { store = fell result volume.old.store }) }
 {
     files_lie_apart();
@@ -158,7 +165,8 @@ pub fn stage_value<D: Disk>(
     Ok(())
 }
 
-/// Stages that the positions of a sequential file from one on go, and the head.
+/// Stages that the positions of a sequential file from one on go, and the head. Nothing is staged where the head is none of a
+/// sequential file.
 pub fn stage_cut<D: Disk>(
     volume: &mut Volume<D>,
     file: u8,
@@ -177,6 +185,7 @@ pub fn stage_cut<D: Disk>(
     requires last { from ≤ head.old.count }
     ensures stages { OnOk result (StagesFile file head.old 65 volume.old volume.new head.new) }
     ensures cuts { OnOk result (TellsCut head.old from volume.old volume.new head.new) }
+    ensures unformed { (IsFile head.old → ⊥) → (result ≡ Ok tt) × (volume.new ≡ volume.old) × (head.new ≡ head.old) }
     ensures down { OnErr result (volume.new ≡ record volume.old { store = fell result volume.old.store }) }
 {
     files_lie_apart();
@@ -190,7 +199,8 @@ pub fn stage_cut<D: Disk>(
     Ok(())
 }
 
-/// Stages that a key has again what it had, where its room holds it, and the head where that changes.
+/// Stages that a key has again what it had, where its room holds it, and the head where that changes. Nothing is staged where
+/// the head is none of a file of its organization.
 pub fn stage_back<D: Disk>(
     volume: &mut Volume<D>,
     file: u8,
@@ -207,6 +217,7 @@ pub fn stage_back<D: Disk>(
     requires staged { length volume.old.store.touched ≤ 480 }
     ensures stages { OnOk result (StagesFile file head.old 17 volume.old volume.new head.new) }
     ensures back { OnOk result (TellsBack head.old (key_of key.now) (option_copied value.entry) volume.old volume.new head.new) }
+    ensures unformed { (IsFile head.old → ⊥) → (result ≡ Ok tt) × (volume.new ≡ volume.old) × (head.new ≡ head.old) }
     ensures down { OnErr result (volume.new ≡ record volume.old { store = fell result volume.old.store }) }
 {
     files_lie_apart();
