@@ -13,4 +13,4 @@ pub use records::{
     stage_value, write_head, write_home,
 };
 pub use sizes::{Sizes, sizes_of};
-pub use undo::{Buffers, MOST_CHANGES, Note, Undo, is_same_key};
+pub use undo::{Buffers, MOST_CHANGES, Undo, is_same_key};

@@ -6,23 +6,23 @@ ghost use Rattle.change_set.specs.Maps.{same_key};
 use std::alloc::{AllocError, Global};
 use vms_base::{Key, Record};
 
-// Scaffolding: a branch makes at most so many changes.
+/// How many changes a branch makes at the most. Scaffolding: they are kept in memory.
 pub const MOST_CHANGES: usize = 16;
 
-/// A change: the number of its file, its key, and the record that the key had, where it had one.
+// A change: the number of its file, its key, and the record that the key had, where it had one.
 #[derive(Drop)]
-pub struct Note {
-    pub file: u8,
-    pub key: Key,
-    pub had: bool,
-    pub before: Record,
+struct Note {
+    file: u8,
+    key: Key,
+    had: bool,
+    before: Record,
 }
 
 /// The changes of a branch, in the order in which they were made. Their room is taken once.
 #[derive(Drop)]
 pub struct Undo {
-    pub places: Vec<Note>,
-    pub used: usize,
+    places: Vec<Note>,
+    used: usize,
     ghost room: { length places.items ≡ 16 },
     ghost few: { used ≤ 16 },
 }
