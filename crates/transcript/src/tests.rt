@@ -202,8 +202,9 @@ fn refusals_and_a_record_without_bytes_have_their_bytes(rt: HostRuntime) -> Resu
     {
         let mut sink = WriterSink::new(&mut bytes);
         let mut out = SinkEmit::new(rt.alloc(), &mut sink)?;
-        let record = Record::reserve(rt.alloc())?;
+        let mut record = Record::reserve(rt.alloc())?;
         let node = NodeName::new(b"a").ok_or("a name")?;
+        let text = KeyText::new(b"aa").ok_or("a key")?;
         out.at(1);
         out.emit(&Form::Record(Key::Number(4), &record));
         out.emit(&Form::NodeUp);
@@ -225,6 +226,22 @@ fn refusals_and_a_record_without_bytes_have_their_bytes(rt: HostRuntime) -> Resu
         out.emit(&Form::RecordNotFound);
         out.emit(&Form::EndOfFile);
         out.emit(&Form::KeyChanged);
+        out.emit(&Form::Normal);
+        out.emit(&Form::RecordNormal);
+        out.emit(&Form::NoSuchNode);
+        out.emit(&Form::BadLabel);
+        out.emit(&Form::FileNotFound);
+        out.emit(&Form::BadRecordNumber);
+        out.emit(&Form::BadRecordSize);
+        out.emit(&Form::NoSuchTransaction);
+        out.emit(&Form::FileLocked(Serial(id(2)?)));
+        out.emit(&Form::RecordExists);
+        out.emit(&Form::NoMemory);
+        out.emit(&Form::Broken(Cause::Failed));
+        out.emit(&Form::Broken(Cause::Stopped));
+        out.emit(&Form::TooLong);
+        record.set(b"aa1");
+        out.emit(&Form::Record(Key::Text(text), &record));
     }
     let want = b"1 RECORD 4 \"\"\n\
 1 NODEUP\n\
@@ -245,7 +262,22 @@ fn refusals_and_a_record_without_bytes_have_their_bytes(rt: HostRuntime) -> Resu
 1 RMS$_DUP\n\
 1 RMS$_RNF\n\
 1 RMS$_EOF\n\
-1 RMS$_CHG\n";
+1 RMS$_CHG\n\
+1 SS$_NORMAL\n\
+1 RMS$_NORMAL\n\
+1 NOSUCHNODE\n\
+1 LABEL\n\
+1 RMS$_FNF\n\
+1 RMS$_MRN\n\
+1 RMS$_RSZ\n\
+1 SS$_NOSUCHTID\n\
+1 RMS$_FLK A.1.2\n\
+1 RMS$_REX\n\
+1 SS$_INSFMEM\n\
+1 FAULT\n\
+1 STOPPED\n\
+1 TOOLONG\n\
+1 RECORD \"aa\" \"aa1\"\n";
     assert_eq!(rt; bytes.as_slice(), want.as_slice());
     Ok(())
 }
