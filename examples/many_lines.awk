@@ -1,5 +1,6 @@
-# Writes a script of so many lines that makes so many labels, and then uses them in an order of its own:
+# Writes a script of so many lines that makes so many labels, one at least, and then uses them in an order of its own:
 #     awk -v lines=1000000 -v labels=100000 -f examples/many_lines.awk
+# Each label takes two lines, and the opening takes four; where there are fewer lines, fewer labels are made.
 BEGIN {
     print "A: INIT"; print "A: BOOT"; print "A: CREATE F REL 1 100 10"; print "A: SET_FILE F RU"
     said = 4

@@ -34,7 +34,8 @@ pub record SaidThere (es : List Entry) (before : List Entry) (s : Statement) (ev
 abbrev pub settlements_of : List ℕ → World → List Settlement
 settlements_of node w = elim (find_node node w.nodes) [ Some n ↦ n.settled | None ↦ [] ]
 
--- What the transcript alone tells of transactions and of the records that they leave.
+-- What the transcript tells of transactions and of the records that they leave. Of the world it asks only which records a boot found, how a file keeps its
+-- records, and which positions stood where it was truncated.
 
 -- the id that a line of START_TRANS was answered, where it made this label at this node; else as before
 abbrev pub id_here : List ℕ → List ℕ → Reading → List Line → Option Id → Option Id

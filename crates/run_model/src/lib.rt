@@ -4,8 +4,9 @@
 ghost use Rattle.run_model.specs.Laws.{PromisesHold, RefusalsLeaveWorld, FailurePutsDown, SuccessIsGiven, IsDetermined};
 
 /// Every legal transcript of nodes that were down at first keeps the promises: a transaction that was ended is committed for good, one that
-/// was aborted is aborted for good, a dump shows just the records that stood when the node was last booted with what those transactions have
-/// put since then whose commitment was shown, and no branch is settled twice.
+/// was aborted is aborted for good, and no branch is settled twice. A dump shows just the records that stood when the node was last booted, or
+/// none where the file was made since then, with what those transactions have put, updated, deleted and truncated whose commitment was shown
+/// since then.
 pub fn promises_hold()
     ensures { PromisesHold }
 {}
