@@ -1,7 +1,7 @@
 //! Two files beside each other: records are set, found, listed and removed.
 ghost use Rattle.std.specs.Prelude.{◌≡◌, ◌≤◌, ◌<◌, ◌*◌, ◌+◌, ◌/◌, ℕ, Bool, List, false, true, length, OnOk, IfOk, IfSome, Some, None, option_map, replicate};
 ghost use Rattle.std.specs.Option.{option_copied};
-ghost use Rattle.careful_write.specs.State.{IsIdle};
+ghost use Rattle.careful_write.specs.State.{InHome, IsIdle};
 ghost use Rattle.vms_base.specs.Keys.{key_of};
 ghost use Rattle.change_set.specs.Maps.{set_key};
 ghost use Rattle.change_set.specs.Files.{IsPlaced, free_frames, in_extent};
@@ -73,6 +73,7 @@ fn put<D: Disk>(
     ensures frames { OnOk result (32 ≤ free_frames store.new.pool) }
     ensures idle { OnOk result (IsIdle store.new) }
     ensures same { OnOk result ((head.new.mrs ≡ head.old.mrs) × (head.new.mrn ≡ head.old.mrn)) }
+    ensures size { OnOk result (store.new.disk.size ≡ store.old.disk.size) }
 {
     RelativeFile::set(head, store, &Key::Number(n), value, &NoneHeld)?;
     store.apply()
@@ -96,6 +97,7 @@ fn put_back<D: Disk>(
     ensures frames { OnOk result (32 ≤ free_frames store.new.pool) }
     ensures idle { OnOk result (IsIdle store.new) }
     ensures same { OnOk result ((head.new.mrs ≡ head.old.mrs) × (head.new.mrn ≡ head.old.mrn)) }
+    ensures size { OnOk result (store.new.disk.size ≡ store.old.disk.size) }
 {
     RelativeFile::restore(head, store, &Key::Number(n), value)?;
     store.apply()
@@ -112,6 +114,7 @@ fn has_two<D: Disk>(
     requires form { IsRelative head.now }
     requires placed { IsPlaced head.now store.old.disk }
     requires frames { 32 ≤ free_frames store.old.pool }
+    ensures same { OnOk result (store.new ≡ store.old) }
 {
     let [first, second] = [Key::Number(numbers[0]), Key::Number(numbers[1])];
     let mut found = Key::End;
@@ -124,13 +127,75 @@ fn has_two<D: Disk>(
     Ok(starts && goes_on && ends && there && absent)
 }
 
-// Makes a file, sets records of it, removes one, sets another back to none, and tells whether the two others are there.
+// Whether the file has a record at this number alone.
+fn has_one<D: Disk>(
+    head: &FileHead,
+    store: &mut Store<D>,
+    number: u32,
+    out: &mut Record,
+) -> Result<bool, Down>
+    requires form { IsRelative head.now }
+    requires placed { IsPlaced head.now store.old.disk }
+    requires frames { 32 ≤ free_frames store.old.pool }
+    requires small { number < 80 }
+    ensures same { OnOk result (store.new ≡ store.old) }
+{
+    let first = Key::Number(number);
+    let mut found = Key::End;
+    let starts = RelativeFile::next(head, store, None, &mut found, out)? && found == first;
+    let ends = !RelativeFile::next(head, store, Some(&first), &mut found, out)?;
+    let absent = !RelativeFile::get(head, store, &Key::Number(number + 1), out)?;
+    Ok(starts && ends && absent)
+}
+
+// Writes another first byte into a block.
+fn spoil<D: Disk>(head: &FileHead, store: &mut Store<D>, block: u32) -> Result<(), Down>
+    requires placed { IsPlaced head.now store.old.disk }
+    requires frames { 32 ≤ free_frames store.old.pool }
+    requires idle { IsIdle store.old }
+    requires there { InHome store.old.disk block }
+    ensures placed { OnOk result (IsPlaced head.now store.new.disk) }
+    ensures frames { OnOk result (32 ≤ free_frames store.new.pool) }
+    ensures idle { OnOk result (IsIdle store.new) }
+{
+    let mut bytes = [0; 512];
+    store.read(block, &mut bytes)?;
+    bytes[0] = 9;
+    let _ = store.stage(block, &bytes);
+    store.apply()
+}
+
+// Gives the second bucket of a file another header, and sets a record there. Tells of both whether they left the records
+// that they were to.
+fn spoiled<D: Disk>(
+    head: &mut FileHead,
+    store: &mut Store<D>,
+    value: &Record,
+    out: &mut Record,
+) -> Result<bool, Down>
+    requires form { IsRelative head.old }
+    requires placed { IsPlaced head.old store.old.disk }
+    requires frames { 32 ≤ free_frames store.old.pool }
+    requires idle { IsIdle store.old }
+    requires size { store.old.disk.size ≡ 4096 }
+    requires numbers { head.old.mrn ≡ 80 }
+    requires value { (1 ≤ length value.now) × (length value.now ≤ head.old.mrs) }
+{
+    spoil(head, store, 601)?;
+    let emptied = has_one(head, store, 41, out)?;
+    put(head, store, 50, Some(value))?;
+    let set = has_two(head, store, [41, 50], value.bytes(), out)?;
+    Ok(emptied && set)
+}
+
+// Makes a file of two buckets, sets records of it, removes one, sets another back to none, and tells whether the two
+// others are there; then whether the second bucket is read as an empty one once its header is another.
 fn keeps_two<D: Disk>(
     store: &mut Store<D>,
     name: FileName,
     value: &Record,
     out: &mut Record,
-) -> Result<bool, Down>
+) -> Result<(bool, bool), Down>
     requires frames { 32 ≤ free_frames store.old.pool }
     requires idle { IsIdle store.old }
     requires size { store.old.disk.size ≡ 4096 }
@@ -163,11 +228,12 @@ fn keeps_two<D: Disk>(
     put(&mut head, store, 42, None)?;
     put(&mut head, store, 43, Some(value))?;
     put_back(&mut head, store, 43, None)?;
-    has_two(&head, store, [41, 80], value.bytes(), out)
+    let kept = has_two(&head, store, [41, 80], value.bytes(), out)?;
+    Ok((kept, spoiled(&mut head, store, value, out)?))
 }
 
 // None where the store did not open.
-fn run(alloc: Global) -> Result<Option<Result<bool, Down>>, AllocError> {
+fn run(alloc: Global) -> Result<Option<Result<(bool, bool), Down>>, AllocError> {
     let disk = CrashDisk::new(alloc, MemPlatter::new(alloc, 4096)?)?;
     let group = Group::reserve(alloc)?;
     let pool = Pool::new(alloc, 32)?;
@@ -192,8 +258,10 @@ fn run(alloc: Global) -> Result<Option<Result<bool, Down>>, AllocError> {
 }
 
 #[test]
-fn records_are_found_where_they_were_set(rt: HostRuntime) -> Result<(), Fail> {
-    assert_eq!(rt; run(rt.alloc())?, Some(Ok(true)));
+fn records_are_found_where_they_were_set_and_none_in_a_spoiled_bucket(
+    rt: HostRuntime,
+) -> Result<(), Fail> {
+    assert_eq!(rt; run(rt.alloc())?, Some(Ok((true, true))));
     Ok(())
 }
 
