@@ -3,5 +3,7 @@
 
 mod any;
 mod checks;
+#[cfg(test)]
+mod tests;
 
 pub use any::AnyFile;
