@@ -4,4 +4,5 @@ pub mod RackLemmas
 pub mod Entries
 pub mod Telling
 pub mod Files
+mod Contents
 pub mod Openings

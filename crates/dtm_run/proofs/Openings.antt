@@ -1,9 +1,11 @@
 -- A node for each disk before a run.
-use Rattle.std.proofs.Common.{◌≡◌, ⊎_elim, ℕ, List, [], ◌∷◌, true, false, Option, Some, None, is_some, refl, ap}
+use Rattle.std.proofs.Common.{◌≡◌, ⊎_elim, ℕ, List, [], ◌∷◌, true, false, Option, Some, None, is_some, refl, ap, subst}
 use Rattle.block_disk.specs.Disk.{DiskState}
 use Rattle.careful_write.specs.Content.{content_of}
 use Rattle.careful_write.specs.Load.{fitting}
 use Rattle.careful_write.proofs.GroupParts.{stop_reading}
+use Rattle.volume.specs.Catalogs.{IsSound}
+use Rattle.volume.specs.Contents.{HasFinding, HasSound, SoundOrFinding}
 use Rattle.run_model.specs.World.{Node, IsOpening, Sound, Faulty}
 use Rattle.run_model.specs.Laws.{AreOpening}
 use Rattle.directory_model.specs.Laws.{ReadsFiles}
@@ -11,7 +13,8 @@ use Rattle.dtm_node.specs.Boots.{AllHave}
 use Rattle.dtm_node.specs.Standing.{IsVolumeOf, last_of}
 use Rattle.dtm_node.proofs.Booting.{as_it_was, have_disk}
 use Rattle.dtm_run.specs.Headline.{StandOn, StandsOn}
-use Rattle.dtm_run.specs.Openings.{AreMade, HasNone, HasVolume, IsMade, OpeningsExist}
+use Rattle.dtm_run.specs.Openings.{AreMade, IsMade, OpeningsExist}
+use Rattle.dtm_run.proofs.Contents.{content_count, content_is}
 use Rattle.dtm_run.proofs.Files.{has_files}
 
 -- each image of a disk on which nothing is pending is what it reads as
@@ -21,11 +24,12 @@ all_have d image told settled = as_it_was d.seen image d told (stop_reading d d 
 is_told : (o : Option (List (List ℕ))) (image : List (List ℕ)) → o ≡ Some image → is_some o ≡ true
 is_told o image e = ap (λ (x : Option (List (List ℕ))). is_some x) e
 
--- a node over a sound volume
-module _ (reads : ReadsFiles) (name : List ℕ) (d : DiskState) (m : IsMade name d) where
-  sound_opens : HasVolume name d.size m.image → (n : Node) × IsOpening n × StandsOn name d n
+-- a node over a sound volume, or over a finding
+module _ (reads : ReadsFiles) (contents : SoundOrFinding) (name : List ℕ) (d : DiskState) (m : IsMade name d) where
+  sound_opens : HasSound name (fitting m.image) (content_of m.image) → (n : Node) × IsOpening n × StandsOn name d n
   sound_opens v =
-      let files = has_files reads (content_of m.image) v.catalog.heads v.catalog.home.greatest_moment.0 v.whole v.files in
+      let sound : IsSound name d.size v.catalog = subst (λ size. IsSound name size v.catalog) (content_count d.size m.image m.least m.whole m.bytes) v.sound in
+      let files = has_files reads (content_of m.image) v.catalog.heads v.catalog.home.greatest_moment.0 v.count (m.files v.catalog v.tells v.count sound) in
       let n : Node = record {
         name = name;
         blocks = d.size;
@@ -48,15 +52,15 @@ module _ (reads : ReadsFiles) (name : List ℕ) (d : DiskState) (m : IsMade name
       let volume : IsVolumeOf (content_of m.image) n = record {
         catalog = v.catalog;
         tells = v.tells;
-        sound = v.sound;
+        sound = sound;
         has = record { volume = refl; slots = refl; journal = refl; boot = refl; greatest = refl; last = refl; files = files.1 };
       } in (
         n,
         record { down = refl; was_down = refl; clock = refl; drawn = refl; branches = refl; settled = refl; calls = refl; under_way = refl; resting = files.2 },
-        record { name_is = refl; blocks = refl; known = refl; told = is_told d.seen m.image m.told; counted = m.counted; has = have_disk n (fitting m.image) (content_of m.image) d refl (all_have d m.image m.told m.settled) (v.fits, volume) },
+        record { name_is = refl; blocks = refl; known = refl; told = is_told d.seen m.image m.told; counted = m.counted; has = have_disk n (fitting m.image) (content_of m.image) d refl (all_have d m.image m.told m.settled) (v.group, volume) },
       )
 
-  faulty_opens : HasNone name m.image → (n : Node) × IsOpening n × StandsOn name d n
+  faulty_opens : HasFinding name (fitting m.image) (content_of m.image) → (n : Node) × IsOpening n × StandsOn name d n
   faulty_opens f =
       let n : Node = record {
         name = name;
@@ -79,20 +83,20 @@ module _ (reads : ReadsFiles) (name : List ℕ) (d : DiskState) (m : IsMade name
       } in (
         n,
         record { down = refl; was_down = refl; clock = refl; drawn = refl; branches = refl; settled = refl; calls = refl; under_way = refl; resting = tt },
-        record { name_is = refl; blocks = refl; known = refl; told = is_told d.seen m.image m.told; counted = m.counted; has = have_disk n (fitting m.image) (content_of m.image) d refl (all_have d m.image m.told m.settled) f.finding },
+        record { name_is = refl; blocks = refl; known = refl; told = is_told d.seen m.image m.told; counted = m.counted; has = have_disk n (fitting m.image) (content_of m.image) d refl (all_have d m.image m.told m.settled) f.first },
       )
 
   opens : (n : Node) × IsOpening n × StandsOn name d n
-  opens = ⊎_elim sound_opens faulty_opens m.content
+  opens = ⊎_elim sound_opens faulty_opens (contents name (fitting m.image) (content_of m.image) (content_is d.size m.image m.least m.whole m.bytes))
 
-all_open : (reads : ReadsFiles) (names : List (List ℕ)) (ds : List DiskState) → AreMade names ds → (nodes : List Node) × AreOpening nodes × StandOn names ds nodes
-all_open reads [] [] h = ([], tt, tt)
-all_open reads [] (d ∷ ds) h = absurd h
-all_open reads (name ∷ names) [] h = absurd h
-all_open reads (name ∷ names) (d ∷ ds) h =
-    let first = opens reads name d h.0 in
-    let rest = all_open reads names ds h.1 in
+all_open : (reads : ReadsFiles) (contents : SoundOrFinding) (names : List (List ℕ)) (ds : List DiskState) → AreMade names ds → (nodes : List Node) × AreOpening nodes × StandOn names ds nodes
+all_open reads contents [] [] h = ([], tt, tt)
+all_open reads contents [] (d ∷ ds) h = absurd h
+all_open reads contents (name ∷ names) [] h = absurd h
+all_open reads contents (name ∷ names) (d ∷ ds) h =
+    let first = opens reads contents name d h.0 in
+    let rest = all_open reads contents names ds h.1 in
     (first.0 ∷ rest.0, (first.1, rest.1), (first.2, rest.2))
 
-pub openings_exist : ReadsFiles → OpeningsExist
-openings_exist reads = record { one = opens reads; all = all_open reads }
+pub openings_exist : ReadsFiles → SoundOrFinding → OpeningsExist
+openings_exist reads contents = record { one = opens reads contents; all = all_open reads contents }

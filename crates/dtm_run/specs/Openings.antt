@@ -1,13 +1,13 @@
 -- The nodes that a run may begin with.
-use Rattle.std.specs.Prelude.{◌≡◌, ◌⊎◌, ℕ, List, [], ◌∷◌, true, Option, Some, length}
+use Rattle.std.specs.Prelude.{◌≡◌, ◌<◌, ◌≤◌, ℕ, List, [], ◌∷◌, Option, Some, length}
+use Rattle.std.specs.List.{All}
+use Rattle.block_disk.specs.Blocks.{IsWhole, block_at}
 use Rattle.block_disk.specs.Disk.{DiskState}
 use Rattle.careful_write.specs.Content.{content_of}
-use Rattle.careful_write.specs.Load.{fitting}
 use Rattle.file_base.specs.declared.head.FileHead.{FileHead}
 use Rattle.record_files.specs.Any.{IsFile, IsLaidOut}
 use Rattle.volume.specs.declared.catalog.Catalog.{Catalog}
 use Rattle.volume.specs.Catalogs.{IsSound, TellsCatalog}
-use Rattle.volume.specs.Conditions.{IsFirstFinding}
 use Rattle.run_model.specs.World.{Node, IsOpening}
 use Rattle.run_model.specs.Laws.{AreOpening}
 use Rattle.directory_model.specs.Files.{head_at}
@@ -22,28 +22,21 @@ HasLayout content h = IsFile h × IsLaidOut h content
 abbrev pub AreLaidOut : List (List ℕ) → List (Option FileHead) → Type 0
 AreLaidOut content heads = (f : ℕ) (h : FileHead) → head_at heads f ≡ Some h → HasLayout content h
 
--- the blocks of a disk of this size have a sound volume of the node of this name, whose files are laid out, and an open group fits
-pub record HasVolume (name : List ℕ) (size : ℕ) (image : List (List ℕ)) : Type 0 where
-  pub fits : fitting image ≡ true
-  pub catalog : Catalog
-  pub tells : TellsCatalog catalog (content_of image)
-  pub sound : IsSound name size catalog
-  pub whole : length catalog.heads ≡ 64
-  pub files : AreLaidOut (content_of image) catalog.heads
+-- where a content tells a sound volume of the node of this name on a disk of this size, its files are laid out
+abbrev pub HasFilesLaidOut : List ℕ → ℕ → List (List ℕ) → Type 0
+HasFilesLaidOut name size content = (catalog : Catalog) → TellsCatalog catalog content → length catalog.heads ≡ 64 → IsSound name size catalog → AreLaidOut content catalog.heads
 
--- they have none, for of the conditions of a volume one fails first
-pub record HasNone (name : List ℕ) (image : List (List ℕ)) : Type 0 where
-  pub number : ℕ
-  pub block : ℕ
-  pub finding : IsFirstFinding name (fitting image) (content_of image) number block
-
--- a disk that tells its content, on which nothing is pending, and which has a volume of the node of this name or none
+-- A disk that tells its content, on which nothing is pending. It has 4,096 blocks or more, as a rack asks, and each is of 512 bytes, as every disk
+-- tells. Where it has a volume of the node of this name, the files are laid out.
 pub record IsMade (name : List ℕ) (d : DiskState) : Type 0 where
   pub image : List (List ℕ)
   pub told : d.seen ≡ Some image
   pub settled : d.pending ≡ []
   pub counted : IsCounted d
-  pub content : HasVolume name d.size image ⊎ HasNone name image
+  pub least : 4096 ≤ d.size
+  pub whole : IsWhole d.size image
+  pub bytes : (n : ℕ) → n < d.size → All (λ b. b < 256) (block_at image n)
+  pub files : HasFilesLaidOut name d.size (content_of image)
 
 -- so of the disks of a rack
 abbrev pub AreMade : List (List ℕ) → List DiskState → Type 0
