@@ -5,6 +5,7 @@ use Rattle.std.specs.Option.{option_map, option_and_then}
 use Rattle.std.specs.Str.{bytes_eq}
 use Rattle.std.proofs.lemmas.Bool.{ne_eqb, eq-eqb, le-ltb}
 use Rattle.std.proofs.lemmas.List.{append-nil, take_rest}
+use Rattle.block_disk.specs.Disk.{DiskState}
 use Rattle.vms_model.specs.Names.{node_named}
 use Rattle.vms_model.specs.Words.{parted_at}
 use Rattle.script_model.specs.LineWords.{is_empty}
@@ -103,11 +104,11 @@ filled_on opens size all word node image words names images mid_names mid_images
 
 -- why it is not filled
 
-pub why_here : {File Image : Type 0} (store : Store File Image) (size : Image → ℕ) (names : List (List ℕ)) (word : List ℕ) (words : List (List ℕ)) (node path : List ℕ) (e : OpenErr) →
-    node_and_image word ≡ Some (node, path) → WhyUnopened store path e → WhyUnfilled store size names (word ∷ words) e
-why_here store size names word words node path (open_err.Image named) says why =
+pub why_here : {File Image : Type 0} (store : Store File Image) (state : Image → DiskState) (names : List (List ℕ)) (word : List ℕ) (words : List (List ℕ)) (node path : List ℕ) (e : OpenErr) →
+    node_and_image word ≡ Some (node, path) → WhyUnopened store path e → WhyUnfilled store state names (word ∷ words) e
+why_here store state names word words node path (open_err.Image named) says why =
     (record { nodes = []; added = []; word = word; left = words; adds = refl; node = node; says = says ∙ ap (λ p. Some (node, p)) (sym why.0) }, subst (CannotOpen store) (sym why.0) why.1)
-why_here store size names word words node path open_err.Memory says why =
+why_here store state names word words node path open_err.Memory says why =
     (path, record { nodes = []; added = []; word = word; left = words; adds = refl; node = node; says = says })
 
 reaches_more : {Image : Type 0} (opens : List ℕ → Image → Type 0) (size : Image → ℕ) (word node : List ℕ) (image : Image) (names words : List (List ℕ)) (path : List ℕ) →
@@ -115,17 +116,17 @@ reaches_more : {Image : Type 0} (opens : List ℕ → Image → Type 0) (size : 
 reaches_more opens size word node image names words path named none h =
     record { nodes = node ∷ h.nodes; added = image ∷ h.added; word = h.word; left = h.left; adds = (named, none, h.adds); node = h.node; says = h.says }
 
-why_more : {File Image : Type 0} (store : Store File Image) (size : Image → ℕ) (word node : List ℕ) (image : Image) (names words : List (List ℕ)) (e : OpenErr) →
-    Names (IsImageOf store size) word node image → refusal_of names node (size image) ≡ None → WhyUnfilled store size (names ++ node ∷ []) words e → WhyUnfilled store size names (word ∷ words) e
-why_more store size word node image names words (open_err.Image path) named none h = (reaches_more (IsImageOf store size) size word node image names words path.now named none h.0, h.1)
-why_more store size word node image names words open_err.Memory named none h = (h.0, reaches_more (IsImageOf store size) size word node image names words h.0 named none h.1)
+why_more : {File Image : Type 0} (store : Store File Image) (state : Image → DiskState) (word node : List ℕ) (image : Image) (names words : List (List ℕ)) (e : OpenErr) →
+    Names (IsImageOf store state) word node image → refusal_of names node (state image).size ≡ None → WhyUnfilled store state (names ++ node ∷ []) words e → WhyUnfilled store state names (word ∷ words) e
+why_more store state word node image names words (open_err.Image path) named none h = (reaches_more (IsImageOf store state) (λ image. (state image).size) word node image names words path.now named none h.0, h.1)
+why_more store state word node image names words open_err.Memory named none h = (h.0, reaches_more (IsImageOf store state) (λ image. (state image).size) word node image names words h.0 named none h.1)
 
-pub why_on : {File Image R : Type 0} (store : Store File Image) (size : Image → ℕ) (all : List (List ℕ)) (word node : List ℕ) (image : Image) (words names mid_names : List (List ℕ)) (result : Result R OpenErr) →
-    all ≡ word ∷ words → Names (IsImageOf store size) word node image → refusal_of names node (size image) ≡ None → mid_names ≡ names ++ node ∷ [] →
-    IfErr result (λ e. WhyUnfilled store size mid_names words e) → IfErr result (λ e. WhyUnfilled store size names all e)
-why_on store size all word node image words names mid_names (Ok r) all_are named none names_are h = h
-why_on store size all word node image words names mid_names (Err e) all_are named none names_are h =
-    subst (λ ws. WhyUnfilled store size names ws e) (sym all_are) (why_more store size word node image names words e named none (subst (λ n. WhyUnfilled store size n words e) names_are h))
+pub why_on : {File Image R : Type 0} (store : Store File Image) (state : Image → DiskState) (all : List (List ℕ)) (word node : List ℕ) (image : Image) (words names mid_names : List (List ℕ)) (result : Result R OpenErr) →
+    all ≡ word ∷ words → Names (IsImageOf store state) word node image → refusal_of names node (state image).size ≡ None → mid_names ≡ names ++ node ∷ [] →
+    IfErr result (λ e. WhyUnfilled store state mid_names words e) → IfErr result (λ e. WhyUnfilled store state names all e)
+why_on store state all word node image words names mid_names (Ok r) all_are named none names_are h = h
+why_on store state all word node image words names mid_names (Err e) all_are named none names_are h =
+    subst (λ ws. WhyUnfilled store state names ws e) (sym all_are) (why_more store state word node image names words e named none (subst (λ n. WhyUnfilled store state n words e) names_are h))
 
 -- what a word says, by where it is parted
 
@@ -171,5 +172,5 @@ filled_from_none opens size words others names images new_names new_images words
     subst (λ ws. IsFilled opens size ws [] [] new_names new_images) words_are
     (subst (λ is. IsFilled opens size words [] is new_names new_images) no_images (subst (λ ns. IsFilled opens size words ns images new_names new_images) no_names h))
 
-pub why_from_none : {File Image : Type 0} (store : Store File Image) (size : Image → ℕ) (words others names : List (List ℕ)) (e : OpenErr) → words ≡ others → names ≡ [] → WhyUnfilled store size names words e → WhyUnfilled store size [] others e
-why_from_none store size words others names e words_are no_names h = subst (λ ws. WhyUnfilled store size [] ws e) words_are (subst (λ ns. WhyUnfilled store size ns words e) no_names h)
+pub why_from_none : {File Image : Type 0} (store : Store File Image) (state : Image → DiskState) (words others names : List (List ℕ)) (e : OpenErr) → words ≡ others → names ≡ [] → WhyUnfilled store state names words e → WhyUnfilled store state [] others e
+why_from_none store state words others names e words_are no_names h = subst (λ ws. WhyUnfilled store state [] ws e) words_are (subst (λ ns. WhyUnfilled store state ns words e) no_names h)

@@ -1,5 +1,6 @@
 -- Why the images of a command were not opened.
 use Rattle.std.specs.Prelude.{◌≡◌, ℕ, List}
+use Rattle.block_disk.specs.Disk.{DiskState}
 use Rattle.dtm.specs.Images.{Store, IsImageOf, CannotOpen, Reaches}
 use Rattle.dtm.specs.declared.images.OpenErr.{OpenErr}
 use Rattle.dtm.specs.declared.images.OpenErr.TheVariants as open_err
@@ -10,6 +11,6 @@ WhyUnopened store path (open_err.Image named) = (named.now ≡ path) × CannotOp
 WhyUnopened store path open_err.Memory = Unit {0}
 
 -- why the nodes that the words name were not all added: the image of a word cannot be opened that was reached, or memory is missing for one that was reached
-abbrev pub WhyUnfilled : {File Image : Type 0} → Store File Image → (size : Image → ℕ) → (names words : List (List ℕ)) → OpenErr → Type 0
-WhyUnfilled store size names words (open_err.Image path) = Reaches (IsImageOf store size) size names words path.now × CannotOpen store path.now
-WhyUnfilled store size names words open_err.Memory = (path : List ℕ) × Reaches (IsImageOf store size) size names words path
+abbrev pub WhyUnfilled : {File Image : Type 0} → Store File Image → (state : Image → DiskState) → (names words : List (List ℕ)) → OpenErr → Type 0
+WhyUnfilled store state names words (open_err.Image path) = Reaches (IsImageOf store state) (λ image. (state image).size) names words path.now × CannotOpen store path.now
+WhyUnfilled store state names words open_err.Memory = (path : List ℕ) × Reaches (IsImageOf store state) (λ image. (state image).size) names words path

@@ -13,7 +13,7 @@ use Rattle.dtm.specs.Images.{Store, IsImageOf, IsFilled, images_of}
 -- A command that ended so: a rack was filled with the nodes and images that its words name, and by these nodes the script was run, or the words are no command over them.
 pub record CommandRan {File Image : Type 0} (store : Store File Image) (state : Image → DiskState) (words : List (List ℕ)) (script old new : Option (List ℕ)) (ended : Exit) : Type 0 where
   pub rack : Rack Image
-  pub filled : IsFilled (IsImageOf store (λ image. (state image).size)) (λ image. (state image).size) (images_of words) [] [] (names_in rack) (disks_in rack)
+  pub filled : IsFilled (IsImageOf store state) (λ image. (state image).size) (images_of words) [] [] (names_in rack) (disks_in rack)
   pub after : List DiskState
   pub ran : is_command (names_in rack) words ≡ true → (nodes : List Node) → AreOpening nodes → StandOn (names_in rack) (states_in state rack) nodes → RunOver nodes (states_in state rack) after script old new ended
   pub unread : is_command (names_in rack) words ≡ false → (ended ≡ exit.Memory) ⊎ Unread old new ended

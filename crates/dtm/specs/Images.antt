@@ -2,6 +2,7 @@
 use Rattle.std.specs.Prelude.{◌≡◌, ℕ, ◌*◌, ◌≤◌, ◌⊎◌, List, [], ◌∷◌, ◌++◌, Bool, false, Option, Some, None, codes, if◌then◌else◌}
 use Rattle.std.specs.Option.{option_map, option_and_then}
 use Rattle.std.specs.Str.{bytes_eq}
+use Rattle.block_disk.specs.Disk.{DiskState}
 use Rattle.vms_model.specs.Names.{node_named}
 use Rattle.vms_model.specs.Words.{parted_at}
 use Rattle.script_model.specs.LineWords.{is_empty}
@@ -46,13 +47,14 @@ untold = record { found = λ path file. Unit {0}; missing = λ path. Unit {0}; m
 abbrev pub IsFileOf : {File Image : Type 0} → Store File Image → List ℕ → File → Type 0
 IsFileOf store path file = store.found path file ⊎ (store.missing path × store.made path (512 * 8192) file)
 
--- an image of a path: it is over the path's file, which has 4,096 to 65,536 whole blocks
-pub record IsImageOf {File Image : Type 0} (store : Store File Image) (size : Image → ℕ) (path : List ℕ) (image : Image) : Type 0 where
+-- an image of a path: it is over the path's file, which has 4,096 to 65,536 whole blocks, and none of them is pending
+pub record IsImageOf {File Image : Type 0} (store : Store File Image) (state : Image → DiskState) (path : List ℕ) (image : Image) : Type 0 where
   pub file : File
   pub of_path : IsFileOf store path file
-  pub whole : store.has_bytes file (512 * size image)
-  pub low : 4096 ≤ size image
-  pub high : size image ≤ 65536
+  pub whole : store.has_bytes file (512 * (state image).size)
+  pub low : 4096 ≤ (state image).size
+  pub high : (state image).size ≤ 65536
+  pub settled : (state image).pending ≡ []
   pub over : store.over file image
 
 -- the file of a path has another size than 4,096 to 65,536 whole blocks

@@ -29,7 +29,7 @@ pub fn run_command<'a, F: ImageFiles, S: Source, K: Sink>(
     sink: &mut K,
 ) -> Result<Exit, OpenErr<'a>>
     ensures ran { IfOk result (λ exit. CommandRan (F.store files.now) F.Image.state (map string_bytes words.now) (S.left source.old) (K.shown sink.old) (K.shown sink.new) exit) }
-    ensures why { IfErr result (λ e. WhyUnfilled (F.store files.now) (λ image. (F.Image.state image).size) [] (images_said (map string_bytes words.now)) e) }
+    ensures why { IfErr result (λ e. WhyUnfilled (F.store files.now) F.Image.state [] (images_said (map string_bytes words.now)) e) }
     ensures unread { OnErr result ((S.left source.new ≡ S.left source.old) × (K.shown sink.new ≡ K.shown sink.old)) }
 {
     let mut rack = match add_images(files, alloc, images_of(words), Rack::new(alloc)) {

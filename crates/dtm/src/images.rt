@@ -94,8 +94,7 @@ fn open_image<'a, F: ImageFiles>(
     alloc: Global,
     path: &'a str,
 ) -> Result<F::Image, OpenErr<'a>>
-    ensures image { IfOk result (λ image. IsImageOf (F.store files.now) (λ image. (F.Image.state image).size) path.now image) }
-    ensures settled { IfOk result (λ image. (F.Image.state image).pending ≡ []) }
+    ensures image { IfOk result (λ image. IsImageOf (F.store files.now) F.Image.state path.now image) }
     ensures why { IfErr result (λ e. WhyUnopened (F.store files.now) path.now e) }
 {
     let Ok(file) = open_or_make(files, path) else {
@@ -133,8 +132,8 @@ pub fn add_images<'a, F: ImageFiles>(
     words: &'a [String],
     rack: Rack<F::Image>,
 ) -> Result<Rack<F::Image>, OpenErr<'a>>
-    ensures filled { IfOk result (λ added. IsFilled (IsImageOf (F.store files.now) (λ image. (F.Image.state image).size)) (λ image. (F.Image.state image).size) (map string_bytes words.now) (names_in rack) (disks_in rack) (names_in added) (disks_in added)) }
-    ensures why { IfErr result (λ e. WhyUnfilled (F.store files.now) (λ image. (F.Image.state image).size) (names_in rack) (map string_bytes words.now) e) }
+    ensures filled { IfOk result (λ added. IsFilled (IsImageOf (F.store files.now) F.Image.state) (λ image. (F.Image.state image).size) (map string_bytes words.now) (names_in rack) (disks_in rack) (names_in added) (disks_in added)) }
+    ensures why { IfErr result (λ e. WhyUnfilled (F.store files.now) F.Image.state (names_in rack) (map string_bytes words.now) e) }
     ensures rack { IsRack F.Image.state rack → IfOk result (λ added. IsRack F.Image.state added) }
 {
     let mut rack = rack;

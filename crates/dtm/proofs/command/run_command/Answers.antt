@@ -6,7 +6,7 @@ use Rattle.dtm.proofs.command.run_command.Goals as goal
 
 pub returns-in-Err-clause-why : goal.returns-in-Err-clause-why
 returns-in-Err-clause-why g c =
-    why_from_none (g.F.ImageFiles.store c.args.files.now) (λ image. (g.F.Image.Disk.state image).size) (map string_bytes c.images_of.result.now) (images_of (map string_bytes c.args.words.now)) (names_in c.new.result) c.in-Err.e c.images_of.ensures c.new.ensures.names c.in-Err.ensures.why
+    why_from_none (g.F.ImageFiles.store c.args.files.now) g.F.Image.Disk.state (map string_bytes c.images_of.result.now) (images_of (map string_bytes c.args.words.now)) (names_in c.new.result) c.in-Err.e c.images_of.ensures c.new.ensures.names c.in-Err.ensures.why
 
 pub returns-clause-ran : goal.returns-clause-ran
 returns-clause-ran g c = record {

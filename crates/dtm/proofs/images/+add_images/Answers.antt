@@ -21,8 +21,8 @@ pub returns-in-Err-clause-why : goal.returns-in-Err-clause-why
 returns-in-Err-clause-why g t c =
     let words = first_word string_bytes c.args.words.now c.word-item.result c.in-len1-up.len_at_least c.word-item.is in
     let said = rw c.in-Some.is at c.node_and_image.ensures.value in
-    let why = why_here (g.F.ImageFiles.store c.args.files.now) (λ image. (g.F.Image.Disk.state image).size) (names_in c.args.rack) (string_bytes c.word-item.result) (map string_bytes (take (length c.args.words.now - 1) (drop 1 c.args.words.now))) _ _ c.in-Err.e (ap node_and_image (sym c.as_str.ensures.value) ∙ sym said) c.in-Err.ensures.why in
-    subst (λ ws. WhyUnfilled (g.F.ImageFiles.store c.args.files.now) (λ image. (g.F.Image.Disk.state image).size) (names_in c.args.rack) ws c.in-Err.e) (sym words) why
+    let why = why_here (g.F.ImageFiles.store c.args.files.now) g.F.Image.Disk.state (names_in c.args.rack) (string_bytes c.word-item.result) (map string_bytes (take (length c.args.words.now - 1) (drop 1 c.args.words.now))) _ _ c.in-Err.e (ap node_and_image (sym c.as_str.ensures.value) ∙ sym said) c.in-Err.ensures.why in
+    subst (λ ws. WhyUnfilled (g.F.ImageFiles.store c.args.files.now) g.F.Image.Disk.state (names_in c.args.rack) ws c.in-Err.e) (sym words) why
 
 pub returns-in-Ok-add-clause-filled : goal.returns-in-Ok-add-clause-filled
 returns-in-Ok-add-clause-filled g t c =
@@ -35,7 +35,7 @@ pub returns-in-Ok-add-clause-why : goal.returns-in-Ok-add-clause-why
 returns-in-Ok-add-clause-why g t c =
     let words = first_word string_bytes c.args.words.now c.word-item.result c.in-len1-up.len_at_least c.word-item.is in
     let said = rw c.in-Some.is at c.node_and_image.ensures.value in
-    why_on (g.F.ImageFiles.store c.args.files.now) (λ image. (g.F.Image.Disk.state image).size) _ (string_bytes c.word-item.result) _ c.in-Ok.image (map string_bytes (take (length c.args.words.now - 1) (drop 1 c.args.words.now))) (names_in c.args.rack) (names_in c.add.new.self) c.add_images.result
+    why_on (g.F.ImageFiles.store c.args.files.now) g.F.Image.Disk.state _ (string_bytes c.word-item.result) _ c.in-Ok.image (map string_bytes (take (length c.args.words.now - 1) (drop 1 c.args.words.now))) (names_in c.args.rack) (names_in c.add.new.self) c.add_images.result
     words record { path = _; says = ap node_and_image (sym c.as_str.ensures.value) ∙ sym said; opened = c.in-Ok.ensures.image } c.in-Ok-add.ensures.accepted c.in-Ok-add.ensures.added.0 c.add_images.ensures.why
 
 pub returns-in-Name-clause-filled : goal.returns-in-Name-clause-filled
@@ -50,5 +50,5 @@ pub returns-clause-why : goal.returns-clause-why
 returns-clause-why g t c =
     let words = first_word string_bytes c.args.words.now c.word-item.result c.in-len1-up.len_at_least c.word-item.is in
     let said = rw c.in-Some.is at c.node_and_image.ensures.value in
-    subst (λ ws. WhyUnfilled (g.F.ImageFiles.store c.args.files.now) (λ image. (g.F.Image.Disk.state image).size) (names_in c.args.rack) ws open_err.Memory) (sym words)
-    (why_here (g.F.ImageFiles.store c.args.files.now) (λ image. (g.F.Image.Disk.state image).size) (names_in c.args.rack) (string_bytes c.word-item.result) (map string_bytes (take (length c.args.words.now - 1) (drop 1 c.args.words.now))) _ _ open_err.Memory (ap node_and_image (sym c.as_str.ensures.value) ∙ sym said) tt)
+    subst (λ ws. WhyUnfilled (g.F.ImageFiles.store c.args.files.now) g.F.Image.Disk.state (names_in c.args.rack) ws open_err.Memory) (sym words)
+    (why_here (g.F.ImageFiles.store c.args.files.now) g.F.Image.Disk.state (names_in c.args.rack) (string_bytes c.word-item.result) (map string_bytes (take (length c.args.words.now - 1) (drop 1 c.args.words.now))) _ _ open_err.Memory (ap node_and_image (sym c.as_str.ensures.value) ∙ sym said) tt)
