@@ -5,7 +5,6 @@ mod law;
 mod rack;
 mod top;
 
-pub use dtm_node::{LabelEntry, Labels};
 pub use law::opening_nodes_exist;
 pub use rack::{Rack, RackCause, RackErr};
 pub use top::{Exit, run};

@@ -2,6 +2,7 @@ use crate::{Exit, Rack, run};
 use block_disk::{CrashDisk, MemPlatter};
 use std::alloc::Global;
 use std::io::{self, Read};
+use std::process::Abort;
 use std::test::Fail;
 use transcript::{MemSink, MemSource, ReaderSource, Sink, Source};
 use vms_base::NodeName;
@@ -42,7 +43,7 @@ fn joined(alloc: Global, parts: &[&[u8]]) -> Result<Vec<u8>, Fail> {
 // Runs these lines behind the opening.
 fn shown(alloc: Global, lines: &[u8], exit: Exit) -> Result<Vec<u8>, Fail> {
     let mut source = MemSource::new(alloc, joined(alloc, &[OPENING, lines])?);
-    let mut sink = MemSink::new(alloc, 2_000)?;
+    let mut sink = MemSink::new(alloc, 20_000)?;
     if run_over(
         alloc,
         MemPlatter::new(alloc, 8_192)?,
@@ -80,7 +81,7 @@ fn run_on(
 
 #[test]
 fn scripts_show_their_transcripts(rt: HostRuntime) -> Result<(), Fail> {
-    let table: [(&[u8], &[u8], Exit); 12] = [
+    let table: [(&[u8], &[u8], Exit); 17] = [
         (b"", b"", Exit::Done),
         (
             COMMITTING,
@@ -137,6 +138,36 @@ fn scripts_show_their_transcripts(rt: HostRuntime) -> Result<(), Fail> {
             b"5 SS$_NORMAL A.1.1\n6 RMS$_NORMAL\n7 RMS$_NORMAL\n8 RMS$_RNF\n9 RMS$_NORMAL \"too\"\n10 RMS$_NORMAL\n11 RMS$_RNF\n12 RMS$_MRN\n13 RMS$_EOF\n14 RMS$_IOP\n15 SS$_BADPARAM\n16 COMMIT A.1.1 A.1.1 \"17-NOV-1858 00:00:00.01\"\n16 SS$_NORMAL\n17 SS$_NORMAL 0\n",
             Exit::Done,
         ),
+        // Refusals of statements on records.
+        (
+            b"A: CREATE S SEQ 1 100 4\nA: CREATE I IDX 1 40 20 0 2\nA: CREATE G REL 1 100 10\nA: SET_FILE S RU\nA: SET_FILE I RU\nA: START_TRANS T\nA: GET T F 11\nA: UPDATE T F 0 \"a\"\nA: DELETE T F 11\nA: UPDATE T F 1 \"\"\nA: UPDATE T F \"a\" \"a\"\nA: DELETE T F \"a\"\nA: NEXT T F \"a\"\nA: TRUNCATE T F 0\nA: UPDATE T S 0 \"a\"\nA: UPDATE T S 1 \"a\"\nA: UPDATE T S \"x\" \"a\"\nA: UPDATE T S 1 \"\"\nA: NEXT T S \"a\"\nA: GET T S 1\nA: PUT T S \"\"\nA: PUT T I 1 \"aa\"\nA: UPDATE T I \"aa\" \"aa1\"\nA: UPDATE T I 1 \"aa\"\nA: UPDATE T I \"aaa\" \"aaa\"\nA: UPDATE T I \"aa\" \"a\"\nA: DELETE T I \"aa\"\nA: DELETE T I 1\nA: DELETE T I \"a\"\nA: GET T I 1\nA: GET T I \"a\"\nA: NEXT T I 1\nA: NEXT T I \"aaa\"\nA: TRUNCATE T I 0\nA: GET T G 1\nA: UPDATE T G 1 \"a\"\nA: DELETE T G 1\nA: NEXT T G\nA: GET T X 1\nA: GET V X 1\nA: END_TRANS T\nA: PUT T F 0 \"a\"\nA: GET T G 1\nA: NEXT T F\nB: GET T F 1\n",
+            b"5 SS$_NORMAL\n6 SS$_NORMAL\n7 SS$_NORMAL\n8 SS$_NORMAL\n9 SS$_NORMAL\n10 SS$_NORMAL A.1.1\n11 RMS$_MRN\n12 RMS$_MRN\n13 RMS$_MRN\n14 RMS$_RSZ\n15 SS$_BADPARAM\n16 SS$_BADPARAM\n17 SS$_BADPARAM\n18 RMS$_IOP\n19 RMS$_RNF\n20 RMS$_RNF\n21 SS$_BADPARAM\n22 RMS$_RSZ\n23 SS$_BADPARAM\n24 RMS$_RNF\n25 RMS$_RSZ\n26 SS$_BADPARAM\n27 RMS$_RNF\n28 SS$_BADPARAM\n29 SS$_BADPARAM\n30 RMS$_RSZ\n31 RMS$_RNF\n32 SS$_BADPARAM\n33 SS$_BADPARAM\n34 SS$_BADPARAM\n35 SS$_BADPARAM\n36 SS$_BADPARAM\n37 SS$_BADPARAM\n38 RMS$_IOP\n39 NOTRU\n40 NOTRU\n41 NOTRU\n42 NOTRU\n43 RMS$_FNF\n44 LABEL\n45 COMMIT A.1.1 A.1.1 \"17-NOV-1858 00:00:00.01\"\n45 SS$_NORMAL\n46 RMS$_MRN\n47 SS$_NOSUCHTID\n48 SS$_NOSUCHTID\n49 NOSUCHNODE\n",
+            Exit::Done,
+        ),
+        // A label before the file, the form of the operands before the transaction, and the transaction before the mark.
+        (
+            b"A: CREATE I IDX 1 40 20 0 2\nA: CREATE G REL 1 100 10\nA: START_TRANS T\nA: END_TRANS T\nA: PUT X G 1 \"\"\nA: PUT T Z 1 \"\"\nA: PUT T I 1 \"\"\nA: PUT T F 0 \"\"\nA: PUT T F 1 \"\"\nA: PUT T F 1 \"a\"\nA: TRUNCATE T F 0\nA: START_TRANS U\nA: PUT U I \"aa1\"\n",
+            b"5 SS$_NORMAL\n6 SS$_NORMAL\n7 SS$_NORMAL A.1.1\n8 COMMIT A.1.1 A.1.1 \"17-NOV-1858 00:00:00.01\"\n8 SS$_NORMAL\n9 LABEL\n10 RMS$_FNF\n11 SS$_BADPARAM\n12 RMS$_MRN\n13 RMS$_RSZ\n14 SS$_NOSUCHTID\n15 RMS$_IOP\n16 SS$_NORMAL A.1.2\n17 NOTRU\n",
+            Exit::Done,
+        ),
+        // The change of a branch that a crash ended stays, and the branch is gone.
+        (
+            b"A: CREATE I IDX 1 40 20 0 2\nA: SET_FILE I RU\nA: START_TRANS T\nA: PUT T I \"aa1\"\nA: END_TRANS T\nA: START_TRANS U\nA: DELETE U I \"aa\"\nCRASH A\nA: BOOT\nA: DUMP I\nA: END_TRANS U\n",
+            b"5 SS$_NORMAL\n6 SS$_NORMAL\n7 SS$_NORMAL A.1.1\n8 RMS$_NORMAL\n9 COMMIT A.1.1 A.1.1 \"17-NOV-1858 00:00:00.01\"\n9 SS$_NORMAL\n10 SS$_NORMAL A.1.2\n11 RMS$_NORMAL\n12 DOWN A CRASH\n12 SS$_NORMAL\n13 LAST COMMIT A.1.1 A.1.1 \"17-NOV-1858 00:00:00.01\"\n13 SS$_NORMAL 2\n14 SS$_NORMAL 0\n15 SS$_NOSUCHTID\n",
+            Exit::Done,
+        ),
+        // A truncate makes a change for each record that it takes.
+        (
+            b"A: CREATE S SEQ 1 100 4\nA: SET_FILE S RU\nA: START_TRANS T\nA: PUT T S \"a\"\nA: PUT T S \"a\"\nA: PUT T S \"a\"\nA: PUT T S \"a\"\nA: PUT T S \"a\"\nA: PUT T S \"a\"\nA: PUT T S \"a\"\nA: PUT T S \"a\"\nA: PUT T S \"a\"\nA: PUT T S \"a\"\nA: PUT T S \"a\"\nA: PUT T S \"a\"\nA: PUT T S \"a\"\nA: PUT T S \"a\"\nA: PUT T S \"a\"\nA: PUT T S \"a\"\nA: END_TRANS T\nA: START_TRANS U\nA: PUT U S \"b\"\nA: END_TRANS U\nA: START_TRANS V\nA: TRUNCATE V S 1\nA: TRUNCATE V S 2\nA: END_TRANS V\nA: DUMP S\n",
+            b"5 SS$_NORMAL\n6 SS$_NORMAL\n7 SS$_NORMAL A.1.1\n8 RMS$_NORMAL 1\n9 RMS$_NORMAL 2\n10 RMS$_NORMAL 3\n11 RMS$_NORMAL 4\n12 RMS$_NORMAL 5\n13 RMS$_NORMAL 6\n14 RMS$_NORMAL 7\n15 RMS$_NORMAL 8\n16 RMS$_NORMAL 9\n17 RMS$_NORMAL 10\n18 RMS$_NORMAL 11\n19 RMS$_NORMAL 12\n20 RMS$_NORMAL 13\n21 RMS$_NORMAL 14\n22 RMS$_NORMAL 15\n23 RMS$_NORMAL 16\n24 COMMIT A.1.1 A.1.1 \"17-NOV-1858 00:00:00.01\"\n24 SS$_NORMAL\n25 SS$_NORMAL A.1.2\n26 RMS$_NORMAL 17\n27 COMMIT A.1.2 A.1.2 \"17-NOV-1858 00:00:00.02\"\n27 SS$_NORMAL\n28 SS$_NORMAL A.1.3\n29 SS$_EXQUOTA CHANGES 16\n30 RMS$_NORMAL\n31 COMMIT A.1.3 A.1.3 \"17-NOV-1858 00:00:00.03\"\n31 SS$_NORMAL\n32 RECORD 1 \"a\"\n32 SS$_NORMAL 1\n",
+            Exit::Done,
+        ),
+        // One abort over files of all three organizations.
+        (
+            b"A: CREATE S SEQ 1 100 4\nA: SET_FILE S RU\nA: CREATE I IDX 1 40 4 0 2\nA: SET_FILE I RU\nA: START_TRANS T\nA: PUT T F 1 \"f\"\nA: PUT T S \"s\"\nA: PUT T I \"aa1\"\nA: END_TRANS T\nA: START_TRANS U\nA: UPDATE U F 1 \"g\"\nA: PUT U S \"t\"\nA: DELETE U I \"aa\"\nA: PUT U F 2 \"h\"\nA: TRUNCATE U S 1\nA: PUT U I \"bb2\"\nA: DELETE U F 1\nA: ABORT_TRANS U\nA: DUMP F\nA: DUMP S\nA: DUMP I\n",
+            b"5 SS$_NORMAL\n6 SS$_NORMAL\n7 SS$_NORMAL\n8 SS$_NORMAL\n9 SS$_NORMAL A.1.1\n10 RMS$_NORMAL\n11 RMS$_NORMAL 1\n12 RMS$_NORMAL\n13 COMMIT A.1.1 A.1.1 \"17-NOV-1858 00:00:00.01\"\n13 SS$_NORMAL\n14 SS$_NORMAL A.1.2\n15 RMS$_NORMAL\n16 RMS$_NORMAL 2\n17 RMS$_NORMAL\n18 RMS$_NORMAL\n19 RMS$_NORMAL\n20 RMS$_NORMAL\n21 RMS$_NORMAL\n22 ABORT A.1.2 A.1.2 DDTM$_ABORTED \"17-NOV-1858 00:00:00.02\"\n22 SS$_NORMAL\n23 RECORD 1 \"f\"\n23 SS$_NORMAL 1\n24 RECORD 1 \"s\"\n24 SS$_NORMAL 1\n25 RECORD \"aa\" \"aa1\"\n25 SS$_NORMAL 1\n",
+            Exit::Done,
+        ),
     ];
     for (lines, want, exit) in table {
         let text = shown(rt.alloc(), lines, exit)?;
@@ -145,102 +176,420 @@ fn scripts_show_their_transcripts(rt: HostRuntime) -> Result<(), Fail> {
     Ok(())
 }
 
-// The line with a record of so many x behind these words.
-fn putting(alloc: Global, words: &[u8], count: usize) -> Result<Vec<u8>, Fail> {
-    let record = repeated(alloc, b'x', count)?;
-    joined(alloc, &[words, record.as_slice(), b"\"\n"])
+// These texts, each with so many x behind it.
+fn filled(alloc: Global, parts: &[(&[u8], usize)]) -> Result<Vec<u8>, Fail> {
+    let mut all = Vec::new(alloc);
+    for (text, count) in parts {
+        all.extend_from_slice(text)?;
+        all.extend_from_slice(&repeated(alloc, b'x', *count)?)?;
+    }
+    Ok(all)
 }
 
 #[test]
-fn a_truncate_goes_across_buckets(rt: HostRuntime) -> Result<(), Fail> {
-    let alloc = rt.alloc();
-    let put = putting(alloc, b"A: PUT T S \"", 240)?;
-    let three = joined(alloc, &[put.as_slice(), put.as_slice(), put.as_slice()])?;
-    let lines = joined(
-        alloc,
-        &[
-            b"A: CREATE S SEQ 1 400 4\nA: SET_FILE S RU\nA: START_TRANS T\n",
-            three.as_slice(),
-            three.as_slice(),
-            three.as_slice(),
-            b"A: TRUNCATE T S 2\nA: PUT T S \"a\"\nA: PUT T S \"b\"\nA: ABORT_TRANS T\nA: DUMP S\n",
-        ],
-    )?;
-    let text = shown(alloc, lines.as_slice(), Exit::Done)?;
-    let want =
-        b"5 SS$_NORMAL\n6 SS$_NORMAL\n7 SS$_NORMAL A.1.1\n8 RMS$_NORMAL 1\n9 RMS$_NORMAL 2\n10 RMS$_NORMAL 3\n11 RMS$_NORMAL 4\n12 RMS$_NORMAL 5\n13 RMS$_NORMAL 6\n14 RMS$_NORMAL 7\n15 RMS$_NORMAL 8\n16 RMS$_FUL FILE 0 1\n17 RMS$_NORMAL\n18 RMS$_NORMAL 2\n19 SS$_EXQUOTA CHANGES 16\n20 ABORT A.1.1 A.1.1 DDTM$_ABORTED \"17-NOV-1858 00:00:00.01\"\n20 SS$_NORMAL\n21 SS$_NORMAL 0\n";
-    assert_eq!(rt; text, joined(alloc, &[OPENED, want])?);
+fn long_records_show_their_transcripts(rt: HostRuntime) -> Result<(), Fail> {
+    let table: [(&[(&[u8], usize)], &[(&[u8], usize)]); 15] = [
+        // A truncate goes across buckets.
+        (
+            &[
+                (
+                    b"A: CREATE S SEQ 1 400 4\nA: SET_FILE S RU\nA: START_TRANS T\nA: PUT T S \"",
+                    240,
+                ),
+                (b"\"\nA: PUT T S \"", 240),
+                (b"\"\nA: PUT T S \"", 240),
+                (b"\"\nA: PUT T S \"", 240),
+                (b"\"\nA: PUT T S \"", 240),
+                (b"\"\nA: PUT T S \"", 240),
+                (b"\"\nA: PUT T S \"", 240),
+                (b"\"\nA: PUT T S \"", 240),
+                (b"\"\nA: PUT T S \"", 240),
+                (
+                    b"\"\nA: TRUNCATE T S 2\nA: PUT T S \"a\"\nA: PUT T S \"b\"\nA: ABORT_TRANS T\nA: DUMP S\n",
+                    0,
+                ),
+            ],
+            &[(
+                b"5 SS$_NORMAL\n6 SS$_NORMAL\n7 SS$_NORMAL A.1.1\n8 RMS$_NORMAL 1\n9 RMS$_NORMAL 2\n10 RMS$_NORMAL 3\n11 RMS$_NORMAL 4\n12 RMS$_NORMAL 5\n13 RMS$_NORMAL 6\n14 RMS$_NORMAL 7\n15 RMS$_NORMAL 8\n16 RMS$_FUL FILE 0 1\n17 RMS$_NORMAL\n18 RMS$_NORMAL 2\n19 SS$_EXQUOTA CHANGES 16\n20 ABORT A.1.1 A.1.1 DDTM$_ABORTED \"17-NOV-1858 00:00:00.01\"\n20 SS$_NORMAL\n21 SS$_NORMAL 0\n",
+                0,
+            )],
+        ),
+        // An abort puts back what a truncate took.
+        (
+            &[
+                (
+                    b"A: CREATE S SEQ 1 400 2\nA: SET_FILE S RU\nA: START_TRANS T\nA: PUT T S \"",
+                    240,
+                ),
+                (b"\"\nA: PUT T S \"", 240),
+                (b"\"\nA: PUT T S \"", 240),
+                (
+                    b"\"\nA: END_TRANS T\nA: START_TRANS U\nA: TRUNCATE U S 1\nA: PUT U S \"a\"\nA: ABORT_TRANS U\nA: DUMP S\n",
+                    0,
+                ),
+            ],
+            &[
+                (
+                    b"5 SS$_NORMAL\n6 SS$_NORMAL\n7 SS$_NORMAL A.1.1\n8 RMS$_NORMAL 1\n9 RMS$_NORMAL 2\n10 RMS$_NORMAL 3\n11 COMMIT A.1.1 A.1.1 \"17-NOV-1858 00:00:00.01\"\n11 SS$_NORMAL\n12 SS$_NORMAL A.1.2\n13 RMS$_NORMAL\n14 RMS$_NORMAL 1\n15 ABORT A.1.2 A.1.2 DDTM$_ABORTED \"17-NOV-1858 00:00:00.02\"\n15 SS$_NORMAL\n16 RECORD 1 \"",
+                    240,
+                ),
+                (b"\"\n16 RECORD 2 \"", 240),
+                (b"\"\n16 RECORD 3 \"", 240),
+                (b"\"\n16 SS$_NORMAL 3\n", 0),
+            ],
+        ),
+        // An abort sets back the keys of parted buckets.
+        (
+            &[
+                (
+                    b"A: CREATE S IDX 1 200 9 0 2\nA: SET_FILE S RU\nA: START_TRANS T\nA: PUT T S \"aa",
+                    118,
+                ),
+                (b"\"\nA: PUT T S \"ee", 118),
+                (
+                    b"\"\nA: END_TRANS T\nA: START_TRANS U\nA: DELETE U S \"aa\"\nA: PUT U S \"bb",
+                    118,
+                ),
+                (b"\"\nA: PUT U S \"cc", 118),
+                (b"\"\nA: PUT U S \"dd", 118),
+                (
+                    b"\"\nA: UPDATE U S \"ee\" \"eey\"\nA: NEXT U S \"dd\"\nA: ABORT_TRANS U\nA: DUMP S\n",
+                    0,
+                ),
+            ],
+            &[
+                (
+                    b"5 SS$_NORMAL\n6 SS$_NORMAL\n7 SS$_NORMAL A.1.1\n8 RMS$_NORMAL\n9 RMS$_NORMAL\n10 COMMIT A.1.1 A.1.1 \"17-NOV-1858 00:00:00.01\"\n10 SS$_NORMAL\n11 SS$_NORMAL A.1.2\n12 RMS$_NORMAL\n13 RMS$_NORMAL\n14 RMS$_NORMAL\n15 RMS$_NORMAL\n16 RMS$_NORMAL\n17 RMS$_NORMAL \"ee\" \"eey\"\n18 ABORT A.1.2 A.1.2 DDTM$_ABORTED \"17-NOV-1858 00:00:00.02\"\n18 SS$_NORMAL\n19 RECORD \"aa\" \"aa",
+                    118,
+                ),
+                (b"\"\n19 RECORD \"ee\" \"ee", 118),
+                (b"\"\n19 SS$_NORMAL 2\n", 0),
+            ],
+        ),
+        // Records fill a bucket of a sequential file to its last byte, and the positions behind a truncate are taken again.
+        (
+            &[
+                (
+                    b"A: CREATE S SEQ 1 400 2\nA: SET_FILE S RU\nA: START_TRANS T\nA: PUT T S \"",
+                    240,
+                ),
+                (b"\"\nA: PUT T S \"", 240),
+                (b"\"\nA: PUT T S \"c\"\nA: PUT T S \"", 240),
+                (
+                    b"\"\nA: UPDATE T S 3 \"d\"\nA: UPDATE T S 3 \"dd\"\nA: UPDATE T S 5 \"d\"\nA: UPDATE T S 1 \"\"\nA: TRUNCATE T S 3\nA: PUT T S \"",
+                    10,
+                ),
+                (b"\"\nA: PUT T S \"e\"\nA: PUT T S \"", 240),
+                (b"\"\nA: PUT T S \"", 252),
+                (b"\"\nA: ABORT_TRANS T\nA: DUMP S\n", 0),
+            ],
+            &[(
+                b"5 SS$_NORMAL\n6 SS$_NORMAL\n7 SS$_NORMAL A.1.1\n8 RMS$_NORMAL 1\n9 RMS$_NORMAL 2\n10 RMS$_NORMAL 3\n11 RMS$_NORMAL 4\n12 RMS$_NORMAL\n13 RMS$_RSZ\n14 RMS$_RNF\n15 RMS$_RSZ\n16 RMS$_NORMAL\n17 RMS$_NORMAL 3\n18 RMS$_NORMAL 4\n19 RMS$_NORMAL 5\n20 RMS$_FUL FILE 0 1\n21 ABORT A.1.1 A.1.1 DDTM$_ABORTED \"17-NOV-1858 00:00:00.01\"\n21 SS$_NORMAL\n22 SS$_NORMAL 0\n",
+                0,
+            )],
+        ),
+        // Four slots fill a bucket of an indexed file to its last byte, and it is parted at the lower of two equal places. A change in place wants free buckets too.
+        (
+            &[
+                (
+                    b"A: CREATE I IDX 1 200 4 0 2\nA: SET_FILE I RU\nA: START_TRANS T\nA: PUT T I \"aa",
+                    118,
+                ),
+                (b"\"\nA: PUT T I \"bb", 118),
+                (b"\"\nA: PUT T I \"cc", 118),
+                (b"\"\nA: PUT T I \"dd", 118),
+                (b"\"\nA: PUT T I \"ee", 118),
+                (
+                    b"\"\nA: UPDATE T I \"aa\" \"aa1\"\nA: PUT T I \"aa1\"\nA: UPDATE T I \"zz\" \"zz1\"\nA: UPDATE T I \"aa\" \"ab1\"\nA: DELETE T I \"aa\"\nA: GET T I \"aa\"\nA: PUT T I \"aa1\"\nA: NEXT T I \"aa\"\nA: NEXT T I \"a\"\n",
+                    0,
+                ),
+            ],
+            &[
+                (
+                    b"5 SS$_NORMAL\n6 SS$_NORMAL\n7 SS$_NORMAL A.1.1\n8 RMS$_NORMAL\n9 RMS$_NORMAL\n10 RMS$_NORMAL\n11 RMS$_NORMAL\n12 RMS$_NORMAL\n13 RMS$_FUL FILE 2 3\n14 RMS$_DUP\n15 RMS$_RNF\n16 RMS$_CHG\n17 RMS$_NORMAL\n18 RMS$_RNF\n19 RMS$_FUL FILE 2 3\n20 RMS$_NORMAL \"bb\" \"bb",
+                    118,
+                ),
+                (b"\"\n21 SS$_BADPARAM\n", 0),
+            ],
+        ),
+        // The slot of a deleted record goes where nobody holds its key, and buckets that were added stay.
+        (
+            &[
+                (
+                    b"A: CREATE I IDX 1 200 4 0 2\nA: SET_FILE I RU\nA: START_TRANS T\nA: PUT T I \"aa",
+                    118,
+                ),
+                (b"\"\nA: PUT T I \"bb", 118),
+                (b"\"\nA: PUT T I \"cc", 118),
+                (b"\"\nA: PUT T I \"dd", 118),
+                (
+                    b"\"\nA: END_TRANS T\nA: START_TRANS U\nA: DELETE U I \"aa\"\nA: END_TRANS U\nA: START_TRANS V\nA: PUT V I \"ee",
+                    118,
+                ),
+                (b"\"\nA: PUT V I \"ff", 118),
+                (b"\"\nA: PUT V I \"gg", 118),
+                (
+                    b"\"\nA: ABORT_TRANS V\nA: DUMP I\nA: START_TRANS W\nA: PUT W I \"hh",
+                    118,
+                ),
+                (b"\"\n", 0),
+            ],
+            &[
+                (
+                    b"5 SS$_NORMAL\n6 SS$_NORMAL\n7 SS$_NORMAL A.1.1\n8 RMS$_NORMAL\n9 RMS$_NORMAL\n10 RMS$_NORMAL\n11 RMS$_NORMAL\n12 COMMIT A.1.1 A.1.1 \"17-NOV-1858 00:00:00.01\"\n12 SS$_NORMAL\n13 SS$_NORMAL A.1.2\n14 RMS$_NORMAL\n15 COMMIT A.1.2 A.1.2 \"17-NOV-1858 00:00:00.02\"\n15 SS$_NORMAL\n16 SS$_NORMAL A.1.3\n17 RMS$_NORMAL\n18 RMS$_NORMAL\n19 RMS$_FUL FILE 2 3\n20 ABORT A.1.3 A.1.3 DDTM$_ABORTED \"17-NOV-1858 00:00:00.03\"\n20 SS$_NORMAL\n21 RECORD \"bb\" \"bb",
+                    118,
+                ),
+                (b"\"\n21 RECORD \"cc\" \"cc", 118),
+                (b"\"\n21 RECORD \"dd\" \"dd", 118),
+                (
+                    b"\"\n21 SS$_NORMAL 3\n22 SS$_NORMAL A.1.4\n23 RMS$_FUL FILE 2 3\n",
+                    0,
+                ),
+            ],
+        ),
+        // It stays while its key is held.
+        (
+            &[
+                (
+                    b"A: CREATE I IDX 1 200 4 0 2\nA: SET_FILE I RU\nA: START_TRANS T\nA: PUT T I \"aa",
+                    118,
+                ),
+                (b"\"\nA: PUT T I \"bb", 118),
+                (b"\"\nA: PUT T I \"cc", 118),
+                (b"\"\nA: PUT T I \"dd", 118),
+                (
+                    b"\"\nA: END_TRANS T\nA: START_TRANS U\nA: DELETE U I \"aa\"\nA: PUT U I \"ee",
+                    118,
+                ),
+                (b"\"\nA: PUT U I \"ff", 118),
+                (b"\"\nA: ABORT_TRANS U\nA: DUMP I\n", 0),
+            ],
+            &[
+                (
+                    b"5 SS$_NORMAL\n6 SS$_NORMAL\n7 SS$_NORMAL A.1.1\n8 RMS$_NORMAL\n9 RMS$_NORMAL\n10 RMS$_NORMAL\n11 RMS$_NORMAL\n12 COMMIT A.1.1 A.1.1 \"17-NOV-1858 00:00:00.01\"\n12 SS$_NORMAL\n13 SS$_NORMAL A.1.2\n14 RMS$_NORMAL\n15 RMS$_NORMAL\n16 RMS$_FUL FILE 2 3\n17 ABORT A.1.2 A.1.2 DDTM$_ABORTED \"17-NOV-1858 00:00:00.02\"\n17 SS$_NORMAL\n18 RECORD \"aa\" \"aa",
+                    118,
+                ),
+                (b"\"\n18 RECORD \"bb\" \"bb", 118),
+                (b"\"\n18 RECORD \"cc\" \"cc", 118),
+                (b"\"\n18 RECORD \"dd\" \"dd", 118),
+                (b"\"\n18 SS$_NORMAL 4\n", 0),
+            ],
+        ),
+        // A bucket becomes three.
+        (
+            &[
+                (
+                    b"A: CREATE I IDX 1 480 5 0 2\nA: SET_FILE I RU\nA: START_TRANS T\nA: PUT T I \"aa",
+                    198,
+                ),
+                (b"\"\nA: PUT T I \"cc", 198),
+                (b"\"\nA: PUT T I \"bb", 478),
+                (
+                    b"\"\nA: PUT T I \"dd1\"\nA: NEXT T I\nA: NEXT T I \"aa\"\nA: NEXT T I \"bb\"\nA: NEXT T I \"cc\"\n",
+                    0,
+                ),
+            ],
+            &[
+                (
+                    b"5 SS$_NORMAL\n6 SS$_NORMAL\n7 SS$_NORMAL A.1.1\n8 RMS$_NORMAL\n9 RMS$_NORMAL\n10 RMS$_NORMAL\n11 RMS$_FUL FILE 2 3\n12 RMS$_NORMAL \"aa\" \"aa",
+                    198,
+                ),
+                (b"\"\n13 RMS$_NORMAL \"bb\" \"bb", 478),
+                (b"\"\n14 RMS$_NORMAL \"cc\" \"cc", 198),
+                (b"\"\n15 RMS$_EOF\n", 0),
+            ],
+        ),
+        // The room that an abort leaves goes once the bucket is tidied.
+        (
+            &[
+                (
+                    b"A: CREATE I IDX 1 480 4 0 2\nA: SET_FILE I RU\nA: START_TRANS T\nA: PUT T I \"aa",
+                    8,
+                ),
+                (
+                    b"\"\nA: END_TRANS T\nA: START_TRANS U\nA: UPDATE U I \"aa\" \"aa",
+                    298,
+                ),
+                (
+                    b"\"\nA: ABORT_TRANS U\nA: START_TRANS V\nA: PUT V I \"bb",
+                    178,
+                ),
+                (b"\"\nA: PUT V I \"cc", 198),
+                (b"\"\nA: PUT V I \"dd1\"\n", 0),
+            ],
+            &[(
+                b"5 SS$_NORMAL\n6 SS$_NORMAL\n7 SS$_NORMAL A.1.1\n8 RMS$_NORMAL\n9 COMMIT A.1.1 A.1.1 \"17-NOV-1858 00:00:00.01\"\n9 SS$_NORMAL\n10 SS$_NORMAL A.1.2\n11 RMS$_NORMAL\n12 ABORT A.1.2 A.1.2 DDTM$_ABORTED \"17-NOV-1858 00:00:00.02\"\n12 SS$_NORMAL\n13 SS$_NORMAL A.1.3\n14 RMS$_NORMAL\n15 RMS$_NORMAL\n16 RMS$_NORMAL\n",
+                0,
+            )],
+        ),
+        // Each organization keeps records of 8,160 bytes and of 1 byte.
+        (
+            &[
+                (
+                    b"A: CREATE G SEQ 16 8160 4\nA: SET_FILE G RU\nA: START_TRANS T\nA: PUT T G \"",
+                    8160,
+                ),
+                (b"\"\nA: PUT T G \"y\"\nA: PUT T G \"", 8161),
+                (b"\"\nA: END_TRANS T\nA: DUMP G\n", 0),
+            ],
+            &[
+                (
+                    b"5 SS$_NORMAL\n6 SS$_NORMAL\n7 SS$_NORMAL A.1.1\n8 RMS$_NORMAL 1\n9 RMS$_NORMAL 2\n10 RMS$_RSZ\n11 COMMIT A.1.1 A.1.1 \"17-NOV-1858 00:00:00.01\"\n11 SS$_NORMAL\n12 RECORD 1 \"",
+                    8160,
+                ),
+                (b"\"\n12 RECORD 2 \"y\"\n12 SS$_NORMAL 2\n", 0),
+            ],
+        ),
+        (
+            &[
+                (
+                    b"A: CREATE G REL 16 8160 4\nA: SET_FILE G RU\nA: START_TRANS T\nA: PUT T G 4 \"",
+                    8160,
+                ),
+                (b"\"\nA: PUT T G 3 \"y\"\nA: PUT T G 2 \"", 8161),
+                (b"\"\nA: END_TRANS T\nA: DUMP G\n", 0),
+            ],
+            &[
+                (
+                    b"5 SS$_NORMAL\n6 SS$_NORMAL\n7 SS$_NORMAL A.1.1\n8 RMS$_NORMAL\n9 RMS$_NORMAL\n10 RMS$_RSZ\n11 COMMIT A.1.1 A.1.1 \"17-NOV-1858 00:00:00.01\"\n11 SS$_NORMAL\n12 RECORD 3 \"y\"\n12 RECORD 4 \"",
+                    8160,
+                ),
+                (b"\"\n12 SS$_NORMAL 2\n", 0),
+            ],
+        ),
+        (
+            &[
+                (
+                    b"A: CREATE G IDX 16 8160 8 0 1\nA: SET_FILE G RU\nA: START_TRANS T\nA: PUT T G \"",
+                    8160,
+                ),
+                (b"\"\nA: PUT T G \"y\"\nA: PUT T G \"z", 8160),
+                (b"\"\nA: END_TRANS T\nA: DUMP G\n", 0),
+            ],
+            &[
+                (
+                    b"5 SS$_NORMAL\n6 SS$_NORMAL\n7 SS$_NORMAL A.1.1\n8 RMS$_NORMAL\n9 RMS$_NORMAL\n10 RMS$_RSZ\n11 COMMIT A.1.1 A.1.1 \"17-NOV-1858 00:00:00.01\"\n11 SS$_NORMAL\n12 RECORD \"x\" \"",
+                    8160,
+                ),
+                (b"\"\n12 RECORD \"y\" \"y\"\n12 SS$_NORMAL 2\n", 0),
+            ],
+        ),
+        // A key of 64 bytes stands at the record's end.
+        (
+            &[
+                (
+                    b"A: CREATE I IDX 16 8160 6 8096 64\nA: SET_FILE I RU\nA: START_TRANS T\nA: PUT T I \"",
+                    8096,
+                ),
+                (b"b", 63),
+                (b"\"\nA: PUT T I \"", 8096),
+                (b"a", 63),
+                (b"\"\nA: PUT T I \"", 8096),
+                (b"a", 63),
+                (b"\"\nA: PUT T I \"", 8159),
+                (b"\"\nA: NEXT T I\nA: GET T I \"b", 63),
+                (b"\"\nA: NEXT T I \"b", 63),
+                (b"\"\nA: DELETE T I \"b", 63),
+                (b"\"\nA: ABORT_TRANS T\nA: DUMP I\n", 0),
+            ],
+            &[
+                (
+                    b"5 SS$_NORMAL\n6 SS$_NORMAL\n7 SS$_NORMAL A.1.1\n8 RMS$_NORMAL\n9 RMS$_NORMAL\n10 RMS$_DUP\n11 RMS$_RSZ\n12 RMS$_NORMAL \"a",
+                    63,
+                ),
+                (b"\" \"", 8096),
+                (b"a", 63),
+                (b"\"\n13 RMS$_NORMAL \"", 8096),
+                (b"b", 63),
+                (
+                    b"\"\n14 RMS$_EOF\n15 RMS$_NORMAL\n16 ABORT A.1.1 A.1.1 DDTM$_ABORTED \"17-NOV-1858 00:00:00.01\"\n16 SS$_NORMAL\n17 SS$_NORMAL 0\n",
+                    0,
+                ),
+            ],
+        ),
+        // 31 cells of 16 bytes, and 2 of 248, fill a bucket of a relative file to its last byte.
+        (
+            &[
+                (
+                    b"A: CREATE R REL 1 14 62\nA: SET_FILE R RU\nA: START_TRANS T\nA: PUT T R 1 \"a",
+                    13,
+                ),
+                (b"\"\nA: PUT T R 31 \"b", 13),
+                (b"\"\nA: PUT T R 32 \"c", 13),
+                (b"\"\nA: PUT T R 62 \"d", 13),
+                (b"\"\nA: PUT T R 63 \"e", 13),
+                (
+                    b"\"\nA: DELETE T R 31\nA: NEXT T R 1\nA: PUT T R 31 \"b",
+                    13,
+                ),
+                (b"\"\nA: END_TRANS T\nA: DUMP R\n", 0),
+            ],
+            &[
+                (
+                    b"5 SS$_NORMAL\n6 SS$_NORMAL\n7 SS$_NORMAL A.1.1\n8 RMS$_NORMAL\n9 RMS$_NORMAL\n10 RMS$_NORMAL\n11 RMS$_NORMAL\n12 RMS$_MRN\n13 RMS$_NORMAL\n14 RMS$_NORMAL 32 \"c",
+                    13,
+                ),
+                (
+                    b"\"\n15 RMS$_NORMAL\n16 COMMIT A.1.1 A.1.1 \"17-NOV-1858 00:00:00.01\"\n16 SS$_NORMAL\n17 RECORD 1 \"a",
+                    13,
+                ),
+                (b"\"\n17 RECORD 31 \"b", 13),
+                (b"\"\n17 RECORD 32 \"c", 13),
+                (b"\"\n17 RECORD 62 \"d", 13),
+                (b"\"\n17 SS$_NORMAL 4\n", 0),
+            ],
+        ),
+        (
+            &[
+                (
+                    b"A: CREATE R REL 1 246 4\nA: SET_FILE R RU\nA: START_TRANS T\nA: PUT T R 1 \"a",
+                    245,
+                ),
+                (b"\"\nA: PUT T R 2 \"b", 245),
+                (b"\"\nA: PUT T R 3 \"c", 245),
+                (b"\"\nA: PUT T R 4 \"d", 245),
+                (b"\"\nA: PUT T R 5 \"e", 245),
+                (b"\"\nA: END_TRANS T\nA: DUMP R\n", 0),
+            ],
+            &[
+                (
+                    b"5 SS$_NORMAL\n6 SS$_NORMAL\n7 SS$_NORMAL A.1.1\n8 RMS$_NORMAL\n9 RMS$_NORMAL\n10 RMS$_NORMAL\n11 RMS$_NORMAL\n12 RMS$_MRN\n13 COMMIT A.1.1 A.1.1 \"17-NOV-1858 00:00:00.01\"\n13 SS$_NORMAL\n14 RECORD 1 \"a",
+                    245,
+                ),
+                (b"\"\n14 RECORD 2 \"b", 245),
+                (b"\"\n14 RECORD 3 \"c", 245),
+                (b"\"\n14 RECORD 4 \"d", 245),
+                (b"\"\n14 SS$_NORMAL 4\n", 0),
+            ],
+        ),
+    ];
+    for (lines, want) in table {
+        let text = shown(rt.alloc(), &filled(rt.alloc(), lines)?, Exit::Done)?;
+        let want = filled(rt.alloc(), want)?;
+        assert_eq!(rt; text, joined(rt.alloc(), &[OPENED, want.as_slice()])?);
+    }
     Ok(())
 }
 
 #[test]
-fn an_abort_puts_back_what_a_truncate_took(rt: HostRuntime) -> Result<(), Fail> {
-    let alloc = rt.alloc();
-    let put = putting(alloc, b"A: PUT T S \"", 240)?;
-    let record = repeated(alloc, b'x', 240)?;
-    let lines = joined(
-        alloc,
-        &[
-            b"A: CREATE S SEQ 1 400 2\nA: SET_FILE S RU\nA: START_TRANS T\n",
-            put.as_slice(),
-            put.as_slice(),
-            put.as_slice(),
-            b"A: END_TRANS T\nA: START_TRANS U\nA: TRUNCATE U S 1\nA: PUT U S \"a\"\nA: ABORT_TRANS U\nA: DUMP S\n",
-        ],
-    )?;
-    let text = shown(alloc, lines.as_slice(), Exit::Done)?;
-    let want = joined(
-        alloc,
-        &[
-            OPENED,
-            b"5 SS$_NORMAL\n6 SS$_NORMAL\n7 SS$_NORMAL A.1.1\n8 RMS$_NORMAL 1\n9 RMS$_NORMAL 2\n10 RMS$_NORMAL 3\n11 COMMIT A.1.1 A.1.1 \"17-NOV-1858 00:00:00.01\"\n11 SS$_NORMAL\n12 SS$_NORMAL A.1.2\n13 RMS$_NORMAL\n14 RMS$_NORMAL 1\n15 ABORT A.1.2 A.1.2 DDTM$_ABORTED \"17-NOV-1858 00:00:00.02\"\n15 SS$_NORMAL\n16 RECORD 1 \"",
-            record.as_slice(),
-            b"\"\n16 RECORD 2 \"",
-            record.as_slice(),
-            b"\"\n16 RECORD 3 \"",
-            record.as_slice(),
-            b"\"\n16 SS$_NORMAL 3\n",
-        ],
-    )?;
-    assert_eq!(rt; text, want);
-    Ok(())
-}
-
-#[test]
-fn an_abort_sets_back_the_keys_of_parted_buckets(rt: HostRuntime) -> Result<(), Fail> {
-    let alloc = rt.alloc();
-    let record = repeated(alloc, b'x', 118)?;
-    let aa = putting(alloc, b"A: PUT T S \"aa", 118)?;
-    let ee = putting(alloc, b"A: PUT T S \"ee", 118)?;
-    let bb = putting(alloc, b"A: PUT U S \"bb", 118)?;
-    let cc = putting(alloc, b"A: PUT U S \"cc", 118)?;
-    let dd = putting(alloc, b"A: PUT U S \"dd", 118)?;
-    let lines = joined(
-        alloc,
-        &[
-            b"A: CREATE S IDX 1 200 9 0 2\nA: SET_FILE S RU\nA: START_TRANS T\n",
-            aa.as_slice(),
-            ee.as_slice(),
-            b"A: END_TRANS T\nA: START_TRANS U\nA: DELETE U S \"aa\"\n",
-            bb.as_slice(),
-            cc.as_slice(),
-            dd.as_slice(),
-            b"A: UPDATE U S \"ee\" \"eey\"\nA: NEXT U S \"dd\"\nA: ABORT_TRANS U\nA: DUMP S\n",
-        ],
-    )?;
-    let text = shown(alloc, lines.as_slice(), Exit::Done)?;
-    let want = joined(
-        alloc,
-        &[
-            OPENED,
-            b"5 SS$_NORMAL\n6 SS$_NORMAL\n7 SS$_NORMAL A.1.1\n8 RMS$_NORMAL\n9 RMS$_NORMAL\n10 COMMIT A.1.1 A.1.1 \"17-NOV-1858 00:00:00.01\"\n10 SS$_NORMAL\n11 SS$_NORMAL A.1.2\n12 RMS$_NORMAL\n13 RMS$_NORMAL\n14 RMS$_NORMAL\n15 RMS$_NORMAL\n16 RMS$_NORMAL\n17 RMS$_NORMAL \"ee\" \"eey\"\n18 ABORT A.1.2 A.1.2 DDTM$_ABORTED \"17-NOV-1858 00:00:00.02\"\n18 SS$_NORMAL\n19 RECORD \"aa\" \"aa",
-            record.as_slice(),
-            b"\"\n19 RECORD \"ee\" \"ee",
-            record.as_slice(),
-            b"\"\n19 SS$_NORMAL 2\n",
-        ],
-    )?;
-    assert_eq!(rt; text, want);
+fn the_largest_group_is_undone(rt: HostRuntime) -> Result<(), Fail> {
+    let mut lines = Vec::new(rt.alloc());
+    for number in 0..16u32 {
+        lines.extend_from_slice(format!(in rt.alloc();
+            "A: CREATE S{number} SEQ 16 8160 1\nA: SET_FILE S{number} RU\n"
+        )?.as_bytes())?;
+    }
+    lines.extend_from_slice(b"A: START_TRANS T\n")?;
+    for number in 0..16u32 {
+        lines.extend_from_slice(format!(in rt.alloc(); "A: PUT T S{number} \"a\"\n")?.as_bytes())?;
+    }
+    lines.extend_from_slice(b"A: PUT T S0 \"b\"\nA: ABORT_TRANS T\nA: DUMP S0\nA: DUMP S15\n")?;
+    let text = shown(rt.alloc(), &lines, Exit::Done)?;
+    assert!(rt;
+        text.ends_with(
+            b"\n53 RMS$_NORMAL 1\n54 SS$_EXQUOTA CHANGES 16\n55 ABORT A.1.1 A.1.1 DDTM$_ABORTED \"17-NOV-1858 00:00:00.01\"\n55 SS$_NORMAL\n56 SS$_NORMAL 0\n57 SS$_NORMAL 0\n"
+        )
+    );
     Ok(())
 }
 
@@ -262,7 +611,7 @@ fn a_last_line_needs_no_line_feed(rt: HostRuntime) -> Result<(), Fail> {
     Ok(())
 }
 
-// The disk of a rack's only node, after a power loss.
+// The disk of a rack's only node.
 fn disk_of(mut rack: Rack<CrashDisk<MemPlatter>>) -> Result<CrashDisk<MemPlatter>, Fail> {
     match rack.take_last() {
         Some(place) => Ok(place.disk),
@@ -298,46 +647,182 @@ fn an_image_is_booted_again(rt: HostRuntime) -> Result<(), Fail> {
     Ok(())
 }
 
-// The lines of a script that is stopped after so many writes behind its START_TRANS, is booted again, and dumps its file.
-fn stopped(alloc: Global, writes: u32, choice: u64) -> Result<Vec<u8>, Fail> {
-    let fuse = format!(in alloc;
-        "A: START_TRANS T\nFUSE A {writes} {choice}\nA: PUT T F 1 \"a\"\nA: END_TRANS T\nA: DUMP F\nA: BOOT\nA: DUMP F\n"
-    )?;
-    shown(alloc, fuse.as_bytes(), Exit::Done)
+// A statement behind these lines, the blocks of its group, and what the lines behind it show where it was undone and where it is whole.
+#[derive(Drop)]
+struct Stop<'a> {
+    lines: &'a [(&'a [u8], usize)],
+    statement: &'a [(&'a [u8], usize)],
+    blocks: u8,
+    undone: &'a [(&'a [u8], usize)],
+    whole: &'a [(&'a [u8], usize)],
 }
+
+const STARTING: &[u8] =
+    b"A: CREATE S SEQ 1 400 4\nA: SET_FILE S RU\nA: CREATE I IDX 1 200 9 0 2\nA: SET_FILE I RU\nA: START_TRANS T\n";
+
+const BOOTING: &[u8] = b"A: DUMP F\nA: BOOT\nA: DUMP F\nA: DUMP S\nA: DUMP I\n";
 
 // Whether these lines are somewhere in a text.
 fn has(text: &[u8], lines: &[u8]) -> bool {
     !lines.is_empty() && text.windows(lines.len()).any(|part| part == lines)
 }
 
-#[test]
-fn a_stop_leaves_each_statement_whole_or_undone(rt: HostRuntime) -> Result<(), Fail> {
-    let text = stopped(rt.alloc(), 0, 0)?;
-    let want = joined(
-        rt.alloc(),
+// The transcript where the statement is stopped after so many writes, the node is booted again, and its files are dumped.
+fn stopped(alloc: Global, stop: &Stop<'_>, writes: u32, choice: u64) -> Result<Vec<u8>, Fail> {
+    let before = filled(alloc, stop.lines)?;
+    let fuse = format!(in alloc; "FUSE A {writes} {choice}\n")?;
+    let statement = filled(alloc, stop.statement)?;
+    let lines = joined(
+        alloc,
         &[
-            OPENED,
-            b"5 SS$_NORMAL A.1.1\n6 SS$_NORMAL\n7 DOWN A STOPPED\n7 STOPPED\n8 NODEDOWN\n9 NODEDOWN\n10 SS$_NORMAL 2\n11 SS$_NORMAL 0\n",
+            STARTING,
+            before.as_slice(),
+            fuse.as_bytes(),
+            statement.as_slice(),
+            BOOTING,
         ],
     )?;
-    assert_eq!(rt; text, want);
+    shown(alloc, &lines, Exit::Done)
+}
+
+// Stops the statement at each of its writes. It is whole from the write on that opens the gate; a torn gate is open where the first half is new.
+fn stops_whole_or_undone(rt: &impl Abort, alloc: Global, stop: &Stop<'_>) -> Result<(), Fail> {
+    let undone = filled(alloc, stop.undone)?;
+    let whole = filled(alloc, stop.whole)?;
+    let gate = u32::from(stop.blocks) + 1;
+    let end = 2 * gate + 1;
     for choice in [0u64, 5, 10, 15] {
-        for writes in 0..14u32 {
-            let text = stopped(rt.alloc(), writes, choice)?;
-            let committed = has(&text, b"COMMIT A.1.1");
-            let stopped = has(&text, b" STOPPED\n");
-            assert_eq!(rt; stopped, writes < 10, "{writes} {choice}");
-            let put = has(&text, b"7 RMS$_NORMAL\n");
-            assert!(rt; !committed || put, "{writes} {choice}");
-            let last = if stopped {
-                b"11 ".as_slice()
-            } else {
-                b"9 ".as_slice()
-            };
-            let record = joined(rt.alloc(), &[last, b"RECORD 1 \"a\"\n"])?;
-            assert!(rt; !put || has(&text, &record), "{writes} {choice}");
+        for writes in 0..end {
+            let text = stopped(alloc, stop, writes, choice)?;
+            let is_whole = writes > gate || writes == gate && (choice == 5 || choice == 10);
+            let want = if is_whole { &whole } else { &undone };
+            let want = joined(alloc, &[b" STOPPED\n", want.as_slice()])?;
+            assert!(rt; text.ends_with(&want), "{writes} {choice}");
         }
+        assert!(rt; !has(&stopped(alloc, stop, end, choice)?, b"STOPPED"));
+    }
+    Ok(())
+}
+
+#[test]
+fn a_stop_leaves_each_statement_whole_or_undone(rt: HostRuntime) -> Result<(), Fail> {
+    let table: [Stop<'_>; 6] = [
+        Stop {
+            lines: &[(b"", 0)],
+            statement: &[(b"A: PUT T F 1 \"a\"\n", 0)],
+            blocks: 1,
+            undone: &[(
+                b"12 NODEDOWN\n13 SS$_NORMAL 2\n14 SS$_NORMAL 0\n15 SS$_NORMAL 0\n16 SS$_NORMAL 0\n",
+                0,
+            )],
+            whole: &[(
+                b"12 NODEDOWN\n13 SS$_NORMAL 2\n14 RECORD 1 \"a\"\n14 SS$_NORMAL 1\n15 SS$_NORMAL 0\n16 SS$_NORMAL 0\n",
+                0,
+            )],
+        },
+        Stop {
+            lines: &[(b"A: PUT T F 1 \"a\"\n", 0)],
+            statement: &[(b"A: END_TRANS T\n", 0)],
+            blocks: 1,
+            undone: &[(
+                b"13 NODEDOWN\n14 SS$_NORMAL 2\n15 RECORD 1 \"a\"\n15 SS$_NORMAL 1\n16 SS$_NORMAL 0\n17 SS$_NORMAL 0\n",
+                0,
+            )],
+            whole: &[(
+                b"13 NODEDOWN\n14 LAST COMMIT A.1.1 A.1.1 \"17-NOV-1858 00:00:00.01\"\n14 SS$_NORMAL 2\n15 RECORD 1 \"a\"\n15 SS$_NORMAL 1\n16 SS$_NORMAL 0\n17 SS$_NORMAL 0\n",
+                0,
+            )],
+        },
+        Stop {
+            lines: &[(b"A: PUT T S \"a\"\n", 0)],
+            statement: &[(b"A: PUT T S \"b\"\n", 0)],
+            blocks: 2,
+            undone: &[(
+                b"13 NODEDOWN\n14 SS$_NORMAL 2\n15 SS$_NORMAL 0\n16 RECORD 1 \"a\"\n16 SS$_NORMAL 1\n17 SS$_NORMAL 0\n",
+                0,
+            )],
+            whole: &[(
+                b"13 NODEDOWN\n14 SS$_NORMAL 2\n15 SS$_NORMAL 0\n16 RECORD 1 \"a\"\n16 RECORD 2 \"b\"\n16 SS$_NORMAL 2\n17 SS$_NORMAL 0\n",
+                0,
+            )],
+        },
+        Stop {
+            lines: &[
+                (b"A: PUT T I \"aa", 118),
+                (b"\"\nA: PUT T I \"bb", 118),
+                (b"\"\nA: PUT T I \"cc", 118),
+                (b"\"\nA: PUT T I \"dd", 118),
+                (b"\"\n", 0),
+            ],
+            statement: &[(b"A: PUT T I \"ee", 118), (b"\"\n", 0)],
+            blocks: 3,
+            undone: &[
+                (
+                    b"16 NODEDOWN\n17 SS$_NORMAL 2\n18 SS$_NORMAL 0\n19 SS$_NORMAL 0\n20 RECORD \"aa\" \"aa",
+                    118,
+                ),
+                (b"\"\n20 RECORD \"bb\" \"bb", 118),
+                (b"\"\n20 RECORD \"cc\" \"cc", 118),
+                (b"\"\n20 RECORD \"dd\" \"dd", 118),
+                (b"\"\n20 SS$_NORMAL 4\n", 0),
+            ],
+            whole: &[
+                (
+                    b"16 NODEDOWN\n17 SS$_NORMAL 2\n18 SS$_NORMAL 0\n19 SS$_NORMAL 0\n20 RECORD \"aa\" \"aa",
+                    118,
+                ),
+                (b"\"\n20 RECORD \"bb\" \"bb", 118),
+                (b"\"\n20 RECORD \"cc\" \"cc", 118),
+                (b"\"\n20 RECORD \"dd\" \"dd", 118),
+                (b"\"\n20 RECORD \"ee\" \"ee", 118),
+                (b"\"\n20 SS$_NORMAL 5\n", 0),
+            ],
+        },
+        Stop {
+            lines: &[
+                (b"A: PUT T S \"", 240),
+                (b"\"\nA: PUT T S \"", 240),
+                (b"\"\nA: PUT T S \"", 240),
+                (b"\"\n", 0),
+            ],
+            statement: &[(b"A: TRUNCATE T S 2\n", 0)],
+            blocks: 2,
+            undone: &[
+                (
+                    b"15 NODEDOWN\n16 SS$_NORMAL 2\n17 SS$_NORMAL 0\n18 RECORD 1 \"",
+                    240,
+                ),
+                (b"\"\n18 RECORD 2 \"", 240),
+                (b"\"\n18 RECORD 3 \"", 240),
+                (b"\"\n18 SS$_NORMAL 3\n19 SS$_NORMAL 0\n", 0),
+            ],
+            whole: &[
+                (
+                    b"15 NODEDOWN\n16 SS$_NORMAL 2\n17 SS$_NORMAL 0\n18 RECORD 1 \"",
+                    240,
+                ),
+                (b"\"\n18 SS$_NORMAL 1\n19 SS$_NORMAL 0\n", 0),
+            ],
+        },
+        Stop {
+            lines: &[(
+                b"A: PUT T F 1 \"a\"\nA: PUT T S \"b\"\nA: PUT T I \"cc1\"\n",
+                0,
+            )],
+            statement: &[(b"A: ABORT_TRANS T\n", 0)],
+            blocks: 5,
+            undone: &[(
+                b"15 NODEDOWN\n16 SS$_NORMAL 2\n17 RECORD 1 \"a\"\n17 SS$_NORMAL 1\n18 RECORD 1 \"b\"\n18 SS$_NORMAL 1\n19 RECORD \"cc\" \"cc1\"\n19 SS$_NORMAL 1\n",
+                0,
+            )],
+            whole: &[(
+                b"15 NODEDOWN\n16 LAST ABORT A.1.1 A.1.1 DDTM$_ABORTED \"17-NOV-1858 00:00:00.01\"\n16 SS$_NORMAL 2\n17 SS$_NORMAL 0\n18 SS$_NORMAL 0\n19 SS$_NORMAL 0\n",
+                0,
+            )],
+        },
+    ];
+    for stop in &table {
+        stops_whole_or_undone(&rt, rt.alloc(), stop)?;
     }
     Ok(())
 }
@@ -394,20 +879,10 @@ fn a_script_may_come_in_pieces(rt: HostRuntime) -> Result<(), Fail> {
     Ok(())
 }
 
-// The lines of the committing script where a call of the platter fails in this line, perhaps after its record was shown.
-fn faulted(alloc: Global, line: usize, late: bool) -> Result<Vec<u8>, Fail> {
-    let normal: [&[u8]; 8] = [
-        b"1 SS$_NORMAL\n",
-        b"2 SS$_NORMAL 1\n",
-        b"3 SS$_NORMAL\n",
-        b"4 SS$_NORMAL\n",
-        b"5 SS$_NORMAL A.1.1\n",
-        b"6 RMS$_NORMAL\n",
-        b"7 COMMIT A.1.1 A.1.1 \"17-NOV-1858 00:00:00.01\"\n7 SS$_NORMAL\n",
-        b"8 RECORD 1 \"a\"\n8 SS$_NORMAL 1\n",
-    ];
+// What a script with these answers shows where a call of the platter fails in this line, perhaps once part of its answer was shown.
+fn faulted(alloc: Global, answers: &[&[u8]], line: usize, part: &[u8]) -> Result<Vec<u8>, Fail> {
     let mut text = Vec::new(alloc);
-    for (i, whole) in normal.iter().enumerate() {
+    for (i, whole) in answers.iter().enumerate() {
         let number = i + 1;
         if number < line {
             text.extend_from_slice(whole)?;
@@ -419,9 +894,7 @@ fn faulted(alloc: Global, line: usize, late: bool) -> Result<Vec<u8>, Fail> {
             };
             text.extend_from_slice(format!(in alloc; "{number} {answer}\n")?.as_bytes())?;
         } else {
-            if late {
-                text.extend_from_slice(b"8 RECORD 1 \"a\"\n")?;
-            }
+            text.extend_from_slice(part)?;
             let fallen = format!(in alloc; "{line} DOWN A FAULT\n{line} FAULT\n")?;
             text.extend_from_slice(fallen.as_bytes())?;
         }
@@ -429,11 +902,11 @@ fn faulted(alloc: Global, line: usize, late: bool) -> Result<Vec<u8>, Fail> {
     Ok(text)
 }
 
-// The lines that the committing script shows where this call of the platter fails.
-fn shown_with_failing(alloc: Global, call: u32) -> Result<Vec<u8>, Fail> {
+// What a script shows where this call of the platter fails.
+fn shown_with_failing(alloc: Global, script: &[u8], call: u32) -> Result<Vec<u8>, Fail> {
     let mut platter = MemPlatter::new(alloc, 8_192)?;
     platter.fail(call)?;
-    let mut source = MemSource::new(alloc, joined(alloc, &[OPENING, COMMITTING])?);
+    let mut source = MemSource::new(alloc, script.to_vec(alloc)?);
     let mut sink = MemSink::new(alloc, 2_000)?;
     if run_over(alloc, platter, &mut source, &mut sink)? != Exit::Done {
         return Err(Fail::from("another exit"));
@@ -441,11 +914,16 @@ fn shown_with_failing(alloc: Global, call: u32) -> Result<Vec<u8>, Fail> {
     Ok(sink.bytes().to_vec(alloc)?)
 }
 
-// The line of the committing script in which its node fell, where this is what it then shows.
-fn line_of_fall(alloc: Global, text: &[u8]) -> Result<Option<usize>, Fail> {
-    for line in 1..9usize {
-        for late in [false, true] {
-            if text == faulted(alloc, line, late)?.as_slice() {
+// The line of a script with these answers in which its node fell, where this is what it then shows.
+fn line_of_fall(
+    alloc: Global,
+    answers: &[&[u8]],
+    part: &[u8],
+    text: &[u8],
+) -> Result<Option<usize>, Fail> {
+    for line in 1..=answers.len() {
+        for begun in [b"".as_slice(), part] {
+            if text == faulted(alloc, answers, line, begun)?.as_slice() {
                 return Ok(Some(line));
             }
         }
@@ -453,25 +931,91 @@ fn line_of_fall(alloc: Global, text: &[u8]) -> Result<Option<usize>, Fail> {
     Ok(None)
 }
 
-#[test]
-fn a_failing_call_of_the_platter_puts_the_node_down(rt: HostRuntime) -> Result<(), Fail> {
-    let mut lines = Vec::new(rt.alloc());
-    for call in 1..2_000u32 {
-        let text = shown_with_failing(rt.alloc(), call)?;
-        let Some(line) = line_of_fall(rt.alloc(), &text)? else {
-            assert_eq!(rt;
-                text,
-                shown(rt.alloc(), COMMITTING, Exit::Done)?,
-                "call {call}"
-            );
-            assert_eq!(rt; lines.as_slice(), [1usize, 2, 3, 4, 6, 7, 8].as_slice());
-            return Ok(());
+// The lines of a script with these answers in which its node falls, where each call of the platter fails in turn.
+fn lines_of_falls(
+    alloc: Global,
+    script: &[u8],
+    answers: &[&[u8]],
+    part: &[u8],
+) -> Result<Vec<usize>, Fail> {
+    let mut lines = Vec::new(alloc);
+    for call in 1..4_000u32 {
+        let text = shown_with_failing(alloc, script, call)?;
+        let Some(line) = line_of_fall(alloc, answers, part, &text)? else {
+            if text != joined(alloc, answers)? {
+                return Err(Fail::from("another transcript"));
+            }
+            return Ok(lines);
         };
         if lines.last() != Some(&line) {
             lines.push(line)?;
         }
     }
     Err(Fail::from("a call fails, however late"))
+}
+
+#[test]
+fn a_failing_call_of_the_platter_puts_the_node_down(rt: HostRuntime) -> Result<(), Fail> {
+    let answers: [&[u8]; 8] = [
+        b"1 SS$_NORMAL\n",
+        b"2 SS$_NORMAL 1\n",
+        b"3 SS$_NORMAL\n",
+        b"4 SS$_NORMAL\n",
+        b"5 SS$_NORMAL A.1.1\n",
+        b"6 RMS$_NORMAL\n",
+        b"7 COMMIT A.1.1 A.1.1 \"17-NOV-1858 00:00:00.01\"\n7 SS$_NORMAL\n",
+        b"8 RECORD 1 \"a\"\n8 SS$_NORMAL 1\n",
+    ];
+    let script = joined(rt.alloc(), &[OPENING, COMMITTING])?;
+    let lines = lines_of_falls(rt.alloc(), &script, &answers, b"8 RECORD 1 \"a\"\n")?;
+    assert_eq!(rt; lines.as_slice(), [1usize, 2, 3, 4, 6, 7, 8].as_slice());
+    Ok(())
+}
+
+#[test]
+fn a_failing_call_puts_the_node_down_in_each_statement_on_records(
+    rt: HostRuntime,
+) -> Result<(), Fail> {
+    let statements: [(&[u8], usize); 6] = [
+        (b"A: PUT T S \"a\"\nA: PUT T I \"aa", 118),
+        (b"\"\nA: PUT T I \"bb", 118),
+        (b"\"\nA: PUT T I \"cc", 118),
+        (b"\"\nA: PUT T I \"dd", 118),
+        (b"\"\nA: PUT T I \"ee", 118),
+        (
+            b"\"\nA: UPDATE T I \"aa\" \"aa1\"\nA: DELETE T I \"bb\"\nA: GET T I \"aa\"\nA: NEXT T I \"ee\"\nA: TRUNCATE T S 1\nA: ABORT_TRANS T\n",
+            0,
+        ),
+    ];
+    let answers: [&[u8]; 21] = [
+        b"1 SS$_NORMAL\n",
+        b"2 SS$_NORMAL 1\n",
+        b"3 SS$_NORMAL\n",
+        b"4 SS$_NORMAL\n",
+        b"5 SS$_NORMAL\n",
+        b"6 SS$_NORMAL\n",
+        b"7 SS$_NORMAL\n",
+        b"8 SS$_NORMAL\n",
+        b"9 SS$_NORMAL A.1.1\n",
+        b"10 RMS$_NORMAL 1\n",
+        b"11 RMS$_NORMAL\n",
+        b"12 RMS$_NORMAL\n",
+        b"13 RMS$_NORMAL\n",
+        b"14 RMS$_NORMAL\n",
+        b"15 RMS$_NORMAL\n",
+        b"16 RMS$_NORMAL\n",
+        b"17 RMS$_NORMAL\n",
+        b"18 RMS$_NORMAL \"aa1\"\n",
+        b"19 RMS$_EOF\n",
+        b"20 RMS$_NORMAL\n",
+        b"21 ABORT A.1.1 A.1.1 DDTM$_ABORTED \"17-NOV-1858 00:00:00.01\"\n21 SS$_NORMAL\n",
+    ];
+    let lines = filled(rt.alloc(), &statements)?;
+    let script = joined(rt.alloc(), &[OPENING, STARTING, lines.as_slice()])?;
+    let lines = lines_of_falls(rt.alloc(), &script, &answers, b"")?;
+    assert_eq!(rt; lines.len(), 20, "all but START_TRANS");
+    assert!(rt; !lines.contains(&9));
+    Ok(())
 }
 
 #[test]
