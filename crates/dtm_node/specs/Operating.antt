@@ -17,6 +17,8 @@ use Rattle.run_model.specs.Operations.{data_refused, changes_of, set_in, need_of
 use Rattle.run_model.specs.World.{World, File, Label, labelled}
 use Rattle.directory_model.specs.Files.{IsFile, IsNamed}
 use Rattle.node_files.specs.Forms.{refused_by_form}
+use Rattle.dtm_node.specs.declared.operate.KeyChange.{KeyChange}
+use Rattle.dtm_node.specs.declared.operate.KeyChange.TheVariants as change
 use Rattle.dtm_node.specs.Standing.{Kept as Stands, IsRunning, Up, Unsettled, StandsFor}
 use Rattle.dtm_node.specs.Keeping.{Serves, Breaks, kept_fallen}
 
@@ -81,8 +83,26 @@ exists_line kept.Indexed = KeyExists
 abbrev pub wants : Bool → FileHead → List (List ℕ) → List ℕ → ℕ
 wants is_asked h content bytes = if is_asked then asks h content (length bytes) else 0
 
+-- what a key has before a change, where this is the record that was found at it
+abbrev pub record_before : KeyChange → List ℕ → Option (List ℕ)
+record_before change.Put found = None
+record_before change.Replace found = Some found
+record_before change.Remove found = Some found
+
+-- what a key has after a change, where this is the record that is written
+abbrev pub record_after : KeyChange → List ℕ → Option (List ℕ)
+record_after change.Put value = Some value
+record_after change.Replace value = Some value
+record_after change.Remove value = None
+
 -- whether a file is so organized that each record is found by its key
 abbrev pub is_indexed : Kept → Bool
 is_indexed kept.Sequential = false
 is_indexed kept.Relative = false
 is_indexed kept.Indexed = true
+
+-- whether a change asks a file so organized for free buckets
+abbrev pub asks_free : KeyChange → Kept → Bool
+asks_free change.Put o = true
+asks_free change.Replace o = is_indexed o
+asks_free change.Remove o = false

@@ -20,7 +20,7 @@ ghost use Rattle.directory_model.specs.Files.{AreOwn, cut_notes, head_at, organi
 ghost use Rattle.node_files.specs.Notes.{notes_in};
 ghost use Rattle.dtm_node.specs.Standing.{IsUp, StandsFor, Unsettled, branches_of};
 ghost use Rattle.dtm_node.specs.Keeping.{Breaks, Serves, kept_fallen, kept_up, up_of};
-ghost use Rattle.dtm_node.specs.Operating.{IsPut, Operates, SetsOne, Told, exists_line, is_indexed, line_or, wants};
+ghost use Rattle.dtm_node.specs.Operating.{IsPut, Operates, SetsOne, Told, asks_free, exists_line, line_or, record_after, record_before, wants};
 ghost use Rattle.node_files.specs.Forms.{refused_by_form};
 ghost use Rattle.dtm_node.specs.Uses.{Uses};
 ghost use Rattle.dtm_node.specs.Calling.{Replies, ShowsFine};
@@ -28,7 +28,7 @@ ghost use Rattle.node_files.specs.Forms.{IsFine};
 
 use crate::labels::Labels;
 use crate::law::the_laws;
-use crate::running::{Named, Running};
+use crate::running::{Named, Running, record_if};
 use block_disk::Disk;
 use careful_write::Down;
 use file_base::{FileHead, Organization};
@@ -83,13 +83,6 @@ fn key_within(head: &FileHead, bytes: &[u8]) -> Option<Key>
     }
 }
 
-// A record, where one is kept.
-fn where_kept(keeps: bool, found: &Record) -> Option<&Record>
-    ensures { option_copied result ≡ (if keeps then Some found.now else None) }
-{
-    if keeps { Some(found) } else { None }
-}
-
 // What a file answers where a record that is to be new is there.
 fn exists_form(head: &FileHead) -> Form<'static>
     ensures time { HasTime result }
@@ -102,13 +95,50 @@ fn exists_form(head: &FileHead) -> Form<'static>
     }
 }
 
-// Whether a file finds each record by its key: then one that takes the place of another may take free buckets.
-fn is_by_key(head: &FileHead) -> bool
-    ensures { result ≡ is_indexed head.now.organization }
-{
-    match head.organization {
-        Organization::Sequential | Organization::Relative => false,
-        Organization::Indexed => true,
+// How the record of a key is changed.
+#[derive(Clone, Copy, Debug)]
+pub(crate) enum KeyChange {
+    /// A key that has no record gets one.
+    Put,
+    /// A record takes the place of another.
+    Replace,
+    /// The record goes.
+    Remove,
+}
+
+impl KeyChange {
+    // What the key has before, where `found` is the record that was read at it.
+    fn before(self, found: &Record) -> Option<&Record>
+        ensures { option_copied result ≡ record_before self found.now }
+    {
+        match self {
+            KeyChange::Put => None,
+            KeyChange::Replace | KeyChange::Remove => Some(found),
+        }
+    }
+
+    // What the key has after, where `value` is the record that is written.
+    fn after(self, value: &Record) -> Option<&Record>
+        ensures { option_copied result ≡ record_after self value.now }
+    {
+        match self {
+            KeyChange::Put | KeyChange::Replace => Some(value),
+            KeyChange::Remove => None,
+        }
+    }
+
+    // Whether it asks for free buckets. A record that takes the place of another does so only where records are found by a key within them.
+    fn asks(self, head: &FileHead) -> bool
+        ensures { result ≡ asks_free self head.now.organization }
+    {
+        match self {
+            KeyChange::Put => true,
+            KeyChange::Replace => match head.organization {
+                Organization::Sequential | Organization::Relative => false,
+                Organization::Indexed => true,
+            },
+            KeyChange::Remove => false,
+        }
     }
 }
 
@@ -392,7 +422,7 @@ impl<D: Disk> Running<D> {
             Ok(false) => {}
         }
         self.buffers.value.set(bytes);
-        match self.change(file, head, key, false, true, true) {
+        match self.change(file, head, key, KeyChange::Put) {
             Err(down) => Err(down),
             Ok(Some(form)) => Ok(form),
             Ok(None) => Ok(Form::RecordNormal),
@@ -418,11 +448,12 @@ impl<D: Disk> Running<D> {
     {
         the_laws();
         if head.count == u32::MAX {
+            // No file that is laid out has 4,294,967,295 records, so this only keeps the sum below from wrapping.
             return Ok(Form::FileFull(0, 1));
         }
         let position = head.count + 1;
         self.buffers.value.set(bytes);
-        match self.change(file, head, &Key::Number(position), false, true, true) {
+        match self.change(file, head, &Key::Number(position), KeyChange::Put) {
             Err(down) => Err(down),
             Ok(Some(form)) => Ok(form),
             Ok(None) => Ok(Form::RecordPosition(position)),
@@ -461,7 +492,7 @@ impl<D: Disk> Running<D> {
             return Ok(form);
         }
         self.buffers.value.set(bytes);
-        match self.change(file, head, key, true, true, is_by_key(&head)) {
+        match self.change(file, head, key, KeyChange::Replace) {
             Err(down) => Err(down),
             Ok(Some(form)) => Ok(form),
             Ok(None) => Ok(Form::RecordNormal),
@@ -490,23 +521,21 @@ impl<D: Disk> Running<D> {
             Ok(false) => return Ok(Form::RecordNotFound),
             Ok(true) => {}
         }
-        match self.change(file, head, key, true, false, false) {
+        match self.change(file, head, key, KeyChange::Remove) {
             Err(down) => Err(down),
             Ok(Some(form)) => Ok(form),
             Ok(None) => Ok(Form::RecordNormal),
         }
     }
 
-    // Sets a key to the record in `value`, or to none. What the key had is in `found`, where it had a record. Answers the refusal
-    // where the branch has made all its changes or too few buckets are free, and then nothing is changed.
+    // Changes the record of a key. What the key is to have is in `value`, and what it had in `found`, as far as the change has such a record.
+    // Answers the refusal where the branch has made all its changes or too few buckets are free, and then nothing is changed.
     fn change(
         &mut self,
         file: u8,
         head: FileHead,
         key: &Key,
-        had: bool,
-        keeps: bool,
-        asks: bool,
+        change: KeyChange,
     ) -> Result<Option<Form<'static>>, Down>
         requires up { IsUp self.old.volume.catalog.home.node (up_of self.old) }
         requires whole { length self.old.volume.catalog.heads ≡ 64 }
@@ -520,17 +549,17 @@ impl<D: Disk> Running<D> {
         ensures time { IfOk result (λ o. IfSome o HasTime) }
         ensures fine { IfOk result (λ o. IfSome o (λ form. IsFine (line_of form))) }
         ensures operates { (op : said.Operation) (answer : Line) → IfSome self.old.volume.store.current (λ content. IsFile head → IsLaidOut head content → refused_by_form head op ≡ None →
-            SetsOne op head (key_of key.now) (if had then Some self.old.buffers.found else None) (if keeps then Some self.old.buffers.value else None) (wants asks head content self.old.buffers.value) answer content) →
+            SetsOne op head (key_of key.now) (record_before change self.old.buffers.found) (record_after change self.old.buffers.value) (wants (asks_free change head.organization) head content self.old.buffers.value) answer content) →
             Told result (line_or answer) op file head (up_of self.old) (up_of self.new) }
     {
         the_laws();
         if self.buffers.undo.len() >= MOST_CHANGES {
-            return Ok(Some(Form::QuotaExceeded(Quota::Changes, 16)));
+            return Ok(Some(Form::QuotaExceeded(Quota::Changes, MOST_CHANGES as u64)));
         }
-        match self.free_refusal(file, &head, asks) {
+        match self.free_refusal(file, &head, change) {
             Err(down) => Err(down),
             Ok(Some(form)) => Ok(Some(form)),
-            Ok(None) => match self.set_key(file, head, key, had, keeps) {
+            Ok(None) => match self.set_key(file, head, key, change) {
                 Err(down) => Err(down),
                 Ok(()) => Ok(None),
             },
@@ -542,21 +571,21 @@ impl<D: Disk> Running<D> {
         &mut self,
         file: u8,
         head: &FileHead,
-        asks: bool,
+        change: KeyChange,
     ) -> Result<Option<Form<'static>>, Down>
         requires up { IsUp self.old.volume.catalog.home.node (up_of self.old) }
         requires whole { length self.old.volume.catalog.heads ≡ 64 }
         requires there { head_at self.old.volume.catalog.heads file ≡ Some head.now }
         requires branch { IsSome (up_of self.old).branch }
         ensures free { IfOk result (λ o. IfSome self.old.volume.store.current (λ content. IsFile head.now → IsLaidOut head.now content →
-            option_map line_of o ≡ refused_if (nat_lt (head.now.alloc - head.now.used) (wants asks head.now content self.old.buffers.value)) (said_full (head.now.alloc - head.now.used) (wants asks head.now content self.old.buffers.value)))) }
+            option_map line_of o ≡ refused_if (nat_lt (head.now.alloc - head.now.used) (wants (asks_free change head.now.organization) head.now content self.old.buffers.value)) (said_full (head.now.alloc - head.now.used) (wants (asks_free change head.now.organization) head.now content self.old.buffers.value)))) }
         ensures time { IfOk result (λ o. IfSome o HasTime) }
         ensures fine { IfOk result (λ o. IfSome o (λ form. IsFine (line_of form))) }
         ensures same { OnOk result (self.new ≡ self.old) }
         ensures down { OnErr result (self.new ≡ record self.old { volume = record self.old.volume { store = fell result self.old.volume.store } }) }
     {
         the_laws();
-        if !asks {
+        if !change.asks(head) {
             return Ok(None);
         }
         let size = self.buffers.value.bytes().len() as u16;
@@ -573,14 +602,13 @@ impl<D: Disk> Running<D> {
         }
     }
 
-    // Sets a key to the record in `value`, or to none, and notes what it had.
+    // Changes a key, and notes what it had.
     fn set_key(
         &mut self,
         file: u8,
         mut head: FileHead,
         key: &Key,
-        had: bool,
-        keeps: bool,
+        change: KeyChange,
     ) -> Result<(), Down>
         requires up { IsUp self.old.volume.catalog.home.node (up_of self.old) }
         requires whole { length self.old.volume.catalog.heads ≡ 64 }
@@ -593,28 +621,22 @@ impl<D: Disk> Running<D> {
         ensures uses { Uses result self.old.volume.store.disk self.new.volume.store.disk }
         ensures pool { self.new.volume.store.pool ≡ self.old.volume.store.pool }
         ensures operates { (op : said.Operation) (answer : Line) (need : ℕ) → need ≤ head.alloc - head.used → IfSome self.old.volume.store.current (λ content. IsFile head → IsLaidOut head content → refused_by_form head op ≡ None →
-            SetsOne op head (key_of key.now) (if had then Some self.old.buffers.found else None) (if keeps then Some self.old.buffers.value else None) need answer content) →
+            SetsOne op head (key_of key.now) (record_before change self.old.buffers.found) (record_after change self.old.buffers.value) need answer content) →
             Told result (λ _. answer) op file head (up_of self.old) (up_of self.new) }
     {
         the_laws();
-        match stage_value(
+        stage_value(
             &mut self.volume,
             file,
             &mut head,
             key,
-            where_kept(keeps, &self.buffers.value),
+            change.after(&self.buffers.value),
             &self.buffers.undo,
-        ) {
-            Err(down) => return Err(down),
-            Ok(()) => {}
-        }
-        match apply_staged(&mut self.volume) {
-            Err(down) => return Err(down),
-            Ok(()) => {}
-        }
+        )?;
+        apply_staged(&mut self.volume)?;
         self.buffers
             .undo
-            .push(file, key, where_kept(had, &self.buffers.found));
+            .push(file, key, change.before(&self.buffers.found));
         Ok(())
     }
 
@@ -645,7 +667,7 @@ impl<D: Disk> Running<D> {
         }
         let removed = (head.count - position) as usize + 1;
         if self.buffers.undo.len() + removed > MOST_CHANGES {
-            return Ok(Form::QuotaExceeded(Quota::Changes, 16));
+            return Ok(Form::QuotaExceeded(Quota::Changes, MOST_CHANGES as u64));
         }
         match self.note_from(file, &head, position) {
             Err(down) => return Err(down),
@@ -688,7 +710,7 @@ impl<D: Disk> Running<D> {
                 Ok(there) => {
                     self.buffers
                         .undo
-                        .push(file, &key, where_kept(there, &self.buffers.found));
+                        .push(file, &key, record_if(there, &self.buffers.found));
                 }
             }
         }

@@ -43,6 +43,11 @@ use vms_base::{FileName, Id, Key, Label, Moment, Reason, Record, Serial, Tid};
 use volume::Volume;
 use volume_format::{Ending, Settled};
 
+// How many files a volume has, and how many unsettled branches a node, at the most.
+const MOST_FILES: u64 = 64;
+
+const MOST_BRANCHES: u64 = 1;
+
 /// The branch that a label names.
 #[derive(Clone, Copy, Debug)]
 pub(crate) enum Named {
@@ -215,7 +220,9 @@ impl<D: Disk> Running<D> {
             Request::EndTrans(label) => self.end(labels, label, out),
             Request::AbortTrans(label) => self.abort(labels, label, out),
             Request::Dump(file) => self.dump(file, out),
-            Request::Init { .. } | Request::Boot | Request::Fuse { .. } | Request::Crash => Ok(()),
+            Request::Init { .. } | Request::Boot | Request::Fuse { .. } | Request::Crash => {
+                unreachable!()
+            }
         }
     }
 
@@ -255,7 +262,7 @@ impl<D: Disk> Running<D> {
             return Ok(());
         };
         let Some(file) = self.volume.free_file() else {
-            out.emit(&Form::QuotaExceeded(Quota::Files, 64));
+            out.emit(&Form::QuotaExceeded(Quota::Files, MOST_FILES));
             return Ok(());
         };
         let free = self.volume.longest_free();
@@ -359,7 +366,7 @@ impl<D: Disk> Running<D> {
             return;
         }
         if self.branch.is_some() {
-            out.emit(&Form::QuotaExceeded(Quota::Branches, 1));
+            out.emit(&Form::QuotaExceeded(Quota::Branches, MOST_BRANCHES));
             return;
         }
         labels.insert(label, self.volume.home().node, Serial(self.next_id()));
@@ -605,10 +612,10 @@ impl<D: Disk> Running<D> {
 }
 
 // A record, where there is one.
-fn record_if(there: bool, record: &Record) -> Option<&Record>
-    ensures { option_copied result ≡ (if there then Some record.now else None) }
+pub(crate) fn record_if(there: bool, found: &Record) -> Option<&Record>
+    ensures { option_copied result ≡ (if there then Some found.now else None) }
 {
-    if there { Some(record) } else { None }
+    if there { Some(found) } else { None }
 }
 
 // Stages that one change is set back, of which the newest is at 0.

@@ -32,7 +32,7 @@ loop-behind-preserved g c =
     let at = c.loop-behind in
     let before : Option (List ℕ) = if c.in-Ok.there then Some c.read_record.new.found else None in
     let noted : Option (List ℕ) → List Note = λ o. record { file = c.args.file; key = Number (head.count - at.behind); before = o } ∷ notes_in at.self.buffers.undo in
-    let made : notes_in c.push.new.self ≡ noted before = subst (λ o. notes_in c.push.new.self ≡ noted o) c.where_kept.ensures c.push.ensures in
+    let made : notes_in c.push.new.self ≡ noted before = subst (λ o. notes_in c.push.new.self ≡ noted o) c.record_if.ensures c.push.ensures in
     record {
       volume = c.in-Ok.ensures.same ∙ at.invariant.volume;
       drawn = at.invariant.drawn;

@@ -11,7 +11,7 @@ use Rattle.script_model.specs.Statements.{Update}
 use Rattle.run_model.specs.Operations.{update_refused, other_refused}
 use Rattle.directory_model.specs.Files.{organized_by}
 use Rattle.dtm_node.specs.Keeping.{up_of}
-use Rattle.dtm_node.specs.Operating.{line_or}
+use Rattle.dtm_node.specs.Operating.{is_indexed, line_or}
 use Rattle.dtm_node.specs.Standing.{Up}
 use Rattle.node_files.proofs.CatalogLemmas.{placed}
 use Rattle.dtm_node.proofs.Reading.{value_in, as_there, as_none}
@@ -47,7 +47,7 @@ pub returns-in-Err-change-clause-operates : goal.returns-in-Err-change-clause-op
 returns-in-Err-change-clause-operates g c =
     let old = c.args.self.now in
     let set = rw c.in-Ok-true.ensures.same at c.change.ensures.operates in
-    let told = set (Update (key_of c.args.key.now) c.args.bytes.now) line.RecordNormal (update_so c.the_laws.ensures old.volume.store.current c.args.head c.args.bytes.now c.set.new.self (key_of c.args.key.now) c.in-Ok-true.field-0 c.read_record.new.found c.is_by_key.result c.set.ensures c.is_by_key.ensures
+    let told = set (Update (key_of c.args.key.now) c.args.bytes.now) line.RecordNormal (update_so c.the_laws.ensures old.volume.store.current c.args.head c.args.bytes.now c.set.new.self (key_of c.args.key.now) c.in-Ok-true.field-0 c.read_record.new.found (is_indexed c.args.head.organization) c.set.ensures refl
     ((λ i. other_refused (organized_by c.args.head.organization c.args.head) (key_of c.args.key.now) (sym c.bytes.ensures.value i) c.args.bytes.now) ∙ sym c.other_refusal.ensures.refuses ∙ ap (option_map line_of) c.in_default.is) c.in-Ok-true.ensures.found c.in-Ok-true.field-0-test) in
     told_err Form c.change.result c.in-Err-change.down (line_or line.RecordNormal) line_of (Update (key_of c.args.key.now) c.args.bytes.now) c.args.file c.args.head (up_of old) (up_of c.change.new.self) c.in-Err-change.is told
 
@@ -55,7 +55,7 @@ pub returns-in-Ok-Some-clause-operates : goal.returns-in-Ok-Some-clause-operates
 returns-in-Ok-Some-clause-operates g c =
     let old = c.args.self.now in
     let set = rw c.in-Ok-true.ensures.same at c.change.ensures.operates in
-    let told = set (Update (key_of c.args.key.now) c.args.bytes.now) line.RecordNormal (update_so c.the_laws.ensures old.volume.store.current c.args.head c.args.bytes.now c.set.new.self (key_of c.args.key.now) c.in-Ok-true.field-0 c.read_record.new.found c.is_by_key.result c.set.ensures c.is_by_key.ensures
+    let told = set (Update (key_of c.args.key.now) c.args.bytes.now) line.RecordNormal (update_so c.the_laws.ensures old.volume.store.current c.args.head c.args.bytes.now c.set.new.self (key_of c.args.key.now) c.in-Ok-true.field-0 c.read_record.new.found (is_indexed c.args.head.organization) c.set.ensures refl
     ((λ i. other_refused (organized_by c.args.head.organization c.args.head) (key_of c.args.key.now) (sym c.bytes.ensures.value i) c.args.bytes.now) ∙ sym c.other_refusal.ensures.refuses ∙ ap (option_map line_of) c.in_default.is) c.in-Ok-true.ensures.found c.in-Ok-true.field-0-test) in
     told_ok c.change.result c.in-Ok-Some.field-0 (line_or line.RecordNormal) c.in-Ok-Some.form line_of (Update (key_of c.args.key.now) c.args.bytes.now) c.args.file c.args.head (up_of old) (up_of c.change.new.self) c.in-Ok-Some.is (sym (ap (line_or line.RecordNormal) c.in-Ok-Some.field-0-is)) told
 
@@ -63,6 +63,6 @@ pub returns-in-Ok-None-clause-operates : goal.returns-in-Ok-None-clause-operates
 returns-in-Ok-None-clause-operates g c =
     let old = c.args.self.now in
     let set = rw c.in-Ok-true.ensures.same at c.change.ensures.operates in
-    let told = set (Update (key_of c.args.key.now) c.args.bytes.now) line.RecordNormal (update_so c.the_laws.ensures old.volume.store.current c.args.head c.args.bytes.now c.set.new.self (key_of c.args.key.now) c.in-Ok-true.field-0 c.read_record.new.found c.is_by_key.result c.set.ensures c.is_by_key.ensures
+    let told = set (Update (key_of c.args.key.now) c.args.bytes.now) line.RecordNormal (update_so c.the_laws.ensures old.volume.store.current c.args.head c.args.bytes.now c.set.new.self (key_of c.args.key.now) c.in-Ok-true.field-0 c.read_record.new.found (is_indexed c.args.head.organization) c.set.ensures refl
     ((λ i. other_refused (organized_by c.args.head.organization c.args.head) (key_of c.args.key.now) (sym c.bytes.ensures.value i) c.args.bytes.now) ∙ sym c.other_refusal.ensures.refuses ∙ ap (option_map line_of) c.in_default.is) c.in-Ok-true.ensures.found c.in-Ok-true.field-0-test) in
     told_ok c.change.result c.in-Ok-None.field-0 (line_or line.RecordNormal) form.RecordNormal line_of (Update (key_of c.args.key.now) c.args.bytes.now) c.args.file c.args.head (up_of old) (up_of c.change.new.self) c.in-Ok-None.is (sym (ap (line_or line.RecordNormal) c.in-Ok-None.field-0-is)) told
