@@ -3,5 +3,6 @@ pub mod History
 pub mod Slots
 pub mod Parts
 pub mod Chain
+pub mod Layout
 pub mod Placing
 pub mod Laws

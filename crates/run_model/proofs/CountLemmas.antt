@@ -10,15 +10,20 @@ use Rattle.script_model.specs.Statements.{Statement, At, Request, Boot, Reading,
 use Rattle.transcript_model.specs.Script.{ScriptLine}
 use Rattle.script_model.specs.Grammar.{reading}
 use Rattle.run_model.specs.World.{World, Node, Settlement, DiskCounts, Act, Boots, Power, opened, disk_of, find_node, with_node, acted, powered}
-use Rattle.run_model.specs.Answers.{Row, node_of, early, late, rows, powers, spoils, bootable, may_lack_memory, takes_memory, last_line, last_lines, request_of}
-use Rattle.run_model.specs.Steps.{Effect, Choice, Whole, WithoutMemory, Unpowered, Cut, Allowed, NoneFalls, RoseAt, effect, whole, begun, readied, spoilt, stops_at, after_act, after_rows, succeeded, count_of}
+use Rattle.run_model.specs.Answers.{Row, bootable, last_line, last_lines, powers, spoils, takes_memory}
+use Rattle.run_model.specs.Steps as task
+use Rattle.run_model.specs.Steps.{Choice, Cut, Unpowered, Whole, WithoutMemory, count_of, ready_node, spoilt}
+use Rattle.run_model.specs.Statements.{put_into, NoneFalls, RoseAt, node_of, request_of, stops_at}
+use Rattle.run_model.specs.Laws as laws
+use Rattle.run_model.specs.Laws.{AreOpening, CanRise, EndsWhole, IsDetermined, SuccessIsGiven, lacked_memory, may_lack_memory, refused_first, refused_then, succeeds}
+use Rattle.run_model.proofs.ReadyLemmas.{powered_is, resolved}
+use Rattle.run_model.proofs.Ways.{Allowed, Effect, after_act, after_rows, begun, effect, refused, rows, succeeded, whole, readied}
+use Rattle.run_model.proofs.WorldLemmas.{IsAs, is_ready, readied_is, success_in, turns}
 use Rattle.run_model.specs.Transcript.{Entry, Legal, Turn}
-use Rattle.run_model.specs.Laws.{AreOpening, CanRise, SuccessIsGiven, IsDetermined, lacked_memory}
 use Rattle.run_model.proofs.IdLemmas.{Each}
 use Rattle.run_model.proofs.StepLemmas.{none_falls_same, none_falls_on}
 use Rattle.run_model.proofs.FindLemmas.{each_with_node}
 use Rattle.run_model.proofs.AnswerLemmas.{says_bootable, served, late_found, rows_found, answer_found}
-use Rattle.run_model.proofs.ReadyLemmas.{powered_is, resolved, ready_node, is_ready}
 
 -- counts that neither fall nor are fallen from are the same
 falls_back : (olds news : List DiskCounts) → NoneFalls olds news → NoneFalls news olds → news ≡ olds
@@ -57,24 +62,56 @@ not_risen w node cause after same h rose =
     go (Some d) e r = no_rise d cause (can_rise_at node w.nodes w.disks d h e) r
     go None e r = r
 
--- a success, as it is shown
-success_lines : (w : World) (s : Statement) (taken : Bool) → early w s ≡ None → late (readied taken w s) s ≡ None → (effect w s (Whole taken)).lines ≡ (succeeded (readied taken w s) s).lines
-success_lines w s taken e l = rw (e, l) refl
+-- what a success shows and does, where its node is there
+succeeds_as : (w : World) (node : List ℕ) (request : Request) (n : Node) → find_node node w.nodes ≡ Some n → IsAs (succeeds w (At node request)) (succeeded w (At node request))
+succeeds_as w node request n found =
+    let is : succeeds w (At node request) ≡ put_into w node (task.succeeded w.shared n request) = rw (found, succeeds) refl in
+    subst (λ p. IsAs p (succeeded w (At node request))) (sym is) (success_in w node request n found)
 
-success_world : (w : World) (s : Statement) (taken : Bool) → early w s ≡ None → late (readied taken w s) s ≡ None → (effect w s (Whole taken)).world ≡ (succeeded (readied taken w s) s).world
-success_world w s taken e l = rw (e, l) refl
+-- a statement that no cause refuses, done whole, is its success
+whole_succeeds : (w : World) (s : Statement) (taken : Bool) → refused_first w s ≡ None → refused_then (laws.readied taken w s) s ≡ None → IsAs (succeeds (laws.readied taken w s) s) (effect w s (Whole taken))
+whole_succeeds w (At node request) taken e l =
+    let s = At node request in
+    let m = is_ready taken w node request e in
+    let found = ap (λ (u : World). find_node node u.nodes) (sym (readied_is taken w s)) ∙ m.ready in
+    let is : effect w s (Whole taken) ≡ succeeded (laws.readied taken w s) s = ap (λ o. whole w (readied taken w s) s o) e ∙ ap (λ u. begun u s (refused_then u s)) (readied_is taken w s) ∙ ap (begun (laws.readied taken w s) s) l in
+    subst (IsAs (succeeds (laws.readied taken w s) s)) (sym is) (succeeds_as (laws.readied taken w s) node request (ready_node taken (stops_at node w) request m.n) found)
+
+-- what is done whole where nothing refuses it first
+whole_ends : (w v : World) (s : Statement) (taken : Bool) (lines : List Line) → refused_first w s ≡ None → lines ≡ (effect w s (Whole taken)).lines → v ≡ record (effect w s (Whole taken)).world { disks = v.disks } →
+    (b : Option Line) → refused_then (laws.readied taken w s) s ≡ b → EndsWhole (laws.readied taken w s) s b lines v
+whole_ends w v s taken lines e shows goes None l = let is = whole_succeeds w s taken e l in (shows ∙ sym is.lines, goes ∙ ap (λ (x : World). record x { disks = v.disks }) (sym is.world))
+whole_ends w v s taken lines e shows goes (Some refusal) l =
+    let is : effect w s (Whole taken) ≡ refused (laws.readied taken w s) refusal = ap (λ o. whole w (readied taken w s) s o) e ∙ ap (λ u. begun u s (refused_then u s)) (readied_is taken w s) ∙ ap (begun (laws.readied taken w s) s) l in
+    (shows ∙ ap (λ (x : Effect). x.lines) is, goes ∙ ap (λ (x : Effect). record x.world { disks = v.disks }) is)
 
 given : (w v : World) (s : Statement) (c : Choice) (lines : List Line) → Allowed w s c v.disks → lines ≡ (effect w s c).lines → v ≡ record (effect w s c).world { disks = v.disks } →
-    v.disks ≡ w.disks → CanRise w.disks → early w s ≡ None → ((taken : Bool) → late (readied taken w s) s ≡ None) →
-    ((taken : Bool) × (lines ≡ (succeeded (readied taken w s) s).lines) × (v ≡ record (succeeded (readied taken w s) s).world { disks = v.disks })) ⊎ ((lines ≡ NoMemory ∷ []) × (may_lack_memory w s ≡ true))
-given w v s (Whole taken) lines allowed shows goes same h e l =
-    inl (taken, shows ∙ success_lines w s taken e (l taken), goes ∙ ap (λ (x : World). record x { disks = v.disks }) (success_world w s taken e (l taken)))
-given w v s WithoutMemory lines allowed shows goes same h e l = inr (shows, allowed.1)
-given w v s Unpowered lines allowed shows goes same h e l = absurd (not_risen w (node_of s) Failed v.disks same h allowed.2)
-given w v s (Cut taken done begun cause) lines allowed shows goes same h e l = absurd (not_risen w (node_of s) cause v.disks same h allowed.3)
+    v.disks ≡ w.disks → CanRise w.disks → refused_first w s ≡ None →
+    ((taken : Bool) × EndsWhole (laws.readied taken w s) s (refused_then (laws.readied taken w s) s) lines v) ⊎ ((lines ≡ NoMemory ∷ []) × (may_lack_memory w s ≡ true) × (v ≡ record w { disks = v.disks }))
+given w v s (Whole taken) lines allowed shows goes same h e = inl (taken, whole_ends w v s taken lines e shows goes (refused_then (laws.readied taken w s) s) refl)
+given w v s WithoutMemory lines allowed shows goes same h e = inr (shows, allowed.1, goes)
+given w v s Unpowered lines allowed shows goes same h e = absurd (not_risen w (node_of s) Failed v.disks same h allowed.2)
+given w v s (Cut taken done begun cause) lines allowed shows goes same h e = absurd (not_risen w (node_of s) cause v.disks same h allowed.2)
+
+-- what is refused before the disk is read is not begun
+not_begun : (w : World) (s : Statement) (refusal : Line) → refused_first w s ≡ Some refusal → refused_first w s ≡ None → ⊥
+not_begun w s refusal e none = let is : Some refusal ≡ None = sym e ∙ none in cc
+
+refused_at_first : (w v : World) (s : Statement) (c : Choice) (lines : List Line) (refusal : Line) → refused_first w s ≡ Some refusal → Allowed w s c v.disks → lines ≡ (effect w s c).lines →
+    v ≡ record (effect w s c).world { disks = v.disks } → (lines ≡ refusal ∷ []) × (v ≡ record w { disks = v.disks })
+refused_at_first w v s (Whole taken) lines refusal e allowed shows goes =
+    let is : effect w s (Whole taken) ≡ refused w refusal = ap (λ o. whole w (readied taken w s) s o) e in
+    (shows ∙ ap (λ (x : Effect). x.lines) is, goes ∙ ap (λ (x : Effect). record x.world { disks = v.disks }) is)
+refused_at_first w v s WithoutMemory lines refusal e allowed shows goes = absurd (not_begun w s refusal e allowed.0)
+refused_at_first w v s Unpowered lines refusal e allowed shows goes = absurd (not_begun w s refusal e allowed.0)
+refused_at_first w v s (Cut taken done begun cause) lines refusal e allowed shows goes = absurd (not_begun w s refusal e allowed.0)
 
 pub successes : SuccessIsGiven
-successes w v s lines step same h e l = given w v s step.choice lines step.allowed step.shows step.goes same h e l
+successes w v s lines step =
+    let t = turns w v s lines step in (
+      λ refusal e. refused_at_first w v s t.choice lines refusal e t.allowed t.shows t.goes,
+      λ same h e. given w v s t.choice lines t.allowed t.shows t.goes same h e,
+    )
 
 -- While no count rises, nothing is under way, and it makes no difference what was taken.
 
@@ -152,17 +189,17 @@ begun_quiet w s None quiet = rows_quiet (node_of s) (rows w s) w quiet
 
 whole_quiet : (w : World) (s : Statement) (taken : Bool) (a : Option Line) → IsQuiet w → IsQuiet (whole w (readied taken w s) s a).world
 whole_quiet w s taken (Some refusal) quiet = quiet
-whole_quiet w s taken None quiet = begun_quiet (readied taken w s) s (late (readied taken w s) s) (ready_quiet taken w s quiet)
+whole_quiet w s taken None quiet = begun_quiet (readied taken w s) s (refused_then (readied taken w s) s) (ready_quiet taken w s quiet)
 
 effect_quiet : (w : World) (s : Statement) (c : Choice) (after : List DiskCounts) → Allowed w s c after → after ≡ w.disks → CanRise w.disks → IsQuiet w → IsQuiet (effect w s c).world
-effect_quiet w s (Whole taken) after allowed same h quiet = whole_quiet w s taken (early w s) quiet
+effect_quiet w s (Whole taken) after allowed same h quiet = whole_quiet w s taken (refused_first w s) quiet
 effect_quiet w s WithoutMemory after allowed same h quiet = quiet
 effect_quiet w s Unpowered after allowed same h quiet = absurd (not_risen w (node_of s) Failed after same h allowed.2)
-effect_quiet w s (Cut taken done begun cause) after allowed same h quiet = absurd (not_risen w (node_of s) cause after same h allowed.3)
+effect_quiet w s (Cut taken done begun cause) after allowed same h quiet = absurd (not_risen w (node_of s) cause after same h allowed.2)
 
 turn_quiet : (w v : World) (r : Reading) (lines : List Line) → Turn w r lines v → v.disks ≡ w.disks → CanRise w.disks → IsQuiet w → IsQuiet v
 turn_quiet w v Blank lines turn same h quiet = subst IsQuiet (sym turn.1) quiet
-turn_quiet w v (Says s) lines turn same h quiet = subst IsQuiet (sym turn.goes) (effect_quiet w s turn.choice v.disks turn.allowed same h quiet)
+turn_quiet w v (Says s) lines turn same h quiet = let t = turns w v s lines turn in subst IsQuiet (sym t.goes) (effect_quiet w s t.choice v.disks t.allowed same h quiet)
 turn_quiet w v (Bad column) lines turn same h quiet = absurd turn
 
 -- Where memory may be missing, no other answer says that it was.
@@ -193,21 +230,21 @@ boot_begun w node n None found is =
     plain : (o : Option Settlement) (k : ℕ) → lacked_memory (((elim o [ Some s ↦ last_line s | None ↦ [] ]) ++ []) ++ line.NormalCount k ∷ []) ≡ false
     plain o k = subst (λ xs. lacked_memory (xs ++ line.NormalCount k ∷ []) ≡ false) (sym (append-nil (elim o [ Some s ↦ last_line s | None ↦ [] ]))) (last_not_memory o k)
 
-boot_has_memory : (w : World) (node : List ℕ) (taken : Bool) → early w (At node Boot) ≡ None → lacked_memory (effect w (At node Boot) (Whole taken)).lines ≡ false
+boot_has_memory : (w : World) (node : List ℕ) (taken : Bool) → refused_first w (At node Boot) ≡ None → lacked_memory (effect w (At node Boot) (Whole taken)).lines ≡ false
 boot_has_memory w node taken e =
     let ready = is_ready taken w node Boot e in
     let v = readied taken w (At node Boot) in
     let n = ready_node taken (stops_at node w) Boot ready.n in
     ap (λ o. lacked_memory (whole w v (At node Boot) o).lines) e ∙ ap (λ o. lacked_memory (begun v (At node Boot) o).lines) (late_found v node Boot n ready.ready) ∙ boot_begun v node n (bootable n) ready.ready refl
 
-only_boot : (w : World) (node : List ℕ) (request : Request) (n : Node) → find_node node w.nodes ≡ Some n → may_lack_memory w (At node request) ≡ true → takes_memory n request ≡ true
+only_boot : (w : World) (node : List ℕ) (request : Request) (n : Node) → find_node node w.nodes ≡ Some n → may_lack_memory w (At node request) ≡ true → takes_memory w.shared n request ≡ true
 only_boot w node request n found m = sym (rw (found, may_lack_memory) refl) ∙ m
 
-has_memory : (w : World) (node : List ℕ) (request : Request) (n : Node) (taken : Bool) → early w (At node request) ≡ None → takes_memory n request ≡ true → lacked_memory (effect w (At node request) (Whole taken)).lines ≡ false
+has_memory : (w : World) (node : List ℕ) (request : Request) (n : Node) (taken : Bool) → refused_first w (At node request) ≡ None → takes_memory w.shared n request ≡ true → lacked_memory (effect w (At node request) (Whole taken)).lines ≡ false
 has_memory w node Boot n taken e m = boot_has_memory w node taken e
 has_memory w node _ n taken e m = let none : ⊥ = cc in absurd none
 
-one_lacked : (w : World) (s : Statement) (taken : Bool) (k l : List Line) → early w s ≡ None → may_lack_memory w s ≡ true → k ≡ (effect w s (Whole taken)).lines → l ≡ NoMemory ∷ [] → lacked_memory k ≡ lacked_memory l → ⊥
+one_lacked : (w : World) (s : Statement) (taken : Bool) (k l : List Line) → refused_first w s ≡ None → may_lack_memory w s ≡ true → k ≡ (effect w s (Whole taken)).lines → l ≡ NoMemory ∷ [] → lacked_memory k ≡ lacked_memory l → ⊥
 one_lacked w (At node request) taken k l e m p q same =
     let there = served w node request e in
     let a = ap lacked_memory p in
@@ -220,7 +257,7 @@ same_world : (x w v u : World) → v.disks ≡ w.disks → u.disks ≡ w.disks �
 same_world x w v u e f p q = p ∙ (rw (e, f) refl ∙ sym q)
 
 same_effect : (w : World) (s : Statement) (a b : Bool) → IsQuiet w → effect w s (Whole a) ≡ effect w s (Whole b)
-same_effect w s a b quiet = ap (λ ready. whole w ready s (early w s)) (same_ready a b w s quiet)
+same_effect w s a b quiet = ap (λ ready. whole w ready s (refused_first w s)) (same_ready a b w s quiet)
 
 same_choice : (w : World) (s : Statement) (c d : Choice) (k l : List Line) (v u : World) → IsQuiet w → v.disks ≡ w.disks → u.disks ≡ w.disks → CanRise w.disks → lacked_memory k ≡ lacked_memory l →
     Allowed w s c v.disks → Allowed w s d u.disks → k ≡ (effect w s c).lines → l ≡ (effect w s d).lines →
@@ -235,14 +272,14 @@ same_choice w s (Whole t) WithoutMemory k l v u quiet e f h same a b p q x y = a
 same_choice w s WithoutMemory (Whole r) k l v u quiet e f h same a b p q x y = absurd (one_lacked w s r l k a.0 a.1 q p (sym same))
 same_choice w s (Whole t) Unpowered k l v u quiet e f h same a b p q x y = absurd (not_risen w (node_of s) Failed u.disks f h b.2)
 same_choice w s WithoutMemory Unpowered k l v u quiet e f h same a b p q x y = absurd (not_risen w (node_of s) Failed u.disks f h b.2)
-same_choice w s (Whole t) (Cut taken done begun cause) k l v u quiet e f h same a b p q x y = absurd (not_risen w (node_of s) cause u.disks f h b.3)
-same_choice w s WithoutMemory (Cut taken done begun cause) k l v u quiet e f h same a b p q x y = absurd (not_risen w (node_of s) cause u.disks f h b.3)
+same_choice w s (Whole t) (Cut taken done begun cause) k l v u quiet e f h same a b p q x y = absurd (not_risen w (node_of s) cause u.disks f h b.2)
+same_choice w s WithoutMemory (Cut taken done begun cause) k l v u quiet e f h same a b p q x y = absurd (not_risen w (node_of s) cause u.disks f h b.2)
 same_choice w s Unpowered d k l v u quiet e f h same a b p q x y = absurd (not_risen w (node_of s) Failed v.disks e h a.2)
-same_choice w s (Cut taken done begun cause) d k l v u quiet e f h same a b p q x y = absurd (not_risen w (node_of s) cause v.disks e h a.3)
+same_choice w s (Cut taken done begun cause) d k l v u quiet e f h same a b p q x y = absurd (not_risen w (node_of s) cause v.disks e h a.2)
 
 same_turn : (w : World) (r : Reading) (k l : List Line) (v u : World) → IsQuiet w → v.disks ≡ w.disks → u.disks ≡ w.disks → CanRise w.disks → lacked_memory k ≡ lacked_memory l → Turn w r k v → Turn w r l u → (k ≡ l) × (v ≡ u)
 same_turn w Blank k l v u quiet e f h same a b = (a.0 ∙ sym b.0, a.1 ∙ sym b.1)
-same_turn w (Says s) k l v u quiet e f h same a b = same_choice w s a.choice b.choice k l v u quiet e f h same a.allowed b.allowed a.shows b.shows a.goes b.goes
+same_turn w (Says s) k l v u quiet e f h same a b = let one = turns w v s k a in let two = turns w u s l b in same_choice w s one.choice two.choice k l v u quiet e f h same one.allowed two.allowed one.shows two.shows one.goes two.goes
 same_turn w (Bad column) k l v u quiet e f h same a b = absurd a
 
 -- no count falls in a turn, nor in a transcript

@@ -6,12 +6,15 @@ use Rattle.transcript_model.specs.Lines as line
 use Rattle.transcript_model.specs.Lines.{Line, Cause, Failed}
 use Rattle.script_model.specs.Statements.{Statement, At, Request}
 use Rattle.run_model.specs.World.{World, Node, Act, find_node, fallen, unpowered, acted}
-use Rattle.run_model.specs.Answers.{Row, node_of, early, late, rows, answer, spoils}
-use Rattle.run_model.specs.Steps.{Choice, Whole, WithoutMemory, Unpowered, Cut, Allowed, RoseAt, effect, whole, begun, readied, spoilt, stops_at, after_act, after_rows, lines_of_rows, rows_of, act_begun}
-use Rattle.run_model.specs.Laws.{is_refusal, FailurePutsDown}
+use Rattle.run_model.specs.Answers.{Row, spoils}
+use Rattle.run_model.specs.Steps.{Choice, Cut, Unpowered, Whole, WithoutMemory, act_begun, lines_of_rows, spoilt}
+use Rattle.run_model.specs.Statements.{RoseAt, node_of, stops_at}
+use Rattle.run_model.specs.Laws.{FailurePutsDown, is_refusal, refused_first, refused_then}
+use Rattle.run_model.proofs.ReadyLemmas.{acted_name, unpowered_name}
+use Rattle.run_model.proofs.Ways.{Allowed, after_act, after_rows, answer, begun, effect, rows, rows_of, whole, readied}
+use Rattle.run_model.proofs.WorldLemmas.{is_ready, turns}
 use Rattle.run_model.proofs.FindLemmas.{changed_node}
-use Rattle.run_model.proofs.AnswerLemmas.{refuses_early, refuses_late, answer_no_failure, is_failure, served}
-use Rattle.run_model.proofs.ReadyLemmas.{acted_name, unpowered_name, is_ready}
+use Rattle.run_model.proofs.AnswerLemmas.{refuses_first, refuses_then, answer_no_failure, is_failure, served}
 use Rattle.run_model.proofs.EffectLemmas.{same_last, cut_fails, dead_fails}
 
 -- the node of this name is there
@@ -33,20 +36,20 @@ pub record IsPutDown (w : World) (s : Statement) (events : List Line) (cause : C
   pub down : option_map (λ n. n.up) (find_node (node_of s) v.nodes) ≡ Some false
   pub rose : RoseAt w (node_of s) cause v.disks
 
-begun_not_broken : (w : World) (node : List ℕ) (request : Request) (taken : Bool) (events : List Line) (cause : Cause) (b : Option Line) → early w (At node request) ≡ None →
-    late (readied taken w (At node request)) (At node request) ≡ b → events ++ line.Broken cause ∷ [] ≡ (begun (readied taken w (At node request)) (At node request) b).lines → ⊥
+begun_not_broken : (w : World) (node : List ℕ) (request : Request) (taken : Bool) (events : List Line) (cause : Cause) (b : Option Line) → refused_first w (At node request) ≡ None →
+    refused_then (readied taken w (At node request)) (At node request) ≡ b → events ++ line.Broken cause ∷ [] ≡ (begun (readied taken w (At node request)) (At node request) b).lines → ⊥
 begun_not_broken w node request taken events cause (Some refusal) e l shows =
-    both_ways _ (refl {a = false}) (ap is_refusal (same_last events [] (line.Broken cause) refusal shows).1 ∙ (refuses_late (readied taken w (At node request)) (At node request)).says refusal l)
+    both_ways _ (refl {a = false}) (ap is_refusal (same_last events [] (line.Broken cause) refusal shows).1 ∙ (refuses_then (readied taken w (At node request)) (At node request)).says refusal l)
 begun_not_broken w node request taken events cause None e l shows =
     let ready = readied taken w (At node request) in
     both_ways _ (answer_no_failure ready node request _ (is_ready taken w node request e).ready)
     (sym (ap is_failure (same_last events (lines_of_rows (rows ready (At node request))) (line.Broken cause) (answer ready (At node request)) shows).1))
 
-whole_not_broken : (w : World) (node : List ℕ) (request : Request) (taken : Bool) (events : List Line) (cause : Cause) (a : Option Line) → early w (At node request) ≡ a →
+whole_not_broken : (w : World) (node : List ℕ) (request : Request) (taken : Bool) (events : List Line) (cause : Cause) (a : Option Line) → refused_first w (At node request) ≡ a →
     events ++ line.Broken cause ∷ [] ≡ (whole w (readied taken w (At node request)) (At node request) a).lines → ⊥
 whole_not_broken w node request taken events cause (Some refusal) e shows =
-    both_ways _ (refl {a = false}) (ap is_refusal (same_last events [] (line.Broken cause) refusal shows).1 ∙ (refuses_early w (At node request)).says refusal e)
-whole_not_broken w node request taken events cause None e shows = begun_not_broken w node request taken events cause (late (readied taken w (At node request)) (At node request)) e refl shows
+    both_ways _ (refl {a = false}) (ap is_refusal (same_last events [] (line.Broken cause) refusal shows).1 ∙ (refuses_first w (At node request)).says refusal e)
+whole_not_broken w node request taken events cause None e shows = begun_not_broken w node request taken events cause (refused_then (readied taken w (At node request)) (At node request)) e refl shows
 
 broken_is : (a b : Cause) → line.Broken a ≡ line.Broken b → b ≡ a
 broken_is a b e = cc
@@ -65,7 +68,7 @@ cut_puts_down w v node request events cause other taken done begun allowed shows
       shown = lines_of_rows (take done rs);
       told = subst (λ c. events ≡ lines_of_rows (take done rs) ++ line.Down node c ∷ []) same parts.0;
       down = ap (λ (x : World). option_map (λ n. n.up) (find_node node x.nodes)) goes ∙ ap (option_map (λ n. n.up)) (changed_node node (fallen u) (after_rows node (take done rs) ready).nodes (λ n. refl) ∙ ap (option_map (fallen u)) now.1);
-      rose = subst (λ c. RoseAt w node c v.disks) same allowed.3;
+      rose = subst (λ c. RoseAt w node c v.disks) same allowed.2;
     }
 
 unpowered_down : (stops : ℕ) (b : Bool) (n : Node) → (spoilt b (unpowered stops n)).up ≡ false
@@ -87,10 +90,10 @@ dead_puts_down w v node request events cause allowed shows goes =
     }
 
 puts_down : (w v : World) (s : Statement) (events : List Line) (cause : Cause) (c : Choice) → Allowed w s c v.disks → events ++ line.Broken cause ∷ [] ≡ (effect w s c).lines → v ≡ record (effect w s c).world { disks = v.disks } → IsPutDown w s events cause v
-puts_down w v (At node request) events cause (Whole taken) allowed shows goes = absurd (whole_not_broken w node request taken events cause (early w (At node request)) refl shows)
+puts_down w v (At node request) events cause (Whole taken) allowed shows goes = absurd (whole_not_broken w node request taken events cause (refused_first w (At node request)) refl shows)
 puts_down w v s events cause WithoutMemory allowed shows goes = let e = (same_last events [] (line.Broken cause) line.NoMemory shows).1 in let none : ⊥ = cc in absurd none
 puts_down w v (At node request) events cause Unpowered allowed shows goes = dead_puts_down w v node request events cause allowed shows goes
 puts_down w v (At node request) events cause (Cut taken done begun other) allowed shows goes = cut_puts_down w v node request events cause other taken done begun allowed shows goes
 
 pub failures : FailurePutsDown
-failures w v s events cause step = let r = puts_down w v s events cause step.choice step.allowed step.shows step.goes in (r.shown, r.told, r.down, r.rose)
+failures w v s events cause step = let t = turns w v s (events ++ line.Broken cause ∷ []) step in let r = puts_down w v s events cause t.choice t.allowed t.shows t.goes in (r.shown, r.told, r.down, r.rose)

@@ -7,7 +7,7 @@ use Rattle.std.proofs.lemmas.Bool.{both_ways}
 use Rattle.std.proofs.lemmas.Slice.Eq.{bytes_eq-Decides}
 use Rattle.vms_model.specs.Ids.{Id}
 use Rattle.records_model.specs.History.{same_id}
-use Rattle.run_model.specs.World.{World, Node, File, Branch, find_node, find_file, find_branch, free_place, labelled, with_node, with_file}
+use Rattle.run_model.specs.World.{World, Node, File, Branch, find_node, find_file, find_branch, free_place, serial_labelled, with_node, with_file}
 use Rattle.run_model.specs.Answers.{branch_labelled}
 use Rattle.run_model.proofs.IdLemmas.{Each, id_is}
 use Rattle.run_model.proofs.Soundness.{EachFile}
@@ -161,9 +161,9 @@ found_serial serial (a ∷ bs) b e = go (same_id serial a.serial) refl (found_se
     go false is more k = more k
 
 -- a label names the branch that it is found to name
-pub labelled_serial : (w : World) (n : Node) (label : List ℕ) (b : Branch) → branch_labelled w n label ≡ Some b → labelled n.name label w.labels ≡ Some b.serial
-labelled_serial w n label b e = go (labelled n.name label w.labels) refl e
+pub labelled_serial : (w : World) (n : Node) (label : List ℕ) (b : Branch) → branch_labelled w.shared n label ≡ Some b → serial_labelled n.name label w.shared.labels ≡ Some b.serial
+labelled_serial w n label b e = go (serial_labelled n.name label w.shared.labels) refl e
   where
-    go : (o : Option Id) → labelled n.name label w.labels ≡ o → option_and_then (λ serial. find_branch serial n.branches) o ≡ Some b → labelled n.name label w.labels ≡ Some b.serial
+    go : (o : Option Id) → serial_labelled n.name label w.shared.labels ≡ o → option_and_then (λ serial. find_branch serial n.branches) o ≡ Some b → serial_labelled n.name label w.shared.labels ≡ Some b.serial
     go (Some serial) is k = is ∙ ap Some (found_serial serial n.branches b k)
     go None is k = let none : ⊥ = cc in absurd none

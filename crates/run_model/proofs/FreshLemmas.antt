@@ -8,8 +8,9 @@ use Rattle.vms_model.specs.Ids.{Id}
 use Rattle.records_model.specs.Records.{Records}
 use Rattle.run_model.specs.World.{World, Node, Act, Formats, Boots, ComesUp, Creates, Marks, Begins, Changes, Settles, Arms, Falls, is_durable, find_node, with_node, acted, powered, unpowered, fallen}
 use Rattle.run_model.specs.Steps.{spoilt}
+use Rattle.run_model.proofs.ReadyLemmas.{acted_name, powered_is, powered_name, resolved, unpowered_name}
 use Rattle.run_model.proofs.FindLemmas.{changed_node, other_node, some_is, found_each}
-use Rattle.run_model.proofs.ReadyLemmas.{acted_name, resolved, powered_is, powered_name, unpowered_name}
+use Rattle.run_model.proofs.WorldLemmas.{still_in_use}
 use Rattle.run_model.proofs.Soundness.{IsSoundNode, IsDrawn, IsTimely, MayBeUnderWay}
 use Rattle.run_model.proofs.NodeLemmas.{drawn_next, drawn_before}
 use Rattle.run_model.proofs.KeptLemmas.{IsKept}
@@ -30,6 +31,11 @@ node_after node x change ns m named e = go (bytes_eq x node) refl
         inr (r.0, subst (λ y. find_node y ns ≡ Some r.0) (sym same) r.1, r.1, r.2)
     go false apart = inl (sym (other_node node x change ns named apart) ∙ e)
 
+-- what a change of a node keeps
+pub found_changed : (Q : Node → Type 0) (node x : List ℕ) (change : Node → Node) (ns : List Node) → ((n : Node) → (change n).name ≡ n.name) → ((n : Node) → find_node x ns ≡ Some n → Q n → Q (change n)) →
+    ((n : Node) → find_node node ns ≡ Some n → Q n) → (m : Node) → find_node node (with_node x change ns) ≡ Some m → Q m
+found_changed Q node x change ns named keeps h m e = elim (node_after node x change ns m named e) [ inl same ↦ h m same | inr r ↦ subst Q (sym r.3) (keeps r.0 r.1 (h r.0 r.2)) ]
+
 module _ (puts : Id → Records → Records) where
   -- nothing is told of any transaction
   abbrev pub PutsNothing : Type 0
@@ -41,7 +47,7 @@ module _ (puts : Id → Records → Records) where
 
   -- nor of any, before the first boot of the run
   abbrev pub IsFresh : List ℕ → World → Type 0
-  IsFresh node w = ((n : Node) → find_node node w.nodes ≡ Some n → IsFreshNode n) × (w.in_use ≡ false → PutsNothing)
+  IsFresh node w = ((n : Node) → find_node node w.nodes ≡ Some n → IsFreshNode n) × (w.shared.in_use ≡ false → PutsNothing)
 
   fresh_acted : (act : Act) (n : Node) (b : Bool) → IsTimely act b → (b ≡ false → PutsNothing) → IsFreshNode n → IsFreshNode (acted act n)
   fresh_acted (Formats slots journal) n b timely unused h = λ id new m. unused timely id m
@@ -74,19 +80,15 @@ module _ (puts : Id → Records → Records) where
       go true None k = h
       go false o k = h
 
-  changed_fresh : (node x : List ℕ) (change : Node → Node) (ns : List Node) → ((n : Node) → (change n).name ≡ n.name) → ((n : Node) → find_node x ns ≡ Some n → IsFreshNode n → IsFreshNode (change n)) →
-      ((n : Node) → find_node node ns ≡ Some n → IsFreshNode n) → (m : Node) → find_node node (with_node x change ns) ≡ Some m → IsFreshNode m
-  changed_fresh node x change ns named keeps h m e = elim (node_after node x change ns m named e) [ inl same ↦ h m same | inr r ↦ subst IsFreshNode (sym r.3) (keeps r.0 r.1 (h r.0 r.2)) ]
-
   pub fresh_kept : (node x : List ℕ) → IsKept x (IsFresh node)
   fresh_kept node x = record {
-    acting = λ w act may sound h. (changed_fresh node x (acted act) w.nodes (acted_name act) (λ n found k. fresh_acted act n w.in_use may.0 h.1 k) h.0, h.1);
-    falling = λ w under_way may h. (changed_fresh node x (fallen under_way) w.nodes (λ n. refl) (λ n found k. k) h.0, h.1);
+    acting = λ w act may sound h. (found_changed IsFreshNode node x (acted act) w.nodes (acted_name act) (λ n found k. fresh_acted act n w.shared.in_use may.0 h.1 k) h.0, λ e. h.1 (sym (still_in_use act w.shared) ∙ e));
+    falling = λ w under_way may h. (found_changed IsFreshNode node x (fallen under_way) w.nodes (λ n. refl) (λ n found k. k) h.0, h.1);
     powering = λ w taken stops spoil sound h. (
-      changed_fresh node x _ w.nodes (powered_name taken stops spoil) (λ n found k. fresh_spoilt spoil (powered taken stops n) (fresh_powered taken stops n (found_each IsSoundNode x w.nodes n sound.0 found).1 k)) h.0,
+      found_changed IsFreshNode node x _ w.nodes (powered_name taken stops spoil) (λ n found k. fresh_spoilt spoil (powered taken stops n) (fresh_powered taken stops n (found_each IsSoundNode x w.nodes n sound.0 found).1 k)) h.0,
       h.1,
     );
-    unpowering = λ w stops spoil h. (changed_fresh node x _ w.nodes (unpowered_name stops spoil) (λ n found k. fresh_spoilt spoil (unpowered stops n) k) h.0, h.1);
-    occupying = λ w more h. (h.0, λ e. h.1 (or_parts w.in_use more e).0);
+    unpowering = λ w stops spoil h. (found_changed IsFreshNode node x _ w.nodes (unpowered_name stops spoil) (λ n found k. fresh_spoilt spoil (unpowered stops n) k) h.0, h.1);
+    occupying = λ w more h. (h.0, λ e. h.1 (or_parts w.shared.in_use more e).0);
     counting = λ w disks h. h;
   }

@@ -4,12 +4,16 @@ use Rattle.std.specs.Str.{bytes_eq}
 use Rattle.std.proofs.lemmas.Bool.{or_parts}
 use Rattle.transcript_model.specs.Lines.{Line, Cause}
 use Rattle.script_model.specs.Statements.{Statement, At, Request}
-use Rattle.run_model.specs.World.{World, DiskCounts, Node, Settlement, Act, Settles, is_durable, find_node, acted, powered, unpowered, fallen, acts, with_node}
-use Rattle.run_model.specs.Answers.{Row, early, late, rows, powers, spoils, occupies}
-use Rattle.run_model.specs.Steps.{Step, Choice, Whole, WithoutMemory, Unpowered, Cut, Allowed, after_act, after_rows, rows_if, rows_of, durable, act_begun, whole, begun, effect, readied, occupied, spoilt, stops_at}
+use Rattle.run_model.specs.World.{World, DiskCounts, Node, Settlement, Act, Settles, is_durable, find_node, acted, powered, unpowered, fallen, with_node}
+use Rattle.run_model.specs.Answers.{Row, occupies, powers, spoils}
+use Rattle.run_model.specs.Steps.{Choice, Cut, Unpowered, Whole, WithoutMemory, act_begun, durable, rows_if, spoilt}
+use Rattle.run_model.specs.Statements.{Step, request_of, stops_at}
+use Rattle.run_model.specs.Laws.{refused_first, refused_then}
+use Rattle.run_model.proofs.ReadyLemmas.{acted_name, powered_is, powered_name, resolved, unpowered_name}
+use Rattle.run_model.proofs.WorldLemmas.{still_in_use, more_in_use, turns}
+use Rattle.run_model.proofs.Ways.{acts, Allowed, after_act, after_rows, begun, effect, occupied, rows, rows_of, whole, readied}
 use Rattle.run_model.specs.Promises.{In, settlements_of}
 use Rattle.run_model.proofs.FindLemmas.{found_each, each_with_node, other_node}
-use Rattle.run_model.proofs.ReadyLemmas.{acted_name, resolved, powered_is, powered_name, unpowered_name}
 use Rattle.run_model.proofs.Soundness.{IsSoundNode, IsSoundWorld, IsUnused, FitsAt, MayBeUnderWay, IsTimely}
 use Rattle.run_model.proofs.NodeLemmas.{acted_node, powered_node, unpowered_node, fallen_node, spoilt_node, unused_acted, unused_powered, unused_spoilt}
 use Rattle.run_model.proofs.ActLemmas.{MayAt, MayAll, rows_may}
@@ -25,7 +29,7 @@ pub record IsKept (node : List ℕ) (P : World → Type 0) : Type 0 where
   pub falling : (w : World) (under_way : Option Act) → MayFall node under_way w → P w → P (record w { nodes = with_node node (fallen under_way) w.nodes })
   pub powering : (w : World) (taken : Bool) (stops : ℕ) (spoil : Bool) → IsSoundWorld w → P w → P (record w { nodes = with_node node (λ n. spoilt spoil (powered taken stops n)) w.nodes })
   pub unpowering : (w : World) (stops : ℕ) (spoil : Bool) → P w → P (record w { nodes = with_node node (λ n. spoilt spoil (unpowered stops n)) w.nodes })
-  pub occupying : (w : World) (more : Bool) → P w → P (record w { in_use = w.in_use || more })
+  pub occupying : (w : World) (more : Bool) → P w → P (record w { shared = record w.shared { in_use = w.shared.in_use || more } })
   pub counting : (w : World) (disks : List DiskCounts) → P w → P (record w { disks = disks })
 
 -- Nodes stay sound.
@@ -34,7 +38,7 @@ pub sound_kept : (node : List ℕ) → IsKept node IsSoundWorld
 sound_kept node = record {
   acting = λ w act may sound h. (
     each_with_node IsSoundNode node (acted act) w.nodes (λ n found k. acted_node act n (may.1 n found) k) h.0,
-    λ e. each_with_node IsUnused node (acted act) w.nodes (λ n found u. unused_acted act n (may.1 n found).0 (subst (IsTimely act) e may.0) u) (h.1 e),
+    λ e. each_with_node IsUnused node (acted act) w.nodes (λ n found u. unused_acted act n (may.1 n found).0 (subst (IsTimely act) (sym (still_in_use act w.shared) ∙ e) may.0) u) (h.1 (sym (still_in_use act w.shared) ∙ e)),
   );
   falling = λ w under_way may h. (
     each_with_node IsSoundNode node (fallen under_way) w.nodes (λ n found k. fallen_node under_way n (may n found) k) h.0,
@@ -48,7 +52,7 @@ sound_kept node = record {
     each_with_node IsSoundNode node _ w.nodes (λ n found k. spoilt_node spoil (unpowered stops n) (unpowered_node stops n k)) h.0,
     λ e. each_with_node IsUnused node _ w.nodes (λ n found u. unused_spoilt spoil (unpowered stops n) (refl, u.1, u.2)) (h.1 e),
   );
-  occupying = λ w more h. (h.0, λ e. h.1 (or_parts w.in_use more e).0);
+  occupying = λ w more h. (h.0, λ e. h.1 (or_parts w.shared.in_use more e).0);
   counting = λ w disks h. h;
 }
 
@@ -95,7 +99,7 @@ occupied_rows s node (r ∷ rs) w = occupied_rows s node rs (after_act node r.ac
   where
     one : (o : Option Act) → occupied s (after_act node o w) ≡ after_act node o (occupied s w)
     one None = refl
-    one (Some act) = refl
+    one (Some act) = ap (λ shared. record w { nodes = with_node node (acted act) w.nodes; shared = shared }) (more_in_use act (occupies (request_of s)) w.shared)
 
 pub ready_kept : (node : List ℕ) (P : World → Type 0) → IsKept node P → (taken : Bool) (w : World) (request : Request) → IsSoundWorld w → P w → P (readied taken w (At node request))
 ready_kept node P kept taken w request sound h = go (powers request)
@@ -110,10 +114,10 @@ module _ (node : List ℕ) (request : Request) (P : World → Type 0) (kept : Is
   ready_sound : (taken : Bool) → IsSoundWorld (readied taken w (At node request))
   ready_sound taken = ready_kept node IsSoundWorld (sound_kept node) taken w request sound sound
 
-  may_ready : (taken : Bool) → early w (At node request) ≡ None → MayAll node (rows (readied taken w (At node request)) (At node request)) (occupied (At node request) (readied taken w (At node request)))
+  may_ready : (taken : Bool) → refused_first w (At node request) ≡ None → MayAll node (rows (readied taken w (At node request)) (At node request)) (occupied (At node request) (readied taken w (At node request)))
   may_ready taken e = rows_may taken w (At node request) sound (ready_sound taken) e
 
-  begun_keeps : (taken : Bool) (b : Option Line) → early w (At node request) ≡ None → P w → P (begun (readied taken w (At node request)) (At node request) b).world
+  begun_keeps : (taken : Bool) (b : Option Line) → refused_first w (At node request) ≡ None → P w → P (begun (readied taken w (At node request)) (At node request) b).world
   begun_keeps taken (Some refusal) e h = ready_kept node P kept taken w request sound h
   begun_keeps taken None e h =
       let s = At node request in
@@ -121,34 +125,35 @@ module _ (node : List ℕ) (request : Request) (P : World → Type 0) (kept : Is
       subst P (sym (occupied_rows s node (rows ready s) ready)) (rows_keep node P kept (rows ready s) (occupied s ready) (may_ready taken e)
       ((sound_kept node).occupying ready (occupies request) (ready_sound taken)) (kept.occupying ready (occupies request) (ready_kept node P kept taken w request sound h)))
 
-  whole_keeps : (taken : Bool) (a : Option Line) → early w (At node request) ≡ a → P w → P (whole w (readied taken w (At node request)) (At node request) a).world
+  whole_keeps : (taken : Bool) (a : Option Line) → refused_first w (At node request) ≡ a → P w → P (whole w (readied taken w (At node request)) (At node request) a).world
   whole_keeps taken (Some refusal) e h = h
-  whole_keeps taken None e h = begun_keeps taken (late (readied taken w (At node request)) (At node request)) e h
+  whole_keeps taken None e h = begun_keeps taken (refused_then (readied taken w (At node request)) (At node request)) e h
 
   may_if : (v : World) (o : Option Line) (rs : List Row) → MayAll node rs v → MayAll node (rows_if o rs) v
   may_if v (Some refusal) rs may = tt
   may_if v None rs may = may
 
-  cut_keeps : (taken : Bool) (done : ℕ) (b : Bool) (cause : Cause) → early w (At node request) ≡ None → P w → P (effect w (At node request) (Cut taken done b cause)).world
+  cut_keeps : (taken : Bool) (done : ℕ) (b : Bool) (cause : Cause) → refused_first w (At node request) ≡ None → P w → P (effect w (At node request) (Cut taken done b cause)).world
   cut_keeps taken done b cause e h =
       let s = At node request in
       let ready = readied taken w s in
       let rs = rows_of ready s in
-      let may = may_if (occupied s ready) (late ready s) (rows ready s) (may_ready taken e) in
+      let may = may_if (occupied s ready) (refused_then ready s) (rows ready s) (may_ready taken e) in
       let sound_then = (sound_kept node).occupying ready (occupies request) (ready_sound taken) in
       subst (λ v. P (record v { nodes = with_node node (fallen (act_begun b (drop done rs))) v.nodes })) (sym (occupied_rows s node (take done rs) ready))
       (kept.falling (after_rows node (take done rs) (occupied s ready)) (act_begun b (drop done rs)) (may_fall b done node rs (occupied s ready) may)
       (rows_keep node P kept (take done rs) (occupied s ready) (may_take done node rs (occupied s ready) may) sound_then (kept.occupying ready (occupies request) (ready_kept node P kept taken w request sound h))))
 
   pub effect_keeps : (c : Choice) (after : List DiskCounts) → Allowed w (At node request) c after → P w → P (effect w (At node request) c).world
-  effect_keeps (Whole taken) after allowed h = whole_keeps taken (early w (At node request)) refl h
+  effect_keeps (Whole taken) after allowed h = whole_keeps taken (refused_first w (At node request)) refl h
   effect_keeps WithoutMemory after allowed h = h
   effect_keeps Unpowered after allowed h = kept.occupying _ (occupies request) (kept.unpowering w (stops_at node w) (spoils request) h)
   effect_keeps (Cut taken done b cause) after allowed h = cut_keeps taken done b cause allowed.0 h
 
 pub step_keeps : (node : List ℕ) (request : Request) (P : World → Type 0) → IsKept node P → (w v : World) (lines : List Line) → Step w (At node request) lines v → IsSoundWorld w → P w → P v
 step_keeps node request P kept w v lines step sound h =
-    subst P (sym step.goes) (kept.counting (effect w (At node request) step.choice).world v.disks (effect_keeps node request P kept w sound step.choice v.disks step.allowed h))
+    let t = turns w v (At node request) lines step in
+    subst P (sym t.goes) (kept.counting (effect w (At node request) t.choice).world v.disks (effect_keeps node request P kept w sound t.choice v.disks t.allowed h))
 
 -- Settlements stay.
 
@@ -217,12 +222,12 @@ others_kept node name o apart = record {
 }
 
 -- Where no node is in use after a statement, none was before it.
-pub unused_kept : (node : List ℕ) (b : Bool) → IsKept node (λ w. w.in_use ≡ false → b ≡ false)
+pub unused_kept : (node : List ℕ) (b : Bool) → IsKept node (λ w. w.shared.in_use ≡ false → b ≡ false)
 unused_kept node b = record {
-  acting = λ w act may sound h. h;
+  acting = λ w act may sound h e. h (sym (still_in_use act w.shared) ∙ e);
   falling = λ w under_way may h. h;
   powering = λ w taken stops spoil sound h. h;
   unpowering = λ w stops spoil h. h;
-  occupying = λ w more h e. h (or_parts w.in_use more e).0;
+  occupying = λ w more h e. h (or_parts w.shared.in_use more e).0;
   counting = λ w disks h. h;
 }

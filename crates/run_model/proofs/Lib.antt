@@ -1,3 +1,4 @@
+pub mod Ways
 pub mod IdLemmas
 pub mod Soundness
 pub mod HistoryLemmas
@@ -5,6 +6,10 @@ pub mod StepLemmas
 pub mod AnswerLemmas
 pub mod FindLemmas
 pub mod ReadyLemmas
+pub mod TaskLemmas
+pub mod WorldLemmas
+pub mod Lifting
+pub mod NodeTurns
 pub mod EffectLemmas
 pub mod FailureLemmas
 pub mod CountLemmas
@@ -16,7 +21,15 @@ pub mod KeptLemmas
 pub mod AgreementLemmas
 pub mod WayLemmas
 pub mod LabelLemmas
+pub mod CauseLemmas
 pub mod FreshLemmas
 pub mod ToldLemmas
 pub mod TellingLemmas
+pub mod GoneLemmas
+pub mod LegalLemmas
+pub mod SettledLemmas
+pub mod SaidRefusals
+pub mod SaidLemmas
+pub mod SinceLemmas
+pub mod InterruptedLemmas
 pub mod PromiseLemmas

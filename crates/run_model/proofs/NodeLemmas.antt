@@ -7,11 +7,11 @@ use Rattle.records_model.specs.Records.{Change}
 use Rattle.records_model.specs.History.{same_id}
 use Rattle.run_model.specs.World.{Node, File, Branch, Settlement, Act, Formats, Boots, ComesUp, Creates, Marks, Begins, Changes, Settles, Arms, Falls, Power, is_durable, acted, powered, unpowered, fallen, with_file, with_changes_by, changed_file, without_branch, serials_of, next_id, settled_file, as_it_stands, empty_directory}
 use Rattle.run_model.specs.Steps.{spoilt}
+use Rattle.run_model.proofs.ReadyLemmas.{powered_is, resolved}
 use Rattle.run_model.specs.Promises.{In}
 use Rattle.run_model.proofs.IdLemmas.{Each, each_as, each_at, each_push, in_front, id_is, id_itself, id_other, Apart, Distinct, distinct_push, minus, each_minus, distinct_minus, apart_minus}
 use Rattle.run_model.proofs.Soundness.{IsSound, IsSoundNode, IsSoundFile, IsUnused, IsDrawn, IsTimely, EachFile, FitsAt, MayAct, MayBeUnderWay, settled_serials}
 use Rattle.run_model.proofs.ChangeLemmas.{no_changes_sound, each_file_as, each_file_map, each_file_placed, each_with_file, changes_sound_file, settled_sound}
-use Rattle.run_model.proofs.ReadyLemmas.{resolved, powered_is}
 
 pub drawn_next : (name : List ℕ) (boot drawn : ℕ) (id : Id) → IsDrawn name boot drawn id → IsDrawn name boot (drawn + 1) id
 drawn_next name boot drawn id h = (h.0, elim h.1 [ inl earlier ↦ inl earlier | inr here ↦ inr (here.0, omega arith) ])
@@ -143,7 +143,7 @@ each_without_branch P serial [] h = tt
 each_without_branch P serial (b ∷ bs) h = cond_both (same_id serial b.serial) bs (b ∷ without_branch serial bs) (Each P) (λ e. h.1) (λ e. (h.0, each_without_branch P serial bs h.1))
 
 -- none of the settled branches has this serial
-not_settled : (serial : Id) (ss : List Settlement) → Apart serial (settled_serials ss) → (t : Settlement) → In t ss → t.serial ≡ serial → ⊥
+pub not_settled : (serial : Id) (ss : List Settlement) → Apart serial (settled_serials ss) → (t : Settlement) → In t ss → t.serial ≡ serial → ⊥
 not_settled serial [] h t i e = i
 not_settled serial (s ∷ ss) h t i e = elim i [
   | inl same ↦ both_ways _ h.0 (subst (λ x. same_id serial x ≡ true) (sym e ∙ ap (λ s. s.serial) same) (id_itself serial))

@@ -81,7 +81,7 @@ IsUnused n = (n.up ≡ false) × (n.settled ≡ []) × (n.branches ≡ [])
 
 -- each node is sound, and before the first boot of the run none was used
 abbrev pub IsSoundWorld : World → Type 0
-IsSoundWorld w = Each IsSoundNode w.nodes × (w.in_use ≡ false → Each IsUnused w.nodes)
+IsSoundWorld w = Each IsSoundNode w.nodes × (w.shared.in_use ≡ false → Each IsUnused w.nodes)
 
 -- an act waits until nothing else is under way, but for one that only arms the disk
 abbrev pub Waits : Act → Option Act → Type 0

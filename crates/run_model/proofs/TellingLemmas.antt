@@ -14,13 +14,17 @@ use Rattle.transcript_model.specs.Lines.{Line, Cause}
 use Rattle.script_model.specs.Statements.{At, Request, Init, Boot, Create, SetFile, StartTrans, Records, EndTrans, AbortTrans, Dump, Fuse, Crash, Form, Setting, Operation, Put, Update, Delete, Truncate, Get, Next, Reading, Blank, Says, Bad}
 use Rattle.records_model.specs.Records.{Records as TheRecords, Change, set_key, applied}
 use Rattle.records_model.specs.History.{same_id, settled_at, current, records}
-use Rattle.run_model.specs.World.{World, Node, File, Organization, Sequential, Relative, Indexed, Branch, Settlement, Formats, Boots, ComesUp, Creates, Marks, Begins, Changes, Settles, Arms, Falls, find_node, find_file, free_place, lowest_free, labelled, serials_of, with_file, changed_file, without_branch, as_it_stands, acted, acts, next_id, next_moment}
-use Rattle.run_model.specs.Answers.{Row, early, early_up, rows, rows_at, answer, answer_at, change_act, changes_at, operated, operation_told, committed, aborted, created, creates, blocks_for, records_of, to_branch, is_file_form, made_label, unsettled_label, there_is_file, of_file, new_file, is_for_units, last_line, last_lines, served_down}
+use Rattle.run_model.specs.World.{World, Node, File, Organization, Sequential, Relative, Indexed, Branch, Settlement, Formats, Boots, ComesUp, Creates, Marks, Begins, Changes, Settles, Arms, Falls, find_node, find_file, free_place, lowest_free, serial_labelled, serials_of, with_file, changed_file, without_branch, as_it_stands, acted, next_id, next_moment}
+use Rattle.run_model.specs.Answers.{Row, aborted, answer_at, blocks_for, change_act, changes_at, committed, created, creates, is_file_form, is_for_units, last_line, last_lines, made_label, new_file, of_file, operated, operation_told, records_of, refused_where_served, served_down, there_is_file, to_branch, unsettled_label}
+use Rattle.run_model.specs.Steps.{lines_of_rows, ready_node}
+use Rattle.run_model.specs.Statements.{Step, stops_at}
+use Rattle.run_model.specs.Laws.{is_refusal, refused_first}
+use Rattle.run_model.proofs.ReadyLemmas.{acted_name}
+use Rattle.run_model.proofs.Ways.{acts, after_act, after_rows, answer, done_at, rows, readied}
+use Rattle.run_model.proofs.WorldLemmas.{is_ready, ready_nodes}
 use Rattle.run_model.specs.Operations.{refused_if, in_order, count_of, place_refused, form_refused, removed, key_put, changes_of, put_answer, operation_answer}
-use Rattle.run_model.specs.Steps.{Step, after_act, after_rows, lines_of_rows, readied, stops_at}
 use Rattle.run_model.specs.Transcript.{Entry, Turn}
 use Rattle.run_model.specs.Promises.{In, Told, with_sets, told_by, put_sets, sets_of, one_told, file_of, sets_here, id_told, commits_here, booted_here, standing}
-use Rattle.run_model.specs.Laws.{is_refusal}
 use Rattle.run_model.proofs.IdLemmas.{each_at, in_map, id_is}
 use Rattle.run_model.proofs.FindLemmas.{found_name, found_each, changed_node, some_is, mapped_file, placed_file, labelled_serial}
 use Rattle.run_model.proofs.Soundness.{IsSoundNode, IsSoundWorld, IsDrawn}
@@ -28,7 +32,6 @@ use Rattle.run_model.proofs.NodeLemmas.{serials_push, serials_changed, branches_
 use Rattle.run_model.proofs.AgreementLemmas.{Agrees, agrees_as, stands_agree, changes_agree, commits_agree, aborts_agree, begins_agree}
 use Rattle.run_model.proofs.AnswerLemmas.{neither, served, served_up, rows_found, answer_found, operation_told_is, is_failure, is_labelled, row_of}
 use Rattle.run_model.proofs.EffectLemmas.{step_done}
-use Rattle.run_model.proofs.ReadyLemmas.{acted_name, ready_node, ready_nodes, is_ready}
 use Rattle.run_model.proofs.ActLemmas.{labelled_in, in_use_up}
 use Rattle.run_model.proofs.KeptLemmas.{step_keeps, others_kept, unused_kept}
 use Rattle.run_model.proofs.WayLemmas.{Way, Refuses, RefusesLate, Fails, Does, way, step_commits}
@@ -51,7 +54,7 @@ not_there n file e = go (find_file file n.directory) refl e
     go None is k = is
 
 -- A boot that succeeds is told.
-booted : (node : List ℕ) (n : Node) (k : ℕ) → booted_here node (Says (At node Boot)) ((last_lines n ++ []) ++ line.NormalCount k ∷ []) ≡ true
+pub booted : (node : List ℕ) (n : Node) (k : ℕ) → booted_here node (Says (At node Boot)) ((last_lines n ++ []) ++ line.NormalCount k ∷ []) ≡ true
 booted node n k = subst (λ xs. booted_here node (Says (At node Boot)) (xs ++ line.NormalCount k ∷ []) ≡ true) (sym (append-nil (last_lines n))) (go n.last)
   where
     lasts : (s : Settlement) (o : Outcome) (r : Option Reason) →
@@ -113,15 +116,15 @@ module _ (node file : List ℕ) (es : List Entry) (w : World) (sound : IsSoundWo
   DoneTells request u = RowsTell u request (rows u (At node request)) (answer u (At node request))
 
   -- a request that only a node which is up serves
-  at_up : (request : Request) → served_down request ≡ false → ((n : Node) → find_node node w.nodes ≡ Some n → n.up ≡ true → early_up w n request ≡ None → RowsTell w request (rows_at w n request) (answer_at n request)) →
-      early w (At node request) ≡ None → DoneTells request w
+  at_up : (request : Request) → ((n : Node) → served_down w.shared n request ≡ false) → ((n : Node) → find_node node w.nodes ≡ Some n → n.up ≡ true → refused_where_served w.shared n request ≡ None → RowsTell w request (done_at w.shared n request) (answer_at w.shared n request)) →
+      refused_first w (At node request) ≡ None → DoneTells request w
   at_up request d tells e =
       let there = served w node request e in
       subst (λ rs. RowsTell w request rs (answer w (At node request))) (sym (rows_found w node request there.n there.found))
-      (subst (RowsTell w request (rows_at w there.n request)) (sym (answer_found w node request there.n there.found)) (tells there.n there.found (served_up w there.n request d there.passes_here) there.passes))
+      (subst (RowsTell w request (done_at w.shared there.n request)) (sym (answer_found w node request there.n there.found)) (tells there.n there.found (served_up w there.n request (d there.n) there.passes_here) there.passes))
 
-  set_file_tells : (f : List ℕ) (setting : Setting) → early w (At node (SetFile f setting)) ≡ None → DoneTells (SetFile f setting) w
-  set_file_tells f setting = at_up (SetFile f setting) refl (λ n found up passes.
+  set_file_tells : (f : List ℕ) (setting : Setting) → refused_first w (At node (SetFile f setting)) ≡ None → DoneTells (SetFile f setting) w
+  set_file_tells f setting = at_up (SetFile f setting) (λ n. refl) (λ n found up passes.
       acts_told node file told puts w n (Marks f (is_for_units setting)) found (λ u. subst (Agrees told puts (serials_of n.branches)) (sym (still n)) (t n found up)))
     where
       mark : File → File
@@ -135,32 +138,32 @@ module _ (node file : List ℕ) (es : List Entry) (w : World) (sound : IsSoundWo
       still : (n : Node) → history_of (find_file file (with_file f mark n.directory)) ≡ history_at file n
       still n = ap history_of (file_after file f mark n.directory (λ g. refl) (bytes_eq f file) refl) ∙ marked (bytes_eq f file) (find_file file n.directory)
 
-  start_tells : (label : List ℕ) → early w (At node (StartTrans label)) ≡ None → DoneTells (StartTrans label) w
-  start_tells label = at_up (StartTrans label) refl (λ n found up passes.
+  start_tells : (label : List ℕ) → refused_first w (At node (StartTrans label)) ≡ None → DoneTells (StartTrans label) w
+  start_tells label = at_up (StartTrans label) (λ n. refl) (λ n found up passes.
       let b : Branch = record { tid = next_id n; serial = next_id n; changes = 0 } in
-      acts_told node file told puts w n (Begins (record { name = label; node = n.name; serial = next_id n }) b) found (λ u.
+      acts_told node file told puts w n (Begins (record { name = label; node = n.name; tid = next_id n; bid = None; serial = Some (next_id n) }) b) found (λ u.
       subst (λ serials. Agrees told puts serials (history_at file n)) (sym (serials_push n.branches b))
       (begins_agree told puts (serials_of n.branches) (history_at file n) (t n found up) (next_id n) (fresh.0 n found (next_id n) (next_not_drawn n)) (next_unchanged file n (found_each IsSoundNode node w.nodes n sound.0 found)))))
 
   -- the rows of what is done to the branch that a label names
-  branch_row : (request : Request) (n : Node) (label : List ℕ) (does : Branch → Row) (last : Line) → unsettled_label w n label ≡ None →
-      ((b : Branch) → In b.serial (serials_of n.branches) → labelled n.name label w.labels ≡ Some b.serial → RowsTell w request (does b ∷ []) last) → RowsTell w request (to_branch w n label does) last
+  branch_row : (request : Request) (n : Node) (label : List ℕ) (does : Branch → Row) (last : Line) → unsettled_label w.shared n label ≡ None →
+      ((b : Branch) → In b.serial (serials_of n.branches) → serial_labelled n.name label w.shared.labels ≡ Some b.serial → RowsTell w request (does b ∷ []) last) → RowsTell w request (to_branch w.shared n label does) last
   branch_row request n label does last e tells =
       let named = is_labelled w n label e in
       subst (λ rs. RowsTell w request rs last) (sym (row_of w n label does named.branch named.named))
       (tells named.branch (in_map (λ b. b.serial) named.branch n.branches (labelled_in w n label named.branch named.named)) (labelled_serial w n label named.branch named.named))
 
   -- the branch of this label is the one that was told of it
-  told_serial : (n : Node) (label : List ℕ) (serial : Id) → find_node node w.nodes ≡ Some n → labelled n.name label w.labels ≡ Some serial → id_told node label es ≡ Some serial
-  told_serial n label serial found named = sym (same node label) ∙ ap (λ name. labelled name label w.labels) (sym (found_name node w.nodes n found)) ∙ named
+  told_serial : (n : Node) (label : List ℕ) (serial : Id) → find_node node w.nodes ≡ Some n → serial_labelled n.name label w.shared.labels ≡ Some serial → id_told node label es ≡ Some serial
+  told_serial n label serial found named = sym (same node label) ∙ ap (λ name. serial_labelled name label w.shared.labels) (sym (found_name node w.nodes n found)) ∙ named
 
   -- what an operation passes
-  pub operation_passes : (n : Node) (label f : List ℕ) (op : Operation) → early_up w n (Records label f op) ≡ None → (there_is_file n f ≡ None) × (of_file n f (λ g. form_refused g op) ≡ None) × (unsettled_label w n label ≡ None)
+  pub operation_passes : (n : Node) (label f : List ℕ) (op : Operation) → refused_where_served w.shared n (Records label f op) ≡ None → (there_is_file n f ≡ None) × (of_file n f (λ g. form_refused g op) ≡ None) × (unsettled_label w.shared n label ≡ None)
   operation_passes n label f op passes =
-      let behind_label = (neither (made_label w n label) _ passes).1 in
+      let behind_label = (neither (made_label w.shared n label) _ passes).1 in
       let behind_file = neither (there_is_file n f) _ behind_label in
       let behind_form = neither (of_file n f (λ g. form_refused g op)) _ behind_file.1 in
-      (behind_file.0, behind_form.0, (neither (unsettled_label w n label) _ behind_form.1).0)
+      (behind_file.0, behind_form.0, (neither (unsettled_label w.shared n label) _ behind_form.1).0)
 
   -- what is told to be set, after an operation
   abbrev sets_more : List ℕ → List ℕ → Operation → Line → Bool → List Told
@@ -186,8 +189,8 @@ module _ (node file : List ℕ) (es : List Entry) (w : World) (sound : IsSoundWo
       (subst (λ o. Agrees told (λ id. told_by id (record { tid = serial; sets = sets_of op (operation_answer g op) g } ∷ sets)) (serials_of n.branches) (history_of (option_map (changed_file serial (changes_of g op)) o))) (sym here) same_sets))
   operation_history n label f op serial g found there form named a false is = a
 
-  operation_tells : (label f : List ℕ) (op : Operation) → early w (At node (Records label f op)) ≡ None → DoneTells (Records label f op) w
-  operation_tells label f op = at_up (Records label f op) refl (λ n found up passes.
+  operation_tells : (label f : List ℕ) (op : Operation) → refused_first w (At node (Records label f op)) ≡ None → DoneTells (Records label f op) w
+  operation_tells label f op = at_up (Records label f op) (λ n. refl) (λ n found up passes.
       let parts = operation_passes n label f op passes in
       let there = there_is n f parts.0 in
       branch_row (Records label f op) n label (operated n f op) (operation_told n f op) parts.2 (λ b i named.
@@ -215,8 +218,8 @@ module _ (node file : List ℕ) (es : List Entry) (w : World) (sound : IsSoundWo
           subst (λ serials. Agrees told now serials (history_at file (acted (Changes serial f (c ∷ cs)) n))) (sym (serials_changed serial (length (c ∷ cs)) n.branches))
           (subst (λ o. Agrees told now (serials_of n.branches) (history_of o)) (sym (file_after file f (changed_file serial (c ∷ cs)) n.directory (λ g. refl) (bytes_eq f file) refl)) a))
 
-  end_tells : (label : List ℕ) → early w (At node (EndTrans label)) ≡ None → DoneTells (EndTrans label) w
-  end_tells label = at_up (EndTrans label) refl (λ n found up passes.
+  end_tells : (label : List ℕ) → refused_first w (At node (EndTrans label)) ≡ None → DoneTells (EndTrans label) w
+  end_tells label = at_up (EndTrans label) (λ n. refl) (λ n found up passes.
       branch_row (EndTrans label) n label (committed n) line.Normal (neither _ _ passes).1 (λ b i named.
       let s : Settlement = record { tid = b.tid; serial = b.serial; outcome = Commit; reason = None; moment = next_moment n } in
       acts_told node file (puts b.serial told) puts w n (Settles s) found (λ u.
@@ -224,8 +227,8 @@ module _ (node file : List ℕ) (es : List Entry) (w : World) (sound : IsSoundWo
       (subst (λ serials. Agrees (puts b.serial told) puts serials (settled_at b.serial Commit (next_moment n) (history_at file n))) (sym (branches_minus b.serial n.branches))
       (commits_agree told puts (serials_of n.branches) (history_at file n) (t n found up) b.serial (next_moment n) (found_each IsSoundNode node w.nodes n sound.0 found).0.different i)))))
 
-  abort_tells : (label : List ℕ) → early w (At node (AbortTrans label)) ≡ None → DoneTells (AbortTrans label) w
-  abort_tells label = at_up (AbortTrans label) refl (λ n found up passes.
+  abort_tells : (label : List ℕ) → refused_first w (At node (AbortTrans label)) ≡ None → DoneTells (AbortTrans label) w
+  abort_tells label = at_up (AbortTrans label) (λ n. refl) (λ n found up passes.
       branch_row (AbortTrans label) n label (aborted Aborted n) line.Normal (neither _ _ passes).1 (λ b i named.
       let s : Settlement = record { tid = b.tid; serial = b.serial; outcome = Abort; reason = Some Aborted; moment = next_moment n } in
       acts_told node file told puts w n (Settles s) found (λ u.
@@ -233,21 +236,21 @@ module _ (node file : List ℕ) (es : List Entry) (w : World) (sound : IsSoundWo
       (subst (λ serials. Agrees told puts serials (settled_at b.serial Abort (next_moment n) (history_at file n))) (sym (branches_minus b.serial n.branches))
       (aborts_agree told puts (serials_of n.branches) (history_at file n) (t n found up) b.serial (next_moment n) (found_each IsSoundNode node w.nodes n sound.0 found).0.different)))))
 
-  dump_tells : (f : List ℕ) → early w (At node (Dump f)) ≡ None → DoneTells (Dump f) w
-  dump_tells f = at_up (Dump f) refl (λ n found up passes m e u.
+  dump_tells : (f : List ℕ) → refused_first w (At node (Dump f)) ≡ None → DoneTells (Dump f) w
+  dump_tells f = at_up (Dump f) (λ n. refl) (λ n found up passes m e u.
       let shown = records_of n f in
       let here : Agrees told puts (serials_of m.branches) (history_at file m) = t m (ap (λ (x : World). find_node node x.nodes) (sym (shown_do_nothing node shown w)) ∙ e) u in
       agrees_as told _ puts puts (serials_of m.branches) (history_at file m) here (sym (shown_commit_nothing sets shown (length shown) told)) (λ id k. refl))
 
-  crash_tells : early w (At node Crash) ≡ None → DoneTells Crash w
-  crash_tells = at_up Crash refl (λ n found up passes. acts_told node file told puts w n Falls found (λ u. let none : ⊥ = cc in absurd none))
+  crash_tells : refused_first w (At node Crash) ≡ None → DoneTells Crash w
+  crash_tells = at_up Crash (λ n. refl) (λ n found up passes. acts_told node file told puts w n Falls found (λ u. let none : ⊥ = cc in absurd none))
 
-  fuse_tells : (writes choice : ℕ) → early w (At node (Fuse writes choice)) ≡ None → DoneTells (Fuse writes choice) w
+  fuse_tells : (writes choice : ℕ) → refused_first w (At node (Fuse writes choice)) ≡ None → DoneTells (Fuse writes choice) w
   fuse_tells writes choice e =
       let request = Fuse writes choice in
       let there = served w node request e in
       subst (λ rs. RowsTell w request rs (answer w (At node request))) (sym (rows_found w node request there.n there.found))
-      (subst (RowsTell w request (rows_at w there.n request)) (sym (answer_found w node request there.n there.found)) (acts_told node file told puts w there.n (Arms writes choice) there.found (λ up. t there.n there.found up)))
+      (subst (RowsTell w request (done_at w.shared there.n request)) (sym (answer_found w node request there.n there.found)) (acts_told node file told puts w there.n (Arms writes choice) there.found (λ up. t there.n there.found up)))
 
   -- A new file is told to have no records.
 
@@ -289,13 +292,13 @@ module _ (node file : List ℕ) (es : List Entry) (w : World) (sound : IsSoundWo
       go (Some place) free = with_start place free (lowest_free n (blocks_for bucket size form))
       go None free = λ m e u. subst (λ k. Agrees k puts (serials_of m.branches) (history_at file m)) now (t m e u)
 
-  create_tells : (f : List ℕ) (bucket size : ℕ) (form : Form) → early w (At node (Create f bucket size form)) ≡ None → DoneTells (Create f bucket size form) w
-  create_tells f bucket size form = at_up (Create f bucket size form) refl (λ n found up passes.
+  create_tells : (f : List ℕ) (bucket size : ℕ) (form : Form) → refused_first w (At node (Create f bucket size form)) ≡ None → DoneTells (Create f bucket size form) w
+  create_tells f bucket size form = at_up (Create f bucket size form) (λ n. refl) (λ n found up passes.
       create_rows n f bucket size form found up (not_there n f (neither (new_file n f) (refused_if (not (is_file_form bucket size form)) line.BadParameter) passes).0))
 
   -- A node whose disk is made to run again.
 
-  init_tells : (taken : Bool) (slots journal : ℕ) → early w (At node (Init slots journal)) ≡ None → DoneTells (Init slots journal) (readied taken w (At node (Init slots journal)))
+  init_tells : (taken : Bool) (slots journal : ℕ) → refused_first w (At node (Init slots journal)) ≡ None → DoneTells (Init slots journal) (readied taken w (At node (Init slots journal)))
   init_tells taken slots journal e =
       let request = Init slots journal in
       let ready = readied taken w (At node request) in
@@ -306,7 +309,7 @@ module _ (node file : List ℕ) (es : List Entry) (w : World) (sound : IsSoundWo
       subst (λ rs. RowsTell ready request rs (answer ready (At node request))) (sym (rows_found ready node request n found))
       (acts_told node file _ _ ready n (Formats slots journal) found (λ up. absurd (both_ways n.up down up)))
 
-  boot_tells : (taken : Bool) → early w (At node Boot) ≡ None → DoneTells Boot (readied taken w (At node Boot))
+  boot_tells : (taken : Bool) → refused_first w (At node Boot) ≡ None → DoneTells Boot (readied taken w (At node Boot))
   boot_tells taken e =
       let ready = readied taken w (At node Boot) in
       let m = is_ready taken w node Boot e in
@@ -318,7 +321,7 @@ module _ (node file : List ℕ) (es : List Entry) (w : World) (sound : IsSoundWo
       let tells : records_after node file sets (Says (At node Boot)) ((last_lines n ++ []) ++ line.NormalCount (n.boot + 1) ∷ []) (acts node ComesUp mid) told ≡ current (history_at file (acted Boots n)) =
       records_booted node file sets (Says (At node Boot)) ((last_lines n ++ []) ++ line.NormalCount (n.boot + 1) ∷ []) (acts node ComesUp mid) told (booted node n (n.boot + 1)) ∙ standing_is node file (acts node ComesUp mid) (acted ComesUp (acted Boots n)) end_found in
       subst (λ rs. RowsTell ready Boot rs (answer ready (At node Boot))) (sym (rows_found ready node Boot n m.ready))
-      (subst (RowsTell ready Boot (rows_at ready n Boot)) (sym (answer_found ready node Boot n m.ready))
+      (subst (RowsTell ready Boot (done_at ready.shared n Boot)) (sym (answer_found ready node Boot n m.ready))
       (acts_told node file _ puts mid (acted Boots n) ComesUp mid_found (λ up. subst (λ k. Agrees k puts [] (history_at file (acted Boots n))) (sym tells) stands)))
     where
       stood : (g : ℕ) (o : Option File) → (history_of (option_map (as_it_stands g) o)).live ≡ []
@@ -329,7 +332,7 @@ module _ (node file : List ℕ) (es : List Entry) (w : World) (sound : IsSoundWo
       no_live n = ap (λ o. (history_of o).live) (mapped_file file (as_it_stands n.greatest) n.directory (λ f. refl)) ∙ stood n.greatest (find_file file n.directory)
 
   -- a statement to this node that is done
-  done_tells : (request : Request) (taken : Bool) → early w (At node request) ≡ None → DoneTells request (readied taken w (At node request))
+  done_tells : (request : Request) (taken : Bool) → refused_first w (At node request) ≡ None → DoneTells request (readied taken w (At node request))
   done_tells (Init slots journal) taken e = init_tells taken slots journal e
   done_tells Boot taken e = boot_tells taken e
   done_tells (Create f bucket size form) taken e = create_tells f bucket size form e
@@ -420,7 +423,7 @@ module _ (node file : List ℕ) (es : List Entry) (w v : World) (sound : IsSound
             let old : IsDrawn n.name n.boot n.drawn id → ⊥ = λ d. new (drawn_after n there.found serial f (changes_at n f op) k (sym goes ∙ found) id d) in
             let other : same_id id serial ≡ false = false_from_ne_true _ (λ e. old (subst (IsDrawn n.name n.boot n.drawn) (sym (id_is id serial e)) drawn)) in
             others id serial m (id_told node l es) named (file_of node file w) (bytes_eq node node && bytes_eq f file) other ∙ still.0 k found id new m,
-        λ unused id m. absurd (both_ways w.in_use (step_keeps node request (λ (u : World). u.in_use ≡ false → w.in_use ≡ false) (unused_kept node w.in_use) w v (answer ∷ []) step sound (λ e. e) unused)
+        λ unused id m. absurd (both_ways w.shared.in_use (step_keeps node request (λ (u : World). u.shared.in_use ≡ false → w.shared.in_use ≡ false) (unused_kept node w.shared.in_use) w v (answer ∷ []) step sound (λ e. e) unused)
             (in_use_up w node n sound there.found (served_up w n request refl there.passes_here))),
       )
     where

@@ -12,13 +12,17 @@ use Rattle.transcript_model.specs.Lines.{Line, Cause}
 use Rattle.script_model.specs.Statements.{At, Request, Init, Boot, Create, Records, Operation, Put, Update, Delete, Truncate, Get, Next, Reading, Says}
 use Rattle.records_model.specs.Records.{Records as TheRecords}
 use Rattle.records_model.specs.History.{History, LiveChanges, same_id, changes_by, settled_at}
-use Rattle.run_model.specs.World.{World, Node, File, Organization, Sequential, Relative, Indexed, Settlement, Act, Formats, Boots, ComesUp, Creates, Marks, Begins, Changes, Settles, Arms, Falls, find_node, find_file, serials_of, with_file, settled_file, acted, acts, next_id, is_durable, powered}
-use Rattle.run_model.specs.Answers.{early, early_up, shown_record, is_unknown, is_volume_form, powers, spoils}
+use Rattle.run_model.specs.World.{World, Node, File, Organization, Sequential, Relative, Indexed, Settlement, Act, Formats, Boots, ComesUp, Creates, Marks, Begins, Changes, Settles, Arms, Falls, find_node, find_file, serials_of, with_file, settled_file, acted, next_id, is_durable, powered}
+use Rattle.run_model.specs.Answers.{is_volume_form, powers, refused_where_served, shown_record, spoils}
+use Rattle.run_model.specs.Steps.{lines_of_rows, ready_node, spoilt}
+use Rattle.run_model.specs.Statements.{stops_at}
+use Rattle.run_model.specs.Laws.{is_refusal, refused_first}
+use Rattle.run_model.proofs.ReadyLemmas.{acted_name, powered_is, resolved}
+use Rattle.run_model.proofs.Ways.{acts, after_rows, readied}
+use Rattle.run_model.proofs.WorldLemmas.{ready_nodes}
 use Rattle.run_model.specs.Operations.{refused_if}
-use Rattle.run_model.specs.Steps.{after_rows, lines_of_rows, readied, spoilt, stops_at}
 use Rattle.run_model.specs.Transcript.{Entry}
 use Rattle.run_model.specs.Promises.{In, Told, with_sets, told_by, put_sets, sets_of, one_told, file_of, sets_here, id_told, commits_here, booted_here, created_here, standing}
-use Rattle.run_model.specs.Laws.{is_refusal}
 use Rattle.run_model.proofs.IdLemmas.{Each, each_at, id_itself}
 use Rattle.run_model.proofs.FindLemmas.{found_each, changed_node, some_is, found_file_each, changed_file, other_file, mapped_file}
 use Rattle.run_model.proofs.Soundness.{IsSoundNode, IsSoundFile, IsSoundWorld, IsUnused, IsDrawn, MayBeUnderWay}
@@ -26,7 +30,6 @@ use Rattle.run_model.proofs.NodeLemmas.{drawn_other, apart_next}
 use Rattle.run_model.proofs.HistoryLemmas.{by_none}
 use Rattle.run_model.proofs.AgreementLemmas.{Agrees}
 use Rattle.run_model.proofs.AnswerLemmas.{neither, not_refused, Served, served}
-use Rattle.run_model.proofs.ReadyLemmas.{acted_name, powered_is, resolved, ready_node, ready_nodes}
 use Rattle.run_model.proofs.WayLemmas.{CommitsAt}
 
 -- the history of a file; where there is none, one without records
@@ -219,15 +222,15 @@ pub ready_up : (taken : Bool) (stops : ℕ) (b : Bool) (n : Node) → MayBeUnder
 ready_up taken stops true n may = ap (λ (m : Node). m.up) (powered_is taken stops n) ∙ resolved_up taken n.under_way n may
 ready_up taken stops false n may = ap (λ (m : Node). m.up) (powered_is taken stops n) ∙ resolved_up taken n.under_way n may
 
-pub powering_down : (w : World) (node : List ℕ) (request : Request) (n : Node) → IsSoundWorld w → find_node node w.nodes ≡ Some n → early_up w n request ≡ None → powers request ≡ true → n.up ≡ false
+pub powering_down : (w : World) (node : List ℕ) (request : Request) (n : Node) → IsSoundWorld w → find_node node w.nodes ≡ Some n → refused_where_served w.shared n request ≡ None → powers request ≡ true → n.up ≡ false
 powering_down w node (Init slots journal) n sound found e p =
-    let unused = not_refused w.in_use line.VolumeInUse (neither (refused_if w.in_use line.VolumeInUse) (refused_if (not (is_volume_form slots journal n)) line.BadParameter) e).0 in
+    let unused = not_refused w.shared.in_use line.VolumeInUse (neither (refused_if w.shared.in_use line.VolumeInUse) (refused_if (not (is_volume_form slots journal n)) line.BadParameter) e).0 in
     (found_each IsUnused node w.nodes n (sound.1 unused) found).0
-powering_down w node Boot n sound found e p = not_refused n.up line.NodeUp (neither (refused_if n.up line.NodeUp) (refused_if (is_unknown n.volume) line.NotInitialized) e).0
+powering_down w node Boot n sound found e p = not_refused n.up line.NodeUp (neither (refused_if n.up line.NodeUp) (refused_if n.unmade line.NotInitialized) e).0
 powering_down w node _ n sound found e p = let none : ⊥ = cc in absurd none
 
 -- a node that is up in the world once its disk was made to run again was not made to
-pub up_as_before : (taken : Bool) (w : World) (node : List ℕ) (request : Request) (m : Node) → IsSoundWorld w → early w (At node request) ≡ None → find_node node (readied taken w (At node request)).nodes ≡ Some m → m.up ≡ true →
+pub up_as_before : (taken : Bool) (w : World) (node : List ℕ) (request : Request) (m : Node) → IsSoundWorld w → refused_first w (At node request) ≡ None → find_node node (readied taken w (At node request)).nodes ≡ Some m → m.up ≡ true →
     find_node node w.nodes ≡ Some m
 up_as_before taken w node request m sound e found up = go (powers request) refl (sym (ready_nodes taken w node request ∙ ap (option_map (ready_node taken (stops_at node w) request)) there.found) ∙ found)
   where

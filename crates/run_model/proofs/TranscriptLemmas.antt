@@ -10,7 +10,7 @@ use Rattle.transcript_model.proofs.OutsideLemmas.{behind_on, behind_none}
 use Rattle.script_model.specs.Statements.{Statement, Blank, Says, Bad}
 use Rattle.script_model.specs.Grammar.{reading}
 use Rattle.run_model.specs.World.{World}
-use Rattle.run_model.specs.Steps.{Step}
+use Rattle.run_model.specs.Statements.{Step}
 use Rattle.run_model.specs.Transcript.{Entry, Legal, Turn, number_after, size_before, text_of, lines_then, Exit, Done, BadLine, TooLong, ReadFault, WriteFault, Memory, Continues, IsInLimits, AreInLimits, BeginsBad, EndsTooLong, CutIn, Ran}
 
 -- What one emitted text adds: all of it, or where a write failed a front of it.

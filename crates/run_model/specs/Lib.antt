@@ -3,6 +3,8 @@ pub mod World
 pub mod Operations
 pub mod Answers
 pub mod Steps
+pub mod Statements
 pub mod Transcript
+pub mod Said
 pub mod Promises
 pub mod Laws

@@ -8,6 +8,7 @@ use Rattle.transcript_model.specs.Lines as line
 use Rattle.transcript_model.specs.Lines.{Line}
 use Rattle.script_model.specs.Statements.{Operation, Put, Update, Delete, Truncate, Get, Next}
 use Rattle.records_model.specs.Records.{Records, Change, key_cmp}
+use Rattle.records_model.specs.Layout.{used_of, need_of as need_of_layout}
 use Rattle.records_model.specs.History.{current}
 use Rattle.records_model.specs.Placing.{Filled, filled_by, first_bucket}
 use Rattle.run_model.specs.World.{File, Organization, Sequential, Relative, Indexed, capacity}
@@ -62,11 +63,11 @@ first_behind after (e ∷ es) = if is_behind after e.0 then Some e else first_be
 abbrev pub placed : File → Filled
 placed f = filled_by (capacity f) first_bucket (map (λ e. length e.1 + 2) (in_order f))
 
--- how many buckets a file so organized has in use: all; those that its records take, one at least; or those of its chain
+-- how many buckets a file so organized has in use: all; those that its records take, one at least; or those of its layout
 abbrev pub used_by : Organization → File → ℕ
 used_by Sequential f = (placed f).buckets
 used_by (Relative greatest) f = f.buckets
-used_by (Indexed position size) f = length f.chain
+used_by (Indexed position size) f = used_of f.layout
 
 -- how many buckets a file has in use
 abbrev pub used : File → ℕ
@@ -200,22 +201,22 @@ changes_of f (Next after) = []
 abbrev pub one_more : File → List ℕ → ℕ
 one_more f bytes = if nat_le ((placed f).bytes + (length bytes + 2)) (capacity f) then 0 else 1
 
--- how many free buckets a record that is put wants: in an indexed file, whose buckets are one level, three
+-- how many free buckets a record that is put wants: in an indexed file, by its layout
 abbrev pub put_need : Organization → File → List ℕ → ℕ
 put_need Sequential f bytes = one_more f bytes
 put_need (Relative greatest) f bytes = 0
-put_need (Indexed position size) f bytes = 3
+put_need (Indexed position size) f bytes = need_of_layout f.layout
 
 -- and one that takes the place of another
-abbrev pub update_need : Organization → ℕ
-update_need Sequential = 0
-update_need (Relative greatest) = 0
-update_need (Indexed position size) = 3
+abbrev pub update_need : Organization → File → ℕ
+update_need Sequential f = 0
+update_need (Relative greatest) f = 0
+update_need (Indexed position size) f = need_of_layout f.layout
 
 -- how many free buckets an operation wants
 abbrev pub need_of : File → Operation → ℕ
 need_of f (Put number bytes) = put_need f.organization f bytes
-need_of f (Update key bytes) = update_need f.organization
+need_of f (Update key bytes) = update_need f.organization f
 need_of f (Delete key) = 0
 need_of f (Truncate number) = 0
 need_of f (Get key) = 0

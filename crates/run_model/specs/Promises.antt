@@ -6,15 +6,15 @@ use Rattle.vms_model.specs.Ids.{Id}
 use Rattle.vms_model.specs.Keys.{Key, Number, Text}
 use Rattle.vms_model.specs.Transactions.{Outcome, Commit, Abort, Reason, Aborted}
 use Rattle.transcript_model.specs.Lines as line
-use Rattle.transcript_model.specs.Lines.{Line}
+use Rattle.transcript_model.specs.Lines.{Line, Cause}
 use Rattle.script_model.specs.Statements.{Statement, At, Reading, Says, Boot, Create, StartTrans, Records, EndTrans, AbortTrans, Dump, Operation, Put, Update, Delete, Truncate}
 use Rattle.script_model.specs.Grammar.{reading}
 use Rattle.records_model.specs.Records as base
 use Rattle.records_model.specs.Records.{set_key}
 use Rattle.records_model.specs.History.{same_id, current}
-use Rattle.run_model.specs.World.{World, Settlement, File, Organization, Indexed, find_node, find_file}
+use Rattle.run_model.specs.World.{World, Node, Settlement, File, Organization, Indexed, find_node, find_file}
 use Rattle.run_model.specs.Operations.{in_order, key_within}
-use Rattle.run_model.specs.Steps.{Step}
+use Rattle.run_model.specs.Statements.{Step}
 use Rattle.run_model.specs.Transcript.{Entry, Turn}
 
 -- x is one of these
@@ -29,6 +29,14 @@ pub record SaidThere (es : List Entry) (before : List Entry) (s : Statement) (ev
   pub stands : es ≡ after ++ entry ∷ before
   pub said : reading entry.source.text ≡ Says s
   pub shown : entry.lines ≡ events ++ answer ∷ []
+
+-- an entry of a transcript, between those after it and those before it, read so, and this line was shown for it, between those before and behind it
+pub record ShownThere (es : List Entry) (before : List Entry) (said : Reading) (front : List Line) (this : Line) (behind : List Line) : Type 0 where
+  pub after : List Entry
+  pub entry : Entry
+  pub stands : es ≡ after ++ entry ∷ before
+  pub read : reading entry.source.text ≡ said
+  pub shown : entry.lines ≡ front ++ this ∷ behind
 
 -- the settlements of a node, the newest first
 abbrev pub settlements_of : List ℕ → World → List Settlement
@@ -152,9 +160,34 @@ abbrev pub IsSettledSo : List ℕ → Id → Outcome → Option Reason → ℕ �
 IsSettledSo node tid outcome reason moment w =
     (s : Settlement) × In s (settlements_of node w) × (s.tid ≡ tid) × (s.serial ≡ tid) × (s.outcome ≡ outcome) × (s.reason ≡ reason) × (s.moment ≡ moment)
 
+-- what stands behind the line of a settlement at this node: that the statement succeeded, or that the node went down, for its disk failed or was stopped
+abbrev pub EndsSettled : List ℕ → List Line → Type 0
+EndsSettled node behind = (behind ≡ line.Normal ∷ []) ⊎ ((cause : Cause) × (behind ≡ line.Down node cause ∷ line.Broken cause ∷ []))
+
 -- a START_TRANS at this node made this label, and was answered with this transaction
 abbrev pub WasBegun : List Entry → List ℕ → List ℕ → Id → Type 0
 WasBegun es node label tid = (before : List Entry) × SaidThere es before (At node (StartTrans label)) [] (line.NormalId tid)
+
+-- no settlement of this branch is one of this node
+abbrev pub IsNeverSettled : List ℕ → Id → World → Type 0
+IsNeverSettled node serial w = (s : Settlement) → In s (settlements_of node w) → s.serial ≡ serial → ⊥
+
+-- the last settlement that the node's disk had is of this branch, whose id is of a later boot than the disk had counted
+abbrev pub IsLastOf : List ℕ → Id → World → Type 0
+IsLastOf node serial w = (n : Node) × (s : Settlement) × (find_node node w.nodes ≡ Some n) × (n.last ≡ Some s) × (s.serial ≡ serial) × (n.boot < serial.boot)
+
+-- no BOOT of this node succeeded in these entries
+abbrev pub NoneBooted : List ℕ → List Entry → Type 0
+NoneBooted node [] = Unit {0}
+NoneBooted node (e ∷ es) = (booted_here node (reading e.source.text) e.lines ≡ false) × NoneBooted node es
+
+-- A BOOT that showed these lines tells what became of a transaction: it shows that it is committed, and so it is for good; or it does not show that, and the
+-- transaction is never settled. Where the disk had a settlement of its id before the first line, that may be the one that is shown; and then that id is
+-- of a later boot than the disk had counted.
+abbrev pub IsDecided : List ℕ → Id → List Line → (opening closing : World) → Type 0
+IsDecided node tid shown opening closing =
+    ((moment : ℕ) × (shown ≡ line.LastCommitted tid tid moment ∷ []) × IsSettledSo node tid Commit None moment closing)
+    ⊎ (IsNeverSettled node tid closing × ((moment : ℕ) → shown ≡ line.LastCommitted tid tid moment ∷ [] → IsLastOf node tid opening))
 
 -- of settlements, the newest first, each comes at a later moment than all that are older
 abbrev pub Descends : List Settlement → Type 0
@@ -178,6 +211,18 @@ pub record Promises (opening : World) (es : List Entry) (closing : World) : Type
   -- An ABORT_TRANS that succeeded showed that the transaction which its label names is aborted, for that was asked, and it is so from then on and for good.
   pub aborts : (before : List Entry) (node label : List ℕ) (events : List Line) → SaidThere es before (At node (AbortTrans label)) events line.Normal →
       (tid : Id) × (moment : ℕ) × (events ≡ line.Aborted tid tid Aborted moment ∷ []) × WasBegun before node label tid × IsSettledSo node tid Abort (Some Aborted) moment closing
+  -- The line of a commitment is shown by an END_TRANS alone, and first: of the transaction which its label names. That is committed so from then on and for
+  -- good, also where the node goes down behind it.
+  pub commits : (before : List Entry) (said : Reading) (front behind : List Line) (tid serial : Id) (moment : ℕ) → ShownThere es before said front (line.Committed tid serial moment) behind →
+      (node : List ℕ) × (label : List ℕ) × (said ≡ Says (At node (EndTrans label))) × (front ≡ []) × EndsSettled node behind × (serial ≡ tid) × WasBegun before node label tid × IsSettledSo node tid Commit None moment closing
+  -- The line of an abort is shown by an ABORT_TRANS alone, and first: of the transaction which its label names, and for that was asked. That is aborted so
+  -- from then on and for good.
+  pub undoes : (before : List Entry) (said : Reading) (front behind : List Line) (tid serial : Id) (reason : Reason) (moment : ℕ) → ShownThere es before said front (line.Aborted tid serial reason moment) behind →
+      (node : List ℕ) × (label : List ℕ) × (said ≡ Says (At node (AbortTrans label))) × (front ≡ []) × EndsSettled node behind × (serial ≡ tid) × (reason ≡ Aborted) × WasBegun before node label tid × IsSettledSo node tid Abort (Some Aborted) moment closing
+  -- Where a failure ended an END_TRANS, the next BOOT of its node that succeeds tells what became of the transaction which its label names.
+  pub interrupted : (before : List Entry) (node label : List ℕ) (events : List Line) (cause : Cause) → (there : SaidThere es before (At node (EndTrans label)) events (line.Broken cause)) →
+      (between : List Entry) (shown : List Line) (count : ℕ) → SaidThere there.after between (At node Boot) shown (line.NormalCount count) → NoneBooted node between →
+      (tid : Id) × WasBegun before node label tid × IsDecided node tid shown opening closing
   -- Each dump that succeeded showed just the records that the entries before it tell of the file, in the order of their keys, and their number;
   pub dumps : (before : List Entry) (node file : List ℕ) (events : List Line) (count : ℕ) → SaidThere es before (At node (Dump file)) events (line.NormalCount count) →
       (mid : World) × (a : Account) × Tells node file opening before mid a × Shows events count a.records

@@ -1,11 +1,11 @@
 -- The world of a run: what the statements so far have made of the nodes.
 use Rattle.std.specs.Prelude.{◌≡◌, ℕ, suc, ◌+◌, ◌-◌, ◌*◌, List, [], ◌∷◌, Bool, true, false, Option, Some, None, if◌then◌else◌, map, length, option_map, ◌++◌, nat_le, replicate, slice_set}
 use Rattle.std.specs.Str.{bytes_eq}
+use Rattle.std.specs.Option.{option_and_then}
 use Rattle.vms_model.specs.Ids.{Id}
 use Rattle.vms_model.specs.Transactions.{Outcome, Commit, Abort, Reason}
 use Rattle.records_model.specs.Records.{Change}
-use Rattle.records_model.specs.Slots.{Slot}
-use Rattle.records_model.specs.Chain.{chain_changed, chain_undone}
+use Rattle.records_model.specs.Layout.{Layout, layout_changed, layout_undone}
 use Rattle.records_model.specs.History.{History, same_id, current, changes_by, changed_with, is_held, settled_at}
 use Rattle.run_model.specs.Extents.{Extent, longest_run, lowest_run}
 
@@ -23,11 +23,14 @@ pub record Branch : Type 0 where
   pub serial : Id
   pub changes : ℕ
 
--- a label, the node it was made for, and the branch that it names
+-- A label: the node that it was made for, and its transaction. It names the transaction's first branch, or a branch that was authorised by this identifier;
+-- the serial is that of the branch, once there is one.
 pub record Label : Type 0 where
   pub name : List ℕ
   pub node : List ℕ
-  pub serial : Id
+  pub tid : Id
+  pub bid : Option Id
+  pub serial : Option Id
 
 -- How a file keeps its records: one behind the other, at the positions from 1 on; in cells, at the numbers from 1 to the greatest; or by a key of this
 -- size, in bytes, which stands at this position of each record, from 0.
@@ -36,8 +39,38 @@ pub data Organization : Type 0 where
   Relative : (greatest : ℕ) → Organization
   Indexed : (position size : ℕ) → Organization
 
--- A file: how its buckets and records are sized, how it keeps records, where its buckets lie, what else it has to itself, whether it is marked for
--- recovery units, its history, and, where it is indexed, the chain of its used buckets. A bucket is counted in blocks, a record in bytes.
+-- a journal: its blocks, and between which positions, in bytes, its entries lie
+pub record JournalSpan : Type 0 where
+  pub start : ℕ
+  pub blocks : ℕ
+  pub first : ℕ
+  pub end : ℕ
+
+-- A file's saved copy: its blocks, in buckets from the first block on; the position of the journal of after images and the moment at which it was made;
+-- and what the file's head told then of its records.
+pub record SavedCopy : Type 0 where
+  pub start : ℕ
+  pub buckets : ℕ
+  pub position : ℕ
+  pub moment : ℕ
+  pub used : ℕ
+  pub root : ℕ
+  pub levels : ℕ
+  pub count : ℕ
+
+-- What a file carries for its recovery: whether it is marked for after images, for before images and as saved; the two journals of images, the moment since
+-- which before images are kept, and the saved copy.
+pub record Carried : Type 0 where
+  pub keeps_after : Bool
+  pub keeps_before : Bool
+  pub is_saved : Bool
+  pub after : JournalSpan
+  pub before : JournalSpan
+  pub since : ℕ
+  pub save : SavedCopy
+
+-- A file: how its buckets and records are sized, how it keeps records, where its buckets lie, what it carries for its recovery, whether it is marked for
+-- recovery units, its history, and, where it is indexed, the layout of its used buckets. A bucket is counted in blocks, a record in bytes.
 pub record File : Type 0 where
   pub name : List ℕ
   pub bucket : ℕ
@@ -45,17 +78,41 @@ pub record File : Type 0 where
   pub organization : Organization
   pub start : ℕ
   pub buckets : ℕ
-  pub others : List Extent
+  pub carried : Carried
   pub recovery_units : Bool
   pub history : History
-  pub chain : List (List Slot)
+  pub layout : Layout
 
 -- the blocks of a file's buckets
 abbrev pub extent_of : File → Extent
 extent_of f = record { start = f.start; blocks = f.buckets * f.bucket }
 
--- What a node's disk has: a volume of this node; none, for of the conditions of a volume this is the first that fails, at this block; or, after an
--- INIT that failed, nothing that is known.
+-- the blocks of a journal
+abbrev pub journal_extent : JournalSpan → Extent
+journal_extent j = record { start = j.start; blocks = j.blocks }
+
+-- the blocks that a file has to itself besides its buckets: its journals' and its saved copy's
+abbrev pub others_of : File → List Extent
+others_of f = journal_extent f.carried.after ∷ journal_extent f.carried.before ∷ record { start = f.carried.save.start; blocks = f.carried.save.buckets * f.bucket } ∷ []
+
+-- no journal
+abbrev pub no_journal : JournalSpan
+no_journal = record { start = 0; blocks = 0; first = 0; end = 0 }
+
+-- nothing is carried
+abbrev pub nothing_carried : Carried
+nothing_carried = record {
+  keeps_after = false;
+  keeps_before = false;
+  is_saved = false;
+  after = no_journal;
+  before = no_journal;
+  since = 0;
+  save = record { start = 0; buckets = 0; position = 0; moment = 0; used = 0; root = 0; levels = 0; count = 0 };
+}
+
+-- What a node's disk has: a volume of this node; none, for of the conditions of a volume this is the first that fails, at this block; or nothing that is
+-- known: after an INIT that failed, or before a run on a disk of which nothing is promised.
 pub data Volume : Type 0 where
   Sound : Volume
   Faulty : (condition block : ℕ) → Volume
@@ -93,20 +150,23 @@ pub data Call : Type 0 where
   Arm : (writes choice : ℕ) → Call
   Power : (stops : ℕ) → Call
 
--- A node. What its disk has, which outlasts the node's fall: the volume, its sizes, how often the node was booted, the greatest moment, the last
--- settlement, and the directory, a place for each file number. What the node has of its own: whether it is up, and was up before in this run; its
--- clock; how many ids it drew in this boot; and its unsettled branches in the order of their start. And of the run: its settlements and the calls that
--- armed or powered its disk, the newest first. Where it fell in a statement that its disk did not serve, an act may be under way: whether it has
--- taken place is settled when the disk runs again.
+-- A node. What its disk has, which outlasts the node's fall: the volume, and whether the last INIT that made the disk run failed; the volume's sizes, how
+-- often the node was booted, the greatest moment, the last settlement, where its journal of recovery units lies and between which positions the entries
+-- stand, and the directory, a place for each file number. What the node has of its own: whether it is up, and was up before in this run; its clock; how many
+-- ids it drew in this boot; and its unsettled branches in the order of their start. And of the run: its settlements and the calls that armed or powered its
+-- disk, the newest first. Where it fell in a statement that its disk did not serve, an act may be under way: whether it has taken place is settled when the
+-- disk runs again.
 pub record Node : Type 0 where
   pub name : List ℕ
   pub blocks : ℕ
   pub volume : Volume
+  pub unmade : Bool
   pub slots : ℕ
   pub journal : ℕ
   pub boot : ℕ
   pub greatest : ℕ
   pub last : Option Settlement
+  pub units : JournalSpan
   pub directory : List (Option File)
   pub up : Bool
   pub was_up : Bool
@@ -122,12 +182,17 @@ pub record DiskCounts : Type 0 where
   pub faults : ℕ
   pub stops : ℕ
 
--- the nodes and their disks in the order of the rack, the labels, the newest first, and whether a node was booted in this run
+-- What the nodes of a rack share: the labels, the newest first, and whether a BOOT of this run succeeded or was ended by a failure of its disk, so that no
+-- volume is made any more.
+pub record Shared : Type 0 where
+  pub labels : List Label
+  pub in_use : Bool
+
+-- the nodes and their disks in the order of the rack, and what they share
 pub record World : Type 0 where
   pub nodes : List Node
   pub disks : List DiskCounts
-  pub labels : List Label
-  pub in_use : Bool
+  pub shared : Shared
 
 -- Finding.
 
@@ -158,7 +223,7 @@ free_place (Some f ∷ fs) = option_map suc (free_place fs)
 abbrev pub extents_of : List (Option File) → List Extent
 extents_of [] = []
 extents_of (None ∷ fs) = extents_of fs
-extents_of (Some f ∷ fs) = extent_of f ∷ f.others ++ extents_of fs
+extents_of (Some f ∷ fs) = extent_of f ∷ others_of f ++ extents_of fs
 
 -- the label of this name, whatever its node, where there is one
 abbrev pub find_label : List ℕ → List Label → Option Label
@@ -174,9 +239,13 @@ find_branch serial (b ∷ bs) = if same_id serial b.serial then Some b else find
 abbrev pub serials_of : List Branch → List Id
 serials_of bs = map (λ b. b.serial) bs
 
--- the branch that a label names, where it was made for this node
-abbrev pub labelled : List ℕ → List ℕ → List Label → Option Id
-labelled node name ls = elim (find_label name ls) [ Some l ↦ (if bytes_eq node l.node then Some l.serial else None) | None ↦ None ]
+-- the label of this name, where it was made for this node
+abbrev pub labelled : List ℕ → List ℕ → List Label → Option Label
+labelled node name ls = elim (find_label name ls) [ Some l ↦ (if bytes_eq node l.node then Some l else None) | None ↦ None ]
+
+-- the serial of the branch that it names
+abbrev pub serial_labelled : List ℕ → List ℕ → List Label → Option Id
+serial_labelled node name ls = option_and_then (λ (l : Label). l.serial) (labelled node name ls)
 
 -- Changing.
 
@@ -200,6 +269,12 @@ without_branch serial (b ∷ bs) = if same_id serial b.serial then bs else b ∷
 abbrev pub with_node : List ℕ → (Node → Node) → List Node → List Node
 with_node name change [] = []
 with_node name change (n ∷ ns) = if bytes_eq name n.name then change n ∷ ns else n ∷ with_node name change ns
+
+-- the counts of the disks, with these of the disk of the node of this name
+abbrev pub with_counts : List ℕ → DiskCounts → List Node → List DiskCounts → List DiskCounts
+with_counts name new [] disks = disks
+with_counts name new (n ∷ ns) [] = []
+with_counts name new (n ∷ ns) (d ∷ ds) = if bytes_eq name n.name then new ∷ ds else d ∷ with_counts name new ns ds
 
 -- the first block behind the log slots and the journal: there begin the blocks for files
 abbrev pub area_start : Node → ℕ
@@ -225,19 +300,19 @@ next_moment n = if nat_le n.clock (n.greatest + 1) then n.greatest + 1 else n.cl
 abbrev pub capacity : File → ℕ
 capacity f = 512 * f.bucket - 16
 
--- A file after changes of an unsettled branch. In a chain the rooms of keys that unsettled branches have changed are held, so that each of them can be
+-- A file after changes of an unsettled branch. In its layout the rooms of keys that unsettled branches have changed are held, so that each of them can be
 -- set back in place.
 abbrev pub changed_file : Id → List Change → File → File
-changed_file serial cs f = record f { history = changed_with serial cs f.history; chain = chain_changed (capacity f) (is_held f.history) cs f.chain }
+changed_file serial cs f = record f { history = changed_with serial cs f.history; layout = layout_changed (capacity f) (is_held f.history) cs f.layout }
 
--- a chain after the branch that made these changes was settled: an abort undoes them
-abbrev pub settled_chain : Outcome → List Change → List (List Slot) → List (List Slot)
-settled_chain Commit cs chain = chain
-settled_chain Abort cs chain = chain_undone cs chain
+-- a layout after the branch that made these changes was settled: an abort undoes them
+abbrev pub settled_layout : Outcome → List Change → Layout → Layout
+settled_layout Commit cs layout = layout
+settled_layout Abort cs layout = layout_undone cs layout
 
 -- every file notes that a branch was settled; only those that it changed have changes of it
 abbrev pub settled_file : Settlement → File → File
-settled_file s f = record f { history = settled_at s.serial s.outcome s.moment f.history; chain = settled_chain s.outcome (changes_by s.serial f.history.live) f.chain }
+settled_file s f = record f { history = settled_at s.serial s.outcome s.moment f.history; layout = settled_layout s.outcome (changes_by s.serial f.history.live) f.layout }
 
 -- Scaffolding: a restart undoes nothing; what unsettled branches had changed stays, and is no more theirs
 abbrev pub as_it_stands : ℕ → File → File
@@ -249,7 +324,7 @@ empty_directory = replicate 64 None
 
 -- what an act makes of its node
 abbrev pub acted : Act → Node → Node
-acted (Formats slots journal) n = record n { volume = Sound; slots = slots; journal = journal; boot = 0; greatest = 0; last = None; directory = empty_directory }
+acted (Formats slots journal) n = record n { volume = Sound; unmade = false; slots = slots; journal = journal; boot = 0; greatest = 0; last = None; units = record { start = 584 + slots; blocks = journal; first = 0; end = 0 }; directory = empty_directory }
 acted Boots n = record n { boot = n.boot + 1; drawn = 0; branches = []; directory = map (option_map (as_it_stands n.greatest)) n.directory }
 acted ComesUp n = record n { up = true; was_up = true }
 acted (Creates place file) n = record n { directory = slice_set n.directory place (Some file) }
@@ -277,22 +352,18 @@ powered taken stops n = record (settles_under_way taken n.under_way n) { calls =
 abbrev pub unpowered : ℕ → Node → Node
 unpowered stops n = record n { up = false; calls = Power stops ∷ n.calls }
 
--- the labels after an act: where a branch begins, one more
-abbrev pub labels_after : Act → List Label → List Label
-labels_after (Begins label b) ls = label ∷ ls
-labels_after (Formats slots journal) ls = ls
-labels_after Boots ls = ls
-labels_after ComesUp ls = ls
-labels_after (Creates place file) ls = ls
-labels_after (Marks file units) ls = ls
-labels_after (Changes serial file changes) ls = ls
-labels_after (Settles s) ls = ls
-labels_after (Arms writes choice) ls = ls
-labels_after Falls ls = ls
-
--- an act at a node
-abbrev pub acts : List ℕ → Act → World → World
-acts node act w = record w { nodes = with_node node (acted act) w.nodes; labels = labels_after act w.labels }
+-- what an act makes of what nodes share: where a branch begins, there is one label more
+abbrev pub shared_after : Act → Shared → Shared
+shared_after (Begins label b) s = record s { labels = label ∷ s.labels }
+shared_after (Formats slots journal) s = s
+shared_after Boots s = s
+shared_after ComesUp s = s
+shared_after (Creates place file) s = s
+shared_after (Marks file units) s = s
+shared_after (Changes serial file changes) s = s
+shared_after (Settles settlement) s = s
+shared_after (Arms writes choice) s = s
+shared_after Falls s = s
 
 -- no file has a branch since its base: its records are those of the base
 abbrev pub AreResting : List (Option File) → Type 0
@@ -303,6 +374,7 @@ AreResting (Some f ∷ fs) = (f.history.settled ≡ []) × (f.history.live ≡ [
 -- a node as it is before the first line: it is down, and what its disk has is all that there is of it
 pub record IsOpening (n : Node) : Type 0 where
   pub down : n.up ≡ false
+  pub made : n.unmade ≡ false
   pub was_down : n.was_up ≡ false
   pub clock : n.clock ≡ 0
   pub drawn : n.drawn ≡ 0
@@ -314,4 +386,4 @@ pub record IsOpening (n : Node) : Type 0 where
 
 -- the world before the first line: these nodes with these disks, and no label
 abbrev pub opened : List Node → List DiskCounts → World
-opened nodes disks = record { nodes = nodes; disks = disks; labels = []; in_use = false }
+opened nodes disks = record { nodes = nodes; disks = disks; shared = record { labels = []; in_use = false } }
