@@ -122,6 +122,7 @@ impl<P: Platter> Disk for CrashDisk<P> {
         ensures exact { is_stopped result ≡ self.old.stopped }
         ensures failed { P.faults self.new.platter ≡ counted (is_failed result) (P.faults self.old.platter) }
         ensures written { OnOk result (P.content self.new.platter ≡ (⟦<CrashDisk<P> as Disk>⟧.state self.old).seen) }
+        ensures synced { OnOk result (P.synced self.new.platter ≡ true) }
         ensures fuse { self.new.fuse ≡ self.old.fuse }
         ensures choice { self.new.choice ≡ self.old.choice }
     {
@@ -130,7 +131,7 @@ impl<P: Platter> Disk for CrashDisk<P> {
             return Err(DiskErr::Stopped);
         }
         write_out(&mut self.platter, &self.pending)?;
-        self.platter.sync()?;
+        self.platter.sync()?; // The blocks are durable before they are pending no more.
         self.pending.clear();
         Ok(())
     }
@@ -154,6 +155,7 @@ impl<P: Platter> Disk for CrashDisk<P> {
         ensures err { OnErr result (⟦<CrashDisk<P> as Disk>⟧.state self.new ≡ answered result (powering (⟦<CrashDisk<P> as Disk>⟧.state self.old))) }
         ensures never_stopped { is_stopped result ≡ false }
         ensures failed { P.faults self.new.platter ≡ counted (is_failed result) (P.faults self.old.platter) }
+        ensures synced { OnOk result (P.synced self.new.platter ≡ true) }
         ensures forms { OnOk result (P.content self.new.platter ≡ option_map (torn_from self.old.choice 0 self.old.pending.entries) (P.content self.old.platter)) }
         ensures fuse { self.new.fuse ≡ self.old.fuse }
         ensures choice { self.new.choice ≡ self.old.choice }
@@ -165,7 +167,7 @@ impl<P: Platter> Disk for CrashDisk<P> {
             DiskCall::Power { stops },
         );
         tear(&mut self.platter, &self.pending, self.choice)?;
-        self.platter.sync()?;
+        self.platter.sync()?; // What the power loss left is durable.
         self.pending.clear();
         self.stopped = false;
         Ok(())

@@ -1,5 +1,5 @@
 //! A platter over a file.
-ghost use Rattle.std.specs.Prelude.{◌≡◌, ℕ, None};
+ghost use Rattle.std.specs.Prelude.{◌≡◌, ℕ, true, None};
 ghost use Rattle.block_disk.specs.Counts.{counted, is_err};
 
 use crate::{Failed, Platter};
@@ -14,6 +14,7 @@ pub struct FilePlatter {
     file: File,
     blocks: u32,
     faults: u64,
+    synced: bool,
 }
 
 impl FilePlatter {
@@ -21,11 +22,13 @@ impl FilePlatter {
     pub fn open(file: File, blocks: u32) -> FilePlatter
         ensures size { ⟦<FilePlatter as Platter>⟧.size result ≡ blocks }
         ensures faults { ⟦<FilePlatter as Platter>⟧.faults result ≡ 0 }
+        ensures synced { ⟦<FilePlatter as Platter>⟧.synced result ≡ true }
     {
         FilePlatter {
             file,
             blocks,
             faults: 0,
+            synced: true,
         }
     }
 
@@ -34,6 +37,7 @@ impl FilePlatter {
         ensures faults { self.new.faults ≡ counted (is_err result) self.old.faults }
         ensures exact { is_err result ≡ is_err outcome }
         ensures blocks { self.new.blocks ≡ self.old.blocks }
+        ensures synced { self.new.synced ≡ self.old.synced }
     {
         match outcome {
             Ok(()) => Ok(()),
@@ -52,6 +56,8 @@ impl Platter for FilePlatter {
 
     ghost content = { λ p. None };
 
+    ghost synced = { λ p. p.synced };
+
     ghost whole = { λ p. tt };
 
     fn blocks(&self) -> u32 {
@@ -64,13 +70,16 @@ impl Platter for FilePlatter {
     }
 
     fn write(&mut self, n: u32, bytes: &[u8; 512]) -> Result<(), Failed> {
+        self.synced = false;
         let outcome = write_block(&mut self.file, n, bytes);
         self.note_error(outcome)
     }
 
     fn sync(&mut self) -> Result<(), Failed> {
         let outcome = self.file.sync_all();
-        self.note_error(outcome)
+        self.note_error(outcome)?;
+        self.synced = true;
+        Ok(())
     }
 }
 

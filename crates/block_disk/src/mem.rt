@@ -1,5 +1,5 @@
 //! A platter in memory, which fails where it is told to.
-ghost use Rattle.std.specs.Prelude.{◌≡◌, ◌<◌, ℕ, List, [], ◌∷◌, ◌++◌, Some, length, replicate, true, ◌==◌, IfOk, OnOk, OnErr, IfSome, slice_set, slice_index_or};
+ghost use Rattle.std.specs.Prelude.{◌≡◌, ◌<◌, ℕ, List, [], ◌∷◌, ◌++◌, Some, length, replicate, true, false, ◌==◌, IfOk, OnOk, OnErr, IfSome, slice_set, slice_index_or};
 ghost use Rattle.std.specs.List.{list_any};
 ghost use Rattle.block_disk.specs.Blocks.{block_at, IsWhole};
 ghost use Rattle.block_disk.specs.Counts.{counted, is_err};
@@ -15,6 +15,7 @@ pub struct MemPlatter {
     calls: u64,
     faults: u64,
     size: u32,
+    synced: bool,
     ghost size_is: { length blocks.items ≡ size },
     ghost whole_blocks: { (n : ℕ) → n < size → length (slice_index_or blocks.items n []) ≡ 512 },
 }
@@ -29,6 +30,7 @@ impl MemPlatter {
         ensures calls { IfOk result (λ m. calls_of m ≡ 0) }
         ensures faults { IfOk result (λ m. ⟦<MemPlatter as Platter>⟧.faults m ≡ 0) }
         ensures size { IfOk result (λ m. ⟦<MemPlatter as Platter>⟧.size m ≡ blocks) }
+        ensures synced { IfOk result (λ m. ⟦<MemPlatter as Platter>⟧.synced m ≡ true) }
     {
         Ok(MemPlatter {
             blocks: zeros(alloc, blocks)?,
@@ -36,6 +38,7 @@ impl MemPlatter {
             calls: 0,
             faults: 0,
             size: blocks,
+            synced: true,
         })
     }
 
@@ -46,6 +49,7 @@ impl MemPlatter {
         ensures calls { calls_of self.new ≡ calls_of self.old }
         ensures faults { ⟦<MemPlatter as Platter>⟧.faults self.new ≡ ⟦<MemPlatter as Platter>⟧.faults self.old }
         ensures size { ⟦<MemPlatter as Platter>⟧.size self.new ≡ ⟦<MemPlatter as Platter>⟧.size self.old }
+        ensures synced { ⟦<MemPlatter as Platter>⟧.synced self.new ≡ ⟦<MemPlatter as Platter>⟧.synced self.old }
         ensures blocks { blocks_of self.new ≡ blocks_of self.old }
     {
         self.failing.push(call)?;
@@ -60,6 +64,8 @@ impl Platter for MemPlatter {
 
     ghost content = { λ m. Some m.blocks.items };
 
+    ghost synced = { λ m. m.synced };
+
     ghost use Rattle.block_disk.specs.Mem.{fails_next, calls_of, failing_of};
 
     ghost whole = { λ m. record { count = m.size_is; each = m.whole_blocks } };
@@ -72,6 +78,7 @@ impl Platter for MemPlatter {
         requires { n < self.old.size }
         ensures read { OnOk result (out.new ≡ block_at self.old.blocks.items n) }
         ensures content { self.new.blocks.items ≡ self.old.blocks.items }
+        ensures synced { self.new.synced ≡ self.old.synced }
         ensures faults { self.new.faults ≡ counted (is_err result) self.old.faults }
         ensures size { self.new.size ≡ self.old.size }
         ensures exact { is_err result ≡ fails_next self.old }
@@ -88,12 +95,14 @@ impl Platter for MemPlatter {
         ensures ok { OnOk result (self.new.blocks.items ≡ slice_set self.old.blocks.items n bytes.now) }
         ensures err { OnErr result ((any : List ℕ) × (self.new.blocks.items ≡ slice_set self.old.blocks.items n any)) }
         ensures unchanged { OnErr result (self.new.blocks.items ≡ self.old.blocks.items) }
+        ensures synced { self.new.synced ≡ false }
         ensures faults { self.new.faults ≡ counted (is_err result) self.old.faults }
         ensures size { self.new.size ≡ self.old.size }
         ensures exact { is_err result ≡ fails_next self.old }
         ensures calls { calls_of self.new ≡ counted true (calls_of self.old) }
         ensures failing { failing_of self.new ≡ failing_of self.old }
     {
+        self.synced = false;
         count(&self.failing, &mut self.calls, &mut self.faults)?;
         self.blocks[n as usize] = *bytes;
         Ok(())
@@ -101,13 +110,16 @@ impl Platter for MemPlatter {
 
     fn sync(&mut self) -> Result<(), Failed>
         ensures content { self.new.blocks.items ≡ self.old.blocks.items }
+        ensures synced { OnOk result (self.new.synced ≡ true) }
         ensures faults { self.new.faults ≡ counted (is_err result) self.old.faults }
         ensures size { self.new.size ≡ self.old.size }
         ensures exact { is_err result ≡ fails_next self.old }
         ensures calls { calls_of self.new ≡ counted true (calls_of self.old) }
         ensures failing { failing_of self.new ≡ failing_of self.old }
     {
-        count(&self.failing, &mut self.calls, &mut self.faults)
+        count(&self.failing, &mut self.calls, &mut self.faults)?;
+        self.synced = true;
+        Ok(())
     }
 }
 

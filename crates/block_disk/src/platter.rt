@@ -1,5 +1,5 @@
 //! Where the blocks of a disk are kept.
-ghost use Rattle.std.specs.Prelude.{◌≡◌, ◌<◌, ℕ, List, Option, option_map, slice_set, IfSome, OnOk, OnErr};
+ghost use Rattle.std.specs.Prelude.{◌≡◌, ◌<◌, ℕ, Bool, true, false, List, Option, option_map, slice_set, IfSome, OnOk, OnErr};
 ghost use Rattle.block_disk.specs.Blocks.{block_at, IsWhole};
 ghost use Rattle.block_disk.specs.Counts.{counted, is_err};
 
@@ -21,6 +21,9 @@ pub trait Platter {
     /// The blocks, where they are told.
     ghost content: { Self → Option (List (List ℕ)) };
 
+    /// Whether nothing was written since it was made or since the last `sync` that answered Ok.
+    ghost synced: { Self → Bool };
+
     fn blocks(&self) -> u32
         ensures { result ≡ size self.now };
 
@@ -28,6 +31,7 @@ pub trait Platter {
         requires { n < size self.old }
         ensures read { OnOk result (IfSome (content self.old) (λ blocks. out.new ≡ block_at blocks n)) }
         ensures content { content self.new ≡ content self.old }
+        ensures synced { synced self.new ≡ synced self.old }
         ensures faults { faults self.new ≡ counted (is_err result) (faults self.old) }
         ensures size { size self.new ≡ size self.old };
 
@@ -36,12 +40,14 @@ pub trait Platter {
         requires { n < size self.old }
         ensures ok { OnOk result (content self.new ≡ option_map (λ blocks. slice_set blocks n bytes.now) (content self.old)) }
         ensures err { OnErr result ((any : List ℕ) × (content self.new ≡ option_map (λ blocks. slice_set blocks n any) (content self.old))) }
+        ensures synced { synced self.new ≡ false }
         ensures faults { faults self.new ≡ counted (is_err result) (faults self.old) }
         ensures size { size self.new ≡ size self.old };
 
     /// Makes what was written durable.
     fn sync(&mut self) -> Result<(), Failed>
         ensures content { content self.new ≡ content self.old }
+        ensures synced { OnOk result (synced self.new ≡ true) }
         ensures faults { faults self.new ≡ counted (is_err result) (faults self.old) }
         ensures size { size self.new ≡ size self.old };
 

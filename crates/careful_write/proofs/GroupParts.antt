@@ -9,6 +9,7 @@ use Rattle.careful_write.specs.State.{Leaves, LeavesAsItWas, IsEither}
 use Rattle.careful_write.specs.Steps.{AgreesOff, Touches}
 use Rattle.careful_write.specs.Parts.{in_intents, in_gate, in_group, StandsAt, Stands}
 use Rattle.careful_write.proofs.Images.{closed_fits, open_fits, closed_content, open_content, gate_agrees, home_agrees, intents_agree, length-intents_from, laid_agrees, laid_twice, home-laid, laid_is_off, set_is_off, home-set, gate-set}
+use Rattle.careful_write.proofs.Intents.{intents_low}
 use Rattle.careful_write.proofs.Touched.{images_touched, leaves_touched, touches_nothing, touches_same}
 use Rattle.std.proofs.lemmas.List.{ext_get_or}
 
@@ -47,11 +48,8 @@ same_some x y h = cc
 off_gate : (n : ℕ) → 1 ≤ n → in_gate n ≡ false
 off_gate n low = grind (arith, nat_tests)
 
-off_intents_gate : in_intents 0 ≡ false
-off_intents_gate = refl
-
-off_intents_home : (n : ℕ) → 518 ≤ n → in_intents n ≡ false
-off_intents_home n high = grind (arith, nat_tests)
+off_intents_gate : (count : ℕ) → in_intents count 0 ≡ false
+off_intents_gate count = grind (arith, nat_tests)
 
 module _ (es : List Entry) (low : (n : ℕ) → has_number n (numbers_of es) ≡ true → 518 ≤ n) where
   off_group : (n : ℕ) → n ≤ 517 → in_group es n ≡ false
@@ -63,10 +61,10 @@ module _ (es : List Entry) (low : (n : ℕ) → has_number n (numbers_of es) ≡
 
 module _ (s0 : DiskState) (es : List Entry) where
   -- a stop in the first part leaves the content before
-  pub stop_intents : (s : DiskState) → s0.pending ≡ [] → IfSome s0.seen (λ b. gate_open b ≡ false) → Touches in_intents s0 s → Leaves (Either s0.seen es) s
-  stop_intents s settled closed touched = leaves_touched in_intents s0 s (Either s0.seen es) touched settled (λ b image is agrees.
-      let shut : gate_open image ≡ false = gate_agrees in_intents b image agrees refl ∙ closed_at b is in
-      let same : content_of image ≡ home b = closed_content image shut ∙ home_agrees in_intents b image agrees off_intents_home in
+  pub stop_intents : (s : DiskState) → length es ≤ 512 → s0.pending ≡ [] → IfSome s0.seen (λ b. gate_open b ≡ false) → Touches (in_intents (length es)) s0 s → Leaves (Either s0.seen es) s
+  stop_intents s few settled closed touched = leaves_touched (in_intents (length es)) s0 s (Either s0.seen es) touched settled (λ b image is agrees.
+      let shut : gate_open image ≡ false = gate_agrees (in_intents (length es)) b image agrees (off_intents_gate (length es)) ∙ closed_at b is in
+      let same : content_of image ≡ home b = closed_content image shut ∙ home_agrees (in_intents (length es)) b image agrees (λ n high. intents_low (length es) n few high) in
       (closed_fits image shut, subst (Either s0.seen es) (sym same) (is_before s0.seen es b is)))
     where
       closed_at : (b : List (List ℕ)) → s0.seen ≡ Some b → gate_open b ≡ false
@@ -98,26 +96,26 @@ module _ (s0 : DiskState) (es : List Entry) where
       (open_fits image es are fit, subst (IsAfter s0.seen es) (sym same) (is_exactly s0.seen es at.old at.was)))
 
   -- after the first part
-  pub stands_intents : (s : DiskState) (size : ℕ) → IfSome s0.seen (λ b. gate_open b ≡ false) → Touches in_intents s0 s → IfSome s.seen (λ b. intents b ≡ es) → IfSome s.seen (λ b. length b ≡ size) → fits size es ≡ true → Stands s0 es s (λ h. h) false
+  pub stands_intents : (s : DiskState) (size : ℕ) → IfSome s0.seen (λ b. gate_open b ≡ false) → Touches (in_intents (length es)) s0 s → IfSome s.seen (λ b. intents b ≡ es) → IfSome s.seen (λ b. length b ≡ size) → fits size es ≡ true → Stands s0 es s (λ h. h) false
   stands_intents s size closed touched are long fit = record {
     untold = λ none. untold s0.seen s.seen refl none touched.seen;
-    each = λ b is. at s0.seen refl b (subst (λ (o : Told). MatchOption s0.seen (o ≡ None) (λ c. IsSomeAnd o (AgreesOff in_intents c))) is touched.seen)
+    each = λ b is. at s0.seen refl b (subst (λ (o : Told). MatchOption s0.seen (o ≡ None) (λ c. IsSomeAnd o (AgreesOff (in_intents (length es)) c))) is touched.seen)
         (subst (λ (o : Told). IfSome o (λ c. intents c ≡ es)) is are) (subst (λ (o : Told). IfSome o (λ c. length c ≡ size)) is long);
   }
     where
-      untold : (o0 o : Told) → s0.seen ≡ o0 → o ≡ None → MatchOption o0 (o ≡ None) (λ c. IsSomeAnd o (AgreesOff in_intents c)) → s0.seen ≡ None
+      untold : (o0 o : Told) → s0.seen ≡ o0 → o ≡ None → MatchOption o0 (o ≡ None) (λ c. IsSomeAnd o (AgreesOff (in_intents (length es)) c)) → s0.seen ≡ None
       untold None o is none h = is
       untold (Some b) None is none h = absurd h
       untold (Some b) (Some c) is none h = absurd (cc)
 
-      at : (o0 : Told) → s0.seen ≡ o0 → (b : List (List ℕ)) → MatchOption o0 (◌≡◌ {A = Told} (Some b) None) (λ c. AgreesOff in_intents c b) → intents b ≡ es → length b ≡ size → StandsAt s0.seen es (λ h. h) false b
+      at : (o0 : Told) → s0.seen ≡ o0 → (b : List (List ℕ)) → MatchOption o0 (◌≡◌ {A = Told} (Some b) None) (λ c. AgreesOff (in_intents (length es)) c b) → intents b ≡ es → length b ≡ size → StandsAt s0.seen es (λ h. h) false b
       at None is b h are_b long_b = absurd (cc)
       at (Some c) is b h are_b long_b = record {
         old = c;
         was = is;
-        home_is = home_agrees in_intents c b h off_intents_home;
+        home_is = home_agrees (in_intents (length es)) c b h (λ n high. intents_low (length es) n (few_fit size es fit) high);
         intents_are = are_b;
-        gate_is = gate_agrees in_intents c b h refl ∙ subst (λ (o : Told). IfSome o (λ d. gate_open d ≡ false)) is closed;
+        gate_is = gate_agrees (in_intents (length es)) c b h (off_intents_gate (length es)) ∙ subst (λ (o : Told). IfSome o (λ d. gate_open d ≡ false)) is closed;
         fit = ap (λ n. fits n es) long_b ∙ fit;
       }
 

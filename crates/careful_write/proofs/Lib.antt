@@ -5,3 +5,4 @@ pub mod Images
 mod Intents
 mod Loading
 pub mod Touched
+mod Written

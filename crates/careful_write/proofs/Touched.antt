@@ -144,6 +144,32 @@ touches_then p q s0 s1 s2 first second within = record {
     both (Some a) (Some b) None h k = k
     both (Some a) (Some b) (Some c) h k = record { size = k.size ∙ h.size; others = λ n out. k.others n (off n out _ refl) ∙ h.others n out }
 
+-- more blocks may have been written
+pub touches_wide : (p q : ℕ → Bool) (s0 s : DiskState) → Touches p s0 s → ((n : ℕ) → p n ≡ true → q n ≡ true) → Touches q s0 s
+touches_wide p q s0 s touched within = touches_then q p s0 s0 s (touches_nothing q s0) touched within
+
+-- where nothing was pending, what is pending was written
+pub pending_touched : (p : ℕ → Bool) (s0 s : DiskState) (n : ℕ) → Touches p s0 s → s0.pending ≡ [] → p n ≡ false → has_number n s.pending ≡ true → ⊥
+pending_touched p s0 s n touched settled off has = ⊎_elim
+    (λ had. let clash : true ≡ false = sym had ∙ ap (has_number n) settled in absurd (cc))
+    (λ on. let clash : true ≡ false = sym on ∙ off in absurd (cc))
+    (touched.pending n has)
+
+with_same : (n m : ℕ) (ms : List ℕ) → has_number n (with_number n ms) ≡ true → has_number n (with_number n (m ∷ ms)) ≡ true
+with_same n m ms later = grind (arith, nat_tests)
+
+pub has_written : (n : ℕ) (ms : List ℕ) → has_number n (with_number n ms) ≡ true
+has_written n [] = grind (arith, nat_tests)
+has_written n (m ∷ ms) = with_same n m ms (has_written n ms)
+
+with_still : (n k m : ℕ) (ms : List ℕ) → has_number n (m ∷ ms) ≡ true → (has_number n ms ≡ true → has_number n (with_number k ms) ≡ true) → has_number n (with_number k (m ∷ ms)) ≡ true
+with_still n k m ms has later = grind (arith, nat_tests)
+
+-- what is pending stays so while other blocks are written
+pub has_still : (n k : ℕ) (ms : List ℕ) → has_number n ms ≡ true → has_number n (with_number k ms) ≡ true
+has_still n k [] has = absurd (cc)
+has_still n k (m ∷ ms) has = with_still n k m ms has (has_still n k ms)
+
 -- what every image has, the disk has after `power`
 pub powered : (P : List (List ℕ) → Type 0) (old new : DiskState) → Leaves P old → IsPowered old new → IfSome new.seen (λ blocks. (fitting blocks ≡ true) × P (content_of blocks))
 powered P old new leaves power = cases old.seen new.seen refl refl power.image

@@ -1,5 +1,5 @@
 -- The content of a disk's blocks.
-use Rattle.std.specs.Prelude.{ℕ, zero, suc, ◌+◌, ◌*◌, ◌/◌, ◌%◌, ◌==◌, ◌&&◌, Bool, true, List, [], ◌∷◌, length, Option, drop, option_map, slice_index, slice_index_or, ◌≡◌, ◌-◌, ◌<◌, ◌≤◌, if◌then◌else◌, nat_lt, nat_le}
+use Rattle.std.specs.Prelude.{ℕ, zero, suc, replicate, ◌+◌, ◌*◌, ◌/◌, ◌%◌, ◌==◌, ◌&&◌, Bool, true, List, [], ◌∷◌, length, Option, drop, option_map, slice_index, slice_index_or, ◌≡◌, ◌-◌, ◌<◌, if◌then◌else◌, nat_lt, nat_le}
 use Rattle.std.specs.Int.{from_le_bytes, w32}
 use Rattle.block_disk.specs.Blocks.{block_at, laid_from, ascends}
 
@@ -45,14 +45,31 @@ gate_open image = slice_index (block_at image 0) 0 == 1
 abbrev pub content_of : List (List ℕ) → List (List ℕ)
 content_of image = if gate_open image && fits (length image) (intents image) then laid_from 518 (intents image) (home image) else home image
 
--- the word of an index that names these blocks
+-- the gate's block with this mark: zeros behind it
+abbrev pub gate_block : ℕ → List ℕ
+gate_block mark = mark ∷ replicate 511 0
+
+-- the word of an index that names these blocks: the count, the numbers, and zeros behind them
 abbrev pub word_for : List (ℕ × List ℕ) → ℕ → ℕ
 word_for es w = if w == 0 then length es else (slice_index_or es (w - 1) (0, [])).0
 
 -- the index's words below a bound are those of these blocks
 abbrev pub NamesBelow : List (ℕ × List ℕ) → ℕ → List (List ℕ) → Type 0
-NamesBelow es bound image = (w : ℕ) → w < bound → w ≤ length es → index_word image w ≡ word_for es w
+NamesBelow es bound image = (w : ℕ) → w < bound → index_word image w ≡ word_for es w
 
 -- the first intent blocks have these blocks' bytes
 abbrev pub HoldsBelow : List (ℕ × List ℕ) → ℕ → List (List ℕ) → Type 0
 HoldsBelow es bound image = (k : ℕ) → k < bound → block_at image (6 + k) ≡ (slice_index_or es k (0, [])).1
+
+-- how many words the blocks have that the index of so many blocks takes
+abbrev pub words_for : ℕ → ℕ
+words_for count = 128 * (count / 128 + 1)
+
+-- the index names blocks of these numbers: their count, the numbers, and zeros to the end of the last block that the count needs
+abbrev pub IsIndexOf : List ℕ → List (List ℕ) → Type 0
+IsIndexOf ns image = (w : ℕ) → w < words_for (length ns) → index_word image w ≡ (if w == 0 then length ns else slice_index_or ns (w - 1) 0)
+
+-- what a group of blocks of these numbers leaves before the content: the closed gate, and the index that names them
+pub record IsFront (ns : List ℕ) (image : List (List ℕ)) : Type 0 where
+  pub gate : block_at image 0 ≡ gate_block 0
+  pub index : IsIndexOf ns image

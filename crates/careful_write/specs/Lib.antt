@@ -2,5 +2,6 @@ pub mod Content
 pub mod Down
 pub mod Load
 pub mod Parts
+pub mod Reads
 pub mod State
 pub mod Steps

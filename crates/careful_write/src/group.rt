@@ -1,12 +1,12 @@
 //! A group is written in four parts, each ended by a barrier: the intents, the open gate, the blocks, the closed gate.
-ghost use Rattle.std.specs.Prelude.{◌≡◌, ◌≢◌, ◌<◌, ◌≤◌, ◌+◌, ◌*◌, ◌/◌, ◌%◌, ℕ, List, [], true, false, IfSome, OnOk, OnErr, length, option_map, slice_set, slice_index, slice_index_or};
+ghost use Rattle.std.specs.Prelude.{◌≡◌, ◌≢◌, ◌<◌, ◌≤◌, ◌+◌, ◌*◌, ◌/◌, ◌%◌, ℕ, List, [], true, false, IfSome, OnOk, OnErr, length, option_map, slice_set, slice_index_or};
 ghost use Rattle.block_disk.specs.Blocks.{has_number, numbers_of, laid_over, ascends, block_at};
-ghost use Rattle.careful_write.specs.Content.{home, laid_home, gate_open, intents, word_of, word_for, HoldsBelow, NamesBelow};
+ghost use Rattle.careful_write.specs.Content.{home, laid_home, gate_open, intents, gate_block, word_of, word_for, words_for, HoldsBelow, NamesBelow, IsFront};
 ghost use Rattle.careful_write.specs.State.{InHome, Leaves, IsEither};
 ghost use Rattle.careful_write.specs.Steps.{Touches, Counts};
 ghost use Rattle.careful_write.specs.Load.{Says};
 ghost use Rattle.careful_write.specs.declared.load.Found.TheVariants.{Open};
-ghost use Rattle.careful_write.specs.Parts.{in_gate, in_index, in_intents, in_group};
+ghost use Rattle.careful_write.specs.Parts.{in_gate, in_index, in_data, in_intents, in_group, in_finish, written_by, HasData, DataFirst};
 
 use block_disk::{BlockTable, Disk, DiskErr};
 
@@ -21,7 +21,10 @@ pub(crate) fn write_group<D: Disk>(disk: &mut D, group: &BlockTable) -> Result<(
     ensures content { OnOk result (option_map home (D.state disk.new).seen ≡ laid_home group.now.entries (D.state disk.old).seen) }
     ensures closed { OnOk result (IfSome (D.state disk.new).seen (λ blocks. gate_open blocks ≡ false)) }
     ensures settled { OnOk result ((D.state disk.new).pending ≡ []) }
+    ensures front { OnOk result (IfSome (D.state disk.new).seen (IsFront (numbers_of group.now.entries))) }
     ensures err { OnErr result (Leaves (IsEither (option_map home (D.state disk.old).seen) (laid_home group.now.entries (D.state disk.old).seen)) (D.state disk.new)) }
+    ensures order { OnErr result (DataFirst (length group.now.entries) (D.state disk.new).pending) }
+    ensures touches { Touches (written_by (numbers_of group.now.entries)) (D.state disk.old) (D.state disk.new) }
     ensures counts { Counts result (D.state disk.old) (D.state disk.new) }
 {
     write_intents(disk, group)?;
@@ -40,7 +43,9 @@ pub(crate) fn finish<D: Disk>(disk: &mut D, group: &BlockTable) -> Result<(), Di
     ensures home { OnOk result (option_map home (D.state disk.new).seen ≡ laid_home group.now.entries (D.state disk.old).seen) }
     ensures closed { OnOk result (IfSome (D.state disk.new).seen (λ blocks. gate_open blocks ≡ false)) }
     ensures settled { OnOk result ((D.state disk.new).pending ≡ []) }
+    ensures gate { OnOk result (IfSome (D.state disk.new).seen (λ blocks. block_at blocks 0 ≡ gate_block 0)) }
     ensures err { OnErr result (Leaves (λ c. Some c ≡ laid_home group.now.entries (D.state disk.old).seen) (D.state disk.new)) }
+    ensures touches { Touches (in_finish group.now.entries) (D.state disk.old) (D.state disk.new) }
     ensures counts { Counts result (D.state disk.old) (D.state disk.new) }
 {
     write_home(disk, group)?;
@@ -48,11 +53,11 @@ pub(crate) fn finish<D: Disk>(disk: &mut D, group: &BlockTable) -> Result<(), Di
     Ok(())
 }
 
-// Writes the gate's block, with this byte first, and makes it durable.
+// Writes the gate's block, with this mark and zeros behind it, and makes it durable.
 fn write_gate<D: Disk>(disk: &mut D, mark: u8) -> Result<(), DiskErr>
     requires settled { (D.state disk.old).pending ≡ [] }
     requires size { 4096 ≤ (D.state disk.old).size }
-    ensures seen { OnOk result ((gate : List ℕ) × (slice_index gate 0 ≡ mark) × ((D.state disk.new).seen ≡ option_map (λ blocks. slice_set blocks 0 gate) (D.state disk.old).seen)) }
+    ensures seen { OnOk result ((D.state disk.new).seen ≡ option_map (λ blocks. slice_set blocks 0 (gate_block mark)) (D.state disk.old).seen) }
     ensures settled { OnOk result ((D.state disk.new).pending ≡ []) }
     ensures touches { Touches in_gate (D.state disk.old) (D.state disk.new) }
     ensures counts { Counts result (D.state disk.old) (D.state disk.new) }
@@ -65,7 +70,7 @@ fn write_gate<D: Disk>(disk: &mut D, mark: u8) -> Result<(), DiskErr>
 fn put_gate<D: Disk>(disk: &mut D, mark: u8) -> Result<(), DiskErr>
     requires settled { (D.state disk.old).pending ≡ [] }
     requires size { 4096 ≤ (D.state disk.old).size }
-    ensures seen { OnOk result ((gate : List ℕ) × (slice_index gate 0 ≡ mark) × ((D.state disk.new).seen ≡ option_map (λ blocks. slice_set blocks 0 gate) (D.state disk.old).seen)) }
+    ensures seen { OnOk result ((D.state disk.new).seen ≡ option_map (λ blocks. slice_set blocks 0 (gate_block mark)) (D.state disk.old).seen) }
     ensures touches { Touches in_gate (D.state disk.old) (D.state disk.new) }
     ensures counts { Counts result (D.state disk.old) (D.state disk.new) }
 {
@@ -111,8 +116,10 @@ fn write_intents<D: Disk>(disk: &mut D, group: &BlockTable) -> Result<(), DiskEr
     requires few { length group.now.entries ≤ 512 }
     requires size { 4096 ≤ (D.state disk.old).size }
     ensures intents { OnOk result (IfSome (D.state disk.new).seen (λ blocks. intents blocks ≡ group.now.entries)) }
+    ensures names { OnOk result (IfSome (D.state disk.new).seen (NamesBelow group.now.entries (words_for (length group.now.entries)))) }
+    ensures order { OnErr result (DataFirst (length group.now.entries) (D.state disk.new).pending) }
     ensures settled { OnOk result ((D.state disk.new).pending ≡ []) }
-    ensures touches { Touches in_intents (D.state disk.old) (D.state disk.new) }
+    ensures touches { Touches (in_intents (length group.now.entries)) (D.state disk.old) (D.state disk.new) }
     ensures counts { Counts result (D.state disk.old) (D.state disk.new) }
 {
     put_intents(disk, group)?;
@@ -125,7 +132,10 @@ fn put_intents<D: Disk>(disk: &mut D, group: &BlockTable) -> Result<(), DiskErr>
     requires few { length group.now.entries ≤ 512 }
     requires size { 4096 ≤ (D.state disk.old).size }
     ensures intents { OnOk result (IfSome (D.state disk.new).seen (λ blocks. intents blocks ≡ group.now.entries)) }
-    ensures touches { Touches in_intents (D.state disk.old) (D.state disk.new) }
+    ensures names { OnOk result (IfSome (D.state disk.new).seen (NamesBelow group.now.entries (words_for (length group.now.entries)))) }
+    ensures pends { OnOk result (HasData (length group.now.entries) (D.state disk.new).pending) }
+    ensures order { OnErr result (DataFirst (length group.now.entries) (D.state disk.new).pending) }
+    ensures touches { Touches (in_intents (length group.now.entries)) (D.state disk.old) (D.state disk.new) }
     ensures counts { Counts result (D.state disk.old) (D.state disk.new) }
 {
     write_data(disk, group)?;
@@ -139,7 +149,8 @@ fn write_data<D: Disk>(disk: &mut D, group: &BlockTable) -> Result<(), DiskErr>
     requires size { 4096 ≤ (D.state disk.old).size }
     ensures held { OnOk result (IfSome (D.state disk.new).seen (HoldsBelow group.now.entries (length group.now.entries))) }
     ensures pending { OnOk result (length (D.state disk.new).pending ≤ 512) }
-    ensures touches { Touches in_intents (D.state disk.old) (D.state disk.new) }
+    ensures pends { OnOk result (HasData (length group.now.entries) (D.state disk.new).pending) }
+    ensures touches { Touches (in_data (length group.now.entries)) (D.state disk.old) (D.state disk.new) }
     ensures counts { Counts result (D.state disk.old) (D.state disk.new) }
 {
     for i in 0..group.len() {
@@ -154,8 +165,9 @@ fn write_index<D: Disk>(disk: &mut D, group: &BlockTable) -> Result<(), DiskErr>
     requires pending { length (D.state disk.old).pending ≤ 512 }
     requires few { length group.now.entries ≤ 512 }
     requires size { 4096 ≤ (D.state disk.old).size }
-    ensures names { OnOk result (IfSome (D.state disk.new).seen (NamesBelow group.now.entries (length group.now.entries + 1))) }
-    ensures touches { Touches in_index (D.state disk.old) (D.state disk.new) }
+    ensures names { OnOk result (IfSome (D.state disk.new).seen (NamesBelow group.now.entries (words_for (length group.now.entries)))) }
+    ensures kept { (n : ℕ) → has_number n (D.state disk.old).pending ≡ true → has_number n (D.state disk.new).pending ≡ true }
+    ensures touches { Touches (in_index (length group.now.entries)) (D.state disk.old) (D.state disk.new) }
     ensures counts { Counts result (D.state disk.old) (D.state disk.new) }
 {
     let count = group.len() / 128 + 1;
@@ -169,25 +181,25 @@ fn write_index<D: Disk>(disk: &mut D, group: &BlockTable) -> Result<(), DiskErr>
 fn index_block(group: &BlockTable, j: usize) -> [u8; 512]
     requires few { length group.now.entries ≤ 512 }
     requires block { j < 5 }
-    ensures { (k : ℕ) → k < 128 → 128 * j + k ≤ length group.now.entries → word_of result k ≡ word_for group.now.entries (128 * j + k) }
+    ensures { (k : ℕ) → k < 128 → word_of result k ≡ word_for group.now.entries (128 * j + k) }
 {
     let mut bytes = [0; 512];
     for k in 0..128 {
-        if 128 * j + k <= group.len() {
-            put_word(&mut bytes, k, index_word_of(group, 128 * j + k));
-        }
+        put_word(&mut bytes, k, index_word_of(group, 128 * j + k));
     }
     bytes
 }
 
-// Word w of the index: the count, and then the numbers.
+// Word w of the index: the count, the numbers, and zeros behind them.
 fn index_word_of(group: &BlockTable, w: usize) -> u32
     requires few { length group.now.entries ≤ 512 }
-    requires within { w ≤ length group.now.entries }
     ensures { result ≡ word_for group.now.entries w }
 {
     if w == 0 {
         return group.len() as u32;
+    }
+    if w > group.len() {
+        return 0;
     }
     group.at(w - 1).0
 }

@@ -2,11 +2,12 @@
 ghost use Rattle.std.specs.Prelude.{◌≡◌, ◌+◌, ◌<◌, ◌≤◌, ◌⊎◌, ◌-◌, ℕ, List, [], true, false, Some, None, IsSome, IsOk, IfOk, IfErr, IfSome, OnOk, OnErr, IsErr, length, option_map, slice_set};
 ghost use Rattle.block_disk.specs.Blocks.{block_at, found, has_number, with_number};
 ghost use Rattle.block_disk.specs.Disk.{armed};
-ghost use Rattle.careful_write.specs.Content.{home, content_of, gate_open};
+ghost use Rattle.careful_write.specs.Content.{home, content_of, gate_open, IsFront};
 ghost use Rattle.careful_write.specs.Down.{answered, Counts, CountsDown, went_down};
 ghost use Rattle.careful_write.specs.Load.{fitting};
 ghost use Rattle.careful_write.specs.State.{EachWhole, InHome, IsEither, IsIdle, IsReady, Leaves, LeavesAsItWas, content};
-ghost use Rattle.careful_write.specs.Steps.{Quiet};
+ghost use Rattle.careful_write.specs.Steps.{Quiet, Touches};
+ghost use Rattle.careful_write.specs.Parts.{written_by, DataFirst};
 ghost use Rattle.std.specs.Borrow.{Lends, sem};
 ghost use Rattle.careful_write.specs.contracts.store.Store.{the_row};
 ghost use Rattle.frame_pool.specs.contracts.pool.Pool.{the_row as pool_row};
@@ -193,11 +194,12 @@ impl<D: Disk> Store<D> {
         (disk, Group { staged }, pool)
     }
 
-    /// The staged bytes of a block, else its content.
+    /// The staged bytes of a block, which no disk is asked for, else its content.
     pub fn read(&mut self, n: u32, out: &mut [u8; 512]) -> Result<(), Down>
         requires { InHome self.old.disk n }
         ensures read { OnOk result (IfSome self.old.current (λ blocks. out.new ≡ block_at blocks (n - 518))) }
         ensures state { self.new ≡ record self.old { disk = answered result self.old.disk } }
+        ensures staged { has_number n self.old.touched ≡ true → IsOk result }
         ensures whole { IfSome self.new.current (λ blocks. length blocks + 518 ≡ self.new.disk.size) }
         ensures each { IfSome self.new.current EachWhole }
     {
@@ -229,7 +231,8 @@ impl<D: Disk> Store<D> {
     }
 
     /// Makes the content what reads give. After an error each image has the content before or after. Where nothing is
-    /// staged it writes nothing.
+    /// staged it writes nothing; else it writes the data of the staged blocks, then the index blocks that their count
+    /// needs, and the gate and the blocks after these.
     pub fn apply(&mut self) -> Result<(), Down>
         requires { IsReady self.old }
         ensures content { OnOk result (content self.new ≡ self.old.current) }
@@ -238,7 +241,10 @@ impl<D: Disk> Store<D> {
         ensures ready { OnOk result (IsReady self.new) }
         ensures idle { OnOk result (IsIdle self.new) }
         ensures nothing { self.old.touched ≡ [] → IsOk result × (self.new ≡ self.old) }
+        ensures front { OnOk result ((self.old.touched ≡ []) ⊎ IfSome self.new.disk.seen (IsFront self.old.touched)) }
         ensures err { OnErr result (Leaves (IsEither (content self.old) self.old.current) self.new.disk) }
+        ensures order { OnErr result (DataFirst (length self.old.touched) self.new.disk.pending) }
+        ensures touches { Touches (written_by self.old.touched) self.old.disk self.new.disk }
         ensures counts { Counts result self.old.disk self.new.disk }
         ensures pool { self.new.pool ≡ self.old.pool }
         ensures fits { self.new.fits ≡ self.old.fits }

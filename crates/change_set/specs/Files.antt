@@ -5,6 +5,7 @@ use Rattle.block_disk.specs.Disk.{DiskState}
 use Rattle.careful_write.specs.Content.{home}
 use Rattle.careful_write.specs.declared.down.Down.{Down}
 use Rattle.careful_write.specs.Down.{answered}
+use Rattle.careful_write.specs.Reads.{SameButReads}
 use Rattle.careful_write.specs.State.{StoreState, Leaves}
 use Rattle.careful_write.specs.Steps.{AgreesOff}
 use Rattle.file_base.specs.declared.head.FileHead.{FileHead}
@@ -42,7 +43,7 @@ fell r s = unstaged (record s { disk = answered r s.disk })
 
 -- only the content and the staged blocks are other; all are blocks of the file's extent, and at most so many are staged more
 pub record StagesIn (h : FileHead) (limit : ℕ) (old new : StoreState) : Type 0 where
-  pub rest : new ≡ record old { current = new.current; touched = new.touched }
+  pub rest : SameButReads (record old { current = new.current; touched = new.touched }) new
   pub blocks : MatchOption old.current (new.current ≡ None) (λ before. IsSomeAnd new.current (AgreesOff (in_extent h) before))
   pub touched : (n : ℕ) → has_number n new.touched ≡ true → (has_number n old.touched ≡ true) ⊎ (in_extent h (n - 518) ≡ true)
   pub few : length new.touched ≤ length old.touched + limit

@@ -3,6 +3,7 @@ ghost use Rattle.std.specs.Prelude.{◌≡◌, ◌≤◌, ◌<◌, ◌+◌, ◌*
 ghost use Rattle.std.specs.Option.{option_copied};
 ghost use Rattle.careful_write.specs.State.{IsIdle};
 ghost use Rattle.careful_write.specs.Down.{Counts};
+ghost use Rattle.careful_write.specs.Reads.{SameButReads};
 ghost use Rattle.file_base.specs.declared.head.FileHead.{FileHead};
 ghost use Rattle.vms_model.specs.Keys as model;
 ghost use Rattle.records_model.specs.Slots.{Slot};
@@ -30,8 +31,8 @@ pub trait Held {
 /// content's blocks determine.
 ///
 /// Each call answers whatever the disk has: what it asks for is told by the head, the key and the record alone. What it
-/// finds and sets is promised of blocks that are laid out. On others it still returns, and `set` stages no block outside
-/// the file's extent.
+/// finds and sets is promised of blocks that are laid out. On others it still returns, each record that it reads stands in
+/// a bucket that is laid out, and `set` stages no block outside the file's extent.
 ///
 /// Each call wants 32 free frames, and gives back those that it takes. `Down` says that the disk went down in the call;
 /// nothing is staged then. The laws say that the map, its layout and the rooms rest on the blocks of the file's extent
@@ -48,6 +49,9 @@ pub trait RecordFile {
 
     /// The blocks of the extent are laid out as those of such a file.
     ghost valid: { FileHead → List (List ℕ) → Type 0 };
+
+    /// A used bucket that is laid out as one has this record, under this key where it has keys. It speaks of any blocks.
+    ghost stands: { FileHead → List (List ℕ) → model.Key → List ℕ → Type 0 };
 
     /// A key that the file may have, and a record that it may keep there.
     ghost suits: { FileHead → model.Key → Option (List ℕ) → Type 0 };
@@ -84,9 +88,10 @@ pub trait RecordFile {
         requires placed { IsPlaced head.now store.old.disk }
         requires frames { 32 ≤ free_frames store.old.pool }
         ensures found { IfOk result (λ found. found ≡ true → IfSome store.old.current (λ blocks. valid head.now blocks → map head.now blocks (key_of key.now) ≡ Some out.new)) }
+        ensures stands { IfOk result (λ found. found ≡ true → IfSome store.old.current (λ blocks. stands head.now blocks (key_of key.now) out.new)) }
         ensures absent { IfOk result (λ found. found ≡ false → IfSome store.old.current (λ blocks. valid head.now blocks → map head.now blocks (key_of key.now) ≡ None)) }
-        ensures same { OnOk result (store.new ≡ store.old) }
-        ensures down { OnErr result (store.new ≡ fell result store.old) };
+        ensures same { OnOk result (SameButReads store.old store.new) }
+        ensures down { OnErr result (SameButReads (fell result store.old) store.new) };
 
     /// The first key, or the first one behind another, with its record; false exactly where there is none.
     fn next<D: Disk>(
@@ -100,9 +105,10 @@ pub trait RecordFile {
         requires placed { IsPlaced head.now store.old.disk }
         requires frames { 32 ≤ free_frames store.old.pool }
         ensures found { IfOk result (λ is. is ≡ true → IfSome store.old.current (λ blocks. valid head.now blocks → IsNext (map head.now blocks) (option_map key_of (option_copied after.entry)) (key_of found.new) out.new)) }
+        ensures stands { IfOk result (λ is. is ≡ true → IfSome store.old.current (λ blocks. stands head.now blocks (key_of found.new) out.new)) }
         ensures none { IfOk result (λ is. is ≡ false → IfSome store.old.current (λ blocks. valid head.now blocks → EndsAfter (map head.now blocks) (option_map key_of (option_copied after.entry)))) }
-        ensures same { OnOk result (store.new ≡ store.old) }
-        ensures down { OnErr result (store.new ≡ fell result store.old) };
+        ensures same { OnOk result (SameButReads store.old store.new) }
+        ensures down { OnErr result (SameButReads (fell result store.old) store.new) };
 
     /// Stages the map with that key set, and no other one. None removes the key's record. Only blocks of the file's extent
     /// are staged: at most two buckets, and two more for each level of an index.
@@ -129,7 +135,7 @@ pub trait RecordFile {
         ensures form { OnOk result (form head.new) }
         ensures staged { OnOk result (StagesIn head.old ((2 * head.old.levels + 2) * head.old.bucket) store.old store.new) }
         ensures head { OnErr result (head.new ≡ head.old) }
-        ensures down { OnErr result (store.new ≡ fell result store.old) };
+        ensures down { OnErr result (SameButReads (fell result store.old) store.new) };
 
     /// Stages the map with that key set back in place to what it had, and no other one: where a key was set, it may be
     /// set back so. Blocks of at most one bucket are staged.
@@ -153,7 +159,7 @@ pub trait RecordFile {
         ensures form { OnOk result (form head.new) }
         ensures staged { OnOk result (StagesIn head.old head.old.bucket store.old store.new) }
         ensures head { OnErr result (head.new ≡ head.old) }
-        ensures down { OnErr result (store.new ≡ fell result store.old) };
+        ensures down { OnErr result (SameButReads (fell result store.old) store.new) };
 
     /// How many buckets have to be free for `set` to add a record of so many bytes.
     fn need<D: Disk>(head: &FileHead, store: &mut Store<D>, size: u16) -> Result<u32, Down>
@@ -161,8 +167,8 @@ pub trait RecordFile {
         requires placed { IsPlaced head.now store.old.disk }
         requires frames { 32 ≤ free_frames store.old.pool }
         ensures need { IfOk result (λ free. IfSome store.old.current (λ blocks. valid head.now blocks → free ≡ asks head.now blocks size)) }
-        ensures same { OnOk result (store.new ≡ store.old) }
-        ensures down { OnErr result (store.new ≡ fell result store.old) };
+        ensures same { OnOk result (SameButReads store.old store.new) }
+        ensures down { OnErr result (SameButReads (fell result store.old) store.new) };
 
     /// Writes the buckets of the empty map, in as many groups as it takes. After an error each image that a power loss
     /// may leave has the old content outside the extent.

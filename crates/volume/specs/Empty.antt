@@ -1,5 +1,5 @@
 -- An empty volume.
-use Rattle.std.specs.Prelude.{◌≡◌, ℕ, ◌+◌, ◌<◌, ◌≤◌, List, None, replicate}
+use Rattle.std.specs.Prelude.{◌≡◌, ◌==◌, ◌||◌, ◌&&◌, ℕ, ◌+◌, ◌<◌, ◌≤◌, Bool, List, None, replicate, nat_le, nat_lt}
 use Rattle.block_disk.specs.Blocks.{block_at}
 use Rattle.volume_format.specs.declared.home.Home.{Home}
 use Rattle.volume_format.specs.Home.{home_block_of}
@@ -21,3 +21,11 @@ pub record IsEmptyVolume (home : Home) (content : List (List ℕ)) : Type 0 wher
 -- what an empty volume tells: no file, and a journal of recovery units that begins and ends at position 0
 abbrev pub empty_catalog : Home → Catalog
 empty_catalog h = record { home = h; heads = replicate 64 None; ru = record { start = 584 + h.slots; blocks = h.ru_blocks; first = 0; end = 0 } }
+
+-- the blocks between the home and an end
+abbrev pub is_zeroed : ℕ → ℕ → Bool
+is_zeroed end n = nat_le 519 n && nat_lt n end
+
+-- the blocks that a format with so many log slots writes: the gate's, and those from the home to the last slot
+abbrev pub is_formatted : ℕ → ℕ → Bool
+is_formatted slots n = n == 0 || (nat_le 518 n && nat_lt n (584 + slots))

@@ -2,13 +2,14 @@
 ghost use Rattle.std.specs.Prelude.{◌≡◌, ◌≤◌, ◌<◌, ◌+◌, ℕ, List, [], false, IfSome, OnOk, OnErr, length, replicate, slice_index};
 ghost use Rattle.block_disk.specs.Blocks.{block_at};
 ghost use Rattle.block_disk.specs.Disk.{DiskState};
-ghost use Rattle.careful_write.specs.Content.{content_of, gate_open};
+ghost use Rattle.careful_write.specs.Content.{content_of, gate_open, gate_block};
 ghost use Rattle.careful_write.specs.Down.{Counts as DownCounts};
-ghost use Rattle.careful_write.specs.Steps.{Counts};
+ghost use Rattle.careful_write.specs.Steps.{Counts, Touches};
+ghost use Rattle.careful_write.specs.Parts.{in_gate};
 ghost use Rattle.volume_format.specs.declared.home.Sizes.{Sizes as SizesSaid};
 ghost use Rattle.volume_format.specs.Home.{IsHome, home_block_of};
 ghost use Rattle.volume.specs.Catalogs.{IsSound, TellsCatalog};
-ghost use Rattle.volume.specs.Empty.{IsEmptyVolume, ZerosTo, empty_catalog, empty_home};
+ghost use Rattle.volume.specs.Empty.{IsEmptyVolume, ZerosTo, empty_catalog, empty_home, is_formatted, is_zeroed};
 ghost use Rattle.volume.specs.Limits.{SizesFit};
 
 use crate::Volume;
@@ -17,12 +18,13 @@ use careful_write::Down;
 use vms_base::{Moment, NodeName};
 use volume_format::{Home, layouts_are_read_as_written, write_home};
 
-// Closes the gate for good.
+// Closes the gate for good: all of its block becomes zeros.
 fn close_gate<D: Disk>(disk: &mut D) -> Result<(), DiskErr>
     requires size { 4096 ≤ (D.state disk.old).size }
     requires settled { (D.state disk.old).pending ≡ [] }
-    ensures closed { OnOk result (IfSome (D.state disk.new).seen (λ blocks. gate_open blocks ≡ false)) }
+    ensures gate { OnOk result (IfSome (D.state disk.new).seen (λ blocks. block_at blocks 0 ≡ gate_block 0)) }
     ensures settled { OnOk result ((D.state disk.new).pending ≡ []) }
+    ensures touches { Touches in_gate (D.state disk.old) (D.state disk.new) }
     ensures counts { Counts result (D.state disk.old) (D.state disk.new) }
 {
     disk.write(0, &[0; 512])?;
@@ -34,11 +36,12 @@ fn write_zeros<D: Disk>(disk: &mut D, end: u32) -> Result<(), DiskErr>
     requires size { 4096 ≤ (D.state disk.old).size }
     requires some { 519 ≤ end }
     requires end { end ≤ 1096 }
-    requires closed { IfSome (D.state disk.old).seen (λ blocks. gate_open blocks ≡ false) }
+    requires gate { IfSome (D.state disk.old).seen (λ blocks. block_at blocks 0 ≡ gate_block 0) }
     requires settled { (D.state disk.old).pending ≡ [] }
     ensures zeros { OnOk result (IfSome (D.state disk.new).seen (ZerosTo end)) }
-    ensures closed { OnOk result (IfSome (D.state disk.new).seen (λ blocks. gate_open blocks ≡ false)) }
+    ensures gate { OnOk result (IfSome (D.state disk.new).seen (λ blocks. block_at blocks 0 ≡ gate_block 0)) }
     ensures pending { OnOk result (length (D.state disk.new).pending < 1024) }
+    ensures touches { Touches (is_zeroed end) (D.state disk.old) (D.state disk.new) }
     ensures counts { Counts result (D.state disk.old) (D.state disk.new) }
 {
     for n in 519..end {
@@ -47,16 +50,17 @@ fn write_zeros<D: Disk>(disk: &mut D, end: u32) -> Result<(), DiskErr>
     Ok(())
 }
 
-// Writes an empty volume to a disk whose gate is closed.
+// Writes an empty volume to a disk whose gate is closed, with zeros behind its mark.
 fn write_empty<D: Disk>(disk: &mut D, home: &Home) -> Result<(), DiskErr>
     requires size { 4096 ≤ (D.state disk.old).size }
     requires slots { home.now.slots ≤ 512 }
-    requires closed { IfSome (D.state disk.old).seen (λ blocks. gate_open blocks ≡ false) }
+    requires gate { IfSome (D.state disk.old).seen (λ blocks. block_at blocks 0 ≡ gate_block 0) }
     requires settled { (D.state disk.old).pending ≡ [] }
     ensures empty { OnOk result (IfSome (D.state disk.new).seen (λ blocks. IsEmptyVolume home.now (content_of blocks))) }
     ensures tells { OnOk result (IfSome (D.state disk.new).seen (λ blocks. TellsCatalog (empty_catalog home.now) (content_of blocks))) }
-    ensures closed { OnOk result (IfSome (D.state disk.new).seen (λ blocks. gate_open blocks ≡ false)) }
+    ensures gate { OnOk result (IfSome (D.state disk.new).seen (λ blocks. block_at blocks 0 ≡ gate_block 0)) }
     ensures settled { OnOk result ((D.state disk.new).pending ≡ []) }
+    ensures touches { Touches (is_formatted home.now.slots) (D.state disk.old) (D.state disk.new) }
     ensures counts { Counts result (D.state disk.old) (D.state disk.new) }
 {
     write_zeros(disk, 584 + home.slots)?;
@@ -73,8 +77,10 @@ fn format_disk<D: Disk>(disk: &mut D, home: &Home) -> Result<(), DiskErr>
     requires settled { (D.state disk.old).pending ≡ [] }
     ensures empty { OnOk result (IfSome (D.state disk.new).seen (λ blocks. IsEmptyVolume home.now (content_of blocks))) }
     ensures tells { OnOk result (IfSome (D.state disk.new).seen (λ blocks. TellsCatalog (empty_catalog home.now) (content_of blocks))) }
+    ensures gate { OnOk result (IfSome (D.state disk.new).seen (λ blocks. block_at blocks 0 ≡ gate_block 0)) }
     ensures closed { OnOk result (IfSome (D.state disk.new).seen (λ blocks. gate_open blocks ≡ false)) }
     ensures settled { OnOk result ((D.state disk.new).pending ≡ []) }
+    ensures touches { Touches (is_formatted home.now.slots) (D.state disk.old) (D.state disk.new) }
     ensures counts { Counts result (D.state disk.old) (D.state disk.new) }
 {
     close_gate(disk)?;
@@ -83,7 +89,7 @@ fn format_disk<D: Disk>(disk: &mut D, home: &Home) -> Result<(), DiskErr>
 
 impl<D: Disk> Volume<D> {
     /// Writes an empty volume of a node, with so many log slots and blocks of the recovery unit journal. What stood in the
-    /// data area stays. After `Down` the disk may have anything.
+    /// journal and the data area stays. After `Down` the blocks before them may have anything.
     pub fn format(mut disk: D, node: NodeName, slots: u32, blocks: u32) -> (D, Result<(), Down>)
         requires sizes { SizesFit (D.state disk).size (record { blocks = (D.state disk).size; slots = slots; ru_blocks = blocks }) }
         requires size { 4096 ≤ (D.state disk).size }
@@ -92,8 +98,10 @@ impl<D: Disk> Volume<D> {
         ensures empty { OnOk result.1 (IfSome (D.state result.0).seen (λ image. IsEmptyVolume (empty_home node (D.state disk).size slots blocks) (content_of image))) }
         ensures tells { OnOk result.1 (IfSome (D.state result.0).seen (λ image. TellsCatalog (empty_catalog (empty_home node (D.state disk).size slots blocks)) (content_of image))) }
         ensures sound { IsSound node (D.state disk).size (empty_catalog (empty_home node (D.state disk).size slots blocks)) }
+        ensures gate { OnOk result.1 (IfSome (D.state result.0).seen (λ image. block_at image 0 ≡ gate_block 0)) }
         ensures closed { OnOk result.1 (IfSome (D.state result.0).seen (λ image. gate_open image ≡ false)) }
         ensures settled { OnOk result.1 ((D.state result.0).pending ≡ []) }
+        ensures touches { Touches (is_formatted slots) (D.state disk) (D.state result.0) }
         ensures counts { DownCounts result.1 (D.state disk) (D.state result.0) }
     {
         let home = Home {

@@ -1,8 +1,10 @@
-use Rattle.std.proofs.Common.{◌≡◌, ◌==◌, ℕ, true, false, ap, arith}
+use Rattle.std.proofs.Common.{◌≡◌, ℕ, true, false, refl, arith}
 use Rattle.block_disk.specs.Blocks.{has_number, numbers_of, laid_from}
+use Rattle.careful_write.specs.Content.{gate_block}
 use Rattle.careful_write.proofs.Exits.{on_err_so}
 use Rattle.careful_write.proofs.Home.{whole_count}
 use Rattle.careful_write.proofs.GroupParts.{IsAfter, stop_gate, stop_group, stands_open, stands_gate, stands_group, exactly_after, done_home, done_closed}
+use Rattle.careful_write.proofs.Written.{home_touched, finish_touched, told_gate}
 use Rattle.careful_write.proofs.group.finish.Goals as goal
 
 pub returns-in_err-write_home-clause-err : goal.returns-in_err-write_home-clause-err
@@ -32,9 +34,8 @@ returns-clause-home g c =
     let s3 = g.D.Disk.state c.write_home.new.disk in
     let stands3 = stands_group s0 es s0 s3 stands0 c.in_ok-write_home.ensures.seen low in
     let s4 = g.D.Disk.state c.write_gate.new.disk in
-    let gate4 = c.in_ok-write_gate.ensures.seen in
     let long3 = whole_count s3.seen c.in_ok-write_home.ensures.counts.size (g.met.D.Disk.whole c.write_home.new.disk) in
-    let stands4 = stands_gate s0 es s3 s4 (laid_from 518 es) true false gate4.0 s0.size stands3 gate4.2 (ap (λ (k : ℕ). k == 1) gate4.1) long3 (omega (arith, c.requires.size)) in
+    let stands4 = stands_gate s0 es s3 s4 (laid_from 518 es) true false (gate_block 0) s0.size stands3 c.in_ok-write_gate.ensures.seen refl long3 (omega (arith, c.requires.size)) in
     done_home s0 es s4 stands4
 
 pub returns-clause-closed : goal.returns-clause-closed
@@ -46,7 +47,21 @@ returns-clause-closed g c =
     let s3 = g.D.Disk.state c.write_home.new.disk in
     let stands3 = stands_group s0 es s0 s3 stands0 c.in_ok-write_home.ensures.seen low in
     let s4 = g.D.Disk.state c.write_gate.new.disk in
-    let gate4 = c.in_ok-write_gate.ensures.seen in
     let long3 = whole_count s3.seen c.in_ok-write_home.ensures.counts.size (g.met.D.Disk.whole c.write_home.new.disk) in
-    let stands4 = stands_gate s0 es s3 s4 (laid_from 518 es) true false gate4.0 s0.size stands3 gate4.2 (ap (λ (k : ℕ). k == 1) gate4.1) long3 (omega (arith, c.requires.size)) in
+    let stands4 = stands_gate s0 es s3 s4 (laid_from 518 es) true false (gate_block 0) s0.size stands3 c.in_ok-write_gate.ensures.seen refl long3 (omega (arith, c.requires.size)) in
     done_closed s0 es s4 stands4
+
+pub returns-clause-gate : goal.returns-clause-gate
+returns-clause-gate g c =
+    let s3 = g.D.Disk.state c.write_home.new.disk in
+    let long3 = whole_count s3.seen c.in_ok-write_home.ensures.counts.size (g.met.D.Disk.whole c.write_home.new.disk) in
+    told_gate (gate_block 0) _ s3.seen _ c.in_ok-write_gate.ensures.seen long3 (omega (arith, c.requires.size))
+
+pub returns-in_err-write_home-clause-touches : goal.returns-in_err-write_home-clause-touches
+returns-in_err-write_home-clause-touches g c = home_touched c.args.group.now.entries _ _ c.write_home.ensures.touches
+
+pub returns-in_err-write_gate-clause-touches : goal.returns-in_err-write_gate-clause-touches
+returns-in_err-write_gate-clause-touches g c = finish_touched c.args.group.now.entries _ _ _ c.write_home.ensures.touches c.write_gate.ensures.touches
+
+pub returns-clause-touches : goal.returns-clause-touches
+returns-clause-touches g c = finish_touched c.args.group.now.entries _ _ _ c.write_home.ensures.touches c.write_gate.ensures.touches

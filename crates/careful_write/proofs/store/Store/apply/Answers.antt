@@ -1,7 +1,11 @@
-use Rattle.std.proofs.Common.{◌≡◌, List, [], ℕ, Option, IfSome, true, false, ◌∙◌, sym, ap, subst, option_map}
+use Rattle.std.proofs.Common.{◌≡◌, List, [], ℕ, Option, IfSome, true, false, inl, inr, length, ◌∙◌, sym, ap, subst, option_map}
 use Rattle.block_disk.specs.Blocks.{Table, numbers_of}
-use Rattle.careful_write.specs.Content.{home, laid_home, gate_open}
+use Rattle.careful_write.specs.Content.{home, laid_home, gate_open, IsFront}
 use Rattle.careful_write.specs.State.{StoreState, IsEither, Leaves, content}
+use Rattle.block_disk.proofs.Laid.{length-numbers_of}
+use Rattle.careful_write.specs.Parts.{written_by, DataFirst}
+use Rattle.careful_write.specs.Steps.{Touches}
+use Rattle.careful_write.proofs.Touched.{touches_nothing}
 use Rattle.careful_write.proofs.Exits.{on_err_so}
 use Rattle.careful_write.proofs.Home.{laid_home-none, none_staged}
 use Rattle.careful_write.proofs.Images.{closed_told}
@@ -56,3 +60,24 @@ returns-clause-idle g c =
       unstaged = ap (λ (t : Table). numbers_of t.entries) c.clear.ensures;
       current = ap (λ (t : Table). laid_home t.entries seen) c.clear.ensures ∙ laid_home-none seen ∙ closed_told seen closed;
     }
+
+pub returns-then-is_empty-clause-front : goal.returns-then-is_empty-clause-front
+returns-then-is_empty-clause-front g c = inl (sym (ap (λ (s : StoreState). s.touched) c.self.view_is) ∙ ap numbers_of (c.is_empty.ensures.0 c.if-is_empty.true))
+
+pub returns-clause-front : goal.returns-clause-front
+returns-clause-front g c = inr (subst (λ (s : StoreState). IfSome (g.D.Disk.state c.write_group.new.disk).seen (IsFront s.touched)) c.self.view_is c.in_ok-write_group.ensures.front)
+
+pub returns-in_err-write_group-clause-order : goal.returns-in_err-write_group-clause-order
+returns-in_err-write_group-clause-order g c =
+    let pending = (g.D.Disk.state c.write_group.new.disk).pending in
+    on_err_so c.from_residual.result (subst (λ (s : StoreState). DataFirst (length s.touched) pending) c.self.view_is
+    (subst (λ (n : ℕ). DataFirst n pending) (sym (length-numbers_of c.self.inside.staged.entries)) c.in_err-write_group.ensures.order))
+
+pub returns-then-is_empty-clause-touches : goal.returns-then-is_empty-clause-touches
+returns-then-is_empty-clause-touches g c = touches_nothing (written_by c.args.self.now.touched) c.args.self.now.disk
+
+pub returns-in_err-write_group-clause-touches : goal.returns-in_err-write_group-clause-touches
+returns-in_err-write_group-clause-touches g c = subst (λ (s : StoreState). Touches (written_by s.touched) s.disk (g.D.Disk.state c.write_group.new.disk)) c.self.view_is c.write_group.ensures.touches
+
+pub returns-clause-touches : goal.returns-clause-touches
+returns-clause-touches g c = subst (λ (s : StoreState). Touches (written_by s.touched) s.disk (g.D.Disk.state c.write_group.new.disk)) c.self.view_is c.write_group.ensures.touches

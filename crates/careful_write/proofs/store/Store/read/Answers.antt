@@ -1,5 +1,6 @@
-use Rattle.std.proofs.Common.{◌≡◌, ◌-◌, ◌+◌, ◌≤◌, List, ℕ, IfSome, length, sym, ap, subst}
-use Rattle.block_disk.specs.Blocks.{block_at}
+use Rattle.std.proofs.Common.{◌≡◌, true, false, ◌∙◌, ◌-◌, ◌+◌, ◌≤◌, List, ℕ, IfSome, length, sym, ap, subst}
+use Rattle.block_disk.specs.Blocks.{block_at, has_number}
+use Rattle.block_disk.proofs.Laid.{none_has_not}
 use Rattle.careful_write.specs.State.{EachWhole, StoreState, InHome}
 use Rattle.block_disk.specs.Disk.{DiskState}
 use Rattle.careful_write.proofs.Home.{read_staged, read_home, content_size, content_whole}
@@ -40,3 +41,9 @@ returns-in_err-read-in-None-clause-whole g c =
 
 pub returns-in_err-read-in-None-clause-each : goal.returns-in_err-read-in-None-clause-each
 returns-in_err-read-in-None-clause-each g c = content_whole c.self.inside.staged.entries _ _ (g.met.D.Disk.whole c.read.new.self) c.self.invariant.whole
+
+pub returns-in_err-read-in-None-clause-staged : goal.returns-in_err-read-in-None-clause-staged
+returns-in_err-read-in-None-clause-staged g c = λ has.
+    let none = none_has_not c.args.n c.self.inside.staged.entries (sym c.in-None.ensures) in
+    let clash : true ≡ false = sym has ∙ sym (ap (λ (s : StoreState). has_number c.args.n s.touched) c.self.view_is) ∙ none in
+    absurd (cc)
