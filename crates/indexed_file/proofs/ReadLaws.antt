@@ -5,7 +5,7 @@ use Rattle.careful_write.specs.declared.down.Down.{Down}
 use Rattle.file_base.specs.declared.head.FileHead.{FileHead}
 use Rattle.bucket_page.specs.Pages.{slots_of, IsBucket}
 use Rattle.records_model.specs.Slots.{value_in, lookup}
-use Rattle.indexed_file.specs.Chain.{kind_of, slot_of, bucket_at, slots_in, target_of, all_slots_of, IsChained}
+use Rattle.indexed_file.specs.Chain.{kind_of, slot_of, bucket_at, slots_in, target_of, all_slots_of, IsChained, HasSlot, Stands}
 use Rattle.indexed_file.proofs.TargetLaws.{lookup_in_target}
 
 abbrev Told : Type 0
@@ -30,6 +30,22 @@ pub tell_all : (told : Told) (h : FileHead) (k : List ℕ) (v : Option (List ℕ
     → IfSome told (λ b. IsChained h b → lookup (slots_in h b (target_of h b k)) k ≡ v) → IfSome told (λ b. IsChained h b → lookup (all_slots_of h b) k ≡ v)
 tell_all None h k v some fact = tt
 tell_all (Some b) h k v some fact = λ valid. ap value_in (lookup_in_target h b k some valid.ordered) ∙ fact valid
+
+-- a slot that was read of a bucket's bytes stands in the bucket
+pub read_stands : (told : Told) (h : FileHead) (k : List ℕ) (n size : ℕ) (frame bytes value : List ℕ) → frame ≡ bytes → size ≡ 512 * h.bucket → n < h.used → 512 * h.bucket ≤ length bytes
+    → IfSome told (λ b. take (512 * h.bucket) frame ≡ bucket_at h b n) → IsBucket (kind_of h) (length (take size bytes)) (take size bytes) × HasSlot h (take size bytes) k value → IfSome told (Stands h k value)
+read_stands None h k n size frame bytes value same is below long read fact = tt
+read_stands (Some b) h k n size frame bytes value same is below long read fact =
+    let here : take size bytes ≡ bucket_at h b n = (λ i. take (is i) (sym same i)) ∙ read in
+    let count : length (take size bytes) ≡ 512 * h.bucket = length-take-le size bytes (omega (arith, is, long)) ∙ is in
+    let P : List ℕ → Type 0 = λ x. IsBucket (kind_of h) (512 * h.bucket) x in
+    let Q : ℕ → Type 0 = λ m. IsBucket (kind_of h) m (take size bytes) in
+    record {
+      bucket = n;
+      used = below;
+      stands = subst P here (subst Q count fact.0);
+      slot = subst (λ (x : List ℕ). HasSlot h x k value) here fact.1;
+    }
 
 pub on_ok : (r : Result Bool Down) (P Q : Bool → Type 0) → ((x : Bool) → P x → Q x) → IfOk r P → IfOk r Q
 on_ok (Ok x) P Q f p = f x p

@@ -6,7 +6,7 @@ use Rattle.file_base.specs.Bytes.{piece_at}
 use Rattle.vms_model.specs.Keys.{Key, Number, Text, End}
 use Rattle.bucket_page.specs.declared.kind.PageKind.{PageKind}
 use Rattle.bucket_page.specs.declared.kind.PageKind.TheVariants.{Data}
-use Rattle.bucket_page.specs.Pages.{u16_at, slots_of, next_of, no_next, key_in, IsBucket}
+use Rattle.bucket_page.specs.Pages.{u16_at, slots_of, slot_at, next_of, no_next, key_in, IsBucket}
 use Rattle.change_set.specs.Buckets.{bucket_bytes}
 use Rattle.change_set.specs.Maps.{Map}
 use Rattle.records_model.specs.Slots.{Slot, lookup, put, tidied, room_of, size_of, IsOrdered}
@@ -134,6 +134,25 @@ pub record IsLeaf (h : FileHead) (bytes : List ℕ) : Type 0 where
   pub bucket : IsBucket (kind_of h) (512 * h.bucket) bytes
   pub kept : all_keep h (slots_of (kind_of h) bytes) ≡ true
   pub leads : (next_of bytes < h.used) ⊎ (next_of bytes ≡ no_next)
+
+-- a slot of a bucket has this key and this record
+pub record HasSlot (h : FileHead) (bytes : List ℕ) (k value : List ℕ) : Type 0 where
+  pub place : ℕ
+  pub there : place < length (slots_of (kind_of h) bytes)
+  pub key : key_in (kind_of h) (slot_at (slots_of (kind_of h) bytes) place) ≡ k
+  pub is : value_of h.mrs (slot_at (slots_of (kind_of h) bytes) place) ≡ Some value
+
+-- a used bucket that is laid out as one has a slot with this key and this record
+pub record Stands (h : FileHead) (k value : List ℕ) (blocks : List (List ℕ)) : Type 0 where
+  pub bucket : ℕ
+  pub used : bucket < h.used
+  pub stands : IsBucket (kind_of h) (512 * h.bucket) (bucket_at h blocks bucket)
+  pub slot : HasSlot h (bucket_at h blocks bucket) k value
+
+abbrev pub StandsAt : FileHead → List (List ℕ) → Key → List ℕ → Type 0
+StandsAt h blocks (Text k) value = Stands h k value blocks
+StandsAt h blocks (Number n) value = ⊥
+StandsAt h blocks End value = ⊥
 
 -- the first of these buckets, or this number where there are none
 abbrev pub first_or : List ℕ → ℕ → ℕ

@@ -4,8 +4,9 @@ ghost use Rattle.std.specs.Option.{option_copied};
 ghost use Rattle.vms_model.specs.Keys.{Text};
 ghost use Rattle.vms_base.specs.Keys.{key_of};
 ghost use Rattle.change_set.specs.Maps.{IsNext, EndsAfter};
+ghost use Rattle.careful_write.specs.Reads.{SameButReads};
 ghost use Rattle.change_set.specs.Files.{IsPlaced, free_frames, fell};
-ghost use Rattle.indexed_file.specs.Chain.{IsIndexed, IsChained, map_of};
+ghost use Rattle.indexed_file.specs.Chain.{IsIndexed, IsChained, StandsAt, map_of};
 
 use crate::make::make_file;
 use crate::next::next_key;
@@ -34,9 +35,10 @@ fn next_behind<D: Disk>(
     requires placed { IsPlaced head.now store.old.disk }
     requires frames { 32 ≤ free_frames store.old.pool }
     ensures found { IfOk result (λ is. is ≡ true → IfSome store.old.current (λ blocks. IsChained head.now blocks → IsNext (map_of head.now blocks) (option_map Text (option_copied after.entry)) (key_of found.new) out.new)) }
+    ensures stands { IfOk result (λ is. is ≡ true → IfSome store.old.current (λ blocks. StandsAt head.now blocks (key_of found.new) out.new)) }
     ensures none { IfOk result (λ is. is ≡ false → IfSome store.old.current (λ blocks. IsChained head.now blocks → EndsAfter (map_of head.now blocks) (option_map Text (option_copied after.entry)))) }
-    ensures same { OnOk result (store.new ≡ store.old) }
-    ensures down { OnErr result (store.new ≡ fell result store.old) }
+    ensures same { OnOk result (SameButReads store.old store.new) }
+    ensures down { OnErr result (SameButReads (fell result store.old) store.new) }
 {
     match next_key(head, store, after, out) {
         Ok(Some(key)) => {
@@ -52,7 +54,7 @@ fn next_behind<D: Disk>(
 }
 
 impl RecordFile for IndexedFile {
-    ghost use Rattle.indexed_file.specs.Chain.{map_of, IsChained, IsIndexed, IsNew, Suits, Takes, Restores, room_at, asks, used_after, chain_of, first_chain};
+    ghost use Rattle.indexed_file.specs.Chain.{map_of, IsChained, StandsAt, IsIndexed, IsNew, Suits, Takes, Restores, room_at, asks, used_after, chain_of, first_chain};
     ghost use Rattle.indexed_file.specs.Local.{local_law, valid_local_law, room_local_law, chain_local_law};
 
     ghost map = { map_of };
@@ -62,6 +64,8 @@ impl RecordFile for IndexedFile {
     ghost fresh = { IsNew };
 
     ghost valid = { IsChained };
+
+    ghost stands = { StandsAt };
 
     ghost suits = { Suits };
 

@@ -6,7 +6,7 @@ ghost use Rattle.frame_pool.specs.Pool.{IsOut};
 ghost use Rattle.bucket_page.specs.Pages.{slots_of, IsBucket};
 ghost use Rattle.change_set.specs.Buckets.{frame_of, with_frame};
 ghost use Rattle.change_set.specs.Files.{IsPlaced, free_frames};
-ghost use Rattle.indexed_file.specs.Chain.{IsIndexed, IsChained, kind_of, slot_of, slots_in, next_in, all_slots_of};
+ghost use Rattle.indexed_file.specs.Chain.{IsIndexed, IsChained, kind_of, slot_of, slots_in, next_in, all_slots_of, HasSlot, Stands};
 ghost use Rattle.indexed_file.specs.Behind.{first_behind, IsFound, StartsBehind};
 
 use crate::leaf::{bucket_size, find_place, kind, load_leaf, read_record, slot, slot_key};
@@ -45,6 +45,7 @@ fn next_in_leaf(
     requires small { length bytes.now ≤ 8192 }
     requires most { head.now.mrs ≤ 8160 }
     ensures some { IfSome result (λ k. IsBucket (kind_of head.now) (length bytes.now) bytes.now → IsFound (first_behind (option_copied after.entry) (map (slot_of head.now) (slots_of (kind_of head.now) bytes.now))) k out.new) }
+    ensures stands { IfSome result (λ k. IsBucket (kind_of head.now) (length bytes.now) bytes.now × HasSlot head.now bytes.now k out.new) }
     ensures none { IfNone result (IsBucket (kind_of head.now) (length bytes.now) bytes.now → first_behind (option_copied after.entry) (map (slot_of head.now) (slots_of (kind_of head.now) bytes.now)) ≡ None) }
 {
     match Page::slots(bytes, kind(head)) {
@@ -77,6 +78,7 @@ fn visit_next<D: Disk>(
     ensures state { store.new ≡ with_frame frame.now (frame_of store.new.pool frame.now) (record store.old { disk = answered result store.old.disk }) }
     ensures out { IsOut store.new.pool frame.now }
     ensures found { IfOk result (λ to. IfSome to.0 (λ k. IfSome store.old.current (λ blocks. IsChained head.now blocks → IsFound (first_behind (option_copied after.entry) (slots_in head.now blocks n)) k out.new))) }
+    ensures stands { IfOk result (λ to. IfSome to.0 (λ k. IfSome store.old.current (Stands head.now k out.new))) }
     ensures none { IfOk result (λ to. IfNone to.0 (IfSome store.old.current (λ blocks. IsChained head.now blocks → first_behind (option_copied after.entry) (slots_in head.now blocks n) ≡ None))) }
     ensures next { IfOk result (λ to. IfSome store.old.current (λ blocks. to.1 ≡ next_in head.now blocks n)) }
 {
@@ -100,6 +102,7 @@ fn find_next<D: Disk>(
     ensures state { store.new ≡ with_frame frame.now (frame_of store.new.pool frame.now) (record store.old { disk = answered result store.old.disk }) }
     ensures out { IsOut store.new.pool frame.now }
     ensures found { IfOk result (λ found. IfSome found (λ k. IfSome store.old.current (λ blocks. IsChained head.now blocks → IsFound (first_behind (option_copied after.entry) (all_slots_of head.now blocks)) k out.new))) }
+    ensures stands { IfOk result (λ found. IfSome found (λ k. IfSome store.old.current (Stands head.now k out.new))) }
     ensures none { IfOk result (λ found. IfNone found (IfSome store.old.current (λ blocks. IsChained head.now blocks → first_behind (option_copied after.entry) (all_slots_of head.now blocks) ≡ None))) }
 {
     let mut n = 0;
@@ -130,6 +133,7 @@ pub(crate) fn next_key<D: Disk>(
     requires frames { 1 ≤ free_frames store.old.pool }
     ensures state { store.new ≡ record store.old { disk = answered result store.old.disk } }
     ensures found { IfOk result (λ found. IfSome found (λ k. IfSome store.old.current (λ blocks. IsChained head.now blocks → IsFound (first_behind (option_copied after.entry) (all_slots_of head.now blocks)) k out.new))) }
+    ensures stands { IfOk result (λ found. IfSome found (λ k. IfSome store.old.current (Stands head.now k out.new))) }
     ensures none { IfOk result (λ found. IfNone found (IfSome store.old.current (λ blocks. IsChained head.now blocks → first_behind (option_copied after.entry) (all_slots_of head.now blocks) ≡ None))) }
 {
     let frame = take_frame(store);

@@ -6,7 +6,7 @@ ghost use Rattle.bucket_page.specs.Pages.{slots_of, IsBucket};
 ghost use Rattle.change_set.specs.Buckets.{frame_of, with_frame};
 ghost use Rattle.change_set.specs.Files.{IsPlaced, free_frames};
 ghost use Rattle.records_model.specs.Slots.{lookup};
-ghost use Rattle.indexed_file.specs.Chain.{IsIndexed, IsChained, kind_of, slot_of, slots_in, target_of, all_slots_of};
+ghost use Rattle.indexed_file.specs.Chain.{IsIndexed, IsChained, kind_of, slot_of, slots_in, target_of, all_slots_of, HasSlot, Stands};
 
 use crate::leaf::{bucket_size, find_place, kind, load_leaf, read_record, slot};
 use crate::walk::find_target;
@@ -23,6 +23,7 @@ fn read_slot(head: &FileHead, bytes: &[u8], key: &[u8], out: &mut Record) -> boo
     requires small { length bytes.now ≤ 8192 }
     requires most { head.now.mrs ≤ 8160 }
     ensures some { result ≡ true → IsBucket (kind_of head.now) (length bytes.now) bytes.now → lookup (map (slot_of head.now) (slots_of (kind_of head.now) bytes.now)) key.now ≡ Some out.new }
+    ensures stands { result ≡ true → IsBucket (kind_of head.now) (length bytes.now) bytes.now × HasSlot head.now bytes.now key.now out.new }
     ensures none { result ≡ false → IsBucket (kind_of head.now) (length bytes.now) bytes.now → lookup (map (slot_of head.now) (slots_of (kind_of head.now) bytes.now)) key.now ≡ None }
 {
     match Page::slots(bytes, kind(head)) {
@@ -51,6 +52,7 @@ fn read_key<D: Disk>(
     ensures state { store.new ≡ with_frame frame.now (frame_of store.new.pool frame.now) (record store.old { disk = answered result store.old.disk }) }
     ensures out { IsOut store.new.pool frame.now }
     ensures found { IfOk result (λ found. found ≡ true → IfSome store.old.current (λ blocks. IsChained head.now blocks → lookup (slots_in head.now blocks (target_of head.now blocks key.now)) key.now ≡ Some out.new)) }
+    ensures stands { IfOk result (λ found. found ≡ true → IfSome store.old.current (Stands head.now key.now out.new)) }
     ensures absent { IfOk result (λ found. found ≡ false → IfSome store.old.current (λ blocks. IsChained head.now blocks → lookup (slots_in head.now blocks (target_of head.now blocks key.now)) key.now ≡ None)) }
 {
     match find_target(head, store, frame, key) {
@@ -78,6 +80,7 @@ pub(crate) fn get_key<D: Disk>(
     requires frames { 1 ≤ free_frames store.old.pool }
     ensures state { store.new ≡ record store.old { disk = answered result store.old.disk } }
     ensures found { IfOk result (λ found. found ≡ true → IfSome store.old.current (λ blocks. IsChained head.now blocks → lookup (all_slots_of head.now blocks) key.now ≡ Some out.new)) }
+    ensures stands { IfOk result (λ found. found ≡ true → IfSome store.old.current (Stands head.now key.now out.new)) }
     ensures absent { IfOk result (λ found. found ≡ false → IfSome store.old.current (λ blocks. IsChained head.now blocks → lookup (all_slots_of head.now blocks) key.now ≡ None)) }
 {
     let frame = take_frame(store);

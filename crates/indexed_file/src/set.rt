@@ -4,7 +4,7 @@ ghost use Rattle.std.specs.Option.{option_copied};
 ghost use Rattle.careful_write.specs.Down.{answered};
 ghost use Rattle.frame_pool.specs.Pool.{IsOut};
 ghost use Rattle.vms_model.specs.Keys.{Text};
-ghost use Rattle.bucket_page.specs.Pages.{slots_of, next_of, slot_at, joined, suits, inserted, IsPacked, IsBucket, Packs, Holds};
+ghost use Rattle.bucket_page.specs.Pages.{slots_of, next_of, slot_at, joined, suits, inserted, page_of, IsPacked, IsBucket, Packs, Holds};
 ghost use Rattle.change_set.specs.Buckets.{frame_of, with_frame, with_bucket};
 ghost use Rattle.change_set.specs.Files.{IsPlaced, free_frames};
 ghost use Rattle.records_model.specs.Slots.{size_of};
@@ -324,6 +324,8 @@ fn set_in_leaf<H: Held>(
     requires numbers { head.now.used ≤ 65536 }
     ensures sets { IsBucket (kind_of head.now) size (take size low.old) → all_keep head.now (slots_of (kind_of head.now) (take size low.old)) ≡ true →
         SetsLeaf head.now (λ t. H.held held.now (Text t)) key.now (option_copied value.entry) size head.now.used (take size low.old) result (take size low.new) (take size mid.new) (take size high.new) }
+    ensures strange { (IsBucket (kind_of head.now) size (take size low.old) → ⊥) →
+        SetsLeaf head.now (λ t. H.held held.now (Text t)) key.now (option_copied value.entry) size head.now.used (page_of (kind_of head.now) size [] (next_of (take size low.old))) result (take size low.new) (take size mid.new) (take size high.new) }
     ensures few { result ≤ 2 }
 {
     match Page::slots(&low[..size], kind(head)) {

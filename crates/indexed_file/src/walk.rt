@@ -28,11 +28,13 @@ fn used_behind(head: &FileHead, bytes: &[u8]) -> Option<u32>
     if next < head.used { Some(next) } else { None }
 }
 
-// The target once bucket n is passed, and the bucket to look at next: none where no later one can begin by the key.
+// The target once bucket n is passed, and the bucket to look at next: none where no later one can begin by the key. Bytes
+// that are not laid out as a bucket begin by no key.
 fn pass(head: &FileHead, bytes: &[u8], n: u32, target: u32, key: &[u8]) -> (u32, Option<u32>)
     requires header { 16 ≤ length bytes.now }
     requires small { length bytes.now ≤ 8192 }
     ensures target { IsBucket (kind_of head.now) (length bytes.now) bytes.now → result.0 ≡ (if begins_by key.now (slots_at head.now bytes.now) then n else target) }
+    ensures strange { (IsBucket (kind_of head.now) (length bytes.now) bytes.now → ⊥) → result.0 ≡ target }
     ensures either { (result.0 ≡ n) ⊎ (result.0 ≡ target) }
     ensures next { IfSome result.1 (λ next. (next ≡ next_of bytes.now) × (next < head.now.used)) }
     ensures last { IfNone result.1 (IsBucket (kind_of head.now) (length bytes.now) bytes.now → (head.now.used ≤ next_of bytes.now) ⊎ (begins_above key.now (slots_at head.now bytes.now) ≡ true)) }

@@ -1,14 +1,13 @@
 -- What is so of a file of one organization is so by the head's organization.
-use Rattle.std.proofs.Common.{◌≡◌, ◌≤◌, ◌-◌, ℕ, take, Bool, true, List, Option, Some, Result, Ok, Err, OnOk, IfSome, option_map, sym, ap, subst}
+use Rattle.std.proofs.Common.{◌≡◌, ◌≤◌, ℕ, Bool, true, List, Option, Some, Result, Ok, Err, OnOk, IfSome, option_map, sym, ap, subst}
 use Rattle.file_base.specs.declared.head.FileHead.{FileHead}
 use Rattle.file_base.specs.declared.head.Organization.{Organization}
 use Rattle.vms_model.specs.Keys.{Key}
 use Rattle.records_model.specs.Chain.{chain_set, chain_back}
 use Rattle.change_set.specs.Maps.{set_key}
 use Rattle.change_set.specs.Files.{SameFile}
-use Rattle.seq_file.specs.Placing.{buckets_for}
-use Rattle.seq_file.specs.Records.{cut_from, slot_sizes}
-use Rattle.seq_file.specs.Layout.{records_in, capacity}
+use Rattle.seq_file.specs.Records.{cut_from}
+use Rattle.seq_file.specs.Layout.{capacity, UsedBefore}
 use Rattle.record_files.specs.Any.{map_by, FormBy, LaidOutBy, TakesBy, RestoresBy, room_by, used_by, chain_by, map_of, IsFile, IsLaidOut, Takes, Restores, room_at, used_after, chain_of}
 
 -- a fact about the organizations of a head and of the same file's later head
@@ -79,11 +78,7 @@ pub cut_valid : {T E : Type 0} (r : Result T E) (o : Organization) (h h' : FileH
     → OnOk r (IfSome old (λ before. IsLaidOut h before → IfSome new (IsLaidOut h')))
 cut_valid r o h h' old new is same p = both (λ a b. IfSome old (λ before. LaidOutBy a h before → IfSome new (LaidOutBy b h'))) r o h h' is same p
 
--- how many buckets the placing of the records below a position takes
-abbrev pub buckets_of : FileHead → ℕ → List (List ℕ) → ℕ
-buckets_of h from b = buckets_for (capacity h) (slot_sizes (take (from - 1) (records_in h b)))
-
-pub cut_used : {T E : Type 0} (r : Result T E) (o : Organization) (h h' : FileHead) (left : List (List ℕ) → ℕ) (old : Option (List (List ℕ))) → h.organization ≡ o → OnOk r (SameFile h h')
-    → OnOk r (IfSome old (λ before. LaidOutBy o h before → h'.used ≡ left before))
-    → OnOk r (IfSome old (λ before. IsLaidOut h before → h'.used ≡ left before))
-cut_used r o h h' left old is same p = both (λ a b. IfSome old (λ before. LaidOutBy a h before → h'.used ≡ left before)) r o h h' is same p
+pub cut_used : {T E : Type 0} (r : Result T E) (o : Organization) (h h' : FileHead) (n : ℕ) (old : Option (List (List ℕ))) → h.organization ≡ o → OnOk r (SameFile h h')
+    → OnOk r (IfSome old (λ before. LaidOutBy o h before → UsedBefore (capacity h) n (map_by o h before) h'.used))
+    → OnOk r (IfSome old (λ before. IsLaidOut h before → UsedBefore (capacity h) n (map_of h before) h'.used))
+cut_used r o h h' n old is same p = both (λ a b. IfSome old (λ before. LaidOutBy a h before → UsedBefore (capacity h) n (map_by a h before) h'.used)) r o h h' is same p

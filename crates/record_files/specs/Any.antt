@@ -1,5 +1,5 @@
 -- What a file of any organization is: by the head's organization, what its own organization says.
-use Rattle.std.specs.Prelude.{ℕ, Bool, List, [], Option}
+use Rattle.std.specs.Prelude.{◌≡◌, ℕ, Bool, List, [], Option, Some}
 use Rattle.file_base.specs.declared.head.FileHead.{FileHead}
 use Rattle.file_base.specs.declared.head.Organization.{Organization}
 use Rattle.file_base.specs.declared.head.Organization.TheVariants.{Sequential, Relative, Indexed}
@@ -33,6 +33,12 @@ abbrev pub LaidOutBy : Organization → FileHead → List (List ℕ) → Type 0
 LaidOutBy Sequential = sequential.IsLaidOut
 LaidOutBy Relative = relative.IsLaidOut
 LaidOutBy Indexed = indexed.IsChained
+
+-- a used bucket that is laid out has this record under this key
+abbrev pub StandsBy : Organization → FileHead → List (List ℕ) → Key → List ℕ → Type 0
+StandsBy Sequential = λ h blocks key bytes. sequential.Stands h bytes blocks
+StandsBy Relative = λ h blocks key bytes. relative.map_of h blocks key ≡ Some bytes
+StandsBy Indexed = indexed.StandsAt
 
 -- a key and a record of a file that is kept so
 abbrev pub SuitsBy : Organization → FileHead → Key → Option (List ℕ) → Type 0
@@ -97,6 +103,10 @@ IsNew h = FreshBy h.organization h
 -- the blocks of the extent are laid out as those of the file
 abbrev pub IsLaidOut : FileHead → List (List ℕ) → Type 0
 IsLaidOut h = LaidOutBy h.organization h
+
+-- a used bucket of the file that is laid out has this record under this key
+abbrev pub Stands : FileHead → List (List ℕ) → Key → List ℕ → Type 0
+Stands h = StandsBy h.organization h
 
 -- a key that the file may have, and a record that it may keep there
 abbrev pub Suits : FileHead → Key → Option (List ℕ) → Type 0

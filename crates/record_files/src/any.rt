@@ -3,10 +3,10 @@ ghost use Rattle.std.specs.Prelude.{◌≡◌, ◌≤◌, ◌<◌, ◌+◌, ◌-
 ghost use Rattle.std.specs.Option.{option_copied};
 ghost use Rattle.file_base.specs.declared.head.Organization.TheVariants.{Sequential};
 ghost use Rattle.vms_base.specs.Keys.{key_of};
+ghost use Rattle.careful_write.specs.Reads.{SameButReads};
 ghost use Rattle.change_set.specs.Files.{IsPlaced, free_frames, fell, StagesIn, SameFile};
-ghost use Rattle.seq_file.specs.Placing.{buckets_for};
-ghost use Rattle.seq_file.specs.Records.{cut_from, slot_sizes};
-ghost use Rattle.seq_file.specs.Layout.{records_in, capacity};
+ghost use Rattle.seq_file.specs.Records.{cut_from};
+ghost use Rattle.seq_file.specs.Layout.{capacity, UsedBefore};
 ghost use Rattle.record_files.specs.Any.{map_of, IsFile, IsLaidOut, Suits};
 
 use crate::checks::{
@@ -27,7 +27,7 @@ use vms_base::{Key, Record};
 pub struct AnyFile;
 
 impl RecordFile for AnyFile {
-    ghost use Rattle.record_files.specs.Any.{map_of, IsFile, IsNew, IsLaidOut, Suits, Takes, Restores, room_at, asks, used_after, chain_of, first_chain_of};
+    ghost use Rattle.record_files.specs.Any.{map_of, IsFile, IsNew, IsLaidOut, Stands, Suits, Takes, Restores, room_at, asks, used_after, chain_of, first_chain_of};
     ghost use Rattle.record_files.specs.Local.{local_law, valid_local_law, room_local_law, chain_local_law};
 
     ghost map = { map_of };
@@ -37,6 +37,8 @@ impl RecordFile for AnyFile {
     ghost fresh = { IsNew };
 
     ghost valid = { IsLaidOut };
+
+    ghost stands = { Stands };
 
     ghost suits = { Suits };
 
@@ -169,12 +171,12 @@ impl AnyFile {
         requires last { from ≤ head.old.count }
         ensures map { OnOk result (IfSome store.old.current (λ before. IsLaidOut head.old before → option_map (map_of head.new) store.new.current ≡ Some (cut_from from (map_of head.old before)))) }
         ensures valid { OnOk result (IfSome store.old.current (λ before. IsLaidOut head.old before → IfSome store.new.current (IsLaidOut head.new))) }
-        ensures used { OnOk result (IfSome store.old.current (λ before. IsLaidOut head.old before → head.new.used ≡ buckets_for (capacity head.old) (slot_sizes (take (from - 1) (records_in head.old before))))) }
+        ensures used { OnOk result (IfSome store.old.current (λ before. IsLaidOut head.old before → UsedBefore (capacity head.old) from (map_of head.old before) head.new.used)) }
         ensures file { OnOk result (SameFile head.old head.new) }
         ensures form { OnOk result (IsFile head.new) }
         ensures staged { OnOk result (StagesIn head.old head.old.bucket store.old store.new) }
         ensures head { OnErr result (head.new ≡ head.old) }
-        ensures down { OnErr result (store.new ≡ fell result store.old) }
+        ensures down { OnErr result (SameButReads (fell result store.old) store.new) }
     {
         SeqFile::cut(head, store, from)
     }

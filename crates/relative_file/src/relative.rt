@@ -3,6 +3,7 @@ ghost use Rattle.std.specs.Prelude.{◌≡◌, ◌≤◌, ◌<◌, ◌+◌, ◌-
 ghost use Rattle.std.specs.Option.{option_copied};
 ghost use Rattle.careful_write.specs.State.{StoreState};
 ghost use Rattle.vms_base.specs.Keys.{key_of};
+ghost use Rattle.careful_write.specs.Reads.{SameButReads};
 ghost use Rattle.change_set.specs.Files.{IsPlaced, StagesIn, free_frames, fell};
 ghost use Rattle.change_set.specs.Maps.{set_key};
 ghost use Rattle.relative_file.specs.Cells.{map_of, IsRelative, IsLaidOut, Suits};
@@ -44,7 +45,7 @@ fn set_record<D: Disk>(
     ensures map { OnOk result (option_map (map_of head.now) store.new.current ≡ option_map (λ before. set_key (key_of key.now) (option_copied value.entry) (map_of head.now before)) store.old.current) }
     ensures valid { OnOk result (IfSome store.old.current (λ before. IsLaidOut head.now before → IfSome store.new.current (IsLaidOut head.now))) }
     ensures staged { OnOk result (StagesIn head.now head.now.bucket store.old store.new) }
-    ensures down { OnErr result (store.new ≡ fell result store.old) }
+    ensures down { OnErr result (SameButReads (fell result store.old) store.new) }
 {
     match key {
         Key::Number(n) => {
@@ -59,7 +60,7 @@ fn set_record<D: Disk>(
 }
 
 impl RecordFile for RelativeFile {
-    ghost use Rattle.std.specs.Prelude.{ℕ, [], refl};
+    ghost use Rattle.std.specs.Prelude.{◌≡◌, ℕ, [], Some, refl};
     ghost use Rattle.relative_file.specs.Cells.{map_of, IsLaidOut, IsRelative, Suits, Anything};
     ghost use Rattle.relative_file.specs.Local.{local_law, valid_local_law};
 
@@ -70,6 +71,8 @@ impl RecordFile for RelativeFile {
     ghost fresh = { λ h. Anything };
 
     ghost valid = { IsLaidOut };
+
+    ghost stands = { λ h blocks key bytes. map_of h blocks key ≡ Some bytes };
 
     ghost suits = { Suits };
 

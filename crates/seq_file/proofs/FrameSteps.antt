@@ -9,10 +9,10 @@ use Rattle.change_set.specs.Buckets.{frame_of, with_frame}
 use Rattle.change_set.proofs.Frames.{with_frame_own}
 use Rattle.bucket_page.specs.declared.kind.PageKind.TheVariants.{Seq}
 use Rattle.bucket_page.specs.Frames.{bucket_in, slots_in, next_in}
-use Rattle.bucket_page.specs.Pages.{slots_of, slot_at, joined, precedes_all, ascend, inserted, removed, replaced, IsBucket, Holds}
+use Rattle.bucket_page.specs.Pages.{slots_of, slot_at, joined, precedes_all, ascend, inserted, removed, replaced, Holds}
 use Rattle.seq_file.proofs.PlacingLaws.{joined_push}
 use Rattle.seq_file.specs.Layout.{bucket_at, slot_of}
-use Rattle.seq_file.specs.Frames.{HasSlots, InFrame, Reads}
+use Rattle.seq_file.specs.Frames.{HasSlots, InFrame, Reads, Settles}
 
 abbrev Frames : Type 0
 Frames = List (Option (List ℕ))
@@ -77,10 +77,10 @@ pub in_frame_more : (f : ℕ) (s0 s s' : StoreState) (D : DiskState → DiskStat
 in_frame_more f s0 s s' D lent is =
     is ∙ (λ k. with_frame f (frame_of s'.pool f) (record (lent k) { disk = D (lent k).disk })) ∙ (λ k. record s0 { disk = D s0.disk; pool = set-set s0.pool f (Some (frame_of s.pool f)) (Some (frame_of s'.pool f)) k })
 
--- a bucket of records that was loaded stays as it is
-pub reads : (h : FileHead) (i : ℕ) (told : Option (List (List ℕ))) (loaded bytes : List ℕ) → IfSome told (λ b. loaded ≡ bucket_at h b i) → (IsBucket Seq (512 * h.bucket) loaded → bytes ≡ loaded) → IfSome told (Reads h i bytes)
-reads h i None loaded bytes read same = tt
-reads h i (Some b) loaded bytes read same = λ bucket. same (subst (λ (x : List ℕ). IsBucket Seq (512 * h.bucket) x) (sym read) bucket) ∙ read
+-- what was loaded of a bucket settles so
+pub reads : (h : FileHead) (i : ℕ) (told : Option (List (List ℕ))) (loaded bytes : List ℕ) → IfSome told (λ b. loaded ≡ bucket_at h b i) → Settles (512 * h.bucket) loaded bytes → IfSome told (Reads h i bytes)
+reads h i None loaded bytes read settles = tt
+reads h i (Some b) loaded bytes read settles = subst (λ (x : List ℕ). Settles (512 * h.bucket) x bytes) read settles
 
 -- the bytes behind the length of a slot
 pub behind_length : (bytes : List ℕ) (first size : ℕ) → 2 ≤ size → take (first + size - (first + 2)) (drop (first + 2) bytes) ≡ drop 2 (take size (drop first bytes))

@@ -3,7 +3,9 @@ use Rattle.std.proofs.Common.{◌≡◌, ◌≢◌, ℕ, zero, suc, ◌+◌, ◌
 use Rattle.std.specs.List.{slice_get}
 use Rattle.std.proofs.lemmas.List.{take_all, drop_all, set_split, take-map, drop-map, map-append}
 use Rattle.std.proofs.lemmas.Option.{slice_get_past}
-use Rattle.seq_file.specs.Records.{record_at, list_set}
+use Rattle.vms_model.specs.Keys.{Number}
+use Rattle.change_set.specs.Maps.{Map}
+use Rattle.seq_file.specs.Records.{record_at, list_set, map_of_list}
 
 pub slice_get-set_same : (rs : List (List ℕ)) (i : ℕ) (r : List ℕ) → i < length rs → slice_get (set rs i r) i ≡ Some r
 slice_get-set_same [] i r below = absurd (omega arith)
@@ -81,3 +83,17 @@ record_at_past rs (suc m) past = slice_get_past rs m (omega arith)
 pub list_set-map : (f : List ℕ → List ℕ) (n : ℕ) (v : Option (List ℕ)) (rs : List (List ℕ)) → map f (list_set n v rs) ≡ list_set n (option_map f v) (map f rs)
 list_set-map f n None rs = map-append f (take (n - 1) rs) (drop n rs) ∙ (λ i. sym (take-map f (n - 1) rs) i ++ sym (drop-map f n rs) i)
 list_set-map f n (Some r) rs = map-append f (take (n - 1) rs) (r ∷ drop n rs) ∙ (λ i. sym (take-map f (n - 1) rs) i ++ f r ∷ sym (drop-map f n rs) i)
+
+same_entries : (a b : List (List ℕ)) → ((i : ℕ) → slice_get a i ≡ slice_get b i) → a ≡ b
+same_entries [] [] same = refl
+same_entries [] (y ∷ b) same = let clash = same 0 in absurd (cc)
+same_entries (x ∷ a) [] same = let clash = same 0 in absurd (cc)
+same_entries (x ∷ a) (y ∷ b) same =
+    let first = same 0 in
+    let rest = same_entries a b (λ i. same (suc i)) in
+    let head : x ≡ y = cc in
+    λ k. head k ∷ rest k
+
+-- a map is that of one list of records at most
+pub one_list : (a b : List (List ℕ)) → map_of_list a ≡ map_of_list b → a ≡ b
+one_list a b same = same_entries a b (λ i. ap (λ (m : Map). m (Number (suc i))) same)

@@ -13,11 +13,11 @@ use Rattle.change_set.proofs.Extents.{stages_more}
 use Rattle.change_set.proofs.NumberKeys.{below_number, number_after, after_number}
 use Rattle.seq_file.specs.Placing.{buckets_for}
 use Rattle.seq_file.specs.Records.{record_at, map_of_list, list_set, cut_from, slot_sizes, MaySet}
-use Rattle.seq_file.specs.Layout.{map_of, records_in, capacity, asks, used_after, IsSequential, IsLaidOut, Takes, TakesAt, Becomes}
+use Rattle.seq_file.specs.Layout.{map_of, records_in, capacity, asks, used_after, UsedBefore, IsSequential, IsLaidOut, Takes, TakesAt, Becomes}
 use Rattle.seq_file.specs.Frames.{Changes}
 use Rattle.seq_file.proofs.FileLaws.{used_is, asked_is_placed}
 use Rattle.seq_file.proofs.MapLaws.{map_set, map_cut}
-use Rattle.seq_file.proofs.RecordLaws.{record_at_past, record_at_set, list_set_none, list_set_next, list_set_stands}
+use Rattle.seq_file.proofs.RecordLaws.{record_at_past, record_at_set, list_set_none, list_set_next, list_set_stands, one_list}
 
 abbrev Blocks : Type 0
 Blocks = List (List ℕ)
@@ -136,14 +136,14 @@ set_done h h' key n v s s' is one was changes = subst (λ (k : Key). IsSet h h' 
 pub record IsCut (h h' : FileHead) (n : ℕ) (told now : Option Blocks) : Type 0 where
   pub map_is : IfSome told (λ b. IsLaidOut h b → option_map (map_of h') now ≡ Some (cut_from n (map_of h b)))
   pub valid : IfSome told (λ b. IsLaidOut h b → IfSome now (IsLaidOut h'))
-  pub used : IfSome told (λ b. IsLaidOut h b → h'.used ≡ buckets_for (capacity h) (slot_sizes (take (n - 1) (records_in h b))))
+  pub used : IfSome told (λ b. IsLaidOut h b → UsedBefore (capacity h) n (map_of h b) h'.used)
 
 cut_told : (h h' : FileHead) (n : ℕ) (told now : Option Blocks) → 1 ≤ n → SameFile h h' → IsSequential h' → IfSome told (λ b. IsLaidOut h b → IsSomeAnd now (λ c. Becomes h' c (take (n - 1) (records_in h b)))) → IsCut h h' n told now
 cut_told h h' n None now one file form becomes = record { map_is = tt; valid = tt; used = tt }
 cut_told h h' n (Some b) now one file form becomes = record {
   map_is = λ valid. (has h h' now (take (n - 1)) b file form (becomes valid)).map_is ∙ ap Some (map_cut n (records_in h b) one);
   valid = λ valid. (has h h' now (take (n - 1)) b file form (becomes valid)).valid;
-  used = λ valid. (has h h' now (take (n - 1)) b file form (becomes valid)).used;
+  used = λ valid records is. (has h h' now (take (n - 1)) b file form (becomes valid)).used ∙ ap (λ (rs : List (List ℕ)). buckets_for (capacity h) (slot_sizes (take (n - 1) rs))) (one_list (records_in h b) records is);
 }
 
 pub cut_done : (h h' : FileHead) (n : ℕ) (s s' : StoreState) → 1 ≤ n → Changes h h' (IsLaidOut h) (take (n - 1)) s s' → IsCut h h' n s.current s'.current

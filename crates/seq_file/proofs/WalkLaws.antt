@@ -1,12 +1,12 @@
 -- Where positions stand in the used buckets.
-use Rattle.std.proofs.Common.{◌≡◌, ℕ, zero, suc, ◌<◌, ◌≤◌, ◌+◌, ◌-◌, List, [], ◌∷◌, length, Option, Some, None, IfSome, sym, ap, ◌∙◌, arith, length-append}
+use Rattle.std.proofs.Common.{◌≡◌, ℕ, zero, suc, ◌<◌, ◌≤◌, ◌+◌, ◌-◌, List, [], ◌∷◌, ⊎_elim, length, Option, Some, None, IfSome, sym, ap, ◌∙◌, arith, length-append}
 use Rattle.std.proofs.lemmas.List.{length-map}
 use Rattle.file_base.specs.declared.head.FileHead.{FileHead}
 use Rattle.bucket_page.specs.declared.kind.PageKind.TheVariants.{Seq}
-use Rattle.bucket_page.specs.Pages.{slots_of}
+use Rattle.bucket_page.specs.Pages.{slots_of, slot_at}
 use Rattle.seq_file.specs.Placing.{slots_along, BeginsAnew}
-use Rattle.seq_file.specs.Layout.{bucket_at, slots_at, record_of, IsLaidOut}
-use Rattle.seq_file.specs.Frames.{Reads, IsAt}
+use Rattle.seq_file.specs.Layout.{bucket_at, slots_at, record_of, IsLaidOut, IsRecord, Stands}
+use Rattle.seq_file.specs.Frames.{Reads, IsRead, IsAt}
 
 abbrev Told : Type 0
 Told = Option (List (List ℕ))
@@ -25,7 +25,25 @@ last_some h b (suc m) last valid some = some_slots _ (slots_at h b m) (slots_at 
 
 -- the bytes that were read, of a file that is laid out
 pub page_read : (h : FileHead) (k : ℕ) (bytes : List ℕ) (b : List (List ℕ)) → k < h.used → IsLaidOut h b → Reads h k bytes b → bytes ≡ bucket_at h b k
-page_read h k bytes b below valid read = read (valid.buckets k below)
+page_read h k bytes b below valid read = ⊎_elim (λ same. same.1) (λ none. absurd (none.0 (valid.buckets k below))) read
+
+-- bytes with a slot are those of a bucket of records
+pub is_read : (told : Told) (h : FileHead) (k n : ℕ) (bytes : List ℕ) → IfSome told (Reads h k bytes) → n ≡ length (slots_of Seq bytes) → 1 ≤ n → IfSome told (IsRead h k bytes)
+is_read None h k n bytes read number some = tt
+is_read (Some b) h k n bytes read number some = ⊎_elim (λ same. same) (λ none. absurd (omega (arith, number, ap length none.1, some))) read
+
+-- a record that was read of a bucket stands in it
+pub stands_so : (told : Told) (h : FileHead) (k j : ℕ) (bytes out : List ℕ) → IfSome told (IsRead h k bytes) → k < h.used → j < length (slots_of Seq bytes) → out ≡ record_of (slot_at (slots_of Seq bytes) j) → IsRecord h.mrs out → IfSome told (Stands h out)
+stands_so None h k j bytes out read used there is kept = tt
+stands_so (Some b) h k j bytes out read used there is kept = record {
+  bucket = k;
+  slot = j;
+  used = used;
+  stands = read.0;
+  there = omega (arith, there, ap (λ x. length (slots_of Seq x)) read.1);
+  is = sym (is ∙ ap (λ x. record_of (slot_at (slots_of Seq x) j)) read.1);
+  kept = kept;
+}
 
 pub last_found : (told : Told) (h : FileHead) (k n : ℕ) (bytes : List ℕ) → h.used ≡ suc k → IfSome told (Reads h k bytes) → n ≡ length (slots_of Seq bytes) → 1 ≤ n → IfSome told (λ b. IsLaidOut h b → IsAt h h.count k (n - 1) bytes b)
 last_found None h k n bytes last read number some = tt

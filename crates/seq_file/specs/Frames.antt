@@ -1,5 +1,5 @@
 -- A bucket of a file in a frame, and what the file becomes once it is written.
-use Rattle.std.specs.Prelude.{◌≡◌, ◌≤◌, ◌<◌, ℕ, ◌+◌, ◌*◌, ◌++◌, List, [], ◌∷◌, length, slice_set, None, option_map, IfSome, IsSomeAnd}
+use Rattle.std.specs.Prelude.{◌≡◌, ◌⊎◌, ◌≤◌, ◌<◌, ℕ, ◌+◌, ◌*◌, ◌++◌, List, [], ◌∷◌, length, slice_set, None, option_map, IfSome, IsSomeAnd}
 use Rattle.careful_write.specs.State.{StoreState}
 use Rattle.file_base.specs.declared.head.FileHead.{FileHead}
 use Rattle.change_set.specs.Buckets.{frame_of, with_frame, with_bucket, with_numbers}
@@ -24,9 +24,17 @@ pub record HasSlots (h : FileHead) (bytes : List ℕ) (slots : List (List ℕ)) 
 abbrev pub InFrame : ℕ → StoreState → StoreState → Type 0
 InFrame f old new = new ≡ with_frame f (frame_of new.pool f) old
 
--- the bytes are those of bucket i, where a bucket of records stands there
+-- a bucket of records stays as it is, and other bytes become one without slots
+abbrev pub Settles : ℕ → List ℕ → List ℕ → Type 0
+Settles size old new = (IsBucket Seq size old × (new ≡ old)) ⊎ ((IsBucket Seq size old → ⊥) × (slots_of Seq new ≡ []))
+
+-- the bytes are those of bucket i, and have no slots where no bucket of records stands there
 abbrev pub Reads : FileHead → ℕ → List ℕ → List (List ℕ) → Type 0
-Reads h i bytes b = IsBucket Seq (512 * h.bucket) (bucket_at h b i) → bytes ≡ bucket_at h b i
+Reads h i bytes b = Settles (512 * h.bucket) (bucket_at h b i) bytes
+
+-- a bucket of records stands as bucket i, and the bytes are its own
+abbrev pub IsRead : FileHead → ℕ → List ℕ → List (List ℕ) → Type 0
+IsRead h i bytes b = IsBucket Seq (512 * h.bucket) (bucket_at h b i) × (bytes ≡ bucket_at h b i)
 
 -- the bytes are those of bucket k, and its slot j is that of position n
 pub record IsAt (h : FileHead) (n k j : ℕ) (bytes : List ℕ) (b : List (List ℕ)) : Type 0 where

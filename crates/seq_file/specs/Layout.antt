@@ -1,5 +1,5 @@
 -- How a sequential file lies on the disk, and the map that it means.
-use Rattle.std.specs.Prelude.{◌≡◌, ◌≢◌, ◌≤◌, ◌<◌, ◌⊎◌, ℕ, suc, ◌+◌, ◌-◌, ◌*◌, ◌++◌, List, [], ◌∷◌, length, drop, map, Option, Some, None, IfSome, IsSomeAnd, if◌then◌else◌, ◌&&◌, nat_le, nat_lt, nat_eq}
+use Rattle.std.specs.Prelude.{◌≡◌, ◌≢◌, ◌≤◌, ◌<◌, ◌⊎◌, ℕ, suc, ◌+◌, ◌-◌, ◌*◌, ◌++◌, List, [], ◌∷◌, length, take, drop, map, Option, Some, None, IfSome, IsSomeAnd, if◌then◌else◌, ◌&&◌, nat_le, nat_lt, nat_eq}
 use Rattle.std.specs.List.{All}
 use Rattle.file_base.specs.declared.head.FileHead.{FileHead}
 use Rattle.file_base.specs.declared.head.Organization.TheVariants.{Sequential}
@@ -7,7 +7,7 @@ use Rattle.vms_model.specs.Keys.{Key, Number, Text, End}
 use Rattle.change_set.specs.Buckets.{bucket_bytes}
 use Rattle.change_set.specs.Maps.{Map}
 use Rattle.bucket_page.specs.declared.kind.PageKind.TheVariants.{Seq}
-use Rattle.bucket_page.specs.Pages.{slots_of, joined, IsBucket, u16_bytes}
+use Rattle.bucket_page.specs.Pages.{slots_of, slot_at, joined, IsBucket, u16_bytes}
 use Rattle.seq_file.specs.Placing.{slots_along, BeginsAnew, buckets_for}
 use Rattle.seq_file.specs.Records.{record_at, map_of_list, list_set, slot_sizes}
 
@@ -72,6 +72,16 @@ pub record IsLaidOut (h : FileHead) (b : List (List ℕ)) : Type 0 where
   pub records : All (IsRecord h.mrs) (records_in h b)
   pub count : length (records_in h b) ≡ h.count
 
+-- a used bucket of records has a slot with this record
+pub record Stands (h : FileHead) (bytes : List ℕ) (b : List (List ℕ)) : Type 0 where
+  pub bucket : ℕ
+  pub slot : ℕ
+  pub used : bucket < h.used
+  pub stands : IsBucket Seq (512 * h.bucket) (bucket_at h b bucket)
+  pub there : slot < length (slots_at h b bucket)
+  pub is : record_of (slot_at (slots_at h b bucket) slot) ≡ bytes
+  pub kept : IsRecord h.mrs bytes
+
 -- the file has these records, in buckets that are laid out
 pub record Becomes (h : FileHead) (b : List (List ℕ)) (records : List (List ℕ)) : Type 0 where
   pub valid : IsLaidOut h b
@@ -116,6 +126,10 @@ records_after End value records = records
 -- how many buckets the placing of the records takes once a key is set
 abbrev pub used_after : FileHead → List (List ℕ) → Key → Option (List ℕ) → ℕ
 used_after h b key value = buckets_for (capacity h) (slot_sizes (records_after key value (records_in h b)))
+
+-- this is the number of buckets that the placing of the records before a position takes, where the map is of these records
+abbrev pub UsedBefore : ℕ → ℕ → Map → ℕ → Type 0
+UsedBefore cap from m used = (records : List (List ℕ)) → m ≡ map_of_list records → used ≡ buckets_for cap (slot_sizes (take (from - 1) records))
 
 -- how many buckets are used once the slots of bucket k from slot j on are gone
 abbrev pub used_left : ℕ → ℕ → ℕ

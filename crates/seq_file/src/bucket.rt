@@ -6,7 +6,7 @@ ghost use Rattle.change_set.specs.Files.{IsPlaced};
 ghost use Rattle.bucket_page.specs.declared.kind.PageKind.TheVariants.{Seq};
 ghost use Rattle.bucket_page.specs.Pages.{slots_of, slot_at, joined, IsBucket};
 ghost use Rattle.seq_file.specs.Layout.{slot_of, record_of, IsRecord};
-ghost use Rattle.seq_file.specs.Frames.{page_in, HasSlots, InFrame, Reads};
+ghost use Rattle.seq_file.specs.Frames.{page_in, HasSlots, InFrame, Reads, Settles};
 
 use block_disk::Disk;
 use bucket_page::{Page, PageKind};
@@ -61,7 +61,7 @@ fn settle_page<D: Disk>(head: &FileHead, store: &mut Store<D>, frame: &Frame) ->
     requires out { IsOut store.old.pool frame.now }
     ensures bucket { IsBucket Seq (512 * head.now.bucket) (page_in head.now store.new frame.now) }
     ensures number { result ≡ length (slots_of Seq (page_in head.now store.new frame.now)) }
-    ensures same { IsBucket Seq (512 * head.now.bucket) (page_in head.now store.old frame.now) → page_in head.now store.new frame.now ≡ page_in head.now store.old frame.now }
+    ensures settles { Settles (512 * head.now.bucket) (page_in head.now store.old frame.now) (page_in head.now store.new frame.now) }
     ensures state { InFrame frame.now store.old store.new }
     ensures out { IsOut store.new.pool frame.now }
 {

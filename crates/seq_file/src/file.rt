@@ -6,7 +6,7 @@ ghost use Rattle.frame_pool.specs.Pool.{IsOut};
 ghost use Rattle.vms_model.specs.Keys.{Number};
 ghost use Rattle.change_set.specs.Files.{IsPlaced, free_frames};
 ghost use Rattle.seq_file.specs.Records.{list_set, record_at};
-ghost use Rattle.seq_file.specs.Layout.{records_in, asks, head_with, IsRecord, IsSequential, IsLaidOut, Suits, TakesAt};
+ghost use Rattle.seq_file.specs.Layout.{records_in, asks, head_with, IsRecord, IsSequential, IsLaidOut, Stands, Suits, TakesAt};
 ghost use Rattle.seq_file.specs.Frames.{InFrame, Changes, MayWrite, Written};
 
 use crate::bucket::{load_slots, read_record, slots_end};
@@ -36,6 +36,7 @@ fn read_in_frame<D: Disk>(
     requires to { n ≤ head.now.count }
     ensures found { IfOk result (λ found. found ≡ true → IfSome store.old.current (λ b. IsLaidOut head.now b → record_at (records_in head.now b) n ≡ Some out.new)) }
     ensures absent { IfOk result (λ found. found ≡ false → IfSome store.old.current (λ b. IsLaidOut head.now b → ⊥)) }
+    ensures stands { IfOk result (λ found. found ≡ true → IfSome store.old.current (Stands head.now out.new)) }
     ensures record { IfOk result (λ found. found ≡ true → IsRecord head.now.mrs out.new) }
     ensures state { InFrame frame.now (record store.old { disk = answered result store.old.disk }) store.new }
     ensures lent { IsOut store.new.pool frame.now }
@@ -62,6 +63,7 @@ pub fn read_position<D: Disk>(
     requires to { n ≤ head.now.count }
     ensures found { IfOk result (λ found. found ≡ true → IfSome store.old.current (λ b. IsLaidOut head.now b → record_at (records_in head.now b) n ≡ Some out.new)) }
     ensures absent { IfOk result (λ found. found ≡ false → IfSome store.old.current (λ b. IsLaidOut head.now b → ⊥)) }
+    ensures stands { IfOk result (λ found. found ≡ true → IfSome store.old.current (Stands head.now out.new)) }
     ensures record { IfOk result (λ found. found ≡ true → IsRecord head.now.mrs out.new) }
     ensures state { store.new ≡ record store.old { disk = answered result store.old.disk } }
 {

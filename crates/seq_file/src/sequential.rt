@@ -2,11 +2,11 @@
 ghost use Rattle.std.specs.Prelude.{◌≡◌, ◌≤◌, ◌<◌, ◌+◌, ◌-◌, ◌*◌, ℕ, List, Bool, true, false, Option, Some, None, [], length, take, OnOk, OnErr, IfOk, IfSome, IfNone, option_map};
 ghost use Rattle.std.specs.Option.{option_copied};
 ghost use Rattle.vms_base.specs.Keys.{key_of};
+ghost use Rattle.careful_write.specs.Reads.{SameButReads};
 ghost use Rattle.change_set.specs.Files.{IsPlaced, free_frames, fell, StagesIn, SameFile};
 ghost use Rattle.change_set.specs.Maps.{set_key};
-ghost use Rattle.seq_file.specs.Placing.{buckets_for};
-ghost use Rattle.seq_file.specs.Records.{cut_from, slot_sizes};
-ghost use Rattle.seq_file.specs.Layout.{map_of, records_in, capacity, used_after, IsSequential, IsLaidOut, Suits, Takes};
+ghost use Rattle.seq_file.specs.Records.{cut_from};
+ghost use Rattle.seq_file.specs.Layout.{map_of, capacity, used_after, UsedBefore, IsSequential, IsLaidOut, Suits, Takes};
 
 use crate::file::{cut_positions, need_of, read_position, set_position};
 use crate::make::make_file;
@@ -43,7 +43,7 @@ fn set_record<D: Disk>(
     ensures form { OnOk result (IsSequential head.new) }
     ensures staged { OnOk result (StagesIn head.old head.old.bucket store.old store.new) }
     ensures head { OnErr result (head.new ≡ head.old) }
-    ensures down { OnErr result (store.new ≡ fell result store.old) }
+    ensures down { OnErr result (SameButReads (fell result store.old) store.new) }
 {
     match key {
         Key::Number(n) => {
@@ -58,7 +58,7 @@ fn set_record<D: Disk>(
 }
 
 impl RecordFile for SeqFile {
-    ghost use Rattle.seq_file.specs.Layout.{map_of, IsSequential, IsFresh, IsLaidOut, Suits, Takes, asks, used_after};
+    ghost use Rattle.seq_file.specs.Layout.{map_of, IsSequential, IsFresh, IsLaidOut, Stands, Suits, Takes, asks, used_after};
     ghost use Rattle.seq_file.specs.Local.{local_law, valid_local_law};
     ghost use Rattle.std.specs.Prelude.{ℕ, [], refl};
 
@@ -69,6 +69,8 @@ impl RecordFile for SeqFile {
     ghost fresh = { IsFresh };
 
     ghost valid = { IsLaidOut };
+
+    ghost stands = { λ h blocks key bytes. Stands h bytes blocks };
 
     ghost suits = { Suits };
 
@@ -188,12 +190,12 @@ impl SeqFile {
         requires last { from ≤ head.old.count }
         ensures map { OnOk result (IfSome store.old.current (λ before. IsLaidOut head.old before → option_map (map_of head.new) store.new.current ≡ Some (cut_from from (map_of head.old before)))) }
         ensures valid { OnOk result (IfSome store.old.current (λ before. IsLaidOut head.old before → IfSome store.new.current (IsLaidOut head.new))) }
-        ensures used { OnOk result (IfSome store.old.current (λ before. IsLaidOut head.old before → head.new.used ≡ buckets_for (capacity head.old) (slot_sizes (take (from - 1) (records_in head.old before))))) }
+        ensures used { OnOk result (IfSome store.old.current (λ before. IsLaidOut head.old before → UsedBefore (capacity head.old) from (map_of head.old before) head.new.used)) }
         ensures file { OnOk result (SameFile head.old head.new) }
         ensures form { OnOk result (IsSequential head.new) }
         ensures staged { OnOk result (StagesIn head.old head.old.bucket store.old store.new) }
         ensures head { OnErr result (head.new ≡ head.old) }
-        ensures down { OnErr result (store.new ≡ fell result store.old) }
+        ensures down { OnErr result (SameButReads (fell result store.old) store.new) }
     {
         let done = cut_positions(head, store, from);
         if done.is_err() {

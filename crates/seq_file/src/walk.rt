@@ -6,7 +6,7 @@ ghost use Rattle.change_set.specs.Files.{IsPlaced};
 ghost use Rattle.bucket_page.specs.declared.kind.PageKind.TheVariants.{Seq};
 ghost use Rattle.bucket_page.specs.Pages.{slots_of, IsBucket};
 ghost use Rattle.seq_file.specs.Layout.{IsSequential, IsLaidOut};
-ghost use Rattle.seq_file.specs.Frames.{page_in, InFrame, IsAt};
+ghost use Rattle.seq_file.specs.Frames.{page_in, InFrame, IsAt, IsRead};
 
 use crate::bucket::load_slots;
 use crate::spot::Spot;
@@ -33,6 +33,7 @@ pub fn locate<D: Disk>(
     ensures bucket { IfOk result (λ found. IfSome found (λ spot. IsBucket Seq (512 * head.now.bucket) (page_in head.now store.new frame.now))) }
     ensures slots { IfOk result (λ found. IfSome found (λ spot. spot.slots ≡ length (slots_of Seq (page_in head.now store.new frame.now)))) }
     ensures there { IfOk result (λ found. IfSome found (λ spot. spot.slot < spot.slots)) }
+    ensures stands { IfOk result (λ found. IfSome found (λ spot. IfSome store.old.current (IsRead head.now spot.bucket (page_in head.now store.new frame.now)))) }
     ensures below { IfOk result (λ found. IfSome found (λ spot. spot.bucket < head.now.used)) }
     ensures spot { IfOk result (λ found. IfSome found (λ spot. IfSome store.old.current (λ b. IsLaidOut head.now b → IsAt head.now n spot.bucket spot.slot (page_in head.now store.new frame.now) b))) }
     ensures none { IfOk result (λ found. IfNone found (IfSome store.old.current (λ b. IsLaidOut head.now b → ⊥))) }
@@ -59,6 +60,7 @@ fn last_spot<D: Disk>(
     ensures bucket { IfOk result (λ found. IfSome found (λ spot. IsBucket Seq (512 * head.now.bucket) (page_in head.now store.new frame.now))) }
     ensures slots { IfOk result (λ found. IfSome found (λ spot. spot.slots ≡ length (slots_of Seq (page_in head.now store.new frame.now)))) }
     ensures there { IfOk result (λ found. IfSome found (λ spot. spot.slot < spot.slots)) }
+    ensures stands { IfOk result (λ found. IfSome found (λ spot. IfSome store.old.current (IsRead head.now spot.bucket (page_in head.now store.new frame.now)))) }
     ensures below { IfOk result (λ found. IfSome found (λ spot. spot.bucket < head.now.used)) }
     ensures spot { IfOk result (λ found. IfSome found (λ spot. IfSome store.old.current (λ b. IsLaidOut head.now b → IsAt head.now head.now.count spot.bucket spot.slot (page_in head.now store.new frame.now) b))) }
     ensures none { IfOk result (λ found. IfNone found (IfSome store.old.current (λ b. IsLaidOut head.now b → ⊥))) }
@@ -96,6 +98,7 @@ fn walk<D: Disk>(
     ensures bucket { IfOk result (λ found. IfSome found (λ spot. IsBucket Seq (512 * head.now.bucket) (page_in head.now store.new frame.now))) }
     ensures slots { IfOk result (λ found. IfSome found (λ spot. spot.slots ≡ length (slots_of Seq (page_in head.now store.new frame.now)))) }
     ensures there { IfOk result (λ found. IfSome found (λ spot. spot.slot < spot.slots)) }
+    ensures stands { IfOk result (λ found. IfSome found (λ spot. IfSome store.old.current (IsRead head.now spot.bucket (page_in head.now store.new frame.now)))) }
     ensures below { IfOk result (λ found. IfSome found (λ spot. spot.bucket < head.now.used)) }
     ensures spot { IfOk result (λ found. IfSome found (λ spot. IfSome store.old.current (λ b. IsLaidOut head.now b → IsAt head.now n spot.bucket spot.slot (page_in head.now store.new frame.now) b))) }
     ensures none { IfOk result (λ found. IfNone found (IfSome store.old.current (λ b. IsLaidOut head.now b → ⊥))) }

@@ -11,3 +11,6 @@ pub returns-in-Ok-None-clause-none : goal.returns-in-Ok-None-clause-none
 returns-in-Ok-None-clause-none g c = λ is.
     let none = rw c.in-Ok-None.field-0-is at c.in-Ok-None.ensures.none in
     told_ends c.args.store.now.current c.args.head.now (option_copied c.args.after) none
+
+pub returns-in-Ok-Some-clause-stands : goal.returns-in-Ok-Some-clause-stands
+returns-in-Ok-Some-clause-stands g c = λ is. rw c.in-Ok-Some.field-0-is at c.in-Ok-Some.ensures.stands

@@ -46,3 +46,8 @@ loop-i-preserved g c =
       passed = next_step c.args.store.now.current c.args.head.now (option_copied c.args.after) c.loop-i.n c.loop-i.i c.in-Ok.next c.loop-i-test.true c.if-next-head.false c.loop-i.invariant.passed
           (told_same _ _ _ same (none_gives c.in-Ok.found _ none c.in-Ok.ensures.none)) (told_same _ _ _ same c.in-Ok.ensures.next);
     }
+
+pub returns-then-is_some-clause-stands : goal.returns-then-is_some-clause-stands
+returns-then-is_some-clause-stands g c =
+    let same = ap (λ (s : StoreState). s.current) c.loop-i.invariant.state in
+    if_some_then c.in-Ok.found _ _ (λ k fact. told_same _ _ _ same fact) c.in-Ok.ensures.stands

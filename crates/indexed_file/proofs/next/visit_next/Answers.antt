@@ -3,6 +3,7 @@ use Rattle.std.specs.Option.{option_copied}
 use Rattle.change_set.specs.Buckets.{frame_of}
 use Rattle.change_set.proofs.Frames.{frame_is}
 use Rattle.indexed_file.proofs.NextLaws.{if_some_then, if_none_then, read_found, read_none}
+use Rattle.indexed_file.proofs.ReadLaws.{read_stands}
 use Rattle.indexed_file.proofs.next.visit_next.Goals as goal
 
 pub returns-clause-found : goal.returns-clause-found
@@ -26,3 +27,13 @@ returns-clause-none g c =
     (frame_is c.pool.result.now s.pool f c.bytes.result.now c.pool.ensures.value c.bytes.ensures.value) c.bucket_size.ensures c.requires.there (omega (arith, c.bytes.ensures.size, c.requires.placed.blocks))
     c.in_ok-load_leaf.ensures.read fact)
     c.next_in_leaf-found.ensures.none
+
+pub returns-clause-stands : goal.returns-clause-stands
+returns-clause-stands g c =
+    let f = c.args.frame.now in
+    let s = c.load_leaf.new.store in
+    if_some_then c.next_in_leaf-found.result _ _
+    (λ k fact. read_stands c.args.store.now.current c.args.head.now k c.args.n c.bucket_size.result (frame_of s.pool f) c.bytes.result.now _
+    (frame_is c.pool.result.now s.pool f c.bytes.result.now c.pool.ensures.value c.bytes.ensures.value) c.bucket_size.ensures c.requires.there (omega (arith, c.bytes.ensures.size, c.requires.placed.blocks))
+    c.in_ok-load_leaf.ensures.read fact)
+    c.next_in_leaf-found.ensures.stands

@@ -29,3 +29,8 @@ returns-clause-absent g c =
     on_ok c.read_key-found.result _ _
     (λ x fact is. tell_all c.args.store.now.current h c.args.key.now None c.requires.form.some (told_same _ _ _ same (fact is)))
     c.read_key-found.ensures.absent
+
+pub returns-clause-stands : goal.returns-clause-stands
+returns-clause-stands g c =
+    let same = ap (λ (s : StoreState). s.current) c.take_frame-frame.ensures.state in
+    on_ok c.read_key-found.result _ _ (λ x fact is. told_same _ _ _ same (fact is)) c.read_key-found.ensures.stands

@@ -6,7 +6,7 @@ use Rattle.careful_write.specs.declared.down.Down.{Down}
 use Rattle.change_set.specs.Buckets.{frame_of, with_frame}
 use Rattle.change_set.proofs.Frames.{frame_is}
 use Rattle.indexed_file.proofs.WalkLaws.{read_again, told_same}
-use Rattle.indexed_file.proofs.ReadLaws.{read_told}
+use Rattle.indexed_file.proofs.ReadLaws.{read_told, read_stands}
 use Rattle.indexed_file.proofs.read.read_key.Goals as goal
 
 pub returns-in-Ok-load_leaf-clause-state : goal.returns-in-Ok-load_leaf-clause-state
@@ -42,3 +42,13 @@ returns-in-Ok-load_leaf-clause-absent g c = λ is.
     read_told c.args.store.now.current h c.args.key.now c.in-Ok.n c.bucket_size.result (frame_of s2.pool f) c.bytes.result.now None
     (frame_is c.pool.result.now s2.pool f c.bytes.result.now c.pool.ensures.value c.bytes.ensures.value) c.bucket_size.ensures c.in-Ok.ensures.used (omega (arith, c.bytes.ensures.size, c.requires.placed.blocks))
     (told_same _ _ _ same c.in-Ok-load_leaf.ensures.read) c.in-Ok.ensures.target (c.read_slot.ensures.none is)
+
+pub returns-in-Ok-load_leaf-clause-stands : goal.returns-in-Ok-load_leaf-clause-stands
+returns-in-Ok-load_leaf-clause-stands g c = λ is.
+    let h = c.args.head.now in
+    let f = c.args.frame.now in
+    let s2 = c.load_leaf.new.store in
+    let same = ap (λ (s : StoreState). s.current) c.in-Ok.ensures.state in
+    read_stands c.args.store.now.current h c.args.key.now c.in-Ok.n c.bucket_size.result (frame_of s2.pool f) c.bytes.result.now c.read_slot.new.out
+    (frame_is c.pool.result.now s2.pool f c.bytes.result.now c.pool.ensures.value c.bytes.ensures.value) c.bucket_size.ensures c.in-Ok.ensures.used (omega (arith, c.bytes.ensures.size, c.requires.placed.blocks))
+    (told_same _ _ _ same c.in-Ok-load_leaf.ensures.read) (c.read_slot.ensures.stands is)

@@ -12,7 +12,7 @@ returns-in-Ok-clause-read g c =
     let loaded = page_in h c.load_bucket.new.store c.args.frame.now in
     let at : h.start + c.args.i * h.bucket - 518 ≡ bucket_first h c.args.i = omega (arith, c.requires.placed.from) in
     reads h c.args.i c.args.store.now.current loaded (page_in h c.settle_page.new.store c.args.frame.now)
-    (subst (λ (m : ℕ). IfSome c.args.store.now.current (λ (b : List (List ℕ)). loaded ≡ bucket_bytes b m h.bucket)) at c.in-Ok.ensures.read) c.settle_page.ensures.same
+    (subst (λ (m : ℕ). IfSome c.args.store.now.current (λ (b : List (List ℕ)). loaded ≡ bucket_bytes b m h.bucket)) at c.in-Ok.ensures.read) c.settle_page.ensures.settles
 
 pub returns-in-Ok-clause-state : goal.returns-in-Ok-clause-state
 returns-in-Ok-clause-state g c = in_frame_more c.args.frame.now c.args.store.now c.load_bucket.new.store c.settle_page.new.store (λ (d : DiskState). d) c.in-Ok.ensures.state c.settle_page.ensures.state

@@ -1,6 +1,6 @@
 use Rattle.std.proofs.Common.{◌-◌, arith}
 use Rattle.seq_file.specs.Frames.{page_in}
-use Rattle.seq_file.proofs.WalkLaws.{last_found, last_none}
+use Rattle.seq_file.proofs.WalkLaws.{last_found, last_none, is_read}
 use Rattle.seq_file.proofs.walk.last_spot.Goals as goal
 
 pub returns-then-slots-eq0-clause-none : goal.returns-then-slots-eq0-clause-none
@@ -12,3 +12,8 @@ pub returns-else-slots-eq0-clause-spot : goal.returns-else-slots-eq0-clause-spot
 returns-else-slots-eq0-clause-spot g c =
     let h = c.args.head.now in
     last_found c.args.store.now.current h (h.used - 1) c.in-Ok.slots (page_in h c.load_slots.new.store c.args.frame.now) (omega (arith, c.requires.form.one)) c.in-Ok.ensures.read c.in-Ok.ensures.number (omega (arith, c.if-slots-eq0.false))
+
+pub returns-else-slots-eq0-clause-stands : goal.returns-else-slots-eq0-clause-stands
+returns-else-slots-eq0-clause-stands g c =
+    let h = c.args.head.now in
+    is_read c.args.store.now.current h (h.used - 1) c.in-Ok.slots (page_in h c.load_slots.new.store c.args.frame.now) c.in-Ok.ensures.read c.in-Ok.ensures.number (omega (arith, c.if-slots-eq0.false))

@@ -6,7 +6,7 @@ use Rattle.careful_write.specs.State.{StoreState}
 use Rattle.change_set.specs.Files.{IsPlaced}
 use Rattle.seq_file.specs.Frames.{page_in, Reads}
 use Rattle.seq_file.proofs.FrameSteps.{in_frame_more}
-use Rattle.seq_file.proofs.WalkLaws.{walk_more}
+use Rattle.seq_file.proofs.WalkLaws.{walk_more, is_read}
 use Rattle.seq_file.proofs.walk.walk.Goals as goal
 
 pub returns-then-left-slots-clause-state : goal.returns-then-left-slots-clause-state
@@ -30,3 +30,10 @@ loop-bucket-preserved g c =
       current = ap (λ (s : StoreState). s.current) c.in-Ok.ensures.state ∙ c.loop-bucket.invariant.current;
       place = walk_more c.args.store.now.current h c.loop-bucket.bucket c.args.n c.loop-bucket.left c.in-Ok.slots page (omega (arith, c.loop-bucket-test.true)) c.loop-bucket.invariant.place read c.in-Ok.ensures.number (omega (arith, c.if-left-slots.false));
     }
+
+pub returns-then-left-slots-clause-stands : goal.returns-then-left-slots-clause-stands
+returns-then-left-slots-clause-stands g c =
+    let h = c.args.head.now in
+    let page = page_in h c.load_slots.new.store c.args.frame.now in
+    let read = subst (λ (told : Option (List (List ℕ))). IfSome told (Reads h c.loop-bucket.bucket page)) c.loop-bucket.invariant.current c.in-Ok.ensures.read in
+    is_read c.args.store.now.current h c.loop-bucket.bucket c.in-Ok.slots page read c.in-Ok.ensures.number (omega (arith, c.if-left-slots.true))

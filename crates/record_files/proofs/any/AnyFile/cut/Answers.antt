@@ -2,7 +2,7 @@ use Rattle.std.proofs.Common.{subst}
 use Rattle.file_base.specs.declared.head.Organization.{Organization}
 use Rattle.file_base.specs.declared.head.Organization.TheVariants.{Sequential}
 use Rattle.record_files.specs.Any.{FormBy}
-use Rattle.record_files.proofs.Cases.{cut_map, cut_valid, cut_used, buckets_of, set_form}
+use Rattle.record_files.proofs.Cases.{cut_map, cut_valid, cut_used, set_form}
 use Rattle.record_files.proofs.any.AnyFile.cut.Goals as goal
 
 pub cut-requires-clause-form : goal.cut-requires-clause-form
@@ -19,7 +19,7 @@ returns-clause-valid g c =
 
 pub returns-clause-used : goal.returns-clause-used
 returns-clause-used g c =
-    cut_used c.cut.result Sequential c.args.head.now c.cut.new.head (buckets_of c.args.head.now c.args.from) c.args.store.now.current c.requires.sequential c.cut.ensures.file c.cut.ensures.used
+    cut_used c.cut.result Sequential c.args.head.now c.cut.new.head c.args.from c.args.store.now.current c.requires.sequential c.cut.ensures.file c.cut.ensures.used
 
 pub returns-clause-form : goal.returns-clause-form
 returns-clause-form g c =
