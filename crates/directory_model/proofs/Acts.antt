@@ -18,14 +18,11 @@ use Rattle.vms_model.specs.Ids.{Id}
 use Rattle.vms_model.specs.Keys.{Key}
 use Rattle.vms_model.specs.Transactions.{Commit, Abort}
 use Rattle.records_model.specs.Records.{Records, Change}
-use Rattle.records_model.specs.Slots.{Slot}
-use Rattle.records_model.specs.Chain.{chain_changed, chain_undone}
+use Rattle.records_model.specs.Layout.{Layout, layout_changed, layout_undone}
 use Rattle.records_model.specs.History.{History, LiveChanges, records, current, changed_with, changes_by, changes_key, is_held, settled_at}
-use Rattle.run_model.specs.Extents.{is_taken}
 use Rattle.run_model.specs.World as world
-use Rattle.run_model.specs.World.{Node, File, Settlement, Formats, Boots, Marks, Changes, Settles, acted, as_it_stands, capacity, changed_file, settled_chain, settled_file}
-use Rattle.directory_model.specs.Files.{IsFile, IsPlace, AreFiles, IsNamed, Note, HasChanges, AreChanged, AreUndone, IsPlaceUndone, head_at, file_at, holds, live_by, map_undone, notes_of, organized_by, others_of}
-use Rattle.directory_model.specs.Files.{chain_undone as noted_back}
+use Rattle.run_model.specs.World.{Node, File, Settlement, Formats, Boots, Marks, Changes, Settles, acted, as_it_stands, capacity, changed_file, settled_layout, settled_file}
+use Rattle.directory_model.specs.Files.{IsFile, IsPlace, AreFiles, IsNamed, Note, HasChanges, AreChanged, AreUndone, IsPlaceUndone, head_at, file_at, carried_of, holds, laid_in, layout_of, live_by, map_undone, notes_of, organized_by}
 use Rattle.directory_model.specs.Laws.{KeepsFiles, IsChanged, SameBut, marked}
 use Rattle.directory_model.proofs.Places.{file_mapped, places_set, within_list}
 use Rattle.directory_model.proofs.Finding.{finds_files}
@@ -47,29 +44,29 @@ organized_same Indexed h new same = ap (λ (x : FileHead). world.Indexed x.key_p
 same_organization : (h new : FileHead) → SameFile h new → new.organization ≡ h.organization
 same_organization h new same = ap (λ (x : FileHead). x.organization) same.is
 
--- A file whose history, chain, content and head are others.
-pub file_moved : (a b : List (List ℕ)) (h new : FileHead) (file : File) (history : History) (chain : List (List Slot)) → SameFile h new → any.IsFile new → IsLaidOut new b → IsFile a h file →
-    ((key : Key) → get (current history) key ≡ map_of new b key) → chain ≡ chain_of new b → IsFile b new (record file { history = history; chain = chain })
-file_moved a b h new file history chain same form laid is records chained = record {
+-- A file whose history, layout, content and head are others.
+pub file_moved : (a b : List (List ℕ)) (h new : FileHead) (file : File) (history : History) (layout : Layout) → SameFile h new → any.IsFile new → IsLaidOut new b → IsFile a h file →
+    ((key : Key) → get (current history) key ≡ map_of new b key) → layout ≡ layout_of new b → IsFile b new (record file { history = history; layout = layout })
+file_moved a b h new file history layout same form laid is records laid_so = record {
   name = is.name ∙ sym (ap (λ (x : FileHead). x.name) same.is);
   bucket = is.bucket ∙ sym (ap (λ (x : FileHead). x.bucket) same.is);
   record_size = is.record_size ∙ sym (ap (λ (x : FileHead). x.mrs) same.is);
   organization = is.organization ∙ organized_same h.organization h new same ∙ ap (λ (o : Kept). organized_by o new) (sym (same_organization h new same));
   start = is.start ∙ sym (ap (λ (x : FileHead). x.start) same.is);
   buckets = is.buckets ∙ sym (ap (λ (x : FileHead). x.alloc) same.is);
-  others = λ n. is.others n ∙ ap (λ (x : FileHead). is_taken (others_of x) n) (sym same.is);
+  carried = is.carried ∙ ap carried_of (sym same.is);
   units = is.units ∙ sym (ap (λ (x : FileHead). x.marks.ru) same.is);
   form = form;
   laid = laid;
   records = records;
-  chain = chained;
+  layout = laid_so;
 }
 
 -- a file whose history alone is another, and has the same records
-file_again : (content : List (List ℕ)) (h : FileHead) (file : File) (history : History) (chain : List (List Slot)) → IsFile content h file → current history ≡ current file.history → chain ≡ file.chain →
-    IsFile content h (record file { history = history; chain = chain })
-file_again content h file history chain is same alike =
-    file_moved content content h h file history chain (record { is = refl }) is.form is.laid is (λ key. ap (λ (m : Records). get m key) same ∙ is.records key) (alike ∙ is.chain)
+file_again : (content : List (List ℕ)) (h : FileHead) (file : File) (history : History) (layout : Layout) → IsFile content h file → current history ≡ current file.history → layout ≡ file.layout →
+    IsFile content h (record file { history = history; layout = layout })
+file_again content h file history layout is same alike =
+    file_moved content content h h file history layout (record { is = refl }) is.form is.laid is (λ key. ap (λ (m : Records). get m key) same ∙ is.records key) (alike ∙ is.layout)
 
 place_mapped : (a b : List (List ℕ)) (change : File → File) (o : Option FileHead) (p : Option File) → ((h : FileHead) (file : File) → o ≡ Some h → p ≡ Some file → IsFile a h file → IsFile b h (change file)) → IsPlace a o p → IsPlace b o (option_map change p)
 place_mapped a b change None None so is = tt
@@ -100,7 +97,7 @@ formats content n slots journal = record {
 
 -- BOOT
 boots : (content : List (List ℕ)) (heads : List (Option FileHead)) (n : Node) → AreFiles content heads n.directory → AreFiles content heads (acted Boots n).directory
-boots content heads n are = files_mapped content content heads n.directory (as_it_stands n.greatest) are (λ f h file head there is. file_again content h file (as_it_stands n.greatest file).history file.chain is refl refl)
+boots content heads n are = files_mapped content content heads n.directory (as_it_stands n.greatest) are (λ f h file head there is. file_again content h file (as_it_stands n.greatest file).history file.layout is refl refl)
 
 -- SET_FILE
 marks : (content : List (List ℕ)) (heads : List (Option FileHead)) (n : Node) (f : ℕ) (h : FileHead) (name : List ℕ) (units : Bool) → AreFiles content heads n.directory → IsNamed heads f h name →
@@ -154,23 +151,23 @@ changes a b heads n f h new name serial notes cs are changed_by named is same =
     ∙ agree.applied_alike cs (current file.history)
     ∙ ap (applied cs) before
     ∙ sym is.map in
-    let chain : chain_changed (capacity file) (is_held file.history) cs file.chain ≡ chain_of new b =
-    ap (λ x. chain_changed (512 * x - 16) (is_held file.history) cs file.chain) found.1.bucket
-    ∙ ap (λ (held : Key → Bool). chain_changed (512 * h.bucket - 16) held cs file.chain) (held_alike serial notes f file has)
-    ∙ ap (chain_changed (512 * h.bucket - 16) (holds f notes) cs) found.1.chain
-    ∙ sym is.chain in
+    let layout : layout_changed (capacity file) (is_held file.history) cs file.layout ≡ layout_of new b =
+    ap (λ x. layout_changed (512 * x - 16) (is_held file.history) cs file.layout) found.1.bucket
+    ∙ ap (λ (held : Key → Bool). layout_changed (512 * h.bucket - 16) held cs file.layout) (held_alike serial notes f file has)
+    ∙ ap (layout_changed (512 * h.bucket - 16) (holds f notes) cs) found.1.layout
+    ∙ ap laid_in (sym is.chain) in
     subst (AreFiles b (slice_set heads f (Some new))) (sym (found.2.changed (changed_file serial cs)))
     (places_moved a b heads n.directory f h new (changed_file serial cs file) are named.there
-    (file_moved a b h new file (changed_with serial cs file.history) (chain_changed (capacity file) (is_held file.history) cs file.chain) is.same is.form is.laid found.1 (λ key. ap (λ (m : Map). m key) after) chain) same)
+    (file_moved a b h new file (changed_with serial cs file.history) (layout_changed (capacity file) (is_held file.history) cs file.layout) is.same is.form is.laid found.1 (λ key. ap (λ (m : Map). m key) after) layout) same)
 
 -- END_TRANS
 commits : (content : List (List ℕ)) (heads : List (Option FileHead)) (n : Node) (notes : List Note) (s : Settlement) → AreFiles content heads n.directory → AreChanged s.serial notes n.directory → s.outcome ≡ Commit →
     AreFiles content heads (acted (Settles s) n).directory
 commits content heads n notes s are changed_by commit = files_mapped content content heads n.directory (settled_file s) are (λ f h file head there is.
     let has = changed_by f file there in
-    file_again content h file (settled_at s.serial s.outcome s.moment file.history) (settled_chain s.outcome (changes_by s.serial file.history.live) file.chain) is
+    file_again content h file (settled_at s.serial s.outcome s.moment file.history) (settled_layout s.outcome (changes_by s.serial file.history.live) file.layout) is
     (ap (λ o. current (settled_at s.serial o s.moment file.history)) commit ∙ current_committed s.serial s.moment has.changes file.history has.live)
-    (ap (λ o. settled_chain o (changes_by s.serial file.history.live) file.chain) commit))
+    (ap (λ o. settled_layout o (changes_by s.serial file.history.live) file.layout) commit))
 
 -- ABORT_TRANS
 place_undone : (a b : List (List ℕ)) (s : Settlement) (notes left : List Note) (f : ℕ) (o o' : Option FileHead) (p : Option File) → s.outcome ≡ Abort → ((file : File) → p ≡ Some file → HasChanges s.serial notes f file) →
@@ -185,14 +182,13 @@ place_undone a b s notes left f (Some h) (Some new) (Some file) abort has undone
     let settled : current (settled_at s.serial s.outcome s.moment file.history) ≡ records file.history =
     ap (λ o. current (settled_at s.serial o s.moment file.history)) abort ∙ current_aborted s.serial s.moment by.changes file.history by.live in
     let now : map_of_records (current file.history) ≡ map_of h a = λ i key. is.records key i in
-    let chain : settled_chain s.outcome (changes_by s.serial file.history.live) file.chain ≡ chain_of new b =
-    ap (λ o. settled_chain o (changes_by s.serial file.history.live) file.chain) abort
-    ∙ ap (λ (cs : List Change). chain_undone cs file.chain) (changes_of s.serial file.history by.changes by.live)
-    ∙ sym (chain_undone-noted f (notes_of f notes) by.changes file.chain by.noted)
-    ∙ ap (noted_back (notes_of f notes)) is.chain
-    ∙ sym undone.chain in
-    file_moved a b h new file (settled_at s.serial s.outcome s.moment file.history) (settled_chain s.outcome (changes_by s.serial file.history.live) file.chain) undone.same undone.form undone.laid is
-    (λ key. ap (λ (m : Records). get m key) settled ∙ by.settled key ∙ ap (λ (m : Map). map_undone (notes_of f notes) m key) now ∙ ap (λ (m : Map). m key) (sym undone.map)) chain
+    let layout : settled_layout s.outcome (changes_by s.serial file.history.live) file.layout ≡ layout_of new b =
+    ap (λ o. settled_layout o (changes_by s.serial file.history.live) file.layout) abort
+    ∙ ap (λ (cs : List Change). layout_undone cs file.layout) (changes_of s.serial file.history by.changes by.live)
+    ∙ ap (layout_undone by.changes) is.layout
+    ∙ ap laid_in (sym (chain_undone-noted f (notes_of f notes) by.changes (chain_of h a) by.noted) ∙ sym undone.chain) in
+    file_moved a b h new file (settled_at s.serial s.outcome s.moment file.history) (settled_layout s.outcome (changes_by s.serial file.history.live) file.layout) undone.same undone.form undone.laid is
+    (λ key. ap (λ (m : Records). get m key) settled ∙ by.settled key ∙ ap (λ (m : Map). map_undone (notes_of f notes) m key) now ∙ ap (λ (m : Map). m key) (sym undone.map)) layout
 
 aborts : (a b : List (List ℕ)) (heads new : List (Option FileHead)) (n : Node) (notes : List Note) (s : Settlement) → AreFiles a heads n.directory → AreChanged s.serial notes n.directory → s.outcome ≡ Abort → AreUndone a heads notes [] b new →
     AreFiles b new (acted (Settles s) n).directory

@@ -6,9 +6,9 @@ use Rattle.file_base.specs.declared.head.FileHead.{FileHead}
 use Rattle.extents.specs.Extents.{all_extents, covers, is_used, nowhere}
 use Rattle.extents.specs.Extents as extents
 use Rattle.extents.proofs.Used.{not_behind}
-use Rattle.run_model.specs.Extents.{is_taken, in_extent}
-use Rattle.run_model.specs.World.{File, extent_of, extents_of}
-use Rattle.directory_model.specs.Files.{IsFile, IsPlace, head_at, file_at, others_of}
+use Rattle.run_model.specs.Extents.{Extent, is_taken, in_extent}
+use Rattle.run_model.specs.World.{File, Carried, extent_of, extents_of, journal_extent, others_of}
+use Rattle.directory_model.specs.Files.{IsFile, IsPlace, head_at, file_at}
 use Rattle.directory_model.specs.Laws.{TakesBlocks}
 
 or_assoc : (a b c : Bool) → ((a || b) || c) ≡ (a || (b || c))
@@ -16,13 +16,11 @@ or_assoc true b c = refl
 or_assoc false b c = refl
 
 -- a file takes what the four extents of its head have
-file_takes : (content : List (List ℕ)) (h : FileHead) (file : File) (n : ℕ) → IsFile content h file → is_taken (extent_of file ∷ file.others) n ≡ is_used (extents.extents_of (Some h)) n
-file_takes content h file n is =
-    ap (λ b. in_extent n (extent_of file) || b) (is.others n)
-    ∙ ap (λ e. in_extent n e || is_taken (others_of h) n) same
+file_takes : (content : List (List ℕ)) (h : FileHead) (file : File) (n : ℕ) → IsFile content h file → is_taken (extent_of file ∷ others_of file) n ≡ is_used (extents.extents_of (Some h)) n
+file_takes content h file n is = λ i. is_taken (record { start = is.start i; blocks = is.buckets i * is.bucket i } ∷ others (is.carried i) (is.bucket i)) n
   where
-    same : extent_of file ≡ record { start = h.start; blocks = h.alloc * h.bucket }
-    same = λ i. record { start = is.start i; blocks = is.buckets i * is.bucket i }
+    others : Carried → ℕ → List Extent
+    others c bucket = journal_extent c.after ∷ journal_extent c.before ∷ record { start = c.save.start; blocks = c.save.buckets * bucket } ∷ []
 
 -- no block lies in an empty extent
 none_nowhere : (n : ℕ) → is_used (extents.extents_of None) n ≡ false
@@ -42,8 +40,8 @@ takes content (None ∷ heads) (None ∷ directory) n long each =
 takes content (None ∷ heads) (Some file ∷ directory) n long each = absurd (each 0)
 takes content (Some h ∷ heads) (None ∷ directory) n long each = absurd (each 0)
 takes content (Some h ∷ heads) (Some file ∷ directory) n long each =
-    ap (λ b. in_extent n (extent_of file) || b) (list_any-append (in_extent n) file.others (extents_of directory))
-    ∙ sym (or_assoc (in_extent n (extent_of file)) (is_taken file.others n) (is_taken (extents_of directory) n))
+    ap (λ b. in_extent n (extent_of file) || b) (list_any-append (in_extent n) (others_of file) (extents_of directory))
+    ∙ sym (or_assoc (in_extent n (extent_of file)) (is_taken (others_of file) n) (is_taken (extents_of directory) n))
     ∙ ap (λ b. b || is_taken (extents_of directory) n) (file_takes content h file n (each 0))
     ∙ ap (λ b. is_used (extents.extents_of (Some h)) n || b) (takes content heads directory n (omega arith) (λ f. each (suc f)))
     ∙ sym (list_any-append (λ e. covers e n) (extents.extents_of (Some h)) (all_extents heads))

@@ -8,6 +8,7 @@ use Rattle.extents.specs.declared.extent.Extent.{Extent as Area}
 use Rattle.extents.specs.Extents.{IsFreeRun, FitsAt, all_extents, covers, extents_of, is_used, nowhere}
 use Rattle.extents.proofs.Used.{covered, free_is, used_at, not_both, either_false}
 use Rattle.script_model.specs.Statements.{Form}
+use Rattle.run_model.specs.World.{Carried}
 use Rattle.directory_model.specs.Files.{AreNamedOnce, NoneNamed, Fit, IsNewHead, head_at}
 use Rattle.directory_model.specs.Laws.{KeepsHeads, marked}
 use Rattle.directory_model.proofs.Places.{within_list}
@@ -71,7 +72,7 @@ unused_all (e ∷ es) n none = either_false (covers e n) (is_used es n) (not_tru
     not_true true never = absurd (never refl)
     not_true false _ = refl
 
-pub none_of : (a b : ℕ) → a ≡ 0 → a * b ≡ 0
+none_of : (a b : ℕ) → a ≡ 0 → a * b ≡ 0
 none_of a b none = let zero_times : 0 * b ≡ 0 = omega arith in ap (λ x. x * b) none ∙ zero_times
 
 -- an extent of no blocks has none
@@ -93,9 +94,9 @@ new_covers (o ∷ heads) zero i n form h new has = at i has
 
     at : (i : ℕ) → covers (slice_index_or (all_extents (Some h ∷ heads)) i nowhere) n ≡ true → (covers (slice_index_or (all_extents (o ∷ heads)) i nowhere) n ≡ true) ⊎ ((i ≡ 0) × (covers (own h) n ≡ true))
     at zero has = inr (refl, has)
-    at (suc zero) has = absurd (empty_extent h.ai.start h.ai.blocks n new.ai has)
-    at (suc (suc zero)) has = absurd (empty_extent h.bi.start h.bi.blocks n new.bi has)
-    at (suc (suc (suc zero))) has = absurd (empty_extent h.save.start (h.save.alloc * h.bucket) n (none_of h.save.alloc h.bucket new.save) has)
+    at (suc zero) has = absurd (empty_extent h.ai.start h.ai.blocks n (ap (λ (c : Carried). c.after.blocks) new.carried) has)
+    at (suc (suc zero)) has = absurd (empty_extent h.bi.start h.bi.blocks n (ap (λ (c : Carried). c.before.blocks) new.carried) has)
+    at (suc (suc (suc zero))) has = absurd (empty_extent h.save.start (h.save.alloc * h.bucket) n (none_of h.save.alloc h.bucket (ap (λ (c : Carried). c.save.buckets) new.carried)) has)
     at (suc (suc (suc (suc i)))) has = inl (ap (λ e. covers e n) (rest_of o i) ∙ has)
 new_covers (o ∷ heads) (suc f) i n form h new has = at o i (λ j. new_covers heads f j n form h new) has
   where

@@ -1,9 +1,7 @@
 -- The head of a file that is made, and the file that is made with it.
-use Rattle.std.proofs.Common.{◌≡◌, ℕ, ◌+◌, ◌-◌, ◌*◌, ◌/◌, ◌≤◌, List, false, nat_le, nat_lt, refl, sym, ap, subst, ◌∙◌, arith, inl, inr}
-use Rattle.std.specs.Prelude.{◌&&◌, ◌||◌}
+use Rattle.std.proofs.Common.{◌≡◌, ℕ, ◌+◌, ◌-◌, ◌*◌, ◌/◌, ◌≤◌, List, refl, sym, ap, subst, ◌∙◌, arith, inl, inr}
 use Rattle.std.specs.FinMap.{get-empty}
 use Rattle.std.proofs.lemmas.Bool.{cases_lt}
-use Rattle.std.proofs.lemmas.Bool.Decides.{nat_tests}
 use Rattle.file_base.specs.declared.head.FileHead.{FileHead}
 use Rattle.change_set.specs.Maps.{Map, empty_map}
 use Rattle.relative_file.specs.Cells.{IsRelative, cells_in}
@@ -14,11 +12,9 @@ use Rattle.record_files.specs.Any.{map_of, chain_of, first_chain_of, first_by, F
 use Rattle.script_model.specs.Statements.{Form}
 use Rattle.script_model.specs.Statements as form
 use Rattle.records_model.specs.Records.{key_cmp}
-use Rattle.run_model.specs.Answers.{created, first_chain, organized}
-use Rattle.run_model.specs.Extents.{is_taken}
-use Rattle.directory_model.specs.Files.{IsFile, IsNewHead, organized_by, others_of}
+use Rattle.run_model.specs.Answers.{created, first_layout, organized}
+use Rattle.directory_model.specs.Files.{IsFile, IsNewHead, laid_in, organized_by}
 use Rattle.directory_model.specs.Laws.{MakesFiles}
-use Rattle.directory_model.proofs.Heads.{none_of}
 
 -- a bucket has a cell
 one_cell : (room cell : ℕ) → 1 ≤ cell → cell ≤ room → 1 ≤ room / cell
@@ -80,21 +76,10 @@ new_organization (form.Relative records) h new = ap (λ n. organized (form.Relat
 new_organization (form.Indexed buckets position size) h new =
     ap (λ p. organized (form.Indexed buckets p size)) (sym new.organized.1) ∙ ap (λ s. organized (form.Indexed buckets h.key_pos s)) (sym new.organized.2) ∙ ap (λ o. organized_by o h) (sym new.organized.0)
 
-new_chain : (f : Form) (h : FileHead) → IsNewHead f h → first_chain f ≡ first_chain_of h
-new_chain (form.Sequential buckets) h new = ap (λ o. first_by o h) (sym new.organized.0)
-new_chain (form.Relative records) h new = ap (λ o. first_by o h) (sym new.organized.0)
-new_chain (form.Indexed buckets position size) h new = ap (λ o. first_by o h) (sym new.organized.0)
-
--- an extent of no blocks takes none
-nothing : (from size n : ℕ) → size ≡ 0 → (nat_le from n && nat_lt n (from + size)) ≡ false
-nothing from size n none = grind (arith, nat_tests)
-
-no_others : (f : Form) (h : FileHead) (n : ℕ) → IsNewHead f h → false ≡ is_taken (others_of h) n
-no_others f h n new =
-    ap (λ b. b || false) (sym (nothing h.ai.start h.ai.blocks n new.ai))
-    ∙ ap (λ b. (nat_le h.ai.start n && nat_lt n (h.ai.start + h.ai.blocks)) || (b || false)) (sym (nothing h.bi.start h.bi.blocks n new.bi))
-    ∙ ap (λ b. (nat_le h.ai.start n && nat_lt n (h.ai.start + h.ai.blocks)) || ((nat_le h.bi.start n && nat_lt n (h.bi.start + h.bi.blocks)) || (b || false)))
-    (sym (nothing h.save.start (h.save.alloc * h.bucket) n (none_of h.save.alloc h.bucket new.save)))
+new_layout : (f : Form) (h : FileHead) → IsNewHead f h → first_layout f ≡ laid_in (first_chain_of h)
+new_layout (form.Sequential buckets) h new = ap (λ o. laid_in (first_by o h)) (sym new.organized.0)
+new_layout (form.Relative records) h new = ap (λ o. laid_in (first_by o h)) (sym new.organized.0)
+new_layout (form.Indexed buckets position size) h new = ap (λ o. laid_in (first_by o h)) (sym new.organized.0)
 
 new_file : (content : List (List ℕ)) (f : Form) (h : FileHead) (moment : ℕ) → IsNewHead f h → map_of h content ≡ empty_map → IsLaidOut h content → chain_of h content ≡ first_chain_of h → IsFile content h (created h.name h.bucket h.mrs f h.start moment)
 new_file content f h moment new none laid chain = record {
@@ -104,12 +89,12 @@ new_file content f h moment new none laid chain = record {
   organization = new_organization f h new;
   start = refl;
   buckets = sym new.buckets;
-  others = λ n. no_others f h n new;
+  carried = sym new.carried;
   units = sym new.unmarked;
   form = (new_form f h new).0;
   laid = laid;
   records = λ key. get-empty key_cmp key ∙ ap (λ (m : Map). m key) (sym none);
-  chain = new_chain f h new ∙ sym chain;
+  layout = new_layout f h new ∙ ap laid_in (sym chain);
 }
 
 -- Its blocks.

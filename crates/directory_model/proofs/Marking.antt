@@ -12,7 +12,7 @@ use Rattle.indexed_file.specs.Chain as indexed
 use Rattle.indexed_file.specs.Chain.{kind_of, slots_in, next_in, chain_from, leaves_of, slots_along, all_slots_of, keeps_record, all_keep, AllDiffer, Leads, IsLeaf, IsChained}
 use Rattle.record_files.specs.Any.{map_by, chain_by, FormBy, LaidOutBy}
 use Rattle.run_model.specs.World.{File}
-use Rattle.directory_model.specs.Files.{IsFile, organized_by}
+use Rattle.directory_model.specs.Files.{IsFile, laid_in, organized_by}
 use Rattle.directory_model.specs.Laws.{marked}
 
 module _ (units : Bool) (h : FileHead) (b : List (List ℕ)) where
@@ -107,10 +107,10 @@ module _ (units : Bool) (h : FileHead) (b : List (List ℕ)) where
     organization = is.organization ∙ organized_marked h.organization;
     start = is.start;
     buckets = is.buckets;
-    others = is.others;
+    carried = is.carried;
     units = refl;
     form = form_marked h.organization is.form;
     laid = laid_marked h.organization is.laid;
     records = λ key. is.records key ∙ map_marked h.organization key;
-    chain = is.chain ∙ chain_marked h.organization;
+    layout = is.layout ∙ ap laid_in (chain_marked h.organization);
   }

@@ -16,6 +16,7 @@ use Rattle.change_set.proofs.NumberKeys.{same_test, other_test}
 use Rattle.vms_model.specs.Keys.{Key, Number, Text, End}
 use Rattle.records_model.specs.Records.{Change}
 use Rattle.records_model.specs.Placing.{Filled, filled_by, first_bucket}
+use Rattle.records_model.specs.Layout.{used_of}
 use Rattle.records_model.specs.History.{current}
 use Rattle.run_model.specs.World.{File}
 use Rattle.run_model.specs.Operations.{count_of, in_order, used, used_by, placed, need_of, put_need, update_need, removed}
@@ -24,7 +25,7 @@ use Rattle.record_files.specs.Any.{map_of, map_by, FormBy, LaidOutBy, chain_by, 
 use Rattle.seq_file.specs.Layout.{records_in, capacity, last_bytes}
 use Rattle.seq_file.specs.Records.{record_at, map_of_list, cut_from, slot_sizes}
 use Rattle.indexed_file.specs.Chain as indexed
-use Rattle.directory_model.specs.Files.{IsFile, AreNoted, cut_notes, organized_by}
+use Rattle.directory_model.specs.Files.{IsFile, AreNoted, cut_notes, laid_in, organized_by}
 use Rattle.directory_model.proofs.ReadingLists.{Entries, listed, numbered, length-numbered, sorted_numbered, find_numbered, drop_numbered}
 use Rattle.directory_model.proofs.ReadingPlaces.{placed_are}
 
@@ -65,7 +66,7 @@ used_is content h file of = ap (λ o. used_by o file) of.organization ∙ go h.o
     go : (o : Kept) → h.organization ≡ o → used_by (organized_by o h) file ≡ h.used
     go kept.Sequential is = ap (λ (f : Filled). f.buckets) (placed_is content h file of is)
     go kept.Relative is = of.buckets ∙ sym (form_as kept.Relative content h file is of).used
-    go kept.Indexed is = ap length (of.chain ∙ ap (λ q. chain_by q h content) is) ∙ length-map (indexed.leaves_of h content) (indexed.slots_in h content) ∙ (laid_as kept.Indexed content h file is of).reached
+    go kept.Indexed is = ap used_of (of.layout ∙ ap (λ q. laid_in (chain_by q h content)) is) ∙ length-map (indexed.leaves_of h content) (indexed.slots_in h content) ∙ (laid_as kept.Indexed content h file is of).reached
 
 -- What a record wants.
 
@@ -85,7 +86,7 @@ put content h file number bytes of = ap (λ o. put_need o file bytes) of.organiz
 
 pub update : (content : List (List ℕ)) (h : FileHead) (file : File) (key : Key) (bytes : List ℕ) → IsFile content h file → h.organization ≡ kept.Indexed → need_of file (Update key bytes) ≡ asks h content (length bytes)
 update content h file key bytes of is =
-    ap update_need (of.organization ∙ ap (λ o. organized_by o h) is) ∙ level_asks h.levels (form_as kept.Indexed content h file is of).levels ∙ sym (ap (λ q. asks_by q h content (length bytes)) is)
+    ap (λ o. update_need o file) (of.organization ∙ ap (λ o. organized_by o h) is) ∙ level_asks h.levels (form_as kept.Indexed content h file is of).levels ∙ sym (ap (λ q. asks_by q h content (length bytes)) is)
 
 -- Positions.
 

@@ -10,7 +10,7 @@ use Rattle.seq_file.specs.Local as sequential
 use Rattle.indexed_file.specs.Local as indexed
 use Rattle.record_files.specs.Any.{map_by, chain_by, FormBy, LaidOutBy}
 use Rattle.run_model.specs.World.{File}
-use Rattle.directory_model.specs.Files.{IsFile, IsPlace, head_at, file_at}
+use Rattle.directory_model.specs.Files.{IsFile, IsPlace, head_at, file_at, laid_in}
 use Rattle.directory_model.specs.Laws.{StandsOnExtents}
 
 -- By organization, the keys, the layout and the chain are the same in contents that agree on the extent.
@@ -39,12 +39,12 @@ file_stands a b h file agrees is = record {
   organization = is.organization;
   start = is.start;
   buckets = is.buckets;
-  others = is.others;
+  carried = is.carried;
   units = is.units;
   form = is.form;
   laid = laid_stands h.organization h a b is.form agrees is.laid;
   records = λ key. is.records key ∙ ap (λ (m : Map). m key) (map_stands h.organization h a b is.form agrees);
-  chain = is.chain ∙ chain_stands h.organization h a b is.form agrees;
+  layout = is.layout ∙ ap laid_in (chain_stands h.organization h a b is.form agrees);
 }
 
 pub place_stands : (a b : List (List ℕ)) (o : Option FileHead) (p : Option File) → ((h : FileHead) → o ≡ Some h → AgreesOn h a b) → IsPlace a o p → IsPlace b o p

@@ -6,6 +6,7 @@ use Rattle.file_base.specs.declared.head.FileHead.{FileHead}
 use Rattle.file_base.specs.declared.head.Organization.{Organization as Kept}
 use Rattle.file_base.specs.declared.head.Organization.TheVariants as kept
 use Rattle.file_base.specs.declared.head.Span.{Span}
+use Rattle.file_base.specs.declared.head.Save.{Save}
 use Rattle.extents.specs.declared.extent.Extent.{Extent as Area}
 use Rattle.extents.specs.Extents.{FitsAt, all_extents}
 use Rattle.script_model.specs.Statements.{Form}
@@ -26,10 +27,10 @@ use Rattle.vms_model.specs.Keys.{Key, Number}
 use Rattle.records_model.specs.Records.{Records, Change}
 use Rattle.records_model.specs.Slots.{Slot, size_of}
 use Rattle.records_model.specs.Chain.{chain_back}
+use Rattle.records_model.specs.Layout.{Layout}
 use Rattle.records_model.specs.History.{LiveChanges, records, current}
-use Rattle.run_model.specs.Extents.{Extent, is_taken}
 use Rattle.run_model.specs.World as world
-use Rattle.run_model.specs.World.{File, Organization, find_file, with_file}
+use Rattle.run_model.specs.World.{File, Organization, Carried, JournalSpan, SavedCopy, nothing_carried, find_file, with_file}
 
 -- Files of a volume and files of the world.
 
@@ -41,13 +42,33 @@ head_at heads f = slice_index_or heads f None
 abbrev pub file_at : List (Option File) → ℕ → Option File
 file_at directory f = slice_index_or directory f None
 
--- the blocks of a journal
-abbrev pub span_extent : Span → Extent
-span_extent s = record { start = s.start; blocks = s.blocks }
+-- a journal of a head, as the world says it
+abbrev pub journal_of : Span → JournalSpan
+journal_of s = record { start = s.start; blocks = s.blocks; first = s.first; end = s.end }
 
--- what a file has to itself besides its buckets: its journals and its saved copy
-abbrev pub others_of : FileHead → List Extent
-others_of h = span_extent h.ai ∷ span_extent h.bi ∷ record { start = h.save.start; blocks = h.save.alloc * h.bucket } ∷ []
+-- a head's saved copy, as the world says it
+abbrev pub saved_copy_of : Save → SavedCopy
+saved_copy_of s = record { start = s.start; buckets = s.alloc; position = s.position; moment = s.moment.0; used = s.used; root = s.root; levels = s.levels; count = s.count }
+
+-- what a head carries for its file's recovery, as the world says it
+abbrev pub carried_of : FileHead → Carried
+carried_of h = record {
+  keeps_after = h.marks.ai;
+  keeps_before = h.marks.bi;
+  is_saved = h.marks.save;
+  after = journal_of h.ai;
+  before = journal_of h.bi;
+  since = h.bi_since.0;
+  save = saved_copy_of h.save;
+}
+
+-- the layout that has this chain
+abbrev pub laid_in : List (List Slot) → Layout
+laid_in chain = record { chain = chain }
+
+-- the layout of a head's file in this content
+abbrev pub layout_of : FileHead → List (List ℕ) → Layout
+layout_of h content = laid_in (chain_of h content)
 
 -- how a head says that records are kept, as the world says it
 abbrev pub organized_by : Kept → FileHead → Organization
@@ -55,8 +76,8 @@ organized_by kept.Sequential h = world.Sequential
 organized_by kept.Relative h = world.Relative h.mrn
 organized_by kept.Indexed h = world.Indexed h.key_pos h.key_size
 
--- A file of the world is the file of a head: it has its name, its sizes, its blocks and its mark. In this content the file's buckets are laid out, the
--- records as they stand are those in them, and the world has the chain of them, where it is indexed.
+-- A file of the world is the file of a head: it has its name, its sizes, its blocks and its mark, and carries for its recovery what the head does. In this
+-- content the file's buckets are laid out, the records as they stand are those in them, and the world has their layout, where the file is indexed.
 pub record IsFile (content : List (List ℕ)) (h : FileHead) (file : File) : Type 0 where
   pub name : file.name ≡ h.name
   pub bucket : file.bucket ≡ h.bucket
@@ -64,12 +85,12 @@ pub record IsFile (content : List (List ℕ)) (h : FileHead) (file : File) : Typ
   pub organization : file.organization ≡ organized_by h.organization h
   pub start : file.start ≡ h.start
   pub buckets : file.buckets ≡ h.alloc
-  pub others : (n : ℕ) → is_taken file.others n ≡ is_taken (others_of h) n
+  pub carried : file.carried ≡ carried_of h
   pub units : file.recovery_units ≡ h.marks.ru
   pub form : any.IsFile h
   pub laid : IsLaidOut h content
   pub records : (key : Key) → get (current file.history) key ≡ map_of h content key
-  pub chain : file.chain ≡ chain_of h content
+  pub layout : file.layout ≡ layout_of h content
 
 -- so of one file number: both have a file there, or neither has
 abbrev pub IsPlace : List (List ℕ) → Option FileHead → Option File → Type 0
@@ -110,8 +131,7 @@ IsOrganized (form.Sequential buckets) h = (h.organization ≡ kept.Sequential) �
 IsOrganized (form.Relative records) h = (h.organization ≡ kept.Relative) × (h.mrn ≡ records) × (h.used ≡ h.alloc) × (h.levels ≡ 0)
 IsOrganized (form.Indexed buckets position size) h = (h.organization ≡ kept.Indexed) × (h.key_pos ≡ position) × (h.key_size ≡ size) × (h.used ≡ 1) × (h.levels ≡ 1) × (1 ≤ size) × (size ≤ 64) × (position + size ≤ h.mrs)
 
--- The head of a file that is made by a form: it has the buckets that the form takes, is not marked for recovery units, and has no journals and no saved
--- copy.
+-- The head of a file that is made by a form: it has the buckets that the form takes, is not marked for recovery units, and carries nothing for its recovery.
 pub record IsNewHead (f : Form) (h : FileHead) : Type 0 where
   pub organized : IsOrganized f h
   pub record_size : 1 ≤ h.mrs
@@ -121,9 +141,7 @@ pub record IsNewHead (f : Form) (h : FileHead) : Type 0 where
   pub root : h.root ≡ 0
   pub count : h.count ≡ 0
   pub unmarked : h.marks.ru ≡ false
-  pub ai : h.ai.blocks ≡ 0
-  pub bi : h.bi.blocks ≡ 0
-  pub save : h.save.alloc ≡ 0
+  pub carried : carried_of h ≡ nothing_carried
 
 -- each extent of the heads lies in an area behind block 518, and apart from those before it
 pub record Fit (area : Area) (heads : List (Option FileHead)) : Type 0 where

@@ -15,10 +15,10 @@ use Rattle.vms_model.specs.Transactions.{Aborted}
 use Rattle.transcript_model.specs.Lines as line
 use Rattle.transcript_model.specs.Emitting.{Shown, Emits}
 use Rattle.transcript_model.proofs.EmittingLemmas.{emits_on}
-use Rattle.script_model.specs.Statements.{At, AbortTrans}
-use Rattle.run_model.specs.World.{World, Node, Label, Settlement, Settles, labelled}
+use Rattle.script_model.specs.Statements.{AbortTrans}
+use Rattle.run_model.specs.World.{Shared, Node, Settlement, Settles, serial_labelled}
 use Rattle.directory_model.specs.Files.{AreOwn, AreUndone}
-use Rattle.dtm_node.specs.Standing.{Up, IsUp, Unsettled, StandsFor, settlement_of}
+use Rattle.dtm_node.specs.Standing.{Up, IsUp, Unsettled, StandsFor, settlement_of, counts_of}
 use Rattle.dtm_node.specs.Keeping.{Serves, Breaks}
 use Rattle.dtm_node.specs.TheLaws.{TheLaws}
 use Rattle.node_files.specs.Staging.{Undone}
@@ -60,11 +60,12 @@ abort_means node u n serial b mid c bytes s laws t at is early back =
         boot = s.up.has.boot;
         greatest = refl;
         last = refl;
+        units = s.up.has.units;
         files = front_files node (disk_up u).size (catalog_back u mid) c d _ laws.apart laws.stand sound files (front_set c 0 bytes (omega arith));
       };
       sound = sound_settled node (disk_up u).size (catalog_back u mid) serial (ending.Abort reason.Aborted) early sound;
       same = record { name = refl; blocks = refl; clock = refl; calls = refl };
-      disk = record { name = refl; blocks = refl; volume = refl; slots = refl; journal = refl; boot = refl; greatest = refl; last = refl; directory = refl };
+      disk = record { name = refl; blocks = refl; volume = refl; slots = refl; journal = refl; boot = refl; greatest = refl; last = refl; units = refl; directory = refl };
       durable = refl;
     }
 
@@ -79,31 +80,31 @@ module _ (name : List ℕ) (u : Up) (serial : Serial) (laws : TheLaws) (up : IsU
       (undone_least name u b.notes b.notes [] mid up t) (undone_most name u b.notes b.notes [] mid up t)
       (subst (λ o. IfSome o (λ b. AreOwn b.notes mid.catalog.heads × (length b.notes ≤ 16))) (sym none) tt)
 
-  module _ (log : CallLog) (w : World) (labels : List Label) (h : StandsFor log (kept name u labels) w) (l : List ℕ) (made : labelled name l labels ≡ Some (serial_of serial)) (own : b.serial ≡ serial_of serial) where
+  module _ (log : CallLog) (shared : Shared) (n : Node) (h : StandsFor log (kept name u) n) (l : List ℕ) (made : serial_labelled name l shared.labels ≡ Some (serial_of serial)) (own : b.serial ≡ serial_of serial) where
     abbrev out_here : (c : List (List ℕ)) × (mid.store.current ≡ Some c) × AreUndone h.place.content u.volume.catalog.heads b.notes [] c mid.catalog.heads
-    out_here = t.back h.place.content h.node.directory h.place.told h.place.has.files (undoable_of h.place.content u.volume.catalog.heads u h.node b h.place.changes at)
+    out_here = t.back h.place.content n.directory h.place.told h.place.has.files (undoable_of h.place.content u.volume.catalog.heads u n b h.place.changes at)
 
     pub abort_done : {T : Type 0} (r : Result T Down) (x : T) (new : Up) (bytes : List ℕ) (a d e : Shown) → r ≡ Ok x → Writes r (with_block 518 bytes mid.store).current (catalog_after mid.catalog serial) mid new.volume → Goes (disk_up u) (disk_up new) → new.drawn ≡ u.drawn → new.branch ≡ None →
-        Emits a (line.Aborted (serial_of serial) (serial_of serial) Aborted (u.volume.catalog.home.greatest_moment.0 + 1) ∷ []) d → Emits d (line.Normal ∷ []) e → Serves log w (At name (AbortTrans l)) a e (kept name new labels)
+        Emits a (line.Aborted (serial_of serial) (serial_of serial) Aborted (u.volume.catalog.home.greatest_moment.0 + 1) ∷ []) d → Emits d (line.Normal ∷ []) e → Serves log shared n (counts_of (disk_up u)) (AbortTrans l) a e (kept name new) shared
     abort_done r x new bytes a d e is wr goes drawn none m o =
-        group_done r x log w name u new labels h (AbortTrans l) (Settles (settlement u serial)) (line.Aborted (serial_of serial) (serial_of serial) Aborted (u.volume.catalog.home.greatest_moment.0 + 1) ∷ []) line.Normal (slice_set out_here.0 0 bytes) (catalog_after (catalog_back u mid) serial) mid _ a e
-        (abort_does log w name u labels h l serial b at own made) (abort_means name u h.node serial b mid out_here.0 bytes (standing_of log w name u labels h up) laws t at own early out_here.2) is
+        group_done r x log shared n name u new h (AbortTrans l) (Settles (settlement u serial)) (line.Aborted (serial_of serial) (serial_of serial) Aborted (u.volume.catalog.home.greatest_moment.0 + 1) ∷ []) line.Normal (slice_set out_here.0 0 bytes) (catalog_after (catalog_back u mid) serial) mid _ a e
+        (abort_does log shared n name u h l serial b at own made) (abort_means name u n serial b mid out_here.0 bytes (standing_of log n name u h up) laws t at own early out_here.2) is
         (subst (λ k. Writes r (with_block 518 bytes mid.store).current k mid new.volume) same_catalog wr) (ap (option_map (λ (blocks : List (List ℕ)). slice_set blocks 0 bytes)) out_here.1) goes
-        (settles_keeps _ _ u new h.node (settlement u serial) b laws h.place at own drawn none) (emits_on a d e _ _ m o)
+        (settles_keeps _ _ u new n (settlement u serial) b laws h.place at own drawn none) (emits_on a d e _ _ m o)
 
     pub abort_broken : {T : Type 0} (r : Result T Down) (x : Down) (new : VolumeState) (bytes : List ℕ) (a : Shown) → r ≡ Err x → Writes r (with_block 518 bytes mid.store).current (catalog_after mid.catalog serial) mid new → Uses r (disk_up u) new.store.disk →
-        Breaks log w (At name (AbortTrans l)) name x a a (dropped name labels new.store.disk)
+        Breaks log shared n (counts_of (disk_up u)) (AbortTrans l) name x a a (dropped name new.store.disk) shared
     abort_broken r x new bytes a is wr uses =
-        group_broken r x log w name u labels h up (AbortTrans l) (Settles (settlement u serial)) (line.Aborted (serial_of serial) (serial_of serial) Aborted (u.volume.catalog.home.greatest_moment.0 + 1) ∷ []) line.Normal (slice_set out_here.0 0 bytes) (catalog_after (catalog_back u mid) serial) mid new _ a
-        (abort_does log w name u labels h l serial b at own made) (abort_means name u h.node serial b mid out_here.0 bytes (standing_of log w name u labels h up) laws t at own early out_here.2) is
+        group_broken r x log shared n name u h up (AbortTrans l) (Settles (settlement u serial)) (line.Aborted (serial_of serial) (serial_of serial) Aborted (u.volume.catalog.home.greatest_moment.0 + 1) ∷ []) line.Normal (slice_set out_here.0 0 bytes) (catalog_after (catalog_back u mid) serial) mid new _ a
+        (abort_does log shared n name u h l serial b at own made) (abort_means name u n serial b mid out_here.0 bytes (standing_of log n name u h up) laws t at own early out_here.2) is
         (subst (λ k. Writes r (with_block 518 bytes mid.store).current k mid new) same_catalog wr) (ap (option_map (λ (blocks : List (List ℕ)). slice_set blocks 0 bytes)) out_here.1)
         (undone_content name u b.notes b.notes [] mid up t) (undone_disk name u b.notes b.notes [] mid up t) (undone_holds name u b.notes b.notes [] mid up t) uses
 
 -- a bucket could not be read
-pub abort_unread : {T : Type 0} (r : Result T Down) (e : Down) (log : CallLog) (w : World) (name : List ℕ) (u : Up) (labels : List Label) (h : StandsFor log (kept name u labels) w) → IsUp name u → TheLaws → (l : List ℕ) (serial : Serial) (b : Unsettled) (new : VolumeState) (a : Shown) →
-    u.branch ≡ Some b → b.serial ≡ serial_of serial → labelled name l labels ≡ Some (serial_of serial) → r ≡ Err e → new.store ≡ fell r u.volume.store → Breaks log w (At name (AbortTrans l)) name e a a (dropped name labels new.store.disk)
-abort_unread r e log w name u labels h up laws l serial b new a at own made is down =
+pub abort_unread : {T : Type 0} (r : Result T Down) (e : Down) (log : CallLog) (shared : Shared) (n : Node) (name : List ℕ) (u : Up) (h : StandsFor log (kept name u) n) → IsUp name u → TheLaws → (l : List ℕ) (serial : Serial) (b : Unsettled) (new : VolumeState) (a : Shown) →
+    u.branch ≡ Some b → b.serial ≡ serial_of serial → serial_labelled name l shared.labels ≡ Some (serial_of serial) → r ≡ Err e → new.store ≡ fell r u.volume.store → Breaks log shared n (counts_of (disk_up u)) (AbortTrans l) name e a a (dropped name new.store.disk) shared
+abort_unread r e log shared n name u h up laws l serial b new a at own made is down =
     let disk = ap (λ (s : StoreState). s.disk) down in
     let uses = uses_read r (disk_up u) new.store.disk disk up.idle.ready.settled in
-    breaks_first log w name u labels h (AbortTrans l) e new.store.disk a refl refl (abort_does log w name u labels h l serial b at own made).early_none uses.goes (rose_of r e (disk_up u) new.store.disk is uses h.counts)
-    (read_down r name u h.node new.store.disk laws.one (standing_of log w name u labels h up) disk)
+    breaks_first log shared n name u h (AbortTrans l) e new.store.disk a refl refl refl (abort_does log shared n name u h l serial b at own made).early_none uses.goes (rose_of r e (disk_up u) new.store.disk is uses h.counts)
+    (read_down r name u n new.store.disk laws.one (standing_of log n name u h up) disk)

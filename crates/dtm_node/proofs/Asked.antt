@@ -1,6 +1,5 @@
 -- An operation that nothing refuses before the disk is read: what refuses it then, what it does, and what it is answered.
 use Rattle.std.proofs.Common.{◌≡◌, ℕ, ◌+◌, ◌-◌, ◌<◌, ◌≤◌, List, [], ◌∷◌, Bool, true, false, Some, None, Result, Err, IfSome, length, nat_lt, refl, sym, subst, ◌∙◌, ap, arith}
-use Rattle.std.specs.Prelude.{◌||◌}
 use Rattle.std.specs.Option.{option_and_then}
 use Rattle.std.proofs.lemmas.Bool.Decides.{nat_tests}
 use Rattle.block_disk.specs.Disk.{CallLog}
@@ -10,20 +9,20 @@ use Rattle.file_base.specs.declared.head.FileHead.{FileHead}
 use Rattle.transcript_model.specs.Lines as line
 use Rattle.transcript_model.specs.Lines.{Line}
 use Rattle.transcript_model.specs.Emitting.{Shown, Emits}
-use Rattle.script_model.specs.Statements.{At, Operation, Records}
+use Rattle.script_model.specs.Statements.{Operation, Records}
 use Rattle.volume.specs.State.{VolumeState}
-use Rattle.run_model.specs.World.{World, Node, Label, find_file, labelled}
-use Rattle.run_model.specs.Answers.{Row, late_at, rows_at, answer_at, early_up, more_changes, operated, branch_labelled, change_act}
+use Rattle.run_model.specs.World.{Shared, Node, find_file, serial_labelled}
+use Rattle.run_model.specs.Answers.{refused_after_reading, rows_at, answer_at, refused_where_served, more_changes, operated, branch_labelled, change_act}
 use Rattle.run_model.specs.Operations.{first_of, refused_if, data_refused, changes_of, file_full, need_of, free_buckets, operation_answer}
-use Rattle.run_model.specs.Steps.{occupied}
-use Rattle.run_model.proofs.StepLemmas.{none_falls_same}
 use Rattle.directory_model.specs.Files.{AreOwn}
-use Rattle.dtm_node.specs.Standing.{Up, IsUp, Unsettled}
+use Rattle.dtm_node.specs.Standing.{Up, IsUp, Unsettled, counts_of}
 use Rattle.dtm_node.specs.Operating.{IsAsked, kept_running}
 use Rattle.dtm_node.specs.Keeping.{Serves, Breaks, kept_fallen}
 use Rattle.dtm_node.specs.TheLaws.{TheLaws}
-use Rattle.dtm_node.proofs.UsesLemmas.{uses_read, rose_of}
-use Rattle.dtm_node.proofs.UpLemmas.{disk_up, case_some, refused_late, breaks_first, read_down, step_done, early_here, late_here, rows_here, answer_here}
+use Rattle.dtm_node.proofs.UsesLemmas.{goes_nowhere, uses_read, rose_of}
+use Rattle.dtm_node.proofs.Fronts.{case_some}
+use Rattle.dtm_node.proofs.StepLemmas.{step_done}
+use Rattle.dtm_node.proofs.UpLemmas.{disk_up, before_here, refused_late, breaks_first, read_down}
 use Rattle.dtm_node.proofs.Groups.{standing_of}
 use Rattle.dtm_node.proofs.Named.{the_branch, branch_as, branch_there}
 use Rattle.dtm_node.proofs.Files.{Found, found_file, of_some}
@@ -38,12 +37,9 @@ is_more n many = grind (arith, nat_tests)
 not_fewer : (m n : ℕ) → n ≤ m → nat_lt m n ≡ false
 not_fewer m n le = grind (arith, nat_tests)
 
-module _ (log : CallLog) (w : World) (u : Up) (labels : List Label) (label file : List ℕ) (f : ℕ) (head : FileHead) (op : Operation) (q : IsAsked log w u labels label file f head op) (laws : TheLaws) where
+module _ (log : CallLog) (shared : Shared) (n : Node) (u : Up) (label file : List ℕ) (f : ℕ) (head : FileHead) (op : Operation) (q : IsAsked log shared n u label file f head op) (laws : TheLaws) where
   abbrev node_of_asked : List ℕ
   node_of_asked = u.volume.catalog.home.node
-
-  abbrev n_here : Node
-  n_here = q.stands.node
 
   abbrev pub asked_branch : Unsettled
   asked_branch = (the_branch u.branch q.id q.own).0
@@ -51,31 +47,31 @@ module _ (log : CallLog) (w : World) (u : Up) (labels : List Label) (label file 
   pub asked_at : u.branch ≡ Some asked_branch
   asked_at = (the_branch u.branch q.id q.own).1
 
-  pub asked_made : labelled node_of_asked label labels ≡ Some asked_branch.serial
+  pub asked_made : serial_labelled node_of_asked label shared.labels ≡ Some asked_branch.serial
   asked_made = q.made ∙ ap Some (sym (the_branch u.branch q.id q.own).2)
 
-  pub early_asked : early_up w n_here (Records label file op) ≡ None
-  early_asked = asked_early log w node_of_asked u labels q.stands label file op f head asked_branch asked_at asked_made laws q.named q.form q.units
+  pub early_asked : refused_where_served shared n (Records label file op) ≡ None
+  early_asked = asked_early log shared n node_of_asked u q.stands label file op f head asked_branch asked_at asked_made laws q.named q.form q.units
 
-  abbrev pub asked_found : Found u n_here q.stands.place.content file f head
-  asked_found = found_file u n_here file f head q.stands.place laws.finds q.named
+  abbrev pub asked_found : Found u n q.stands.place.content file f head
+  asked_found = found_file u n file f head q.stands.place laws.finds q.named
 
-  there : branch_labelled w n_here label ≡ Some (branch_as asked_branch)
-  there = branch_there log w node_of_asked u labels q.stands label asked_branch.serial asked_branch asked_at refl asked_made
+  there : branch_labelled shared n label ≡ Some (branch_as asked_branch)
+  there = branch_there log shared n node_of_asked u q.stands label asked_branch.serial asked_branch asked_at refl asked_made
 
-  changes_there : elim (find_file file n_here.directory) [ Some f ↦ changes_of f op | None ↦ [] ] ≡ changes_of asked_found.file op
-  changes_there = case_some (find_file file n_here.directory) (λ f. changes_of f op) [] asked_found.file asked_found.at.found
+  changes_there : elim (find_file file n.directory) [ Some f ↦ changes_of f op | None ↦ [] ] ≡ changes_of asked_found.file op
+  changes_there = case_some (find_file file n.directory) (λ f. changes_of f op) [] asked_found.file asked_found.at.found
 
-  pub late_asked : late_at w n_here (Records label file op) ≡ first_of (data_refused asked_found.file op) (first_of (more_changes (changes_of asked_found.file op) (branch_as asked_branch)) (file_full asked_found.file op))
-  late_asked = λ i. first_of (of_some n_here file asked_found.file (λ f. data_refused f op) asked_found.at.found i)
-      (first_of (option_and_then (more_changes (changes_there i)) (there i)) (of_some n_here file asked_found.file (λ f. file_full f op) asked_found.at.found i))
+  pub late_asked : refused_after_reading shared n (Records label file op) ≡ first_of (data_refused asked_found.file op) (first_of (more_changes (changes_of asked_found.file op) (branch_as asked_branch)) (file_full asked_found.file op))
+  late_asked = λ i. first_of (of_some n file asked_found.file (λ f. data_refused f op) asked_found.at.found i)
+      (first_of (option_and_then (more_changes (changes_there i)) (there i)) (of_some n file asked_found.file (λ f. file_full f op) asked_found.at.found i))
 
-  pub rows_asked : rows_at w n_here (Records label file op) ≡ record { act = change_act asked_branch.serial file (changes_of asked_found.file op); lines = [] } ∷ []
-  rows_asked = case_some (branch_labelled w n_here label) (λ b. operated n_here file op b ∷ []) [] (branch_as asked_branch) there
+  pub rows_asked : rows_at shared n (Records label file op) ≡ record { act = change_act asked_branch.serial file (changes_of asked_found.file op); lines = [] } ∷ []
+  rows_asked = case_some (branch_labelled shared n label) (λ b. operated n file op b ∷ []) [] (branch_as asked_branch) there
       ∙ ap (λ cs. record { act = change_act asked_branch.serial file cs; lines = [] } ∷ []) changes_there
 
-  pub answer_asked : answer_at n_here (Records label file op) ≡ operation_answer asked_found.file op
-  answer_asked = case_some (find_file file n_here.directory) (λ f. operation_answer f op) line.RecordNormal asked_found.file asked_found.at.found
+  pub answer_asked : answer_at shared n (Records label file op) ≡ operation_answer asked_found.file op
+  answer_asked = case_some (find_file file n.directory) (λ f. operation_answer f op) line.RecordNormal asked_found.file asked_found.at.found
 
   pub free_asked : free_buckets asked_found.file ≡ head.alloc - head.used
   free_asked = λ i. asked_found.is.buckets i - laws.reads.used q.stands.place.content head asked_found.file asked_found.is i
@@ -84,65 +80,52 @@ module _ (log : CallLog) (w : World) (u : Up) (labels : List Label) (label file 
   few_asked up = (subst (λ o. IfSome o (λ b. AreOwn b.notes u.volume.catalog.heads × (length b.notes ≤ 16))) asked_at up.own).1
 
   -- nothing refuses it
-  pub late_none : data_refused asked_found.file op ≡ None → length asked_branch.notes + length (changes_of asked_found.file op) ≤ 16 → need_of asked_found.file op ≤ head.alloc - head.used → late_at w n_here (Records label file op) ≡ None
+  pub late_none : data_refused asked_found.file op ≡ None → length asked_branch.notes + length (changes_of asked_found.file op) ≤ 16 → need_of asked_found.file op ≤ head.alloc - head.used → refused_after_reading shared n (Records label file op) ≡ None
   late_none stand few free = late_asked ∙ ap (λ o. first_of o (first_of (more_changes (changes_of asked_found.file op) (branch_as asked_branch)) (file_full asked_found.file op))) stand
       ∙ ap (λ (t : Bool). first_of (refused_if t (line.QuotaExceeded line.Changes 16)) (file_full asked_found.file op)) (not_more (length asked_branch.notes + length (changes_of asked_found.file op)) few)
       ∙ ap (λ (t : Bool). refused_if t (line.FileFull (free_buckets asked_found.file) (need_of asked_found.file op))) (not_fewer (free_buckets asked_found.file) (need_of asked_found.file op) (let same = free_asked in omega (arith, same, free)))
 
   -- it makes too many changes
-  pub late_quota : data_refused asked_found.file op ≡ None → 16 < length asked_branch.notes + length (changes_of asked_found.file op) → late_at w n_here (Records label file op) ≡ Some (line.QuotaExceeded line.Changes 16)
+  pub late_quota : data_refused asked_found.file op ≡ None → 16 < length asked_branch.notes + length (changes_of asked_found.file op) → refused_after_reading shared n (Records label file op) ≡ Some (line.QuotaExceeded line.Changes 16)
   late_quota stand many = late_asked ∙ ap (λ o. first_of o (first_of (more_changes (changes_of asked_found.file op) (branch_as asked_branch)) (file_full asked_found.file op))) stand
       ∙ ap (λ (t : Bool). first_of (refused_if t (line.QuotaExceeded line.Changes 16)) (file_full asked_found.file op)) (is_more (length asked_branch.notes + length (changes_of asked_found.file op)) many)
 
   -- too few buckets are free
-  pub late_full : data_refused asked_found.file op ≡ None → length asked_branch.notes + length (changes_of asked_found.file op) ≤ 16 → late_at w n_here (Records label file op) ≡ refused_if (nat_lt (head.alloc - head.used) (need_of asked_found.file op)) (line.FileFull (head.alloc - head.used) (need_of asked_found.file op))
+  pub late_full : data_refused asked_found.file op ≡ None → length asked_branch.notes + length (changes_of asked_found.file op) ≤ 16 → refused_after_reading shared n (Records label file op) ≡ refused_if (nat_lt (head.alloc - head.used) (need_of asked_found.file op)) (line.FileFull (head.alloc - head.used) (need_of asked_found.file op))
   late_full stand few = late_asked ∙ ap (λ o. first_of o (first_of (more_changes (changes_of asked_found.file op) (branch_as asked_branch)) (file_full asked_found.file op))) stand
       ∙ ap (λ (t : Bool). first_of (refused_if t (line.QuotaExceeded line.Changes 16)) (file_full asked_found.file op)) (not_more (length asked_branch.notes + length (changes_of asked_found.file op)) few)
       ∙ ap (λ (n : ℕ). refused_if (nat_lt n (need_of asked_found.file op)) (line.FileFull n (need_of asked_found.file op))) free_asked
 
   -- refused by the records that stand
-  pub late_data : (refusal : Line) → data_refused asked_found.file op ≡ Some refusal → late_at w n_here (Records label file op) ≡ Some refusal
+  pub late_data : (refusal : Line) → data_refused asked_found.file op ≡ Some refusal → refused_after_reading shared n (Records label file op) ≡ Some refusal
   late_data refusal stand = late_asked ∙ ap (λ o. first_of o (first_of (more_changes (changes_of asked_found.file op) (branch_as asked_branch)) (file_full asked_found.file op))) stand
 
   -- refused by what was read
-  pub refused_asked : (refusal : Line) (a b : Shown) → late_at w n_here (Records label file op) ≡ Some refusal → Emits a (refusal ∷ []) b → Serves log w (At node_of_asked (Records label file op)) a b (kept_running u labels)
-  refused_asked refusal a b l m = refused_late log w node_of_asked u labels q.stands (Records label file op) refusal a b refl early_asked l m
+  pub refused_asked : (refusal : Line) (a b : Shown) → refused_after_reading shared n (Records label file op) ≡ Some refusal → Emits a (refusal ∷ []) b → Serves log shared n (counts_of (disk_up u)) (Records label file op) a b (kept_running u) shared
+  refused_asked refusal a b l m = refused_late log shared n node_of_asked u q.stands (Records label file op) refusal a b refl early_asked l m
 
   -- a read failed
   pub unread_asked : {T : Type 0} (r : Result T Down) (e : Down) (new : VolumeState) (a : Shown) → IsUp node_of_asked u → r ≡ Err e → new ≡ record u.volume { store = fell r u.volume.store } →
-      Breaks log w (At node_of_asked (Records label file op)) node_of_asked e a a (kept_fallen node_of_asked labels new.store.disk)
+      Breaks log shared n (counts_of (disk_up u)) (Records label file op) node_of_asked e a a (kept_fallen node_of_asked new.store.disk) shared
   unread_asked r e new a up is at =
       let disk = ap (λ (v : VolumeState). v.store.disk) at in
       let uses = uses_read r (disk_up u) new.store.disk disk up.idle.ready.settled in
-      breaks_first log w node_of_asked u labels q.stands (Records label file op) e new.store.disk a refl refl early_asked uses.goes (rose_of r e (disk_up u) new.store.disk is uses q.stands.counts)
-      (read_down r node_of_asked u n_here new.store.disk laws.one (standing_of log w node_of_asked u labels q.stands up) disk)
+      breaks_first log shared n node_of_asked u q.stands (Records label file op) e new.store.disk a refl refl refl early_asked uses.goes (rose_of r e (disk_up u) new.store.disk is uses q.stands.counts)
+      (read_down r node_of_asked u n new.store.disk laws.one (standing_of log n node_of_asked u q.stands up) disk)
 
   -- read, and nothing is changed
   pub read_asked : (l : Line) (a b : Shown) → IsUp node_of_asked u → data_refused asked_found.file op ≡ None → changes_of asked_found.file op ≡ [] → need_of asked_found.file op ≡ 0 → operation_answer asked_found.file op ≡ l → Emits a (l ∷ []) b →
-      Serves log w (At node_of_asked (Records label file op)) a b (kept_running u labels)
+      Serves log shared n (counts_of (disk_up u)) (Records label file op) a b (kept_running u) shared
   read_asked l a b up stand none need answer m =
-      let s = At node_of_asked (Records label file op) in
-      let row : Row = record { act = None; lines = [] } in
+      let req = Records label file op in
+      let still = goes_nowhere (disk_up u) in
       record {
-        lines = l ∷ [];
-        world = record (occupied s w) { disks = w.disks };
-        step = step_done w s (row ∷ []) l w.disks refl (early_here log w node_of_asked u labels q.stands (Records label file op) ∙ early_asked)
-            (late_here log w node_of_asked u labels q.stands (Records label file op) ∙ late_none stand (let long = ap length none in let few = few_asked up in omega (arith, long, few)) (omega (arith, need)))
-            (rows_here log w node_of_asked u labels q.stands (Records label file op) ∙ rows_asked ∙ ap (λ cs. record { act = change_act asked_branch.serial file cs; lines = [] } ∷ []) none)
-            (answer_here log w node_of_asked u labels q.stands (Records label file op) ∙ answer_asked ∙ answer) (none_falls_same w.disks);
+        lines = [];
+        answer = l;
+        node = n;
+        step = step_done shared n req (counts_of (disk_up u)) (counts_of (disk_up u)) (still.faults q.stands.counts) (still.stops q.stands.counts) refl (before_here log shared n node_of_asked u q.stands req ∙ early_asked) (record { act = None; lines = [] } ∷ []) l
+            (late_none stand (let long = ap length none in let few = few_asked up in omega (arith, long, few)) (omega (arith, need)))
+            (rows_asked ∙ ap (λ cs. record { act = change_act asked_branch.serial file cs; lines = [] } ∷ []) none) refl (answer_asked ∙ answer) refl;
         emits = m;
-        stands = record {
-          node = n_here;
-          nodes = q.stands.nodes;
-          disks = q.stands.disks;
-          labels = q.stands.labels;
-          in_use = ap (λ (b : Bool). b || false) q.stands.in_use;
-          name = q.stands.name;
-          blocks = q.stands.blocks;
-          clock = q.stands.clock;
-          unknown = q.stands.unknown;
-          place = q.stands.place;
-          calls = q.stands.calls;
-          counts = q.stands.counts;
-        };
+        stands = q.stands;
       }

@@ -2,7 +2,8 @@
 use Rattle.std.proofs.Common.{◌≡◌, ⊎_elim, inl, inr, ℕ, ◌+◌, ◌<◌, ◌≤◌, List, [], Bool, true, false, Option, Some, None, IfSome, IsSomeAnd, length, slice_set, option_map, refl, sym, ap, subst, ◌∙◌, arith, nat_lt}
 use Rattle.std.specs.Prelude.{◌==◌}
 use Rattle.std.proofs.lemmas.Bool.{cases_lt}
-use Rattle.block_disk.specs.Blocks.{SameBut}
+use Rattle.std.specs.Int.{from_le_bytes, w64}
+use Rattle.block_disk.specs.Blocks.{SameBut, block_at}
 use Rattle.block_disk.specs.Disk.{DiskState}
 use Rattle.careful_write.specs.Content.{content_of}
 use Rattle.careful_write.specs.Load.{fitting}
@@ -10,7 +11,12 @@ use Rattle.careful_write.specs.State.{EachWhole, StoreState, IsEither, IsIdle, L
 use Rattle.careful_write.proofs.GroupParts.{stop_closed, stop_reading}
 use Rattle.transcript_model.specs.Lines as line
 use Rattle.transcript_model.specs.Lines.{Line}
+use Rattle.file_base.specs.Bytes.{piece_at}
+use Rattle.file_base.specs.declared.head.Span.{Span}
 use Rattle.volume_format.specs.declared.home.Home.{Home}
+use Rattle.volume_format.specs.Home.{HasRu, ru_rows}
+use Rattle.volume_format.specs.Layout.{Row, row_at}
+use Rattle.volume_format.proofs.Splices.{laid_read}
 use Rattle.volume.specs.declared.catalog.Catalog.{Catalog}
 use Rattle.volume.specs.Catalogs.{IsSound, TellsCatalog, TellsOnly}
 use Rattle.volume.specs.Conditions.{IsFirstFinding, IsValid, SoundIsValid}
@@ -19,7 +25,7 @@ use Rattle.run_model.specs.World.{Node, Act, Volume, Sound, Faulty, Unknown, Boo
 use Rattle.run_model.specs.Answers.{bootable, boot_limit, moment_limit}
 use Rattle.run_model.specs.Operations.{first_of, refused_if}
 use Rattle.dtm_node.specs.Boots.{AllHave, HasContent, IsAwake, IsMounted, IsOpened, fresh_up}
-use Rattle.dtm_node.specs.Standing.{FailsFirst, HasCatalog, HasDisk, IsEitherOf, IsVolumeOf, StandsUp, last_of}
+use Rattle.dtm_node.specs.Standing.{FailsFirst, HasCatalog, HasDisk, IsEitherOf, IsVolumeOf, StandsUp, last_of, span_of}
 use Rattle.directory_model.specs.Laws.{KeepsChanges, KeepsFiles, StandsOnExtents, WritesApart}
 use Rattle.dtm_node.proofs.Fronts.{SameDisk, before_files, same_disk_has, same_fallen, same_some}
 
@@ -103,34 +109,60 @@ open_fell name d after n leaves a = have_disk (fallen None n) (fitting a.image) 
 
 -- Mounting.
 
-same_catalog : (c : Content) (u v : Catalog) (n : Node) → u.home ≡ v.home → u.heads ≡ v.heads → HasCatalog c u n → HasCatalog c v n
-same_catalog c u v n home heads has = record {
+-- a block of the journal tells one span
+span_told : (n : ℕ) (block : List ℕ) (s : Span) (r : Row) → row_at n (ru_rows s) ≡ Some r → length block ≡ 512 → HasRu block s → piece_at block r.at r.wide ≡ r.bytes
+span_told n block s r at long has = ap (λ b. piece_at b r.at r.wide) (sym has) ∙ laid_read 0 n (ru_rows s) block r at refl (refl, (refl, tt)) long
+
+span_same : (block : List ℕ) (a b : Span) → length block ≡ 512 → HasRu block a → HasRu block b → a.start ≡ b.start → a.blocks ≡ b.blocks → span_of a ≡ span_of b
+span_same block a b long f g start blocks =
+    let first = sym (span_told 0 block a _ refl long f) ∙ span_told 0 block b _ refl long g in
+    let end = sym (span_told 1 block a _ refl long f) ∙ span_told 1 block b _ refl long g in
+    λ i. record { start = start i; blocks = blocks i; first = from_le_bytes w64 (first i); end = from_le_bytes w64 (end i) }
+
+same_catalog : (c : Content) (u v : Catalog) (n : Node) → u.home ≡ v.home → u.heads ≡ v.heads → span_of u.ru ≡ span_of v.ru → HasCatalog c u n → HasCatalog c v n
+same_catalog c u v n home heads units has = record {
   volume = has.volume;
   slots = has.slots ∙ ap (λ (h : Home). h.slots) home;
   journal = has.journal ∙ ap (λ (h : Home). h.ru_blocks) home;
   boot = has.boot ∙ ap (λ (h : Home). h.boot) home;
   greatest = has.greatest ∙ ap (λ (h : Home). h.greatest_moment.0) home;
   last = has.last ∙ ap last_of home;
+  units = has.units ∙ units;
   files = rw (sym heads) has.files;
 }
 
-pub mounted : (name : List ℕ) (s : StoreState) (v : VolumeState) (n : Node) → v.store ≡ s → IsSound name s.disk.size v.catalog → IfSome s.current (TellsOnly v.catalog) → IfSome s.current (IsValid name s.fits) → IsOpened name s n → IsMounted v n
-mounted name s v n store sound only valid o = record {
+pub mounted : (name : List ℕ) (s : StoreState) (v : VolumeState) (n : Node) → v.store ≡ s → 4096 ≤ s.disk.size → IfSome s.current (λ c. length c + 518 ≡ s.disk.size) → IfSome s.current EachWhole → Holds v → IsSound name s.disk.size v.catalog → IfSome s.current (TellsOnly v.catalog) →
+    IfSome s.current (IsValid name s.fits) → IsOpened name s n → IsMounted v n
+mounted name s v n store least whole each holds sound only valid o = record {
   booting = record { name_is = o.booting.name_is ∙ sym sound.home.owner; blocks = o.booting.blocks ∙ sym (ap (λ (t : StoreState). t.disk.size) store); under_way = o.booting.under_way };
   content = o.content;
-  told = ap (λ (t : StoreState). t.current) store ∙ o.told;
+  told = told;
   has = go n.volume o.has;
 }
   where
-    holds : IsValid n.name s.fits o.content
-    holds = subst (λ x. IsValid x s.fits o.content) (sym o.booting.name_is) (subst (λ t. IfSome t (IsValid name s.fits)) o.told valid)
+    told : v.store.current ≡ Some o.content
+    told = ap (λ (t : StoreState). t.current) store ∙ o.told
+
+    is_valid : IsValid n.name s.fits o.content
+    is_valid = subst (λ x. IsValid x s.fits o.content) (sym o.booting.name_is) (subst (λ t. IfSome t (IsValid name s.fits)) o.told valid)
 
     one : TellsOnly v.catalog o.content
     one = subst (λ t. IfSome t (TellsOnly v.catalog)) o.told only
 
+    block : length (block_at o.content 65) ≡ 512
+    block =
+        let long : length o.content + 518 ≡ s.disk.size = subst (λ t. IfSome t (λ c. length c + 518 ≡ s.disk.size)) o.told whole in
+        let bytes : EachWhole o.content = subst (λ t. IfSome t EachWhole) o.told each in
+        bytes 65 (omega (arith, long, least))
+
     go : (x : Volume) → ContentBy n s.fits o.content x → HasCatalog o.content v.catalog n
-    go Sound h = let same = one h.1.catalog h.1.tells h.1.has.files.heads_long in same_catalog o.content h.1.catalog v.catalog n same.0 same.1 h.1.has
-    go (Faulty condition block) h = absurd (h.finding.fails (holds condition block h.finding.tested))
+    go Sound h =
+        let same = one h.1.catalog h.1.tells h.1.has.files.heads_long in
+        let tells : TellsCatalog v.catalog o.content = subst (λ t. IfSome t (TellsCatalog v.catalog)) told holds in
+        let units = span_same (block_at o.content 65) h.1.catalog.ru v.catalog.ru block h.1.tells.ru tells.ru
+        (h.1.sound.ru_start ∙ ap (λ (k : Home). 584 + k.slots) same.0 ∙ sym sound.ru_start) (h.1.sound.ru_blocks ∙ ap (λ (k : Home). k.ru_blocks) same.0 ∙ sym sound.ru_blocks) in
+        same_catalog o.content h.1.catalog v.catalog n same.0 same.1 units h.1.has
+    go (Faulty condition block) h = absurd (h.finding.fails (is_valid condition block h.finding.tested))
     go Unknown h = absurd h
 
 -- Two conditions that fail first are one.
@@ -214,7 +246,7 @@ bootable_is v n h o m is says =
 pub raise_refused : (v : VolumeState) (n : Node) (d : DiskState) → IsIdle v.store → Holds v → IsSound v.catalog.home.node v.store.disk.size v.catalog → d ≡ v.store.disk → IsMounted v n → HasDisk n d
 raise_refused v n d idle holds sound same m =
     subst (HasDisk n) (sym same) (disk_sound n v.store.disk m.has.volume (idle_leaves v.store m.content (IsEitherOf n) idle m.told
-    (inl (volume_mounted v n n m holds sound (record { name = refl; blocks = refl; volume = refl; slots = refl; journal = refl; boot = refl; greatest = refl; last = refl; directory = refl })))))
+    (inl (volume_mounted v n n m holds sound (record { name = refl; blocks = refl; volume = refl; slots = refl; journal = refl; boot = refl; greatest = refl; last = refl; units = refl; directory = refl })))))
 
 -- a home with its boot count raised
 abbrev pub raised : Home → Home
@@ -232,6 +264,7 @@ raised_catalog v n m bytes apart stand keeps sound =
       boot = ap (λ x. x + 1) m.has.boot;
       greatest = m.has.greatest;
       last = m.has.last;
+      units = m.has.units;
       files = keeps.boots c v.catalog.heads n files;
     }
 
@@ -259,7 +292,7 @@ raise_up v new n bytes apart stand keeps changes sound current catalog m = recor
   under_way = m.booting.under_way;
   has = subst (λ k. HasCatalog (slice_set m.content 0 bytes) k (acted ComesUp (acted Boots n))) (sym catalog)
       (same_disk_has (acted ComesUp (acted Boots n)) (acted Boots n) (slice_set m.content 0 bytes) (record v.catalog { home = raised v.catalog.home })
-      (record { name = refl; blocks = refl; volume = refl; slots = refl; journal = refl; boot = refl; greatest = refl; last = refl; directory = refl }) (raised_catalog v n m bytes apart stand keeps sound));
+      (record { name = refl; blocks = refl; volume = refl; slots = refl; journal = refl; boot = refl; greatest = refl; last = refl; units = refl; directory = refl }) (raised_catalog v n m bytes apart stand keeps sound));
   changes = changes.boots n;
 }
 
@@ -285,5 +318,5 @@ raise_fell v n d bytes after k apart stand keeps idle holds sound at is tells le
     told = subst (λ j. TellsCatalog j c) is (subst (λ o. IfSome o (TellsCatalog k)) is_after tells)
 
     taken : IsVolumeOf c (acted Boots (fallen (Some Boots) n))
-    taken = volume_same (acted Boots (fallen (Some Boots) n)) (acted Boots n) c (record { name = refl; blocks = refl; volume = refl; slots = refl; journal = refl; boot = refl; greatest = refl; last = refl; directory = refl })
+    taken = volume_same (acted Boots (fallen (Some Boots) n)) (acted Boots n) c (record { name = refl; blocks = refl; volume = refl; slots = refl; journal = refl; boot = refl; greatest = refl; last = refl; units = refl; directory = refl })
         (record { catalog = record v.catalog { home = raised v.catalog.home }; tells = told; sound = rw (m.booting.name_is, m.booting.blocks) (raised_sound _ _ v.catalog sound); has = raised_catalog v n m bytes apart stand keeps sound })

@@ -1,5 +1,5 @@
--- What lines tell of a disk.
-use Rattle.std.proofs.Common.{◌≡◌, ℕ, List, [], ◌∷◌, ◌++◌, Option, Some, None, IfSome, if◌then◌else◌, refl, sym, ap, subst, ◌∙◌, arith}
+-- What lines tell of a node and its disk.
+use Rattle.std.proofs.Common.{◌≡◌, ℕ, List, [], ◌∷◌, ◌++◌, Bool, true, false, Option, Some, None, IfSome, if◌then◌else◌, refl, sym, ap, subst, ◌∙◌, arith}
 use Rattle.std.specs.List.{AllByRecursion}
 use Rattle.block_disk.specs.Disk.{DiskState, CallLog, armed, noted}
 use Rattle.block_disk.specs.declared.disk.DiskCall.TheVariants as disk_call
@@ -16,14 +16,16 @@ use Rattle.script_lang.specs.Statements.{request_of}
 use Rattle.vms_model.specs.Transactions.{Outcome, Commit, Abort, Reason}
 use Rattle.volume_format.specs.declared.home.Home.{Home}
 use Rattle.run_model.specs.Answers.{last_line}
+use Rattle.run_model.specs.Said.{SaidNode, SaidShared}
 use Rattle.run_model.specs.Steps.{count_of}
-use Rattle.run_model.specs.World.{Settlement}
-use Rattle.dtm_node.specs.Keeping.{IsToUp}
+use Rattle.run_model.specs.World.{Label, Settlement}
+use Rattle.dtm_node.specs.Keeping.{IsToUp, sharing}
 use Rattle.dtm_node.specs.Nodes.{Passes, last_lines_of, place_armed}
 use Rattle.dtm_node.specs.Standing.{Place, IsCounted, IsDown, IsRunning, counts_of, disk_in, last_of}
 use Rattle.dtm_node.specs.Uses.{Goes}
-use Rattle.dtm_node.specs.Calling.{ShowsFine, Replies, HasRisen, Answers, AnswersAt, IsBootRefusal, answer_in, calls_after}
+use Rattle.dtm_node.specs.Calling.{FailsIn, FollowsLines, ShowsFine, IsPlain, Replies, RepliesTo, HasRisen, Answers, IsBootRefusal, answer_in, calls_after, has_powered, is_up, said_down, said_node, said_shared, said_up}
 use Rattle.node_files.specs.Forms.{IsFine}
+use Rattle.dtm_node.proofs.Following.{fallen_said, follows_down, follows_other, follows_refused, to_up}
 use Rattle.dtm_node.proofs.Passing.{goes_passes}
 
 -- Lines without a failure.
@@ -50,17 +52,18 @@ answer_behind_two [] k l = refl
 answer_behind_two (j ∷ []) k l = refl
 answer_behind_two (j ∷ m ∷ ls) k l = answer_behind_two (m ∷ ls) k l
 
-pub replies_after : (a b c : Shown) (l : Line) → ShowsFine a b → Emits b (l ∷ []) c → IsFine l → Replies a c
+pub replies_after : (a b c : Shown) (l : Line) → ShowsFine a b → Emits b (l ∷ []) c → IsPlain l → Replies a c
 replies_after a b c l s m e = record {
-  shows = record { lines = s.lines ++ l ∷ []; emits = emits_on a b c _ _ s.emits m; fine = all_behind IsFine s.lines (l ∷ []) s.fine (e, tt) };
+  shows = record { lines = s.lines ++ l ∷ []; emits = emits_on a b c _ _ s.emits m; fine = all_behind IsFine s.lines (l ∷ []) s.fine (e.0, tt) };
   answer = l;
   answered = answer_behind s.lines l;
+  other = e.1;
 }
 
-pub replies_one : (a b : Shown) (l : Line) → Emits a (l ∷ []) b → IsFine l → Replies a b
+pub replies_one : (a b : Shown) (l : Line) → Emits a (l ∷ []) b → IsPlain l → Replies a b
 replies_one a b l m e = replies_after a a b l (fine_none a a (emits_nothing a)) m e
 
-pub replies_two : (a b c : Shown) (l k : Line) → Emits a (l ∷ []) b → Emits b (k ∷ []) c → IsFine l → IsFine k → Replies a c
+pub replies_two : (a b c : Shown) (l k : Line) → Emits a (l ∷ []) b → Emits b (k ∷ []) c → IsFine l → IsPlain k → Replies a c
 replies_two a b c l k m q e f = replies_after a b c k (record { lines = l ∷ []; emits = m; fine = (e, tt) }) q f
 
 -- the last settlement of a home
@@ -85,48 +88,59 @@ risen_fine old new (l ∷ ls) h = (subst (λ o. IfSome o (λ cause. Rose (count_
 passes_nowhere : (d : DiskState) → Passes d d
 passes_nowhere d = record { size = refl; faults = λ h. omega arith; stops = λ h. omega arith; counted = λ h. h; told = refl }
 
--- a disk that these calls changed
-pub answers_reply : (q : Request) (a b : Shown) (old new : DiskState) (r : Replies a b) → new.calls ≡ calls_after q r.answer old.stops old.calls → Passes old new → Answers q a b old new
-answers_reply q a b old new r calls passes = record {
-  lines = r.shows.lines;
-  emits = r.shows.emits;
-  tells = record { answer = r.answer; answered = r.answered; calls = calls; failures = λ h. risen_fine old new r.shows.lines r.shows.fine; passes = passes };
+-- an answer behind events
+pub answers_after : (q : Request) (l : Line) (a mid b : Shown) (old new : DiskState) (s after : SaidShared) (n m : SaidNode) → ShowsFine a mid → Emits mid (l ∷ []) b → IsFine l → new.calls ≡ calls_after q l old.stops old.calls → Passes old new →
+    ((lines : List Line) → FollowsLines q lines l s after n m) → Answers q a b old new s after n m
+answers_after q l a mid b old new s after n m shows emits fine calls passes follows = record {
+  lines = shows.lines ++ l ∷ [];
+  emits = emits_on a mid b _ _ shows.emits emits;
+  tells = record { answer = l; answered = answer_behind shows.lines l; calls = calls; failures = λ h. risen_fine old new _ (all_behind IsFine shows.lines (l ∷ []) shows.fine (fine, tt)); passes = passes };
+  follows = follows (shows.lines ++ l ∷ []);
 }
 
--- an answer behind events
-pub answers_after : (q : Request) (l : Line) (a mid b : Shown) (old new : DiskState) → ShowsFine a mid → Emits mid (l ∷ []) b → IsFine l → new.calls ≡ calls_after q l old.stops old.calls → Passes old new → Answers q a b old new
-unfolding replies_after
-answers_after q l a mid b old new s m fine calls passes = answers_reply q a b old new (replies_after a mid b l s m fine) calls passes
+-- one line
+pub answers_one : (q : Request) (l : Line) (a b : Shown) (old new : DiskState) (s after : SaidShared) (n m : SaidNode) → Emits a (l ∷ []) b → IsFine l → new.calls ≡ calls_after q l old.stops old.calls → Passes old new → FollowsLines q (l ∷ []) l s after n m →
+    Answers q a b old new s after n m
+answers_one q l a b old new s after n m emits fine calls passes follows = record {
+  lines = l ∷ [];
+  emits = emits;
+  tells = record { answer = l; answered = refl; calls = calls; failures = λ h. risen_fine old new (l ∷ []) (fine, tt); passes = passes };
+  follows = follows;
+}
 
-pub answers_one : (q : Request) (l : Line) (a b : Shown) (old new : DiskState) → Emits a (l ∷ []) b → IsFine l → new.calls ≡ calls_after q l old.stops old.calls → Passes old new → Answers q a b old new
-answers_one q l a b old new m fine calls passes = answers_after q l a a b old new (fine_none a a (emits_nothing a)) m fine calls passes
+-- what was said of a node in the same place
+pub said_place : (name : List ℕ) (unmade : Bool) (p q : Place) → p ≡ q → said_node (record { name = name; unmade = unmade; place = p }) ≡ said_node (record { name = name; unmade = unmade; place = q })
+said_place name unmade p q e = ap (λ (x : Place). said_node (record { name = name; unmade = unmade; place = x })) e
 
--- a disk under another name
-pub answers_at : (q : Request) (a b : Shown) (old new old' new' : DiskState) → old' ≡ old → new' ≡ new → Answers q a b old new → Answers q a b old' new'
-answers_at q a b old new old' new' e f h = subst (λ d. Answers q a b d new') (sym e) (subst (λ d. Answers q a b old d) (sym f) h)
+-- a node and its disk under other names
+pub answers_at : (q : Request) (a b : Shown) (old new old' new' : DiskState) (s after : SaidShared) (n m n' m' : SaidNode) → old' ≡ old → new' ≡ new → n' ≡ n → m' ≡ m → Answers q a b old new s after n m → Answers q a b old' new' s after n' m'
+answers_at q a b old new old' new' s after n m n' m' e f g k h =
+    subst (λ d. Answers q a b d new' s after n' m') (sym e) (subst (λ d. Answers q a b old d s after n' m') (sym f) (subst (λ x. Answers q a b old new s after x m') (sym g) (subst (λ x. Answers q a b old new s after n x) (sym k) h)))
 
 -- one line, and no call
-pub answers_same : (q : Request) (l : Line) (a b : Shown) (old new : DiskState) → new ≡ old → Emits a (l ∷ []) b → IsFine l → calls_after q l old.stops old.calls ≡ old.calls → Answers q a b old new
-answers_same q l a b old new is m fine calls = subst (λ d. Answers q a b old d) (sym is) (answers_one q l a b old old m fine (sym calls) (passes_nowhere old))
+pub answers_same : (q : Request) (l : Line) (a b : Shown) (old new : DiskState) (s : SaidShared) (n m : SaidNode) → new ≡ old → m ≡ n → Emits a (l ∷ []) b → IsFine l → calls_after q l old.stops old.calls ≡ old.calls → FollowsLines q (l ∷ []) l s s n n → Answers q a b old new s s n m
+answers_same q l a b old new s n m is same emits fine calls follows =
+    subst (λ x. Answers q a b old new s s n x) (sym same) (subst (λ d. Answers q a b old d s s n n) (sym is) (answers_one q l a b old old s s n n emits fine (sym calls) (passes_nowhere old) follows))
 
 -- the node goes down
-pub answers_fell : (q : Request) (name : List ℕ) (cause : Cause) (a mid b : Shown) (old new : DiskState) → ShowsFine a mid → Emits mid (line.Down name cause ∷ line.Broken cause ∷ []) b → new.calls ≡ calls_after q (line.Broken cause) old.stops old.calls →
-    (IsCounted old → Rose (count_of cause (counts_of old)) (count_of cause (counts_of new))) → Passes old new → Answers q a b old new
-answers_fell q name cause a mid b old new s m calls rose passes = record {
-  lines = s.lines ++ line.Down name cause ∷ line.Broken cause ∷ [];
-  emits = emits_on a mid b _ _ s.emits m;
+pub answers_fell : (q : Request) (name : List ℕ) (cause : Cause) (a mid b : Shown) (old new : DiskState) (s after : SaidShared) (n m : SaidNode) → ShowsFine a mid → Emits mid (line.Down name cause ∷ line.Broken cause ∷ []) b → new.calls ≡ calls_after q (line.Broken cause) old.stops old.calls →
+    (IsCounted old → Rose (count_of cause (counts_of old)) (count_of cause (counts_of new))) → Passes old new → ((lines : List Line) → FollowsLines q lines (line.Broken cause) s after n m) → Answers q a b old new s after n m
+answers_fell q name cause a mid b old new s after n m shows emits calls rose passes follows = record {
+  lines = shows.lines ++ line.Down name cause ∷ line.Broken cause ∷ [];
+  emits = emits_on a mid b _ _ shows.emits emits;
   tells = record {
     answer = line.Broken cause;
-    answered = answer_behind_two s.lines (line.Down name cause) (line.Broken cause);
+    answered = answer_behind_two shows.lines (line.Down name cause) (line.Broken cause);
     calls = calls;
-    failures = λ h. all_behind (HasRisen old new) s.lines _ (risen_fine old new s.lines s.fine) (rose h, (rose h, tt));
+    failures = λ h. all_behind (HasRisen old new) shows.lines _ (risen_fine old new shows.lines shows.fine) (rose h, (rose h, tt));
     passes = passes;
   };
+  follows = follows _;
 }
 
-pub answers_fell_first : (q : Request) (name : List ℕ) (cause : Cause) (a b : Shown) (old new : DiskState) → Emits a (line.Down name cause ∷ line.Broken cause ∷ []) b → new.calls ≡ calls_after q (line.Broken cause) old.stops old.calls →
-    (IsCounted old → Rose (count_of cause (counts_of old)) (count_of cause (counts_of new))) → Passes old new → Answers q a b old new
-answers_fell_first q name cause a b old new m calls rose passes = answers_fell q name cause a a b old new (fine_none a a (emits_nothing a)) m calls rose passes
+pub answers_fell_first : (q : Request) (name : List ℕ) (cause : Cause) (a b : Shown) (old new : DiskState) (s after : SaidShared) (n m : SaidNode) → Emits a (line.Down name cause ∷ line.Broken cause ∷ []) b → new.calls ≡ calls_after q (line.Broken cause) old.stops old.calls →
+    (IsCounted old → Rose (count_of cause (counts_of old)) (count_of cause (counts_of new))) → Passes old new → ((lines : List Line) → FollowsLines q lines (line.Broken cause) s after n m) → Answers q a b old new s after n m
+answers_fell_first q name cause a b old new s after n m emits calls rose passes follows = answers_fell q name cause a a b old new s after n m (fine_none a a (emits_nothing a)) emits calls rose passes follows
 
 -- a statement that a node is up for
 up_calls : (lit : Literals) (r : code.Request) (l : Line) (stops : ℕ) (calls : CallLog) → IsToUp r → calls_after (request_of lit r) l stops calls ≡ calls
@@ -142,16 +156,33 @@ up_calls lit (request.EndTrans label) l stops calls h = refl
 up_calls lit (request.AbortTrans label) l stops calls h = refl
 up_calls lit (request.Dump file) l stops calls h = refl
 
-pub answers_up : (lit : Literals) (r : code.Request) (a b : Shown) (old new : DiskState) → IsToUp r → Replies a b → Goes old new → Answers (request_of lit r) a b old new
-answers_up lit r a b old new asks reply goes = answers_reply (request_of lit r) a b old new reply (goes.calls ∙ sym (up_calls lit r reply.answer old.stops old.calls asks)) (goes_passes old new goes)
+pub answers_up : (lit : Literals) (r : code.Request) (owner : List ℕ) (labels after : List Label) (in_use : Bool) (a b : Shown) (old new : DiskState) → IsToUp r → RepliesTo (request_of lit r) owner labels after a b → Goes old new →
+    Answers (request_of lit r) a b old new (said_shared (sharing labels in_use)) (said_shared (sharing after in_use)) (said_up owner) (said_up owner)
+answers_up lit r owner labels after in_use a b old new asks reply goes = record {
+  lines = reply.shows.lines;
+  emits = reply.shows.emits;
+  tells = record {
+    answer = reply.answer;
+    answered = reply.answered;
+    calls = goes.calls ∙ sym (up_calls lit r reply.answer old.stops old.calls asks);
+    failures = λ h. risen_fine old new reply.shows.lines reply.shows.fine;
+    passes = goes_passes old new goes;
+  };
+  follows = reply.follows in_use;
+}
 
-pub answers_broke : (lit : Literals) (r : code.Request) (name : List ℕ) (cause : Cause) (a mid b : Shown) (old new : DiskState) → IsToUp r → ShowsFine a mid → Emits mid (line.Down name cause ∷ line.Broken cause ∷ []) b → Goes old new →
-    (IsCounted old → Rose (count_of cause (counts_of old)) (count_of cause (counts_of new))) → Answers (request_of lit r) a b old new
-answers_broke lit r name cause a mid b old new asks s m goes rose =
-    answers_fell (request_of lit r) name cause a mid b old new s m (goes.calls ∙ sym (up_calls lit r (line.Broken cause) old.stops old.calls asks)) rose (goes_passes old new goes)
+pub answers_broke : (lit : Literals) (r : code.Request) (name owner : List ℕ) (cause : Cause) (labels after : List Label) (in_use : Bool) (a mid b : Shown) (old new : DiskState) → IsToUp r → FailsIn (request_of lit r) owner labels after a mid →
+    Emits mid (line.Down name cause ∷ line.Broken cause ∷ []) b → Goes old new → (IsCounted old → Rose (count_of cause (counts_of old)) (count_of cause (counts_of new))) →
+    Answers (request_of lit r) a b old new (said_shared (sharing labels in_use)) (said_shared (sharing after in_use)) (said_up owner) (said_down owner false)
+answers_broke lit r name owner cause labels after in_use a mid b old new asks fails emits goes rose =
+    let said = fallen_said (request_of lit r) cause owner (said_shared (sharing labels in_use)) (to_up lit r asks) in
+    answers_fell (request_of lit r) name cause a mid b old new _ _ _ _ fails.shows emits (goes.calls ∙ sym (up_calls lit r (line.Broken cause) old.stops old.calls asks)) rose (goes_passes old new goes)
+    (λ lines. follows_other (request_of lit r) lines (line.Broken cause) _ _ _ _ (fails.unrefused in_use) refl said.0 (ap (λ (ls : List Label). said_shared (sharing ls in_use)) fails.same ∙ said.1))
 
-pub answers_down : (lit : Literals) (r : code.Request) (a b : Shown) (old new : DiskState) → IsToUp r → new ≡ old → Emits a (line.NodeDown ∷ []) b → Answers (request_of lit r) a b old new
-answers_down lit r a b old new asks is m = answers_same (request_of lit r) line.NodeDown a b old new is m refl (up_calls lit r line.NodeDown old.stops old.calls asks)
+pub answers_down : (lit : Literals) (r : code.Request) (owner : List ℕ) (unmade : Bool) (s : SaidShared) (a b : Shown) (d : DiskState) → IsToUp r → Emits a (line.NodeDown ∷ []) b →
+    Answers (request_of lit r) a b d d s s (said_down owner unmade) (said_down owner unmade)
+answers_down lit r owner unmade s a b d asks emits =
+    answers_one (request_of lit r) line.NodeDown a b d d s s _ _ emits refl (sym (up_calls lit r line.NodeDown d.stops d.calls asks)) (passes_nowhere d) (follows_down (request_of lit r) s owner unmade (to_up lit r asks))
 
 -- FUSE, CRASH and BOOT
 
@@ -159,21 +190,46 @@ armed_disk : (writes choice : ℕ) (p : Place) → disk_in (place_armed writes c
 armed_disk writes choice (IsDown has_parts d) = refl
 armed_disk writes choice (IsRunning r) = refl
 
-pub answers_fuse : (writes choice : ℕ) (a b : Shown) (p q : Place) → q ≡ place_armed writes choice p → Emits a (line.Normal ∷ []) b → Answers (Fuse writes choice) a b (disk_in p) (disk_in q)
-answers_fuse writes choice a b p q is m =
-    subst (λ d. Answers (Fuse writes choice) a b (disk_in p) d) (sym (ap disk_in is ∙ armed_disk writes choice p))
-    (answers_one (Fuse writes choice) line.Normal a b (disk_in p) (armed writes choice (disk_in p)) m refl refl (record { size = refl; faults = λ h. omega arith; stops = λ h. omega arith; counted = λ h. h; told = refl }))
+armed_up : (writes choice : ℕ) (p : Place) → is_up (place_armed writes choice p) ≡ is_up p
+armed_up writes choice (IsDown has_parts d) = refl
+armed_up writes choice (IsRunning r) = refl
 
-pub answers_crash : (name : List ℕ) (a mid b : Shown) (old new : DiskState) → new ≡ old → Emits a (line.Crashed name ∷ []) mid → Emits mid (line.Normal ∷ []) b → Answers Crash a b old new
-answers_crash name a mid b old new is m q = subst (λ d. Answers Crash a b old d) (sym is) (answers_after Crash line.Normal a mid b old old (record { lines = line.Crashed name ∷ []; emits = m; fine = (refl, tt) }) q refl refl (passes_nowhere old))
+pub answers_fuse : (writes choice : ℕ) (name : List ℕ) (unmade : Bool) (s : SaidShared) (a b : Shown) (p q : Place) → q ≡ place_armed writes choice p → Emits a (line.Normal ∷ []) b →
+    Answers (Fuse writes choice) a b (disk_in p) (disk_in q) s s (record { name = name; up = is_up p; unmade = unmade }) (record { name = name; up = is_up q; unmade = unmade })
+answers_fuse writes choice name unmade s a b p q is emits =
+    answers_at (Fuse writes choice) a b (disk_in p) (armed writes choice (disk_in p)) (disk_in p) (disk_in q) s s _ _ _ _ refl (ap disk_in is ∙ armed_disk writes choice p) refl
+    (ap (λ (x : Bool). record { name = name; up = x; unmade = unmade }) (ap is_up is ∙ armed_up writes choice p))
+    (answers_one (Fuse writes choice) line.Normal a b (disk_in p) (armed writes choice (disk_in p)) s s _ _ emits refl refl (record { size = refl; faults = λ h. omega arith; stops = λ h. omega arith; counted = λ h. h; told = refl })
+    (follows_other (Fuse writes choice) (line.Normal ∷ []) line.Normal s s (record { name = name; up = is_up p; unmade = unmade }) (record { name = name; up = is_up p; unmade = unmade }) refl refl refl refl))
+
+pub answers_crash : (name owner : List ℕ) (unmade : Bool) (s : SaidShared) (a mid b : Shown) (d : DiskState) → Emits a (line.Crashed name ∷ []) mid → Emits mid (line.Normal ∷ []) b →
+    Answers Crash a b d d s s (record { name = owner; up = true; unmade = unmade }) (said_down owner unmade)
+answers_crash name owner unmade s a mid b d first emits =
+    answers_after Crash line.Normal a mid b d d s s _ _ (record { lines = line.Crashed name ∷ []; emits = first; fine = (refl, tt) }) emits refl refl (passes_nowhere d) (λ lines. follows_other Crash lines line.Normal s s _ _ refl refl refl refl)
+
+-- one that is down
+pub crash_down : (owner : List ℕ) (unmade : Bool) (s : SaidShared) (a b : Shown) (d : DiskState) → Emits a (line.NodeDown ∷ []) b → Answers Crash a b d d s s (said_down owner unmade) (said_down owner unmade)
+crash_down owner unmade s a b d emits = answers_one Crash line.NodeDown a b d d s s _ _ emits refl refl (passes_nowhere d) (follows_refused Crash line.NodeDown s (said_down owner unmade) refl refl refl)
+
+boot_powered : (l : Line) → IsBootRefusal l → has_powered Boot l ≡ true
+boot_powered (line.NoVolume node condition block) h = refl
+boot_powered (line.QuotaExceeded quota limit) h = refl
+boot_powered _ h = let none : ⊥ = cc in absurd none
+
+pub boot_fine : (l : Line) → IsBootRefusal l → IsFine l
+boot_fine (line.NoVolume node condition block) h = refl
+boot_fine (line.QuotaExceeded quota limit) h = refl
+boot_fine _ h = let none : ⊥ = cc in absurd none
 
 pub boot_calls : (l : Line) (old new : DiskState) → IsBootRefusal l → new.calls ≡ noted (disk_call.Power old.stops) old.calls → new.calls ≡ calls_after Boot l old.stops old.calls
-boot_calls l old new r is = is ∙ ap (λ t. if t then noted (disk_call.Power old.stops) old.calls else old.calls) (sym r.powered)
+boot_calls l old new r is = is ∙ ap (λ t. if t then noted (disk_call.Power old.stops) old.calls else old.calls) (sym (boot_powered l r))
 
--- At the node of this name, or at another.
+-- a BOOT that is refused once its disk runs again leaves what was said
+pub boot_follows : (l : Line) (s : SaidShared) (name : List ℕ) (lines : List Line) → IsBootRefusal l → FollowsLines Boot lines l s s (said_down name false) (said_down name false)
+boot_follows (line.NoVolume node condition block) s name lines h = follows_other Boot lines (line.NoVolume node condition block) s s _ _ refl refl refl refl
+boot_follows (line.QuotaExceeded quota limit) s name lines h = follows_other Boot lines (line.QuotaExceeded quota limit) s s _ _ refl refl refl refl
+boot_follows _ s name lines h = let none : ⊥ = cc in absurd none
 
-pub answers_here : (name : List ℕ) (q : Request) (a b : Shown) (old new : DiskState) → Answers q a b old new → AnswersAt name (At name q) a b old new
-answers_here name q a b old new h = record { lines = h.lines; emits = h.emits; tells = record { here = λ e. h.tells; elsewhere = λ other. absurd (other refl) } }
-
-pub answers_elsewhere : (name other : List ℕ) (q : Request) (a b : Shown) (d : DiskState) → (other ≡ name → ⊥) → Emits a (line.NoSuchNode ∷ []) b → AnswersAt name (At other q) a b d d
-answers_elsewhere name other q a b d apart m = record { lines = line.NoSuchNode ∷ []; emits = m; tells = record { here = λ e. absurd (apart e); elsewhere = λ _. refl } }
+-- one in which the disk went down
+pub boot_fell_follows : (cause : Cause) (s : SaidShared) (name : List ℕ) (lines : List Line) → FollowsLines Boot lines (line.Broken cause) s (record s { in_use = true }) (said_down name false) (said_down name false)
+boot_fell_follows cause s name lines = follows_other Boot lines (line.Broken cause) s (record s { in_use = true }) (said_down name false) (said_down name false) refl refl refl refl

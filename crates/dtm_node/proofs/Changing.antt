@@ -163,8 +163,8 @@ update_takes kept.Relative h c key x bytes fits form there other free = tt
 update_takes kept.Indexed h c key x bytes fits form there other free = inr (let within = form.within in omega (arith, within, free))
 
 update_needs : (laws : TheLaws) (o : Organization) (c : List (List ℕ)) (h : FileHead) (file : File) (key : Key) (bytes : List ℕ) → h.organization ≡ o → IsFile c h file → need_of file (Update key bytes) ≡ (if is_indexed o then any.asks h c (length bytes) else 0)
-update_needs laws kept.Sequential c h file key bytes is at = ap update_need (at.organization ∙ ap (λ o. organized_by o h) is)
-update_needs laws kept.Relative c h file key bytes is at = ap update_need (at.organization ∙ ap (λ o. organized_by o h) is)
+update_needs laws kept.Sequential c h file key bytes is at = ap (λ o. update_need o file) (at.organization ∙ ap (λ o. organized_by o h) is)
+update_needs laws kept.Relative c h file key bytes is at = ap (λ o. update_need o file) (at.organization ∙ ap (λ o. organized_by o h) is)
 update_needs laws kept.Indexed c h file key bytes is at = laws.reads.update c h file key bytes at is
 
 pub update_sets : (laws : TheLaws) (c : List (List ℕ)) (h : FileHead) (key : Key) (x bytes : List ℕ) → any.IsFile h → refused_by_form h (Update key bytes) ≡ None → map_of h c key ≡ Some x → other_refused (organized_by h.organization h) key x bytes ≡ None →

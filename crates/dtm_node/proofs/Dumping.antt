@@ -1,6 +1,6 @@
 -- DUMP.
-use Rattle.std.proofs.Common.{◌≡◌, ℕ, zero, suc, ◌+◌, ◌*◌, ◌^◌, ◌<◌, ◌≤◌, List, [], ◌∷◌, ◌++◌, Bool, false, Option, Some, None, Result, Ok, Err, MatchResult, OnOk, length, take, refl, sym, ◌∙◌, ap, subst, arith}
-use Rattle.std.specs.Prelude.{◌||◌, map}
+use Rattle.std.proofs.Common.{◌≡◌, ℕ, zero, suc, ◌+◌, ◌*◌, ◌^◌, ◌<◌, ◌≤◌, List, [], ◌∷◌, ◌++◌, false, Option, Some, None, Result, Ok, Err, MatchResult, OnOk, length, take, refl, sym, ◌∙◌, ap, subst, arith}
+use Rattle.std.specs.Prelude.{map}
 use Rattle.std.proofs.lemmas.List.{length-map}
 use Rattle.std.specs.FinMap.{get, entries}
 use Rattle.block_disk.specs.Blocks.{block_at}
@@ -15,13 +15,12 @@ use Rattle.transcript_model.specs.Lines as line
 use Rattle.transcript_model.specs.Emitting.{Shown, Emits}
 use Rattle.transcript_model.proofs.EmittingLemmas.{emits_on}
 use Rattle.vms_model.specs.Keys.{Key}
-use Rattle.script_model.specs.Statements.{At, Dump}
+use Rattle.script_model.specs.Statements.{Dump}
 use Rattle.records_model.specs.Records.{Records}
 use Rattle.records_model.specs.History.{current}
-use Rattle.run_model.specs.World.{World, Label, fallen, with_node}
-use Rattle.run_model.specs.Answers.{Row, shown_record, records_of, early_up}
-use Rattle.run_model.specs.Steps.{Step, lines_of_rows, after_rows, occupied}
-use Rattle.run_model.proofs.StepLemmas.{none_falls_same}
+use Rattle.run_model.specs.World.{Shared, Node, fallen}
+use Rattle.run_model.specs.Answers.{Row, shown_record, records_of, refused_where_served}
+use Rattle.run_model.specs.Steps.{NodeStep, Serves as Asks, lines_of_rows, node_after_rows, shared_after_rows}
 use Rattle.directory_model.specs.Files.{IsNamed, IsShown}
 use Rattle.directory_model.specs.Laws.{ShowsRecords}
 use Rattle.dtm_node.specs.Listing.{record_line, ShowsSome, Shows}
@@ -29,8 +28,10 @@ use Rattle.dtm_node.specs.Standing.{Up, IsUp, StandsFor, counts_of}
 use Rattle.dtm_node.specs.Keeping.{Serves, Breaks, locker_of}
 use Rattle.dtm_node.specs.Uses.{Uses, cause_of}
 use Rattle.dtm_node.specs.TheLaws.{TheLaws}
-use Rattle.dtm_node.proofs.UsesLemmas.{rose_of}
-use Rattle.dtm_node.proofs.UpLemmas.{kept, dropped, disk_up, tells_now, early_here, late_here, rows_here, answer_here, changed_here, rose_here, falls_here, step_done, step_failed, case_some, read_down, renamed}
+use Rattle.dtm_node.proofs.UsesLemmas.{goes_nowhere, rose_of}
+use Rattle.dtm_node.proofs.Fronts.{case_some}
+use Rattle.dtm_node.proofs.StepLemmas.{step_done, step_failed}
+use Rattle.dtm_node.proofs.UpLemmas.{kept, dropped, disk_up, before_here, fallen_stands, tells_now, read_down, renamed}
 use Rattle.dtm_node.proofs.Groups.{standing_of}
 use Rattle.node_files.proofs.CatalogLemmas.{fits_at, head_below, placed}
 use Rattle.dtm_node.proofs.Files.{Found, found_file, wants_free}
@@ -71,9 +72,13 @@ lines_shown : (es : List (Key × List ℕ)) → lines_of_rows (map shown_record 
 lines_shown [] = refl
 lines_shown (e ∷ es) = ap (λ t. line.Record e.0 e.1 ∷ t) (lines_shown es)
 
-leaves_world : (node : List ℕ) (es : List (Key × List ℕ)) (w : World) → after_rows node (map shown_record es) w ≡ w
-leaves_world node [] w = refl
-leaves_world node (e ∷ es) w = leaves_world node es w
+leaves_node : (es : List (Key × List ℕ)) (n : Node) → node_after_rows (map shown_record es) n ≡ n
+leaves_node [] n = refl
+leaves_node (e ∷ es) n = leaves_node es n
+
+leaves_shared : (es : List (Key × List ℕ)) (s : Shared) → shared_after_rows (map shown_record es) s ≡ s
+leaves_shared [] s = refl
+leaves_shared (e ∷ es) s = leaves_shared es s
 
 take_shown : (n : ℕ) (es : List (Key × List ℕ)) → take n (map shown_record es) ≡ map shown_record (take n es)
 take_shown zero es = refl
@@ -91,92 +96,71 @@ used_few start alloc bucket used size one to fits most = let grown = alloc_few a
     alloc_few zero (suc b) p = omega arith
     alloc_few (suc a) (suc b) p = let rest = alloc_few a (suc b) p in omega (arith, rest)
 
-module _ (log : CallLog) (w : World) (name : List ℕ) (u : Up) (labels : List Label) (h : StandsFor log (kept name u labels) w) (laws : TheLaws) (file : List ℕ) (f : ℕ) (head : FileHead) (named : IsNamed u.volume.catalog.heads f head file) (free : locker_of u.branch f ≡ None) where
-  abbrev found_here : Found u h.node h.place.content file f head
-  found_here = found_file u h.node file f head h.place laws.finds named
+module _ (log : CallLog) (shared : Shared) (n : Node) (name : List ℕ) (u : Up) (h : StandsFor log (kept name u) n) (laws : TheLaws) (file : List ℕ) (f : ℕ) (head : FileHead) (named : IsNamed u.volume.catalog.heads f head file) (free : locker_of u.branch f ≡ None) where
+  abbrev found_here : Found u n h.place.content file f head
+  found_here = found_file u n file f head h.place laws.finds named
 
   abbrev records_here : Records
   records_here = current found_here.file.history
 
-  listed_here : records_of h.node file ≡ entries records_here
+  listed_here : records_of n file ≡ entries records_here
   listed_here = case_some _ (λ f. entries (current f.history)) [] found_here.file found_here.at.found
 
   -- they are as many as numbers of 32 bits tell
   few_here : IsUp name u → length (entries records_here) ≤ 4294967295
   few_here up =
       let v = u.volume.catalog in
-      let st = standing_of log w name u labels h up in
+      let st = standing_of log n name u h up in
       let long = h.place.has.files.heads_long in
-      let tells = (tells_now name u h.node st).heads f (head_below v.heads f head long named.there) in
+      let tells = (tells_now name u n st).heads f (head_below v.heads f head long named.there) in
       let ranges : TellsEntry (block_at h.place.content (1 + f)) (Some head) = subst (TellsEntry (block_at h.place.content (1 + f))) named.there tells in
       let lies = placed name v f head (disk_up u) laws.apart long up.sound up.most named.there in
       laws.reads.few h.place.content head found_here.file found_here.is (numbers_few head.mrn ranges.ranges.form.mrn) lies.blocks (used_few head.start head.alloc head.bucket head.used (disk_up u).size lies.one lies.to lies.fits (fits_at name (disk_up u).size v f head long up.sound named.there).buckets.most)
 
-  dump_early : early_up w h.node (Dump file) ≡ None
-  dump_early = wants_free u h.node file f head h.place laws named free
+  dump_early : refused_where_served shared n (Dump file) ≡ None
+  dump_early = wants_free u n file f head h.place laws named free
 
-  pub dump_done : (new : Up) (a b : Shown) → IsUp name u → ((m : Records) → length (entries m) ≤ 4294967295 → ((k : Key) → get m k ≡ map_of head h.place.content k) → Shows (Ok tt) m a b) → new ≡ u → Serves log w (At name (Dump file)) a b (kept name new labels)
+  pub dump_done : (new : Up) (a b : Shown) → IsUp name u → ((m : Records) → length (entries m) ≤ 4294967295 → ((k : Key) → get m k ≡ map_of head h.place.content k) → Shows (Ok tt) m a b) → new ≡ u → Serves log shared n (counts_of (disk_up u)) (Dump file) a b (kept name new) shared
   dump_done new a b up shows same =
       let s = shows records_here (few_here up) found_here.is.records in
       let es = entries records_here in
-      let step = step_done w (At name (Dump file)) (map shown_record es) (line.NormalCount (length es)) w.disks refl (early_here log w name u labels h (Dump file) ∙ dump_early) (late_here log w name u labels h (Dump file))
-      (rows_here log w name u labels h (Dump file) ∙ ap (map shown_record) listed_here) (answer_here log w name u labels h (Dump file) ∙ ap (λ rs. line.NormalCount (length rs)) listed_here) (none_falls_same w.disks) in
+      let still = goes_nowhere (disk_up u) in
+      let step = step_done shared n (Dump file) (counts_of (disk_up u)) (counts_of (disk_up u)) (still.faults h.counts) (still.stops h.counts) refl (before_here log shared n name u h (Dump file) ∙ dump_early) (map shown_record es) (line.NormalCount (length es)) refl
+      (ap (map shown_record) listed_here) refl (ap (λ rs. line.NormalCount (length rs)) listed_here) refl in
+      subst (λ v. Serves log shared n (counts_of (disk_up u)) (Dump file) a b (kept name v) shared) (sym same)
       record {
-        lines = map record_line es ++ line.NormalCount (length es) ∷ [];
-        world = record (occupied (At name (Dump file)) w) { disks = w.disks };
-        step = subst (λ v. Step w (At name (Dump file)) (map record_line es ++ line.NormalCount (length es) ∷ []) (record (occupied (At name (Dump file)) v) { disks = w.disks })) (leaves_world name es w)
-            (subst (λ ls. Step w (At name (Dump file)) (ls ++ line.NormalCount (length es) ∷ []) (record (occupied (At name (Dump file)) (after_rows name (map shown_record es) w)) { disks = w.disks })) (lines_shown es) step);
+        lines = map record_line es;
+        answer = line.NormalCount (length es);
+        node = n;
+        step = subst (λ ls. NodeStep shared n (counts_of (disk_up u)) (Asks (Dump file)) ls (line.NormalCount (length es)) n shared (counts_of (disk_up u))) (lines_shown es)
+            (subst (λ m. NodeStep shared n (counts_of (disk_up u)) (Asks (Dump file)) (lines_of_rows (map shown_record es)) (line.NormalCount (length es)) m shared (counts_of (disk_up u))) (leaves_node es n)
+            (subst (λ t. NodeStep shared n (counts_of (disk_up u)) (Asks (Dump file)) (lines_of_rows (map shown_record es)) (line.NormalCount (length es)) (node_after_rows (map shown_record es) n) t (counts_of (disk_up u))) (leaves_shared es shared) step));
         emits = emits_on a s.0 b _ _ s.1 s.2;
-        stands = subst (λ v. StandsFor log (kept name v labels) (record (occupied (At name (Dump file)) w) { disks = w.disks })) (sym same) (record {
-          node = h.node;
-          nodes = h.nodes;
-          disks = h.disks;
-          labels = h.labels;
-          in_use = ap (λ (b : Bool). b || false) h.in_use;
-          name = h.name;
-          blocks = h.blocks;
-          clock = h.clock;
-          unknown = h.unknown;
-          place = h.place;
-          calls = h.calls;
-          counts = h.counts;
-        });
+        stands = h;
       }
 
   pub dump_broken : {T : Type 0} (r : Result T Down) (e : Down) (d : DiskState) (a b : Shown) → IsUp name u → r ≡ Err e → d ≡ answered r (disk_up u) → Uses r (disk_up u) d → ((m : Records) → length (entries m) ≤ 4294967295 → ((k : Key) → get m k ≡ map_of head h.place.content k) → Shows (Err e) m a b) →
-      Breaks log w (At name (Dump file)) name e a b (dropped name labels d)
+      Breaks log shared n (counts_of (disk_up u)) (Dump file) name e a b (dropped name d) shared
   dump_broken r e d a b up is at uses shows =
       let s = shows records_here (few_here up) found_here.is.records in
       let es = entries records_here in
-      let done = s.0 in
-      let lines = lines_of_rows (take done (map shown_record es)) in
-      let shown : lines ≡ map record_line (take done es) = ap lines_of_rows (take_shown done es) ∙ lines_shown (take done es) in
-      let v = after_rows name (take done (map shown_record es)) w in
-      let same : v ≡ w = ap (λ rs. after_rows name rs w) (take_shown done es) ∙ leaves_world name (take done es) w in
-      let step = step_failed w (At name (Dump file)) (map shown_record es) done false (cause_of e) (counts_of d ∷ []) refl (early_here log w name u labels h (Dump file) ∙ dump_early) (late_here log w name u labels h (Dump file))
-      (rows_here log w name u labels h (Dump file) ∙ ap (map shown_record) listed_here) refl (rw (length-map {A = Key × List ℕ} {B = Row}) s.1) (rose_here log w name u labels h (cause_of e) (counts_of d) (rose_of r e (disk_up u) d is uses h.counts)) (falls_here log w name u labels h d uses.goes) in
+      let rows = take s.0 (map shown_record es) in
+      let said : lines_of_rows rows ≡ map record_line (take s.0 es) = ap lines_of_rows (take_shown s.0 es) ∙ lines_shown (take s.0 es) in
+      let same : node_after_rows rows n ≡ n = ap (λ rs. node_after_rows rs n) (take_shown s.0 es) ∙ leaves_node (take s.0 es) n in
+      let still : shared_after_rows rows shared ≡ shared = ap (λ rs. shared_after_rows rs shared) (take_shown s.0 es) ∙ leaves_shared (take s.0 es) shared in
+      let step = step_failed shared n (Dump file) (counts_of (disk_up u)) (counts_of d) (uses.goes.faults h.counts) (uses.goes.stops h.counts) refl (before_here log shared n name u h (Dump file) ∙ dump_early) (map shown_record es) s.0 false (cause_of e) refl
+      (ap (map shown_record) listed_here) refl (rw (length-map {A = Key × List ℕ} {B = Row}) s.1) (rose_of r e (disk_up u) d is uses h.counts) refl in
       record {
-        lines = lines;
-        world = record (occupied (At name (Dump file)) (record w { nodes = with_node name (fallen None) w.nodes })) { disks = counts_of d ∷ [] };
-        step = subst (λ x. Step w (At name (Dump file)) (lines ++ line.Down name (cause_of e) ∷ line.Broken (cause_of e) ∷ []) (record (occupied (At name (Dump file)) (record x { nodes = with_node name (fallen None) x.nodes })) { disks = counts_of d ∷ [] })) same step;
-        emits = subst (λ ls. Emits a ls b) (sym shown) s.2;
-        stands = record {
-          node = fallen None h.node;
-          nodes = changed_here log w name u labels h (fallen None);
-          disks = refl;
-          labels = h.labels;
-          in_use = ap (λ (b : Bool). b || false) h.in_use;
-          name = h.name;
-          blocks = h.blocks ∙ sym uses.goes.size;
-          clock = h.clock;
-          unknown = h.unknown;
-          place = read_down r name u h.node d laws.one (standing_of log w name u labels h up) at;
-          calls = uses.goes.calls ∙ h.calls;
-          counts = uses.goes.counted h.counts;
-        };
+        lines = lines_of_rows rows;
+        node = fallen None n;
+        step = subst (λ x. NodeStep shared n (counts_of (disk_up u)) (Asks (Dump file)) (lines_of_rows rows ++ line.Down x (cause_of e) ∷ []) (line.Broken (cause_of e)) (fallen None n) shared (counts_of d)) h.name
+            (subst (λ m. NodeStep shared n (counts_of (disk_up u)) (Asks (Dump file)) (lines_of_rows rows ++ line.Down n.name (cause_of e) ∷ []) (line.Broken (cause_of e)) (fallen None m) shared (counts_of d)) same
+            (subst (λ t. NodeStep shared n (counts_of (disk_up u)) (Asks (Dump file)) (lines_of_rows rows ++ line.Down n.name (cause_of e) ∷ []) (line.Broken (cause_of e)) (fallen None (node_after_rows rows n)) t (counts_of d)) still step));
+        emits = subst (λ ls. Emits a ls b) (sym said) s.2;
+        stands = fallen_stands log shared n name u h None d uses.goes (read_down r name u n d laws.one (standing_of log n name u h up) at);
       }
 
   pub dump_any : (r : Result (Unit {0}) Down) (new : Up) (other : List ℕ) (a b : Shown) → IsUp name u → name ≡ other → OnOk r (new ≡ u) → disk_up new ≡ answered r (disk_up u) → Uses r (disk_up u) (disk_up new) → ((m : Records) → length (entries m) ≤ 4294967295 → ((k : Key) → get m k ≡ map_of head h.place.content k) → Shows r m a b) →
-      MatchResult r (λ _. Serves log w (At name (Dump file)) a b (kept other new labels)) (λ e. Breaks log w (At name (Dump file)) name e a b (dropped name labels (disk_up new)))
-  dump_any (Ok tt) new other a b up named same at uses shows = renamed log w (At name (Dump file)) a b name other new labels named (dump_done new a b up shows same)
+      MatchResult r (λ _. Serves log shared n (counts_of (disk_up u)) (Dump file) a b (kept other new) shared) (λ e. Breaks log shared n (counts_of (disk_up u)) (Dump file) name e a b (dropped name (disk_up new)) shared)
+  dump_any (Ok tt) new other a b up named same at uses shows = renamed log shared n (counts_of (disk_up u)) (Dump file) a b name other new shared named (dump_done new a b up shows same)
   dump_any (Err e) new other a b up named same at uses shows = dump_broken {T = Unit {0}} (Err e) e (disk_up new) a b up refl at uses shows

@@ -6,7 +6,7 @@ use Rattle.records_model.specs.History.{first_to_change}
 use Rattle.script_model.specs.Statements.{SetFile, Setting}
 use Rattle.transcript_model.specs.Lines as line
 use Rattle.transcript_model.specs.Lines.{Line}
-use Rattle.run_model.specs.World.{World, Node, File, find_file, serials_of, Marks, acted}
+use Rattle.run_model.specs.World.{Shared, Node, File, find_file, serials_of, Marks, acted}
 use Rattle.run_model.specs.Answers.{there_is_file, of_file, unchanged_file, is_for_units}
 use Rattle.run_model.specs.Operations.{first_of}
 use Rattle.volume.specs.declared.catalog.Catalog.{Catalog}
@@ -15,7 +15,8 @@ use Rattle.directory_model.specs.Laws.{FindsFiles, TellsChanges, marked}
 use Rattle.dtm_node.specs.Standing.{Up, Unsettled, HasBranch, StandsUp, branches_of}
 use Rattle.dtm_node.specs.Keeping.{locker_of}
 use Rattle.dtm_node.specs.TheLaws.{TheLaws}
-use Rattle.dtm_node.proofs.UpLemmas.{disk_up, case_some, case_none, Standing}
+use Rattle.dtm_node.proofs.Fronts.{case_some, case_none}
+use Rattle.dtm_node.proofs.UpLemmas.{disk_up, Standing}
 use Rattle.dtm_node.proofs.Groups.{Means, Does, Keeps}
 use Rattle.node_files.proofs.CatalogLemmas.{front_files, front_set, front_undo, sound_marked}
 
@@ -74,8 +75,8 @@ wants_free u n name f h s laws named lock =
 
 -- SET_FILE
 
-pub marks_does : (w : World) (u : Up) (n : Node) (name : List ℕ) (setting : Setting) (f : ℕ) (h : FileHead) → StandsUp u n → TheLaws → IsNamed u.volume.catalog.heads f h name → locker_of u.branch f ≡ None → Does w n (SetFile name setting) (Marks name (is_for_units setting)) [] line.Normal
-marks_does w u n name setting f h s laws named lock = record { powers_not = refl; touches_it = refl; early_none = wants_free u n name f h s laws named lock; late_none = refl; rows_are = refl; answer_is = refl }
+pub marks_does : (shared : Shared) (u : Up) (n : Node) (name : List ℕ) (setting : Setting) (f : ℕ) (h : FileHead) → StandsUp u n → TheLaws → IsNamed u.volume.catalog.heads f h name → locker_of u.branch f ≡ None → Does shared n (SetFile name setting) (Marks name (is_for_units setting)) [] line.Normal
+marks_does shared u n name setting f h s laws named lock = record { powers_not = refl; touches_it = refl; occupies_not = refl; early_none = wants_free u n name f h s laws named lock; late_none = refl; rows_are = refl; closing_none = refl; answer_is = refl }
 
 pub marks_means : (node : List ℕ) (u : Up) (n : Node) (name : List ℕ) (units : Bool) (f : ℕ) (h : FileHead) (bytes : List ℕ) (s : Standing node u n) → TheLaws → f < 64 → IsNamed u.volume.catalog.heads f h name →
     Means node u n (Marks name units) (slice_set s.up.content (519 + f - 518) bytes) (record u.volume.catalog { heads = slice_set u.volume.catalog.heads f (Some (marked units h)) })
@@ -84,10 +85,10 @@ marks_means node u n name units f h bytes s laws below named =
     let c = slice_set s.up.content (519 + f - 518) bytes in
     let files = front_files node (disk_up u).size v s.up.content c n.directory laws.apart laws.stand s.is_up.sound s.up.has.files (front_set s.up.content (519 + f - 518) bytes (omega arith)) in
     record {
-      has = record { volume = s.up.has.volume; slots = s.up.has.slots; journal = s.up.has.journal; boot = s.up.has.boot; greatest = s.up.has.greatest; last = s.up.has.last; files = laws.files.marks c v.heads n f h name units files named };
+      has = record { volume = s.up.has.volume; slots = s.up.has.slots; journal = s.up.has.journal; boot = s.up.has.boot; greatest = s.up.has.greatest; last = s.up.has.last; units = s.up.has.units; files = laws.files.marks c v.heads n f h name units files named };
       sound = sound_marked node (disk_up u).size v f h units laws.heads s.up.has.files.heads_long named.there s.is_up.sound;
       same = record { name = refl; blocks = refl; clock = refl; calls = refl };
-      disk = record { name = refl; blocks = refl; volume = refl; slots = refl; journal = refl; boot = refl; greatest = refl; last = refl; directory = refl };
+      disk = record { name = refl; blocks = refl; volume = refl; slots = refl; journal = refl; boot = refl; greatest = refl; last = refl; units = refl; directory = refl };
       durable = refl;
     }
 

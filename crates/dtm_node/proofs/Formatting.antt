@@ -1,6 +1,6 @@
 -- INIT: an empty volume, and what the node's disk has then.
 use Rattle.std.proofs.Common.{◌≡◌, ℕ, zero, suc, ◌+◌, ◌<◌, ◌≤◌, List, [], ◌∷◌, Bool, true, false, Option, Some, None, IfSome, is_some, get_or, replicate, take, refl, sym, ap, subst, ◌∙◌, arith, inl}
-use Rattle.std.specs.Prelude.{◌||◌, ◌&&◌, not, nat_le, nat_lt}
+use Rattle.std.specs.Prelude.{◌&&◌, not, nat_le, nat_lt}
 use Rattle.std.proofs.lemmas.List.{length-replicate}
 use Rattle.std.proofs.lemmas.Bool.Decides.{nat_tests}
 use Rattle.vms_base.proofs.NameLemmas.{both}
@@ -23,18 +23,19 @@ use Rattle.transcript_model.specs.Outside.{Rose}
 use Rattle.transcript_model.specs.Lines as line
 use Rattle.transcript_model.specs.Lines.{Line, Cause, Failed}
 use Rattle.transcript_model.specs.Emitting.{Shown, Emits}
-use Rattle.script_model.specs.Statements.{At, Init}
-use Rattle.run_model.specs.World.{World, Node, Label, Formats, acted, fallen, with_node, powered, unpowered}
-use Rattle.run_model.specs.Answers.{early_at, is_volume_form, is_within, silent}
+use Rattle.script_model.specs.Statements.{Init}
+use Rattle.run_model.specs.World.{Shared, Node, Formats, Power, Unknown, acted, fallen, powered, unpowered}
+use Rattle.run_model.specs.Answers.{refused_before_reading, is_volume_form, is_within}
 use Rattle.run_model.specs.Operations.{first_of, refused_if}
-use Rattle.run_model.specs.Steps.{broken, count_of, dead, after_rows, occupied, spoilt, stops_at}
-use Rattle.run_model.proofs.StepLemmas.{step_unpowered}
+use Rattle.run_model.specs.Steps.{NodeStep, Serves as Asks, count_of, occupied, spoilt}
+use Rattle.run_model.proofs.TaskLemmas.{task_cut_at_first, task_unpowered, task_whole}
 use Rattle.directory_model.specs.Laws.{KeepsFiles}
 use Rattle.dtm_node.specs.Keeping.{Serves}
 use Rattle.dtm_node.specs.Nodes.{Passes, kept_down}
-use Rattle.dtm_node.specs.Standing.{Kept, IsVolumeOf, StandsFor, counts_of}
-use Rattle.dtm_node.proofs.Booting.{as_it_was}
-use Rattle.dtm_node.proofs.NodeSteps.{changed_here, early_here, falls_here, first_step, one_changed, refused_here, rose_here, serves_both, stops_here, whole_step}
+use Rattle.dtm_node.specs.Standing.{Kept, IsVolumeOf, StandsFor, counts_of, disk_in, noted_all}
+use Rattle.dtm_node.proofs.Booting.{DiskBy, as_it_was}
+use Rattle.dtm_node.proofs.NodeSteps.{refused_here, serves_both}
+use Rattle.dtm_node.proofs.StepLemmas.{occupied_not}
 
 -- No file is there.
 
@@ -135,86 +136,74 @@ no_form slots journal size n is misfit = go (is_volume_form slots journal n) ref
     go true e = absurd (misfit (form_fits slots journal size n is e))
     go false e = e
 
-or_false : (b : Bool) → (b || false) ≡ b
-or_false true = refl
-or_false false = refl
-
 some_of : (o : Option (List (List ℕ))) → is_some o ≡ true → (b : List (List ℕ)) × (o ≡ Some b)
 some_of (Some b) e = (b, refl)
 some_of None e = let none : ⊥ = cc in absurd none
 
--- the node was booted
-pub in_use_init : (log : CallLog) (w : World) (k : Kept) (slots journal : ℕ) (a b : Shown) → k.in_use ≡ true → StandsFor log k w → Emits a (line.VolumeInUse ∷ []) b → Serves log w (At k.name (Init slots journal)) a b k
-in_use_init log w k slots journal a b used h m =
-    refused_here log w k h (At k.name (Init slots journal)) line.VolumeInUse a b
-    (early_here log w k h (Init slots journal) ∙ serves_both log w k h (Init slots journal) refl
-    ∙ ap (λ (x : Bool). first_of (refused_if x line.VolumeInUse) (refused_if (not (is_volume_form slots journal h.node)) line.BadParameter)) (h.in_use ∙ used)) m
+-- a node was booted
+pub in_use_init : (log : CallLog) (s : Shared) (n : Node) (k : Kept) (slots journal : ℕ) (a b : Shown) → s.in_use ≡ true → StandsFor log k n → Emits a (line.VolumeInUse ∷ []) b → Serves log s n (counts_of (disk_in k.place)) (Init slots journal) a b k s
+in_use_init log s n k slots journal a b used h m =
+    refused_here log s n k h (Init slots journal) line.VolumeInUse a b
+    (serves_both s n (Init slots journal) refl ∙ ap (λ (x : Bool). first_of (refused_if x line.VolumeInUse) (refused_if (not (is_volume_form slots journal n)) line.BadParameter)) used) m
 
-module _ (log : CallLog) (w : World) (name : List ℕ) (unknown has_parts : Bool) (d0 : DiskState) (labels : List Label) (slots journal : ℕ) (h : StandsFor log (kept_down name unknown false has_parts d0 labels) w) where
-  abbrev old : Kept
-  old = kept_down name unknown false has_parts d0 labels
-
-  early_by : (form : Bool) → is_volume_form slots journal h.node ≡ form → early_at w h.node (Init slots journal) ≡ refused_if (not form) line.BadParameter
-  early_by form e = serves_both log w old h (Init slots journal) refl
-      ∙ ap (λ (x : Bool). first_of (refused_if x line.VolumeInUse) (refused_if (not (is_volume_form slots journal h.node)) line.BadParameter)) h.in_use
+module _ (log : CallLog) (s : Shared) (n : Node) (name : List ℕ) (unmade has_parts : Bool) (d0 : DiskState) (slots journal : ℕ) (unused : s.in_use ≡ false) (h : StandsFor log (kept_down name unmade has_parts d0) n) where
+  early_by : (form : Bool) → is_volume_form slots journal n ≡ form → refused_before_reading s n (Init slots journal) ≡ refused_if (not form) line.BadParameter
+  early_by form e = serves_both s n (Init slots journal) refl
+      ∙ ap (λ (x : Bool). first_of (refused_if x line.VolumeInUse) (refused_if (not (is_volume_form slots journal n)) line.BadParameter)) unused
       ∙ ap (λ (x : Bool). refused_if (not x) line.BadParameter) e
 
-  pub bad_init : (a b : Shown) → (SizesFit d0.size (record { blocks = d0.size; slots = slots; ru_blocks = journal }) → ⊥) → Emits a (line.BadParameter ∷ []) b → Serves log w (At name (Init slots journal)) a b old
-  bad_init a b misfit m = refused_here log w old h (At name (Init slots journal)) line.BadParameter a b (early_here log w old h (Init slots journal) ∙ early_by false (no_form slots journal d0.size h.node h.blocks misfit)) m
+  pub bad_init : (a b : Shown) → (SizesFit d0.size (record { blocks = d0.size; slots = slots; ru_blocks = journal }) → ⊥) → Emits a (line.BadParameter ∷ []) b → Serves log s n (counts_of d0) (Init slots journal) a b (kept_down name unmade has_parts d0) s
+  bad_init a b misfit m = refused_here log s n (kept_down name unmade has_parts d0) h (Init slots journal) line.BadParameter a b (early_by false (no_form slots journal d0.size n h.blocks misfit)) m
 
   module _ (fit : SizesFit d0.size (record { blocks = d0.size; slots = slots; ru_blocks = journal })) where
-    none_early : early_at w h.node (Init slots journal) ≡ None
-    none_early = early_by true (fits_form slots journal d0.size h.node h.blocks fit)
+    none_early : refused_before_reading s n (Init slots journal) ≡ None
+    none_early = early_by true (fits_form slots journal d0.size n h.blocks fit)
+
+    abbrev woken : Node
+    woken = spoilt true (powered false d0.stops n)
+
+    -- a node whose last INIT failed
+    spoilt_stands : (m : Node) (d : DiskState) → m.name ≡ n.name → m.blocks ≡ n.blocks → m.clock ≡ n.clock → m.volume ≡ Unknown → m.unmade ≡ true → m.up ≡ false → (m.was_up ≡ true → n.was_up ≡ true) → m.calls ≡ Power d0.stops ∷ n.calls → Passes d0 d →
+        d.calls ≡ noted (disk_call.Power d0.stops) d0.calls → StandsFor log (kept_down name true has_parts d) m
+    spoilt_stands m d same blocks clock volume unmade down was noted_there passes calls = record {
+      name = same ∙ h.name;
+      blocks = blocks ∙ h.blocks ∙ sym passes.size;
+      clock = clock ∙ h.clock;
+      unmade = unmade;
+      place = record { down = down; reserved = λ e. h.place.reserved (was e); told = passes.told ∙ h.place.told; disk = subst (DiskBy m d) (sym volume) tt };
+      calls = calls ∙ ap (noted (disk_call.Power d0.stops)) h.calls ∙ ap (λ cs. noted_all cs log) (sym noted_there);
+      counts = passes.counted h.counts;
+    }
+
+    -- a fall, by the node's name
+    fell_as : (cause : Cause) (m : Node) (d : DiskState) → NodeStep s n (counts_of d0) (Asks (Init slots journal)) (line.Down n.name cause ∷ []) (line.Broken cause) m (occupied (Init slots journal) s) (counts_of d) →
+        NodeStep s n (counts_of d0) (Asks (Init slots journal)) (line.Down name cause ∷ []) (line.Broken cause) m s (counts_of d)
+    fell_as cause m d step =
+        subst (λ x. NodeStep s n (counts_of d0) (Asks (Init slots journal)) (line.Down name cause ∷ []) (line.Broken cause) m x (counts_of d)) (occupied_not (Init slots journal) s refl)
+        (subst (λ x. NodeStep s n (counts_of d0) (Asks (Init slots journal)) (line.Down x cause ∷ []) (line.Broken cause) m (occupied (Init slots journal) s) (counts_of d)) h.name step)
 
     -- the disk does not run again
     pub init_unpowered : (d : DiskState) (a b : Shown) → Passes d0 d → d.calls ≡ noted (disk_call.Power d0.stops) d0.calls → Rose (count_of Failed (counts_of d0)) (count_of Failed (counts_of d)) →
-        Emits a (line.Down name Failed ∷ line.Broken Failed ∷ []) b → Serves log w (At name (Init slots journal)) a b (kept_down name true false has_parts d labels)
+        Emits a (line.Down name Failed ∷ line.Broken Failed ∷ []) b → Serves log s n (counts_of d0) (Init slots journal) a b (kept_down name true has_parts d) s
     init_unpowered d a b passes calls rose m = record {
-      lines = broken (At name (Init slots journal)) Failed;
-      world = record (dead w (At name (Init slots journal))).world { disks = counts_of d ∷ [] };
-      step = step_unpowered w (At name (Init slots journal)) (counts_of d ∷ []) (early_here log w old h (Init slots journal) ∙ none_early) refl (rose_here log w old h Failed d rose) (falls_here log w old h d passes);
+      lines = line.Down name Failed ∷ [];
+      answer = line.Broken Failed;
+      node = spoilt true (unpowered d0.stops n);
+      step = fell_as Failed (spoilt true (unpowered d0.stops n)) d (task_unpowered s n (Init slots journal) (counts_of d0) (counts_of d) (passes.faults h.counts) (passes.stops h.counts) none_early refl rose);
       emits = m;
-      stands = record {
-        node = spoilt true (unpowered d0.stops h.node);
-        nodes = changed_here log w old h (λ n. spoilt true (unpowered (stops_at name w) n)) ∙ ap (λ s. spoilt true (unpowered s h.node) ∷ []) (stops_here log w old h);
-        disks = refl;
-        labels = h.labels;
-        in_use = or_false w.in_use ∙ h.in_use;
-        name = h.name;
-        blocks = h.blocks ∙ sym passes.size;
-        clock = h.clock;
-        unknown = refl;
-        place = record { down = refl; reserved = h.place.reserved; told = passes.told ∙ h.place.told; disk = tt };
-        calls = calls ∙ ap (noted (disk_call.Power d0.stops)) h.calls;
-        counts = passes.counted h.counts;
-      };
+      stands = spoilt_stands (spoilt true (unpowered d0.stops n)) d refl refl refl refl refl refl (λ e. e) refl passes calls;
     }
-
-    abbrev woken : Node
-    woken = spoilt true (powered false d0.stops h.node)
 
     -- it went down while the volume was written
     pub init_fell : (cause : Cause) (d : DiskState) (a b : Shown) → Passes d0 d → d.calls ≡ noted (disk_call.Power d0.stops) d0.calls → Rose (count_of cause (counts_of d0)) (count_of cause (counts_of d)) →
-        Emits a (line.Down name cause ∷ line.Broken cause ∷ []) b → Serves log w (At name (Init slots journal)) a b (kept_down name true false has_parts d labels)
+        Emits a (line.Down name cause ∷ line.Broken cause ∷ []) b → Serves log s n (counts_of d0) (Init slots journal) a b (kept_down name true has_parts d) s
     init_fell cause d a b passes calls rose m = record {
-      lines = broken (At name (Init slots journal)) cause;
-      world = record (occupied (At name (Init slots journal)) (record w { nodes = with_node name (fallen None) (woken ∷ []) })) { disks = counts_of d ∷ [] };
-      step = first_step log w old h false (Init slots journal) refl none_early cause (counts_of d ∷ []) refl (rose_here log w old h cause d rose) (falls_here log w old h d passes);
+      lines = line.Down name cause ∷ [];
+      answer = line.Broken cause;
+      node = fallen None woken;
+      step = fell_as cause (fallen None woken) d (task_cut_at_first s n (Init slots journal) (counts_of d0) (counts_of d) (passes.faults h.counts) (passes.stops h.counts) false cause none_early refl rose);
       emits = m;
-      stands = record {
-        node = fallen None woken;
-        nodes = one_changed name woken (fallen None) h.name;
-        disks = refl;
-        labels = h.labels;
-        in_use = or_false w.in_use ∙ h.in_use;
-        name = h.name;
-        blocks = h.blocks ∙ sym passes.size;
-        clock = h.clock;
-        unknown = refl;
-        place = record { down = refl; reserved = h.place.reserved; told = passes.told ∙ h.place.told; disk = tt };
-        calls = calls ∙ ap (noted (disk_call.Power d0.stops)) h.calls;
-        counts = passes.counted h.counts;
-      };
+      stands = spoilt_stands (fallen None woken) d refl refl refl refl refl refl (λ e. e) refl passes calls;
     }
 
     abbrev made : Node
@@ -225,11 +214,11 @@ module _ (log : CallLog) (w : World) (name : List ℕ) (unknown has_parts : Bool
       catalog = empty_catalog name d0.size slots journal;
       tells = empty_tells name d0.size slots journal c ranges empty;
       sound = rw (h.name, h.blocks) (empty_sound name d0.size slots journal fit);
-      has = record { volume = refl; slots = refl; journal = refl; boot = refl; greatest = refl; last = refl; files = keeps.formats c woken slots journal };
+      has = record { volume = refl; slots = refl; journal = refl; boot = refl; greatest = refl; last = refl; units = refl; files = keeps.formats c woken slots journal };
     }
 
     pub init_done : (d : DiskState) (a b : Shown) → KeepsFiles → IsHome (empty_home name d0.size slots journal) → IfSome d.seen (λ image. IsEmptyVolume (empty_home name d0.size slots journal) (content_of image)) → IfSome d.seen (λ image. gate_open image ≡ false) → d.pending ≡ [] →
-        Passes d0 d → d.calls ≡ noted (disk_call.Power d0.stops) d0.calls → Emits a (line.Normal ∷ []) b → Serves log w (At name (Init slots journal)) a b (kept_down name false false has_parts d labels)
+        Passes d0 d → d.calls ≡ noted (disk_call.Power d0.stops) d0.calls → Emits a (line.Normal ∷ []) b → Serves log s n (counts_of d0) (Init slots journal) a b (kept_down name false has_parts d) s
     init_done d a b keeps ranges empty closed settled passes calls m =
         let seen = some_of d.seen (passes.told ∙ h.place.told) in
         let image = seen.0 in
@@ -237,20 +226,17 @@ module _ (log : CallLog) (w : World) (name : List ℕ) (unknown has_parts : Bool
         let is_closed = subst (λ o. IfSome o (λ x. gate_open x ≡ false)) seen.1 closed in
         let alike = as_it_was d.seen image d seen.1 (stop_reading d d settled refl refl) in
         record {
-          lines = line.Normal ∷ [];
-          world = record (occupied (At name (Init slots journal)) (after_rows name (silent (Formats slots journal) ∷ []) (record w { nodes = woken ∷ [] }))) { disks = counts_of d ∷ [] };
-          step = whole_step log w old h false (Init slots journal) refl none_early (silent (Formats slots journal) ∷ []) line.Normal (counts_of d ∷ []) refl refl refl (falls_here log w old h d passes);
+          lines = [];
+          answer = line.Normal;
+          node = made;
+          step = subst (λ t. NodeStep s n (counts_of d0) (Asks (Init slots journal)) [] line.Normal made t (counts_of d)) (occupied_not (Init slots journal) s refl)
+              (task_whole s n (Init slots journal) (counts_of d0) (counts_of d) (passes.faults h.counts) (passes.stops h.counts) false none_early refl);
           emits = m;
           stands = record {
-            node = made;
-            nodes = one_changed name woken (acted (Formats slots journal)) h.name;
-            disks = refl;
-            labels = h.labels;
-            in_use = or_false w.in_use ∙ h.in_use;
             name = h.name;
             blocks = h.blocks ∙ sym passes.size;
             clock = h.clock;
-            unknown = refl;
+            unmade = refl;
             place = record {
               down = h.place.down;
               reserved = h.place.reserved;

@@ -18,9 +18,11 @@ pub mod Undoing
 pub mod UpLemmas
 pub mod UsesLemmas
 pub mod Fronts
+pub mod StepLemmas
 pub mod Booting
 pub mod Passing
 pub mod Calling
+pub mod Following
 pub mod NodeSteps
 pub mod NodeServes
 pub mod Formatting

@@ -22,24 +22,25 @@ use Rattle.volume_format.specs.Home.{sizes_of}
 use Rattle.transcript_model.specs.Lines as line
 use Rattle.transcript_model.specs.Lines.{Line}
 use Rattle.transcript_model.specs.Emitting.{Shown, Emits}
-use Rattle.script_model.specs.Statements.{At, Create}
+use Rattle.script_model.specs.Statements.{Create}
 use Rattle.script_lang.specs.declared.statement.Form.{Form as CodeForm}
 use Rattle.script_lang.specs.declared.statement.Form.TheVariants as code_form
 use Rattle.script_lang.specs.Statements.{form_of}
-use Rattle.run_model.specs.World.{World, Node, File, Label, Creates, acted, fallen, find_file, free_place, longest_free, lowest_free}
+use Rattle.run_model.specs.World.{Shared, Node, File, Creates, acted, fallen, find_file, free_place, longest_free, lowest_free}
 use Rattle.run_model.specs.Answers.{Row, new_file, is_file_form, room_for, created}
 use Rattle.run_model.specs.Operations.{first_of, refused_if}
 use Rattle.directory_model.specs.Files.{AreFiles, AreOwn, IsNamed, IsOrganized, NoneNamed, head_at}
 use Rattle.directory_model.specs.Laws.{area_of}
 use Rattle.node_files.specs.declared.sizes.Sizes.{Sizes}
 use Rattle.node_files.specs.NewFile.{AreSizes, buckets_in, kept_by, new_head}
-use Rattle.dtm_node.specs.Standing.{Up, IsUp, Unsettled, HasBranch, StandsUp, StandsDown, StandsFor, branches_of}
+use Rattle.dtm_node.specs.Standing.{Up, IsUp, Unsettled, HasBranch, StandsUp, StandsDown, StandsFor, branches_of, counts_of}
 use Rattle.dtm_node.specs.Keeping.{Serves, Breaks}
 use Rattle.dtm_node.specs.TheLaws.{TheLaws}
 use Rattle.dtm_node.specs.Uses.{Goes, Uses}
 use Rattle.node_files.specs.Writing.{Writes}
 use Rattle.dtm_node.proofs.UsesLemmas.{rose_of}
-use Rattle.dtm_node.proofs.UpLemmas.{kept, dropped, disk_up, case_some, case_none, Standing, fallen_down, same_fallen, volume_in, told_seen, tells_now, breaks_first, breaks_act, group_down, group_up}
+use Rattle.dtm_node.proofs.Fronts.{case_some, case_none, same_fallen}
+use Rattle.dtm_node.proofs.UpLemmas.{kept, dropped, disk_up, Standing, fallen_down, volume_in, told_seen, tells_now, breaks_first, breaks_act, group_down, group_up}
 use Rattle.dtm_node.proofs.Groups.{Does, Means, Keeps, standing_of, group_done}
 use Rattle.dtm_node.proofs.Files.{found_file, no_file}
 use Rattle.node_files.proofs.NewHead.{new_head_is}
@@ -224,7 +225,7 @@ module _ (node : List ℕ) (u : Up) (name : List ℕ) (s : Sizes) (f start most 
         l.0,
         inl (volume_in (fallen None n) n (content_of image) v_here node (disk_up u).size (same_fallen None n) st.named st.sized
             (laws.front v_here st.up.content (content_of image) (λ k below. sym (off.others k (front_off k below))) (tells_now node u n st)) up.sound
-            (record { volume = st.up.has.volume; slots = st.up.has.slots; journal = st.up.has.journal; boot = st.up.has.boot; greatest = st.up.has.greatest; last = st.up.has.last; files = files_stay n st.up.content (content_of image) st.up.has.files off })),
+            (record { volume = st.up.has.volume; slots = st.up.has.slots; journal = st.up.has.journal; boot = st.up.has.boot; greatest = st.up.has.greatest; last = st.up.has.last; units = st.up.has.units; files = files_stay n st.up.content (content_of image) st.up.has.files off })),
       ))
 
   abbrev pub file_here : Node → File
@@ -233,16 +234,18 @@ module _ (node : List ℕ) (u : Up) (name : List ℕ) (s : Sizes) (f start most 
   abbrev row_here : Node → ℕ → ℕ → Row
   row_here n place start = record { act = Some (Creates place (created name s.bucket s.mrs (form_of s.form) start n.greatest)); lines = [] }
 
-  pub made_does : (w : World) (n : Node) → Standing node u n → Does w n (Create name s.bucket s.mrs (form_of s.form)) (Creates f (file_here n)) [] line.Normal
-  made_does w n st =
+  pub made_does : (shared : Shared) (n : Node) → Standing node u n → Does shared n (Create name s.bucket s.mrs (form_of s.form)) (Creates f (file_here n)) [] line.Normal
+  made_does shared n st =
       let lowest = laws.runs.lowest st.up.content v_here.heads n area_here (buckets_in s * s.bucket) start st.up.has.files (area_same node u n st) some_here new.run new.lowest in
       record {
         powers_not = refl;
         touches_it = refl;
+        occupies_not = refl;
         early_none = create_early u n name (is_file_form s.bucket s.mrs (form_of s.form)) laws st.up new.none new.form;
         late_none = room_there node u n f most (buckets_in s * s.bucket) st laws new.room new.enough;
         rows_are = case_some (free_place n.directory) (λ place. elim (lowest_free n (buckets_in s * s.bucket)) [ Some start ↦ row_here n place start ∷ [] | None ↦ [] ]) [] f (place_is u n f most laws st.up new.room)
             ∙ case_some (lowest_free n (buckets_in s * s.bucket)) (λ start. row_here n f start ∷ []) [] start lowest;
+        closing_none = refl;
         answer_is = refl;
       }
 
@@ -266,12 +269,13 @@ module _ (node : List ℕ) (u : Up) (name : List ℕ) (s : Sizes) (f start most 
           boot = st.up.has.boot;
           greatest = st.up.has.greatest;
           last = st.up.has.last;
+          units = st.up.has.units;
           files = laws.files.creates d v_here.heads n f head_here (file_here n) files new.room.below
               (laws.makes.file d (form_of s.form) head_here n.greatest is_new (sym (local_law head_here c d form on) ∙ map) (valid_local_law head_here c d form on laid) (sym (chain_local_law head_here c d form on) ∙ chain));
         };
         sound = new_sound;
         same = record { name = refl; blocks = refl; clock = refl; calls = refl };
-        disk = record { name = refl; blocks = refl; volume = refl; slots = refl; journal = refl; boot = refl; greatest = refl; last = refl; directory = refl };
+        disk = record { name = refl; blocks = refl; volume = refl; slots = refl; journal = refl; boot = refl; greatest = refl; last = refl; units = refl; directory = refl };
         durable = refl;
       }
 
@@ -318,7 +322,7 @@ module _ (node : List ℕ) (u : Up) (name : List ℕ) (s : Sizes) (f start most 
       (subst (λ k. 4096 ≤ k) (sym m.size) up.least) (subst (λ k. k ≤ 65536) (sym m.size) up.most)
       (subst (λ o. IfSome o (λ b. AreOwn b.notes (slice_set v_here.heads f (Some head_here)) × (length b.notes ≤ 16))) (sym branch) (made_own u.branch up.own))
 
-  module _ (log : CallLog) (w : World) (labels : List Label) (h : StandsFor log (kept node u labels) w) where
+  module _ (log : CallLog) (shared : Shared) (n : Node) (h : StandsFor log (kept node u) n) where
     abbrev out_here : (mid : VolumeState) → MadeRecords head_here u.volume mid → (c : List (List ℕ)) × (mid.store.current ≡ Some c) × AgreesOff (in_extent head_here) h.place.content c
     out_here mid m = out_some (in_extent head_here) u.volume.store.current mid.store.current h.place.content h.place.told m.outside
 
@@ -331,34 +335,34 @@ module _ (node : List ℕ) (u : Up) (name : List ℕ) (s : Sizes) (f start most 
     chain_here : (mid : VolumeState) (m : MadeRecords head_here u.volume mid) → chain_of head_here (out_here mid m).0 ≡ first_chain_of head_here
     chain_here mid m = subst (λ o. IfSome o (λ c. chain_of head_here c ≡ first_chain_of head_here)) (out_here mid m).1 m.chain
 
-    pub made_first : {T : Type 0} (r : Result T Down) (e : Down) (d : DiskState) (a : Shown) → r ≡ Err e → LeavesOut (in_extent head_here) u.volume.store.current d → Uses r (disk_up u) d → Breaks log w (At node (Create name s.bucket s.mrs (form_of s.form))) node e a a (dropped node labels d)
+    pub made_first : {T : Type 0} (r : Result T Down) (e : Down) (d : DiskState) (a : Shown) → r ≡ Err e → LeavesOut (in_extent head_here) u.volume.store.current d → Uses r (disk_up u) d → Breaks log shared n (counts_of (disk_up u)) (Create name s.bucket s.mrs (form_of s.form)) node e a a (dropped node d) shared
     made_first r e d a is leaves uses =
-        let st = standing_of log w node u labels h up in
-        breaks_first log w node u labels h (Create name s.bucket s.mrs (form_of s.form)) e d a refl refl (made_does w h.node st).early_none uses.goes (rose_of r e (disk_up u) d is uses h.counts) (made_down h.node st d leaves uses.goes.told)
+        let st = standing_of log n node u h up in
+        breaks_first log shared n node u h (Create name s.bucket s.mrs (form_of s.form)) e d a refl refl refl (made_does shared n st).early_none uses.goes (rose_of r e (disk_up u) d is uses h.counts) (made_down n st d leaves uses.goes.told)
 
     pub made_done : {T : Type 0} (r : Result T Down) (x : T) (after : Up) (mid : VolumeState) (bytes : List ℕ) (a b : Shown) → MadeRecords head_here u.volume mid → r ≡ Ok x → Writes r (after_here mid bytes) (catalog_here mid) mid after.volume → Goes (disk_up u) (disk_up after) →
-        after.drawn ≡ u.drawn → after.branch ≡ u.branch → Emits a (line.Normal ∷ []) b → Serves log w (At node (Create name s.bucket s.mrs (form_of s.form))) a b (kept node after labels)
+        after.drawn ≡ u.drawn → after.branch ≡ u.branch → Emits a (line.Normal ∷ []) b → Serves log shared n (counts_of (disk_up u)) (Create name s.bucket s.mrs (form_of s.form)) a b (kept node after) shared
     made_done r x after mid bytes a b m is wr goes drawn branch shown =
-        let st = standing_of log w node u labels h up in
+        let st = standing_of log n node u h up in
         let out = out_here mid m in
-        group_done r x log w node u after labels h (Create name s.bucket s.mrs (form_of s.form)) (Creates f (file_here h.node)) [] line.Normal (slice_set out.0 (519 + f - 518) bytes) (record v_here { heads = slice_set v_here.heads f (Some head_here) }) mid (after_here mid bytes) a b
-        (made_does w h.node st) (made_means h.node st out.0 bytes out.2 (map_here mid m) (laid_here mid m) (chain_here mid m)) is (subst (λ k. Writes r (after_here mid bytes) k mid after.volume) (same_catalog mid m) wr)
-        (ap (option_map (λ (blocks : List (List ℕ)). slice_set blocks (519 + f - 518) bytes)) out.1) goes (made_keeps after h.node st out.0 bytes out.2 drawn branch) shown
+        group_done r x log shared n node u after h (Create name s.bucket s.mrs (form_of s.form)) (Creates f (file_here n)) [] line.Normal (slice_set out.0 (519 + f - 518) bytes) (record v_here { heads = slice_set v_here.heads f (Some head_here) }) mid (after_here mid bytes) a b
+        (made_does shared n st) (made_means n st out.0 bytes out.2 (map_here mid m) (laid_here mid m) (chain_here mid m)) is (subst (λ k. Writes r (after_here mid bytes) k mid after.volume) (same_catalog mid m) wr)
+        (ap (option_map (λ (blocks : List (List ℕ)). slice_set blocks (519 + f - 518) bytes)) out.1) goes (made_keeps after n st out.0 bytes out.2 drawn branch) shown
 
     pub made_broken : {T : Type 0} (r : Result T Down) (e : Down) (mid after : VolumeState) (bytes : List ℕ) (a : Shown) → MadeRecords head_here u.volume mid → r ≡ Err e → Writes r (after_here mid bytes) (catalog_here mid) mid after → Uses r (disk_up u) after.store.disk →
-        Breaks log w (At node (Create name s.bucket s.mrs (form_of s.form))) node e a a (dropped node labels after.store.disk)
+        Breaks log shared n (counts_of (disk_up u)) (Create name s.bucket s.mrs (form_of s.form)) node e a a (dropped node after.store.disk) shared
     made_broken r e mid after bytes a m is wr uses =
-        let st = standing_of log w node u labels h up in
+        let st = standing_of log n node u h up in
         let out = out_here mid m in
-        let does = made_does w h.node st in
-        let means = made_means h.node st out.0 bytes out.2 (map_here mid m) (laid_here mid m) (chain_here mid m) in
-        let act = Creates f (file_here h.node) in
-        let was = volume_in (fallen (Some act) h.node) h.node out.0 v_here node (disk_up u).size (same_fallen (Some act) h.node) st.named st.sized
-        (laws.front v_here h.place.content out.0 (λ k below. sym (out.2.others k (front_off k below))) (tells_now node u h.node st)) up.sound
-        (record { volume = h.place.has.volume; slots = h.place.has.slots; journal = h.place.has.journal; boot = h.place.has.boot; greatest = h.place.has.greatest; last = h.place.has.last; files = files_stay h.node h.place.content out.0 h.place.has.files out.2 }) in
-        breaks_act log w node u labels h (Create name s.bucket s.mrs (form_of s.form)) act [] e after.store.disk a refl refl does.early_none does.late_none does.rows_are refl uses.goes (rose_of r e (disk_up u) after.store.disk is uses h.counts)
-        (group_down r e node u h.node act out.0 (slice_set out.0 (519 + f - 518) bytes) (after_here mid bytes) (record v_here { heads = slice_set v_here.heads f (Some head_here) }) mid after is st was
-        (sym m.idle.current ∙ out.1) (m.told ∙ told_seen node u h.node st) (made_holds mid m) (ap (option_map (λ (blocks : List (List ℕ)). slice_set blocks (519 + f - 518) bytes)) out.1)
+        let does = made_does shared n st in
+        let means = made_means n st out.0 bytes out.2 (map_here mid m) (laid_here mid m) (chain_here mid m) in
+        let act = Creates f (file_here n) in
+        let was = volume_in (fallen (Some act) n) n out.0 v_here node (disk_up u).size (same_fallen (Some act) n) st.named st.sized
+        (laws.front v_here h.place.content out.0 (λ k below. sym (out.2.others k (front_off k below))) (tells_now node u n st)) up.sound
+        (record { volume = h.place.has.volume; slots = h.place.has.slots; journal = h.place.has.journal; boot = h.place.has.boot; greatest = h.place.has.greatest; last = h.place.has.last; units = h.place.has.units; files = files_stay n h.place.content out.0 h.place.has.files out.2 }) in
+        breaks_act log shared n node u h (Create name s.bucket s.mrs (form_of s.form)) act [] e after.store.disk a refl refl refl does.early_none does.late_none does.rows_are refl uses.goes (rose_of r e (disk_up u) after.store.disk is uses h.counts)
+        (group_down r e node u n act out.0 (slice_set out.0 (519 + f - 518) bytes) (after_here mid bytes) (record v_here { heads = slice_set v_here.heads f (Some head_here) }) mid after is st was
+        (sym m.idle.current ∙ out.1) (m.told ∙ told_seen node u n st) (made_holds mid m) (ap (option_map (λ (blocks : List (List ℕ)). slice_set blocks (519 + f - 518) bytes)) out.1)
         (subst (λ k. Writes r (after_here mid bytes) k mid after) (same_catalog mid m) wr) means.sound means.disk refl refl means.has)
 
 -- the request in the words of the code

@@ -1,215 +1,92 @@
 -- A node by what stands over its disk, and the ways of a step from there.
 use Rattle.std.proofs.Common.{◌≡◌, ◌⊎◌, ⊎_elim, inl, inr, ℕ, List, [], ◌∷◌, ◌++◌, Bool, true, false, Option, Some, None, IsSomeAnd, MatchOption, is_some, refl, sym, ap, subst, ◌∙◌, arith}
-use Rattle.std.specs.Prelude.{◌||◌, not, if◌then◌else◌}
-use Rattle.std.specs.Str.{bytes_eq}
-use Rattle.std.proofs.lemmas.Slice.Eq.{bytes_eq-Decides}
+use Rattle.std.specs.Prelude.{◌||◌, not}
 use Rattle.block_disk.specs.Blocks.{SameBut}
 use Rattle.block_disk.specs.Disk.{DiskState, CallLog, IsPowered, MayLeave}
 use Rattle.careful_write.specs.Content.{content_of}
 use Rattle.careful_write.specs.Load.{fitting}
-use Rattle.transcript_model.specs.Outside.{Rose}
 use Rattle.transcript_model.specs.Lines as line
-use Rattle.transcript_model.specs.Lines.{Line, Cause, Failed}
+use Rattle.transcript_model.specs.Lines.{Line}
 use Rattle.transcript_model.specs.Emitting.{Shown, Emits}
-use Rattle.script_model.specs.Statements.{Statement, At, Request, Boot}
-use Rattle.run_model.specs.World.{World, Node, Act, Call, Power, DiskCounts, Volume, Sound, Faulty, Unknown, Boots, ComesUp, Falls, acted, labels_after, with_node, fallen, powered, disk_of, find_node}
-use Rattle.run_model.specs.Answers.{Row, early, early_at, early_up, served_down, late, late_at, rows, rows_at, answer, answer_at, powers, spoils, touches, occupies, takes_memory, is_unknown}
+use Rattle.script_model.specs.Statements.{Request, Boot}
+use Rattle.run_model.specs.World.{Shared, Node, Act, Call, Power, Volume, Sound, Faulty, Unknown, Boots, ComesUp, Falls, acted, shared_after, powered}
+use Rattle.run_model.specs.Answers.{refused_before_reading, refused_where_served, refused_after_reading, served_down, rows_at, closing_at, answer_at, powers, occupies, takes_memory}
 use Rattle.run_model.specs.Operations.{first_of, refused_if}
-use Rattle.run_model.specs.Steps.{Step, NoneFalls, RoseAt, count_of, lines_of_rows, after_rows, act_begun, readied, occupied, broken, spoilt, stops_at}
+use Rattle.run_model.specs.Steps.{NodeStep, Serves as Asks, lines_of_rows}
 use Rattle.run_model.proofs.ReadyLemmas.{acted_name, powered_is, powered_name, resolved}
-use Rattle.run_model.proofs.StepLemmas.{none_falls_same, step_early, step_late, step_whole, step_without_memory, step_cut, step_cut_at_first}
+use Rattle.run_model.proofs.TaskLemmas.{task_refused_first, task_without_memory}
 use Rattle.dtm_node.specs.Boots.{HasContent, IsAwake}
 use Rattle.dtm_node.specs.Keeping.{Serves}
 use Rattle.dtm_node.specs.Nodes.{Passes}
-use Rattle.dtm_node.specs.Standing.{Kept, Place, StandsIn, StandsFor, HasDisk, IsVolumeOf, counts_of, disk_in, is_unknown_flag, noted_all}
-use Rattle.dtm_node.proofs.Fronts.{SameDisk, case_some, case_none, step_done}
+use Rattle.dtm_node.specs.Standing.{Kept, Place, StandsIn, StandsFor, HasDisk, IsVolumeOf, counts_of, disk_in, noted_all}
+use Rattle.dtm_node.proofs.Fronts.{SameDisk, stays_made}
+use Rattle.dtm_node.proofs.StepLemmas.{step_done}
 use Rattle.dtm_node.proofs.Booting.{DiskBy, ContentBy, volume_same}
-
-same_bytes : (a b : List ℕ) → a ≡ b → bytes_eq a b ≡ true
-same_bytes a b e = (bytes_eq-Decides a b).1 e
 
 or_true : (b : Bool) → (b || true) ≡ true
 or_true true = refl
 or_true false = refl
 
-or_false : (b : Bool) → (b || false) ≡ b
-or_false true = refl
-or_false false = refl
-
 pub nothing_behind : {A : Type 0} (xs : List A) → xs ++ [] ≡ xs
 nothing_behind [] = refl
 nothing_behind (x ∷ xs) = ap (λ t. x ∷ t) (nothing_behind xs)
 
-pub unknown_flag : (n : Node) → is_unknown n.volume ≡ is_unknown_flag n
-unknown_flag n = go n.volume
-  where
-    go : (v : Volume) → is_unknown v ≡ elim v [ Sound ↦ false | Faulty condition block ↦ false | Unknown ↦ true ]
-    go Sound = refl
-    go (Faulty condition block) = refl
-    go Unknown = refl
+-- What refuses a request before the disk is read.
 
--- one node of a world
+module _ (s : Shared) (n : Node) (req : Request) where
+  pub down_refuses : n.up ≡ false → served_down s n req ≡ false → refused_before_reading s n req ≡ Some line.NodeDown
+  down_refuses down only = ap (λ (b : Bool). first_of (refused_if (not (b || served_down s n req)) line.NodeDown) (refused_where_served s n req)) down ∙ ap (λ (b : Bool). first_of (refused_if (not b) line.NodeDown) (refused_where_served s n req)) only
 
-pub one_changed : (name : List ℕ) (m : Node) (change : Node → Node) → m.name ≡ name → with_node name change (m ∷ []) ≡ change m ∷ []
-one_changed name m change e = ap (λ (b : Bool). if b then change m ∷ [] else m ∷ []) (same_bytes name m.name (sym e))
+  pub serves_both : served_down s n req ≡ true → refused_before_reading s n req ≡ refused_where_served s n req
+  serves_both only = ap (λ (b : Bool). first_of (refused_if (not (n.up || b)) line.NodeDown) (refused_where_served s n req)) only ∙ ap (λ (b : Bool). first_of (refused_if (not b) line.NodeDown) (refused_where_served s n req)) (or_true n.up)
 
-pub one_found : (name : List ℕ) (v : World) (m : Node) → v.nodes ≡ m ∷ [] → m.name ≡ name → find_node name v.nodes ≡ Some m
-one_found name v m e named = ap (find_node name) e ∙ ap (λ (b : Bool). if b then Some m else None) (same_bytes name m.name (sym named))
+pub boot_up : (s : Shared) (n : Node) → n.up ≡ true → refused_before_reading s n Boot ≡ Some line.NodeUp
+boot_up s n up = serves_both s n Boot refl ∙ ap (λ (b : Bool). first_of (refused_if b line.NodeUp) (refused_if n.unmade line.NotInitialized)) up
 
-pub late_one : (name : List ℕ) (v : World) (m : Node) (req : Request) → v.nodes ≡ m ∷ [] → m.name ≡ name → late v (At name req) ≡ late_at v m req
-late_one name v m req e named = case_some (find_node name v.nodes) (λ n. late_at v n req) None m (one_found name v m e named)
+pub boot_down : (s : Shared) (n : Node) (u : Bool) → n.up ≡ false → n.unmade ≡ u → refused_before_reading s n Boot ≡ refused_if u line.NotInitialized
+boot_down s n u down unmade = serves_both s n Boot refl ∙ ap (λ (b : Bool). first_of (refused_if b line.NodeUp) (refused_if n.unmade line.NotInitialized)) down ∙ ap (λ (b : Bool). refused_if b line.NotInitialized) unmade
 
-pub rows_one : (name : List ℕ) (v : World) (m : Node) (req : Request) → v.nodes ≡ m ∷ [] → m.name ≡ name → rows v (At name req) ≡ rows_at v m req
-rows_one name v m req e named = case_some (find_node name v.nodes) (λ n. rows_at v n req) [] m (one_found name v m e named)
+-- Steps from a node.
 
-pub answer_one : (name : List ℕ) (v : World) (m : Node) (req : Request) → v.nodes ≡ m ∷ [] → m.name ≡ name → answer v (At name req) ≡ answer_at m req
-answer_one name v m req e named = case_some (find_node name v.nodes) (λ n. answer_at n req) line.NoSuchNode m (one_found name v m e named)
-
-module _ (log : CallLog) (w : World) (k : Kept) (h : StandsFor log k w) where
+module _ (log : CallLog) (s : Shared) (n : Node) (k : Kept) (h : StandsFor log k n) where
   abbrev d0 : DiskState
   d0 = disk_in k.place
 
-  found_here : find_node k.name w.nodes ≡ Some h.node
-  found_here = one_found k.name w h.node h.nodes h.name
-
-  pub early_here : (req : Request) → early w (At k.name req) ≡ early_at w h.node req
-  early_here req = case_some (find_node k.name w.nodes) (λ n. early_at w n req) (Some line.NoSuchNode) h.node found_here
-
-  pub changed_here : (change : Node → Node) → with_node k.name change w.nodes ≡ change h.node ∷ []
-  changed_here change = ap (with_node k.name change) h.nodes ∙ one_changed k.name h.node change h.name
-
-  disk_here : (disks : List DiskCounts) (d : DiskCounts) → disks ≡ d ∷ [] → disk_of k.name w.nodes disks ≡ Some d
-  disk_here disks d e = ap (λ ns. disk_of k.name ns disks) h.nodes ∙ (ap (disk_of k.name (h.node ∷ [])) e ∙ ap (λ (b : Bool). if b then Some d else None) (same_bytes k.name h.node.name (sym h.name)))
-
-  pub stops_here : stops_at k.name w ≡ d0.stops
-  stops_here = case_some (disk_of k.name w.nodes w.disks) (λ d. d.stops) 0 (counts_of d0) (disk_here w.disks (counts_of d0) h.disks)
-
-  pub rose_here : (cause : Cause) (new : DiskState) → Rose (count_of cause (counts_of d0)) (count_of cause (counts_of new)) → RoseAt w k.name cause (counts_of new ∷ [])
-  rose_here cause new rose =
-      let R : Option DiskCounts → Option DiskCounts → Type 0 = λ o p. elim o [ Some a ↦ elim p [ Some b ↦ Rose (count_of cause a) (count_of cause b) | None ↦ ⊥ ] | None ↦ ⊥ ] in
-      subst (λ o. R o (disk_of k.name w.nodes (counts_of new ∷ []))) (sym (disk_here w.disks (counts_of d0) h.disks))
-      (subst (R (Some (counts_of d0))) (sym (disk_here (counts_of new ∷ []) (counts_of new) refl)) rose)
-
-  pub falls_here : (d : DiskState) → Passes d0 d → NoneFalls w.disks (counts_of d ∷ [])
-  falls_here d g = subst (λ ds. NoneFalls ds (counts_of d ∷ [])) (sym h.disks) (g.faults h.counts, g.stops h.counts, tt)
-
   -- a refusal before the disk is read leaves all
-  pub refused_here : (s : Statement) (refusal : Line) (a b : Shown) → early w s ≡ Some refusal → Emits a (refusal ∷ []) b → Serves log w s a b k
-  refused_here s refusal a b e m = record { lines = refusal ∷ []; world = w; step = step_early w s refusal w.disks e (none_falls_same w.disks); emits = m; stands = h }
+  pub refused_here : (req : Request) (refusal : Line) (a b : Shown) → refused_before_reading s n req ≡ Some refusal → Emits a (refusal ∷ []) b → Serves log s n (counts_of d0) req a b k s
+  refused_here req refusal a b e m = record { lines = []; answer = refusal; node = n; step = task_refused_first s n req (counts_of d0) (counts_of d0) (omega arith) (omega arith) refusal e; emits = m; stands = h }
 
-  pub no_node : (name : List ℕ) (req : Request) (a b : Shown) → bytes_eq name k.name ≡ false → Emits a (line.NoSuchNode ∷ []) b → Serves log w (At name req) a b k
-  no_node name req a b other m = refused_here (At name req) line.NoSuchNode a b none m
-    where
-      missing : find_node name w.nodes ≡ None
-      missing = ap (find_node name) h.nodes ∙ ap (λ (b : Bool). if b then Some h.node else None) (ap (bytes_eq name) h.name ∙ other)
+  pub no_memory : (req : Request) (a b : Shown) → refused_before_reading s n req ≡ None → takes_memory s n req ≡ true → Emits a (line.NoMemory ∷ []) b → Serves log s n (counts_of d0) req a b k s
+  no_memory req a b e may m = record { lines = []; answer = line.NoMemory; node = n; step = task_without_memory s n req (counts_of d0) (counts_of d0) (omega arith) (omega arith) e may; emits = m; stands = h }
 
-      none : early w (At name req) ≡ Some line.NoSuchNode
-      none = case_none (find_node name w.nodes) (λ n. early_at w n req) (Some line.NoSuchNode) missing
-
-  pub no_memory : (req : Request) (a b : Shown) → early_at w h.node req ≡ None → takes_memory h.node req ≡ true → Emits a (line.NoMemory ∷ []) b → Serves log w (At k.name req) a b k
-  no_memory req a b e may m = record {
-    lines = line.NoMemory ∷ [];
-    world = w;
-    step = step_without_memory w (At k.name req) w.disks (early_here req ∙ e) (case_some (find_node k.name w.nodes) (λ n. takes_memory n req) false h.node found_here ∙ may) (none_falls_same w.disks);
-    emits = m;
-    stands = h;
-  }
-
-  -- what is refused early at a node that is down
-
-  pub down_refuses : (req : Request) → h.node.up ≡ false → served_down req ≡ false → early_at w h.node req ≡ Some line.NodeDown
-  down_refuses req down only = ap (λ (b : Bool). first_of (refused_if (not (b || served_down req)) line.NodeDown) (early_up w h.node req)) down ∙ ap (λ (b : Bool). first_of (refused_if (not b) line.NodeDown) (early_up w h.node req)) only
-
-  pub serves_both : (req : Request) → served_down req ≡ true → early_at w h.node req ≡ early_up w h.node req
-  serves_both req only = ap (λ (b : Bool). first_of (refused_if (not (h.node.up || b)) line.NodeDown) (early_up w h.node req)) only ∙ ap (λ (b : Bool). first_of (refused_if (not b) line.NodeDown) (early_up w h.node req)) (or_true h.node.up)
-
-  pub boot_up : h.node.up ≡ true → early_at w h.node Boot ≡ Some line.NodeUp
-  boot_up up = serves_both Boot refl ∙ ap (λ (b : Bool). first_of (refused_if b line.NodeUp) (refused_if (is_unknown h.node.volume) line.NotInitialized)) up
-
-  pub boot_down : (u : Bool) → h.node.up ≡ false → k.unknown ≡ u → early_at w h.node Boot ≡ refused_if u line.NotInitialized
-  boot_down u down unknown = serves_both Boot refl ∙ ap (λ (b : Bool). first_of (refused_if b line.NodeUp) (refused_if (is_unknown h.node.volume) line.NotInitialized)) down ∙ ap (λ (b : Bool). refused_if b line.NotInitialized) (unknown_flag h.node ∙ h.unknown ∙ unknown)
-
-  -- a statement of one act that does not make the disk run again
-  pub done_here : (req : Request) (act : Act) (ls : List Line) (l : Line) (p : Place) (a b : Shown) → powers req ≡ false → occupies req ≡ false → early_at w h.node req ≡ None → late_at w h.node req ≡ None → rows_at w h.node req ≡ record { act = Some act; lines = ls } ∷ [] →
-      answer_at h.node req ≡ l → Passes d0 (disk_in p) → labels_after act w.labels ≡ w.labels → (acted act h.node).blocks ≡ h.node.blocks → (acted act h.node).clock ≡ h.node.clock → (acted act h.node).volume ≡ h.node.volume → StandsIn p (acted act h.node) →
-      (disk_in p).calls ≡ noted_all (acted act h.node).calls log → Emits a (lines_of_rows (record { act = Some act; lines = ls } ∷ []) ++ l ∷ []) b →
-      Serves log w (At k.name req) a b (record k { place = p })
-  done_here req act ls l p a b power occupy e lt r an g labels blocks clock volume stands calls m = record {
-    lines = lines_of_rows (record { act = Some act; lines = ls } ∷ []) ++ l ∷ [];
-    world = record (occupied (At k.name req) (after_rows k.name (record { act = Some act; lines = ls } ∷ []) w)) { disks = counts_of (disk_in p) ∷ [] };
-    step = step_done w (At k.name req) (record { act = Some act; lines = ls } ∷ []) l (counts_of (disk_in p) ∷ []) power (early_here req ∙ e) (late_one k.name w h.node req h.nodes h.name ∙ lt) (rows_one k.name w h.node req h.nodes h.name ∙ r)
-        (answer_one k.name w h.node req h.nodes h.name ∙ an) (falls_here (disk_in p) g);
+  -- a request of one act that does not make the disk run again
+  pub done_here : (req : Request) (act : Act) (ls : List Line) (l : Line) (p : Place) (a b : Shown) → powers req ≡ false → occupies req ≡ false → refused_before_reading s n req ≡ None → refused_after_reading s n req ≡ None → rows_at s n req ≡ record { act = Some act; lines = ls } ∷ [] →
+      closing_at s n req ≡ None → answer_at s n req ≡ l → Passes d0 (disk_in p) → shared_after act s ≡ s → (acted act n).blocks ≡ n.blocks → (acted act n).clock ≡ n.clock → (acted act n).unmade ≡ n.unmade → StandsIn p (acted act n) →
+      (disk_in p).calls ≡ noted_all (acted act n).calls log → Emits a (lines_of_rows (record { act = Some act; lines = ls } ∷ []) ++ l ∷ []) b →
+      Serves log s n (counts_of d0) req a b (record k { place = p }) s
+  done_here req act ls l p a b power boots_none e lt r closing an g same blocks clock unmade stands calls m = record {
+    lines = lines_of_rows (record { act = Some act; lines = ls } ∷ []);
+    answer = l;
+    node = acted act n;
+    step = subst (λ (x : Shared). NodeStep s n (counts_of d0) (Asks req) (lines_of_rows (record { act = Some act; lines = ls } ∷ [])) l (acted act n) x (counts_of (disk_in p))) same
+        (step_done s n req (counts_of d0) (counts_of (disk_in p)) (g.faults h.counts) (g.stops h.counts) power e (record { act = Some act; lines = ls } ∷ []) l lt r closing an boots_none);
     emits = m;
     stands = record {
-      node = acted act h.node;
-      nodes = changed_here (acted act);
-      disks = refl;
-      labels = labels ∙ h.labels;
-      in_use = ap (λ (b : Bool). w.in_use || b) occupy ∙ or_false w.in_use ∙ h.in_use;
-      name = acted_name act h.node ∙ h.name;
+      name = acted_name act n ∙ h.name;
       blocks = blocks ∙ h.blocks ∙ sym g.size;
       clock = clock ∙ h.clock;
-      unknown = ap (λ v. elim v [ Sound ↦ false | Faulty condition block ↦ false | Unknown ↦ true ]) volume ∙ h.unknown;
+      unmade = unmade ∙ h.unmade;
       place = stands;
       calls = calls;
       counts = g.counted h.counts;
     };
   }
 
-  -- A statement that makes the disk run again, at the node that there is then.
-
-  pub ready_here : (taken : Bool) (req : Request) → powers req ≡ true → readied taken w (At k.name req) ≡ record w { nodes = spoilt (spoils req) (powered taken d0.stops h.node) ∷ [] }
-  ready_here taken req p =
-      ap (λ (b : Bool). if b then record w { nodes = with_node k.name (λ n. spoilt (spoils req) (powered taken (stops_at k.name w) n)) w.nodes } else w) p
-      ∙ ap (λ ns. record w { nodes = ns }) (changed_here (λ n. spoilt (spoils req) (powered taken (stops_at k.name w) n)) ∙ ap (λ s. spoilt (spoils req) (powered taken s h.node) ∷ []) stops_here)
-
-  module _ (taken : Bool) (req : Request) (p : powers req ≡ true) (early_none : early_at w h.node req ≡ None) where
-    abbrev ready_node : Node
-    ready_node = spoilt (spoils req) (powered taken d0.stops h.node)
-
-    abbrev ready_world : World
-    ready_world = record w { nodes = ready_node ∷ [] }
-
-    named : ready_node.name ≡ k.name
-    named = powered_name taken d0.stops (spoils req) h.node ∙ h.name
-
-    -- refused by what the disk has
-    pub late_step : (refusal : Line) (disks : List DiskCounts) → late_at ready_world ready_node req ≡ Some refusal → NoneFalls w.disks disks → Step w (At k.name req) (refusal ∷ []) (record ready_world { disks = disks })
-    late_step refusal disks l counts =
-        subst (λ v. Step w (At k.name req) (refusal ∷ []) (record v { disks = disks })) (ready_here taken req p)
-        (step_late w (At k.name req) taken refusal disks (early_here req ∙ early_none) (ap (λ v. late v (At k.name req)) (ready_here taken req p) ∙ late_one k.name ready_world ready_node req refl named ∙ l) counts)
-
-    -- done whole
-    pub whole_step : (rs : List Row) (l : Line) (disks : List DiskCounts) → late_at ready_world ready_node req ≡ None → rows_at ready_world ready_node req ≡ rs → answer_at ready_node req ≡ l → NoneFalls w.disks disks →
-        Step w (At k.name req) (lines_of_rows rs ++ l ∷ []) (record (occupied (At k.name req) (after_rows k.name rs ready_world)) { disks = disks })
-    whole_step rs l disks lt r an counts =
-        let s = At k.name req in
-        subst (λ x. Step w s (lines_of_rows rs ++ x ∷ []) (record (occupied s (after_rows k.name rs ready_world)) { disks = disks })) (answer_one k.name ready_world ready_node req refl named ∙ an)
-        (subst (λ qs. Step w s (lines_of_rows qs ++ answer ready_world s ∷ []) (record (occupied s (after_rows k.name qs ready_world)) { disks = disks })) (rows_one k.name ready_world ready_node req refl named ∙ r)
-        (subst (λ v. Step w s (lines_of_rows (rows v s) ++ answer v s ∷ []) (record (occupied s (after_rows k.name (rows v s) v)) { disks = disks })) (ready_here taken req p)
-        (step_whole w s taken disks (early_here req ∙ early_none) (ap (λ v. late v s) (ready_here taken req p) ∙ late_one k.name ready_world ready_node req refl named ∙ lt) counts)))
-
-    -- the disk went down before any part was done
-    pub first_step : (cause : Cause) (disks : List DiskCounts) → touches req ≡ true → RoseAt w k.name cause disks → NoneFalls w.disks disks →
-        Step w (At k.name req) (broken (At k.name req) cause) (record (occupied (At k.name req) (record ready_world { nodes = with_node k.name (fallen None) (ready_node ∷ []) })) { disks = disks })
-    first_step cause disks t rose counts =
-        subst (λ v. Step w (At k.name req) (broken (At k.name req) cause) (record (occupied (At k.name req) (record v { nodes = with_node k.name (fallen None) v.nodes })) { disks = disks })) (ready_here taken req p)
-        (step_cut_at_first w (At k.name req) taken cause disks (early_here req ∙ early_none) t rose counts)
-
-    -- the disk went down while the first act was under way
-    pub begun_step : (rs : List Row) (cause : Cause) (disks : List DiskCounts) → late_at ready_world ready_node req ≡ None → rows_at ready_world ready_node req ≡ rs → touches req ≡ true → RoseAt w k.name cause disks → NoneFalls w.disks disks →
-        Step w (At k.name req) (broken (At k.name req) cause) (record (occupied (At k.name req) (record ready_world { nodes = with_node k.name (fallen (act_begun true rs)) (ready_node ∷ []) })) { disks = disks })
-    begun_step rs cause disks lt r t rose counts =
-        let s = At k.name req in
-        subst (λ qs. Step w s (broken s cause) (record (occupied s (record ready_world { nodes = with_node k.name (fallen (act_begun true qs)) (ready_node ∷ []) })) { disks = disks })) (rows_one k.name ready_world ready_node req refl named ∙ r)
-        (subst (λ v. Step w s (broken s cause) (record (occupied s (record v { nodes = with_node k.name (fallen (act_begun true (rows v s))) v.nodes })) { disks = disks })) (ready_here taken req p)
-        (step_cut w s taken 0 true cause disks (early_here req ∙ early_none) (ap (λ v. late v s) (ready_here taken req p) ∙ late_one k.name ready_world ready_node req refl named ∙ lt) t (omega arith) rose counts))
-
 -- What a disk has while only its counts and calls change.
 
 pub same_acted : (act : Act) (u : Bool) (cs : List Call) (n : Node) → SameDisk (acted act (record n { up = u; calls = cs })) (acted act n)
-same_acted Boots u cs n = record { name = refl; blocks = refl; volume = refl; slots = refl; journal = refl; boot = refl; greatest = refl; last = refl; directory = refl }
-same_acted _ u cs n = record { name = refl; blocks = refl; volume = refl; slots = refl; journal = refl; boot = refl; greatest = refl; last = refl; directory = refl }
+same_acted Boots u cs n = record { name = refl; blocks = refl; volume = refl; slots = refl; journal = refl; boot = refl; greatest = refl; last = refl; units = refl; directory = refl }
+same_acted _ u cs n = record { name = refl; blocks = refl; volume = refl; slots = refl; journal = refl; boot = refl; greatest = refl; last = refl; units = refl; directory = refl }
 
 pub disk_kept : (n : Node) (u : Bool) (cs : List Call) (d new : DiskState) → new.pending ≡ d.pending → new.seen ≡ d.seen → HasDisk n d → HasDisk (record n { up = u; calls = cs }) new
 disk_kept n u cs d new pending seen has = go n.volume has
@@ -222,7 +99,7 @@ disk_kept n u cs d new pending seen has = go n.volume has
         let i = l image (back image left) in (
           i.0,
           ⊎_elim
-              (λ v. inl (volume_same (record n { up = u; calls = cs }) n (content_of image) (record { name = refl; blocks = refl; volume = refl; slots = refl; journal = refl; boot = refl; greatest = refl; last = refl; directory = refl }) v))
+              (λ v. inl (volume_same (record n { up = u; calls = cs }) n (content_of image) (record { name = refl; blocks = refl; volume = refl; slots = refl; journal = refl; boot = refl; greatest = refl; last = refl; units = refl; directory = refl }) v))
               (λ x. inr (x.0, x.1, volume_same (acted x.0 (record n { up = u; calls = cs })) (acted x.0 n) (content_of image) (same_acted x.0 u cs n) x.2))
               i.1,
         )
@@ -255,6 +132,14 @@ powered_clock taken stops n = ap (λ (m : Node). m.clock) (powered_is taken stop
     go true None = refl
     go false o = refl
 
+pub powered_made : (taken : Bool) (stops : ℕ) (n : Node) → n.unmade ≡ false → (powered taken stops n).unmade ≡ false
+powered_made taken stops n made = ap (λ (m : Node). m.unmade) (powered_is taken stops n) ∙ go taken n.under_way
+  where
+    go : (t : Bool) (o : Option Act) → (resolved t o n).unmade ≡ false
+    go true (Some act) = stays_made act n made
+    go true None = made
+    go false o = made
+
 pub record Wakes (n : Node) (old new : DiskState) : Type 0 where
   pub taken : Bool
   pub awake : IsAwake n.name new (powered taken old.stops n)
@@ -279,7 +164,7 @@ awake_at n taken old new image down blocks size told has = record {
   };
 }
 
-pub wakes : (n : Node) (old new : DiskState) → n.up ≡ false → n.blocks ≡ old.size → is_some old.seen ≡ true → is_unknown_flag n ≡ false → HasDisk n old → IsPowered old new → Wakes n old new
+pub wakes : (n : Node) (old new : DiskState) → n.up ≡ false → n.blocks ≡ old.size → is_some old.seen ≡ true → (n.volume ≡ Unknown → ⊥) → HasDisk n old → IsPowered old new → Wakes n old new
 wakes n old new down blocks told known has power = at_seen old.seen refl new.seen refl power.image
   where
     size : new.size ≡ old.size
@@ -288,7 +173,7 @@ wakes n old new down blocks told known has power = at_seen old.seen refl new.see
     not_taken : (image : List (List ℕ)) → new.seen ≡ Some image → n.volume ≡ Sound → fitting image ≡ true → IsVolumeOf (content_of image) n → Wakes n old new
     not_taken image is e fits v = awake_at n false old new image down blocks size is
         (subst (ContentBy (record n { calls = Power old.stops ∷ n.calls; under_way = None }) (fitting image) (content_of image)) (sym e)
-        (fits, volume_same (record n { calls = Power old.stops ∷ n.calls; under_way = None }) n (content_of image) (record { name = refl; blocks = refl; volume = refl; slots = refl; journal = refl; boot = refl; greatest = refl; last = refl; directory = refl }) v))
+        (fits, volume_same (record n { calls = Power old.stops ∷ n.calls; under_way = None }) n (content_of image) (record { name = refl; blocks = refl; volume = refl; slots = refl; journal = refl; boot = refl; greatest = refl; last = refl; units = refl; directory = refl }) v))
 
     taken_act : (image : List (List ℕ)) → new.seen ≡ Some image → (act : Act) → n.under_way ≡ Some act → (acted act n).up ≡ false → fitting image ≡ true → IsVolumeOf (content_of image) (acted act n) → Wakes n old new
     taken_act image is act under stays fits v =
@@ -296,7 +181,7 @@ wakes n old new down blocks told known has power = at_seen old.seen refl new.see
         awake_at n true old new image (ap (λ (m : Node). m.up) at ∙ stays) blocks size is
         (subst (λ m. HasContent m (fitting image) (content_of image)) (sym at)
         (subst (ContentBy (record (acted act n) { calls = Power old.stops ∷ n.calls; under_way = None }) (fitting image) (content_of image)) (sym v.has.volume)
-        (fits, volume_same (record (acted act n) { calls = Power old.stops ∷ n.calls; under_way = None }) (acted act n) (content_of image) (record { name = refl; blocks = refl; volume = refl; slots = refl; journal = refl; boot = refl; greatest = refl; last = refl; directory = refl }) v)))
+        (fits, volume_same (record (acted act n) { calls = Power old.stops ∷ n.calls; under_way = None }) (acted act n) (content_of image) (record { name = refl; blocks = refl; volume = refl; slots = refl; journal = refl; boot = refl; greatest = refl; last = refl; units = refl; directory = refl }) v)))
 
     at_image : (image : List (List ℕ)) → new.seen ≡ Some image → MayLeave old image → (v : Volume) → n.volume ≡ v → DiskBy n old v → Wakes n old new
     at_image image is left Sound e l =
@@ -305,14 +190,14 @@ wakes n old new down blocks told known has power = at_seen old.seen refl new.see
         (λ v. not_taken image is e i.0 v)
         (λ x. ⊎_elim
         (λ stays. taken_act image is x.0 x.1 stays i.0 x.2)
-        (λ same. not_taken image is e i.0 (volume_same n (acted ComesUp n) (content_of image) (record { name = refl; blocks = refl; volume = refl; slots = refl; journal = refl; boot = refl; greatest = refl; last = refl; directory = refl })
+        (λ same. not_taken image is e i.0 (volume_same n (acted ComesUp n) (content_of image) (record { name = refl; blocks = refl; volume = refl; slots = refl; journal = refl; boot = refl; greatest = refl; last = refl; units = refl; directory = refl })
         (subst (λ act. IsVolumeOf (content_of image) (acted act n)) same x.2)))
         (up_after x.0 n down))
         i.1
     at_image image is left (Faulty condition block) e f =
         awake_at n false old new image down blocks size is
         (subst (ContentBy (record n { calls = Power old.stops ∷ n.calls; under_way = None }) (fitting image) (content_of image)) (sym e) (f.0 image left))
-    at_image image is left Unknown e h = let flag : true ≡ false = sym (ap (λ v. elim v [ Sound ↦ false | Faulty condition block ↦ false | Unknown ↦ true ]) e) ∙ known in let none : ⊥ = cc in absurd none
+    at_image image is left Unknown e h = absurd (known e)
 
     at_seen : (o : Option (List (List ℕ))) → old.seen ≡ o → (p : Option (List (List ℕ))) → new.seen ≡ p → MatchOption o (p ≡ None) (λ seen. IsSomeAnd p (SameBut old.pending seen)) → Wakes n old new
     at_seen None is p ip h = let none : ⊥ = (let untold : true ≡ false = sym told ∙ ap (λ (x : Option (List (List ℕ))). is_some x) is in cc) in absurd none

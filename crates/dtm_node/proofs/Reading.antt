@@ -8,14 +8,15 @@ use Rattle.record_files.specs.Any.{map_of, IsLaidOut}
 use Rattle.vms_model.specs.Keys.{Key}
 use Rattle.transcript_model.specs.Lines as line
 use Rattle.transcript_model.specs.Emitting.{Shown, Emits}
-use Rattle.script_model.specs.Statements.{At, Get, Next, Records}
+use Rattle.script_model.specs.Statements.{Get, Next, Records}
 use Rattle.run_model.specs.World.{File}
 use Rattle.run_model.specs.Operations.{record_in, missing, found_answer, at_end, next_answer}
 use Rattle.directory_model.specs.Files.{IsFile}
-use Rattle.dtm_node.specs.Standing.{Up, IsUp}
+use Rattle.dtm_node.specs.Standing.{Up, IsUp, counts_of}
 use Rattle.dtm_node.specs.Operating.{Operates, kept_running}
 use Rattle.dtm_node.specs.Keeping.{Serves}
 use Rattle.dtm_node.specs.TheLaws.{TheLaws}
+use Rattle.dtm_node.proofs.UpLemmas.{disk_up}
 use Rattle.dtm_node.proofs.Asked.{asked_found, refused_asked, read_asked, late_data}
 
 -- what was read, where the content is told
@@ -37,31 +38,31 @@ as_none t x is = ap (λ (b : Bool). if b then Some x else None) is
 
 module _ (f : ℕ) (head : FileHead) (u new : Up) (a b : Shown) (laws : TheLaws) (up : IsUp u.volume.catalog.home.node u) (same : new ≡ u) where
   pub get_found : (key : Key) (t : Bool) (x : List ℕ) → IfSome u.volume.store.current (ReadsAt head key t x) → t ≡ true → Emits a (line.RecordFound x ∷ []) b → Operates {T = Unit {0}} (Ok tt) (Get key) f head u new a b
-  get_found key t x read is m = λ labels label file log w q.
-      let found = asked_found log w u labels label file f head (Get key) q laws in
+  get_found key t x read is m = λ shared label file log n q.
+      let found = asked_found log shared n u label file f head (Get key) q laws in
       let v = value_in q.stands.place.content head found.file key t x u.volume.store.current q.stands.place.told found.is read ∙ as_there t x is in
-      subst (λ k. Serves log w (At u.volume.catalog.home.node (Records label file (Get key))) a b (kept_running k labels)) (sym same)
-      (read_asked log w u labels label file f head (Get key) q laws (line.RecordFound x) a b up (ap missing v) refl refl (ap found_answer v) m)
+      subst (λ k. Serves log shared n (counts_of (disk_up u)) (Records label file (Get key)) a b (kept_running k) shared) (sym same)
+      (read_asked log shared n u label file f head (Get key) q laws (line.RecordFound x) a b up (ap missing v) refl refl (ap found_answer v) m)
 
   pub get_missing : (key : Key) (t : Bool) (x : List ℕ) → IfSome u.volume.store.current (ReadsAt head key t x) → t ≡ false → Emits a (line.RecordNotFound ∷ []) b → Operates {T = Unit {0}} (Ok tt) (Get key) f head u new a b
-  get_missing key t x read is m = λ labels label file log w q.
-      let found = asked_found log w u labels label file f head (Get key) q laws in
+  get_missing key t x read is m = λ shared label file log n q.
+      let found = asked_found log shared n u label file f head (Get key) q laws in
       let v = value_in q.stands.place.content head found.file key t x u.volume.store.current q.stands.place.told found.is read ∙ as_none t x is in
-      subst (λ k. Serves log w (At u.volume.catalog.home.node (Records label file (Get key))) a b (kept_running k labels)) (sym same)
-      (refused_asked log w u labels label file f head (Get key) q laws line.RecordNotFound a b (late_data log w u labels label file f head (Get key) q laws line.RecordNotFound (ap missing v)) m)
+      subst (λ k. Serves log shared n (counts_of (disk_up u)) (Records label file (Get key)) a b (kept_running k) shared) (sym same)
+      (refused_asked log shared n u label file f head (Get key) q laws line.RecordNotFound a b (late_data log shared n u label file f head (Get key) q laws line.RecordNotFound (ap missing v)) m)
 
   pub next_found : (after : Option Key) (key : Key) (x : List ℕ) → IfSome u.volume.store.current (λ c. any.IsFile head → IsLaidOut head c → IsNext (map_of head c) after key x) → Emits a (line.NextFound key x ∷ []) b → Operates {T = Unit {0}} (Ok tt) (Next after) f head u new a b
-  next_found after key x read m = λ labels label file log w q.
-      let found = asked_found log w u labels label file f head (Next after) q laws in
+  next_found after key x read m = λ shared label file log n q.
+      let found = asked_found log shared n u label file f head (Next after) q laws in
       let next = told_so (λ c. any.IsFile head → IsLaidOut head c → IsNext (map_of head c) after key x) u.volume.store.current q.stands.place.content q.stands.place.told read found.is.form found.is.laid in
       let v = laws.reads.next q.stands.place.content head found.file after key x found.is next in
-      subst (λ k. Serves log w (At u.volume.catalog.home.node (Records label file (Next after))) a b (kept_running k labels)) (sym same)
-      (read_asked log w u labels label file f head (Next after) q laws (line.NextFound key x) a b up (ap at_end v) refl refl (ap next_answer v) m)
+      subst (λ k. Serves log shared n (counts_of (disk_up u)) (Records label file (Next after)) a b (kept_running k) shared) (sym same)
+      (read_asked log shared n u label file f head (Next after) q laws (line.NextFound key x) a b up (ap at_end v) refl refl (ap next_answer v) m)
 
   pub next_none : (after : Option Key) → IfSome u.volume.store.current (λ c. any.IsFile head → IsLaidOut head c → EndsAfter (map_of head c) after) → Emits a (line.EndOfFile ∷ []) b → Operates {T = Unit {0}} (Ok tt) (Next after) f head u new a b
-  next_none after read m = λ labels label file log w q.
-      let found = asked_found log w u labels label file f head (Next after) q laws in
+  next_none after read m = λ shared label file log n q.
+      let found = asked_found log shared n u label file f head (Next after) q laws in
       let ends = told_so (λ c. any.IsFile head → IsLaidOut head c → EndsAfter (map_of head c) after) u.volume.store.current q.stands.place.content q.stands.place.told read found.is.form found.is.laid in
       let v = laws.reads.end q.stands.place.content head found.file after found.is ends in
-      subst (λ k. Serves log w (At u.volume.catalog.home.node (Records label file (Next after))) a b (kept_running k labels)) (sym same)
-      (refused_asked log w u labels label file f head (Next after) q laws line.EndOfFile a b (late_data log w u labels label file f head (Next after) q laws line.EndOfFile (ap at_end v)) m)
+      subst (λ k. Serves log shared n (counts_of (disk_up u)) (Records label file (Next after)) a b (kept_running k) shared) (sym same)
+      (refused_asked log shared n u label file f head (Next after) q laws line.EndOfFile a b (late_data log shared n u label file f head (Next after) q laws line.EndOfFile (ap at_end v)) m)

@@ -15,14 +15,14 @@ use Rattle.volume.specs.State.{VolumeState}
 use Rattle.vms_model.specs.Keys.{Key}
 use Rattle.transcript_model.specs.Lines.{Line}
 use Rattle.transcript_model.specs.Emitting.{Shown, Emits}
-use Rattle.script_model.specs.Statements.{At, Operation, Records}
+use Rattle.script_model.specs.Statements.{Operation, Records}
 use Rattle.records_model.specs.Records.{Change}
-use Rattle.run_model.specs.World.{World, Node, File, Label, Branch, Changes, acted, with_changes_by}
-use Rattle.run_model.specs.Answers.{late_at, change_act}
+use Rattle.run_model.specs.World.{Shared, Node, File, Branch, Changes, acted, with_changes_by}
+use Rattle.run_model.specs.Answers.{refused_after_reading, change_act}
 use Rattle.run_model.specs.Operations.{set_in, changes_of, record_in, operation_answer}
 use Rattle.directory_model.specs.Files.{Note, IsFile, AreOwn, AreUndoable, head_at}
 use Rattle.directory_model.specs.Laws.{IsChanged, SameBut}
-use Rattle.dtm_node.specs.Standing.{Up, IsUp, Unsettled, HasBranch, branches_of}
+use Rattle.dtm_node.specs.Standing.{Up, IsUp, Unsettled, HasBranch, branches_of, counts_of}
 use Rattle.node_files.specs.Staging.{StagesFile, SetsKey, TellsSet, is_of_file}
 use Rattle.dtm_node.specs.Operating.{IsAsked, SetsOne, Told, kept_running}
 use Rattle.node_files.specs.Forms.{refused_by_form}
@@ -86,29 +86,26 @@ abbrev branch_of : Unsettled → ℕ → Branch
 branch_of b m = record { tid = b.serial; serial = b.serial; changes = m }
 
 -- what stands once a file is changed by so many changes, which are noted
-module _ (log : CallLog) (w : World) (u : Up) (labels : List Label) (label file : List ℕ) (f : ℕ) (head : FileHead) (op : Operation) (q : IsAsked log w u labels label file f head op) (laws : TheLaws) (up : IsUp u.volume.catalog.home.node u) where
+module _ (log : CallLog) (shared : Shared) (n : Node) (u : Up) (label file : List ℕ) (f : ℕ) (head : FileHead) (op : Operation) (q : IsAsked log shared n u label file f head op) (laws : TheLaws) (up : IsUp u.volume.catalog.home.node u) where
   abbrev pub name_here : List ℕ
   name_here = u.volume.catalog.home.node
-
-  abbrev pub n_here : Node
-  n_here = q.stands.node
 
   abbrev pub a_here : List (List ℕ)
   a_here = q.stands.place.content
 
   abbrev pub b_here : Unsettled
-  b_here = asked_branch log w u labels label file f head op q laws
+  b_here = asked_branch log shared n u label file f head op q laws
 
   abbrev pub file_here : File
-  file_here = (asked_found log w u labels label file f head op q laws).file
+  file_here = (asked_found log shared n u label file f head op q laws).file
 
   at_here : u.branch ≡ Some b_here
-  at_here = asked_at log w u labels label file f head op q laws
+  at_here = asked_at log shared n u label file f head op q laws
 
   pub changed_means : (limit : ℕ) (now : FileHead) (mid : VolumeState) (c : Change) (cs : List Change) (b : List (List ℕ)) → StagesFile f head limit u.volume mid now → mid.store.current ≡ Some b → IsChanged f b_here.notes (c ∷ cs) a_here head b now →
-      Means name_here u n_here (Changes b_here.serial file (c ∷ cs)) b (with_head f now u.volume.catalog)
+      Means name_here u n (Changes b_here.serial file (c ∷ cs)) b (with_head f now u.volume.catalog)
   changed_means limit now mid c cs b st is changed =
-      let s = standing_of log w name_here u labels q.stands up in
+      let s = standing_of log n name_here u q.stands up in
       let has = q.stands.place.has in
       let long = has.files.heads_long in
       record {
@@ -119,18 +116,19 @@ module _ (log : CallLog) (w : World) (u : Up) (labels : List Label) (label file 
           boot = has.boot;
           greatest = has.greatest;
           last = has.last;
-          files = laws.files.changes a_here b u.volume.catalog.heads n_here f head now file b_here.serial b_here.notes (c ∷ cs) has.files (changes_by a_here u.volume.catalog.heads u n_here b_here.serial b_here q.stands.place.changes at_here refl) q.named changed
+          units = has.units;
+          files = laws.files.changes a_here b u.volume.catalog.heads n f head now file b_here.serial b_here.notes (c ∷ cs) has.files (changes_by a_here u.volume.catalog.heads u n b_here.serial b_here q.stands.place.changes at_here refl) q.named changed
               (staged_beside name_here u f limit head now mid a_here b laws up long q.named.there st q.stands.place.told is);
         };
         sound = sound_changed name_here (disk_up u).size u.volume.catalog f head now laws.heads long q.named.there st.same st.fits up.sound;
         same = record { name = refl; blocks = refl; clock = refl; calls = refl };
-        disk = record { name = refl; blocks = refl; volume = refl; slots = refl; journal = refl; boot = refl; greatest = refl; last = refl; directory = refl };
+        disk = record { name = refl; blocks = refl; volume = refl; slots = refl; journal = refl; boot = refl; greatest = refl; last = refl; units = refl; directory = refl };
         durable = refl;
       }
 
   pub changed_keeps : (new : Up) (now : FileHead) (c : Change) (cs : List Change) (made : List Note) (b : List (List ℕ)) → length made ≡ length (c ∷ cs) → length (made ++ b_here.notes) ≡ length made + length b_here.notes →
-      HasBranch b (slice_set u.volume.catalog.heads f (Some now)) (Some (record { serial = b_here.serial; notes = made ++ b_here.notes })) (acted (Changes b_here.serial file (c ∷ cs)) n_here) →
-      new.drawn ≡ u.drawn → new.branch ≡ Some (record { serial = b_here.serial; notes = made ++ b_here.notes }) → Keeps b (with_head f now u.volume.catalog) new (acted (Changes b_here.serial file (c ∷ cs)) n_here)
+      HasBranch b (slice_set u.volume.catalog.heads f (Some now)) (Some (record { serial = b_here.serial; notes = made ++ b_here.notes })) (acted (Changes b_here.serial file (c ∷ cs)) n) →
+      new.drawn ≡ u.drawn → new.branch ≡ Some (record { serial = b_here.serial; notes = made ++ b_here.notes }) → Keeps b (with_head f now u.volume.catalog) new (acted (Changes b_here.serial file (c ∷ cs)) n)
   changed_keeps new now c cs made b same long has drawn branch = record {
     up = q.stands.place.up;
     was_up = q.stands.place.was_up;
@@ -139,39 +137,41 @@ module _ (log : CallLog) (w : World) (u : Up) (labels : List Label) (label file 
         ∙ ap (λ (t : Bool). if t then record (branch_as b_here) { changes = length b_here.notes + length (c ∷ cs) } ∷ [] else branch_as b_here ∷ []) (same_id-refl b_here.serial)
         ∙ (let more : length b_here.notes + length (c ∷ cs) ≡ length (made ++ b_here.notes) = omega (arith, same, long) in ap (λ m. branch_of b_here m ∷ []) more) ∙ ap branches_of (sym branch);
     under_way = q.stands.place.under_way;
-    changes = subst (λ o. HasBranch b (slice_set u.volume.catalog.heads f (Some now)) o (acted (Changes b_here.serial file (c ∷ cs)) n_here)) (sym branch) has;
+    changes = subst (λ o. HasBranch b (slice_set u.volume.catalog.heads f (Some now)) o (acted (Changes b_here.serial file (c ∷ cs)) n)) (sym branch) has;
   }
 
   -- such a change is made by one group
-  pub changed_done : {T : Type 0} (r : Result T Down) (x : T) (new : Up) (limit : ℕ) (now : FileHead) (mid : VolumeState) (c : Change) (cs : List Change) (made : List Note) (b : List (List ℕ)) (l : Line) (d e : Shown) → Does w n_here (Records label file op) (Changes b_here.serial file (c ∷ cs)) [] l →
+  pub changed_done : {T : Type 0} (r : Result T Down) (x : T) (new : Up) (limit : ℕ) (now : FileHead) (mid : VolumeState) (c : Change) (cs : List Change) (made : List Note) (b : List (List ℕ)) (l : Line) (d e : Shown) → Does shared n (Records label file op) (Changes b_here.serial file (c ∷ cs)) [] l →
       StagesFile f head limit u.volume mid now → mid.store.current ≡ Some b → IsChanged f b_here.notes (c ∷ cs) a_here head b now → r ≡ Ok x → Writes r mid.store.current mid.catalog mid new.volume → length made ≡ length (c ∷ cs) → length (made ++ b_here.notes) ≡ length made + length b_here.notes →
-      HasBranch b (slice_set u.volume.catalog.heads f (Some now)) (Some (record { serial = b_here.serial; notes = made ++ b_here.notes })) (acted (Changes b_here.serial file (c ∷ cs)) n_here) →
-      new.drawn ≡ u.drawn → new.branch ≡ Some (record { serial = b_here.serial; notes = made ++ b_here.notes }) → Emits d (l ∷ []) e → Serves log w (At name_here (Records label file op)) d e (kept_running new labels)
+      HasBranch b (slice_set u.volume.catalog.heads f (Some now)) (Some (record { serial = b_here.serial; notes = made ++ b_here.notes })) (acted (Changes b_here.serial file (c ∷ cs)) n) →
+      new.drawn ≡ u.drawn → new.branch ≡ Some (record { serial = b_here.serial; notes = made ++ b_here.notes }) → Emits d (l ∷ []) e → Serves log shared n (counts_of (disk_up u)) (Records label file op) d e (kept_running new) shared
   changed_done r x new limit now mid c cs made b l d e does st is changed ok wr same long has drawn branch m =
       let home : name_here ≡ new.volume.catalog.home.node = ap (λ (v : Catalog). v.home.node) (sym st.catalog ∙ sym wr.catalog) in
-      renamed log w (At name_here (Records label file op)) d e name_here new.volume.catalog.home.node new labels home
-      (group_done r x log w name_here u new labels q.stands (Records label file op) (Changes b_here.serial file (c ∷ cs)) [] l b (with_head f now u.volume.catalog) mid mid.store.current d e does (changed_means limit now mid c cs b st is changed) ok
+      renamed log shared n (counts_of (disk_up u)) (Records label file op) d e name_here new.volume.catalog.home.node new shared home
+      (group_done r x log shared n name_here u new q.stands (Records label file op) (Changes b_here.serial file (c ∷ cs)) [] l b (with_head f now u.volume.catalog) mid mid.store.current d e does (changed_means limit now mid c cs b st is changed) ok
       (subst (λ k. Writes r mid.store.current k mid new.volume) st.catalog wr) is
       (subst (λ (d : DiskState). Uses r d new.volume.store.disk) (staged_disk f limit head now u.volume mid st) (uses_counts r mid.store.disk new.volume.store.disk wr.counts wr.ready)).goes
       (changed_keeps new now c cs made b same long has drawn branch) m)
 
-  pub changed_broken : {T : Type 0} (r : Result T Down) (x : Down) (new : VolumeState) (limit : ℕ) (now : FileHead) (mid : VolumeState) (c : Change) (cs : List Change) (b : List (List ℕ)) (l : Line) (d : Shown) → Does w n_here (Records label file op) (Changes b_here.serial file (c ∷ cs)) [] l →
+  pub changed_broken : {T : Type 0} (r : Result T Down) (x : Down) (new : VolumeState) (limit : ℕ) (now : FileHead) (mid : VolumeState) (c : Change) (cs : List Change) (b : List (List ℕ)) (l : Line) (d : Shown) → Does shared n (Records label file op) (Changes b_here.serial file (c ∷ cs)) [] l →
       StagesFile f head limit u.volume mid now → mid.store.current ≡ Some b → IsChanged f b_here.notes (c ∷ cs) a_here head b now → r ≡ Err x → Writes r mid.store.current mid.catalog mid new →
-      Breaks log w (At name_here (Records label file op)) name_here x d d (kept_fallen name_here labels new.store.disk)
+      Breaks log shared n (counts_of (disk_up u)) (Records label file op) name_here x d d (kept_fallen name_here new.store.disk) shared
   changed_broken r x new limit now mid c cs b l d does st is changed err wr =
-      group_broken r x log w name_here u labels q.stands up (Records label file op) (Changes b_here.serial file (c ∷ cs)) [] l b (with_head f now u.volume.catalog) mid new mid.store.current d does (changed_means limit now mid c cs b st is changed) err
+      group_broken r x log shared n name_here u q.stands up (Records label file op) (Changes b_here.serial file (c ∷ cs)) [] l b (with_head f now u.volume.catalog) mid new mid.store.current d does (changed_means limit now mid c cs b st is changed) err
       (subst (λ k. Writes r mid.store.current k mid new) st.catalog wr) is (staged_content f limit head now u.volume mid st) (staged_disk f limit head now u.volume mid st) (st.holds up.holds)
       (subst (λ (d : DiskState). Uses r d new.store.disk) (staged_disk f limit head now u.volume mid st) (uses_counts r mid.store.disk new.store.disk wr.counts wr.ready))
 
-  pub changed_does : (c : Change) (cs : List Change) (l : Line) → late_at w n_here (Records label file op) ≡ None → changes_of file_here op ≡ c ∷ cs → operation_answer file_here op ≡ l →
-      Does w n_here (Records label file op) (Changes b_here.serial file (c ∷ cs)) [] l
+  pub changed_does : (c : Change) (cs : List Change) (l : Line) → refused_after_reading shared n (Records label file op) ≡ None → changes_of file_here op ≡ c ∷ cs → operation_answer file_here op ≡ l →
+      Does shared n (Records label file op) (Changes b_here.serial file (c ∷ cs)) [] l
   changed_does c cs l late changes answer = record {
     powers_not = refl;
     touches_it = refl;
-    early_none = early_asked log w u labels label file f head op q laws;
+    occupies_not = refl;
+    early_none = early_asked log shared n u label file f head op q laws;
     late_none = late;
-    rows_are = rows_asked log w u labels label file f head op q laws ∙ ap (λ cs. record { act = change_act b_here.serial file cs; lines = [] } ∷ []) changes;
-    answer_is = answer_asked log w u labels label file f head op q laws ∙ answer;
+    rows_are = rows_asked log shared n u label file f head op q laws ∙ ap (λ cs. record { act = change_act b_here.serial file cs; lines = [] } ∷ []) changes;
+    closing_none = refl;
+    answer_is = answer_asked log shared n u label file f head op q laws ∙ answer;
   }
 
   -- One key is set.
@@ -181,7 +181,7 @@ module _ (log : CallLog) (w : World) (u : Up) (labels : List Label) (label file 
     change_here = set_in file_here key value
 
     abbrev is_here : IsFile a_here head file_here
-    is_here = (asked_found log w u labels label file f head op q laws).is
+    is_here = (asked_found log shared n u label file f head op q laws).is
 
     set_here : (b : List (List ℕ)) × (mid.store.current ≡ Some b) × SetsKey f head b_here.notes key value a_here b now
     set_here = sets a_here q.stands.place.told is_here.form is_here.laid so.suits (so.takes free)
@@ -192,30 +192,30 @@ module _ (log : CallLog) (w : World) (u : Up) (labels : List Label) (label file 
     had_here : before ≡ record_in file_here key
     had_here = sym (is_here.records key ∙ so.had)
 
-    does_here : Does w n_here (Records label file op) (Changes b_here.serial file (change_here ∷ [])) [] answer
+    does_here : Does shared n (Records label file op) (Changes b_here.serial file (change_here ∷ [])) [] answer
     does_here =
         let changes = so.changes file_here is_here in
         changed_does change_here [] answer
-        (late_none log w u labels label file f head op q laws (so.allowed file_here is_here) (let long = ap length changes in omega (arith, long, few)) (let needs = so.needs file_here is_here in omega (arith, needs, free)))
+        (late_none log shared n u label file f head op q laws (so.allowed file_here is_here) (let long = ap length changes in omega (arith, long, few)) (let needs = so.needs file_here is_here in omega (arith, needs, free)))
         changes (so.answers file_here is_here)
 
-    branch_here : HasBranch set_here.0 (slice_set u.volume.catalog.heads f (Some now)) (Some (record { serial = b_here.serial; notes = record { file = f; key = key; before = before } ∷ b_here.notes })) (acted (Changes b_here.serial file (change_here ∷ [])) n_here)
+    branch_here : HasBranch set_here.0 (slice_set u.volume.catalog.heads f (Some now)) (Some (record { serial = b_here.serial; notes = record { file = f; key = key; before = before } ∷ b_here.notes })) (acted (Changes b_here.serial file (change_here ∷ [])) n)
     branch_here =
         let s = set_here.2 in
-        let has : HasBranch a_here u.volume.catalog.heads (Some b_here) n_here = subst (λ o. HasBranch a_here u.volume.catalog.heads o n_here) at_here q.stands.place.changes in
+        let has : HasBranch a_here u.volume.catalog.heads (Some b_here) n = subst (λ o. HasBranch a_here u.volume.catalog.heads o n) at_here q.stands.place.changes in
         let beside = staged_beside name_here u f limit head now mid a_here set_here.0 laws up q.stands.place.has.files.heads_long q.named.there st q.stands.place.told set_here.1 in (
-          laws.changes.changes n_here file b_here.serial (record { file = f; key = key; before = before } ∷ []) b_here.notes f file_here (change_here ∷ []) has.0 (asked_found log w u labels label file f head op q laws).at
+          laws.changes.changes n file b_here.serial (record { file = f; key = key; before = before } ∷ []) b_here.notes f file_here (change_here ∷ []) has.0 (asked_found log shared n u label file f head op q laws).at
               (refl, refl, had_here, tt) (refl, tt),
           subst (λ v. AreUndoable set_here.0 (slice_set u.volume.catalog.heads f (Some now)) (record { file = f; key = key; before = v } ∷ b_here.notes)) so.had
-              (laws.undo.sets a_here set_here.0 u.volume.catalog.heads n_here.directory f head now b_here.notes key value q.stands.place.has.files q.named.there s.within so.suits st.same s.form s.laid s.map s.back s.rooms beside has.1),
+              (laws.undo.sets a_here set_here.0 u.volume.catalog.heads n.directory f head now b_here.notes key value q.stands.place.has.files q.named.there s.within so.suits st.same s.form s.laid s.map s.back s.rooms beside has.1),
         )
 
     pub set_done : {T : Type 0} (r : Result T Down) (x : T) (new : Up) (d e : Shown) → r ≡ Ok x → Writes r mid.store.current mid.catalog mid new.volume → new.drawn ≡ u.drawn → new.branch ≡ Some (record { serial = b_here.serial; notes = record { file = f; key = key; before = before } ∷ b_here.notes }) →
-        Emits d (answer ∷ []) e → Serves log w (At name_here (Records label file op)) d e (kept_running new labels)
+        Emits d (answer ∷ []) e → Serves log shared n (counts_of (disk_up u)) (Records label file op) d e (kept_running new) shared
     set_done r x new d e ok wr drawn branch m =
         changed_done r x new limit now mid change_here [] (record { file = f; key = key; before = before } ∷ []) set_here.0 answer d e does_here st set_here.1 is_changed ok wr refl (omega arith) branch_here drawn branch m
 
-    pub set_broken : {T : Type 0} (r : Result T Down) (x : Down) (new : VolumeState) (d : Shown) → r ≡ Err x → Writes r mid.store.current mid.catalog mid new → Breaks log w (At name_here (Records label file op)) name_here x d d (kept_fallen name_here labels new.store.disk)
+    pub set_broken : {T : Type 0} (r : Result T Down) (x : Down) (new : VolumeState) (d : Shown) → r ≡ Err x → Writes r mid.store.current mid.catalog mid new → Breaks log shared n (counts_of (disk_up u)) (Records label file op) name_here x d d (kept_fallen name_here new.store.disk) shared
     set_broken r x new d err wr = changed_broken r x new limit now mid change_here [] set_here.0 answer d does_here st set_here.1 is_changed err wr
 
 -- The same, from what the code knows.
@@ -249,17 +249,17 @@ module _ (f : ℕ) (head now : FileHead) (u : Up) (mid : VolumeState) (notes : L
 
   pub set_told : {S : Type 0} (r : Result S Down) (x : S) (new : Up) → r ≡ Ok x → Writes r mid.store.current mid.catalog mid new.volume → new.drawn ≡ u.drawn →
       ((b : Unsettled) → u.branch ≡ Some b → new.branch ≡ Some (record { serial = b.serial; notes = record { file = f; key = key; before = before } ∷ b.notes })) → Told {T = Unit {0}} (Ok tt) (λ x. answer) op f head u new
-  set_told r x new ok wr drawn branch = λ labels label file log w q a b m.
-      let found = asked_found log w u labels label file f head op q laws in
-      let at = asked_at log w u labels label file f head op q laws in
+  set_told r x new ok wr drawn branch = λ shared label file log n q a b m.
+      let found = asked_found log shared n u label file f head op q laws in
+      let at = asked_at log shared n u label file f head op q laws in
       let notes_are = same _ at in
-      set_done log w u labels label file f head op q laws up 65 now mid key before value need answer (so_here q.stands.place.content q.stands.place.told found.is.form found.is.laid q.form) free st
+      set_done log shared n u label file f head op q laws up 65 now mid key before value need answer (so_here q.stands.place.content q.stands.place.told found.is.form found.is.laid q.form) free st
       (subst (λ ns. TellsSet f head ns key value u.volume mid now) (sym notes_are) sets) (subst (λ ns. length ns < 16) (sym notes_are) few) r x new a b ok wr drawn (branch _ at) m
 
   pub unset_told : {S : Type 0} (T : Type 0) (r : Result S Down) (x : Down) (new : Up) → r ≡ Err x → Writes r mid.store.current mid.catalog mid new.volume → Told {T = T} (Err x) (λ x. answer) op f head u new
-  unset_told T r x new err wr = λ labels label file log w q a.
-      let found = asked_found log w u labels label file f head op q laws in
-      let at = asked_at log w u labels label file f head op q laws in
+  unset_told T r x new err wr = λ shared label file log n q a.
+      let found = asked_found log shared n u label file f head op q laws in
+      let at = asked_at log shared n u label file f head op q laws in
       let notes_are = same _ at in
-      set_broken log w u labels label file f head op q laws up 65 now mid key before value need answer (so_here q.stands.place.content q.stands.place.told found.is.form found.is.laid q.form) free st
+      set_broken log shared n u label file f head op q laws up 65 now mid key before value need answer (so_here q.stands.place.content q.stands.place.told found.is.form found.is.laid q.form) free st
       (subst (λ ns. TellsSet f head ns key value u.volume mid now) (sym notes_are) sets) (subst (λ ns. length ns < 16) (sym notes_are) few) r x new.volume a err wr

@@ -18,17 +18,17 @@ use Rattle.vms_model.specs.Keys.{Key}
 use Rattle.transcript_model.specs.Lines as line
 use Rattle.transcript_model.specs.Lines.{Line}
 use Rattle.transcript_model.specs.Emitting.{Shown, Emits}
-use Rattle.script_model.specs.Statements.{At, Operation, Records, Truncate}
+use Rattle.script_model.specs.Statements.{Operation, Records, Truncate}
 use Rattle.records_model.specs.Records.{Change}
 use Rattle.records_model.specs.Slots.{Slot}
 use Rattle.records_model.specs.Chain.{chain_set, chain_changed}
 use Rattle.records_model.specs.History.{current}
-use Rattle.run_model.specs.World.{World, File, Label, Changes, acted}
-use Rattle.run_model.specs.Answers.{late_at}
+use Rattle.run_model.specs.World.{Node, Shared, File, Changes, acted}
+use Rattle.run_model.specs.Answers.{refused_after_reading}
 use Rattle.run_model.specs.Operations.{refused_if, truncate_refused, data_refused, count_of, in_order, removed}
 use Rattle.directory_model.specs.Files.{Note, IsFile, AreNoted, cut_notes, organized_by, holds}
 use Rattle.directory_model.specs.Laws.{IsChanged}
-use Rattle.dtm_node.specs.Standing.{Up, IsUp, Unsettled, HasBranch}
+use Rattle.dtm_node.specs.Standing.{Up, IsUp, Unsettled, HasBranch, counts_of}
 use Rattle.node_files.specs.Staging.{StagesFile, CutsFile, TellsCut}
 use Rattle.dtm_node.specs.Operating.{IsAsked, Told, kept_running}
 use Rattle.node_files.specs.Forms.{refused_by_form}
@@ -38,6 +38,7 @@ use Rattle.node_files.specs.Writing.{Writes}
 use Rattle.dtm_node.proofs.Groups.{Does}
 use Rattle.dtm_node.proofs.Telling.{refused_told}
 use Rattle.dtm_node.proofs.Asked.{asked_at, asked_found, late_data, late_none, late_quota}
+use Rattle.dtm_node.proofs.UpLemmas.{disk_up}
 use Rattle.dtm_node.proofs.Setting.{a_here, b_here, file_here, staged_beside, changed_does, changed_done, changed_broken}
 
 -- Only a sequential file is truncated.
@@ -81,27 +82,27 @@ outside position count either = ⊎_elim (outside_below position count) (λ past
 inside : (position count : ℕ) → 1 ≤ position → position ≤ count → (nat_lt position 1 || nat_lt count position) ≡ false
 inside position count first last = grind (arith, nat_tests)
 
-module _ (log : CallLog) (w : World) (u : Up) (labels : List Label) (label file : List ℕ) (f : ℕ) (head : FileHead) (position : ℕ) (q : IsAsked log w u labels label file f head (Truncate position)) (laws : TheLaws) (up : IsUp u.volume.catalog.home.node u) (seq : head.organization ≡ Sequential) where
+module _ (log : CallLog) (shared : Shared) (n : Node) (u : Up) (label file : List ℕ) (f : ℕ) (head : FileHead) (position : ℕ) (q : IsAsked log shared n u label file f head (Truncate position)) (laws : TheLaws) (up : IsUp u.volume.catalog.home.node u) (seq : head.organization ≡ Sequential) where
   abbrev op_here : Operation
   op_here = Truncate position
 
   abbrev content_here : List (List ℕ)
-  content_here = a_here log w u labels label file f head op_here q laws up
+  content_here = a_here log shared n u label file f head op_here q laws up
 
   abbrev branch_here : Unsettled
-  branch_here = b_here log w u labels label file f head op_here q laws up
+  branch_here = b_here log shared n u label file f head op_here q laws up
 
   abbrev file_there : File
-  file_there = file_here log w u labels label file f head op_here q laws up
+  file_there = file_here log shared n u label file f head op_here q laws up
 
   abbrev is_there : IsFile content_here head file_there
-  is_there = (asked_found log w u labels label file f head op_here q laws).is
+  is_there = (asked_found log shared n u label file f head op_here q laws).is
 
   count_there : count_of file_there ≡ head.count
   count_there = laws.reads.count content_here head file_there is_there seq
 
-  pub refused_there : (nat_lt position 1 || nat_lt head.count position) ≡ true → late_at w q.stands.node (Records label file op_here) ≡ Some line.RecordNotFound
-  refused_there out = late_data log w u labels label file f head op_here q laws line.RecordNotFound
+  pub refused_there : (nat_lt position 1 || nat_lt head.count position) ≡ true → refused_after_reading shared n (Records label file op_here) ≡ Some line.RecordNotFound
+  refused_there out = late_data log shared n u label file f head op_here q laws line.RecordNotFound
       (ap (λ (n : ℕ). refused_if (nat_lt position 1 || nat_lt n position) line.RecordNotFound) count_there ∙ ap (λ (t : Bool). refused_if t line.RecordNotFound) out)
 
   -- The position is one of the file's.
@@ -118,8 +119,8 @@ module _ (log : CallLog) (w : World) (u : Up) (labels : List Label) (label file 
     long_there : length changes_there ≡ head.count + 1 - position
     long_there = let count = count_there in length-map (drop (position - 1) (in_order file_there)) removed ∙ length-drop (position - 1) (in_order file_there) ∙ omega (arith, count, first, last)
 
-    pub quota_there : 16 < length branch_here.notes + (head.count + 1 - position) → late_at w q.stands.node (Records label file op_here) ≡ Some (line.QuotaExceeded line.Changes 16)
-    quota_there many = late_quota log w u labels label file f head op_here q laws allowed_there (let long = long_there in omega (arith, long, many))
+    pub quota_there : 16 < length branch_here.notes + (head.count + 1 - position) → refused_after_reading shared n (Records label file op_here) ≡ Some (line.QuotaExceeded line.Changes 16)
+    quota_there many = late_quota log shared n u label file f head op_here q laws allowed_there (let long = long_there in omega (arith, long, many))
 
     module _ (limit : ℕ) (now : FileHead) (mid : VolumeState) (st : StagesFile f head limit u.volume mid now) (cuts : TellsCut head position u.volume mid now) (few : length branch_here.notes + (head.count + 1 - position) ≤ 16) where
       cut_there : (b : List (List ℕ)) × (mid.store.current ≡ Some b) × CutsFile head position content_here b now
@@ -140,60 +141,60 @@ module _ (log : CallLog) (w : World) (u : Up) (labels : List Label) (label file 
       records_there : map_of head content_here ≡ map_of_records (current file_there.history)
       records_there = λ i key. sym (is_there.records key) i
 
-      stands_there : HasBranch cut_there.0 (slice_set u.volume.catalog.heads f (Some now)) (Some (record { serial = branch_here.serial; notes = notes_there ++ branch_here.notes })) (acted (Changes branch_here.serial file changes_there) q.stands.node)
+      stands_there : HasBranch cut_there.0 (slice_set u.volume.catalog.heads f (Some now)) (Some (record { serial = branch_here.serial; notes = notes_there ++ branch_here.notes })) (acted (Changes branch_here.serial file changes_there) n)
       stands_there =
           let c = cut_there.2 in
-          let has : HasBranch content_here u.volume.catalog.heads (Some branch_here) q.stands.node = subst (λ o. HasBranch content_here u.volume.catalog.heads o q.stands.node) (asked_at log w u labels label file f head op_here q laws) q.stands.place.changes in
+          let has : HasBranch content_here u.volume.catalog.heads (Some branch_here) n = subst (λ o. HasBranch content_here u.volume.catalog.heads o n) (asked_at log shared n u label file f head op_here q laws) q.stands.place.changes in
           let beside = staged_beside u.volume.catalog.home.node u f limit head now mid content_here cut_there.0 laws up q.stands.place.has.files.heads_long q.named.there st q.stands.place.told cut_there.1 in (
-            laws.changes.changes q.stands.node file branch_here.serial notes_there branch_here.notes f file_there changes_there has.0 (asked_found log w u labels label file f head op_here q laws).at removed_there.0
+            laws.changes.changes n file branch_here.serial notes_there branch_here.notes f file_there changes_there has.0 (asked_found log shared n u label file f head op_here q laws).at removed_there.0
                 (subst (Found changes_there) records_there removed_there.1),
-            laws.undo.cuts content_here cut_there.0 u.volume.catalog.heads q.stands.node.directory f position head now branch_here.notes q.stands.place.has.files q.named.there seq first st.same c.form c.laid c.map beside has.1,
+            laws.undo.cuts content_here cut_there.0 u.volume.catalog.heads n.directory f position head now branch_here.notes q.stands.place.has.files q.named.there seq first st.same c.form c.laid c.map beside has.1,
           )
 
       abbrev first_there : (c : Change) × (rest : List Change) × (changes_there ≡ c ∷ rest)
       first_there = some_first changes_there (let long = long_there in omega (arith, long, last))
 
-      does_there : Does w q.stands.node (Records label file op_here) (Changes branch_here.serial file (first_there.0 ∷ first_there.1)) [] line.RecordNormal
-      does_there = changed_does log w u labels label file f head op_here q laws up first_there.0 first_there.1 line.RecordNormal
-          (late_none log w u labels label file f head op_here q laws allowed_there (let long = long_there in omega (arith, long, few)) (omega arith)) first_there.2 refl
+      does_there : Does shared n (Records label file op_here) (Changes branch_here.serial file (first_there.0 ∷ first_there.1)) [] line.RecordNormal
+      does_there = changed_does log shared n u label file f head op_here q laws up first_there.0 first_there.1 line.RecordNormal
+          (late_none log shared n u label file f head op_here q laws allowed_there (let long = long_there in omega (arith, long, few)) (omega arith)) first_there.2 refl
 
       changed_first : IsChanged f branch_here.notes (first_there.0 ∷ first_there.1) content_here head cut_there.0 now
       changed_first = subst (λ cs. IsChanged f branch_here.notes cs content_here head cut_there.0 now) first_there.2 changed_there
 
       pub cut_done : {T : Type 0} (r : Result T Down) (x : T) (new : Up) (d e : Shown) → r ≡ Ok x → Writes r mid.store.current mid.catalog mid new.volume → new.drawn ≡ u.drawn → new.branch ≡ Some (record { serial = branch_here.serial; notes = notes_there ++ branch_here.notes }) →
-          Emits d (line.RecordNormal ∷ []) e → Serves log w (At u.volume.catalog.home.node (Records label file op_here)) d e (kept_running new labels)
+          Emits d (line.RecordNormal ∷ []) e → Serves log shared n (counts_of (disk_up u)) (Records label file op_here) d e (kept_running new) shared
       cut_done r x new d e ok wr drawn branch m =
-          changed_done log w u labels label file f head op_here q laws up r x new limit now mid first_there.0 first_there.1 notes_there cut_there.0 line.RecordNormal d e does_there st cut_there.1 changed_first ok wr
+          changed_done log shared n u label file f head op_here q laws up r x new limit now mid first_there.0 first_there.1 notes_there cut_there.0 line.RecordNormal d e does_there st cut_there.1 changed_first ok wr
           (noted_long f notes_there changes_there removed_there.0 ∙ ap (λ cs. length cs) first_there.2) (length-append notes_there branch_here.notes)
-          (subst (λ cs. HasBranch cut_there.0 (slice_set u.volume.catalog.heads f (Some now)) (Some (record { serial = branch_here.serial; notes = notes_there ++ branch_here.notes })) (acted (Changes branch_here.serial file cs) q.stands.node)) first_there.2 stands_there) drawn branch m
+          (subst (λ cs. HasBranch cut_there.0 (slice_set u.volume.catalog.heads f (Some now)) (Some (record { serial = branch_here.serial; notes = notes_there ++ branch_here.notes })) (acted (Changes branch_here.serial file cs) n)) first_there.2 stands_there) drawn branch m
 
-      pub cut_broken : {T : Type 0} (r : Result T Down) (x : Down) (new : VolumeState) (d : Shown) → r ≡ Err x → Writes r mid.store.current mid.catalog mid new → Breaks log w (At u.volume.catalog.home.node (Records label file op_here)) u.volume.catalog.home.node x d d (kept_fallen u.volume.catalog.home.node labels new.store.disk)
-      cut_broken r x new d err wr = changed_broken log w u labels label file f head op_here q laws up r x new limit now mid first_there.0 first_there.1 cut_there.0 line.RecordNormal d does_there st cut_there.1 changed_first err wr
+      pub cut_broken : {T : Type 0} (r : Result T Down) (x : Down) (new : VolumeState) (d : Shown) → r ≡ Err x → Writes r mid.store.current mid.catalog mid new → Breaks log shared n (counts_of (disk_up u)) (Records label file op_here) u.volume.catalog.home.node x d d (kept_fallen u.volume.catalog.home.node new.store.disk) shared
+      cut_broken r x new d err wr = changed_broken log shared n u label file f head op_here q laws up r x new limit now mid first_there.0 first_there.1 cut_there.0 line.RecordNormal d does_there st cut_there.1 changed_first err wr
 
 -- The same, from what the code knows.
 
 module _ (f : ℕ) (head : FileHead) (position : ℕ) (u : Up) (laws : TheLaws) (up : IsUp u.volume.catalog.home.node u) (form : refused_by_form head (Truncate position) ≡ None) where
   pub outside_told : {T : Type 0} (y : T) (says : T → Line) (new : Up) → says y ≡ line.RecordNotFound → (nat_lt position 1 || nat_lt head.count position) ≡ true → new ≡ u → Told {T = T} (Ok y) says (Truncate position) f head u new
-  outside_told y says new says_so out same = refused_told y says (Truncate position) f head u new laws same (λ labels label file log w q.
-      refused_there log w u labels label file f head position q laws up (is_sequential head position form) out ∙ ap Some (sym says_so))
+  outside_told y says new says_so out same = refused_told y says (Truncate position) f head u new laws same (λ shared label file log n q.
+      refused_there log shared n u label file f head position q laws up (is_sequential head position form) out ∙ ap Some (sym says_so))
 
   module _ (notes : List Note) (same : (b : Unsettled) → u.branch ≡ Some b → b.notes ≡ notes) (first : 1 ≤ position) (last : position ≤ head.count) where
     pub quota_told : {T : Type 0} (y : T) (says : T → Line) (new : Up) → says y ≡ line.QuotaExceeded line.Changes 16 → 16 < length notes + (head.count + 1 - position) → new ≡ u → Told {T = T} (Ok y) says (Truncate position) f head u new
-    quota_told y says new says_so many is = refused_told y says (Truncate position) f head u new laws is (λ labels label file log w q.
-        let notes_are = same _ (asked_at log w u labels label file f head (Truncate position) q laws) in
-        quota_there log w u labels label file f head position q laws up (is_sequential head position form) first last (subst (λ ns. 16 < length ns + (head.count + 1 - position)) (sym notes_are) many) ∙ ap Some (sym says_so))
+    quota_told y says new says_so many is = refused_told y says (Truncate position) f head u new laws is (λ shared label file log n q.
+        let notes_are = same _ (asked_at log shared n u label file f head (Truncate position) q laws) in
+        quota_there log shared n u label file f head position q laws up (is_sequential head position form) first last (subst (λ ns. 16 < length ns + (head.count + 1 - position)) (sym notes_are) many) ∙ ap Some (sym says_so))
 
     module _ (now : FileHead) (mid : VolumeState) (st : StagesFile f head 65 u.volume mid now) (cuts : TellsCut head position u.volume mid now) (few : length notes + (head.count + 1 - position) ≤ 16) where
       pub cut_told : {S T : Type 0} (r : Result S Down) (x : S) (y : T) (says : T → Line) (new : Up) → says y ≡ line.RecordNormal → r ≡ Ok x → Writes r mid.store.current mid.catalog mid new.volume → new.drawn ≡ u.drawn →
           ((b : Unsettled) (content : List (List ℕ)) → u.branch ≡ Some b → u.volume.store.current ≡ Some content → any.IsFile head → IsLaidOut head content →
           new.branch ≡ Some (record { serial = b.serial; notes = cut_notes f position (drop (position - 1) (records_in head content)) ++ b.notes })) → Told {T = T} (Ok y) says (Truncate position) f head u new
-      cut_told r x y says new says_so ok wr drawn branch = λ labels label file log w q a b m.
-          let at = asked_at log w u labels label file f head (Truncate position) q laws in
-          let found = asked_found log w u labels label file f head (Truncate position) q laws in
-          cut_done log w u labels label file f head position q laws up (is_sequential head position form) first last 65 now mid st cuts (subst (λ ns. length ns + (head.count + 1 - position) ≤ 16) (sym (same _ at)) few) r x new a b ok wr drawn
+      cut_told r x y says new says_so ok wr drawn branch = λ shared label file log n q a b m.
+          let at = asked_at log shared n u label file f head (Truncate position) q laws in
+          let found = asked_found log shared n u label file f head (Truncate position) q laws in
+          cut_done log shared n u label file f head position q laws up (is_sequential head position form) first last 65 now mid st cuts (subst (λ ns. length ns + (head.count + 1 - position) ≤ 16) (sym (same _ at)) few) r x new a b ok wr drawn
           (branch _ q.stands.place.content at q.stands.place.told found.is.form found.is.laid) (subst (λ l. Emits a (l ∷ []) b) says_so m)
 
       pub uncut_told : {S T : Type 0} (r : Result S Down) (x : Down) (says : T → Line) (new : Up) → r ≡ Err x → Writes r mid.store.current mid.catalog mid new.volume → Told {T = T} (Err x) says (Truncate position) f head u new
-      uncut_told r x says new err wr = λ labels label file log w q a.
-          let at = asked_at log w u labels label file f head (Truncate position) q laws in
-          cut_broken log w u labels label file f head position q laws up (is_sequential head position form) first last 65 now mid st cuts (subst (λ ns. length ns + (head.count + 1 - position) ≤ 16) (sym (same _ at)) few) r x new.volume a err wr
+      uncut_told r x says new err wr = λ shared label file log n q a.
+          let at = asked_at log shared n u label file f head (Truncate position) q laws in
+          cut_broken log shared n u label file f head position q laws up (is_sequential head position form) first last 65 now mid st cuts (subst (λ ns. length ns + (head.count + 1 - position) ≤ 16) (sym (same _ at)) few) r x new.volume a err wr

@@ -1,5 +1,5 @@
--- What the lines of a statement tell of a node's disk, whether or not the disk tells its content.
-use Rattle.std.specs.Prelude.{◌≡◌, ℕ, List, [], ◌∷◌, Bool, true, false, Option, Some, None, IfSome, if◌then◌else◌}
+-- What the lines of a statement tell of a node and its disk, whether or not the disk tells its content.
+use Rattle.std.specs.Prelude.{◌≡◌, ℕ, List, [], ◌∷◌, Bool, true, false, Option, Some, None, IfSome, if◌then◌else◌, map}
 use Rattle.std.specs.List.{AllByRecursion}
 use Rattle.block_disk.specs.Disk.{DiskState, CallLog, noted}
 use Rattle.block_disk.specs.declared.disk.DiskCall.TheVariants as disk_call
@@ -7,11 +7,14 @@ use Rattle.transcript_model.specs.Outside.{Rose}
 use Rattle.transcript_model.specs.Emitting.{Shown, Emits}
 use Rattle.transcript_model.specs.Lines.{Line, Broken, Normal, NormalCount, NoVolume, QuotaExceeded}
 use Rattle.script_model.specs.Statements.{Statement, Request, Init, Boot, Fuse}
-use Rattle.run_model.specs.Answers.{node_of, request_of}
+use Rattle.run_model.specs.Statements.{node_of, request_of}
+use Rattle.run_model.specs.Said.{SaidLabel, SaidNode, SaidShared, is_by_lines, node_said, refused_by_lines, shared_said}
 use Rattle.run_model.specs.Steps.{count_of}
+use Rattle.run_model.specs.World.{Label, Shared}
 use Rattle.node_files.specs.Forms.{IsFine, failure_in}
 use Rattle.dtm_node.specs.Nodes.{Passes}
-use Rattle.dtm_node.specs.Standing.{IsCounted, counts_of}
+use Rattle.dtm_node.specs.Keeping.{sharing}
+use Rattle.dtm_node.specs.Standing.{IsCounted, IsDown, IsRunning, Kept, Place, counts_of}
 
 -- the answer to a statement is the last of the lines that were shown for it
 abbrev pub answer_in : List Line → Option Line
@@ -53,17 +56,43 @@ pub record TellsAt (name : List ℕ) (s : Statement) (lines : List Line) (old ne
   pub here : node_of s ≡ name → Tells (request_of s) lines old new
   pub elsewhere : (node_of s ≡ name → ⊥) → new ≡ old
 
--- a request was answered at its node: lines were shown that tell this of its disk
-pub record Answers (request : Request) (a b : Shown) (old new : DiskState) : Type 0 where
+-- What the lines so far said of a node, by what is kept of it, and of what nodes share.
+
+abbrev pub is_up : Place → Bool
+is_up (IsDown has_parts d) = false
+is_up (IsRunning r) = true
+
+abbrev pub said_node : Kept → SaidNode
+said_node k = record { name = k.name; up = is_up k.place; unmade = k.unmade }
+
+-- of a node that is up
+abbrev pub said_up : List ℕ → SaidNode
+said_up name = record { name = name; up = true; unmade = false }
+
+-- of one that is down
+abbrev pub said_down : List ℕ → Bool → SaidNode
+said_down name unmade = record { name = name; up = false; unmade = unmade }
+
+abbrev pub said_label : Label → SaidLabel
+said_label l = record { name = l.name; node = l.node }
+
+abbrev pub said_shared : Shared → SaidShared
+said_shared s = record { labels = map said_label s.labels; in_use = s.in_use }
+
+-- The lines of a request and its answer follow what was said before: they are a refusal by that alone just where it refuses the request; and what is kept
+-- then is what they say of it.
+pub record FollowsLines (request : Request) (lines : List Line) (answer : Line) (s after : SaidShared) (n m : SaidNode) : Type 0 where
+  pub refused : (l : Line) → refused_by_lines s n request ≡ Some l → lines ≡ l ∷ []
+  pub others : refused_by_lines s n request ≡ None → is_by_lines answer ≡ false
+  pub node : m ≡ node_said request answer n
+  pub shared : after ≡ shared_said n.name request answer s
+
+-- a request was answered at its node: lines were shown that tell this of its disk, and follow what was said of it and of what nodes share
+pub record Answers (request : Request) (a b : Shown) (old new : DiskState) (s after : SaidShared) (n m : SaidNode) : Type 0 where
   pub lines : List Line
   pub emits : Emits a lines b
   pub tells : Tells request lines old new
-
--- so of a statement and of the node of this name
-pub record AnswersAt (name : List ℕ) (s : Statement) (a b : Shown) (old new : DiskState) : Type 0 where
-  pub lines : List Line
-  pub emits : Emits a lines b
-  pub tells : TellsAt name s lines old new
+  pub follows : FollowsLines request lines tells.answer s after n m
 
 -- lines were shown, none of which shows a failure of a disk
 pub record ShowsFine (a b : Shown) : Type 0 where
@@ -71,13 +100,35 @@ pub record ShowsFine (a b : Shown) : Type 0 where
   pub emits : Emits a lines b
   pub fine : AllByRecursion IsFine lines
 
--- so with an answer
+-- a line that shows no failure of a disk, and refuses nothing by what lines said
+abbrev pub IsPlain : Line → Type 0
+IsPlain line = IsFine line × (is_by_lines line ≡ false)
+
+-- lines were shown so with an answer, which refuses nothing by what was said before
 pub record Replies (a b : Shown) : Type 0 where
   pub shows : ShowsFine a b
   pub answer : Line
   pub answered : answer_in shows.lines ≡ Some answer
+  pub other : is_by_lines answer ≡ false
 
--- the answer to a BOOT that is refused once its disk runs again
-pub record IsBootRefusal (answer : Line) : Type 0 where
-  pub powered : has_powered Boot answer ≡ true
-  pub fine : IsFine answer
+-- A request was answered so at a node of this name that is up and stays up, and the answer follows what was said of these labels.
+pub record RepliesTo (request : Request) (name : List ℕ) (labels after : List Label) (a b : Shown) : Type 0 where
+  pub shows : ShowsFine a b
+  pub answer : Line
+  pub answered : answer_in shows.lines ≡ Some answer
+  pub follows : (in_use : Bool) → FollowsLines request shows.lines answer (said_shared (sharing labels in_use)) (said_shared (sharing after in_use)) (said_up name) (said_up name)
+
+-- Such a request was not served to its end, for the disk went down: what was said of these labels does not refuse it, and they are as they were.
+pub record FailsIn (request : Request) (name : List ℕ) (labels after : List Label) (a b : Shown) : Type 0 where
+  pub shows : ShowsFine a b
+  pub unrefused : (in_use : Bool) → refused_by_lines (said_shared (sharing labels in_use)) (said_up name) request ≡ None
+  pub same : after ≡ labels
+
+-- whether an answer refuses a BOOT once its disk runs again: by what the disk has, or by a quota
+abbrev pub is_boot_refusal : Line → Bool
+is_boot_refusal (NoVolume node condition block) = true
+is_boot_refusal (QuotaExceeded quota limit) = true
+is_boot_refusal answer = false
+
+abbrev pub IsBootRefusal : Line → Type 0
+IsBootRefusal answer = is_boot_refusal answer ≡ true

@@ -11,45 +11,49 @@ use Rattle.transcript.specs.declared.form.Form.{Form}
 use Rattle.transcript.specs.Forms.{line_of}
 use Rattle.transcript_model.specs.Emitting.{Shown, Emits}
 use Rattle.transcript_model.specs.Lines.{Line, RecordExists, KeyExists}
-use Rattle.script_model.specs.Statements.{At, Operation, Records}
+use Rattle.script_model.specs.Statements.{Operation, Records}
 use Rattle.record_files.specs.Any.{map_of, Suits, Takes, asks}
 use Rattle.run_model.specs.Operations.{data_refused, changes_of, set_in, need_of, operation_answer, key_within}
-use Rattle.run_model.specs.World.{World, File, Label, labelled}
+use Rattle.run_model.specs.World.{DiskCounts, File, Node, Shared, serial_labelled}
 use Rattle.directory_model.specs.Files.{IsFile, IsNamed}
 use Rattle.node_files.specs.Forms.{refused_by_form}
 use Rattle.dtm_node.specs.declared.operate.KeyChange.{KeyChange}
 use Rattle.dtm_node.specs.declared.operate.KeyChange.TheVariants as change
-use Rattle.dtm_node.specs.Standing.{Kept as Stands, IsRunning, Up, Unsettled, StandsFor}
+use Rattle.dtm_node.specs.Standing.{Kept as Stands, IsRunning, Up, Unsettled, StandsFor, counts_of}
 use Rattle.dtm_node.specs.Keeping.{Serves, Breaks, kept_fallen}
 
--- a rack with this one node that is up
-abbrev pub kept_running : Up → List Label → Stands
-kept_running u labels = record { name = u.volume.catalog.home.node; unknown = false; in_use = true; place = IsRunning u; labels = labels }
+-- what is kept of a node that is up
+abbrev pub kept_running : Up → Stands
+kept_running u = record { name = u.volume.catalog.home.node; unmade = false; place = IsRunning u }
 
--- What an operation is asked of: a world for which this stands, a label that names the unsettled branch, and a file of this head, which is marked and at
+-- What an operation is asked of: a node for which this stands, a label that names the unsettled branch, and a file of this head, which is marked and at
 -- which nothing refuses the operation by its form.
-pub record IsAsked (log : CallLog) (w : World) (u : Up) (labels : List Label) (label file : List ℕ) (f : ℕ) (head : FileHead) (op : Operation) : Type 0 where
-  pub stands : StandsFor log (kept_running u labels) w
+pub record IsAsked (log : CallLog) (s : Shared) (n : Node) (u : Up) (label file : List ℕ) (f : ℕ) (head : FileHead) (op : Operation) : Type 0 where
+  pub stands : StandsFor log (kept_running u) n
   pub named : IsNamed u.volume.catalog.heads f head file
   pub id : Id
-  pub made : labelled u.volume.catalog.home.node label labels ≡ Some id
+  pub made : serial_labelled u.volume.catalog.home.node label s.labels ≡ Some id
   pub own : option_map (λ (b : Unsettled). b.serial) u.branch ≡ Some id
   pub units : head.marks.ru ≡ true
   pub form : refused_by_form head op ≡ None
 
+-- the counts of its disk
+abbrev pub counts_up : Up → DiskCounts
+counts_up u = counts_of u.volume.store.disk
+
 -- such an operation was served, or the disk went down in it
 abbrev pub Operates : {T : Type 0} → Result T Down → Operation → ℕ → FileHead → Up → Up → Shown → Shown → Type 0
-Operates r op f head u new a b = (labels : List Label) (label file : List ℕ) (log : CallLog) (w : World) → IsAsked log w u labels label file f head op →
+Operates r op f head u new a b = (s : Shared) (label file : List ℕ) (log : CallLog) (n : Node) → IsAsked log s n u label file f head op →
     MatchResult r
-    (λ _. Serves log w (At u.volume.catalog.home.node (Records label file op)) a b (kept_running new labels))
-    (λ down. Breaks log w (At u.volume.catalog.home.node (Records label file op)) u.volume.catalog.home.node down a b (kept_fallen u.volume.catalog.home.node labels new.volume.store.disk))
+    (λ _. Serves log s n (counts_up u) (Records label file op) a b (kept_running new) s)
+    (λ down. Breaks log s n (counts_up u) (Records label file op) u.volume.catalog.home.node down a b (kept_fallen u.volume.catalog.home.node new.volume.store.disk) s)
 
 -- such an operation is served by the line that is told, or the disk went down in it
 abbrev pub Told : {T : Type 0} → Result T Down → (T → Line) → Operation → ℕ → FileHead → Up → Up → Type 0
-Told r says op f head u new = (labels : List Label) (label file : List ℕ) (log : CallLog) (w : World) → IsAsked log w u labels label file f head op →
+Told r says op f head u new = (s : Shared) (label file : List ℕ) (log : CallLog) (n : Node) → IsAsked log s n u label file f head op →
     MatchResult r
-    (λ x. (a b : Shown) → Emits a (says x ∷ []) b → Serves log w (At u.volume.catalog.home.node (Records label file op)) a b (kept_running new labels))
-    (λ down. (a : Shown) → Breaks log w (At u.volume.catalog.home.node (Records label file op)) u.volume.catalog.home.node down a a (kept_fallen u.volume.catalog.home.node labels new.volume.store.disk))
+    (λ x. (a b : Shown) → Emits a (says x ∷ []) b → Serves log s n (counts_up u) (Records label file op) a b (kept_running new) s)
+    (λ down. (a : Shown) → Breaks log s n (counts_up u) (Records label file op) u.volume.catalog.home.node down a a (kept_fallen u.volume.catalog.home.node new.volume.store.disk) s)
 
 -- the line of a refusal, or this answer where there is none
 abbrev pub line_or : Line → Option Form → Line

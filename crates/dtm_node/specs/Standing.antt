@@ -1,5 +1,6 @@
 -- What a node stands for: a node of the world, by what its disk has and by what the program keeps of it.
 use Rattle.std.specs.Prelude.{◌≡◌, ◌⊎◌, ℕ, ◌<◌, ◌≤◌, ◌^◌, List, [], ◌∷◌, Bool, true, false, Option, Some, None, length, option_map, IfSome, is_some}
+use Rattle.std.specs.Int.{from_le_bytes, to_le_bytes, w64}
 use Rattle.block_disk.specs.Disk.{DiskState, CallLog, MayLeave, noted}
 use Rattle.block_disk.specs.declared.disk.DiskCall.TheVariants as disk_call
 use Rattle.careful_write.specs.Content.{content_of}
@@ -18,8 +19,9 @@ use Rattle.vms_model.specs.Ids.{Id}
 use Rattle.vms_model.specs.Transactions.{Outcome, Commit, Abort, Reason}
 use Rattle.vms_base.specs.Ids.{tid_of, serial_of}
 use Rattle.vms_base.specs.Outcomes.{reason_of}
-use Rattle.run_model.specs.World.{World, Node, Label, Branch, Act, DiskCounts, Settlement, Call, Arm, Power, Sound, Faulty, Unknown, acted}
+use Rattle.run_model.specs.World.{Node, Branch, Act, DiskCounts, JournalSpan, Settlement, Call, Arm, Power, Sound, Faulty, Unknown, acted}
 use Rattle.file_base.specs.declared.head.FileHead.{FileHead}
+use Rattle.file_base.specs.declared.head.Span.{Span}
 use Rattle.directory_model.specs.Files.{Note, AreFiles, AreChanged, AreUnchanged, AreOwn, AreUndoable}
 
 -- how often a disk failed and was stopped
@@ -54,7 +56,15 @@ settlement_of moment s = record { tid = tid_of s.tid; serial = serial_of s.seria
 abbrev pub last_of : Home → Option Settlement
 last_of h = option_map (settlement_of h.greatest_moment.0) h.last
 
--- a node of the world has this volume's sizes, counts, last settlement and files
+-- a position in the journal, as its block has it in 64 bits
+abbrev pub position_of : ℕ → ℕ
+position_of n = from_le_bytes w64 (to_le_bytes w64 n)
+
+-- a journal that a catalog tells
+abbrev pub span_of : Span → JournalSpan
+span_of s = record { start = s.start; blocks = s.blocks; first = position_of s.first; end = position_of s.end }
+
+-- a node of the world has this volume's sizes, counts, last settlement, journal and files
 pub record HasCatalog (content : List (List ℕ)) (v : Catalog) (n : Node) : Type 0 where
   pub volume : n.volume ≡ Sound
   pub slots : n.slots ≡ v.home.slots
@@ -62,6 +72,7 @@ pub record HasCatalog (content : List (List ℕ)) (v : Catalog) (n : Node) : Typ
   pub boot : n.boot ≡ v.home.boot
   pub greatest : n.greatest ≡ v.home.greatest_moment.0
   pub last : n.last ≡ last_of v.home
+  pub units : n.units ≡ span_of v.ru
   pub files : AreFiles content v.heads n.directory
 
 -- a content is a volume of this node, and tells what the node has
@@ -147,28 +158,18 @@ abbrev pub StandsIn : Place → Node → Type 0
 StandsIn (IsDown has_parts d) n = StandsDown has_parts d n
 StandsIn (IsRunning r) n = StandsUp r n
 
--- what is kept of a rack with this one node: its name, whether nothing is known of its disk, whether a node was booted, its place, and the labels
+-- what is kept of a node: its name, whether the last INIT that made its disk run failed, and its place
 pub record Kept : Type 0 where
   pub name : List ℕ
-  pub unknown : Bool
-  pub in_use : Bool
+  pub unmade : Bool
   pub place : Place
-  pub labels : List Label
 
-abbrev pub is_unknown_flag : Node → Bool
-is_unknown_flag n = elim n.volume [ Sound ↦ false | Faulty condition block ↦ false | Unknown ↦ true ]
-
--- a world with this node alone, whose disk noted these calls before the run
-pub record StandsFor (before : CallLog) (k : Kept) (w : World) : Type 0 where
-  pub node : Node
-  pub nodes : w.nodes ≡ node ∷ []
-  pub disks : w.disks ≡ counts_of (disk_in k.place) ∷ []
-  pub labels : w.labels ≡ k.labels
-  pub in_use : w.in_use ≡ k.in_use
-  pub name : node.name ≡ k.name
-  pub blocks : node.blocks ≡ (disk_in k.place).size
-  pub clock : node.clock ≡ 0
-  pub unknown : is_unknown_flag node ≡ k.unknown
-  pub place : StandsIn k.place node
-  pub calls : (disk_in k.place).calls ≡ noted_all node.calls before
+-- what is kept of a node whose disk noted these calls before the run stands for this node of the world
+pub record StandsFor (before : CallLog) (k : Kept) (n : Node) : Type 0 where
+  pub name : n.name ≡ k.name
+  pub blocks : n.blocks ≡ (disk_in k.place).size
+  pub clock : n.clock ≡ 0
+  pub unmade : n.unmade ≡ k.unmade
+  pub place : StandsIn k.place n
+  pub calls : (disk_in k.place).calls ≡ noted_all n.calls before
   pub counts : IsCounted (disk_in k.place)

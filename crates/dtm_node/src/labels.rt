@@ -1,5 +1,5 @@
 //! The labels of a run, in a table.
-ghost use Rattle.std.specs.Prelude.{◌≡◌, ◌<◌, List, [], ◌∷◌, None, length, IfOk, option_map, nat_le};
+ghost use Rattle.std.specs.Prelude.{◌≡◌, ◌<◌, List, [], ◌∷◌, Some, None, length, IfOk, option_map, nat_le};
 ghost use Rattle.run_model.specs.Answers.{label_limit};
 ghost use Rattle.run_model.specs.World.{find_label};
 ghost use Rattle.vms_base.specs.Ids.{serial_of};
@@ -65,7 +65,7 @@ impl Labels {
     pub fn insert(&mut self, label: Label, node: NodeName, serial: Serial)
         requires room { length self.old < label_limit }
         requires new { find_label label self.old ≡ None }
-        ensures { self.new ≡ record { name = label; node = node; serial = serial_of serial } ∷ self.old }
+        ensures { self.new ≡ record { name = label; node = node; tid = serial_of serial; bid = None; serial = Some (serial_of serial) } ∷ self.old }
     {
         let _ = self.entries.insert(label, LabelEntry { node, serial });
     }

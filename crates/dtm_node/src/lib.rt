@@ -7,6 +7,8 @@ mod law;
 mod node;
 mod operate;
 mod running;
+mod shared;
 
 pub use labels::{LabelEntry, Labels};
 pub use node::Node;
+pub use shared::Shared;

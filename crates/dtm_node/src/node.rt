@@ -1,29 +1,30 @@
-//! A node over its disk: each statement is a step of its world.
+//! A node over its disk: each request is a step of it.
 ghost use Rattle.std.specs.Prelude.{◌≡◌, ◌<◌, ◌≤◌, ◌+◌, ℕ, List, [], ◌∷◌, Bool, true, false, Some, None, IfOk, IfSome, is_some};
 ghost use Rattle.block_disk.specs.Disk.{CallLog};
 ghost use Rattle.change_set.specs.Files.{free_frames};
 ghost use Rattle.transcript_model.specs.Emitting.{Emits, Since};
 ghost use Rattle.transcript_model.specs.Lines as line;
 ghost use Rattle.transcript.specs.Forms.{cause_of as cause_said};
-ghost use Rattle.script_lang.specs.Statements.{request_of, statement_of};
+ghost use Rattle.script_lang.specs.Statements.{request_of};
 ghost use Rattle.script_model.specs.Statements as said;
-ghost use Rattle.run_model.specs.World.{World, Label as LabelSaid};
-ghost use Rattle.dtm_node.specs.Keeping.{Serves, IsToUp};
+ghost use Rattle.run_model.specs.World.{Node as NodeOfWorld, Shared as SharedSaid};
+ghost use Rattle.dtm_node.specs.Keeping.{Serves, IsPromised, IsToUp};
 ghost use Rattle.dtm_node.specs.Uses.{cause_of as cause_kept};
-ghost use Rattle.dtm_node.specs.Calling.{Answers, AnswersAt};
-ghost use Rattle.dtm_node.specs.Standing.{IsDown, StandsFor};
-ghost use Rattle.dtm_node.specs.Nodes.{HasParts, IsNode, IsParts, Passes, kept_down, kept_of, last_lines_of, place_armed, place_of, state_of, IsPlaceOf};
+ghost use Rattle.dtm_node.specs.Calling.{Answers, said_down, said_node, said_shared};
+ghost use Rattle.run_model.specs.Said.{SaidShared as SharedInLines};
+ghost use Rattle.dtm_node.specs.Standing.{IsDown, StandsFor, counts_of};
+ghost use Rattle.dtm_node.specs.Nodes.{HasParts, IsNode, IsParts, Passes, kept_down, kept_of, last_lines_of, place_armed, place_of, shared_of, state_of, IsPlaceOf};
 ghost use Rattle.dtm_node.specs.declared.node.Node.{Node as NodeSaid};
 
 use crate::boot::{Booted, open_disk};
-use crate::labels::Labels;
 use crate::running::Running;
+use crate::shared::Shared;
 use block_disk::Disk;
 use careful_write::{Down, Group};
 use directory_model::acts_keep_files;
 use frame_pool::Pool;
 use node_files::Buffers;
-use script_lang::{Literals, Request, Statement};
+use script_lang::{Literals, Request};
 use std::alloc::{AllocError, Global};
 use transcript::{Cause, Emit, Form};
 use vms_base::NodeName;
@@ -52,10 +53,8 @@ enum Place<D: Disk> {
 #[derive(Drop)]
 pub struct Node<D: Disk> {
     name: NodeName,
-    // After an INIT that failed, nothing is known of what the disk has.
-    unknown: bool,
-    // No volume may be made any more: the node was booted.
-    in_use: bool,
+    // The last INIT that made the disk run failed, so that there is no volume.
+    unmade: bool,
     place: Place<D>,
 }
 
@@ -117,16 +116,22 @@ fn show_fall<E: Emit>(name: NodeName, down: Down, out: &mut E)
 impl<D: Disk + Drop> Node<D> {
     /// A node that was not booted yet.
     pub fn new(name: NodeName, disk: D) -> Node<D>
-        ensures down { kept_of D.state result [] ≡ record { name = name; unknown = false; in_use = false; place = IsDown false (D.state disk); labels = [] } }
+        ensures down { kept_of D.state result ≡ record { name = name; unmade = false; place = IsDown false (D.state disk) } }
         ensures name { result.name ≡ name }
-        ensures kept { 4096 ≤ (D.state disk).size → (D.state disk).size ≤ 65536 → IsNode D.state 0 result }
+        ensures kept { (s : SharedSaid) → 4096 ≤ (D.state disk).size → (D.state disk).size ≤ 65536 → IsNode D.state 0 s result }
     {
         Node {
             name,
-            unknown: false,
-            in_use: false,
+            unmade: false,
             place: Place::Down(disk, None),
         }
+    }
+
+    /// Its name.
+    pub fn name(&self) -> NodeName
+        ensures { result ≡ self.now.name }
+    {
+        self.name
     }
 
     /// Its disk.
@@ -143,115 +148,63 @@ impl<D: Disk + Drop> Node<D> {
         }
     }
 
-    /// Serves a statement of a rack that has this node alone.
+    /// Serves what is asked of it. No volume may be made any more once the node was booted.
     pub fn serve<E: Emit>(
         self,
         alloc: Global,
-        statement: &Statement,
-        lit: &Literals,
-        labels: &mut Labels,
-        out: &mut E,
-    ) -> Node<D>
-        requires kept { (n : ℕ) × (n < 1000002) × IsNode D.state n self }
-        ensures kept { (n : ℕ) → IsNode D.state n self → IsNode D.state (n + 1) result }
-        ensures name { result.name ≡ self.name }
-        ensures passes { Passes (state_of D.state self) (state_of D.state result) }
-        ensures place { E.place out.new ≡ E.place out.old }
-        ensures since { Since (E.shows out.old) (E.shows out.new) }
-        ensures tells { AnswersAt self.name (statement_of lit.now statement.now) (E.shows out.old) (E.shows out.new) (state_of D.state self) (state_of D.state result) }
-        ensures serves { (log : CallLog) (w : World) → StandsFor log (kept_of D.state self labels.old) w →
-            Serves log w (statement_of lit.now statement.now) (E.shows out.old) (E.shows out.new) (kept_of D.state result labels.new) }
-    {
-        let Statement::At(name, request) = statement;
-        self.serve_at(alloc, name, request, lit, labels, out)
-    }
-
-    // Serves what is asked of a node of this name.
-    fn serve_at<E: Emit>(
-        self,
-        alloc: Global,
-        name: &NodeName,
         request: &Request,
         lit: &Literals,
-        labels: &mut Labels,
+        shared: &mut Shared,
         out: &mut E,
     ) -> Node<D>
-        requires kept { (n : ℕ) × (n < 1000002) × IsNode D.state n self }
-        ensures kept { (n : ℕ) → IsNode D.state n self → IsNode D.state (n + 1) result }
+        requires kept { (n : ℕ) × (n < 1000002) × IsNode D.state n (shared_of shared.old) self }
+        ensures kept { (n : ℕ) → IsNode D.state n (shared_of shared.old) self → IsNode D.state (n + 1) (shared_of shared.new) result }
+        ensures in_use { shared.old.in_use ≡ true → shared.new.in_use ≡ true }
         ensures name { result.name ≡ self.name }
         ensures passes { Passes (state_of D.state self) (state_of D.state result) }
         ensures place { E.place out.new ≡ E.place out.old }
         ensures since { Since (E.shows out.old) (E.shows out.new) }
-        ensures tells { AnswersAt self.name (said.At name.now (request_of lit.now request.now)) (E.shows out.old) (E.shows out.new) (state_of D.state self) (state_of D.state result) }
-        ensures serves { (log : CallLog) (w : World) → StandsFor log (kept_of D.state self labels.old) w →
-            Serves log w (said.At name.now (request_of lit.now request.now)) (E.shows out.old) (E.shows out.new) (kept_of D.state result labels.new) }
-    {
-        if name.bytes() == self.name.bytes() {
-            self.serve_request(alloc, request, lit, labels, out)
-        } else {
-            out.emit(&Form::NoSuchNode);
-            self
-        }
-    }
-
-    // Serves what is asked of it.
-    fn serve_request<E: Emit>(
-        self,
-        alloc: Global,
-        request: &Request,
-        lit: &Literals,
-        labels: &mut Labels,
-        out: &mut E,
-    ) -> Node<D>
-        requires kept { (n : ℕ) × (n < 1000002) × IsNode D.state n self }
-        ensures kept { (n : ℕ) → IsNode D.state n self → IsNode D.state (n + 1) result }
-        ensures name { result.name ≡ self.name }
-        ensures passes { Passes (state_of D.state self) (state_of D.state result) }
-        ensures place { E.place out.new ≡ E.place out.old }
-        ensures since { Since (E.shows out.old) (E.shows out.new) }
-        ensures tells { Answers (request_of lit.now request.now) (E.shows out.old) (E.shows out.new) (state_of D.state self) (state_of D.state result) }
-        ensures serves { (log : CallLog) (w : World) → StandsFor log (kept_of D.state self labels.old) w →
-            Serves log w (said.At self.name (request_of lit.now request.now)) (E.shows out.old) (E.shows out.new) (kept_of D.state result labels.new) }
+        ensures tells { Answers (request_of lit.now request.now) (E.shows out.old) (E.shows out.new) (state_of D.state self) (state_of D.state result) (said_shared (shared_of shared.old)) (said_shared (shared_of shared.new)) (said_node (kept_of D.state self)) (said_node (kept_of D.state result)) }
+        ensures serves { (log : CallLog) (n : NodeOfWorld) → StandsFor log (kept_of D.state self) n → IsPromised (request_of lit.now request.now) n →
+            Serves log (shared_of shared.old) n (counts_of (state_of D.state self)) (request_of lit.now request.now) (E.shows out.old) (E.shows out.new) (kept_of D.state result) (shared_of shared.new) }
     {
         match request {
-            Request::Init { slots, blocks } => self.init(*slots, *blocks, out),
-            Request::Boot => self.boot(alloc, out),
+            Request::Init { slots, blocks } => self.init(*slots, *blocks, shared, out),
+            Request::Boot => self.boot(alloc, shared, out),
             Request::Fuse { writes, choice } => self.fuse(*writes, *choice, out),
             Request::Crash => self.crash(out),
-            _ => self.serve_up(request, lit, labels, out),
+            _ => self.serve_up(request, lit, shared, out),
         }
     }
 
     // INIT: an empty volume of this node, with so many log slots and blocks of the journal.
-    fn init<E: Emit>(self, slots: u32, blocks: u32, out: &mut E) -> Node<D>
-        requires kept { (n : ℕ) × (n < 1000002) × IsNode D.state n self }
-        ensures kept { (n : ℕ) → IsNode D.state n self → IsNode D.state (n + 1) result }
+    fn init<E: Emit>(self, slots: u32, blocks: u32, shared: &Shared, out: &mut E) -> Node<D>
+        requires kept { (n : ℕ) × IsNode D.state n (shared_of shared.now) self }
+        ensures kept { (n : ℕ) → IsNode D.state n (shared_of shared.now) self → IsNode D.state (n + 1) (shared_of shared.now) result }
         ensures name { result.name ≡ self.name }
         ensures passes { Passes (state_of D.state self) (state_of D.state result) }
         ensures place { E.place out.new ≡ E.place out.old }
         ensures since { Since (E.shows out.old) (E.shows out.new) }
-        ensures tells { Answers (said.Init slots blocks) (E.shows out.old) (E.shows out.new) (state_of D.state self) (state_of D.state result) }
-        ensures serves { (ls : List LabelSaid) (log : CallLog) (w : World) → StandsFor log (kept_of D.state self ls) w →
-            Serves log w (said.At self.name (said.Init slots blocks)) (E.shows out.old) (E.shows out.new) (kept_of D.state result ls) }
+        ensures tells { Answers (said.Init slots blocks) (E.shows out.old) (E.shows out.new) (state_of D.state self) (state_of D.state result) (said_shared (shared_of shared.now)) (said_shared (shared_of shared.now)) (said_node (kept_of D.state self)) (said_node (kept_of D.state result)) }
+        ensures serves { (log : CallLog) (n : NodeOfWorld) → StandsFor log (kept_of D.state self) n →
+            Serves log (shared_of shared.now) n (counts_of (state_of D.state self)) (said.Init slots blocks) (E.shows out.old) (E.shows out.new) (kept_of D.state result) (shared_of shared.now) }
     {
-        if self.in_use {
+        if shared.in_use {
             out.emit(&Form::VolumeInUse);
             return self;
         }
         let Node {
             name,
-            unknown,
-            in_use: _,
+            unmade,
             place,
         } = self;
         match place {
             Place::Up(_running) => unreachable!(),
             Place::Down(disk, parts) => {
-                let (disk, unknown) = format(name, unknown, disk, slots, blocks, out);
+                let (disk, unmade) = format(name, unmade, disk, slots, blocks, out);
                 Node {
                     name,
-                    unknown,
-                    in_use: false,
+                    unmade,
                     place: Place::Down(disk, parts),
                 }
             }
@@ -259,25 +212,25 @@ impl<D: Disk + Drop> Node<D> {
     }
 
     // BOOT: the node comes up over its volume.
-    fn boot<E: Emit>(self, alloc: Global, out: &mut E) -> Node<D>
-        requires kept { (n : ℕ) × (n < 1000002) × IsNode D.state n self }
-        ensures kept { (n : ℕ) → IsNode D.state n self → IsNode D.state (n + 1) result }
+    fn boot<E: Emit>(self, alloc: Global, shared: &mut Shared, out: &mut E) -> Node<D>
+        requires kept { (n : ℕ) × (n < 1000002) × IsNode D.state n (shared_of shared.old) self }
+        ensures kept { (n : ℕ) → IsNode D.state n (shared_of shared.old) self → IsNode D.state (n + 1) (shared_of shared.new) result }
+        ensures in_use { shared.old.in_use ≡ true → shared.new.in_use ≡ true }
         ensures name { result.name ≡ self.name }
         ensures passes { Passes (state_of D.state self) (state_of D.state result) }
         ensures place { E.place out.new ≡ E.place out.old }
         ensures since { Since (E.shows out.old) (E.shows out.new) }
-        ensures tells { Answers said.Boot (E.shows out.old) (E.shows out.new) (state_of D.state self) (state_of D.state result) }
-        ensures serves { (ls : List LabelSaid) (log : CallLog) (w : World) → StandsFor log (kept_of D.state self ls) w →
-            Serves log w (said.At self.name said.Boot) (E.shows out.old) (E.shows out.new) (kept_of D.state result ls) }
+        ensures tells { Answers said.Boot (E.shows out.old) (E.shows out.new) (state_of D.state self) (state_of D.state result) (said_shared (shared_of shared.old)) (said_shared (shared_of shared.new)) (said_node (kept_of D.state self)) (said_node (kept_of D.state result)) }
+        ensures serves { (log : CallLog) (n : NodeOfWorld) → StandsFor log (kept_of D.state self) n → IsPromised said.Boot n →
+            Serves log (shared_of shared.old) n (counts_of (state_of D.state self)) said.Boot (E.shows out.old) (E.shows out.new) (kept_of D.state result) (shared_of shared.new) }
     {
-        if self.unknown {
+        if self.unmade {
             out.emit(&Form::NotInitialized);
             return self;
         }
         let Node {
             name,
-            unknown: _,
-            in_use,
+            unmade: _,
             place,
         } = self;
         match place {
@@ -285,59 +238,54 @@ impl<D: Disk + Drop> Node<D> {
                 out.emit(&Form::NodeUp);
                 Node {
                     name,
-                    unknown: false,
-                    in_use,
+                    unmade: false,
                     place: Place::Up(running),
                 }
             }
-            Place::Down(disk, parts) => boot_down(alloc, name, in_use, disk, parts, out),
+            Place::Down(disk, parts) => boot_down(alloc, name, disk, parts, shared, out),
         }
     }
 
     // FUSE: after so many further writes the disk stops, and a power loss then damages what is pending by this choice.
     fn fuse<E: Emit>(self, writes: u32, choice: u64, out: &mut E) -> Node<D>
-        requires kept { (n : ℕ) × (n < 1000002) × IsNode D.state n self }
-        ensures kept { (n : ℕ) → IsNode D.state n self → IsNode D.state (n + 1) result }
+        ensures kept { (n : ℕ) (s : SharedSaid) → IsNode D.state n s self → IsNode D.state (n + 1) s result }
         ensures name { result.name ≡ self.name }
         ensures passes { Passes (state_of D.state self) (state_of D.state result) }
         ensures place { E.place out.new ≡ E.place out.old }
         ensures since { Since (E.shows out.old) (E.shows out.new) }
-        ensures tells { Answers (said.Fuse writes choice) (E.shows out.old) (E.shows out.new) (state_of D.state self) (state_of D.state result) }
-        ensures serves { (ls : List LabelSaid) (log : CallLog) (w : World) → StandsFor log (kept_of D.state self ls) w →
-            Serves log w (said.At self.name (said.Fuse writes choice)) (E.shows out.old) (E.shows out.new) (kept_of D.state result ls) }
+        ensures tells { (s : SharedInLines) → Answers (said.Fuse writes choice) (E.shows out.old) (E.shows out.new) (state_of D.state self) (state_of D.state result) s s (said_node (kept_of D.state self)) (said_node (kept_of D.state result)) }
+        ensures serves { (s : SharedSaid) (log : CallLog) (n : NodeOfWorld) → StandsFor log (kept_of D.state self) n →
+            Serves log s n (counts_of (state_of D.state self)) (said.Fuse writes choice) (E.shows out.old) (E.shows out.new) (kept_of D.state result) s }
     {
         let Node {
             name,
-            unknown,
-            in_use,
+            unmade,
             place,
         } = self;
         let place = armed_place(place, writes, choice);
         out.emit(&Form::Normal);
         Node {
             name,
-            unknown,
-            in_use,
+            unmade,
             place,
         }
     }
 
     // CRASH: the node goes down.
     fn crash<E: Emit>(self, out: &mut E) -> Node<D>
-        requires kept { (n : ℕ) × (n < 1000002) × IsNode D.state n self }
-        ensures kept { (n : ℕ) → IsNode D.state n self → IsNode D.state (n + 1) result }
+        requires kept { (n : ℕ) × (s : SharedSaid) × IsNode D.state n s self }
+        ensures kept { (n : ℕ) (s : SharedSaid) → IsNode D.state n s self → IsNode D.state (n + 1) s result }
         ensures name { result.name ≡ self.name }
         ensures passes { Passes (state_of D.state self) (state_of D.state result) }
         ensures place { E.place out.new ≡ E.place out.old }
         ensures since { Since (E.shows out.old) (E.shows out.new) }
-        ensures tells { Answers said.Crash (E.shows out.old) (E.shows out.new) (state_of D.state self) (state_of D.state result) }
-        ensures serves { (ls : List LabelSaid) (log : CallLog) (w : World) → StandsFor log (kept_of D.state self ls) w →
-            Serves log w (said.At self.name said.Crash) (E.shows out.old) (E.shows out.new) (kept_of D.state result ls) }
+        ensures tells { (s : SharedInLines) → Answers said.Crash (E.shows out.old) (E.shows out.new) (state_of D.state self) (state_of D.state result) s s (said_node (kept_of D.state self)) (said_node (kept_of D.state result)) }
+        ensures serves { (s : SharedSaid) (log : CallLog) (n : NodeOfWorld) → StandsFor log (kept_of D.state self) n →
+            Serves log s n (counts_of (state_of D.state self)) said.Crash (E.shows out.old) (E.shows out.new) (kept_of D.state result) s }
     {
         let Node {
             name,
-            unknown,
-            in_use,
+            unmade,
             place,
         } = self;
         match place {
@@ -346,8 +294,7 @@ impl<D: Disk + Drop> Node<D> {
                 out.emit(&Form::Normal);
                 Node {
                     name,
-                    unknown,
-                    in_use,
+                    unmade,
                     place: fallen(running),
                 }
             }
@@ -355,8 +302,7 @@ impl<D: Disk + Drop> Node<D> {
                 out.emit(&Form::NodeDown);
                 Node {
                     name,
-                    unknown,
-                    in_use,
+                    unmade,
                     place: Place::Down(disk, parts),
                 }
             }
@@ -368,42 +314,40 @@ impl<D: Disk + Drop> Node<D> {
         self,
         request: &Request,
         lit: &Literals,
-        labels: &mut Labels,
+        shared: &mut Shared,
         out: &mut E,
     ) -> Node<D>
-        requires kept { (n : ℕ) × (n < 1000002) × IsNode D.state n self }
         requires asks { IsToUp request.now }
-        ensures kept { (n : ℕ) → IsNode D.state n self → IsNode D.state (n + 1) result }
+        requires kept { (n : ℕ) × (n < 1000002) × IsNode D.state n (shared_of shared.old) self }
+        ensures kept { (n : ℕ) → IsNode D.state n (shared_of shared.old) self → IsNode D.state (n + 1) (shared_of shared.new) result }
+        ensures in_use { shared.old.in_use ≡ true → shared.new.in_use ≡ true }
         ensures name { result.name ≡ self.name }
         ensures passes { Passes (state_of D.state self) (state_of D.state result) }
         ensures place { E.place out.new ≡ E.place out.old }
         ensures since { Since (E.shows out.old) (E.shows out.new) }
-        ensures tells { Answers (request_of lit.now request.now) (E.shows out.old) (E.shows out.new) (state_of D.state self) (state_of D.state result) }
-        ensures serves { (log : CallLog) (w : World) → StandsFor log (kept_of D.state self labels.old) w →
-            Serves log w (said.At self.name (request_of lit.now request.now)) (E.shows out.old) (E.shows out.new) (kept_of D.state result labels.new) }
+        ensures tells { Answers (request_of lit.now request.now) (E.shows out.old) (E.shows out.new) (state_of D.state self) (state_of D.state result) (said_shared (shared_of shared.old)) (said_shared (shared_of shared.new)) (said_node (kept_of D.state self)) (said_node (kept_of D.state result)) }
+        ensures serves { (log : CallLog) (n : NodeOfWorld) → StandsFor log (kept_of D.state self) n →
+            Serves log (shared_of shared.old) n (counts_of (state_of D.state self)) (request_of lit.now request.now) (E.shows out.old) (E.shows out.new) (kept_of D.state result) (shared_of shared.new) }
     {
         let Node {
             name,
-            unknown,
-            in_use,
+            unmade,
             place,
         } = self;
         match place {
             Place::Up(running) => {
                 let mut running = running;
-                match running.serve(request, lit, labels, out) {
+                match running.serve(request, lit, &mut shared.labels, out) {
                     Ok(()) => Node {
                         name,
-                        unknown,
-                        in_use,
+                        unmade,
                         place: Place::Up(running),
                     },
                     Err(down) => {
                         show_fall(name, down, out);
                         Node {
                             name,
-                            unknown,
-                            in_use,
+                            unmade,
                             place: fallen(running),
                         }
                     }
@@ -413,8 +357,7 @@ impl<D: Disk + Drop> Node<D> {
                 out.emit(&Form::NodeDown);
                 Node {
                     name,
-                    unknown,
-                    in_use,
+                    unmade,
                     place: Place::Down(disk, parts),
                 }
             }
@@ -425,7 +368,7 @@ impl<D: Disk + Drop> Node<D> {
 // What stands over a disk that is armed.
 fn armed_place<D: Disk>(place: Place<D>, writes: u32, choice: u64) -> Place<D>
     ensures place { place_of D.state result ≡ place_armed writes choice (place_of D.state place) }
-    ensures kept { (n : ℕ) (node : NodeSaid D) → IsPlaceOf D.state n node place → IsPlaceOf D.state n node result }
+    ensures kept { (n : ℕ) (s : SharedSaid) (node : NodeSaid D) → IsPlaceOf D.state n s node place → IsPlaceOf D.state n s node result }
 {
     match place {
         Place::Down(disk, parts) => {
@@ -451,10 +394,10 @@ fn fallen<D: Disk>(running: Running<D>) -> Place<D>
     Place::Down(disk, Some(Parts { group, pool, room }))
 }
 
-// Writes an empty volume to the disk of a node that is down, and says whether nothing is known of what the disk has then.
+// Writes an empty volume to the disk of a node that is down, and says whether there is no volume then because an INIT failed.
 fn format<D: Disk, E: Emit>(
     name: NodeName,
-    unknown: bool,
+    unmade: bool,
     mut disk: D,
     slots: u32,
     blocks: u32,
@@ -464,9 +407,9 @@ fn format<D: Disk, E: Emit>(
     ensures passes { Passes (D.state disk) (D.state result.0) }
     ensures place { E.place out.new ≡ E.place out.old }
     ensures since { Since (E.shows out.old) (E.shows out.new) }
-    ensures tells { Answers (said.Init slots blocks) (E.shows out.old) (E.shows out.new) (D.state disk) (D.state result.0) }
-    ensures serves { (has_parts : Bool) (ls : List LabelSaid) (log : CallLog) (w : World) → StandsFor log (kept_down name unknown false has_parts (D.state disk) ls) w →
-        Serves log w (said.At name (said.Init slots blocks)) (E.shows out.old) (E.shows out.new) (kept_down name result.1 false has_parts (D.state result.0) ls) }
+    ensures tells { (s : SharedInLines) → s.in_use ≡ false → Answers (said.Init slots blocks) (E.shows out.old) (E.shows out.new) (D.state disk) (D.state result.0) s s (said_down name unmade) (said_down name result.1) }
+    ensures serves { (has_parts : Bool) (s : SharedSaid) (log : CallLog) (n : NodeOfWorld) → s.in_use ≡ false → StandsFor log (kept_down name unmade has_parts (D.state disk)) n →
+        Serves log s n (counts_of (D.state disk)) (said.Init slots blocks) (E.shows out.old) (E.shows out.new) (kept_down name result.1 has_parts (D.state result.0)) s }
 {
     let size = disk.blocks();
     let sizes = Sizes {
@@ -476,7 +419,7 @@ fn format<D: Disk, E: Emit>(
     };
     if !sizes_fit(&sizes, size) {
         out.emit(&Form::BadParameter);
-        return (disk, unknown);
+        return (disk, unmade);
     }
     if let Err(e) = disk.power() {
         show_fall(name, Down::from(e), out);
@@ -500,34 +443,34 @@ fn format<D: Disk, E: Emit>(
 fn boot_down<D: Disk, E: Emit>(
     alloc: Global,
     name: NodeName,
-    in_use: bool,
     disk: D,
     parts: Option<Parts>,
+    shared: &mut Shared,
     out: &mut E,
 ) -> Node<D>
     requires least { 4096 ≤ (D.state disk).size }
     requires most { (D.state disk).size ≤ 65536 }
     requires parts { IfSome parts IsParts }
-    ensures kept { (n : ℕ) → IsNode D.state n result }
+    ensures kept { (n : ℕ) → IsNode D.state n (shared_of shared.new) result }
+    ensures in_use { shared.old.in_use ≡ true → shared.new.in_use ≡ true }
     ensures name { result.name ≡ name }
     ensures passes { Passes (D.state disk) (state_of D.state result) }
     ensures place { E.place out.new ≡ E.place out.old }
     ensures since { Since (E.shows out.old) (E.shows out.new) }
-    ensures tells { Answers said.Boot (E.shows out.old) (E.shows out.new) (D.state disk) (state_of D.state result) }
-    ensures serves { (ls : List LabelSaid) (log : CallLog) (w : World) → StandsFor log (kept_down name false in_use (is_some parts) (D.state disk) ls) w →
-        Serves log w (said.At name said.Boot) (E.shows out.old) (E.shows out.new) (kept_of D.state result ls) }
+    ensures tells { Answers said.Boot (E.shows out.old) (E.shows out.new) (D.state disk) (state_of D.state result) (said_shared (shared_of shared.old)) (said_shared (shared_of shared.new)) (said_down name false) (said_node (kept_of D.state result)) }
+    ensures serves { (log : CallLog) (n : NodeOfWorld) → StandsFor log (kept_down name false (is_some parts) (D.state disk)) n → IsPromised said.Boot n →
+        Serves log (shared_of shared.old) n (counts_of (D.state disk)) said.Boot (E.shows out.old) (E.shows out.new) (kept_of D.state result) (shared_of shared.new) }
 {
     if let Some(parts) = parts {
-        return boot_with(name, in_use, disk, parts, out);
+        return boot_with(name, disk, parts, shared, out);
     }
     match reserve_parts(alloc) {
-        Ok(parts) => boot_with(name, in_use, disk, parts, out),
+        Ok(parts) => boot_with(name, disk, parts, shared, out),
         Err(_) => {
             out.emit(&Form::NoMemory);
             Node {
                 name,
-                unknown: false,
-                in_use,
+                unmade: false,
                 place: Place::Down(disk, None),
             }
         }
@@ -537,58 +480,83 @@ fn boot_down<D: Disk, E: Emit>(
 // Boots a node that is down, with its parts.
 fn boot_with<D: Disk, E: Emit>(
     name: NodeName,
-    in_use: bool,
     mut disk: D,
     parts: Parts,
+    shared: &mut Shared,
     out: &mut E,
 ) -> Node<D>
     requires least { 4096 ≤ (D.state disk).size }
     requires most { (D.state disk).size ≤ 65536 }
     requires parts { IsParts parts }
-    ensures kept { (n : ℕ) → IsNode D.state n result }
+    ensures kept { (n : ℕ) → IsNode D.state n (shared_of shared.new) result }
+    ensures in_use { shared.old.in_use ≡ true → shared.new.in_use ≡ true }
     ensures name { result.name ≡ name }
     ensures passes { Passes (D.state disk) (state_of D.state result) }
     ensures place { E.place out.new ≡ E.place out.old }
     ensures since { Since (E.shows out.old) (E.shows out.new) }
-    ensures tells { Answers said.Boot (E.shows out.old) (E.shows out.new) (D.state disk) (state_of D.state result) }
-    ensures serves { (has_parts : Bool) (ls : List LabelSaid) (log : CallLog) (w : World) → StandsFor log (kept_down name false in_use has_parts (D.state disk) ls) w →
-        Serves log w (said.At name said.Boot) (E.shows out.old) (E.shows out.new) (kept_of D.state result ls) }
+    ensures tells { Answers said.Boot (E.shows out.old) (E.shows out.new) (D.state disk) (state_of D.state result) (said_shared (shared_of shared.old)) (said_shared (shared_of shared.new)) (said_down name false) (said_node (kept_of D.state result)) }
+    ensures serves { (has_parts : Bool) (log : CallLog) (n : NodeOfWorld) → StandsFor log (kept_down name false has_parts (D.state disk)) n → IsPromised said.Boot n →
+        Serves log (shared_of shared.old) n (counts_of (D.state disk)) said.Boot (E.shows out.old) (E.shows out.new) (kept_of D.state result) (shared_of shared.new) }
 {
     let Parts { group, pool, room } = parts;
     if let Err(e) = disk.power() {
-        show_fall(name, Down::from(e), out);
-        return down_node(name, true, disk, Parts { group, pool, room });
+        return fall_in_boot(
+            name,
+            Down::from(e),
+            disk,
+            Parts { group, pool, room },
+            shared,
+            out,
+        );
     }
     match open_disk(disk, group, pool, name) {
         Booted::Up(volume) => {
+            shared.in_use = true;
             show_last(volume.home(), out);
             out.emit(&Form::NormalCount(u64::from(volume.home().boot)));
             Node {
                 name,
-                unknown: false,
-                in_use: true,
+                unmade: false,
                 place: Place::Up(Running::new(volume, room)),
             }
         }
         Booted::Refused(disk, group, pool, form) => {
             out.emit(&form);
-            down_node(name, in_use, disk, Parts { group, pool, room })
+            down_node(name, disk, Parts { group, pool, room })
         }
         Booted::Fell(disk, group, pool, down) => {
-            show_fall(name, down, out);
-            down_node(name, true, disk, Parts { group, pool, room })
+            fall_in_boot(name, down, disk, Parts { group, pool, room }, shared, out)
         }
     }
 }
 
-// A node that is down, and of whose disk something is known.
-fn down_node<D: Disk>(name: NodeName, in_use: bool, disk: D, parts: Parts) -> Node<D>
-    ensures { result ≡ record { name = name; unknown = false; in_use = in_use; place = Place.Down disk (Some parts) } }
+// A node goes down in its boot, and that is answered. No volume may be made any more.
+fn fall_in_boot<D: Disk, E: Emit>(
+    name: NodeName,
+    down: Down,
+    disk: D,
+    parts: Parts,
+    shared: &mut Shared,
+    out: &mut E,
+) -> Node<D>
+    ensures node { result ≡ record { name = name; unmade = false; place = Place.Down disk (Some parts) } }
+    ensures shared { shared.new ≡ record shared.old { in_use = true } }
+    ensures place { E.place out.new ≡ E.place out.old }
+    ensures since { Since (E.shows out.old) (E.shows out.new) }
+    ensures emits { Emits (E.shows out.old) (line.Down name (cause_kept down) ∷ line.Broken (cause_kept down) ∷ []) (E.shows out.new) }
+{
+    shared.in_use = true;
+    show_fall(name, down, out);
+    down_node(name, disk, parts)
+}
+
+// A node that is down, and whose last INIT did not fail.
+fn down_node<D: Disk>(name: NodeName, disk: D, parts: Parts) -> Node<D>
+    ensures { result ≡ record { name = name; unmade = false; place = Place.Down disk (Some parts) } }
 {
     Node {
         name,
-        unknown: false,
-        in_use,
+        unmade: false,
         place: Place::Down(disk, Some(parts)),
     }
 }

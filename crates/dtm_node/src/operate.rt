@@ -1,5 +1,5 @@
 //! Operations on records that a branch is asked for.
-ghost use Rattle.std.specs.Prelude.{◌≡◌, ◌<◌, ◌≤◌, ◌+◌, ◌-◌, ◌&&◌, ℕ, List, [], ◌∷◌, ◌++◌, Option, Some, None, Ok, Err, option_map, IfSome, IfOk, OnOk, OnErr, MatchResult, length, true, false, IsSome, if◌then◌else◌, nat_le, nat_lt, take, drop};
+ghost use Rattle.std.specs.Prelude.{◌≡◌, ◌<◌, ◌≤◌, ◌+◌, ◌-◌, ◌&&◌, ℕ, List, [], ◌∷◌, ◌++◌, Bool, Option, Some, None, Ok, Err, option_map, IfSome, IfOk, OnOk, OnErr, MatchResult, length, true, false, IsSome, if◌then◌else◌, nat_le, nat_lt, take, drop};
 ghost use Rattle.std.specs.Option.{option_copied};
 ghost use Rattle.block_disk.specs.Disk.{CallLog};
 ghost use Rattle.transcript.specs.Forms.{HasTime, line_of};
@@ -13,18 +13,17 @@ ghost use Rattle.file_base.specs.declared.head.Organization.TheVariants as organ
 ghost use Rattle.change_set.specs.Files.{fell};
 ghost use Rattle.seq_file.specs.Layout.{records_in};
 ghost use Rattle.record_files.specs.Any.{IsFile, IsLaidOut, asks};
-ghost use Rattle.run_model.specs.World.{World, Label as LabelSaid, find_branch, labelled};
+ghost use Rattle.run_model.specs.World.{Node as NodeSaid, Shared as SharedSaid, find_branch, serial_labelled};
 ghost use Rattle.run_model.specs.Operations.{key_refused, refused_if, other_refused, key_within as within_said};
 ghost use Rattle.vms_model.specs.Ids.{Id as IdSaid};
 ghost use Rattle.directory_model.specs.Files.{AreOwn, cut_notes, head_at, organized_by};
 ghost use Rattle.node_files.specs.Notes.{notes_in};
-ghost use Rattle.dtm_node.specs.Standing.{IsUp, StandsFor, Unsettled, branches_of};
-ghost use Rattle.dtm_node.specs.Keeping.{Breaks, Serves, kept_fallen, kept_up, up_of};
+ghost use Rattle.dtm_node.specs.Standing.{IsUp, StandsFor, Unsettled, branches_of, counts_of};
+ghost use Rattle.dtm_node.specs.Keeping.{Breaks, Serves, kept_fallen, kept_up, sharing, up_of};
 ghost use Rattle.dtm_node.specs.Operating.{IsPut, Operates, SetsOne, Told, asks_free, exists_line, line_or, record_after, record_before, wants};
 ghost use Rattle.node_files.specs.Forms.{refused_by_form};
 ghost use Rattle.dtm_node.specs.Uses.{Uses};
-ghost use Rattle.dtm_node.specs.Calling.{Replies, ShowsFine};
-ghost use Rattle.node_files.specs.Forms.{IsFine};
+ghost use Rattle.dtm_node.specs.Calling.{IsPlain, Replies, RepliesTo, FailsIn, ShowsFine};
 
 use crate::labels::Labels;
 use crate::law::the_laws;
@@ -86,7 +85,7 @@ fn key_within(head: &FileHead, bytes: &[u8]) -> Option<Key>
 // What a file answers where a record that is to be new is there.
 fn exists_form(head: &FileHead) -> Form<'static>
     ensures time { HasTime result }
-    ensures fine { IsFine (line_of result) }
+    ensures fine { IsPlain (line_of result) }
     ensures form { line_of result ≡ exists_line head.now.organization }
 {
     match head.organization {
@@ -147,7 +146,7 @@ fn other_refusal(head: &FileHead, key: &Key, old: &[u8], new: &[u8]) -> Option<F
     requires { head.now.organization ≡ organization.Indexed → (head.now.key_pos + head.now.key_size ≤ length new.now) × (1 ≤ head.now.key_size) × (head.now.key_size ≤ 64) }
     ensures refuses { option_map line_of result ≡ other_refused (organized_by head.now.organization head.now) (key_of key.now) old.now new.now }
     ensures time { IfSome result HasTime }
-    ensures fine { IfSome result (λ form. IsFine (line_of form)) }
+    ensures fine { IfSome result (λ form. IsPlain (line_of form)) }
 {
     match head.organization {
         Organization::Sequential => {
@@ -174,7 +173,7 @@ fn other_refusal(head: &FileHead, key: &Key, old: &[u8], new: &[u8]) -> Option<F
 // Shows what an operation is answered with, unless the disk went down.
 fn tell<E: Emit>(answer: &Result<Form<'static>, Down>, out: &mut E) -> Result<(), Down>
     requires time { IfOk answer.now HasTime }
-    requires fine { IfOk answer.now (λ form. IsFine (line_of form)) }
+    requires fine { IfOk answer.now (λ form. IsPlain (line_of form)) }
     ensures place { E.place out.new ≡ E.place out.old }
     ensures since { Since (E.shows out.old) (E.shows out.new) }
     ensures fine { MatchResult result (λ _. Replies (E.shows out.old) (E.shows out.new)) (λ _. ShowsFine (E.shows out.old) (E.shows out.new)) }
@@ -209,13 +208,13 @@ impl<D: Disk> Running<D> {
         ensures greatest { self.new.volume.catalog.home.greatest_moment.0 ≤ self.old.volume.catalog.home.greatest_moment.0 + 1 }
         ensures place { E.place out.new ≡ E.place out.old }
         ensures since { Since (E.shows out.old) (E.shows out.new) }
-        ensures fine { MatchResult result (λ _. Replies (E.shows out.old) (E.shows out.new)) (λ _. ShowsFine (E.shows out.old) (E.shows out.new)) }
+        ensures follows { MatchResult result (λ _. RepliesTo (said.Records label.now name.now (operation_of lit.now operation.now)) self.old.volume.catalog.home.node labels.now labels.now (E.shows out.old) (E.shows out.new)) (λ _. FailsIn (said.Records label.now name.now (operation_of lit.now operation.now)) self.old.volume.catalog.home.node labels.now labels.now (E.shows out.old) (E.shows out.new)) }
         ensures uses { Uses result self.old.volume.store.disk self.new.volume.store.disk }
         ensures pool { self.new.volume.store.pool ≡ self.old.volume.store.pool }
-        ensures serves { (log : CallLog) (w : World) → StandsFor log (kept_up self.old labels.now) w →
+        ensures serves { (in_use : Bool) (log : CallLog) (n : NodeSaid) → StandsFor log (kept_up self.old) n →
             MatchResult result
-            (λ _. Serves log w (said.At self.old.volume.catalog.home.node (said.Records label.now name.now (operation_of lit.now operation.now))) (E.shows out.old) (E.shows out.new) (kept_up self.new labels.now))
-            (λ down. Breaks log w (said.At self.old.volume.catalog.home.node (said.Records label.now name.now (operation_of lit.now operation.now))) self.old.volume.catalog.home.node down (E.shows out.old) (E.shows out.new) (kept_fallen self.old.volume.catalog.home.node labels.now self.new.volume.store.disk)) }
+            (λ _. Serves log (sharing labels.now in_use) n (counts_of self.old.volume.store.disk) (said.Records label.now name.now (operation_of lit.now operation.now)) (E.shows out.old) (E.shows out.new) (kept_up self.new) (sharing labels.now in_use))
+            (λ down. Breaks log (sharing labels.now in_use) n (counts_of self.old.volume.store.disk) (said.Records label.now name.now (operation_of lit.now operation.now)) self.old.volume.catalog.home.node down (E.shows out.old) (E.shows out.new) (kept_fallen self.old.volume.catalog.home.node self.new.volume.store.disk) (sharing labels.now in_use)) }
     {
         match self.branch_labelled(labels, label) {
             Named::NotMade => {
@@ -242,8 +241,8 @@ impl<D: Disk> Running<D> {
         ensures place { E.place out.new ≡ E.place out.old }
         ensures since { Since (E.shows out.old) (E.shows out.new) }
         ensures fine { Replies (E.shows out.old) (E.shows out.new) }
-        ensures serves { (labels : List LabelSaid) (label : List ℕ) (id : IdSaid) (log : CallLog) (w : World) → StandsFor log (kept_up self.now labels) w → labelled self.now.volume.catalog.home.node label labels ≡ Some id → find_branch id (branches_of (up_of self.now).branch) ≡ None →
-            Serves log w (said.At self.now.volume.catalog.home.node (said.Records label name.now (operation_of lit.now operation.now))) (E.shows out.old) (E.shows out.new) (kept_up self.now labels) }
+        ensures serves { (s : SharedSaid) (label : List ℕ) (id : IdSaid) (log : CallLog) (n : NodeSaid) → StandsFor log (kept_up self.now) n → serial_labelled self.now.volume.catalog.home.node label s.labels ≡ Some id → find_branch id (branches_of (up_of self.now).branch) ≡ None →
+            Serves log s n (counts_of self.now.volume.store.disk) (said.Records label name.now (operation_of lit.now operation.now)) (E.shows out.old) (E.shows out.new) (kept_up self.now) s }
     {
         the_laws();
         match self.file(name) {
@@ -273,10 +272,10 @@ impl<D: Disk> Running<D> {
         ensures place { E.place out.new ≡ E.place out.old }
         ensures since { Since (E.shows out.old) (E.shows out.new) }
         ensures fine { MatchResult result (λ _. Replies (E.shows out.old) (E.shows out.new)) (λ _. ShowsFine (E.shows out.old) (E.shows out.new)) }
-        ensures serves { (labels : List LabelSaid) (label : List ℕ) (id : IdSaid) (log : CallLog) (w : World) → StandsFor log (kept_up self.old labels) w → labelled self.old.volume.catalog.home.node label labels ≡ Some id → option_map (λ (b : Unsettled). b.serial) (up_of self.old).branch ≡ Some id →
+        ensures serves { (s : SharedSaid) (label : List ℕ) (id : IdSaid) (log : CallLog) (n : NodeSaid) → StandsFor log (kept_up self.old) n → serial_labelled self.old.volume.catalog.home.node label s.labels ≡ Some id → option_map (λ (b : Unsettled). b.serial) (up_of self.old).branch ≡ Some id →
             MatchResult result
-            (λ _. Serves log w (said.At self.old.volume.catalog.home.node (said.Records label name.now (operation_of lit.now operation.now))) (E.shows out.old) (E.shows out.new) (kept_up self.new labels))
-            (λ down. Breaks log w (said.At self.old.volume.catalog.home.node (said.Records label name.now (operation_of lit.now operation.now))) self.old.volume.catalog.home.node down (E.shows out.old) (E.shows out.new) (kept_fallen self.old.volume.catalog.home.node labels self.new.volume.store.disk)) }
+            (λ _. Serves log s n (counts_of self.old.volume.store.disk) (said.Records label name.now (operation_of lit.now operation.now)) (E.shows out.old) (E.shows out.new) (kept_up self.new) s)
+            (λ down. Breaks log s n (counts_of self.old.volume.store.disk) (said.Records label name.now (operation_of lit.now operation.now)) self.old.volume.catalog.home.node down (E.shows out.old) (E.shows out.new) (kept_fallen self.old.volume.catalog.home.node self.new.volume.store.disk) s) }
     {
         the_laws();
         match self.file(name) {
@@ -375,7 +374,7 @@ impl<D: Disk> Running<D> {
         ensures uses { Uses result self.old.volume.store.disk self.new.volume.store.disk }
         ensures pool { self.new.volume.store.pool ≡ self.old.volume.store.pool }
         ensures time { IfOk result HasTime }
-        ensures fine { IfOk result (λ form. IsFine (line_of form)) }
+        ensures fine { IfOk result (λ form. IsPlain (line_of form)) }
         ensures operates { Told result line_of (said.Put number bytes.now) file head (up_of self.old) (up_of self.new) }
     {
         match head.organization {
@@ -412,7 +411,7 @@ impl<D: Disk> Running<D> {
         ensures uses { Uses result self.old.volume.store.disk self.new.volume.store.disk }
         ensures pool { self.new.volume.store.pool ≡ self.old.volume.store.pool }
         ensures time { IfOk result HasTime }
-        ensures fine { IfOk result (λ form. IsFine (line_of form)) }
+        ensures fine { IfOk result (λ form. IsPlain (line_of form)) }
         ensures operates { (number : Option ℕ) → IsPut head.organization head number bytes.now (key_of key.now) → Told result line_of (said.Put number bytes.now) file head (up_of self.old) (up_of self.new) }
     {
         the_laws();
@@ -443,7 +442,7 @@ impl<D: Disk> Running<D> {
         ensures uses { Uses result self.old.volume.store.disk self.new.volume.store.disk }
         ensures pool { self.new.volume.store.pool ≡ self.old.volume.store.pool }
         ensures time { IfOk result HasTime }
-        ensures fine { IfOk result (λ form. IsFine (line_of form)) }
+        ensures fine { IfOk result (λ form. IsPlain (line_of form)) }
         ensures operates { Told result line_of (said.Put None bytes.now) file head (up_of self.old) (up_of self.new) }
     {
         the_laws();
@@ -479,7 +478,7 @@ impl<D: Disk> Running<D> {
         ensures uses { Uses result self.old.volume.store.disk self.new.volume.store.disk }
         ensures pool { self.new.volume.store.pool ≡ self.old.volume.store.pool }
         ensures time { IfOk result HasTime }
-        ensures fine { IfOk result (λ form. IsFine (line_of form)) }
+        ensures fine { IfOk result (λ form. IsPlain (line_of form)) }
         ensures operates { Told result line_of (said.Update (key_of key.now) bytes.now) file head (up_of self.old) (up_of self.new) }
     {
         the_laws();
@@ -512,7 +511,7 @@ impl<D: Disk> Running<D> {
         ensures uses { Uses result self.old.volume.store.disk self.new.volume.store.disk }
         ensures pool { self.new.volume.store.pool ≡ self.old.volume.store.pool }
         ensures time { IfOk result HasTime }
-        ensures fine { IfOk result (λ form. IsFine (line_of form)) }
+        ensures fine { IfOk result (λ form. IsPlain (line_of form)) }
         ensures operates { Told result line_of (said.Delete (key_of key.now)) file head (up_of self.old) (up_of self.new) }
     {
         the_laws();
@@ -547,7 +546,7 @@ impl<D: Disk> Running<D> {
         ensures uses { Uses result self.old.volume.store.disk self.new.volume.store.disk }
         ensures pool { self.new.volume.store.pool ≡ self.old.volume.store.pool }
         ensures time { IfOk result (λ o. IfSome o HasTime) }
-        ensures fine { IfOk result (λ o. IfSome o (λ form. IsFine (line_of form))) }
+        ensures fine { IfOk result (λ o. IfSome o (λ form. IsPlain (line_of form))) }
         ensures operates { (op : said.Operation) (answer : Line) → IfSome self.old.volume.store.current (λ content. IsFile head → IsLaidOut head content → refused_by_form head op ≡ None →
             SetsOne op head (key_of key.now) (record_before change self.old.buffers.found) (record_after change self.old.buffers.value) (wants (asks_free change head.organization) head content self.old.buffers.value) answer content) →
             Told result (line_or answer) op file head (up_of self.old) (up_of self.new) }
@@ -580,7 +579,7 @@ impl<D: Disk> Running<D> {
         ensures free { IfOk result (λ o. IfSome self.old.volume.store.current (λ content. IsFile head.now → IsLaidOut head.now content →
             option_map line_of o ≡ refused_if (nat_lt (head.now.alloc - head.now.used) (wants (asks_free change head.now.organization) head.now content self.old.buffers.value)) (said_full (head.now.alloc - head.now.used) (wants (asks_free change head.now.organization) head.now content self.old.buffers.value)))) }
         ensures time { IfOk result (λ o. IfSome o HasTime) }
-        ensures fine { IfOk result (λ o. IfSome o (λ form. IsFine (line_of form))) }
+        ensures fine { IfOk result (λ o. IfSome o (λ form. IsPlain (line_of form))) }
         ensures same { OnOk result (self.new ≡ self.old) }
         ensures down { OnErr result (self.new ≡ record self.old { volume = record self.old.volume { store = fell result self.old.volume.store } }) }
     {
@@ -658,7 +657,7 @@ impl<D: Disk> Running<D> {
         ensures uses { Uses result self.old.volume.store.disk self.new.volume.store.disk }
         ensures pool { self.new.volume.store.pool ≡ self.old.volume.store.pool }
         ensures time { IfOk result HasTime }
-        ensures fine { IfOk result (λ form. IsFine (line_of form)) }
+        ensures fine { IfOk result (λ form. IsPlain (line_of form)) }
         ensures operates { Told result line_of (said.Truncate position) file head (up_of self.old) (up_of self.new) }
     {
         the_laws();

@@ -1,5 +1,5 @@
 //! What a node keeps while it is up, and the statements that it then serves.
-ghost use Rattle.std.specs.Prelude.{◌≡◌, ◌<◌, ◌≤◌, ◌+◌, ℕ, List, ◌∷◌, Option, Some, None, option_map, IfSome, IfNone, IfOk, OnOk, OnErr, MatchResult, length, drop, IsSome, if◌then◌else◌};
+ghost use Rattle.std.specs.Prelude.{◌≡◌, ◌<◌, ◌≤◌, ◌+◌, ℕ, List, ◌∷◌, Bool, Option, Some, None, option_map, IfSome, IfNone, IfOk, OnOk, OnErr, MatchResult, length, drop, IsSome, if◌then◌else◌};
 ghost use Rattle.std.specs.Option.{option_copied};
 ghost use Rattle.block_disk.specs.Disk.{CallLog, armed};
 ghost use Rattle.vms_base.specs.Ids.{id_of, serial_of};
@@ -7,13 +7,13 @@ ghost use Rattle.transcript_model.specs.Emitting.{Since};
 ghost use Rattle.records_model.specs.History.{same_id};
 ghost use Rattle.script_model.specs.Statements as said;
 ghost use Rattle.script_lang.specs.Statements.{request_of, form_of, setting_of};
-ghost use Rattle.run_model.specs.World.{World, Label as LabelSaid, labelled};
+ghost use Rattle.run_model.specs.World.{Node as NodeSaid, Shared as SharedSaid, serial_labelled};
 ghost use Rattle.run_model.specs.Answers.{is_for_units as units_said};
 ghost use Rattle.directory_model.specs.Files.{AreOwn, IsNamed, Note as NoteSaid, NoneNamed, head_at};
-ghost use Rattle.dtm_node.specs.Standing.{IsUp, Unsettled, StandsFor};
-ghost use Rattle.dtm_node.specs.Keeping.{Breaks, IsToUp, LabelIs, Serves, kept_fallen, kept_up, locker_of, up_of};
+ghost use Rattle.dtm_node.specs.Standing.{IsUp, Unsettled, StandsFor, counts_of};
+ghost use Rattle.dtm_node.specs.Keeping.{Breaks, IsToUp, LabelIs, Serves, kept_fallen, kept_up, locker_of, sharing, up_of};
 ghost use Rattle.dtm_node.specs.Uses.{Uses};
-ghost use Rattle.dtm_node.specs.Calling.{Replies, ShowsFine};
+ghost use Rattle.dtm_node.specs.Calling.{FailsIn, Replies, RepliesTo, ShowsFine};
 ghost use Rattle.dtm_node.specs.Listing.{Shows};
 ghost use Rattle.node_files.specs.Notes.{notes_in};
 ghost use Rattle.node_files.specs.Staging.{SetsNoteBack, Undone};
@@ -122,7 +122,7 @@ impl<D: Disk> Running<D> {
 
     // The branch that a label names here.
     pub(crate) fn branch_labelled(&self, labels: &Labels, label: &Label) -> Named
-        ensures { LabelIs result (up_of self.now).branch (labelled self.now.volume.catalog.home.node label.now labels.now) }
+        ensures { LabelIs result (up_of self.now).branch self.now.volume.catalog.home.node label.now labels.now }
     {
         let Some(entry) = labels.find(label) else {
             return Named::NotMade;
@@ -194,13 +194,13 @@ impl<D: Disk> Running<D> {
         ensures greatest { self.new.volume.catalog.home.greatest_moment.0 ≤ self.old.volume.catalog.home.greatest_moment.0 + 1 }
         ensures place { E.place out.new ≡ E.place out.old }
         ensures since { Since (E.shows out.old) (E.shows out.new) }
-        ensures fine { MatchResult result (λ _. Replies (E.shows out.old) (E.shows out.new)) (λ _. ShowsFine (E.shows out.old) (E.shows out.new)) }
+        ensures follows { MatchResult result (λ _. RepliesTo (request_of lit.now request.now) self.old.volume.catalog.home.node labels.old labels.new (E.shows out.old) (E.shows out.new)) (λ _. FailsIn (request_of lit.now request.now) self.old.volume.catalog.home.node labels.old labels.new (E.shows out.old) (E.shows out.new)) }
         ensures uses { Uses result self.old.volume.store.disk self.new.volume.store.disk }
         ensures pool { self.new.volume.store.pool ≡ self.old.volume.store.pool }
-        ensures serves { (log : CallLog) (w : World) → StandsFor log (kept_up self.old labels.old) w →
+        ensures serves { (in_use : Bool) (log : CallLog) (n : NodeSaid) → StandsFor log (kept_up self.old) n →
             MatchResult result
-            (λ _. Serves log w (said.At self.old.volume.catalog.home.node (request_of lit.now request.now)) (E.shows out.old) (E.shows out.new) (kept_up self.new labels.new))
-            (λ down. Breaks log w (said.At self.old.volume.catalog.home.node (request_of lit.now request.now)) self.old.volume.catalog.home.node down (E.shows out.old) (E.shows out.new) (kept_fallen self.old.volume.catalog.home.node labels.new self.new.volume.store.disk)) }
+            (λ _. Serves log (sharing labels.old in_use) n (counts_of self.old.volume.store.disk) (request_of lit.now request.now) (E.shows out.old) (E.shows out.new) (kept_up self.new) (sharing labels.new in_use))
+            (λ down. Breaks log (sharing labels.old in_use) n (counts_of self.old.volume.store.disk) (request_of lit.now request.now) self.old.volume.catalog.home.node down (E.shows out.old) (E.shows out.new) (kept_fallen self.old.volume.catalog.home.node self.new.volume.store.disk) (sharing labels.new in_use)) }
     {
         match request {
             Request::Create {
@@ -247,10 +247,10 @@ impl<D: Disk> Running<D> {
         ensures fine { MatchResult result (λ _. Replies (E.shows out.old) (E.shows out.new)) (λ _. ShowsFine (E.shows out.old) (E.shows out.new)) }
         ensures uses { Uses result self.old.volume.store.disk self.new.volume.store.disk }
         ensures pool { self.new.volume.store.pool ≡ self.old.volume.store.pool }
-        ensures serves { (labels : List LabelSaid) (log : CallLog) (w : World) → StandsFor log (kept_up self.old labels) w →
+        ensures serves { (s : SharedSaid) (log : CallLog) (n : NodeSaid) → StandsFor log (kept_up self.old) n →
             MatchResult result
-            (λ _. Serves log w (said.At self.old.volume.catalog.home.node (said.Create name bucket size (form_of form))) (E.shows out.old) (E.shows out.new) (kept_up self.new labels))
-            (λ down. Breaks log w (said.At self.old.volume.catalog.home.node (said.Create name bucket size (form_of form))) self.old.volume.catalog.home.node down (E.shows out.old) (E.shows out.new) (kept_fallen self.old.volume.catalog.home.node labels self.new.volume.store.disk)) }
+            (λ _. Serves log s n (counts_of self.old.volume.store.disk) (said.Create name bucket size (form_of form)) (E.shows out.old) (E.shows out.new) (kept_up self.new) s)
+            (λ down. Breaks log s n (counts_of self.old.volume.store.disk) (said.Create name bucket size (form_of form)) self.old.volume.catalog.home.node down (E.shows out.old) (E.shows out.new) (kept_fallen self.old.volume.catalog.home.node self.new.volume.store.disk) s) }
     {
         the_laws();
         if let Some(_) = self.file(&name) {
@@ -307,10 +307,10 @@ impl<D: Disk> Running<D> {
         ensures fine { MatchResult result (λ _. Replies (E.shows out.old) (E.shows out.new)) (λ _. ShowsFine (E.shows out.old) (E.shows out.new)) }
         ensures uses { Uses result self.old.volume.store.disk self.new.volume.store.disk }
         ensures pool { self.new.volume.store.pool ≡ self.old.volume.store.pool }
-        ensures serves { (labels : List LabelSaid) (log : CallLog) (w : World) → StandsFor log (kept_up self.old labels) w →
+        ensures serves { (s : SharedSaid) (log : CallLog) (n : NodeSaid) → StandsFor log (kept_up self.old) n →
             MatchResult result
-            (λ _. Serves log w (said.At self.old.volume.catalog.home.node (said.SetFile name.now (setting_of setting))) (E.shows out.old) (E.shows out.new) (kept_up self.new labels))
-            (λ down. Breaks log w (said.At self.old.volume.catalog.home.node (said.SetFile name.now (setting_of setting))) self.old.volume.catalog.home.node down (E.shows out.old) (E.shows out.new) (kept_fallen self.old.volume.catalog.home.node labels self.new.volume.store.disk)) }
+            (λ _. Serves log s n (counts_of self.old.volume.store.disk) (said.SetFile name.now (setting_of setting)) (E.shows out.old) (E.shows out.new) (kept_up self.new) s)
+            (λ down. Breaks log s n (counts_of self.old.volume.store.disk) (said.SetFile name.now (setting_of setting)) self.old.volume.catalog.home.node down (E.shows out.old) (E.shows out.new) (kept_fallen self.old.volume.catalog.home.node self.new.volume.store.disk) s) }
     {
         the_laws();
         let Some((file, mut head)) = self.file(name) else {
@@ -352,9 +352,9 @@ impl<D: Disk> Running<D> {
         ensures drawn { self.new.drawn ≤ self.old.drawn + 1 }
         ensures place { E.place out.new ≡ E.place out.old }
         ensures since { Since (E.shows out.old) (E.shows out.new) }
-        ensures fine { Replies (E.shows out.old) (E.shows out.new) }
-        ensures serves { (log : CallLog) (w : World) → StandsFor log (kept_up self.old labels.old) w →
-            Serves log w (said.At self.old.volume.catalog.home.node (said.StartTrans label)) (E.shows out.old) (E.shows out.new) (kept_up self.new labels.new) }
+        ensures follows { RepliesTo (said.StartTrans label) self.old.volume.catalog.home.node labels.old labels.new (E.shows out.old) (E.shows out.new) }
+        ensures serves { (in_use : Bool) (log : CallLog) (n : NodeSaid) → StandsFor log (kept_up self.old) n →
+            Serves log (sharing labels.old in_use) n (counts_of self.old.volume.store.disk) (said.StartTrans label) (E.shows out.old) (E.shows out.new) (kept_up self.new) (sharing labels.new in_use) }
     {
         the_laws();
         if let Some(_) = labels.find(&label) {
@@ -388,13 +388,13 @@ impl<D: Disk> Running<D> {
         ensures greatest { self.new.volume.catalog.home.greatest_moment.0 ≤ self.old.volume.catalog.home.greatest_moment.0 + 1 }
         ensures place { E.place out.new ≡ E.place out.old }
         ensures since { Since (E.shows out.old) (E.shows out.new) }
-        ensures fine { MatchResult result (λ _. Replies (E.shows out.old) (E.shows out.new)) (λ _. ShowsFine (E.shows out.old) (E.shows out.new)) }
+        ensures follows { MatchResult result (λ _. RepliesTo (said.EndTrans label.now) self.old.volume.catalog.home.node labels.now labels.now (E.shows out.old) (E.shows out.new)) (λ _. FailsIn (said.EndTrans label.now) self.old.volume.catalog.home.node labels.now labels.now (E.shows out.old) (E.shows out.new)) }
         ensures uses { Uses result self.old.volume.store.disk self.new.volume.store.disk }
         ensures pool { self.new.volume.store.pool ≡ self.old.volume.store.pool }
-        ensures serves { (log : CallLog) (w : World) → StandsFor log (kept_up self.old labels.now) w →
+        ensures serves { (in_use : Bool) (log : CallLog) (n : NodeSaid) → StandsFor log (kept_up self.old) n →
             MatchResult result
-            (λ _. Serves log w (said.At self.old.volume.catalog.home.node (said.EndTrans label.now)) (E.shows out.old) (E.shows out.new) (kept_up self.new labels.now))
-            (λ down. Breaks log w (said.At self.old.volume.catalog.home.node (said.EndTrans label.now)) self.old.volume.catalog.home.node down (E.shows out.old) (E.shows out.new) (kept_fallen self.old.volume.catalog.home.node labels.now self.new.volume.store.disk)) }
+            (λ _. Serves log (sharing labels.now in_use) n (counts_of self.old.volume.store.disk) (said.EndTrans label.now) (E.shows out.old) (E.shows out.new) (kept_up self.new) (sharing labels.now in_use))
+            (λ down. Breaks log (sharing labels.now in_use) n (counts_of self.old.volume.store.disk) (said.EndTrans label.now) self.old.volume.catalog.home.node down (E.shows out.old) (E.shows out.new) (kept_fallen self.old.volume.catalog.home.node self.new.volume.store.disk) (sharing labels.now in_use)) }
     {
         the_laws();
         match self.branch_labelled(labels, label) {
@@ -455,13 +455,13 @@ impl<D: Disk> Running<D> {
         ensures greatest { self.new.volume.catalog.home.greatest_moment.0 ≤ self.old.volume.catalog.home.greatest_moment.0 + 1 }
         ensures place { E.place out.new ≡ E.place out.old }
         ensures since { Since (E.shows out.old) (E.shows out.new) }
-        ensures fine { MatchResult result (λ _. Replies (E.shows out.old) (E.shows out.new)) (λ _. ShowsFine (E.shows out.old) (E.shows out.new)) }
+        ensures follows { MatchResult result (λ _. RepliesTo (said.AbortTrans label.now) self.old.volume.catalog.home.node labels.now labels.now (E.shows out.old) (E.shows out.new)) (λ _. FailsIn (said.AbortTrans label.now) self.old.volume.catalog.home.node labels.now labels.now (E.shows out.old) (E.shows out.new)) }
         ensures uses { Uses result self.old.volume.store.disk self.new.volume.store.disk }
         ensures pool { self.new.volume.store.pool ≡ self.old.volume.store.pool }
-        ensures serves { (log : CallLog) (w : World) → StandsFor log (kept_up self.old labels.now) w →
+        ensures serves { (in_use : Bool) (log : CallLog) (n : NodeSaid) → StandsFor log (kept_up self.old) n →
             MatchResult result
-            (λ _. Serves log w (said.At self.old.volume.catalog.home.node (said.AbortTrans label.now)) (E.shows out.old) (E.shows out.new) (kept_up self.new labels.now))
-            (λ down. Breaks log w (said.At self.old.volume.catalog.home.node (said.AbortTrans label.now)) self.old.volume.catalog.home.node down (E.shows out.old) (E.shows out.new) (kept_fallen self.old.volume.catalog.home.node labels.now self.new.volume.store.disk)) }
+            (λ _. Serves log (sharing labels.now in_use) n (counts_of self.old.volume.store.disk) (said.AbortTrans label.now) (E.shows out.old) (E.shows out.new) (kept_up self.new) (sharing labels.now in_use))
+            (λ down. Breaks log (sharing labels.now in_use) n (counts_of self.old.volume.store.disk) (said.AbortTrans label.now) self.old.volume.catalog.home.node down (E.shows out.old) (E.shows out.new) (kept_fallen self.old.volume.catalog.home.node self.new.volume.store.disk) (sharing labels.now in_use)) }
     {
         the_laws();
         match self.branch_labelled(labels, label) {
@@ -491,11 +491,11 @@ impl<D: Disk> Running<D> {
         ensures fine { MatchResult result (λ _. Replies (E.shows out.old) (E.shows out.new)) (λ _. ShowsFine (E.shows out.old) (E.shows out.new)) }
         ensures uses { Uses result self.old.volume.store.disk self.new.volume.store.disk }
         ensures pool { self.new.volume.store.pool ≡ self.old.volume.store.pool }
-        ensures serves { (labels : List LabelSaid) (l : List ℕ) (log : CallLog) (w : World) → StandsFor log (kept_up self.old labels) w → labelled self.old.volume.catalog.home.node l labels ≡ Some (serial_of serial.now) →
+        ensures serves { (s : SharedSaid) (l : List ℕ) (log : CallLog) (n : NodeSaid) → StandsFor log (kept_up self.old) n → serial_labelled self.old.volume.catalog.home.node l s.labels ≡ Some (serial_of serial.now) →
             option_map (λ (b : Unsettled). b.serial) (up_of self.old).branch ≡ Some (serial_of serial.now) →
             MatchResult result
-            (λ _. Serves log w (said.At self.old.volume.catalog.home.node (said.AbortTrans l)) (E.shows out.old) (E.shows out.new) (kept_up self.new labels))
-            (λ down. Breaks log w (said.At self.old.volume.catalog.home.node (said.AbortTrans l)) self.old.volume.catalog.home.node down (E.shows out.old) (E.shows out.new) (kept_fallen self.old.volume.catalog.home.node labels self.new.volume.store.disk)) }
+            (λ _. Serves log s n (counts_of self.old.volume.store.disk) (said.AbortTrans l) (E.shows out.old) (E.shows out.new) (kept_up self.new) s)
+            (λ down. Breaks log s n (counts_of self.old.volume.store.disk) (said.AbortTrans l) self.old.volume.catalog.home.node down (E.shows out.old) (E.shows out.new) (kept_fallen self.old.volume.catalog.home.node self.new.volume.store.disk) s) }
     {
         the_laws();
         match self.undo() {
@@ -550,10 +550,10 @@ impl<D: Disk> Running<D> {
         ensures fine { MatchResult result (λ _. Replies (E.shows out.old) (E.shows out.new)) (λ _. ShowsFine (E.shows out.old) (E.shows out.new)) }
         ensures uses { Uses result self.old.volume.store.disk self.new.volume.store.disk }
         ensures pool { self.new.volume.store.pool ≡ self.old.volume.store.pool }
-        ensures serves { (labels : List LabelSaid) (log : CallLog) (w : World) → StandsFor log (kept_up self.old labels) w →
+        ensures serves { (s : SharedSaid) (log : CallLog) (n : NodeSaid) → StandsFor log (kept_up self.old) n →
             MatchResult result
-            (λ _. Serves log w (said.At self.old.volume.catalog.home.node (said.Dump name.now)) (E.shows out.old) (E.shows out.new) (kept_up self.new labels))
-            (λ down. Breaks log w (said.At self.old.volume.catalog.home.node (said.Dump name.now)) self.old.volume.catalog.home.node down (E.shows out.old) (E.shows out.new) (kept_fallen self.old.volume.catalog.home.node labels self.new.volume.store.disk)) }
+            (λ _. Serves log s n (counts_of self.old.volume.store.disk) (said.Dump name.now) (E.shows out.old) (E.shows out.new) (kept_up self.new) s)
+            (λ down. Breaks log s n (counts_of self.old.volume.store.disk) (said.Dump name.now) self.old.volume.catalog.home.node down (E.shows out.old) (E.shows out.new) (kept_fallen self.old.volume.catalog.home.node self.new.volume.store.disk) s) }
     {
         the_laws();
         let Some((file, head)) = self.file(name) else {

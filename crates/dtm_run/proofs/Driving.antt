@@ -11,16 +11,17 @@ use Rattle.script_model.specs.Grammar.{reading}
 use Rattle.script_lang.specs.declared.literals.Literals.{Literals}
 use Rattle.script_lang.specs.declared.statement.Statement as code
 use Rattle.script_lang.specs.Statements.{reading_of, statement_of}
-use Rattle.run_model.specs.World.{World, Node, Label}
+use Rattle.run_model.specs.World.{World, Node, Shared}
 use Rattle.run_model.specs.Transcript as model
 use Rattle.run_model.specs.Transcript.{EndsTooLong, BeginsBad}
 use Rattle.run_model.proofs.TranscriptLemmas.{Reached, EndsIn, reached_first, reached_blank, reached_served, ended_done, ended_read_fault, ended_cut, ended_bad, ended_too_long, line_bad, line_too_long, line_too_many}
 use Rattle.dtm_node.specs.declared.node.Node as node
 use Rattle.dtm_node.specs.declared.node.Place as place
 use Rattle.dtm_node.specs.declared.node.Place.TheVariants as at
-use Rattle.dtm_node.specs.Keeping.{Serves, up_of}
+use Rattle.dtm_node.specs.Keeping.{up_of}
 use Rattle.dtm_node.specs.Nodes.{IsNode, IsPlaceOf, kept_of, place_of, state_of}
-use Rattle.dtm_node.specs.Standing.{Kept, Up, IsUp, IsVolumeOf, StandsIn, StandsUp, StandsFor, disk_in, noted_all}
+use Rattle.dtm_node.specs.Standing.{Kept, Up, IsUp, IsVolumeOf, StandsIn, StandsUp, disk_in, noted_all}
+use Rattle.dtm_run.specs.Alone.{StandsAlone, ServesAlone}
 use Rattle.dtm_node.proofs.Booting.{idle_leaves}
 use Rattle.dtm_run.specs.Headline.{Leaves, LeavesNode, LeaveNodes, RunsTo, exit_of}
 use Rattle.dtm_run.specs.declared.top.Exit.{Exit}
@@ -39,33 +40,33 @@ volume_up name u n s up named sized = record {
   has = s.has;
 }
 
-place_leaves : {D : Type 0} (state : D → DiskState) (count : ℕ) (m : node.Node D) (p : place.Place D) (n : Node) (before : DiskState) → IsPlaceOf state count m p → StandsIn (place_of state p) n → n.name ≡ m.name → n.blocks ≡ (disk_in (place_of state p)).size →
+place_leaves : {D : Type 0} (state : D → DiskState) (count : ℕ) (s : Shared) (m : node.Node D) (p : place.Place D) (n : Node) (before : DiskState) → IsPlaceOf state count s m p → StandsIn (place_of state p) n → n.name ≡ m.name → n.blocks ≡ (disk_in (place_of state p)).size →
     (disk_in (place_of state p)).calls ≡ noted_all n.calls before.calls → LeavesNode before n (disk_in (place_of state p))
-place_leaves state count m (at.Down disk parts) n before kept s named sized calls = record { down = λ e. s.disk; up = λ e. absurd (not_both n.up e s.down); calls = calls }
-place_leaves state count m (at.Up r) n before kept s named sized calls = record {
+place_leaves state count shared m (at.Down disk parts) n before kept s named sized calls = record { down = λ e. s.disk; up = λ e. absurd (not_both n.up e s.down); calls = calls }
+place_leaves state count shared m (at.Up r) n before kept s named sized calls = record {
   down = λ e. absurd (not_both n.up s.up e);
   up = λ e. idle_leaves r.volume.store s.content (λ content. IsVolumeOf content n) kept.0.idle s.told (volume_up m.name (up_of r) n s kept.0 named sized);
   calls = calls;
 }
 
-pub stands_leaves : {D : Type 0} (state : D → DiskState) (count : ℕ) (m : node.Node D) (labels : List Label) (before : DiskState) (w : World) → IsNode state count m → StandsFor before.calls (kept_of state m labels) w → Leaves (before ∷ []) w (state_of state m ∷ [])
-stands_leaves state count m labels before w kept h = record {
+pub stands_leaves : {D : Type 0} (state : D → DiskState) (count : ℕ) (m : node.Node D) (s : Shared) (before : DiskState) (w : World) → IsNode state count s m → StandsAlone before.calls (kept_of state m) s w → Leaves (before ∷ []) w (state_of state m ∷ [])
+stands_leaves state count m s before w kept h = record {
   counts = h.disks;
-  nodes = subst (λ ns. LeaveNodes (before ∷ []) ns (state_of state m ∷ [])) (sym h.nodes) (place_leaves state count m m.place h.node before kept h.place h.name h.blocks h.calls, tt);
+  nodes = subst (λ ns. LeaveNodes (before ∷ []) ns (state_of state m ∷ [])) (sym h.nodes) (place_leaves state count s m m.place h.node before kept h.stands.place h.stands.name h.stands.blocks h.stands.calls, tt);
 }
 
 -- what is left of every world for which this stands
-abbrev pub Leaving : DiskState → Kept → Type 0
-Leaving before k = (w : World) → StandsFor before.calls k w → Leaves (before ∷ []) w (disk_in k.place ∷ [])
+abbrev pub Leaving : DiskState → Kept → Shared → Type 0
+Leaving before k s = (w : World) → StandsAlone before.calls k s w → Leaves (before ∷ []) w (disk_in k.place ∷ [])
 
 -- Between two lines the node stands for the world that the lines led to.
-pub record Going (opening : World) (before : DiskState) (script ahead : Option (List ScriptLine)) (old now : Option (List ℕ)) (number taken : ℕ) (k : Kept) : Type 0 where
+pub record Going (opening : World) (before : DiskState) (script ahead : Option (List ScriptLine)) (old now : Option (List ℕ)) (number taken : ℕ) (k : Kept) (s : Shared) : Type 0 where
   pub world : World
   pub reached : Reached opening script ahead old now number taken world
-  pub stands : StandsFor before.calls k world
+  pub stands : StandsAlone before.calls k s world
 
-pub going_first : (opening : World) (before : DiskState) (script : Option (List ScriptLine)) (old : Option (List ℕ)) (k : Kept) (taken : ℕ) → taken ≡ 0 → StandsFor before.calls k opening → Going opening before script script old old 1 taken k
-going_first opening before script old k taken e h = subst (λ n. Going opening before script script old old 1 n k) (sym e) record { world = opening; reached = reached_first opening script old; stands = h }
+pub going_first : (opening : World) (before : DiskState) (script : Option (List ScriptLine)) (old : Option (List ℕ)) (k : Kept) (s : Shared) (taken : ℕ) → taken ≡ 0 → StandsAlone before.calls k s opening → Going opening before script script old old 1 taken k s
+going_first opening before script old k s taken e h = subst (λ n. Going opening before script script old old 1 n k s) (sym e) record { world = opening; reached = reached_first opening script old; stands = h }
 
 pub ends_to : (opening : World) (before : List DiskState) (script : Option (List ScriptLine)) (old new : Option (List ℕ)) (ended : Exit) (after : List DiskState) (w : World) → EndsIn opening script old new (exit_of ended) w → Leaves before w after →
     RunsTo opening before script old new ended after
@@ -75,7 +76,7 @@ exit_if : (failed : Bool) (ended : Exit) → (if failed then model.WriteFault el
 exit_if true ended = refl
 exit_if false ended = refl
 
-module _ (opening : World) (before : DiskState) (script ahead : Option (List ScriptLine)) (old now : Option (List ℕ)) (number taken : ℕ) (k : Kept) (fine : Leaving before k) (g : Going opening before script ahead old now number taken k) where
+module _ (opening : World) (before : DiskState) (script ahead : Option (List ScriptLine)) (old now : Option (List ℕ)) (number taken : ℕ) (k : Kept) (h : Shared) (fine : Leaving before k h) (g : Going opening before script ahead old now number taken k h) where
   abbrev after : List DiskState
   after = disk_in k.place ∷ []
 
@@ -111,26 +112,26 @@ module _ (opening : World) (before : DiskState) (script ahead : Option (List Scr
           (ended_bad opening script ahead old now number taken g.world g.reached a b column t n e m (line_bad opening script ahead old now number taken g.world g.reached source later next within few column bad)))
           leaves
 
-      pub going_blank : (i j : ℕ) (text : Option (List ℕ)) → i ≡ number + 1 → j ≡ taken + size_of source → text ≡ now → reading source.text ≡ Blank → Going opening before script later old text i j k
+      pub going_blank : (i j : ℕ) (text : Option (List ℕ)) → i ≡ number + 1 → j ≡ taken + size_of source → text ≡ now → reading source.text ≡ Blank → Going opening before script later old text i j k h
       going_blank i j text ei ej et blank =
-          subst (λ (x : Option (List ℕ)). Going opening before script later old x i j k) (sym et)
-          (subst (λ (x : ℕ). Going opening before script later old now x j k) (sym ei) (subst (λ (x : ℕ). Going opening before script later old now (number + 1) x k) (sym ej)
+          subst (λ (x : Option (List ℕ)). Going opening before script later old x i j k h) (sym et)
+          (subst (λ (x : ℕ). Going opening before script later old now x j k h) (sym ei) (subst (λ (x : ℕ). Going opening before script later old now (number + 1) x k h) (sym ej)
           record { world = g.world; reached = reached_blank opening script ahead old now number taken g.world g.reached source later next within few blank; stands = g.stands }))
 
-      module _ (s : Statement) (a b : Shown) (new : Kept) (t : a.text ≡ now) (n : a.number ≡ number) (e : a.failed ≡ false) (says : reading source.text ≡ Says s)
-          (serves : (w : World) → StandsFor before.calls k w → Serves before.calls w s a b new) where
-        served : Serves before.calls g.world s a b new
+      module _ (s : Statement) (a b : Shown) (new : Kept) (shared : Shared) (t : a.text ≡ now) (n : a.number ≡ number) (e : a.failed ≡ false) (says : reading source.text ≡ Says s)
+          (serves : (w : World) → StandsAlone before.calls k h w → ServesAlone before.calls w s a b new shared) where
+        served : ServesAlone before.calls g.world s a b new shared
         served = serves g.world g.stands
 
-        pub going_served : (i j : ℕ) → i ≡ number + 1 → j ≡ taken + size_of source → b.failed ≡ false → Going opening before script later old b.text i j new
-        going_served i j ei ej f = subst (λ i. Going opening before script later old b.text i j new) (sym ei) (subst (λ j. Going opening before script later old b.text (number + 1) j new) (sym ej)
+        pub going_served : (i j : ℕ) → i ≡ number + 1 → j ≡ taken + size_of source → b.failed ≡ false → Going opening before script later old b.text i j new shared
+        going_served i j ei ej f = subst (λ i. Going opening before script later old b.text i j new shared) (sym ei) (subst (λ j. Going opening before script later old b.text (number + 1) j new shared) (sym ej)
             record {
               world = served.world;
               reached = reached_served opening script ahead old now number taken g.world g.reached source later next within few s a b served.lines served.world says t n e f served.emits served.step;
               stands = served.stands;
             })
 
-        pub going_cut : Leaving before new → b.failed ≡ true → RunsTo opening (before ∷ []) script old b.text exit.WriteFault (disk_in new.place ∷ [])
+        pub going_cut : Leaving before new shared → b.failed ≡ true → RunsTo opening (before ∷ []) script old b.text exit.WriteFault (disk_in new.place ∷ [])
         going_cut ok f = ends_to opening (before ∷ []) script old b.text exit.WriteFault (disk_in new.place ∷ []) served.world
             (ended_cut opening script ahead old now number taken g.world g.reached source later next within few s a b served.lines served.world says t n e f served.emits served.step)
             (ok served.world served.stands)

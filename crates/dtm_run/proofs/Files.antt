@@ -2,8 +2,7 @@
 use Rattle.std.proofs.Common.{◌≡◌, ℕ, zero, suc, List, [], ◌∷◌, length, Option, Some, None, refl, ap, ◌∙◌}
 use Rattle.file_base.specs.declared.head.FileHead.{FileHead}
 use Rattle.run_model.specs.World.{File, AreResting}
-use Rattle.record_files.specs.Any.{chain_of}
-use Rattle.directory_model.specs.Files.{AreFiles, IsFile, IsPlace, file_at, head_at, organized_by, others_of}
+use Rattle.directory_model.specs.Files.{AreFiles, IsFile, IsPlace, file_at, head_at, organized_by, carried_of, layout_of}
 use Rattle.directory_model.specs.Laws.{ReadsFiles}
 use Rattle.dtm_run.specs.Openings.{AreLaidOut, HasLayout}
 
@@ -25,12 +24,12 @@ stored reads content moment h laid =
         organization = organized_by h.organization h;
         start = h.start;
         buckets = h.alloc;
-        others = others_of h;
+        carried = carried_of h;
         recovery_units = h.marks.ru;
         history = record { base = base.0; moment = moment; settled = []; live = [] };
-        chain = chain_of h content;
+        layout = layout_of h content;
       };
-      is = record { name = refl; bucket = refl; record_size = refl; organization = refl; start = refl; buckets = refl; others = λ n. refl; units = refl; form = laid.0; laid = laid.1; records = base.1; chain = refl };
+      is = record { name = refl; bucket = refl; record_size = refl; organization = refl; start = refl; buckets = refl; carried = refl; units = refl; form = laid.0; laid = laid.1; records = base.1; layout = refl };
       settled = refl;
       live = refl;
     }

@@ -1,7 +1,10 @@
 pub mod TopLemmas
+pub mod Known
+pub mod Alone
 pub mod Driving
 pub mod RackLemmas
 pub mod Entries
+pub mod Following
 pub mod Telling
 pub mod Files
 mod Contents

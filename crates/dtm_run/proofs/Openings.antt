@@ -6,11 +6,11 @@ use Rattle.careful_write.specs.Load.{fitting}
 use Rattle.careful_write.proofs.GroupParts.{stop_reading}
 use Rattle.volume.specs.Catalogs.{IsSound}
 use Rattle.volume.specs.Contents.{HasFinding, HasSound, SoundOrFinding}
-use Rattle.run_model.specs.World.{Node, IsOpening, Sound, Faulty}
+use Rattle.run_model.specs.World.{Node, IsOpening, Sound, Faulty, no_journal}
 use Rattle.run_model.specs.Laws.{AreOpening}
 use Rattle.directory_model.specs.Laws.{ReadsFiles}
 use Rattle.dtm_node.specs.Boots.{AllHave}
-use Rattle.dtm_node.specs.Standing.{IsVolumeOf, last_of}
+use Rattle.dtm_node.specs.Standing.{IsVolumeOf, last_of, span_of}
 use Rattle.dtm_node.proofs.Booting.{as_it_was, have_disk}
 use Rattle.dtm_run.specs.Headline.{StandOn, StandsOn}
 use Rattle.dtm_run.specs.Openings.{AreMade, IsMade, OpeningsExist}
@@ -34,11 +34,13 @@ module _ (reads : ReadsFiles) (contents : SoundOrFinding) (name : List ℕ) (d :
         name = name;
         blocks = d.size;
         volume = Sound;
+        unmade = false;
         slots = v.catalog.home.slots;
         journal = v.catalog.home.ru_blocks;
         boot = v.catalog.home.boot;
         greatest = v.catalog.home.greatest_moment.0;
         last = last_of v.catalog.home;
+        units = span_of v.catalog.ru;
         directory = files.0;
         up = false;
         was_up = false;
@@ -53,10 +55,10 @@ module _ (reads : ReadsFiles) (contents : SoundOrFinding) (name : List ℕ) (d :
         catalog = v.catalog;
         tells = v.tells;
         sound = sound;
-        has = record { volume = refl; slots = refl; journal = refl; boot = refl; greatest = refl; last = refl; files = files.1 };
+        has = record { volume = refl; slots = refl; journal = refl; boot = refl; greatest = refl; last = refl; units = refl; files = files.1 };
       } in (
         n,
-        record { down = refl; was_down = refl; clock = refl; drawn = refl; branches = refl; settled = refl; calls = refl; under_way = refl; resting = files.2 },
+        record { down = refl; made = refl; was_down = refl; clock = refl; drawn = refl; branches = refl; settled = refl; calls = refl; under_way = refl; resting = files.2 },
         record { name_is = refl; blocks = refl; known = refl; told = is_told d.seen m.image m.told; counted = m.counted; has = have_disk n (fitting m.image) (content_of m.image) d refl (all_have d m.image m.told m.settled) (v.group, volume) },
       )
 
@@ -66,11 +68,13 @@ module _ (reads : ReadsFiles) (contents : SoundOrFinding) (name : List ℕ) (d :
         name = name;
         blocks = d.size;
         volume = Faulty f.number f.block;
+        unmade = false;
         slots = 0;
         journal = 0;
         boot = 0;
         greatest = 0;
         last = None;
+        units = no_journal;
         directory = [];
         up = false;
         was_up = false;
@@ -82,7 +86,7 @@ module _ (reads : ReadsFiles) (contents : SoundOrFinding) (name : List ℕ) (d :
         under_way = None;
       } in (
         n,
-        record { down = refl; was_down = refl; clock = refl; drawn = refl; branches = refl; settled = refl; calls = refl; under_way = refl; resting = tt },
+        record { down = refl; made = refl; was_down = refl; clock = refl; drawn = refl; branches = refl; settled = refl; calls = refl; under_way = refl; resting = tt },
         record { name_is = refl; blocks = refl; known = refl; told = is_told d.seen m.image m.told; counted = m.counted; has = have_disk n (fitting m.image) (content_of m.image) d refl (all_have d m.image m.told m.settled) f.first },
       )
 

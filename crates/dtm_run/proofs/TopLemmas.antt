@@ -5,15 +5,15 @@ use Rattle.std.specs.Option.{option_map}
 use Rattle.block_disk.specs.Disk.{DiskState}
 use Rattle.transcript_model.specs.Script.{ScriptLine, lines_of}
 use Rattle.transcript_model.specs.Outside.{Rose}
-use Rattle.run_model.specs.World.{World, Node, opened}
+use Rattle.run_model.specs.World.{World, Shared, Node, Volume, Sound, Faulty, Unknown, opened}
 use Rattle.run_model.specs.Laws.{AreOpening}
 use Rattle.run_model.proofs.PromiseLemmas.{promised}
 use Rattle.run_model.proofs.TranscriptLemmas.{ended_memory}
 use Rattle.dtm_node.specs.Nodes.{Passes, state_of}
-use Rattle.dtm_node.specs.Standing.{Kept, IsDown, StandsFor, counts_of, noted_all}
+use Rattle.dtm_node.specs.Standing.{Kept, IsDown, counts_of, noted_all}
+use Rattle.dtm_run.specs.Alone.{StandsAlone}
 use Rattle.dtm_run.specs.Racks.{names_in, states_in, AreSized, AreApart, IsRack}
-use Rattle.dtm_run.specs.Headline.{AllGo, Leaves, RunsTo, RunOver, StandOn, StandsOn, is_served}
-use Rattle.dtm_run.specs.declared.rack.Place.{Place}
+use Rattle.dtm_run.specs.Headline.{AllGo, Leaves, is_known, RunsTo, RunOver, StandOn, StandsOn, is_served}
 use Rattle.dtm_run.specs.declared.rack.Rack.{Rack}
 use Rattle.dtm_run.specs.declared.top.Exit.{Exit}
 use Rattle.dtm_run.specs.declared.top.Exit.TheVariants as exit
@@ -45,72 +45,93 @@ both_first false b e = let none : ⊥ = cc in absurd none
 not_up : (b : Bool) → b ≡ false → b ≡ true → ⊥
 not_up b f t = let e : true ≡ false = sym t ∙ f in cc
 
+not_unknown : (v : Volume) → is_known v ≡ true → v ≡ Unknown → ⊥
+not_unknown Sound k e = let none : ⊥ = cc in none
+not_unknown (Faulty condition block) k e = let none : ⊥ = cc in none
+not_unknown Unknown k e = let none : ⊥ = cc in none
+
 -- The opening world of one node stands for a node that was not booted.
 
-pub stands_first : (name : List ℕ) (d : DiskState) (n : Node) → StandsOn name d n → AreOpening (n ∷ []) → StandsFor d.calls (record { name = name; unknown = false; in_use = false; place = IsDown false d; labels = [] }) (opened (n ∷ []) (counts_of d ∷ []))
+-- what nodes share before the first line
+abbrev pub nothing_shared : Shared
+nothing_shared = record { labels = []; in_use = false }
+
+pub stands_first : (name : List ℕ) (d : DiskState) (n : Node) → StandsOn name d n → AreOpening (n ∷ []) → StandsAlone d.calls (record { name = name; unmade = false; place = IsDown false d }) nothing_shared (opened (n ∷ []) (counts_of d ∷ []))
 stands_first name d n s o = record {
   node = n;
   nodes = refl;
   disks = refl;
-  labels = refl;
-  in_use = refl;
-  name = s.name_is;
-  blocks = s.blocks;
-  clock = o.0.clock;
-  unknown = s.known;
-  place = record { down = o.0.down; reserved = λ was. absurd (not_up n.was_up o.0.was_down was); told = s.told; disk = s.has };
-  calls = ap (λ cs. noted_all cs d.calls) (sym o.0.calls);
-  counts = s.counted;
+  shared = refl;
+  known = λ e. absurd (not_unknown n.volume s.known e);
+  stands = record {
+    name = s.name_is;
+    blocks = s.blocks;
+    clock = o.0.clock;
+    unmade = o.0.made;
+    place = record { down = o.0.down; reserved = λ was. absurd (not_up n.was_up o.0.was_down was); told = s.told; disk = s.has };
+    calls = ap (λ cs. noted_all cs d.calls) (sym o.0.calls);
+    counts = s.counted;
+  };
 }
 
 first_leaves : (name : List ℕ) (d : DiskState) (n : Node) → StandsOn name d n → AreOpening (n ∷ []) → Leaves (d ∷ []) (opened (n ∷ []) (counts_of d ∷ [])) (d ∷ [])
 first_leaves name d n s o = record { counts = refl; nodes = (record { down = λ e. s.has; up = λ e. absurd (not_up n.up o.0.down e); calls = ap (λ cs. noted_all cs d.calls) (sym o.0.calls) }, tt) }
 
 -- Where memory is missing nothing was done.
-pub memory_runs : {D : Type 0} (state_of : D → DiskState) (ps : List (Place D)) (script : Option (List ScriptLine)) (old : Option (List ℕ)) → is_served (map (λ p. p.name) ps) ≡ true → (nodes : List Node) → AreOpening nodes →
-    StandOn (map (λ p. p.name) ps) (map (λ p. state_of p.disk) ps) nodes → RunsTo (opened nodes (map counts_of (map (λ p. state_of p.disk) ps))) (map (λ p. state_of p.disk) ps) script old old exit.Memory (map (λ p. state_of p.disk) ps)
+pub memory_runs : {D : Type 0} (state_of : D → DiskState) (ps : List (List ℕ × D)) (script : Option (List ScriptLine)) (old : Option (List ℕ)) → is_served (map (λ p. p.0) ps) ≡ true → (nodes : List Node) → AreOpening nodes →
+    StandOn (map (λ p. p.0) ps) (map (λ p. state_of p.1) ps) nodes → RunsTo (opened nodes (map counts_of (map (λ p. state_of p.1) ps))) (map (λ p. state_of p.1) ps) script old old exit.Memory (map (λ p. state_of p.1) ps)
 memory_runs state_of [] script old e nodes o s = let none : ⊥ = cc in absurd none
 memory_runs state_of (p ∷ []) script old e [] o s = absurd s
 memory_runs state_of (p ∷ []) script old e (n ∷ m ∷ ns) o s = absurd s.1
 memory_runs state_of (p ∷ []) script old e (n ∷ []) o s =
-    let d : DiskState = state_of p.disk in
+    let d : DiskState = state_of p.1 in
     let w : World = opened (n ∷ []) (counts_of d ∷ []) in
-    ends_to w (d ∷ []) script old old exit.Memory (d ∷ []) w (ended_memory w script old) (first_leaves p.name d n s.0 o)
+    ends_to w (d ∷ []) script old old exit.Memory (d ∷ []) w (ended_memory w script old) (first_leaves p.0 d n s.0 o)
 memory_runs state_of (p ∷ q ∷ ps) script old e nodes o s = let none : ⊥ = cc in absurd none
 
+-- so where the nodes were only given room
+pub memory_runs_on : {D : Type 0} (state : D → DiskState) (ps qs : List (List ℕ × D)) (script : Option (List ScriptLine)) (old : Option (List ℕ)) → qs ≡ ps → is_served (map (λ p. p.0) ps) ≡ true → (nodes : List Node) → AreOpening nodes →
+    StandOn (map (λ p. p.0) ps) (map (λ p. state p.1) ps) nodes → RunsTo (opened nodes (map counts_of (map (λ p. state p.1) ps))) (map (λ p. state p.1) ps) script old old exit.Memory (map (λ p. state p.1) qs)
+memory_runs_on {D = D} state ps qs script old same one nodes o s =
+    subst (λ (l : List (List ℕ × D)). RunsTo (opened nodes (map counts_of (map (λ p. state p.1) ps))) (map (λ p. state p.1) ps) script old old exit.Memory (map (λ p. state p.1) l)) (sym same) (memory_runs state ps script old one nodes o s)
+
+pub all_stay_on : {D : Type 0} (state : D → DiskState) (ps qs : List (List ℕ × D)) → qs ≡ ps → AllGo (map (λ p. state p.1) ps) (map (λ p. state p.1) qs)
+all_stay_on {D = D} state ps qs same = subst (λ (l : List (List ℕ × D)). AllGo (map (λ p. state p.1) ps) (map (λ p. state p.1) l)) (sym same) (all_stay (map (λ p. state p.1) ps))
+
 -- The only place of a rack was taken out, and put back with the disk that the run left.
-taken_only : {D : Type 0} (mid : List (Place D)) (p : Place D) → is_served (map (λ p. p.name) (mid ++ p ∷ [])) ≡ true → mid ≡ []
+taken_only : {D : Type 0} (mid : List (List ℕ × D)) (p : List ℕ × D) → is_served (map (λ p. p.0) (mid ++ p ∷ [])) ≡ true → mid ≡ []
 taken_only [] p e = refl
 taken_only (q ∷ []) p e = let none : ⊥ = cc in absurd none
 taken_only (q ∷ r ∷ mid) p e = let none : ⊥ = cc in absurd none
 
-one_runs : (name : List ℕ) (d left : DiskState) (k : Kept) (script : Option (List ScriptLine)) (old new : Option (List ℕ)) (x : Exit) → k ≡ record { name = name; unknown = false; in_use = false; place = IsDown false d; labels = [] } →
-    ((w : World) → StandsFor d.calls k w → RunsTo w (d ∷ []) script old new x (left ∷ [])) → (nodes : List Node) → AreOpening nodes → StandOn (name ∷ []) (d ∷ []) nodes → RunsTo (opened nodes (counts_of d ∷ [])) (d ∷ []) script old new x (left ∷ [])
-one_runs name d left k script old new x is runs [] o s = absurd s
-one_runs name d left k script old new x is runs (n ∷ m ∷ ns) o s = absurd s.1
-one_runs name d left k script old new x is runs (n ∷ []) o s = runs (opened (n ∷ []) (counts_of d ∷ [])) (subst (λ (j : Kept). StandsFor d.calls j (opened (n ∷ []) (counts_of d ∷ []))) (sym is) (stands_first name d n s.0 o))
+one_runs : (name : List ℕ) (d left : DiskState) (k : Kept) (shared : Shared) (script : Option (List ScriptLine)) (old new : Option (List ℕ)) (x : Exit) → k ≡ record { name = name; unmade = false; place = IsDown false d } → shared ≡ nothing_shared →
+    ((w : World) → StandsAlone d.calls k shared w → RunsTo w (d ∷ []) script old new x (left ∷ [])) → (nodes : List Node) → AreOpening nodes → StandOn (name ∷ []) (d ∷ []) nodes → RunsTo (opened nodes (counts_of d ∷ [])) (d ∷ []) script old new x (left ∷ [])
+one_runs name d left k shared script old new x is none runs [] o s = absurd s
+one_runs name d left k shared script old new x is none runs (n ∷ m ∷ ns) o s = absurd s.1
+one_runs name d left k shared script old new x is none runs (n ∷ []) o s = runs (opened (n ∷ []) (counts_of d ∷ []))
+    (subst (λ (j : Kept). StandsAlone d.calls j shared (opened (n ∷ []) (counts_of d ∷ []))) (sym is) (subst (λ (z : Shared). StandsAlone d.calls (record { name = name; unmade = false; place = IsDown false d }) z (opened (n ∷ []) (counts_of d ∷ []))) (sym none) (stands_first name d n s.0 o)))
 
-pub script_runs : {D : Type 0} (state : D → DiskState) (ps mid final : List (Place D)) (p q : Place D) (d left : DiskState) (k : Kept) (script : Option (List ScriptLine)) (old new : Option (List ℕ)) (x : Exit) →
-    is_served (map (λ p. p.name) ps) ≡ true → ps ≡ mid ++ p ∷ [] → final ≡ mid ++ q ∷ [] → state p.disk ≡ d → state q.disk ≡ left → k ≡ record { name = p.name; unknown = false; in_use = false; place = IsDown false d; labels = [] } →
-    ((w : World) → StandsFor d.calls k w → RunsTo w (d ∷ []) script old new x (left ∷ [])) → (nodes : List Node) → AreOpening nodes → StandOn (map (λ p. p.name) ps) (map (λ p. state p.disk) ps) nodes →
-    RunsTo (opened nodes (map counts_of (map (λ p. state p.disk) ps))) (map (λ p. state p.disk) ps) script old new x (map (λ p. state p.disk) final)
-script_runs {D = D} state ps mid final p q d left k script old new x one parts ends is_d is_left is runs =
-    let empty : mid ≡ [] = taken_only mid p (ap (λ (l : List (Place D)). is_served (map (λ p. p.name) l)) (sym parts) ∙ one) in
-    let before : ps ≡ p ∷ [] = parts ∙ ap (λ (m : List (Place D)). m ++ p ∷ []) empty in
-    let after : final ≡ q ∷ [] = ends ∙ ap (λ (m : List (Place D)). m ++ q ∷ []) empty in
-    subst (λ (l : List (Place D)). (nodes : List Node) → AreOpening nodes → StandOn (map (λ p. p.name) l) (map (λ p. state p.disk) l) nodes → RunsTo (opened nodes (map counts_of (map (λ p. state p.disk) l))) (map (λ p. state p.disk) l) script old new x (map (λ p. state p.disk) final)) (sym before)
-    (subst (λ (l : List (Place D)). (nodes : List Node) → AreOpening nodes → StandOn (p.name ∷ []) (state p.disk ∷ []) nodes → RunsTo (opened nodes (counts_of (state p.disk) ∷ [])) (state p.disk ∷ []) script old new x (map (λ p. state p.disk) l)) (sym after)
-    (subst (λ (y : DiskState). (nodes : List Node) → AreOpening nodes → StandOn (p.name ∷ []) (y ∷ []) nodes → RunsTo (opened nodes (counts_of y ∷ [])) (y ∷ []) script old new x (state q.disk ∷ [])) (sym is_d)
-    (subst (λ (y : DiskState). (nodes : List Node) → AreOpening nodes → StandOn (p.name ∷ []) (d ∷ []) nodes → RunsTo (opened nodes (counts_of d ∷ [])) (d ∷ []) script old new x (y ∷ [])) (sym is_left) (one_runs p.name d left k script old new x is runs))))
+pub script_runs : {D : Type 0} (state : D → DiskState) (ps mid final : List (List ℕ × D)) (p q : List ℕ × D) (d left : DiskState) (k : Kept) (shared : Shared) (script : Option (List ScriptLine)) (old new : Option (List ℕ)) (x : Exit) →
+    is_served (map (λ p. p.0) ps) ≡ true → ps ≡ mid ++ p ∷ [] → final ≡ mid ++ q ∷ [] → state p.1 ≡ d → state q.1 ≡ left → k ≡ record { name = p.0; unmade = false; place = IsDown false d } → shared ≡ nothing_shared →
+    ((w : World) → StandsAlone d.calls k shared w → RunsTo w (d ∷ []) script old new x (left ∷ [])) → (nodes : List Node) → AreOpening nodes → StandOn (map (λ p. p.0) ps) (map (λ p. state p.1) ps) nodes →
+    RunsTo (opened nodes (map counts_of (map (λ p. state p.1) ps))) (map (λ p. state p.1) ps) script old new x (map (λ p. state p.1) final)
+script_runs {D = D} state ps mid final p q d left k shared script old new x one parts ends is_d is_left is none runs =
+    let empty : mid ≡ [] = taken_only mid p (ap (λ (l : List (List ℕ × D)). is_served (map (λ p. p.0) l)) (sym parts) ∙ one) in
+    let before : ps ≡ p ∷ [] = parts ∙ ap (λ (m : List (List ℕ × D)). m ++ p ∷ []) empty in
+    let after : final ≡ q ∷ [] = ends ∙ ap (λ (m : List (List ℕ × D)). m ++ q ∷ []) empty in
+    subst (λ (l : List (List ℕ × D)). (nodes : List Node) → AreOpening nodes → StandOn (map (λ p. p.0) l) (map (λ p. state p.1) l) nodes → RunsTo (opened nodes (map counts_of (map (λ p. state p.1) l))) (map (λ p. state p.1) l) script old new x (map (λ p. state p.1) final)) (sym before)
+    (subst (λ (l : List (List ℕ × D)). (nodes : List Node) → AreOpening nodes → StandOn (p.0 ∷ []) (state p.1 ∷ []) nodes → RunsTo (opened nodes (counts_of (state p.1) ∷ [])) (state p.1 ∷ []) script old new x (map (λ p. state p.1) l)) (sym after)
+    (subst (λ (y : DiskState). (nodes : List Node) → AreOpening nodes → StandOn (p.0 ∷ []) (y ∷ []) nodes → RunsTo (opened nodes (counts_of y ∷ [])) (y ∷ []) script old new x (state q.1 ∷ [])) (sym is_d)
+    (subst (λ (y : DiskState). (nodes : List Node) → AreOpening nodes → StandOn (p.0 ∷ []) (d ∷ []) nodes → RunsTo (opened nodes (counts_of d ∷ [])) (d ∷ []) script old new x (y ∷ [])) (sym is_left) (one_runs p.0 d left k shared script old new x is none runs))))
 
 -- the disks over such a run
-pub script_goes : {D : Type 0} (state : D → DiskState) (ps mid final : List (Place D)) (p q : Place D) → is_served (map (λ p. p.name) ps) ≡ true → ps ≡ mid ++ p ∷ [] → final ≡ mid ++ q ∷ [] → Passes (state p.disk) (state q.disk) →
-    AllGo (map (λ p. state p.disk) ps) (map (λ p. state p.disk) final)
+pub script_goes : {D : Type 0} (state : D → DiskState) (ps mid final : List (List ℕ × D)) (p q : List ℕ × D) → is_served (map (λ p. p.0) ps) ≡ true → ps ≡ mid ++ p ∷ [] → final ≡ mid ++ q ∷ [] → Passes (state p.1) (state q.1) →
+    AllGo (map (λ p. state p.1) ps) (map (λ p. state p.1) final)
 script_goes {D = D} state ps mid final p q one parts ends passes =
-    let empty : mid ≡ [] = taken_only mid p (ap (λ (l : List (Place D)). is_served (map (λ p. p.name) l)) (sym parts) ∙ one) in
-    let before : ps ≡ p ∷ [] = parts ∙ ap (λ (m : List (Place D)). m ++ p ∷ []) empty in
-    let after : final ≡ q ∷ [] = ends ∙ ap (λ (m : List (Place D)). m ++ q ∷ []) empty in
-    subst (λ (l : List (Place D)). AllGo (map (λ p. state p.disk) l) (map (λ p. state p.disk) final)) (sym before) (subst (λ (l : List (Place D)). AllGo (state p.disk ∷ []) (map (λ p. state p.disk) l)) (sym after) (passes, tt))
+    let empty : mid ≡ [] = taken_only mid p (ap (λ (l : List (List ℕ × D)). is_served (map (λ p. p.0) l)) (sym parts) ∙ one) in
+    let before : ps ≡ p ∷ [] = parts ∙ ap (λ (m : List (List ℕ × D)). m ++ p ∷ []) empty in
+    let after : final ≡ q ∷ [] = ends ∙ ap (λ (m : List (List ℕ × D)). m ++ q ∷ []) empty in
+    subst (λ (l : List (List ℕ × D)). AllGo (map (λ p. state p.1) l) (map (λ p. state p.1) final)) (sym before) (subst (λ (l : List (List ℕ × D)). AllGo (state p.1 ∷ []) (map (λ p. state p.1) l)) (sym after) (passes, tt))
 
 -- The whole run keeps its promises.
 pub run_over : (nodes : List Node) (before after : List DiskState) (script old new old' new' : Option (List ℕ)) (x : Exit) → AreOpening nodes → old' ≡ old → new' ≡ new →
@@ -134,11 +155,11 @@ rack_on state_of old new names go r = record {
 }
 
 -- the place that was taken out has a disk of a rack
-pub taken_sized : {D : Type 0} (state : D → DiskState) (ps mid : List (Place D)) (p : Place D) → is_served (map (λ p. p.name) ps) ≡ true → ps ≡ mid ++ p ∷ [] → AreSized (map (λ p. state p.disk) ps) → (4096 ≤ (state p.disk).size) × ((state p.disk).size ≤ 65536)
+pub taken_sized : {D : Type 0} (state : D → DiskState) (ps mid : List (List ℕ × D)) (p : List ℕ × D) → is_served (map (λ p. p.0) ps) ≡ true → ps ≡ mid ++ p ∷ [] → AreSized (map (λ p. state p.1) ps) → (4096 ≤ (state p.1).size) × ((state p.1).size ≤ 65536)
 taken_sized {D = D} state ps mid p one parts sized =
-    let empty : mid ≡ [] = taken_only mid p (ap (λ (l : List (Place D)). is_served (map (λ p. p.name) l)) (sym parts) ∙ one) in
-    let before : ps ≡ p ∷ [] = parts ∙ ap (λ (m : List (Place D)). m ++ p ∷ []) empty in
-    let h = subst (λ (l : List (Place D)). AreSized (map (λ p. state p.disk) l)) before sized in
+    let empty : mid ≡ [] = taken_only mid p (ap (λ (l : List (List ℕ × D)). is_served (map (λ p. p.0) l)) (sym parts) ∙ one) in
+    let before : ps ≡ p ∷ [] = parts ∙ ap (λ (m : List (List ℕ × D)). m ++ p ∷ []) empty in
+    let h = subst (λ (l : List (List ℕ × D)). AreSized (map (λ p. state p.1) l)) before sized in
     (h.0, h.1)
 
 pub some_is : {A : Type 0} (o : Option A) → IsSome o → (x : A) × (o ≡ Some x)

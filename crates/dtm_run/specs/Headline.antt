@@ -6,12 +6,12 @@ use Rattle.careful_write.specs.State.{Leaves as DiskLeaves}
 use Rattle.transcript_model.specs.Script.{ScriptLine, lines_of}
 use Rattle.transcript_model.specs.Outside.{behind}
 use Rattle.script_model.specs.Command.{is_run_form}
-use Rattle.run_model.specs.World.{World, Node, opened}
+use Rattle.run_model.specs.World.{World, Node, Volume, Sound, Faulty, Unknown, opened}
 use Rattle.run_model.specs.Transcript as model
 use Rattle.run_model.specs.Transcript.{Ran, EndsUnread}
 use Rattle.run_model.specs.Promises.{Promises}
 use Rattle.dtm_node.specs.Nodes.{Passes}
-use Rattle.dtm_node.specs.Standing.{HasDisk, IsCounted, IsVolumeOf, counts_of, is_unknown_flag, noted_all}
+use Rattle.dtm_node.specs.Standing.{HasDisk, IsCounted, IsVolumeOf, counts_of, noted_all}
 use Rattle.dtm_run.specs.declared.top.Exit.{Exit}
 use Rattle.dtm_run.specs.declared.top.Exit.TheVariants as exit
 
@@ -34,11 +34,17 @@ is_served (name ∷ other ∷ names) = false
 abbrev pub is_command : List (List ℕ) → List (List ℕ) → Bool
 is_command names words = is_served names && is_run_form names words
 
+-- whether something is known of what a disk has
+abbrev pub is_known : Volume → Bool
+is_known Sound = true
+is_known (Faulty condition block) = true
+is_known Unknown = false
+
 -- a node of the world stands on a disk: it has this name and as many blocks, it is known what its disk has, and the disk has that
 pub record StandsOn (name : List ℕ) (d : DiskState) (n : Node) : Type 0 where
   pub name_is : n.name ≡ name
   pub blocks : n.blocks ≡ d.size
-  pub known : is_unknown_flag n ≡ false
+  pub known : is_known n.volume ≡ true
   pub told : is_some d.seen ≡ true
   pub counted : IsCounted d
   pub has : HasDisk n d

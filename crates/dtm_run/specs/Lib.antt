@@ -1,4 +1,5 @@
 pub mod Racks
+pub mod Alone
 pub mod Headline
 pub mod Calls
 pub mod Openings

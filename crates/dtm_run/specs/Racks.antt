@@ -9,15 +9,15 @@ use Rattle.dtm_run.specs.declared.rack.RackCause.TheVariants as cause
 
 -- the names of the nodes, in the rack's order
 abbrev pub names_in : {D : Type 0} → Rack D → List (List ℕ)
-names_in rack = map (λ place. place.name) rack.places.items
+names_in rack = map (λ node. node.0) rack.nodes.entries
 
 -- the disks, in the same order
 abbrev pub disks_in : {D : Type 0} → Rack D → List D
-disks_in rack = map (λ place. place.disk) rack.places.items
+disks_in rack = map (λ node. node.1) rack.nodes.entries
 
 -- what the disks tell
 abbrev pub states_in : {D : Type 0} → (D → DiskState) → Rack D → List DiskState
-states_in state rack = map (λ place. state place.disk) rack.places.items
+states_in state rack = map (λ node. state node.1) rack.nodes.entries
 
 -- whether a name is one of these
 abbrev pub is_among : List ℕ → List (List ℕ) → Bool

@@ -1,13 +1,13 @@
 //! The nodes of a run, and their disks.
-ghost use Rattle.std.specs.Prelude.{◌≡◌, ℕ, ◌<◌, ◌≤◌, List, [], ◌∷◌, ◌++◌, Option, Some, None, true, MatchResult, OnOk, OnErr, IfErr, OnSome, IfSome, IsSome, map, length, slice_get, option_to_list, unwrap_or, vec_len, vec_capacity};
+ghost use Rattle.std.specs.Prelude.{◌≡◌, ℕ, ◌<◌, ◌≤◌, List, [], ◌∷◌, ◌++◌, Option, Some, None, false, OnOk, OnErr, IfErr, IfSome, IsSome, map, length, slice_get, option_to_list, unwrap_or};
 ghost use Rattle.std.specs.Option.{option_map};
-ghost use Rattle.std.specs.List.{list_any};
-ghost use Rattle.std.specs.Str.{bytes_eq};
+ghost use Rattle.indexmap.specs.IndexMap.{spare};
 ghost use Rattle.block_disk.specs.Disk.{DiskState};
-ghost use Rattle.dtm_run.specs.Racks.{names_in, disks_in, states_in, refusal_of, IsRack};
+ghost use Rattle.dtm_run.specs.Racks.{names_in, disks_in, is_among, refusal_of, IsRack};
 
 use block_disk::Disk;
-use std::alloc::Global;
+use indexmap::IndexMap;
+use std::alloc::{AllocError, Global};
 use thiserror::Error;
 use vms_base::NodeName;
 
@@ -17,17 +17,10 @@ const FEWEST_BLOCKS: u32 = 4_096;
 
 const MOST_BLOCKS: u32 = 65_536;
 
-/// A node's name and its disk.
-#[derive(Drop)]
-pub(crate) struct Place<D> {
-    pub(crate) name: NodeName,
-    pub(crate) disk: D,
-}
-
-/// The nodes of a run in their order, each with its disk: at most 8 of different names.
+/// The nodes of a run in their order, each with its disk: at most 8 of different names. A node is found by its name, and by its place.
 #[derive(Drop)]
 pub struct Rack<D> {
-    places: Vec<Place<D>>,
+    nodes: IndexMap<NodeName, D>,
 }
 
 /// Why a node was not added to a rack.
@@ -61,7 +54,7 @@ impl<D> Rack<D> {
         ensures rack { (state : D → DiskState) → IsRack state result }
     {
         Rack {
-            places: Vec::new(alloc),
+            nodes: IndexMap::new(alloc),
         }
     }
 
@@ -69,15 +62,15 @@ impl<D> Rack<D> {
     pub fn len(&self) -> usize
         ensures { result ≡ length (names_in self.now) }
     {
-        self.places.len()
+        self.nodes.len()
     }
 
     /// The disk of the node at this place of the order, from 0.
     pub fn disk(&self, i: usize) -> Option<&D>
         ensures { option_map (λ disk. disk.now) result ≡ slice_get (disks_in self.now) i }
     {
-        match self.places.get(i) {
-            Some(place) => Some(&place.disk),
+        match self.nodes.get_index(i) {
+            Some((_, disk)) => Some(disk),
             None => None,
         }
     }
@@ -86,19 +79,17 @@ impl<D> Rack<D> {
     pub(crate) fn name(&self, i: usize) -> Option<NodeName>
         ensures { result ≡ slice_get (names_in self.now) i }
     {
-        match self.places.get(i) {
-            Some(place) => Some(place.name),
+        match self.nodes.get_index(i) {
+            Some((name, _)) => Some(*name),
             None => None,
         }
     }
 
     // Whether a node of this name is there.
     fn has(&self, name: &NodeName) -> bool
-        ensures { result ≡ list_any (λ place. bytes_eq place.name name.now) self.now.places.items }
+        ensures { result ≡ is_among name.now (names_in self.now) }
     {
-        self.places
-            .iter()
-            .any(|place| place.name.bytes() == name.bytes())
+        self.nodes.contains_key(name)
     }
 
     // Why a node of this name, with so many blocks, is refused.
@@ -116,27 +107,37 @@ impl<D> Rack<D> {
         }
     }
 
-    /// Takes the last node out. Its place stays free for `put_back`.
-    pub(crate) fn take_last(&mut self) -> Option<Place<D>>
-        ensures places { self.old.places.items ≡ self.new.places.items ++ option_to_list result }
-        ensures some { 0 < length (names_in self.old) → IsSome result }
-        ensures room { OnSome result (vec_len self.new.places < vec_capacity self.new.places) }
+    /// Makes room for one node more, which `put_back` wants.
+    pub(crate) fn make_room(&mut self) -> Result<(), AllocError>
+        ensures same { self.new.nodes.entries ≡ self.old.nodes.entries }
+        ensures room { OnOk result (0 < spare self.new.nodes) }
     {
-        self.places.pop()
+        self.nodes.reserve(1)
+    }
+
+    /// Takes the last node out.
+    pub(crate) fn take_last(&mut self) -> Option<(NodeName, D)>
+        ensures nodes { self.old.nodes.entries ≡ self.new.nodes.entries ++ option_to_list result }
+        ensures some { 0 < length (names_in self.old) → IsSome result }
+        ensures room { spare self.old.nodes ≤ spare self.new.nodes }
+        ensures gone { IfSome result (λ node. is_among node.0 (names_in self.new) ≡ false) }
+    {
+        self.nodes.pop()
     }
 }
 
 impl<D: Drop> Rack<D> {
     /// Puts a node behind the last one, where one was taken out.
-    pub(crate) fn put_back(&mut self, place: Place<D>)
-        requires { vec_len self.old.places < vec_capacity self.old.places }
-        ensures { self.new.places.items ≡ self.old.places.items ++ place ∷ [] }
+    pub(crate) fn put_back(&mut self, name: NodeName, disk: D)
+        requires room { 0 < spare self.old.nodes }
+        requires new { is_among name (names_in self.old) ≡ false }
+        ensures { self.new.nodes.entries ≡ self.old.nodes.entries ++ (name, disk) ∷ [] }
     {
-        let _ = self.places.push(place);
+        let _ = self.nodes.insert(name, disk);
     }
 }
 
-impl<D: Disk> Rack<D> {
+impl<D: Disk + Drop> Rack<D> {
     /// Adds a node behind the others, or gives its disk back: where a node of this name is there, where the disk has fewer than
     /// 4,096 or more than 65,536 blocks, where there are 8 nodes, and where memory is missing, tested in this order.
     pub fn add(&mut self, name: NodeName, disk: D) -> Result<(), RackErr<D>>
@@ -150,10 +151,10 @@ impl<D: Disk> Rack<D> {
         if let Some(cause) = self.refusal(&name, disk.blocks()) {
             return Err(RackErr { disk, cause });
         }
-        match self.places.push(Place { name, disk }) {
-            Ok(()) => Ok(()),
+        match self.nodes.insert(name, disk) {
+            Ok(_) => Ok(()),
             Err(failed) => {
-                let Place { name: _, disk } = failed.value;
+                let (_, disk) = failed.value;
                 Err(RackErr {
                     disk,
                     cause: RackCause::Memory,

@@ -1,5 +1,5 @@
-use crate::{Exit, Rack, run};
-use block_disk::{CrashDisk, MemPlatter};
+use crate::{Exit, Rack, RackCause, run};
+use block_disk::{CrashDisk, Disk, MemPlatter};
 use std::alloc::Global;
 use std::io::{self, Read};
 use std::process::Abort;
@@ -614,7 +614,7 @@ fn a_last_line_needs_no_line_feed(rt: HostRuntime) -> Result<(), Fail> {
 // The disk of a rack's only node.
 fn disk_of(mut rack: Rack<CrashDisk<MemPlatter>>) -> Result<CrashDisk<MemPlatter>, Fail> {
     match rack.take_last() {
-        Some(place) => Ok(place.disk),
+        Some((_, disk)) => Ok(disk),
         None => Err(Fail::from("no disk")),
     }
 }
@@ -1114,7 +1114,7 @@ fn a_line_has_20000_bytes(rt: HostRuntime) -> Result<(), Fail> {
 fn a_run_makes_100000_labels(rt: HostRuntime) -> Result<(), Fail> {
     let mut script = joined(rt.alloc(), &[OPENING])?;
     for number in 0..100_000u32 {
-        let lines = format!(in rt.alloc(); "A: START_TRANS L{number}\nA: END_TRANS L{number}\n")?;
+        let lines = format!(in rt.alloc(); "A: START_TRANS L{number}\nA: ABORT_TRANS L{number}\n")?;
         script.extend_from_slice(lines.as_bytes())?;
     }
     script.extend_from_slice(b"A: START_TRANS M\n")?;
@@ -1131,5 +1131,67 @@ fn a_run_makes_100000_labels(rt: HostRuntime) -> Result<(), Fail> {
         sink.bytes()
             .ends_with(b"\n200004 SS$_NORMAL\n200005 LABEL\n")
     );
+    Ok(())
+}
+
+// Adds a node with a disk of so many blocks, and tells why it was refused, with the blocks of the disk that came back.
+fn added(
+    alloc: Global,
+    rack: &mut Rack<CrashDisk<MemPlatter>>,
+    name: &[u8],
+    blocks: u32,
+) -> Result<Option<(RackCause, u32)>, Fail> {
+    let name = NodeName::new(name).ok_or("a name")?;
+    let disk = CrashDisk::new(alloc, MemPlatter::new(alloc, blocks)?)?;
+    match rack.add(name, disk) {
+        Ok(()) => Ok(None),
+        Err(refused) => Ok(Some((refused.cause, refused.disk.blocks()))),
+    }
+}
+
+#[test]
+fn a_rack_refuses_a_node_and_gives_its_disk_back(rt: HostRuntime) -> Result<(), Fail> {
+    let mut rack = Rack::new(rt.alloc());
+    for (name, blocks, refusal) in [
+        (b"A".as_slice(), 4_096, None),
+        (b"a", 4_097, Some((RackCause::Name, 4_097))),
+        (b"B", 4_095, Some((RackCause::Size, 4_095))),
+        (b"B", 4_096, None),
+        (b"C", 4_096, None),
+        (b"D", 4_096, None),
+        (b"E", 4_096, None),
+        (b"F", 4_096, None),
+        (b"G", 4_096, None),
+        (b"H", 4_096, None),
+        (b"I", 4_098, Some((RackCause::Full, 4_098))),
+    ] {
+        assert_eq!(rt; added(rt.alloc(), &mut rack, name, blocks)?, refusal);
+    }
+    assert_eq!(rt; rack.len(), 8);
+    Ok(())
+}
+
+#[test]
+fn words_that_are_no_command_leave_the_script_unread(rt: HostRuntime) -> Result<(), Fail> {
+    for texts in [
+        ["dtm", "RUN"].as_slice(),
+        ["dtm", "MAKE", "0", "1"].as_slice(),
+    ] {
+        let mut words = Vec::new(rt.alloc());
+        for text in texts {
+            words.push(String::from_str(rt.alloc(), text)?)?;
+        }
+        let mut rack: Rack<CrashDisk<MemPlatter>> = Rack::new(rt.alloc());
+        let mut source = MemSource::new(rt.alloc(), b"A: INIT\n".to_vec(rt.alloc())?);
+        let mut sink = MemSink::new(rt.alloc(), 100)?;
+        let exit = run(rt.alloc(), &words, &mut source, &mut sink, &mut rack);
+        assert_eq!(rt; exit, Exit::Usage);
+        assert_eq!(rt;
+            sink.bytes(),
+            b"usage: dtm RUN NODE=IMAGE ... or dtm MAKE n start\n".as_slice()
+        );
+        let mut left = [0u8; 20];
+        assert_eq!(rt; source.read(&mut left), Ok(8));
+    }
     Ok(())
 }

@@ -1,5 +1,5 @@
 //! The top call: a script is read line by line, served, and its transcript written.
-ghost use Rattle.std.specs.Prelude.{◌≡◌, ℕ, ◌<◌, ◌≤◌, List, [], ◌∷◌, ◌⊎◌, true, false, map, string_bytes, if◌then◌else◌};
+ghost use Rattle.std.specs.Prelude.{◌≡◌, ℕ, ◌+◌, ◌<◌, ◌≤◌, List, [], ◌∷◌, ◌⊎◌, true, false, map, string_bytes, if◌then◌else◌};
 ghost use Rattle.std.specs.Option.{option_map};
 ghost use Rattle.transcript_model.specs.Outside.{Rose};
 ghost use Rattle.transcript_model.specs.Script.{lines_of};
@@ -7,20 +7,26 @@ ghost use Rattle.transcript_model.specs.Emitting.{Emits, Since};
 ghost use Rattle.transcript.specs.Emitters.{shown_by};
 ghost use Rattle.transcript.specs.Forms.{HasTime, line_of};
 ghost use Rattle.transcript.specs.Reading.{IsSound, lines_ahead, taken_bytes};
+ghost use Rattle.block_disk.specs.Disk.{CallLog};
 ghost use Rattle.run_model.specs.World.{Node as NodeSaid, World, opened};
 ghost use Rattle.run_model.specs.Laws.{AreOpening};
-ghost use Rattle.dtm_node.specs.Standing.{StandsFor, counts_of};
-ghost use Rattle.dtm_node.specs.Nodes.{IsNode, Passes, kept_of, state_of};
+ghost use Rattle.run_model.specs.Said.{nothing_said};
+ghost use Rattle.dtm_node.specs.Standing.{counts_of};
+ghost use Rattle.dtm_node.specs.Nodes.{IsNode, Passes, kept_of, shared_of, state_of};
+ghost use Rattle.script_lang.specs.Statements.{request_of, statement_of};
+ghost use Rattle.script_model.specs.Statements.{At};
+ghost use Rattle.dtm_run.specs.Alone.{StandsAlone, ServesAlone};
 ghost use Rattle.dtm_run.specs.Racks.{names_in, disks_in, states_in, IsRack};
-ghost use Rattle.dtm_run.specs.Calls.{TellsOver};
+ghost use Rattle.dtm_run.specs.Calls.{AnswersAlone, TellsOver, said_alone};
 ghost use Rattle.dtm_run.specs.Headline.{is_command as is_command_of, is_served as is_served_of, StandOn, AllGo, RunsTo, RunOver, Unread};
 
-use crate::rack::{Place, Rack};
+use crate::rack::Rack;
 use block_disk::Disk;
-use dtm_node::{Labels, Node};
-use script_lang::{Literals, is_run_form, read_statement};
+use dtm_node::{Node, Shared};
+use script_lang::{Literals, Request, Statement, is_run_form, read_statement};
 use std::alloc::Global;
 use transcript::{Emit, Form, LineBuffer, LineReader, Next, Sink, SinkEmit, Source};
+use vms_base::NodeName;
 
 const MOST_LINES: u32 = 1_000_000;
 
@@ -56,8 +62,8 @@ pub fn run<S: Source, K: Sink, D: Disk + Drop>(
     // disks have what its nodes have.
     ensures runs { is_command_of (names_in rack.old) (map string_bytes words.now) ≡ true → (nodes : List NodeSaid) → AreOpening nodes → StandOn (names_in rack.old) (states_in D.state rack.old) nodes →
         RunOver nodes (states_in D.state rack.old) (states_in D.state rack.new) (S.left source.old) (K.shown sink.old) (K.shown sink.new) result }
-    // Whether or not the disks tell their content: what was shown for each line tells which calls armed or powered them, and each failure that is shown raised
-    // its count.
+    // Whether or not the disks tell their content: what was shown for each line tells which calls armed or powered them, each failure that is shown raised
+    // its count, and a statement is refused with NOSUCHNODE, NODEDOWN, NODEUP, VOLINUSE, NOINIT or LABEL just where the lines before it say so.
     ensures calls { is_command_of (names_in rack.old) (map string_bytes words.now) ≡ true →
         TellsOver (names_in rack.old) (states_in D.state rack.old) (states_in D.state rack.new) (option_map lines_of (S.left source.old)) (K.shown sink.old) (K.shown sink.new) result }
     ensures usage { is_command_of (names_in rack.old) (map string_bytes words.now) ≡ false → (result ≡ Exit.Memory) ⊎ Unread (K.shown sink.old) (K.shown sink.new) result }
@@ -136,26 +142,29 @@ fn run_script<S: Source, K: Sink, D: Disk + Drop>(
     let Ok(mut reader) = LineReader::reserve(alloc) else {
         return Exit::Memory;
     };
-    let Ok(mut labels) = Labels::reserve(alloc) else {
+    let Ok(mut shared) = Shared::reserve(alloc) else {
         return Exit::Memory;
     };
     let Ok(mut literals) = Literals::reserve(alloc) else {
         return Exit::Memory;
     };
-    let Some(place) = rack.take_last() else {
+    let Ok(()) = rack.make_room() else {
+        return Exit::Memory;
+    };
+    let Some(node) = rack.take_last() else {
         unreachable!()
     };
-    let Place { name, disk } = place;
+    let (name, disk) = node;
     let (exit, disk) = drive(
         alloc,
         source,
         &mut reader,
         &mut literals,
-        &mut labels,
+        &mut shared,
         out,
         Node::new(name, disk),
     );
-    rack.put_back(Place { name, disk });
+    rack.put_back(name, disk);
     exit
 }
 
@@ -171,22 +180,76 @@ fn close<K: Sink>(out: &mut SinkEmit<'_, K>, form: &Form<'_>, exit: Exit) -> Exi
     if out.failed() { Exit::WriteFault } else { exit }
 }
 
+// Serves a statement by the only node, where it speaks of that.
+fn serve_statement<E: Emit, D: Disk + Drop>(
+    alloc: Global,
+    node: Node<D>,
+    statement: &Statement,
+    literals: &Literals,
+    shared: &mut Shared,
+    out: &mut E,
+) -> Node<D>
+    requires kept { (n : ℕ) × (n < 1000002) × IsNode D.state n (shared_of shared.old) node }
+    ensures kept { (n : ℕ) → IsNode D.state n (shared_of shared.old) node → IsNode D.state (n + 1) (shared_of shared.new) result }
+    ensures name { result.name ≡ node.name }
+    ensures passes { Passes (state_of D.state node) (state_of D.state result) }
+    ensures place { E.place out.new ≡ E.place out.old }
+    ensures since { Since (E.shows out.old) (E.shows out.new) }
+    ensures tells { AnswersAlone node.name (statement_of literals.now statement.now) (E.shows out.old) (E.shows out.new) (state_of D.state node) (state_of D.state result)
+        (said_alone (kept_of D.state node) (shared_of shared.old)) (said_alone (kept_of D.state result) (shared_of shared.new)) }
+    ensures serves { (log : CallLog) (w : World) → StandsAlone log (kept_of D.state node) (shared_of shared.old) w →
+        ServesAlone log w (statement_of literals.now statement.now) (E.shows out.old) (E.shows out.new) (kept_of D.state result) (shared_of shared.new) }
+{
+    let Statement::At(name, request) = statement;
+    serve_request(alloc, node, *name, request, literals, shared, out)
+}
+
+// Serves a request to the node of a name by the only node, where that has the name.
+fn serve_request<E: Emit, D: Disk + Drop>(
+    alloc: Global,
+    node: Node<D>,
+    name: NodeName,
+    request: &Request,
+    literals: &Literals,
+    shared: &mut Shared,
+    out: &mut E,
+) -> Node<D>
+    requires kept { (n : ℕ) × (n < 1000002) × IsNode D.state n (shared_of shared.old) node }
+    ensures kept { (n : ℕ) → IsNode D.state n (shared_of shared.old) node → IsNode D.state (n + 1) (shared_of shared.new) result }
+    ensures name { result.name ≡ node.name }
+    ensures passes { Passes (state_of D.state node) (state_of D.state result) }
+    ensures place { E.place out.new ≡ E.place out.old }
+    ensures since { Since (E.shows out.old) (E.shows out.new) }
+    ensures tells { AnswersAlone node.name (At name (request_of literals.now request.now)) (E.shows out.old) (E.shows out.new) (state_of D.state node) (state_of D.state result)
+        (said_alone (kept_of D.state node) (shared_of shared.old)) (said_alone (kept_of D.state result) (shared_of shared.new)) }
+    ensures serves { (log : CallLog) (w : World) → StandsAlone log (kept_of D.state node) (shared_of shared.old) w →
+        ServesAlone log w (At name (request_of literals.now request.now)) (E.shows out.old) (E.shows out.new) (kept_of D.state result) (shared_of shared.new) }
+{
+    if name.bytes() == node.name().bytes() {
+        node.serve(alloc, request, literals, shared, out)
+    } else {
+        out.emit(&Form::NoSuchNode);
+        node
+    }
+}
+
 // Serves line after line, and gives the disk back.
 fn drive<S: Source, K: Sink, D: Disk + Drop>(
     alloc: Global,
     source: &mut S,
     reader: &mut LineReader,
     literals: &mut Literals,
-    labels: &mut Labels,
+    shared: &mut Shared,
     out: &mut SinkEmit<'_, K>,
     node: Node<D>,
 ) -> (Exit, D)
     requires sound { IsSound reader.old }
     requires first { taken_bytes reader.old ≡ 0 }
     requires failed { out.old.failed ≡ false }
-    requires kept { IsNode D.state 0 node }
+    requires kept { IsNode D.state 0 (shared_of shared.old) node }
+    requires unsaid { said_alone (kept_of D.state node) (shared_of shared.old) ≡ nothing_said (node.name ∷ []) }
     ensures same_sink { out.new.sink.ghost_name ≡ out.old.sink.ghost_name }
-    ensures runs { (w : World) → StandsFor (state_of D.state node).calls (kept_of D.state node labels.old) w →
+    ensures runs { (w : World) → StandsAlone (state_of D.state node).calls (kept_of D.state node) (shared_of shared.old) w →
         RunsTo w (state_of D.state node ∷ []) (lines_ahead reader.old (S.left source.old)) (K.shown out.old.sink.now) (K.shown out.new.sink.now) result.0 (D.state result.1 ∷ []) }
     ensures calls { TellsOver (node.name ∷ []) (state_of D.state node ∷ []) (D.state result.1 ∷ []) (lines_ahead reader.old (S.left source.old)) (K.shown out.old.sink.now) (K.shown out.new.sink.now) result.0 }
     ensures commanded { result.0 ≡ Exit.Usage → ⊥ }
@@ -220,7 +283,7 @@ fn drive<S: Source, K: Sink, D: Disk + Drop>(
                 return (exit, node.into_disk());
             }
         };
-        node = node.serve(alloc, &statement, literals, labels, out);
+        node = serve_statement(alloc, node, &statement, literals, shared, out);
         if out.failed() {
             return (Exit::WriteFault, node.into_disk());
         }

@@ -61,9 +61,7 @@ new_head_is name s start sizes = record {
   root = refl;
   count = refl;
   unmarked = refl;
-  ai = refl;
-  bi = refl;
-  save = refl;
+  carried = refl;
 }
 
 -- the sizes that are tested one after another

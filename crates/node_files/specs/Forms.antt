@@ -5,7 +5,8 @@ use Rattle.file_base.specs.declared.head.FileHead.{FileHead}
 use Rattle.transcript_model.specs.Lines.{Line, Cause, Down, Broken}
 use Rattle.script_model.specs.Statements.{Operation}
 use Rattle.run_model.specs.Operations.{form_refused}
-use Rattle.run_model.specs.World.{File}
+use Rattle.records_model.specs.Layout.{no_layout}
+use Rattle.run_model.specs.World.{File, nothing_carried}
 use Rattle.directory_model.specs.Files.{organized_by}
 
 -- a file of this head's sizes: an operation is refused by its form at the one as at the other
@@ -17,10 +18,10 @@ shape_of h = record {
   organization = organized_by h.organization h;
   start = h.start;
   buckets = h.alloc;
-  others = [];
+  carried = nothing_carried;
   recovery_units = h.marks.ru;
   history = record { base = empty; moment = 0; settled = []; live = [] };
-  chain = [];
+  layout = no_layout;
 }
 
 -- what refuses an operation on a file of this head by its form alone

@@ -1,4 +1,4 @@
-// The words of the command. Scaffolding: they are read by hand.
+// The form of the words of the command. The words that name images are read by clap in the command itself.
 ghost use Rattle.std.specs.Prelude.{◌≡◌, map, codes, string_bytes, List, ℕ};
 ghost use Rattle.script_model.specs.Command.{names as names_of, is_disk_of as is_disk_of_said, are_disks_of as are_disks_of_said, is_run_form as is_run_form_of};
 

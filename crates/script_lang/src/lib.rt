@@ -9,6 +9,7 @@ mod operands;
 mod records;
 mod statement;
 mod take;
+mod wanted;
 mod words;
 
 pub use command::is_run_form;
@@ -16,6 +17,7 @@ pub use grammar::read_statement;
 pub use laws::columns_tell_where_no_statement_goes_on;
 pub use literals::{Literal, Literals};
 pub use statement::{Form, KeyWord, Operation, Request, Setting, Statement};
+pub use wanted::Wanted;
 pub use words::LineErr;
 
 #[cfg(test)]

@@ -7,6 +7,7 @@ ghost use Rattle.script_lang.specs.Statements.{first_of, verb_of, organization_o
 use crate::literals::Literal;
 use crate::operands::{read_first, read_number, read_organization, read_setting, read_verb};
 use crate::statement::{First, KeyWord, Organization, Setting, Verb};
+use crate::wanted::Wanted;
 use crate::words::{LineErr, Word, Words};
 use vms_base::{FileName, Label, NodeName};
 
@@ -17,6 +18,7 @@ impl Word<'_> {
     {
         LineErr {
             column: self.column,
+            wanted: self.wanted,
         }
     }
 }
@@ -25,7 +27,7 @@ impl<'a> Words<'a> {
     pub fn first(&mut self) -> Result<First, LineErr>
         ensures { Takes AFirst first_of self.old result self.new }
     {
-        let word = self.word()?;
+        let word = self.word(Wanted::First)?;
         match read_first(word.text) {
             Some(first) => Ok(first),
             None => Err(word.cannot_stand()),
@@ -35,7 +37,7 @@ impl<'a> Words<'a> {
     pub fn verb(&mut self) -> Result<Verb, LineErr>
         ensures { Takes AVerb verb_of self.old result self.new }
     {
-        let word = self.word()?;
+        let word = self.word(Wanted::Verb)?;
         match read_verb(word.text) {
             Some(verb) => Ok(verb),
             None => Err(word.cannot_stand()),
@@ -45,7 +47,7 @@ impl<'a> Words<'a> {
     pub fn node(&mut self) -> Result<NodeName, LineErr>
         ensures { Takes ANode (λ n. n) self.old result self.new }
     {
-        let word = self.word()?;
+        let word = self.word(Wanted::Node)?;
         match NodeName::new(word.text) {
             Some(node) => Ok(node),
             None => Err(word.cannot_stand()),
@@ -55,7 +57,7 @@ impl<'a> Words<'a> {
     pub fn label(&mut self) -> Result<Label, LineErr>
         ensures { Takes ALabel (λ l. l) self.old result self.new }
     {
-        let word = self.word()?;
+        let word = self.word(Wanted::Label)?;
         match Label::new(word.text) {
             Some(label) => Ok(label),
             None => Err(word.cannot_stand()),
@@ -65,7 +67,7 @@ impl<'a> Words<'a> {
     pub fn file(&mut self) -> Result<FileName, LineErr>
         ensures { Takes AFile (λ f. f) self.old result self.new }
     {
-        let word = self.word()?;
+        let word = self.word(Wanted::File)?;
         match FileName::new(word.text) {
             Some(file) => Ok(file),
             None => Err(word.cannot_stand()),
@@ -75,7 +77,7 @@ impl<'a> Words<'a> {
     pub fn organization(&mut self) -> Result<Organization, LineErr>
         ensures { Takes AnOrganization organization_of self.old result self.new }
     {
-        let word = self.word()?;
+        let word = self.word(Wanted::Organization)?;
         match read_organization(word.text) {
             Some(organization) => Ok(organization),
             None => Err(word.cannot_stand()),
@@ -85,7 +87,7 @@ impl<'a> Words<'a> {
     pub fn setting(&mut self) -> Result<Setting, LineErr>
         ensures { Takes ASetting setting_of self.old result self.new }
     {
-        let word = self.word()?;
+        let word = self.word(Wanted::Setting)?;
         match read_setting(word.text) {
             Some(setting) => Ok(setting),
             None => Err(word.cannot_stand()),
@@ -95,7 +97,7 @@ impl<'a> Words<'a> {
     pub fn number(&mut self) -> Result<u32, LineErr>
         ensures { Takes ANumber (λ n. n) self.old result self.new }
     {
-        let word = self.word()?;
+        let word = self.word(Wanted::Number)?;
         match read_number(u64::from(u32::MAX), word.text) {
             Some(n) => Ok(n as u32),
             None => Err(word.cannot_stand()),
@@ -105,7 +107,7 @@ impl<'a> Words<'a> {
     pub fn long_number(&mut self) -> Result<u64, LineErr>
         ensures { Takes ALongNumber (λ n. n) self.old result self.new }
     {
-        let word = self.word()?;
+        let word = self.word(Wanted::LongNumber)?;
         match read_number(u64::MAX, word.text) {
             Some(n) => Ok(n),
             None => Err(word.cannot_stand()),
@@ -115,7 +117,7 @@ impl<'a> Words<'a> {
     pub fn bytes(&mut self, to: &mut Literal) -> Result<(), LineErr>
         ensures { Takes SomeBytes (λ _. to.new) self.old result self.new }
     {
-        let word = self.word()?;
+        let word = self.word(Wanted::Bytes)?;
         if to.take_bytes(word.text) {
             Ok(())
         } else {
@@ -127,7 +129,7 @@ impl<'a> Words<'a> {
     pub fn key(&mut self, to: &mut Literal) -> Result<KeyWord, LineErr>
         ensures { Takes AKey (word_in to.new) self.old result self.new }
     {
-        let word = self.word()?;
+        let word = self.word(Wanted::Key)?;
         if let Some(n) = read_number(u64::from(u32::MAX), word.text) {
             return Ok(KeyWord::Number(n as u32));
         }
@@ -145,7 +147,7 @@ impl<'a> Words<'a> {
         if self.is_at_end() {
             return Ok(());
         }
-        let word = self.word()?;
+        let word = self.word(Wanted::End)?;
         Err(word.cannot_stand())
     }
 }

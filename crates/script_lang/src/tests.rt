@@ -322,6 +322,41 @@ fn lines_of_nodes_and_of_the_world_leave_it_at_theirs(rt: HostRuntime) -> Result
     Ok(())
 }
 
+// What a line wants where it leaves the grammar, and None where it does not.
+fn wanted(alloc: Global, line: &[u8]) -> Result<Option<Wanted>, Fail> {
+    let mut lit = Literals::reserve(alloc)?;
+    if line.len() > 20_000 {
+        return Ok(None);
+    }
+    Ok(match read_statement(line, &mut lit) {
+        Ok(Some(_)) => None,
+        Ok(None) => None,
+        Err(e) => Some(e.wanted),
+    })
+}
+
+#[test]
+fn a_faulty_line_tells_what_it_wants(rt: HostRuntime) -> Result<(), Fail> {
+    let table: [(&[u8], Wanted); 12] = [
+        (b"INIT", Wanted::First),
+        (b"A: FROB", Wanted::Verb),
+        (b"CRASH 1A", Wanted::Node),
+        (b"A: END_TRANS", Wanted::Label),
+        (b"A: DUMP", Wanted::File),
+        (b"A: CREATE F SEK 1 100 10", Wanted::Organization),
+        (b"A: SET_FILE F AI", Wanted::Setting),
+        (b"A: INIT x", Wanted::Number),
+        (b"FUSE A 1", Wanted::LongNumber),
+        (b"A: PUT T F 1", Wanted::Bytes),
+        (b"A: GET T F", Wanted::Key),
+        (b"A: BOOT now", Wanted::End),
+    ];
+    for (line, want) in table {
+        assert_eq!(rt; wanted(rt.alloc(), line)?, Some(want), "{line:?}");
+    }
+    Ok(())
+}
+
 #[test]
 fn a_record_is_kept_beside_its_statement(rt: HostRuntime) -> Result<(), Fail> {
     let mut lit = Literals::reserve(rt.alloc())?;

@@ -5,19 +5,24 @@ ghost use Rattle.script_model.specs.LineWords.{is_empty};
 ghost use Rattle.script_model.specs.Grammar.{is_skipped as is_skipped_line};
 ghost use Rattle.script_lang.specs.Parting.{IsAtWord, WordStands, quoted_next};
 
+use crate::wanted::Wanted;
 use std::marker::Model;
+use thiserror::Error;
 
-/// The column of the first word that cannot stand where it does.
-#[derive(Clone, Copy, Debug, PartialEq, Eq, Drop)]
+/// The column of the first word that cannot stand where it does, and what could stand there.
+#[derive(Clone, Copy, Debug, PartialEq, Eq, Drop, Error)]
+#[error("column {column}: wanted is {wanted}")]
 pub struct LineErr {
     pub column: u32,
+    pub wanted: Wanted,
 }
 
-/// A word and its column.
+/// A word and its column, and what is wanted in its place.
 #[derive(Clone, Copy, Debug, Drop)]
 pub struct Word<'a> {
     pub column: u32,
     pub text: &'a [u8],
+    pub wanted: Wanted,
 }
 
 /// The words of a line that are still to be read.
@@ -110,8 +115,8 @@ impl<'a> Words<'a> {
         }
     }
 
-    /// The next word, or the column where it is missing.
-    pub fn word(&mut self) -> Result<Word<'a>, LineErr>
+    /// The next word, in whose place this is wanted, or the column where it is missing.
+    pub fn word(&mut self, wanted: Wanted) -> Result<Word<'a>, LineErr>
         ensures end { self.new.end ≡ self.old.end }
         ensures few { IfOk result (λ w. length w.text.now ≤ 20000) }
         ensures words { MatchResult result
@@ -121,12 +126,14 @@ impl<'a> Words<'a> {
         if self.rest.is_empty() {
             return Err(LineErr {
                 column: self.column as u32,
+                wanted,
             });
         }
         let len = word_len(self.rest);
         let word = Word {
             column: self.column as u32,
             text: &self.rest[..len],
+            wanted,
         };
         let rest = &self.rest[len..];
         let after = spaces(rest);

@@ -2,8 +2,11 @@
 ghost use Rattle.std.specs.Prelude.{◌≡◌, ◌<◌, ◌≤◌, List, [], ℕ, Option, length, take, OnErr, OnOk, IfOk, IfSome};
 ghost use Rattle.transcript_model.specs.Outside.{Rose, ahead, behind};
 
+use thiserror::Error;
+
 /// A read or a write failed, and its count of faults rose.
-#[derive(Clone, Copy, Debug, PartialEq, Eq)]
+#[derive(Clone, Copy, Debug, PartialEq, Eq, Error)]
+#[error("a read or a write failed")]
 pub struct Failed;
 
 /// Bytes that are read from the front on.

@@ -5,7 +5,7 @@ use Rattle.dtm_node.proofs.boot.mount_store.Goals as goal
 
 pub returns-in-Ok-clause-boots : goal.returns-in-Ok-clause-boots
 returns-in-Ok-clause-boots g c = λ n o.
-    c.raise_boot.ensures.boots n (mounted c.args.name c.args.store c.in-Ok.volume n c.in-Ok.ensures.store c.in-Ok.ensures.sound c.in-Ok.ensures.only c.in-Ok.ensures.valid o)
+    c.raise_boot.ensures.boots n (mounted c.args.name c.args.store c.in-Ok.volume n c.in-Ok.ensures.store c.requires.least c.mount.ensures.whole c.mount.ensures.each c.in-Ok.ensures.holds c.in-Ok.ensures.sound c.in-Ok.ensures.only c.in-Ok.ensures.valid o)
 
 pub returns-in-Err-Condition-clause-boots : goal.returns-in-Err-Condition-clause-boots
 returns-in-Err-Condition-clause-boots g c = λ n o.

@@ -1,4 +1,4 @@
-use Rattle.std.proofs.Common.{◌≡◌, ap, subst, refl, ◌∙◌, ◌∷◌, []}
+use Rattle.std.proofs.Common.{◌≡◌, ap, subst, refl, ◌∙◌, ◌∷◌, [], false}
 use Rattle.block_disk.specs.Disk.{DiskState}
 use Rattle.transcript_model.specs.Emitting.{Emits}
 use Rattle.transcript_model.specs.Lines as line
@@ -6,10 +6,12 @@ use Rattle.transcript_model.specs.Lines.{Failed}
 use Rattle.volume_format.specs.declared.home.Home.{Home}
 use Rattle.dtm_node.specs.Boots.{fresh_up}
 use Rattle.dtm_node.specs.Keeping.{up_of}
-use Rattle.dtm_node.specs.Nodes.{last_lines_of}
+use Rattle.dtm_node.specs.Nodes.{last_lines_of, shared_of}
 use Rattle.dtm_node.proofs.NodeServes.{awake_here, boot_fell, boot_refused, boot_unpowered, boot_up_serves, wakes_here}
 use Rattle.dtm_node.proofs.Passing.{fall_as, goes_passes, passes_on, passes_power, power_calls, rose_after, unpowers}
-use Rattle.dtm_node.proofs.Calling.{answers_after, answers_at, answers_fell_first, answers_one, boot_calls, shows_last}
+use Rattle.dtm_node.specs.Calling.{said_down, said_shared, said_up}
+use Rattle.dtm_node.proofs.Calling.{answers_after, answers_at, answers_fell_first, answers_one, boot_calls, boot_fell_follows, boot_fine, boot_follows, shows_last}
+use Rattle.dtm_node.proofs.Following.{follows_other}
 use Rattle.script_model.specs.Statements.{Boot}
 use Rattle.volume.specs.State.{VolumeState}
 use Rattle.transcript.specs.Forms.{line_of}
@@ -17,57 +19,58 @@ use Rattle.dtm_node.specs.Uses.{cause_of}
 use Rattle.dtm_node.proofs.node.boot_with.Goals as goal
 
 pub returns-in-Err-clause-serves : goal.returns-in-Err-clause-serves
-returns-in-Err-clause-serves g c = λ has_parts ls log w h.
+returns-in-Err-clause-serves g c = λ has_parts log n h promised.
     let old : DiskState = g.D.Disk.state c.args.disk in
     let new : DiskState = g.D.Disk.state c.power.new.self in
     let u = unpowers c.in-Err.e old new c.in-Err.ensures.err c.in-Err.ensures.never_stopped in
-    rw c.down_node.ensures (boot_unpowered log w c.args.name c.args.in_use has_parts old ls h new _ _ u.pending u.seen u.passes u.calls u.rose (fall_as c.args.name _ _ _ _ _ c.from.ensures u.cause c.show_fall.ensures.emits))
+    rw (c.fall_in_boot.ensures.node, c.fall_in_boot.ensures.shared) (boot_unpowered log (shared_of c.args.shared.now) n c.args.name has_parts old h new _ _ u.pending u.seen u.passes u.calls u.rose (fall_as c.args.name _ _ _ _ _ c.from.ensures u.cause c.fall_in_boot.ensures.emits))
 
 pub returns-in-Up-clause-serves : goal.returns-in-Up-clause-serves
-returns-in-Up-clause-serves g c = λ has_parts ls log w h.
+returns-in-Up-clause-serves g c = λ has_parts log n h promised.
     let old : DiskState = g.D.Disk.state c.args.disk in
     let mid : DiskState = g.D.Disk.state c.power.new.self in
     let v = c.in-Up.volume in
     let power = c.in_default.ensures.ok in
-    let x = wakes_here log w c.args.name c.args.in_use has_parts old ls h mid power in
-    let boots = c.in-Up.ensures.boots _ (awake_here log w c.args.name c.args.in_use has_parts old ls h mid x) in
+    let x = wakes_here log (shared_of c.args.shared.now) n c.args.name has_parts old h mid promised power in
+    let boots = c.in-Up.ensures.boots _ (awake_here log (shared_of c.args.shared.now) n c.args.name has_parts old h mid x) in
     let goes = c.in-Up.ensures.goes in
     let out = g.E.Emit.shows c.args.out.now in
     let mid_out = g.E.Emit.shows c.show_last.new.out in
     let last = subst (λ (k : Home). Emits out (last_lines_of k) mid_out) c.home.ensures c.show_last.ensures.emits in
-    let count = subst (λ n. Emits mid_out (line.NormalCount n ∷ []) (g.E.Emit.shows c.emit.new.self)) (c.from-in-Up.ensures ∙ ap (λ (k : Home). k.boot) c.home-in-Up.ensures) c.emit.ensures.emits in
+    let count = subst (λ k. Emits mid_out (line.NormalCount k ∷ []) (g.E.Emit.shows c.emit.new.self)) (c.from-in-Up.ensures ∙ ap (λ (k : Home). k.boot) c.home-in-Up.ensures) c.emit.ensures.emits in
     let is : up_of c.new.result ≡ fresh_up v = rw (c.new.ensures.volume, c.new.ensures.drawn, c.new.ensures.branch) refl in
-    boot_up_serves log w c.args.name c.args.in_use has_parts old ls h mid x v (up_of c.new.result) out mid_out (g.E.Emit.shows c.emit.new.self) is boots.0 boots.1 (passes_on old mid v.store.disk (passes_power old mid power) (goes_passes mid v.store.disk goes))
+    boot_up_serves log (shared_of c.args.shared.now) n c.args.name has_parts old h mid x v (up_of c.new.result) out mid_out (g.E.Emit.shows c.emit.new.self) is boots.0 boots.1 (passes_on old mid v.store.disk (passes_power old mid power) (goes_passes mid v.store.disk goes))
     (power_calls old mid v.store.disk power goes.calls) last count
 
 pub returns-in-Refused-clause-serves : goal.returns-in-Refused-clause-serves
-returns-in-Refused-clause-serves g c = λ has_parts ls log w h.
+returns-in-Refused-clause-serves g c = λ has_parts log n h promised.
     let old : DiskState = g.D.Disk.state c.args.disk in
     let mid : DiskState = g.D.Disk.state c.power.new.self in
     let new : DiskState = g.D.Disk.state c.in-Refused.disk in
     let power = c.in_default.ensures.ok in
-    let x = wakes_here log w c.args.name c.args.in_use has_parts old ls h mid power in
-    let boots = c.in-Refused.ensures.boots _ (awake_here log w c.args.name c.args.in_use has_parts old ls h mid x) in
+    let x = wakes_here log (shared_of c.args.shared.now) n c.args.name has_parts old h mid promised power in
+    let boots = c.in-Refused.ensures.boots _ (awake_here log (shared_of c.args.shared.now) n c.args.name has_parts old h mid x) in
     let goes = c.in-Refused.ensures.goes in
-    rw c.down_node-in-Refused.ensures (boot_refused log w c.args.name c.args.in_use has_parts old ls h mid x _ new _ _ boots.0 boots.1 (passes_on old mid new (passes_power old mid power) (goes_passes mid new goes)) (power_calls old mid new power goes.calls) c.emit-in-Refused.ensures.emits)
+    rw c.down_node.ensures (boot_refused log (shared_of c.args.shared.now) n c.args.name has_parts old h mid x _ new _ _ boots.0 boots.1 (passes_on old mid new (passes_power old mid power) (goes_passes mid new goes)) (power_calls old mid new power goes.calls) c.emit-in-Refused.ensures.emits)
 
 pub returns-in-Fell-clause-serves : goal.returns-in-Fell-clause-serves
-returns-in-Fell-clause-serves g c = λ has_parts ls log w h.
+returns-in-Fell-clause-serves g c = λ has_parts log n h promised.
     let old : DiskState = g.D.Disk.state c.args.disk in
     let mid : DiskState = g.D.Disk.state c.power.new.self in
     let new : DiskState = g.D.Disk.state c.in-Fell.disk in
     let power = c.in_default.ensures.ok in
-    let x = wakes_here log w c.args.name c.args.in_use has_parts old ls h mid power in
+    let x = wakes_here log (shared_of c.args.shared.now) n c.args.name has_parts old h mid promised power in
     let goes = c.in-Fell.ensures.goes in
-    rw c.down_node-in-Fell.ensures (boot_fell log w c.args.name c.args.in_use has_parts old ls h mid x _ new _ _ (c.in-Fell.ensures.boots _ (awake_here log w c.args.name c.args.in_use has_parts old ls h mid x)) (passes_on old mid new (passes_power old mid power) (goes_passes mid new goes)) (power_calls old mid new power goes.calls)
-    (rose_after _ old mid new power (c.in-Fell.ensures.booted ((passes_power old mid power).counted h.counts))) c.show_fall-in-Fell.ensures.emits)
+    rw (c.fall_in_boot-in-Fell.ensures.node, c.fall_in_boot-in-Fell.ensures.shared) (boot_fell log (shared_of c.args.shared.now) n c.args.name has_parts old h mid x _ new _ _ (c.in-Fell.ensures.boots _ (awake_here log (shared_of c.args.shared.now) n c.args.name has_parts old h mid x)) (passes_on old mid new (passes_power old mid power) (goes_passes mid new goes)) (power_calls old mid new power goes.calls)
+    (rose_after _ old mid new power (c.in-Fell.ensures.booted ((passes_power old mid power).counted h.counts))) c.fall_in_boot-in-Fell.ensures.emits)
 
 pub returns-in-Err-clause-tells : goal.returns-in-Err-clause-tells
 returns-in-Err-clause-tells g c =
     let old : DiskState = g.D.Disk.state c.args.disk in
     let new : DiskState = g.D.Disk.state c.power.new.self in
     let u = unpowers c.in-Err.e old new c.in-Err.ensures.err c.in-Err.ensures.never_stopped in
-    rw c.down_node.ensures (answers_fell_first Boot c.args.name Failed _ _ old new (fall_as c.args.name _ _ _ _ _ c.from.ensures u.cause c.show_fall.ensures.emits) u.calls (λ _. u.rose) u.passes)
+    rw (c.fall_in_boot.ensures.node, c.fall_in_boot.ensures.shared)
+    (answers_fell_first Boot c.args.name Failed _ _ old new _ _ _ _ (fall_as c.args.name _ _ _ _ _ c.from.ensures u.cause c.fall_in_boot.ensures.emits) u.calls (λ _. u.rose) u.passes (λ lines. boot_fell_follows Failed (said_shared (shared_of c.args.shared.now)) c.args.name lines))
 
 pub returns-in-Up-clause-tells : goal.returns-in-Up-clause-tells
 returns-in-Up-clause-tells g c =
@@ -79,8 +82,9 @@ returns-in-Up-clause-tells g c =
     let out = g.E.Emit.shows c.args.out.now in
     let mid_out = g.E.Emit.shows c.show_last.new.out in
     let last = subst (λ (k : Home). Emits out (last_lines_of k) mid_out) c.home.ensures c.show_last.ensures.emits in
-    answers_at Boot _ _ old v.store.disk _ _ refl (ap (λ (x : VolumeState). x.store.disk) c.new.ensures.volume)
-    (answers_after Boot (line.NormalCount c.from-in-Up.result) out mid_out _ old v.store.disk (shows_last v.catalog.home out mid_out last) c.emit.ensures.emits refl (power_calls old mid v.store.disk power goes.calls) (passes_on old mid v.store.disk (passes_power old mid power) (goes_passes mid v.store.disk goes)))
+    answers_at Boot _ _ old v.store.disk _ _ _ _ _ _ _ _ refl (ap (λ (x : VolumeState). x.store.disk) c.new.ensures.volume) refl refl
+    (answers_after Boot (line.NormalCount c.from-in-Up.result) out mid_out _ old v.store.disk (said_shared (shared_of c.args.shared.now)) _ (said_down c.args.name false) (said_up c.args.name) (shows_last v.catalog.home out mid_out last) c.emit.ensures.emits refl (power_calls old mid v.store.disk power goes.calls) (passes_on old mid v.store.disk (passes_power old mid power) (goes_passes mid v.store.disk goes))
+    (λ lines. follows_other Boot lines (line.NormalCount c.from-in-Up.result) _ _ _ _ refl refl refl refl))
 
 pub returns-in-Refused-clause-tells : goal.returns-in-Refused-clause-tells
 returns-in-Refused-clause-tells g c =
@@ -90,7 +94,7 @@ returns-in-Refused-clause-tells g c =
     let power = c.in_default.ensures.ok in
     let goes = c.in-Refused.ensures.goes in
     let refusal = c.in-Refused.ensures.booted.1 in
-    rw c.down_node-in-Refused.ensures (answers_one Boot (line_of c.in-Refused.form) _ _ old new c.emit-in-Refused.ensures.emits refusal.fine (boot_calls _ old new refusal (power_calls old mid new power goes.calls)) (passes_on old mid new (passes_power old mid power) (goes_passes mid new goes)))
+    rw c.down_node.ensures (answers_one Boot (line_of c.in-Refused.form) _ _ old new (said_shared (shared_of c.args.shared.now)) _ _ _ c.emit-in-Refused.ensures.emits (boot_fine _ refusal) (boot_calls _ old new refusal (power_calls old mid new power goes.calls)) (passes_on old mid new (passes_power old mid power) (goes_passes mid new goes)) (boot_follows _ _ c.args.name _ refusal))
 
 pub returns-in-Fell-clause-tells : goal.returns-in-Fell-clause-tells
 returns-in-Fell-clause-tells g c =
@@ -99,4 +103,4 @@ returns-in-Fell-clause-tells g c =
     let new : DiskState = g.D.Disk.state c.in-Fell.disk in
     let power = c.in_default.ensures.ok in
     let goes = c.in-Fell.ensures.goes in
-    rw c.down_node-in-Fell.ensures (answers_fell_first Boot c.args.name (cause_of c.in-Fell.down) _ _ old new c.show_fall-in-Fell.ensures.emits (power_calls old mid new power goes.calls) (λ counted. rose_after _ old mid new power (c.in-Fell.ensures.booted ((passes_power old mid power).counted counted))) (passes_on old mid new (passes_power old mid power) (goes_passes mid new goes)))
+    rw (c.fall_in_boot-in-Fell.ensures.node, c.fall_in_boot-in-Fell.ensures.shared) (answers_fell_first Boot c.args.name (cause_of c.in-Fell.down) _ _ old new _ _ _ _ c.fall_in_boot-in-Fell.ensures.emits (power_calls old mid new power goes.calls) (λ counted. rose_after _ old mid new power (c.in-Fell.ensures.booted ((passes_power old mid power).counted counted))) (passes_on old mid new (passes_power old mid power) (goes_passes mid new goes)) (λ lines. boot_fell_follows (cause_of c.in-Fell.down) (said_shared (shared_of c.args.shared.now)) c.args.name lines))

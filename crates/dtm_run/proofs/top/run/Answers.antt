@@ -6,7 +6,7 @@ use Rattle.dtm_run.proofs.top.run.Goals as goal
 
 pub returns-in_default-clause-runs : goal.returns-in_default-clause-runs
 returns-in_default-clause-runs g c = λ e nodes o s.
-    run_over nodes _ _ _ _ _ _ _ _ o refl refl (memory_runs g.D.Disk.state c.args.rack.now.places.items _ _ (both_first _ _ e) nodes o s)
+    run_over nodes _ _ _ _ _ _ _ _ o refl refl (memory_runs g.D.Disk.state c.args.rack.now.nodes.entries _ _ (both_first _ _ e) nodes o s)
 
 pub returns-in_default-clause-disks : goal.returns-in_default-clause-disks
 returns-in_default-clause-disks g c = all_stay (states_in g.D.Disk.state c.args.rack.now)

@@ -14,11 +14,11 @@ use Rattle.dtm_node.proofs.Telling.{told_ok, told_err}
 use Rattle.dtm_node.proofs.running.Running.append.Goals as goal
 
 pub returns-then-head-eq4294967295-clause-operates : goal.returns-then-head-eq4294967295-clause-operates
-returns-then-head-eq4294967295-clause-operates g c = λ labels label file log w q a b m.
+returns-then-head-eq4294967295-clause-operates g c = λ shared label file log n q a b m.
     let old = c.args.self.now in
     let laws = c.the_laws.ensures in
     let h = c.args.head in
-    let found = asked_found log w (up_of old) labels label file c.args.file h (Put None c.args.bytes.now) q laws in
+    let found = asked_found log shared n (up_of old) label file c.args.file h (Put None c.args.bytes.now) q laws in
     let p = placed old.volume.catalog.home.node old.volume.catalog c.args.file h old.volume.store.disk laws.apart c.requires.whole c.requires.up.sound c.requires.up.most c.requires.there in
     let fits = fits_at old.volume.catalog.home.node old.volume.store.disk.size old.volume.catalog c.args.file h c.requires.whole c.requires.up.sound c.requires.there in
     let below = laws.reads.below q.stands.place.content h found.file found.is c.requires.sequential fits.bucket.most_blocks (used_few h.start h.used h.alloc h.bucket old.volume.store.disk.size fits.buckets.most p.one p.to c.requires.up.most) in

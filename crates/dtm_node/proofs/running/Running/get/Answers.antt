@@ -19,7 +19,7 @@ returns-in-Err-clause-operates g c =
     unread_operates (Unit {0}) (let r : Result Bool Down = Err c.in-Err.down in r) c.in-Err.down (Get (key_of c.args.key.now)) c.args.file c.args.head.now (up_of c.args.self.now) (let u : Up = record (up_of c.args.self.now) { volume = c.read_record.new.volume } in u) _ _ c.the_laws.ensures c.requires.up refl c.in-Err.ensures.down refl
 
 pub returns-in-Ok-true-clause-fine : goal.returns-in-Ok-true-clause-fine
-returns-in-Ok-true-clause-fine g c = replies_one _ _ _ c.emit.ensures.emits refl
+returns-in-Ok-true-clause-fine g c = replies_one _ _ _ c.emit.ensures.emits (refl, refl)
 
 pub returns-in-Ok-true-clause-operates : goal.returns-in-Ok-true-clause-operates
 returns-in-Ok-true-clause-operates g c =
@@ -27,7 +27,7 @@ returns-in-Ok-true-clause-operates g c =
     (key_of c.args.key.now) c.in-Ok-true.field-0 c.read_record.new.found c.in-Ok-true.ensures.found c.in-Ok-true.field-0-test c.emit.ensures.emits
 
 pub returns-in-Ok-false-clause-fine : goal.returns-in-Ok-false-clause-fine
-returns-in-Ok-false-clause-fine g c = replies_one _ _ _ c.emit-in-Ok-false.ensures.emits refl
+returns-in-Ok-false-clause-fine g c = replies_one _ _ _ c.emit-in-Ok-false.ensures.emits (refl, refl)
 
 pub returns-in-Ok-false-clause-operates : goal.returns-in-Ok-false-clause-operates
 returns-in-Ok-false-clause-operates g c =

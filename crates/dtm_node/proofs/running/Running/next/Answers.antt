@@ -22,7 +22,7 @@ returns-in-Err-clause-operates g c =
     c.the_laws.ensures c.requires.up refl c.in-Err.ensures.down refl
 
 pub returns-in-Ok-true-clause-fine : goal.returns-in-Ok-true-clause-fine
-returns-in-Ok-true-clause-fine g c = replies_one _ _ _ c.emit.ensures.emits refl
+returns-in-Ok-true-clause-fine g c = replies_one _ _ _ c.emit.ensures.emits (refl, refl)
 
 pub returns-in-Ok-true-clause-operates : goal.returns-in-Ok-true-clause-operates
 returns-in-Ok-true-clause-operates g c =
@@ -30,7 +30,7 @@ returns-in-Ok-true-clause-operates g c =
     (option_map key_of (option_copied c.args.after)) (key_of c.next_record.new.key) c.next_record.new.found (c.in-Ok-true.ensures.found c.in-Ok-true.field-0-test) c.emit.ensures.emits
 
 pub returns-in-Ok-false-clause-fine : goal.returns-in-Ok-false-clause-fine
-returns-in-Ok-false-clause-fine g c = replies_one _ _ _ c.emit-in-Ok-false.ensures.emits refl
+returns-in-Ok-false-clause-fine g c = replies_one _ _ _ c.emit-in-Ok-false.ensures.emits (refl, refl)
 
 pub returns-in-Ok-false-clause-operates : goal.returns-in-Ok-false-clause-operates
 returns-in-Ok-false-clause-operates g c =

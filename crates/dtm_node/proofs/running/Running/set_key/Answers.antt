@@ -1,4 +1,4 @@
-use Rattle.std.proofs.Common.{[], ◌∷◌, Some, None, Result, Err, length, refl, sym, subst, ◌∙◌, ap, arith}
+use Rattle.std.proofs.Common.{[], ◌∷◌, Result, Err, length, refl, sym, subst, ◌∙◌, ap, arith}
 use Rattle.std.proofs.lemmas.Result.{err_from_is_err_and}
 use Rattle.careful_write.specs.declared.down.Down.{Down}
 use Rattle.vms_base.specs.Keys.{key_of}

@@ -57,7 +57,7 @@ returns-clause-shows g c = λ content m told form laid few same.
     (subst (λ n. Emits (g.E.Emit.shows c.loop-count.out) (line.NormalCount n ∷ []) (g.E.Emit.shows c.emit-2.new.self)) c.from-2.ensures c.emit-2.ensures.emits)
 
 pub returns-in-Ok-false-clause-fine : goal.returns-in-Ok-false-clause-fine
-returns-in-Ok-false-clause-fine g c = replies_after _ _ _ _ c.loop-count.invariant.fine c.emit-in-Ok-false.ensures.emits refl
+returns-in-Ok-false-clause-fine g c = replies_after _ _ _ _ c.loop-count.invariant.fine c.emit-in-Ok-false.ensures.emits (refl, refl)
 
 pub returns-clause-fine : goal.returns-clause-fine
-returns-clause-fine g c = replies_after _ _ _ _ c.loop-count.invariant.fine c.emit-2.ensures.emits refl
+returns-clause-fine g c = replies_after _ _ _ _ c.loop-count.invariant.fine c.emit-2.ensures.emits (refl, refl)

@@ -23,35 +23,35 @@ use Rattle.dtm_node.proofs.Calling.{replies_two}
 use Rattle.dtm_node.proofs.running.Running.take_back.Goals as goal
 
 pub returns-in-Err-clause-serves : goal.returns-in-Err-clause-serves
-returns-in-Err-clause-serves g c = λ labels l log w h made own.
+returns-in-Err-clause-serves g c = λ shared l log m h made own.
     let p = the_branch (up_of c.args.self.now).branch (serial_of c.args.serial.now) own in
     let r : Result (Unit {0}) Down = Err c.in-Err.down in
-    abort_unread r c.in-Err.down log w _ (up_of c.args.self.now) labels h c.requires.up c.the_laws.ensures l c.args.serial.now p.0 c.undo.new.self.volume _ p.1 p.2 made refl c.in-Err.ensures.down
+    abort_unread r c.in-Err.down log _ _ _ (up_of c.args.self.now) h c.requires.up c.the_laws.ensures l c.args.serial.now p.0 c.undo.new.self.volume _ p.1 p.2 made refl c.in-Err.ensures.down
 
 pub returns-in-Err-settle-clause-serves : goal.returns-in-Err-settle-clause-serves
-returns-in-Err-settle-clause-serves g c = λ labels l log w h made own.
+returns-in-Err-settle-clause-serves g c = λ shared l log m h made own.
     let p = the_branch (up_of c.args.self.now).branch (serial_of c.args.serial.now) own in
     let t = at_some (λ (b : Unsettled). Undone b.notes c.args.self.now.volume c.undo.new.self.volume) (up_of c.args.self.now).branch p.0 p.1 c.in-Ok.ensures.out in
     let disk = undone_disk _ (up_of c.args.self.now) p.0.notes p.0.notes [] c.undo.new.self.volume c.requires.up t in
     let wr = c.settle.ensures.writes in
-    abort_broken _ (up_of c.args.self.now) c.args.serial.now c.the_laws.ensures c.requires.up c.requires.greatest p.0 p.1 c.undo.new.self.volume t log w labels h l made p.2 c.settle.result c.in-Err-settle.down c.settle.new.self.volume _ _ c.in-Err-settle.is wr
+    abort_broken _ (up_of c.args.self.now) c.args.serial.now c.the_laws.ensures c.requires.up c.requires.greatest p.0 p.1 c.undo.new.self.volume t log _ _ h l made p.2 c.settle.result c.in-Err-settle.down c.settle.new.self.volume _ _ c.in-Err-settle.is wr
     (subst (λ (d : DiskState). Uses c.settle.result d c.settle.new.self.volume.store.disk) disk (uses_counts c.settle.result _ _ wr.counts wr.ready))
 
 pub returns-in-Ok-settle-clause-serves : goal.returns-in-Ok-settle-clause-serves
-returns-in-Ok-settle-clause-serves g c = λ labels l log w h made own.
+returns-in-Ok-settle-clause-serves g c = λ shared l log m h made own.
     let p = the_branch (up_of c.args.self.now).branch (serial_of c.args.serial.now) own in
     let t = at_some (λ (b : Unsettled). Undone b.notes c.args.self.now.volume c.undo.new.self.volume) (up_of c.args.self.now).branch p.0 p.1 c.in-Ok.ensures.out in
     let disk = undone_disk _ (up_of c.args.self.now) p.0.notes p.0.notes [] c.undo.new.self.volume c.requires.up t in
     let wr = c.settle.ensures.writes in
     let moment = c.in-Ok-settle.ensures.moment ∙ ap (λ (k : Catalog). k.home.greatest_moment.0 + 1) t.catalog in
-    renamed _ _ _ _ _ _ _ _ _ (ap (λ (v : Catalog). v.home.node) (sym t.catalog) ∙ ap (λ (v : Catalog). v.home.node) (sym wr.catalog))
-    (abort_done _ (up_of c.args.self.now) c.args.serial.now c.the_laws.ensures c.requires.up c.requires.greatest p.0 p.1 c.undo.new.self.volume t log w labels h l made p.2 c.settle.result c.in-Ok-settle.moment (up_of c.settle.new.self) _ _ _ _ c.in-Ok-settle.is wr
+    renamed _ _ _ _ _ _ _ _ _ _ _ (ap (λ (v : Catalog). v.home.node) (sym t.catalog) ∙ ap (λ (v : Catalog). v.home.node) (sym wr.catalog))
+    (abort_done _ (up_of c.args.self.now) c.args.serial.now c.the_laws.ensures c.requires.up c.requires.greatest p.0 p.1 c.undo.new.self.volume t log _ _ h l made p.2 c.settle.result c.in-Ok-settle.moment (up_of c.settle.new.self) _ _ _ _ c.in-Ok-settle.is wr
     (subst (λ (d : DiskState). Uses c.settle.result d c.settle.new.self.volume.store.disk) disk (uses_counts c.settle.result _ _ wr.counts wr.ready)).goes
     (c.settle.ensures.drawn ∙ ap (λ (u : Up). u.drawn) c.undo.ensures.same) (none_unsettled (notes_in c.settle.new.self.buffers.undo) c.settle.new.self.branch c.in-Ok-settle.ensures.branch)
     (subst (λ m. Emits (g.E.Emit.shows c.args.out.now) (line.Aborted (serial_of c.args.serial.now) (serial_of c.args.serial.now) Aborted m ∷ []) (g.E.Emit.shows c.emit.new.self)) moment c.emit.ensures.emits) c.emit-in-Ok-settle.ensures.emits)
 
 pub returns-in-Ok-settle-clause-fine : goal.returns-in-Ok-settle-clause-fine
-returns-in-Ok-settle-clause-fine g c = replies_two _ _ _ _ _ c.emit.ensures.emits c.emit-in-Ok-settle.ensures.emits refl refl
+returns-in-Ok-settle-clause-fine g c = replies_two _ _ _ _ _ c.emit.ensures.emits c.emit-in-Ok-settle.ensures.emits refl (refl, refl)
 
 -- the unsettled branch, and what it changed is undone
 undone_here : (o : Option Unsettled) (old mid : VolumeState) → IsSome o → IfSome o (λ (b : Unsettled). Undone b.notes old mid) → IfSome o (λ (b : Unsettled). length b.notes ≤ 16) → (b : Unsettled) × (o ≡ Some b) × Undone b.notes old mid × (length b.notes ≤ 16)

@@ -1,0 +1,52 @@
+// What a line wants where another word stands.
+use std::fmt::{self, Display, Formatter, Write};
+
+/// What can stand at a place of a line. Shown, it is a phrase for a reader of the line.
+#[derive(Clone, Copy, Debug, PartialEq, Eq, Drop)]
+pub enum Wanted {
+    /// The word that begins a statement.
+    First,
+    /// The word that tells a statement to a node from others.
+    Verb,
+    Node,
+    Label,
+    File,
+    Organization,
+    Setting,
+    /// A number of 32 bits.
+    Number,
+    /// A number of 64 bits.
+    LongNumber,
+    Bytes,
+    /// A number, or bytes.
+    Key,
+    /// No word at all.
+    End,
+}
+
+impl Wanted {
+    fn phrase(&self) -> &'static str {
+        match self {
+            Wanted::First => "a node and a colon in one word, as A:, or FUSE or CRASH",
+            Wanted::Verb =>
+                "a verb: INIT, BOOT, CREATE, SET_FILE, START_TRANS, PUT, UPDATE, DELETE, TRUNCATE, GET, NEXT, END_TRANS, ABORT_TRANS or DUMP",
+            Wanted::Node => "a node: 1 to 6 letters and digits, a letter first",
+            Wanted::Label => "a label: 1 to 15 letters, digits and _, a letter first",
+            Wanted::File => "a file: 1 to 39 letters, digits, _, $ and ., a letter first",
+            Wanted::Organization => "an organization: SEQ, REL or IDX",
+            Wanted::Setting => "a setting: RU or NORU",
+            Wanted::Number => "a number from 0 to 4294967295",
+            Wanted::LongNumber => "a number from 0 to 18446744073709551615",
+            Wanted::Bytes => "bytes: \"text\" in quotes, or %X and pairs of hexadecimal digits",
+            Wanted::Key =>
+                "a number from 0 to 4294967295, or bytes: \"text\" in quotes, or %X and pairs of hexadecimal digits",
+            Wanted::End => "the end of the line",
+        }
+    }
+}
+
+impl Display for Wanted {
+    fn fmt<W: Write>(&self, f: &mut Formatter<W>) -> fmt::Result {
+        f.write_str(self.phrase())
+    }
+}
