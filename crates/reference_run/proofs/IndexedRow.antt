@@ -1,5 +1,5 @@
 -- What a script shows that puts records into an indexed file, and undoes changes of it.
-use Rattle.std.proofs.Common.{◌≡◌, refl, List, [], ◌∷◌, ◌++◌, Option, Some, None, codes, ℕ, ap, ◌∙◌, true, false}
+use Rattle.std.proofs.Common.{false, ◌≡◌, refl, List, [], ◌∷◌, ◌++◌, Option, Some, None, codes, ℕ, ap, ◌∙◌, true}
 use Rattle.std.specs.Prelude.{replicate}
 use Rattle.std.specs.FinMap.{empty, entries, insert, get-empty, get-insert, get-remove, entries-insert}
 use Rattle.std.specs.FinMap.Entries.{put}
@@ -12,15 +12,14 @@ use Rattle.records_model.specs.History.{SettledChanges, LiveChanges}
 use Rattle.records_model.proofs.KeyLemmas.{key_cmp_total}
 use Rattle.transcript_model.specs.Lines as line
 use Rattle.script_model.specs.Statements as said
-use Rattle.run_model.specs.World.{World, File, Branch, Label, Settlement, Indexed, Sound, Power}
-use Rattle.run_model.specs.Steps.{effect, Whole}
+use Rattle.run_model.specs.World.{World, File, Branch, Label, Settlement, Indexed, nothing_carried, Sound, Power}
 use Rattle.run_model.specs.Transcript.{Entry, Done, text_of}
-use Rattle.reference_run.specs.Whole.{run_from}
+use Rattle.reference_run.specs.Whole.{run_from, shown_whole}
 use Rattle.reference_run.specs.Rows.{fed, larger_disk, base_shown, IndexedFileIsRestored}
 use Rattle.reference_run.proofs.DigitLemmas.{digit_1, digit_2, digit_3, digit_4, digit_5, digit_6, digit_7, digit_8, digit_9, ten, eleven, twelve, thirteen, fourteen, fifteen, sixteen, seventeen, eighteen, first_moment, second_moment}
 use Rattle.reference_world.proofs.EntryLemmas.{one_entry}
 use Rattle.reference_run.proofs.RunLemmas.{says, told}
-use Rattle.reference_run.proofs.RowLemmas.{told_first, first_id, first_label, file_at, line_said, rest, done}
+use Rattle.reference_run.proofs.RowLemmas.{told_first, first_id, first_label, file_at, units, line_said, rest, done}
 
 abbrev second_id : Id
 second_id = record { node = codes "A"; boot = 1; seq = 2 }
@@ -33,10 +32,10 @@ index_file done live slots = record {
   organization = Indexed 0 2;
   start = 715;
   buckets = 20;
-  others = [];
+  carried = nothing_carried;
   recovery_units = true;
   history = record { base = empty; moment = 0; settled = done; live = live };
-  chain = slots ∷ [];
+  layout = record { chain = slots ∷ [] };
 }
 
 abbrev world_idx : (greatest : ℕ) → Option Settlement → (drawn : ℕ) → List Branch → List Settlement → List Label → List SettledChanges → List LiveChanges → List Slot → World
@@ -45,11 +44,13 @@ world_idx greatest last drawn branches ended labels done live slots = record {
     name = codes "A";
     blocks = larger_disk;
     volume = Sound;
+    unmade = false;
     slots = 64;
     journal = 64;
     boot = 1;
     greatest = greatest;
     last = last;
+    units = units;
     directory = Some (file_at [] []) ∷ Some (index_file done live slots) ∷ replicate 62 None;
     up = true;
     was_up = true;
@@ -61,8 +62,7 @@ world_idx greatest last drawn branches ended labels done live slots = record {
     under_way = None;
   } ∷ [];
   disks = record { faults = 0; stops = 0 } ∷ [];
-  labels = labels;
-  in_use = true;
+  shared = record { labels = labels; in_use = true };
 }
 
 abbrev set_at : List ℕ → Option (List ℕ) → Option (List ℕ) → Change
@@ -98,7 +98,7 @@ first_done = record { serial = first_id; outcome = settled.Commit; moment = 1; c
 
 -- behind the second one
 abbrev labels : List Label
-labels = record { name = codes "U"; node = codes "A"; serial = second_id } ∷ first_label ∷ []
+labels = record { name = codes "U"; node = codes "A"; tid = second_id; bid = None; serial = Some second_id } ∷ first_label ∷ []
 
 abbrev second_world : ℕ → List LiveChanges → List Slot → World
 second_world changes live slots = world_idx 1 (Some first_end) 2 (record { tid = second_id; serial = second_id; changes = changes } ∷ []) (first_end ∷ []) labels (first_done ∷ []) live slots
@@ -125,19 +125,19 @@ two_entries = entries-insert key_cmp_total _ (Text (codes "aa")) (codes "aa2") �
 
 -- The statements that look at the records.
 
-puts_bb : effect (first_world 0 [] []) (asks (codes "T") (said.Put None (codes "bb1"))) (Whole false) ≡ record { lines = line.RecordNormal ∷ []; world = first_world 1 (live_of first_id put_bb) (slot_bb ∷ []) }
+puts_bb : shown_whole (first_world 0 [] []) (asks (codes "T") (said.Put None (codes "bb1"))) ≡ record { lines = line.RecordNormal ∷ []; world = first_world 1 (live_of first_id put_bb) (slot_bb ∷ []) }
 puts_bb = rw (get-empty, get-empty) refl
 
-puts_aa : effect (first_world 1 (live_of first_id put_bb) (slot_bb ∷ [])) (asks (codes "T") (said.Put None (codes "aa2"))) (Whole false) ≡ record { lines = line.RecordNormal ∷ []; world = first_world 2 (live_of first_id put_aa) (slot_aa ∷ slot_bb ∷ []) }
+puts_aa : shown_whole (first_world 1 (live_of first_id put_bb) (slot_bb ∷ [])) (asks (codes "T") (said.Put None (codes "aa2"))) ≡ record { lines = line.RecordNormal ∷ []; world = first_world 2 (live_of first_id put_aa) (slot_aa ∷ slot_bb ∷ []) }
 puts_aa = rw (get-insert key_cmp_total, get-empty, get-insert key_cmp_total, get-empty) refl
 
 abbrev both_put : World
 both_put = first_world 2 (live_of first_id put_aa) (slot_aa ∷ slot_bb ∷ [])
 
-is_there : effect both_put (asks (codes "T") (said.Put None (codes "aa9"))) (Whole false) ≡ record { lines = line.KeyExists ∷ []; world = both_put }
+is_there : shown_whole both_put (asks (codes "T") (said.Put None (codes "aa9"))) ≡ record { lines = line.KeyExists ∷ []; world = both_put }
 is_there = rw (get-insert key_cmp_total) refl
 
-keeps_key : effect both_put (asks (codes "T") (said.Update (Text (codes "aa")) (codes "ab2"))) (Whole false) ≡ record { lines = line.KeyChanged ∷ []; world = both_put }
+keeps_key : shown_whole both_put (asks (codes "T") (said.Update (Text (codes "aa")) (codes "ab2"))) ≡ record { lines = line.KeyChanged ∷ []; world = both_put }
 keeps_key = rw (get-insert key_cmp_total) refl
 
 abbrev begun_again : World
@@ -146,16 +146,16 @@ begun_again = second_world 0 [] (slot_aa ∷ slot_bb ∷ [])
 abbrev without_aa : World
 without_aa = second_world 1 (live_of second_id gone_aa) (slot_at (codes "aa") None ∷ slot_bb ∷ [])
 
-deletes_aa : effect begun_again (asks (codes "U") (said.Delete (Text (codes "aa")))) (Whole false) ≡ record { lines = line.RecordNormal ∷ []; world = without_aa }
+deletes_aa : shown_whole begun_again (asks (codes "U") (said.Delete (Text (codes "aa")))) ≡ record { lines = line.RecordNormal ∷ []; world = without_aa }
 deletes_aa = rw (get-insert key_cmp_total, get-insert key_cmp_total) refl
 
 abbrev with_ab : World
 with_ab = second_world 2 (live_of second_id put_ab) (slot_at (codes "aa") None ∷ slot_at (codes "ab") (Some (codes "ab3")) ∷ slot_bb ∷ [])
 
-puts_ab : effect without_aa (asks (codes "U") (said.Put None (codes "ab3"))) (Whole false) ≡ record { lines = line.RecordNormal ∷ []; world = with_ab }
+puts_ab : shown_whole without_aa (asks (codes "U") (said.Put None (codes "ab3"))) ≡ record { lines = line.RecordNormal ∷ []; world = with_ab }
 puts_ab = rw (get-remove key_cmp_total, get-insert key_cmp_total, get-insert key_cmp_total, get-empty, get-remove key_cmp_total, get-insert key_cmp_total, get-insert key_cmp_total, get-empty) refl
 
-dumps_both : effect last_world (said.At (codes "A") (said.Dump (codes "I"))) (Whole false)
+dumps_both : shown_whole last_world (said.At (codes "A") (said.Dump (codes "I")))
     ≡ record { lines = line.Record (Text (codes "aa")) (codes "aa2") ∷ line.Record (Text (codes "bb")) (codes "bb1") ∷ line.NormalCount 2 ∷ []; world = last_world }
 dumps_both = rw two_entries refl
 

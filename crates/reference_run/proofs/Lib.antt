@@ -1,5 +1,7 @@
 pub mod DigitLemmas
 pub mod RunLemmas
+pub mod RunsLemmas
+pub mod ServeLemmas
 pub mod TurnLemmas
 pub mod ScriptLemmas
 pub mod RowLemmas

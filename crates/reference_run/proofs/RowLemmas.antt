@@ -1,5 +1,5 @@
 -- What single scripts show.
-use Rattle.std.proofs.Common.{◌≡◌, refl, List, [], ◌∷◌, ◌++◌, Option, Some, None, codes, ℕ, ap, ◌∙◌, true, false}
+use Rattle.std.proofs.Common.{false, ◌≡◌, refl, List, [], ◌∷◌, ◌++◌, Option, Some, None, codes, ℕ, ap, ◌∙◌, true}
 use Rattle.std.specs.Prelude.{replicate}
 use Rattle.std.specs.FinMap.{empty, get-empty, get-insert}
 use Rattle.vms_model.specs.Ids.{Id}
@@ -12,10 +12,10 @@ use Rattle.transcript_model.specs.Lines as line
 use Rattle.transcript_model.specs.Lines.{lines_text}
 use Rattle.transcript_model.specs.Script.{ScriptLine, lines_of}
 use Rattle.script_model.specs.Statements as said
-use Rattle.run_model.specs.World.{World, File, Branch, Label, Settlement, Relative, Indexed, Sound, Power}
-use Rattle.run_model.specs.Steps.{effect, Whole}
+use Rattle.records_model.specs.Layout.{no_layout, first_layout}
+use Rattle.run_model.specs.World.{World, File, Branch, Label, Settlement, Relative, Indexed, JournalSpan, nothing_carried, Sound, Power}
 use Rattle.run_model.specs.Transcript.{Entry, Done, BadLine, text_of}
-use Rattle.reference_run.specs.Whole.{Ended, run_of, run_from}
+use Rattle.reference_run.specs.Whole.{Ended, run_of, run_from, shown_whole}
 use Rattle.reference_run.specs.Rows.{fed, disk_size, base_script, base_shown, CommittedRecordIsShown, AbortedRecordIsGone, UnsettledRecordStands, ZerosAreNoVolume, BootBehindCrashTellsLast, OpenQuoteIsBad, FileIsFull}
 use Rattle.reference_run.proofs.DigitLemmas.{digit_0, digit_1, digit_2, digit_3, digit_4, digit_5, digit_6, digit_7, digit_8, digit_9, fourteen, block_518, first_moment}
 use Rattle.reference_world.proofs.EntryLemmas.{no_entries, one_entry}
@@ -34,7 +34,11 @@ abbrev pub first_branch : ℕ → Branch
 first_branch changes = record { tid = first_id; serial = first_id; changes = changes }
 
 abbrev pub first_label : Label
-first_label = record { name = codes "T"; node = codes "A"; serial = first_id }
+first_label = record { name = codes "T"; node = codes "A"; tid = first_id; bid = None; serial = Some first_id }
+
+-- the journal of recovery units behind 64 log slots
+abbrev pub units : JournalSpan
+units = record { start = 648; blocks = 64; first = 0; end = 0 }
 
 -- the file F
 abbrev pub file_at : List SettledChanges → List LiveChanges → File
@@ -45,10 +49,10 @@ file_at done live = record {
   organization = Relative 10;
   start = 712;
   buckets = 3;
-  others = [];
+  carried = nothing_carried;
   recovery_units = true;
   history = record { base = empty; moment = 0; settled = done; live = live };
-  chain = [];
+  layout = no_layout;
 }
 
 -- the world behind the base, in which one id was drawn
@@ -58,11 +62,13 @@ world_at greatest last settled branches done live = record {
     name = codes "A";
     blocks = disk_size;
     volume = Sound;
+    unmade = false;
     slots = 64;
     journal = 64;
     boot = 1;
     greatest = greatest;
     last = last;
+    units = units;
     directory = Some (file_at done live) ∷ replicate 63 None;
     up = true;
     was_up = true;
@@ -74,8 +80,7 @@ world_at greatest last settled branches done live = record {
     under_way = None;
   } ∷ [];
   disks = record { faults = 0; stops = 0 } ∷ [];
-  labels = first_label ∷ [];
-  in_use = true;
+  shared = record { labels = first_label ∷ []; in_use = true };
 }
 
 -- this record is put at this number
@@ -117,10 +122,10 @@ rest texts = lines_of (fed texts)
 abbrev pub done : List Entry → Ended
 done es = record { exit = Done; text = text_of es }
 
-puts_a : effect begun (put_said 1 (codes "a")) (Whole false) ≡ record { lines = line.RecordNormal ∷ []; world = put 1 (codes "a") }
+puts_a : shown_whole begun (put_said 1 (codes "a")) ≡ record { lines = line.RecordNormal ∷ []; world = put 1 (codes "a") }
 puts_a = rw (get-empty, get-empty) refl
 
-puts_j : effect begun (put_said 10 (codes "j")) (Whole false) ≡ record { lines = line.RecordNormal ∷ []; world = put 10 (codes "j") }
+puts_j : shown_whole begun (put_said 10 (codes "j")) ≡ record { lines = line.RecordNormal ∷ []; world = put 10 (codes "j") }
 puts_j = rw (get-empty, get-empty) refl
 
 abbrev told_put : List Entry
@@ -137,7 +142,7 @@ runs_to_put more = says begun told_begun (line_said (codes "A: PUT T F 1 \"a\"")
 abbrev committed : World
 committed = settled_as settled.Commit None
 
-dumps_record : effect committed dump_said (Whole false) ≡ record { lines = line.Record (Number 1) (codes "a") ∷ line.NormalCount 1 ∷ []; world = committed }
+dumps_record : shown_whole committed dump_said ≡ record { lines = line.Record (Number 1) (codes "a") ∷ line.NormalCount 1 ∷ []; world = committed }
 dumps_record = rw one_entry refl
 
 abbrev told_committed : List Entry
@@ -160,7 +165,7 @@ committed_record_is_shown = runs_to_put (rest (codes "A: END_TRANS T" ∷ codes 
 abbrev undone : World
 undone = settled_as settled.Abort (Some settled.Aborted)
 
-dumps_nothing : effect undone dump_said (Whole false) ≡ record { lines = line.NormalCount 0 ∷ []; world = undone }
+dumps_nothing : shown_whole undone dump_said ≡ record { lines = line.NormalCount 0 ∷ []; world = undone }
 dumps_nothing = rw no_entries refl
 
 abbrev told_aborted : List Entry
@@ -183,7 +188,7 @@ aborted_record_is_gone = runs_to_put (rest (codes "A: ABORT_TRANS T" ∷ codes "
 
 -- A record that is not settled.
 
-exists_already : effect (put 10 (codes "j")) (put_said 10 (codes "k")) (Whole false) ≡ record { lines = line.RecordExists ∷ []; world = put 10 (codes "j") }
+exists_already : shown_whole (put 10 (codes "j")) (put_said 10 (codes "k")) ≡ record { lines = line.RecordExists ∷ []; world = put 10 (codes "j") }
 exists_already = rw (get-insert key_cmp_total) refl
 
 abbrev told_exists : List Entry
@@ -248,10 +253,10 @@ small_file = record {
   organization = Indexed 0 2;
   start = 715;
   buckets = 2;
-  others = [];
+  carried = nothing_carried;
   recovery_units = true;
   history = record { base = empty; moment = 0; settled = []; live = [] };
-  chain = [] ∷ [];
+  layout = first_layout;
 }
 
 abbrev with_small : World
@@ -260,11 +265,13 @@ with_small = record {
     name = codes "A";
     blocks = disk_size;
     volume = Sound;
+    unmade = false;
     slots = 64;
     journal = 64;
     boot = 1;
     greatest = 0;
     last = None;
+    units = units;
     directory = Some (file_at [] []) ∷ Some small_file ∷ replicate 62 None;
     up = true;
     was_up = true;
@@ -276,8 +283,7 @@ with_small = record {
     under_way = None;
   } ∷ [];
   disks = record { faults = 0; stops = 0 } ∷ [];
-  labels = first_label ∷ [];
-  in_use = true;
+  shared = record { labels = first_label ∷ []; in_use = true };
 }
 
 abbrev told_small : List Entry
@@ -287,7 +293,7 @@ told_small = told (codes "A: START_TRANS T") (line.NormalId first_id ∷ []) (to
 abbrev put_small : said.Statement
 put_small = said.At (codes "A") (said.Records (codes "T") (codes "I") (said.Put None (codes "aa")))
 
-is_full : effect with_small put_small (Whole false) ≡ record { lines = line.FileFull 1 3 ∷ []; world = with_small }
+is_full : shown_whole with_small put_small ≡ record { lines = line.FileFull 1 3 ∷ []; world = with_small }
 is_full = rw get-empty refl
 
 abbrev told_full : List Entry

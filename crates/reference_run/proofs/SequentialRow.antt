@@ -1,5 +1,5 @@
 -- What a script shows that puts records into a sequential file and truncates it.
-use Rattle.std.proofs.Common.{◌≡◌, refl, sym, List, [], ◌∷◌, ◌++◌, Option, Some, None, codes, ℕ, ap, ◌∙◌, true, false}
+use Rattle.std.proofs.Common.{false, ◌≡◌, refl, sym, List, [], ◌∷◌, ◌++◌, Option, Some, None, codes, ℕ, ap, ◌∙◌, true}
 use Rattle.std.specs.Prelude.{replicate, map, length, drop, ◌+◌, ◌-◌, ◌||◌, nat_lt, nat_le, if◌then◌else◌}
 use Rattle.std.specs.FinMap.{empty, entries, insert, remove, get, get-empty, get-insert, get-remove, entries-insert}
 use Rattle.std.specs.FinMap.Entries.{put, where_key}
@@ -12,20 +12,22 @@ use Rattle.records_model.proofs.KeyLemmas.{key_cmp_total}
 use Rattle.transcript_model.specs.Lines as line
 use Rattle.transcript_model.specs.Lines.{Line}
 use Rattle.script_model.specs.Statements as said
-use Rattle.run_model.specs.World.{World, File, Branch, Label, Settlement, Sequential, Sound, Power, Changes, acts}
+use Rattle.records_model.specs.Layout.{no_layout}
+use Rattle.run_model.specs.World.{World, Node, File, Branch, Label, Settlement, Sequential, nothing_carried, Sound, Power, Changes, acted}
 use Rattle.records_model.specs.Placing.{Filled, filled_by, first_bucket}
 use Rattle.run_model.specs.Operations.{first_of, refused_if, removed}
 use Rattle.run_model.specs.Answers.{change_act}
-use Rattle.run_model.specs.Steps.{Effect, effect, Whole, begun, occupied, after_act}
+use Rattle.run_model.specs.Steps.{begun, node_after, occupied, shared_then}
+use Rattle.run_model.specs.Statements.{put_into}
 use Rattle.run_model.specs.Transcript.{Entry, Done, text_of}
-use Rattle.reference_run.specs.Whole.{run_from}
+use Rattle.reference_run.specs.Whole.{StatementShown, run_from, shown_whole, then_shown}
 use Rattle.reference_run.specs.Rows.{fed, disk_size, base_shown, SequentialFileIsTruncated}
 use Rattle.reference_run.proofs.DigitLemmas.{digit_1, digit_2, digit_3, digit_4, digit_5, digit_6, digit_7, digit_8, digit_9, ten, eleven, twelve, thirteen, fourteen, fifteen, sixteen, seventeen, first_moment, second_moment}
 use Rattle.reference_world.proofs.EntryLemmas.{no_entries, one_entry}
 use Rattle.reference_world.proofs.ChangeLemmas.{entries_removed}
 use Rattle.reference_world.specs.Lists.{is_other}
 use Rattle.reference_run.proofs.RunLemmas.{says, told}
-use Rattle.reference_run.proofs.RowLemmas.{told_first, first_id, first_label, file_at, line_said, rest, done, settlement}
+use Rattle.reference_run.proofs.RowLemmas.{told_first, first_id, first_label, file_at, units, line_said, rest, done, settlement}
 
 abbrev second_id : Id
 second_id = record { node = codes "A"; boot = 1; seq = 2 }
@@ -38,45 +40,48 @@ seq_file done live = record {
   organization = Sequential;
   start = 715;
   buckets = 4;
-  others = [];
+  carried = nothing_carried;
   recovery_units = true;
   history = record { base = empty; moment = 0; settled = done; live = live };
-  chain = [];
+  layout = no_layout;
 }
 
-abbrev world_seq : (greatest : ℕ) → Option Settlement → (drawn : ℕ) → List Branch → List Settlement → List Label → List SettledChanges → List LiveChanges → World
-world_seq greatest last drawn branches ended labels done live = record {
-  nodes = record {
-    name = codes "A";
-    blocks = disk_size;
-    volume = Sound;
-    slots = 64;
-    journal = 64;
-    boot = 1;
-    greatest = greatest;
-    last = last;
-    directory = Some (file_at [] []) ∷ Some (seq_file done live) ∷ replicate 62 None;
-    up = true;
-    was_up = true;
-    clock = 0;
-    drawn = drawn;
-    branches = branches;
-    settled = ended;
-    calls = Power 0 ∷ Power 0 ∷ [];
-    under_way = None;
-  } ∷ [];
-  disks = record { faults = 0; stops = 0 } ∷ [];
-  labels = labels;
-  in_use = true;
+abbrev node_seq : (greatest : ℕ) → Option Settlement → (drawn : ℕ) → List Branch → List Settlement → List SettledChanges → List LiveChanges → Node
+node_seq greatest last drawn branches ended done live = record {
+  name = codes "A";
+  blocks = disk_size;
+  volume = Sound;
+  unmade = false;
+  slots = 64;
+  journal = 64;
+  boot = 1;
+  greatest = greatest;
+  last = last;
+  units = units;
+  directory = Some (file_at [] []) ∷ Some (seq_file done live) ∷ replicate 62 None;
+  up = true;
+  was_up = true;
+  clock = 0;
+  drawn = drawn;
+  branches = branches;
+  settled = ended;
+  calls = Power 0 ∷ Power 0 ∷ [];
+  under_way = None;
 }
+
+abbrev world_seq : Node → List Label → World
+world_seq n labels = record { nodes = n ∷ []; disks = record { faults = 0; stops = 0 } ∷ []; shared = record { labels = labels; in_use = true } }
 
 -- at the first position
 abbrev set_first : Option (List ℕ) → Option (List ℕ) → Change
 set_first before after = record { key = Number 1; before = before; after = after }
 
 -- behind the first START_TRANS, and with changes of its branch
+abbrev first_node : ℕ → List LiveChanges → Node
+first_node changes live = node_seq 0 None 1 (record { tid = first_id; serial = first_id; changes = changes } ∷ []) [] [] live
+
 abbrev first_world : ℕ → List LiveChanges → World
-first_world changes live = world_seq 0 None 1 (record { tid = first_id; serial = first_id; changes = changes } ∷ []) [] (first_label ∷ []) [] live
+first_world changes live = world_seq (first_node changes live) (first_label ∷ [])
 
 abbrev first_changes : List Change
 first_changes = set_first None (Some (codes "x")) ∷ []
@@ -88,9 +93,14 @@ abbrev first_done : SettledChanges
 first_done = record { serial = first_id; outcome = settled.Abort; moment = 1; changes = first_changes }
 
 -- behind the second one
+abbrev second_node : ℕ → List LiveChanges → Node
+second_node changes live = node_seq 1 (Some first_end) 2 (record { tid = second_id; serial = second_id; changes = changes } ∷ []) (first_end ∷ []) (first_done ∷ []) live
+
+abbrev both_labels : List Label
+both_labels = record { name = codes "U"; node = codes "A"; tid = second_id; bid = None; serial = Some second_id } ∷ first_label ∷ []
+
 abbrev second_world : ℕ → List LiveChanges → World
-second_world changes live = world_seq 1 (Some first_end) 2 (record { tid = second_id; serial = second_id; changes = changes } ∷ []) (first_end ∷ [])
-    (record { name = codes "U"; node = codes "A"; serial = second_id } ∷ first_label ∷ []) (first_done ∷ []) live
+second_world changes live = world_seq (second_node changes live) both_labels
 
 abbrev live_second : List Change → List LiveChanges
 live_second cs = record { serial = second_id; changes = cs } ∷ []
@@ -109,11 +119,13 @@ second_end = record { tid = second_id; serial = second_id; outcome = settled.Com
 
 -- behind its end
 abbrev last_world : World
-last_world = world_seq 2 (Some second_end) 2 [] (second_end ∷ first_end ∷ []) (record { name = codes "U"; node = codes "A"; serial = second_id } ∷ first_label ∷ [])
-    (record { serial = second_id; outcome = settled.Commit; moment = 2; changes = put_w } ∷ first_done ∷ []) []
+last_world = world_seq (node_seq 2 (Some second_end) 2 [] (second_end ∷ first_end ∷ []) (record { serial = second_id; outcome = settled.Commit; moment = 2; changes = put_w } ∷ first_done ∷ []) []) both_labels
+
+abbrev of_file : List ℕ → said.Operation → said.Request
+of_file label op = said.Records label (codes "S") op
 
 abbrev asks : List ℕ → said.Operation → said.Statement
-asks label op = said.At (codes "A") (said.Records label (codes "S") op)
+asks label op = said.At (codes "A") (of_file label op)
 
 -- The maps that come up.
 
@@ -142,32 +154,46 @@ abbrev cut_by : List (Key × List ℕ) → Option Line
 cut_by es = first_of (refused_if (nat_lt 1 1 || nat_lt (length es) 1) line.RecordNotFound)
     (first_of (refused_if (nat_lt 16 (1 + length (map removed (drop (1 - 1) es)))) (line.QuotaExceeded line.Changes 16)) (full_by 0 es))
 
-abbrev put_into : World → Id → List ℕ → Records → List (Key × List ℕ) → said.Statement → Effect
-put_into w serial bytes m es s = record {
+-- what a request at the node of a world shows and makes, once this refuses it or nothing does
+abbrev shown_by : World → Node → said.Request → Option Line → StatementShown
+shown_by w n q refusal = let e = put_into w (codes "A") (begun w.shared n q refusal) in then_shown e (record { lines = e.answer ∷ []; world = e.world })
+
+abbrev after_put : World → Node → Id → List ℕ → Records → List (Key × List ℕ) → StatementShown
+after_put w n serial bytes m es = record {
   lines = line.RecordPosition (length es + 1) ∷ [];
-  world = occupied s (acts (codes "A") (Changes serial (codes "S") (record { key = Number (length es + 1); before = get m (Number (length es + 1)); after = Some bytes } ∷ [])) w);
+  world = record w { nodes = acted (Changes serial (codes "S") (record { key = Number (length es + 1); before = get m (Number (length es + 1)); after = Some bytes } ∷ [])) n ∷ [] };
 }
 
-puts_x : effect (first_world 0 []) (asks (codes "T") (said.Put None (codes "x"))) (Whole false) ≡ record { lines = line.RecordPosition 1 ∷ []; world = first_world 1 (record { serial = first_id; changes = first_changes } ∷ []) }
-puts_x = let s = asks (codes "T") (said.Put None (codes "x")) in ap (begun (first_world 0 []) s) (ap (λ es. full_by (one_wanted (codes "x") es) es) (no_entries key_cmp))
-    ∙ ap (λ es. put_into (first_world 0 []) first_id (codes "x") empty es s) (no_entries key_cmp) ∙ rw get-empty refl
+abbrev after_cut : World → Node → List (Key × List ℕ) → StatementShown
+after_cut w n es =
+    let act = change_act second_id (codes "S") (map removed (drop (1 - 1) es)) in
+    record { lines = line.RecordNormal ∷ []; world = record w { nodes = node_after act n ∷ []; shared = occupied (of_file (codes "U") (said.Truncate 1)) (shared_then act w.shared) } }
 
-puts_y : effect (second_world 0 []) (asks (codes "U") (said.Put None (codes "y"))) (Whole false) ≡ record { lines = line.RecordPosition 1 ∷ []; world = second_world 1 (live_second put_y) }
-puts_y = let s = asks (codes "U") (said.Put None (codes "y")) in ap (begun (second_world 0 []) s) (ap (λ es. full_by (one_wanted (codes "y") es) es) (no_entries key_cmp))
-    ∙ ap (λ es. put_into (second_world 0 []) second_id (codes "y") empty es s) (no_entries key_cmp) ∙ rw get-empty refl
+puts_x : shown_whole (first_world 0 []) (asks (codes "T") (said.Put None (codes "x"))) ≡ record { lines = line.RecordPosition 1 ∷ []; world = first_world 1 (record { serial = first_id; changes = first_changes } ∷ []) }
+puts_x = ap (shown_by (first_world 0 []) (first_node 0 []) (of_file (codes "T") (said.Put None (codes "x")))) (ap (λ es. full_by (one_wanted (codes "x") es) es) (no_entries key_cmp))
+    ∙ ap (after_put (first_world 0 []) (first_node 0 []) first_id (codes "x") empty) (no_entries key_cmp) ∙ rw get-empty refl
 
-keeps_length : effect (second_world 1 (live_second put_y)) (asks (codes "U") (said.Update (Number 1) (codes "zz"))) (Whole false) ≡ record { lines = line.BadRecordSize ∷ []; world = second_world 1 (live_second put_y) }
+puts_y : shown_whole (second_world 0 []) (asks (codes "U") (said.Put None (codes "y"))) ≡ record { lines = line.RecordPosition 1 ∷ []; world = second_world 1 (live_second put_y) }
+puts_y = ap (shown_by (second_world 0 []) (second_node 0 []) (of_file (codes "U") (said.Put None (codes "y")))) (ap (λ es. full_by (one_wanted (codes "y") es) es) (no_entries key_cmp))
+    ∙ ap (after_put (second_world 0 []) (second_node 0 []) second_id (codes "y") empty) (no_entries key_cmp) ∙ rw get-empty refl
+
+keeps_length : shown_whole (second_world 1 (live_second put_y)) (asks (codes "U") (said.Update (Number 1) (codes "zz"))) ≡ record { lines = line.BadRecordSize ∷ []; world = second_world 1 (live_second put_y) }
 keeps_length = rw (get-insert key_cmp_total) refl
 
-truncates : effect (second_world 1 (live_second put_y)) (asks (codes "U") (said.Truncate 1)) (Whole false) ≡ record { lines = line.RecordNormal ∷ []; world = second_world 2 (live_second gone_y) }
-truncates = let s = asks (codes "U") (said.Truncate 1) in ap (begun (second_world 1 (live_second put_y)) s) (ap cut_by (one_entry (Number 1) (codes "y")))
-    ∙ ap (λ es. record { lines = line.RecordNormal ∷ []; world = occupied s (after_act (codes "A") (change_act second_id (codes "S") (map removed (drop (1 - 1) es))) (second_world 1 (live_second put_y))) }) (one_entry (Number 1) (codes "y"))
+truncates : shown_whole (second_world 1 (live_second put_y)) (asks (codes "U") (said.Truncate 1)) ≡ record { lines = line.RecordNormal ∷ []; world = second_world 2 (live_second gone_y) }
+truncates =
+    let w = second_world 1 (live_second put_y) in
+    let n = second_node 1 (live_second put_y) in
+    ap (shown_by w n (of_file (codes "U") (said.Truncate 1))) (ap cut_by (one_entry (Number 1) (codes "y"))) ∙ ap (after_cut w n) (one_entry (Number 1) (codes "y"))
 
-puts_w : effect (second_world 2 (live_second gone_y)) (asks (codes "U") (said.Put None (codes "w"))) (Whole false) ≡ record { lines = line.RecordPosition 1 ∷ []; world = second_world 3 (live_second put_w) }
-puts_w = let s = asks (codes "U") (said.Put None (codes "w")) in ap (begun (second_world 2 (live_second gone_y)) s) (ap (λ es. full_by (one_wanted (codes "w") es) es) none_left)
-    ∙ ap (λ es. put_into (second_world 2 (live_second gone_y)) second_id (codes "w") (remove only_y (Number 1)) es s) none_left ∙ rw (get-remove key_cmp_total) refl
+puts_w : shown_whole (second_world 2 (live_second gone_y)) (asks (codes "U") (said.Put None (codes "w"))) ≡ record { lines = line.RecordPosition 1 ∷ []; world = second_world 3 (live_second put_w) }
+puts_w =
+    let w = second_world 2 (live_second gone_y) in
+    let n = second_node 2 (live_second gone_y) in
+    ap (shown_by w n (of_file (codes "U") (said.Put None (codes "w")))) (ap (λ es. full_by (one_wanted (codes "w") es) es) none_left)
+    ∙ ap (after_put w n second_id (codes "w") (remove only_y (Number 1))) none_left ∙ rw (get-remove key_cmp_total) refl
 
-dumps_w : effect last_world (said.At (codes "A") (said.Dump (codes "S"))) (Whole false) ≡ record { lines = line.Record (Number 1) (codes "w") ∷ line.NormalCount 1 ∷ []; world = last_world }
+dumps_w : shown_whole last_world (said.At (codes "A") (said.Dump (codes "S"))) ≡ record { lines = line.Record (Number 1) (codes "w") ∷ line.NormalCount 1 ∷ []; world = last_world }
 dumps_w = rw only_w refl
 
 -- What is told.

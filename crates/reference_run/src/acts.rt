@@ -9,21 +9,21 @@ ghost use Rattle.run_model.specs.Answers.{shown_record};
 ghost use Rattle.run_model.specs.Operations as operations;
 ghost use Rattle.run_model.specs.Steps.{lines_of_rows};
 ghost use Rattle.run_model.specs.World as world;
-ghost use Rattle.run_model.specs.World.{acts};
+ghost use Rattle.run_model.specs.World.{acted};
 ghost use Rattle.transcript_model.specs.Lines as model;
-ghost use Rattle.reference_world.specs.Standing.{own_name, id_of, changes_of, branch_of, settlement_of, history_of, organization_of, chain_of, file_of, line_of};
+ghost use Rattle.reference_world.specs.Standing.{id_of, changes_of, branch_of, settlement_of, history_of, organization_of, layout_of, file_of, line_of};
 ghost use Rattle.reference_run.specs.Operations.{asked_of};
-ghost use Rattle.reference_run.specs.Served.{node_of, world_of, last_lines_of, AreFew, RoseByOne, SameCounts, Does};
+ghost use Rattle.reference_run.specs.Served.{node_of, shared_of, last_lines_of, AreFew, RoseByOne, SameCounts, Does};
 
 use crate::asked::Asked;
 use crate::records::{changes_asked, operation_answer};
 use crate::refusals::{blocks_for, buckets_for};
 use crate::running::Running;
 use reference_world::{
-    Branch, Bucket, Change, DiskCall, File, FileChange, LabelEntry, Line, Organization, OwnId,
-    Settlement, Volume, WrittenMoment, empty_places, find_file, free_place, one, push_back,
-    push_front, records_of, rows_shown, same_id, settled_files, standing_files, take_first,
-    with_file,
+    Branch, Bucket, Change, DiskCall, File, FileChange, JournalSpan, LabelEntry, Line,
+    Organization, OwnId, Settlement, Volume, WrittenMoment, empty_places, find_file, free_place,
+    one, push_back, push_front, records_of, rows_shown, same_id, settled_files, standing_files,
+    take_first, with_file,
 };
 use script_lang::{Form, Setting};
 use std::alloc::{AllocError, Global};
@@ -135,7 +135,7 @@ fn organized(form: Form) -> Organization
 
 // The chain of a new file: one bucket without slots, where it is indexed.
 fn first_chain(alloc: Global, form: Form) -> Result<Vec<Bucket>, AllocError>
-    ensures { IfOk result (λ v. chain_of v.items ≡ answers.first_chain (form_of form)) }
+    ensures { IfOk result (λ v. layout_of v.items ≡ answers.first_layout (form_of form)) }
 {
     let mut chain = Vec::new(alloc);
     if let Form::Indexed { .. } = form {
@@ -215,6 +215,12 @@ impl Running {
         self.boot = 0;
         self.greatest = 0;
         self.last = None;
+        self.units = JournalSpan {
+            start: 584 + u64::from(slots),
+            blocks: journal,
+            first: 0,
+            end: 0,
+        };
         one(alloc, Line::Normal)
     }
 
@@ -263,7 +269,8 @@ impl Running {
     // A new file takes a place of the directory.
     fn place(&mut self, place: usize, file: File)
         requires { place < length self.old.directory.items }
-        ensures creates { world_of self.new ≡ acts own_name (world.Creates place (file_of file)) (world_of self.old) }
+        ensures creates { node_of self.new ≡ acted (world.Creates place (file_of file)) (node_of self.old) }
+        ensures shared { shared_of self.new ≡ shared_of self.old }
         ensures counts { SameCounts self.old self.new }
     {
         self.directory[place] = Some(file);
@@ -333,7 +340,8 @@ impl Running {
     ) -> Result<(), AllocError>
         requires found { IfSome (world.find_branch (id_of serial) (map branch_of self.old.branches.items)) (λ b. b.changes + length changes.items ≤ 16) }
         requires few { length changes.items ≤ 16 }
-        ensures changes { OnOk result (world_of self.new ≡ acts own_name (world.Changes (id_of serial) name.now (changes_of changes.items)) (world_of self.old)) }
+        ensures changes { OnOk result (node_of self.new ≡ acted (world.Changes (id_of serial) name.now (changes_of changes.items)) (node_of self.old)) }
+        ensures shared { OnOk result (shared_of self.new ≡ shared_of self.old) }
         ensures counts { SameCounts self.old self.new }
     {
         let more = changes.len() as u32;
@@ -352,7 +360,7 @@ impl Running {
         name: &FileName,
         asked: Asked<'_>,
     ) -> Result<Vec<Line>, AllocError>
-        requires { answers.late_at (world_of self.old) (node_of self.old) (said.Records label.now name.now (asked_of asked)) ≡ None }
+        requires { answers.refused_after_reading (shared_of self.old) (node_of self.old) (said.Records label.now name.now (asked_of asked)) ≡ None }
         ensures does { IfOk result (λ lines. Does self.old (said.Records label.now name.now (asked_of asked.entry)) lines.items self.new) }
         ensures counts { OnOk result (RoseByOne self.old self.new) }
     {
@@ -370,7 +378,8 @@ impl Running {
 
     // A branch is settled at the next moment.
     fn settle(&mut self, alloc: Global, s: Settlement) -> Result<(), AllocError>
-        ensures settles { OnOk result (world_of self.new ≡ acts own_name (world.Settles (settlement_of s)) (world_of self.old)) }
+        ensures settles { OnOk result (node_of self.new ≡ acted (world.Settles (settlement_of s)) (node_of self.old)) }
+        ensures shared { OnOk result (shared_of self.new ≡ shared_of self.old) }
         ensures boot { self.new.boot ≡ self.old.boot }
         ensures drawn { self.new.drawn ≡ self.old.drawn }
         ensures greatest { OnOk result (self.new.greatest ≡ s.moment.hundredths) }

@@ -4,12 +4,14 @@
 mod acts;
 mod asked;
 mod forms;
+mod law;
 mod records;
 mod refusals;
 mod rows;
 mod running;
 mod script;
 
+pub use law::reference_transcripts_are_runs;
 pub use rows::{
     aborted_record_is_gone, boot_behind_crash_tells_last, committed_record_is_shown,
     empty_script_shows_nothing, file_is_full, indexed_file_is_restored, open_quote_is_bad,

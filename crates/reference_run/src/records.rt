@@ -358,10 +358,10 @@ fn put_need(f: &File, rows: &[Row<'_>], bytes: &[u8]) -> u64
 }
 
 // And one that takes the place of another.
-fn update_need(organization: Organization) -> u64
-    ensures { result ≡ operations.update_need (organization_of organization) }
+fn update_need(f: &File) -> u64
+    ensures { result ≡ operations.update_need (organization_of f.now.organization) (file_of f.now) }
 {
-    match organization {
+    match f.organization {
         Organization::Sequential => 0,
         Organization::Relative { .. } => 0,
         Organization::Indexed { .. } => 3,
@@ -375,7 +375,7 @@ fn need_of(f: &File, rows: &[Row<'_>], asked: Asked<'_>) -> u64
 {
     match asked {
         Asked::Put(_, bytes) => put_need(f, rows, bytes),
-        Asked::Update(_, _) => update_need(f.organization),
+        Asked::Update(_, _) => update_need(f),
         Asked::Delete(_) => 0,
         Asked::Truncate(_) => 0,
         Asked::Get(_) => 0,

@@ -8,9 +8,9 @@ ghost use Rattle.records_model.specs.Records.{Change};
 ghost use Rattle.run_model.specs.Answers as answers;
 ghost use Rattle.run_model.specs.Operations as operations;
 ghost use Rattle.run_model.specs.World as world;
-ghost use Rattle.reference_world.specs.Standing.{own_name, id_of, branch_of, label_of, settlement_of, volume_of, directory_of, file_of, line_of};
+ghost use Rattle.reference_world.specs.Standing.{id_of, branch_of, label_of, settlement_of, volume_of, is_unmade as is_unmade_of, directory_of, file_of, line_of};
 ghost use Rattle.reference_run.specs.Operations.{asked_of};
-ghost use Rattle.reference_run.specs.Served.{node_of, world_of, IsPlain};
+ghost use Rattle.reference_run.specs.Served.{node_of, shared_of, IsPlain};
 
 use crate::asked::{Asked, asked_by};
 use crate::forms::{first_of, form_refused, refused_if};
@@ -153,9 +153,9 @@ impl Running {
             && 584 + u64::from(slots) + u64::from(journal) < u64::from(self.blocks)
     }
 
-    // Whether nothing is known of what the disk has.
-    fn is_unknown(&self) -> bool
-        ensures { result ≡ answers.is_unknown (volume_of self.now.volume) }
+    // Whether the last INIT failed.
+    fn is_unmade(&self) -> bool
+        ensures { result ≡ is_unmade_of self.now.volume }
     {
         match self.volume {
             Volume::Sound => false,
@@ -164,29 +164,19 @@ impl Running {
         }
     }
 
-    // The serial that a label names.
-    fn labelled(&self, name: &Label) -> Option<OwnId>
-        ensures { option_map id_of result ≡ world.labelled own_name name.now (map label_of self.now.labels.items) }
-    {
-        match find_label(self.labels.as_slice(), name) {
-            Some(l) => Some(l.serial),
-            None => None,
-        }
-    }
-
     /// The unsettled branch that a label names.
     pub fn branch_labelled(&self, name: &Label) -> Option<Branch>
-        ensures labelled { option_map branch_of result ≡ answers.branch_labelled (world_of self.now) (node_of self.now) name.now }
+        ensures labelled { option_map branch_of result ≡ answers.branch_labelled (shared_of self.now) (node_of self.now) name.now }
         ensures found { IfSome result (λ b. world.find_branch (id_of b.serial) (map branch_of self.now.branches.items) ≡ Some (branch_of b)) }
     {
-        match self.labelled(name) {
-            Some(serial) => find_branch(self.branches.as_slice(), serial),
+        match find_label(self.labels.as_slice(), name) {
+            Some(l) => find_branch(self.branches.as_slice(), l.serial),
             None => None,
         }
     }
 
     fn new_label(&self, name: &Label) -> Option<Line>
-        ensures { option_map line_of result ≡ answers.new_label (world_of self.now) name.now }
+        ensures { option_map line_of result ≡ answers.new_label (shared_of self.now) name.now }
     {
         match find_label(self.labels.as_slice(), name) {
             Some(_) => Some(Line::BadLabel),
@@ -195,16 +185,16 @@ impl Running {
     }
 
     fn made_label(&self, name: &Label) -> Option<Line>
-        ensures { option_map line_of result ≡ answers.made_label (world_of self.now) (node_of self.now) name.now }
+        ensures { option_map line_of result ≡ answers.made_label (shared_of self.now) (node_of self.now) name.now }
     {
-        match self.labelled(name) {
+        match find_label(self.labels.as_slice(), name) {
             Some(_) => None,
             None => Some(Line::BadLabel),
         }
     }
 
     fn unsettled_label(&self, name: &Label) -> Option<Line>
-        ensures { option_map line_of result ≡ answers.unsettled_label (world_of self.now) (node_of self.now) name.now }
+        ensures { option_map line_of result ≡ answers.unsettled_label (shared_of self.now) (node_of self.now) name.now }
     {
         match self.branch_labelled(name) {
             Some(_) => None,
@@ -214,7 +204,7 @@ impl Running {
 
     fn more_changes(&self, name: &Label, more: usize) -> Option<Line>
         requires { more < 2 ^ 63 }
-        ensures { (cs : List Change) → length cs ≡ more → option_map line_of result ≡ option_and_then (answers.more_changes cs) (answers.branch_labelled (world_of self.now) (node_of self.now) name.now) }
+        ensures { (cs : List Change) → length cs ≡ more → option_map line_of result ≡ option_and_then (answers.more_changes cs) (answers.branch_labelled (shared_of self.now) (node_of self.now) name.now) }
     {
         match self.branch_labelled(name) {
             Some(b) => refused_if(
@@ -269,7 +259,7 @@ impl Running {
         asked: Asked<'_>,
     ) -> Result<Option<Line>, AllocError>
         ensures { IfOk result (λ refusal. option_map line_of refusal ≡ operations.first_of (operations.data_refused (file_of f.now) (asked_of asked.entry))
-            (operations.first_of (option_and_then (answers.more_changes (operations.changes_of (file_of f.now) (asked_of asked.entry))) (answers.branch_labelled (world_of self.now) (node_of self.now) label.now)) (operations.file_full (file_of f.now) (asked_of asked.entry)))) }
+            (operations.first_of (option_and_then (answers.more_changes (operations.changes_of (file_of f.now) (asked_of asked.entry))) (answers.branch_labelled (shared_of self.now) (node_of self.now) label.now)) (operations.file_full (file_of f.now) (asked_of asked.entry)))) }
     {
         let all = records_of(alloc, f)?;
         let rows = all.as_slice();
@@ -291,7 +281,7 @@ impl Running {
         name: &FileName,
         asked: Asked<'_>,
     ) -> Result<Option<Line>, AllocError>
-        ensures { IfOk result (λ refusal. option_map line_of refusal ≡ answers.operation_refused (world_of self.now) (node_of self.now) label.now name.now (asked_of asked.entry)) }
+        ensures { IfOk result (λ refusal. option_map line_of refusal ≡ answers.operation_refused (shared_of self.now) (node_of self.now) label.now name.now (asked_of asked.entry)) }
     {
         match find_file(self.directory.as_slice(), name) {
             None => Ok(self.more_changes(label, 0)),
@@ -355,7 +345,7 @@ impl Running {
     }
 
     fn early_up(&self, request: &Request, lit: &Literals) -> Option<Line>
-        ensures { option_map line_of result ≡ answers.early_up (world_of self.now) (node_of self.now) (request_of lit.now request.now) }
+        ensures { option_map line_of result ≡ answers.refused_where_served (shared_of self.now) (node_of self.now) (request_of lit.now request.now) }
     {
         match request {
             Request::Init { slots, blocks } => first_of(
@@ -364,7 +354,7 @@ impl Running {
             ),
             Request::Boot => first_of(
                 refused_if(self.up, Line::NodeUp),
-                refused_if(self.is_unknown(), Line::NotInitialized),
+                refused_if(self.is_unmade(), Line::NotInitialized),
             ),
             Request::Create {
                 file,
@@ -395,7 +385,7 @@ impl Running {
     }
 
     fn early_records(&self, label: &Label, file: &FileName, asked: Asked<'_>) -> Option<Line>
-        ensures { option_map line_of result ≡ answers.early_up (world_of self.now) (node_of self.now) (said.Records label.now file.now (asked_of asked.entry)) }
+        ensures { option_map line_of result ≡ answers.refused_where_served (shared_of self.now) (node_of self.now) (said.Records label.now file.now (asked_of asked.entry)) }
     {
         first_of(
             self.made_label(label),
@@ -411,7 +401,7 @@ impl Running {
 
     /// What refuses a request before the disk is read.
     pub fn early(&self, request: &Request, lit: &Literals) -> Option<Line>
-        ensures { option_map line_of result ≡ answers.early_at (world_of self.now) (node_of self.now) (request_of lit.now request.now) }
+        ensures { option_map line_of result ≡ answers.refused_before_reading (shared_of self.now) (node_of self.now) (request_of lit.now request.now) }
     {
         let served = self.up || is_served_down(request);
         first_of(
@@ -423,7 +413,7 @@ impl Running {
     // What refuses a request that is none of records, by what the disk has or by a quota.
     fn late_plain(&self, request: &Request) -> Option<Line>
         requires { IsPlain request.now }
-        ensures { (lit : LiteralsSaid) → option_map line_of result ≡ answers.late_at (world_of self.now) (node_of self.now) (request_of lit request.now) }
+        ensures { (lit : LiteralsSaid) → option_map line_of result ≡ answers.refused_after_reading (shared_of self.now) (node_of self.now) (request_of lit request.now) }
     {
         match request {
             Request::Boot => self.bootable(),
@@ -448,7 +438,7 @@ impl Running {
         request: &Request,
         lit: &Literals,
     ) -> Result<Option<Line>, AllocError>
-        ensures { IfOk result (λ refusal. option_map line_of refusal ≡ answers.late_at (world_of self.now) (node_of self.now) (request_of lit.now request.now)) }
+        ensures { IfOk result (λ refusal. option_map line_of refusal ≡ answers.refused_after_reading (shared_of self.now) (node_of self.now) (request_of lit.now request.now)) }
     {
         match request {
             Request::Records(label, file, operation) => {
@@ -461,7 +451,7 @@ impl Running {
 
 // Whether a node that is down serves the request.
 fn is_served_down(request: &Request) -> bool
-    ensures { (lit : LiteralsSaid) → result ≡ answers.served_down (request_of lit request.now) }
+    ensures { (lit : LiteralsSaid) (s : world.Shared) (n : world.Node) → result ≡ answers.served_down s n (request_of lit request.now) }
 {
     match request {
         Request::Init { .. } => true,

@@ -1,21 +1,21 @@
 // The node, and what it answers.
-ghost use Rattle.std.specs.Prelude.{◌≡◌, ◌||◌, ◌++◌, ℕ, List, [], ◌∷◌, false, None, map, OnOk, IfOk};
+ghost use Rattle.std.specs.Prelude.{◌≡◌, ℕ, List, [], ◌∷◌, false, None, map, OnOk, IfOk};
 ghost use Rattle.script_lang.specs.declared.literals.Literals.{Literals as LiteralsSaid};
 ghost use Rattle.script_lang.specs.Statements.{statement_of, request_of};
 ghost use Rattle.script_model.specs.Statements.{At};
 ghost use Rattle.run_model.specs.Answers as answers;
-ghost use Rattle.run_model.specs.Steps.{readied};
-ghost use Rattle.run_model.specs.World.{opened};
-ghost use Rattle.reference_world.specs.Standing.{own_name, line_of};
-ghost use Rattle.reference_run.specs.Served.{node_of, world_of, AreFew, RoseByOne, SameCounts, Serves, Does};
+ghost use Rattle.run_model.specs.Steps.{ready_node, occupied};
+ghost use Rattle.reference_run.specs.Served.{node_of, shared_of, world_of, AreFew, RoseByOne, SameCounts, Serves, ServesRequest, Does};
 ghost use Rattle.reference_run.specs.Whole.{opening};
 
 use crate::asked::asked_by;
 use reference_world::{
-    Branch, DiskCall, File, LabelEntry, Line, Settlement, Volume, empty_places, one, push_front,
+    Branch, DiskCall, File, JournalSpan, LabelEntry, Line, Settlement, Volume, empty_places, one,
+    push_front,
 };
 use script_lang::{Literals, Request, Statement};
 use std::alloc::{AllocError, Global};
+use vms_base::NodeName;
 
 /// What is kept of the node, in the order of a volume's sizes, its contents, and what the node has of its own. Labels, settlements and calls stand newest
 /// first, unsettled branches oldest first.
@@ -28,6 +28,7 @@ pub struct Running {
     pub boot: u32,
     pub greatest: u64,
     pub last: Option<Settlement>,
+    pub units: JournalSpan,
     pub directory: Vec<Option<File>>,
     pub up: bool,
     pub was_up: bool,
@@ -56,6 +57,12 @@ impl Running {
             boot: 0,
             greatest: 0,
             last: None,
+            units: JournalSpan {
+                start: 0,
+                blocks: 0,
+                first: 0,
+                end: 0,
+            },
             directory: empty_places(alloc, 64)?,
             up: false,
             was_up: false,
@@ -70,7 +77,8 @@ impl Running {
 
     // The disk is made to run again, where the request does that.
     fn ready(&mut self, request: &Request) -> Result<(), AllocError>
-        ensures readies { (lit : LiteralsSaid) → OnOk result (world_of self.new ≡ readied false (world_of self.old) (At own_name (request_of lit request.now))) }
+        ensures readies { (lit : LiteralsSaid) → OnOk result (node_of self.new ≡ ready_node false 0 (request_of lit request.now) (node_of self.old)) }
+        ensures shared { OnOk result (shared_of self.new ≡ shared_of self.old) }
         ensures counts { SameCounts self.old self.new }
     {
         match request {
@@ -86,7 +94,8 @@ impl Running {
 
     // No volume may be made any more, where the request was a boot.
     fn occupy(&mut self, request: &Request)
-        ensures occupies { (lit : LiteralsSaid) → world_of self.new ≡ record (world_of self.old) { in_use = self.old.in_use || answers.occupies (request_of lit request.now) } }
+        ensures occupies { (lit : LiteralsSaid) → shared_of self.new ≡ occupied (request_of lit request.now) (shared_of self.old) }
+        ensures node { node_of self.new ≡ node_of self.old }
         ensures counts { SameCounts self.old self.new }
     {
         if let Request::Boot = request {
@@ -101,7 +110,7 @@ impl Running {
         request: &Request,
         lit: &Literals,
     ) -> Result<Vec<Line>, AllocError>
-        requires allowed { answers.late_at (world_of self.old) (node_of self.old) (request_of lit.now request.now) ≡ None }
+        requires allowed { answers.refused_after_reading (shared_of self.old) (node_of self.old) (request_of lit.now request.now) ≡ None }
         requires few { AreFew 1000000 self.old }
         ensures does { IfOk result (λ lines. Does self.old (request_of lit.now request.now) lines.items self.new) }
         ensures counts { OnOk result (RoseByOne self.old self.new) }
@@ -135,9 +144,9 @@ impl Running {
         request: &Request,
         lit: &Literals,
     ) -> Result<Vec<Line>, AllocError>
-        requires allowed { answers.early_at (world_of self.old) (node_of self.old) (request_of lit.now request.now) ≡ None }
+        requires allowed { answers.refused_before_reading (shared_of self.old) (node_of self.old) (request_of lit.now request.now) ≡ None }
         requires few { AreFew 1000000 self.old }
-        ensures serves { IfOk result (λ lines. Serves self.old (At own_name (request_of lit.now request.now)) lines.items self.new) }
+        ensures serves { IfOk result (λ lines. ServesRequest self.old (request_of lit.now request.now) lines.items self.new) }
         ensures counts { OnOk result (RoseByOne self.old self.new) }
     {
         self.ready(request)?;
@@ -147,6 +156,27 @@ impl Running {
         let lines = self.act(alloc, request, lit)?;
         self.occupy(request);
         Ok(lines)
+    }
+
+    // Serves a request of the node of this name.
+    fn serve_at(
+        &mut self,
+        alloc: Global,
+        node: &NodeName,
+        request: &Request,
+        lit: &Literals,
+    ) -> Result<Vec<Line>, AllocError>
+        requires { AreFew 1000000 self.old }
+        ensures serves { IfOk result (λ lines. Serves self.old (At node.now (request_of lit.now request.now)) lines.items self.new) }
+        ensures counts { OnOk result (RoseByOne self.old self.new) }
+    {
+        if node.bytes() != b"A".as_slice() {
+            return one(alloc, Line::NoSuchNode);
+        }
+        if let Some(refusal) = self.early(request, lit) {
+            return one(alloc, refusal);
+        }
+        self.serve_allowed(alloc, request, lit)
     }
 
     /// Serves a statement.
@@ -161,12 +191,6 @@ impl Running {
         ensures counts { OnOk result (RoseByOne self.old self.new) }
     {
         let Statement::At(node, request) = statement;
-        if node.bytes() != b"A".as_slice() {
-            return one(alloc, Line::NoSuchNode);
-        }
-        if let Some(refusal) = self.early(request, lit) {
-            return one(alloc, refusal);
-        }
-        self.serve_allowed(alloc, request, lit)
+        self.serve_at(alloc, node, request, lit)
     }
 }

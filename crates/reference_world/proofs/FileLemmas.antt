@@ -17,4 +17,4 @@ pub set_is : (f : File) (serial : Id) (cs : List Change) (live : Vec LiveChanges
     map live_of live.items ≡ with_changes serial cs (map live_of f.live.items) →
     chain_of chain.items ≡ chain_changed (512 * f.bucket - 16) (is_held (only_live (map live_of f.live.items))) cs (chain_of f.chain.items) →
     file_of (record f { live = live; chain = chain }) ≡ world.changed_file serial cs (file_of f)
-set_is f serial cs live chain l ch = λ i. record (file_of f) { history = record (history_of f) { live = l i }; chain = ch i }
+set_is f serial cs live chain l ch = λ i. record (file_of f) { history = record (history_of f) { live = l i }; layout = record { chain = ch i } }

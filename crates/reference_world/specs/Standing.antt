@@ -1,5 +1,5 @@
 -- The world that the code's values stand for: there is the node A.
-use Rattle.std.specs.Prelude.{ℕ, List, [], ◌∷◌, Option, Some, None, map, option_map, Vec}
+use Rattle.std.specs.Prelude.{ℕ, Bool, true, false, List, [], ◌∷◌, Option, Some, None, map, option_map, Vec}
 use Rattle.std.specs.Borrow.{Bor}
 use Rattle.std.specs.declared.alloc.Global.{Global}
 use Rattle.std.specs.FinMap.{empty}
@@ -11,6 +11,7 @@ use Rattle.vms_base.specs.declared.outcomes.Outcome.{Outcome}
 use Rattle.vms_base.specs.declared.outcomes.Outcome.TheVariants as outcome
 use Rattle.records_model.specs.Records as records
 use Rattle.records_model.specs.Slots as slots
+use Rattle.records_model.specs.Layout.{Layout}
 use Rattle.records_model.specs.History as history
 use Rattle.transcript_model.specs.Lines as model
 use Rattle.run_model.specs.World as world
@@ -26,6 +27,7 @@ use Rattle.reference_world.specs.declared.world.Slot.{Slot}
 use Rattle.reference_world.specs.declared.world.Bucket.{Bucket}
 use Rattle.reference_world.specs.declared.world.LiveChanges.{LiveChanges}
 use Rattle.reference_world.specs.declared.world.SettledChanges.{SettledChanges}
+use Rattle.reference_world.specs.declared.world.JournalSpan.{JournalSpan}
 use Rattle.reference_world.specs.declared.world.File.{File}
 use Rattle.reference_world.specs.declared.world.Branch.{Branch}
 use Rattle.reference_world.specs.declared.world.LabelEntry.{LabelEntry}
@@ -100,7 +102,15 @@ bucket_of b = slots_of b.slots.items
 abbrev pub chain_of : List Bucket → List (List slots.Slot)
 chain_of bs = map bucket_of bs
 
--- a file has nothing to itself besides its buckets
+-- the layout that has these buckets in one chain
+abbrev pub layout_of : List Bucket → Layout
+layout_of bs = record { chain = chain_of bs }
+
+-- a journal in the volume
+abbrev pub journal_of : JournalSpan → world.JournalSpan
+journal_of j = record { start = j.start; blocks = j.blocks; first = j.first; end = j.end }
+
+-- a file carries nothing for its recovery
 abbrev pub file_of : File → world.File
 file_of f = record {
   name = f.name;
@@ -109,10 +119,10 @@ file_of f = record {
   organization = organization_of f.organization;
   start = f.start;
   buckets = f.buckets;
-  others = [];
+  carried = world.nothing_carried;
   recovery_units = f.recovery_units;
   history = history_of f;
-  chain = chain_of f.chain.items;
+  layout = layout_of f.chain.items;
 }
 
 abbrev pub directory_of : List (Option File) → List (Option world.File)
@@ -122,8 +132,9 @@ directory_of fs = map (option_map file_of) fs
 abbrev pub branch_of : Branch → world.Branch
 branch_of b = record { tid = id_of b.serial; serial = id_of b.serial; changes = b.changes }
 
+-- so each label names its transaction's first branch
 abbrev pub label_of : LabelEntry → world.Label
-label_of l = record { name = l.name; node = own_name; serial = id_of l.serial }
+label_of l = record { name = l.name; node = own_name; tid = id_of l.serial; bid = None; serial = Some (id_of l.serial) }
 
 -- a branch is aborted because that was asked
 abbrev pub reason_of : Outcome → Option settled.Reason
@@ -137,6 +148,12 @@ abbrev pub volume_of : Volume → world.Volume
 volume_of volume.Sound = world.Sound
 volume_of (volume.Faulty condition block) = world.Faulty condition block
 volume_of volume.Unknown = world.Unknown
+
+-- whether its last INIT failed: nothing else leaves a disk of which nothing is known
+abbrev pub is_unmade : Volume → Bool
+is_unmade volume.Sound = false
+is_unmade (volume.Faulty condition block) = false
+is_unmade volume.Unknown = true
 
 -- no disk is stopped
 abbrev pub call_of : DiskCall → world.Call

@@ -6,7 +6,7 @@ ghost use Rattle.records_model.specs.History as history;
 ghost use Rattle.records_model.specs.History.{left_by, on_top};
 ghost use Rattle.run_model.specs.World as world;
 ghost use Rattle.run_model.specs.World.{serials_of};
-ghost use Rattle.reference_world.specs.Standing.{id_of, lent_key, change_of, changes_of, live_of, done_of, base_of, history_of, chain_of, file_of, branch_of, settlement_of};
+ghost use Rattle.reference_world.specs.Standing.{id_of, lent_key, change_of, changes_of, live_of, done_of, base_of, history_of, layout_of, file_of, branch_of, settlement_of};
 ghost use Rattle.reference_world.specs.Histories.{only_live};
 
 use crate::chain::chain_undone;
@@ -168,7 +168,7 @@ fn settled_chain(
     changes: &[Change],
     chain: Vec<Bucket>,
 ) -> Result<Vec<Bucket>, AllocError>
-    ensures { IfOk result (λ v. chain_of v.items ≡ world.settled_chain (outcome_of outcome) (changes_of changes.now) (chain_of chain.items)) }
+    ensures { IfOk result (λ v. layout_of v.items ≡ world.settled_layout (outcome_of outcome) (changes_of changes.now) (layout_of chain.items)) }
 {
     match outcome {
         Outcome::Commit => Ok(chain),

@@ -25,6 +25,6 @@ pub use lists::{push_back, push_front, take_first};
 pub use moment::WrittenMoment;
 pub use slots::own_value;
 pub use world::{
-    Branch, Bucket, Change, DiskCall, File, LabelEntry, Organization, OwnId, Row, Settlement, Slot,
-    Volume,
+    Branch, Bucket, Change, DiskCall, File, JournalSpan, LabelEntry, Organization, OwnId, Row,
+    Settlement, Slot, Volume,
 };

@@ -57,6 +57,15 @@ pub struct Bucket {
     pub slots: Vec<Slot>,
 }
 
+/// A journal of the volume: its blocks, and between which positions, in bytes, its entries lie.
+#[derive(Clone, Copy, Drop)]
+pub struct JournalSpan {
+    pub start: u64,
+    pub blocks: u32,
+    pub first: u64,
+    pub end: u64,
+}
+
 /// A file. Its base is what was changed before the node's boot, the newest first; settled branches stand newest first, unsettled ones oldest first. The
 /// chain is the used buckets of an indexed file.
 #[derive(Drop)]

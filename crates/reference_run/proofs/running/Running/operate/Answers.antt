@@ -4,7 +4,7 @@ use Rattle.std.proofs.lemmas.List.{length-map}
 use Rattle.run_model.specs.Answers.{changes_at}
 use Rattle.reference_world.specs.Standing.{id_of, change_of, changes_of, branch_of, line_of}
 use Rattle.reference_run.specs.Operations.{asked_of}
-use Rattle.reference_run.specs.Served.{node_of, world_of}
+use Rattle.reference_run.specs.Served.{node_of}
 use Rattle.reference_run.proofs.OperateLemmas.{operates, few_changes, some_act}
 use Rattle.reference_run.proofs.running.Running.operate.Goals as goal
 
@@ -24,4 +24,4 @@ returns-clause-does c =
     let some : (length (changes_of items) == 0) ≡ false = ap (λ n. n == 0) (length-map items change_of ∙ stored) ∙ sym c.is_empty.ensures ∙ c.if-is_empty.false in
     operates c.args.self.now c.change.new.self c.args.label.now c.args.name.now (asked_of c.args.asked) (branch_of c.in-Some.b) (changes_of items) (line_of c.in_ok-told.told.line) c.in_ok-lines.lines.items
     c.in-Some.ensures.labelled c.in_ok-told.ensures.changes c.in_ok-told.ensures.line c.in_ok-lines.ensures
-    (c.in_ok-change.ensures.changes ∙ sym (some_act (id_of c.in-Some.b.serial) c.args.name.now (changes_of items) (world_of c.args.self.now) some))
+    (c.in_ok-change.ensures.changes ∙ sym (some_act (id_of c.in-Some.b.serial) c.args.name.now (changes_of items) (node_of c.args.self.now) some)) c.in_ok-change.ensures.shared
