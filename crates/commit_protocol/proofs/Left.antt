@@ -7,7 +7,7 @@ use Rattle.vms_model.specs.Transactions.{Outcome, Commit as ToCommit, Abort as T
 use Rattle.commit_protocol.specs.Messages.{Name, LogRecord, same_name}
 use Rattle.commit_protocol.specs.Table.{Key, Branch, State, Prepared, first, coordinator_of, home_of, find, prepared_record, prepared_state, prepared_records, record_key}
 use Rattle.commit_protocol.specs.World.{World, In, Step, run, units_of}
-use Rattle.commit_protocol.specs.Agreement.{Ready, phase_of, phase, view, IsRunning, IsReady, IsCommitted, IsAccepted, Commits, IsOld, IsDead, Waits, AreOld}
+use Rattle.commit_protocol.specs.Agreement.{Ready, phase_of, phase, view, IsRunning, IsReady, IsCommitted, IsAccepted, Commits, IsOld, IsDead, Waits, AreOld, Distinct}
 use Rattle.commit_protocol.proofs.Lists.{same_name-true, told_key, same_key-refl, in_parts, Unique}
 use Rattle.commit_protocol.proofs.Invariant.{IsIdle, Later}
 use Rattle.commit_protocol.proofs.Settling.{not_gone, not_gone_ready, not_both}
@@ -17,7 +17,9 @@ use Rattle.commit_protocol.proofs.Gathered.{is_shown}
 use Rattle.commit_protocol.proofs.Running.{goes_run, never_both}
 use Rattle.commit_protocol.proofs.Opened.{begun, good_opened, never_runs, old_of, shows_of}
 use Rattle.commit_protocol.proofs.Acting.{LastFrom, Good}
-use Rattle.commit_protocol.specs.Opening.{Image, Opening, image_in, in_rack, no_image, or_none, image_at, PreparedIn, WaitsIn, WaitedFor, LastIn, Shows, OldIn, OldKey, DistinctKeys, IsAgreeing, opened, image_left, images_left, left}
+use Rattle.commit_protocol.proofs.Serials.{in_serial}
+use Rattle.commit_protocol.proofs.LogSteps.{Apart, apart_from, left_distinct}
+use Rattle.commit_protocol.specs.Opening.{Image, Opening, image_in, in_rack, no_image, or_none, image_at, PreparedIn, WaitsIn, WaitedFor, LastIn, Shows, OldIn, OldKey, DistinctKeys, IsAgreeing, opened, image_left, images_left, left, log_serials}
 
 -- the image that a node leaves, or none where it is not in the rack
 left_in : (w : World) (ps : List (Name × Image)) (n : Name) → ((image_in n (images_left w ps) ≡ Some (image_left (w.nodes n))) × (is_some (image_in n ps) ≡ true)) ⊎ ((image_in n (images_left w ps) ≡ None) × (is_some (image_in n ps) ≡ false))
@@ -97,6 +99,7 @@ distinct_records (b ∷ bs) u = go b.state (distinct_records bs u.1)
 pub record IsReached (o : Opening) (w : World) : Type 0 where
   pub opens : IsAgreeing o
   pub good : Good w
+  pub apart : Apart w
   pub later : Later (begun o) (view w)
   pub last : LastFrom (opened o) w
   pub rack : w.rack ≡ in_rack o
@@ -254,10 +257,11 @@ owed_left o w g k p rack =
 agreeing_left : (o : Opening) (w : World) → IsReached o w → IsAgreeing (left w o)
 agreeing_left o w g = record {
   own_prepared = home_left o w g;
+  own_committed = λ n r h. g.apart.own n r.serial (in_serial r (w.nodes n).records (of_left (λ i. i.committed) w o n r refl h));
   own_units = λ n k h. (unit_left o w g n k h).0;
   distinct = λ n. elim (left_or w o n) [
-    | inl e ↦ (let P : Image → Type 0 = λ i. DistinctKeys i.prepared in subst P (sym e.0) (distinct_records (w.nodes n).table (g.good.unique n)))
-    | inr e ↦ (let P : Image → Type 0 = λ i. DistinctKeys i.prepared in subst P (sym e.0) tt)
+    | inl e ↦ (let P : Image → Type 0 = λ i. Distinct (log_serials i) in subst P (sym e.0) (left_distinct (w.nodes n) (g.apart.each n)))
+    | inr e ↦ (let P : Image → Type 0 = λ i. Distinct (log_serials i) in subst P (sym e.0) tt)
   ];
   unprepared = λ n k h p. unit_unready o w g n k (unit_left o w g n k h).1 (ready_left o w g k p);
   owed = owed_left o w g;
@@ -276,7 +280,12 @@ agreeing_left o w g = record {
       let ready = ready_left o w g (record_key r) (r, subst P (sym (home_left o w g n r h)) h, refl) in
       old_key_left o w g (record_key r) (g.good.inv.old_at (record_key r) (not_gone_ready ((view w).at (record_key r)) ready));
   old_waited = λ k h. old_key_left o w g k (g.good.inv.old_accepted k (held_left o w g k h).1);
-  old_record = λ n r h. old_left o w g r.tid (old_commits o w g r.tid (g.good.inv.recorded n r (of_left (λ i. i.committed) w o n r refl h)));
+  old_committed = λ n r h.
+      let there : In r (w.nodes n).records = of_left (λ i. i.committed) w o n r refl h in
+      record {
+        tid = old_left o w g r.tid (old_commits o w g r.tid (g.good.inv.recorded n r there));
+        serial = old_left o w g r.serial (g.apart.old n r.serial (in_serial r (w.nodes n).records there));
+      };
   old_last = λ k out l. old_key_left o w g k (old_last_left o w g k out l);
   old_unit = λ n k h. old_key_left o w g k (unit_old o w g n k (unit_left o w g n k h).1);
 }
@@ -284,4 +293,4 @@ agreeing_left o w g = record {
 pub left_from : (o : Opening) → IsAgreeing o → (steps : List Step) → IsAgreeing (left (run steps (opened o)) o)
 left_from o a steps =
     let g = goes_run steps (opened o) (good_opened o a (is_shown o a)) in
-    agreeing_left o (run steps (opened o)) (record { opens = a; good = g.good; later = g.later; last = g.last; rack = g.rack })
+    agreeing_left o (run steps (opened o)) (record { opens = a; good = g.good; apart = apart_from o a steps; later = g.later; last = g.last; rack = g.rack })

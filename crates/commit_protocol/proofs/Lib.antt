@@ -13,6 +13,7 @@ pub mod VoteRows
 pub mod OutcomeRows
 pub mod Sweeps
 pub mod Restarts
+pub mod Swapping
 pub mod Running
 pub mod Gathered
 pub mod Opened
@@ -26,3 +27,8 @@ pub mod WithinRows
 pub mod Counts
 pub mod Inquiries
 pub mod Resting
+pub mod Ordering
+pub mod StandingRows
+pub mod Lasting
+pub mod Serials
+pub mod LogSteps

@@ -5,7 +5,8 @@ use Rattle.vms_model.specs.Transactions.{Outcome, Abort as ToAbort}
 use Rattle.commit_protocol.specs.Messages.{Name, LogRecord, same_name}
 use Rattle.commit_protocol.specs.Table.{Key, first, home_of}
 use Rattle.commit_protocol.specs.World.{In}
-use Rattle.commit_protocol.specs.Opening.{Image, image_in, no_image, or_none, image_at, DistinctKeys, IsAgreeing, new_images, new_volumes}
+use Rattle.commit_protocol.specs.Agreement.{Distinct}
+use Rattle.commit_protocol.specs.Opening.{Image, image_in, no_image, or_none, image_at, log_serials, IsAgreeing, new_images, new_volumes}
 
 new_or : (ns : List Name) (n : Name) → or_none (image_in n (new_images ns)) ≡ no_image
 new_or [] n = refl
@@ -32,8 +33,9 @@ new_agree ns =
     let units : (n : Name) (k : Key) → In k (image_at (new_volumes ns) n).units → ⊥ = λ n k. nothing (λ i. i.units) ns n k refl in
     record {
       own_prepared = λ n r h. absurd (prepared n r h);
+      own_committed = λ n r h. absurd (committed n r h);
       own_units = λ n k h. absurd (units n k h);
-      distinct = λ n. (let P : Image → Type 0 = λ i. DistinctKeys i.prepared in subst P (sym (new_or ns n)) tt);
+      distinct = λ n. (let P : Image → Type 0 = λ i. Distinct (log_serials i) in subst P (sym (new_or ns n)) tt);
       unprepared = λ n k h p. units n k h;
       owed = λ k p. absurd (prepared (home_of k) p.0 p.1);
       waited_last = λ k w l. committed w.0 w.1.0 w.1.1;
@@ -44,7 +46,7 @@ new_agree ns =
       last_prepared = λ n r out e h. prepared n r h;
       old_prepared = λ n r h. absurd (prepared n r h);
       old_waited = λ k w. absurd (committed w.0 w.1.0 w.1.1);
-      old_record = λ n r h. absurd (committed n r h);
+      old_committed = λ n r h. absurd (committed n r h);
       old_last = λ k out l. absurd (no_last ns l.0 (k, out) l.1);
       old_unit = λ n k h. absurd (units n k h);
     }

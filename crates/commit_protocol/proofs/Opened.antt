@@ -3,15 +3,16 @@ use Rattle.std.proofs.Common.{◌≡◌, ◌≢◌, true, false, List, [], ◌�
 use Rattle.vms_model.specs.Ids.{Id}
 use Rattle.vms_model.specs.Transactions.{Commit as ToCommit, Abort as ToAbort}
 use Rattle.commit_protocol.specs.Messages.{Name, LogRecord}
-use Rattle.commit_protocol.specs.Table.{Key, Branch, first, find, record_key, branch_of, branches_of}
+use Rattle.commit_protocol.specs.Table.{Key, Branch, first, find, record_key, record_serials, branch_of, branches_of}
 use Rattle.commit_protocol.specs.World.{World, In, Step, run}
-use Rattle.commit_protocol.specs.Agreement.{Phase, Gone, Running, Ready, phase, View, view, IsRunning, IsReady, IsCommitted, Commits, IsOld, IsDead, AreOld, Agrees, SettlesAlike}
-use Rattle.commit_protocol.proofs.Lists.{told_key, find-key, Unique}
+use Rattle.commit_protocol.specs.Agreement.{Phase, Gone, Running, Ready, phase, View, view, IsRunning, IsReady, IsCommitted, Commits, IsOld, IsDead, AreOld, Agrees, SettlesAlike, Distinct}
+use Rattle.commit_protocol.proofs.Lists.{told_key, find-key, in_left, Unique}
+use Rattle.commit_protocol.proofs.Serials.{in_serial}
 use Rattle.commit_protocol.proofs.Settling.{not_gone, not_gone_ready, not_both}
 use Rattle.commit_protocol.proofs.Gathered.{IsShown, is_shown}
 use Rattle.commit_protocol.proofs.Running.{agrees, settles_alike, goes_run, run-append}
 use Rattle.commit_protocol.proofs.Acting.{Good}
-use Rattle.commit_protocol.specs.Opening.{Opening, image_at, PreparedIn, WaitedFor, Shows, OldIn, OldKey, DistinctKeys, IsAgreeing, opened}
+use Rattle.commit_protocol.specs.Opening.{Opening, image_at, PreparedIn, WaitedFor, Shows, OldIn, OldKey, IsAgreeing, opened}
 
 find_prepared : (hs : List LogRecord) (k : Key) (b : Branch) → find k (branches_of hs) ≡ Some b → (h : LogRecord) × In h hs × (record_key h ≡ k) × (b ≡ branch_of h)
 find_prepared [] k b e = absurd cc
@@ -40,9 +41,12 @@ not_prepared (h ∷ hs) k n =
       | inr q ↦ rw (q.0) (not_prepared hs k (λ g i e. n g (inr i) e))
     ]
 
-unique_prepared : (hs : List LogRecord) → DistinctKeys hs → Unique (branches_of hs)
-unique_prepared [] d = tt
-unique_prepared (h ∷ hs) d = (not_prepared hs (record_key h) d.0, unique_prepared hs d.1)
+unique_prepared : (hs cs : List LogRecord) → Distinct (record_serials hs ++ record_serials cs) → Unique (branches_of hs)
+unique_prepared [] cs d = tt
+unique_prepared (h ∷ hs) cs d = (
+  not_prepared hs (record_key h) (λ g i e. d.0 (in_left h.serial (record_serials hs) (record_serials cs) (let P : Id → Type 0 = λ x. In x (record_serials hs) in subst P (ap (λ (k : Key). k.serial) e) (in_serial g hs i)))),
+  unique_prepared hs cs d.1,
+)
 
 some_of : (o : Option Branch) → phase o ≢ Gone → (b : Branch) × (o ≡ Some b)
 some_of None h = absurd (h refl)
@@ -123,7 +127,7 @@ good_opened o a t =
         old_settled = λ k h. old_key_of o k (elim (t.settled_is k h.0 h.1) [ inl l ↦ a.old_last k h.0 (k.serial.node, l) | inr w ↦ a.old_waited k w.1 ]);
         old_shown = λ u h. old_of o u (elim (t.shown_is u h) [
           | inl l ↦ let P : Id → Type 0 = λ x. OldIn o x in subst P l.2 (a.old_last l.0 ToCommit l.1).tid
-          | inr r ↦ let P : Id → Type 0 = λ x. OldIn o x in let q = r.1 in subst P q.2 (a.old_record r.0 q.0 q.1)
+          | inr r ↦ let P : Id → Type 0 = λ x. OldIn o x in let q = r.1 in subst P q.2 (a.old_committed r.0 q.0 q.1).tid
         ]);
         old_sent = λ m h. absurd h;
         old_made = λ u h. absurd h;
@@ -148,7 +152,7 @@ good_opened o a t =
         shown_lost = λ u h n j. a.first_unit n u (t.shown_is u h) j;
       };
       home = λ n k b e. let f = find_prepared (image_at o n).prepared k b e in ap (λ (x : Key). x.serial.node) (sym f.2) ∙ a.own_prepared n f.0 f.1;
-      unique = λ n. unique_prepared (image_at o n).prepared (a.distinct n);
+      unique = λ n. unique_prepared (image_at o n).prepared (image_at o n).committed (a.distinct n);
       rack_up = λ n u. absurd (let z : false ≡ true = u in cc);
       labels = λ p h. absurd h;
       lost_home = λ n k h. a.own_units n k h;

@@ -15,18 +15,18 @@ use Rattle.commit_protocol.specs.Effects.{acknowledge_effects, release_effects, 
 abbrev Without : Id → List Id → Type 0
 Without x xs = In x xs → ⊥
 
-drop_at : (x : Id) (ys : List Id) → In x ys → List Id
+pub drop_at : (x : Id) (ys : List Id) → In x ys → List Id
 drop_at x [] h = []
 drop_at x (y ∷ ys) (inl e) = ys
 drop_at x (y ∷ ys) (inr h) = y ∷ drop_at x ys h
 
-length_drop : (x : Id) (ys : List Id) (h : In x ys) → suc (length (drop_at x ys h)) ≡ length ys
+pub length_drop : (x : Id) (ys : List Id) (h : In x ys) → suc (length (drop_at x ys h)) ≡ length ys
 unfolding drop_at
 length_drop x [] h = absurd h
 length_drop x (y ∷ ys) (inl e) = refl
 length_drop x (y ∷ ys) (inr h) = ap suc (length_drop x ys h)
 
-in_drop : (x z : Id) (ys : List Id) (h : In x ys) → In z ys → z ≢ x → In z (drop_at x ys h)
+pub in_drop : (x z : Id) (ys : List Id) (h : In x ys) → In z ys → z ≢ x → In z (drop_at x ys h)
 unfolding drop_at
 in_drop x z [] h i ne = i
 in_drop x z (y ∷ ys) (inl e) (inl i) ne = absurd (ne (i ∙ sym e))
@@ -47,7 +47,7 @@ children_fit (c ∷ cs) bids d h =
 abbrev pub IsThere : Key → List Branch → Type 0
 IsThere k bs = (b : Branch) × (find k bs ≡ Some b)
 
-length_put : (b : Branch) (bs : List Branch) → length (put b bs) ≤ suc (length bs)
+pub length_put : (b : Branch) (bs : List Branch) → length (put b bs) ≤ suc (length bs)
 length_put b [] = omega arith
 length_put b (x ∷ xs) =
     elim (cases_Bool (same_key x.key b.key)) [
@@ -55,7 +55,7 @@ length_put b (x ∷ xs) =
       | inr e ↦ rw e (let q = length_put b xs in omega arith)
     ]
 
-length_put_there : (b : Branch) (bs : List Branch) → IsThere b.key bs → length (put b bs) ≤ length bs
+pub length_put_there : (b : Branch) (bs : List Branch) → IsThere b.key bs → length (put b bs) ≤ length bs
 length_put_there b [] h = absurd (let z : None ≡ Some h.0 = h.1 in cc)
 length_put_there b (x ∷ xs) h =
     elim (cases_Bool (same_key x.key b.key)) [
@@ -63,7 +63,7 @@ length_put_there b (x ∷ xs) h =
       | inr e ↦ rw e (let h' : find b.key xs ≡ Some h.0 = rw e at h.1 in let q = length_put_there b xs (h.0, h') in omega arith)
     ]
 
-length_cut : (k : Key) (bs : List Branch) → length (cut k bs) ≤ length bs
+pub length_cut : (k : Key) (bs : List Branch) → length (cut k bs) ≤ length bs
 length_cut k [] = omega arith
 length_cut k (x ∷ xs) =
     elim (cases_Bool (same_key x.key k)) [
@@ -71,7 +71,7 @@ length_cut k (x ∷ xs) =
       | inr e ↦ rw e (let q = length_cut k xs in omega arith)
     ]
 
-length_cut_there : (k : Key) (bs : List Branch) → IsThere k bs → suc (length (cut k bs)) ≤ length bs
+pub length_cut_there : (k : Key) (bs : List Branch) → IsThere k bs → suc (length (cut k bs)) ≤ length bs
 length_cut_there k [] h = absurd (let z : None ≡ Some h.0 = h.1 in cc)
 length_cut_there k (x ∷ xs) h =
     elim (cases_Bool (same_key x.key k)) [
@@ -160,7 +160,7 @@ acknowledge_within k (q ∷ rs) w r h =
       ]
     ]
 
-length_acknowledge : (k : Key) (rs : List LogRecord) → length (acknowledge k rs) ≤ length rs
+pub length_acknowledge : (k : Key) (rs : List LogRecord) → length (acknowledge k rs) ≤ length rs
 length_acknowledge k [] = omega arith
 length_acknowledge k (q ∷ rs) =
     elim (cases_Bool (waits_for k q)) [
@@ -182,7 +182,7 @@ release_within s x (q ∷ rs) w r h =
       ]
     ]
 
-length_release : (s : Id) (x : Name) (rs : List LogRecord) → length (release s x rs) ≤ length rs
+pub length_release : (s : Id) (x : Name) (rs : List LogRecord) → length (release s x rs) ≤ length rs
 length_release s x [] = omega arith
 length_release s x (q ∷ rs) =
     elim (cases_Bool (holds s x q)) [
@@ -190,7 +190,7 @@ length_release s x (q ∷ rs) =
       | inr e ↦ rw e (let p = length_release s x rs in omega arith)
     ]
 
-length_add : (rs : List LogRecord) (r : LogRecord) → length (rs ++ r ∷ []) ≡ suc (length rs)
+pub length_add : (rs : List LogRecord) (r : LogRecord) → length (rs ++ r ∷ []) ≡ suc (length rs)
 length_add [] r = refl
 length_add (q ∷ rs) r = ap suc (length_add rs r)
 

@@ -113,13 +113,30 @@ after_shown (Acknowledges k ∷ acts) tm h = absurd h
 after_shown (Releases s x ∷ acts) tm h = absurd h
 after_shown (Undoes k ∷ acts) tm h = absurd h
 
-shown_sends : (ms : List Message) → IsShown (sends_all ms)
+pub shown_sends : (ms : List Message) → IsShown (sends_all ms)
 shown_sends [] = tt
 shown_sends (m ∷ ms) = shown_sends ms
 
 pub shown_tells : (e : RmEvent) (k : Key) (xs : List Name) → IsShown (tells e k xs)
 shown_tells e k [] = tt
 shown_tells e k (x ∷ xs) = shown_tells e k xs
+
+pub shown_ended : (b : Branch) (s : State) (r : Option Reason) → IsShown (ended b s r)
+shown_ended b Ending r = tt
+shown_ended b _ r = tt
+
+pub shown_append : (xs ys : List Act) → IsShown xs → IsShown ys → IsShown (xs ++ ys)
+shown_append [] ys f g = g
+shown_append (Sends m ∷ xs) ys f g = shown_append xs ys f g
+shown_append (Prints l ∷ xs) ys f g = shown_append xs ys f g
+shown_append (Settles k o why r ∷ xs) ys f g = absurd f
+shown_append (Notes b ∷ xs) ys f g = absurd f
+shown_append (Accepts b c ∷ xs) ys f g = absurd f
+shown_append (Prepares b ∷ xs) ys f g = absurd f
+shown_append (Leaves k ∷ xs) ys f g = absurd f
+shown_append (Acknowledges k ∷ xs) ys f g = absurd f
+shown_append (Releases i x ∷ xs) ys f g = absurd f
+shown_append (Undoes k ∷ xs) ys f g = absurd f
 
 within_append : (xs ys : List Act) (tm : Tm) → ActsWithin tm xs → ActsWithin (after xs tm) ys → ActsWithin tm (xs ++ ys)
 within_append [] ys tm f g = g

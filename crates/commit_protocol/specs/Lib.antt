@@ -6,6 +6,8 @@ pub mod Allowed
 pub mod World
 pub mod Agreement
 pub mod Opening
+pub mod Orders
 pub mod Reasons
 pub mod Limits
 pub mod Settling
+pub mod Standing

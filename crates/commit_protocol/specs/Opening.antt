@@ -4,8 +4,9 @@ use Rattle.std.specs.List.{list_any}
 use Rattle.vms_model.specs.Ids.{Id}
 use Rattle.vms_model.specs.Transactions.{Outcome, Commit as ToCommit, Abort as ToAbort}
 use Rattle.commit_protocol.specs.Messages.{Name, LogRecord, same_name}
-use Rattle.commit_protocol.specs.Table.{Key, first, child, home_of, coordinator_of, same_key, record_key, branches_of, prepared_records}
+use Rattle.commit_protocol.specs.Table.{Key, first, child, home_of, coordinator_of, same_key, record_key, record_serials, branches_of, prepared_records}
 use Rattle.commit_protocol.specs.World.{World, Node, In, units_of}
+use Rattle.commit_protocol.specs.Agreement.{Distinct}
 
 -- of one volume: its boot count, its last settlement, the prepared and the committed records of its log, and the unsettled units of its journal that have no
 -- Prepared entry
@@ -80,12 +81,17 @@ abbrev pub DistinctKeys : List LogRecord → Type 0
 DistinctKeys [] = Unit {0}
 DistinctKeys (r ∷ rs) = ((q : LogRecord) → In q rs → record_key q ≡ record_key r → ⊥) × DistinctKeys rs
 
+-- the serials of a log: those of its prepared and of its committed records
+abbrev pub log_serials : Image → List Id
+log_serials i = record_serials i.prepared ++ record_serials i.committed
+
 -- The images agree, as far as the table goes.
 pub record IsAgreeing (o : Opening) : Type 0 where
-  -- of each volume: its prepared records and its units are of its own serials, no branch has two prepared records, and a unit without a Prepared entry has none
+  -- of each volume: the records of its log and its units are of its own serials, no serial has two records, and a unit without a Prepared entry has none
   pub own_prepared : (n : Name) (r : LogRecord) → In r (image_at o n).prepared → r.serial.node ≡ n
+  pub own_committed : (n : Name) (r : LogRecord) → In r (image_at o n).committed → r.serial.node ≡ n
   pub own_units : (n : Name) (k : Key) → In k (image_at o n).units → home_of k ≡ n
-  pub distinct : (n : Name) → DistinctKeys (image_at o n).prepared
+  pub distinct : (n : Name) → Distinct (log_serials (image_at o n))
   pub unprepared : (n : Name) (k : Key) → In k (image_at o n).units → PreparedIn o k → ⊥
   -- for each prepared branch whose coordinator is in the rack, a committed record of that coordinator waits for it, or no image shows a commit of its transaction
   pub owed : (k : Key) → PreparedIn o k → in_rack o (coordinator_of k) ≡ true → WaitsIn o (coordinator_of k) k ⊎ (Shows o k.tid → ⊥)
@@ -101,7 +107,7 @@ pub record IsAgreeing (o : Opening) : Type 0 where
   -- each id of a node of the rack has a boot of at most that node's boot count
   pub old_prepared : (n : Name) (r : LogRecord) → In r (image_at o n).prepared → OldKey o (record_key r)
   pub old_waited : (k : Key) → WaitedFor o k → OldKey o k
-  pub old_record : (n : Name) (r : LogRecord) → In r (image_at o n).committed → OldIn o r.tid
+  pub old_committed : (n : Name) (r : LogRecord) → In r (image_at o n).committed → OldKey o (record_key r)
   pub old_last : (k : Key) (out : Outcome) → LastIn o k out → OldKey o k
   pub old_unit : (n : Name) (k : Key) → In k (image_at o n).units → OldKey o k
 

@@ -96,6 +96,16 @@ abbrev pub cut_keys : Key → List Key → List Key
 cut_keys k [] = []
 cut_keys k (j ∷ js) = if same_key j k then cut_keys k js else j ∷ cut_keys k js
 
+-- the serials of branches, and of records, in their order
+abbrev pub branch_serials : List Branch → List Id
+branch_serials [] = []
+branch_serials (b ∷ bs) = b.key.serial ∷ branch_serials bs
+
+-- the serials of records
+abbrev pub record_serials : List LogRecord → List Id
+record_serials [] = []
+record_serials (r ∷ rs) = r.serial ∷ record_serials rs
+
 -- the serials but this one
 abbrev pub without : Id → List Id → List Id
 without s [] = []

@@ -3,22 +3,25 @@
 //! The crate has definitions and laws, and nothing that runs. `specs/` has, from the bottom up: `Messages` (kinds of messages, events and replies of
 //! resource managers, records of the log), `Table` (branches, the acts of which rows are made, a node after a restart), `Rows` (one row of acts for each
 //! event), `Effects` (what a row hands to the layers above), `Reasons` (with which event an abort may come), `Allowed` (which statements are refused),
-//! `World` (all nodes, messages and steps of a run), `Agreement` (the eleven parts), `Opening` (the images that a run begins with) and `Limits`.
+//! `World` (all nodes, messages and steps of a run), `Agreement` (the eleven parts), `Opening` (the images that a run begins with), `Orders` (of committed
+//! records), `Standing` (what the acts of a row find at the table) and `Limits`.
 #![tactic(auto)]
 
-ghost use Rattle.std.specs.Prelude.{◌≡◌, ◌≢◌, ◌≤◌, ℕ, Bool, true, List, ◌++◌, length, Option, Some, slice_get};
+ghost use Rattle.std.specs.Prelude.{◌≡◌, ◌≢◌, ◌≤◌, ℕ, Bool, true, false, List, ◌++◌, length, Option, Some, slice_get};
 ghost use Rattle.vms_model.specs.Ids.{Id};
 ghost use Rattle.commit_protocol.specs.Messages.{Name, Message, LogRecord};
-ghost use Rattle.commit_protocol.specs.Table.{Key, Branch, Prepared, Tm, Act, after, restarted, prepared_records, find, find_serial, first, home_of, coordinator_of};
+ghost use Rattle.commit_protocol.specs.Table.{Key, Branch, Prepared, Tm, Act, after, table_after, restarted, prepared_records, branch_serials, find, find_serial, put, first, home_of, coordinator_of};
 ghost use Rattle.commit_protocol.specs.Rows.{Event, row};
 ghost use Rattle.commit_protocol.specs.Effects.{effects_of};
 ghost use Rattle.commit_protocol.specs.Allowed.{allowed};
 ghost use Rattle.commit_protocol.specs.Reasons.{HaveCauses};
 ghost use Rattle.commit_protocol.specs.Limits.{TmWithin, LogWithin, ActsLawful};
 ghost use Rattle.commit_protocol.specs.World.{World, In, Step, run, acts_all, tm_at, may_boot, boots};
+ghost use Rattle.commit_protocol.specs.Orders.{IsPermuted, reordered, swaps_of};
 ghost use Rattle.commit_protocol.specs.Settling.{inquiry, run_down, IsOut};
 ghost use Rattle.commit_protocol.specs.Opening.{Opening, IsAgreeing, AreRearranged, record_keys, opened, left, new_volumes};
-ghost use Rattle.commit_protocol.specs.Agreement.{view, phase, Running, Agrees, IsDead, SettlesAlike};
+ghost use Rattle.commit_protocol.specs.Agreement.{view, phase, Running, Agrees, IsDead, SettlesAlike, Distinct};
+ghost use Rattle.commit_protocol.specs.Standing.{BeginsNothing, AllStand, Stands, writes, LastsAlike, IsNew, HasApartLog};
 
 /// The agreement theorem of presumed abort. Over every list of statements, messages that come late, twice or never, stops at any act of a row, crashes and
 /// restarts, from images that agree:
@@ -38,15 +41,18 @@ pub fn agreement()
     ensures new_volumes_agree { (nodes : List Name) → IsAgreeing (new_volumes nodes) }
 {}
 
-/// The world's steps are those of a node's table. After the acts of a row a node knows what the row leaves, and no other node knows anything else. A node that
-/// boots knows the prepared and the committed records of its log, the prepared ones in any order, behind which the boot may name the units that it undoes. Any
-/// message that was ever sent may come.
+/// The world's steps are those of a node's table. After the acts of a row a node knows what the row leaves, and no other node knows anything else. The committed
+/// records of a node may come in any order. A node that boots knows the prepared and the committed records of its log, both in any order, as that of the log's
+/// slots; behind the prepared ones the boot may name the units that it undoes. Any message that was ever sent may come.
 pub fn tables()
     ensures follow { (w : World) (n : Name) (todo : List Act) → tm_at (acts_all n todo w) n ≡ after todo (tm_at w n) }
     ensures others_stay { (w : World) (n other : Name) (todo : List Act) → (other ≡ n → ⊥) → (acts_all n todo w).nodes other ≡ w.nodes other }
-    ensures restart { (o : Opening) → IsAgreeing o → (steps : List Step) (n : Name) (prepared : List LogRecord) (units : List Key)
+    ensures any_order_comes { (w : World) (n : Name) (committed : List LogRecord) → IsPermuted committed (w.nodes n).records
+        → (places : List ℕ) × (run (swaps_of places n) w ≡ reordered n committed w) }
+    ensures restart { (o : Opening) → IsAgreeing o → (steps : List Step) (n : Name) (prepared committed : List LogRecord) (units : List Key)
         → may_boot n (run steps (opened o)) ≡ true → AreRearranged prepared (prepared_records ((run steps (opened o)).nodes n).table)
-        → tm_at (boots n (record_keys prepared ++ units) (run steps (opened o))) n ≡ restarted n prepared ((run steps (opened o)).nodes n).records }
+        → IsPermuted committed ((run steps (opened o)).nodes n).records
+        → tm_at (boots n (record_keys prepared ++ units) (reordered n committed (run steps (opened o)))) n ≡ restarted n prepared committed }
     ensures any_message_comes { (w : World) (m : Message) → In m w.sent → (which : ℕ) × (slice_get w.sent which ≡ Some m) }
 {}
 
@@ -73,4 +79,18 @@ pub fn limits()
     ensures restart { (n : Name) (prepared committed : List LogRecord) → LogWithin prepared committed → TmWithin (restarted n prepared committed) }
     ensures effects { (tm : Tm) (e : Event) → TmWithin tm → length (effects_of (row tm e) tm.records) ≤ 2048 }
     ensures writes { (tm : Tm) (e : Event) → TmWithin tm → allowed tm e ≡ true → ActsLawful (row tm e) tm.records }
+{}
+
+/// No serial stands twice among a node's branches and committed records, in any world that is reached from images that agree; so none stands twice in its log.
+pub fn logs()
+    ensures { (o : Opening) → IsAgreeing o → (steps : List Step) (n : Name) → HasApartLog (tm_at (run steps (opened o)) n) }
+{}
+
+/// What the acts of a row find at the table, and what they leave of what lasts on the disk. Where no serial stands twice among a node's branches, what is
+/// noted or leaves stands there unprepared, what is prepared stood there unprepared, and what is settled stands there. An act that writes nothing to the disk
+/// leaves the prepared records and the units that a fall would leave, and so does a branch that begins.
+pub fn notes()
+    ensures stand { (tm : Tm) (e : Event) → Distinct (branch_serials tm.table) → BeginsNothing e → AllStand tm.table (row tm e) }
+    ensures lasts { (bs : List Branch) (a : Act) → Distinct (branch_serials bs) → writes a ≡ false → Stands bs a → LastsAlike bs (table_after a bs) }
+    ensures begins { (bs : List Branch) (b : Branch) → IsNew bs b → LastsAlike bs (put b bs) }
 {}

@@ -1,0 +1,6 @@
+pub mod Pieces
+pub mod Fields
+pub mod Readings
+pub mod SlotLemmas
+pub mod Reading
+pub mod Stores

@@ -1,0 +1,6 @@
+use Rattle.std.proofs.Common.{◌≡◌, ◌++◌, take, drop}
+use Rattle.vms_base.specs.Ids.{until_zero}
+use Rattle.lmcp_log.proofs.places.before_zero.Given as goal
+
+abbrev pub invariant-loop-i : goal.invariant-loop-i
+invariant-loop-i l = until_zero l.bytes ≡ take l.i l.bytes ++ until_zero (drop l.i l.bytes)

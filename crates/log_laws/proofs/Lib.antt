@@ -1,0 +1,4 @@
+pub mod HandingOn
+pub mod Slotting
+pub mod RowSlots
+pub mod Reading
