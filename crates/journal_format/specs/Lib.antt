@@ -1,0 +1,3 @@
+pub mod IdForms
+pub mod Fronts
+pub mod Heads

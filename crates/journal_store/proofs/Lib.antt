@@ -1,0 +1,5 @@
+pub mod Counting
+pub mod Streams
+pub mod Journals
+pub mod EntriesAt
+pub mod Readings

@@ -1,0 +1,4 @@
+pub mod Rings
+pub mod Leaving
+pub mod Reading
+pub mod Refusing
