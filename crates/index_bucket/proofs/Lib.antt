@@ -1,0 +1,6 @@
+pub mod Places
+pub mod EntryLaws
+pub mod GrowLaws
+pub mod AddedLaws
+pub mod HandLaws
+pub mod HeldLaws

@@ -1,0 +1,3 @@
+pub mod DescentLemmas
+pub mod HandLemmas
+pub mod TreeLemmas

@@ -1,0 +1,11 @@
+pub mod Tests
+pub mod IndexLemmas
+pub mod PartsLemmas
+pub mod BoundLemmas
+pub mod SetLemmas
+pub mod RoomLemmas
+pub mod FindLemmas
+pub mod BackLemmas
+pub mod ZeroLemmas
+pub mod GrowLemmas
+pub mod LoadLemmas
