@@ -5,6 +5,7 @@ use Rattle.std.specs.Option.{option_map, option_and_then}
 use Rattle.std.specs.Str.{bytes_eq}
 use Rattle.std.proofs.lemmas.Bool.{ne_eqb, eq-eqb, le-ltb}
 use Rattle.std.proofs.lemmas.List.{append-nil, take_rest}
+use Rattle.std.specs.Borrow.{Bor}
 use Rattle.block_disk.specs.Disk.{DiskState}
 use Rattle.vms_model.specs.Names.{node_named}
 use Rattle.vms_model.specs.Words.{parted_at}
@@ -13,8 +14,8 @@ use Rattle.script_model.specs.Command.{is_disk_of}
 use Rattle.dtm_run.specs.Racks.{is_among, refusal_of}
 use Rattle.dtm_run.specs.declared.rack.RackCause.{RackCause}
 use Rattle.dtm_run.specs.declared.rack.RackCause.TheVariants as cause
-use Rattle.dtm.specs.Images.{node_and_image, is_for, Store, IsImageOf, CannotOpen, Names, Stops, IsUnwanted, IsFilled, Reaches}
-use Rattle.dtm.specs.Causes.{WhyUnopened, WhyUnfilled}
+use Rattle.dtm.specs.Images.{node_and_image, is_for, Store, IsImageOf, Names, Stops, IsUnwanted, IsFilled, Reaches}
+use Rattle.dtm.specs.Causes.{IsRefused, WhyUnopened, WhyUnfilled}
 use Rattle.dtm.specs.declared.images.OpenErr.{OpenErr}
 use Rattle.dtm.specs.declared.images.OpenErr.TheVariants as open_err
 
@@ -106,10 +107,9 @@ filled_on opens size all word node image words names images mid_names mid_images
 
 pub why_here : {File Image : Type 0} (store : Store File Image) (state : Image → DiskState) (names : List (List ℕ)) (word : List ℕ) (words : List (List ℕ)) (node path : List ℕ) (e : OpenErr) →
     node_and_image word ≡ Some (node, path) → WhyUnopened store path e → WhyUnfilled store state names (word ∷ words) e
-why_here store state names word words node path (open_err.Image named) says why =
-    (record { nodes = []; added = []; word = word; left = words; adds = refl; node = node; says = says ∙ ap (λ p. Some (node, p)) (sym why.0) }, subst (CannotOpen store) (sym why.0) why.1)
-why_here store state names word words node path open_err.Memory says why =
-    (path, record { nodes = []; added = []; word = word; left = words; adds = refl; node = node; says = says })
+why_here store state names word words node path (open_err.Image named refused) says why =
+    (record { nodes = []; added = []; word = word; left = words; adds = refl; node = node; says = says ∙ ap (λ p. Some (node, p)) (sym why.0) }, subst (λ p. IsRefused store p refused) (sym why.0) why.1)
+why_here store state names word words node path open_err.Memory says why = tt
 
 reaches_more : {Image : Type 0} (opens : List ℕ → Image → Type 0) (size : Image → ℕ) (word node : List ℕ) (image : Image) (names words : List (List ℕ)) (path : List ℕ) →
     Names opens word node image → refusal_of names node (size image) ≡ None → Reaches opens size (names ++ node ∷ []) words path → Reaches opens size names (word ∷ words) path
@@ -118,8 +118,8 @@ reaches_more opens size word node image names words path named none h =
 
 why_more : {File Image : Type 0} (store : Store File Image) (state : Image → DiskState) (word node : List ℕ) (image : Image) (names words : List (List ℕ)) (e : OpenErr) →
     Names (IsImageOf store state) word node image → refusal_of names node (state image).size ≡ None → WhyUnfilled store state (names ++ node ∷ []) words e → WhyUnfilled store state names (word ∷ words) e
-why_more store state word node image names words (open_err.Image path) named none h = (reaches_more (IsImageOf store state) (λ image. (state image).size) word node image names words path.now named none h.0, h.1)
-why_more store state word node image names words open_err.Memory named none h = (h.0, reaches_more (IsImageOf store state) (λ image. (state image).size) word node image names words h.0 named none h.1)
+why_more store state word node image names words (open_err.Image path refused) named none h = (reaches_more (IsImageOf store state) (λ image. (state image).size) word node image names words path.now named none h.0, h.1)
+why_more store state word node image names words open_err.Memory named none h = tt
 
 pub why_on : {File Image R : Type 0} (store : Store File Image) (state : Image → DiskState) (all : List (List ℕ)) (word node : List ℕ) (image : Image) (words names mid_names : List (List ℕ)) (result : Result R OpenErr) →
     all ≡ word ∷ words → Names (IsImageOf store state) word node image → refusal_of names node (state image).size ≡ None → mid_names ≡ names ++ node ∷ [] →
@@ -152,9 +152,9 @@ with_path word node path name h e named =
 
 -- the words as a list
 
-pub first_word : {A B : Type 0} (f : A → B) → (xs : List A) (x : A) → 1 ≤ length xs → x ≡ get_or xs 0 x → map f xs ≡ f x ∷ map f (take (length xs - 1) (drop 1 xs))
-first_word f [] x h e = absurd (omega arith)
-first_word f (y ∷ ys) x h e = ap (λ z. f z ∷ map f ys) (sym e) ∙ ap (λ zs. f x ∷ map f zs) (sym (take_rest (y ∷ ys) 1))
+pub first_said : (words : List (Bor (List ℕ))) (other : Bor (List ℕ)) → 1 ≤ length words → map (λ word. word.now) words ≡ (get_or words 0 other).now ∷ map (λ word. word.now) (take (length words - 1) (drop 1 words))
+first_said [] other h = absurd (omega arith)
+first_said (word ∷ words) other h = ap (λ rest. word.now ∷ map (λ w. w.now) rest) (sym (take_rest (word ∷ words) 1))
 
 pub no_word : {A B : Type 0} (f : A → B) → (xs : List A) → length xs < 1 → map f xs ≡ []
 no_word f [] h = refl

@@ -1,5 +1,5 @@
 -- Which images a command opens, and for which nodes.
-use Rattle.std.specs.Prelude.{◌≡◌, ℕ, ◌*◌, ◌≤◌, ◌⊎◌, List, [], ◌∷◌, ◌++◌, Bool, false, Option, Some, None, codes, if◌then◌else◌}
+use Rattle.std.specs.Prelude.{◌≡◌, ℕ, ◌*◌, ◌≤◌, ◌⊎◌, List, [], ◌∷◌, ◌++◌, Bool, false, nat_eq, Option, Some, None, codes, if◌then◌else◌}
 use Rattle.std.specs.Option.{option_map, option_and_then}
 use Rattle.std.specs.Str.{bytes_eq}
 use Rattle.block_disk.specs.Disk.{DiskState}
@@ -9,9 +9,18 @@ use Rattle.script_model.specs.LineWords.{is_empty}
 use Rattle.dtm_run.specs.Racks.{refusal_of}
 use Rattle.dtm_run.specs.declared.rack.RackCause.TheVariants as cause
 
--- the words behind RUN, which stands behind the program's name
+-- whether a word begins with a dash
+abbrev pub is_dashed : List ℕ → Bool
+is_dashed word = elim word [ first ∷ rest ↦ nat_eq first 45 | [] ↦ false ]
+
+-- the words in front of the first that begins with a dash
+abbrev pub undashed : List (List ℕ) → List (List ℕ)
+undashed [] = []
+undashed (word ∷ words) = if is_dashed word then [] else word ∷ undashed words
+
+-- the words behind RUN, which stands behind the program's name, up to the first that begins with a dash
 abbrev pub images_of : List (List ℕ) → List (List ℕ)
-images_of (program ∷ command ∷ images) = if bytes_eq command (codes "RUN") then images else []
+images_of (program ∷ command ∷ images) = if bytes_eq command (codes "RUN") then undashed images else []
 images_of (program ∷ []) = []
 images_of [] = []
 
@@ -57,17 +66,12 @@ pub record IsImageOf {File Image : Type 0} (store : Store File Image) (state : I
   pub settled : (state image).pending ≡ []
   pub over : store.over file image
 
--- the file of a path has another size than 4,096 to 65,536 whole blocks
-pub record IsWrongSize {File Image : Type 0} (store : Store File Image) (path : List ℕ) : Type 0 where
+-- the file of a path has so many bytes, which are not 4,096 to 65,536 whole blocks
+pub record IsWrongSize {File Image : Type 0} (store : Store File Image) (path : List ℕ) (bytes : ℕ) : Type 0 where
   pub file : File
   pub of_path : IsFileOf store path file
-  pub bytes : ℕ
   pub has : store.has_bytes file bytes
   pub wrong : (blocks : ℕ) → 4096 ≤ blocks → blocks ≤ 65536 → bytes ≡ 512 * blocks → ⊥
-
--- no image of a path can be opened: a call failed, or the file has a wrong size
-abbrev pub CannotOpen : {File Image : Type 0} → Store File Image → List ℕ → Type 0
-CannotOpen store path = store.failed path ⊎ IsWrongSize store path
 
 -- a word that names this node and an image of which this one was opened
 pub record Names {Image : Type 0} (opens : List ℕ → Image → Type 0) (word node : List ℕ) (image : Image) : Type 0 where

@@ -1,5 +1,5 @@
 //! The images that a command names, and the rack that has them.
-ghost use Rattle.std.specs.Prelude.{◌≡◌, ◌≤◌, ◌<◌, ◌*◌, ℕ, List, IfOk, IfErr, IfSome, OnErr, Some, None, MatchOption, [], map, string_bytes};
+ghost use Rattle.std.specs.Prelude.{◌≡◌, ◌≤◌, ◌<◌, ◌*◌, ℕ, List, IfOk, IfErr, IfSome, OnErr, Some, None, MatchOption, [], map};
 ghost use Rattle.std.specs.Option.{option_map};
 ghost use Rattle.block_disk.specs.Disk.{DiskState};
 ghost use Rattle.dtm_run.specs.Racks.{names_in, disks_in, states_in, IsRack};
@@ -10,6 +10,8 @@ ghost use Rattle.dtm.specs.Causes.{WhyUnopened, WhyUnfilled};
 use block_disk::Disk;
 use dtm_run::{Rack, RackCause};
 use std::alloc::{AllocError, Global};
+use std::io;
+use thiserror::Error;
 use vms_base::NodeName;
 
 const BLOCK_BYTES: u64 = 512;
@@ -20,9 +22,19 @@ const MOST_BLOCKS: u64 = 65_536;
 
 const NEW_BLOCKS: u64 = 8_192;
 
-/// A call of the system failed.
-#[derive(Clone, Copy, Debug, PartialEq, Eq)]
-pub struct Failed;
+/// Why a call for the file of an image failed.
+#[derive(Clone, Copy, Debug, Drop, Error)]
+pub enum Failed {
+    /// The system refused it.
+    #[error("{0}")]
+    System(io::Error),
+    /// The file is another run's, or another word's.
+    #[error("another run has it, or another word names it")]
+    Held,
+    /// The file is the standard output or the standard error of this run.
+    #[error("it is the standard output or the standard error")]
+    Stream,
+}
 
 /// The files of a system, by their paths, and disks over them.
 pub trait ImageFiles {
@@ -55,12 +67,25 @@ pub trait ImageFiles {
         ensures settled { IfOk result (λ image. (Self.Image.state image).pending ≡ []) };
 }
 
+/// Why an image is not one that a node can have.
+#[derive(Clone, Copy, Debug, Drop, Error)]
+pub enum Refusal {
+    /// A call for its file failed.
+    #[error("{0}")]
+    Call(Failed),
+    /// Its file has so many bytes, and no 4,096 to 65,536 whole blocks.
+    #[error("it has {0} bytes, and an image has 4096 to 65536 blocks of 512 bytes")]
+    Size(u64),
+}
+
 /// Why the images of a command were not opened.
-#[derive(Clone, Copy, Debug, PartialEq, Eq)]
+#[derive(Clone, Copy, Debug, Drop, Error)]
 pub enum OpenErr<'a> {
-    /// The image of this path cannot be opened, or has another size than 4,096 to 65,536 whole blocks.
-    Image(&'a str),
+    /// The image of this path cannot be opened.
+    #[error("cannot open {0}")]
+    Image(&'a str, Refusal),
     /// Memory is missing.
+    #[error("memory is missing")]
     Memory,
 }
 
@@ -97,14 +122,16 @@ fn open_image<'a, F: ImageFiles>(
     ensures image { IfOk result (λ image. IsImageOf (F.store files.now) F.Image.state path.now image) }
     ensures why { IfErr result (λ e. WhyUnopened (F.store files.now) path.now e) }
 {
-    let Ok(file) = open_or_make(files, path) else {
-        return Err(OpenErr::Image(path));
+    let file = match open_or_make(files, path) {
+        Ok(file) => file,
+        Err(e) => return Err(OpenErr::Image(path, Refusal::Call(e))),
     };
-    let Ok(bytes) = files.bytes(path, &file) else {
-        return Err(OpenErr::Image(path));
+    let bytes = match files.bytes(path, &file) {
+        Ok(bytes) => bytes,
+        Err(e) => return Err(OpenErr::Image(path, Refusal::Call(e))),
     };
     let Some(blocks) = blocks_in(bytes) else {
-        return Err(OpenErr::Image(path));
+        return Err(OpenErr::Image(path, Refusal::Size(bytes)));
     };
     match files.disk(alloc, file, blocks) {
         Ok(image) => Ok(image),
@@ -129,18 +156,18 @@ pub fn node_and_image(word: &str) -> Option<(NodeName, &str)>
 pub fn add_images<'a, F: ImageFiles>(
     files: &F,
     alloc: Global,
-    words: &'a [String],
+    words: &[&'a str],
     rack: Rack<F::Image>,
 ) -> Result<Rack<F::Image>, OpenErr<'a>>
-    ensures filled { IfOk result (λ added. IsFilled (IsImageOf (F.store files.now) F.Image.state) (λ image. (F.Image.state image).size) (map string_bytes words.now) (names_in rack) (disks_in rack) (names_in added) (disks_in added)) }
-    ensures why { IfErr result (λ e. WhyUnfilled (F.store files.now) F.Image.state (names_in rack) (map string_bytes words.now) e) }
+    ensures filled { IfOk result (λ added. IsFilled (IsImageOf (F.store files.now) F.Image.state) (λ image. (F.Image.state image).size) (map (λ word. word.now) words.now) (names_in rack) (disks_in rack) (names_in added) (disks_in added)) }
+    ensures why { IfErr result (λ e. WhyUnfilled (F.store files.now) F.Image.state (names_in rack) (map (λ word. word.now) words.now) e) }
     ensures rack { IsRack F.Image.state rack → IfOk result (λ added. IsRack F.Image.state added) }
 {
     let mut rack = rack;
     let [word, rest @ ..] = words else {
         return Ok(rack);
     };
-    let Some(named) = node_and_image(word.as_str()) else {
+    let Some(named) = node_and_image(*word) else {
         return Ok(rack);
     };
     let (node, path) = named;
@@ -152,7 +179,7 @@ pub fn add_images<'a, F: ImageFiles>(
         Ok(()) => add_images(files, alloc, rest, rack),
         Err(refused) => match refused.cause {
             RackCause::Name | RackCause::Full => Ok(rack),
-            RackCause::Size => Err(OpenErr::Image(path)),
+            RackCause::Size => unreachable!(),
             RackCause::Memory => Err(OpenErr::Memory),
         },
     }

@@ -6,17 +6,23 @@ ghost use Rattle.std.specs.Prelude.{◌≡◌};
 ghost use Rattle.dtm.specs.Statuses.{status_of as status_said};
 
 mod command;
+mod help;
 mod images;
 mod system;
+mod watch;
+mod words;
 
 use command::run_command;
 use dtm_run::Exit;
+use help::{said_of, said_of_images};
 use images::OpenErr;
+use std::alloc::AllocError;
 use std::env;
 use std::io::{ErrorKind, writer};
 use std::process::ExitCode;
-use system::SystemFiles;
+use system::{SystemFiles, hold_streams};
 use transcript::{ReaderSource, WriterSink};
+use watch::{Tail, WatchedSink, WatchedSource};
 
 const CANNOT_OPEN: u8 = 7;
 
@@ -35,26 +41,53 @@ fn status_of(exit: Exit) -> u8
     }
 }
 
+// The words of the process. None where memory is missing; words that are not UTF-8 are no words.
+fn words_of(rt: &HostRuntime) -> Option<Vec<String>> {
+    match env::args(rt) {
+        Ok(args) => args.collect::<Vec<String>>(rt.alloc()).ok(),
+        Err(e) if e.kind() == ErrorKind::OutOfMemory => None,
+        Err(_) => Some(Vec::new(rt.alloc())),
+    }
+}
+
+// Says how a run ended, where there is memory for what is said.
+fn say(rt: &impl Eprint, said: Result<String, AllocError>) {
+    if let Ok(text) = said {
+        let _ = rt.eprint(text.as_str());
+    }
+}
+
 fn main(rt: HostRuntime) -> ExitCode {
-    let words = match env::args(&rt) {
-        Ok(args) => match args.collect::<Vec<String>>(rt.alloc()) {
-            Ok(words) => words,
-            Err(_) => return ExitCode::from(status_of(Exit::Memory)),
-        },
-        Err(e) if e.kind() == ErrorKind::OutOfMemory => return ExitCode::from(status_of(
-            Exit::Memory,
-        )),
-        Err(_) => Vec::new(rt.alloc()),
+    hold_streams(&rt);
+    let alloc = rt.alloc();
+    let (Some(words), Ok(script), Ok(transcript)) = (
+        words_of(&rt),
+        Tail::reserve(alloc),
+        Tail::reserve(alloc),
+    ) else {
+        say(&rt, said_of_images(alloc, &OpenErr::Memory));
+        return ExitCode::from(status_of(Exit::Memory));
     };
-    let files = SystemFiles { system: &rt };
-    let mut source = ReaderSource::new(rt.reader());
-    let mut sink = WriterSink::new(writer(&rt));
-    match run_command(&files, rt.alloc(), &words, &mut source, &mut sink) {
-        Ok(exit) => ExitCode::from(status_of(exit)),
-        Err(OpenErr::Memory) => ExitCode::from(status_of(Exit::Memory)),
-        Err(OpenErr::Image(path)) => {
-            let _ = eprintln!(rt; "dtm: cannot open {path}");
-            ExitCode::from(CANNOT_OPEN)
+    let files = SystemFiles { system: &rt, alloc };
+    let mut source = WatchedSource {
+        source: ReaderSource::new(rt.reader()),
+        tail: script,
+    };
+    let mut sink = WatchedSink {
+        sink: WriterSink::new(writer(&rt)),
+        tail: transcript,
+    };
+    match run_command(&files, alloc, &words, &mut source, &mut sink) {
+        Ok(exit) => {
+            say(&rt, said_of(alloc, exit, &mut source.tail, &mut sink.tail));
+            ExitCode::from(status_of(exit))
+        }
+        Err(e) => {
+            say(&rt, said_of_images(alloc, &e));
+            ExitCode::from(match e {
+                OpenErr::Memory => status_of(Exit::Memory),
+                OpenErr::Image(_, _) => CANNOT_OPEN,
+            })
         }
     }
 }

@@ -1,4 +1,4 @@
-use Rattle.std.proofs.Common.{map, string_bytes}
+use Rattle.std.proofs.Common.{◌≡◌, ◌∙◌, ap, map, rules, string_bytes}
 use Rattle.dtm_run.specs.Racks.{names_in, disks_in, states_in}
 use Rattle.dtm.specs.Images.{images_of}
 use Rattle.dtm.proofs.ImageLemmas.{none_read, filled_from_none, why_from_none}
@@ -6,14 +6,18 @@ use Rattle.dtm.proofs.command.run_command.Goals as goal
 
 pub returns-in-Err-clause-why : goal.returns-in-Err-clause-why
 returns-in-Err-clause-why g c =
-    why_from_none (g.F.ImageFiles.store c.args.files.now) g.F.Image.Disk.state (map string_bytes c.images_of.result.now) (images_of (map string_bytes c.args.words.now)) (names_in c.new.result) c.in-Err.e c.images_of.ensures c.new.ensures.names c.in-Err.ensures.why
+    let same : c.as_slice.result.now ≡ c.in-Ok.images.items = search rules in
+    why_from_none (g.F.ImageFiles.store c.args.files.now) g.F.Image.Disk.state (map (λ image. image.now) c.as_slice.result.now) (images_of (map string_bytes c.args.words.now)) (names_in c.new.result) c.in-Err.e
+    (ap (map (λ image. image.now)) same ∙ c.in-Ok.ensures) c.new.ensures.names c.in-Err.ensures.why
 
 pub returns-clause-ran : goal.returns-clause-ran
-returns-clause-ran g c = record {
-  rack = c.in-Ok.rack;
-  filled = filled_from_none _ _ (map string_bytes c.images_of.result.now) (images_of (map string_bytes c.args.words.now)) (names_in c.new.result) (disks_in c.new.result) (names_in c.in-Ok.rack) (disks_in c.in-Ok.rack)
-      c.images_of.ensures c.new.ensures.names (none_read (λ place. place.name) (λ place. place.disk) c.new.result.places.items c.new.ensures.names) c.in-Ok.ensures.filled;
-  after = states_in g.F.Image.Disk.state c.run.new.rack;
-  ran = c.run.ensures.runs;
-  unread = c.run.ensures.usage;
-}
+returns-clause-ran g c =
+    let same : c.as_slice.result.now ≡ c.in-Ok.images.items = search rules in
+    record {
+      rack = c.in-Ok-add_images.rack;
+      filled = filled_from_none _ _ (map (λ image. image.now) c.as_slice.result.now) (images_of (map string_bytes c.args.words.now)) (names_in c.new.result) (disks_in c.new.result) (names_in c.in-Ok-add_images.rack) (disks_in c.in-Ok-add_images.rack)
+          (ap (map (λ image. image.now)) same ∙ c.in-Ok.ensures) c.new.ensures.names (none_read (λ node. node.0) (λ node. node.1) c.new.result.nodes.entries c.new.ensures.names) c.in-Ok-add_images.ensures.filled;
+      after = states_in g.F.Image.Disk.state c.run.new.rack;
+      ran = c.run.ensures.runs;
+      unread = c.run.ensures.usage;
+    }

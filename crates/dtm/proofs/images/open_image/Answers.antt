@@ -1,14 +1,14 @@
-use Rattle.std.proofs.Common.{refl, inr}
+use Rattle.std.proofs.Common.{ap, is_some, refl}
+use Rattle.std.proofs.lemmas.Bool.{false≢true}
 use Rattle.dtm.proofs.images.open_image.Goals as goal
 
-pub returns-in_default-blocks_in-clause-why : goal.returns-in_default-blocks_in-clause-why
-returns-in_default-blocks_in-clause-why g c = (
+pub returns-in_default-clause-why : goal.returns-in_default-clause-why
+returns-in_default-clause-why g c = (
   refl,
-  inr record {
+  record {
     file = c.in-Ok.file;
     of_path = c.in-Ok.ensures.file;
-    bytes = c.in-Ok-bytes.bytes;
     has = c.in-Ok-bytes.ensures.bytes;
-    wrong = λ blocks low high e. let none : ⊥ = cc (c.blocks_in.ensures.each blocks low high e) in none;
+    wrong = λ blocks low high e. false≢true (ap is_some (rw c.in_default.is at (c.blocks_in.ensures.each blocks low high e)));
   },
 )
