@@ -1,7 +1,7 @@
 //! Two files beside each other: records are set, found, listed and removed.
 ghost use Rattle.std.specs.Prelude.{◌≡◌, ◌≤◌, ◌<◌, ◌*◌, ◌+◌, ◌/◌, ℕ, Bool, List, false, true, length, OnOk, IfOk, IfSome, Some, None, option_map, replicate};
 ghost use Rattle.std.specs.Option.{option_copied};
-ghost use Rattle.careful_write.specs.State.{InHome, IsIdle};
+ghost use Rattle.careful_write.specs.State.{InHome, IsIdle, IsReady};
 ghost use Rattle.vms_base.specs.Keys.{key_of};
 ghost use Rattle.change_set.specs.Maps.{set_key};
 ghost use Rattle.change_set.specs.Files.{IsPlaced, free_frames, in_extent};
@@ -27,7 +27,33 @@ impl Held for NoneHeld {
     }
 }
 
-// Sets a key of one file beside another, which keeps its map and its layout, and applies the change.
+// Stages a key of one file beside another, which keeps its map and its layout.
+fn stage_beside<F: RecordFile, G: RecordFile, D: Disk, H: Held>(
+    head: &mut FileHead,
+    other: &FileHead,
+    store: &mut Store<D>,
+    key: &Key,
+    value: Option<&Record>,
+    held: &H,
+) -> Result<(), Down>
+    requires form { F.form head.old }
+    requires placed { IsPlaced head.old store.old.disk }
+    requires frames { 32 ≤ free_frames store.old.pool }
+    requires idle { IsIdle store.old }
+    requires suits { F.suits head.old (key_of key.now) (option_copied value) }
+    requires other_form { G.form other.now }
+    requires other_valid { IfSome store.old.current (G.valid other.now) }
+    requires apart { (n : ℕ) → in_extent other.now n ≡ true → in_extent head.old n ≡ false }
+    ensures map { OnOk result (IfSome store.old.current (λ before. F.valid head.old before → F.takes head.old before (key_of key.now) (option_copied value.entry) → option_map (F.map head.new) store.new.current ≡ Some (set_key (key_of key.now) (option_copied value.entry) (F.map head.old before)))) }
+    ensures valid { OnOk result (IfSome store.old.current (λ before. F.valid head.old before → F.takes head.old before (key_of key.now) (option_copied value.entry) → IfSome store.new.current (F.valid head.new))) }
+    ensures beside { OnOk result (option_map (G.map other.now) store.new.current ≡ option_map (G.map other.now) store.old.current) }
+    ensures beside_valid { OnOk result (IfSome store.new.current (G.valid other.now)) }
+    ensures ready { OnOk result (IsReady store.new) }
+{
+    F::set(head, store, key, value, held)
+}
+
+// The same, and applies the change.
 fn set_beside<F: RecordFile, G: RecordFile, D: Disk, H: Held>(
     head: &mut FileHead,
     other: &FileHead,
@@ -50,9 +76,8 @@ fn set_beside<F: RecordFile, G: RecordFile, D: Disk, H: Held>(
     ensures beside_valid { OnOk result (IfSome store.new.current (G.valid other.now)) }
     ensures idle { OnOk result (IsIdle store.new) }
 {
-    F::set(head, store, key, value, held)?;
-    store.apply()?;
-    Ok(())
+    stage_beside::<F, G, D, H>(head, other, store, key, value, held)?;
+    store.apply()
 }
 
 // A record for a number that has a cell, or none; it answers Ok and changes nothing where there is no such cell.
