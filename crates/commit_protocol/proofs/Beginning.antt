@@ -8,6 +8,7 @@ use Rattle.commit_protocol.specs.World.{In}
 use Rattle.commit_protocol.specs.Agreement.{Phase, Gone, Running, Ready, phase_of, phase, Status, View, IsRunning, IsReady, Commits, IsOld, Distinct, DistinctBids, AreOld}
 use Rattle.commit_protocol.proofs.Lists.{set_at, set_cases, in_left, in_right, in_parts}
 use Rattle.commit_protocol.proofs.Invariant.{LacksBid, later_when, Noted, Inv, Later, Kept, later_by, later_says, later_old, later_noted, later_commits}
+use Rattle.commit_protocol.proofs.Quiet.{quiet_keeps}
 use Rattle.commit_protocol.proofs.Settling.{not_gone, not_gone_ready, not_both}
 
 -- the branch accepts a serial
@@ -131,37 +132,16 @@ pub ticks_keeps : (v : View) (c : Name → Status) (made : List Id) → Inv v
 ticks_keeps v c made i old current old_made distinct =
     let w : View = ticks v c made in
     let l : Later v w = later_ticks v c made old in
-    record {
-      later = l;
-      inv = record {
-        says = λ m h. later_says v w l m.kind m.to (key_of m) (i.says m h);
-        whole = i.whole;
-        owed = i.owed;
-        waits = i.waits;
-        recorded = i.recorded;
-        upward = i.upward;
-        accepted = i.accepted;
-        unsettled = i.unsettled;
-        unread = i.unread;
-        undecided = i.undecided;
-        apart = i.apart;
-        once = i.once;
-        keyed = i.keyed;
-        noted = λ k b e p. later_noted v w l b (λ s f h. h) (i.noted k b e p);
-        old_at = λ k h. later_old v w l k (i.old_at k h);
-        old_accepted = λ k h. later_old v w l k (i.old_accepted k h);
-        old_read = λ k h. later_old v w l k (i.old_read k h);
-        old_settled = λ k h. later_old v w l k (i.old_settled k h);
-        old_shown = λ t h. l.old t (i.old_shown t h);
-        old_sent = λ m h. later_old v w l (key_of m) (i.old_sent m h);
-        old_made = old_made;
-        distinct = distinct;
-        current = current;
-        lost = λ n x h. let q = i.lost n x h in record { gone = q.gone; unsettled = q.unsettled; unread = q.unread; old = later_old v w l x q.old };
-        shown_first = i.shown_first;
-        shown_lost = i.shown_lost;
-      };
-    }
+    quiet_keeps v v.records v.sent c made i l (record {
+      says = λ m h. later_says v w l m.kind m.to (key_of m) (i.says m h);
+      owed = i.owed;
+      waits = i.waits;
+      recorded = i.recorded;
+      old_sent = λ m h. later_old v w l (key_of m) (i.old_sent m h);
+      old_made = old_made;
+      distinct = distinct;
+      current = current;
+    })
 
 -- a branch with a new serial begins
 abbrev pub opens : View → Branch → (Name → Status) → View

@@ -10,11 +10,12 @@ use Rattle.commit_protocol.specs.Table.{Key, Branch, Child, Act, Notes, Accepts,
 use Rattle.commit_protocol.specs.World.{Node, World, In, at_node, lost_after, node_after, touched, acts}
 use Rattle.commit_protocol.specs.Agreement.{Running, phase_of, Status, View, view, IsRunning, IsReady, IsCommitted, IsAccepted, Commits, IsDead, Waits, AreOld}
 use Rattle.commit_protocol.proofs.Lists.{same_name-eq, same_name-ne, cases_name, in_left, in_parts, set_at, told_key, find-put, find-put_other, find-cut, find-cut_other}
-use Rattle.commit_protocol.proofs.Invariant.{Says, LacksBid, later_trans, Noted, Inv, Later, Kept, later_by, later_says, later_old, later_noted}
+use Rattle.commit_protocol.proofs.Invariant.{Says, LacksBid, later_trans, Noted, Inv, Later, Kept, later_by}
+use Rattle.commit_protocol.proofs.Quiet.{with_records, records_keep}
 use Rattle.commit_protocol.proofs.Settling.{settles, abort_keeps, abort_ready_keeps, commit_keeps, undo_keeps}
 use Rattle.commit_protocol.proofs.Sending.{sends, notes, sends_keeps, notes_keeps}
 use Rattle.commit_protocol.proofs.Deciding.{decides_keeps, Records}
-use Rattle.commit_protocol.proofs.Voting.{prepared, prepares, prepares_keeps, leaves, leaves_keeps, with_records, with_records_keeps, Taken}
+use Rattle.commit_protocol.proofs.Voting.{prepared, prepares, prepares_keeps, leaves, leaves_keeps, with_records_keeps, Taken}
 use Rattle.commit_protocol.proofs.Beginning.{with_child, accepts, accepts_keeps}
 
 pub node_same : (n : Name) (new : Node) (nodes : Name → Node) → at_node n new nodes n ≡ new
@@ -281,40 +282,13 @@ adds_keeps n r v i c none =
       | inl o ↦ (h.0, o, h.2, h.3)
       | inr o ↦ absurd (let T : List Id → Type 0 = λ y. In x.serial y in subst T (ap (λ (y : LogRecord). y.waiting) o ∙ none) h.3)
     ]) in
-    record {
-      later = l;
-      inv = record {
-        says = λ m h. later_says v w l m.kind m.to (key_of m) (i.says m h);
-        whole = i.whole;
-        owed = λ x h d there. let q = i.owed x h d there in (q.0, kept x.tid.node q.0 q.1, q.2, q.3);
-        waits = λ m x h. elim (from m h.0 h.1) [
-          | inl o ↦ i.waits m x (h.0, o, h.2, h.3)
-          | inr o ↦ absurd (let T : List Id → Type 0 = λ y. In x.serial y in subst T (ap (λ (y : LogRecord). y.waiting) o ∙ none) h.3)
-        ];
-        recorded = λ m q h. elim (from m q h) [ inl o ↦ i.recorded m q o | inr o ↦ let T : LogRecord → Type 0 = λ y. Commits v y.tid in subst T (sym o) c ];
-        upward = i.upward;
-        accepted = i.accepted;
-        unsettled = i.unsettled;
-        unread = i.unread;
-        undecided = i.undecided;
-        apart = i.apart;
-        once = i.once;
-        keyed = i.keyed;
-        noted = λ x d e r. later_noted v w l d (λ s f g. g) (i.noted x d e r);
-        old_at = λ x h. later_old v w l x (i.old_at x h);
-        old_accepted = λ x h. later_old v w l x (i.old_accepted x h);
-        old_read = λ x h. later_old v w l x (i.old_read x h);
-        old_settled = λ x h. later_old v w l x (i.old_settled x h);
-        old_shown = λ u h. l.old u (i.old_shown u h);
-        old_sent = λ m h. later_old v w l (key_of m) (i.old_sent m h);
-        old_made = λ u h. l.old u (i.old_made u h);
-        distinct = i.distinct;
-        current = i.current;
-        lost = λ n x h. let q = i.lost n x h in record { gone = q.gone; unsettled = q.unsettled; unread = q.unread; old = later_old v w l x q.old };
-        shown_first = i.shown_first;
-        shown_lost = i.shown_lost;
-      };
-    }
+    records_keep v recs i l
+    (λ x h d there. let q = i.owed x h d there in (q.0, kept x.tid.node q.0 q.1, q.2, q.3))
+    (λ m x h. elim (from m h.0 h.1) [
+      | inl o ↦ i.waits m x (h.0, o, h.2, h.3)
+      | inr o ↦ absurd (let T : List Id → Type 0 = λ y. In x.serial y in subst T (ap (λ (y : LogRecord). y.waiting) o ∙ none) h.3)
+    ])
+    (λ m q h. elim (from m q h) [ inl o ↦ i.recorded m q o | inr o ↦ let T : LogRecord → Type 0 = λ y. Commits v y.tid in subst T (sym o) c ])
 
 pub commit_record_keeps : (n : Name) (k : Key) (r : LogRecord) (v : View) → Inv v → IsReady v k → Commits v k.tid → r.tid ≡ k.tid → r.waiting ≡ [] → Kept v (acted n (Settles k ToCommit Aborted (Some r)) v)
 commit_record_keeps n k r v i ready c tid none =
@@ -385,37 +359,10 @@ release_keeps n s x v i =
     ] in
     let l : Later v w = later_by v w (λ n h. h) (λ x h. h) (λ x q h. h) (λ x h. h) refl refl refl (λ x h. inl h) (λ u h. h.undecided) (λ u h. h.commits)
     (λ m y idle h. let q = from m h.0 h.1 in (q.0, q.1, q.2 ∙ h.2, q.3 y.serial h.3)) in
-    record {
-      later = l;
-      inv = record {
-        says = λ m h. later_says v w l m.kind m.to (key_of m) (i.says m h);
-        whole = i.whole;
-        owed = λ y h d there. kept y.tid.node y (i.owed y h d there);
-        waits = λ m y h. let q = from m h.0 h.1 in i.waits m y (q.0, q.1, q.2 ∙ h.2, q.3 y.serial h.3);
-        recorded = λ m r h. let q = from m r h in let P : Id → Type 0 = λ y. Commits v y in subst P q.2 (i.recorded m q.0 q.1);
-        upward = i.upward;
-        accepted = i.accepted;
-        unsettled = i.unsettled;
-        unread = i.unread;
-        undecided = i.undecided;
-        apart = i.apart;
-        once = i.once;
-        keyed = i.keyed;
-        noted = λ x d e r. later_noted v w l d (λ s f g. g) (i.noted x d e r);
-        old_at = λ x h. later_old v w l x (i.old_at x h);
-        old_accepted = λ x h. later_old v w l x (i.old_accepted x h);
-        old_read = λ x h. later_old v w l x (i.old_read x h);
-        old_settled = λ x h. later_old v w l x (i.old_settled x h);
-        old_shown = λ u h. l.old u (i.old_shown u h);
-        old_sent = λ m h. later_old v w l (key_of m) (i.old_sent m h);
-        old_made = λ u h. l.old u (i.old_made u h);
-        distinct = i.distinct;
-        current = i.current;
-        lost = λ n x h. let q = i.lost n x h in record { gone = q.gone; unsettled = q.unsettled; unread = q.unread; old = later_old v w l x q.old };
-        shown_first = i.shown_first;
-        shown_lost = i.shown_lost;
-      };
-    }
+    records_keep v recs i l
+    (λ y h d there. kept y.tid.node y (i.owed y h d there))
+    (λ m y h. let q = from m h.0 h.1 in i.waits m y (q.0, q.1, q.2 ∙ h.2, q.3 y.serial h.3))
+    (λ m r h. let q = from m r h in let P : Id → Type 0 = λ y. Commits v y in subst P q.2 (i.recorded m q.0 q.1))
 
 pub later_same : (v : View) → Later v v
 later_same v = later_by v v (λ n h. h) (λ k h. h) (λ k o h. h) (λ k h. h) refl refl refl (λ k h. inl h) (λ t h. h.undecided) (λ t h. h.commits) (λ n x i h. h)

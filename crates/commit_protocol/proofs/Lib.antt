@@ -1,6 +1,7 @@
 mod Examples
 pub mod Lists
 pub mod Invariant
+pub mod Quiet
 pub mod Sending
 pub mod Settling
 pub mod Deciding

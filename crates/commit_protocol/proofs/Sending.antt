@@ -4,6 +4,7 @@ use Rattle.commit_protocol.specs.Messages.{Message}
 use Rattle.commit_protocol.specs.Table.{Key, Branch, first, key_of}
 use Rattle.commit_protocol.specs.Agreement.{Gone, Running, phase_of, phase, View, IsRunning, AreOld}
 use Rattle.commit_protocol.proofs.Lists.{set_at, set_cases}
+use Rattle.commit_protocol.proofs.Quiet.{quiet_keeps}
 use Rattle.commit_protocol.proofs.Invariant.{Says, Noted, Inv, Later, Kept, later_by, later_says, later_old, later_noted}
 
 -- a message is sent
@@ -17,43 +18,22 @@ pub sends_keeps : (v : View) (m : Message) → Inv v → Says v m.kind m.to (key
 sends_keeps v m i s o =
     let w : View = sends v m in
     let l : Later v w = later_sends v m in
-    record {
-      later = l;
-      inv = record {
-        says = λ n h. elim h [
-          | inl e ↦ let P : Message → Type 0 = λ x. Says w x.kind x.to (key_of x) in subst P (sym e) (later_says v w l m.kind m.to (key_of m) s)
-          | inr e ↦ later_says v w l n.kind n.to (key_of n) (i.says n e)
-        ];
-        whole = i.whole;
-        owed = i.owed;
-        waits = i.waits;
-        recorded = i.recorded;
-        upward = i.upward;
-        accepted = i.accepted;
-        unsettled = i.unsettled;
-        unread = i.unread;
-        undecided = i.undecided;
-        apart = i.apart;
-        once = i.once;
-        keyed = i.keyed;
-        noted = λ k b e p. later_noted v w l b (λ s f h. h) (i.noted k b e p);
-        old_at = λ k h. later_old v w l k (i.old_at k h);
-        old_accepted = λ k h. later_old v w l k (i.old_accepted k h);
-        old_read = λ k h. later_old v w l k (i.old_read k h);
-        old_settled = λ k h. later_old v w l k (i.old_settled k h);
-        old_shown = λ t h. l.old t (i.old_shown t h);
-        old_sent = λ n h. elim h [
-          | inl e ↦ let P : Message → Type 0 = λ x. AreOld w (key_of x) in subst P (sym e) (later_old v w l (key_of m) o)
-          | inr e ↦ later_old v w l (key_of n) (i.old_sent n e)
-        ];
-        old_made = λ u h. l.old u (i.old_made u h);
-        distinct = i.distinct;
-        current = i.current;
-        lost = λ n k h. let q = i.lost n k h in record { gone = q.gone; unsettled = q.unsettled; unread = q.unread; old = later_old v w l k q.old };
-        shown_first = i.shown_first;
-        shown_lost = i.shown_lost;
-      };
-    }
+    quiet_keeps v v.records (m ∷ v.sent) v.status v.made i l (record {
+      says = λ n h. elim h [
+        | inl e ↦ let P : Message → Type 0 = λ x. Says w x.kind x.to (key_of x) in subst P (sym e) (later_says v w l m.kind m.to (key_of m) s)
+        | inr e ↦ later_says v w l n.kind n.to (key_of n) (i.says n e)
+      ];
+      owed = i.owed;
+      waits = i.waits;
+      recorded = i.recorded;
+      old_sent = λ n h. elim h [
+        | inl e ↦ let P : Message → Type 0 = λ x. AreOld w (key_of x) in subst P (sym e) (later_old v w l (key_of m) o)
+        | inr e ↦ later_old v w l (key_of n) (i.old_sent n e)
+      ];
+      old_made = λ u h. l.old u (i.old_made u h);
+      distinct = i.distinct;
+      current = i.current;
+    })
 
 -- a node notes something of an unprepared branch
 abbrev pub notes : View → Branch → View

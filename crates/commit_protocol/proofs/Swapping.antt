@@ -2,12 +2,12 @@
 use mathlib.Core.Path.{fun_ext}
 use Rattle.std.proofs.Common.{◌≡◌, ℕ, zero, suc, List, [], ◌∷◌, inl, inr, refl, sym, subst, ◌∙◌}
 use Rattle.commit_protocol.specs.Messages.{Name, LogRecord}
-use Rattle.commit_protocol.specs.Table.{Key, Branch, find, key_of}
+use Rattle.commit_protocol.specs.Table.{Key, Branch, find}
 use Rattle.commit_protocol.specs.World.{Node, World, In, swapped, swaps}
 use Rattle.commit_protocol.specs.Agreement.{Status, View, view}
 use Rattle.commit_protocol.proofs.Lists.{cases_name, Unique}
-use Rattle.commit_protocol.proofs.Invariant.{Inv, Later, Kept, later_by, later_says, later_old, later_noted}
-use Rattle.commit_protocol.proofs.Voting.{with_records}
+use Rattle.commit_protocol.proofs.Invariant.{Inv, Later, Kept, later_by}
+use Rattle.commit_protocol.proofs.Quiet.{with_records, records_keep}
 use Rattle.commit_protocol.proofs.Bridge.{part_same, records_at, records_put, records_here, records_away}
 use Rattle.commit_protocol.proofs.Acting.{Good, Goes, last_same}
 
@@ -30,37 +30,10 @@ pub same_records_keep : (v : View) (recs : Name → List LogRecord) → Inv v �
 same_records_keep v recs i from to =
     let w : View = with_records v recs in
     let l : Later v w = later_by v w (λ n h. h) (λ x h. h) (λ x q h. h) (λ x h. h) refl refl refl (λ x h. inl h) (λ u h. h.undecided) (λ u h. h.commits) (λ n x idle h. (h.0, from n h.0 h.1, h.2, h.3)) in
-    record {
-      later = l;
-      inv = record {
-        says = λ m h. later_says v w l m.kind m.to (key_of m) (i.says m h);
-        whole = i.whole;
-        owed = λ x h c there. let q = i.owed x h c there in (q.0, to x.tid.node q.0 q.1, q.2, q.3);
-        waits = λ n x h. i.waits n x (h.0, from n h.0 h.1, h.2, h.3);
-        recorded = λ n r h. i.recorded n r (from n r h);
-        upward = i.upward;
-        accepted = i.accepted;
-        unsettled = i.unsettled;
-        unread = i.unread;
-        undecided = i.undecided;
-        apart = i.apart;
-        once = i.once;
-        keyed = i.keyed;
-        noted = λ x c e r. later_noted v w l c (λ s f g. g) (i.noted x c e r);
-        old_at = λ x h. later_old v w l x (i.old_at x h);
-        old_accepted = λ x h. later_old v w l x (i.old_accepted x h);
-        old_read = λ x h. later_old v w l x (i.old_read x h);
-        old_settled = λ x h. later_old v w l x (i.old_settled x h);
-        old_shown = λ u h. l.old u (i.old_shown u h);
-        old_sent = λ m h. later_old v w l (key_of m) (i.old_sent m h);
-        old_made = λ u h. l.old u (i.old_made u h);
-        distinct = i.distinct;
-        current = i.current;
-        lost = λ n x h. let q = i.lost n x h in record { gone = q.gone; unsettled = q.unsettled; unread = q.unread; old = later_old v w l x q.old };
-        shown_first = i.shown_first;
-        shown_lost = i.shown_lost;
-      };
-    }
+    records_keep v recs i l
+    (λ x h c there. let q = i.owed x h c there in (q.0, to x.tid.node q.0 q.1, q.2, q.3))
+    (λ n x h. i.waits n x (h.0, from n h.0 h.1, h.2, h.3))
+    (λ n r h. i.recorded n r (from n r h))
 
 view_swaps : (i : ℕ) (n : Name) (w : World) → view (swaps i n w) ≡ with_records (view w) (records_at n (swapped i (w.nodes n).records) (view w).records)
 view_swaps i n w =

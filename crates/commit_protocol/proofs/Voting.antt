@@ -8,6 +8,7 @@ use Rattle.commit_protocol.specs.World.{In}
 use Rattle.commit_protocol.specs.Agreement.{Gone, Running, phase_of, phase, View, IsRunning, IsReady, IsCommitted, IsAccepted, Commits, Waits, AreOld}
 use Rattle.commit_protocol.proofs.Lists.{set_at, set_cases}
 use Rattle.commit_protocol.proofs.Invariant.{Inv, Later, Kept, later_by, later_says, later_old, later_noted}
+use Rattle.commit_protocol.proofs.Quiet.{with_records, records_keep}
 use Rattle.commit_protocol.proofs.Settling.{gone_stays, gone_set, same_set, not_gone, not_gone_ready, not_both}
 
 abbrev pub prepared : Branch → Branch
@@ -167,42 +168,12 @@ pub record Taken (v : View) (k : Key) (recs : Name → List LogRecord) : Type 0 
   pub from : (n : Name) (r : LogRecord) → In r (recs n) → (q : LogRecord) × In q (v.records n) × (q.tid ≡ r.tid) × ((s : Id) → In s r.waiting → In s q.waiting)
   pub kept : (n : Name) (x : Key) → k ≢ x → Waits v n x → Waits (record v { records = recs }) n x
 
-abbrev pub with_records : View → (Name → List LogRecord) → View
-with_records v recs = record v { records = recs }
-
 pub with_records_keeps : (v : View) (k : Key) (recs : Name → List LogRecord) → Inv v → IsCommitted v k → Taken v k recs → Kept v (with_records v recs)
 with_records_keeps v k recs i done t =
     let w : View = with_records v recs in
     let l : Later v w = later_by v w (λ n h. h) (λ x h. h) (λ x q h. h) (λ x h. h) refl refl refl (λ x h. inl h) (λ u h. h.undecided) (λ u h. h.commits)
     (λ n x idle h. let q = t.from n h.0 h.1 in (q.0, q.1, q.2 ∙ h.2, q.3 x.serial h.3)) in
-    record {
-      later = l;
-      inv = record {
-        says = λ m h. later_says v w l m.kind m.to (key_of m) (i.says m h);
-        whole = i.whole;
-        owed = λ x h c there. t.kept x.tid.node x (λ e. i.unsettled x (not_gone_ready (v.at x) h) ToCommit (let P : Key → Type 0 = λ y. IsCommitted v y in subst P e done)) (i.owed x h c there);
-        waits = λ n x h. let q = t.from n h.0 h.1 in i.waits n x (q.0, q.1, q.2 ∙ h.2, q.3 x.serial h.3);
-        recorded = λ n r h. let q = t.from n r h in let P : Id → Type 0 = λ y. Commits v y in subst P q.2 (i.recorded n q.0 q.1);
-        upward = i.upward;
-        accepted = i.accepted;
-        unsettled = i.unsettled;
-        unread = i.unread;
-        undecided = i.undecided;
-        apart = i.apart;
-        once = i.once;
-        keyed = i.keyed;
-        noted = λ x c e r. later_noted v w l c (λ s f g. g) (i.noted x c e r);
-        old_at = λ x h. later_old v w l x (i.old_at x h);
-        old_accepted = λ x h. later_old v w l x (i.old_accepted x h);
-        old_read = λ x h. later_old v w l x (i.old_read x h);
-        old_settled = λ x h. later_old v w l x (i.old_settled x h);
-        old_shown = λ u h. l.old u (i.old_shown u h);
-        old_sent = λ m h. later_old v w l (key_of m) (i.old_sent m h);
-        old_made = λ u h. l.old u (i.old_made u h);
-        distinct = i.distinct;
-        current = i.current;
-        lost = λ n x h. let q = i.lost n x h in record { gone = q.gone; unsettled = q.unsettled; unread = q.unread; old = later_old v w l x q.old };
-        shown_first = i.shown_first;
-        shown_lost = i.shown_lost;
-      };
-    }
+    records_keep v recs i l
+    (λ x h c there. t.kept x.tid.node x (λ e. i.unsettled x (not_gone_ready (v.at x) h) ToCommit (let P : Key → Type 0 = λ y. IsCommitted v y in subst P e done)) (i.owed x h c there))
+    (λ n x h. let q = t.from n h.0 h.1 in i.waits n x (q.0, q.1, q.2 ∙ h.2, q.3 x.serial h.3))
+    (λ n r h. let q = t.from n r h in let P : Id → Type 0 = λ y. Commits v y in subst P q.2 (i.recorded n q.0 q.1))
