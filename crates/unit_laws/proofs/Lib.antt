@@ -1,0 +1,10 @@
+pub mod Tests
+pub mod LiveLemmas
+pub mod RestoredLemmas
+pub mod RepresentLemmas
+pub mod CurrentLemmas
+pub mod HistoryLaws
+pub mod RestartLemmas
+pub mod UnitLemmas
+pub mod TrimLemmas
+pub mod NoteLemmas

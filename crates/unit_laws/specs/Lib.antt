@@ -1,0 +1,4 @@
+pub mod Units
+pub mod Laws
+pub mod Journal
+pub mod JournalLaws
