@@ -1,0 +1,45 @@
+-- The steps by which the changes of one branch in a sequential file are undone, from whatever records there are.
+use Rattle.std.specs.Prelude.{◌≡◌, ℕ, ◌+◌, ◌-◌, ◌≤◌, List, [], ◌∷◌, ◌++◌, true, false, Some, length, take}
+use Rattle.file_base.specs.declared.head.FileHead.{FileHead}
+use Rattle.seq_file.specs.Layout.{capacity}
+use Rattle.seq_file.specs.Placing.{buckets_for}
+use Rattle.seq_file.specs.Records.{record_at, map_of_list, list_set, slot_sizes}
+use Rattle.vms_model.specs.Keys.{Key, Number}
+use Rattle.records_model.specs.Records.{Change}
+use Rattle.records_model.specs.History.{changes_key}
+use Rattle.unit_laws.specs.Units.{HasImages, earliest_before, moves_end}
+use Rattle.sequence_laws.specs.Undoing.{GoesBack, lowest_absent, is_taken_away}
+
+-- A step leaves records that go back to the same ones, and of which each changed position has one of its images; the other positions have what they had.
+pub record IsStep (h : FileHead) (cs : List Change) (now back next : List (List ℕ)) : Type 0 where
+  pub goes : GoesBack h cs next back
+  pub images : HasImages (map_of_list now) cs → HasImages (map_of_list next) cs
+  pub others : (n : ℕ) → 1 ≤ n → changes_key (Number n) cs ≡ false → record_at next n ≡ record_at now n
+
+-- the positions from the lowest absent one on go
+abbrev pub CutGoesBack : Type 0
+CutGoesBack = (h : FileHead) (cs : List Change) (now back : List (List ℕ)) (from : ℕ) → GoesBack h cs now back → lowest_absent cs ≡ Some from → 1 ≤ from → IsStep h cs now back (take (from - 1) now)
+
+-- a changed position is set to its earliest before image: one that there is, or the next one
+abbrev pub SetGoesBack : Type 0
+SetGoesBack = (h : FileHead) (cs : List Change) (now back : List (List ℕ)) (n : ℕ) (r : List ℕ) → GoesBack h cs now back → 1 ≤ n → n ≤ length now + 1 → changes_key (Number n) cs ≡ true → earliest_before cs (Number n) ≡ Some r
+    → IsStep h cs now back (list_set n (Some r) now)
+
+-- what there is at taken away positions is there again already, and all that there is to be before a position is there
+pub record IsSetBefore (cs : List Change) (now back : List (List ℕ)) (n : ℕ) : Type 0 where
+  pub regrown : (m : ℕ) (r : List ℕ) → is_taken_away (lowest_absent cs) m ≡ true → record_at now m ≡ Some r → record_at back m ≡ Some r
+  pub filled : n ≤ length now + 1
+
+-- such a set can be done in place, or a record is put behind the last one where that fits the file
+abbrev pub SetMay : Type 0
+SetMay = (h : FileHead) (cs : List Change) (now back : List (List ℕ)) (n : ℕ) (r : List ℕ) → GoesBack h cs now back → IsSetBefore cs now back n → 1 ≤ n → changes_key (Number n) cs ≡ true → earliest_before cs (Number n) ≡ Some r
+    → ((old : List ℕ) → record_at now n ≡ Some old → length r ≡ length old) × (n ≡ length now + 1 → buckets_for (capacity h) (slot_sizes (now ++ r ∷ [])) ≤ h.alloc)
+
+-- once each changed position has its earliest before image there is what is to be
+abbrev pub AllSetIsBack : Type 0
+AllSetIsBack = (h : FileHead) (cs : List Change) (now back : List (List ℕ)) → GoesBack h cs now back → ((n : ℕ) → 1 ≤ n → changes_key (Number n) cs ≡ true → record_at now n ≡ earliest_before cs (Number n)) → now ≡ back
+
+-- Two branches that changed other keys, of which one at most moved the end: once the one is back, the other still goes back, from there.
+abbrev pub OtherGoesBack : Type 0
+OtherGoesBack = (h : FileHead) (cs ds : List Change) (now back other : List (List ℕ)) → GoesBack h cs now back → GoesBack h ds now other → HasImages (map_of_list now) cs → HasImages (map_of_list now) ds
+    → ((key : Key) → changes_key key cs ≡ true → changes_key key ds ≡ false) → (moves_end cs ≡ true → moves_end ds ≡ false) → (both : List (List ℕ)) × GoesBack h ds back both

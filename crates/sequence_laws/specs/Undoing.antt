@@ -1,0 +1,39 @@
+-- How the changes of one branch in a sequential file are undone: positions at its end are taken away, and others set back.
+use Rattle.std.specs.Prelude.{◌≡◌, ℕ, ◌≤◌, List, [], ◌∷◌, Bool, true, false, Option, Some, None, IsSome, ◌⊎◌, if◌then◌else◌, nat_le, min, length}
+use Rattle.std.specs.List.{All}
+use Rattle.file_base.specs.declared.head.FileHead.{FileHead}
+use Rattle.seq_file.specs.Layout.{IsRecord, capacity}
+use Rattle.seq_file.specs.Placing.{buckets_for}
+use Rattle.seq_file.specs.Records.{record_at, slot_sizes}
+use Rattle.vms_model.specs.Keys.{Number, Text, End}
+use Rattle.records_model.specs.Records.{Change}
+use Rattle.records_model.specs.History.{changes_key}
+use Rattle.unit_laws.specs.Units.{earliest_before, IsImage}
+
+-- The lowest position at which a branch found no record: from there on it takes the positions of a sequential file away, before it sets others back. There is
+-- none where the branch put no record behind the last.
+abbrev pub lower : ℕ → Option ℕ → Option ℕ
+lower n None = Some n
+lower n (Some m) = Some (min n m)
+
+abbrev pub absent_at : Change → Option ℕ → Option ℕ
+absent_at c so_far = elim c.before [ Some r ↦ so_far | None ↦ elim c.key [ Number n ↦ lower n so_far | Text t ↦ so_far | End ↦ so_far ] ]
+
+abbrev pub lowest_absent : List Change → Option ℕ
+lowest_absent [] = None
+lowest_absent (c ∷ cs) = absent_at c (lowest_absent cs)
+
+-- whether a position is that one or behind it
+abbrev pub is_taken_away : Option ℕ → ℕ → Bool
+is_taken_away None n = false
+is_taken_away (Some from) n = nat_le from n
+
+-- The records of a sequential file as they are now, and as they are once a branch is undone. Each position from the lowest absent one on that there is before or
+-- after is the branch's own, and had no record before or after one of its changes; no other position changes its length; and what there is then fits the file.
+pub record GoesBack (h : FileHead) (cs : List Change) (now back : List (List ℕ)) : Type 0 where
+  pub restored : (n : ℕ) → 1 ≤ n → record_at back n ≡ (if changes_key (Number n) cs then earliest_before cs (Number n) else record_at now n)
+  pub own : (n : ℕ) → is_taken_away (lowest_absent cs) n ≡ true → IsSome (record_at now n) ⊎ IsSome (record_at back n) → changes_key (Number n) cs ≡ true
+  pub absent : (n : ℕ) → is_taken_away (lowest_absent cs) n ≡ true → changes_key (Number n) cs ≡ true → IsImage cs (Number n) None
+  pub same : (n : ℕ) (r s : List ℕ) → is_taken_away (lowest_absent cs) n ≡ false → record_at now n ≡ Some r → record_at back n ≡ Some s → length s ≡ length r
+  pub records : All (IsRecord h.mrs) back
+  pub fits : buckets_for (capacity h) (slot_sizes back) ≤ h.alloc

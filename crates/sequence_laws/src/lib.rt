@@ -1,0 +1,29 @@
+//! The laws by which the changes of a branch in a sequential file are undone, step by step, from whatever a fall has left of them.
+//!
+//! The crate has definitions and laws, and nothing that runs. `specs/Undoing` has the records that a branch goes back to, and `specs/Laws` the steps.
+#![tactic(auto)]
+
+ghost use Rattle.sequence_laws.specs.Laws.{CutGoesBack, SetGoesBack, SetMay, AllSetIsBack, OtherGoesBack};
+
+/// A sequential file goes back to the records that it is to have without a branch step by step. First the positions from the lowest absent one on are cut, and
+/// then each other position that the branch changed is set to its earliest before image. After each step it still goes back to the same records, whatever
+/// was done before a fall, and no position of another branch changes.
+pub fn steps_go_back()
+    ensures cut { CutGoesBack }
+    ensures set { SetGoesBack }
+{}
+
+/// In ascending order each of these sets can be done: in place to a record of the same length, or as the next record where it fits the file.
+pub fn sets_can_be_done()
+    ensures { SetMay }
+{}
+
+/// Once each changed position has its earliest before image, there are the records that there are to be.
+pub fn all_set_is_back()
+    ensures { AllSetIsBack }
+{}
+
+/// Of two branches with changes of one file, of which one at most moved its end, the second still goes back once the first is back.
+pub fn other_goes_back()
+    ensures { OtherGoesBack }
+{}
