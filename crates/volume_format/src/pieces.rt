@@ -7,8 +7,10 @@ ghost use Rattle.vms_model.specs.Ids.{IsId, id_bytes, padded};
 ghost use Rattle.vms_base.specs.declared.ids.Id.{Id as IdSaid};
 ghost use Rattle.vms_base.specs.Ids.{id_of, until_zero};
 ghost use Rattle.file_base.specs.Bytes.{piece_at};
+ghost use Rattle.byteorder.specs.Endian.{little_bytes, little_number};
 ghost use Rattle.volume_format.specs.Layout.{spliced, laid, number_8 as number_8_at, number_16 as number_16_at, number_32 as number_32_at, number_64 as number_64_at};
 
+use byteorder::{ByteOrder, LittleEndian};
 use file_base::splice;
 use vms_base::{FileName, Id, NodeName, get_id};
 
@@ -42,7 +44,9 @@ pub(crate) fn write_16(block: &mut [u8; 512], at: usize, n: u16)
     requires { at + 2 ≤ 512 }
     ensures { block.new ≡ laid (number_16_at at n ∷ []) block.old }
 {
-    write(block, at, &n.to_le_bytes());
+    let mut bytes = [0; 2];
+    LittleEndian::write_u16(&mut bytes, n);
+    write(block, at, &bytes);
 }
 
 /// Writes a number in four bytes.
@@ -50,7 +54,9 @@ pub(crate) fn write_32(block: &mut [u8; 512], at: usize, n: u32)
     requires { at + 4 ≤ 512 }
     ensures { block.new ≡ laid (number_32_at at n ∷ []) block.old }
 {
-    write(block, at, &n.to_le_bytes());
+    let mut bytes = [0; 4];
+    LittleEndian::write_u32(&mut bytes, n);
+    write(block, at, &bytes);
 }
 
 /// Writes a number in eight bytes.
@@ -58,7 +64,9 @@ pub(crate) fn write_64(block: &mut [u8; 512], at: usize, n: u64)
     requires { at + 8 ≤ 512 }
     ensures { block.new ≡ laid (number_64_at at n ∷ []) block.old }
 {
-    write(block, at, &n.to_le_bytes());
+    let mut bytes = [0; 8];
+    LittleEndian::write_u64(&mut bytes, n);
+    write(block, at, &bytes);
 }
 
 /// The number in one byte.
@@ -74,7 +82,7 @@ pub(crate) fn number_16(block: &[u8; 512], at: usize) -> u16
     requires { at + 2 ≤ 512 }
     ensures { (n : ℕ) → n < 2 ^ 16 → piece_at block.now at 2 ≡ to_le_bytes w16 n → result ≡ n }
 {
-    u16::from_le_bytes([block[at], block[at + 1]])
+    LittleEndian::read_u16(piece(block.as_slice(), at, 2))
 }
 
 /// The number in four bytes.
@@ -82,7 +90,7 @@ pub(crate) fn number_32(block: &[u8; 512], at: usize) -> u32
     requires { at + 4 ≤ 512 }
     ensures { (n : ℕ) → n < 2 ^ 32 → piece_at block.now at 4 ≡ to_le_bytes w32 n → result ≡ n }
 {
-    u32::from_le_bytes([block[at], block[at + 1], block[at + 2], block[at + 3]])
+    LittleEndian::read_u32(piece(block.as_slice(), at, 4))
 }
 
 /// The number in eight bytes.
