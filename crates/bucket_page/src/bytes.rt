@@ -1,10 +1,12 @@
 //! Numbers in the bytes of a bucket, and pieces moved among them.
 ghost use Rattle.std.specs.Prelude.{◌↔◌, ◌≡◌, ◌≤◌, ◌<◌, ◌+◌, ◌-◌, ◌*◌, ◌++◌, ℕ, IsTrue, EachIndex, slice_index, length, take, drop};
 ghost use Rattle.file_base.specs.Bytes.{piece_at, spliced};
+ghost use Rattle.byteorder.specs.Endian.{little_bytes, little_number};
 ghost use Rattle.bucket_page.specs.Moves.{opened, closed};
 ghost use Rattle.bucket_page.specs.Pages.{u16_at, u32_at, u16_bytes, u32_bytes, front_size, header, tag_of};
 
 use crate::kind::PageKind;
+use byteorder::{ByteOrder, LittleEndian};
 use file_base::{splice, splice_zeros};
 
 /// The number of two bytes.
@@ -12,7 +14,7 @@ pub(crate) fn read_u16(bytes: &[u8], at: usize) -> u16
     requires { at + 2 ≤ length bytes.now }
     ensures { result ≡ u16_at bytes.now at }
 {
-    u16::from_le_bytes([bytes[at], bytes[at + 1]])
+    LittleEndian::read_u16(&bytes[at..])
 }
 
 /// The number of four bytes.
@@ -20,7 +22,7 @@ pub(crate) fn read_u32(bytes: &[u8], at: usize) -> u32
     requires { at + 4 ≤ length bytes.now }
     ensures { result ≡ u32_at bytes.now at }
 {
-    u32::from_le_bytes([bytes[at], bytes[at + 1], bytes[at + 2], bytes[at + 3]])
+    LittleEndian::read_u32(&bytes[at..])
 }
 
 /// Whether all bytes are zero.
@@ -59,27 +61,12 @@ fn tag(kind: PageKind) -> u8
 pub(crate) fn front(kind: PageKind, count: u16, used: u16, next: u32) -> [u8; 16]
     ensures { result ≡ header (tag_of kind) count used next }
 {
-    let [c0, c1] = count.to_le_bytes();
-    let [u0, u1] = used.to_le_bytes();
-    let [n0, n1, n2, n3] = next.to_le_bytes();
-    [
-        tag(kind),
-        0,
-        c0,
-        c1,
-        u0,
-        u1,
-        0,
-        0,
-        n0,
-        n1,
-        n2,
-        n3,
-        0,
-        0,
-        0,
-        0,
-    ]
+    let mut bytes = [0; 16];
+    bytes[0] = tag(kind);
+    LittleEndian::write_u16(&mut bytes[2..], count);
+    LittleEndian::write_u16(&mut bytes[4..], used);
+    LittleEndian::write_u32(&mut bytes[8..], next);
+    bytes
 }
 
 /// Writes the number of slots and of their bytes.
@@ -89,8 +76,8 @@ pub(crate) fn put_counts(bytes: &mut [u8], count: usize, used: usize)
     requires within { 6 ≤ length bytes.old }
     ensures { bytes.new ≡ spliced bytes.old 2 (u16_bytes count ++ u16_bytes used) }
 {
-    splice(bytes, 2, &(count as u16).to_le_bytes());
-    splice(bytes, 4, &(used as u16).to_le_bytes());
+    LittleEndian::write_u16(&mut bytes[2..], count as u16);
+    LittleEndian::write_u16(&mut bytes[4..], used as u16);
 }
 
 /// Writes the number of the next bucket.
@@ -98,7 +85,7 @@ pub(crate) fn put_next(bytes: &mut [u8], next: u32)
     requires { 12 ≤ length bytes.old }
     ensures { bytes.new ≡ spliced bytes.old 8 (u32_bytes next) }
 {
-    splice(bytes, 8, &next.to_le_bytes());
+    LittleEndian::write_u32(&mut bytes[8..], next);
 }
 
 /// Makes room for a piece and writes it, and moves what stood from there to `end` behind it.
