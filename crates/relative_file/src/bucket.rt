@@ -3,9 +3,11 @@ ghost use Rattle.std.specs.Prelude.{◌↔◌, ◌≡◌, ◌≤◌, ◌+◌, �
 ghost use Rattle.careful_write.specs.Down.{answered};
 ghost use Rattle.frame_pool.specs.Pool.{IsOut};
 ghost use Rattle.change_set.specs.Buckets.{frame_of, with_frame, LiesInHome};
+ghost use Rattle.byteorder.specs.Endian.{little_bytes};
 ghost use Rattle.relative_file.specs.Cells.{cells_in, front_of, empty_bucket, as_read, bucket_at};
 
 use block_disk::Disk;
+use byteorder::{ByteOrder, LittleEndian};
 use careful_write::{Down, Store};
 use change_set::load_bucket;
 use file_base::{FileHead, splice, splice_zeros};
@@ -27,11 +29,10 @@ fn front(head: &FileHead) -> [u8; 16]
 {
     let count = cells(head);
     let used = count * (head.mrs as u32 + 2);
-    let [count_low, count_high] = (count as u16).to_le_bytes();
-    let [used_low, used_high] = (used as u16).to_le_bytes();
-    [
-        2, 0, count_low, count_high, used_low, used_high, 0, 0, 255, 255, 255, 255, 0, 0, 0, 0,
-    ]
+    let mut bytes = [2, 0, 0, 0, 0, 0, 0, 0, 255, 255, 255, 255, 0, 0, 0, 0];
+    LittleEndian::write_u16(&mut bytes[2..], count as u16);
+    LittleEndian::write_u16(&mut bytes[4..], used as u16);
+    bytes
 }
 
 /// Writes a bucket of absent cells over the front of some bytes.

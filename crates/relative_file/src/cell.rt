@@ -1,8 +1,10 @@
 //! A cell: the record's length, and room for the longest record.
-ghost use Rattle.std.specs.Prelude.{◌≡◌, ◌≤◌, ◌<◌, ◌+◌, ◌*◌, ℕ, true, false, Some, None, IfSome, IfNone, length};
+ghost use Rattle.std.specs.Prelude.{◌≡◌, ◌≤◌, ◌<◌, ◌+◌, ◌*◌, ◌/◌, ◌%◌, ℕ, [], ◌∷◌, true, false, Some, None, IfSome, IfNone, length};
+ghost use Rattle.byteorder.specs.Endian.{little_bytes, little_number};
 ghost use Rattle.file_base.specs.Bytes.{piece_at, spliced};
 ghost use Rattle.relative_file.specs.Cells.{record_in, cell_of, FirstIn, NoneIn};
 
+use byteorder::{ByteOrder, LittleEndian};
 use file_base::{splice, splice_zeros};
 use vms_base::Record;
 
@@ -13,7 +15,7 @@ pub(crate) fn read_cell(bytes: &[u8], at: usize, mrs: usize, out: &mut Record) -
     ensures some { result ≡ true → record_in mrs (piece_at bytes.now at (mrs + 2)) ≡ Some out.new }
     ensures none { result ≡ false → record_in mrs (piece_at bytes.now at (mrs + 2)) ≡ None }
 {
-    let size = bytes[at] as usize + 256 * bytes[at + 1] as usize;
+    let size = LittleEndian::read_u16(&bytes[at..]) as usize;
     if size == 0 || size > mrs {
         return false;
     }
@@ -43,6 +45,15 @@ pub(crate) fn first_record(
     None
 }
 
+// The length of a cell's record, as it stands at the front of the cell.
+fn size_bytes(size: u16) -> [u8; 2]
+    ensures { result ≡ size % 256 ∷ size / 256 ∷ [] }
+{
+    let mut bytes = [0; 2];
+    LittleEndian::write_u16(&mut bytes, size);
+    bytes
+}
+
 /// Writes a cell with this record, and zeros behind it; an absent one has no bytes.
 pub(crate) fn write_cell(bytes: &mut [u8], at: usize, mrs: usize, value: &[u8])
     requires within { at + mrs + 2 ≤ length bytes.old }
@@ -51,7 +62,7 @@ pub(crate) fn write_cell(bytes: &mut [u8], at: usize, mrs: usize, value: &[u8])
     ensures { bytes.new ≡ spliced bytes.old at (cell_of mrs value.now) }
 {
     let size = value.len();
-    splice(bytes, at, &[(size % 256) as u8, (size / 256) as u8]);
+    splice(bytes, at, &size_bytes(size as u16));
     splice(bytes, at + 2, value);
     splice_zeros(bytes, at + 2 + size, mrs - size);
 }
