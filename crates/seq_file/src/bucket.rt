@@ -3,6 +3,7 @@ ghost use Rattle.std.specs.Prelude.{◌↔◌, ◌≡◌, ◌≢◌, ◌≤◌, 
 ghost use Rattle.careful_write.specs.Down.{answered};
 ghost use Rattle.frame_pool.specs.Pool.{IsOut};
 ghost use Rattle.change_set.specs.Files.{IsPlaced};
+ghost use Rattle.byteorder.specs.Endian.{little_bytes};
 ghost use Rattle.bucket_page.specs.declared.kind.PageKind.TheVariants.{Seq};
 ghost use Rattle.bucket_page.specs.Pages.{slots_of, slot_at, joined, IsBucket};
 ghost use Rattle.seq_file.specs.Layout.{slot_of, record_of, IsRecord};
@@ -10,6 +11,7 @@ ghost use Rattle.seq_file.specs.Frames.{page_in, HasSlots, InFrame, Reads, Settl
 
 use block_disk::Disk;
 use bucket_page::{Page, PageKind};
+use byteorder::{ByteOrder, LittleEndian};
 use careful_write::{Down, Store};
 use change_set::load_bucket;
 use file_base::{FileHead, splice};
@@ -149,7 +151,7 @@ fn write_slot(slot: &mut [u8], value: &[u8])
     requires most { length value.now ≤ 8160 }
     ensures { take (length value.now + 2) slot.new ≡ slot_of value.now }
 {
-    splice(slot, 0, &(value.len() as u16).to_le_bytes());
+    LittleEndian::write_u16(slot, value.len() as u16);
     splice(slot, 2, value);
 }
 
