@@ -1,6 +1,7 @@
 //! A group is written in four parts, each ended by a barrier: the intents, the open gate, the blocks, the closed gate.
 ghost use Rattle.std.specs.Prelude.{◌≡◌, ◌≢◌, ◌<◌, ◌≤◌, ◌+◌, ◌*◌, ◌/◌, ◌%◌, ℕ, List, [], true, false, IfSome, OnOk, OnErr, length, option_map, slice_set, slice_index_or};
 ghost use Rattle.block_disk.specs.Blocks.{has_number, numbers_of, laid_over, ascends, block_at};
+ghost use Rattle.byteorder.specs.Endian.{little_bytes, little_number};
 ghost use Rattle.careful_write.specs.Content.{home, laid_home, gate_open, intents, gate_block, word_of, word_for, words_for, HoldsBelow, NamesBelow, IsFront};
 ghost use Rattle.careful_write.specs.State.{InHome, Leaves, IsEither};
 ghost use Rattle.careful_write.specs.Steps.{Touches, Counts};
@@ -9,6 +10,7 @@ ghost use Rattle.careful_write.specs.declared.load.Found.TheVariants.{Open};
 ghost use Rattle.careful_write.specs.Parts.{in_gate, in_index, in_data, in_intents, in_group, in_finish, written_by, HasData, DataFirst};
 
 use block_disk::{BlockTable, Disk, DiskErr};
+use byteorder::{ByteOrder, LittleEndian};
 
 /// Writes the blocks whole or not at all, in every image that a power loss may leave.
 pub(crate) fn write_group<D: Disk>(disk: &mut D, group: &BlockTable) -> Result<(), DiskErr>
@@ -204,12 +206,21 @@ fn index_word_of(group: &BlockTable, w: usize) -> u32
     group.at(w - 1).0
 }
 
+// A word in four bytes.
+fn word_bytes(word: u32) -> [u8; 4]
+    ensures { result ≡ little_bytes 4 word }
+{
+    let mut bytes = [0; 4];
+    LittleEndian::write_u32(&mut bytes, word);
+    bytes
+}
+
 fn put_word(bytes: &mut [u8; 512], k: usize, word: u32)
     requires { k < 128 }
     ensures here { word_of bytes.new k ≡ word }
     ensures others { (i : ℕ) → i ≢ k → word_of bytes.new i ≡ word_of bytes.old i }
 {
-    let [first, second, third, fourth] = word.to_le_bytes();
+    let [first, second, third, fourth] = word_bytes(word);
     bytes[4 * k] = first;
     bytes[4 * k + 1] = second;
     bytes[4 * k + 2] = third;

@@ -2,6 +2,7 @@
 ghost use Rattle.std.specs.Prelude.{◌≡◌, ◌<◌, ◌≤◌, ◌+◌, ◌-◌, ◌/◌, ◌++◌, ℕ, List, [], true, false, Some, IfOk, IfSome, OnOk, OnErr, length, option_map, slice_index};
 ghost use Rattle.block_disk.specs.Blocks.{AllWhole, has_number, numbers_of, ascends, block_at};
 ghost use Rattle.block_disk.specs.Disk.{answered};
+ghost use Rattle.byteorder.specs.Endian.{little_bytes, little_number};
 ghost use Rattle.careful_write.specs.Content.{home, gate_open, intents, content_of, laid_home, word_of, index_word};
 ghost use Rattle.careful_write.specs.State.{InHome, LeavesAsItWas};
 ghost use Rattle.careful_write.specs.Load.{Says, LoadsOnly, fitting};
@@ -9,6 +10,7 @@ ghost use Rattle.careful_write.specs.Steps.{Counts};
 
 use crate::group::finish;
 use block_disk::{BlockTable, Disk, DiskErr};
+use byteorder::{ByteOrder, LittleEndian};
 
 /// What the gate and the index say.
 #[derive(Clone, Copy, Debug, PartialEq, Eq)]
@@ -104,12 +106,7 @@ fn word_in(bytes: &[u8; 512], k: usize) -> u32
     requires { k < 128 }
     ensures { result ≡ word_of bytes.now k }
 {
-    u32::from_le_bytes([
-        bytes[4 * k],
-        bytes[4 * k + 1],
-        bytes[4 * k + 2],
-        bytes[4 * k + 3],
-    ])
+    LittleEndian::read_u32(&bytes[4 * k..])
 }
 
 /// Finishes an open group that fits. It changes no content.
