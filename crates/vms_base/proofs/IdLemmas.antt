@@ -1,11 +1,12 @@
 -- What the 16 bytes of an id are read as.
-use Rattle.std.proofs.Common.{◌≡◌, ◌^◌, ℕ, ◌-◌, ◌<◌, ◌≤◌, List, [], ◌∷◌, ◌++◌, true, false, refl, ap, sym, ◌∙◌, length, drop, get_or, arith, append_assoc, length-append, Some, None, replicate, suc}
+use Rattle.std.proofs.Common.{◌≡◌, ◌^◌, ℕ, ◌-◌, ◌<◌, ◌≤◌, List, [], ◌∷◌, ◌++◌, true, false, refl, ap, sym, ◌∙◌, length, take, drop, arith, append_assoc, length-append, Some, None, replicate, suc}
 use Rattle.std.specs.Prelude.{◌==◌, ◌&&◌, nat_le}
 use Rattle.std.specs.List.{list_all}
-use Rattle.std.specs.Int.{to_le_bytes, from_le_bytes, w32}
+use Rattle.std.specs.Int.{to_le_bytes, w32}
 use Rattle.std.proofs.lemmas.List.{length-replicate}
 use Rattle.std.proofs.Math.Seq.{drop-append_seam}
-use Rattle.std.proofs.lemmas.Nat.{from_le_bytes-to_le_bytes_4}
+use Rattle.byteorder.specs.Endian.{little_number}
+use Rattle.byteorder.specs.Numbers.{little_number-reads_back}
 use Rattle.vms_model.specs.Names.{in_name, is_name, node_named, upper, begins_with_letter}
 use Rattle.vms_model.specs.Ids.{Id}
 use Rattle.vms_model.specs.Ids.{IsId, padded, id_bytes}
@@ -49,19 +50,18 @@ rest_read id bytes h e =
     sym (ap (λ b. drop 8 b) e) ∙ ap (λ k. drop k (id_bytes id)) (sym (padded_long id.node n.1)) ∙ drop-append_seam (padded 8 id.node) (to_le_bytes w32 id.boot ++ to_le_bytes w32 id.seq)
 
 -- the number in the first four bytes, and in the next
-boot_of : (rest : List ℕ) (boot seq n : ℕ) → boot < 2 ^ 32 → rest ≡ to_le_bytes w32 boot ++ to_le_bytes w32 seq → n ≡ from_le_bytes w32 (get_or rest 0 0 ∷ get_or rest 1 0 ∷ get_or rest 2 0 ∷ get_or rest 3 0 ∷ []) → n ≡ boot
-boot_of rest boot seq n h e f = f ∙ rw e (from_le_bytes-to_le_bytes_4 boot h)
+boot_of : (rest : List ℕ) (boot seq n : ℕ) → boot < 2 ^ 32 → rest ≡ to_le_bytes w32 boot ++ to_le_bytes w32 seq → n ≡ little_number 4 rest → n ≡ boot
+boot_of rest boot seq n h e f = f ∙ ap (little_number 4) e ∙ little_number-reads_back 4 boot (to_le_bytes w32 seq) h
 
-seq_of : (rest : List ℕ) (boot seq n : ℕ) → seq < 2 ^ 32 → rest ≡ to_le_bytes w32 boot ++ to_le_bytes w32 seq → n ≡ from_le_bytes w32 (get_or rest 4 0 ∷ get_or rest 5 0 ∷ get_or rest 6 0 ∷ get_or rest 7 0 ∷ []) → n ≡ seq
-seq_of rest boot seq n h e f = f ∙ rw e (from_le_bytes-to_le_bytes_4 seq h)
+seq_of : (rest : List ℕ) (boot seq n : ℕ) → seq < 2 ^ 32 → rest ≡ to_le_bytes w32 boot ++ to_le_bytes w32 seq → n ≡ little_number 4 (take (length rest - 4) (drop 4 rest)) → n ≡ seq
+seq_of rest boot seq n h e f = f ∙ ap (λ r. little_number 4 (take (length r - 4) (drop 4 r))) e ∙ little_number-reads_back 4 seq [] h
 
 some_same : (xs ys : List ℕ) → Some xs ≡ Some ys → xs ≡ ys
 some_same xs ys h = cc
 
 -- what is read of an id's bytes has these bytes
 pub read_again : (id : Id) (bytes node rest : List ℕ) (boot seq : ℕ) → IsId id → id_bytes id ≡ bytes → Some node ≡ node_named (until_zero bytes) → rest ≡ drop 8 bytes
-    → boot ≡ from_le_bytes w32 (get_or rest 0 0 ∷ get_or rest 1 0 ∷ get_or rest 2 0 ∷ get_or rest 3 0 ∷ [])
-    → seq ≡ from_le_bytes w32 (get_or rest 4 0 ∷ get_or rest 5 0 ∷ get_or rest 6 0 ∷ get_or rest 7 0 ∷ [])
+    → boot ≡ little_number 4 rest → seq ≡ little_number 4 (take (length rest - 4) (drop 4 rest))
     → id_bytes (record { node = node; boot = boot; seq = seq }) ≡ bytes
 read_again id bytes node rest boot seq h e n r b s =
     let back = r ∙ rest_read id bytes h e in

@@ -1,10 +1,12 @@
 // Ids of transactions, branches and branch identifiers.
 ghost use Rattle.std.specs.Prelude.{◌≡◌, ℕ, List, ◌↔◌, Some};
 ghost use Rattle.std.specs.Option.{option_map};
+ghost use Rattle.byteorder.specs.Endian.{little_bytes, little_number};
 ghost use Rattle.vms_model.specs.Ids.{Id as IdSaid, IsId, id_bytes};
 ghost use Rattle.vms_base.specs.Ids.{id_of, until_zero};
 
 use crate::names::NodeName;
+use byteorder::{ByteOrder, LittleEndian};
 
 /// A node, the number of its boot, and a number that was drawn in that boot.
 #[derive(Clone, Copy, Debug, Default, PartialEq, Eq, Drop)]
@@ -26,14 +28,23 @@ pub struct Serial(pub Id);
 #[derive(Clone, Copy, Debug, Default, PartialEq, Eq, Drop)]
 pub struct Bid(pub Id);
 
+// A number in four bytes.
+fn number_bytes(n: u32) -> [u8; 4]
+    ensures { result ≡ little_bytes 4 n }
+{
+    let mut bytes = [0; 4];
+    LittleEndian::write_u32(&mut bytes, n);
+    bytes
+}
+
 /// Writes an id in 16 bytes: the node's name with zeros up to 8 bytes, then boot and sequence, low bytes first.
 pub fn put_id(id: &Id, out: &mut [u8; 16])
     ensures bytes { out.new ≡ id_bytes (id_of id.now) }
     ensures id { IsId (id_of id.now) }
 {
     let n = id.node.padded();
-    let b = id.boot.to_le_bytes();
-    let s = id.seq.to_le_bytes();
+    let b = number_bytes(id.boot);
+    let s = number_bytes(id.seq);
     *out = [
         n[0], n[1], n[2], n[3], n[4], n[5], n[6], n[7], b[0], b[1], b[2], b[3], s[0], s[1], s[2],
         s[3],
@@ -58,8 +69,8 @@ pub fn get_id(bytes: &[u8; 16]) -> Option<Id>
 {
     let node = NodeName::new(before_zero(bytes.as_slice()))?;
     let (_, rest) = bytes.split_at(8);
-    let boot = u32::from_le_bytes([rest[0], rest[1], rest[2], rest[3]]);
-    let seq = u32::from_le_bytes([rest[4], rest[5], rest[6], rest[7]]);
+    let boot = LittleEndian::read_u32(rest);
+    let seq = LittleEndian::read_u32(&rest[4..]);
     let id = Id { node, boot, seq };
     let mut again = [0; 16];
     put_id(&id, &mut again);

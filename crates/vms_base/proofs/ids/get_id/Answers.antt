@@ -14,7 +14,7 @@ returns-else-eq c = λ id. (
   (λ (h, e).
       let b = c.before_zero.ensures ∙ ap until_zero c.as_slice.ensures in
       let n : Some c.in_ok-node.node ≡ node_named (until_zero c.args.bytes.now) = sym c.in_ok-node.was ∙ c.new.ensures ∙ ap node_named b in
-      let again = c.put_id.ensures.bytes ∙ read_again id c.args.bytes.now _ _ _ _ h e n c.split_at.ensures.back c.from_le_bytes-boot.ensures c.from_le_bytes-seq.ensures in
+      let again = c.put_id.ensures.bytes ∙ read_again id c.args.bytes.now _ _ _ _ h e n c.split_at.ensures.back c.read_u32-boot.ensures c.read_u32-seq.ensures in
       let t = (bytes_eq-Decides _ _).1 again in
       let k : true ≡ false = sym t ∙ sym c.if-eq.ensures in cc),
 )
