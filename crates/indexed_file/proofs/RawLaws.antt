@@ -1,6 +1,5 @@
 -- Slots as bytes: what is written is read back, and tidied bytes are tidied slots.
 use Rattle.std.proofs.Common.{◌≡◌, ⊎_elim, ℕ, zero, suc, ◌<◌, ◌≤◌, ◌+◌, ◌-◌, ◌*◌, ◌/◌, ◌%◌, ◌^◌, ◌==◌, ◌&&◌, ◌||◌, Bool, true, false, List, [], ◌∷◌, ◌++◌, length, take, drop, get_or, map, replicate, Option, Some, None, if◌then◌else◌, nat_le, refl, sym, ap, subst, ◌∙◌, arith, rules, length-append, append_assoc}
-use Rattle.std.specs.Int.{to_le_bytes, w16}
 use Rattle.std.proofs.lemmas.Bool.Decides.{nat_tests}
 use Rattle.std.proofs.lemmas.Bool.{cases_lt}
 use Rattle.std.proofs.lemmas.List.{same_lists, places, take_at, drop-drop, length-replicate, length-take-le, length-take, length-drop, map-append}
@@ -60,12 +59,6 @@ slot_written out b1 b2 b3 piece head room at within holds four first second thir
 -- a piece that is written at the front of some bytes
 pub written_front : (out p b1 : List ℕ) → b1 ≡ spliced out 0 p → take (length p) b1 ≡ p
 written_front out p b1 is = ap (take (length p)) is ∙ take_at p (drop (0 + length p) out) (length p) refl
-
--- the two bytes of a number
-pub two_bytes : (n : ℕ) (bytes : List ℕ) → n < 2 ^ 16 → bytes ≡ to_le_bytes w16 n → get_or bytes 0 0 ∷ get_or bytes 1 0 ∷ [] ≡ u16_bytes n
-two_bytes n bytes fits is =
-    let high : n / 256 % 256 ≡ n / 256 = omega arith in
-    (λ i. get_or (is i) 0 0 ∷ get_or (is i) 1 0 ∷ []) ∙ (λ i. n % 256 ∷ high i ∷ [])
 
 suits_of : (m r l p : ℕ) → m ≡ 4 + r → l ≤ r → p ≤ r → ((m == 4 + r) && (nat_le l r && nat_le p r)) ≡ true
 suits_of m r l p a b c = grind (arith, nat_tests)

@@ -3,6 +3,7 @@ ghost use Rattle.std.specs.Prelude.{◌≡◌, ◌≤◌, ◌<◌, ◌+◌, ◌-
 ghost use Rattle.careful_write.specs.Down.{answered};
 ghost use Rattle.frame_pool.specs.Pool.{IsOut};
 ghost use Rattle.file_base.specs.Bytes.{piece_at};
+ghost use Rattle.byteorder.specs.Endian.{little_number};
 ghost use Rattle.bucket_page.specs.Pages.{slots_of, next_of, key_in, slot_at, IsBucket, IsPacked, reach, u16_at};
 ghost use Rattle.change_set.specs.Buckets.{frame_of, with_frame};
 ghost use Rattle.change_set.specs.Files.{IsPlaced};
@@ -14,6 +15,7 @@ ghost use Rattle.indexed_file.specs.Places.{IsPlace, key_at};
 
 use block_disk::Disk;
 use bucket_page::{Page, PageKind};
+use byteorder::{ByteOrder, LittleEndian};
 use careful_write::{Down, Store};
 use change_set::load_bucket;
 use file_base::FileHead;
@@ -81,7 +83,7 @@ pub(crate) fn number_at(slot: &[u8], at: usize) -> u16
     requires { at + 2 ≤ length slot.now }
     ensures { result ≡ u16_at slot.now at }
 {
-    u16::from_le_bytes([slot[at], slot[at + 1]])
+    LittleEndian::read_u16(&slot[at..])
 }
 
 /// The key of a slot.

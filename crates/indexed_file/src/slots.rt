@@ -1,15 +1,27 @@
 //! Slots of a bucket that are made, and tidied.
 ghost use Rattle.std.specs.Prelude.{◌≡◌, ◌≤◌, ◌<◌, ◌+◌, ◌-◌, ◌*◌, ◌++◌, ℕ, List, Bool, true, false, [], length, take, drop, if◌then◌else◌, ◌&&◌, nat_lt};
 ghost use Rattle.vms_model.specs.Keys.{Text};
-ghost use Rattle.bucket_page.specs.Pages.{slots_of, next_of, key_in, slot_at, suits, IsPacked, Packs, u16_at};
+ghost use Rattle.byteorder.specs.Endian.{little_bytes};
+ghost use Rattle.bucket_page.specs.Pages.{slots_of, next_of, key_in, slot_at, suits, IsPacked, Packs, u16_at, u16_bytes};
 ghost use Rattle.indexed_file.specs.Chain.{IsIndexed, kind_of};
 ghost use Rattle.indexed_file.specs.Raws.{slot_bytes, shortened, tidied_raw, tidied_raws, one_of, TidiesSlot};
 
 use crate::leaf::{kind, number_at, slot, slot_key};
 use bucket_page::{insert_front, remove_front};
+use byteorder::{ByteOrder, LittleEndian};
 use change_set::Held;
 use file_base::{FileHead, splice, splice_zeros};
 use vms_base::Key;
+
+// The room and the record's length, as they stand at the front of a slot.
+fn sizes(room: u16, size: u16) -> [u8; 4]
+    ensures { result ≡ u16_bytes room ++ u16_bytes size }
+{
+    let mut bytes = [0; 4];
+    LittleEndian::write_u16(&mut bytes, room);
+    LittleEndian::write_u16(&mut bytes[2..], size);
+    bytes
+}
 
 /// Writes a slot over the first bytes: its room, its record's length, and a piece at a place of the room, which is zero
 /// elsewhere.
@@ -19,9 +31,7 @@ pub(crate) fn put_slot(out: &mut [u8], room: u16, size: u16, at: u16, piece: &[u
     ensures { take (4 + room) out.new ≡ slot_bytes room size at piece.now }
 {
     splice_zeros(out, 0, 4 + room as usize);
-    let [room_low, room_high] = room.to_le_bytes();
-    let [size_low, size_high] = size.to_le_bytes();
-    splice(out, 0, &[room_low, room_high, size_low, size_high]);
+    splice(out, 0, &sizes(room, size));
     splice(out, 4 + at as usize, piece);
 }
 
