@@ -1,0 +1,9 @@
+//! Serials of branches as keys of hash tables.
+#![tactic(auto)]
+
+mod key;
+
+pub use key::BranchKey;
+
+#[cfg(test)]
+mod tests;
