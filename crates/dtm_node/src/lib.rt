@@ -10,5 +10,5 @@ mod running;
 mod shared;
 
 pub use labels::{LabelEntry, Labels};
-pub use node::Node;
+pub use node::{Node, is_to_up};
 pub use shared::Shared;

@@ -15,12 +15,14 @@ ghost use Rattle.run_model.specs.Said.{SaidShared as SharedInLines};
 ghost use Rattle.dtm_node.specs.Standing.{IsDown, StandsFor, counts_of};
 ghost use Rattle.dtm_node.specs.Nodes.{HasParts, IsNode, IsParts, Passes, kept_down, kept_of, last_lines_of, place_armed, place_of, shared_of, state_of, IsPlaceOf};
 ghost use Rattle.dtm_node.specs.declared.node.Node.{Node as NodeSaid};
+ghost use Rattle.dtm_node.specs.declared.running.Running.{Running as RunningSaid};
 
 use crate::boot::{Booted, open_disk};
 use crate::running::Running;
 use crate::shared::Shared;
 use block_disk::Disk;
 use careful_write::{Down, Group};
+use core::mem::replace_with;
 use directory_model::acts_keep_files;
 use frame_pool::Pool;
 use node_files::Buffers;
@@ -64,6 +66,16 @@ fn cause_of(down: Down) -> Cause
     match down {
         Down::Failed => Cause::Failed,
         Down::Stopped => Cause::Stopped,
+    }
+}
+
+/// Whether a request is a statement that its node has to be up for.
+pub fn is_to_up(request: &Request) -> bool
+    ensures { result ≡ true → IsToUp request.now }
+{
+    match request {
+        Request::Init { .. } | Request::Boot | Request::Fuse { .. } | Request::Crash => false,
+        _ => true,
     }
 }
 
@@ -173,7 +185,11 @@ impl<D: Disk + Drop> Node<D> {
             Request::Boot => self.boot(alloc, shared, out),
             Request::Fuse { writes, choice } => self.fuse(*writes, *choice, out),
             Request::Crash => self.crash(out),
-            _ => self.serve_up(request, lit, shared, out),
+            _ => {
+                let mut node = self;
+                node.serve_up(request, lit, shared, out);
+                node
+            }
         }
     }
 
@@ -309,59 +325,47 @@ impl<D: Disk + Drop> Node<D> {
         }
     }
 
-    // A statement to a node that has to be up.
-    fn serve_up<E: Emit>(
-        self,
+    /// Serves a statement that a node has to be up for, as `serve` does, and moves nothing: what a node keeps takes kilobytes.
+    pub fn serve_up<E: Emit>(
+        &mut self,
         request: &Request,
         lit: &Literals,
         shared: &mut Shared,
         out: &mut E,
-    ) -> Node<D>
+    )
         requires asks { IsToUp request.now }
-        requires kept { (n : ℕ) × (n < 1000002) × IsNode D.state n (shared_of shared.old) self }
-        ensures kept { (n : ℕ) → IsNode D.state n (shared_of shared.old) self → IsNode D.state (n + 1) (shared_of shared.new) result }
+        requires kept { (n : ℕ) × (n < 1000002) × IsNode D.state n (shared_of shared.old) self.old }
+        ensures kept { (n : ℕ) → IsNode D.state n (shared_of shared.old) self.old → IsNode D.state (n + 1) (shared_of shared.new) self.new }
         ensures in_use { shared.old.in_use ≡ true → shared.new.in_use ≡ true }
-        ensures name { result.name ≡ self.name }
-        ensures passes { Passes (state_of D.state self) (state_of D.state result) }
+        ensures name { self.new.name ≡ self.old.name }
+        ensures passes { Passes (state_of D.state self.old) (state_of D.state self.new) }
         ensures place { E.place out.new ≡ E.place out.old }
         ensures since { Since (E.shows out.old) (E.shows out.new) }
-        ensures tells { Answers (request_of lit.now request.now) (E.shows out.old) (E.shows out.new) (state_of D.state self) (state_of D.state result) (said_shared (shared_of shared.old)) (said_shared (shared_of shared.new)) (said_node (kept_of D.state self)) (said_node (kept_of D.state result)) }
-        ensures serves { (log : CallLog) (n : NodeOfWorld) → StandsFor log (kept_of D.state self) n →
-            Serves log (shared_of shared.old) n (counts_of (state_of D.state self)) (request_of lit.now request.now) (E.shows out.old) (E.shows out.new) (kept_of D.state result) (shared_of shared.new) }
+        ensures tells { Answers (request_of lit.now request.now) (E.shows out.old) (E.shows out.new) (state_of D.state self.old) (state_of D.state self.new) (said_shared (shared_of shared.old)) (said_shared (shared_of shared.new)) (said_node (kept_of D.state self.old)) (said_node (kept_of D.state self.new)) }
+        ensures serves { (log : CallLog) (n : NodeOfWorld) → StandsFor log (kept_of D.state self.old) n →
+            Serves log (shared_of shared.old) n (counts_of (state_of D.state self.old)) (request_of lit.now request.now) (E.shows out.old) (E.shows out.new) (kept_of D.state self.new) (shared_of shared.new) }
     {
-        let Node {
-            name,
-            unmade,
-            place,
-        } = self;
-        match place {
-            Place::Up(running) => {
-                let mut running = running;
-                match running.serve(request, lit, &mut shared.labels, out) {
-                    Ok(()) => Node {
-                        name,
-                        unmade,
-                        place: Place::Up(running),
-                    },
-                    Err(down) => {
-                        show_fall(name, down, out);
-                        Node {
-                            name,
-                            unmade,
-                            place: fallen(running),
-                        }
-                    }
+        match &mut self.place {
+            Place::Up(running) => match running.serve(request, lit, &mut shared.labels, out) {
+                Ok(()) => {}
+                Err(down) => {
+                    show_fall(self.name, down, out);
+                    replace_with(&mut self.place, (), fall);
                 }
-            }
-            Place::Down(disk, parts) => {
-                out.emit(&Form::NodeDown);
-                Node {
-                    name,
-                    unmade,
-                    place: Place::Down(disk, parts),
-                }
-            }
+            },
+            Place::Down(_, _) => out.emit(&Form::NodeDown),
         }
+    }
+}
+
+// The place of a node after it went down.
+fn fall<D: Disk>(place: Place<D>, _nothing: ()) -> (Place<D>, ())
+    ensures down { (r : RunningSaid D) → place ≡ Place.Up r → place_of D.state result.0 ≡ IsDown true r.volume.store.disk }
+    ensures parts { (r : RunningSaid D) → place ≡ Place.Up r → 32 ≤ free_frames r.volume.store.pool → HasParts result.0 }
+{
+    match place {
+        Place::Up(running) => (fallen(running), ()),
+        Place::Down(disk, parts) => (Place::Down(disk, parts), ()),
     }
 }
 

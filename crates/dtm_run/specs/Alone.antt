@@ -6,6 +6,9 @@ use Rattle.transcript_model.specs.Emitting.{Shown, Emits}
 use Rattle.script_model.specs.Statements.{Statement}
 use Rattle.run_model.specs.World.{World, Shared, Node, Unknown}
 use Rattle.run_model.specs.Statements.{Step}
+use Rattle.script_lang.specs.declared.statement.Statement as code
+use Rattle.script_lang.specs.declared.statement.Statement.TheVariants as statement
+use Rattle.dtm_node.specs.Keeping.{IsToUp}
 use Rattle.dtm_node.specs.Standing.{Kept, StandsFor, counts_of, disk_in}
 
 -- nothing is known of what a node's disk has only where the last INIT failed
@@ -28,3 +31,7 @@ pub record ServesAlone (before : CallLog) (w : World) (s : Statement) (a b : Sho
   pub step : Step w s lines world
   pub emits : Emits a lines b
   pub stands : StandsAlone before k after world
+
+-- a statement that its node has to be up for
+abbrev pub IsForUp : code.Statement → Type 0
+IsForUp (statement.At name request) = IsToUp request

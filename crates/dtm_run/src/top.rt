@@ -12,17 +12,18 @@ ghost use Rattle.run_model.specs.World.{Node as NodeSaid, World, opened};
 ghost use Rattle.run_model.specs.Laws.{AreOpening};
 ghost use Rattle.run_model.specs.Said.{nothing_said};
 ghost use Rattle.dtm_node.specs.Standing.{counts_of};
+ghost use Rattle.dtm_node.specs.Keeping.{IsToUp};
 ghost use Rattle.dtm_node.specs.Nodes.{IsNode, Passes, kept_of, shared_of, state_of};
 ghost use Rattle.script_lang.specs.Statements.{request_of, statement_of};
 ghost use Rattle.script_model.specs.Statements.{At};
-ghost use Rattle.dtm_run.specs.Alone.{StandsAlone, ServesAlone};
+ghost use Rattle.dtm_run.specs.Alone.{IsForUp, StandsAlone, ServesAlone};
 ghost use Rattle.dtm_run.specs.Racks.{names_in, disks_in, states_in, IsRack};
 ghost use Rattle.dtm_run.specs.Calls.{AnswersAlone, TellsOver, said_alone};
 ghost use Rattle.dtm_run.specs.Headline.{is_command as is_command_of, is_served as is_served_of, StandOn, AllGo, RunsTo, RunOver, Unread};
 
 use crate::rack::Rack;
 use block_disk::Disk;
-use dtm_node::{Node, Shared};
+use dtm_node::{Node, Shared, is_to_up};
 use script_lang::{Literals, Request, Statement, is_run_form, read_statement};
 use std::alloc::Global;
 use transcript::{Emit, Form, LineBuffer, LineReader, Next, Sink, SinkEmit, Source};
@@ -233,6 +234,66 @@ fn serve_request<E: Emit, D: Disk + Drop>(
     }
 }
 
+// Whether a statement is one that its node has to be up for.
+fn is_for_up(statement: &Statement) -> bool
+    ensures { result ≡ true → IsForUp statement.now }
+{
+    let Statement::At(_name, request) = statement;
+    is_to_up(request)
+}
+
+// Serves such a statement by the only node where that stands, where the statement speaks of it.
+fn serve_in_place<E: Emit, D: Disk + Drop>(
+    node: &mut Node<D>,
+    statement: &Statement,
+    literals: &Literals,
+    shared: &mut Shared,
+    out: &mut E,
+)
+    requires asks { IsForUp statement.now }
+    requires kept { (n : ℕ) × (n < 1000002) × IsNode D.state n (shared_of shared.old) node.old }
+    ensures kept { (n : ℕ) → IsNode D.state n (shared_of shared.old) node.old → IsNode D.state (n + 1) (shared_of shared.new) node.new }
+    ensures name { node.new.name ≡ node.old.name }
+    ensures passes { Passes (state_of D.state node.old) (state_of D.state node.new) }
+    ensures place { E.place out.new ≡ E.place out.old }
+    ensures since { Since (E.shows out.old) (E.shows out.new) }
+    ensures tells { AnswersAlone node.old.name (statement_of literals.now statement.now) (E.shows out.old) (E.shows out.new) (state_of D.state node.old) (state_of D.state node.new)
+        (said_alone (kept_of D.state node.old) (shared_of shared.old)) (said_alone (kept_of D.state node.new) (shared_of shared.new)) }
+    ensures serves { (log : CallLog) (w : World) → StandsAlone log (kept_of D.state node.old) (shared_of shared.old) w →
+        ServesAlone log w (statement_of literals.now statement.now) (E.shows out.old) (E.shows out.new) (kept_of D.state node.new) (shared_of shared.new) }
+{
+    let Statement::At(name, request) = statement;
+    request_in_place(node, *name, request, literals, shared, out);
+}
+
+// Serves such a request to the node of a name by the only node where that stands, where it has the name.
+fn request_in_place<E: Emit, D: Disk + Drop>(
+    node: &mut Node<D>,
+    name: NodeName,
+    request: &Request,
+    literals: &Literals,
+    shared: &mut Shared,
+    out: &mut E,
+)
+    requires asks { IsToUp request.now }
+    requires kept { (n : ℕ) × (n < 1000002) × IsNode D.state n (shared_of shared.old) node.old }
+    ensures kept { (n : ℕ) → IsNode D.state n (shared_of shared.old) node.old → IsNode D.state (n + 1) (shared_of shared.new) node.new }
+    ensures name { node.new.name ≡ node.old.name }
+    ensures passes { Passes (state_of D.state node.old) (state_of D.state node.new) }
+    ensures place { E.place out.new ≡ E.place out.old }
+    ensures since { Since (E.shows out.old) (E.shows out.new) }
+    ensures tells { AnswersAlone node.old.name (At name (request_of literals.now request.now)) (E.shows out.old) (E.shows out.new) (state_of D.state node.old) (state_of D.state node.new)
+        (said_alone (kept_of D.state node.old) (shared_of shared.old)) (said_alone (kept_of D.state node.new) (shared_of shared.new)) }
+    ensures serves { (log : CallLog) (w : World) → StandsAlone log (kept_of D.state node.old) (shared_of shared.old) w →
+        ServesAlone log w (At name (request_of literals.now request.now)) (E.shows out.old) (E.shows out.new) (kept_of D.state node.new) (shared_of shared.new) }
+{
+    if name.bytes() == node.name().bytes() {
+        node.serve_up(request, literals, shared, out);
+    } else {
+        out.emit(&Form::NoSuchNode);
+    }
+}
+
 // Serves line after line, and gives the disk back.
 fn drive<S: Source, K: Sink, D: Disk + Drop>(
     alloc: Global,
@@ -283,6 +344,13 @@ fn drive<S: Source, K: Sink, D: Disk + Drop>(
                 return (exit, node.into_disk());
             }
         };
+        if is_for_up(&statement) {
+            serve_in_place(&mut node, &statement, literals, shared, out);
+            if out.failed() {
+                return (Exit::WriteFault, node.into_disk());
+            }
+            continue;
+        }
         node = serve_statement(alloc, node, &statement, literals, shared, out);
         if out.failed() {
             return (Exit::WriteFault, node.into_disk());

@@ -41,17 +41,17 @@ returns-in-Err-clause-runs g c = λ w h.
     (going_bad _ (state_of g.D.Disk.state c.args.node) _ _ _ _ _ _ (kept_of g.D.Disk.state l.node) (shared_of l.shared) (λ v s. stands_leaves g.D.Disk.state l.number l.node (shared_of l.shared) (state_of g.D.Disk.state c.args.node) v l.invariant.kept s) (l.invariant.going w h) _ _ c.in-Line.ensures.tells c.in-Line.ensures.taken.0 c.if-number-gt-MOST_LINES.false _ _ _
     (ap (λ s. s.text) at) (ap (λ s. s.number) at) (ap (λ s. s.failed) at ∙ l.invariant.failed) close.emits (read_bad c.in-Err.e.column _ _ c.line.ensures c.in-Err.ensures))
 
-pub returns-then-failed-clause-runs : goal.returns-then-failed-clause-runs
-returns-then-failed-clause-runs g c = λ w h.
+pub returns-then-failed-2-clause-runs : goal.returns-then-failed-2-clause-runs
+returns-then-failed-2-clause-runs g c = λ w h.
     let l = c.loop-number in
     let at = c.at-in-loop-number.ensures.at in
     let some = c.in-Ok-Some in
-    runs_as _ _ _ _ _ _ _ _ _ refl c.into_disk-then-failed.ensures
+    runs_as _ _ _ _ _ _ _ _ _ refl c.into_disk-then-failed-2.ensures
     (going_cut _ (state_of g.D.Disk.state c.args.node) _ _ _ _ _ _ (kept_of g.D.Disk.state l.node) (shared_of l.shared) (λ v s. stands_leaves g.D.Disk.state l.number l.node (shared_of l.shared) (state_of g.D.Disk.state c.args.node) v l.invariant.kept s) (l.invariant.going w h) _ _ c.in-Line.ensures.tells c.in-Line.ensures.taken.0 c.if-number-gt-MOST_LINES.false
     (statement_of c.read_statement.new.lit some.statement) _ _ (kept_of g.D.Disk.state c.serve_statement-node.result) (shared_of c.serve_statement-node.new.shared)
     (ap (λ s. s.text) at) (ap (λ s. s.number) at) (ap (λ s. s.failed) at ∙ l.invariant.failed) (read_says c.read_statement.new.lit some.field-0 some.statement _ _ some.field-0-is c.line.ensures some.ensures)
     (λ v s. c.serve_statement-node.ensures.serves _ v s)
-    (λ v s. stands_leaves g.D.Disk.state (l.number + 1) c.serve_statement-node.result (shared_of c.serve_statement-node.new.shared) (state_of g.D.Disk.state c.args.node) v (c.serve_statement-node.ensures.kept l.number l.invariant.kept) s) (sym c.failed.ensures ∙ c.if-failed.true))
+    (λ v s. stands_leaves g.D.Disk.state (l.number + 1) c.serve_statement-node.result (shared_of c.serve_statement-node.new.shared) (state_of g.D.Disk.state c.args.node) v (c.serve_statement-node.ensures.kept l.number l.invariant.kept) s) (sym c.failed-in-loop-number.ensures ∙ c.if-failed-2.true))
 
 pub loop-number-preserved-in-Ok-None : goal.loop-number-preserved-in-Ok-None
 loop-number-preserved-in-Ok-None g c =
@@ -89,18 +89,18 @@ loop-number-preserved g c =
       kept = c.serve_statement-node.ensures.kept l.number l.invariant.kept;
       passes = passes_to (state_of g.D.Disk.state c.args.node) (state_of g.D.Disk.state l.node) (state_of g.D.Disk.state c.serve_statement-node.result) l.invariant.passes c.serve_statement-node.ensures.passes;
       same_sink = c.serve_statement-node.ensures.place ∙ (c.at-in-loop-number.ensures.same_sink ∙ l.invariant.same_sink);
-      failed = sym c.failed.ensures ∙ c.if-failed.false;
+      failed = sym c.failed-in-loop-number.ensures ∙ c.if-failed-2.false;
       read_count = omega (arith, l.invariant.read_count, c.next.ensures.count);
       write_count = omega (arith, l.invariant.write_count, c.serve_statement-node.ensures.since.counts, same_count);
       going = λ w h.
           going_served _ (state_of g.D.Disk.state c.args.node) _ _ _ _ _ _ (kept_of g.D.Disk.state l.node) (shared_of l.shared) (λ v s. stands_leaves g.D.Disk.state l.number l.node (shared_of l.shared) (state_of g.D.Disk.state c.args.node) v l.invariant.kept s) (l.invariant.going w h) _ _ c.in-Line.ensures.tells c.in-Line.ensures.taken.0 c.if-number-gt-MOST_LINES.false
           (statement_of c.read_statement.new.lit some.statement) _ _ (kept_of g.D.Disk.state c.serve_statement-node.result) (shared_of c.serve_statement-node.new.shared)
           (ap (λ s. s.text) at) (ap (λ s. s.number) at) (ap (λ s. s.failed) at ∙ l.invariant.failed) (read_says c.read_statement.new.lit some.field-0 some.statement _ _ some.field-0-is c.line.ensures some.ensures)
-          (λ v s. c.serve_statement-node.ensures.serves _ v s) _ _ refl c.in-Line.ensures.taken.1 (sym c.failed.ensures ∙ c.if-failed.false);
+          (λ v s. c.serve_statement-node.ensures.serves _ v s) _ _ refl c.in-Line.ensures.taken.1 (sym c.failed-in-loop-number.ensures ∙ c.if-failed-2.false);
       name = c.serve_statement-node.ensures.name ∙ l.invariant.name;
       telling = telling_served _ _ _ _ _ _ _ _ _ _ l.invariant.telling _ _ (ap (λ s. s.text) at) (ap (λ s. s.number) at) (ap (λ s. s.failed) at ∙ l.invariant.failed) _ _ c.in-Line.ensures.tells c.in-Line.ensures.taken.0 c.if-number-gt-MOST_LINES.false
           (statement_of c.read_statement.new.lit some.statement) _ _ (read_says c.read_statement.new.lit some.field-0 some.statement _ _ some.field-0-is c.line.ensures some.ensures)
-          (answers_named _ _ _ _ _ _ _ _ _ l.invariant.name c.serve_statement-node.ensures.tells) _ _ refl c.in-Line.ensures.taken.1 (sym c.failed.ensures ∙ c.if-failed.false);
+          (answers_named _ _ _ _ _ _ _ _ _ l.invariant.name c.serve_statement-node.ensures.tells) _ _ refl c.in-Line.ensures.taken.1 (sym c.failed-in-loop-number.ensures ∙ c.if-failed-2.false);
     }
 
 pub returns-in-Failed-clause-calls : goal.returns-in-Failed-clause-calls
@@ -133,15 +133,15 @@ returns-in-Err-clause-calls g c =
     (tells_bad _ _ _ _ _ _ _ _ _ _ l.invariant.telling _ _ (ap (λ s. s.text) at) (ap (λ s. s.number) at) (ap (λ s. s.failed) at ∙ l.invariant.failed) _ _ c.in-Line.ensures.tells c.in-Line.ensures.taken.0 c.if-number-gt-MOST_LINES.false
     _ close.emits (read_bad c.in-Err.e.column _ _ c.line.ensures c.in-Err.ensures))
 
-pub returns-then-failed-clause-calls : goal.returns-then-failed-clause-calls
-returns-then-failed-clause-calls g c =
+pub returns-then-failed-2-clause-calls : goal.returns-then-failed-2-clause-calls
+returns-then-failed-2-clause-calls g c =
     let l = c.loop-number in
     let at = c.at-in-loop-number.ensures.at in
     let some = c.in-Ok-Some in
-    tells_as _ _ _ _ _ _ _ _ _ refl c.into_disk-then-failed.ensures
+    tells_as _ _ _ _ _ _ _ _ _ refl c.into_disk-then-failed-2.ensures
     (tells_cut _ _ _ _ _ _ _ _ _ _ l.invariant.telling _ _ (ap (λ s. s.text) at) (ap (λ s. s.number) at) (ap (λ s. s.failed) at ∙ l.invariant.failed) _ _ c.in-Line.ensures.tells c.in-Line.ensures.taken.0 c.if-number-gt-MOST_LINES.false
     (statement_of c.read_statement.new.lit some.statement) _ _ (read_says c.read_statement.new.lit some.field-0 some.statement _ _ some.field-0-is c.line.ensures some.ensures)
-    (answers_named _ _ _ _ _ _ _ _ _ l.invariant.name c.serve_statement-node.ensures.tells) (sym c.failed.ensures ∙ c.if-failed.true))
+    (answers_named _ _ _ _ _ _ _ _ _ l.invariant.name c.serve_statement-node.ensures.tells) (sym c.failed-in-loop-number.ensures ∙ c.if-failed-2.true))
 
 pub loop-number-init : goal.loop-number-init
 loop-number-init g c = record {
@@ -157,3 +157,51 @@ loop-number-init g c = record {
   name = refl;
   telling = telling_first c.args.node.name (state_of g.D.Disk.state c.args.node) _ _ _ _ c.requires.first c.requires.unsaid;
 }
+
+pub returns-then-failed-clause-runs : goal.returns-then-failed-clause-runs
+returns-then-failed-clause-runs g c = λ w h.
+    let l = c.loop-number in
+    let at = c.at-in-loop-number.ensures.at in
+    let some = c.in-Ok-Some in
+    runs_as _ _ _ _ _ _ _ _ _ refl c.into_disk-then-failed.ensures
+    (going_cut _ (state_of g.D.Disk.state c.args.node) _ _ _ _ _ _ (kept_of g.D.Disk.state l.node) (shared_of l.shared) (λ v s. stands_leaves g.D.Disk.state l.number l.node (shared_of l.shared) (state_of g.D.Disk.state c.args.node) v l.invariant.kept s) (l.invariant.going w h) _ _ c.in-Line.ensures.tells c.in-Line.ensures.taken.0 c.if-number-gt-MOST_LINES.false
+    (statement_of c.read_statement.new.lit some.statement) _ _ (kept_of g.D.Disk.state c.serve_in_place.new.node) (shared_of c.serve_in_place.new.shared)
+    (ap (λ s. s.text) at) (ap (λ s. s.number) at) (ap (λ s. s.failed) at ∙ l.invariant.failed) (read_says c.read_statement.new.lit some.field-0 some.statement _ _ some.field-0-is c.line.ensures some.ensures)
+    (λ v s. c.serve_in_place.ensures.serves _ v s)
+    (λ v s. stands_leaves g.D.Disk.state (l.number + 1) c.serve_in_place.new.node (shared_of c.serve_in_place.new.shared) (state_of g.D.Disk.state c.args.node) v (c.serve_in_place.ensures.kept l.number l.invariant.kept) s) (sym c.failed.ensures ∙ c.if-failed.true))
+
+pub returns-then-failed-clause-calls : goal.returns-then-failed-clause-calls
+returns-then-failed-clause-calls g c =
+    let l = c.loop-number in
+    let at = c.at-in-loop-number.ensures.at in
+    let some = c.in-Ok-Some in
+    tells_as _ _ _ _ _ _ _ _ _ refl c.into_disk-then-failed.ensures
+    (tells_cut _ _ _ _ _ _ _ _ _ _ l.invariant.telling _ _ (ap (λ s. s.text) at) (ap (λ s. s.number) at) (ap (λ s. s.failed) at ∙ l.invariant.failed) _ _ c.in-Line.ensures.tells c.in-Line.ensures.taken.0 c.if-number-gt-MOST_LINES.false
+    (statement_of c.read_statement.new.lit some.statement) _ _ (read_says c.read_statement.new.lit some.field-0 some.statement _ _ some.field-0-is c.line.ensures some.ensures)
+    (answers_named _ _ _ _ _ _ _ _ _ l.invariant.name c.serve_in_place.ensures.tells) (sym c.failed.ensures ∙ c.if-failed.true))
+
+pub loop-number-preserved-then-is_for_up : goal.loop-number-preserved-then-is_for_up
+loop-number-preserved-then-is_for_up g c =
+    let l = c.loop-number in
+    let at = c.at-in-loop-number.ensures.at in
+    let same_count = ap (λ s. s.faults) at in
+    let some = c.in-Ok-Some in
+    record {
+      sound = c.next.ensures.sound;
+      few = omega (arith, c.if-number-gt-MOST_LINES.false);
+      kept = c.serve_in_place.ensures.kept l.number l.invariant.kept;
+      passes = passes_to (state_of g.D.Disk.state c.args.node) (state_of g.D.Disk.state l.node) (state_of g.D.Disk.state c.serve_in_place.new.node) l.invariant.passes c.serve_in_place.ensures.passes;
+      same_sink = c.serve_in_place.ensures.place ∙ (c.at-in-loop-number.ensures.same_sink ∙ l.invariant.same_sink);
+      failed = sym c.failed.ensures ∙ c.if-failed.false;
+      read_count = omega (arith, l.invariant.read_count, c.next.ensures.count);
+      write_count = omega (arith, l.invariant.write_count, c.serve_in_place.ensures.since.counts, same_count);
+      going = λ w h.
+          going_served _ (state_of g.D.Disk.state c.args.node) _ _ _ _ _ _ (kept_of g.D.Disk.state l.node) (shared_of l.shared) (λ v s. stands_leaves g.D.Disk.state l.number l.node (shared_of l.shared) (state_of g.D.Disk.state c.args.node) v l.invariant.kept s) (l.invariant.going w h) _ _ c.in-Line.ensures.tells c.in-Line.ensures.taken.0 c.if-number-gt-MOST_LINES.false
+          (statement_of c.read_statement.new.lit some.statement) _ _ (kept_of g.D.Disk.state c.serve_in_place.new.node) (shared_of c.serve_in_place.new.shared)
+          (ap (λ s. s.text) at) (ap (λ s. s.number) at) (ap (λ s. s.failed) at ∙ l.invariant.failed) (read_says c.read_statement.new.lit some.field-0 some.statement _ _ some.field-0-is c.line.ensures some.ensures)
+          (λ v s. c.serve_in_place.ensures.serves _ v s) _ _ refl c.in-Line.ensures.taken.1 (sym c.failed.ensures ∙ c.if-failed.false);
+      name = c.serve_in_place.ensures.name ∙ l.invariant.name;
+      telling = telling_served _ _ _ _ _ _ _ _ _ _ l.invariant.telling _ _ (ap (λ s. s.text) at) (ap (λ s. s.number) at) (ap (λ s. s.failed) at ∙ l.invariant.failed) _ _ c.in-Line.ensures.tells c.in-Line.ensures.taken.0 c.if-number-gt-MOST_LINES.false
+          (statement_of c.read_statement.new.lit some.statement) _ _ (read_says c.read_statement.new.lit some.field-0 some.statement _ _ some.field-0-is c.line.ensures some.ensures)
+          (answers_named _ _ _ _ _ _ _ _ _ l.invariant.name c.serve_in_place.ensures.tells) _ _ refl c.in-Line.ensures.taken.1 (sym c.failed.ensures ∙ c.if-failed.false);
+    }
