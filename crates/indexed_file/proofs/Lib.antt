@@ -4,6 +4,7 @@ pub mod ChainLaws
 pub mod FileLaws
 pub mod GrownLaws
 pub mod ImplLaws
+pub mod KeyLaws
 pub mod LeafLaws
 pub mod LeafSetLaws
 pub mod MakeLaws

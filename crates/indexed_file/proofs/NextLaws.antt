@@ -154,7 +154,7 @@ found_here after a b k bytes found = record {
 abbrev pub rest_of : FileHead → List (List ℕ) → ℕ → ℕ → List Slot
 rest_of h b i n = slots_along h b (chain_from h b (h.used - i) n)
 
-more_of : (h : FileHead) (b : List (List ℕ)) (i n : ℕ) → i < h.used
+pub more_of : (h : FileHead) (b : List (List ℕ)) (i n : ℕ) → i < h.used
     → rest_of h b i n ≡ slots_in h b n ++ slots_along h b (if nat_lt (next_in h b n) h.used then chain_from h b (h.used - (i + 1)) (next_in h b n) else [])
 more_of h b i n below =
     let more : h.used - i ≡ suc (h.used - (i + 1)) = omega arith in

@@ -1,4 +1,4 @@
--- What is read of the bucket for a key.
+-- What is read of a bucket.
 use Rattle.std.proofs.Common.{◌≡◌, ℕ, ◌<◌, ◌≤◌, ◌*◌, Bool, List, length, take, map, Option, Some, None, IfSome, IfOk, Result, Ok, Err, sym, ap, subst, ◌∙◌, arith}
 use Rattle.std.proofs.lemmas.List.{length-take-le}
 use Rattle.careful_write.specs.declared.down.Down.{Down}
@@ -10,26 +10,6 @@ use Rattle.indexed_file.proofs.TargetLaws.{lookup_in_target}
 
 abbrev Told : Type 0
 Told = Option (List (List ℕ))
-
--- what was read of a bucket's bytes is what the bucket for the key has
-pub read_told : (told : Told) (h : FileHead) (k : List ℕ) (n size : ℕ) (frame bytes : List ℕ) (v : Option (List ℕ)) → frame ≡ bytes → size ≡ 512 * h.bucket → n < h.used → 512 * h.bucket ≤ length bytes
-    → IfSome told (λ b. take (512 * h.bucket) frame ≡ bucket_at h b n) → IfSome told (λ b. IsChained h b → n ≡ target_of h b k)
-    → (IsBucket (kind_of h) (length (take size bytes)) (take size bytes) → lookup (map (slot_of h) (slots_of (kind_of h) (take size bytes))) k ≡ v)
-    → IfSome told (λ b. IsChained h b → lookup (slots_in h b (target_of h b k)) k ≡ v)
-read_told None h k n size frame bytes v same is below long read to fact = tt
-read_told (Some b) h k n size frame bytes v same is below long read to fact = λ valid.
-    let here : take size bytes ≡ bucket_at h b n = (λ i. take (is i) (sym same i)) ∙ read in
-    let count : length (take size bytes) ≡ 512 * h.bucket = length-take-le size bytes (omega (arith, is, long)) ∙ is in
-    let P : List ℕ → Type 0 = λ x. IsBucket (kind_of h) (512 * h.bucket) x in
-    let Q : ℕ → Type 0 = λ m. IsBucket (kind_of h) m (take size bytes) in
-    let bucket : IsBucket (kind_of h) (length (take size bytes)) (take size bytes) = subst Q (sym count) (subst P (sym here) (valid.leaves n below).bucket) in
-    ap (λ m. lookup (slots_in h b m) k) (sym (to valid)) ∙ ap (λ x. lookup (map (slot_of h) (slots_of (kind_of h) x)) k) (sym here) ∙ fact bucket
-
--- and what the file has
-pub tell_all : (told : Told) (h : FileHead) (k : List ℕ) (v : Option (List ℕ)) → 1 ≤ h.used
-    → IfSome told (λ b. IsChained h b → lookup (slots_in h b (target_of h b k)) k ≡ v) → IfSome told (λ b. IsChained h b → lookup (all_slots_of h b) k ≡ v)
-tell_all None h k v some fact = tt
-tell_all (Some b) h k v some fact = λ valid. ap value_in (lookup_in_target h b k some valid.ordered) ∙ fact valid
 
 -- a slot that was read of a bucket's bytes stands in the bucket
 pub read_stands : (told : Told) (h : FileHead) (k : List ℕ) (n size : ℕ) (frame bytes value : List ℕ) → frame ≡ bytes → size ≡ 512 * h.bucket → n < h.used → 512 * h.bucket ≤ length bytes

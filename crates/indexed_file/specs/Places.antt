@@ -1,8 +1,8 @@
 -- Where a key stands among the slots of a bucket.
-use Rattle.std.specs.Prelude.{◌≡◌, ◌≤◌, ◌<◌, ℕ, Bool, true, false, List, [], ◌∷◌, length}
+use Rattle.std.specs.Prelude.{◌≡◌, ◌≤◌, ◌<◌, ◌++◌, ℕ, Bool, true, false, List, [], ◌∷◌, length, Option}
 use Rattle.file_base.specs.declared.head.FileHead.{FileHead}
 use Rattle.bucket_page.specs.Pages.{key_in, slot_at}
-use Rattle.records_model.specs.Slots.{Slot, bytes_before}
+use Rattle.records_model.specs.Slots.{Slot, bytes_before, lookup, IsOrdered}
 use Rattle.indexed_file.specs.Chain.{kind_of}
 
 -- the key of slot j
@@ -21,3 +21,7 @@ pub record IsPlace (h : FileHead) (k : List ℕ) (raws : List (List ℕ)) (i : �
   pub there : found ≡ true → i < length raws
   pub here : found ≡ true → key_at h raws i ≡ k
   pub higher : found ≡ false → (j : ℕ) → i ≤ j → j < length raws → bytes_before k (key_at h raws j) ≡ true
+
+-- these slots and any that ascend behind them have this at the key
+abbrev pub Decides : List ℕ → List Slot → Option (List ℕ) → Type 0
+Decides k slots v = (rest : List Slot) → IsOrdered (slots ++ rest) → lookup (slots ++ rest) k ≡ v

@@ -1,15 +1,16 @@
 //! The record of a key.
-ghost use Rattle.std.specs.Prelude.{◌≡◌, ◌≤◌, ◌<◌, ◌+◌, ◌*◌, ℕ, List, true, false, Some, None, length, take, drop, map, IfOk, IfSome};
+ghost use Rattle.std.specs.Prelude.{◌≡◌, ◌≤◌, ◌<◌, ◌+◌, ◌-◌, ◌*◌, ℕ, List, true, false, Some, None, length, take, drop, IfOk, IfSome, IfNone};
 ghost use Rattle.careful_write.specs.Down.{answered};
 ghost use Rattle.frame_pool.specs.Pool.{IsOut};
 ghost use Rattle.bucket_page.specs.Pages.{slots_of, IsBucket};
 ghost use Rattle.change_set.specs.Buckets.{frame_of, with_frame};
 ghost use Rattle.change_set.specs.Files.{IsPlaced, free_frames};
-ghost use Rattle.records_model.specs.Slots.{lookup};
-ghost use Rattle.indexed_file.specs.Chain.{IsIndexed, IsChained, kind_of, slot_of, slots_in, target_of, all_slots_of, HasSlot, Stands};
+ghost use Rattle.records_model.specs.Slots.{lookup, slot_at};
+ghost use Rattle.indexed_file.specs.Chain.{IsIndexed, IsChained, kind_of, slots_in, next_in, all_slots_of, HasSlot, Stands};
+ghost use Rattle.indexed_file.specs.Places.{Decides};
+ghost use Rattle.indexed_file.specs.Raws.{slots_at};
 
 use crate::leaf::{bucket_size, find_place, kind, load_leaf, read_record, slot};
-use crate::walk::find_target;
 use block_disk::Disk;
 use bucket_page::Page;
 use careful_write::{Down, Store};
@@ -18,27 +19,57 @@ use file_base::FileHead;
 use frame_pool::Frame;
 use vms_base::Record;
 
-// The record of a key in a bucket: true where it has one.
-fn read_slot(head: &FileHead, bytes: &[u8], key: &[u8], out: &mut Record) -> bool
+// The record of a key in a bucket: true where it has one, and false where neither it nor a later bucket can have one. None
+// where a later bucket may have it; bytes that are not laid out as a bucket have no key.
+fn read_slot(head: &FileHead, bytes: &[u8], key: &[u8], out: &mut Record) -> Option<bool>
     requires small { length bytes.now ≤ 8192 }
     requires most { head.now.mrs ≤ 8160 }
-    ensures some { result ≡ true → IsBucket (kind_of head.now) (length bytes.now) bytes.now → lookup (map (slot_of head.now) (slots_of (kind_of head.now) bytes.now)) key.now ≡ Some out.new }
-    ensures stands { result ≡ true → IsBucket (kind_of head.now) (length bytes.now) bytes.now × HasSlot head.now bytes.now key.now out.new }
-    ensures none { result ≡ false → IsBucket (kind_of head.now) (length bytes.now) bytes.now → lookup (map (slot_of head.now) (slots_of (kind_of head.now) bytes.now)) key.now ≡ None }
+    ensures some { result ≡ Some true → IsBucket (kind_of head.now) (length bytes.now) bytes.now → Decides key.now (slots_at head.now bytes.now) (Some out.new) }
+    ensures stands { result ≡ Some true → IsBucket (kind_of head.now) (length bytes.now) bytes.now × HasSlot head.now bytes.now key.now out.new }
+    ensures none { result ≡ Some false → IsBucket (kind_of head.now) (length bytes.now) bytes.now → Decides key.now (slots_at head.now bytes.now) None }
+    ensures later { IfNone result (IsBucket (kind_of head.now) (length bytes.now) bytes.now → slot_at key.now (slots_at head.now bytes.now) ≡ None) }
 {
     match Page::slots(bytes, kind(head)) {
         Some(count) => {
             let (i, found) = find_place(bytes, head, count, key);
-            if !found {
-                return false;
+            if found {
+                return Some(read_record(slot(bytes, head, i), head.mrs, out));
             }
-            read_record(slot(bytes, head, i), head.mrs, out)
+            if i < count { Some(false) } else { None }
         }
-        None => false,
+        None => None,
     }
 }
 
-// The record of a key, read through a frame: true where it has one.
+// Reads bucket n: the record of a key there, as above, and which bucket is next.
+fn visit_key<D: Disk>(
+    head: &FileHead,
+    store: &mut Store<D>,
+    frame: &Frame,
+    n: u32,
+    key: &[u8],
+    out: &mut Record,
+) -> Result<(Option<bool>, u32), Down>
+    requires form { IsIndexed head.now }
+    requires placed { IsPlaced head.now store.old.disk }
+    requires out { IsOut store.old.pool frame.now }
+    requires there { n < head.now.used }
+    ensures state { store.new ≡ with_frame frame.now (frame_of store.new.pool frame.now) (record store.old { disk = answered result store.old.disk }) }
+    ensures out { IsOut store.new.pool frame.now }
+    ensures found { IfOk result (λ to. to.0 ≡ Some true → IfSome store.old.current (λ blocks. IsChained head.now blocks → Decides key.now (slots_in head.now blocks n) (Some out.new))) }
+    ensures stands { IfOk result (λ to. to.0 ≡ Some true → IfSome store.old.current (Stands head.now key.now out.new)) }
+    ensures absent { IfOk result (λ to. to.0 ≡ Some false → IfSome store.old.current (λ blocks. IsChained head.now blocks → Decides key.now (slots_in head.now blocks n) None)) }
+    ensures later { IfOk result (λ to. IfNone to.0 (IfSome store.old.current (λ blocks. IsChained head.now blocks → slot_at key.now (slots_in head.now blocks n) ≡ None))) }
+    ensures next { IfOk result (λ to. IfSome store.old.current (λ blocks. to.1 ≡ next_in head.now blocks n)) }
+{
+    load_leaf(head, store, frame, n)?;
+    let bytes = &store.pool().bytes(frame)[..bucket_size(head)];
+    let found = read_slot(head, bytes, key, out);
+    Ok((found, Page::next(bytes)))
+}
+
+// The record of a key, read through a frame: true where it has one. Keys ascend along the chain, so it is walked up to the
+// first bucket that has the key or a greater one. Each bucket is read once.
 fn read_key<D: Disk>(
     head: &FileHead,
     store: &mut Store<D>,
@@ -51,20 +82,26 @@ fn read_key<D: Disk>(
     requires out { IsOut store.old.pool frame.now }
     ensures state { store.new ≡ with_frame frame.now (frame_of store.new.pool frame.now) (record store.old { disk = answered result store.old.disk }) }
     ensures out { IsOut store.new.pool frame.now }
-    ensures found { IfOk result (λ found. found ≡ true → IfSome store.old.current (λ blocks. IsChained head.now blocks → lookup (slots_in head.now blocks (target_of head.now blocks key.now)) key.now ≡ Some out.new)) }
+    ensures found { IfOk result (λ found. found ≡ true → IfSome store.old.current (λ blocks. IsChained head.now blocks → lookup (all_slots_of head.now blocks) key.now ≡ Some out.new)) }
     ensures stands { IfOk result (λ found. found ≡ true → IfSome store.old.current (Stands head.now key.now out.new)) }
-    ensures absent { IfOk result (λ found. found ≡ false → IfSome store.old.current (λ blocks. IsChained head.now blocks → lookup (slots_in head.now blocks (target_of head.now blocks key.now)) key.now ≡ None)) }
+    ensures absent { IfOk result (λ found. found ≡ false → IfSome store.old.current (λ blocks. IsChained head.now blocks → lookup (all_slots_of head.now blocks) key.now ≡ None)) }
 {
-    match find_target(head, store, frame, key) {
-        Ok(n) => match load_leaf(head, store, frame, n) {
-            Ok(()) => {
-                let bytes = &store.pool().bytes(frame)[..bucket_size(head)];
-                Ok(read_slot(head, bytes, key, out))
-            }
-            Err(down) => Err(down),
-        },
-        Err(down) => Err(down),
+    let mut n = 0;
+    for i in 0..head.used {
+        match visit_key(head, store, frame, n, key, out) {
+            Ok((found, next)) => match found {
+                Some(there) => return Ok(there),
+                None => {
+                    if next >= head.used {
+                        return Ok(false);
+                    }
+                    n = next;
+                }
+            },
+            Err(down) => return Err(down),
+        }
     }
+    Ok(false)
 }
 
 /// The record of a key: true where it has one, and false exactly where it has none. `Down` says that the disk went down in

@@ -1,9 +1,9 @@
-use Rattle.std.proofs.Common.{Some, None, ap}
+use Rattle.std.proofs.Common.{ap}
 use Rattle.careful_write.specs.State.{StoreState}
 use Rattle.careful_write.specs.Down.{answered}
 use Rattle.change_set.proofs.Frames.{lent_taken, lent_read, lent_given}
 use Rattle.indexed_file.proofs.WalkLaws.{told_same}
-use Rattle.indexed_file.proofs.ReadLaws.{tell_all, on_ok}
+use Rattle.indexed_file.proofs.ReadLaws.{on_ok}
 use Rattle.indexed_file.proofs.read.get_key.Goals as goal
 
 pub returns-clause-state : goal.returns-clause-state
@@ -16,19 +16,13 @@ returns-clause-state g c =
 
 pub returns-clause-found : goal.returns-clause-found
 returns-clause-found g c =
-    let h = c.args.head.now in
     let same = ap (λ (s : StoreState). s.current) c.take_frame-frame.ensures.state in
-    on_ok c.read_key-found.result _ _
-    (λ x fact is. tell_all c.args.store.now.current h c.args.key.now (Some c.read_key-found.new.out) c.requires.form.some (told_same _ _ _ same (fact is)))
-    c.read_key-found.ensures.found
+    on_ok c.read_key-found.result _ _ (λ x fact is. told_same _ _ _ same (fact is)) c.read_key-found.ensures.found
 
 pub returns-clause-absent : goal.returns-clause-absent
 returns-clause-absent g c =
-    let h = c.args.head.now in
     let same = ap (λ (s : StoreState). s.current) c.take_frame-frame.ensures.state in
-    on_ok c.read_key-found.result _ _
-    (λ x fact is. tell_all c.args.store.now.current h c.args.key.now None c.requires.form.some (told_same _ _ _ same (fact is)))
-    c.read_key-found.ensures.absent
+    on_ok c.read_key-found.result _ _ (λ x fact is. told_same _ _ _ same (fact is)) c.read_key-found.ensures.absent
 
 pub returns-clause-stands : goal.returns-clause-stands
 returns-clause-stands g c =

@@ -1,54 +1,57 @@
-use Rattle.std.proofs.Common.{Bool, Some, None, Result, Err, sym, ap, ◌∙◌, arith}
+use Rattle.std.proofs.Common.{◌≡◌, Bool, true, false, Some, None, Result, Err, ap, ◌∙◌}
 use Rattle.block_disk.specs.Disk.{DiskState}
 use Rattle.careful_write.specs.State.{StoreState}
 use Rattle.careful_write.specs.Down.{answered}
 use Rattle.careful_write.specs.declared.down.Down.{Down}
-use Rattle.change_set.specs.Buckets.{frame_of, with_frame}
-use Rattle.change_set.proofs.Frames.{frame_is}
-use Rattle.indexed_file.proofs.WalkLaws.{read_again, told_same}
-use Rattle.indexed_file.proofs.ReadLaws.{read_told, read_stands}
+use Rattle.indexed_file.proofs.WalkLaws.{given_none, read_again, told_same}
+use Rattle.indexed_file.proofs.KeyLaws.{key_decided, key_ends, key_over, key_step, order_step}
 use Rattle.indexed_file.proofs.read.read_key.Goals as goal
 
-pub returns-in-Ok-load_leaf-clause-state : goal.returns-in-Ok-load_leaf-clause-state
-returns-in-Ok-load_leaf-clause-state g c =
-    let f = c.args.frame.now in
-    let s0 = c.args.store.now in
-    let s2 = c.load_leaf.new.store in
-    (λ i. record s2 { pool = c.pool.ensures.value i })
-    ∙ read_again f s0 c.find_target.new.store s2 (λ (d : DiskState). d) c.in-Ok.ensures.state c.in-Ok-load_leaf.ensures.state
-    ∙ (λ i. with_frame f (frame_of (sym c.pool.ensures.value i) f) s0)
+pub returns-in-Some-clause-state : goal.returns-in-Some-clause-state
+returns-in-Some-clause-state g c =
+    read_again c.args.frame.now c.args.store.now c.loop-i.store c.visit_key.new.store (λ (d : DiskState). d) c.loop-i.invariant.state c.in-Ok.ensures.state
 
-pub returns-in-Err-load_leaf-clause-state : goal.returns-in-Err-load_leaf-clause-state
-returns-in-Err-load_leaf-clause-state g c =
-    let r : Result Bool Down = Err c.in-Err-load_leaf.down in
-    read_again c.args.frame.now c.args.store.now c.find_target.new.store c.load_leaf.new.store (answered r) c.in-Ok.ensures.state c.in-Err-load_leaf.ensures.state
+pub returns-then-next-head-clause-state : goal.returns-then-next-head-clause-state
+returns-then-next-head-clause-state g c =
+    read_again c.args.frame.now c.args.store.now c.loop-i.store c.visit_key.new.store (λ (d : DiskState). d) c.loop-i.invariant.state c.in-Ok.ensures.state
 
-pub returns-in-Ok-load_leaf-clause-found : goal.returns-in-Ok-load_leaf-clause-found
-returns-in-Ok-load_leaf-clause-found g c = λ is.
-    let h = c.args.head.now in
-    let f = c.args.frame.now in
-    let s2 = c.load_leaf.new.store in
-    let same = ap (λ (s : StoreState). s.current) c.in-Ok.ensures.state in
-    read_told c.args.store.now.current h c.args.key.now c.in-Ok.n c.bucket_size.result (frame_of s2.pool f) c.bytes.result.now (Some c.read_slot.new.out)
-    (frame_is c.pool.result.now s2.pool f c.bytes.result.now c.pool.ensures.value c.bytes.ensures.value) c.bucket_size.ensures c.in-Ok.ensures.used (omega (arith, c.bytes.ensures.size, c.requires.placed.blocks))
-    (told_same _ _ _ same c.in-Ok-load_leaf.ensures.read) c.in-Ok.ensures.target (c.read_slot.ensures.some is)
+pub returns-in-Err-clause-state : goal.returns-in-Err-clause-state
+returns-in-Err-clause-state g c =
+    let r : Result Bool Down = Err c.in-Err.down in
+    read_again c.args.frame.now c.args.store.now c.loop-i.store c.visit_key.new.store (answered r) c.loop-i.invariant.state c.in-Err.ensures.state
 
-pub returns-in-Ok-load_leaf-clause-absent : goal.returns-in-Ok-load_leaf-clause-absent
-returns-in-Ok-load_leaf-clause-absent g c = λ is.
-    let h = c.args.head.now in
-    let f = c.args.frame.now in
-    let s2 = c.load_leaf.new.store in
-    let same = ap (λ (s : StoreState). s.current) c.in-Ok.ensures.state in
-    read_told c.args.store.now.current h c.args.key.now c.in-Ok.n c.bucket_size.result (frame_of s2.pool f) c.bytes.result.now None
-    (frame_is c.pool.result.now s2.pool f c.bytes.result.now c.pool.ensures.value c.bytes.ensures.value) c.bucket_size.ensures c.in-Ok.ensures.used (omega (arith, c.bytes.ensures.size, c.requires.placed.blocks))
-    (told_same _ _ _ same c.in-Ok-load_leaf.ensures.read) c.in-Ok.ensures.target (c.read_slot.ensures.none is)
+pub returns-in-Some-clause-found : goal.returns-in-Some-clause-found
+returns-in-Some-clause-found g c = λ is.
+    let same = ap (λ (s : StoreState). s.current) c.loop-i.invariant.state in
+    key_decided c.args.store.now.current c.args.head.now c.args.key.now c.loop-i.n c.loop-i.i (Some c.visit_key.new.out) c.loop-i-test.true c.loop-i.invariant.passed c.loop-i.invariant.ordered
+    (told_same _ _ _ same (c.in-Ok.ensures.found (c.in-Some.is ∙ ap (λ (b : Bool). Some b) is)))
 
-pub returns-in-Ok-load_leaf-clause-stands : goal.returns-in-Ok-load_leaf-clause-stands
-returns-in-Ok-load_leaf-clause-stands g c = λ is.
-    let h = c.args.head.now in
-    let f = c.args.frame.now in
-    let s2 = c.load_leaf.new.store in
-    let same = ap (λ (s : StoreState). s.current) c.in-Ok.ensures.state in
-    read_stands c.args.store.now.current h c.args.key.now c.in-Ok.n c.bucket_size.result (frame_of s2.pool f) c.bytes.result.now c.read_slot.new.out
-    (frame_is c.pool.result.now s2.pool f c.bytes.result.now c.pool.ensures.value c.bytes.ensures.value) c.bucket_size.ensures c.in-Ok.ensures.used (omega (arith, c.bytes.ensures.size, c.requires.placed.blocks))
-    (told_same _ _ _ same c.in-Ok-load_leaf.ensures.read) (c.read_slot.ensures.stands is)
+pub returns-in-Some-clause-absent : goal.returns-in-Some-clause-absent
+returns-in-Some-clause-absent g c = λ is.
+    let same = ap (λ (s : StoreState). s.current) c.loop-i.invariant.state in
+    key_decided c.args.store.now.current c.args.head.now c.args.key.now c.loop-i.n c.loop-i.i None c.loop-i-test.true c.loop-i.invariant.passed c.loop-i.invariant.ordered
+    (told_same _ _ _ same (c.in-Ok.ensures.absent (c.in-Some.is ∙ ap (λ (b : Bool). Some b) is)))
+
+pub returns-in-Some-clause-stands : goal.returns-in-Some-clause-stands
+returns-in-Some-clause-stands g c = λ is.
+    let same = ap (λ (s : StoreState). s.current) c.loop-i.invariant.state in
+    told_same _ _ _ same (c.in-Ok.ensures.stands (c.in-Some.is ∙ ap (λ (b : Bool). Some b) is))
+
+pub returns-then-next-head-clause-absent : goal.returns-then-next-head-clause-absent
+returns-then-next-head-clause-absent g c = λ is.
+    let same = ap (λ (s : StoreState). s.current) c.loop-i.invariant.state in
+    key_ends c.args.store.now.current c.args.head.now c.args.key.now c.loop-i.n c.loop-i.i c.in-Ok.next c.loop-i-test.true c.if-next-head.true c.loop-i.invariant.passed
+    (told_same _ _ _ same (given_none c.in-Ok.found _ c.in-None.is c.in-Ok.ensures.later)) (told_same _ _ _ same c.in-Ok.ensures.next)
+
+pub loop-i-preserved : goal.loop-i-preserved
+loop-i-preserved g c =
+    let same = ap (λ (s : StoreState). s.current) c.loop-i.invariant.state in
+    let next = told_same _ _ _ same c.in-Ok.ensures.next in
+    record {
+      state = read_again c.args.frame.now c.args.store.now c.loop-i.store c.visit_key.new.store (λ (d : DiskState). d) c.loop-i.invariant.state c.in-Ok.ensures.state;
+      out = c.visit_key.ensures.out;
+      there = c.if-next-head.false;
+      passed = key_step c.args.store.now.current c.args.head.now c.args.key.now c.loop-i.n c.loop-i.i c.in-Ok.next c.loop-i-test.true c.if-next-head.false c.loop-i.invariant.passed
+          (told_same _ _ _ same (given_none c.in-Ok.found _ c.in-None.is c.in-Ok.ensures.later)) next;
+      ordered = order_step c.args.store.now.current c.args.head.now c.loop-i.n c.loop-i.i c.in-Ok.next c.loop-i-test.true c.if-next-head.false c.loop-i.invariant.ordered next;
+    }
