@@ -8,6 +8,7 @@ use Rattle.careful_write.specs.Down.{answered}
 use Rattle.careful_write.specs.Reads.{SameButReads}
 use Rattle.careful_write.specs.State.{StoreState, Leaves}
 use Rattle.careful_write.specs.Steps.{AgreesOff}
+use Rattle.change_set.specs.declared.walk.Place.{Place}
 use Rattle.file_base.specs.declared.head.FileHead.{FileHead}
 
 -- the block of the content of this number lies in the file's extent
@@ -59,3 +60,7 @@ AgreesOut p old new = MatchOption old (new ≡ None) (λ before. IsSomeAnd new (
 -- each image has the old content but where the test holds
 abbrev pub LeavesOut : (ℕ → Bool) → Option (List (List ℕ)) → DiskState → Type 0
 LeavesOut p old disk = Leaves (λ c. IfSome old (λ before. AgreesOff p before c)) disk
+
+-- the front of a file, before which nothing was passed
+abbrev pub first_place : Place
+first_place = record { bucket = 0; passed = 0 }

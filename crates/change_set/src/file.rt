@@ -10,8 +10,10 @@ ghost use Rattle.records_model.specs.Slots.{Slot};
 ghost use Rattle.records_model.specs.Chain.{chain_back, chain_set};
 ghost use Rattle.vms_base.specs.Keys.{key_of};
 ghost use Rattle.change_set.specs.Maps.{Map, set_key, empty_map, IsNext, EndsAfter};
-ghost use Rattle.change_set.specs.Files.{IsPlaced, AgreesOn, free_frames, fell, StagesIn, SameFile, in_extent, AgreesOut, LeavesOut, unstaged};
+ghost use Rattle.change_set.specs.Files.{IsPlaced, AgreesOn, free_frames, fell, StagesIn, SameFile, in_extent, AgreesOut, LeavesOut, unstaged, first_place};
+ghost use Rattle.change_set.specs.declared.walk.Place as declared;
 
+use crate::walk::Place;
 use block_disk::Disk;
 use careful_write::{Down, Store};
 use file_base::FileHead;
@@ -77,6 +79,9 @@ pub trait RecordFile {
     /// The key may be set back to the value in place.
     ghost restores: { FileHead → List (List ℕ) → model.Key → Option (List ℕ) → Type 0 };
 
+    /// A walk to what is behind a key, or to the first key, may begin at this place.
+    ghost begins: { FileHead → List (List ℕ) → Option model.Key → declared.Place → Type 0 };
+
     /// True with the record that the key has; false exactly where it has none.
     fn get<D: Disk>(
         head: &FileHead,
@@ -107,6 +112,31 @@ pub trait RecordFile {
         ensures found { IfOk result (λ is. is ≡ true → IfSome store.old.current (λ blocks. valid head.now blocks → IsNext (map head.now blocks) (option_map key_of (option_copied after.entry)) (key_of found.new) out.new)) }
         ensures stands { IfOk result (λ is. is ≡ true → IfSome store.old.current (λ blocks. stands head.now blocks (key_of found.new) out.new)) }
         ensures none { IfOk result (λ is. is ≡ false → IfSome store.old.current (λ blocks. valid head.now blocks → EndsAfter (map head.now blocks) (option_map key_of (option_copied after.entry)))) }
+        ensures same { OnOk result (SameButReads store.old store.new) }
+        ensures down { OnErr result (SameButReads (fell result store.old) store.new) }
+    {
+        let mut place = Place::first();
+        Self::next_from(head, store, after, &mut place, found, out)
+    }
+
+    /// The same by a walk that begins at a place, and that leaves the place at which the walk to what is behind the key found
+    /// may begin.
+    fn next_from<D: Disk>(
+        head: &FileHead,
+        store: &mut Store<D>,
+        after: Option<&Key>,
+        place: &mut Place,
+        found: &mut Key,
+        out: &mut Record,
+    ) -> Result<bool, Down>
+        requires form { form head.now }
+        requires placed { IsPlaced head.now store.old.disk }
+        requires frames { 32 ≤ free_frames store.old.pool }
+        requires begins { IfSome store.old.current (λ blocks. valid head.now blocks → begins head.now blocks (option_map key_of (option_copied after)) place.old) }
+        ensures found { IfOk result (λ is. is ≡ true → IfSome store.old.current (λ blocks. valid head.now blocks → IsNext (map head.now blocks) (option_map key_of (option_copied after.entry)) (key_of found.new) out.new)) }
+        ensures stands { IfOk result (λ is. is ≡ true → IfSome store.old.current (λ blocks. stands head.now blocks (key_of found.new) out.new)) }
+        ensures none { IfOk result (λ is. is ≡ false → IfSome store.old.current (λ blocks. valid head.now blocks → EndsAfter (map head.now blocks) (option_map key_of (option_copied after.entry)))) }
+        ensures begins { IfOk result (λ is. is ≡ true → IfSome store.old.current (λ blocks. valid head.now blocks → begins head.now blocks (Some (key_of found.new)) place.new)) }
         ensures same { OnOk result (SameButReads store.old store.new) }
         ensures down { OnErr result (SameButReads (fell result store.old) store.new) };
 
@@ -199,4 +229,7 @@ pub trait RecordFile {
 
     /// So does the chain.
     ghost chain_local: { (head : FileHead) (a b : List (List ℕ)) → form head → AgreesOn head a b → chain head a ≡ chain head b };
+
+    /// Any walk may begin at the front.
+    ghost begins_first: { (head : FileHead) (blocks : List (List ℕ)) (after : Option model.Key) → form head → begins head blocks after first_place };
 }

@@ -7,8 +7,10 @@ mod file;
 mod law;
 #[cfg(test)]
 mod tests;
+mod walk;
 
 pub use behind::number_behind;
 pub use buckets::{give_frame, load_bucket, stage_bucket, take_frame};
 pub use file::{Held, RecordFile};
 pub use law::{changes_agree, undo_restores_maps};
+pub use walk::Place;

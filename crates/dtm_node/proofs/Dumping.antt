@@ -1,5 +1,5 @@
 -- DUMP.
-use Rattle.std.proofs.Common.{◌≡◌, ℕ, zero, suc, ◌+◌, ◌*◌, ◌^◌, ◌<◌, ◌≤◌, List, [], ◌∷◌, ◌++◌, false, Option, Some, None, Result, Ok, Err, MatchResult, OnOk, length, take, refl, sym, ◌∙◌, ap, subst, arith}
+use Rattle.std.proofs.Common.{◌≡◌, ℕ, zero, suc, ◌+◌, ◌*◌, ◌^◌, ◌<◌, ◌≤◌, List, [], ◌∷◌, ◌++◌, false, Option, Some, None, Result, Ok, Err, MatchResult, OnOk, IfSome, length, take, refl, sym, ◌∙◌, ap, subst, arith}
 use Rattle.std.specs.Prelude.{map}
 use Rattle.std.proofs.lemmas.List.{length-map}
 use Rattle.std.specs.FinMap.{get, entries}
@@ -9,7 +9,9 @@ use Rattle.careful_write.specs.declared.down.Down.{Down}
 use Rattle.careful_write.specs.Down.{answered}
 use Rattle.file_base.specs.declared.head.FileHead.{FileHead}
 use Rattle.change_set.specs.Maps.{Map, EndsAfter}
-use Rattle.record_files.specs.Any.{map_of}
+use Rattle.change_set.specs.Files.{first_place}
+use Rattle.record_files.specs.Any.{Begins, IsFile, IsLaidOut, map_of}
+use Rattle.record_files.specs.Local.{begins_first_law}
 use Rattle.volume.specs.Catalogs.{TellsEntry}
 use Rattle.transcript_model.specs.Lines as line
 use Rattle.transcript_model.specs.Emitting.{Shown, Emits}
@@ -35,6 +37,11 @@ use Rattle.dtm_node.proofs.UpLemmas.{kept, dropped, disk_up, before_here, fallen
 use Rattle.dtm_node.proofs.Groups.{standing_of}
 use Rattle.node_files.proofs.CatalogLemmas.{fits_at, head_below, placed}
 use Rattle.dtm_node.proofs.Files.{Found, found_file, wants_free}
+
+-- a walk begins at the front
+pub begins_anew : (told : Option (List (List ℕ))) (head : FileHead) (key : Option Key) → IfSome told (λ content. IsFile head → IsLaidOut head content → Begins head content key first_place)
+begins_anew None head key = tt
+begins_anew (Some content) head key = λ form laid. begins_first_law head content key form
 
 -- Showing one record after another.
 

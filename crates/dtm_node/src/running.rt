@@ -33,9 +33,10 @@ use crate::labels::Labels;
 use crate::law::the_laws;
 use block_disk::Disk;
 use careful_write::{Down, Store};
+use change_set::Place;
 use file_base::FileHead;
 use node_files::{
-    Buffers, Undo, make_records, next_record, sizes_of, stage_back, write_head, write_home,
+    Buffers, Undo, make_records, next_record_from, sizes_of, stage_back, write_head, write_home,
 };
 use script_lang::{Form as FileForm, Literals, Request, Setting};
 use transcript::{Emit, Form, Quota};
@@ -567,7 +568,7 @@ impl<D: Disk> Running<D> {
         self.show_records(&head, out)
     }
 
-    // Shows the records of a file and their number.
+    // Shows the records of a file and their number. Each walk to the next record begins where the last one was found.
     fn show_records<E: Emit>(&mut self, head: &FileHead, out: &mut E) -> Result<(), Down>
         requires up { IsUp self.old.volume.catalog.home.node (up_of self.old) }
         requires whole { length self.old.volume.catalog.heads ≡ 64 }
@@ -584,13 +585,15 @@ impl<D: Disk> Running<D> {
     {
         the_laws();
         let mut after = None;
+        let mut place = Place::first();
         let mut count: u32 = 0;
         while count < u32::MAX {
             let mut key = Key::End;
-            match next_record(
+            match next_record_from(
                 &mut self.volume,
                 head,
                 after.as_ref(),
+                &mut place,
                 &mut key,
                 &mut self.buffers.found,
             ) {

@@ -1,19 +1,22 @@
 -- The first slot behind a key.
-use Rattle.std.proofs.Common.{◌≡◌, ⊎_elim, ℕ, zero, suc, ◌<◌, ◌≤◌, ◌+◌, ◌-◌, ◌*◌, ◌&&◌, Bool, true, false, List, [], ◌∷◌, ◌++◌, length, take, drop, map, Option, Some, None, IfSome, IfNone, is_some, if◌then◌else◌, nat_lt, refl, sym, ap, subst, ◌∙◌, arith, Ordering}
+use Rattle.std.proofs.Common.{◌≡◌, ⊎_elim, inr, ℕ, zero, suc, ◌<◌, ◌≤◌, ◌+◌, ◌-◌, ◌*◌, ◌&&◌, Bool, true, false, List, [], ◌∷◌, ◌++◌, length, take, drop, map, Option, Some, None, IfSome, IfNone, is_some, if◌then◌else◌, nat_lt, not, unwrap_or, append_assoc, IsSomeAnd, refl, sym, ap, subst, ◌∙◌, arith, Ordering}
 use Rattle.std.specs.Ordering.{nat_cmp, is_lt, ordering_reverse}
 use Rattle.std.specs.Cmp.Lexicographic.{slice_cmp}
 use Rattle.std.proofs.lemmas.Cmp.{nat_list_cmp_total, tied_itself}
-use Rattle.std.proofs.lemmas.Bool.{cases_lt}
+use Rattle.std.proofs.lemmas.Bool.{cases_Bool, cases_lt}
 use Rattle.std.proofs.lemmas.List.{drop_more, length-take-le}
 use Rattle.file_base.specs.declared.head.FileHead.{FileHead}
 use Rattle.bucket_page.specs.Pages.{slot_at, slots_of, key_in, ascend, IsBucket}
 use Rattle.bucket_page.proofs.Orders.{ascend_at}
-use Rattle.records_model.specs.Slots.{Slot, bytes_before}
-use Rattle.indexed_file.specs.Chain.{kind_of, slot_of, value_of, bucket_at, slots_in, next_in, chain_from, slots_along, all_slots_of, IsChained}
+use Rattle.records_model.specs.Slots.{Slot, AllBefore, AllBehind, IsOrdered, bytes_before}
+use Rattle.records_model.specs.Chain.{begins_by}
+use Rattle.change_set.specs.declared.walk.Place.{Place}
+use Rattle.indexed_file.specs.Chain.{kind_of, slot_of, value_of, bucket_at, slots_in, next_in, chain_from, leaves_of, slots_along, all_slots_of, IsChained}
 use Rattle.indexed_file.specs.Places.{key_at, IsPlace}
-use Rattle.indexed_file.specs.Behind.{is_behind, first_behind, IsFound, StartsBehind}
-use Rattle.records_model.proofs.SlotLaws.{or_slot, if_true, if_false}
-use Rattle.indexed_file.proofs.WalkLaws.{lt_true, lt_false}
+use Rattle.indexed_file.specs.Behind.{is_behind, first_behind, BeginsAt, IsFound, StartsBehind}
+use Rattle.records_model.proofs.SlotLaws.{or_slot, if_true, if_false, ordered_parts}
+use Rattle.indexed_file.proofs.WalkLaws.{behind_is, behind_of, chain_here, lt_true, lt_false}
+use Rattle.indexed_file.proofs.TargetLaws.{begun_lower, slots_along-append}
 use Rattle.std.specs.declared.cmp.Ordering.TheVariants.{Less, Equal, Greater}
 
 abbrev Told : Type 0
@@ -160,15 +163,102 @@ more_of h b i n below =
     let more : h.used - i ≡ suc (h.used - (i + 1)) = omega arith in
     ap (λ m. slots_along h b (chain_from h b m n)) more
 
-pub next_step : (told : Told) (h : FileHead) (after : Option (List ℕ)) (n i next : ℕ) → i < h.used → next < h.used
+-- a walk came to the bucket at place i of the chain: none before it has a record behind the key
+pub record Reaches (h : FileHead) (b : List (List ℕ)) (after : Option (List ℕ)) (i n : ℕ) : Type 0 where
+  pub before : List ℕ
+  pub is : leaves_of h b ≡ before ++ chain_from h b (h.used - i) n
+  pub none : first_behind after (slots_along h b before) ≡ None
+
+pub reach_tells : (told : Told) (h : FileHead) (after : Option (List ℕ)) (i n : ℕ) → IfSome told (λ b. IsChained h b → Reaches h b after i n)
     → IfSome told (λ b. IsChained h b → first_behind after (all_slots_of h b) ≡ first_behind after (rest_of h b i n))
-    → IfSome told (λ b. IsChained h b → first_behind after (slots_in h b n) ≡ None) → IfSome told (λ b. next ≡ next_in h b n)
-    → IfSome told (λ b. IsChained h b → first_behind after (all_slots_of h b) ≡ first_behind after (rest_of h b (i + 1) next))
-next_step None h after n i next below under so_far none leads = tt
-next_step (Some b) h after n i next below under so_far none leads = λ valid.
-    so_far valid ∙ ap (first_behind after) (more_of h b i n below) ∙ none_here after (slots_in h b n) _ (none valid)
-    ∙ ap (λ m. first_behind after (slots_along h b (if nat_lt m h.used then chain_from h b (h.used - (i + 1)) m else []))) (sym leads)
-    ∙ ap (λ ns. first_behind after (slots_along h b ns)) (if_true (nat_lt next h.used) _ _ (lt_true next h.used under))
+reach_tells None h after i n reached = tt
+reach_tells (Some b) h after i n reached = λ valid.
+    let r = reached valid in
+    ap (λ ns. first_behind after (slots_along h b ns)) r.is ∙ ap (first_behind after) (slots_along-append h b r.before (chain_from h b (h.used - i) n)) ∙ none_here after (slots_along h b r.before) _ r.none
+
+-- no slot of a lesser key is behind
+lesser_none : (k : List ℕ) (slots : List Slot) → AllBefore k slots → first_behind (Some k) slots ≡ None
+lesser_none k [] lower = refl
+lesser_none k (s ∷ ss) lower = if_false (bytes_before k s.key && is_some s.value) _ _ (both_false _ _ (not_before s.key k lower.0)) ∙ lesser_none k ss lower.1
+
+begun_none : (h : FileHead) (b : List (List ℕ)) (after : Option (List ℕ)) (before : List ℕ) (i n : ℕ) → leaves_of h b ≡ before ++ chain_from h b (h.used - i) n → i < h.used → IsOrdered (all_slots_of h b)
+    → IsSomeAnd after (λ k. begins_by k (slots_in h b n) ≡ true) → first_behind after (slots_along h b before) ≡ None
+begun_none h b None before i n is below ordered begins = absurd begins
+begun_none h b (Some k) before i n is below ordered begins =
+    let all : all_slots_of h b ≡ slots_along h b before ++ (slots_in h b n ++ slots_along h b (behind_of h b i n)) =
+    ap (slots_along h b) (is ∙ ap (λ ns. before ++ ns) (chain_here h b i n below)) ∙ slots_along-append h b before (n ∷ behind_of h b i n) in
+    lesser_none k (slots_along h b before) (begun_lower k (slots_along h b before) (slots_in h b n) (slots_along h b (behind_of h b i n)) begins (subst IsOrdered all ordered))
+
+-- a walk that begins
+pub reach_begins : (told : Told) (h : FileHead) (after : Option (List ℕ)) (place : Place) → IfSome told (λ b. IsChained h b → BeginsAt h b after place) → IfSome told (λ b. IsChained h b → Reaches h b after place.passed place.bucket)
+reach_begins None h after place begins = tt
+reach_begins (Some b) h after place begins = λ valid.
+    let s = begins valid in
+    record {
+      before = s.before;
+      is = s.is;
+      none = ⊎_elim
+          (λ empty. ap (λ ns. first_behind after (slots_along h b ns)) empty)
+          (λ leads. begun_none h b after s.before place.passed place.bucket s.is s.passed valid.ordered leads)
+          s.first;
+    }
+
+pub begins_within : (told : Told) (h : FileHead) (after : Option (List ℕ)) (place : Place) (P : List (List ℕ) → Type 0) → IfSome told (λ b. IsChained h b → BeginsAt h b after place) → h.used ≤ place.bucket → IfSome told (λ b. IsChained h b → P b)
+begins_within None h after place P begins past = tt
+begins_within (Some b) h after place P begins past = λ valid. let s = begins valid in absurd (omega (arith, s.bucket))
+
+-- and goes on
+pub reach_step : (told : Told) (h : FileHead) (after : Option (List ℕ)) (n i next : ℕ) → i < h.used → next < h.used → IfSome told (λ b. IsChained h b → Reaches h b after i n)
+    → IfSome told (λ b. IsChained h b → first_behind after (slots_in h b n) ≡ None) → IfSome told (λ b. next ≡ next_in h b n) → IfSome told (λ b. IsChained h b → Reaches h b after (i + 1) next)
+reach_step None h after n i next below under reached none leads = tt
+reach_step (Some b) h after n i next below under reached none leads = λ valid.
+    let r = reached valid in
+    record {
+      before = r.before ++ n ∷ [];
+      is = r.is ∙ ap (λ ns. r.before ++ ns) (chain_here h b i n below ∙ ap (λ ns. n ∷ ns) (behind_is h b i n next under leads))
+          ∙ sym (append_assoc r.before (n ∷ []) (chain_from h b (h.used - (i + 1)) next));
+      none = ap (first_behind after) (slots_along-append h b r.before (n ∷ [])) ∙ none_here after (slots_along h b r.before) _ r.none ∙ none_here after (slots_in h b n) [] (none valid);
+    }
+
+never : (o : Option Slot) (slot : Slot) (P : Type 0) → o ≡ None → o ≡ Some slot → P
+never o slot P none is = cc
+
+found_behind : (after : Option (List ℕ)) (j : List ℕ) (slots : List Slot) (slot : Slot) → AllBehind j slots → first_behind after slots ≡ Some slot → bytes_before j slot.key ≡ true
+found_behind after j [] slot behind is = never (first_behind after []) slot _ refl is
+found_behind after j (s ∷ ss) slot behind is =
+    let t = is_behind after s.key && is_some s.value in
+    ⊎_elim
+    (λ here. let same : s ≡ slot = ap (λ (o : Option Slot). unwrap_or o s) (sym (if_true t (Some s) (first_behind after ss) here) ∙ is) in subst (λ (x : Slot). bytes_before j x.key ≡ true) same behind.0)
+    (λ later. found_behind after j ss slot behind.1 (sym (if_false t (Some s) (first_behind after ss) later) ∙ is))
+    (cases_Bool t)
+
+-- a bucket begins by each key that is found in it
+found_begins : (after : Option (List ℕ)) (slots : List Slot) (k bytes : List ℕ) → IsOrdered slots → IsFound (first_behind after slots) k bytes → begins_by k slots ≡ true
+found_begins after [] k bytes ordered found = never (first_behind after []) found.slot _ refl found.is
+found_begins after (s ∷ ss) k bytes ordered found =
+    let t = is_behind after s.key && is_some s.value in
+    ⊎_elim
+    (λ here. let same : s ≡ found.slot = ap (λ (o : Option Slot). unwrap_or o s) (sym (if_true t (Some s) (first_behind after ss) here) ∙ found.is) in
+    ap (λ x. not (bytes_before k x)) (ap (λ (x : Slot). x.key) same ∙ found.key) ∙ ap not (not_before_itself k))
+    (λ later. let less = found_behind after s.key ss found.slot ordered.0 (sym (if_false t (Some s) (first_behind after ss) later) ∙ found.is) in
+    ap not (not_before s.key k (subst (λ (x : List ℕ). bytes_before s.key x ≡ true) found.key less)))
+    (cases_Bool t)
+
+-- the walk to what is behind a key that was found may begin there
+pub reach_found : (told : Told) (h : FileHead) (after : Option (List ℕ)) (n i : ℕ) (k bytes : List ℕ) → n < h.used → i < h.used → IfSome told (λ b. IsChained h b → Reaches h b after i n)
+    → IfSome told (λ b. IsChained h b → IsFound (first_behind after (slots_in h b n)) k bytes) → IfSome told (λ b. IsChained h b → BeginsAt h b (Some k) (record { bucket = n; passed = i }))
+reach_found None h after n i k bytes used below reached found = tt
+reach_found (Some b) h after n i k bytes used below reached found = λ valid.
+    let r = reached valid in
+    let all = ap (slots_along h b) (r.is ∙ ap (λ ns. r.before ++ ns) (chain_here h b i n below)) ∙ slots_along-append h b r.before (n ∷ behind_of h b i n) in
+    let later = (ordered_parts (slots_along h b r.before) (slots_in h b n ++ slots_along h b (behind_of h b i n)) (subst IsOrdered all valid.ordered)).1 in
+    record {
+      before = r.before;
+      is = r.is;
+      bucket = used;
+      passed = below;
+      first = inr (found_begins after (slots_in h b n) k bytes (ordered_parts (slots_in h b n) (slots_along h b (behind_of h b i n)) later).0 (found valid));
+    }
 
 pub next_ends : (told : Told) (h : FileHead) (after : Option (List ℕ)) (n i next : ℕ) → i < h.used → h.used ≤ next
     → IfSome told (λ b. IsChained h b → first_behind after (all_slots_of h b) ≡ first_behind after (rest_of h b i n))

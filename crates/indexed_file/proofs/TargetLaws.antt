@@ -25,7 +25,7 @@ not_false true h = refl
 not_false false h = cc
 
 -- where a bucket begins by the key, all before it come before the key
-begun_lower : (k : List ℕ) (a target behind : List Slot) → begins_by k target ≡ true → IsOrdered (a ++ (target ++ behind)) → AllBefore k a
+pub begun_lower : (k : List ℕ) (a target behind : List Slot) → begins_by k target ≡ true → IsOrdered (a ++ (target ++ behind)) → AllBefore k a
 begun_lower k a [] behind begins ordered = cc
 begun_lower k a (s ∷ ss) behind begins ordered =
     let first = earlier a s (ss ++ behind) ordered in

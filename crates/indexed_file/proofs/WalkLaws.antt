@@ -65,7 +65,7 @@ lt_true a b h = grind (arith, nat_tests)
 abbrev pub behind_of : FileHead → List (List ℕ) → ℕ → ℕ → List ℕ
 behind_of h b i n = if nat_lt (next_in h b n) h.used then chain_from h b (h.used - (i + 1)) (next_in h b n) else []
 
-chain_here : (h : FileHead) (b : List (List ℕ)) (i n : ℕ) → i < h.used → chain_from h b (h.used - i) n ≡ n ∷ behind_of h b i n
+pub chain_here : (h : FileHead) (b : List (List ℕ)) (i n : ℕ) → i < h.used → chain_from h b (h.used - i) n ≡ n ∷ behind_of h b i n
 chain_here h b i n below = let more : h.used - i ≡ suc (h.used - (i + 1)) = omega arith in ap (λ m. chain_from h b m n) more
 
 -- one bucket is passed: the target is to be found among the others
@@ -111,7 +111,7 @@ target_ends (Some b) h k i n to last passed = λ valid.
     (λ above. sym (was.target ∙ none_later h b k to (behind_of h b i n) (above_rest k (slots_in h b n) (slots_along h b (behind_of h b i n)) above was.ordered)))
     (last valid)
 
-behind_is : (h : FileHead) (b : List (List ℕ)) (i n next : ℕ) → next < h.used → next ≡ next_in h b n → behind_of h b i n ≡ chain_from h b (h.used - (i + 1)) next
+pub behind_is : (h : FileHead) (b : List (List ℕ)) (i n next : ℕ) → next < h.used → next ≡ next_in h b n → behind_of h b i n ≡ chain_from h b (h.used - (i + 1)) next
 behind_is h b i n next below leads =
     let under : nat_lt (next_in h b n) h.used ≡ true = lt_true (next_in h b n) h.used (omega (arith, leads)) in
     if_true (nat_lt (next_in h b n) h.used) _ _ under ∙ ap (chain_from h b (h.used - (i + 1))) (sym leads)

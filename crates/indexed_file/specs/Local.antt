@@ -1,14 +1,15 @@
--- The laws of an indexed file: its map, its layout and its rooms rest on the file's extent alone.
-use Rattle.std.specs.Prelude.{◌≡◌, ◌<◌, ℕ, zero, suc, Bool, true, false, List, [], ◌∷◌, ◌++◌, length, map, if◌then◌else◌, nat_lt, refl}
-use Rattle.std.proofs.Common.{sym, ap, subst, ◌∙◌, arith}
+-- The laws of an indexed file: its map, its layout and its rooms rest on the file's extent alone, and walks begin at its front.
+use Rattle.std.specs.Prelude.{◌≡◌, ◌<◌, ◌-◌, Option, ℕ, zero, suc, Bool, true, false, List, [], ◌∷◌, ◌++◌, length, map, if◌then◌else◌, nat_lt, refl}
+use Rattle.std.proofs.Common.{inl, sym, ap, subst, ◌∙◌, arith}
 use Rattle.std.proofs.lemmas.Bool.Decides.{nat_tests}
 use Rattle.file_base.specs.declared.head.FileHead.{FileHead}
 use Rattle.vms_model.specs.Keys.{Key, Number, Text, End}
 use Rattle.bucket_page.specs.Pages.{slots_of, next_of, no_next}
-use Rattle.change_set.specs.Files.{AgreesOn}
+use Rattle.change_set.specs.Files.{AgreesOn, first_place}
 use Rattle.change_set.proofs.Extents.{extent_bucket}
 use Rattle.records_model.specs.Slots.{Slot, lookup, room_of, IsOrdered}
 use Rattle.indexed_file.specs.Chain.{kind_of, slot_of, bucket_at, slots_in, next_in, chain_from, leaves_of, slots_along, all_slots_of, chain_of, map_of, room_at, AllBelow, AllDiffer, Leads, IsLeaf, IsIndexed, IsChained}
+use Rattle.indexed_file.specs.Behind.{Begins}
 
 -- a used bucket is the same
 bucket_local : (h : FileHead) (a b : List (List ℕ)) → IsIndexed h → AgreesOn h a b → (n : ℕ) → n < h.used → bucket_at h a n ≡ bucket_at h b n
@@ -86,3 +87,9 @@ room_local_law h a b form agrees End = refl
 
 pub chain_local_law : (h : FileHead) (a b : List (List ℕ)) → IsIndexed h → AgreesOn h a b → chain_of h a ≡ chain_of h b
 chain_local_law h a b form agrees = buckets_local h a b form agrees (leaves_of h a) (chain_used h a h.used 0 form.some) ∙ ap (map (slots_in h b)) (leaves_local h a b form agrees)
+
+-- a walk to what is behind any key may begin at the first bucket
+pub begins_first_law : (h : FileHead) (b : List (List ℕ)) (key : Option Key) → IsIndexed h → Begins h b key first_place
+begins_first_law h b key form =
+    let whole : h.used ≡ h.used - 0 = omega arith in
+    record { before = []; is = ap (λ m. chain_from h b m 0) whole; bucket = form.some; passed = form.some; first = inl refl }

@@ -7,6 +7,7 @@ ghost use Rattle.change_set.specs.Maps.{IsNext, EndsAfter};
 ghost use Rattle.careful_write.specs.Reads.{SameButReads};
 ghost use Rattle.change_set.specs.Files.{IsPlaced, free_frames, fell};
 ghost use Rattle.indexed_file.specs.Chain.{IsIndexed, IsChained, StandsAt, map_of};
+ghost use Rattle.indexed_file.specs.Behind.{Begins, BeginsAt};
 
 use crate::make::make_file;
 use crate::next::next_key;
@@ -15,7 +16,7 @@ use crate::restore::restore_key;
 use crate::set::set_key;
 use block_disk::Disk;
 use careful_write::{Down, Store};
-use change_set::{Held, RecordFile};
+use change_set::{Held, Place, RecordFile};
 use file_base::FileHead;
 use vms_base::{Key, KeyText, Record};
 
@@ -23,24 +24,27 @@ use vms_base::{Key, KeyText, Record};
 /// the order of their keys.
 pub struct IndexedFile;
 
-// The first key behind another, or the first one, with its record.
+// The first key behind another, or the first one, with its record, by a walk that begins at a place.
 fn next_behind<D: Disk>(
     head: &FileHead,
     store: &mut Store<D>,
     after: Option<&KeyText>,
+    place: &mut Place,
     found: &mut Key,
     out: &mut Record,
 ) -> Result<bool, Down>
     requires form { IsIndexed head.now }
     requires placed { IsPlaced head.now store.old.disk }
     requires frames { 32 ≤ free_frames store.old.pool }
+    requires begins { IfSome store.old.current (λ blocks. IsChained head.now blocks → BeginsAt head.now blocks (option_copied after) place.old) }
     ensures found { IfOk result (λ is. is ≡ true → IfSome store.old.current (λ blocks. IsChained head.now blocks → IsNext (map_of head.now blocks) (option_map Text (option_copied after.entry)) (key_of found.new) out.new)) }
     ensures stands { IfOk result (λ is. is ≡ true → IfSome store.old.current (λ blocks. StandsAt head.now blocks (key_of found.new) out.new)) }
     ensures none { IfOk result (λ is. is ≡ false → IfSome store.old.current (λ blocks. IsChained head.now blocks → EndsAfter (map_of head.now blocks) (option_map Text (option_copied after.entry)))) }
+    ensures begins { IfOk result (λ is. is ≡ true → IfSome store.old.current (λ blocks. IsChained head.now blocks → Begins head.now blocks (Some (key_of found.new)) place.new)) }
     ensures same { OnOk result (SameButReads store.old store.new) }
     ensures down { OnErr result (SameButReads (fell result store.old) store.new) }
 {
-    match next_key(head, store, after, out) {
+    match next_key(head, store, after, place, out) {
         Ok(Some(key)) => {
             *found = Key::Text(key);
             Ok(true)
@@ -55,7 +59,8 @@ fn next_behind<D: Disk>(
 
 impl RecordFile for IndexedFile {
     ghost use Rattle.indexed_file.specs.Chain.{map_of, IsChained, StandsAt, IsIndexed, IsNew, Suits, Takes, Restores, room_at, asks, used_after, chain_of, first_chain};
-    ghost use Rattle.indexed_file.specs.Local.{local_law, valid_local_law, room_local_law, chain_local_law};
+    ghost use Rattle.indexed_file.specs.Behind.{Begins};
+    ghost use Rattle.indexed_file.specs.Local.{local_law, valid_local_law, room_local_law, chain_local_law, begins_first_law};
 
     ghost map = { map_of };
 
@@ -83,6 +88,8 @@ impl RecordFile for IndexedFile {
 
     ghost restores = { Restores };
 
+    ghost begins = { Begins };
+
     ghost local = { local_law };
 
     ghost valid_local = { valid_local_law };
@@ -90,6 +97,8 @@ impl RecordFile for IndexedFile {
     ghost room_local = { room_local_law };
 
     ghost chain_local = { chain_local_law };
+
+    ghost begins_first = { begins_first_law };
 
     fn get<D: Disk>(
         head: &FileHead,
@@ -109,18 +118,19 @@ impl RecordFile for IndexedFile {
         }
     }
 
-    fn next<D: Disk>(
+    fn next_from<D: Disk>(
         head: &FileHead,
         store: &mut Store<D>,
         after: Option<&Key>,
+        place: &mut Place,
         found: &mut Key,
         out: &mut Record,
     ) -> Result<bool, Down> {
         match after {
             Some(Key::End) => Ok(false),
-            Some(Key::Text(text)) => next_behind(head, store, Some(text), found, out),
-            Some(Key::Number(_)) => next_behind(head, store, None, found, out),
-            None => next_behind(head, store, None, found, out),
+            Some(Key::Text(text)) => next_behind(head, store, Some(text), place, found, out),
+            Some(Key::Number(_)) => next_behind(head, store, None, place, found, out),
+            None => next_behind(head, store, None, place, found, out),
         }
     }
 

@@ -7,13 +7,13 @@ ghost use Rattle.bucket_page.specs.Pages.{slots_of, IsBucket};
 ghost use Rattle.change_set.specs.Buckets.{frame_of, with_frame};
 ghost use Rattle.change_set.specs.Files.{IsPlaced, free_frames};
 ghost use Rattle.indexed_file.specs.Chain.{IsIndexed, IsChained, kind_of, slot_of, slots_in, next_in, all_slots_of, HasSlot, Stands};
-ghost use Rattle.indexed_file.specs.Behind.{first_behind, IsFound, StartsBehind};
+ghost use Rattle.indexed_file.specs.Behind.{first_behind, IsFound, StartsBehind, BeginsAt};
 
 use crate::leaf::{bucket_size, find_place, kind, load_leaf, read_record, slot, slot_key};
 use block_disk::Disk;
 use bucket_page::Page;
 use careful_write::{Down, Store};
-use change_set::{give_frame, take_frame};
+use change_set::{Place, give_frame, take_frame};
 use file_base::FileHead;
 use frame_pool::Frame;
 use vms_base::{KeyText, Record};
@@ -88,28 +88,39 @@ fn visit_next<D: Disk>(
     Ok((found, Page::next(bytes)))
 }
 
-// The first key behind another that has a record, found through a frame.
+// The first key behind another that has a record, found through a frame by a walk that begins at a place. The walk to what is
+// behind it may begin where it is left.
 fn find_next<D: Disk>(
     head: &FileHead,
     store: &mut Store<D>,
     frame: &Frame,
     after: Option<&KeyText>,
+    place: &mut Place,
     out: &mut Record,
 ) -> Result<Option<KeyText>, Down>
     requires form { IsIndexed head.now }
     requires placed { IsPlaced head.now store.old.disk }
     requires out { IsOut store.old.pool frame.now }
+    requires begins { IfSome store.old.current (λ blocks. IsChained head.now blocks → BeginsAt head.now blocks (option_copied after) place.old) }
     ensures state { store.new ≡ with_frame frame.now (frame_of store.new.pool frame.now) (record store.old { disk = answered result store.old.disk }) }
     ensures out { IsOut store.new.pool frame.now }
     ensures found { IfOk result (λ found. IfSome found (λ k. IfSome store.old.current (λ blocks. IsChained head.now blocks → IsFound (first_behind (option_copied after.entry) (all_slots_of head.now blocks)) k out.new))) }
     ensures stands { IfOk result (λ found. IfSome found (λ k. IfSome store.old.current (Stands head.now k out.new))) }
     ensures none { IfOk result (λ found. IfNone found (IfSome store.old.current (λ blocks. IsChained head.now blocks → first_behind (option_copied after.entry) (all_slots_of head.now blocks) ≡ None))) }
+    ensures begins { IfOk result (λ found. IfSome found (λ k. IfSome store.old.current (λ blocks. IsChained head.now blocks → BeginsAt head.now blocks (Some k) place.new))) }
 {
-    let mut n = 0;
-    for i in 0..head.used {
+    if place.bucket >= head.used {
+        return Ok(None);
+    }
+    let mut n = place.bucket;
+    for i in place.passed..head.used {
         match visit_next(head, store, frame, n, after, out) {
             Ok((found, next)) => {
                 if found.is_some() || next >= head.used {
+                    *place = Place {
+                        bucket: n,
+                        passed: i,
+                    };
                     return Ok(found);
                 }
                 n = next;
@@ -120,24 +131,28 @@ fn find_next<D: Disk>(
     Ok(None)
 }
 
-/// The first key behind another, or the first one, with its record. None exactly where there is none. `Down` says that the
-/// disk went down in the call. The store's frames are as before.
+/// The first key behind another, or the first one, with its record, by a walk that begins at a place, and the place at which
+/// the walk to the next one may begin. None exactly where there is none. `Down` says that the disk went down in the call. The
+/// store's frames are as before.
 pub(crate) fn next_key<D: Disk>(
     head: &FileHead,
     store: &mut Store<D>,
     after: Option<&KeyText>,
+    place: &mut Place,
     out: &mut Record,
 ) -> Result<Option<KeyText>, Down>
     requires form { IsIndexed head.now }
     requires placed { IsPlaced head.now store.old.disk }
     requires frames { 1 ≤ free_frames store.old.pool }
+    requires begins { IfSome store.old.current (λ blocks. IsChained head.now blocks → BeginsAt head.now blocks (option_copied after) place.old) }
     ensures state { store.new ≡ record store.old { disk = answered result store.old.disk } }
     ensures found { IfOk result (λ found. IfSome found (λ k. IfSome store.old.current (λ blocks. IsChained head.now blocks → IsFound (first_behind (option_copied after.entry) (all_slots_of head.now blocks)) k out.new))) }
     ensures stands { IfOk result (λ found. IfSome found (λ k. IfSome store.old.current (Stands head.now k out.new))) }
     ensures none { IfOk result (λ found. IfNone found (IfSome store.old.current (λ blocks. IsChained head.now blocks → first_behind (option_copied after.entry) (all_slots_of head.now blocks) ≡ None))) }
+    ensures begins { IfOk result (λ found. IfSome found (λ k. IfSome store.old.current (λ blocks. IsChained head.now blocks → BeginsAt head.now blocks (Some k) place.new))) }
 {
     let frame = take_frame(store);
-    let found = find_next(head, store, &frame, after, out);
+    let found = find_next(head, store, &frame, after, place, out);
     give_frame(store, frame);
     found
 }

@@ -6,7 +6,7 @@ ghost use Rattle.careful_write.specs.State.{EachWhole, IsIdle, IsReady, Leaves, 
 ghost use Rattle.change_set.specs.Files.{AgreesOut, IsPlaced, LeavesOut, SameFile, fell, free_frames, in_extent};
 ghost use Rattle.file_base.specs.declared.head.Organization.TheVariants as organization;
 ghost use Rattle.change_set.specs.Maps.{EndsAfter, IsNext, empty_map};
-ghost use Rattle.record_files.specs.Any.{IsFile, IsLaidOut, IsNew, asks, chain_of, first_chain_of, map_of};
+ghost use Rattle.record_files.specs.Any.{Begins, IsFile, IsLaidOut, IsNew, asks, chain_of, first_chain_of, map_of};
 ghost use Rattle.volume.specs.Catalogs.{IsSound};
 ghost use Rattle.volume.specs.State.{Holds, with_block};
 ghost use Rattle.volume_format.specs.Head.{head_block_of};
@@ -20,7 +20,7 @@ ghost use Rattle.node_files.specs.Writing.{Writes};
 use crate::undo::Undo;
 use block_disk::Disk;
 use careful_write::Down;
-use change_set::{Held, RecordFile};
+use change_set::{Held, Place, RecordFile};
 use directory_model::files_lie_apart;
 use file_base::FileHead;
 use record_files::AnyFile;
@@ -88,6 +88,31 @@ pub fn next_record<D: Disk>(
         return Ok(false);
     }
     AnyFile::next(head, volume.store(), after, key, found)
+}
+
+/// The same by a walk that begins at a place. Where there is one, the walk to what is behind it may begin where the place is left.
+pub fn next_record_from<D: Disk>(
+    volume: &mut Volume<D>,
+    head: &FileHead,
+    after: Option<&Key>,
+    place: &mut Place,
+    key: &mut Key,
+    found: &mut Record,
+) -> Result<bool, Down>
+    requires placed { IsPlaced head.now volume.old.store.disk }
+    requires frames { 32 ≤ free_frames volume.old.store.pool }
+    requires begins { IfSome volume.old.store.current (λ content. IsFile head.now → IsLaidOut head.now content → Begins head.now content (option_map key_of (option_copied after)) place.old) }
+    ensures found { IfOk result (λ there. there ≡ true → IfSome volume.old.store.current (λ content. IsFile head.now → IsLaidOut head.now content → IsNext (map_of head.now content) (option_map key_of (option_copied after.entry)) (key_of key.new) found.new)) }
+    ensures none { IfOk result (λ there. there ≡ false → IfSome volume.old.store.current (λ content. IsFile head.now → IsLaidOut head.now content → EndsAfter (map_of head.now content) (option_map key_of (option_copied after.entry)))) }
+    ensures begins { IfOk result (λ there. there ≡ true → IfSome volume.old.store.current (λ content. IsFile head.now → IsLaidOut head.now content → Begins head.now content (Some (key_of key.new)) place.new)) }
+    ensures unformed { (IsFile head.now → ⊥) → result ≡ Ok false }
+    ensures same { OnOk result (volume.new ≡ volume.old) }
+    ensures down { OnErr result (volume.new ≡ record volume.old { store = fell result volume.old.store }) }
+{
+    if !AnyFile::is_formed(head) {
+        return Ok(false);
+    }
+    AnyFile::next_from(head, volume.store(), after, place, key, found)
 }
 
 /// How many free buckets a record of so many bytes asks for: more than a disk has, where the head is none of a file of its

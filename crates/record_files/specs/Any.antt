@@ -6,9 +6,11 @@ use Rattle.file_base.specs.declared.head.Organization.TheVariants.{Sequential, R
 use Rattle.vms_model.specs.Keys.{Key}
 use Rattle.records_model.specs.Slots.{Slot}
 use Rattle.change_set.specs.Maps.{Map}
+use Rattle.change_set.specs.declared.walk.Place.{Place}
 use Rattle.relative_file.specs.Cells as relative
 use Rattle.seq_file.specs.Layout as sequential
 use Rattle.indexed_file.specs.Chain as indexed
+use Rattle.indexed_file.specs.Behind as walks
 
 -- the map of a file that is kept so
 abbrev pub map_by : Organization → FileHead → List (List ℕ) → Map
@@ -88,6 +90,12 @@ RestoresBy Sequential = sequential.Takes
 RestoresBy Relative = λ h blocks key value. relative.Anything
 RestoresBy Indexed = indexed.Restores
 
+-- a walk to what is behind a key, or to the first key, may begin at a place
+abbrev pub BeginsBy : Organization → FileHead → List (List ℕ) → Option Key → Place → Type 0
+BeginsBy Sequential = λ h blocks key place. sequential.CountsBefore h blocks place
+BeginsBy Relative = λ h blocks key place. relative.Anything
+BeginsBy Indexed = walks.Begins
+
 -- the map of a file
 abbrev pub map_of : FileHead → List (List ℕ) → Map
 map_of h = map_by h.organization h
@@ -139,3 +147,7 @@ first_chain_of h = first_by h.organization h
 -- a key of the file may be set back to the value in place
 abbrev pub Restores : FileHead → List (List ℕ) → Key → Option (List ℕ) → Type 0
 Restores h = RestoresBy h.organization h
+
+-- a walk of the file to what is behind a key, or to the first key, may begin at a place
+abbrev pub Begins : FileHead → List (List ℕ) → Option Key → Place → Type 0
+Begins h = BeginsBy h.organization h

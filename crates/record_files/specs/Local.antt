@@ -1,14 +1,14 @@
--- The laws of a file of any organization: its map, its layout, its rooms and its chain rest on the file's extent alone.
-use Rattle.std.specs.Prelude.{◌≡◌, List, ℕ, refl}
+-- The laws of a file of any organization: its map, its layout, its rooms and its chain rest on the file's extent alone, and walks begin at its front.
+use Rattle.std.specs.Prelude.{◌≡◌, List, ℕ, Option, refl}
 use Rattle.file_base.specs.declared.head.FileHead.{FileHead}
 use Rattle.file_base.specs.declared.head.Organization.{Organization}
 use Rattle.file_base.specs.declared.head.Organization.TheVariants.{Sequential, Relative, Indexed}
 use Rattle.vms_model.specs.Keys.{Key}
-use Rattle.change_set.specs.Files.{AgreesOn}
+use Rattle.change_set.specs.Files.{AgreesOn, first_place}
 use Rattle.relative_file.specs.Local as relative
 use Rattle.seq_file.specs.Local as sequential
 use Rattle.indexed_file.specs.Local as indexed
-use Rattle.record_files.specs.Any.{map_by, FormBy, LaidOutBy, room_by, chain_by, map_of, IsFile, IsLaidOut, room_at, chain_of}
+use Rattle.record_files.specs.Any.{map_by, FormBy, LaidOutBy, room_by, chain_by, BeginsBy, Begins, map_of, IsFile, IsLaidOut, room_at, chain_of}
 
 map_local_by : (o : Organization) (h : FileHead) (a b : List (List ℕ)) → FormBy o h → AgreesOn h a b → map_by o h a ≡ map_by o h b
 map_local_by Sequential = sequential.local_law
@@ -41,3 +41,11 @@ room_local_law h = room_local_by h.organization h
 
 pub chain_local_law : (h : FileHead) (a b : List (List ℕ)) → IsFile h → AgreesOn h a b → chain_of h a ≡ chain_of h b
 chain_local_law h = chain_local_by h.organization h
+
+begins_first_by : (o : Organization) (h : FileHead) (b : List (List ℕ)) (key : Option Key) → FormBy o h → BeginsBy o h b key first_place
+begins_first_by Sequential h b key form = refl
+begins_first_by Relative h b key form = tt
+begins_first_by Indexed h b key form = indexed.begins_first_law h b key form
+
+pub begins_first_law : (h : FileHead) (b : List (List ℕ)) (key : Option Key) → IsFile h → Begins h b key first_place
+begins_first_law h = begins_first_by h.organization h

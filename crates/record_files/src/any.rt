@@ -15,7 +15,7 @@ use crate::checks::{
 };
 use block_disk::Disk;
 use careful_write::{Down, Store};
-use change_set::{Held, RecordFile};
+use change_set::{Held, Place, RecordFile};
 use file_base::{FileHead, Organization};
 use indexed_file::IndexedFile;
 use relative_file::RelativeFile;
@@ -27,8 +27,8 @@ use vms_base::{Key, Record};
 pub struct AnyFile;
 
 impl RecordFile for AnyFile {
-    ghost use Rattle.record_files.specs.Any.{map_of, IsFile, IsNew, IsLaidOut, Stands, Suits, Takes, Restores, room_at, asks, used_after, chain_of, first_chain_of};
-    ghost use Rattle.record_files.specs.Local.{local_law, valid_local_law, room_local_law, chain_local_law};
+    ghost use Rattle.record_files.specs.Any.{map_of, IsFile, IsNew, IsLaidOut, Stands, Suits, Takes, Restores, room_at, asks, used_after, chain_of, first_chain_of, Begins};
+    ghost use Rattle.record_files.specs.Local.{local_law, valid_local_law, room_local_law, chain_local_law, begins_first_law};
 
     ghost map = { map_of };
 
@@ -56,6 +56,8 @@ impl RecordFile for AnyFile {
 
     ghost restores = { Restores };
 
+    ghost begins = { Begins };
+
     ghost local = { local_law };
 
     ghost valid_local = { valid_local_law };
@@ -63,6 +65,8 @@ impl RecordFile for AnyFile {
     ghost room_local = { room_local_law };
 
     ghost chain_local = { chain_local_law };
+
+    ghost begins_first = { begins_first_law };
 
     fn get<D: Disk>(
         head: &FileHead,
@@ -77,17 +81,20 @@ impl RecordFile for AnyFile {
         }
     }
 
-    fn next<D: Disk>(
+    fn next_from<D: Disk>(
         head: &FileHead,
         store: &mut Store<D>,
         after: Option<&Key>,
+        place: &mut Place,
         found: &mut Key,
         out: &mut Record,
     ) -> Result<bool, Down> {
         match head.organization {
-            Organization::Sequential => SeqFile::next(head, store, after, found, out),
-            Organization::Relative => RelativeFile::next(head, store, after, found, out),
-            Organization::Indexed => IndexedFile::next(head, store, after, found, out),
+            Organization::Sequential => SeqFile::next_from(head, store, after, place, found, out),
+            Organization::Relative => RelativeFile::next_from(
+                head, store, after, place, found, out,
+            ),
+            Organization::Indexed => IndexedFile::next_from(head, store, after, place, found, out),
         }
     }
 

@@ -12,7 +12,7 @@ use crate::file::{get_cell, next_cell, set_cell};
 use crate::make::make_file;
 use block_disk::Disk;
 use careful_write::{Down, Store};
-use change_set::{Held, RecordFile, number_behind};
+use change_set::{Held, Place, RecordFile, number_behind};
 use file_base::FileHead;
 use vms_base::{Key, Record};
 
@@ -90,6 +90,8 @@ impl RecordFile for RelativeFile {
 
     ghost restores = { λ h blocks key value. Anything };
 
+    ghost begins = { λ h blocks key place. Anything };
+
     ghost local = { local_law };
 
     ghost valid_local = { valid_local_law };
@@ -97,6 +99,8 @@ impl RecordFile for RelativeFile {
     ghost room_local = { λ h a b form agrees key. refl };
 
     ghost chain_local = { λ h a b form agrees. refl };
+
+    ghost begins_first = { λ h blocks after form. tt };
 
     fn get<D: Disk>(
         head: &FileHead,
@@ -119,10 +123,11 @@ impl RecordFile for RelativeFile {
         }
     }
 
-    fn next<D: Disk>(
+    fn next_from<D: Disk>(
         head: &FileHead,
         store: &mut Store<D>,
         after: Option<&Key>,
+        _place: &mut Place,
         found: &mut Key,
         out: &mut Record,
     ) -> Result<bool, Down> {

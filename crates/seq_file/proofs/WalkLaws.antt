@@ -1,11 +1,13 @@
 -- Where positions stand in the used buckets.
-use Rattle.std.proofs.Common.{◌≡◌, ℕ, zero, suc, ◌<◌, ◌≤◌, ◌+◌, ◌-◌, List, [], ◌∷◌, ⊎_elim, length, Option, Some, None, IfSome, sym, ap, ◌∙◌, arith, length-append}
+use Rattle.std.proofs.Common.{◌≡◌, ℕ, zero, suc, ◌<◌, ◌≤◌, ◌+◌, ◌-◌, List, [], ◌∷◌, ◌⊎◌, ⊎_elim, length, Option, Some, None, IfSome, refl, sym, ap, subst, ◌∙◌, arith, length-append}
 use Rattle.std.proofs.lemmas.List.{length-map}
 use Rattle.file_base.specs.declared.head.FileHead.{FileHead}
 use Rattle.bucket_page.specs.declared.kind.PageKind.TheVariants.{Seq}
 use Rattle.bucket_page.specs.Pages.{slots_of, slot_at}
 use Rattle.seq_file.specs.Placing.{slots_along, BeginsAnew}
-use Rattle.seq_file.specs.Layout.{bucket_at, slots_at, record_of, IsLaidOut, IsRecord, Stands}
+use Rattle.change_set.specs.declared.walk.Place.{Place}
+use Rattle.change_set.specs.Files.{first_place}
+use Rattle.seq_file.specs.Layout.{bucket_at, slots_at, record_of, CountsBefore, IsLaidOut, IsRecord, Stands}
 use Rattle.seq_file.specs.Frames.{Reads, IsRead, IsAt}
 
 abbrev Told : Type 0
@@ -88,3 +90,25 @@ walk_end (Some b) h i n left past within most place = λ valid.
     let last : i ≡ h.used = omega arith in
     let along = ap (λ m. length (slots_along (slots_at h b) m)) last in
     omega (arith, place valid, along, along_count h b valid)
+
+-- no record stands before the first bucket
+pub front_counts : (told : Told) (h : FileHead) (place : Place) → place ≡ first_place → IfSome told (λ b. IsLaidOut h b → CountsBefore h b place)
+front_counts None h place is = tt
+front_counts (Some b) h place is = λ valid. subst (λ (p : Place). CountsBefore h b p) (sym is) refl
+
+-- a walk that begins at a place, or at the front
+pub walk_begins : (told : Told) (h : FileHead) (place start : Place) (n : ℕ) → start.passed < n → (start ≡ place) ⊎ (start ≡ first_place) → IfSome told (λ b. IsLaidOut h b → CountsBefore h b place)
+    → IfSome told (λ b. IsLaidOut h b → length (slots_along (slots_at h b) start.bucket) + (n - 1 - start.passed) + 1 ≡ n)
+walk_begins None h place start n below either before = tt
+walk_begins (Some b) h place start n below either before = λ valid.
+    let counts : CountsBefore h b start = ⊎_elim
+    (λ same. subst (λ (p : Place). CountsBefore h b p) (sym same) (before valid))
+    (λ same. subst (λ (p : Place). CountsBefore h b p) (sym same) refl)
+    either in
+    omega (arith, counts)
+
+-- and where it ends
+pub walk_leaves : (told : Told) (h : FileHead) (i n left : ℕ) → IfSome told (λ b. IsLaidOut h b → length (slots_along (slots_at h b) i) + left + 1 ≡ n)
+    → IfSome told (λ b. IsLaidOut h b → CountsBefore h b (record { bucket = i; passed = n - 1 - left }))
+walk_leaves None h i n left place = tt
+walk_leaves (Some b) h i n left place = λ valid. let here = place valid in omega (arith, here)

@@ -6,6 +6,7 @@ use Rattle.file_base.specs.declared.head.Organization.TheVariants.{Sequential}
 use Rattle.vms_model.specs.Keys.{Key, Number, Text, End}
 use Rattle.change_set.specs.Buckets.{bucket_bytes}
 use Rattle.change_set.specs.Maps.{Map}
+use Rattle.change_set.specs.declared.walk.Place.{Place}
 use Rattle.bucket_page.specs.declared.kind.PageKind.TheVariants.{Seq}
 use Rattle.bucket_page.specs.Pages.{slots_of, slot_at, joined, IsBucket, u16_bytes}
 use Rattle.seq_file.specs.Placing.{slots_along, BeginsAnew, buckets_for}
@@ -99,6 +100,10 @@ last_bytes h b = length (joined (slots_at h b (h.used - 1)))
 -- the free buckets that a record of this length more asks for: one where it does not fit into the last used bucket
 abbrev pub asks : FileHead → List (List ℕ) → ℕ → ℕ
 asks h b size = if nat_le (last_bytes h b + (size + 2)) (capacity h) then 0 else 1
+
+-- a walk may begin at a bucket, where as many records stand before it as were passed
+abbrev pub CountsBefore : FileHead → List (List ℕ) → Place → Type 0
+CountsBefore h b place = length (slots_along (slots_at h b) place.bucket) ≡ place.passed
 
 -- a key and a record of a sequential file
 abbrev pub Suits : FileHead → Key → Option (List ℕ) → Type 0

@@ -6,7 +6,7 @@ ghost use Rattle.frame_pool.specs.Pool.{IsOut};
 ghost use Rattle.vms_model.specs.Keys.{Number};
 ghost use Rattle.change_set.specs.Files.{IsPlaced, free_frames};
 ghost use Rattle.seq_file.specs.Records.{list_set, record_at};
-ghost use Rattle.seq_file.specs.Layout.{records_in, asks, head_with, IsRecord, IsSequential, IsLaidOut, Stands, Suits, TakesAt};
+ghost use Rattle.seq_file.specs.Layout.{records_in, asks, head_with, IsRecord, CountsBefore, IsSequential, IsLaidOut, Stands, Suits, TakesAt};
 ghost use Rattle.seq_file.specs.Frames.{InFrame, Changes, MayWrite, Written};
 
 use crate::bucket::{load_slots, read_record, slots_end};
@@ -15,7 +15,7 @@ use crate::spot::Rewrite;
 use crate::walk::locate;
 use block_disk::Disk;
 use careful_write::{Down, Store};
-use change_set::{give_frame, stage_bucket, take_frame};
+use change_set::{Place, give_frame, stage_bucket, take_frame};
 use file_base::FileHead;
 use frame_pool::Frame;
 use vms_base::Record;
@@ -27,6 +27,7 @@ fn read_in_frame<D: Disk>(
     store: &mut Store<D>,
     frame: &Frame,
     n: u32,
+    place: &mut Place,
     out: &mut Record,
 ) -> Result<bool, Down>
     requires form { IsSequential head.now }
@@ -34,26 +35,29 @@ fn read_in_frame<D: Disk>(
     requires lent { IsOut store.old.pool frame.now }
     requires from { 1 ≤ n }
     requires to { n ≤ head.now.count }
+    requires before { IfSome store.old.current (λ b. IsLaidOut head.now b → CountsBefore head.now b place.old) }
     ensures found { IfOk result (λ found. found ≡ true → IfSome store.old.current (λ b. IsLaidOut head.now b → record_at (records_in head.now b) n ≡ Some out.new)) }
     ensures absent { IfOk result (λ found. found ≡ false → IfSome store.old.current (λ b. IsLaidOut head.now b → ⊥)) }
     ensures stands { IfOk result (λ found. found ≡ true → IfSome store.old.current (Stands head.now out.new)) }
+    ensures before { IfOk result (λ found. IfSome store.old.current (λ b. IsLaidOut head.now b → CountsBefore head.now b place.new)) }
     ensures record { IfOk result (λ found. found ≡ true → IsRecord head.now.mrs out.new) }
     ensures state { InFrame frame.now (record store.old { disk = answered result store.old.disk }) store.new }
     ensures lent { IsOut store.new.pool frame.now }
 {
-    match locate(head, store, frame, n) {
+    match locate(head, store, frame, n, place) {
         Ok(Some(spot)) => { Ok(read_record(head, store, frame, spot.slot, out)) }
         Ok(None) => Ok(false),
         Err(down) => Err(down),
     }
 }
 
-/// Reads the record of position n. False only where the file is not laid out: a slot whose length is none of its records
+/// Reads the record of position n, which a walk from a place finds. False only where the file is not laid out: a slot whose length is none of its records
 /// is read as none.
 pub fn read_position<D: Disk>(
     head: &FileHead,
     store: &mut Store<D>,
     n: u32,
+    place: &mut Place,
     out: &mut Record,
 ) -> Result<bool, Down>
     requires form { IsSequential head.now }
@@ -61,14 +65,16 @@ pub fn read_position<D: Disk>(
     requires frames { 1 ≤ free_frames store.old.pool }
     requires from { 1 ≤ n }
     requires to { n ≤ head.now.count }
+    requires before { IfSome store.old.current (λ b. IsLaidOut head.now b → CountsBefore head.now b place.old) }
     ensures found { IfOk result (λ found. found ≡ true → IfSome store.old.current (λ b. IsLaidOut head.now b → record_at (records_in head.now b) n ≡ Some out.new)) }
     ensures absent { IfOk result (λ found. found ≡ false → IfSome store.old.current (λ b. IsLaidOut head.now b → ⊥)) }
     ensures stands { IfOk result (λ found. found ≡ true → IfSome store.old.current (Stands head.now out.new)) }
+    ensures before { IfOk result (λ found. IfSome store.old.current (λ b. IsLaidOut head.now b → CountsBefore head.now b place.new)) }
     ensures record { IfOk result (λ found. found ≡ true → IsRecord head.now.mrs out.new) }
     ensures state { store.new ≡ record store.old { disk = answered result store.old.disk } }
 {
     let frame = take_frame(store);
-    let found = read_in_frame(head, store, &frame, n, out);
+    let found = read_in_frame(head, store, &frame, n, place, out);
     give_frame(store, frame);
     found
 }

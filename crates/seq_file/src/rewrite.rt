@@ -16,6 +16,7 @@ use crate::spot::{Rewrite, Spot};
 use crate::walk::locate;
 use block_disk::Disk;
 use careful_write::{Down, Store};
+use change_set::Place;
 use file_base::FileHead;
 use frame_pool::Frame;
 use vms_base::Record;
@@ -108,7 +109,8 @@ fn overwrite<D: Disk>(
     ensures state { InFrame frame.now (record store.old { disk = answered result store.old.disk }) store.new }
     ensures out { IsOut store.new.pool frame.now }
 {
-    match locate(head, store, frame, n) {
+    let mut place = Place::first();
+    match locate(head, store, frame, n, &mut place) {
         Ok(Some(spot)) => Ok(write_over(head, store, frame, spot, value)),
         Ok(None) => Ok(None),
         Err(down) => Err(down),
@@ -174,7 +176,8 @@ pub fn cut_off<D: Disk>(
     ensures state { InFrame frame.now (record store.old { disk = answered result store.old.disk }) store.new }
     ensures out { IsOut store.new.pool frame.now }
 {
-    match locate(head, store, frame, n) {
+    let mut place = Place::first();
+    match locate(head, store, frame, n, &mut place) {
         Ok(Some(spot)) => {
             keep_slots(head, store, frame, spot.slots, spot.slot);
             Ok(Some(Rewrite {

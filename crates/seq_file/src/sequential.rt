@@ -12,7 +12,7 @@ use crate::file::{cut_positions, need_of, read_position, set_position};
 use crate::make::make_file;
 use block_disk::Disk;
 use careful_write::{Down, Store};
-use change_set::{Held, RecordFile, number_behind};
+use change_set::{Held, Place, RecordFile, number_behind};
 use file_base::FileHead;
 use vms_base::{Key, Record};
 
@@ -58,7 +58,7 @@ fn set_record<D: Disk>(
 }
 
 impl RecordFile for SeqFile {
-    ghost use Rattle.seq_file.specs.Layout.{map_of, IsSequential, IsFresh, IsLaidOut, Stands, Suits, Takes, asks, used_after};
+    ghost use Rattle.seq_file.specs.Layout.{map_of, IsSequential, IsFresh, IsLaidOut, Stands, Suits, Takes, asks, used_after, CountsBefore};
     ghost use Rattle.seq_file.specs.Local.{local_law, valid_local_law};
     ghost use Rattle.std.specs.Prelude.{ℕ, [], refl};
 
@@ -88,6 +88,8 @@ impl RecordFile for SeqFile {
 
     ghost restores = { Takes };
 
+    ghost begins = { λ h blocks key place. CountsBefore h blocks place };
+
     ghost local = { local_law };
 
     ghost valid_local = { valid_local_law };
@@ -95,6 +97,8 @@ impl RecordFile for SeqFile {
     ghost room_local = { λ h a b form agrees key. refl };
 
     ghost chain_local = { λ h a b form agrees. refl };
+
+    ghost begins_first = { λ h blocks after form. refl };
 
     fn get<D: Disk>(
         head: &FileHead,
@@ -107,7 +111,8 @@ impl RecordFile for SeqFile {
                 if *n == 0 || *n > head.count {
                     return Ok(false);
                 }
-                let found = read_position(head, store, *n, out);
+                let mut place = Place::first();
+                let found = read_position(head, store, *n, &mut place, out);
                 if found.is_err() {
                     store.unstage();
                 }
@@ -117,10 +122,11 @@ impl RecordFile for SeqFile {
         }
     }
 
-    fn next<D: Disk>(
+    fn next_from<D: Disk>(
         head: &FileHead,
         store: &mut Store<D>,
         after: Option<&Key>,
+        place: &mut Place,
         found: &mut Key,
         out: &mut Record,
     ) -> Result<bool, Down> {
@@ -130,7 +136,7 @@ impl RecordFile for SeqFile {
         if from >= head.count {
             return Ok(false);
         }
-        match read_position(head, store, from + 1, out) {
+        match read_position(head, store, from + 1, place, out) {
             Ok(true) => {
                 *found = Key::Number(from + 1);
                 Ok(true)

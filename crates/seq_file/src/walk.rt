@@ -1,33 +1,37 @@
 //! Where positions stand.
-ghost use Rattle.std.specs.Prelude.{◌≡◌, ◌≤◌, ◌<◌, ◌+◌, ◌-◌, ◌*◌, ◌++◌, ℕ, List, length, OnOk, OnErr, IfOk, IfSome, IfNone};
+ghost use Rattle.std.specs.Prelude.{◌≡◌, ◌≤◌, ◌<◌, ◌⊎◌, ◌+◌, ◌-◌, ◌*◌, ◌++◌, ℕ, List, length, OnOk, OnErr, IfOk, IfSome, IfNone};
 ghost use Rattle.careful_write.specs.Down.{answered};
 ghost use Rattle.frame_pool.specs.Pool.{IsOut};
-ghost use Rattle.change_set.specs.Files.{IsPlaced};
+ghost use Rattle.change_set.specs.Files.{IsPlaced, first_place};
 ghost use Rattle.bucket_page.specs.declared.kind.PageKind.TheVariants.{Seq};
 ghost use Rattle.bucket_page.specs.Pages.{slots_of, IsBucket};
-ghost use Rattle.seq_file.specs.Layout.{IsSequential, IsLaidOut};
+ghost use Rattle.seq_file.specs.Layout.{IsSequential, IsLaidOut, CountsBefore};
 ghost use Rattle.seq_file.specs.Frames.{page_in, InFrame, IsAt, IsRead};
 
 use crate::bucket::load_slots;
 use crate::spot::Spot;
 use block_disk::Disk;
 use careful_write::{Down, Store};
+use change_set::Place;
 use file_base::FileHead;
 use frame_pool::Frame;
 
 /// Finds where a position stands, and leaves its bucket in a frame. The last position is found in the last used bucket
-/// alone, and others by the buckets from the first one on. None only where the file is not laid out.
+/// alone, and others by the buckets from a place on, which is then where the position stands; from the first one on where the
+/// place is behind it. None only where the file is not laid out.
 pub fn locate<D: Disk>(
     head: &FileHead,
     store: &mut Store<D>,
     frame: &Frame,
     n: u32,
+    place: &mut Place,
 ) -> Result<Option<Spot>, Down>
     requires form { IsSequential head.now }
     requires placed { IsPlaced head.now store.old.disk }
     requires out { IsOut store.old.pool frame.now }
     requires from { 1 ≤ n }
     requires to { n ≤ head.now.count }
+    requires before { IfSome store.old.current (λ b. IsLaidOut head.now b → CountsBefore head.now b place.old) }
     ensures state { InFrame frame.now (record store.old { disk = answered result store.old.disk }) store.new }
     ensures out { IsOut store.new.pool frame.now }
     ensures bucket { IfOk result (λ found. IfSome found (λ spot. IsBucket Seq (512 * head.now.bucket) (page_in head.now store.new frame.now))) }
@@ -36,12 +40,13 @@ pub fn locate<D: Disk>(
     ensures stands { IfOk result (λ found. IfSome found (λ spot. IfSome store.old.current (IsRead head.now spot.bucket (page_in head.now store.new frame.now)))) }
     ensures below { IfOk result (λ found. IfSome found (λ spot. spot.bucket < head.now.used)) }
     ensures spot { IfOk result (λ found. IfSome found (λ spot. IfSome store.old.current (λ b. IsLaidOut head.now b → IsAt head.now n spot.bucket spot.slot (page_in head.now store.new frame.now) b))) }
+    ensures before { IfOk result (λ found. IfSome store.old.current (λ b. IsLaidOut head.now b → CountsBefore head.now b place.new)) }
     ensures none { IfOk result (λ found. IfNone found (IfSome store.old.current (λ b. IsLaidOut head.now b → ⊥))) }
 {
     if n == head.count {
         last_spot(head, store, frame)
     } else {
-        walk(head, store, frame, n)
+        walk(head, store, frame, n, place)
     }
 }
 
@@ -81,18 +86,35 @@ fn last_spot<D: Disk>(
     }
 }
 
-// The spot of a position, by the number of slots in each bucket from the first one on.
+// Where the walk to a position begins: at a place, unless that is behind it.
+fn start_for(head: &FileHead, place: &Place, n: u32) -> Place
+    requires one { 1 ≤ head.now.used }
+    requires from { 1 ≤ n }
+    ensures used { result.bucket < head.now.used }
+    ensures before { result.passed < n }
+    ensures either { (result ≡ place.now) ⊎ (result ≡ first_place) }
+{
+    if place.passed < n && place.bucket < head.used {
+        *place
+    } else {
+        Place::first()
+    }
+}
+
+// The spot of a position, by the number of slots in each bucket from a place on.
 fn walk<D: Disk>(
     head: &FileHead,
     store: &mut Store<D>,
     frame: &Frame,
     n: u32,
+    place: &mut Place,
 ) -> Result<Option<Spot>, Down>
     requires form { IsSequential head.now }
     requires placed { IsPlaced head.now store.old.disk }
     requires out { IsOut store.old.pool frame.now }
     requires from { 1 ≤ n }
     requires to { n ≤ head.now.count }
+    requires before { IfSome store.old.current (λ b. IsLaidOut head.now b → CountsBefore head.now b place.old) }
     ensures state { InFrame frame.now (record store.old { disk = answered result store.old.disk }) store.new }
     ensures out { IsOut store.new.pool frame.now }
     ensures bucket { IfOk result (λ found. IfSome found (λ spot. IsBucket Seq (512 * head.now.bucket) (page_in head.now store.new frame.now))) }
@@ -101,13 +123,19 @@ fn walk<D: Disk>(
     ensures stands { IfOk result (λ found. IfSome found (λ spot. IfSome store.old.current (IsRead head.now spot.bucket (page_in head.now store.new frame.now)))) }
     ensures below { IfOk result (λ found. IfSome found (λ spot. spot.bucket < head.now.used)) }
     ensures spot { IfOk result (λ found. IfSome found (λ spot. IfSome store.old.current (λ b. IsLaidOut head.now b → IsAt head.now n spot.bucket spot.slot (page_in head.now store.new frame.now) b))) }
+    ensures before { IfOk result (λ found. IfSome store.old.current (λ b. IsLaidOut head.now b → CountsBefore head.now b place.new)) }
     ensures none { IfOk result (λ found. IfNone found (IfSome store.old.current (λ b. IsLaidOut head.now b → ⊥))) }
 {
-    let mut left = n - 1;
-    for bucket in 0..head.used {
+    let start = start_for(head, place, n);
+    let mut left = n - 1 - start.passed;
+    for bucket in start.bucket..head.used {
         match load_slots(head, store, frame, bucket) {
             Ok(slots) => {
                 if left < slots as u32 {
+                    *place = Place {
+                        bucket,
+                        passed: n - 1 - left,
+                    };
                     return Ok(Some(Spot {
                         bucket,
                         slots,

@@ -4,8 +4,9 @@ use Rattle.block_disk.specs.Disk.{DiskState}
 use Rattle.careful_write.specs.State.{StoreState}
 use Rattle.careful_write.specs.Down.{answered}
 use Rattle.careful_write.specs.declared.down.Down.{Down}
+use Rattle.change_set.proofs.Frames.{with_frame_own}
 use Rattle.indexed_file.proofs.WalkLaws.{read_again, told_same}
-use Rattle.indexed_file.proofs.NextLaws.{if_some_then, if_none_then, none_if_some, none_gives, next_step, next_ends, next_found}
+use Rattle.indexed_file.proofs.NextLaws.{if_some_then, if_none_then, none_if_some, none_gives, next_ends, next_found, reach_tells, reach_begins, reach_step, reach_found}
 use Rattle.indexed_file.proofs.next.find_next.Goals as goal
 use Rattle.indexed_file.proofs.next.find_next.Goals.{then-is_some-via-then-is_some, then-is_some-via-else-is_some+then-next-head}
 
@@ -22,7 +23,7 @@ pub returns-then-is_some-clause-found : goal.returns-then-is_some-clause-found
 returns-then-is_some-clause-found g c =
     let same = ap (λ (s : StoreState). s.current) c.loop-i.invariant.state in
     if_some_then c.in-Ok.found _ _
-    (λ k fact. next_found c.args.store.now.current c.args.head.now (option_copied c.args.after) c.loop-i.n c.loop-i.i k _ c.loop-i-test.true c.loop-i.invariant.passed (told_same _ _ _ same fact))
+    (λ k fact. next_found c.args.store.now.current c.args.head.now (option_copied c.args.after) c.loop-i.n c.loop-i.i k _ c.loop-i-test.true (reach_tells c.args.store.now.current c.args.head.now (option_copied c.args.after) c.loop-i.i c.loop-i.n c.loop-i.invariant.reached) (told_same _ _ _ same fact))
     c.in-Ok.ensures.found
 
 pub returns-then-is_some-clause-none : goal.returns-then-is_some-clause-none
@@ -31,9 +32,17 @@ returns-then-is_some-clause-none g c =
     elim c.then-is_some.branch [
       | then-is_some-via-then-is_some w ↦ none_if_some c.in-Ok.found _ (search rules)
       | then-is_some-via-else-is_some+then-next-head w ↦ if_none_then c.in-Ok.found _ _
-          (λ fact. next_ends c.args.store.now.current c.args.head.now (option_copied c.args.after) c.loop-i.n c.loop-i.i c.in-Ok.next c.loop-i-test.true w.if-next-head.true c.loop-i.invariant.passed (told_same _ _ _ same fact) (told_same _ _ _ same c.in-Ok.ensures.next))
+          (λ fact. next_ends c.args.store.now.current c.args.head.now (option_copied c.args.after) c.loop-i.n c.loop-i.i c.in-Ok.next c.loop-i-test.true w.if-next-head.true (reach_tells c.args.store.now.current c.args.head.now (option_copied c.args.after) c.loop-i.i c.loop-i.n c.loop-i.invariant.reached) (told_same _ _ _ same fact) (told_same _ _ _ same c.in-Ok.ensures.next))
           c.in-Ok.ensures.none
     ]
+
+pub loop-i-init : goal.loop-i-init
+loop-i-init g c = record {
+  state = with_frame_own c.args.frame.now c.args.store.now c.requires.out;
+  out = c.requires.out;
+  there = search rules;
+  reached = reach_begins c.args.store.now.current c.args.head.now (option_copied c.args.after) c.args.place.now c.requires.begins;
+}
 
 pub loop-i-preserved : goal.loop-i-preserved
 loop-i-preserved g c =
@@ -43,7 +52,7 @@ loop-i-preserved g c =
       state = read_again c.args.frame.now c.args.store.now c.loop-i.store c.visit_next.new.store (λ (d : DiskState). d) c.loop-i.invariant.state c.in-Ok.ensures.state;
       out = c.visit_next.ensures.out;
       there = c.if-next-head.false;
-      passed = next_step c.args.store.now.current c.args.head.now (option_copied c.args.after) c.loop-i.n c.loop-i.i c.in-Ok.next c.loop-i-test.true c.if-next-head.false c.loop-i.invariant.passed
+      reached = reach_step c.args.store.now.current c.args.head.now (option_copied c.args.after) c.loop-i.n c.loop-i.i c.in-Ok.next c.loop-i-test.true c.if-next-head.false c.loop-i.invariant.reached
           (told_same _ _ _ same (none_gives c.in-Ok.found _ none c.in-Ok.ensures.none)) (told_same _ _ _ same c.in-Ok.ensures.next);
     }
 
@@ -51,3 +60,10 @@ pub returns-then-is_some-clause-stands : goal.returns-then-is_some-clause-stands
 returns-then-is_some-clause-stands g c =
     let same = ap (λ (s : StoreState). s.current) c.loop-i.invariant.state in
     if_some_then c.in-Ok.found _ _ (λ k fact. told_same _ _ _ same fact) c.in-Ok.ensures.stands
+
+pub returns-then-is_some-clause-begins : goal.returns-then-is_some-clause-begins
+returns-then-is_some-clause-begins g c =
+    let same = ap (λ (s : StoreState). s.current) c.loop-i.invariant.state in
+    if_some_then c.in-Ok.found _ _
+    (λ k fact. reach_found c.args.store.now.current c.args.head.now (option_copied c.args.after) c.loop-i.n c.loop-i.i k _ c.loop-i.invariant.there c.loop-i-test.true c.loop-i.invariant.reached (told_same _ _ _ same fact))
+    c.in-Ok.ensures.found

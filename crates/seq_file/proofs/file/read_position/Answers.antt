@@ -4,7 +4,7 @@ use Rattle.careful_write.specs.State.{StoreState}
 use Rattle.change_set.specs.Files.{IsPlaced}
 use Rattle.change_set.proofs.Frames.{read_and_given}
 use Rattle.seq_file.specs.Records.{record_at}
-use Rattle.seq_file.specs.Layout.{records_in, IsLaidOut, Stands}
+use Rattle.seq_file.specs.Layout.{records_in, CountsBefore, IsLaidOut, Stands}
 use Rattle.seq_file.proofs.file.read_position.Goals as goal
 
 pub read_in_frame-found-requires-clause-placed : goal.read_in_frame-found-requires-clause-placed
@@ -28,3 +28,13 @@ pub returns-clause-stands : goal.returns-clause-stands
 returns-clause-stands g c =
     subst (λ (told : Option (List (List ℕ))). IfOk c.read_in_frame-found.result (λ found. found ≡ true → IfSome told (Stands c.args.head.now c.read_in_frame-found.new.out)))
     (ap (λ (s : StoreState). s.current) c.take_frame-frame.ensures.state) c.read_in_frame-found.ensures.stands
+
+pub read_in_frame-found-requires-clause-before : goal.read_in_frame-found-requires-clause-before
+read_in_frame-found-requires-clause-before g c =
+    subst (λ (told : Option (List (List ℕ))). IfSome told (λ (b : List (List ℕ)). IsLaidOut c.args.head.now b → CountsBefore c.args.head.now b c.args.place.now))
+    (sym (ap (λ (s : StoreState). s.current) c.take_frame-frame.ensures.state)) c.requires.before
+
+pub returns-clause-before : goal.returns-clause-before
+returns-clause-before g c =
+    subst (λ (told : Option (List (List ℕ))). IfOk c.read_in_frame-found.result (λ found. IfSome told (λ (b : List (List ℕ)). IsLaidOut c.args.head.now b → CountsBefore c.args.head.now b c.read_in_frame-found.new.place)))
+    (ap (λ (s : StoreState). s.current) c.take_frame-frame.ensures.state) c.read_in_frame-found.ensures.before

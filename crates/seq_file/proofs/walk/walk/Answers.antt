@@ -1,12 +1,12 @@
-use Rattle.std.proofs.Common.{◌∙◌, ℕ, List, Option, IfSome, Result, Err, ap, sym, subst, arith}
+use Rattle.std.proofs.Common.{◌∙◌, ℕ, List, Option, IfSome, Result, Err, refl, ap, sym, subst, arith}
 use Rattle.block_disk.specs.Disk.{DiskState}
 use Rattle.careful_write.specs.Down.{answered}
 use Rattle.careful_write.specs.declared.down.Down.{Down}
 use Rattle.careful_write.specs.State.{StoreState}
 use Rattle.change_set.specs.Files.{IsPlaced}
 use Rattle.seq_file.specs.Frames.{page_in, Reads}
-use Rattle.seq_file.proofs.FrameSteps.{in_frame_more}
-use Rattle.seq_file.proofs.WalkLaws.{walk_more, is_read}
+use Rattle.seq_file.proofs.FrameSteps.{in_frame_more, in_frame_own}
+use Rattle.seq_file.proofs.WalkLaws.{walk_begins, walk_more, walk_leaves, is_read}
 use Rattle.seq_file.proofs.walk.walk.Goals as goal
 
 pub returns-then-left-slots-clause-state : goal.returns-then-left-slots-clause-state
@@ -18,6 +18,17 @@ returns-in-Err-clause-state g c =
     let r : Result (Unit {0}) Down = Err c.in-Err.down in
     in_frame_more c.args.frame.now c.args.store.now c.loop-bucket.store c.load_slots.new.store (answered r) c.loop-bucket.invariant.frame c.in-Err.ensures.state
 
+pub loop-bucket-init : goal.loop-bucket-init
+loop-bucket-init g c = record {
+  frame = in_frame_own c.args.frame.now c.args.store.now c.requires.out;
+  out = c.requires.out;
+  placed = c.requires.placed;
+  within = omega (arith, c.start_for-start.ensures.used);
+  fits = omega (arith, c.start_for-start.ensures.before);
+  current = refl;
+  place = walk_begins c.args.store.now.current c.args.head.now c.args.place.now c.start_for-start.result c.args.n c.start_for-start.ensures.before c.start_for-start.ensures.either c.requires.before;
+}
+
 pub loop-bucket-preserved : goal.loop-bucket-preserved
 loop-bucket-preserved g c =
     let h = c.args.head.now in
@@ -27,6 +38,8 @@ loop-bucket-preserved g c =
       frame = in_frame_more c.args.frame.now c.args.store.now c.loop-bucket.store c.load_slots.new.store (λ (d : DiskState). d) c.loop-bucket.invariant.frame c.in-Ok.ensures.state;
       out = c.in-Ok.ensures.out;
       placed = subst (λ (s : StoreState). IsPlaced h s.disk) (sym c.in-Ok.ensures.state) c.loop-bucket.invariant.placed;
+      within = omega (arith, c.loop-bucket-test.true);
+      fits = omega (arith, c.loop-bucket.invariant.fits, c.if-left-slots.false);
       current = ap (λ (s : StoreState). s.current) c.in-Ok.ensures.state ∙ c.loop-bucket.invariant.current;
       place = walk_more c.args.store.now.current h c.loop-bucket.bucket c.args.n c.loop-bucket.left c.in-Ok.slots page (omega (arith, c.loop-bucket-test.true)) c.loop-bucket.invariant.place read c.in-Ok.ensures.number (omega (arith, c.if-left-slots.false));
     }
@@ -37,3 +50,6 @@ returns-then-left-slots-clause-stands g c =
     let page = page_in h c.load_slots.new.store c.args.frame.now in
     let read = subst (λ (told : Option (List (List ℕ))). IfSome told (Reads h c.loop-bucket.bucket page)) c.loop-bucket.invariant.current c.in-Ok.ensures.read in
     is_read c.args.store.now.current h c.loop-bucket.bucket c.in-Ok.slots page read c.in-Ok.ensures.number (omega (arith, c.if-left-slots.true))
+
+pub returns-then-left-slots-clause-before : goal.returns-then-left-slots-clause-before
+returns-then-left-slots-clause-before g c = walk_leaves c.args.store.now.current c.args.head.now c.loop-bucket.bucket c.args.n c.loop-bucket.left c.loop-bucket.invariant.place

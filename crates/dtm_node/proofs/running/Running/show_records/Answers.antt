@@ -1,9 +1,10 @@
-use Rattle.std.proofs.Common.{◌∷◌, [], Option, IfSome, ap, sym, subst, ◌∙◌, arith, List, ℕ, refl}
+use Rattle.std.proofs.Common.{◌∷◌, [], Option, Some, None, IfSome, rules, ap, sym, subst, ◌∙◌, arith, List, ℕ, refl}
 use Rattle.std.specs.Prelude.{option_map}
 use Rattle.std.specs.Option.{option_copied}
 use Rattle.change_set.specs.Files.{IsPlaced}
 use Rattle.change_set.specs.Maps.{IsNext, EndsAfter}
-use Rattle.record_files.specs.Any.{IsFile, IsLaidOut, map_of}
+use Rattle.change_set.specs.declared.walk.Place.{Place}
+use Rattle.record_files.specs.Any.{Begins, IsFile, IsLaidOut, map_of}
 use Rattle.vms_base.specs.Keys.{key_of}
 use Rattle.transcript_model.specs.Emitting.{Emits}
 use Rattle.transcript_model.specs.Lines as line
@@ -11,14 +12,33 @@ use Rattle.transcript_model.proofs.EmittingLemmas.{since_on}
 use Rattle.dtm_node.specs.Keeping.{up_of}
 use Rattle.dtm_node.specs.Standing.{Up}
 use Rattle.node_files.proofs.CatalogLemmas.{placed}
-use Rattle.dtm_node.proofs.Dumping.{emits_next, shows_all, shows_most}
+use Rattle.dtm_node.proofs.Dumping.{begins_anew, emits_next, shows_all, shows_most}
 use Rattle.dtm_node.proofs.Calling.{fine_more, replies_after}
 use Rattle.dtm_node.proofs.running.Running.show_records.Goals as goal
 
-pub next_record-requires-clause-placed : goal.next_record-requires-clause-placed
-next_record-requires-clause-placed g c =
+pub next_record_from-requires-clause-placed : goal.next_record_from-requires-clause-placed
+next_record_from-requires-clause-placed g c =
     subst (λ (u : Up). IsPlaced c.args.head.now u.volume.store.disk) (sym c.loop-count.invariant.same)
     (placed _ c.args.self.now.volume.catalog c.requires.there.0 c.args.head.now _ c.the_laws.ensures.apart c.requires.whole c.requires.up.sound c.requires.up.most c.requires.there.1)
+
+pub next_record_from-requires-clause-begins : goal.next_record_from-requires-clause-begins
+next_record_from-requires-clause-begins g c =
+    let head = c.args.head.now in
+    let same = ap (λ (u : Up). u.volume.store.current) c.loop-count.invariant.same in
+    subst (λ (o : Option (List (List ℕ))). IfSome o (λ content. IsFile head → IsLaidOut head content → Begins head content (option_map key_of (option_copied c.as_ref.result)) c.loop-count.place)) (sym same)
+    (subst (λ a. IfSome c.args.self.now.volume.store.current (λ content. IsFile head → IsLaidOut head content → Begins head content (option_map key_of a) c.loop-count.place)) (sym c.as_ref.ensures.value) c.loop-count.invariant.begins)
+
+pub loop-count-init : goal.loop-count-init
+loop-count-init g c = record {
+  same = search rules;
+  place = search rules;
+  since = search rules;
+  fine = search rules;
+  most = search rules;
+  begins = subst (λ (p : Place). IfSome c.args.self.now.volume.store.current (λ content. IsFile c.args.head.now → IsLaidOut c.args.head.now content → Begins c.args.head.now content None p)) (sym c.first-place.ensures)
+      (begins_anew c.args.self.now.volume.store.current c.args.head.now None);
+  shows = search rules;
+}
 
 pub loop-count-preserved : goal.loop-count-preserved
 loop-count-preserved g c =
@@ -29,14 +49,16 @@ loop-count-preserved g c =
       since = since_on _ _ _ c.loop-count.invariant.since c.emit.ensures.since;
       fine = fine_more _ _ _ _ c.loop-count.invariant.fine c.emit.ensures.emits refl;
       most = (let lt = c.loop-count-test.true in omega (arith, lt));
+      begins = subst (λ (o : Option (List (List ℕ))). IfSome o (λ content. IsFile head → IsLaidOut head content → Begins head content (Some (key_of c.next_record_from.new.key)) c.next_record_from.new.place))
+          (ap (λ (u : Up). u.volume.store.current) c.loop-count.invariant.same) (c.in-Ok-true.ensures.begins c.in-Ok-true.field-0-test);
       shows = λ content m told form laid same.
           let s = c.loop-count.invariant.shows content m told form laid same in
           let here = ap (λ (u : Up). u.volume.store.current) c.loop-count.invariant.same ∙ told in
           let found = c.in-Ok-true.ensures.found c.in-Ok-true.field-0-test in
-          let at = subst (λ (o : Option (List (List ℕ))). IfSome o (λ c'. IsFile head → IsLaidOut head c' → IsNext (map_of head c') (option_map key_of (option_copied c.as_ref.result)) (key_of c.next_record.new.key) c.next_record.new.found)) here found in
-          let next = subst (λ a. IsNext (map_of head content) (option_map key_of a) (key_of c.next_record.new.key) c.next_record.new.found) c.as_ref.ensures.value (at form laid) in
-          let n = c.the_laws.ensures.shows.next m (map_of head content) c.loop-count.count (option_map key_of c.loop-count.after) (key_of c.next_record.new.key) c.next_record.new.found same s.0 next in
-          (n.0, emits_next m c.loop-count.count (key_of c.next_record.new.key) c.next_record.new.found _ _ _ n.1 s.1 c.emit.ensures.emits);
+          let at = subst (λ (o : Option (List (List ℕ))). IfSome o (λ c'. IsFile head → IsLaidOut head c' → IsNext (map_of head c') (option_map key_of (option_copied c.as_ref.result)) (key_of c.next_record_from.new.key) c.next_record_from.new.found)) here found in
+          let next = subst (λ a. IsNext (map_of head content) (option_map key_of a) (key_of c.next_record_from.new.key) c.next_record_from.new.found) c.as_ref.ensures.value (at form laid) in
+          let n = c.the_laws.ensures.shows.next m (map_of head content) c.loop-count.count (option_map key_of c.loop-count.after) (key_of c.next_record_from.new.key) c.next_record_from.new.found same s.0 next in
+          (n.0, emits_next m c.loop-count.count (key_of c.next_record_from.new.key) c.next_record_from.new.found _ _ _ n.1 s.1 c.emit.ensures.emits);
     }
 
 pub returns-in-Ok-false-clause-shows : goal.returns-in-Ok-false-clause-shows

@@ -1,11 +1,11 @@
-use Rattle.std.proofs.Common.{◌≡◌, ◌≤◌, ◌-◌, Some, ℕ, List}
+use Rattle.std.proofs.Common.{◌≡◌, ◌≤◌, ◌-◌, Some, IfSome, ℕ, List}
 use Rattle.std.specs.Prelude.{option_map}
 use Rattle.std.specs.FinMap.{get}
 use Rattle.transcript_model.specs.Emitting.{Since}
 use Rattle.vms_model.specs.Keys.{Key}
 use Rattle.vms_base.specs.Keys.{key_of}
 use Rattle.records_model.specs.Records.{Records}
-use Rattle.record_files.specs.Any.{IsFile, IsLaidOut, map_of}
+use Rattle.record_files.specs.Any.{Begins, IsFile, IsLaidOut, map_of}
 use Rattle.directory_model.specs.Files.{IsShown}
 use Rattle.dtm_node.specs.Keeping.{up_of}
 use Rattle.dtm_node.specs.Listing.{ShowsSome}
@@ -19,6 +19,7 @@ invariant-loop-count g l = record {
   since : Since (g.E.Emit.shows l.fn.out) (g.E.Emit.shows l.out);
   fine : ShowsFine (g.E.Emit.shows l.fn.out) (g.E.Emit.shows l.out);
   most : l.count ≤ 4294967295;
+  begins : IfSome l.fn.self.volume.store.current (λ content. IsFile l.head → IsLaidOut l.head content → Begins l.head content (option_map key_of l.after) l.place);
   shows : (content : List (List ℕ)) (m : Records) → l.fn.self.volume.store.current ≡ Some content → IsFile l.head → IsLaidOut l.head content → ((k : Key) → get m k ≡ map_of l.head content k) →
       IsShown m l.count (option_map key_of l.after) × ShowsSome m l.count (g.E.Emit.shows l.fn.out) (g.E.Emit.shows l.out);
 }

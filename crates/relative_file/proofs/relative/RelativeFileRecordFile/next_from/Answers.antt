@@ -6,7 +6,7 @@ use Rattle.vms_model.specs.Keys.{Key, Number}
 use Rattle.change_set.specs.Maps.{IsNext}
 use Rattle.relative_file.specs.Cells.{map_of, IsLaidOut}
 use Rattle.relative_file.proofs.MapLaws.{next_found}
-use Rattle.relative_file.proofs.relative.RelativeFileRecordFile.next.Goals as goal
+use Rattle.relative_file.proofs.relative.RelativeFileRecordFile.next_from.Goals as goal
 
 laid_out_next : (h : FileHead) (told : Option (List (List ℕ))) (after : Option Key) (key : Key) (bytes : List ℕ) → IfSome told (λ b. IsNext (map_of h b) after key bytes)
     → IfSome told (λ b. IsLaidOut h b → IsNext (map_of h b) after key bytes)
