@@ -1,2 +1,3 @@
 pub mod SequenceLemmas
 pub mod OthersLemmas
+pub mod ChangeLemmas

@@ -1,6 +1,6 @@
 -- Two branches of one sequential file.
-use Rattle.std.proofs.Common.{◌≡◌, ℕ, zero, suc, ◌+◌, ◌≤◌, Bool, true, false, cond, ◌||◌, List, [], ◌∷◌, length, Option, Some, None, refl, sym, ◌∙◌, ap, subst, inl, inr, ◌⊎◌, arith}
-use Rattle.std.specs.Prelude.{is_some, IsSome, unwrap_or, get_or}
+use Rattle.std.proofs.Common.{◌≡◌, ◌≢◌, ℕ, zero, suc, ◌+◌, ◌≤◌, Bool, true, false, cond, ◌||◌, List, [], ◌∷◌, length, Option, Some, None, refl, sym, ◌∙◌, ap, subst, inl, inr, ◌⊎◌, arith}
+use Rattle.std.specs.Prelude.{nat_le, is_some, IsSome, unwrap_or, get_or}
 use Rattle.std.specs.Option.{option_map, is_none}
 use Rattle.std.specs.List.{All, slice_get}
 use Rattle.std.proofs.lemmas.Bool.{false_from_ne_true}
@@ -8,31 +8,18 @@ use Rattle.std.proofs.lemmas.Option.{slice_get-get_or, slice_get_within, get_or_
 use Rattle.file_base.specs.declared.head.FileHead.{FileHead}
 use Rattle.seq_file.specs.Layout.{IsRecord, capacity}
 use Rattle.seq_file.specs.Placing.{buckets_for}
-use Rattle.seq_file.specs.Records.{record_at, map_of_list, slot_sizes}
+use Rattle.seq_file.specs.Records.{record_at, map_of_list, list_set, slot_sizes}
 use Rattle.vms_model.specs.Keys.{Key, Number, Text, End}
 use Rattle.records_model.specs.Records.{Change}
 use Rattle.records_model.specs.History.{changes_key}
 use Rattle.unit_laws.specs.Units.{HasImages, IsImage, is_of, earliest_before}
 use Rattle.unit_laws.specs.Units.{moves_end}
 use Rattle.sequence_laws.specs.Undoing.{GoesBack, lowest_absent, absent_at, lower, is_taken_away}
-use Rattle.sequence_laws.proofs.SequenceLemmas.{earliest_is_one}
+use Rattle.seq_file.proofs.RecordLaws.{record_at_past}
+use Rattle.unit_laws.proofs.Tests.{both_ways, picked, passed}
+use Rattle.unit_laws.proofs.LiveLemmas.{clash}
+use Rattle.sequence_laws.proofs.SequenceLemmas.{earliest_is_one, same_or_other, behind, before, set_at}
 use Rattle.sequence_laws.specs.Laws.{OtherGoesBack}
-
-both_ways : (b : Bool) → (b ≡ true) ⊎ (b ≡ false)
-both_ways true = inl refl
-both_ways false = inr refl
-
-clash : {A : Type 0} → (b : Bool) → b ≡ true → b ≡ false → A
-clash true p q = absurd cc
-clash false p q = absurd cc
-
-picked : (b : Bool) (x y : Option (List ℕ)) → b ≡ true → cond b x y ≡ x
-picked true x y e = refl
-picked false x y e = absurd cc
-
-passed : (b : Bool) (x y : Option (List ℕ)) → b ≡ false → cond b x y ≡ y
-passed true x y e = absurd cc
-passed false x y e = refl
 
 some_same : (a b : List ℕ) → Some a ≡ Some b → a ≡ b
 some_same a b e = cc
@@ -52,10 +39,10 @@ all_at : (P : List ℕ → Type 0) (xs : List (List ℕ)) (i : ℕ) (r : List �
 all_at P xs i r all e = subst P (get_or_from_slice_get xs i r r e) (all i r (slice_get_within xs i r e))
 
 -- Records of which those that were changed have their earliest_before before images.
-abbrev pick : List Change → ℕ → List ℕ → List ℕ
+abbrev pub pick : List Change → ℕ → List ℕ → List ℕ
 pick cs n r = cond (changes_key (Number n) cs) (unwrap_or (earliest_before cs (Number n)) r) r
 
-abbrev replaced : List Change → ℕ → List (List ℕ) → List (List ℕ)
+abbrev pub replaced : List Change → ℕ → List (List ℕ) → List (List ℕ)
 replaced cs n [] = []
 replaced cs n (r ∷ rs) = pick cs n r ∷ replaced cs (suc n) rs
 
@@ -168,53 +155,47 @@ all_of P xs (suc n) r all e = all_at P xs n r all e
 same_sizes : (xs ys : List (List ℕ)) → ((n : ℕ) → 1 ≤ n → option_map (λ (r : List ℕ). length r) (record_at xs n) ≡ option_map (λ (r : List ℕ). length r) (record_at ys n)) → slot_sizes xs ≡ slot_sizes ys
 same_sizes xs ys h = sizes_same xs ys (λ i. h (suc i) (omega arith))
 
--- the other branch moves no end
-still_goes : (h : FileHead) (cs ds : List Change) (now back other : List (List ℕ)) → GoesBack h cs now back → GoesBack h ds now other → HasImages (map_of_list now) ds → ((key : Key) → changes_key key cs ≡ true → changes_key key ds ≡ false) → moves_end ds ≡ false →
-    GoesBack h ds back (replaced ds 1 back)
-still_goes h cs ds now back other g k has apart still = record {
+-- A branch that does not move the end goes back from any records in which its positions have what they had, and that fit the file.
+pub quiet_goes : (h : FileHead) (ds : List Change) (now next other : List (List ℕ)) → GoesBack h ds now other → HasImages (map_of_list now) ds → ((n : ℕ) → 1 ≤ n → changes_key (Number n) ds ≡ true → record_at next n ≡ record_at now n) → moves_end ds ≡ false
+    → All (IsRecord h.mrs) next → buckets_for (capacity h) (slot_sizes next) ≤ h.alloc → GoesBack h ds next (replaced ds 1 next)
+quiet_goes h ds now next other k has kept still records fits = record {
   restored = λ n one. at n one;
   own = λ n away x. clash (is_taken_away (lowest_absent ds) n) away (none_away ds n still);
   absent = λ n away ck. clash (is_taken_away (lowest_absent ds) n) away (none_away ds n still);
-  same = λ n r s away is was. alike n r s (positive back n r is) is was;
-  records = all_among (IsRecord h.mrs) (replaced ds 1 back) (λ n r one e. elim (both_ways (changes_key (Number n) ds)) [
+  same = λ n r s away is was. alike n r s (positive next n r is) is was;
+  records = all_among (IsRecord h.mrs) (replaced ds 1 next) (λ n r one e. elim (both_ways (changes_key (Number n) ds)) [
     | inl ck ↦ all_of (IsRecord h.mrs) other n r k.records (k.restored n one ∙ picked _ _ _ ck ∙ sym (picked (changes_key (Number n) ds) _ _ ck) ∙ sym (at n one) ∙ e)
-    | inr not_d ↦ all_of (IsRecord h.mrs) back n r g.records (sym (passed (changes_key (Number n) ds) _ _ not_d) ∙ sym (at n one) ∙ e)
+    | inr not_d ↦ all_of (IsRecord h.mrs) next n r records (sym (passed (changes_key (Number n) ds) _ _ not_d) ∙ sym (at n one) ∙ e)
   ]);
-  fits = subst (λ (sizes : List ℕ). buckets_for (capacity h) sizes ≤ h.alloc) (same_sizes back (replaced ds 1 back) sizes) g.fits;
+  fits = subst (λ (sizes : List ℕ). buckets_for (capacity h) sizes ≤ h.alloc) (same_sizes next (replaced ds 1 next) sizes) fits;
 }
   where
     positive : (rs : List (List ℕ)) (n : ℕ) (r : List ℕ) → record_at rs n ≡ Some r → 1 ≤ n
     positive rs zero r e = let never : ⊥ = cc in absurd never
     positive rs (suc n) r e = omega arith
 
-    not_c : (n : ℕ) → changes_key (Number n) ds ≡ true → changes_key (Number n) cs ≡ false
-    not_c n ck = false_from_ne_true _ (λ (e : changes_key (Number n) cs ≡ true). clash (changes_key (Number n) ds) ck (apart (Number n) e))
+    there : (n : ℕ) → 1 ≤ n → changes_key (Number n) ds ≡ true → IsSome (record_at next n)
+    there n one ck = subst IsSome (sym (kept n one ck)) (has_some ds now n still has ck)
 
-    stood : (n : ℕ) → 1 ≤ n → changes_key (Number n) ds ≡ true → record_at back n ≡ record_at now n
-    stood n one ck = g.restored n one ∙ passed (changes_key (Number n) cs) _ _ (not_c n ck)
+    at : (n : ℕ) → 1 ≤ n → record_at (replaced ds 1 next) n ≡ cond (changes_key (Number n) ds) (earliest_before ds (Number n)) (record_at next n)
+    at n one = at_back ds next n still (there n one)
 
-    there : (n : ℕ) → 1 ≤ n → changes_key (Number n) ds ≡ true → IsSome (record_at back n)
-    there n one ck = subst IsSome (sym (stood n one ck)) (has_some ds now n still has ck)
-
-    at : (n : ℕ) → 1 ≤ n → record_at (replaced ds 1 back) n ≡ cond (changes_key (Number n) ds) (earliest_before ds (Number n)) (record_at back n)
-    at n one = at_back ds back n still (there n one)
-
-    alike : (n : ℕ) (r s : List ℕ) → 1 ≤ n → record_at back n ≡ Some r → record_at (replaced ds 1 back) n ≡ Some s → length s ≡ length r
+    alike : (n : ℕ) (r s : List ℕ) → 1 ≤ n → record_at next n ≡ Some r → record_at (replaced ds 1 next) n ≡ Some s → length s ≡ length r
     alike n r s one is was = elim (both_ways (changes_key (Number n) ds)) [
-      | inl ck ↦ k.same n r s (none_away ds n still) (sym (stood n one ck) ∙ is) (k.restored n one ∙ picked _ _ _ ck ∙ sym (picked (changes_key (Number n) ds) _ _ ck) ∙ sym (at n one) ∙ was)
+      | inl ck ↦ k.same n r s (none_away ds n still) (sym (kept n one ck) ∙ is) (k.restored n one ∙ picked _ _ _ ck ∙ sym (picked (changes_key (Number n) ds) _ _ ck) ∙ sym (at n one) ∙ was)
       | inr not_d ↦ ap length (some_same s r (sym was ∙ at n one ∙ passed _ _ _ not_d ∙ is))
     ]
 
-    sizes : (n : ℕ) → 1 ≤ n → option_map (λ (r : List ℕ). length r) (record_at back n) ≡ option_map (λ (r : List ℕ). length r) (record_at (replaced ds 1 back) n)
-    sizes n one = lengths (record_at back n) (record_at (replaced ds 1 back) n) to from (λ r s is was. sym (alike n r s one is was))
+    sizes : (n : ℕ) → 1 ≤ n → option_map (λ (r : List ℕ). length r) (record_at next n) ≡ option_map (λ (r : List ℕ). length r) (record_at (replaced ds 1 next) n)
+    sizes n one = lengths (record_at next n) (record_at (replaced ds 1 next) n) to from (λ r s is was. sym (alike n r s one is was))
       where
-        to : IsSome (record_at back n) → IsSome (record_at (replaced ds 1 back) n)
+        to : IsSome (record_at next n) → IsSome (record_at (replaced ds 1 next) n)
         to some = elim (both_ways (changes_key (Number n) ds)) [
           | inl ck ↦ subst IsSome (sym (at n one ∙ picked _ _ _ ck)) (earliest_some ds (Number n) still ck)
           | inr not_d ↦ subst IsSome (sym (at n one ∙ passed _ _ _ not_d)) some
         ]
 
-        from : IsSome (record_at (replaced ds 1 back) n) → IsSome (record_at back n)
+        from : IsSome (record_at (replaced ds 1 next) n) → IsSome (record_at next n)
         from some = elim (both_ways (changes_key (Number n) ds)) [
           | inl ck ↦ there n one ck
           | inr not_d ↦ subst IsSome (at n one ∙ passed _ _ _ not_d) some
@@ -296,9 +277,57 @@ end_goes h cs ds now back other g k has apart still = record {
         ]
 
 pub other_goes_back : OtherGoesBack
-other_goes_back h cs ds now back other g k within_c within_d apart ends = elim (both_ways (moves_end ds)) [
-  | inr still ↦ (replaced ds 1 back, still_goes h cs ds now back other g k within_d apart still)
+other_goes_back h cs ds now back other g k has_c has_d apart ends = elim (both_ways (moves_end ds)) [
+  | inr still ↦ (replaced ds 1 back, quiet_goes h ds now back other k has_d stood still g.records g.fits)
   | inl moves ↦
       let still : moves_end cs ≡ false = false_from_ne_true _ (λ (e : moves_end cs ≡ true). clash (moves_end ds) moves (ends e)) in
-      (replaced cs 1 other, end_goes h cs ds now back other g k within_c apart still)
+      (replaced cs 1 other, end_goes h cs ds now back other g k has_c apart still)
 ]
+  where
+    stood : (n : ℕ) → 1 ≤ n → changes_key (Number n) ds ≡ true → record_at back n ≡ record_at now n
+    stood n one ck = g.restored n one ∙ passed (changes_key (Number n) cs) _ _ (false_from_ne_true _ (λ (e : changes_key (Number n) cs ≡ true). clash (changes_key (Number n) ds) ck (apart (Number n) e)))
+
+-- A branch goes back from records of which one, at a position that it did not change, was replaced by another as long.
+pub replaced_goes : (h : FileHead) (ds : List Change) (now next other : List (List ℕ)) (n : ℕ) (old new : List ℕ) → GoesBack h ds now other → changes_key (Number n) ds ≡ false → 1 ≤ n → record_at now n ≡ Some old → length new ≡ length old
+    → ((m : ℕ) → (m ≡ n → record_at next m ≡ Some new) × (m ≢ n → record_at next m ≡ record_at now m)) → All (IsRecord h.mrs) next → GoesBack h ds next (list_set n (Some new) other)
+replaced_goes h ds now next other n old new k free one there long set records = record {
+  restored = λ m m1. elim (same_or_other m n) [
+    | inl same ↦ (at m).0 same ∙ sym ((set m).0 same) ∙ sym (passed (changes_key (Number m) ds) _ _ (subst (λ (x : ℕ). changes_key (Number x) ds ≡ false) (sym same) free))
+    | inr off ↦ (at m).1 off ∙ k.restored m m1 ∙ ap (λ (v : Option (List ℕ)). cond (changes_key (Number m) ds) (earliest_before ds (Number m)) v) (sym ((set m).1 off))
+  ];
+  own = λ m tk x. elim (same_or_other m n) [
+    | inl same ↦ k.own m tk (inl (is_one _ old (ap (record_at now) same ∙ there)))
+    | inr off ↦ k.own m tk (elim x [ inl some ↦ inl (subst IsSome ((set m).1 off) some) | inr some ↦ inr (subst IsSome ((at m).1 off) some) ])
+  ];
+  absent = k.absent;
+  same = λ m r s nt is was. elim (same_or_other m n) [
+    | inl same ↦ ap length (some_same s new (sym was ∙ (at m).0 same)) ∙ ap length (some_same new r (sym ((set m).0 same) ∙ is))
+    | inr off ↦ k.same m r s nt (sym ((set m).1 off) ∙ is) (sym ((at m).1 off) ∙ was)
+  ];
+  records = all_among (IsRecord h.mrs) (list_set n (Some new) other) (λ m r m1 e. elim (same_or_other m n) [
+    | inl same ↦ all_of (IsRecord h.mrs) next m r records ((set m).0 same ∙ sym ((at m).0 same) ∙ e)
+    | inr off ↦ all_of (IsRecord h.mrs) other m r k.records (sym ((at m).1 off) ∙ e)
+  ]);
+  fits = subst (λ (sizes : List ℕ). buckets_for (capacity h) sizes ≤ h.alloc) (same_sizes other (list_set n (Some new) other) sizes) k.fits;
+}
+  where
+    stood : record_at other n ≡ Some old
+    stood = k.restored n one ∙ passed (changes_key (Number n) ds) _ _ free ∙ there
+
+    few : n ≤ length other + 1
+    few = elim (both_ways (nat_le n (length other))) [
+      | inl le ↦ let p = behind n (length other) le in omega (arith, p)
+      | inr lt ↦ let e = sym (record_at_past other n (before n (length other) lt)) ∙ stood in absurd (none_some e)
+    ]
+      where
+        none_some : None ≡ Some old → ⊥
+        none_some e = cc
+
+    at : (m : ℕ) → (m ≡ n → record_at (list_set n (Some new) other) m ≡ Some new) × (m ≢ n → record_at (list_set n (Some new) other) m ≡ record_at other m)
+    at m = set_at other n m new one few
+
+    sizes : (m : ℕ) → 1 ≤ m → option_map (λ (r : List ℕ). length r) (record_at other m) ≡ option_map (λ (r : List ℕ). length r) (record_at (list_set n (Some new) other) m)
+    sizes m m1 = elim (same_or_other m n) [
+      | inl same ↦ ap (option_map (λ (r : List ℕ). length r)) (ap (record_at other) same ∙ stood) ∙ ap Some (sym long) ∙ ap (option_map (λ (r : List ℕ). length r)) (sym ((at m).0 same))
+      | inr off ↦ ap (option_map (λ (r : List ℕ). length r)) (sym ((at m).1 off))
+    ]

@@ -11,22 +11,12 @@ use Rattle.vms_model.specs.Keys.{Key, Number, Text, End}
 use Rattle.records_model.specs.Records.{Change}
 use Rattle.records_model.specs.History.{changes_key}
 use Rattle.unit_laws.specs.Units.{HasImages, IsImage, is_of, earliest_before}
+use Rattle.unit_laws.proofs.Tests.{both_ways, picked}
+use Rattle.unit_laws.proofs.LiveLemmas.{clash}
 use Rattle.sequence_laws.specs.Undoing.{lowest_absent, is_taken_away}
 use Rattle.sequence_laws.specs.Laws.{CutGoesBack, SetGoesBack, SetMay, AllSetIsBack}
 
-both_ways : (b : Bool) → (b ≡ true) ⊎ (b ≡ false)
-both_ways true = inl refl
-both_ways false = inr refl
-
-picked : (b : Bool) (x y : Option (List ℕ)) → b ≡ true → cond b x y ≡ x
-picked true x y e = refl
-picked false x y e = absurd cc
-
-left : (b : Bool) (x y : Option (List ℕ)) → b ≡ false → cond b x y ≡ y
-left true x y e = absurd cc
-left false x y e = refl
-
-is_there : (o : Option (List ℕ)) → (o ≡ None) ⊎ IsSome o
+pub is_there : (o : Option (List ℕ)) → (o ≡ None) ⊎ IsSome o
 is_there None = inl refl
 is_there (Some r) = inr refl
 
@@ -43,16 +33,16 @@ earliest_is_one (c ∷ cs) key h = step (changes_key key cs) (is_of key c) refl 
 taken : (p n : ℕ) → p ≤ n → nat_le p n ≡ true
 taken p n le = grind arith
 
-not_taken : (p n : ℕ) → n < p → nat_le p n ≡ false
+pub not_taken : (p n : ℕ) → n < p → nat_le p n ≡ false
 not_taken p n lt = grind arith
 
-behind : (p n : ℕ) → nat_le p n ≡ true → p ≤ n
+pub behind : (p n : ℕ) → nat_le p n ≡ true → p ≤ n
 behind p n e = grind arith
 
-before : (p n : ℕ) → nat_le p n ≡ false → n < p
+pub before : (p n : ℕ) → nat_le p n ≡ false → n < p
 before p n e = grind arith
 
-same_or_other : (m n : ℕ) → (m ≡ n) ⊎ (m ≢ n)
+pub same_or_other : (m n : ℕ) → (m ≡ n) ⊎ (m ≢ n)
 same_or_other m n = go (nat_le m n) (nat_le n m) refl refl
   where
     go : (a b : Bool) → nat_le m n ≡ a → nat_le n m ≡ b → (m ≡ n) ⊎ (m ≢ n)
@@ -60,23 +50,19 @@ same_or_other m n = go (nat_le m n) (nat_le n m) refl refl
     go true false a b = let q = before n m b in inr (λ e. omega arith)
     go false b a c = let q = before m n a in inr (λ e. omega arith)
 
-swapped : (b : Bool) (e x y : Option (List ℕ)) → (b ≡ false → x ≡ y) → cond b e x ≡ cond b e y
+pub swapped : (b : Bool) (e x y : Option (List ℕ)) → (b ≡ false → x ≡ y) → cond b e x ≡ cond b e y
 swapped true e x y same = refl
 swapped false e x y same = same refl
 
-clash : {A : Type 0} → (b : Bool) → b ≡ true → b ≡ false → A
-clash true p q = absurd cc
-clash false p q = absurd cc
-
-some_of : (o : Option (List ℕ)) (r : List ℕ) → o ≡ Some r → IsSome o
+pub some_of : (o : Option (List ℕ)) (r : List ℕ) → o ≡ Some r → IsSome o
 some_of None r e = absurd cc
 some_of (Some x) r e = refl
 
-none_is_not : (o : Option (List ℕ)) → o ≡ None → IsSome o → ⊥
+pub none_is_not : (o : Option (List ℕ)) → o ≡ None → IsSome o → ⊥
 none_is_not None e h = cc
 none_is_not (Some x) e h = cc
 
-some_same : (a b : List ℕ) → Some a ≡ Some b → a ≡ b
+pub some_same : (a b : List ℕ) → Some a ≡ Some b → a ≡ b
 some_same a b e = cc
 
 pub cut_goes_back : CutGoesBack
@@ -123,7 +109,7 @@ cut_goes_back h cs now back from g low one = record {
     has w End ck = w End ck
 
 -- a record is set at a position that stands, or the next
-set_at : (rs : List (List ℕ)) (n m : ℕ) (r : List ℕ) → 1 ≤ n → n ≤ length rs + 1 → (m ≡ n → record_at (list_set n (Some r) rs) m ≡ Some r) × (m ≢ n → record_at (list_set n (Some r) rs) m ≡ record_at rs m)
+pub set_at : (rs : List (List ℕ)) (n m : ℕ) (r : List ℕ) → 1 ≤ n → n ≤ length rs + 1 → (m ≡ n → record_at (list_set n (Some r) rs) m ≡ Some r) × (m ≢ n → record_at (list_set n (Some r) rs) m ≡ record_at rs m)
 set_at rs n m r one few = elim (both_ways (nat_le n (length rs))) [
   | inl le ↦ let is = list_set_stands n r rs one (behind n (length rs) le) in let at = record_at_set rs n m r one (behind n (length rs) le) in ((λ e. ap (λ xs. record_at xs m) is ∙ at.0 e), (λ e. ap (λ xs. record_at xs m) is ∙ at.1 e))
   | inr lt ↦ let gt = before n (length rs) lt in let next : n ≡ length rs + 1 = omega arith in let is = list_set_next n r rs next in let at = record_at_push rs n m r next in ((λ e. ap (λ xs. record_at xs m) is ∙ at.0 e), (λ e. ap (λ xs. record_at xs m) is ∙ at.1 e))
@@ -164,7 +150,7 @@ set_goes_back h cs now back n r g one few ck ear = record {
     has w End mk = w End mk
 
 -- what stands at a later position stands at an earlier one too
-some_before : (rs : List (List ℕ)) (i j : ℕ) → i ≤ j → IsSome (slice_get rs j) → IsSome (slice_get rs i)
+pub some_before : (rs : List (List ℕ)) (i j : ℕ) → i ≤ j → IsSome (slice_get rs j) → IsSome (slice_get rs i)
 some_before [] i j le h = h
 some_before (x ∷ rs) zero j le h = refl
 some_before (x ∷ rs) (suc i) zero le h = absurd (omega arith)

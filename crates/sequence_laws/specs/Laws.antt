@@ -1,9 +1,10 @@
 -- The steps by which the changes of one branch in a sequential file are undone, from whatever records there are.
 use Rattle.std.specs.Prelude.{◌≡◌, ℕ, ◌+◌, ◌-◌, ◌≤◌, List, [], ◌∷◌, ◌++◌, true, false, Some, length, take}
+use Rattle.std.specs.List.{All}
 use Rattle.file_base.specs.declared.head.FileHead.{FileHead}
-use Rattle.seq_file.specs.Layout.{capacity}
+use Rattle.seq_file.specs.Layout.{IsRecord, capacity}
 use Rattle.seq_file.specs.Placing.{buckets_for}
-use Rattle.seq_file.specs.Records.{record_at, map_of_list, list_set, slot_sizes}
+use Rattle.seq_file.specs.Records.{record_at, map_of_list, list_set, slot_sizes, MaySet}
 use Rattle.vms_model.specs.Keys.{Key, Number}
 use Rattle.records_model.specs.Records.{Change}
 use Rattle.records_model.specs.History.{changes_key}
@@ -43,3 +44,26 @@ AllSetIsBack = (h : FileHead) (cs : List Change) (now back : List (List ℕ)) �
 abbrev pub OtherGoesBack : Type 0
 OtherGoesBack = (h : FileHead) (cs ds : List Change) (now back other : List (List ℕ)) → GoesBack h cs now back → GoesBack h ds now other → HasImages (map_of_list now) cs → HasImages (map_of_list now) ds
     → ((key : Key) → changes_key key cs ≡ true → changes_key key ds ≡ false) → (moves_end cs ≡ true → moves_end ds ≡ false) → (both : List (List ℕ)) × GoesBack h ds back both
+
+-- What there is for a branch to go back to.
+
+-- before its first change a branch goes back to what there is
+abbrev pub NothingGoesBack : Type 0
+NothingGoesBack = (h : FileHead) (now : List (List ℕ)) → All (IsRecord h.mrs) now → buckets_for (capacity h) (slot_sizes now) ≤ h.alloc → GoesBack h [] now now
+
+-- A change that a branch may make of these records: at a position that may be set so, to as long a record where there is one; it notes what it found.
+pub record IsChangeOf (c : Change) (n : ℕ) (now : List (List ℕ)) : Type 0 where
+  pub key : c.key ≡ Number n
+  pub found : c.before ≡ record_at now n
+  pub may : MaySet n c.after now
+  pub long : (old new : List ℕ) → c.before ≡ Some old → c.after ≡ Some new → length new ≡ length old
+
+-- A branch changes more: with the change undone too, it goes back to the same records.
+abbrev pub ChangeGoesBack : Type 0
+ChangeGoesBack = (h : FileHead) (cs : List Change) (now back : List (List ℕ)) (c : Change) (n : ℕ) → GoesBack h cs now back → HasImages (map_of_list now) cs → IsChangeOf c n now → GoesBack h (c ∷ cs) (list_set n c.after now) back
+
+-- Another branch changes a position that this one did not, and not the end where this one moved it: this one still goes back, from there.
+abbrev pub ChangeBesideGoesBack : Type 0
+ChangeBesideGoesBack = (h : FileHead) (ds : List Change) (now other : List (List ℕ)) (c : Change) (n : ℕ) → GoesBack h ds now other → HasImages (map_of_list now) ds → IsChangeOf c n now → changes_key (Number n) ds ≡ false
+    → (moves_end (c ∷ []) ≡ true → moves_end ds ≡ false) → All (IsRecord h.mrs) (list_set n c.after now) → buckets_for (capacity h) (slot_sizes (list_set n c.after now)) ≤ h.alloc
+    → (back : List (List ℕ)) × GoesBack h ds (list_set n c.after now) back

@@ -3,7 +3,7 @@
 //! The crate has definitions and laws, and nothing that runs. `specs/Undoing` has the records that a branch goes back to, and `specs/Laws` the steps.
 #![tactic(auto)]
 
-ghost use Rattle.sequence_laws.specs.Laws.{CutGoesBack, SetGoesBack, SetMay, AllSetIsBack, OtherGoesBack};
+ghost use Rattle.sequence_laws.specs.Laws.{CutGoesBack, SetGoesBack, SetMay, AllSetIsBack, OtherGoesBack, NothingGoesBack, ChangeGoesBack, ChangeBesideGoesBack};
 
 /// A sequential file goes back to the records that it is to have without a branch step by step. First the positions from the lowest absent one on are cut, and
 /// then each other position that the branch changed is set to its earliest before image. After each step it still goes back to the same records, whatever
@@ -26,4 +26,12 @@ pub fn all_set_is_back()
 /// Of two branches with changes of one file, of which one at most moved its end, the second still goes back once the first is back.
 pub fn other_goes_back()
     ensures { OtherGoesBack }
+{}
+
+/// A branch has records to go back to from its first change on: whatever it changes next it goes back to the same ones, and whatever another branch changes, of
+/// which one at most moves the end, there are some.
+pub fn changes_go_back()
+    ensures nothing { NothingGoesBack }
+    ensures own { ChangeGoesBack }
+    ensures beside { ChangeBesideGoesBack }
 {}

@@ -8,3 +8,4 @@ pub mod RestartLemmas
 pub mod UnitLemmas
 pub mod TrimLemmas
 pub mod NoteLemmas
+pub mod EndLemmas

@@ -6,8 +6,8 @@ use Rattle.vms_model.specs.Ids.{Id}
 use Rattle.vms_model.specs.Keys.{Key}
 use Rattle.vms_model.specs.Transactions.{Commit, Abort}
 use Rattle.records_model.specs.Records.{Change, Found, applied}
-use Rattle.records_model.specs.History.{History, LiveChanges, changes_by, current, records, settled_at, changed_with}
-use Rattle.unit_laws.specs.Units.{Map, map_in, is_of, with_key, with_after_images, with_before_images, Represents, IsOrderly, is_free, all_undone, IsUndoGroup, UndoGroups}
+use Rattle.records_model.specs.History.{History, LiveChanges, changes_by, current, records, settled_at, changed_with, with_changes, without}
+use Rattle.unit_laws.specs.Units.{Map, map_in, is_of, with_key, with_after_images, with_before_images, Represents, IsOrderly, is_free, all_undone, IsUndoGroup, UndoGroups, SerialsDiffer, moves_end, OneMovesEnd, end_is_free}
 
 -- One of several branches changes a key that is free for it, and notes what it found: that key alone is set, and nothing is committed.
 pub record Changed (h : History) (c : Change) (new : History) : Type 0 where
@@ -71,3 +71,11 @@ pub record UndoneOf (h : History) (m : Map) (cs : List Change) (new : History) :
 
 abbrev pub UndoesOne : Type 0
 UndoesOne = (h : History) (serial : Id) (moment : ℕ) (m : Map) → Represents h.live m (map_in (records h)) → UndoneOf h m (changes_by serial h.live) (settled_at serial Abort moment h)
+
+-- A branch changes more, and the end of a sequential file stays one branch's: where these changes move it, no other branch has moved it.
+abbrev pub ChangesKeepEnd : Type 0
+ChangesKeepEnd = (ls : List LiveChanges) (serial : Id) (cs : List Change) → SerialsDiffer ls → OneMovesEnd ls → (moves_end cs ≡ true → end_is_free serial ls ≡ true) → OneMovesEnd (with_changes serial cs ls)
+
+-- and so it does where one is settled
+abbrev pub SettlesKeepEnd : Type 0
+SettlesKeepEnd = (ls : List LiveChanges) (serial : Id) → OneMovesEnd ls → OneMovesEnd (without serial ls)

@@ -4,7 +4,7 @@
 //! `specs/Journal` the journal of recovery units by its entries, and `specs/JournalLaws` its laws.
 #![tactic(auto)]
 
-ghost use Rattle.unit_laws.specs.Laws.{ChangesOne, ChangesMore, CommitsOne, AbortsOne, UndoesOne, RestartsRestore, BeforeImageIsGroup};
+ghost use Rattle.unit_laws.specs.Laws.{ChangesOne, ChangesMore, CommitsOne, AbortsOne, UndoesOne, RestartsRestore, BeforeImageIsGroup, ChangesKeepEnd, SettlesKeepEnd};
 ghost use Rattle.unit_laws.specs.JournalLaws.{UnitsFollow, ChangesMakeUnit, PreparesUnit, TrimKeepsUnits, SettlesUnit, UnchangedHasNotes, ChangesKeepNotes, ChangesElsewhereKeepNotes, PreparesKeepNotes, SettlesKeepNotes, NotesRestore, NotesCutShort};
 
 /// Of several unsettled branches one changes a key that is free for it. That key alone is set, nothing is committed, and the others keep what they changed.
@@ -37,6 +37,12 @@ pub fn restarts_restore()
 /// To put back the before image of any change of any unsettled branch is a group of an undo.
 pub fn before_image_is_group()
     ensures { BeforeImageIsGroup }
+{}
+
+/// At most one of several unsettled branches has moved the end of a sequential file, whatever they change next and whichever is settled.
+pub fn one_branch_moves_end()
+    ensures changes { ChangesKeepEnd }
+    ensures settles { SettlesKeepEnd }
 {}
 
 /// The units of a journal follow its entries, one by one: changes make a unit of their branch or add to it, and a Prepared entry marks it. What is owed rises by
