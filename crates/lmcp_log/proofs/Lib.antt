@@ -4,3 +4,5 @@ pub mod Readings
 pub mod SlotLemmas
 pub mod Reading
 pub mod Stores
+pub mod Apart
+pub mod Keepings

@@ -95,7 +95,7 @@ records_more ss e block h is r i =
     go (Some q) f j = elim j [ inl s ↦ (let Q : LogRecord → Type 0 = λ x. IsRecord x in subst Q (sym s) ((is q).0 f).0) | inr z ↦ absurd z ]
 
 -- a serial that no slot has is none of theirs
-not_among : (s : Id) (ss : Slots) → has_slot s ss ≡ false → In s (record_serials (records_in ss)) → ⊥
+pub not_among : (s : Id) (ss : Slots) → has_slot s ss ≡ false → In s (record_serials (records_in ss)) → ⊥
 not_among s [] h i = i
 not_among s (None ∷ ss) h i = not_among s ss h i
 not_among s (Some q ∷ ss) h i = elim (told_id q.serial s) [

@@ -11,13 +11,13 @@ use Rattle.log_laws.specs.Slots.{records_in}
 use Rattle.lmcp_log.specs.Log.{slot_of, slot_at, is_of, is_free, record_with, IsFirst}
 
 -- the first one of a list, or one of those behind it
-first_here : (test : Option LogRecord → Bool) (o : Option LogRecord) (ss : Slots) → IsFirst test (o ∷ ss) 0 → test o ≡ true
+pub first_here : (test : Option LogRecord → Bool) (o : Option LogRecord) (ss : Slots) → IsFirst test (o ∷ ss) 0 → test o ≡ true
 first_here test o ss h = h.here
 
-first_later : (test : Option LogRecord → Bool) (o : Option LogRecord) (ss : Slots) (p : ℕ) → IsFirst test (o ∷ ss) (suc p) → (test o ≡ false) × IsFirst test ss p
+pub first_later : (test : Option LogRecord → Bool) (o : Option LogRecord) (ss : Slots) (p : ℕ) → IsFirst test (o ∷ ss) (suc p) → (test o ≡ false) × IsFirst test ss p
 first_later test o ss p h = (h.before 0 (omega arith), record { within = (let w : suc p < suc (length ss) = h.within in omega arith); here = h.here; before = λ k lt. h.before (suc k) (omega arith) })
 
-none_first : (test : Option LogRecord → Bool) (p : ℕ) → IsFirst test [] p → ⊥
+pub none_first : (test : Option LogRecord → Bool) (p : ℕ) → IsFirst test [] p → ⊥
 none_first test p h = let w : p < 0 = h.within in absurd (omega arith)
 
 pub clash : true ≡ false → ⊥

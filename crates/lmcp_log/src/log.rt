@@ -7,10 +7,11 @@ ghost use Rattle.commit_protocol.specs.Messages.{LogRecord};
 ghost use Rattle.commit_protocol.specs.Table.{record_serials};
 ghost use Rattle.commit_protocol.specs.World.{In};
 ghost use Rattle.commit_protocol.specs.Agreement.{Distinct};
-ghost use Rattle.log_laws.specs.Slots.{records_in, has_slot, has_free, put_in, forgotten};
+ghost use Rattle.log_laws.specs.Slots.{Slots, records_in, has_slot, has_free, put_in, forgotten};
 ghost use Rattle.tm_types.specs.Parts.{log_record_of};
 ghost use Rattle.lmcp_log.specs.Slot.{slot_block, HasForm, IsRecord};
 ghost use Rattle.lmcp_log.specs.Log.{slot_of, slot_at, is_of, is_free, record_with, IsFirst, IsReading, StagesSlot, OnlyRead};
+ghost use Rattle.lmcp_log.specs.Keeping.{Keeps, AreApart};
 
 use crate::slot::{read_slot, write_slot};
 use block_disk::Disk;
@@ -125,6 +126,8 @@ fn load_slots<D: Disk>(
     ensures reading { OnOk result (IfSome store.old.current (IsReading (map slot_of slots.new.items))) }
     ensures records { (r : LogRecord) → In r (records_in (map slot_of slots.new.items)) → IsRecord r }
     ensures distinct { Distinct (record_serials (records_in (map slot_of slots.new.items))) }
+    ensures kept { OnOk result (IfSome store.old.current (λ c. AreApart count c → Keeps (map slot_of slots.new.items) c)) }
+    ensures again { (ss : Slots) → length ss ≡ count → OnOk result (IfSome store.old.current (λ c. Keeps ss c → map slot_of slots.new.items ≡ ss)) }
     ensures store { OnlyRead store.old store.new }
     ensures counts { Counts result store.old.disk store.new.disk }
 {
@@ -156,6 +159,8 @@ impl Log {
         ensures reading { OnOk result (IfSome vol.old.store.current (IsReading log.new)) }
         ensures records { (r : LogRecord) → In r (records_in log.new) → IsRecord r }
         ensures distinct { Distinct (record_serials (records_in log.new)) }
+        ensures kept { OnOk result (IfSome vol.old.store.current (λ c. AreApart vol.old.catalog.home.slots c → Keeps log.new c)) }
+        ensures again { (ss : Slots) → length ss ≡ vol.old.catalog.home.slots → OnOk result (IfSome vol.old.store.current (λ c. Keeps ss c → log.new ≡ ss)) }
         ensures catalog { vol.new.catalog ≡ vol.old.catalog }
         ensures store { OnlyRead vol.old.store vol.new.store }
         ensures counts { Counts result vol.old.store.disk vol.new.store.disk }
@@ -184,6 +189,7 @@ impl Log {
         requires size { 584 + length self.old ≤ store.old.disk.size }
         ensures slots { OnOk result (self.new ≡ put_in (log_record_of r.now) self.old) }
         ensures staged { OnOk result (StagesSlot self.old self.new store.old store.new (Some (log_record_of r.now))) }
+        ensures keeps { OnOk result (IfSome store.old.current (Keeps self.old) → IfSome store.new.current (Keeps self.new)) }
         ensures full { IsErr result ↔ ((has_slot (log_record_of r.now).serial self.old ≡ false) × (has_free self.old ≡ false)) }
         ensures err { OnErr result ((self.new ≡ self.old) × (store.new ≡ store.old)) }
     {
@@ -204,6 +210,7 @@ impl Log {
         ensures slots { self.new ≡ forgotten (serial_of serial) self.old }
         ensures staged { has_slot (serial_of serial) self.old ≡ true → StagesSlot self.old self.new store.old store.new None }
         ensures nothing { has_slot (serial_of serial) self.old ≡ false → store.new ≡ store.old }
+        ensures keeps { IfSome store.old.current (Keeps self.old) → IfSome store.new.current (Keeps self.new) }
     {
         if let Some(place) = place_of(&self.slots, &serial) {
             let _ = store.stage(FIRST_SLOT + place as u32, &[0; 512]);

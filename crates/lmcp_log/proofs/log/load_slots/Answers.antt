@@ -14,6 +14,7 @@ use Rattle.lmcp_log.specs.Slot.{IsRecord}
 use Rattle.lmcp_log.specs.Log.{slot_of, IsReading}
 use Rattle.lmcp_log.proofs.Fields.{length_mapped}
 use Rattle.lmcp_log.proofs.Reading.{IsEntry, told_more, records_more, distinct_read}
+use Rattle.lmcp_log.proofs.Keepings.{told_kept, told_again}
 use Rattle.lmcp_log.proofs.log.load_slots.Goals as goal
 
 pub loop-i-preserved : goal.loop-i-preserved
@@ -36,8 +37,27 @@ loop-i-preserved g c =
     record {
       same = c.in_ok-read.ensures.state ∙ before.same;
       count = ap length c.push_reserved.ensures.items ∙ (length_push items c.entry_in-entry.result ∙ ap (λ (m : ℕ). m + 1) before.count);
+      within = (let lt = c.loop-i-test.true in omega (arith, lt));
       room = let q = c.push_reserved.ensures.capacity in let r = before.room in omega arith;
       reading = subst R (sym more) (told_more told ss e block before.reading here entry);
       records = subst Q (sym more) (records_more ss e block before.records entry);
       distinct = subst D (sym more) (distinct_read ss e block before.distinct entry);
     }
+
+pub returns-clause-kept : goal.returns-clause-kept
+returns-clause-kept g c =
+    let items : List (Option LogRec) = c.loop-i.slots.items in
+    let n = length_mapped slot_of items in
+    let count = c.loop-i.invariant.count in
+    let within = c.loop-i.invariant.within in
+    let end = c.loop-i-test.false in
+    told_kept c.args.store.now.current (map slot_of items) _ (omega (arith, n, count, within, end)) c.loop-i.invariant.reading c.loop-i.invariant.distinct
+
+pub returns-clause-again : goal.returns-clause-again
+returns-clause-again g c = λ ss same.
+    let items : List (Option LogRec) = c.loop-i.slots.items in
+    let n = length_mapped slot_of items in
+    let count = c.loop-i.invariant.count in
+    let within = c.loop-i.invariant.within in
+    let end = c.loop-i-test.false in
+    told_again c.args.store.now.current (map slot_of items) ss (omega (arith, n, count, within, end, same)) c.loop-i.invariant.reading

@@ -12,6 +12,7 @@ abbrev pub invariant-loop-i : goal.invariant-loop-i
 invariant-loop-i g l = record {
   same : l.store ≡ l.fn.store;
   count : length l.slots.items ≡ l.i;
+  within : l.i ≤ l.count;
   room : 512 ≤ vec_capacity l.slots;
   reading : IfSome l.fn.store.current (IsReading (map slot_of l.slots.items));
   records : (r : LogRecord) → In r (records_in (map slot_of l.slots.items)) → IsRecord r;
