@@ -41,8 +41,8 @@ ends with status 0 where each line was answered, and else with
 pub fn said_of(
     alloc: Global,
     exit: Exit,
-    script: &mut Tail,
-    transcript: &mut Tail,
+    script: &Tail,
+    transcript: &Tail,
 ) -> Result<String, AllocError> {
     match exit {
         Exit::Done => Ok(String::new(alloc)),
@@ -73,13 +73,13 @@ pub fn said_of_images(alloc: Global, e: &OpenErr<'_>) -> Result<String, AllocErr
 }
 
 // The number of the line that the last line of a transcript answers.
-fn last_number(transcript: &mut Tail) -> Option<u64> {
+fn last_number(transcript: &Tail) -> Option<u64> {
     let last = transcript.feeds();
     let (number, _) = part_at(b' ', transcript.line(last)?)?;
     read_digits(u64::MAX, number)
 }
 
-fn bad_line(alloc: Global, script: &mut Tail, transcript: &mut Tail) -> Result<String, AllocError> {
+fn bad_line(alloc: Global, script: &Tail, transcript: &Tail) -> Result<String, AllocError> {
     let mut said = String::new(alloc);
     let Some(number) = last_number(transcript) else {
         return Ok(said);
@@ -120,7 +120,7 @@ fn point_at(said: &mut String, line: &[u8], column: usize) -> Result<(), AllocEr
     said.push_str("^\n")
 }
 
-fn too_long(alloc: Global, script: &mut Tail, transcript: &mut Tail) -> Result<String, AllocError> {
+fn too_long(alloc: Global, script: &Tail, transcript: &Tail) -> Result<String, AllocError> {
     let number = last_number(transcript).unwrap_or(0);
     let total = script.total();
     let is_long = match script.line(number) {

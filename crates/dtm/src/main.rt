@@ -79,7 +79,7 @@ fn main(rt: HostRuntime) -> ExitCode {
     };
     match run_command(&files, alloc, &words, &mut source, &mut sink) {
         Ok(exit) => {
-            say(&rt, said_of(alloc, exit, &mut source.tail, &mut sink.tail));
+            say(&rt, said_of(alloc, exit, &source.tail, &sink.tail));
             ExitCode::from(status_of(exit))
         }
         Err(e) => {

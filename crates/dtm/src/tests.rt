@@ -165,7 +165,7 @@ fn said(alloc: Global, script: Vec<u8>) -> Result<String, Fail> {
         tail: Tail::reserve(alloc)?,
     };
     let exit = run(alloc, &words, &mut source, &mut sink, &mut rack);
-    Ok(said_of(alloc, exit, &mut source.tail, &mut sink.tail)?)
+    Ok(said_of(alloc, exit, &source.tail, &sink.tail)?)
 }
 
 #[test]

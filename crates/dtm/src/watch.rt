@@ -2,16 +2,18 @@
 ghost use Rattle.std.specs.Prelude.{◌≡◌};
 
 use std::alloc::{AllocError, Global};
-use std::collections::VecDeque;
 use transcript::{Failed, Sink, Source};
 
 // A line of 20,000 bytes stands within so many, and what a reader of lines takes ahead of it.
 const KEPT_BYTES: usize = 131_072;
 
+// The older bytes go together, when so many are there, so that each is moved once at most.
+const PLACE_BYTES: usize = 262_144;
+
 /// The last bytes of a stream, and how many there were.
 #[derive(Drop)]
 pub struct Tail {
-    bytes: VecDeque<u8>,
+    bytes: Vec<u8>,
     total: u64,
     feeds: u64,
 }
@@ -20,23 +22,21 @@ impl Tail {
     /// Of a stream that has no byte yet.
     pub fn reserve(alloc: Global) -> Result<Tail, AllocError> {
         Ok(Tail {
-            bytes: VecDeque::with_capacity(alloc, KEPT_BYTES)?,
+            bytes: Vec::with_capacity(alloc, PLACE_BYTES)?,
             total: 0,
             feeds: 0,
         })
     }
 
     fn keep(&mut self, bytes: &[u8]) {
-        for b in bytes {
-            if self.bytes.len() >= KEPT_BYTES {
-                let _ = self.bytes.pop_front();
-            }
-            let _ = self.bytes.push_back(*b);
-            self.total = self.total.saturating_add(1);
-            if *b == b'\n' {
-                self.feeds = self.feeds.saturating_add(1);
-            }
+        let feeds = bytes.iter().filter(|b| **b == b'\n').count();
+        self.feeds = self.feeds.saturating_add(feeds as u64);
+        self.total = self.total.saturating_add(bytes.len() as u64);
+        if bytes.len() > PLACE_BYTES.saturating_sub(self.bytes.len()) {
+            let older = self.bytes.len().saturating_sub(KEPT_BYTES);
+            let _ = self.bytes.drain(..older);
         }
+        let _ = self.bytes.extend_from_slice(bytes);
     }
 
     /// How many bytes the stream has had.
@@ -50,10 +50,12 @@ impl Tail {
     }
 
     /// The line of this number, counted from 1, without its line feed, as far as its bytes are kept.
-    pub fn line(&mut self, number: u64) -> Option<&[u8]> {
+    pub fn line(&self, number: u64) -> Option<&[u8]> {
         let behind = self.feeds.checked_add(1)?.checked_sub(number)?;
-        let bytes = self.bytes.make_contiguous();
-        bytes.rsplit(|b| *b == b'\n').nth(behind as usize)
+        self.bytes
+            .as_slice()
+            .rsplit(|b| *b == b'\n')
+            .nth(behind as usize)
     }
 }
 
