@@ -130,21 +130,21 @@ fn images_are_opened_in_the_order_of_the_words(rt: HostRuntime) -> Result<(), Fa
 
 #[test]
 fn words_behind_run_name_images_up_to_a_dash(rt: HostRuntime) -> Result<(), Fail> {
-    let table: [(&[&str], &[&str]); 6] = [
-        (
-            &["dtm", "RUN", "A=x", "help", "=", ""],
-            &["A=x", "help", "=", ""],
-        ),
-        (&["dtm", "RUN", "A=x", "--", "B=y"], &["A=x"]),
-        (&["dtm", "RUN", "-h"], &[]),
-        (&["dtm", "RUN"], &[]),
-        (&["dtm", "run", "A=x"], &[]),
-        (&[], &[]),
+    let table: [(&[&str], usize); 6] = [
+        (&["dtm", "RUN", "A=x", "help", "=", ""], 4),
+        (&["dtm", "RUN", "A=x", "--", "B=y"], 1),
+        (&["dtm", "RUN", "-h"], 0),
+        (&["dtm", "RUN"], 0),
+        (&["dtm", "run", "A=x"], 0),
+        (&[], 0),
     ];
-    for (texts, want) in table {
+    for (texts, count) in table {
         let words = owned(rt.alloc(), texts)?;
         let images = image_words(rt.alloc(), &words)?;
-        assert_eq!(rt; images.as_slice(), want, "{texts:?}");
+        assert_eq!(rt; images.len(), count, "{texts:?}");
+        for (i, image) in images.iter().enumerate() {
+            assert_eq!(rt; *image, texts[i + 2], "{texts:?}");
+        }
     }
     Ok(())
 }
