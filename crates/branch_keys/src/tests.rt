@@ -19,7 +19,10 @@ fn a_key_is_its_node_boot_and_number(rt: HostRuntime) -> Result<(), Fail> {
         ("A", 2, 2, false),
         ("A", 1, 1, false),
     ] {
-        assert!(rt; (one == key(node, boot, seq)) == want, "{node} {boot} {seq}");
+        assert!(rt;
+            (one == key(node, boot, seq)) == want,
+            "{node} {boot} {seq}"
+        );
     }
     Ok(())
 }
