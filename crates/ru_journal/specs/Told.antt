@@ -87,9 +87,10 @@ unit_refuses e units (Some u) = not (same_id e.tid u.tid) || (not (e.kind == 3) 
 abbrev pub is_out_of_order : Entry → Told → Bool
 is_out_of_order e t = list_any (same_id e.serial) t.settled || unit_refuses e (length t.units) (find_unit e.serial t.units)
 
--- How many bytes of the ring units will still take: a Prepared and a Settled entry, or the Settled one alone.
+-- How many bytes of the ring units will still take: a Prepared and a Settled entry, or the Settled one alone. A unit without changes has nothing to undo, and
+-- takes none.
 abbrev pub owed_to : UnitTold → ℕ
-owed_to u = if u.prepared then 48 else 96
+owed_to u = if u.changes == 0 then 0 else (if u.prepared then 48 else 96)
 
 abbrev pub owed : List UnitTold → ℕ
 owed [] = 0

@@ -72,12 +72,18 @@ impl UnitInfo {
         }
     }
 
-    // How many bytes of the ring it will still take.
+    // How many bytes of the ring it will still take: none without changes.
     pub(crate) fn owed(&self) -> u32
         ensures value { result ≡ owed_to (unit_of self.now) }
         ensures few { result ≤ 96 }
     {
-        if self.prepared { 48 } else { 96 }
+        if self.changes == 0 {
+            0
+        } else if self.prepared {
+            48
+        } else {
+            96
+        }
     }
 
     // The unit after a Change or a Prepared more.
