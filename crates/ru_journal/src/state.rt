@@ -203,6 +203,13 @@ impl RuState {
         Ok(())
     }
 
+    /// How many entries were taken since `reserve` or `clear`.
+    pub fn taken(&self) -> u32
+        ensures { result ≡ self.now.entries }
+    {
+        self.taken
+    }
+
     /// The units that are not settled.
     pub fn units(&self) -> &[UnitInfo]
         ensures value { map unit_of result.now ≡ self.now.units }

@@ -35,7 +35,7 @@ fn entry(kind: u8, file: u8, t: u32, n: u32) -> Option<EntryHead> {
 // Whether an entry was taken.
 fn takes(state: &mut RuState, at: u64, e: Option<EntryHead>) -> bool {
     match e {
-        Some(e) => (e.file < 64) && state.take(at, &e).is_ok(),
+        Some(e) => e.file < 64 && state.taken() < 87_381 && state.take(at, &e).is_ok(),
         None => false,
     }
 }
@@ -62,16 +62,15 @@ const ROWS: [(u8, u8, u32, u32, bool, usize, u32, Option<u64>); 14] = [
 #[test]
 fn units_are_told(rt: HostRuntime) -> Result<(), Fail> {
     let mut state = RuState::reserve(rt.alloc())?;
-    let mut at = 0;
-    for (kind, file, t, n, taken, units, owed, earliest) in ROWS {
+    for (i, row) in ROWS.iter().enumerate() {
+        let (kind, file, t, n, taken, units, owed, earliest) = *row;
         assert!(rt;
-            takes(&mut state, at, entry(kind, file, t, n)) == taken,
-            "{at}"
+            takes(&mut state, i as u64, entry(kind, file, t, n)) == taken,
+            "{i}"
         );
-        assert!(rt; state.units().len() == units, "{at}");
-        assert!(rt; state.owed() == owed, "{at}");
-        assert!(rt; state.earliest() == earliest, "{at}");
-        at += 1;
+        assert!(rt; state.units().len() == units, "{i}");
+        assert!(rt; state.owed() == owed, "{i}");
+        assert!(rt; state.earliest() == earliest, "{i}");
     }
     state.clear();
     assert!(rt; takes(&mut state, 0, entry(b'C', 3, 2, 9)));
