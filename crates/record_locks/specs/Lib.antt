@@ -1,0 +1,4 @@
+pub mod Spots
+pub mod Locks
+pub mod Table
+pub mod Refusals

@@ -1,0 +1,10 @@
+//! The locks of a node: keys of files that are held by branches.
+#![tactic(auto)]
+
+mod locks;
+mod place;
+
+pub use locks::{LockErr, Locks};
+
+#[cfg(test)]
+mod tests;
