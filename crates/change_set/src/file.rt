@@ -79,7 +79,7 @@ pub trait RecordFile {
     /// The key may be set back to the value in place.
     ghost restores: { FileHead → List (List ℕ) → model.Key → Option (List ℕ) → Type 0 };
 
-    /// A walk to what is behind a key, or to the first key, may begin at this place.
+    /// A walk to a key or to what is behind it, or to the first key where none is said, may begin at this place.
     ghost begins: { FileHead → List (List ℕ) → Option model.Key → declared.Place → Type 0 };
 
     /// True with the record that the key has; false exactly where it has none.
@@ -95,6 +95,29 @@ pub trait RecordFile {
         ensures found { IfOk result (λ found. found ≡ true → IfSome store.old.current (λ blocks. valid head.now blocks → map head.now blocks (key_of key.now) ≡ Some out.new)) }
         ensures stands { IfOk result (λ found. found ≡ true → IfSome store.old.current (λ blocks. stands head.now blocks (key_of key.now) out.new)) }
         ensures absent { IfOk result (λ found. found ≡ false → IfSome store.old.current (λ blocks. valid head.now blocks → map head.now blocks (key_of key.now) ≡ None)) }
+        ensures same { OnOk result (SameButReads store.old store.new) }
+        ensures down { OnErr result (SameButReads (fell result store.old) store.new) }
+    {
+        let mut place = Place::first();
+        Self::find(head, store, key, &mut place, out)
+    }
+
+    /// The same by a walk to the key that may begin at a place, and that leaves such a place.
+    fn find<D: Disk>(
+        head: &FileHead,
+        store: &mut Store<D>,
+        key: &Key,
+        place: &mut Place,
+        out: &mut Record,
+    ) -> Result<bool, Down>
+        requires form { form head.now }
+        requires placed { IsPlaced head.now store.old.disk }
+        requires frames { 32 ≤ free_frames store.old.pool }
+        requires begins { IfSome store.old.current (λ blocks. valid head.now blocks → begins head.now blocks (Some (key_of key.now)) place.old) }
+        ensures found { IfOk result (λ found. found ≡ true → IfSome store.old.current (λ blocks. valid head.now blocks → map head.now blocks (key_of key.now) ≡ Some out.new)) }
+        ensures stands { IfOk result (λ found. found ≡ true → IfSome store.old.current (λ blocks. stands head.now blocks (key_of key.now) out.new)) }
+        ensures absent { IfOk result (λ found. found ≡ false → IfSome store.old.current (λ blocks. valid head.now blocks → map head.now blocks (key_of key.now) ≡ None)) }
+        ensures begins { OnOk result (IfSome store.old.current (λ blocks. valid head.now blocks → begins head.now blocks (Some (key_of key.now)) place.new)) }
         ensures same { OnOk result (SameButReads store.old store.new) }
         ensures down { OnErr result (SameButReads (fell result store.old) store.new) };
 
@@ -153,6 +176,37 @@ pub trait RecordFile {
         requires placed { IsPlaced head.old store.old.disk }
         requires frames { 32 ≤ free_frames store.old.pool }
         requires staged { length store.old.touched ≤ 64 }
+        requires suits { suits head.old (key_of key.now) (option_copied value) }
+        ensures map { OnOk result (IfSome store.old.current (λ before. valid head.old before → takes head.old before (key_of key.now) (option_copied value.entry) → option_map (map head.new) store.new.current ≡ Some (set_key (key_of key.now) (option_copied value.entry) (map head.old before)))) }
+        ensures valid { OnOk result (IfSome store.old.current (λ before. valid head.old before → takes head.old before (key_of key.now) (option_copied value.entry) → IfSome store.new.current (valid head.new))) }
+        ensures used { OnOk result (IfSome store.old.current (λ before. valid head.old before → takes head.old before (key_of key.now) (option_copied value.entry) → head.new.used ≡ used_after head.old before (H.held held.now) (key_of key.now) (option_copied value.entry))) }
+        ensures rooms { OnOk result (IfSome store.old.current (λ before. valid head.old before → takes head.old before (key_of key.now) (option_copied value.entry) → IfSome store.new.current (λ after. (other : model.Key) → H.held held.now other ≡ true → room head.old before other ≤ room head.new after other))) }
+        ensures chain { OnOk result (IfSome store.old.current (λ before. valid head.old before → takes head.old before (key_of key.now) (option_copied value.entry) →
+            option_map (chain head.new) store.new.current ≡ Some (chain_set (512 * head.old.bucket - 16) (H.held held.now) (key_of key.now) (option_copied value.entry) (chain head.old before)))) }
+        ensures back { OnOk result (IfSome store.old.current (λ before. valid head.old before → takes head.old before (key_of key.now) (option_copied value.entry) → IfSome store.new.current (λ after. restores head.new after (key_of key.now) (map head.old before (key_of key.now))))) }
+        ensures file { OnOk result (SameFile head.old head.new) }
+        ensures form { OnOk result (form head.new) }
+        ensures staged { OnOk result (StagesIn head.old ((2 * head.old.levels + 2) * head.old.bucket) store.old store.new) }
+        ensures head { OnErr result (head.new ≡ head.old) }
+        ensures down { OnErr result (SameButReads (fell result store.old) store.new) }
+    {
+        Self::set_from(head, store, key, value, held, Place::first())
+    }
+
+    /// The same by a walk to the key that begins at a place.
+    fn set_from<D: Disk, H: Held>(
+        head: &mut FileHead,
+        store: &mut Store<D>,
+        key: &Key,
+        value: Option<&Record>,
+        held: &H,
+        place: Place,
+    ) -> Result<(), Down>
+        requires form { form head.old }
+        requires placed { IsPlaced head.old store.old.disk }
+        requires frames { 32 ≤ free_frames store.old.pool }
+        requires staged { length store.old.touched ≤ 64 }
+        requires begins { IfSome store.old.current (λ blocks. valid head.old blocks → begins head.old blocks (Some (key_of key.now)) place) }
         requires suits { suits head.old (key_of key.now) (option_copied value) }
         ensures map { OnOk result (IfSome store.old.current (λ before. valid head.old before → takes head.old before (key_of key.now) (option_copied value.entry) → option_map (map head.new) store.new.current ≡ Some (set_key (key_of key.now) (option_copied value.entry) (map head.old before)))) }
         ensures valid { OnOk result (IfSome store.old.current (λ before. valid head.old before → takes head.old before (key_of key.now) (option_copied value.entry) → IfSome store.new.current (valid head.new))) }
