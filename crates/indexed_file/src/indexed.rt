@@ -100,15 +100,16 @@ impl RecordFile for IndexedFile {
 
     ghost begins_first = { begins_first_law };
 
-    fn get<D: Disk>(
+    fn find<D: Disk>(
         head: &FileHead,
         store: &mut Store<D>,
         key: &Key,
+        place: &mut Place,
         out: &mut Record,
     ) -> Result<bool, Down> {
         match key {
             Key::Text(text) => {
-                let found = get_key(head, store, text.bytes(), out);
+                let found = get_key(head, store, text.bytes(), place, out);
                 if found.is_err() {
                     store.unstage();
                 }
@@ -134,16 +135,17 @@ impl RecordFile for IndexedFile {
         }
     }
 
-    fn set<D: Disk, H: Held>(
+    fn set_from<D: Disk, H: Held>(
         head: &mut FileHead,
         store: &mut Store<D>,
         key: &Key,
         value: Option<&Record>,
         held: &H,
+        place: Place,
     ) -> Result<(), Down> {
         match key {
             Key::Text(text) => {
-                let done = set_key(head, store, text.bytes(), value, held);
+                let done = set_key(head, store, text.bytes(), value, held, place);
                 if done.is_err() {
                     store.unstage();
                 }

@@ -16,7 +16,7 @@ use crate::walk::find_target;
 use block_disk::Disk;
 use bucket_page::Page;
 use careful_write::{Down, Store};
-use change_set::{give_frame, take_frame};
+use change_set::{Place, give_frame, take_frame};
 use file_base::FileHead;
 use frame_pool::{FRAME_BYTES, Frame};
 use vms_base::Record;
@@ -119,7 +119,7 @@ fn restore_through<D: Disk>(
     ensures pool { store.new ≡ with_frame frame.now (frame_of store.new.pool frame.now) (record store.new { pool = store.old.pool }) }
     ensures out { IsOut store.new.pool frame.now }
 {
-    match find_target(head, store, frame, key) {
+    match find_target(head, store, frame, key, Place::first()) {
         Ok(n) => match load_leaf(head, store, frame, n) {
             Ok(()) => {
                 restore_loaded(head, store, frame, n, key, value);

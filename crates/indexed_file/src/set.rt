@@ -8,7 +8,8 @@ ghost use Rattle.bucket_page.specs.Pages.{slots_of, next_of, slot_at, joined, su
 ghost use Rattle.change_set.specs.Buckets.{frame_of, with_frame, with_bucket};
 ghost use Rattle.change_set.specs.Files.{IsPlaced, free_frames};
 ghost use Rattle.records_model.specs.Slots.{size_of};
-ghost use Rattle.indexed_file.specs.Chain.{IsIndexed, kind_of, bucket_first, all_keep, SuitsText};
+ghost use Rattle.indexed_file.specs.Chain.{IsIndexed, IsChained, kind_of, bucket_first, all_keep, SuitsText};
+ghost use Rattle.indexed_file.specs.Behind.{BeginsAt};
 ghost use Rattle.indexed_file.specs.Places.{IsPlace};
 ghost use Rattle.indexed_file.specs.Raws.{slot_bytes, Means, tidied_raws, raws_added, place_added, Parted, SetsLeaf};
 ghost use Rattle.indexed_file.specs.Sets.{ChangesSlot, SetsFile, SetsLoaded, with_parts, with_blocks_of, touched_by};
@@ -20,7 +21,7 @@ use crate::walk::find_target;
 use block_disk::Disk;
 use bucket_page::{Page, clear_front, insert_front, remove_front, replace_front};
 use careful_write::{Down, Store};
-use change_set::{Held, give_frame, stage_bucket, take_frame};
+use change_set::{Held, Place, give_frame, stage_bucket, take_frame};
 use file_base::FileHead;
 use frame_pool::{FRAME_BYTES, Frame};
 use vms_base::Record;
@@ -426,7 +427,8 @@ pub(crate) fn read_frame<D: Disk>(
     bytes.copy_from_slice(store.pool().bytes(frame));
 }
 
-// Reads the bucket for a key, sets the key in it, and stages what it became. Where too few buckets are free, nothing is done.
+// Reads the bucket for a key, found by a walk from a place, sets the key in it, and stages what it became. Where too few buckets
+// are free, nothing is done.
 fn set_through<D: Disk, H: Held>(
     head: &mut FileHead,
     store: &mut Store<D>,
@@ -434,8 +436,10 @@ fn set_through<D: Disk, H: Held>(
     key: &[u8],
     value: Option<&Record>,
     held: &H,
+    place: Place,
 ) -> Result<(), Down>
     requires form { IsIndexed head.old }
+    requires begins { IfSome store.old.current (λ blocks. IsChained head.old blocks → BeginsAt head.old blocks (Some key.now) place) }
     requires placed { IsPlaced head.old store.old.disk }
     requires out { IsOut store.old.pool frame.now }
     requires staged { length store.old.touched ≤ 64 }
@@ -446,7 +450,7 @@ fn set_through<D: Disk, H: Held>(
     ensures pool { store.new ≡ with_frame frame.now (frame_of store.new.pool frame.now) (record store.new { pool = store.old.pool }) }
     ensures out { IsOut store.new.pool frame.now }
 {
-    match find_target(head, store, frame, key) {
+    match find_target(head, store, frame, key, place) {
         Ok(n) => match load_leaf(head, store, frame, n) {
             Ok(()) => {
                 set_loaded(head, store, frame, n, key, value, held);
@@ -491,16 +495,19 @@ fn set_loaded<D: Disk, H: Held>(
     head.used += added;
 }
 
-/// Sets a key to a record, or takes its record away. Where the bucket for the key would have to part and too few buckets
-/// are free, nothing is done. `Down` says that the disk went down in the call. The store's frames are as before.
+/// Sets a key to a record, or takes its record away. The walk to it begins at a place. Where the bucket for the key would have
+/// to part and too few buckets are free, nothing is done. `Down` says that the disk went down in the call. The store's frames
+/// are as before.
 pub(crate) fn set_key<D: Disk, H: Held>(
     head: &mut FileHead,
     store: &mut Store<D>,
     key: &[u8],
     value: Option<&Record>,
     held: &H,
+    place: Place,
 ) -> Result<(), Down>
     requires form { IsIndexed head.old }
+    requires begins { IfSome store.old.current (λ blocks. IsChained head.old blocks → BeginsAt head.old blocks (Some key.now) place) }
     requires placed { IsPlaced head.old store.old.disk }
     requires frames { 1 ≤ free_frames store.old.pool }
     requires staged { length store.old.touched ≤ 64 }
@@ -511,7 +518,7 @@ pub(crate) fn set_key<D: Disk, H: Held>(
     ensures head { OnErr result (head.new ≡ head.old) }
 {
     let frame = take_frame(store);
-    let done = set_through(head, store, &frame, key, value, held);
+    let done = set_through(head, store, &frame, key, value, held, place);
     give_frame(store, frame);
     done
 }

@@ -7,6 +7,7 @@ ghost use Rattle.change_set.specs.Buckets.{frame_of, with_frame};
 ghost use Rattle.change_set.specs.Files.{IsPlaced};
 ghost use Rattle.indexed_file.specs.Chain.{IsIndexed, IsChained, kind_of, slots_in, next_in, target_of};
 ghost use Rattle.indexed_file.specs.Places.{begins_above};
+ghost use Rattle.indexed_file.specs.Behind.{BeginsAt};
 ghost use Rattle.indexed_file.specs.Raws.{slots_at};
 ghost use Rattle.records_model.specs.Chain.{begins_by};
 
@@ -14,6 +15,7 @@ use crate::leaf::{bucket_size, compare_key, kind, load_leaf, slot};
 use block_disk::Disk;
 use bucket_page::Page;
 use careful_write::{Down, Store};
+use change_set::Place;
 use file_base::FileHead;
 use frame_pool::Frame;
 use std::cmp::Ordering;
@@ -80,25 +82,41 @@ fn visit<D: Disk>(
     Ok(pass(head, bytes, n, target, key))
 }
 
+// The bucket at which a walk begins: that of a place where it is used, which it is in a file that is laid out.
+fn start_of(head: &FileHead, place: Place) -> u32
+    requires some { 1 ≤ head.now.used }
+    ensures used { result < head.now.used }
+    ensures same { place.bucket < head.now.used → result ≡ place.bucket }
+{
+    if place.bucket < head.used {
+        place.bucket
+    } else {
+        0
+    }
+}
+
 /// The bucket for a key: the last one of the chain whose first key is at most the key, or the first one. Keys ascend along
-/// the chain, so it is walked up to the first bucket whose first key is above the key.
+/// the chain, so it is walked from a place up to the first bucket whose first key is above the key.
 pub(crate) fn find_target<D: Disk>(
     head: &FileHead,
     store: &mut Store<D>,
     frame: &Frame,
     key: &[u8],
+    place: Place,
 ) -> Result<u32, Down>
     requires form { IsIndexed head.now }
     requires placed { IsPlaced head.now store.old.disk }
     requires out { IsOut store.old.pool frame.now }
+    requires begins { IfSome store.old.current (λ blocks. IsChained head.now blocks → BeginsAt head.now blocks (Some key.now) place) }
     ensures state { store.new ≡ with_frame frame.now (frame_of store.new.pool frame.now) (record store.old { disk = answered result store.old.disk }) }
     ensures out { IsOut store.new.pool frame.now }
     ensures target { IfOk result (λ n. IfSome store.old.current (λ blocks. IsChained head.now blocks → n ≡ target_of head.now blocks key.now)) }
     ensures used { IfOk result (λ n. n < head.now.used) }
 {
-    let mut target = 0;
-    let mut n = 0;
-    for i in 0..head.used {
+    let start = start_of(head, place);
+    let mut target = start;
+    let mut n = start;
+    for i in place.passed..head.used {
         match visit(head, store, frame, n, target, key) {
             Ok((to, next)) => match next {
                 Some(next) => {

@@ -28,3 +28,6 @@ pub returns-clause-stands : goal.returns-clause-stands
 returns-clause-stands g c =
     let same = ap (λ (s : StoreState). s.current) c.take_frame-frame.ensures.state in
     on_ok c.read_key-found.result _ _ (λ x fact is. told_same _ _ _ same (fact is)) c.read_key-found.ensures.stands
+
+pub returns-clause-begins : goal.returns-clause-begins
+returns-clause-begins g c = told_same _ _ _ (ap (λ (s : StoreState). s.current) c.take_frame-frame.ensures.state) c.read_key-found.ensures.begins

@@ -4,7 +4,7 @@ use Rattle.careful_write.specs.State.{StoreState}
 use Rattle.careful_write.specs.Down.{answered}
 use Rattle.careful_write.specs.declared.down.Down.{Down}
 use Rattle.indexed_file.proofs.WalkLaws.{given_none, read_again, told_same}
-use Rattle.indexed_file.proofs.KeyLaws.{key_decided, key_ends, key_over, key_step, order_step}
+use Rattle.indexed_file.proofs.KeyLaws.{key_decided, key_ends, key_over, key_step, order_step, along_step, place_left}
 use Rattle.indexed_file.proofs.read.read_key.Goals as goal
 
 pub returns-in-Some-clause-state : goal.returns-in-Some-clause-state
@@ -53,5 +53,20 @@ loop-i-preserved g c =
       there = c.if-next-head.false;
       passed = key_step c.args.store.now.current c.args.head.now c.args.key.now c.loop-i.n c.loop-i.i c.in-Ok.next c.loop-i-test.true c.if-next-head.false c.loop-i.invariant.passed
           (told_same _ _ _ same (given_none c.in-Ok.found _ c.in-None.is c.in-Ok.ensures.later)) next;
+      along = along_step c.args.store.now.current c.args.head.now c.loop-i.n c.loop-i.i c.in-Ok.next c.loop-i-test.true c.if-next-head.false c.loop-i.invariant.along next;
+      begins = place_left c.args.store.now.current c.args.head.now c.args.key.now c.loop-i.n c.loop-i.i c.in-Ok.begins c.loop-i.place c.place_on.result c.loop-i.invariant.there c.loop-i-test.true c.place_on.ensures.here c.place_on.ensures.before
+          c.loop-i.invariant.along (λ is. told_same _ _ _ same (c.in-Ok.ensures.begins is)) c.loop-i.invariant.begins;
       ordered = order_step c.args.store.now.current c.args.head.now c.loop-i.n c.loop-i.i c.in-Ok.next c.loop-i-test.true c.if-next-head.false c.loop-i.invariant.ordered next;
     }
+
+pub returns-in-Some-clause-begins : goal.returns-in-Some-clause-begins
+returns-in-Some-clause-begins g c =
+    let same = ap (λ (s : StoreState). s.current) c.loop-i.invariant.state in
+    place_left c.args.store.now.current c.args.head.now c.args.key.now c.loop-i.n c.loop-i.i c.in-Ok.begins c.loop-i.place c.place_on.result c.loop-i.invariant.there c.loop-i-test.true c.place_on.ensures.here c.place_on.ensures.before
+    c.loop-i.invariant.along (λ is. told_same _ _ _ same (c.in-Ok.ensures.begins is)) c.loop-i.invariant.begins
+
+pub returns-then-next-head-clause-begins : goal.returns-then-next-head-clause-begins
+returns-then-next-head-clause-begins g c =
+    let same = ap (λ (s : StoreState). s.current) c.loop-i.invariant.state in
+    place_left c.args.store.now.current c.args.head.now c.args.key.now c.loop-i.n c.loop-i.i c.in-Ok.begins c.loop-i.place c.place_on.result c.loop-i.invariant.there c.loop-i-test.true c.place_on.ensures.here c.place_on.ensures.before
+    c.loop-i.invariant.along (λ is. told_same _ _ _ same (c.in-Ok.ensures.begins is)) c.loop-i.invariant.begins

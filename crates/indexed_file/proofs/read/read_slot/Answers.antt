@@ -3,7 +3,7 @@ use Rattle.bucket_page.specs.declared.kind.PageKind.{PageKind}
 use Rattle.bucket_page.specs.Pages.{slots_of, IsBucket}
 use Rattle.indexed_file.specs.Chain.{kind_of, value_of}
 use Rattle.indexed_file.proofs.TargetLaws.{missing_at}
-use Rattle.indexed_file.proofs.KeyLaws.{decided_found, decided_missing}
+use Rattle.indexed_file.proofs.KeyLaws.{decided_found, decided_missing, begins_found, begins_lower}
 use Rattle.indexed_file.proofs.read.read_slot.Goals as goal
 
 pub returns-then-found-clause-some : goal.returns-then-found-clause-some
@@ -55,3 +55,19 @@ returns-else-i-count-clause-later c = λ bucket.
     let place = c.find_place-i.ensures in
     let wrong : c.find_place-i.result.1 ≡ false = search rules in
     missing_at h c.args.key.now raws c.find_place-i.result.0 place.lower (place.higher wrong)
+
+pub returns-then-found-clause-begins : goal.returns-then-found-clause-begins
+returns-then-found-clause-begins c = λ is bucket.
+    let h = c.args.head.now in
+    let right : c.find_place-i.result.1 ≡ true = search rules in
+    begins_found h c.args.key.now (slots_of (kind_of h) c.args.bytes.now) c.find_place-i.result.0 c.find_place-i.result.1 right c.find_place-i.ensures
+
+pub returns-then-i-count-clause-begins : goal.returns-then-i-count-clause-begins
+returns-then-i-count-clause-begins c = λ is bucket.
+    let h = c.args.head.now in
+    begins_lower h c.args.key.now (slots_of (kind_of h) c.args.bytes.now) c.find_place-i.result.0 c.find_place-i.result.1 is c.find_place-i.ensures
+
+pub returns-else-i-count-clause-begins : goal.returns-else-i-count-clause-begins
+returns-else-i-count-clause-begins c = λ is bucket.
+    let h = c.args.head.now in
+    begins_lower h c.args.key.now (slots_of (kind_of h) c.args.bytes.now) c.find_place-i.result.0 c.find_place-i.result.1 is c.find_place-i.ensures

@@ -1,6 +1,7 @@
-use Rattle.std.proofs.Common.{◌≡◌, List, ℕ, Some, None, arith}
+use Rattle.std.proofs.Common.{◌≡◌, List, ℕ, true, Some, None, arith}
 use Rattle.change_set.specs.Buckets.{frame_of}
 use Rattle.change_set.proofs.Frames.{frame_is}
+use Rattle.records_model.specs.Chain.{begins_by}
 use Rattle.records_model.specs.Slots.{slot_at}
 use Rattle.indexed_file.specs.Places.{Decides}
 use Rattle.indexed_file.specs.Raws.{slots_at}
@@ -26,10 +27,19 @@ returns-clause-absent g c = λ is.
     c.in_ok-load_leaf.ensures.read (c.read_slot-found.ensures.none is)
 
 pub returns-clause-later : goal.returns-clause-later
-returns-clause-later g c = none_then c.read_slot-found.result _ _ (λ fact.
+returns-clause-later g c = none_then c.read_slot-found.result.0 _ _ (λ fact.
     let h = c.args.head.now in
     let f = c.args.frame.now in
     let s = c.load_leaf.new.store in
     leaf_read c.args.store.now.current h c.args.n c.bucket_size.result (frame_of s.pool f) c.bytes.result.now (λ (x : List ℕ). slot_at c.args.key.now (slots_at h x) ≡ None)
     (frame_is c.pool.result.now s.pool f c.bytes.result.now c.pool.ensures.value c.bytes.ensures.value) c.bucket_size.ensures c.requires.there (omega (arith, c.bytes.ensures.size, c.requires.placed.blocks))
     c.in_ok-load_leaf.ensures.read fact) c.read_slot-found.ensures.later
+
+pub returns-clause-begins : goal.returns-clause-begins
+returns-clause-begins g c = λ is.
+    let h = c.args.head.now in
+    let f = c.args.frame.now in
+    let s = c.load_leaf.new.store in
+    leaf_read c.args.store.now.current h c.args.n c.bucket_size.result (frame_of s.pool f) c.bytes.result.now (λ (x : List ℕ). begins_by c.args.key.now (slots_at h x) ≡ true)
+    (frame_is c.pool.result.now s.pool f c.bytes.result.now c.pool.ensures.value c.bytes.ensures.value) c.bucket_size.ensures c.requires.there (omega (arith, c.bytes.ensures.size, c.requires.placed.blocks))
+    c.in_ok-load_leaf.ensures.read (c.read_slot-found.ensures.begins is)

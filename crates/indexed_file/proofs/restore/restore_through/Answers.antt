@@ -1,10 +1,11 @@
-use Rattle.std.proofs.Common.{ℕ, Result, Err, ap}
+use Rattle.std.proofs.Common.{ℕ, Some, Result, Err, ap}
 use Rattle.block_disk.specs.Disk.{DiskState}
 use Rattle.careful_write.specs.State.{StoreState}
 use Rattle.careful_write.specs.Down.{answered}
 use Rattle.careful_write.specs.declared.down.Down.{Down}
 use Rattle.std.specs.Option.{option_copied}
 use Rattle.change_set.specs.Buckets.{frame_of}
+use Rattle.indexed_file.proofs.KeyLaws.{front_begins}
 use Rattle.indexed_file.proofs.WalkLaws.{read_again, told_same}
 use Rattle.indexed_file.proofs.ThroughLaws.{err_beside, err_pool}
 use Rattle.indexed_file.proofs.BackLaws.{restores_through, frame_back}
@@ -50,3 +51,6 @@ pub returns-in-Err-clause-pool : goal.returns-in-Err-clause-pool
 returns-in-Err-clause-pool g c =
     let r : Result ℕ Down = Err c.in-Err.down in
     err_pool c.args.frame.now c.args.store.now c.find_target.new.store (answered r c.args.store.now.disk) c.in-Err.ensures.state
+
+pub find_target-requires-clause-begins : goal.find_target-requires-clause-begins
+find_target-requires-clause-begins g c = front_begins c.args.store.now.current c.args.head.now (Some c.args.key.now) c.first.result c.first.ensures c.requires.form

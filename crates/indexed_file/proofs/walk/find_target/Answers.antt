@@ -3,6 +3,8 @@ use Rattle.block_disk.specs.Disk.{DiskState}
 use Rattle.careful_write.specs.State.{StoreState}
 use Rattle.careful_write.specs.Down.{answered}
 use Rattle.careful_write.specs.declared.down.Down.{Down}
+use Rattle.change_set.proofs.Frames.{with_frame_own}
+use Rattle.indexed_file.proofs.KeyLaws.{order_starts, target_starts}
 use Rattle.indexed_file.proofs.WalkLaws.{read_again, told_same, given_none, given_some, target_step, target_ends, target_goes_on, order_goes_on}
 use Rattle.indexed_file.proofs.walk.find_target.Goals as goal
 
@@ -42,3 +44,13 @@ loop-i-preserved g c =
       target = target_goes_on told h k c.loop-i.i c.loop-i.n c.in-Ok.to c.in-Some.next leads.0 next passed;
       ordered = order_goes_on told h k c.loop-i.i c.loop-i.n c.in-Ok.to c.in-Some.next leads.0 next passed;
     }
+
+pub loop-i-init : goal.loop-i-init
+loop-i-init g c = record {
+  state = with_frame_own c.args.frame.now c.args.store.now c.requires.out;
+  out = c.requires.out;
+  there = c.start_of-start.ensures.used;
+  used = c.start_of-start.ensures.used;
+  target = target_starts c.args.store.now.current c.args.head.now c.args.key.now c.args.place c.start_of-start.result c.requires.form.some c.start_of-start.ensures.same c.requires.begins;
+  ordered = order_starts c.args.store.now.current c.args.head.now c.args.key.now c.args.place c.start_of-start.result c.start_of-start.ensures.same c.requires.begins;
+}

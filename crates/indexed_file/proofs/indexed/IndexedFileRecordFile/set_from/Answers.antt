@@ -1,15 +1,21 @@
-use Rattle.std.proofs.Common.{◌≡◌, Result, Ok, Err, OnOk, ap, sym, subst, ◌∙◌}
+use Rattle.std.proofs.Common.{◌≡◌, Some, IfSome, Result, Ok, Err, OnOk, ap, sym, subst, ◌∙◌}
 use Rattle.std.specs.Option.{option_copied}
 use Rattle.vms_model.specs.Keys.{Key, Text}
 use Rattle.vms_base.specs.Keys.{key_of}
-use Rattle.indexed_file.specs.Chain.{Suits}
+use Rattle.indexed_file.specs.Behind.{Begins}
+use Rattle.indexed_file.specs.Chain.{Suits, IsChained}
 use Rattle.indexed_file.specs.Sets.{SetsFile}
 use Rattle.indexed_file.proofs.ImplLaws.{key_clauses}
-use Rattle.indexed_file.proofs.indexed.IndexedFileRecordFile.set.Goals as goal
+use Rattle.indexed_file.proofs.indexed.IndexedFileRecordFile.set_from.Goals as goal
 
 on_ok_then : {T E A B : Type 0} (r : Result T E) → (A → B) → OnOk r A → OnOk r B
 on_ok_then (Ok x) f a = f a
 on_ok_then (Err e) f a = tt
+
+pub set_key-done-requires-clause-begins : goal.set_key-done-requires-clause-begins
+set_key-done-requires-clause-begins g c =
+    let key : key_of c.args.key.now ≡ Text c.bytes.result.now = ap key_of c.in-Text.is ∙ ap Text (sym c.bytes.ensures.value) in
+    subst (λ (x : Key). IfSome c.args.store.now.current (λ b. IsChained c.args.head.now b → Begins c.args.head.now b (Some x) c.args.place)) key c.requires.begins
 
 pub set_key-done-requires-clause-suits : goal.set_key-done-requires-clause-suits
 set_key-done-requires-clause-suits g c =
