@@ -102,10 +102,11 @@ impl RecordFile for RelativeFile {
 
     ghost begins_first = { λ h blocks after form. tt };
 
-    fn get<D: Disk>(
+    fn find<D: Disk>(
         head: &FileHead,
         store: &mut Store<D>,
         key: &Key,
+        _place: &mut Place,
         out: &mut Record,
     ) -> Result<bool, Down> {
         match key {
@@ -147,12 +148,13 @@ impl RecordFile for RelativeFile {
         }
     }
 
-    fn set<D: Disk, H: Held>(
+    fn set_from<D: Disk, H: Held>(
         head: &mut FileHead,
         store: &mut Store<D>,
         key: &Key,
         value: Option<&Record>,
         _held: &H,
+        _place: Place,
     ) -> Result<(), Down> {
         set_record(head, store, key, value)
     }

@@ -7,7 +7,7 @@ use Rattle.change_set.specs.Maps.{set_key}
 use Rattle.change_set.proofs.NoChain.{none_set}
 use Rattle.relative_file.specs.Cells.{map_of, IsLaidOut, Anything}
 use Rattle.relative_file.proofs.MapLaws.{stages_two, told_map, told_valid}
-use Rattle.relative_file.proofs.relative.RelativeFileRecordFile.set.Goals as goal
+use Rattle.relative_file.proofs.relative.RelativeFileRecordFile.set_from.Goals as goal
 
 on_ok_then : {T E A B : Type 0} (r : Result T E) → (A → B) → OnOk r A → OnOk r B
 on_ok_then (Ok x) f a = f a
