@@ -145,14 +145,16 @@ fn write_back<D: Disk>(
     give_frame(store, frame);
 }
 
-/// Sets position n. Blocks of one bucket are staged.
+/// Sets position n, to which a walk may begin at a place. Blocks of one bucket are staged.
 pub fn set_position<D: Disk>(
     head: &mut FileHead,
     store: &mut Store<D>,
     n: u32,
     value: Option<&Record>,
+    place: Place,
 ) -> Result<(), Down>
     requires form { IsSequential head.old }
+    requires before { IfSome store.old.current (λ b. IsLaidOut head.old b → CountsBefore head.old b place) }
     requires placed { IsPlaced head.old store.old.disk }
     requires frames { 1 ≤ free_frames store.old.pool }
     requires room { length store.old.touched ≤ 480 }
@@ -162,7 +164,7 @@ pub fn set_position<D: Disk>(
     ensures down { OnErr result (store.new ≡ record store.old { disk = answered result store.old.disk }) }
 {
     let frame = take_frame(store);
-    match set_at(head, store, &frame, n, value) {
+    match set_at(head, store, &frame, n, value, place) {
         Ok(rewrite) => {
             write_back(head, store, frame, rewrite);
             Ok(())
@@ -174,9 +176,15 @@ pub fn set_position<D: Disk>(
     }
 }
 
-/// Takes the positions from n on away. Blocks of one bucket are staged.
-pub fn cut_positions<D: Disk>(head: &mut FileHead, store: &mut Store<D>, n: u32) -> Result<(), Down>
+/// Takes the positions from n on away, to which a walk may begin at a place. Blocks of one bucket are staged.
+pub fn cut_positions<D: Disk>(
+    head: &mut FileHead,
+    store: &mut Store<D>,
+    n: u32,
+    place: Place,
+) -> Result<(), Down>
     requires form { IsSequential head.old }
+    requires before { IfSome store.old.current (λ b. IsLaidOut head.old b → CountsBefore head.old b place) }
     requires placed { IsPlaced head.old store.old.disk }
     requires frames { 1 ≤ free_frames store.old.pool }
     requires room { length store.old.touched ≤ 480 }
@@ -187,7 +195,7 @@ pub fn cut_positions<D: Disk>(head: &mut FileHead, store: &mut Store<D>, n: u32)
     ensures down { OnErr result (store.new ≡ record store.old { disk = answered result store.old.disk }) }
 {
     let frame = take_frame(store);
-    match cut_off(head, store, &frame, n) {
+    match cut_off(head, store, &frame, n, place) {
         Ok(rewrite) => {
             write_back(head, store, frame, rewrite);
             Ok(())

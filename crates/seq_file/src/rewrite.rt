@@ -8,7 +8,7 @@ ghost use Rattle.change_set.specs.Files.{IsPlaced};
 ghost use Rattle.bucket_page.specs.declared.kind.PageKind.TheVariants.{Seq};
 ghost use Rattle.bucket_page.specs.Pages.{slots_of, slot_at, joined, IsBucket};
 ghost use Rattle.seq_file.specs.Records.{list_set};
-ghost use Rattle.seq_file.specs.Layout.{capacity, used_left, IsRecord, IsSequential, IsLaidOut, Suits, TakesAt};
+ghost use Rattle.seq_file.specs.Layout.{capacity, used_left, CountsBefore, IsRecord, IsSequential, IsLaidOut, Suits, TakesAt};
 ghost use Rattle.seq_file.specs.Frames.{page_in, InFrame, PutBehind, PutAnew, PutOver, Leads, MayWrite};
 
 use crate::bucket::{clear_page, keep_slots, load_slots, push_slot, replace_slot};
@@ -89,14 +89,16 @@ fn append<D: Disk>(
     }
 }
 
-// Writes a record of the same length over position n. None where that has another length.
+// Writes a record of the same length over position n, which a walk from a place finds. None where that has another length.
 fn overwrite<D: Disk>(
     head: &FileHead,
     store: &mut Store<D>,
     frame: &Frame,
     n: u32,
     value: &[u8],
+    mut place: Place,
 ) -> Result<Option<Rewrite>, Down>
+    requires before { IfSome store.old.current (λ b. IsLaidOut head.now b → CountsBefore head.now b place) }
     requires form { IsSequential head.now }
     requires placed { IsPlaced head.now store.old.disk }
     requires out { IsOut store.old.pool frame.now }
@@ -109,7 +111,6 @@ fn overwrite<D: Disk>(
     ensures state { InFrame frame.now (record store.old { disk = answered result store.old.disk }) store.new }
     ensures out { IsOut store.new.pool frame.now }
 {
-    let mut place = Place::first();
     match locate(head, store, frame, n, &mut place) {
         Ok(Some(spot)) => Ok(write_over(head, store, frame, spot, value)),
         Ok(None) => Ok(None),
@@ -158,13 +159,15 @@ fn used_before(spot: Spot) -> u32
     }
 }
 
-/// Takes the positions from n on away. None where the file is not laid out.
+/// Takes the positions from n on away, where a walk from a place finds n. None where the file is not laid out.
 pub fn cut_off<D: Disk>(
     head: &FileHead,
     store: &mut Store<D>,
     frame: &Frame,
     n: u32,
+    mut place: Place,
 ) -> Result<Option<Rewrite>, Down>
+    requires before { IfSome store.old.current (λ b. IsLaidOut head.now b → CountsBefore head.now b place) }
     requires form { IsSequential head.now }
     requires placed { IsPlaced head.now store.old.disk }
     requires out { IsOut store.old.pool frame.now }
@@ -176,7 +179,6 @@ pub fn cut_off<D: Disk>(
     ensures state { InFrame frame.now (record store.old { disk = answered result store.old.disk }) store.new }
     ensures out { IsOut store.new.pool frame.now }
 {
-    let mut place = Place::first();
     match locate(head, store, frame, n, &mut place) {
         Ok(Some(spot)) => {
             keep_slots(head, store, frame, spot.slots, spot.slot);
@@ -191,15 +193,17 @@ pub fn cut_off<D: Disk>(
     }
 }
 
-/// Sets position n: behind the last one, over one of the same length, or the last one to none. None where the file does
-/// not take that.
+/// Sets position n: behind the last one, over one of the same length, or the last one to none. A walk to it may begin at a place.
+/// None where the file does not take that.
 pub fn set_at<D: Disk>(
     head: &FileHead,
     store: &mut Store<D>,
     frame: &Frame,
     n: u32,
     value: Option<&Record>,
+    place: Place,
 ) -> Result<Option<Rewrite>, Down>
+    requires before { IfSome store.old.current (λ b. IsLaidOut head.now b → CountsBefore head.now b place) }
     requires form { IsSequential head.now }
     requires placed { IsPlaced head.now store.old.disk }
     requires out { IsOut store.old.pool frame.now }
@@ -215,14 +219,14 @@ pub fn set_at<D: Disk>(
             if n > head.count {
                 append(head, store, frame, n, record.bytes())
             } else {
-                overwrite(head, store, frame, n, record.bytes())
+                overwrite(head, store, frame, n, record.bytes(), place)
             }
         }
         None => {
             if n != head.count {
                 return Ok(None);
             }
-            cut_off(head, store, frame, n)
+            cut_off(head, store, frame, n, place)
         }
     }
 }

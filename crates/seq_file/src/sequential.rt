@@ -6,7 +6,7 @@ ghost use Rattle.careful_write.specs.Reads.{SameButReads};
 ghost use Rattle.change_set.specs.Files.{IsPlaced, free_frames, fell, StagesIn, SameFile};
 ghost use Rattle.change_set.specs.Maps.{set_key};
 ghost use Rattle.seq_file.specs.Records.{cut_from};
-ghost use Rattle.seq_file.specs.Layout.{map_of, capacity, used_after, UsedBefore, IsSequential, IsLaidOut, Suits, Takes};
+ghost use Rattle.seq_file.specs.Layout.{map_of, capacity, used_after, CountsBefore, UsedBefore, IsSequential, IsLaidOut, Suits, Takes};
 
 use crate::file::{cut_positions, need_of, read_position, set_position};
 use crate::make::make_file;
@@ -23,14 +23,16 @@ use vms_base::{Key, Record};
 /// position has room of its own: what was taken away is put back behind the last record.
 pub struct SeqFile;
 
-// Sets the position that a key tells. Blocks of one bucket are staged.
+// Sets the position that a key tells, to which a walk may begin at a place. Blocks of one bucket are staged.
 fn set_record<D: Disk>(
     head: &mut FileHead,
     store: &mut Store<D>,
     key: &Key,
     value: Option<&Record>,
+    place: Place,
 ) -> Result<(), Down>
     requires form { IsSequential head.old }
+    requires before { IfSome store.old.current (λ b. IsLaidOut head.old b → CountsBefore head.old b place) }
     requires placed { IsPlaced head.old store.old.disk }
     requires frames { 32 ≤ free_frames store.old.pool }
     requires room { length store.old.touched ≤ 480 }
@@ -47,7 +49,7 @@ fn set_record<D: Disk>(
 {
     match key {
         Key::Number(n) => {
-            let done = set_position(head, store, *n, value);
+            let done = set_position(head, store, *n, value, place);
             if done.is_err() {
                 store.unstage();
             }
@@ -100,10 +102,11 @@ impl RecordFile for SeqFile {
 
     ghost begins_first = { λ h blocks after form. refl };
 
-    fn get<D: Disk>(
+    fn find<D: Disk>(
         head: &FileHead,
         store: &mut Store<D>,
         key: &Key,
+        place: &mut Place,
         out: &mut Record,
     ) -> Result<bool, Down> {
         match key {
@@ -111,8 +114,7 @@ impl RecordFile for SeqFile {
                 if *n == 0 || *n > head.count {
                     return Ok(false);
                 }
-                let mut place = Place::first();
-                let found = read_position(head, store, *n, &mut place, out);
+                let found = read_position(head, store, *n, place, out);
                 if found.is_err() {
                     store.unstage();
                 }
@@ -149,14 +151,15 @@ impl RecordFile for SeqFile {
         }
     }
 
-    fn set<D: Disk, H: Held>(
+    fn set_from<D: Disk, H: Held>(
         head: &mut FileHead,
         store: &mut Store<D>,
         key: &Key,
         value: Option<&Record>,
         _held: &H,
+        place: Place,
     ) -> Result<(), Down> {
-        set_record(head, store, key, value)
+        set_record(head, store, key, value, place)
     }
 
     fn restore<D: Disk>(
@@ -165,7 +168,7 @@ impl RecordFile for SeqFile {
         key: &Key,
         value: Option<&Record>,
     ) -> Result<(), Down> {
-        set_record(head, store, key, value)
+        set_record(head, store, key, value, Place::first())
     }
 
     fn need<D: Disk>(head: &FileHead, store: &mut Store<D>, size: u16) -> Result<u32, Down> {
@@ -203,7 +206,33 @@ impl SeqFile {
         ensures head { OnErr result (head.new ≡ head.old) }
         ensures down { OnErr result (SameButReads (fell result store.old) store.new) }
     {
-        let done = cut_positions(head, store, from);
+        Self::cut_at(head, store, from, Place::first())
+    }
+
+    /// The same by a walk to the position that begins at a place.
+    pub fn cut_at<D: Disk>(
+        head: &mut FileHead,
+        store: &mut Store<D>,
+        from: u32,
+        place: Place,
+    ) -> Result<(), Down>
+        requires form { IsSequential head.old }
+        requires placed { IsPlaced head.old store.old.disk }
+        requires frames { 32 ≤ free_frames store.old.pool }
+        requires staged { length store.old.touched ≤ 64 }
+        requires first { 1 ≤ from }
+        requires last { from ≤ head.old.count }
+        requires begins { IfSome store.old.current (λ b. IsLaidOut head.old b → CountsBefore head.old b place) }
+        ensures map { OnOk result (IfSome store.old.current (λ before. IsLaidOut head.old before → option_map (map_of head.new) store.new.current ≡ Some (cut_from from (map_of head.old before)))) }
+        ensures valid { OnOk result (IfSome store.old.current (λ before. IsLaidOut head.old before → IfSome store.new.current (IsLaidOut head.new))) }
+        ensures used { OnOk result (IfSome store.old.current (λ before. IsLaidOut head.old before → UsedBefore (capacity head.old) from (map_of head.old before) head.new.used)) }
+        ensures file { OnOk result (SameFile head.old head.new) }
+        ensures form { OnOk result (IsSequential head.new) }
+        ensures staged { OnOk result (StagesIn head.old head.old.bucket store.old store.new) }
+        ensures head { OnErr result (head.new ≡ head.old) }
+        ensures down { OnErr result (SameButReads (fell result store.old) store.new) }
+    {
+        let done = cut_positions(head, store, from, place);
         if done.is_err() {
             store.unstage();
         }

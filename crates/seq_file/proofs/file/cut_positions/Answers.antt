@@ -1,10 +1,10 @@
-use Rattle.std.proofs.Common.{◌-◌, take, Result, Err, refl, sym, subst}
+use Rattle.std.proofs.Common.{◌-◌, ℕ, List, Option, IfSome, take, Result, Err, refl, ap, sym, subst}
 use Rattle.careful_write.specs.Down.{answered}
 use Rattle.careful_write.specs.declared.down.Down.{Down}
 use Rattle.careful_write.specs.State.{StoreState}
 use Rattle.change_set.specs.Files.{IsPlaced}
 use Rattle.change_set.proofs.Frames.{read_and_given}
-use Rattle.seq_file.specs.Layout.{IsLaidOut}
+use Rattle.seq_file.specs.Layout.{CountsBefore, IsLaidOut}
 use Rattle.seq_file.proofs.ChangeLaws.{changed_by}
 use Rattle.seq_file.proofs.file.cut_positions.Goals as goal
 
@@ -26,3 +26,8 @@ pub write_back-requires-clause-placed : goal.write_back-requires-clause-placed
 write_back-requires-clause-placed g c =
     let h = c.args.head.now in
     subst (λ (s : StoreState). IsPlaced h s.disk) (sym c.in-Ok.ensures.state) (subst (λ (s : StoreState). IsPlaced h s.disk) (sym c.take_frame-frame.ensures.state) c.requires.placed)
+
+pub cut_off-requires-clause-before : goal.cut_off-requires-clause-before
+cut_off-requires-clause-before g c =
+    subst (λ (told : Option (List (List ℕ))). IfSome told (λ (b : List (List ℕ)). IsLaidOut c.args.head.now b → CountsBefore c.args.head.now b c.args.place))
+    (sym (ap (λ (s : StoreState). s.current) c.take_frame-frame.ensures.state)) c.requires.before

@@ -1,4 +1,4 @@
-use Rattle.std.proofs.Common.{Result, Err, refl, sym, subst}
+use Rattle.std.proofs.Common.{List, ℕ, Option, IfSome, Result, Err, refl, ap, sym, subst}
 use Rattle.std.specs.Option.{option_copied}
 use Rattle.careful_write.specs.Down.{answered}
 use Rattle.careful_write.specs.declared.down.Down.{Down}
@@ -6,7 +6,7 @@ use Rattle.careful_write.specs.State.{StoreState}
 use Rattle.change_set.specs.Files.{IsPlaced}
 use Rattle.change_set.proofs.Frames.{read_and_given}
 use Rattle.seq_file.specs.Records.{list_set}
-use Rattle.seq_file.specs.Layout.{TakesAt}
+use Rattle.seq_file.specs.Layout.{CountsBefore, IsLaidOut, TakesAt}
 use Rattle.seq_file.proofs.ChangeLaws.{changed_by}
 use Rattle.seq_file.proofs.file.set_position.Goals as goal
 
@@ -29,3 +29,8 @@ pub write_back-requires-clause-placed : goal.write_back-requires-clause-placed
 write_back-requires-clause-placed g c =
     let h = c.args.head.now in
     subst (λ (s : StoreState). IsPlaced h s.disk) (sym c.in-Ok.ensures.state) (subst (λ (s : StoreState). IsPlaced h s.disk) (sym c.take_frame-frame.ensures.state) c.requires.placed)
+
+pub set_at-requires-clause-before : goal.set_at-requires-clause-before
+set_at-requires-clause-before g c =
+    subst (λ (told : Option (List (List ℕ))). IfSome told (λ (b : List (List ℕ)). IsLaidOut c.args.head.now b → CountsBefore c.args.head.now b c.args.place))
+    (sym (ap (λ (s : StoreState). s.current) c.take_frame-frame.ensures.state)) c.requires.before

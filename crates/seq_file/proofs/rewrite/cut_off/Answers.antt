@@ -2,7 +2,6 @@ use Rattle.block_disk.specs.Disk.{DiskState}
 use Rattle.seq_file.specs.Frames.{page_in}
 use Rattle.seq_file.proofs.FrameSteps.{in_frame_more}
 use Rattle.seq_file.proofs.RewriteLaws.{cut_leads, cut_may}
-use Rattle.seq_file.proofs.WalkLaws.{front_counts}
 use Rattle.seq_file.proofs.rewrite.cut_off.Goals as goal
 
 pub returns-in-Ok-Some-clause-leads : goal.returns-in-Ok-Some-clause-leads
@@ -20,6 +19,3 @@ returns-in-Ok-Some-clause-may g c =
 
 pub returns-in-Ok-Some-clause-state : goal.returns-in-Ok-Some-clause-state
 returns-in-Ok-Some-clause-state g c = in_frame_more c.args.frame.now c.args.store.now c.locate.new.store c.keep_slots.new.store (λ (d : DiskState). d) c.in-Ok-Some.ensures.state c.keep_slots.ensures.state
-
-pub locate-requires-clause-before : goal.locate-requires-clause-before
-locate-requires-clause-before g c = front_counts c.args.store.now.current c.args.head.now c.first-place.result c.first-place.ensures

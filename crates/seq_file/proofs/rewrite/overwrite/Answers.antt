@@ -3,7 +3,6 @@ use Rattle.block_disk.specs.Disk.{DiskState}
 use Rattle.seq_file.specs.Frames.{page_in}
 use Rattle.seq_file.proofs.FrameSteps.{in_frame_more}
 use Rattle.seq_file.proofs.RewriteLaws.{overwrite_leads, overwrite_none, overwrite_may, never_laid_out}
-use Rattle.seq_file.proofs.WalkLaws.{front_counts}
 use Rattle.seq_file.proofs.rewrite.overwrite.Goals as goal
 
 pub returns-in-Ok-Some-clause-leads : goal.returns-in-Ok-Some-clause-leads
@@ -35,6 +34,3 @@ pub returns-in-Ok-None-clause-none : goal.returns-in-Ok-None-clause-none
 returns-in-Ok-None-clause-none g c =
     let never = rw c.in-Ok-None.field-0-is at c.in-Ok-None.ensures.none in
     never_laid_out c.args.store.now.current c.args.head.now c.args.n (Some c.args.value.now) never
-
-pub locate-requires-clause-before : goal.locate-requires-clause-before
-locate-requires-clause-before g c = front_counts c.args.store.now.current c.args.head.now c.first-place.result c.first-place.ensures

@@ -6,7 +6,7 @@ use Rattle.change_set.specs.Files.{StagesIn}
 use Rattle.change_set.proofs.NoChain.{none_set}
 use Rattle.seq_file.specs.Layout.{IsLaidOut, Takes}
 use Rattle.seq_file.proofs.SetLaws.{stages_two}
-use Rattle.seq_file.proofs.sequential.SeqFileRecordFile.set.Goals as goal
+use Rattle.seq_file.proofs.sequential.SeqFileRecordFile.set_from.Goals as goal
 
 on_ok_then : {T E A B : Type 0} (r : Result T E) → (A → B) → OnOk r A → OnOk r B
 on_ok_then (Ok x) f a = f a
