@@ -3,11 +3,12 @@ ghost use Rattle.std.specs.Prelude.{◌≡◌, ◌≤◌, ◌<◌, ◌+◌, ◌-
 ghost use Rattle.std.specs.Option.{option_copied};
 ghost use Rattle.file_base.specs.declared.head.Organization.TheVariants.{Sequential};
 ghost use Rattle.vms_base.specs.Keys.{key_of};
+ghost use Rattle.vms_model.specs.Keys.{Number};
 ghost use Rattle.careful_write.specs.Reads.{SameButReads};
 ghost use Rattle.change_set.specs.Files.{IsPlaced, free_frames, fell, StagesIn, SameFile};
 ghost use Rattle.seq_file.specs.Records.{cut_from};
 ghost use Rattle.seq_file.specs.Layout.{capacity, UsedBefore};
-ghost use Rattle.record_files.specs.Any.{map_of, IsFile, IsLaidOut, Suits};
+ghost use Rattle.record_files.specs.Any.{map_of, Begins, IsFile, IsLaidOut, Suits};
 
 use crate::checks::{
     forms_indexed, forms_relative, forms_sequential, suits_indexed, suits_relative,
@@ -68,16 +69,17 @@ impl RecordFile for AnyFile {
 
     ghost begins_first = { begins_first_law };
 
-    fn get<D: Disk>(
+    fn find<D: Disk>(
         head: &FileHead,
         store: &mut Store<D>,
         key: &Key,
+        place: &mut Place,
         out: &mut Record,
     ) -> Result<bool, Down> {
         match head.organization {
-            Organization::Sequential => SeqFile::get(head, store, key, out),
-            Organization::Relative => RelativeFile::get(head, store, key, out),
-            Organization::Indexed => IndexedFile::get(head, store, key, out),
+            Organization::Sequential => SeqFile::find(head, store, key, place, out),
+            Organization::Relative => RelativeFile::find(head, store, key, place, out),
+            Organization::Indexed => IndexedFile::find(head, store, key, place, out),
         }
     }
 
@@ -98,17 +100,18 @@ impl RecordFile for AnyFile {
         }
     }
 
-    fn set<D: Disk, H: Held>(
+    fn set_from<D: Disk, H: Held>(
         head: &mut FileHead,
         store: &mut Store<D>,
         key: &Key,
         value: Option<&Record>,
         held: &H,
+        place: Place,
     ) -> Result<(), Down> {
         match head.organization {
-            Organization::Sequential => SeqFile::set(head, store, key, value, held),
-            Organization::Relative => RelativeFile::set(head, store, key, value, held),
-            Organization::Indexed => IndexedFile::set(head, store, key, value, held),
+            Organization::Sequential => SeqFile::set_from(head, store, key, value, held, place),
+            Organization::Relative => RelativeFile::set_from(head, store, key, value, held, place),
+            Organization::Indexed => IndexedFile::set_from(head, store, key, value, held, place),
         }
     }
 
@@ -186,5 +189,32 @@ impl AnyFile {
         ensures down { OnErr result (SameButReads (fell result store.old) store.new) }
     {
         SeqFile::cut(head, store, from)
+    }
+
+    /// The same by a walk to the position that begins at a place.
+    pub fn cut_at<D: Disk>(
+        head: &mut FileHead,
+        store: &mut Store<D>,
+        from: u32,
+        place: Place,
+    ) -> Result<(), Down>
+        requires sequential { head.old.organization ≡ Sequential }
+        requires form { IsFile head.old }
+        requires placed { IsPlaced head.old store.old.disk }
+        requires frames { 32 ≤ free_frames store.old.pool }
+        requires staged { length store.old.touched ≤ 64 }
+        requires first { 1 ≤ from }
+        requires last { from ≤ head.old.count }
+        requires begins { IfSome store.old.current (λ b. IsLaidOut head.old b → Begins head.old b (Some (Number from)) place) }
+        ensures map { OnOk result (IfSome store.old.current (λ before. IsLaidOut head.old before → option_map (map_of head.new) store.new.current ≡ Some (cut_from from (map_of head.old before)))) }
+        ensures valid { OnOk result (IfSome store.old.current (λ before. IsLaidOut head.old before → IfSome store.new.current (IsLaidOut head.new))) }
+        ensures used { OnOk result (IfSome store.old.current (λ before. IsLaidOut head.old before → UsedBefore (capacity head.old) from (map_of head.old before) head.new.used)) }
+        ensures file { OnOk result (SameFile head.old head.new) }
+        ensures form { OnOk result (IsFile head.new) }
+        ensures staged { OnOk result (StagesIn head.old head.old.bucket store.old store.new) }
+        ensures head { OnErr result (head.new ≡ head.old) }
+        ensures down { OnErr result (SameButReads (fell result store.old) store.new) }
+    {
+        SeqFile::cut_at(head, store, from, place)
     }
 }
