@@ -5,3 +5,4 @@ pub mod NoteLemmas
 pub mod RestoreLemmas
 pub mod StagingLemmas
 pub mod StagingTells
+pub mod Walks

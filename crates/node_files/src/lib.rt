@@ -9,8 +9,8 @@ mod undo;
 
 pub use forms::form_refusal;
 pub use records::{
-    apply_staged, make_records, need_buckets, next_record, next_record_from, read_record,
-    stage_back, stage_cut, stage_value, write_head, write_home,
+    apply_staged, find_record, make_records, need_buckets, next_record, next_record_from, place_of,
+    read_record, stage_back, stage_cut, stage_value, write_head, write_home,
 };
 pub use sizes::{Sizes, sizes_of};
 pub use undo::{Buffers, MOST_CHANGES, Undo, is_same_key};

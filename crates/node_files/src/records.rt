@@ -12,6 +12,8 @@ ghost use Rattle.volume.specs.State.{Holds, with_block};
 ghost use Rattle.volume_format.specs.Head.{head_block_of};
 ghost use Rattle.volume_format.specs.Home.{home_block_of};
 ghost use Rattle.vms_base.specs.Keys.{key_of};
+ghost use Rattle.vms_model.specs.Keys as model;
+ghost use Rattle.vms_model.specs.Keys.{Number};
 ghost use Rattle.directory_model.specs.Files.{head_at, holds};
 ghost use Rattle.node_files.specs.Notes.{notes_in};
 ghost use Rattle.node_files.specs.Staging.{StagesFile, TellsBack, TellsCut, TellsSet};
@@ -65,6 +67,54 @@ pub fn read_record<D: Disk>(
         return Ok(false);
     }
     AnyFile::get(head, volume.store(), key, found)
+}
+
+/// The same by a walk to the key that may begin at a place, and that leaves such a place.
+pub fn find_record<D: Disk>(
+    volume: &mut Volume<D>,
+    head: &FileHead,
+    key: &Key,
+    place: &mut Place,
+    found: &mut Record,
+) -> Result<bool, Down>
+    requires placed { IsPlaced head.now volume.old.store.disk }
+    requires frames { 32 ≤ free_frames volume.old.store.pool }
+    requires begins { IfSome volume.old.store.current (λ content. IsFile head.now → IsLaidOut head.now content → Begins head.now content (Some (key_of key.now)) place.old) }
+    ensures found { IfOk result (λ there. IfSome volume.old.store.current (λ content. IsFile head.now → IsLaidOut head.now content → map_of head.now content (key_of key.now) ≡ (if there then Some found.new else None))) }
+    ensures begins { OnOk result (IfSome volume.old.store.current (λ content. IsFile head.now → IsLaidOut head.now content → Begins head.now content (Some (key_of key.now)) place.new)) }
+    ensures unformed { (IsFile head.now → ⊥) → result ≡ Ok false }
+    ensures same { OnOk result (volume.new ≡ volume.old) }
+    ensures down { OnErr result (volume.new ≡ record volume.old { store = fell result volume.old.store }) }
+{
+    if !AnyFile::is_formed(head) {
+        return Ok(false);
+    }
+    AnyFile::find(head, volume.store(), key, place, found)
+}
+
+/// The place at which a walk to a position of a sequential file, or to one behind it, may begin. Nothing is read for the last
+/// position, which is found without a walk. `found` is left with any record.
+pub fn place_of<D: Disk>(
+    volume: &mut Volume<D>,
+    head: &FileHead,
+    position: u32,
+    found: &mut Record,
+) -> Result<Place, Down>
+    requires placed { IsPlaced head.now volume.old.store.disk }
+    requires frames { 32 ≤ free_frames volume.old.store.pool }
+    requires sequential { head.now.organization ≡ organization.Sequential }
+    ensures begins { IfOk result (λ place. IfSome volume.old.store.current (λ content. IsFile head.now → IsLaidOut head.now content → (key : Option model.Key) → Begins head.now content key place)) }
+    ensures same { OnOk result (volume.new ≡ volume.old) }
+    ensures down { OnErr result (volume.new ≡ record volume.old { store = fell result volume.old.store }) }
+{
+    if position >= head.count {
+        return Ok(Place::first());
+    }
+    let mut place = Place::first();
+    match find_record(volume, head, &Key::Number(position), &mut place, found) {
+        Ok(_) => Ok(place),
+        Err(down) => Err(down),
+    }
 }
 
 /// Whether a file has a record behind a key, or any where none is said; its key and the record are then in `key` and `found`.
@@ -155,7 +205,8 @@ fn is_moved(old: &FileHead, new: &FileHead) -> bool
         || new.count != old.count
 }
 
-/// Stages a record of this key, or its removal, and the head where that changes. The rooms of the keys that are noted stay.
+/// Stages a record of this key, or its removal, and the head where that changes. A walk to the key begins at a place. The rooms
+/// of the keys that are noted stay.
 /// Nothing is staged where the head is none of a file of its organization.
 pub fn stage_value<D: Disk>(
     volume: &mut Volume<D>,
@@ -164,7 +215,9 @@ pub fn stage_value<D: Disk>(
     key: &Key,
     value: Option<&Record>,
     undo: &Undo,
+    place: Place,
 ) -> Result<(), Down>
+    requires begins { IfSome volume.old.store.current (λ content. IsFile head.old → IsLaidOut head.old content → Begins head.old content (Some (key_of key.now)) place) }
     requires there { head_at volume.old.catalog.heads file ≡ Some head.old }
     requires whole { length volume.old.catalog.heads ≡ 64 }
     requires sound { (node : List ℕ) × IsSound node volume.old.store.disk.size volume.old.catalog }
@@ -185,18 +238,19 @@ pub fn stage_value<D: Disk>(
         return Ok(());
     }
     let held = HeldIn { undo, file };
-    AnyFile::set(head, volume.store(), key, value, &held)?;
+    AnyFile::set_from(head, volume.store(), key, value, &held, place)?;
     stage_moved(volume, file, &old, head);
     Ok(())
 }
 
-/// Stages that the positions of a sequential file from one on go, and the head. Nothing is staged where the head is none of a
-/// sequential file.
+/// Stages that the positions of a sequential file from one on go, and the head. A walk to it begins at a place. Nothing is
+/// staged where the head is none of a sequential file.
 pub fn stage_cut<D: Disk>(
     volume: &mut Volume<D>,
     file: u8,
     head: &mut FileHead,
     from: u32,
+    place: Place,
 ) -> Result<(), Down>
     requires there { head_at volume.old.catalog.heads file ≡ Some head.old }
     requires whole { length volume.old.catalog.heads ≡ 64 }
@@ -208,6 +262,7 @@ pub fn stage_cut<D: Disk>(
     requires sequential { head.old.organization ≡ organization.Sequential }
     requires first { 1 ≤ from }
     requires last { from ≤ head.old.count }
+    requires begins { IfSome volume.old.store.current (λ content. IsFile head.old → IsLaidOut head.old content → Begins head.old content (Some (Number from)) place) }
     ensures stages { OnOk result (StagesFile file head.old 65 volume.old volume.new head.new) }
     ensures cuts { OnOk result (TellsCut head.old from volume.old volume.new head.new) }
     ensures unformed { (IsFile head.old → ⊥) → (result ≡ Ok tt) × (volume.new ≡ volume.old) × (head.new ≡ head.old) }
@@ -219,7 +274,7 @@ pub fn stage_cut<D: Disk>(
     if !AnyFile::is_formed(head) {
         return Ok(());
     }
-    AnyFile::cut(head, volume.store(), from)?;
+    AnyFile::cut_at(head, volume.store(), from, place)?;
     stage_moved(volume, file, &old, head);
     Ok(())
 }

@@ -1,4 +1,4 @@
-use Rattle.std.proofs.Common.{◌≡◌, ◌+◌, ◌*◌, Some, IfSome, slice_set, subst, sym, ◌∙◌, ap, arith}
+use Rattle.std.proofs.Common.{◌≡◌, ◌+◌, ◌*◌, ℕ, List, Option, Some, IfSome, slice_set, subst, sym, ◌∙◌, ap, arith}
 use Rattle.careful_write.specs.State.{StoreState}
 use Rattle.change_set.specs.Files.{IsPlaced, StagesIn}
 use Rattle.vms_base.specs.Keys.{key_of}
@@ -6,14 +6,16 @@ use Rattle.std.specs.Option.{option_copied}
 use Rattle.volume.specs.Catalogs.{TellsCatalog}
 use Rattle.volume.specs.State.{Holds, VolumeState}
 use Rattle.directory_model.specs.Files.{holds}
+use Rattle.record_files.specs.Any.{Begins, IsLaidOut}
 use Rattle.node_files.specs.Notes.{notes_in}
 use Rattle.node_files.proofs.CatalogLemmas.{head_below, placed}
 use Rattle.node_files.proofs.StagingLemmas.{behind_front, stages_moved, within_of}
 use Rattle.node_files.proofs.StagingTells.{SetIn, set_few, told_set}
+use Rattle.node_files.proofs.Walks.{formed_begins}
 use Rattle.node_files.proofs.records.stage_value.Goals as goal
 
-pub set-requires-clause-placed : goal.set-requires-clause-placed
-set-requires-clause-placed g c =
+pub set_from-requires-clause-placed : goal.set_from-requires-clause-placed
+set_from-requires-clause-placed g c =
     let v = c.args.volume.now in
     let h = c.args.head.now in
     subst (λ (x : StoreState). IsPlaced h x.disk) (sym (c.store.ensures.value ∙ ap (λ (u : VolumeState). u.store) c.blocks_are_whole.ensures.same)) (placed c.requires.sound.0 v.catalog c.args.file h v.store.disk c.files_lie_apart.ensures c.requires.whole c.requires.sound.1 c.requires.most c.requires.there)
@@ -24,7 +26,7 @@ stage_moved-requires-clause-room g c =
     let h = c.args.head.now in
     let lies = placed c.requires.sound.0 v.catalog c.args.file h v.store.disk c.files_lie_apart.ensures c.requires.whole c.requires.sound.1 c.requires.most c.requires.there in
     let few = set_few h (c.is_formed.ensures.formed c.if-not-is_formed.false) lies.blocks in
-    let stages = subst (λ (x : StoreState). StagesIn h ((2 * h.levels + 2) * h.bucket) x c.set.new.store) (c.store.ensures.value ∙ ap (λ (u : VolumeState). u.store) c.blocks_are_whole.ensures.same) c.in_ok-set.ensures.staged in
+    let stages = subst (λ (x : StoreState). StagesIn h ((2 * h.levels + 2) * h.bucket) x c.set_from.new.store) (c.store.ensures.value ∙ ap (λ (u : VolumeState). u.store) c.blocks_are_whole.ensures.same) c.in_ok-set_from.ensures.staged in
     let more = stages.few in
     let staged = c.requires.staged in
     omega (arith, more, few, staged)
@@ -36,11 +38,11 @@ returns-clause-stages g c =
     let lies = placed c.requires.sound.0 v.catalog c.args.file h v.store.disk c.files_lie_apart.ensures c.requires.whole c.requires.sound.1 c.requires.most c.requires.there in
     let few = set_few h (c.is_formed.ensures.formed c.if-not-is_formed.false) lies.blocks in
     let same = c.blocks_are_whole.ensures.same in
-    stages_moved c.args.file h c.set.new.head ((2 * h.levels + 2) * h.bucket) 65 v c.stage_moved.new.volume c.set.new.store c.catalogs_stand_on_the_front.ensures (behind_front c.requires.sound.0 v.store.disk.size v.catalog c.args.file h c.files_lie_apart.ensures c.requires.whole c.requires.sound.1 c.requires.there)
-    (subst (λ (x : StoreState). StagesIn h ((2 * h.levels + 2) * h.bucket) x c.set.new.store) (c.store.ensures.value ∙ ap (λ (u : VolumeState). u.store) same) c.in_ok-set.ensures.staged) (omega (arith, few))
-    c.in_ok-set.ensures.file c.in_ok-set.ensures.form c.stage_moved.ensures.store
-    (subst (λ (u : VolumeState). c.stage_moved.new.volume.catalog ≡ record u.catalog { heads = slice_set u.catalog.heads c.args.file (Some c.set.new.head) }) same c.stage_moved.ensures.catalog)
-    (subst (λ (u : VolumeState). IfSome c.set.new.store.current (TellsCatalog u.catalog) → Holds c.stage_moved.new.volume) same c.stage_moved.ensures.holds)
+    stages_moved c.args.file h c.set_from.new.head ((2 * h.levels + 2) * h.bucket) 65 v c.stage_moved.new.volume c.set_from.new.store c.catalogs_stand_on_the_front.ensures (behind_front c.requires.sound.0 v.store.disk.size v.catalog c.args.file h c.files_lie_apart.ensures c.requires.whole c.requires.sound.1 c.requires.there)
+    (subst (λ (x : StoreState). StagesIn h ((2 * h.levels + 2) * h.bucket) x c.set_from.new.store) (c.store.ensures.value ∙ ap (λ (u : VolumeState). u.store) same) c.in_ok-set_from.ensures.staged) (omega (arith, few))
+    c.in_ok-set_from.ensures.file c.in_ok-set_from.ensures.form c.stage_moved.ensures.store
+    (subst (λ (u : VolumeState). c.stage_moved.new.volume.catalog ≡ record u.catalog { heads = slice_set u.catalog.heads c.args.file (Some c.set_from.new.head) }) same c.stage_moved.ensures.catalog)
+    (subst (λ (u : VolumeState). IfSome c.set_from.new.store.current (TellsCatalog u.catalog) → Holds c.stage_moved.new.volume) same c.stage_moved.ensures.holds)
 
 pub returns-clause-sets : goal.returns-clause-sets
 returns-clause-sets g c =
@@ -50,8 +52,16 @@ returns-clause-sets g c =
     let value = option_copied c.args.value in
     let notes = notes_in c.args.undo.now in
     λ a told form laid suits takes.
-    told_set c.args.file h c.set.new.head v.store c.set.new.store c.stage_moved.new.volume.store (head_below v.catalog.heads c.args.file h c.requires.whole c.requires.there) (behind_front c.requires.sound.0 v.store.disk.size v.catalog c.args.file h c.files_lie_apart.ensures c.requires.whole c.requires.sound.1 c.requires.there)
-    c.in_ok-set.ensures.file c.in_ok-set.ensures.form c.stage_moved.ensures.store notes key value a
-    (subst (λ (x : StoreState). SetIn h (holds c.args.file notes) key value x c.set.new.store c.set.new.head) (c.store.ensures.value ∙ ap (λ (u : VolumeState). u.store) c.blocks_are_whole.ensures.same)
-    (record { map = c.in_ok-set.ensures.map; valid = c.in_ok-set.ensures.valid; rooms = c.in_ok-set.ensures.rooms; chain = c.in_ok-set.ensures.chain; back = c.in_ok-set.ensures.back }))
+    told_set c.args.file h c.set_from.new.head v.store c.set_from.new.store c.stage_moved.new.volume.store (head_below v.catalog.heads c.args.file h c.requires.whole c.requires.there) (behind_front c.requires.sound.0 v.store.disk.size v.catalog c.args.file h c.files_lie_apart.ensures c.requires.whole c.requires.sound.1 c.requires.there)
+    c.in_ok-set_from.ensures.file c.in_ok-set_from.ensures.form c.stage_moved.ensures.store notes key value a
+    (subst (λ (x : StoreState). SetIn h (holds c.args.file notes) key value x c.set_from.new.store c.set_from.new.head) (c.store.ensures.value ∙ ap (λ (u : VolumeState). u.store) c.blocks_are_whole.ensures.same)
+    (record { map = c.in_ok-set_from.ensures.map; valid = c.in_ok-set_from.ensures.valid; rooms = c.in_ok-set_from.ensures.rooms; chain = c.in_ok-set_from.ensures.chain; back = c.in_ok-set_from.ensures.back }))
     (within_of h v.store a (placed c.requires.sound.0 v.catalog c.args.file h v.store.disk c.files_lie_apart.ensures c.requires.whole c.requires.sound.1 c.requires.most c.requires.there) told c.blocks_are_whole.ensures.whole c.blocks_are_whole.ensures.each) told laid takes
+
+pub set_from-requires-clause-begins : goal.set_from-requires-clause-begins
+set_from-requires-clause-begins g c =
+    let v = c.args.volume.now in
+    let h = c.args.head.now in
+    let same = c.store.ensures.value ∙ ap (λ (u : VolumeState). u.store) c.blocks_are_whole.ensures.same in
+    subst (λ (told : Option (List (List ℕ))). IfSome told (λ (a : List (List ℕ)). IsLaidOut h a → Begins h a (Some (key_of c.args.key.now)) c.args.place)) (sym (ap (λ (x : StoreState). x.current) same))
+    (formed_begins v.store.current h _ (c.is_formed.ensures.formed c.if-not-is_formed.false) c.requires.begins)
