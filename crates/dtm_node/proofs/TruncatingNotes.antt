@@ -9,7 +9,8 @@ use Rattle.seq_file.specs.Layout.{records_in}
 use Rattle.seq_file.specs.Records.{record_at}
 use Rattle.record_files.specs.Any as any
 use Rattle.record_files.specs.Any.{IsLaidOut, LaidOutBy, map_of, map_by}
-use Rattle.vms_model.specs.Keys.{Number}
+use Rattle.vms_model.specs.Keys.{Key, Number}
+use Rattle.change_set.specs.declared.walk.Place.{Place}
 use Rattle.directory_model.specs.Files.{Note, cut_notes}
 use Rattle.directory_model.specs.Laws.{ReadsFiles}
 
@@ -19,6 +20,11 @@ laid_out h c seq laid = subst (λ o. LaidOutBy o h c) seq laid
 
 pub records_long : (h : FileHead) (c : List (List ℕ)) → h.organization ≡ Sequential → IsLaidOut h c → length (records_in h c) ≡ h.count
 records_long h c seq laid = (laid_out h c seq laid).count
+
+-- a place at which the walk to each key may begin
+pub each_key : (told : Option (List (List ℕ))) (h : FileHead) (key : Option Key) (place : Place) → IfSome told (λ c. any.IsFile h → IsLaidOut h c → (k : Option Key) → any.Begins h c k place) → IfSome told (λ c. any.IsFile h → IsLaidOut h c → any.Begins h c key place)
+each_key None h key place each = tt
+each_key (Some c) h key place each = λ form laid. each form laid key
 
 -- What goes is noted, the last record first.
 

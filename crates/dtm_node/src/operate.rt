@@ -5,6 +5,7 @@ ghost use Rattle.block_disk.specs.Disk.{CallLog};
 ghost use Rattle.transcript.specs.Forms.{HasTime, line_of};
 ghost use Rattle.transcript_model.specs.Emitting.{Emits, Since};
 ghost use Rattle.transcript_model.specs.Lines.{Line, FileFull as said_full, RecordNormal as said_normal};
+ghost use Rattle.vms_model.specs.Keys as model;
 ghost use Rattle.vms_model.specs.Keys.{Number, Text};
 ghost use Rattle.vms_base.specs.Keys.{key_of};
 ghost use Rattle.script_model.specs.Statements as said;
@@ -12,7 +13,7 @@ ghost use Rattle.script_lang.specs.Statements.{key_in, operation_of};
 ghost use Rattle.file_base.specs.declared.head.Organization.TheVariants as organization;
 ghost use Rattle.change_set.specs.Files.{fell};
 ghost use Rattle.seq_file.specs.Layout.{records_in};
-ghost use Rattle.record_files.specs.Any.{IsFile, IsLaidOut, asks};
+ghost use Rattle.record_files.specs.Any.{Begins, IsFile, IsLaidOut, asks};
 ghost use Rattle.run_model.specs.World.{Node as NodeSaid, Shared as SharedSaid, find_branch, serial_labelled};
 ghost use Rattle.run_model.specs.Operations.{key_refused, refused_if, other_refused, key_within as within_said};
 ghost use Rattle.vms_model.specs.Ids.{Id as IdSaid};
@@ -30,10 +31,11 @@ use crate::law::the_laws;
 use crate::running::{Named, Running, record_if};
 use block_disk::Disk;
 use careful_write::Down;
+use change_set::Place;
 use file_base::{FileHead, Organization};
 use node_files::{
-    MOST_CHANGES, apply_staged, form_refusal, is_same_key, need_buckets, next_record, read_record,
-    stage_cut, stage_value,
+    MOST_CHANGES, apply_staged, find_record, form_refusal, is_same_key, need_buckets, next_record,
+    place_of, read_record, stage_cut, stage_value,
 };
 use script_lang::{KeyWord, Literals, Operation};
 use transcript::{Emit, Form, Quota};
@@ -415,13 +417,20 @@ impl<D: Disk> Running<D> {
         ensures operates { (number : Option ℕ) → IsPut head.organization head number bytes.now (key_of key.now) → Told result line_of (said.Put number bytes.now) file head (up_of self.old) (up_of self.new) }
     {
         the_laws();
-        match read_record(&mut self.volume, &head, key, &mut self.buffers.found) {
+        let mut place = Place::first();
+        match find_record(
+            &mut self.volume,
+            &head,
+            key,
+            &mut place,
+            &mut self.buffers.found,
+        ) {
             Err(down) => return Err(down),
             Ok(true) => return Ok(exists_form(&head)),
             Ok(false) => {}
         }
         self.buffers.value.set(bytes);
-        match self.change(file, head, key, KeyChange::Put) {
+        match self.change(file, head, key, KeyChange::Put, place) {
             Err(down) => Err(down),
             Ok(Some(form)) => Ok(form),
             Ok(None) => Ok(Form::RecordNormal),
@@ -452,7 +461,13 @@ impl<D: Disk> Running<D> {
         }
         let position = head.count + 1;
         self.buffers.value.set(bytes);
-        match self.change(file, head, &Key::Number(position), KeyChange::Put) {
+        match self.change(
+            file,
+            head,
+            &Key::Number(position),
+            KeyChange::Put,
+            Place::first(),
+        ) {
             Err(down) => Err(down),
             Ok(Some(form)) => Ok(form),
             Ok(None) => Ok(Form::RecordPosition(position)),
@@ -482,7 +497,14 @@ impl<D: Disk> Running<D> {
         ensures operates { Told result line_of (said.Update (key_of key.now) bytes.now) file head (up_of self.old) (up_of self.new) }
     {
         the_laws();
-        match read_record(&mut self.volume, &head, key, &mut self.buffers.found) {
+        let mut place = Place::first();
+        match find_record(
+            &mut self.volume,
+            &head,
+            key,
+            &mut place,
+            &mut self.buffers.found,
+        ) {
             Err(down) => return Err(down),
             Ok(false) => return Ok(Form::RecordNotFound),
             Ok(true) => {}
@@ -491,7 +513,7 @@ impl<D: Disk> Running<D> {
             return Ok(form);
         }
         self.buffers.value.set(bytes);
-        match self.change(file, head, key, KeyChange::Replace) {
+        match self.change(file, head, key, KeyChange::Replace, place) {
             Err(down) => Err(down),
             Ok(Some(form)) => Ok(form),
             Ok(None) => Ok(Form::RecordNormal),
@@ -515,19 +537,27 @@ impl<D: Disk> Running<D> {
         ensures operates { Told result line_of (said.Delete (key_of key.now)) file head (up_of self.old) (up_of self.new) }
     {
         the_laws();
-        match read_record(&mut self.volume, &head, key, &mut self.buffers.found) {
+        let mut place = Place::first();
+        match find_record(
+            &mut self.volume,
+            &head,
+            key,
+            &mut place,
+            &mut self.buffers.found,
+        ) {
             Err(down) => return Err(down),
             Ok(false) => return Ok(Form::RecordNotFound),
             Ok(true) => {}
         }
-        match self.change(file, head, key, KeyChange::Remove) {
+        match self.change(file, head, key, KeyChange::Remove, place) {
             Err(down) => Err(down),
             Ok(Some(form)) => Ok(form),
             Ok(None) => Ok(Form::RecordNormal),
         }
     }
 
-    // Changes the record of a key. What the key is to have is in `value`, and what it had in `found`, as far as the change has such a record.
+    // Changes the record of a key, to which a walk may begin at a place. What the key is to have is in `value`, and what it had in `found`,
+    // as far as the change has such a record.
     // Answers the refusal where the branch has made all its changes or too few buckets are free, and then nothing is changed.
     fn change(
         &mut self,
@@ -535,7 +565,9 @@ impl<D: Disk> Running<D> {
         head: FileHead,
         key: &Key,
         change: KeyChange,
+        place: Place,
     ) -> Result<Option<Form<'static>>, Down>
+        requires begins { IfSome self.old.volume.store.current (λ content. IsFile head → IsLaidOut head content → Begins head content (Some (key_of key.now)) place) }
         requires up { IsUp self.old.volume.catalog.home.node (up_of self.old) }
         requires whole { length self.old.volume.catalog.heads ≡ 64 }
         requires there { head_at self.old.volume.catalog.heads file ≡ Some head }
@@ -558,7 +590,7 @@ impl<D: Disk> Running<D> {
         match self.free_refusal(file, &head, change) {
             Err(down) => Err(down),
             Ok(Some(form)) => Ok(Some(form)),
-            Ok(None) => match self.set_key(file, head, key, change) {
+            Ok(None) => match self.set_key(file, head, key, change, place) {
                 Err(down) => Err(down),
                 Ok(()) => Ok(None),
             },
@@ -601,14 +633,16 @@ impl<D: Disk> Running<D> {
         }
     }
 
-    // Changes a key, and notes what it had.
+    // Changes a key, to which a walk begins at a place, and notes what it had.
     fn set_key(
         &mut self,
         file: u8,
         mut head: FileHead,
         key: &Key,
         change: KeyChange,
+        place: Place,
     ) -> Result<(), Down>
+        requires begins { IfSome self.old.volume.store.current (λ content. IsFile head → IsLaidOut head content → Begins head content (Some (key_of key.now)) place) }
         requires up { IsUp self.old.volume.catalog.home.node (up_of self.old) }
         requires whole { length self.old.volume.catalog.heads ≡ 64 }
         requires there { head_at self.old.volume.catalog.heads file ≡ Some head }
@@ -631,6 +665,7 @@ impl<D: Disk> Running<D> {
             key,
             change.after(&self.buffers.value),
             &self.buffers.undo,
+            place,
         )?;
         apply_staged(&mut self.volume)?;
         self.buffers
@@ -668,11 +703,11 @@ impl<D: Disk> Running<D> {
         if self.buffers.undo.len() + removed > MOST_CHANGES {
             return Ok(Form::QuotaExceeded(Quota::Changes, MOST_CHANGES as u64));
         }
-        match self.note_from(file, &head, position) {
+        let place = match self.note_from(file, &head, position) {
             Err(down) => return Err(down),
-            Ok(()) => {}
-        }
-        match stage_cut(&mut self.volume, file, &mut head, position) {
+            Ok(place) => place,
+        };
+        match stage_cut(&mut self.volume, file, &mut head, position, place) {
             Err(down) => return Err(down),
             Ok(()) => {}
         }
@@ -682,8 +717,8 @@ impl<D: Disk> Running<D> {
         }
     }
 
-    // Notes the records of a sequential file from a position on, the last one first.
-    fn note_from(&mut self, file: u8, head: &FileHead, position: u32) -> Result<(), Down>
+    // Notes the records of a sequential file from a position on, and answers the place at which a walk to that may begin.
+    fn note_from(&mut self, file: u8, head: &FileHead, position: u32) -> Result<Place, Down>
         requires up { IsUp self.old.volume.catalog.home.node (up_of self.old) }
         requires whole { length self.old.volume.catalog.heads ≡ 64 }
         requires there { head_at self.old.volume.catalog.heads file ≡ Some head.now }
@@ -700,11 +735,56 @@ impl<D: Disk> Running<D> {
         ensures down { OnErr result (self.new.volume ≡ record self.old.volume { store = fell result self.old.volume.store }) }
         ensures drawn { self.new.drawn ≡ self.old.drawn }
         ensures branch { self.new.branch ≡ self.old.branch }
+        ensures begins { IfOk result (λ place. IfSome self.old.volume.store.current (λ content. IsFile head.now → IsLaidOut head.now content → Begins head.now content (Some (Number position)) place)) }
+    {
+        the_laws();
+        let place = match place_of(&mut self.volume, head, position, &mut self.buffers.found) {
+            Err(down) => return Err(down),
+            Ok(place) => place,
+        };
+        match self.note_behind(file, head, position, place) {
+            Err(down) => Err(down),
+            Ok(()) => Ok(place),
+        }
+    }
+
+    // Notes the records of a sequential file from a position on, the last one first. A walk to each begins at a place.
+    fn note_behind(
+        &mut self,
+        file: u8,
+        head: &FileHead,
+        position: u32,
+        place: Place,
+    ) -> Result<(), Down>
+        requires up { IsUp self.old.volume.catalog.home.node (up_of self.old) }
+        requires whole { length self.old.volume.catalog.heads ≡ 64 }
+        requires there { head_at self.old.volume.catalog.heads file ≡ Some head.now }
+        requires branch { IsSome (up_of self.old).branch }
+        requires sequential { head.now.organization ≡ organization.Sequential }
+        requires first { 1 ≤ position }
+        requires last { position ≤ head.now.count }
+        requires begins { IfSome self.old.volume.store.current (λ content. IsFile head.now → IsLaidOut head.now content → (key : Option model.Key) → Begins head.now content key place) }
+        requires room { length (notes_in self.old.buffers.undo) + (head.now.count + 1 - position) ≤ 16 }
+        ensures own { OnOk result (AreOwn (notes_in self.old.buffers.undo) self.old.volume.catalog.heads → AreOwn (notes_in self.new.buffers.undo) self.old.volume.catalog.heads) }
+        ensures long { OnOk result (length (notes_in self.new.buffers.undo) ≡ length (notes_in self.old.buffers.undo) + (head.now.count + 1 - position)) }
+        ensures notes { OnOk result (IfSome self.old.volume.store.current (λ content. IsFile head.now → IsLaidOut head.now content →
+            notes_in self.new.buffers.undo ≡ cut_notes file position (drop (position - 1) (records_in head.now content)) ++ notes_in self.old.buffers.undo)) }
+        ensures same { OnOk result (self.new.volume ≡ self.old.volume) }
+        ensures down { OnErr result (self.new.volume ≡ record self.old.volume { store = fell result self.old.volume.store }) }
+        ensures drawn { self.new.drawn ≡ self.old.drawn }
+        ensures branch { self.new.branch ≡ self.old.branch }
     {
         the_laws();
         for behind in 0..head.count - position + 1 {
             let key = Key::Number(head.count - behind);
-            match read_record(&mut self.volume, head, &key, &mut self.buffers.found) {
+            let mut from = place;
+            match find_record(
+                &mut self.volume,
+                head,
+                &key,
+                &mut from,
+                &mut self.buffers.found,
+            ) {
                 Err(down) => return Err(down),
                 Ok(there) => {
                     self.buffers

@@ -1,9 +1,13 @@
-use Rattle.std.proofs.Common.{◌+◌, None, sym, ap, arith}
+use Rattle.std.proofs.Common.{◌+◌, Some, None, IfSome, sym, ap, subst, arith}
 use Rattle.transcript.specs.declared.form.Form.{Form}
 use Rattle.transcript.specs.declared.form.Form.TheVariants as form
 use Rattle.transcript.specs.Forms.{line_of}
 use Rattle.transcript_model.specs.Lines as line
 use Rattle.script_model.specs.Statements.{Put}
+use Rattle.change_set.specs.declared.walk.Place.{Place}
+use Rattle.record_files.specs.Any.{Begins, IsFile, IsLaidOut}
+use Rattle.vms_model.specs.Keys.{Number}
+use Rattle.dtm_node.proofs.Dumping.{begins_anew}
 use Rattle.dtm_node.specs.Keeping.{up_of}
 use Rattle.dtm_node.specs.Operating.{line_or}
 use Rattle.node_files.proofs.CatalogLemmas.{placed, fits_at}
@@ -45,3 +49,10 @@ returns-in-Ok-None-clause-operates g c =
     let set = c.change.ensures.operates in
     let told = set (Put None c.args.bytes.now) (line.RecordPosition (c.args.head.count + 1)) (append_so c.the_laws.ensures old.volume.store.current c.args.head c.args.bytes.now c.set.new.self c.set.ensures c.requires.sequential) in
     told_ok c.change.result c.in-Ok-None.field-0 (line_or (line.RecordPosition (c.args.head.count + 1))) (form.RecordPosition (c.args.head.count + 1)) line_of (Put None c.args.bytes.now) c.args.file c.args.head (up_of old) (up_of c.change.new.self) c.in-Ok-None.is (sym (ap (line_or (line.RecordPosition (c.args.head.count + 1))) c.in-Ok-None.field-0-is)) told
+
+pub change-requires-clause-begins : goal.change-requires-clause-begins
+change-requires-clause-begins g c =
+    let told = c.args.self.now.volume.store.current in
+    let head = c.args.head in
+    let key = Number (c.args.head.count + 1) in
+    subst (λ (p : Place). IfSome told (λ content. IsFile head → IsLaidOut head content → Begins head content (Some key) p)) (sym c.first.ensures) (begins_anew told head (Some key))

@@ -1,10 +1,12 @@
-use Rattle.std.proofs.Common.{Option, None, Result, Err, refl, ap, arith}
+use Rattle.std.proofs.Common.{Option, Some, None, IfSome, Result, Err, refl, sym, ap, subst, arith}
 use Rattle.careful_write.specs.declared.down.Down.{Down}
 use Rattle.vms_base.specs.Keys.{key_of}
 use Rattle.transcript.specs.declared.form.Form.{Form}
 use Rattle.transcript.specs.declared.form.Form.TheVariants as form
 use Rattle.transcript.specs.declared.form.Quota.TheVariants as quota
+use Rattle.record_files.specs.Any.{Begins, IsFile, IsLaidOut}
 use Rattle.dtm_node.specs.Keeping.{up_of}
+use Rattle.dtm_node.specs.Standing.{Up}
 use Rattle.node_files.specs.Notes.{notes_in}
 use Rattle.dtm_node.specs.Operating.{asks_free, line_or, wants}
 use Rattle.dtm_node.proofs.Setting.{notes_up}
@@ -42,3 +44,8 @@ returns-in-Ok-clause-operates g c = λ op answer so.
     told_ok c.set_key.result c.in-Ok.field-0 (λ x. answer) (let o : Option Form = None in o) (line_or answer) op c.args.file c.args.head (up_of old) (up_of c.set_key.new.self) c.in-Ok.is refl
     (free_told c.args.file c.args.head (up_of old) (notes_in old.buffers.undo) c.the_laws.ensures op answer (key_of c.args.key.now) _ _ (λ content. wants (asks_free c.args.change c.args.head.organization) c.args.head content old.buffers.value) so (notes_up old.branch (notes_in old.buffers.undo))
     c.in-Ok-None.field-0 c.set_key.result (up_of c.set_key.new.self) c.in-Ok-None.field-0-is c.in-Ok-None.ensures.free (λ n free so. set op answer n free so))
+
+pub set_key-requires-clause-begins : goal.set_key-requires-clause-begins
+set_key-requires-clause-begins g c =
+    let head = c.args.head in
+    subst (λ (u : Up). IfSome u.volume.store.current (λ content. IsFile head → IsLaidOut head content → Begins head content (Some (key_of c.args.key.now)) c.args.place)) (sym (ap up_of c.in-Ok-None.ensures.same)) c.requires.begins

@@ -1,8 +1,11 @@
-use Rattle.std.proofs.Common.{◌≡◌, ◌-◌, ◌≤◌, IfSome, Result, Err, length, drop, refl, ap, sym, subst, ◌∙◌, arith}
+use Rattle.std.proofs.Common.{◌≡◌, ◌-◌, ◌≤◌, Some, IfSome, Result, Err, length, drop, refl, ap, sym, subst, ◌∙◌, arith}
 use Rattle.std.specs.Prelude.{option_map}
 use Rattle.careful_write.specs.declared.down.Down.{Down}
 use Rattle.change_set.specs.Files.{fell}
+use Rattle.change_set.specs.declared.walk.Place.{Place}
 use Rattle.seq_file.specs.Layout.{records_in}
+use Rattle.record_files.specs.Any.{Begins, IsFile, IsLaidOut}
+use Rattle.vms_model.specs.Keys.{Number}
 use Rattle.volume.specs.State.{VolumeState}
 use Rattle.transcript.specs.Forms.{line_of}
 use Rattle.transcript.specs.declared.form.Form.{Form}
@@ -37,7 +40,7 @@ returns-then-len-removed-gt-MOST_CHANGES-clause-operates g c =
 
 pub returns-in-Err-clause-operates : goal.returns-in-Err-clause-operates
 returns-in-Err-clause-operates g c =
-    unread_told Form (let r : Result (Unit {0}) Down = Err c.in-Err.down in r) c.in-Err.down line_of (Truncate c.args.position) c.args.file c.args.head (up_of c.args.self.now)
+    unread_told Form (let r : Result Place Down = Err c.in-Err.down in r) c.in-Err.down line_of (Truncate c.args.position) c.args.file c.args.head (up_of c.args.self.now)
     (let u : Up = record (up_of c.args.self.now) { volume = c.note_from.new.self.volume } in u) c.the_laws.ensures c.requires.up refl c.in-Err.ensures.down
 
 pub returns-in-Err-stage_cut-clause-operates : goal.returns-in-Err-stage_cut-clause-operates
@@ -81,3 +84,8 @@ returns-in-Ok-apply_staged-clause-operates g c =
     (λ b content at told is laid. ap (option_map noted) c.note_from.ensures.branch
     ∙ branch_up old.branch (notes_in old.buffers.undo) (cut_notes c.args.file c.args.position (drop (c.args.position - 1) (records_in c.args.head content))) more b at
     (told_so (NotedFrom c.args.file c.args.head c.args.position (notes_in old.buffers.undo) more) old.volume.store.current content told c.in-Ok.ensures.notes is laid))
+
+pub stage_cut-requires-clause-begins : goal.stage_cut-requires-clause-begins
+stage_cut-requires-clause-begins g c =
+    let head = c.args.head in
+    subst (λ (v : VolumeState). IfSome v.store.current (λ content. IsFile head → IsLaidOut head content → Begins head content (Some (Number c.args.position)) c.in-Ok.place)) (sym c.in-Ok.ensures.same) c.in-Ok.ensures.begins

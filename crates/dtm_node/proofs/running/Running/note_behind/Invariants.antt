@@ -3,7 +3,7 @@ use Rattle.seq_file.specs.Layout.{records_in}
 use Rattle.record_files.specs.Any.{IsFile, IsLaidOut}
 use Rattle.directory_model.specs.Files.{AreOwn, cut_notes}
 use Rattle.node_files.specs.Notes.{notes_in}
-use Rattle.dtm_node.proofs.running.Running.note_from.Given as goal
+use Rattle.dtm_node.proofs.running.Running.note_behind.Given as goal
 
 abbrev pub invariant-loop-behind : goal.invariant-loop-behind
 invariant-loop-behind g l = record {
