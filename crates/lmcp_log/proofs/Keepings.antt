@@ -209,7 +209,7 @@ keeps_beside ss c d k same = record { blocks = λ i lt. (let P : List ℕ → Ty
 
 -- zeros keep free slots
 
-free_at : (n i : ℕ) → slot_at (replicate n None) i ≡ None
+pub free_at : (n i : ℕ) → slot_at (replicate n None) i ≡ None
 free_at zero i = refl
 free_at (suc n) zero = refl
 free_at (suc n) (suc i) = free_at n i

@@ -6,3 +6,4 @@ pub mod Reading
 pub mod Stores
 pub mod Apart
 pub mod Keepings
+pub mod Whole

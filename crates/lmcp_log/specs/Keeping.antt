@@ -6,7 +6,7 @@ use Rattle.commit_protocol.specs.Table.{record_serials}
 use Rattle.commit_protocol.specs.Agreement.{Distinct}
 use Rattle.log_laws.specs.Slots.{Slots, records_in}
 use Rattle.lmcp_log.specs.Slot.{slot_block, IsRecord}
-use Rattle.lmcp_log.specs.Log.{slot_at, block_of_slot, IsReading}
+use Rattle.lmcp_log.specs.Log.{slot_at, block_of_slot, block_of, IsReading}
 
 -- a block has this record, or that of none
 abbrev pub Has : Option LogRecord → List ℕ → Type 0
@@ -17,6 +17,10 @@ Has (Some r) block = IsRecord r × (slot_block r ≡ block)
 pub record Keeps (ss : Slots) (c : List (List ℕ)) : Type 0 where
   pub blocks : (i : ℕ) → i < length ss → Has (slot_at ss i) (block_of_slot c i)
   pub distinct : Distinct (record_serials (records_in ss))
+
+-- And no other bytes stand in them, as on a valid volume: a free slot is all zeros.
+abbrev pub IsWhole : Slots → List (List ℕ) → Type 0
+IsWhole ss c = (i : ℕ) → i < length ss → block_of_slot c i ≡ block_of (slot_at ss i)
 
 -- no two of so many slots have records of one serial
 abbrev pub AreApart : ℕ → List (List ℕ) → Type 0
