@@ -4,7 +4,8 @@ ghost use Rattle.block_disk.specs.Counts.{counted, is_err};
 
 use crate::{Failed, Platter};
 use std::fs::File;
-use std::io::{self, Read, Seek, SeekFrom, Write};
+use std::io;
+use std::os::unix::fs::FileExt;
 
 /// The blocks of a file, one after the other from its first byte on.
 ///
@@ -65,13 +66,13 @@ impl Platter for FilePlatter {
     }
 
     fn read(&mut self, n: u32, out: &mut [u8; 512]) -> Result<(), Failed> {
-        let outcome = read_block(&mut self.file, n, out);
+        let outcome = read_block(&self.file, n, out);
         self.note_error(outcome)
     }
 
     fn write(&mut self, n: u32, bytes: &[u8; 512]) -> Result<(), Failed> {
         self.synced = false;
-        let outcome = write_block(&mut self.file, n, bytes);
+        let outcome = write_block(&self.file, n, bytes);
         self.note_error(outcome)
     }
 
@@ -83,12 +84,10 @@ impl Platter for FilePlatter {
     }
 }
 
-fn read_block(file: &mut File, n: u32, out: &mut [u8; 512]) -> io::Result<()> {
-    file.seek(SeekFrom::Start(512 * u64::from(n)))?;
-    file.read_exact(out)
+fn read_block(file: &File, n: u32, out: &mut [u8; 512]) -> io::Result<()> {
+    file.read_exact_at(out, 512 * u64::from(n))
 }
 
-fn write_block(file: &mut File, n: u32, bytes: &[u8; 512]) -> io::Result<()> {
-    file.seek(SeekFrom::Start(512 * u64::from(n)))?;
-    file.write_all(bytes)
+fn write_block(file: &File, n: u32, bytes: &[u8; 512]) -> io::Result<()> {
+    file.write_all_at(bytes, 512 * u64::from(n))
 }
