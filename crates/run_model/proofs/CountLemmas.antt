@@ -1,26 +1,27 @@
 -- Steps in which no count of a disk rises, and that a transcript of such steps is determined.
-use Rattle.std.proofs.Common.{◌≡◌, ℕ, ◌+◌, ◌<◌, ◌^◌, ◌⊎◌, List, [], ◌∷◌, ◌++◌, map, Bool, true, false, Option, Some, None, if◌then◌else◌, refl, sym, ◌∙◌, ap, subst, arith, append-nil, inl, inr}
+use Rattle.std.proofs.Common.{◌≡◌, ℕ, ◌+◌, ◌<◌, ◌^◌, ◌⊎◌, List, [], ◌∷◌, ◌++◌, map, Bool, true, false, Option, Some, None, if◌then◌else◌, refl, sym, ◌∙◌, ap, subst, arith, append_assoc, inl, inr}
 use Rattle.std.specs.Prelude.{not}
 use Rattle.std.specs.Str.{bytes_eq}
 use Rattle.vms_model.specs.Transactions.{Outcome, Commit, Abort, Reason}
+use Rattle.unit_laws.specs.Journal.{RecoveryUnit}
 use Rattle.transcript_model.specs.Outside.{Rose}
 use Rattle.transcript_model.specs.Lines as line
 use Rattle.transcript_model.specs.Lines.{Line, Cause, Failed, Stopped, NoMemory}
 use Rattle.script_model.specs.Statements.{Statement, At, Request, Boot, Reading, Blank, Says, Bad}
 use Rattle.transcript_model.specs.Script.{ScriptLine}
 use Rattle.script_model.specs.Grammar.{reading}
-use Rattle.run_model.specs.World.{World, Node, Settlement, DiskCounts, Act, Boots, Power, opened, disk_of, find_node, with_node, acted, powered}
-use Rattle.run_model.specs.Answers.{Row, bootable, last_line, last_lines, powers, spoils, takes_memory}
+use Rattle.run_model.specs.World.{World, Node, Settlement, DiskCounts, Act, Boots, ComesUp, Power, opened, disk_of, find_node, with_node, acted, powered}
+use Rattle.run_model.specs.Answers.{Row, bootable, last_line, last_lines, left_active, silent, undoes, powers, spoils, takes_memory}
 use Rattle.run_model.specs.Steps as task
-use Rattle.run_model.specs.Steps.{Choice, Cut, Unpowered, Whole, WithoutMemory, count_of, ready_node, spoilt}
+use Rattle.run_model.specs.Steps.{Choice, Cut, Unpowered, Whole, WithoutMemory, count_of, lines_of_rows, ready_node, spoilt}
 use Rattle.run_model.specs.Statements.{put_into, NoneFalls, RoseAt, node_of, request_of, stops_at}
 use Rattle.run_model.specs.Laws as laws
 use Rattle.run_model.specs.Laws.{AreOpening, CanRise, EndsWhole, IsDetermined, SuccessIsGiven, lacked_memory, may_lack_memory, refused_first, refused_then, succeeds}
+use Rattle.run_model.specs.Running.{Each}
 use Rattle.run_model.proofs.ReadyLemmas.{powered_is, resolved}
 use Rattle.run_model.proofs.Ways.{Allowed, Effect, after_act, after_rows, begun, effect, refused, rows, succeeded, whole, readied}
 use Rattle.run_model.proofs.WorldLemmas.{IsAs, is_ready, readied_is, success_in, turns}
 use Rattle.run_model.specs.Transcript.{Entry, Legal, Turn}
-use Rattle.run_model.proofs.IdLemmas.{Each}
 use Rattle.run_model.proofs.StepLemmas.{none_falls_same, none_falls_on}
 use Rattle.run_model.proofs.FindLemmas.{each_with_node}
 use Rattle.run_model.proofs.AnswerLemmas.{says_bootable, served, late_found, rows_found, answer_found}
@@ -212,23 +213,27 @@ other_first : (l : Line) (ls : List Line) → is_other l ≡ true → lacked_mem
 other_first NoMemory ls h = let none : ⊥ = cc in absurd none
 other_first l ls h = refl
 
-last_not_memory : (o : Option Settlement) (n : ℕ) → lacked_memory ((elim o [ Some s ↦ last_line s | None ↦ [] ]) ++ line.NormalCount n ∷ []) ≡ false
-last_not_memory None n = refl
-last_not_memory (Some s) n = go s.outcome s.reason
+last_then : (o : Option Settlement) (ls : List Line) → lacked_memory ls ≡ false → lacked_memory ((elim o [ Some s ↦ last_line s | None ↦ [] ]) ++ ls) ≡ false
+last_then None ls h = h
+last_then (Some s) ls h = go s.outcome s.reason
   where
-    go : (o : Outcome) (r : Option Reason) → lacked_memory ((elim o [ Commit ↦ line.LastCommitted s.tid s.serial s.moment ∷ [] | Abort ↦ elim r [ Some reason ↦ line.LastAborted s.tid s.serial reason s.moment ∷ [] | None ↦ [] ] ]) ++ line.NormalCount n ∷ []) ≡ false
+    go : (o : Outcome) (r : Option Reason) → lacked_memory ((elim o [ Commit ↦ line.LastCommitted s.tid s.serial s.moment ∷ [] | Abort ↦ elim r [ Some reason ↦ line.LastAborted s.tid s.serial reason s.moment ∷ [] | None ↦ [] ] ]) ++ ls) ≡ false
     go Commit r = refl
     go Abort (Some reason) = refl
-    go Abort None = refl
+    go Abort None = h
+
+-- nor does a restart that undoes units
+undoes_then : (n : Node) (us : List RecoveryUnit) (count : ℕ) → lacked_memory (lines_of_rows (undoes n us ++ silent ComesUp ∷ []) ++ line.NormalCount count ∷ []) ≡ false
+undoes_then n [] count = refl
+undoes_then n (u ∷ us) count = refl
 
 boot_begun : (w : World) (node : List ℕ) (n : Node) (b : Option Line) → find_node node w.nodes ≡ Some n → bootable n ≡ b → lacked_memory (begun w (At node Boot) b).lines ≡ false
-boot_begun w node n (Some refusal) found is = other_first refusal [] ((says_bootable is_other n refl refl (λ condition block. refl)).says refusal is)
+boot_begun w node n (Some refusal) found is = other_first refusal [] ((says_bootable is_other n refl refl refl (λ condition block. refl)).says refusal is)
 boot_begun w node n None found is =
-    let shown : (succeeded w (At node Boot)).lines ≡ (last_lines n ++ []) ++ line.NormalCount (n.boot + 1) ∷ [] = rw (rows_found w node Boot n found, answer_found w node Boot n found) refl in
-    ap lacked_memory shown ∙ plain n.last (n.boot + 1)
-  where
-    plain : (o : Option Settlement) (k : ℕ) → lacked_memory (((elim o [ Some s ↦ last_line s | None ↦ [] ]) ++ []) ++ line.NormalCount k ∷ []) ≡ false
-    plain o k = subst (λ xs. lacked_memory (xs ++ line.NormalCount k ∷ []) ≡ false) (sym (append-nil (elim o [ Some s ↦ last_line s | None ↦ [] ]))) (last_not_memory o k)
+    let more = lines_of_rows (undoes (acted Boots n) (left_active n) ++ silent ComesUp ∷ []) in
+    let answered = line.NormalCount (n.durable.boot + 1) ∷ [] in
+    let shown : (succeeded w (At node Boot)).lines ≡ (last_lines n ++ more) ++ answered = rw (rows_found w node Boot n found, answer_found w node Boot n found) refl in
+    ap lacked_memory (shown ∙ append_assoc (last_lines n) more answered) ∙ last_then n.durable.last (more ++ answered) (undoes_then (acted Boots n) (left_active n) (n.durable.boot + 1))
 
 boot_has_memory : (w : World) (node : List ℕ) (taken : Bool) → refused_first w (At node Boot) ≡ None → lacked_memory (effect w (At node Boot) (Whole taken)).lines ≡ false
 boot_has_memory w node taken e =
@@ -237,10 +242,10 @@ boot_has_memory w node taken e =
     let n = ready_node taken (stops_at node w) Boot ready.n in
     ap (λ o. lacked_memory (whole w v (At node Boot) o).lines) e ∙ ap (λ o. lacked_memory (begun v (At node Boot) o).lines) (late_found v node Boot n ready.ready) ∙ boot_begun v node n (bootable n) ready.ready refl
 
-only_boot : (w : World) (node : List ℕ) (request : Request) (n : Node) → find_node node w.nodes ≡ Some n → may_lack_memory w (At node request) ≡ true → takes_memory w.shared n request ≡ true
+only_boot : (w : World) (node : List ℕ) (request : Request) (n : Node) → find_node node w.nodes ≡ Some n → may_lack_memory w (At node request) ≡ true → takes_memory n request ≡ true
 only_boot w node request n found m = sym (rw (found, may_lack_memory) refl) ∙ m
 
-has_memory : (w : World) (node : List ℕ) (request : Request) (n : Node) (taken : Bool) → refused_first w (At node request) ≡ None → takes_memory w.shared n request ≡ true → lacked_memory (effect w (At node request) (Whole taken)).lines ≡ false
+has_memory : (w : World) (node : List ℕ) (request : Request) (n : Node) (taken : Bool) → refused_first w (At node request) ≡ None → takes_memory n request ≡ true → lacked_memory (effect w (At node request) (Whole taken)).lines ≡ false
 has_memory w node Boot n taken e m = boot_has_memory w node taken e
 has_memory w node _ n taken e m = let none : ⊥ = cc in absurd none
 

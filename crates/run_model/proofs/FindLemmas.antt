@@ -7,10 +7,11 @@ use Rattle.std.proofs.lemmas.Bool.{both_ways}
 use Rattle.std.proofs.lemmas.Slice.Eq.{bytes_eq-Decides}
 use Rattle.vms_model.specs.Ids.{Id}
 use Rattle.records_model.specs.History.{same_id}
-use Rattle.run_model.specs.World.{World, Node, File, Branch, find_node, find_file, find_branch, free_place, serial_labelled, with_node, with_file}
+use Rattle.commit_protocol.specs.Table.{Branch}
+use Rattle.run_model.specs.World.{World, Node, File, find_node, find_file, find_branch, free_place, serial_labelled, with_node, with_file}
 use Rattle.run_model.specs.Answers.{branch_labelled}
-use Rattle.run_model.proofs.IdLemmas.{Each, id_is}
-use Rattle.run_model.proofs.Soundness.{EachFile}
+use Rattle.run_model.specs.Running.{Each}
+use Rattle.run_model.proofs.IdLemmas.{id_is}
 
 -- texts test alike either way round
 pub either_way : (xs ys : List ℕ) → bytes_eq xs ys ≡ bytes_eq ys xs
@@ -76,6 +77,12 @@ pub some_is : {A : Type 0} (x y : A) → Some x ≡ Some y → x ≡ y
 some_is x y e = cc
 
 -- Files.
+
+-- all files of a directory are so
+abbrev pub EachFile : (File → Type 0) → List (Option File) → Type 0
+EachFile P [] = Unit {0}
+EachFile P (None ∷ fs) = EachFile P fs
+EachFile P (Some f ∷ fs) = P f × EachFile P fs
 
 pub found_file_each : (P : File → Type 0) (file : List ℕ) (files : List (Option File)) (f : File) → EachFile P files → find_file file files ≡ Some f → P f
 found_file_each P file [] f h e = let none : ⊥ = cc in absurd none
@@ -152,18 +159,18 @@ placed_file file f (Some g ∷ files) place free none = at (free_place files) re
 
 -- Branches.
 
-found_serial : (serial : Id) (bs : List Branch) (b : Branch) → find_branch serial bs ≡ Some b → serial ≡ b.serial
+pub found_serial : (serial : Id) (bs : List Branch) (b : Branch) → find_branch serial bs ≡ Some b → serial ≡ b.key.serial
 found_serial serial [] b e = let none : ⊥ = cc in absurd none
-found_serial serial (a ∷ bs) b e = go (same_id serial a.serial) refl (found_serial serial bs b) e
+found_serial serial (a ∷ bs) b e = go (same_id serial a.key.serial) refl (found_serial serial bs b) e
   where
-    go : (t : Bool) → same_id serial a.serial ≡ t → (find_branch serial bs ≡ Some b → serial ≡ b.serial) → ◌≡◌ {A = Option Branch} (if t then Some a else find_branch serial bs) (Some b) → serial ≡ b.serial
-    go true is more k = let same : a ≡ b = cc in id_is serial a.serial is ∙ ap (λ x. x.serial) same
+    go : (t : Bool) → same_id serial a.key.serial ≡ t → (find_branch serial bs ≡ Some b → serial ≡ b.key.serial) → ◌≡◌ {A = Option Branch} (if t then Some a else find_branch serial bs) (Some b) → serial ≡ b.key.serial
+    go true is more k = let same : a ≡ b = cc in id_is serial a.key.serial is ∙ ap (λ (x : Branch). x.key.serial) same
     go false is more k = more k
 
 -- a label names the branch that it is found to name
-pub labelled_serial : (w : World) (n : Node) (label : List ℕ) (b : Branch) → branch_labelled w.shared n label ≡ Some b → serial_labelled n.name label w.shared.labels ≡ Some b.serial
+pub labelled_serial : (w : World) (n : Node) (label : List ℕ) (b : Branch) → branch_labelled w.shared n label ≡ Some b → serial_labelled n.name label w.shared.labels ≡ Some b.key.serial
 labelled_serial w n label b e = go (serial_labelled n.name label w.shared.labels) refl e
   where
-    go : (o : Option Id) → serial_labelled n.name label w.shared.labels ≡ o → option_and_then (λ serial. find_branch serial n.branches) o ≡ Some b → serial_labelled n.name label w.shared.labels ≡ Some b.serial
-    go (Some serial) is k = is ∙ ap Some (found_serial serial n.branches b k)
+    go : (o : Option Id) → serial_labelled n.name label w.shared.labels ≡ o → option_and_then (λ serial. find_branch serial n.volatile.branches) o ≡ Some b → serial_labelled n.name label w.shared.labels ≡ Some b.key.serial
+    go (Some serial) is k = is ∙ ap Some (found_serial serial n.volatile.branches b k)
     go None is k = let none : ⊥ = cc in absurd none

@@ -1,11 +1,15 @@
 -- A history and the changes of one branch in it: one more change, and the settlement of a branch.
-use Rattle.std.proofs.Common.{◌≡◌, ℕ, List, [], ◌∷◌, ◌++◌, Bool, true, false, if◌then◌else◌, refl, sym, ◌∙◌, ap}
+use Rattle.std.proofs.Common.{◌≡◌, ℕ, List, [], ◌∷◌, ◌++◌, map, Bool, true, false, if◌then◌else◌, refl, sym, ◌∙◌, ap}
 use Rattle.vms_model.specs.Ids.{Id}
 use Rattle.vms_model.specs.Transactions.{Outcome, Commit, Abort}
 use Rattle.records_model.specs.Records.{Records, Change, set_key, applied}
 use Rattle.records_model.specs.History.{History, LiveChanges, same_id, changes_by, with_change, with_changes, without, records, settled_at, settled_with}
-use Rattle.run_model.proofs.IdLemmas.{id_is, Apart}
-use Rattle.run_model.proofs.Soundness.{serials_in}
+use Rattle.run_model.specs.Running.{Apart}
+use Rattle.run_model.proofs.IdLemmas.{id_is}
+
+-- the branches of changes
+abbrev pub serials_in : List LiveChanges → List Id
+serials_in ls = map (λ l. l.serial) ls
 
 -- ids that are the same test alike
 pub same_as : (a b c : Id) → same_id b c ≡ true → same_id a b ≡ same_id a c

@@ -5,11 +5,7 @@ use Rattle.std.proofs.lemmas.Slice.Eq.{bytes_eq-Decides}
 use Rattle.vms_model.specs.Ids.{Id}
 use Rattle.records_model.specs.History.{same_id}
 use Rattle.run_model.specs.Promises.{In}
-
--- all of these are so
-abbrev pub Each : {A : Type 0} → (A → Type 0) → List A → Type 0
-Each P [] = Unit {0}
-Each P (x ∷ xs) = P x × Each P xs
+use Rattle.run_model.specs.Running.{Apart, Distinct, Each}
 
 pub each_as : {A : Type 0} (P Q : A → Type 0) (xs : List A) → ((x : A) → P x → Q x) → Each P xs → Each Q xs
 each_as P Q [] f h = tt
@@ -50,14 +46,6 @@ id_itself a = and_from _ _ (and_from _ _ ((bytes_eq-Decides a.node a.node).1 ref
 
 pub id_other : (a b : Id) → same_id a b ≡ false → same_id b a ≡ false
 id_other a b h = false_from_ne_true _ (λ e. both_ways _ h (subst (λ x. same_id x b ≡ true) (id_is b a e) (id_itself b)))
-
--- an id that is none of these, and ids that are all different
-abbrev pub Apart : Id → List Id → Type 0
-Apart x ys = Each (λ y. same_id x y ≡ false) ys
-
-abbrev pub Distinct : List Id → Type 0
-Distinct [] = Unit {0}
-Distinct (x ∷ xs) = Apart x xs × Distinct xs
 
 pub distinct_push : (x : Id) (xs : List Id) → Distinct xs → Each (λ y. same_id y x ≡ false) xs → Distinct (xs ++ x ∷ [])
 distinct_push x [] h k = (tt, tt)

@@ -1,233 +1,181 @@
--- What every act keeps, every statement keeps: one induction over the rows of a statement, whatever the statement.
-use Rattle.std.proofs.Common.{◌≡◌, ℕ, List, [], ◌∷◌, take, drop, zero, suc, Bool, true, false, ◌||◌, Option, Some, None, if◌then◌else◌, refl, sym, ◌∙◌, ap, subst, inr}
+-- The disk of each node has what a restart needs in each world of a legal transcript.
+use Rattle.std.proofs.Common.{◌≡◌, ℕ, suc, ◌+◌, List, [], ◌∷◌, Bool, true, false, Option, Some, None, if◌then◌else◌, refl, sym, ◌∙◌, ap, subst}
+use Rattle.std.specs.Prelude.{slice_index_or}
 use Rattle.std.specs.Str.{bytes_eq}
-use Rattle.std.proofs.lemmas.Bool.{or_parts}
+use Rattle.std.proofs.lemmas.Bool.{both_ways, cond_both}
+use Rattle.std.proofs.lemmas.Slice.Eq.{bytes_eq-Decides}
+use Rattle.vms_model.specs.Ids.{Id}
 use Rattle.transcript_model.specs.Lines.{Line, Cause}
-use Rattle.script_model.specs.Statements.{Statement, At, Request}
-use Rattle.run_model.specs.World.{World, DiskCounts, Node, Settlement, Act, Settles, is_durable, find_node, acted, powered, unpowered, fallen, with_node}
-use Rattle.run_model.specs.Answers.{Row, occupies, powers, spoils}
-use Rattle.run_model.specs.Steps.{Choice, Cut, Unpowered, Whole, WithoutMemory, act_begun, durable, rows_if, spoilt}
-use Rattle.run_model.specs.Statements.{Step, request_of, stops_at}
-use Rattle.run_model.specs.Laws.{refused_first, refused_then}
-use Rattle.run_model.proofs.ReadyLemmas.{acted_name, powered_is, powered_name, resolved, unpowered_name}
-use Rattle.run_model.proofs.WorldLemmas.{still_in_use, more_in_use, turns}
-use Rattle.run_model.proofs.Ways.{acts, Allowed, after_act, after_rows, begun, effect, occupied, rows, rows_of, whole, readied}
-use Rattle.run_model.specs.Promises.{In, settlements_of}
-use Rattle.run_model.proofs.FindLemmas.{found_each, each_with_node, other_node}
-use Rattle.run_model.proofs.Soundness.{IsSoundNode, IsSoundWorld, IsUnused, FitsAt, MayBeUnderWay, IsTimely}
-use Rattle.run_model.proofs.NodeLemmas.{acted_node, powered_node, unpowered_node, fallen_node, spoilt_node, unused_acted, unused_powered, unused_spoilt}
-use Rattle.run_model.proofs.ActLemmas.{MayAt, MayAll, rows_may}
+use Rattle.script_model.specs.Statements.{At, Request, Reading, Blank, Says, Bad}
+use Rattle.script_model.specs.Grammar.{reading}
+use Rattle.records_model.specs.History.{same_id}
+use Rattle.unit_laws.specs.Journal.{ChangeEntry, Journal, JournalEntry, PreparedEntry, RecoveryUnit, SettledEntry, find_unit, is_settled_in, units_after, units_in, units_onto, with_one_change, without_unit}
+use Rattle.unit_laws.specs.JournalLaws.{HasNotes}
+use Rattle.run_model.specs.World.{World, Node, File, DiskCounts, Settlement, AllActive, IsOpening, IsUnprepared, LastIsReached, NonePrepared, find_node, opened, serials_of, with_node}
+use Rattle.run_model.specs.Steps.{Serves, task_effect}
+use Rattle.run_model.specs.Statements.{Step, RoseAt, stops_at}
+use Rattle.run_model.specs.Transcript.{Entry, Legal, Turn}
+use Rattle.run_model.specs.Restarts.{AllNoted, HasNoName, NamesDiffer}
+use Rattle.run_model.specs.Laws.{AreOpening}
+use Rattle.run_model.specs.Worlds.{BranchesAreUnsettled, ChangesAreHeld, ChangesFind, NamesAreDifferent, UnitsAreBranches, UnitsNameFiles, WorldsCanRestart}
+use Rattle.run_model.proofs.IdLemmas.{each_at}
+use Rattle.run_model.proofs.FindLemmas.{either_way, found_each, found_name, some_is}
+use Rattle.run_model.proofs.Soundness.{IsSoundNode, IsSoundWorld, IsUnused}
+use Rattle.run_model.proofs.SoundLemmas.{legal_sound, opened_sound}
+use Rattle.run_model.proofs.OriginLemmas.{opening_each}
+use Rattle.run_model.proofs.NodeTurns.{NodeTurn, effect_name, node_turn, none_turn}
+use Rattle.run_model.proofs.NotedLemmas.{IsLastOf, not_found}
+use Rattle.run_model.proofs.FoundLemmas.{changes_found}
+use Rattle.run_model.proofs.HeldLemmas.{noted_at}
+use Rattle.run_model.proofs.ServedLemmas.{IsKeptNode, effect_kept, held_of, none_under_way}
 
--- that this may be under way at the node of this name, where there is one
-abbrev pub MayFall : List ℕ → Option Act → World → Type 0
-MayFall node under_way w = (n : Node) → find_node node w.nodes ≡ Some n → MayBeUnderWay under_way n
+abbrev pub AllKept : World → Type 0
+AllKept w = (node : List ℕ) (n : Node) → find_node node w.nodes ≡ Some n → IsKeptNode n
 
--- what a statement at this node keeps: through acts that may be done, where the node goes down, and where its disk runs again or does not, whatever the
--- counts of the disks, and whether or not a node was in use
-pub record IsKept (node : List ℕ) (P : World → Type 0) : Type 0 where
-  pub acting : (w : World) (act : Act) → MayAt node (Some act) w → IsSoundWorld w → P w → P (acts node act w)
-  pub falling : (w : World) (under_way : Option Act) → MayFall node under_way w → P w → P (record w { nodes = with_node node (fallen under_way) w.nodes })
-  pub powering : (w : World) (taken : Bool) (stops : ℕ) (spoil : Bool) → IsSoundWorld w → P w → P (record w { nodes = with_node node (λ n. spoilt spoil (powered taken stops n)) w.nodes })
-  pub unpowering : (w : World) (stops : ℕ) (spoil : Bool) → P w → P (record w { nodes = with_node node (λ n. spoilt spoil (unpowered stops n)) w.nodes })
-  pub occupying : (w : World) (more : Bool) → P w → P (record w { shared = record w.shared { in_use = w.shared.in_use || more } })
-  pub counting : (w : World) (disks : List DiskCounts) → P w → P (record w { disks = disks })
-
--- Nodes stay sound.
-
-pub sound_kept : (node : List ℕ) → IsKept node IsSoundWorld
-sound_kept node = record {
-  acting = λ w act may sound h. (
-    each_with_node IsSoundNode node (acted act) w.nodes (λ n found k. acted_node act n (may.1 n found) k) h.0,
-    λ e. each_with_node IsUnused node (acted act) w.nodes (λ n found u. unused_acted act n (may.1 n found).0 (subst (IsTimely act) (sym (still_in_use act w.shared) ∙ e) may.0) u) (h.1 (sym (still_in_use act w.shared) ∙ e)),
-  );
-  falling = λ w under_way may h. (
-    each_with_node IsSoundNode node (fallen under_way) w.nodes (λ n found k. fallen_node under_way n (may n found) k) h.0,
-    λ e. each_with_node IsUnused node (fallen under_way) w.nodes (λ n found u. (refl, u.1, u.2)) (h.1 e),
-  );
-  powering = λ w taken stops spoil sound h. (
-    each_with_node IsSoundNode node _ w.nodes (λ n found k. spoilt_node spoil (powered taken stops n) (powered_node taken stops n k)) h.0,
-    λ e. each_with_node IsUnused node _ w.nodes (λ n found u. unused_spoilt spoil (powered taken stops n) (unused_powered taken stops n (found_each IsSoundNode node w.nodes n h.0 found) u)) (h.1 e),
-  );
-  unpowering = λ w stops spoil h. (
-    each_with_node IsSoundNode node _ w.nodes (λ n found k. spoilt_node spoil (unpowered stops n) (unpowered_node stops n k)) h.0,
-    λ e. each_with_node IsUnused node _ w.nodes (λ n found u. unused_spoilt spoil (unpowered stops n) (refl, u.1, u.2)) (h.1 e),
-  );
-  occupying = λ w more h. (h.0, λ e. h.1 (or_parts w.shared.in_use more e).0);
-  counting = λ w disks h. h;
-}
-
--- Rows.
-
-module _ (node : List ℕ) (P : World → Type 0) (kept : IsKept node P) where
-  pub rows_keep : (rs : List Row) (w : World) → MayAll node rs w → IsSoundWorld w → P w → P (after_rows node rs w)
-  rows_keep [] w may sound h = h
-  rows_keep (r ∷ rs) w may sound h = rows_keep rs (after_act node r.act w) may.1 (still r.act may.0) (one r.act may.0)
-    where
-      still : (o : Option Act) → MayAt node o w → IsSoundWorld (after_act node o w)
-      still None m = sound
-      still (Some act) m = (sound_kept node).acting w act m sound sound
-
-      one : (o : Option Act) → MayAt node o w → P (after_act node o w)
-      one None m = h
-      one (Some act) m = kept.acting w act m sound h
-
-may_take : (k : ℕ) (node : List ℕ) (rs : List Row) (w : World) → MayAll node rs w → MayAll node (take k rs) w
-may_take zero node rs w may = tt
-may_take (suc k) node [] w may = tt
-may_take (suc k) node (r ∷ rs) w may = (may.0, may_take k node rs (after_act node r.act w) may.1)
-
--- what may be under way behind some rows
-may_fall : (b : Bool) (k : ℕ) (node : List ℕ) (rs : List Row) (w : World) → MayAll node rs w → MayFall node (act_begun b (drop k rs)) (after_rows node (take k rs) w)
-may_fall false k node rs w may = λ n found. tt
-may_fall true zero node [] w may = λ n found. tt
-may_fall true zero node (r ∷ rs) w may = one r.act may.0
+-- another node is as before, once one was put
+pub put_other : (node x : List ℕ) (m : Node) (ns : List Node) → m.name ≡ node → bytes_eq node x ≡ false → find_node x (with_node node (λ n. m) ns) ≡ find_node x ns
+put_other node x m [] named other = refl
+put_other node x m (k ∷ ns) named other = go (bytes_eq node k.name) refl (put_other node x m ns named other)
   where
-    one : (o : Option Act) → MayAt node o w → MayFall node (durable o) w
-    one None m = λ n found. tt
-    one (Some act) m = λ n found. filtered (is_durable act) refl n (m.1 n found).0
+    passed : (y : List ℕ) → y ≡ node → bytes_eq x y ≡ false
+    passed y is = ap (bytes_eq x) is ∙ either_way x node ∙ other
+
+    go : (b : Bool) → bytes_eq node k.name ≡ b → find_node x (with_node node (λ n. m) ns) ≡ find_node x ns →
+        ◌≡◌ {A = Option Node} (find_node x (if b then m ∷ ns else k ∷ with_node node (λ n. m) ns)) (if bytes_eq x k.name then Some k else find_node x ns)
+    go true is more = rw (passed m.name named, passed k.name (sym ((bytes_eq-Decides node k.name).0 is))) refl
+    go false is more = ap (λ o. if bytes_eq x k.name then Some k else o) more
+
+-- what a statement makes of its node
+pub node_kept : (w v : World) (node : List ℕ) (request : Request) (lines : List Line) (n : Node) → IsSoundWorld w → find_node node w.nodes ≡ Some n → IsKeptNode n → (t : NodeTurn w node request n lines v) → IsKeptNode (task_effect w.shared (stops_at node w) n (Serves request) t.choice).node
+node_kept w v node request lines n sound found h t =
+    effect_kept w.shared (stops_at node w) n (found_each IsSoundNode node w.nodes n sound.0 found) (λ e. found_each IsUnused node w.nodes n (sound.1 e) found) h request t.choice (λ (cause : Cause). RoseAt w node cause v.disks) t.allowed
+
+step_kept : (w v : World) (node : List ℕ) (request : Request) (lines : List Line) → IsSoundWorld w → Step w (At node request) lines v → AllKept w → AllKept v
+step_kept w v node request lines sound step h = go (find_node node w.nodes) refl
+  where
+    there : (n : Node) → find_node node w.nodes ≡ Some n → NodeTurn w node request n lines v → AllKept v
+    there n found t x k e = at (bytes_eq node x) refl
       where
-        filtered : (b : Bool) → is_durable act ≡ b → (n : Node) → FitsAt act n → MayBeUnderWay (if b then Some act else None) n
-        filtered true e n fits = (e, fits)
-        filtered false e n fits = tt
-may_fall true (suc k) node [] w may = λ n found. tt
-may_fall true (suc k) node (r ∷ rs) w may = may_fall true k node rs (after_act node r.act w) may.1
+        m : Node
+        m = (task_effect w.shared (stops_at node w) n (Serves request) t.choice).node
 
--- that a node is in use does not matter to rows
-occupied_rows : (s : Statement) (node : List ℕ) (rs : List Row) (w : World) → occupied s (after_rows node rs w) ≡ after_rows node rs (occupied s w)
-occupied_rows s node [] w = refl
-occupied_rows s node (r ∷ rs) w = occupied_rows s node rs (after_act node r.act w) ∙ ap (after_rows node rs) (one r.act)
+        at : (b : Bool) → bytes_eq node x ≡ b → IsKeptNode k
+        at true is =
+            let same = (bytes_eq-Decides node x).0 is in
+            subst IsKeptNode (some_is m k (sym t.now ∙ subst (λ y. find_node y v.nodes ≡ Some k) (sym same) e)) (node_kept w v node request lines n sound found (h node n found) t)
+        at false is = h x k (sym (put_other node x m w.nodes (effect_name w.shared (stops_at node w) n request t.choice ∙ found_name node w.nodes n found) is) ∙ ap (find_node x) (sym t.nodes) ∙ e)
+
+    go : (o : Option Node) → find_node node w.nodes ≡ o → AllKept v
+    go (Some n) found = there n found (node_turn w v node request lines n found step)
+    go None none = λ x k e. h x k (ap (λ (y : World). find_node x y.nodes) (sym (none_turn w v node request lines none step).1) ∙ e)
+
+pub turn_kept : (w v : World) (r : Reading) (lines : List Line) → IsSoundWorld w → Turn w r lines v → AllKept w → AllKept v
+turn_kept w v Blank lines sound turn h = subst AllKept (sym turn.1) h
+turn_kept w v (Says (At node request)) lines sound turn h = step_kept w v node request lines sound turn h
+turn_kept w v (Bad column) lines sound turn h = absurd turn
+
+pub legal_kept : (opening w : World) (es : List Entry) → IsSoundWorld opening → AllKept opening → Legal opening es w → AllKept w
+legal_kept opening w [] sound h legal = subst AllKept (sym legal) h
+legal_kept opening w (e ∷ es) sound h legal =
+    turn_kept legal.0 w (reading e.source.text) e.lines (legal_sound opening legal.0 es legal.1 sound) legal.2 (legal_kept opening legal.0 es sound h legal.1)
+
+-- The opening world.
+
+pub all_noted : (units : Journal) (fs : List (Option File)) → ((place : ℕ) (f : File) → slice_index_or fs place None ≡ Some f → HasNotes units f.name f.history) → AllNoted units fs
+all_noted units [] h = tt
+all_noted units (None ∷ fs) h = all_noted units fs (λ place f e. h (suc place) f e)
+all_noted units (Some f ∷ fs) h = (h 0 f refl, all_noted units fs (λ place g e. h (suc place) g e))
+
+no_name : (name : List ℕ) (fs : List (Option File)) → ((place : ℕ) (f : File) → slice_index_or fs place None ≡ Some f → name ≡ f.name → ⊥) → HasNoName name fs
+no_name name [] h = tt
+no_name name (None ∷ fs) h = no_name name fs (λ place f e. h (suc place) f e)
+no_name name (Some f ∷ fs) h = (h 0 f refl, no_name name fs (λ place g e. h (suc place) g e))
+
+zero_suc : (k : ℕ) → 0 ≡ suc k → ⊥
+zero_suc k e = let none : ⊥ = cc in none
+
+suc_same : (p q : ℕ) → suc p ≡ suc q → p ≡ q
+suc_same p q e = cc
+
+names_differ : (fs : List (Option File)) → ((p q : ℕ) (f g : File) → slice_index_or fs p None ≡ Some f → slice_index_or fs q None ≡ Some g → f.name ≡ g.name → p ≡ q) → NamesDiffer fs
+names_differ [] h = tt
+names_differ (None ∷ fs) h = names_differ fs (λ p q f g e k same. suc_same p q (h (suc p) (suc q) f g e k same))
+names_differ (Some f ∷ fs) h = (no_name f.name fs (λ place g e same. zero_suc place (h 0 (suc place) f g refl e same)), names_differ fs (λ p q f g e k same. suc_same p q (h (suc p) (suc q) f g e k same)))
+
+-- no unit is prepared where no entry says so
+active_after : (e : JournalEntry) (us : List RecoveryUnit) → IsUnprepared e → AllActive us → AllActive (units_after e us)
+active_after (ChangeEntry tid serial file key before) us un h = changed us h
   where
-    one : (o : Option Act) → occupied s (after_act node o w) ≡ after_act node o (occupied s w)
-    one None = refl
-    one (Some act) = ap (λ shared. record w { nodes = with_node node (acted act) w.nodes; shared = shared }) (more_in_use act (occupies (request_of s)) w.shared)
-
-pub ready_kept : (node : List ℕ) (P : World → Type 0) → IsKept node P → (taken : Bool) (w : World) (request : Request) → IsSoundWorld w → P w → P (readied taken w (At node request))
-ready_kept node P kept taken w request sound h = go (powers request)
+    changed : (us : List RecoveryUnit) → AllActive us → AllActive (with_one_change tid serial us)
+    changed [] h = (refl, tt)
+    changed (u ∷ us) h = cond_both (same_id serial u.serial) (record u { changes = u.changes + 1 } ∷ us) (u ∷ with_one_change tid serial us) AllActive (λ t. h) (λ t. (h.0, changed us h.1))
+active_after (PreparedEntry tid serial) us un h = absurd un
+active_after (SettledEntry tid serial outcome moment) us un h = settled us h
   where
-    go : (b : Bool) → P (if b then record w { nodes = with_node node (λ n. spoilt (spoils request) (powered taken (stops_at node w) n)) w.nodes } else w)
-    go true = kept.powering w taken (stops_at node w) (spoils request) sound h
-    go false = h
+    settled : (us : List RecoveryUnit) → AllActive us → AllActive (without_unit serial us)
+    settled [] h = tt
+    settled (u ∷ us) h = cond_both (same_id serial u.serial) (without_unit serial us) (u ∷ without_unit serial us) AllActive (λ t. settled us h.1) (λ t. (h.0, settled us h.1))
 
--- Statements.
+active_onto : (us : List RecoveryUnit) (es : List JournalEntry) → NonePrepared es → AllActive us → AllActive (units_onto us es)
+active_onto us [] un h = h
+active_onto us (e ∷ es) un h = active_onto (units_after e us) es un.1 (active_after e us un.0 h)
 
-module _ (node : List ℕ) (request : Request) (P : World → Type 0) (kept : IsKept node P) (w : World) (sound : IsSoundWorld w) where
-  ready_sound : (taken : Bool) → IsSoundWorld (readied taken w (At node request))
-  ready_sound taken = ready_kept node IsSoundWorld (sound_kept node) taken w request sound sound
+pub all_active : (es : List JournalEntry) → NonePrepared es → AllActive (units_in es)
+all_active es un = active_onto [] es un tt
 
-  may_ready : (taken : Bool) → refused_first w (At node request) ≡ None → MayAll node (rows (readied taken w (At node request)) (At node request)) (occupied (At node request) (readied taken w (At node request)))
-  may_ready taken e = rows_may taken w (At node request) sound (ready_sound taken) e
-
-  begun_keeps : (taken : Bool) (b : Option Line) → refused_first w (At node request) ≡ None → P w → P (begun (readied taken w (At node request)) (At node request) b).world
-  begun_keeps taken (Some refusal) e h = ready_kept node P kept taken w request sound h
-  begun_keeps taken None e h =
-      let s = At node request in
-      let ready = readied taken w s in
-      subst P (sym (occupied_rows s node (rows ready s) ready)) (rows_keep node P kept (rows ready s) (occupied s ready) (may_ready taken e)
-      ((sound_kept node).occupying ready (occupies request) (ready_sound taken)) (kept.occupying ready (occupies request) (ready_kept node P kept taken w request sound h)))
-
-  whole_keeps : (taken : Bool) (a : Option Line) → refused_first w (At node request) ≡ a → P w → P (whole w (readied taken w (At node request)) (At node request) a).world
-  whole_keeps taken (Some refusal) e h = h
-  whole_keeps taken None e h = begun_keeps taken (refused_then (readied taken w (At node request)) (At node request)) e h
-
-  may_if : (v : World) (o : Option Line) (rs : List Row) → MayAll node rs v → MayAll node (rows_if o rs) v
-  may_if v (Some refusal) rs may = tt
-  may_if v None rs may = may
-
-  cut_keeps : (taken : Bool) (done : ℕ) (b : Bool) (cause : Cause) → refused_first w (At node request) ≡ None → P w → P (effect w (At node request) (Cut taken done b cause)).world
-  cut_keeps taken done b cause e h =
-      let s = At node request in
-      let ready = readied taken w s in
-      let rs = rows_of ready s in
-      let may = may_if (occupied s ready) (refused_then ready s) (rows ready s) (may_ready taken e) in
-      let sound_then = (sound_kept node).occupying ready (occupies request) (ready_sound taken) in
-      subst (λ v. P (record v { nodes = with_node node (fallen (act_begun b (drop done rs))) v.nodes })) (sym (occupied_rows s node (take done rs) ready))
-      (kept.falling (after_rows node (take done rs) (occupied s ready)) (act_begun b (drop done rs)) (may_fall b done node rs (occupied s ready) may)
-      (rows_keep node P kept (take done rs) (occupied s ready) (may_take done node rs (occupied s ready) may) sound_then (kept.occupying ready (occupies request) (ready_kept node P kept taken w request sound h))))
-
-  pub effect_keeps : (c : Choice) (after : List DiskCounts) → Allowed w (At node request) c after → P w → P (effect w (At node request) c).world
-  effect_keeps (Whole taken) after allowed h = whole_keeps taken (refused_first w (At node request)) refl h
-  effect_keeps WithoutMemory after allowed h = h
-  effect_keeps Unpowered after allowed h = kept.occupying _ (occupies request) (kept.unpowering w (stops_at node w) (spoils request) h)
-  effect_keeps (Cut taken done b cause) after allowed h = cut_keeps taken done b cause allowed.0 h
-
-pub step_keeps : (node : List ℕ) (request : Request) (P : World → Type 0) → IsKept node P → (w v : World) (lines : List Line) → Step w (At node request) lines v → IsSoundWorld w → P w → P v
-step_keeps node request P kept w v lines step sound h =
-    let t = turns w v (At node request) lines step in
-    subst P (sym t.goes) (kept.counting (effect w (At node request) t.choice).world v.disks (effect_keeps node request P kept w sound t.choice v.disks t.allowed h))
-
--- Settlements stay.
-
-abbrev pub settled_of : Option Node → List Settlement
-settled_of (Some n) = n.settled
-settled_of None = []
-
-acted_settled : (s : Settlement) (act : Act) (n : Node) → In s n.settled → In s (acted act n).settled
-acted_settled s (Settles t) n i = inr i
-acted_settled s _ n i = i
-
-powered_settled : (s : Settlement) (taken : Bool) (stops : ℕ) (n : Node) → In s n.settled → In s (powered taken stops n).settled
-powered_settled s taken stops n i = subst (λ (m : Node). In s m.settled) (sym (powered_is taken stops n)) (go taken n.under_way)
+found_active : (us : List RecoveryUnit) (serial : Id) (u : RecoveryUnit) → AllActive us → find_unit serial us ≡ Some u → u.prepared ≡ false
+found_active [] serial u h e = let none : ⊥ = cc in absurd none
+found_active (v ∷ us) serial u h e = go (same_id serial v.serial) e (found_active us serial u h.1)
   where
-    go : (t : Bool) (o : Option Act) → In s (resolved t o n).settled
-    go true (Some act) = acted_settled s act n i
-    go true None = i
-    go false o = i
+    go : (b : Bool) → ◌≡◌ {A = Option RecoveryUnit} (if b then Some v else find_unit serial us) (Some u) → (find_unit serial us ≡ Some u → u.prepared ≡ false) → u.prepared ≡ false
+    go true k more = let same : v ≡ u = cc in subst (λ (x : RecoveryUnit). x.prepared ≡ false) same h.0
+    go false k more = more k
 
-spoilt_settled : (s : Settlement) (b : Bool) (n : Node) → In s n.settled → In s (spoilt b n).settled
-spoilt_settled s true n i = i
-spoilt_settled s false n i = i
+last_of : (n : Node) (o : Option Settlement) → LastIsReached n o → IsLastOf n.name n.durable.boot o
+last_of n None h = tt
+last_of n (Some s) h = h
 
-stay_with_node : (s : Settlement) (node name : List ℕ) (change : Node → Node) (ns : List Node) → ((n : Node) → (change n).name ≡ n.name) → ((n : Node) → In s n.settled → In s (change n).settled) →
-    In s (settled_of (find_node node ns)) → In s (settled_of (find_node node (with_node name change ns)))
-stay_with_node s node name change [] named stays i = i
-stay_with_node s node name change (n ∷ ns) named stays i = go (bytes_eq name n.name) (bytes_eq node n.name) (ap (bytes_eq node) (named n)) refl i (stay_with_node s node name change ns named stays)
-  where
-    first : (b : Bool) → In s (settled_of (if b then Some n else find_node node ns)) → In s (settled_of (if b then Some (change n) else find_node node ns))
-    first true k = stays n k
-    first false k = k
-
-    rest : (b : Bool) → In s (settled_of (if b then Some n else find_node node ns)) → (In s (settled_of (find_node node ns)) → In s (settled_of (find_node node (with_node name change ns)))) →
-        In s (settled_of (if b then Some n else find_node node (with_node name change ns)))
-    rest true k more = k
-    rest false k more = more k
-
-    go : (t b : Bool) → bytes_eq node (change n).name ≡ b → bytes_eq node n.name ≡ b → In s (settled_of (if b then Some n else find_node node ns)) → (In s (settled_of (find_node node ns)) → In s (settled_of (find_node node (with_node name change ns)))) →
-        In s (settled_of (find_node node (if t then change n ∷ ns else n ∷ with_node name change ns)))
-    go true b e f k more = subst (λ c. In s (settled_of (if c then Some (change n) else find_node node ns))) (sym e) (first b k)
-    go false b e f k more = subst (λ c. In s (settled_of (if c then Some n else find_node node (with_node name change ns)))) (sym f) (rest b k more)
-
-abbrev pub IsSettledAt : List ℕ → Settlement → World → Type 0
-IsSettledAt node s w = In s (settlements_of node w)
-
-pub settled_kept : (node name : List ℕ) (s : Settlement) → IsKept name (IsSettledAt node s)
-settled_kept node name s = record {
-  acting = λ w act may sound h. stay_with_node s node name (acted act) w.nodes (acted_name act) (acted_settled s act) h;
-  falling = λ w under_way may h. stay_with_node s node name (fallen under_way) w.nodes (λ n. refl) (λ n i. i) h;
-  powering = λ w taken stops spoil sound h. stay_with_node s node name _ w.nodes (powered_name taken stops spoil) (λ n i. spoilt_settled s spoil (powered taken stops n) (powered_settled s taken stops n i)) h;
-  unpowering = λ w stops spoil h. stay_with_node s node name _ w.nodes (unpowered_name stops spoil) (λ n i. spoilt_settled s spoil (unpowered stops n) i) h;
-  occupying = λ w more h. h;
-  counting = λ w disks h. h;
+pub opening_kept : (n : Node) → IsOpening n → IsKeptNode n
+opening_kept n h = record {
+  disk = record {
+    can = record { notes = all_noted n.durable.units n.durable.directory (λ place f e. (h.units.tells place f e).notes); active = λ serial u e. found_active (units_in n.durable.units.entries) serial u (all_active n.durable.units.entries h.active) e };
+    names = names_differ n.durable.directory h.units.names;
+    reached = h.units.reached;
+    last = last_of n n.durable.last h.last;
+  };
+  way = none_under_way n.under_way n h.under_way;
+  runs = λ up. absurd (both_ways n.up h.down up);
 }
 
--- A statement leaves the other nodes.
+pub opened_kept : (nodes : List Node) (disks : List DiskCounts) → AreOpening nodes → AllKept (opened nodes disks)
+opened_kept nodes disks h node n found = opening_kept n (found_each IsOpening node nodes n (opening_each nodes h) found)
 
-pub others_kept : (node name : List ℕ) (o : Option Node) → bytes_eq name node ≡ false → IsKept name (λ w. find_node node w.nodes ≡ o)
-others_kept node name o apart = record {
-  acting = λ w act may sound h. other_node node name (acted act) w.nodes (acted_name act) apart ∙ h;
-  falling = λ w under_way may h. other_node node name (fallen under_way) w.nodes (λ n. refl) apart ∙ h;
-  powering = λ w taken stops spoil sound h. other_node node name _ w.nodes (powered_name taken stops spoil) apart ∙ h;
-  unpowering = λ w stops spoil h. other_node node name _ w.nodes (unpowered_name stops spoil) apart ∙ h;
-  occupying = λ w more h. h;
-  counting = λ w disks h. h;
-}
+-- The laws.
 
--- Where no node is in use after a statement, none was before it.
-pub unused_kept : (node : List ℕ) (b : Bool) → IsKept node (λ w. w.shared.in_use ≡ false → b ≡ false)
-unused_kept node b = record {
-  acting = λ w act may sound h e. h (sym (still_in_use act w.shared) ∙ e);
-  falling = λ w under_way may h. h;
-  powering = λ w taken stops spoil sound h. h;
-  unpowering = λ w stops spoil h. h;
-  occupying = λ w more h e. h (or_parts w.shared.in_use more e).0;
-  counting = λ w disks h. h;
-}
+kept_in : (nodes : List Node) (disks : List DiskCounts) (es : List Entry) (closing : World) → AreOpening nodes → Legal (opened nodes disks) es closing → AllKept closing
+kept_in nodes disks es closing opening legal = legal_kept (opened nodes disks) closing es (opened_sound nodes disks opening) (opened_kept nodes disks opening) legal
+
+pub worlds_can_restart : WorldsCanRestart
+worlds_can_restart nodes disks es closing opening legal node n found = (kept_in nodes disks es closing opening legal node n found).disk.can
+
+pub names_are_different : NamesAreDifferent
+names_are_different nodes disks es closing opening legal node n found = (kept_in nodes disks es closing opening legal node n found).disk.names
+
+pub changes_are_held : ChangesAreHeld
+changes_are_held nodes disks es closing opening legal node n found up file f there =
+    let k = kept_in nodes disks es closing opening legal node n found in
+    held_of n file f there (k.runs up).held (noted_at n.durable.units file n.durable.directory f k.disk.can.notes there).differ
+
+pub units_are_branches : UnitsAreBranches
+units_are_branches nodes disks es closing opening legal node n found up x u = ((kept_in nodes disks es closing opening legal node n found).runs up).known x u
+
+pub branches_are_unsettled : BranchesAreUnsettled
+branches_are_unsettled nodes disks es closing opening legal node n found up x i =
+    each_at (λ y. is_settled_in y n.durable.units.entries ≡ false) x (serials_of n.volatile.branches) ((kept_in nodes disks es closing opening legal node n found).runs up).unsettled i
+
+pub units_name_files : UnitsNameFiles
+units_name_files nodes disks es closing opening legal node n found up x name u none =
+    (((kept_in nodes disks es closing opening legal node n found).runs up).unnoted name (not_found name n.durable.directory none)).notes x u
+
+pub changes_find : ChangesFind
+changes_find f op = changes_found f op

@@ -7,18 +7,18 @@ use Rattle.std.proofs.lemmas.Slice.Eq.{bytes_eq-Decides}
 use Rattle.vms_model.specs.Ids.{Id}
 use Rattle.transcript_model.specs.Lines as line
 use Rattle.transcript_model.specs.Lines.{Line, Cause}
-use Rattle.script_model.specs.Statements.{Statement, At, Request, Init, Boot, Create, SetFile, StartTrans, Records, EndTrans, AbortTrans, Dump, Fuse, Crash, Reading, Blank, Says, Bad}
+use Rattle.script_model.specs.Statements.{Statement, At, Request, Init, Boot, Create, SetFile, StartTrans, Records, Direct, EndTrans, AbortTrans, Dump, DumpJournal, Fuse, Crash, Reading, Blank, Says, Bad}
 use Rattle.run_model.specs.World.{World, Shared, Label, find_label, labelled, serial_labelled, next_id}
 use Rattle.run_model.specs.Answers.{started, label_limit, new_label}
 use Rattle.run_model.specs.Steps.{lines_of_rows, ready_node}
 use Rattle.run_model.specs.Statements.{stops_at}
 use Rattle.run_model.specs.Laws.{is_refusal, refused_first}
+use Rattle.run_model.specs.Running.{Each}
 use Rattle.run_model.proofs.Ways.{after_rows, answer, broken, rows, readied}
 use Rattle.run_model.proofs.WorldLemmas.{is_ready, ready_shared}
 use Rattle.run_model.specs.Operations.{refused_if}
 use Rattle.run_model.specs.Transcript.{Entry, Turn}
 use Rattle.run_model.specs.Promises.{id_here, id_told}
-use Rattle.run_model.proofs.IdLemmas.{Each}
 use Rattle.run_model.proofs.FindLemmas.{either_way, found_name}
 use Rattle.run_model.proofs.AnswerLemmas.{served, rows_found, answer_found}
 use Rattle.run_model.proofs.WayLemmas.{Way, Refuses, RefusesLate, Fails, Does, way, MakesNone, makes_label, rows_make_none, labels_stay}
@@ -104,9 +104,11 @@ module _ (es : List Entry) (w : World) (same : AreLabelled es w) where
   done_labels at (Create file bucket size form) taken e = plain_labels at (Create file bucket size form) [] taken refl e
   done_labels at (SetFile file setting) taken e = plain_labels at (SetFile file setting) [] taken refl e
   done_labels at (Records label file op) taken e = plain_labels at (Records label file op) [] taken refl e
+  done_labels at (Direct file op) taken e = plain_labels at (Direct file op) [] taken refl e
   done_labels at (EndTrans label) taken e = plain_labels at (EndTrans label) [] taken refl e
   done_labels at (AbortTrans label) taken e = plain_labels at (AbortTrans label) [] taken refl e
   done_labels at (Dump file) taken e = plain_labels at (Dump file) [] taken refl e
+  done_labels at DumpJournal taken e = plain_labels at DumpJournal [] taken refl e
   done_labels at (Fuse writes choice) taken e = plain_labels at (Fuse writes choice) [] taken refl e
   done_labels at Crash taken e = plain_labels at Crash [] taken refl e
 

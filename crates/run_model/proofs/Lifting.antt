@@ -7,9 +7,9 @@ use Rattle.transcript_model.specs.Lines.{Line, Cause}
 use Rattle.script_model.specs.Statements.{At, Request}
 use Rattle.run_model.specs.World.{World, Shared, Node, DiskCounts, find_node, with_node, disk_of, with_counts}
 use Rattle.run_model.specs.Steps.{Serves, Choice, Whole, WithoutMemory, Unpowered, Cut, RequestAllowed, TaskAllowed, task_effect, NodeStep, count_of}
-use Rattle.run_model.specs.Statements.{Step, Does, PartEffect, Parts, Then, Allowed, part_effect, put_into, no_node, stops_at, RoseAt, NoneFalls}
+use Rattle.run_model.specs.Statements.{Step, Does, PartEffect, Parts, Then, Allowed, part_effect, put_into, stops_at, RoseAt, NoneFalls}
 use Rattle.run_model.specs.Laws.{NodeStepsAreSteps}
-use Rattle.run_model.proofs.StepLemmas.{none_falls_same}
+use Rattle.run_model.proofs.StepLemmas.{none_falls_same, parts_done, begins_done, begins_nothing}
 use Rattle.run_model.proofs.WorldLemmas.{ended}
 use Rattle.run_model.proofs.EffectLemmas.{same_last}
 
@@ -66,7 +66,8 @@ step_of_node_step w node request n m old new lines answer after found disk step 
       events = e.lines;
       answer = e.answer;
       world = (put_into w node e).world;
-      does = (step.choice, rw (found, Allowed) there, subst (λ p. Then p (λ mid said rest last end. Parts [] disks mid said rest last end) e.lines e.answer (put_into w node e).world) (sym is) (ends_so (put_into w node e) disks));
+      does = begins_done w node request n found disks e.lines e.answer (put_into w node e).world
+          (step.choice, rw (found, Allowed) there, subst (λ p. Then p (λ mid said rest last end. Parts [] disks mid said rest last end) e.lines e.answer (put_into w node e).world) (sym is) (ends_so (put_into w node e) disks));
       counts = none_falls_put node old new w.nodes w.disks disk step.faults step.stops;
       shows = λ i. step.shows i ++ step.answers i ∷ [];
       goes = λ i. record { nodes = with_node node (λ n. step.node i) w.nodes; disks = disks; shared = step.shared i };
@@ -77,17 +78,7 @@ step_of_node_step w node request n m old new lines answer after found disk step 
 
 -- a statement to a node that there is not
 pub step_to_none : (w : World) (node : List ℕ) (request : Request) → find_node node w.nodes ≡ None → Step w (At node request) (line.NoSuchNode ∷ []) w
-step_to_none w node request none =
-    let is : part_effect w (Does node (Serves request)) (Whole false) ≡ no_node w = rw (none, part_effect) refl in
-    record {
-      events = [];
-      answer = line.NoSuchNode;
-      world = w;
-      does = (Whole false, rw (none, Allowed) tt, subst (λ p. Then p (λ mid said rest last end. Parts [] w.disks mid said rest last end) [] line.NoSuchNode w) (sym is) (ends_so (no_node w) w.disks));
-      counts = none_falls_same w.disks;
-      shows = refl;
-      goes = refl;
-    }
+step_to_none w node request none = record { events = []; answer = line.NoSuchNode; world = w; does = begins_nothing w node request none w.disks; counts = none_falls_same w.disks; shows = refl; goes = refl }
 
 -- And a step at a node that there is is one of that node.
 
@@ -108,15 +99,16 @@ none_falls_at node old new (n ∷ ns) (d ∷ ds) (e ∷ es) h was now = go (byte
 pub node_step_of_step : (w v : World) (node : List ℕ) (request : Request) (n : Node) (old new : DiskCounts) (lines : List Line) (answer : Line) → find_node node w.nodes ≡ Some n → disk_of node w.nodes w.disks ≡ Some old → disk_of node w.nodes v.disks ≡ Some new →
     Step w (At node request) (lines ++ answer ∷ []) v → (m : Node) × (v.nodes ≡ with_node node (λ n. m) w.nodes) × NodeStep w.shared n old (Serves request) lines answer m v.shared new
 node_step_of_step w v node request n old new lines answer found was now step =
-    let c = step.does.0 in
+    let d = parts_done w v node request (lines ++ answer ∷ []) n found step in
+    let c = d.0 in
     let e = task_effect w.shared old.stops n (Serves request) c in
     let p = part_effect w (Does node (Serves request)) c in
     let stopped : stops_at node w ≡ old.stops = rw (was, stops_at) refl in
     let is : p ≡ put_into w node e = rw (found, part_effect) (ap (λ stops. put_into w node (task_effect w.shared stops n (Serves request) c)) stopped) in
-    let h = ended p v.disks step.events step.answer step.world step.does.2 in
+    let h = ended p v.disks step.events step.answer step.world d.2 in
     let parts = same_last lines step.events answer step.answer step.shows in
     let goes : v ≡ record (put_into w node e).world { disks = v.disks } = step.goes ∙ ap (λ (x : World). record x { disks = v.disks }) (h.2 ∙ ap (λ (x : PartEffect). x.world) is) in
-    let here : RequestAllowed w.shared (stops_at node w) n request (λ cause. RoseAt w node cause v.disks) c = subst (λ o. elim o as (λ x. Type 0) [ Some m ↦ TaskAllowed w.shared (stops_at node w) m (Serves request) (λ cause. RoseAt w node cause v.disks) c | None ↦ Unit {0} ]) found step.does.1 in
+    let here : RequestAllowed w.shared (stops_at node w) n request (λ cause. RoseAt w node cause v.disks) c = subst (λ o. elim o as (λ x. Type 0) [ Some m ↦ TaskAllowed w.shared (stops_at node w) m (Serves request) (λ cause. RoseAt w node cause v.disks) c | None ↦ Unit {0} ]) found d.1 in
     let falls = none_falls_at node old new w.nodes w.disks v.disks step.counts was now in (
       e.node,
       ap (λ (x : World). x.nodes) goes,

@@ -6,10 +6,11 @@ use Rattle.transcript_model.specs.Lines as line
 use Rattle.transcript_model.specs.Lines.{Line, Cause}
 use Rattle.script_model.specs.Statements.{At, Request}
 use Rattle.run_model.specs.World.{World, Shared, Node, Act, find_node, with_node}
-use Rattle.run_model.specs.Answers.{rows_at, closing_at, refused_before_reading, refused_after_reading, spoils}
+use Rattle.run_model.specs.Answers.{rows_at, closing_of, refused_before_reading, refused_after_reading, spoils}
 use Rattle.run_model.specs.Steps as task
 use Rattle.run_model.specs.Steps.{Serves, Choice, Whole, WithoutMemory, Unpowered, Cut, TaskEffect, TaskAllowed, RequestAllowed, task_effect, node_after, node_after_rows, rows_to_cut, ready_node}
-use Rattle.run_model.specs.Statements.{Step, Does, PartEffect, part_effect, put_into, no_node, stops_at, RoseAt}
+use Rattle.run_model.specs.Statements.{Step, Does, PartEffect, part_effect, put_into, stops_at, RoseAt}
+use Rattle.run_model.proofs.StepLemmas.{parts_done, nothing_done}
 use Rattle.run_model.proofs.FindLemmas.{found_name}
 use Rattle.run_model.proofs.ReadyLemmas.{acted_name, unpowered_name}
 use Rattle.run_model.proofs.WorldLemmas.{ready_name, rows_name, ended}
@@ -22,7 +23,7 @@ after_name (Some act) n = acted_name act n
 
 begun_name : (s : Shared) (n : Node) (request : Request) (o : Option Line) → (task.begun s n request o).node.name ≡ n.name
 begun_name s n request (Some refusal) = refl
-begun_name s n request None = after_name (closing_at s n request) (node_after_rows (rows_at s n request) n) ∙ rows_name (rows_at s n request) n
+begun_name s n request None = after_name (closing_of request) (node_after_rows (rows_at s n request) n) ∙ rows_name (rows_at s n request) n
 
 whole_name : (s : Shared) (n ready : Node) (request : Request) (o : Option Line) → ready.name ≡ n.name → (task.whole s n ready request o).node.name ≡ n.name
 whole_name s n ready request (Some refusal) same = refl
@@ -60,15 +61,16 @@ pub record NodeTurn (w : World) (node : List ℕ) (request : Request) (n : Node)
 
 pub node_turn : (w v : World) (node : List ℕ) (request : Request) (lines : List Line) (n : Node) → find_node node w.nodes ≡ Some n → Step w (At node request) lines v → NodeTurn w node request n lines v
 node_turn w v node request lines n found step =
-    let c = step.does.0 in
+    let d = parts_done w v node request lines n found step in
+    let c = d.0 in
     let e = task_effect w.shared (stops_at node w) n (Serves request) c in
     let p = part_effect w (Does node (Serves request)) c in
     let is : p ≡ put_into w node e = rw (found, part_effect) refl in
-    let h = ended p v.disks step.events step.answer step.world step.does.2 in
+    let h = ended p v.disks step.events step.answer step.world d.2 in
     let goes : v ≡ record (put_into w node e).world { disks = v.disks } = step.goes ∙ ap (λ (x : World). record x { disks = v.disks }) (h.2 ∙ ap (λ (x : PartEffect). x.world) is) in
     record {
       choice = c;
-      allowed = subst (λ o. elim o as (λ x. Type 0) [ Some m ↦ TaskAllowed w.shared (stops_at node w) m (Serves request) (λ cause. RoseAt w node cause v.disks) c | None ↦ Unit {0} ]) found step.does.1;
+      allowed = subst (λ o. elim o as (λ x. Type 0) [ Some m ↦ TaskAllowed w.shared (stops_at node w) m (Serves request) (λ cause. RoseAt w node cause v.disks) c | None ↦ Unit {0} ]) found d.1;
       shows = step.shows ∙ (λ i. (h.0 ∙ ap (λ (x : PartEffect). x.lines) is) i ++ (h.1 ∙ ap (λ (x : PartEffect). x.answer) is) i ∷ []);
       nodes = ap (λ (x : World). x.nodes) goes;
       now = ap (λ (x : World). find_node node x.nodes) goes ∙ found_put node n e.node w.nodes (effect_name w.shared (stops_at node w) n request c ∙ found_name node w.nodes n found) found;
@@ -78,9 +80,5 @@ node_turn w v node request lines n found step =
 -- a step at a node that is not
 pub none_turn : (w v : World) (node : List ℕ) (request : Request) (lines : List Line) → find_node node w.nodes ≡ None → Step w (At node request) lines v → (lines ≡ line.NoSuchNode ∷ []) × (v ≡ record w { disks = v.disks })
 none_turn w v node request lines none step =
-    let p = part_effect w (Does node (Serves request)) step.does.0 in
-    let is : p ≡ no_node w = rw (none, part_effect) refl in
-    let h = ended p v.disks step.events step.answer step.world step.does.2 in (
-      step.shows ∙ (λ i. (h.0 ∙ ap (λ (x : PartEffect). x.lines) is) i ++ (h.1 ∙ ap (λ (x : PartEffect). x.answer) is) i ∷ []),
-      step.goes ∙ ap (λ (x : World). record x { disks = v.disks }) (h.2 ∙ ap (λ (x : PartEffect). x.world) is),
-    )
+    let h = nothing_done w v node request lines none step in
+    (step.shows ∙ (λ i. h.0 i ++ h.1 i ∷ []), step.goes ∙ ap (λ (x : World). record x { disks = v.disks }) h.2)

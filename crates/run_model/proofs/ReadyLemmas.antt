@@ -28,7 +28,7 @@ resolved_name false o n = refl
 
 -- whether or not nothing is known of its volume any more, the rest is the same
 pub record SameButVolume (n m : Node) : Type 0 where
-  pub same : m ≡ record n { volume = m.volume; unmade = m.unmade }
+  pub same : m ≡ record n { durable = record n.durable { volume = m.durable.volume }; unmade = m.unmade }
 
 pub spoilt_is : (b : Bool) (n : Node) → SameButVolume n (spoilt b n)
 spoilt_is true n = record { same = refl }

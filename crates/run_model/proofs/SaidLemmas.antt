@@ -4,31 +4,31 @@ use Rattle.std.specs.List.{last_or}
 use Rattle.std.specs.Str.{bytes_eq}
 use Rattle.std.proofs.Math.Bool.{or-false}
 use Rattle.std.proofs.lemmas.Bool.{both_ways}
-use Rattle.vms_model.specs.Ids.{Id}
 use Rattle.vms_model.specs.Transactions.{Aborted}
 use Rattle.transcript_model.specs.Lines as line
 use Rattle.transcript_model.specs.Lines.{Line, Cause}
-use Rattle.script_model.specs.Statements.{Statement, At, Request, Init, Boot, Create, SetFile, StartTrans, Records, EndTrans, AbortTrans, Dump, Fuse, Crash, Reading, Blank, Says, Bad}
+use Rattle.script_model.specs.Statements.{Statement, At, Request, Init, Boot, Create, SetFile, StartTrans, Records, Direct, EndTrans, AbortTrans, Dump, DumpJournal, Fuse, Crash, Reading, Blank, Says, Bad}
 use Rattle.script_model.specs.Grammar.{reading}
+use Rattle.vms_model.specs.Keys.{Key}
 use Rattle.records_model.specs.Records.{Change}
-use Rattle.run_model.specs.World.{World, Shared, Node, DiskCounts, Act, Formats, ComesUp, Begins, Falls, Power, opened, find_node, with_node, acted, shared_after, powered, unpowered, is_durable}
-use Rattle.run_model.specs.Answers.{Row, refused_before_reading, refused_after_reading, rows_at, closing_at, answer_at, spoils, powers, occupies, touches, change_act, changes_at, operated, committed, aborted, records_of}
+use Rattle.commit_protocol.specs.Table.{Branch}
+use Rattle.run_model.specs.World.{World, Shared, Node, DiskCounts, Act, Formats, Boots, ComesUp, Begins, Falls, Power, opened, find_node, with_node, acted, shared_after, powered, unpowered, is_durable}
+use Rattle.run_model.specs.Answers.{Row, refused_before_reading, refused_after_reading, rows_at, closing_of, answer_at, spoils, powers, occupies, touches, changes_at, directed, entry_lines, keys_at, left_active, operated, operation_act, committed, aborted, records_of}
 use Rattle.run_model.specs.Steps as task
 use Rattle.run_model.specs.Steps.{Serves, Choice, Whole, WithoutMemory, Unpowered, Cut, TaskEffect, RequestAllowed, task_effect, node_after, node_after_rows, shared_then, shared_after_rows, rows_to_cut, rows_if, ready_node, spoilt, occupied}
 use Rattle.run_model.specs.Statements.{Step, RoseAt, stops_at}
 use Rattle.run_model.specs.Transcript.{Entry, Legal, Turn}
 use Rattle.run_model.specs.Said.{Said, SaidNode, SaidShared, refused_by_said, is_by_lines, up_then, unmade_then, node_said, shared_said, with_said, said_then, said_here, said_of, nothing_said}
 use Rattle.run_model.specs.Laws.{is_refusal, readied, AreOpening, SaidIsSo}
-use Rattle.run_model.proofs.IdLemmas.{Each}
+use Rattle.run_model.specs.Running.{Each}
 use Rattle.run_model.proofs.FindLemmas.{found_each, found_name}
 use Rattle.run_model.proofs.ReadyLemmas.{powered_is, resolved}
-use Rattle.run_model.proofs.Soundness.{IsSoundNode, IsSoundWorld, MayBeUnderWay}
+use Rattle.run_model.proofs.UnderWay.{HasStep, HaveSteps, IsStep, legal_steps, opened_steps, said_step}
 use Rattle.run_model.proofs.AnswerLemmas.{is_failure, then_by_more, refuses_before_reading, refuses_after_reading, answer_at_no_failure}
 use Rattle.run_model.proofs.EffectLemmas.{same_last, refusals}
 use Rattle.run_model.proofs.CountLemmas.{successes}
-use Rattle.run_model.proofs.WayLemmas.{each_branch, each_shown, each_created, each_take}
+use Rattle.run_model.proofs.RowKinds.{each_branch, each_created, each_line, each_shown, each_take, each_undone}
 use Rattle.run_model.proofs.NodeTurns.{node_turn, none_turn, effect_name}
-use Rattle.run_model.proofs.LegalLemmas.{legal_sound, opened_sound, said_step}
 use Rattle.run_model.proofs.SaidRefusals.{node_as_said, shared_as_said, as_said, label_as_said, by_more_at, first_parted, says_by_said, says_by_more_at, one_kind, by_lines_refuses, first_kind, lines_refuse}
 
 -- What the answers tell is so.
@@ -120,16 +120,16 @@ rows_shared : (rs : List Row) (s : Shared) → Each (λ r. IsGentle r.act) rs �
 rows_shared [] s h = refl
 rows_shared (r ∷ rs) s h = rows_shared rs (shared_then r.act s) h.1 ∙ after_shared r.act s h.0
 
-pub powered_stays : (taken : Bool) (stops : ℕ) (n : Node) → MayBeUnderWay n.under_way n → Stays n (powered taken stops n)
+pub powered_stays : (taken : Bool) (stops : ℕ) (n : Node) → HasStep n → Stays n (powered taken stops n)
 powered_stays taken stops n may = subst (Stays n) (sym (powered_is taken stops n)) (go taken n.under_way may)
   where
-    go : (t : Bool) (o : Option Act) → MayBeUnderWay o n → Stays n (record (resolved t o n) { calls = Power stops ∷ n.calls; under_way = None })
-    go true (Some act) k = let s = gentle_stays act n (durable_gentle act k.0) in record { up = s.up; unmade = s.unmade }
+    go : (t : Bool) (o : Option Act) → IsStep o → Stays n (record (resolved t o n) { calls = Power stops ∷ n.calls; under_way = None })
+    go true (Some act) k = let s = gentle_stays act n (durable_gentle act k) in record { up = s.up; unmade = s.unmade }
     go true None k = record { up = refl; unmade = refl }
     go false o k = record { up = refl; unmade = refl }
 
 -- once its disk runs again, a node is up or down as before, and is as well known but by an INIT
-ready_stays : (taken : Bool) (stops : ℕ) (request : Request) (n : Node) → MayBeUnderWay n.under_way n → spoils request ≡ false → Stays n (ready_node taken stops request n)
+ready_stays : (taken : Bool) (stops : ℕ) (request : Request) (n : Node) → HasStep n → spoils request ≡ false → Stays n (ready_node taken stops request n)
 ready_stays taken stops request n may e = go (powers request) (spoils request) e
   where
     go : (b c : Bool) → c ≡ false → Stays n (if b then spoilt c (powered taken stops n) else n)
@@ -150,20 +150,26 @@ touching_quiet (StartTrans label) h = let none : ⊥ = cc in absurd none
 touching_quiet Crash h = let none : ⊥ = cc in absurd none
 touching_quiet _ h = refl
 
-change_gentle : (serial : Id) (file : List ℕ) (cs : List Change) → IsGentle (change_act serial file cs)
-change_gentle serial file [] = tt
-change_gentle serial file (c ∷ cs) = refl
+change_gentle : (b : Branch) (file : List ℕ) (cs : List Change) (keys : List Key) → is_gentle (operation_act b file cs keys) ≡ true
+change_gentle b file [] keys = refl
+change_gentle b file (c ∷ cs) keys = refl
+
+direct_gentle : (n : Node) (file : List ℕ) (cs : List Change) → Each (λ r. IsGentle r.act) (directed n file cs)
+direct_gentle n file [] = tt
+direct_gentle n file (c ∷ cs) = (refl, tt)
 
 gentle_rows : (w : World) (n : Node) (request : Request) → is_quiet request ≡ true → Each (λ r. IsGentle r.act) (rows_at w.shared n request)
 gentle_rows w n (Init slots journal) q = tt
-gentle_rows w n Boot q = (refl, tt)
+gentle_rows w n Boot q = (refl, each_undone (λ r. IsGentle r.act) (acted Boots n) (left_active n) (λ m u. refl))
 gentle_rows w n (Create file bucket size form) q = each_created (λ r. IsGentle r.act) n file bucket size form (λ place f. refl)
 gentle_rows w n (SetFile file setting) q = (refl, tt)
 gentle_rows w n (StartTrans label) q = let none : ⊥ = cc in absurd none
-gentle_rows w n (Records label file op) q = each_branch (λ r. IsGentle r.act) w n label (operated n file op) (λ b i. change_gentle b.serial file (changes_at n file op))
-gentle_rows w n (EndTrans label) q = each_branch (λ r. IsGentle r.act) w n label (committed n) (λ b i. refl)
-gentle_rows w n (AbortTrans label) q = each_branch (λ r. IsGentle r.act) w n label (aborted Aborted n) (λ b i. refl)
+gentle_rows w n (Records label file op) q = each_branch (λ r. IsGentle r.act) w n label (operated n file op) (λ b. change_gentle b file (changes_at n file op) (keys_at n file op))
+gentle_rows w n (Direct file op) q = direct_gentle n file (changes_at n file op)
+gentle_rows w n (EndTrans label) q = each_branch (λ r. IsGentle r.act) w n label (committed n) (λ b. refl)
+gentle_rows w n (AbortTrans label) q = each_branch (λ r. IsGentle r.act) w n label (λ b. aborted Aborted n b.key.tid b.key.serial) (λ b. refl)
 gentle_rows w n (Dump file) q = each_shown (λ r. IsGentle r.act) (records_of n file) (λ e. tt)
+gentle_rows w n DumpJournal q = each_line (λ r. IsGentle r.act) (entry_lines n.durable.units.first n.durable.units.entries) (λ l. tt)
 gentle_rows w n (Fuse writes choice) q = (refl, tt)
 gentle_rows w n Crash q = let none : ⊥ = cc in absurd none
 
@@ -200,10 +206,10 @@ plain_shared node (StartTrans label) answer s h = let none : ⊥ = cc in absurd 
 plain_shared node Boot answer s h = let none : ⊥ = cc in absurd none
 plain_shared node _ answer s h = refl
 
-plain_closing : (s : Shared) (n : Node) (request : Request) → is_plain request ≡ true → closing_at s n request ≡ None
-plain_closing s n (Init slots journal) h = let none : ⊥ = cc in absurd none
-plain_closing s n Boot h = let none : ⊥ = cc in absurd none
-plain_closing s n _ h = refl
+plain_closing : (request : Request) → is_plain request ≡ true → closing_of request ≡ None
+plain_closing (Init slots journal) h = let none : ⊥ = cc in absurd none
+plain_closing Boot h = let none : ⊥ = cc in absurd none
+plain_closing _ h = refl
 
 plain_spoils : (request : Request) → is_plain request ≡ true → (spoils request ≡ false) × (occupies request ≡ false)
 plain_spoils (Init slots journal) h = let none : ⊥ = cc in absurd none
@@ -229,7 +235,7 @@ spoilt_unmade : (b : Bool) (n m : Node) → m.unmade ≡ n.unmade → (spoilt b 
 spoilt_unmade true n m e = refl
 spoilt_unmade false n m e = e
 
-module _ (w : World) (node : List ℕ) (n : Node) (request : Request) (stops : ℕ) (named : n.name ≡ node) (may : MayBeUnderWay n.under_way n) where
+module _ (w : World) (node : List ℕ) (n : Node) (request : Request) (stops : ℕ) (named : n.name ≡ node) (may : HasStep n) where
   abbrev Told : TaskEffect → Type 0
   Told e = IsToldBy node request e.answer w.shared e.shared n e.node
 
@@ -244,31 +250,35 @@ module _ (w : World) (node : List ℕ) (n : Node) (request : Request) (stops : �
   plain_told ready p s =
       let rs = rows_at w.shared ready request in
       let gentle = gentle_rows w ready request (plain_quiet request p) in
-      let closing = plain_closing w.shared ready request p in
+      let closing = plain_closing request p in
       let done = stays_on n ready (node_after_rows rs ready) s (rows_stay rs ready gentle) in
-      let is : node_after (closing_at w.shared ready request) (node_after_rows rs ready) ≡ node_after_rows rs ready = ap (λ o. node_after o (node_after_rows rs ready)) closing in
+      let is : node_after (closing_of request) (node_after_rows rs ready) ≡ node_after_rows rs ready = ap (λ o. node_after o (node_after_rows rs ready)) closing in
       record {
-        up = ap (λ (x : Node). x.up) is ∙ done.up ∙ sym (plain_up request (answer_at w.shared ready request) n.up p (answer_at_no_failure w.shared ready request));
-        unmade = ap (λ (x : Node). x.unmade) is ∙ done.unmade ∙ sym (plain_unmade request (answer_at w.shared ready request) n.unmade p);
+        up = ap (λ (x : Node). x.up) is ∙ done.up ∙ sym (plain_up request (answer_at ready request) n.up p (answer_at_no_failure ready request));
+        unmade = ap (λ (x : Node). x.unmade) is ∙ done.unmade ∙ sym (plain_unmade request (answer_at ready request) n.unmade p);
         shared = ap (λ (x : Shared). shared_as_said (occupied request x)) (ap (λ o. shared_then o (shared_after_rows rs w.shared)) closing ∙ rows_shared rs w.shared gentle)
             ∙ ap (λ b. record (shared_as_said w.shared) { in_use = w.shared.in_use || b }) (plain_spoils request p).1
             ∙ ap (λ b. record (shared_as_said w.shared) { in_use = b }) (or-false w.shared.in_use)
-            ∙ sym (plain_shared node request (answer_at w.shared ready request) (shared_as_said w.shared) p);
+            ∙ sym (plain_shared node request (answer_at ready request) (shared_as_said w.shared) p);
       }
 
 -- a success
-done_told : (w : World) (node : List ℕ) (n : Node) (request : Request) (stops : ℕ) (taken : Bool) → n.name ≡ node → MayBeUnderWay n.under_way n →
+done_told : (w : World) (node : List ℕ) (n : Node) (request : Request) (stops : ℕ) (taken : Bool) → n.name ≡ node → HasStep n →
     (let e = task.succeeded w.shared (ready_node taken stops request n) request in IsToldBy node request e.answer w.shared e.shared n e.node)
 done_told w node n (Init slots journal) stops taken named may = record {
   up = (powered_stays taken stops n may).up;
   unmade = refl;
   shared = ap (λ b. record (shared_as_said w.shared) { in_use = b }) (or-false w.shared.in_use);
 }
-done_told w node n Boot stops taken named may = record {
-  up = refl;
-  unmade = (powered_stays taken stops n may).unmade;
-  shared = broken_shared node Boot line.Failed w.shared;
-}
+done_told w node n Boot stops taken named may =
+    let ready = ready_node taken stops Boot n in
+    let rs = rows_at w.shared ready Boot in
+    let gentle = gentle_rows w ready Boot refl in
+    record {
+      up = refl;
+      unmade = (rows_stay rs ready gentle).unmade ∙ (powered_stays taken stops n may).unmade;
+      shared = ap (λ (x : Shared). shared_as_said (occupied Boot x)) (rows_shared rs w.shared gentle) ∙ broken_shared node Boot line.Failed w.shared;
+    }
 done_told w node n (StartTrans label) stops taken named may = record {
   up = refl;
   unmade = refl;
@@ -282,9 +292,11 @@ done_told w node n Crash stops taken named may = record {
 done_told w node n (Create file bucket size form) stops taken named may = plain_told w node n (Create file bucket size form) stops named may n refl (stays_itself n)
 done_told w node n (SetFile file setting) stops taken named may = plain_told w node n (SetFile file setting) stops named may n refl (stays_itself n)
 done_told w node n (Records label file op) stops taken named may = plain_told w node n (Records label file op) stops named may n refl (stays_itself n)
+done_told w node n (Direct file op) stops taken named may = plain_told w node n (Direct file op) stops named may n refl (stays_itself n)
 done_told w node n (EndTrans label) stops taken named may = plain_told w node n (EndTrans label) stops named may n refl (stays_itself n)
 done_told w node n (AbortTrans label) stops taken named may = plain_told w node n (AbortTrans label) stops named may n refl (stays_itself n)
 done_told w node n (Dump file) stops taken named may = plain_told w node n (Dump file) stops named may n refl (stays_itself n)
+done_told w node n DumpJournal stops taken named may = plain_told w node n DumpJournal stops named may n refl (stays_itself n)
 done_told w node n (Fuse writes choice) stops taken named may = plain_told w node n (Fuse writes choice) stops named may n refl (stays_itself n)
 
 -- an INIT is not refused once its disk runs again
@@ -297,12 +309,12 @@ cut_rows : (w : World) (n : Node) (request : Request) (k : ℕ) → touches requ
 cut_rows w n request k h = some_rows w n request k (refused_after_reading w.shared n request) (touching_quiet request h)
 
 -- a node whose disk runs again is known as before, but for an INIT
-ready_unmade : (taken : Bool) (stops : ℕ) (request : Request) (n : Node) → MayBeUnderWay n.under_way n → (ready_node taken stops request n).unmade ≡ (if spoils request then true else n.unmade)
+ready_unmade : (taken : Bool) (stops : ℕ) (request : Request) (n : Node) → HasStep n → (ready_node taken stops request n).unmade ≡ (if spoils request then true else n.unmade)
 ready_unmade taken stops (Init slots journal) n may = refl
 ready_unmade taken stops Boot n may = (powered_stays taken stops n may).unmade
 ready_unmade taken stops _ n may = refl
 
-module _ (w : World) (node : List ℕ) (n : Node) (request : Request) (stops : ℕ) (named : n.name ≡ node) (may : MayBeUnderWay n.under_way n) where
+module _ (w : World) (node : List ℕ) (n : Node) (request : Request) (stops : ℕ) (named : n.name ≡ node) (may : HasStep n) where
   begun_told : (taken : Bool) (o : Option Line) → refused_after_reading w.shared (ready_node taken stops request n) request ≡ o →
       (let e = task.begun w.shared (ready_node taken stops request n) request o in IsToldBy node request e.answer w.shared e.shared n e.node)
   begun_told taken (Some refusal) e =
@@ -370,7 +382,7 @@ here_said s said events lines answer shows =
     let last : last_or None lines ≡ Some answer = ap (last_or None) shows ∙ last_is None events answer in
     rw (last, said_here) refl
 
-step_said : (w v : World) (node : List ℕ) (request : Request) (lines : List Line) → IsSoundWorld w → Step w (At node request) lines v → as_said v ≡ said_here (Says (At node request)) lines (as_said w)
+step_said : (w v : World) (node : List ℕ) (request : Request) (lines : List Line) → HaveSteps w → Step w (At node request) lines v → as_said v ≡ said_here (Says (At node request)) lines (as_said w)
 step_said w v node request lines sound step = go (find_node node w.nodes) refl
   where
     go : (o : Option Node) → find_node node w.nodes ≡ o → as_said v ≡ said_here (Says (At node request)) lines (as_said w)
@@ -378,7 +390,7 @@ step_said w v node request lines sound step = go (find_node node w.nodes) refl
         let t = node_turn w v node request lines n found step in
         let e = task_effect w.shared (stops_at node w) n (Serves request) t.choice in
         let name = found_name node w.nodes n found in
-        let told = choice_told w node n request (stops_at node w) name (found_each IsSoundNode node w.nodes n sound.0 found).1 t.choice (λ cause. RoseAt w node cause v.disks) t.allowed in
+        let told = choice_told w node n request (stops_at node w) name (found_each HasStep node w.nodes n sound found) t.choice (λ cause. RoseAt w node cause v.disks) t.allowed in
         let same : node_as_said e.node ≡ node_said request e.answer (node_as_said n) = λ i. record { name = effect_name w.shared (stops_at node w) n request t.choice i; up = told.up i; unmade = told.unmade i } in
         (λ i. record { nodes = (ap (map node_as_said) t.nodes ∙ told_at node e.node (node_said request e.answer) w.nodes n found same) i; shared = (ap shared_as_said t.shared ∙ told.shared) i })
         ∙ sym (here_said (At node request) (as_said w) e.lines lines e.answer t.shows)
@@ -388,7 +400,7 @@ step_said w v node request lines sound step = go (find_node node w.nodes) refl
         ∙ (λ i. record { nodes = sym (told_nowhere node (node_said request line.NoSuchNode) w.nodes none) i; shared = sym (quiet_shared node request line.NoSuchNode (shared_as_said w.shared) refl) i })
         ∙ sym (here_said (At node request) (as_said w) [] lines line.NoSuchNode r.0)
 
-turn_said : (w v : World) (said : Reading) (lines : List Line) → IsSoundWorld w → Turn w said lines v → as_said v ≡ said_here said lines (as_said w)
+turn_said : (w v : World) (said : Reading) (lines : List Line) → HaveSteps w → Turn w said lines v → as_said v ≡ said_here said lines (as_said w)
 turn_said w v Blank lines sound turn = ap as_said turn.1
 turn_said w v (Says (At node request)) lines sound turn = step_said w v node request lines sound turn
 turn_said w v (Bad column) lines sound turn = absurd turn
@@ -404,7 +416,7 @@ opened_said nodes disks opening = λ i. record { nodes = go nodes opening i; sha
 legal_said : (nodes : List Node) (disks : List DiskCounts) (es : List Entry) (w : World) → AreOpening nodes → Legal (opened nodes disks) es w → as_said w ≡ said_of (map (λ n. n.name) nodes) es
 legal_said nodes disks [] w opening legal = ap as_said legal ∙ opened_said nodes disks opening
 legal_said nodes disks (e ∷ es) w opening legal =
-    turn_said legal.0 w (reading e.source.text) e.lines (legal_sound (opened nodes disks) legal.0 es legal.1 (opened_sound nodes disks opening)) legal.2
+    turn_said legal.0 w (reading e.source.text) e.lines (legal_steps (opened nodes disks) legal.0 es legal.1 (opened_steps nodes opening)) legal.2
     ∙ ap (said_here (reading e.source.text) e.lines) (legal_said nodes disks es legal.0 opening legal.1)
 
 -- The refusals.
@@ -422,7 +434,7 @@ refused_by_lines_alone w v node request events answer step is =
 
 pub said_so : SaidIsSo
 said_so nodes disks es closing opening legal before (At node request) events answer there =
-    let was = said_step (opened nodes disks) closing es before (At node request) events answer (opened_sound nodes disks opening) legal there in
+    let was = said_step (opened nodes disks) closing es before (At node request) events answer legal there in
     let told = legal_said nodes disks before was.from opening was.legal in (
       λ is. ap (λ said. refused_by_said said (At node request)) (sym told) ∙ refused_by_lines_alone was.from was.to node request events answer was.step is,
       λ refusal e.

@@ -5,7 +5,7 @@ use Rattle.std.specs.Option.{option_map}
 use Rattle.std.specs.Str.{bytes_eq}
 use Rattle.transcript_model.specs.Lines as line
 use Rattle.transcript_model.specs.Lines.{Line, Cause}
-use Rattle.script_model.specs.Statements.{At, Request, Init, Boot, Create, SetFile, StartTrans, Records, EndTrans, AbortTrans, Dump, Fuse, Crash}
+use Rattle.script_model.specs.Statements.{At, Request, Init, Boot, Create, SetFile, StartTrans, Records, Direct, EndTrans, AbortTrans, Dump, DumpJournal, Fuse, Crash}
 use Rattle.run_model.specs.World.{World, Shared, Node, Label, find_node, find_label}
 use Rattle.run_model.specs.Answers.{refused_before_reading, new_label, made_label, label_limit}
 use Rattle.run_model.specs.Operations.{first_of, refused_if}
@@ -100,9 +100,11 @@ parted s n (Create file bucket size form) = down_alone n.up _
 parted s n (SetFile file setting) = down_alone n.up _
 parted s n (StartTrans label) = ap (λ o. first_of (refused_if (not (n.up || false)) line.NodeDown) o) (new_as_said s label) ∙ down_alone n.up _ ∙ no_other _
 parted s n (Records label file op) = ap (λ o. first_of (refused_if (not (n.up || false)) line.NodeDown) (first_of o (by_more s n (Records label file op)))) (made_as_said s n label) ∙ down_first n.up _ _
+parted s n (Direct file op) = down_alone n.up _
 parted s n (EndTrans label) = ap (λ o. first_of (refused_if (not (n.up || false)) line.NodeDown) (first_of o (by_more s n (EndTrans label)))) (made_as_said s n label) ∙ down_first n.up _ _
 parted s n (AbortTrans label) = ap (λ o. first_of (refused_if (not (n.up || false)) line.NodeDown) (first_of o (by_more s n (AbortTrans label)))) (made_as_said s n label) ∙ down_first n.up _ _
 parted s n (Dump file) = down_alone n.up _
+parted s n DumpJournal = down_alone n.up _
 parted s n (Fuse writes choice) = served_anyway n.up _
 parted s n Crash = down_alone n.up _
 

@@ -5,7 +5,7 @@ use Rattle.transcript_model.specs.Lines as line
 use Rattle.transcript_model.specs.Lines.{Line, Cause, Failed}
 use Rattle.script_model.specs.Statements.{Request}
 use Rattle.run_model.specs.World.{Shared, Node, DiskCounts, fallen, unpowered}
-use Rattle.run_model.specs.Answers.{refused_before_reading, refused_after_reading, rows_at, closing_at, answer_at, powers, spoils, touches, takes_memory}
+use Rattle.run_model.specs.Answers.{refused_before_reading, refused_after_reading, rows_at, closing_of, answer_at, powers, spoils, touches, takes_memory}
 use Rattle.run_model.specs.Steps.{NodeStep, Serves, Whole, WithoutMemory, Unpowered, Cut, count_of, lines_of_rows, node_after, node_after_rows, shared_then, shared_after_rows, act_begun, ready_node, spoilt, occupied}
 
 module _ (s : Shared) (n : Node) (request : Request) (old new : DiskCounts) (faults : old.faults ≤ new.faults) (stops : old.stops ≤ new.stops) where
@@ -21,12 +21,12 @@ module _ (s : Shared) (n : Node) (request : Request) (old new : DiskCounts) (fau
   -- done whole, once the disk runs again where it is made to
   pub task_whole : (taken : Bool) → refused_before_reading s n request ≡ None → refused_after_reading s (ready_node taken old.stops request n) request ≡ None →
       (let m = ready_node taken old.stops request n in
-      NodeStep s n old (Serves request) (lines_of_rows (rows_at s m request)) (answer_at s m request) (node_after (closing_at s m request) (node_after_rows (rows_at s m request) m))
-      (occupied request (shared_then (closing_at s m request) (shared_after_rows (rows_at s m request) s))) new)
+      NodeStep s n old (Serves request) (lines_of_rows (rows_at s m request)) (answer_at m request) (node_after (closing_of request) (node_after_rows (rows_at s m request) m))
+      (occupied request (shared_then (closing_of request) (shared_after_rows (rows_at s m request) s))) new)
   task_whole taken e l = record { choice = Whole taken; allowed = tt; faults = faults; stops = stops; shows = rw (e, l) refl; answers = rw (e, l) refl; node = rw (e, l) refl; shared = rw (e, l) refl }
 
   -- refused for want of memory
-  pub task_without_memory : refused_before_reading s n request ≡ None → takes_memory s n request ≡ true → NodeStep s n old (Serves request) [] line.NoMemory n s new
+  pub task_without_memory : refused_before_reading s n request ≡ None → takes_memory n request ≡ true → NodeStep s n old (Serves request) [] line.NoMemory n s new
   task_without_memory e may = record { choice = WithoutMemory; allowed = (e, may); faults = faults; stops = stops; shows = refl; answers = refl; node = refl; shared = refl }
 
   -- the disk does not run again

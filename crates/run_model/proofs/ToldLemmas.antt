@@ -1,245 +1,219 @@
--- What a transcript tells of a file's records agrees with the world that it leads to, while the file's node is up.
-use Rattle.std.proofs.Common.{◌≡◌, ℕ, List, [], ◌∷◌, ◌++◌, map, Bool, true, false, not, ◌&&◌, Option, Some, None, if◌then◌else◌, refl, sym, ◌∙◌, ap, subst}
-use Rattle.std.specs.Str.{bytes_eq}
-use Rattle.std.specs.Option.{option_map}
+-- What each statement tells of a file agrees with the world that it leads to.
+use Rattle.std.proofs.Common.{◌≡◌, ℕ, zero, suc, List, [], ◌∷◌, ◌++◌, take, drop, Bool, true, false, not, ◌||◌, Option, Some, None, if◌then◌else◌, refl, sym, subst}
 use Rattle.std.specs.FinMap.{empty}
-use Rattle.std.proofs.lemmas.Bool.{both_ways, and_left, and_right}
-use Rattle.std.proofs.lemmas.Slice.Eq.{bytes_eq-Decides}
-use Rattle.vms_model.specs.Ids.{Id}
-use Rattle.vms_model.specs.Keys.{Key}
+use Rattle.vms_model.specs.Transactions.{Aborted}
 use Rattle.transcript_model.specs.Lines as line
 use Rattle.transcript_model.specs.Lines.{Line, Cause}
-use Rattle.script_model.specs.Statements.{At, Request, Init, Boot, Create, Records, Operation, Put, Update, Delete, Truncate, Get, Next, Reading, Says}
-use Rattle.records_model.specs.Records.{Records as TheRecords}
-use Rattle.records_model.specs.History.{History, LiveChanges, same_id, changes_by, settled_at}
-use Rattle.run_model.specs.World.{World, Node, File, Organization, Sequential, Relative, Indexed, Settlement, Act, Formats, Boots, ComesUp, Creates, Marks, Begins, Changes, Settles, Arms, Falls, find_node, find_file, serials_of, with_file, settled_file, acted, next_id, is_durable, powered}
-use Rattle.run_model.specs.Answers.{is_volume_form, powers, refused_where_served, shown_record, spoils}
-use Rattle.run_model.specs.Steps.{lines_of_rows, ready_node, spoilt}
+use Rattle.script_model.specs.Statements.{Request, Init, Boot, Create, SetFile, StartTrans, Records, Direct, EndTrans, AbortTrans, Dump, DumpJournal, Fuse, Crash}
+use Rattle.commit_protocol.specs.Table.{Active}
+use Rattle.commit_protocol.specs.Rows.{blank}
+use Rattle.run_model.specs.World.{World, Node, Label, Act, Arms, Begins, Falls, Formats, Marks, acted, fallen, find_node, is_durable, next_id, powered, unpowered}
+use Rattle.run_model.specs.Operations.{form_refused, refused_if}
+use Rattle.run_model.specs.Answers.{Row, aborted, answer_at, committed, is_for_units, made_label, new_file, of_file, operated, powers, records_of, refused_after_reading, refused_before_reading, refused_where_served, rows_at, closing_of, served_down, there_is_file, touches, unsettled_label}
+use Rattle.run_model.specs.Steps.{Choice, Cut, Unpowered, Whole, WithoutMemory, RequestAllowed, act_begun, begun, lines_of_rows, node_after, node_after_rows, request_effect, rows_if, spoilt, whole}
 use Rattle.run_model.specs.Statements.{stops_at}
-use Rattle.run_model.specs.Laws.{is_refusal, refused_first}
-use Rattle.run_model.proofs.ReadyLemmas.{acted_name, powered_is, resolved}
-use Rattle.run_model.proofs.Ways.{acts, after_rows, readied}
-use Rattle.run_model.proofs.WorldLemmas.{ready_nodes}
-use Rattle.run_model.specs.Operations.{refused_if}
 use Rattle.run_model.specs.Transcript.{Entry}
-use Rattle.run_model.specs.Promises.{In, Told, with_sets, told_by, put_sets, sets_of, one_told, file_of, sets_here, id_told, commits_here, booted_here, created_here, standing}
-use Rattle.run_model.proofs.IdLemmas.{Each, each_at, id_itself}
-use Rattle.run_model.proofs.FindLemmas.{found_each, changed_node, some_is, found_file_each, changed_file, other_file, mapped_file}
-use Rattle.run_model.proofs.Soundness.{IsSoundNode, IsSoundFile, IsSoundWorld, IsUnused, IsDrawn, MayBeUnderWay}
-use Rattle.run_model.proofs.NodeLemmas.{drawn_other, apart_next}
-use Rattle.run_model.proofs.HistoryLemmas.{by_none}
-use Rattle.run_model.proofs.AgreementLemmas.{Agrees}
-use Rattle.run_model.proofs.AnswerLemmas.{neither, not_refused, Served, served}
-use Rattle.run_model.proofs.WayLemmas.{CommitsAt}
+use Rattle.run_model.specs.Laws.{is_refusal}
+use Rattle.run_model.specs.Promises.{Account, commits_here}
+use Rattle.run_model.proofs.AnswerLemmas.{neither, not_refused, refuses_after_reading, refuses_before_reading, served_up}
+use Rattle.run_model.proofs.ActLemmas.{up_parts}
+use Rattle.run_model.proofs.LabelLemmas.{AreLabelled}
+use Rattle.run_model.proofs.Soundness.{IsSoundNode, IsUnused}
+use Rattle.run_model.proofs.ServedLemmas.{IsKeptNode, file_says, not_there, powered_kept, ready_down, ready_rests, rests_up, there_is}
+use Rattle.run_model.proofs.AccountLemmas.{IsQuiet, IsToldOf}
+use Rattle.run_model.proofs.TellingLemmas.{agrees_marked}
+use Rattle.run_model.proofs.TellsLemmas.{armed_told, begun_told, crashed_told, marked_told}
+use Rattle.run_model.proofs.SetsLemmas.{same_text}
+use Rattle.run_model.proofs.RequestLemmas.{RowsTell, refused_told, abort_tells, account_at, branch_tells, broken_lines, create_tells, cut_none, cut_one, direct_tells, end_tells, entries_nothing, operation_tells, records_nothing, shown_cut, shown_done, told_falls, told_under}
+use Rattle.run_model.proofs.RebootLemmas.{boot_cut, boot_done, made_told, powered_told, spoilt_told, unpowered_told}
 
--- the history of a file; where there is none, one without records
-abbrev pub history_of : Option File → History
-history_of (Some f) = f.history
-history_of None = record { base = empty; moment = 0; settled = []; live = [] }
+-- one row, whose act is no step of the disk
+cut_still : (P : Node → List Line → Type 0) (act : Act) (shown : List Line) (k : ℕ) (b : Bool) (cause : Cause) (n : Node) → is_durable act ≡ false → P (fallen None n) (broken_lines n.name cause) →
+    P (fallen None (acted act n)) (((shown ++ []) ++ line.Down n.name cause ∷ []) ++ line.Broken cause ∷ []) →
+    (let rs : List Row = record { act = Some act; lines = shown } ∷ [] in P (fallen (act_begun b (drop k rs)) (node_after_rows (take k rs) n)) ((lines_of_rows (take k rs) ++ line.Down n.name cause ∷ []) ++ line.Broken cause ∷ []))
+cut_still P act shown zero true cause n e none done = subst (λ t. P (fallen (if t then Some act else None) n) (broken_lines n.name cause)) (sym e) none
+cut_still P act shown zero false cause n e none done = none
+cut_still P act shown (suc zero) true cause n e none done = done
+cut_still P act shown (suc zero) false cause n e none done = done
+cut_still P act shown (suc (suc k)) true cause n e none done = done
+cut_still P act shown (suc (suc k)) false cause n e none done = done
 
--- the history of a file of a node
-abbrev pub history_at : List ℕ → Node → History
-history_at file n = history_of (find_file file n.directory)
+module _ (node file : List ℕ) (es : List Entry) (w : World) (n : Node) (found : find_node node w.nodes ≡ Some n) (labels : AreLabelled es w) (sound : IsSoundNode n) (kept : IsKeptNode n) (a : Account) (h : IsToldOf file n a) where
+  abbrev Tells : Request → Node → List Line → Type 0
+  Tells request m lines = IsToldOf file m (account_at node file es w node request lines a)
 
--- while the node of this name is up, what is told agrees with the history of its file
-abbrev pub IsTold : List ℕ → List ℕ → TheRecords → (Id → TheRecords → TheRecords) → World → Type 0
-IsTold node file told puts w = (n : Node) → find_node node w.nodes ≡ Some n → n.up ≡ true → Agrees told puts (serials_of n.branches) (history_at file n)
+  refused_tells : (request : Request) (m : Node) (refusal : Line) → is_refusal refusal ≡ true → IsToldOf file m a → Tells request m (refusal ∷ [])
+  refused_tells request m refusal is t = refused_told node file es w node request m refusal a is t
 
--- the records that a line leaves which reads so, and for which these lines were shown
-abbrev pub records_after : List ℕ → List ℕ → List Told → Reading → List Line → World → TheRecords → TheRecords
-records_after node file told reading lines v m = if booted_here node reading lines then standing node file v else if created_here node file reading lines then empty else commits_here told lines m
+  -- Requests that only a node which is up serves.
 
-pub same_text : (xs : List ℕ) → bytes_eq xs xs ≡ true
-same_text xs = (bytes_eq-Decides xs xs).1 refl
+  module _ (up : n.up ≡ true) where
+    abbrev Rows : Request → Type 0
+    Rows request = RowsTell node file es w n found labels (up_parts n sound up).0 kept (rests_up n kept.way up) up a h request (rows_at w.shared n request)
 
--- A statement that is refused tells nothing, and one that fails nothing of what is put.
+    up_tell : (request : Request) → powers request ≡ false → refused_where_served w.shared n request ≡ None → Rows request
+    up_tell (Create f bucket size form) p passes = create_tells node file es w n found labels (up_parts n sound up).0 kept (rests_up n kept.way up) up a h f bucket size form (not_there n f (neither (new_file n f) _ passes).0)
+    up_tell (SetFile f setting) p passes =
+        let parts = (up_parts n sound up).0 in
+        let rests = rests_up n kept.way up in
+        let act = Marks f (is_for_units setting) in
+        let now = marked_told file n a parts kept.disk.can.notes rests up h f (is_for_units setting) in
+        record {
+          done = now;
+          cut = λ k b cause. cut_one (Tells (SetFile f setting)) act [] k b cause n refl (told_falls file n a h) (told_under file n act a (agrees_marked file f (is_for_units setting) n.volatile.locks n.durable a h.disk) h) (told_falls file (acted act n) a now);
+        }
+    up_tell (StartTrans label) p passes =
+        let parts = (up_parts n sound up).0 in
+        let rests = rests_up n kept.way up in
+        let l : Label = record { name = label; node = n.name; tid = next_id n; bid = None; serial = Some (next_id n) } in
+        let b = blank (next_id n) (next_id n) None Active None in
+        let now = begun_told file n a parts kept.disk.can.notes rests up h l b refl in
+        record { done = now; cut = λ k c cause. cut_still (Tells (StartTrans label)) (Begins l b) [] k c cause n refl (told_falls file n a h) (told_falls file (acted (Begins l b) n) a now) }
+    up_tell (Records label f op) p passes =
+        let parts = (up_parts n sound up).0 in
+        let rests = rests_up n kept.way up in
+        let behind_label = (neither (made_label w.shared n label) _ passes).1 in
+        let behind_file = neither (there_is_file n f) _ behind_label in
+        let behind_form = neither (of_file n f (λ g. form_refused g op)) _ behind_file.1 in
+        let there = there_is n f behind_file.0 in
+        let form = file_says n f there.0 (λ g. form_refused g op) there.1 behind_form.0 in
+        branch_tells node file es w n found labels parts kept rests up a h (Records label f op) label (operated n f op) (neither (unsettled_label w.shared n label) _ behind_form.1).0
+        (λ b i named. operation_tells node file es w n found labels parts kept rests up a h label f op b there.0 i named there.1 form)
+    up_tell (Direct f op) p passes =
+        let behind_file = neither (there_is_file n f) _ passes in
+        let behind_form = neither (of_file n f (λ g. form_refused g op)) _ behind_file.1 in
+        let there = there_is n f behind_file.0 in
+        direct_tells node file es w n found labels (up_parts n sound up).0 kept (rests_up n kept.way up) up a h f op there.0 there.1 (file_says n f there.0 (λ g. form_refused g op) there.1 behind_form.0)
+    up_tell (EndTrans label) p passes =
+        let parts = (up_parts n sound up).0 in
+        let rests = rests_up n kept.way up in
+        branch_tells node file es w n found labels parts kept rests up a h (EndTrans label) label (committed n) (neither _ _ passes).1 (λ b i named. end_tells node file es w n found labels parts kept rests up a h label b i)
+    up_tell (AbortTrans label) p passes =
+        let parts = (up_parts n sound up).0 in
+        let rests = rests_up n kept.way up in
+        branch_tells node file es w n found labels parts kept rests up a h (AbortTrans label) label (λ b. aborted Aborted n b.key.tid b.key.serial) (neither _ _ passes).1
+        (λ b i named. abort_tells node file es w n found labels parts kept rests up a h label b)
+    up_tell (Dump f) p passes =
+        let rs = rows_at w.shared n (Dump f) in
+        record { done = shown_done file rs n a _ refl (records_nothing (records_of n f)) h; cut = λ k b cause. shown_cut file rs n a k b cause (records_nothing (records_of n f)) h }
+    up_tell DumpJournal p passes =
+        let rs = rows_at w.shared n DumpJournal in
+        let none = entries_nothing n.durable.units.first n.durable.units.entries in
+        record { done = shown_done file rs n a _ refl none h; cut = λ k b cause. shown_cut file rs n a k b cause none h }
+    up_tell (Fuse writes choice) p passes =
+        let now = armed_told file writes choice n a h in
+        record { done = now; cut = λ k b cause. cut_still (Tells (Fuse writes choice)) (Arms writes choice) [] k b cause n refl (told_falls file n a h) (told_falls file (acted (Arms writes choice) n) a now) }
+    up_tell Crash p passes =
+        let now = crashed_told file n a (up_parts n sound up).0 kept.disk.can.notes (rests_up n kept.way up) up h in
+        record { done = now; cut = λ k b cause. cut_still (Tells Crash) Falls (line.Crashed n.name ∷ []) k b cause n refl (told_falls file n a h) (told_falls file (acted Falls n) a now) }
+    up_tell (Init slots journal) p passes = let none : ⊥ = cc in absurd none
+    up_tell Boot p passes = let none : ⊥ = cc in absurd none
 
-booted_refused : (node : List ℕ) (reading : Reading) (refusal : Line) → is_refusal refusal ≡ true → booted_here node reading (refusal ∷ []) ≡ false
-booted_refused node (Says (At n Boot)) (line.NormalCount k) h = let none : ⊥ = cc in absurd none
-booted_refused node (Says (At n Boot)) refusal h = and_right (bytes_eq n node) false refl
-booted_refused node reading refusal h = refl
+  module _ (request : Request) (p : powers request ≡ false) (d : served_down request ≡ false) where
+    at_up : refused_before_reading w.shared n request ≡ None → n.up ≡ true
+    at_up e = served_up w n request d e
 
-created_refused : (node file : List ℕ) (reading : Reading) (refusal : Line) → is_refusal refusal ≡ true → created_here node file reading (refusal ∷ []) ≡ false
-created_refused node file (Says (At n (Create f bucket size form))) line.Normal h = let none : ⊥ = cc in absurd none
-created_refused node file reading refusal h = refl
+    passes : refused_before_reading w.shared n request ≡ None → refused_where_served w.shared n request ≡ None
+    passes e = (neither (refused_if (not (n.up || served_down request)) line.NodeDown) (refused_where_served w.shared n request) e).1
 
-commits_refused : (told : List Told) (refusal : Line) (m : TheRecords) → is_refusal refusal ≡ true → commits_here told (refusal ∷ []) m ≡ m
-commits_refused told (line.Committed tid serial moment) m h = let none : ⊥ = cc in absurd none
-commits_refused told refusal m h = refl
+    up_begun : (o : Option Line) → refused_before_reading w.shared n request ≡ None → refused_after_reading w.shared n request ≡ o → closing_of request ≡ None →
+        Tells request (begun w.shared n request o).node ((begun w.shared n request o).lines ++ (begun w.shared n request o).answer ∷ [])
+    up_begun (Some refusal) e l c = refused_tells request n refusal ((refuses_after_reading w n request).says refusal l) h
+    up_begun None e l c = subst (λ o. Tells request (node_after o (node_after_rows (rows_at w.shared n request) n)) (lines_of_rows (rows_at w.shared n request) ++ answer_at n request ∷ [])) (sym c) (up_tell (at_up e) request p (passes e)).done
 
--- whether an answer is one of those by which records are changed
-abbrev pub tells_change : Line → Bool
-tells_change line.RecordNormal = true
-tells_change (line.RecordPosition position) = true
-tells_change answer = false
+    up_whole : (o : Option Line) → refused_before_reading w.shared n request ≡ o → closing_of request ≡ None → Tells request (whole w.shared n n request o).node ((whole w.shared n n request o).lines ++ (whole w.shared n n request o).answer ∷ [])
+    up_whole (Some refusal) e c = refused_tells request n refusal ((refuses_before_reading w n request).says refusal e) h
+    up_whole None e c = up_begun (refused_after_reading w.shared n request) e refl c
 
-pub refusal_tells_none : (refusal : Line) → is_refusal refusal ≡ true → tells_change refusal ≡ false
-refusal_tells_none line.RecordNormal h = let none : ⊥ = cc in absurd none
-refusal_tells_none (line.RecordPosition position) h = let none : ⊥ = cc in absurd none
-refusal_tells_none refusal h = refl
-
-none_put : (o : Organization) (number : Option ℕ) (bytes : List ℕ) (answer : Line) → tells_change answer ≡ false → put_sets o number bytes answer ≡ []
-none_put o number bytes line.RecordNormal h = let none : ⊥ = cc in absurd none
-none_put o number bytes (line.RecordPosition position) h = let none : ⊥ = cc in absurd none
-none_put Sequential None bytes answer h = refl
-none_put Sequential (Some n) bytes answer h = refl
-none_put (Relative greatest) None bytes answer h = refl
-none_put (Relative greatest) (Some n) bytes answer h = refl
-none_put (Indexed position size) None bytes answer h = refl
-none_put (Indexed position size) (Some n) bytes answer h = refl
-
-none_set : (op : Operation) (answer : Line) (f : File) → tells_change answer ≡ false → sets_of op answer f ≡ []
-none_set (Put number bytes) answer f h = none_put f.organization number bytes answer h
-none_set (Update key bytes) line.RecordNormal f h = let none : ⊥ = cc in absurd none
-none_set (Delete key) line.RecordNormal f h = let none : ⊥ = cc in absurd none
-none_set (Truncate number) line.RecordNormal f h = let none : ⊥ = cc in absurd none
-none_set (Update key bytes) answer f h = refl
-none_set (Delete key) answer f h = refl
-none_set (Truncate number) answer f h = refl
-none_set (Get key) answer f h = refl
-none_set (Next after) answer f h = refl
-
--- an answer by which nothing is changed tells nothing more of what a transaction has set
-pub nothing_told : (node file : List ℕ) (es : List Entry) (w : World) (reading : Reading) (answer : Line) (told : List Told) → tells_change answer ≡ false → (id : Id) (m : TheRecords) →
-    told_by id (sets_here node file es w reading (answer ∷ []) told) m ≡ told_by id told m
-nothing_told node file es w (Says (At n (Records l f op))) answer told h id m = go (bytes_eq n node && bytes_eq f file)
-  where
-    one : (o : Option Id) (g : Option File) → told_by id (one_told o g (sets_of op answer) told) m ≡ told_by id told m
-    one (Some tid) (Some g) = ap (λ sets. if same_id id tid then with_sets sets (told_by id told m) else told_by id told m) (none_set op answer g h) ∙ either (same_id id tid)
+    up_cut : (k : ℕ) (b : Bool) (cause : Cause) → refused_before_reading w.shared n request ≡ None →
+        (let rs = rows_if (refused_after_reading w.shared n request) (rows_at w.shared n request) in Tells request (fallen (act_begun b (drop k rs)) (node_after_rows (take k rs) n)) ((lines_of_rows (take k rs) ++ line.Down n.name cause ∷ []) ++ line.Broken cause ∷ []))
+    up_cut k b cause e = go (refused_after_reading w.shared n request)
       where
-        either : (b : Bool) → (if b then told_by id told m else told_by id told m) ≡ told_by id told m
-        either true = refl
-        either false = refl
-    one (Some tid) None = refl
-    one None g = refl
+        t : Rows (at_up e) request
+        t = up_tell (at_up e) request p (passes e)
 
-    go : (b : Bool) → told_by id (if b then one_told (id_told n l es) (file_of node file w) (sets_of op answer) told else told) m ≡ told_by id told m
-    go true = one (id_told n l es) (file_of node file w)
-    go false = refl
-nothing_told node file es w reading answer told h id m = refl
+        go : (o : Option Line) → (let rs = rows_if o (rows_at w.shared n request) in Tells request (fallen (act_begun b (drop k rs)) (node_after_rows (take k rs) n)) ((lines_of_rows (take k rs) ++ line.Down n.name cause ∷ []) ++ line.Broken cause ∷ []))
+        go (Some refusal) = cut_none (Tells request) k b cause n (t.cut 0 false cause)
+        go None = t.cut k b cause
 
-pub records_refused : (node file : List ℕ) (told : List Told) (reading : Reading) (refusal : Line) (v : World) (m : TheRecords) → is_refusal refusal ≡ true → records_after node file told reading (refusal ∷ []) v m ≡ m
-records_refused node file told reading refusal v m h =
-    rw (booted_refused node reading refusal h, created_refused node file reading refusal h) (commits_refused told refusal m h)
+  -- Requests that make the disk run again, and those that a node serves which is down.
 
-pub records_booted : (node file : List ℕ) (told : List Told) (reading : Reading) (lines : List Line) (v : World) (m : TheRecords) → booted_here node reading lines ≡ true → records_after node file told reading lines v m ≡ standing node file v
-records_booted node file told reading lines v m h = rw h refl
+  ready_told : (taken : Bool) (b : Bool) → IsToldOf file (spoilt b (powered taken (stops_at node w) n)) a
+  ready_told taken b = spoilt_told file b (powered taken (stops_at node w) n) a (powered_told file taken (stops_at node w) n a kept h)
 
--- A statement to another node tells nothing of this one.
+  boot_begun : (taken : Bool) (o : Option Line) → refused_after_reading w.shared (powered taken (stops_at node w) n) Boot ≡ o →
+      (let e = begun w.shared (powered taken (stops_at node w) n) Boot o in Tells Boot e.node (e.lines ++ e.answer ∷ []))
+  boot_begun taken (Some refusal) l = refused_tells Boot (powered taken (stops_at node w) n) refusal ((refuses_after_reading w (powered taken (stops_at node w) n) Boot).says refusal l) (ready_told taken false)
+  boot_begun taken None l =
+      let m = powered taken (stops_at node w) n in
+      boot_done file w.shared m a _ (ready_rests taken (stops_at node w) false n) (powered_kept taken (stops_at node w) n kept).disk.last (ready_told taken false)
 
-module _ (node file : List ℕ) (told : List Told) (x : List ℕ) (apart : bytes_eq x node ≡ false) where
-  booted_elsewhere : (request : Request) (lines : List Line) → booted_here node (Says (At x request)) lines ≡ false
-  booted_elsewhere Boot lines = and_left (bytes_eq x node) _ apart
-  booted_elsewhere request lines = refl
+  boot_whole : (taken : Bool) (o : Option Line) → refused_before_reading w.shared n Boot ≡ o → (let e = whole w.shared n (powered taken (stops_at node w) n) Boot o in Tells Boot e.node (e.lines ++ e.answer ∷ []))
+  boot_whole taken (Some refusal) e = refused_tells Boot n refusal ((refuses_before_reading w n Boot).says refusal e) h
+  boot_whole taken None e = boot_begun taken (refused_after_reading w.shared (powered taken (stops_at node w) n) Boot) refl
 
-  created_elsewhere : (request : Request) (lines : List Line) → created_here node file (Says (At x request)) lines ≡ false
-  created_elsewhere (Create f bucket size form) (line.Normal ∷ []) = and_left (bytes_eq x node) _ apart
-  created_elsewhere request lines = refl
-
-  commits_elsewhere : (lines : List Line) (m : TheRecords) → Each (CommitsAt x) lines → ((serial : Id) → serial.node ≡ x → (k : TheRecords) → told_by serial told k ≡ k) → commits_here told lines m ≡ m
-  commits_elsewhere [] m h k = refl
-  commits_elsewhere (line.Committed tid serial moment ∷ lines) m h k = ap (commits_here told lines) (k serial h.0 m) ∙ commits_elsewhere lines m h.1 k
-  commits_elsewhere (other ∷ lines) m h k = commits_elsewhere lines m h.1 k
-
-  pub sets_elsewhere : (es : List Entry) (w : World) (request : Request) (lines : List Line) → sets_here node file es w (Says (At x request)) lines told ≡ told
-  sets_elsewhere es w (Records l f op) (answer ∷ []) = rw apart refl
-  sets_elsewhere es w request lines = refl
-
-  pub records_elsewhere : (request : Request) (lines : List Line) (v : World) (m : TheRecords) → Each (CommitsAt x) lines → ((serial : Id) → serial.node ≡ x → (k : TheRecords) → told_by serial told k ≡ k) →
-      records_after node file told (Says (At x request)) lines v m ≡ m
-  records_elsewhere request lines v m h k = rw (booted_elsewhere request lines, created_elsewhere request lines) (commits_elsewhere lines m h k)
-
--- One act at the node.
-
-pub acts_told : (node file : List ℕ) (told : TheRecords) (puts : Id → TheRecords → TheRecords) (w : World) (n : Node) (act : Act) → find_node node w.nodes ≡ Some n →
-    ((acted act n).up ≡ true → Agrees told puts (serials_of (acted act n).branches) (history_at file (acted act n))) → IsTold node file told puts (acts node act w)
-acts_told node file told puts w n act found h k e up =
-    let same = some_is (acted act n) k (sym (changed_node node (acted act) w.nodes (acted_name act) ∙ ap (option_map (acted act)) found) ∙ e) in
-    subst (λ x. x.up ≡ true → Agrees told puts (serials_of x.branches) (history_at file x)) same h up
-
--- a file behind a change of one of this name
-pub file_after : (file f : List ℕ) (change : File → File) (files : List (Option File)) → ((g : File) → (change g).name ≡ g.name) → (b : Bool) → bytes_eq f file ≡ b →
-    find_file file (with_file f change files) ≡ (if b then option_map change (find_file file files) else find_file file files)
-file_after file f change files named true is =
-    let same : f ≡ file = (bytes_eq-Decides f file).0 is in
-    subst (λ x. find_file file (with_file x change files) ≡ option_map change (find_file file files)) (sym same) (changed_file file change files named)
-file_after file f change files named false apart = other_file file f change files named apart
-
--- the branch that begins has changed nothing
-pub next_unchanged : (file : List ℕ) (n : Node) → IsSoundNode n → changes_by (next_id n) (history_at file n).live ≡ []
-next_unchanged file n sound = go (find_file file n.directory) refl
-  where
-    go : (o : Option File) → find_file file n.directory ≡ o → changes_by (next_id n) (history_of o).live ≡ []
-    go (Some f) is =
-        let known = found_file_each (λ f. IsSoundFile (serials_of n.branches) f.history.live) file n.directory f sound.0.sound_files is in
-        by_none (next_id n) f.history.live (apart_next n (map (λ l. l.serial) f.history.live) (each_drawn f.history.live known.known))
+  module _ (idle : w.shared.in_use ≡ false → IsUnused n × IsQuiet a.told × (a.left ≡ [])) where
+    init_whole : (taken : Bool) (slots journal : ℕ) (o : Option Line) → refused_before_reading w.shared n (Init slots journal) ≡ o →
+        (let e = whole w.shared n (spoilt true (powered taken (stops_at node w) n)) (Init slots journal) o in Tells (Init slots journal) e.node (e.lines ++ e.answer ∷ []))
+    init_whole taken slots journal (Some refusal) e = refused_tells (Init slots journal) n refusal ((refuses_before_reading w n (Init slots journal)).says refusal e) h
+    init_whole taken slots journal None e =
+        let unrefused = not_refused w.shared.in_use line.VolumeInUse (neither (refused_if w.shared.in_use line.VolumeInUse) _ (neither _ _ e).1).0 in
+        let i = idle unrefused in
+        let m = spoilt true (powered taken (stops_at node w) n) in
+        subst (λ b. IsToldOf file (acted (Formats slots journal) m) (if b then record a { records = empty } else commits_here (line.Normal ∷ []) a)) (sym (same_text node))
+        (made_told file slots journal m a (down taken i.0) (ready_rests taken (stops_at node w) true n) i.1 i.2)
       where
-        each_drawn : (ls : List LiveChanges) → Each (λ l. In l.serial (serials_of n.branches)) ls → Each (IsDrawn n.name n.boot n.drawn) (map (λ l. l.serial) ls)
-        each_drawn [] h = tt
-        each_drawn (l ∷ ls) h = (each_at (IsDrawn n.name n.boot n.drawn) l.serial (serials_of n.branches) sound.0.drawn_live h.0, each_drawn ls h.1)
-    go None is = refl
+        down : (taken : Bool) → IsUnused n → (spoilt true (powered taken (stops_at node w) n)).up ≡ false
+        down taken u = ready_down w.shared (stops_at node w) n sound (λ e. (idle e).0) kept taken u
 
-pub next_not_drawn : (n : Node) → IsDrawn n.name n.boot n.drawn (next_id n) → ⊥
-next_not_drawn n drawn = both_ways _ (drawn_other n (next_id n) drawn) (id_itself (next_id n))
+    fuse_whole : (writes choice : ℕ) (o : Option Line) → refused_before_reading w.shared n (Fuse writes choice) ≡ o → (let e = whole w.shared n n (Fuse writes choice) o in Tells (Fuse writes choice) e.node (e.lines ++ e.answer ∷ []))
+    fuse_whole writes choice (Some refusal) e = refused_tells (Fuse writes choice) n refusal ((refuses_before_reading w n (Fuse writes choice)).says refusal e) h
+    fuse_whole writes choice None e = armed_told file writes choice n a h
 
--- the history of a file, after a branch was settled
-pub settled_history : (file : List ℕ) (s : Settlement) (files : List (Option File)) → history_of (find_file file (map (option_map (settled_file s)) files)) ≡ settled_at s.serial s.outcome s.moment (history_of (find_file file files))
-settled_history file s files = ap history_of (mapped_file file (settled_file s) files (λ f. refl)) ∙ same (find_file file files)
-  where
-    same : (o : Option File) → history_of (option_map (settled_file s) o) ≡ settled_at s.serial s.outcome s.moment (history_of o)
-    same (Some f) = refl
-    same None = refl
+    abbrev TellsBy : Request → Choice → Type 0
+    TellsBy request c = let e = request_effect w.shared (stops_at node w) n request c in Tells request e.node (e.lines ++ e.answer ∷ [])
 
--- nothing is told by rows that show records
-pub shown_do_nothing : (node : List ℕ) (es : List (Key × List ℕ)) (w : World) → after_rows node (map shown_record es) w ≡ w
-shown_do_nothing node [] w = refl
-shown_do_nothing node (e ∷ es) w = shown_do_nothing node es w
+    whole_tells : (request : Request) (taken : Bool) → TellsBy request (Whole taken)
+    whole_tells (Init slots journal) taken = init_whole taken slots journal (refused_before_reading w.shared n (Init slots journal)) refl
+    whole_tells Boot taken = boot_whole taken (refused_before_reading w.shared n Boot) refl
+    whole_tells (Fuse writes choice) taken = fuse_whole writes choice (refused_before_reading w.shared n (Fuse writes choice)) refl
+    whole_tells (Create f bucket size form) taken = up_whole (Create f bucket size form) refl refl (refused_before_reading w.shared n (Create f bucket size form)) refl refl
+    whole_tells (SetFile f setting) taken = up_whole (SetFile f setting) refl refl (refused_before_reading w.shared n (SetFile f setting)) refl refl
+    whole_tells (StartTrans label) taken = up_whole (StartTrans label) refl refl (refused_before_reading w.shared n (StartTrans label)) refl refl
+    whole_tells (Records label f op) taken = up_whole (Records label f op) refl refl (refused_before_reading w.shared n (Records label f op)) refl refl
+    whole_tells (Direct f op) taken = up_whole (Direct f op) refl refl (refused_before_reading w.shared n (Direct f op)) refl refl
+    whole_tells (EndTrans label) taken = up_whole (EndTrans label) refl refl (refused_before_reading w.shared n (EndTrans label)) refl refl
+    whole_tells (AbortTrans label) taken = up_whole (AbortTrans label) refl refl (refused_before_reading w.shared n (AbortTrans label)) refl refl
+    whole_tells (Dump f) taken = up_whole (Dump f) refl refl (refused_before_reading w.shared n (Dump f)) refl refl
+    whole_tells DumpJournal taken = up_whole DumpJournal refl refl (refused_before_reading w.shared n DumpJournal) refl refl
+    whole_tells Crash taken = up_whole Crash refl refl (refused_before_reading w.shared n Crash) refl refl
 
-pub shown_commit_nothing : (told : List Told) (es : List (Key × List ℕ)) (count : ℕ) (m : TheRecords) → commits_here told (lines_of_rows (map shown_record es) ++ line.NormalCount count ∷ []) m ≡ m
-shown_commit_nothing told [] count m = refl
-shown_commit_nothing told (e ∷ es) count m = shown_commit_nothing told es count m
+    cut_tells : (request : Request) (taken : Bool) (k : ℕ) (b : Bool) (cause : Cause) → refused_before_reading w.shared n request ≡ None → touches request ≡ true → TellsBy request (Cut taken k b cause)
+    cut_tells (Init slots journal) taken k b cause e t =
+        let m = spoilt true (powered taken (stops_at node w) n) in
+        cut_none (Tells (Init slots journal)) k b cause m (told_falls file m a (ready_told taken true))
+    cut_tells Boot taken k b cause e t =
+        let m = powered taken (stops_at node w) n in
+        boot_cut file w.shared m a k b cause (refused_after_reading w.shared m Boot) (powered_kept taken (stops_at node w) n kept).disk.last (ready_told taken false)
+    cut_tells (Fuse writes choice) taken k b cause e t = let none : ⊥ = cc in absurd none
+    cut_tells (StartTrans label) taken k b cause e t = let none : ⊥ = cc in absurd none
+    cut_tells Crash taken k b cause e t = let none : ⊥ = cc in absurd none
+    cut_tells (Create f bucket size form) taken k b cause e t = up_cut (Create f bucket size form) refl refl k b cause e
+    cut_tells (SetFile f setting) taken k b cause e t = up_cut (SetFile f setting) refl refl k b cause e
+    cut_tells (Records label f op) taken k b cause e t = up_cut (Records label f op) refl refl k b cause e
+    cut_tells (Direct f op) taken k b cause e t = up_cut (Direct f op) refl refl k b cause e
+    cut_tells (EndTrans label) taken k b cause e t = up_cut (EndTrans label) refl refl k b cause e
+    cut_tells (AbortTrans label) taken k b cause e t = up_cut (AbortTrans label) refl refl k b cause e
+    cut_tells (Dump f) taken k b cause e t = up_cut (Dump f) refl refl k b cause e
+    cut_tells DumpJournal taken k b cause e t = up_cut DumpJournal refl refl k b cause e
 
--- A node whose disk is made to run again was down, and is.
+    dead_tells : (request : Request) → powers request ≡ true → TellsBy request Unpowered
+    dead_tells (Init slots journal) p = spoilt_told file true (unpowered (stops_at node w) n) a (unpowered_told file (stops_at node w) n a h)
+    dead_tells Boot p = spoilt_told file false (unpowered (stops_at node w) n) a (unpowered_told file (stops_at node w) n a h)
+    dead_tells _ p = let none : ⊥ = cc in absurd none
 
-resolved_up : (taken : Bool) (o : Option Act) (n : Node) → MayBeUnderWay o n → (resolved taken o n).up ≡ n.up
-resolved_up true (Some act) n may = go act may.0
-  where
-    go : (a : Act) → is_durable a ≡ true → (acted a n).up ≡ n.up
-    go (Formats slots journal) d = let none : ⊥ = cc in absurd none
-    go ComesUp d = let none : ⊥ = cc in absurd none
-    go (Begins label b) d = let none : ⊥ = cc in absurd none
-    go (Arms writes choice) d = let none : ⊥ = cc in absurd none
-    go Falls d = let none : ⊥ = cc in absurd none
-    go Boots d = refl
-    go (Creates place file) d = refl
-    go (Marks file units) d = refl
-    go (Changes serial file changes) d = refl
-    go (Settles s) d = refl
-resolved_up true None n may = refl
-resolved_up false o n may = refl
-
-pub ready_up : (taken : Bool) (stops : ℕ) (b : Bool) (n : Node) → MayBeUnderWay n.under_way n → (spoilt b (powered taken stops n)).up ≡ n.up
-ready_up taken stops true n may = ap (λ (m : Node). m.up) (powered_is taken stops n) ∙ resolved_up taken n.under_way n may
-ready_up taken stops false n may = ap (λ (m : Node). m.up) (powered_is taken stops n) ∙ resolved_up taken n.under_way n may
-
-pub powering_down : (w : World) (node : List ℕ) (request : Request) (n : Node) → IsSoundWorld w → find_node node w.nodes ≡ Some n → refused_where_served w.shared n request ≡ None → powers request ≡ true → n.up ≡ false
-powering_down w node (Init slots journal) n sound found e p =
-    let unused = not_refused w.shared.in_use line.VolumeInUse (neither (refused_if w.shared.in_use line.VolumeInUse) (refused_if (not (is_volume_form slots journal n)) line.BadParameter) e).0 in
-    (found_each IsUnused node w.nodes n (sound.1 unused) found).0
-powering_down w node Boot n sound found e p = not_refused n.up line.NodeUp (neither (refused_if n.up line.NodeUp) (refused_if n.unmade line.NotInitialized) e).0
-powering_down w node _ n sound found e p = let none : ⊥ = cc in absurd none
-
--- a node that is up in the world once its disk was made to run again was not made to
-pub up_as_before : (taken : Bool) (w : World) (node : List ℕ) (request : Request) (m : Node) → IsSoundWorld w → refused_first w (At node request) ≡ None → find_node node (readied taken w (At node request)).nodes ≡ Some m → m.up ≡ true →
-    find_node node w.nodes ≡ Some m
-up_as_before taken w node request m sound e found up = go (powers request) refl (sym (ready_nodes taken w node request ∙ ap (option_map (ready_node taken (stops_at node w) request)) there.found) ∙ found)
-  where
-    there : Served w node request
-    there = served w node request e
-
-    go : (b : Bool) → powers request ≡ b → ◌≡◌ {A = Option Node} (Some (if b then spoilt (spoils request) (powered taken (stops_at node w) there.n) else there.n)) (Some m) → find_node node w.nodes ≡ Some m
-    go true p k =
-        let is : spoilt (spoils request) (powered taken (stops_at node w) there.n) ≡ m = some_is _ _ k in
-        let down = powering_down w node request there.n sound there.found there.passes p in
-        absurd (both_ways m.up (sym (ap (λ (x : Node). x.up) is) ∙ ready_up taken (stops_at node w) (spoils request) there.n (found_each IsSoundNode node w.nodes there.n sound.0 there.found).1 ∙ down) up)
-    go false p k = there.found ∙ k
+    pub effect_tells : (request : Request) (c : Choice) (rises : Cause → Type 0) → RequestAllowed w.shared (stops_at node w) n request rises c → TellsBy request c
+    effect_tells request (Whole taken) rises allowed = whole_tells request taken
+    effect_tells request WithoutMemory rises allowed = refused_tells request n line.NoMemory refl h
+    effect_tells request Unpowered rises allowed = dead_tells request allowed.1
+    effect_tells request (Cut taken k b cause) rises allowed = cut_tells request taken k b cause allowed.0 allowed.1

@@ -4,7 +4,7 @@ use Rattle.transcript_model.specs.Lines as line
 use Rattle.transcript_model.specs.Lines.{Line, Cause, Failed}
 use Rattle.script_model.specs.Statements.{Statement, Request}
 use Rattle.run_model.specs.World.{World, Shared, Node, DiskCounts, Act, find_node, with_node, acted, shared_after, fallen, powered, unpowered}
-use Rattle.run_model.specs.Answers.{Row, rows_at, closing_at, answer_at, silent, powers, spoils, occupies, touches}
+use Rattle.run_model.specs.Answers.{Row, rows_at, closing_of, answer_at, silent, powers, spoils, occupies, touches}
 use Rattle.run_model.specs.Steps.{Choice, Whole, WithoutMemory, Unpowered, Cut, lines_of_rows, rows_if, act_begun, spoilt}
 use Rattle.run_model.specs.Statements.{node_of, request_of, stops_at, RoseAt}
 use Rattle.run_model.specs.Laws.{refused_first, refused_then, may_lack_memory}
@@ -30,14 +30,14 @@ with_closing (Some act) rs = rs ++ silent act ∷ []
 
 -- all that a success does at its node, the last with the answer; and so in the world
 abbrev pub done_at : Shared → Node → Request → List Row
-done_at s n request = with_closing (closing_at s n request) (rows_at s n request)
+done_at s n request = with_closing (closing_of request) (rows_at s n request)
 
 abbrev pub rows : World → Statement → List Row
 rows w s = elim (find_node (node_of s) w.nodes) [ Some n ↦ done_at w.shared n (request_of s) | None ↦ [] ]
 
 -- and its answer
 abbrev pub answer : World → Statement → Line
-answer w s = elim (find_node (node_of s) w.nodes) [ Some n ↦ answer_at w.shared n (request_of s) | None ↦ line.NoSuchNode ]
+answer w s = elim (find_node (node_of s) w.nodes) [ Some n ↦ answer_at n (request_of s) | None ↦ line.NoSuchNode ]
 
 -- what is shown, and the world after it
 pub record Effect : Type 0 where

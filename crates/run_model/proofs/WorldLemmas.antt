@@ -7,15 +7,16 @@ use Rattle.transcript_model.specs.Lines as line
 use Rattle.transcript_model.specs.Lines.{Line, Cause, Failed}
 use Rattle.script_model.specs.Statements.{Statement, At, Request, Init, Boot}
 use Rattle.run_model.specs.World.{World, Shared, Node, DiskCounts, Act, find_node, with_node, Begins, acted, shared_after, fallen, powered, unpowered}
-use Rattle.run_model.specs.Answers.{Row, refused_before_reading, refused_after_reading, rows_at, closing_at, silent, powers, spoils}
+use Rattle.run_model.specs.Answers.{Row, refused_before_reading, refused_after_reading, rows_at, closing_of, silent, powers, spoils}
 use Rattle.run_model.specs.Steps as task
-use Rattle.run_model.specs.Steps.{Task, Serves, Choice, Whole, WithoutMemory, Unpowered, Cut, TaskEffect, TaskAllowed, RequestAllowed, task_effect, node_after_rows, shared_after_rows, node_after, shared_then, lines_of_rows, rows_if, rows_to_cut, act_begun, durable, ready_node, spoilt}
-use Rattle.run_model.specs.Statements.{Step, Does, PartEffect, Parts, Then, part_effect, put_into, no_node, stops_at, RoseAt}
+use Rattle.run_model.specs.Steps.{Task, Serves, Choice, Whole, WithoutMemory, Unpowered, Cut, TaskEffect, TaskAllowed, RequestAllowed, task_effect, node_after_rows, shared_after_rows, node_after, shared_then, lines_of_rows, rows_if, rows_to_cut, act_begun, if_durable, ready_node, spoilt}
+use Rattle.run_model.specs.Statements.{Step, Does, PartEffect, Parts, Then, part_effect, put_into, stops_at, RoseAt}
 use Rattle.run_model.specs.Laws as laws
 use Rattle.run_model.specs.Laws.{refused_first, refused_then, may_lack_memory}
 use Rattle.run_model.proofs.FindLemmas.{changed_node, found_name}
 use Rattle.run_model.proofs.AnswerLemmas.{served, rows_found, answer_found}
 use Rattle.run_model.proofs.ReadyLemmas.{acted_name, powered_name}
+use Rattle.run_model.proofs.StepLemmas.{parts_done, nothing_done}
 use Rattle.run_model.proofs.Ways as world
 use Rattle.run_model.proofs.Ways.{Effect, after_act, after_rows, with_closing, done_at, rows, answer, occupied, readied, rows_of, whole, broken, effect, Allowed, Turns}
 
@@ -141,13 +142,13 @@ closing_lines (Some act) [] = refl
 closing_lines (Some act) (r ∷ rs) = ap (λ ls. r.lines ++ ls) (closing_lines (Some act) rs)
 
 -- the closing act of a request is no step of the disk
-closing_no_step : (s : Shared) (n : Node) (request : Request) → durable (closing_at s n request) ≡ None
-closing_no_step s n (Init slots journal) = refl
-closing_no_step s n Boot = refl
-closing_no_step s n _ = refl
+closing_no_step : (request : Request) → if_durable (closing_of request) ≡ None
+closing_no_step (Init slots journal) = refl
+closing_no_step Boot = refl
+closing_no_step _ = refl
 
 -- so what may be under way behind some of the rows is the same with it
-begun_closing : (c : Option Act) (k : ℕ) (begun : Bool) (rs : List Row) → durable c ≡ None → act_begun begun (drop k (with_closing c rs)) ≡ act_begun begun (drop k rs)
+begun_closing : (c : Option Act) (k : ℕ) (begun : Bool) (rs : List Row) → if_durable c ≡ None → act_begun begun (drop k (with_closing c rs)) ≡ act_begun begun (drop k rs)
 begun_closing None k begun rs e = refl
 begun_closing (Some act) k false rs e = refl
 begun_closing (Some act) zero true [] e = e
@@ -160,7 +161,7 @@ take_closing : (c : Option Act) (k : ℕ) (rs : List Row) → k ≤ length rs �
 take_closing None k rs few = refl
 take_closing (Some act) k rs few = take-append-le k rs (silent act ∷ []) few
 
-pub same_front : (o : Option Line) (c : Option Act) (k : ℕ) (begun : Bool) (rs : List Row) → durable c ≡ None → k ≤ length (rows_if o rs) →
+pub same_front : (o : Option Line) (c : Option Act) (k : ℕ) (begun : Bool) (rs : List Row) → if_durable c ≡ None → k ≤ length (rows_if o rs) →
     (take k (rows_if o (with_closing c rs)) ≡ take k (rows_if o rs)) × (act_begun begun (drop k (rows_if o (with_closing c rs))) ≡ act_begun begun (drop k (rows_if o rs)))
 same_front (Some refusal) c k begun rs e few = (refl, refl)
 same_front None c k begun rs e few = (take_closing c k rs few, begun_closing c k begun rs e)
@@ -179,7 +180,7 @@ puts w node n found f shared = ap (λ ns. record w { nodes = ns; shared = shared
 
 pub success_in : (w : World) (node : List ℕ) (request : Request) (n : Node) → find_node node w.nodes ≡ Some n → IsAs (put_into w node (task.succeeded w.shared n request)) (world.succeeded w (At node request))
 success_in w node request n found =
-    let c = closing_at w.shared n request in
+    let c = closing_of request in
     let rs = rows_at w.shared n request in
     let all = with_closing c rs in
     let are : rows w (At node request) ≡ all = rows_found w node request n found in
@@ -238,11 +239,11 @@ module _ (w : World) (node : List ℕ) (request : Request) (n : Node) (found : f
       let m = readies taken n in
       let o = refused_after_reading w.shared m request in
       let rs = rows_at w.shared m request in
-      let c = closing_at w.shared m request in
+      let c = closing_of request in
       let fs = take k (rows_if o rs) in
       let act = act_begun begun (drop k (rows_if o rs)) in
       let are : rows_of (again taken) s ≡ rows_if o (with_closing c rs) = rw (again_found taken, rows_of, refused_then, rows) refl in
-      let front = same_front o c k begun rs (closing_no_step w.shared m request) few in
+      let front = same_front o c k begun rs (closing_no_step request) few in
       let fronts : take k (rows_of (again taken) s) ≡ fs = ap (take k) are ∙ front.0 in
       let begins : act_begun begun (drop k (rows_of (again taken) s)) ≡ act = ap (λ rows. act_begun begun (drop k rows)) are ∙ front.1 in
       record {
@@ -285,18 +286,22 @@ ended p after lines last v h = go p.ends h
 
 -- each step is one in the world
 pub turns : (w v : World) (s : Statement) (lines : List Line) → Step w s lines v → Turns w s lines v
-turns w v (At node request) lines step = go (find_node node w.nodes) refl step.does.1 (part_effect w (Does node (Serves request)) step.does.0) refl (ended _ v.disks step.events step.answer step.world step.does.2)
+turns w v (At node request) lines step = go (find_node node w.nodes) refl
   where
     goes_on : (p : PartEffect) (e : Effect) → (step.events ≡ p.lines) × (step.answer ≡ p.answer) × (step.world ≡ p.world) → IsAs p e → (lines ≡ e.lines) × (v ≡ record e.world { disks = v.disks })
     goes_on p e h is = (step.shows ∙ (λ i. h.0 i ++ h.1 i ∷ []) ∙ is.lines, step.goes ∙ ap (λ (x : World). record x { disks = v.disks }) (h.2 ∙ is.world))
 
-    go : (o : Option Node) → find_node node w.nodes ≡ o → (elim o as (λ x. Type 0) [ Some n ↦ TaskAllowed w.shared (stops_at node w) n (Serves request) (λ cause. RoseAt w node cause v.disks) step.does.0 | None ↦ Unit {0} ]) →
-        (p : PartEffect) → p ≡ (elim o [ Some n ↦ put_into w node (task_effect w.shared (stops_at node w) n (Serves request) step.does.0) | None ↦ no_node w ]) →
-        (step.events ≡ p.lines) × (step.answer ≡ p.answer) × (step.world ≡ p.world) → Turns w (At node request) lines v
-    go (Some n) found allowed p is h =
-        let r = goes_on p (effect w (At node request) step.does.0) h (subst (λ q. IsAs q (effect w (At node request) step.does.0)) (sym is) (effect_is w node request n found step.does.0 (λ cause. RoseAt w node cause v.disks) allowed)) in
-        record { choice = step.does.0; allowed = allowed_is w node request n found step.does.0 v.disks allowed; shows = r.0; goes = r.1 }
-    go None found allowed p is h =
+    go : (o : Option Node) → find_node node w.nodes ≡ o → Turns w (At node request) lines v
+    go (Some n) found =
+        let d = parts_done w v node request lines n found step in
+        let c = d.0 in
+        let p = part_effect w (Does node (Serves request)) c in
+        let is : p ≡ put_into w node (task_effect w.shared (stops_at node w) n (Serves request) c) = rw (found, part_effect) refl in
+        let allowed = subst (λ o. elim o as (λ x. Type 0) [ Some m ↦ TaskAllowed w.shared (stops_at node w) m (Serves request) (λ cause. RoseAt w node cause v.disks) c | None ↦ Unit {0} ]) found d.1 in
+        let r = goes_on p (effect w (At node request) c) (ended p v.disks step.events step.answer step.world d.2)
+        (subst (λ q. IsAs q (effect w (At node request) c)) (sym is) (effect_is w node request n found c (λ cause. RoseAt w node cause v.disks) allowed)) in
+        record { choice = c; allowed = allowed_is w node request n found c v.disks allowed; shows = r.0; goes = r.1 }
+    go None found =
+        let h = nothing_done w v node request lines found step in
         let first : refused_first w (At node request) ≡ Some line.NoSuchNode = rw (found, refused_first) refl in
-        let r = goes_on p (world.refused w line.NoSuchNode) h (subst (λ q. IsAs q (world.refused w line.NoSuchNode)) (sym is) (record { lines = refl; world = refl })) in
-        record { choice = Whole false; allowed = tt; shows = r.0 ∙ rw first refl; goes = r.1 ∙ rw first refl }
+        record { choice = Whole false; allowed = tt; shows = step.shows ∙ (λ i. h.0 i ++ h.1 i ∷ []) ∙ rw first refl; goes = step.goes ∙ ap (λ (x : World). record x { disks = v.disks }) h.2 ∙ rw first refl }

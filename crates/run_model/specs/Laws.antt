@@ -1,24 +1,75 @@
 -- What holds of all steps and of all legal transcripts.
 use Rattle.std.specs.Prelude.{◌≡◌, ℕ, ◌+◌, ◌<◌, ◌^◌, ◌⊎◌, List, [], ◌∷◌, ◌++◌, Bool, true, false, Option, Some, None, map}
 use Rattle.std.specs.Option.{option_map}
-use Rattle.transcript_model.specs.Lines.{Line, Cause, Record, Committed, Aborted, LastCommitted, LastAborted, Down, Crashed, Normal, NormalCount, NormalId, RecordNormal, RecordPosition, RecordFound, NextFound, NoSuchNode, NodeDown, NodeUp, VolumeInUse, NotInitialized, BadLabel, FileNotFound, FileExists, BadParameter, BadOperation, BadRecordNumber, BadRecordSize, NoSuchTransaction, NotMarked, FileLocked, NoVolume, RecordExists, KeyExists, RecordNotFound, EndOfFile, KeyChanged, QuotaExceeded, VolumeFull, FileFull, NoMemory, Broken, BadLine, TooLong}
+use Rattle.transcript_model.specs.Lines.{Line, Cause, Record, Committed, Aborted, LastCommitted, LastAborted, ChangeEntry, PreparedEntry, SettledEntry, Down, Crashed, Normal, NormalCount, NormalId, NormalSpan, RecordNormal, RecordPosition, RecordFound, NextFound, NoSuchNode, NodeDown, NodeUp, VolumeInUse, NotInitialized, BadLabel, FileNotFound, FileExists, BadParameter, BadOperation, BadRecordNumber, BadRecordSize, NoSuchTransaction, NotMarked, NeedsUnit, RecordLocked, FileLocked, NoVolume, RecordExists, KeyExists, RecordNotFound, EndOfFile, KeyChanged, QuotaExceeded, VolumeFull, FileFull, JournalFull, NoMemory, Broken, BadLine, TooLong}
 use Rattle.script_model.specs.Statements.{Statement, At, Request}
-use Rattle.run_model.specs.World.{World, Shared, Node, DiskCounts, IsOpening, opened, find_node, with_node, disk_of, with_counts}
+use Rattle.run_model.specs.World.{World, Shared, Node, DiskCounts, Settlement, IsOpening, opened, find_node, with_node, disk_of, with_counts}
 use Rattle.run_model.specs.Answers.{refused_before_reading, refused_after_reading, takes_memory, powers}
 use Rattle.run_model.specs.Steps.{Serves, NodeStep, ready_node, succeeded}
 use Rattle.run_model.specs.Statements.{node_of, request_of, stops_at, PartEffect, put_into, no_node, RoseAt, Step}
 use Rattle.run_model.specs.Transcript.{Entry, Legal}
 use Rattle.run_model.specs.Said.{is_by_lines, refused_by_said, said_of}
-use Rattle.run_model.specs.Promises.{SaidThere, Promises}
+use Rattle.run_model.specs.Promises.{Descends, In, SaidThere, SettledOnce, Promises, EndsCommit, AbortsAbort, DirectsCommit, CommitsAreKept, AbortsAreKept, FailuresAreDecided, RestartsDecide, AllAreShown, LastsAreKept, LastsWereAsked, DumpsShow, DumpsShowByAll, settlements_of}
 
 -- each node of a rack is as before the first line
 abbrev pub AreOpening : List Node → Type 0
 AreOpening [] = Unit {0}
 AreOpening (n ∷ ns) = IsOpening n × AreOpening ns
 
--- every legal transcript from a rack of nodes that are down keeps the promises
+-- that this holds of every legal transcript from a rack of nodes that are down
+abbrev pub InAllRuns : (World → List Entry → World → Type 0) → Type 0
+InAllRuns P = (nodes : List Node) (disks : List DiskCounts) (es : List Entry) (closing : World) → AreOpening nodes → Legal (opened nodes disks) es closing → P (opened nodes disks) es closing
+
+-- each such transcript keeps the promises
 abbrev pub PromisesHold : Type 0
-PromisesHold = (nodes : List Node) (disks : List DiskCounts) (es : List Entry) (closing : World) → AreOpening nodes → Legal (opened nodes disks) es closing → Promises (opened nodes disks) es closing
+PromisesHold = InAllRuns Promises
+
+-- and of these each alone
+abbrev pub EndsHold : Type 0
+EndsHold = InAllRuns (λ opening es closing. EndsCommit es closing)
+
+abbrev pub AbortsHold : Type 0
+AbortsHold = InAllRuns (λ opening es closing. AbortsAbort es closing)
+
+abbrev pub DirectsHold : Type 0
+DirectsHold = InAllRuns (λ opening es closing. DirectsCommit es closing)
+
+abbrev pub CommitmentsHold : Type 0
+CommitmentsHold = InAllRuns (λ opening es closing. CommitsAreKept es closing)
+
+abbrev pub AbortedHold : Type 0
+AbortedHold = InAllRuns AbortsAreKept
+
+abbrev pub InterruptedHold : Type 0
+InterruptedHold = InAllRuns (λ opening es closing. FailuresAreDecided es closing)
+
+abbrev pub RestartsHold : Type 0
+RestartsHold = InAllRuns (λ opening es closing. RestartsDecide es closing)
+
+abbrev pub ShownHold : Type 0
+ShownHold = InAllRuns (λ opening es closing. AllAreShown es closing)
+
+abbrev pub LastsHold : Type 0
+LastsHold = InAllRuns LastsAreKept
+
+abbrev pub AskedHold : Type 0
+AskedHold = InAllRuns (λ opening es closing. LastsWereAsked opening es)
+
+abbrev pub DumpsHold : Type 0
+DumpsHold = InAllRuns (λ opening es closing. DumpsShow opening es)
+
+abbrev pub DumpsByAllHold : Type 0
+DumpsByAllHold = InAllRuns (λ opening es closing. DumpsShowByAll opening es)
+
+-- In every legal transcript no branch of a node is settled twice, so none is both committed and aborted, and moments ascend.
+abbrev pub SettlesOnce : Type 0
+SettlesOnce = (nodes : List Node) (disks : List DiskCounts) (es : List Entry) (closing : World) → AreOpening nodes → Legal (opened nodes disks) es closing →
+    (node : List ℕ) → SettledOnce (settlements_of node closing) × Descends (settlements_of node closing)
+
+-- What was settled in the world after some entries is settled so from then on.
+abbrev pub SettlementsStay : Type 0
+SettlementsStay = (nodes : List Node) (disks : List DiskCounts) (after before : List Entry) (closing : World) → AreOpening nodes → Legal (opened nodes disks) (after ++ before) closing →
+    (w : World) × Legal (opened nodes disks) before w × ((node : List ℕ) (s : Settlement) → In s (settlements_of node w) → In s (settlements_of node closing))
 
 -- Some refusals follow from the lines before the statement alone. One whose answer is such a refusal was refused so by what these lines said; and where they
 -- said that it is refused, it was refused so, and showed nothing besides.
@@ -35,11 +86,15 @@ is_refusal (Committed tid serial moment) = false
 is_refusal (Aborted tid serial reason moment) = false
 is_refusal (LastCommitted tid serial moment) = false
 is_refusal (LastAborted tid serial reason moment) = false
+is_refusal (ChangeEntry position tid serial file key image) = false
+is_refusal (PreparedEntry position tid serial) = false
+is_refusal (SettledEntry position tid serial outcome moment) = false
 is_refusal (Down node cause) = false
 is_refusal (Crashed node) = false
 is_refusal Normal = false
 is_refusal (NormalCount n) = false
 is_refusal (NormalId id) = false
+is_refusal (NormalSpan first end) = false
 is_refusal RecordNormal = false
 is_refusal (RecordPosition position) = false
 is_refusal (RecordFound bytes) = false
@@ -58,6 +113,8 @@ is_refusal BadRecordNumber = true
 is_refusal BadRecordSize = true
 is_refusal NoSuchTransaction = true
 is_refusal NotMarked = true
+is_refusal NeedsUnit = true
+is_refusal (RecordLocked serial) = true
 is_refusal (NoVolume node condition block) = true
 is_refusal (FileLocked serial) = true
 is_refusal RecordExists = true
@@ -68,6 +125,7 @@ is_refusal KeyChanged = true
 is_refusal (QuotaExceeded quota limit) = true
 is_refusal (VolumeFull free need) = true
 is_refusal (FileFull free need) = true
+is_refusal (JournalFull free need) = true
 is_refusal NoMemory = true
 is_refusal (Broken cause) = false
 is_refusal (BadLine column) = false
@@ -83,7 +141,7 @@ refused_then w s = elim (find_node (node_of s) w.nodes) [ Some n ↦ refused_aft
 
 -- whether it takes memory
 abbrev pub may_lack_memory : World → Statement → Bool
-may_lack_memory w s = elim (find_node (node_of s) w.nodes) [ Some n ↦ takes_memory w.shared n (request_of s) | None ↦ false ]
+may_lack_memory w s = elim (find_node (node_of s) w.nodes) [ Some n ↦ takes_memory n (request_of s) | None ↦ false ]
 
 -- the world once the disk of its node runs again, where it makes that do so
 abbrev pub readied : Bool → World → Statement → World

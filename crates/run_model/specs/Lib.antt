@@ -1,4 +1,5 @@
 pub mod Extents
+pub mod Locks
 pub mod World
 pub mod Operations
 pub mod Answers
@@ -8,3 +9,11 @@ pub mod Transcript
 pub mod Said
 pub mod Promises
 pub mod Laws
+pub mod Restarts
+pub mod Rows
+pub mod Worlds
+pub mod Holding
+pub mod Ordered
+pub mod Apart
+pub mod Room
+pub mod Running

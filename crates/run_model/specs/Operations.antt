@@ -1,9 +1,9 @@
 -- What each operation on the records of a file answers and does. Each definition here that takes an operation has one case for each of them, or one for
 -- those that it speaks of.
-use Rattle.std.specs.Prelude.{ℕ, ◌+◌, ◌-◌, List, [], ◌∷◌, Bool, true, false, not, ◌||◌, ◌==◌, Option, Some, None, if◌then◌else◌, max, nat_lt, nat_le, map, length, take, drop}
+use Rattle.std.specs.Prelude.{ℕ, ◌+◌, ◌-◌, List, [], ◌∷◌, Bool, true, false, not, ◌||◌, ◌==◌, Option, Some, None, if◌then◌else◌, max, nat_lt, nat_le, map, length, take, drop, reverse, ◌++◌}
 use Rattle.std.specs.FinMap.{entries, get, contains_key}
 use Rattle.std.specs.Ordering.{eq_by_cmp, is_lt}
-use Rattle.vms_model.specs.Keys.{Key, Number, Text}
+use Rattle.vms_model.specs.Keys.{Key, Number, Text, End}
 use Rattle.transcript_model.specs.Lines as line
 use Rattle.transcript_model.specs.Lines.{Line}
 use Rattle.script_model.specs.Statements.{Operation, Put, Update, Delete, Truncate, Get, Next}
@@ -194,6 +194,50 @@ changes_of f (Delete key) = set_in f key None ∷ []
 changes_of f (Truncate number) = map removed (drop (number - 1) (in_order f))
 changes_of f (Get key) = []
 changes_of f (Next after) = []
+
+-- whether an operation is to change something
+abbrev pub is_change : Operation → Bool
+is_change (Put number bytes) = true
+is_change (Update key bytes) = true
+is_change (Delete key) = true
+is_change (Truncate number) = true
+is_change (Get key) = false
+is_change (Next after) = false
+
+-- The keys that an operation asks for: a branch that holds one of them refuses it to others.
+
+-- a record is put behind the others, where the file's end is asked for and the position behind the last, or to its key
+abbrev pub put_keys : Organization → ℕ → Option ℕ → List ℕ → List Key
+put_keys Sequential count number bytes = End ∷ key_put Sequential count number bytes ∷ []
+put_keys (Relative greatest) count number bytes = key_put (Relative greatest) count number bytes ∷ []
+put_keys (Indexed position size) count number bytes = key_put (Indexed position size) count number bytes ∷ []
+
+-- the positions that go where a file is truncated, from the last down
+abbrev pub cut_keys : File → ℕ → List Key
+cut_keys f number = if nat_le 1 number then reverse (map (λ e. e.0) (drop (number - 1) (in_order f))) else []
+
+-- the keys that are known before a record is read
+abbrev pub keys_asked : File → Operation → List Key
+keys_asked f (Put number bytes) = put_keys f.organization (count_of f) number bytes
+keys_asked f (Update key bytes) = key ∷ []
+keys_asked f (Delete key) = key ∷ []
+keys_asked f (Truncate number) = End ∷ cut_keys f number
+keys_asked f (Get key) = key ∷ []
+keys_asked f (Next after) = []
+
+-- the key of a record, where there is one
+abbrev pub key_found : Option (Key × List ℕ) → List Key
+key_found (Some e) = e.0 ∷ []
+key_found None = []
+
+-- that of the record that is found to be the next
+abbrev pub keys_found : File → Operation → List Key
+keys_found f (Next after) = key_found (first_behind after (in_order f))
+keys_found f op = []
+
+-- all that a branch holds once it has done an operation
+abbrev pub keys_held : File → Operation → List Key
+keys_held f op = keys_asked f op ++ keys_found f op
 
 -- The buckets that an operation may take.
 

@@ -5,7 +5,7 @@ use Rattle.std.specs.List.{last_or}
 use Rattle.std.specs.Str.{bytes_eq}
 use Rattle.transcript_model.specs.Lines as line
 use Rattle.transcript_model.specs.Lines.{Line}
-use Rattle.script_model.specs.Statements.{Statement, At, Request, Init, Boot, Create, SetFile, StartTrans, Records, EndTrans, AbortTrans, Dump, Fuse, Crash, Reading, Blank, Says, Bad}
+use Rattle.script_model.specs.Statements.{Statement, At, Request, Init, Boot, Create, SetFile, StartTrans, Records, Direct, EndTrans, AbortTrans, Dump, DumpJournal, Fuse, Crash, Reading, Blank, Says, Bad}
 use Rattle.script_model.specs.Grammar.{reading}
 use Rattle.run_model.specs.Operations.{first_of, refused_if}
 use Rattle.run_model.specs.Answers.{label_limit}
@@ -51,9 +51,11 @@ refused_by_lines s n (Create file bucket size form) = refused_if (not n.up) line
 refused_by_lines s n (SetFile file setting) = refused_if (not n.up) line.NodeDown
 refused_by_lines s n (StartTrans label) = first_of (refused_if (not n.up) line.NodeDown) (new_said s.labels label)
 refused_by_lines s n (Records label file op) = first_of (refused_if (not n.up) line.NodeDown) (made_said s.labels n.name label)
+refused_by_lines s n (Direct file op) = refused_if (not n.up) line.NodeDown
 refused_by_lines s n (EndTrans label) = first_of (refused_if (not n.up) line.NodeDown) (made_said s.labels n.name label)
 refused_by_lines s n (AbortTrans label) = first_of (refused_if (not n.up) line.NodeDown) (made_said s.labels n.name label)
 refused_by_lines s n (Dump file) = refused_if (not n.up) line.NodeDown
+refused_by_lines s n DumpJournal = refused_if (not n.up) line.NodeDown
 refused_by_lines s n (Fuse writes choice) = None
 refused_by_lines s n Crash = refused_if (not n.up) line.NodeDown
 

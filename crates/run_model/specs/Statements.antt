@@ -1,5 +1,5 @@
 -- One statement in a world: its parts, each read at the world that those before it reached.
-use Rattle.std.specs.Prelude.{◌≡◌, ℕ, ◌≤◌, List, [], ◌∷◌, ◌++◌, Bool, true, false, Some, None}
+use Rattle.std.specs.Prelude.{◌≡◌, ℕ, ◌≤◌, List, [], ◌∷◌, ◌++◌, Bool, true, false, Option, Some, None}
 use Rattle.transcript_model.specs.Outside.{Rose}
 use Rattle.transcript_model.specs.Lines as line
 use Rattle.transcript_model.specs.Lines.{Line, Cause}
@@ -73,12 +73,21 @@ Parts (p ∷ ps) after w given lines answer v = (c : Choice) × Allowed w p afte
 abbrev pub parts_of : Statement → List Part
 parts_of (At node request) = Does node (Serves request) ∷ []
 
+-- what refuses a statement before any of its parts, whatever nodes are asked: a node of this name is not there
+abbrev pub refused_at_once : World → Statement → Option Line
+refused_at_once w (At node request) = elim (find_node node w.nodes) [ Some n ↦ None | None ↦ Some line.NoSuchNode ]
+
+-- where a statement is refused at once it shows nothing else, and leaves what there is; else its parts are done
+abbrev pub Begins : Option Line → (List Line → Line → World → Type 0) → World → List Line → Line → World → Type 0
+Begins (Some refusal) does w lines answer v = (lines ≡ []) × (answer ≡ refusal) × (v ≡ w)
+Begins None does w lines answer v = does lines answer v
+
 -- From w on, the statement may show these lines, the last of which is its answer, and lead to new. No count of a disk falls.
 pub record Step (w : World) (s : Statement) (lines : List Line) (new : World) : Type 0 where
   pub events : List Line
   pub answer : Line
   pub world : World
-  pub does : Parts (parts_of s) new.disks w line.Normal events answer world
+  pub does : Begins (refused_at_once w s) (Parts (parts_of s) new.disks w line.Normal) w events answer world
   pub counts : NoneFalls w.disks new.disks
   pub shows : lines ≡ events ++ answer ∷ []
   pub goes : new ≡ record world { disks = new.disks }

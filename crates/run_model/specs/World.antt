@@ -1,13 +1,21 @@
 -- The world of a run: what the statements so far have made of the nodes.
-use Rattle.std.specs.Prelude.{◌≡◌, ℕ, suc, ◌+◌, ◌-◌, ◌*◌, List, [], ◌∷◌, Bool, true, false, Option, Some, None, if◌then◌else◌, map, length, option_map, ◌++◌, nat_le, replicate, slice_set}
+use Rattle.std.specs.Prelude.{◌≡◌, ◌≤◌, ℕ, suc, ◌+◌, ◌-◌, ◌*◌, List, [], ◌∷◌, Bool, true, false, Option, Some, None, if◌then◌else◌, map, option_map, ◌++◌, nat_le, replicate, slice_set, slice_index_or}
 use Rattle.std.specs.Str.{bytes_eq}
+use Rattle.std.specs.List.{AllByRecursion}
 use Rattle.std.specs.Option.{option_and_then}
 use Rattle.vms_model.specs.Ids.{Id}
+use Rattle.vms_model.specs.Keys.{Key}
 use Rattle.vms_model.specs.Transactions.{Outcome, Commit, Abort, Reason}
 use Rattle.records_model.specs.Records.{Change}
-use Rattle.records_model.specs.Layout.{Layout, layout_changed, layout_undone}
-use Rattle.records_model.specs.History.{History, same_id, current, changes_by, changed_with, is_held, settled_at}
+use Rattle.records_model.specs.Layout.{Layout, layout_changed}
+use Rattle.records_model.specs.History.{History, LiveChanges, same_id, changes_by, changed_with, settled_at}
+use Rattle.unit_laws.specs.Units.{OneMovesEnd}
+use Rattle.unit_laws.specs.Layouts.{layout_restored}
+use Rattle.unit_laws.specs.Journal.{Journal, JournalEntry, RecoveryUnit, empty_journal, entries_for, with_entries, with_settled, trimmed, units_in, find_unit, serial_in, ChangeEntry, PreparedEntry, SettledEntry}
+use Rattle.unit_laws.specs.JournalLaws.{HasNotes}
+use Rattle.commit_protocol.specs.Table.{Branch}
 use Rattle.run_model.specs.Extents.{Extent, longest_run, lowest_run}
+use Rattle.run_model.specs.Locks.{Lock, is_locked, with_locks, released}
 
 -- a branch's end: how and when it was settled, and why where it was aborted
 pub record Settlement : Type 0 where
@@ -16,12 +24,6 @@ pub record Settlement : Type 0 where
   pub outcome : Outcome
   pub reason : Option Reason
   pub moment : ℕ
-
--- a branch that is not settled, and how many changes it made
-pub record Branch : Type 0 where
-  pub tid : Id
-  pub serial : Id
-  pub changes : ℕ
 
 -- A label: the node that it was made for, and its transaction. It names the transaction's first branch, or a branch that was authorised by this identifier;
 -- the serial is that of the branch, once there is one.
@@ -119,7 +121,8 @@ pub data Volume : Type 0 where
   Unknown : Volume
 
 -- One change of a node, which takes place whole or not at all. Where a branch begins, a label is made for it. A volume is made with so many log slots
--- and blocks of a journal; a new file takes a place of the directory. The changes of one statement are one act; they stand newest first.
+-- and blocks of a journal; a new file takes a place of the directory. The changes of one statement are one act; they stand newest first, and their branch
+-- holds these keys from then on. It holds what it read too. Changes without a label are made by a branch of their own and settled in one act.
 pub data Act : Type 0 where
   Formats : (slots journal : ℕ) → Act
   Boots : Act
@@ -127,7 +130,9 @@ pub data Act : Type 0 where
   Creates : (place : ℕ) → File → Act
   Marks : (file : List ℕ) → Bool → Act
   Begins : Label → Branch → Act
-  Changes : (serial : Id) → (file : List ℕ) → List Change → Act
+  Changes : (tid serial : Id) → (file : List ℕ) → List Change → List Key → Act
+  Holds : (serial : Id) → (file : List ℕ) → List Key → Act
+  Directs : (file : List ℕ) → List Change → Settlement → Act
   Settles : Settlement → Act
   Arms : (writes choice : ℕ) → Act
   Falls : Act
@@ -137,11 +142,13 @@ abbrev pub is_durable : Act → Bool
 is_durable Boots = true
 is_durable (Creates place file) = true
 is_durable (Marks file units) = true
-is_durable (Changes serial file changes) = true
+is_durable (Changes tid serial file changes keys) = true
+is_durable (Directs file changes s) = true
 is_durable (Settles s) = true
 is_durable (Formats slots journal) = false
 is_durable ComesUp = false
 is_durable (Begins label b) = false
+is_durable (Holds serial file keys) = false
 is_durable (Arms writes choice) = false
 is_durable Falls = false
 
@@ -150,29 +157,36 @@ pub data Call : Type 0 where
   Arm : (writes choice : ℕ) → Call
   Power : (stops : ℕ) → Call
 
--- A node. What its disk has, which outlasts the node's fall: the volume, and whether the last INIT that made the disk run failed; the volume's sizes, how
--- often the node was booted, the greatest moment, the last settlement, where its journal of recovery units lies and between which positions the entries
--- stand, and the directory, a place for each file number. What the node has of its own: whether it is up, and was up before in this run; its clock; how many
--- ids it drew in this boot; and its unsettled branches in the order of their start. And of the run: its settlements and the calls that armed or powered its
--- disk, the newest first. Where it fell in a statement that its disk did not serve, an act may be under way: whether it has taken place is settled when the
--- disk runs again.
-pub record Node : Type 0 where
-  pub name : List ℕ
-  pub blocks : ℕ
+-- What a node's disk has, which outlasts the node's fall: the volume, its log slots and its journal's blocks; how often the node was booted, the greatest
+-- moment and the last settlement; the journal of recovery units; and the directory, a place for each file number.
+pub record Durable : Type 0 where
   pub volume : Volume
-  pub unmade : Bool
   pub slots : ℕ
   pub journal : ℕ
   pub boot : ℕ
   pub greatest : ℕ
   pub last : Option Settlement
-  pub units : JournalSpan
+  pub units : Journal
   pub directory : List (Option File)
+
+-- What a node has while it is up: how many ids it drew in this boot, its unsettled branches in the order of their start, and the keys that these hold.
+pub record Volatile : Type 0 where
+  pub drawn : ℕ
+  pub branches : List Branch
+  pub locks : List Lock
+
+-- A node: its name, its disk's blocks, what its disk has, and what it has while it is up. And of the run: whether the last INIT that made the disk run failed;
+-- whether the node is up, and was up before in this run; its clock; its settlements and the calls that armed or powered its disk, the newest first. Where it
+-- fell in a statement that its disk did not serve, an act may be under way: whether it has taken place is settled when the disk runs again.
+pub record Node : Type 0 where
+  pub name : List ℕ
+  pub blocks : ℕ
+  pub durable : Durable
+  pub volatile : Volatile
+  pub unmade : Bool
   pub up : Bool
   pub was_up : Bool
   pub clock : ℕ
-  pub drawn : ℕ
-  pub branches : List Branch
   pub settled : List Settlement
   pub calls : List Call
   pub under_way : Option Act
@@ -233,11 +247,11 @@ find_label name (l ∷ ls) = if bytes_eq name l.name then Some l else find_label
 -- the unsettled branch of this serial, where there is one
 abbrev pub find_branch : Id → List Branch → Option Branch
 find_branch serial [] = None
-find_branch serial (b ∷ bs) = if same_id serial b.serial then Some b else find_branch serial bs
+find_branch serial (b ∷ bs) = if same_id serial b.key.serial then Some b else find_branch serial bs
 
 -- the serials of branches
 abbrev pub serials_of : List Branch → List Id
-serials_of bs = map (λ b. b.serial) bs
+serials_of bs = map (λ b. b.key.serial) bs
 
 -- the label of this name, where it was made for this node
 abbrev pub labelled : List ℕ → List ℕ → List Label → Option Label
@@ -255,15 +269,15 @@ with_file name change [] = []
 with_file name change (None ∷ fs) = None ∷ with_file name change fs
 with_file name change (Some f ∷ fs) = if bytes_eq name f.name then Some (change f) ∷ fs else Some f ∷ with_file name change fs
 
--- the branches with so many changes more of the one of this serial
-abbrev pub with_changes_by : Id → ℕ → List Branch → List Branch
-with_changes_by serial more [] = []
-with_changes_by serial more (b ∷ bs) = if same_id serial b.serial then record b { changes = b.changes + more } ∷ bs else b ∷ with_changes_by serial more bs
+-- the branches, of which the one of this serial has changed something
+abbrev pub with_changed : Id → List Branch → List Branch
+with_changed serial [] = []
+with_changed serial (b ∷ bs) = if same_id serial b.key.serial then record b { changed = true } ∷ bs else b ∷ with_changed serial bs
 
 -- the branches but for the one of this serial
 abbrev pub without_branch : Id → List Branch → List Branch
 without_branch serial [] = []
-without_branch serial (b ∷ bs) = if same_id serial b.serial then bs else b ∷ without_branch serial bs
+without_branch serial (b ∷ bs) = if same_id serial b.key.serial then bs else b ∷ without_branch serial bs
 
 -- the nodes with one change of the node of this name
 abbrev pub with_node : List ℕ → (Node → Node) → List Node → List Node
@@ -278,60 +292,121 @@ with_counts name new (n ∷ ns) (d ∷ ds) = if bytes_eq name n.name then new �
 
 -- the first block behind the log slots and the journal: there begin the blocks for files
 abbrev pub area_start : Node → ℕ
-area_start n = 584 + n.slots + n.journal
+area_start n = 584 + n.durable.slots + n.durable.journal
 
 -- the longest run of free blocks of a node's disk
 abbrev pub longest_free : Node → ℕ
-longest_free n = longest_run (extents_of n.directory) (area_start n) (n.blocks - area_start n)
+longest_free n = longest_run (extents_of n.durable.directory) (area_start n) (n.blocks - area_start n)
 
 -- where the lowest run of so many free blocks begins
 abbrev pub lowest_free : Node → ℕ → Option ℕ
-lowest_free n size = lowest_run (extents_of n.directory) size (area_start n) (n.blocks - area_start n)
+lowest_free n size = lowest_run (extents_of n.durable.directory) size (area_start n) (n.blocks - area_start n)
 
 -- the id that a node draws next
 abbrev pub next_id : Node → Id
-next_id n = record { node = n.name; boot = n.boot; seq = n.drawn + 1 }
+next_id n = record { node = n.name; boot = n.durable.boot; seq = n.volatile.drawn + 1 }
 
 -- the moment of a node's next settlement: its clock's, or the first after all that are on its disk where that is later
 abbrev pub next_moment : Node → ℕ
-next_moment n = if nat_le n.clock (n.greatest + 1) then n.greatest + 1 else n.clock
+next_moment n = if nat_le n.clock (n.durable.greatest + 1) then n.durable.greatest + 1 else n.clock
 
 -- how many bytes a bucket of a file has for records: 16 are its header
 abbrev pub capacity : File → ℕ
 capacity f = 512 * f.bucket - 16
 
--- A file after changes of an unsettled branch. In its layout the rooms of keys that unsettled branches have changed are held, so that each of them can be
--- set back in place.
-abbrev pub changed_file : Id → List Change → File → File
-changed_file serial cs f = record f { history = changed_with serial cs f.history; layout = layout_changed (capacity f) (is_held f.history) cs f.layout }
+-- how many changes a branch made: as many as the journal tells of its unit
+abbrev pub changes_made : Id → Journal → ℕ
+changes_made serial units = elim (find_unit serial (units_in units.entries)) [ Some u ↦ u.changes | None ↦ 0 ]
 
--- a layout after the branch that made these changes was settled: an abort undoes them
+-- A file after changes of an unsettled branch. In its layout the rooms of keys that unsettled branches hold stay, so that each of them can be set back in
+-- place.
+abbrev pub changed_file : (held : Key → Bool) → Id → List Change → File → File
+changed_file held serial cs f = record f { history = changed_with serial cs f.history; layout = layout_changed (capacity f) held cs f.layout }
+
+-- and after changes of a branch of its own, which was committed at once
+abbrev pub directly_changed : (held : Key → Bool) → Settlement → List Change → File → File
+directly_changed held s cs f = record f { history = settled_at s.serial s.outcome s.moment (changed_with s.serial cs f.history); layout = layout_changed (capacity f) held cs f.layout }
+
+-- a layout after the branch that made these changes was settled: an abort restores what its keys had
 abbrev pub settled_layout : Outcome → List Change → Layout → Layout
 settled_layout Commit cs layout = layout
-settled_layout Abort cs layout = layout_undone cs layout
+settled_layout Abort cs layout = layout_restored cs layout
 
 -- every file notes that a branch was settled; only those that it changed have changes of it
 abbrev pub settled_file : Settlement → File → File
 settled_file s f = record f { history = settled_at s.serial s.outcome s.moment f.history; layout = settled_layout s.outcome (changes_by s.serial f.history.live) f.layout }
 
--- Scaffolding: a restart undoes nothing; what unsettled branches had changed stays, and is no more theirs
-abbrev pub as_it_stands : ℕ → File → File
-as_it_stands moment f = record f { history = record { base = current f.history; moment = moment; settled = []; live = [] } }
-
 -- a directory without files
 abbrev pub empty_directory : List (Option File)
 empty_directory = replicate 64 None
 
+-- what a disk has after a volume was made on it, with so many log slots and blocks of a journal
+abbrev pub made_volume : (slots journal : ℕ) → Durable
+made_volume slots journal = record { volume = Sound; slots = slots; journal = journal; boot = 0; greatest = 0; last = None; units = empty_journal; directory = empty_directory }
+
+-- what a node has that has just come up
+abbrev pub nothing_volatile : Volatile
+nothing_volatile = record { drawn = 0; branches = []; locks = [] }
+
+-- what an act makes of what the disk has; these locks are held before it
+abbrev pub durable_after : Act → List Lock → Durable → Durable
+durable_after (Formats slots journal) locks d = made_volume slots journal
+durable_after Boots locks d = record d { boot = d.boot + 1 }
+durable_after ComesUp locks d = d
+durable_after (Creates place file) locks d = record d { directory = slice_set d.directory place (Some file) }
+durable_after (Marks file units) locks d = record d { directory = with_file file (λ f. record f { recovery_units = units }) d.directory }
+durable_after (Begins label b) locks d = d
+durable_after (Changes tid serial file changes keys) locks d = record d {
+  directory = with_file file (changed_file (is_locked locks file) serial changes) d.directory;
+  units = with_entries (entries_for tid serial file changes) d.units;
+}
+durable_after (Holds serial file keys) locks d = d
+durable_after (Directs file changes s) locks d = record d {
+  greatest = s.moment;
+  last = Some s;
+  directory = with_file file (directly_changed (is_locked locks file) s changes) d.directory;
+  units = trimmed d.units;
+}
+durable_after (Settles s) locks d = record d {
+  greatest = s.moment;
+  last = Some s;
+  directory = map (option_map (settled_file s)) d.directory;
+  units = with_settled s.tid s.serial s.outcome s.moment d.units;
+}
+durable_after (Arms writes choice) locks d = d
+durable_after Falls locks d = d
+
+-- what it makes of what the node has while it is up
+abbrev pub volatile_after : Act → Volatile → Volatile
+volatile_after (Formats slots journal) v = v
+volatile_after Boots v = nothing_volatile
+volatile_after ComesUp v = v
+volatile_after (Creates place file) v = v
+volatile_after (Marks file units) v = v
+volatile_after (Begins label b) v = record v { drawn = v.drawn + 1; branches = v.branches ++ b ∷ [] }
+volatile_after (Changes tid serial file changes keys) v = record v { branches = with_changed serial v.branches; locks = with_locks serial file keys v.locks }
+volatile_after (Holds serial file keys) v = record v { locks = with_locks serial file keys v.locks }
+volatile_after (Directs file changes s) v = record v { drawn = v.drawn + 1 }
+volatile_after (Settles s) v = record v { branches = without_branch s.serial v.branches; locks = released s.serial v.locks }
+volatile_after (Arms writes choice) v = v
+volatile_after Falls v = v
+
+-- a node with what an act makes of these two
+abbrev pub with_act : Act → Node → Node
+with_act act n = record n { durable = durable_after act n.volatile.locks n.durable; volatile = volatile_after act n.volatile }
+
 -- what an act makes of its node
 abbrev pub acted : Act → Node → Node
-acted (Formats slots journal) n = record n { volume = Sound; unmade = false; slots = slots; journal = journal; boot = 0; greatest = 0; last = None; units = record { start = 584 + slots; blocks = journal; first = 0; end = 0 }; directory = empty_directory }
-acted Boots n = record n { boot = n.boot + 1; drawn = 0; branches = []; directory = map (option_map (as_it_stands n.greatest)) n.directory }
+acted (Formats slots journal) n = record (with_act (Formats slots journal) n) { unmade = false }
+acted Boots n = with_act Boots n
 acted ComesUp n = record n { up = true; was_up = true }
-acted (Creates place file) n = record n { directory = slice_set n.directory place (Some file) }
-acted (Marks file units) n = record n { directory = with_file file (λ f. record f { recovery_units = units }) n.directory }
-acted (Begins label b) n = record n { drawn = n.drawn + 1; branches = n.branches ++ b ∷ [] }
-acted (Changes serial file changes) n = record n { branches = with_changes_by serial (length changes) n.branches; directory = with_file file (changed_file serial changes) n.directory }
-acted (Settles s) n = record n { greatest = s.moment; last = Some s; settled = s ∷ n.settled; branches = without_branch s.serial n.branches; directory = map (option_map (settled_file s)) n.directory }
+acted (Creates place file) n = with_act (Creates place file) n
+acted (Marks file units) n = with_act (Marks file units) n
+acted (Begins label b) n = with_act (Begins label b) n
+acted (Changes tid serial file changes keys) n = with_act (Changes tid serial file changes keys) n
+acted (Holds serial file keys) n = with_act (Holds serial file keys) n
+acted (Directs file changes s) n = record (with_act (Directs file changes s) n) { settled = s ∷ n.settled }
+acted (Settles s) n = record (with_act (Settles s) n) { settled = s ∷ n.settled }
 acted (Arms writes choice) n = record n { calls = Arm writes choice ∷ n.calls }
 acted Falls n = record n { up = false }
 
@@ -360,29 +435,78 @@ shared_after Boots s = s
 shared_after ComesUp s = s
 shared_after (Creates place file) s = s
 shared_after (Marks file units) s = s
-shared_after (Changes serial file changes) s = s
+shared_after (Changes tid serial file changes keys) s = s
+shared_after (Holds serial file keys) s = s
+shared_after (Directs file changes settlement) s = s
 shared_after (Settles settlement) s = s
 shared_after (Arms writes choice) s = s
 shared_after Falls s = s
 
--- no file has a branch since its base: its records are those of the base
+-- What the journal tells of unsettled branches.
+
+-- at most one of several branches moved the end of a sequential file
+abbrev pub OneMovesEndOf : Organization → List LiveChanges → Type 0
+OneMovesEndOf Sequential ls = OneMovesEnd ls
+OneMovesEndOf (Relative greatest) ls = Unit {0}
+OneMovesEndOf (Indexed position size) ls = Unit {0}
+
+-- The journal tells the changes of unsettled branches in a file: of each unit what it found, change by change; and each branch that changed the file is a unit.
+-- The branches' keys lie apart, and so does a sequential file's end.
+pub record TellsUnits (units : Journal) (f : File) : Type 0 where
+  pub notes : HasNotes units f.name f.history
+  pub end : OneMovesEndOf f.organization f.history.live
+
+-- an id is of a boot that the node has counted
+abbrev pub IsReached : Node → Id → Type 0
+IsReached n id = (id.node ≡ n.name) × (id.boot ≤ n.durable.boot)
+
+-- So of each file of a node. While the node is up only a file that is marked for recovery units has unsettled branches; a file that an earlier run left with
+-- some may have any mark. The journal's entries are of branches of this node, of boots that it has counted; and a name is one file's.
+pub record AreUnitsOf (n : Node) : Type 0 where
+  pub tells : (place : ℕ) (f : File) → slice_index_or n.durable.directory place None ≡ Some f → TellsUnits n.durable.units f
+  pub marked : n.up ≡ true → (place : ℕ) (f : File) → slice_index_or n.durable.directory place None ≡ Some f → f.recovery_units ≡ false → f.history.live ≡ []
+  pub reached : AllByRecursion (λ (e : JournalEntry). IsReached n (serial_in e)) n.durable.units.entries
+  pub names : (p q : ℕ) (f g : File) → slice_index_or n.durable.directory p None ≡ Some f → slice_index_or n.durable.directory q None ≡ Some g → f.name ≡ g.name → p ≡ q
+
+-- no entry says that a branch is prepared
+abbrev pub IsUnprepared : JournalEntry → Type 0
+IsUnprepared (ChangeEntry tid serial file key before) = Unit {0}
+IsUnprepared (PreparedEntry tid serial) = ⊥
+IsUnprepared (SettledEntry tid serial outcome moment) = Unit {0}
+
+abbrev pub NonePrepared : List JournalEntry → Type 0
+NonePrepared es = AllByRecursion IsUnprepared es
+
+-- no branch is prepared
+abbrev pub AllActive : List RecoveryUnit → Type 0
+AllActive us = AllByRecursion (λ (u : RecoveryUnit). u.prepared ≡ false) us
+
+-- no file has a branch that was settled since its base
 abbrev pub AreResting : List (Option File) → Type 0
 AreResting [] = Unit {0}
 AreResting (None ∷ fs) = AreResting fs
-AreResting (Some f ∷ fs) = (f.history.settled ≡ []) × (f.history.live ≡ []) × AreResting fs
+AreResting (Some f ∷ fs) = (f.history.settled ≡ []) × AreResting fs
 
--- a node as it is before the first line: it is down, and what its disk has is all that there is of it
+-- the last settlement, where there is one, is of a boot that the node has counted
+abbrev pub LastIsReached : Node → Option Settlement → Type 0
+LastIsReached n None = Unit {0}
+LastIsReached n (Some s) = IsReached n s.serial
+
+-- A node as it is before the first line: it is down, and what its disk has is all that there is of it. Units that an earlier run left unsettled stand in its
+-- journal, and in its files with what they changed; none of them is prepared.
 pub record IsOpening (n : Node) : Type 0 where
   pub down : n.up ≡ false
   pub made : n.unmade ≡ false
   pub was_down : n.was_up ≡ false
   pub clock : n.clock ≡ 0
-  pub drawn : n.drawn ≡ 0
-  pub branches : n.branches ≡ []
+  pub volatile : n.volatile ≡ nothing_volatile
   pub settled : n.settled ≡ []
   pub calls : n.calls ≡ []
   pub under_way : n.under_way ≡ None
-  pub resting : AreResting n.directory
+  pub resting : AreResting n.durable.directory
+  pub last : LastIsReached n n.durable.last
+  pub units : AreUnitsOf n
+  pub active : NonePrepared n.durable.units.entries
 
 -- the world before the first line: these nodes with these disks, and no label
 abbrev pub opened : List Node → List DiskCounts → World

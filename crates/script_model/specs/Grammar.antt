@@ -1,6 +1,7 @@
 -- The grammar of a line: the words of each statement, in order.
 use Rattle.std.specs.Prelude.{ℕ, List, [], ◌∷◌, Bool, true, false, ◌==◌, Option, Some, None, if◌then◌else◌, codes}
 use Rattle.std.specs.Option.{option_map}
+use Rattle.std.specs.Str.{bytes_eq}
 use Rattle.vms_model.specs.Names.{node_named, label_named, file_named}
 use Rattle.vms_model.specs.Words.{number_up_to, among}
 use Rattle.script_model.specs.LineWords.{Word, words_of}
@@ -24,6 +25,7 @@ pub data Verb : Type 0 where
   EndTrans : Verb
   AbortTrans : Verb
   Dump : Verb
+  DumpJournal : Verb
 
 -- the word that begins a statement of the world
 pub data WorldVerb : Type 0 where
@@ -58,6 +60,7 @@ verbs =
     ∷ (codes "END_TRANS", EndTrans)
     ∷ (codes "ABORT_TRANS", AbortTrans)
     ∷ (codes "DUMP", Dump)
+    ∷ (codes "DUMP_JOURNAL", DumpJournal)
     ∷ []
 
 -- those of the world
@@ -68,19 +71,30 @@ world_verbs = (codes "FUSE", Fuse) ∷ (codes "CRASH", Crash) ∷ []
 abbrev pub organizations : List (List ℕ × Organization)
 organizations = (codes "SEQ", Sequential) ∷ (codes "REL", Relative) ∷ (codes "IDX", Indexed) ∷ []
 
+-- the journals of a volume
+pub data Journal : Type 0 where
+  RecoveryUnitJournal : Journal
+
+-- those as they are written
+abbrev pub journals : List (List ℕ × Journal)
+journals = (codes "RU", RecoveryUnitJournal) ∷ []
+
 -- what a file may be marked with
 abbrev pub settings : List (List ℕ × Setting)
 settings = (codes "RU", RecoveryUnits) ∷ (codes "NORU", NoRecoveryUnits) ∷ []
 
--- what a word may be: the first of a line, a verb, a node, a label, a file, an organization, a setting, a number of 32 or 64 bits, bytes, or a key
+-- what a word may be: the first of a line, a verb, a node, a label, a label or none, a file, an organization, a setting, a journal, a number of 32 or 64
+-- bits, bytes, or a key
 pub data Kind : Type 0 where
   AFirst : Kind
   AVerb : Kind
   ANode : Kind
   ALabel : Kind
+  ALabelOrNone : Kind
   AFile : Kind
   AnOrganization : Kind
   ASetting : Kind
+  AJournal : Kind
   ANumber : Kind
   ALongNumber : Kind
   SomeBytes : Kind
@@ -92,9 +106,11 @@ Meaning AFirst = First
 Meaning AVerb = Verb
 Meaning ANode = List ℕ
 Meaning ALabel = List ℕ
+Meaning ALabelOrNone = Option (List ℕ)
 Meaning AFile = List ℕ
 Meaning AnOrganization = Organization
 Meaning ASetting = Setting
+Meaning AJournal = Journal
 Meaning ANumber = ℕ
 Meaning ALongNumber = ℕ
 Meaning SomeBytes = List ℕ
@@ -104,15 +120,21 @@ Meaning AKey = KeyWord
 abbrev pub first_said : List ℕ → Option First
 first_said text = elim (prefix_said text) [ Some node ↦ Some (ToNode node) | None ↦ option_map ToWorld (among world_verbs text) ]
 
+-- a label, or a dash where there is none
+abbrev pub label_or_none : List ℕ → Option (Option (List ℕ))
+label_or_none text = if bytes_eq text (codes "-") then Some None else option_map Some (label_named text)
+
 -- what this text says as a word of this kind, where it is one
 abbrev pub meaning : (k : Kind) → List ℕ → Option (Meaning k)
 meaning AFirst text = first_said text
 meaning AVerb text = among verbs text
 meaning ANode text = node_named text
 meaning ALabel text = label_named text
+meaning ALabelOrNone text = label_or_none text
 meaning AFile text = file_named text
 meaning AnOrganization text = among organizations text
 meaning ASetting text = among settings text
+meaning AJournal text = among journals text
 meaning ANumber text = number_up_to 4294967295 text
 meaning ALongNumber text = number_up_to 18446744073709551615 text
 meaning SomeBytes text = bytes_said text
@@ -147,10 +169,15 @@ form_operands n f Sequential bucket size count = Ends (says.At n (says.Create f 
 form_operands n f Relative bucket size count = Ends (says.At n (says.Create f bucket size (says.Relative count)))
 form_operands n f Indexed bucket size count = Then ANumber λ position. Then ANumber λ key_size. Ends (says.At n (says.Create f bucket size (says.Indexed count position key_size)))
 
+-- an operation that a label's branch is asked for, or that is done for itself where there is no label
+abbrev pub asked : List ℕ → Option (List ℕ) → List ℕ → says.Operation → Statement
+asked n (Some l) f op = says.At n (says.Records l f op)
+asked n None f op = says.At n (says.Direct f op)
+
 -- the operands behind the first word that is put: a number has a record behind it, and bytes are the record
-abbrev pub put_operands : List ℕ → List ℕ → List ℕ → KeyWord → Shape
-put_operands n l f (Numbered number) = Then SomeBytes λ bytes. Ends (says.At n (says.Records l f (says.Put (Some number) bytes)))
-put_operands n l f (Spelled bytes) = Ends (says.At n (says.Records l f (says.Put None bytes)))
+abbrev pub put_operands : List ℕ → Option (List ℕ) → List ℕ → KeyWord → Shape
+put_operands n l f (Numbered number) = Then SomeBytes λ bytes. Ends (asked n l f (says.Put (Some number) bytes))
+put_operands n l f (Spelled bytes) = Ends (asked n l f (says.Put None bytes))
 
 -- the operands of each verb, and the statement to this node that they make
 abbrev pub operands : List ℕ → Verb → Shape
@@ -159,15 +186,16 @@ operands n Boot = Ends (says.At n says.Boot)
 operands n Create = Then AFile λ f. Then AnOrganization λ o. Then ANumber λ bucket. Then ANumber λ size. Then ANumber λ count. form_operands n f o bucket size count
 operands n SetFile = Then AFile λ f. Then ASetting λ setting. Ends (says.At n (says.SetFile f setting))
 operands n StartTrans = Then ALabel λ l. Ends (says.At n (says.StartTrans l))
-operands n Put = Then ALabel λ l. Then AFile λ f. Then AKey λ k. put_operands n l f k
-operands n Update = Then ALabel λ l. Then AFile λ f. Then AKey λ k. Then SomeBytes λ bytes. Ends (says.At n (says.Records l f (says.Update (key_of k) bytes)))
-operands n Delete = Then ALabel λ l. Then AFile λ f. Then AKey λ k. Ends (says.At n (says.Records l f (says.Delete (key_of k))))
-operands n Truncate = Then ALabel λ l. Then AFile λ f. Then ANumber λ k. Ends (says.At n (says.Records l f (says.Truncate k)))
-operands n Get = Then ALabel λ l. Then AFile λ f. Then AKey λ k. Ends (says.At n (says.Records l f (says.Get (key_of k))))
-operands n Next = Then ALabel λ l. Then AFile λ f. EndsOr (says.At n (says.Records l f (says.Next None))) (Then AKey λ k. Ends (says.At n (says.Records l f (says.Next (Some (key_of k))))))
+operands n Put = Then ALabelOrNone λ l. Then AFile λ f. Then AKey λ k. put_operands n l f k
+operands n Update = Then ALabelOrNone λ l. Then AFile λ f. Then AKey λ k. Then SomeBytes λ bytes. Ends (asked n l f (says.Update (key_of k) bytes))
+operands n Delete = Then ALabelOrNone λ l. Then AFile λ f. Then AKey λ k. Ends (asked n l f (says.Delete (key_of k)))
+operands n Truncate = Then ALabelOrNone λ l. Then AFile λ f. Then ANumber λ k. Ends (asked n l f (says.Truncate k))
+operands n Get = Then ALabelOrNone λ l. Then AFile λ f. Then AKey λ k. Ends (asked n l f (says.Get (key_of k)))
+operands n Next = Then ALabelOrNone λ l. Then AFile λ f. EndsOr (asked n l f (says.Next None)) (Then AKey λ k. Ends (asked n l f (says.Next (Some (key_of k)))))
 operands n EndTrans = Then ALabel λ l. Ends (says.At n (says.EndTrans l))
 operands n AbortTrans = Then ALabel λ l. Ends (says.At n (says.AbortTrans l))
 operands n Dump = Then AFile λ f. Ends (says.At n (says.Dump f))
+operands n DumpJournal = Then AJournal λ j. Ends (says.At n says.DumpJournal)
 
 -- those of each verb of the world
 abbrev pub world_operands : WorldVerb → Shape

@@ -51,7 +51,7 @@ not_found : (o : Option RecoveryUnit) → is_some o ≡ false → o ≡ None
 not_found None e = refl
 not_found (Some u) e = absurd cc
 
-absent_without : (t : Id) (us : List RecoveryUnit) → is_some (find_unit t us) ≡ false → without_unit t us ≡ us
+pub absent_without : (t : Id) (us : List RecoveryUnit) → is_some (find_unit t us) ≡ false → without_unit t us ≡ us
 absent_without t [] e = refl
 absent_without t (u ∷ us) e = step (same_id t u.serial) e (absent_without t us)
   where
@@ -63,7 +63,7 @@ pub gone_without : (t : Id) (us : List RecoveryUnit) → is_some (find_unit t (w
 gone_without t us = ap is_some (found_settled t t us) ∙ none_in (same_id t t) (find_unit t us) ∙ picked (same_id t t) _ _ (id_itself t)
 
 -- what is done to a unit that is then taken out
-changed_without : (tid t : Id) (us : List RecoveryUnit) → without_unit t (with_one_change tid t us) ≡ without_unit t us
+pub changed_without : (tid t : Id) (us : List RecoveryUnit) → without_unit t (with_one_change tid t us) ≡ without_unit t us
 changed_without tid t [] = picked (same_id t t) _ _ (id_itself t)
 changed_without tid t (u ∷ us) = step (same_id t u.serial) refl (changed_without tid t us)
   where
@@ -72,7 +72,7 @@ changed_without tid t (u ∷ us) = step (same_id t u.serial) refl (changed_witho
     step true is later = picked (same_id t u.serial) _ _ is
     step false is later = passed (same_id t u.serial) _ _ is ∙ ap (λ (vs : List RecoveryUnit). u ∷ vs) later
 
-prepared_without : (t : Id) (us : List RecoveryUnit) → without_unit t (with_prepared t us) ≡ without_unit t us
+pub prepared_without : (t : Id) (us : List RecoveryUnit) → without_unit t (with_prepared t us) ≡ without_unit t us
 prepared_without t [] = refl
 prepared_without t (u ∷ us) = step (same_id t u.serial) refl (prepared_without t us)
   where
@@ -81,7 +81,7 @@ prepared_without t (u ∷ us) = step (same_id t u.serial) refl (prepared_without
     step false is later = passed (same_id t u.serial) _ _ is ∙ ap (λ (vs : List RecoveryUnit). u ∷ vs) later
 
 -- what is done to another unit
-changed_beside : (t tid s : Id) (us : List RecoveryUnit) → same_id t s ≡ false → without_unit t (with_one_change tid s us) ≡ with_one_change tid s (without_unit t us)
+pub changed_beside : (t tid s : Id) (us : List RecoveryUnit) → same_id t s ≡ false → without_unit t (with_one_change tid s us) ≡ with_one_change tid s (without_unit t us)
 changed_beside t tid s [] other = passed (same_id t s) _ _ other
 changed_beside t tid s (u ∷ us) other = step (same_id s u.serial) (same_id t u.serial) refl refl (changed_beside t tid s us other)
   where
@@ -92,7 +92,7 @@ changed_beside t tid s (u ∷ us) other = step (same_id s u.serial) (same_id t u
     step false true is at later = picked (same_id t u.serial) _ _ at ∙ later
     step false false is at later = passed (same_id t u.serial) _ _ at ∙ ap (λ (vs : List RecoveryUnit). u ∷ vs) later ∙ sym (passed (same_id s u.serial) _ _ is)
 
-prepared_beside : (t s : Id) (us : List RecoveryUnit) → same_id t s ≡ false → without_unit t (with_prepared s us) ≡ with_prepared s (without_unit t us)
+pub prepared_beside : (t s : Id) (us : List RecoveryUnit) → same_id t s ≡ false → without_unit t (with_prepared s us) ≡ with_prepared s (without_unit t us)
 prepared_beside t s [] other = refl
 prepared_beside t s (u ∷ us) other = step (same_id s u.serial) (same_id t u.serial) refl refl (prepared_beside t s us other)
   where
@@ -103,7 +103,7 @@ prepared_beside t s (u ∷ us) other = step (same_id s u.serial) (same_id t u.se
     step false true is at later = picked (same_id t u.serial) _ _ at ∙ later
     step false false is at later = passed (same_id t u.serial) _ _ at ∙ ap (λ (vs : List RecoveryUnit). u ∷ vs) later ∙ sym (passed (same_id s u.serial) _ _ is)
 
-settled_beside : (t s : Id) (us : List RecoveryUnit) → without_unit t (without_unit s us) ≡ without_unit s (without_unit t us)
+pub settled_beside : (t s : Id) (us : List RecoveryUnit) → without_unit t (without_unit s us) ≡ without_unit s (without_unit t us)
 settled_beside t s [] = refl
 settled_beside t s (u ∷ us) = step (same_id s u.serial) (same_id t u.serial) refl refl (settled_beside t s us)
   where
@@ -115,7 +115,7 @@ settled_beside t s (u ∷ us) = step (same_id s u.serial) (same_id t u.serial) r
     step false false is at later = passed (same_id t u.serial) _ _ at ∙ ap (λ (vs : List RecoveryUnit). u ∷ vs) later ∙ sym (passed (same_id s u.serial) _ _ is)
 
 -- an entry of another branch, or one that is no change, goes by the units without a branch as by all
-passes_without : (t : Id) (e : JournalEntry) (us : List RecoveryUnit) → had_after t e false ≡ false → without_unit t (units_after e us) ≡ units_after e (without_unit t us)
+pub passes_without : (t : Id) (e : JournalEntry) (us : List RecoveryUnit) → had_after t e false ≡ false → without_unit t (units_after e us) ≡ units_after e (without_unit t us)
 passes_without t (ChangeEntry tid s file key before) us not = changed_beside t tid s us (other (same_id t s) not)
   where
     other : (x : Bool) → cond x true false ≡ false → x ≡ false

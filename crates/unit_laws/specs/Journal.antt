@@ -133,6 +133,12 @@ with_settled tid serial outcome moment j = trimmed (elim (find_unit serial (unit
 
 -- What is told of a branch.
 
+-- the branch of an entry
+abbrev pub serial_in : JournalEntry → Id
+serial_in (ChangeEntry tid serial file key before) = serial
+serial_in (PreparedEntry tid serial) = serial
+serial_in (SettledEntry tid serial outcome moment) = serial
+
 -- whether an entry settles this branch
 abbrev pub is_settling : Id → JournalEntry → Bool
 is_settling serial (ChangeEntry tid by file key before) = false

@@ -2,3 +2,4 @@ pub mod Units
 pub mod Laws
 pub mod Journal
 pub mod JournalLaws
+pub mod Layouts

@@ -1,0 +1,20 @@
+-- What becomes of the layout of an indexed file where a branch that changed it is undone.
+use Rattle.std.specs.Prelude.{List, map, if◌then◌else◌}
+use Rattle.vms_model.specs.Keys.{Text}
+use Rattle.records_model.specs.Records.{Change}
+use Rattle.records_model.specs.Slots.{Slot, with_value}
+use Rattle.records_model.specs.Layout.{Layout}
+use Rattle.records_model.specs.History.{changes_key}
+use Rattle.unit_laws.specs.Units.{earliest_before}
+
+-- a slot after the branch that made these changes was undone: where its key is one of theirs, it has again the key's earliest before image
+abbrev pub slot_restored : List Change → Slot → Slot
+slot_restored cs s = if changes_key (Text s.key) cs then with_value (earliest_before cs (Text s.key)) s else s
+
+-- The slots of a chain each so. Which key is set back first makes no difference, nor does one that was set back before.
+abbrev pub chain_restored : List Change → List (List Slot) → List (List Slot)
+chain_restored cs chain = map (map (slot_restored cs)) chain
+
+-- and the layout of a file
+abbrev pub layout_restored : List Change → Layout → Layout
+layout_restored cs l = record { chain = chain_restored cs l.chain }
