@@ -5,6 +5,7 @@ mod locks;
 mod place;
 
 pub use locks::{LockErr, Locks};
+pub use place::Place;
 
 #[cfg(test)]
 mod tests;

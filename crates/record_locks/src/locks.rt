@@ -164,4 +164,11 @@ impl Locks {
         std::mem::swap(&mut self.held, &mut self.other);
         self.other.clear();
     }
+
+    /// Lets go of all keys.
+    pub fn clear(&mut self)
+        ensures { self.new ≡ record self.old { locks = [] } }
+    {
+        self.held.clear();
+    }
 }

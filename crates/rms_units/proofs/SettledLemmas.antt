@@ -1,0 +1,228 @@
+-- What holds of units and a volume on any disk, where a branch was settled.
+use Rattle.std.proofs.Common.{◌≡◌, ◌≢◌, ◌==◌, ℕ, ◌+◌, ◌-◌, ◌*◌, ◌<◌, ◌≤◌, Bool, true, false, not, List, [], ◌∷◌, Option, Some, None, length, slice_set, if◌then◌else◌, refl, sym, ap, subst, ◌∙◌, arith, inl, inr, ⊎_elim}
+use Rattle.std.specs.Prelude.{◌⊎◌, max, nat_le, unwrap_or}
+use Rattle.std.proofs.lemmas.Bool.{false≢true, leb-false}
+use Rattle.std.proofs.lemmas.Bool.Decides.{nat_tests}
+use Rattle.careful_write.specs.State.{IsIdle}
+use Rattle.change_set.specs.Files.{free_frames}
+use Rattle.file_base.specs.declared.head.FileHead.{FileHead}
+use Rattle.file_base.specs.declared.head.Span.{Span}
+use Rattle.journal_model.specs.Entries.{Entry, spelling}
+use Rattle.journal_model.specs.Ring.{ring_size}
+use Rattle.unit_journal.specs.Entries.{settled_entry}
+use Rattle.unit_journal.specs.Groups.{Grows}
+use Rattle.unit_journal.specs.Settling.{MakesSettlement, entry_if, from_earliest, next_moment, settled_home, span_with}
+use Rattle.unit_table.specs.Units.{OpenUnit, earliest, owed, owed_for}
+use Rattle.vms_base.specs.Ids.{serial_of, tid_of}
+use Rattle.vms_model.specs.Transactions.{Commit}
+use Rattle.vms_base.specs.declared.ids.Serial.{Serial}
+use Rattle.vms_base.specs.declared.ids.Tid.{Tid}
+use Rattle.volume.specs.declared.catalog.Catalog.{Catalog}
+use Rattle.volume.specs.Catalogs.{IsSound, head_at}
+use Rattle.volume.specs.Limits.{EntryFits, SaveFits}
+use Rattle.volume.specs.State.{VolumeState, Holds}
+use Rattle.volume_format.specs.declared.home.Ending.{Ending}
+use Rattle.volume_format.specs.declared.home.Ending.TheVariants as ending
+use Rattle.volume_format.specs.declared.home.Home.{Home}
+use Rattle.volume_files.proofs.Places.{within_list}
+use Rattle.rms_units.specs.Calls.{Commits, is_some_change}
+use Rattle.rms_units.specs.State.{AreAscending, IsEarly, IsInOrder, UnitsState, unit_of, without_place}
+use Rattle.rms_units.proofs.PositionLemmas.{ascending_from, ascending_gone, ascending_longer, ascending_within, from_bounds, owed_gone}
+use Rattle.rms_units.proofs.RoomLemmas.{room_to_settle}
+
+-- A later moment.
+
+save_later : (saved : Bool) (a b : ℕ) (h : FileHead) → a ≤ b → SaveFits saved a h → SaveFits saved b h
+save_later true a b h le s = record { buckets = s.buckets; position = s.position; moment = let m = s.moment in omega (arith, m, le) }
+save_later false a b h le s = s
+
+entry_later : (a b : ℕ) (o : Option FileHead) → a ≤ b → EntryFits a o → EntryFits b o
+entry_later a b None le e = tt
+entry_later a b (Some h) le e = record {
+  bucket = e.bucket;
+  keys = e.keys;
+  buckets = e.buckets;
+  ai = e.ai;
+  bi = e.bi;
+  since = let m = e.since in omega (arith, m, le);
+  save = save_later h.marks.save a b h le e.save;
+}
+
+sound_settled : (node : List ℕ) (size : ℕ) (tid : Tid) (serial : Serial) (ending : Ending) (moment : ℕ) (c : Catalog) (ru : Span) → c.home.greatest_moment.0 ≤ moment → moment ≤ 24000001000066 →
+    ru.start ≡ c.ru.start → ru.blocks ≡ c.ru.blocks → IsSound node size c → IsSound node size (record c { home = settled_home tid serial ending moment c.home; ru = ru })
+sound_settled node size tid serial ending moment c ru later bound start blocks s = record {
+  version = s.version;
+  sizes = s.sizes;
+  home = record { owner = s.home.owner; moment = omega (arith, bound) };
+  files = λ f below. entry_later c.home.greatest_moment.0 moment (head_at c.heads f) later (s.files f below);
+  names = s.names;
+  extents = s.extents;
+  ru_start = start ∙ s.ru_start;
+  ru_blocks = blocks ∙ s.ru_blocks;
+}
+
+-- The journal with an entry more, or as it was.
+
+abbrev pub bytes_of : Option Entry → ℕ
+bytes_of None = 0
+bytes_of (Some e) = length (spelling e)
+
+pub with_end : (e : Option Entry) (s : Span) → (span_with e s).end ≡ s.end + bytes_of e
+with_end None s = omega arith
+with_end (Some e) s = refl
+
+with_first : (e : Option Entry) (s : Span) → (span_with e s).first ≡ s.first
+with_first None s = refl
+with_first (Some e) s = refl
+
+with_start : (e : Option Entry) (s : Span) → (span_with e s).start ≡ s.start
+with_start None s = refl
+with_start (Some e) s = refl
+
+with_blocks : (e : Option Entry) (s : Span) → (span_with e s).blocks ≡ s.blocks
+with_blocks None s = refl
+with_blocks (Some e) s = refl
+
+-- A branch is settled on a volume whose files may have other heads by then. What is left of the units begins where it did, and has as much room for the entry as it
+-- is owed less.
+module _ (tid : Tid) (serial : Serial) (ending : Ending) (moment : ℕ) (e : Option Entry) (s t : UnitsState) (v x w : VolumeState) (o : IsInOrder s v)
+    (home : x.catalog.home ≡ v.catalog.home) (ru : x.catalog.ru ≡ v.catalog.ru) (heads : length x.catalog.heads ≡ 64) (sound : IsSound v.catalog.home.node v.store.disk.size x.catalog)
+    (later : v.catalog.home.greatest_moment.0 ≤ moment) (bound : moment ≤ 24000001000066)
+    (each : AreAscending v.catalog.ru.first v.catalog.ru.end t.units.places) (less : owed t.units.places + bytes_of e ≤ owed s.units.places)
+    (makes : MakesSettlement tid serial ending moment e t.units.places x w) where
+  abbrev end : ℕ
+  end = v.catalog.ru.end + bytes_of e
+
+  ends : (span_with e x.catalog.ru).end ≡ end
+  ends = with_end e x.catalog.ru ∙ ap (λ (r : Span). r.end + bytes_of e) ru
+
+  longer : AreAscending v.catalog.ru.first end t.units.places
+  longer = ascending_longer v.catalog.ru.first v.catalog.ru.end (bytes_of e) t.units.places each
+
+  order : v.catalog.ru.first ≤ end
+  order = let a = o.ascends in omega (arith, a)
+
+  abbrev first : ℕ
+  first = unwrap_or (earliest t.units.places) end
+
+  bounds : (v.catalog.ru.first ≤ first) × (first ≤ end)
+  bounds = from_bounds v.catalog.ru.first end t.units.places order longer
+
+  now_ends : w.catalog.ru.end ≡ end
+  now_ends = ap (λ (c : Catalog). c.ru.end) makes.catalog ∙ ends
+
+  now_first : w.catalog.ru.first ≡ first
+  now_first = ap (λ (c : Catalog). c.ru.first) makes.catalog ∙ ap (λ (n : ℕ). unwrap_or (earliest t.units.places) n) ends
+
+  now_blocks : w.catalog.ru.blocks ≡ v.catalog.ru.blocks
+  now_blocks = ap (λ (c : Catalog). c.ru.blocks) makes.catalog ∙ with_blocks e x.catalog.ru ∙ ap (λ (r : Span). r.blocks) ru
+
+  ascends : AreAscending w.catalog.ru.first w.catalog.ru.end t.units.places
+  ascends = subst (λ (n : ℕ). AreAscending n w.catalog.ru.end t.units.places) (sym now_first)
+      (subst (λ (n : ℕ). AreAscending first n t.units.places) (sym now_ends) (ascending_from v.catalog.ru.first end t.units.places order longer))
+
+  is_sound : w.store.disk.size ≡ v.store.disk.size → IsSound w.catalog.home.node w.store.disk.size w.catalog
+  is_sound size =
+      subst (λ (n : ℕ). IsSound w.catalog.home.node n w.catalog) (sym size)
+      (subst (λ (c : Catalog). IsSound c.home.node v.store.disk.size c) (sym makes.catalog)
+      (subst (λ (name : List ℕ). IsSound name v.store.disk.size (record x.catalog { home = settled_home tid serial ending moment x.catalog.home; ru = from_earliest t.units.places (span_with e x.catalog.ru) })) (λ i. (sym home i).node)
+      (sound_settled v.catalog.home.node v.store.disk.size tid serial ending moment x.catalog (from_earliest t.units.places (span_with e x.catalog.ru))
+      (let same : x.catalog.home.greatest_moment.0 ≡ v.catalog.home.greatest_moment.0 = λ i. (home i).greatest_moment.0 in omega (arith, same, later)) bound (with_start e x.catalog.ru) (with_blocks e x.catalog.ru) sound)))
+
+  pub order_settled : IsIdle w.store → Holds w → w.store.disk.size ≡ v.store.disk.size → w.store.pool ≡ v.store.pool → IsInOrder t w
+  order_settled idle holds size pool = record {
+    idle = idle;
+    frames = subst (λ ps. 32 ≤ free_frames ps) (sym pool) o.frames;
+    heads = ap (λ (c : Catalog). length c.heads) makes.catalog ∙ heads;
+    sound = is_sound size;
+    holds = holds;
+    least = let a = o.least in omega (arith, a, size);
+    most = let a = o.most in omega (arith, a, size);
+    ascends = let b = bounds in omega (arith, now_first, now_ends, b.1);
+    room = let a = o.room in let b = bounds in let c = o.ascends in omega (arith, a, b.0, b.1, c, less, now_first, now_ends, now_blocks);
+    within = ascending_within w.catalog.ru.first w.catalog.ru.end t.units.places ascends;
+    ascending = ascends;
+  }
+
+-- The moment of the next settlement.
+
+module _ (clock : ℕ) (home : Home) where
+  go : (P : ℕ → Type 0) → ((next : ℕ) → (home.greatest_moment.0 + 1 ≡ next) ⊎ ((home.greatest_moment.0 + 1 < clock) × (clock ≡ next)) → P next) → P (next_moment clock home)
+  go P f = step (nat_le clock (home.greatest_moment.0 + 1)) refl
+    where
+      step : (b : Bool) → nat_le clock (home.greatest_moment.0 + 1) ≡ b → P (if b then home.greatest_moment.0 + 1 else clock)
+      step true is = f (home.greatest_moment.0 + 1) (inl refl)
+      step false is = f clock (inr (leb-false clock (home.greatest_moment.0 + 1) is, refl))
+
+  pub next_later : home.greatest_moment.0 ≤ next_moment clock home
+  next_later = go (λ n. home.greatest_moment.0 ≤ n) (λ n e. ⊎_elim (λ is. omega (arith, is)) (λ is. omega (arith, is.0, is.1)) e)
+
+  pub next_bound : home.greatest_moment.0 < 24000001000066 → clock < 24000001000066 → next_moment clock home ≤ 24000001000066
+  next_bound g c = go (λ n. n ≤ 24000001000066) (λ n e. ⊎_elim (λ is. omega (arith, is, g)) (λ is. omega (arith, is.1, c)) e)
+
+  pub next_least : next_moment clock home ≤ max (home.greatest_moment.0 + 1) clock
+  next_least = go (λ n. n ≤ max (home.greatest_moment.0 + 1) clock) (λ n e. ⊎_elim (λ is. omega (arith, is)) (λ is. omega (arith, is.1)) e)
+
+-- numbers grow by a settlement at the next moment as by one at the clock
+pub grows_next : (clock moment : ℕ) (v w : VolumeState) → moment ≡ next_moment clock v.catalog.home → Grows 0 moment v w → Grows 1 clock v w
+grows_next clock moment v w is g = record {
+  node = g.node;
+  boot = g.boot;
+  greatest = let a = g.greatest in let b = next_least clock v.catalog.home in let c = next_later clock v.catalog.home in omega (arith, a, b, c, is);
+  end = g.end;
+}
+
+-- The entry of a settlement, where there was a change.
+
+abbrev has : List ℕ → Bool
+has ps = not (length ps == 0)
+
+has_some : (ps : List ℕ) → has ps ≡ is_some_change ps
+has_some [] = refl
+has_some (p ∷ ps) = let some : (length (p ∷ ps) == 0) ≡ false = grind (arith, nat_tests) in ap not some
+
+has_change : (ps : List ℕ) → has ps ≡ true → ps ≢ []
+has_change ps changed none = absurd (false≢true (ap has (sym none) ∙ changed))
+
+owed_some : (ps : List ℕ) → (if is_some_change ps then 48 else 0) ≤ owed_for ps
+owed_some [] = omega arith
+owed_some (p ∷ ps) = omega arith
+
+owed_if : (ps : List ℕ) → (if has ps then 48 else 0) ≤ owed_for ps
+owed_if ps = subst (λ (b : Bool). (if b then 48 else 0) ≤ owed_for ps) (sym (has_some ps)) (owed_some ps)
+
+-- A unit is committed.
+module _ (place : ℕ) (u : OpenUnit) (told_tid : Tid) (told_serial : Serial) (clock moment : ℕ) (ps : List ℕ) (changed : Bool) (s t : UnitsState) (v w : VolumeState) (at : unit_of place s ≡ Some u) (positions : ps ≡ u.positions)
+    (tid : tid_of told_tid ≡ u.tid) (serial : serial_of told_serial ≡ u.serial) (is : moment ≡ next_moment clock v.catalog.home) (spent : t ≡ without_place place u.serial s) (whether : changed ≡ has ps) where
+  abbrev entry : Option Entry
+  entry = entry_if changed (settled_entry (tid_of told_tid) (serial_of told_serial) Commit moment)
+
+  abbrev Makes : VolumeState → Type 0
+  Makes made = MakesSettlement told_tid told_serial ending.Commit moment entry t.units.places v made
+
+  pub room_to_commit : IsInOrder s v → changed ≡ true → v.catalog.ru.end - v.catalog.ru.first + 48 ≤ ring_size v.catalog.ru
+  room_to_commit o yes_changed = room_to_settle s.units.places place u (v.catalog.ru.end - v.catalog.ru.first) (ring_size v.catalog.ru) at (λ none. has_change ps (sym whether ∙ yes_changed) (positions ∙ none)) o.room
+
+  pub commits : Makes w → Commits place u told_tid told_serial clock moment s v t w
+  commits makes = record {
+    spent = spent;
+    tid = tid;
+    serial = serial;
+    moment = is;
+    makes = subst (λ (e : Option Entry). MakesSettlement told_tid told_serial ending.Commit moment e t.units.places v w)
+        (λ i. entry_if ((whether ∙ has_some ps ∙ ap is_some_change positions) i) (settled_entry (tid i) (serial i) Commit moment)) makes;
+  }
+
+  gone : t.units.places ≡ slice_set s.units.places place None
+  gone = ap (λ (x : UnitsState). x.units.places) spent
+
+  pub order_committed : IsInOrder s v → IsEarly v → clock < 24000001000066 → Makes w → w.catalog.ru.end ≡ v.catalog.ru.end + (if changed then 48 else 0) → IsIdle w.store → Holds w → w.store.disk.size ≡ v.store.disk.size → w.store.pool ≡ v.store.pool → IsInOrder t w
+  order_committed o early before makes end idle holds size pool =
+      let later : v.catalog.home.greatest_moment.0 ≤ moment = let a = next_later clock v.catalog.home in omega (arith, a, is) in
+      let bound : moment ≤ 24000001000066 = let a = next_bound clock v.catalog.home early.moment before in omega (arith, a, is) in
+      let each : AreAscending v.catalog.ru.first v.catalog.ru.end t.units.places =
+      subst (AreAscending v.catalog.ru.first v.catalog.ru.end) (sym gone) (ascending_gone v.catalog.ru.first v.catalog.ru.end s.units.places place (within_list s.units.places place u at) o.ascending) in
+      let longer : v.catalog.ru.end + bytes_of entry ≡ v.catalog.ru.end + (if changed then 48 else 0) = sym (ap (λ (c : Catalog). c.ru.end) makes.catalog ∙ with_end entry v.catalog.ru) ∙ end in
+      let owes : (if changed then 48 else 0) ≤ owed_for u.positions = subst (λ (b : Bool). (if b then 48 else 0) ≤ owed_for u.positions) (sym whether) (subst (λ (qs : List ℕ). (if has ps then 48 else 0) ≤ owed_for qs) positions (owed_if ps)) in
+      let less : owed t.units.places + bytes_of entry ≤ owed s.units.places = let a = owed_gone s.units.places place u at in let b = ap owed gone in omega (arith, a, b, longer, owes) in
+      order_settled told_tid told_serial ending.Commit moment entry s t v v w o refl refl o.heads o.sound later bound each less makes idle holds size pool

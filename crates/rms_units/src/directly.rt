@@ -1,0 +1,102 @@
+// Changes of one key by no unit.
+ghost use Rattle.std.specs.Prelude.{◌≡◌, ◌≤◌, ◌<◌, ℕ, List, [], None, OnOk, OnErr, IfOk, IfErr, is_some};
+ghost use Rattle.careful_write.specs.Down.{Counts};
+ghost use Rattle.change_set.specs.Files.{IsPlaced, free_frames};
+ghost use Rattle.record_files.specs.Any.{IsFile, IsLaidOut};
+ghost use Rattle.record_locks.specs.Locks.{holder};
+ghost use Rattle.vms_base.specs.Keys.{key_of};
+ghost use Rattle.volume.specs.Catalogs.{head_at};
+ghost use Rattle.record_operations.specs.Causes.{IfRefused};
+ghost use Rattle.unit_journal.specs.Groups.{Breaks, Grows};
+ghost use Rattle.unit_journal.specs.Leaving.{FellIn};
+ghost use Rattle.rms_units.specs.Calls.{DirectKeyRefused, direct_late};
+ghost use Rattle.rms_units.specs.Changing.{IsFormed, after_change, keys_asked, locks_refuse};
+ghost use Rattle.rms_units.specs.Making.{CommitsKey};
+ghost use Rattle.rms_units.specs.Reading.{MayBegin};
+ghost use Rattle.rms_units.specs.State.{IsInOrder, UnitsState};
+
+use crate::asked::Asked;
+use crate::changing::{read_before, room_in_file};
+use crate::locking::{HeldIn, locks_refusal};
+use crate::making::commit_key;
+use block_disk::Disk;
+use careful_write::Down;
+use change_set::Place;
+use record_locks::Locks;
+use record_operations::RecErr;
+use unit_table::UnitTable;
+use vms_base::{Moment, Record, Tid};
+use volume::Volume;
+
+/// Refuses a change of one key by no unit. What the key has is in `found` then, and a walk to it may begin at what is answered.
+pub(crate) fn refuse_directly<D: Disk>(
+    volume: &mut Volume<D>,
+    locks: &Locks,
+    asked: &Asked,
+    value: &[u8],
+    found: &mut Record,
+) -> Result<Place, RecErr>
+    requires placed { IsPlaced asked.now.head volume.old.store.disk }
+    requires frames { 32 ≤ free_frames volume.old.store.pool }
+    requires formed { IsFormed asked.now value.now }
+    ensures early { OnOk result (locks_refuse None asked.now.file (keys_asked asked.now.head asked.now.change (key_of asked.now.key)) locks.now.locks ≡ None) }
+    ensures late { OnOk result ((a : List (List ℕ)) → volume.old.store.current ≡ Some a → IsFile asked.now.head → IsLaidOut asked.now.head a → direct_late asked.now.head asked.now.change (key_of asked.now.key) value.now a ≡ None) }
+    ensures begins { IfOk result (MayBegin asked.now.head volume.old (key_of asked.now.key)) }
+    ensures same { OnOk result (volume.new ≡ volume.old) }
+    ensures err { IfErr result (λ e. IfRefused e
+        (λ cause. DirectKeyRefused asked.now.file asked.now.head asked.now.change (key_of asked.now.key) value.now cause locks.now.locks volume.old × (volume.new ≡ volume.old))
+        (λ down. (locks_refuse None asked.now.file (keys_asked asked.now.head asked.now.change (key_of asked.now.key)) locks.now.locks ≡ None) × FellIn down volume.old volume.new)) }
+{
+    match locks_refusal(locks, &None, asked) {
+        Some(refusal) => return Err(refusal),
+        None => {}
+    }
+    let from = match read_before(volume, asked, value, found) {
+        Err(e) => return Err(e),
+        Ok(from) => from,
+    };
+    match room_in_file(volume, asked, value.len()) {
+        Err(e) => return Err(e),
+        Ok(()) => {}
+    }
+    Ok(from)
+}
+
+/// Makes a change of one key by no unit, which nothing refuses, and commits it at a moment. A walk to the key begins at a place.
+pub(crate) fn make_directly<D: Disk>(
+    volume: &mut Volume<D>,
+    table: &UnitTable,
+    locks: &Locks,
+    asked: &Asked,
+    value: &Record,
+    from: Place,
+    tid: Tid,
+    moment: Moment,
+) -> Result<(), Down>
+    requires begins { MayBegin asked.now.head volume.old (key_of asked.now.key) from }
+    requires order { IsInOrder (record { units = table.now; locks = locks.now.locks }) volume.old }
+    requires head { head_at volume.old.catalog.heads asked.now.file ≡ Some asked.now.head }
+    requires later { volume.old.catalog.home.greatest_moment.0 ≤ moment.0 }
+    requires moment { moment.0 ≤ 24000001000066 }
+    ensures makes { OnOk result (CommitsKey asked.now.file asked.now.head (λ k. is_some (holder locks.now.locks asked.now.file k)) (key_of asked.now.key) (after_change asked.now.change value.now) tid moment.0 table.now.places volume.old volume.new) }
+    ensures order { OnOk result (IsInOrder (record { units = table.now; locks = locks.now.locks }) volume.new) }
+    ensures breaks { OnErr result (Breaks (CommitsKey asked.now.file asked.now.head (λ k. is_some (holder locks.now.locks asked.now.file k)) (key_of asked.now.key) (after_change asked.now.change value.now) tid moment.0 table.now.places volume.old) volume.old volume.new) }
+    ensures grows { Grows 0 moment.0 volume.old volume.new }
+    ensures counts { Counts result volume.old.store.disk volume.new.store.disk }
+    ensures pool { volume.new.store.pool ≡ volume.old.store.pool }
+{
+    let held = HeldIn {
+        locks,
+        file: asked.file,
+    };
+    commit_key(
+        volume,
+        table,
+        asked,
+        asked.change.after(value),
+        &held,
+        from,
+        tid,
+        moment,
+    )
+}

@@ -1,0 +1,145 @@
+// What a change of one key makes of a volume.
+ghost use Rattle.std.specs.Prelude.{◌≡◌, ◌≤◌, ◌+◌, ◌-◌, ℕ, List, Some, IfOk, OnOk, OnErr, IfErr, length, option_map};
+ghost use Rattle.std.specs.Option.{option_copied};
+ghost use Rattle.careful_write.specs.Down.{Counts};
+ghost use Rattle.careful_write.specs.State.{IsIdle, OneContent};
+ghost use Rattle.change_set.specs.Files.{free_frames};
+ghost use Rattle.journal_model.specs.Entries.{IsEntry};
+ghost use Rattle.journal_model.specs.Ring.{ring_size};
+ghost use Rattle.journal_store.specs.Rings.{IsRing};
+ghost use Rattle.vms_base.specs.Ids.{serial_of, tid_of};
+ghost use Rattle.vms_base.specs.Keys.{key_of};
+ghost use Rattle.volume.specs.Catalogs.{IsSound, head_at};
+ghost use Rattle.volume.specs.State.{Holds};
+ghost use Rattle.volume_files.specs.Staging.{StagesFile, TellsSet};
+ghost use Rattle.unit_journal.specs.Leaving.{FellIn};
+ghost use Rattle.unit_journal.specs.Room.{entry_size};
+ghost use Rattle.unit_journal.specs.Entries.{change_entry, key_bytes};
+ghost use Rattle.unit_journal.specs.Groups.{Breaks, Grows};
+ghost use Rattle.rms_units.specs.Making.{CommitsKey, EntersKey};
+ghost use Rattle.rms_units.specs.Reading.{MayBegin};
+ghost use Rattle.unit_journal.specs.Spans.{longer};
+
+use crate::asked::Asked;
+use block_disk::Disk;
+use careful_write::{Down, one_content};
+use change_set::{Held, Place};
+use file_base::FileHead;
+use journal_format::EntryBuf;
+use unit_journal::{encode_change, enter, stage_settlement};
+use unit_table::UnitTable;
+use vms_base::{Moment, Record, Serial, Tid};
+use volume::Volume;
+use volume_files::stage_value;
+use volume_format::Ending;
+
+/// Stages that the key of a change is set, and answers the file's head then. A walk to the key begins at a place.
+pub(crate) fn stage_key<D: Disk, H: Held>(
+    volume: &mut Volume<D>,
+    asked: &Asked,
+    after: Option<&Record>,
+    held: &H,
+    from: Place,
+) -> Result<FileHead, Down>
+    requires begins { MayBegin asked.now.head volume.old (key_of asked.now.key) from }
+    requires there { head_at volume.old.catalog.heads asked.now.file ≡ Some asked.now.head }
+    requires whole { length volume.old.catalog.heads ≡ 64 }
+    requires sound { IsSound volume.old.catalog.home.node volume.old.store.disk.size volume.old.catalog }
+    requires least { 4096 ≤ volume.old.store.disk.size }
+    requires most { volume.old.store.disk.size ≤ 65536 }
+    requires frames { 32 ≤ free_frames volume.old.store.pool }
+    requires staged { length volume.old.store.touched ≤ 64 }
+    ensures stages { IfOk result (λ head. StagesFile asked.now.file asked.now.head 65 volume.old volume.new head) }
+    ensures sets { IfOk result (λ head. TellsSet asked.now.head (H.held held.now) (key_of asked.now.key) (option_copied after.entry) volume.old volume.new head) }
+    ensures down { IfErr result (λ down. FellIn down volume.old volume.new) }
+{
+    let mut head = asked.head;
+    match stage_value(volume, asked.file, &mut head, &asked.key, after, held, from) {
+        Err(down) => Err(down),
+        Ok(()) => Ok(head),
+    }
+}
+
+/// Sets the key of a change, with the entry that tells what it had before, in one group. A walk to the key begins at a place.
+pub(crate) fn set_key<D: Disk, H: Held>(
+    volume: &mut Volume<D>,
+    asked: &Asked,
+    tid: Tid,
+    serial: Serial,
+    before: Option<&Record>,
+    after: Option<&Record>,
+    held: &H,
+    from: Place,
+    entry: &mut EntryBuf,
+) -> Result<(), Down>
+    requires begins { MayBegin asked.now.head volume.old (key_of asked.now.key) from }
+    requires there { head_at volume.old.catalog.heads asked.now.file ≡ Some asked.now.head }
+    requires whole { length volume.old.catalog.heads ≡ 64 }
+    requires sound { IsSound volume.old.catalog.home.node volume.old.store.disk.size volume.old.catalog }
+    requires least { 4096 ≤ volume.old.store.disk.size }
+    requires most { volume.old.store.disk.size ≤ 65536 }
+    requires frames { 32 ≤ free_frames volume.old.store.pool }
+    requires idle { IsIdle volume.old.store }
+    requires holds { Holds volume.old }
+    requires ring { IsRing volume.old.catalog.ru volume.old.store.disk }
+    requires behind { 584 ≤ volume.old.catalog.ru.start }
+    requires key { 1 ≤ length (key_bytes (key_of asked.now.key)) }
+    requires room { volume.old.catalog.ru.end - volume.old.catalog.ru.first + entry_size (key_of asked.now.key) (option_copied before) ≤ ring_size volume.old.catalog.ru }
+    ensures makes { OnOk result (EntersKey asked.now.file asked.now.head (H.held held.now) (key_of asked.now.key) (option_copied after.entry) (change_entry (tid_of tid) (serial_of serial) asked.now.file (key_of asked.now.key) (option_copied before.entry)) volume.old volume.new) }
+    ensures entry { OnOk result (IsEntry (change_entry (tid_of tid) (serial_of serial) asked.now.file (key_of asked.now.key) (option_copied before.entry))) }
+    ensures idle { OnOk result (IsIdle volume.new.store) }
+    ensures holds { OnOk result (Holds volume.new) }
+    ensures breaks { OnErr result (Breaks (EntersKey asked.now.file asked.now.head (H.held held.now) (key_of asked.now.key) (option_copied after.entry) (change_entry (tid_of tid) (serial_of serial) asked.now.file (key_of asked.now.key) (option_copied before.entry)) volume.old) volume.old volume.new) }
+    ensures grows { Grows 0 0 volume.old volume.new }
+    ensures counts { Counts result volume.old.store.disk volume.new.store.disk }
+    ensures pool { volume.new.store.pool ≡ volume.old.store.pool }
+{
+    one_content();
+    encode_change(tid, serial, asked.file, &asked.key, before, entry);
+    match stage_key(volume, asked, after, held, from) {
+        Err(down) => return Err(down),
+        Ok(_) => {}
+    }
+    match enter(volume, entry) {
+        Err(down) => return Err(down),
+        Ok(()) => {}
+    }
+    volume.store().apply()
+}
+
+/// Sets the key of a change, and commits that as the transaction and the branch of an id, in one group. A walk to the key begins at a place.
+pub(crate) fn commit_key<D: Disk, H: Held>(
+    volume: &mut Volume<D>,
+    units: &UnitTable,
+    asked: &Asked,
+    after: Option<&Record>,
+    held: &H,
+    from: Place,
+    tid: Tid,
+    moment: Moment,
+) -> Result<(), Down>
+    requires begins { MayBegin asked.now.head volume.old (key_of asked.now.key) from }
+    requires there { head_at volume.old.catalog.heads asked.now.file ≡ Some asked.now.head }
+    requires whole { length volume.old.catalog.heads ≡ 64 }
+    requires sound { IsSound volume.old.catalog.home.node volume.old.store.disk.size volume.old.catalog }
+    requires least { 4096 ≤ volume.old.store.disk.size }
+    requires most { volume.old.store.disk.size ≤ 65536 }
+    requires frames { 32 ≤ free_frames volume.old.store.pool }
+    requires idle { IsIdle volume.old.store }
+    requires holds { Holds volume.old }
+    ensures makes { OnOk result (CommitsKey asked.now.file asked.now.head (H.held held.now) (key_of asked.now.key) (option_copied after.entry) tid moment.0 units.now.places volume.old volume.new) }
+    ensures idle { OnOk result (IsIdle volume.new.store) }
+    ensures holds { OnOk result (Holds volume.new) }
+    ensures breaks { OnErr result (Breaks (CommitsKey asked.now.file asked.now.head (H.held held.now) (key_of asked.now.key) (option_copied after.entry) tid moment.0 units.now.places volume.old) volume.old volume.new) }
+    ensures grows { Grows 0 moment.0 volume.old volume.new }
+    ensures counts { Counts result volume.old.store.disk volume.new.store.disk }
+    ensures pool { volume.new.store.pool ≡ volume.old.store.pool }
+{
+    one_content();
+    match stage_key(volume, asked, after, held, from) {
+        Err(down) => return Err(down),
+        Ok(_) => {}
+    }
+    stage_settlement(volume, units, tid, Serial(tid.0), Ending::Commit, moment);
+    volume.store().apply()
+}

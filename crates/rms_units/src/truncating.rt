@@ -1,0 +1,261 @@
+// Truncations of sequential files: which records go, and what refuses that.
+ghost use Rattle.std.specs.Prelude.{◌≡◌, ◌≤◌, ◌<◌, ◌+◌, ◌-◌, [], List, None, Some, IfOk, IfErr, IfSome, IsSome, OnOk, OnErr, length, option_map};
+ghost use Rattle.std.specs.Option.{option_and_then};
+ghost use Rattle.change_set.specs.Files.{IsPlaced, free_frames};
+ghost use Rattle.file_base.specs.declared.head.Organization.TheVariants as organization;
+ghost use Rattle.careful_write.specs.Down.{Counts};
+ghost use Rattle.journal_model.specs.Entries.{Entry};
+ghost use Rattle.journal_model.specs.Ring.{ring_size};
+ghost use Rattle.record_locks.specs.Locks.{with_locks};
+ghost use Rattle.volume.specs.Catalogs.{head_at};
+ghost use Rattle.record_operations.specs.Causes.{IfRefused, IsRefusal, cause_of};
+ghost use Rattle.unit_journal.specs.Groups.{Grows};
+ghost use Rattle.unit_journal.specs.Leaving.{FellIn};
+ghost use Rattle.unit_journal.specs.Room.{journal_refused};
+ghost use Rattle.unit_table.specs.Units.{OpenUnit, owed, unit_at, with_unit};
+ghost use Rattle.vms_base.specs.Ids.{serial_of, tid_of};
+ghost use Rattle.vms_base.specs.Keys.{key_of};
+ghost use Rattle.vms_model.specs.Keys.{Number};
+ghost use Rattle.rms_units.specs.Changing.{keys_refused, locks_refuse};
+ghost use Rattle.rms_units.specs.Reading.{OfRecords};
+ghost use Rattle.rms_units.specs.State.{IsEarly, IsInOrder};
+ghost use Rattle.rms_units.specs.Truncating.{AreBegun, BreaksCut, CutRefused, IsCut, MakesCut, begins_at, with_positions, cut_asked, cut_early, direct_cut_refused, entry_sizes, keys_cut, number_refused, removed_from};
+
+use crate::cutting::cut_records;
+use crate::locking::{MOST_LOCKS, lock_refusal};
+use crate::measuring::{CutRoom, measure};
+use block_disk::Disk;
+use careful_write::Down;
+use file_base::FileHead;
+use journal_format::EntryBuf;
+use record_locks::Locks;
+use record_operations::RecErr;
+use unit_journal::journal_refusal;
+use unit_table::{Branch, MOST_CHANGES, UnitTable};
+use vms_base::{Key, Record, Serial};
+use volume::Volume;
+
+/// A truncation that is asked for: of which sequential file, and from which position on.
+#[derive(Clone, Copy, Debug, Drop)]
+pub(crate) struct Cut {
+    pub file: u8,
+    pub head: FileHead,
+    pub from: u32,
+}
+
+impl Cut {
+    /// How many records go; none, where the file has no such position.
+    pub fn removed(&self) -> u32
+        ensures many { result ≡ removed_from self.now.head.count self.now.from }
+        ensures lies { 1 ≤ result → (1 ≤ self.now.from) × (self.now.from + result ≡ self.now.head.count + 1) }
+        ensures fits { self.now.head.count < 4294967296 }
+    {
+        let count = self.head.count;
+        if self.from < 1 || count < self.from {
+            return 0;
+        }
+        count - self.from + 1
+    }
+
+    /// The position of the last record but so many.
+    pub fn key(&self, behind: u32) -> Key
+        requires { behind ≤ self.now.head.count }
+        ensures { key_of result ≡ Number (self.now.head.count - behind) }
+    {
+        Key::Number(self.head.count - behind)
+    }
+}
+
+/// Whether another branch holds the file's end, or a record that goes, the last one first.
+pub(crate) fn cut_lock_refusal(locks: &Locks, by: &Option<Serial>, cut: &Cut) -> Option<RecErr>
+    ensures refuses { option_and_then cause_of result ≡ locks_refuse (option_map serial_of by.now) cut.now.file (cut_asked cut.now.head cut.now.from) locks.now.locks }
+    ensures refusal { IfSome result IsRefusal }
+{
+    match lock_refusal(locks, by, cut.file, &Key::End) {
+        Some(refusal) => return Some(refusal),
+        None => {}
+    }
+    for behind in 0..cut.removed() {
+        match lock_refusal(locks, by, cut.file, &cut.key(behind)) {
+            Some(refusal) => return Some(refusal),
+            None => {}
+        }
+    }
+    None
+}
+
+/// Why a truncation is not done by its numbers: no such record is there, or more go than a branch may change that has changed so many.
+pub(crate) fn cut_refusal(cut: &Cut, changed: usize) -> Option<RecErr>
+    requires few { changed ≤ 1024 }
+    ensures refuses { option_and_then cause_of result ≡ number_refused changed (removed_from cut.now.head.count cut.now.from) }
+    ensures some { result ≡ None → 1 ≤ removed_from cut.now.head.count cut.now.from }
+    ensures refusal { IfSome result IsRefusal }
+{
+    let removed = cut.removed() as usize;
+    if removed == 0 {
+        return Some(RecErr::RecordNotFound);
+    }
+    if changed + removed > MOST_CHANGES {
+        return Some(RecErr::Changes);
+    }
+    None
+}
+
+/// Refuses a truncation with whose keys more would be held than may be.
+pub(crate) fn cut_quota_refusal(locks: &Locks, cut: &Cut) -> Option<RecErr>
+    requires few { removed_from cut.now.head.count cut.now.from ≤ 1024 }
+    requires most { length locks.now.locks ≤ 4096 }
+    ensures refuses { option_and_then cause_of result ≡ keys_refused cut.now.file (cut_asked cut.now.head cut.now.from) locks.now.locks }
+    ensures refusal { IfSome result IsRefusal }
+{
+    let mut count = locks.count() + locks.count_free(cut.file, &[Key::End]);
+    for behind in 0..cut.removed() {
+        count += locks.count_free(cut.file, &[cut.key(behind)]);
+    }
+    if count > MOST_LOCKS as usize {
+        Some(RecErr::Locks)
+    } else {
+        None
+    }
+}
+
+/// Why a truncation by no unit is not done.
+pub(crate) fn direct_cut_refusal(locks: &Locks, cut: &Cut) -> Option<RecErr>
+    ensures refuses { option_and_then cause_of result ≡ direct_cut_refused cut.now.file cut.now.head cut.now.from locks.now.locks }
+    ensures some { result ≡ None → 1 ≤ removed_from cut.now.head.count cut.now.from }
+    ensures refusal { IfSome result IsRefusal }
+{
+    match cut_lock_refusal(locks, &None, cut) {
+        Some(refusal) => Some(refusal),
+        None => cut_refusal(cut, 0),
+    }
+}
+
+/// Refuses a truncation by the unit at a place. How many bytes its entries take is answered, and where walks to its records begin is in `room` then.
+pub(crate) fn refuse_cut<D: Disk>(
+    volume: &mut Volume<D>,
+    table: &UnitTable,
+    locks: &Locks,
+    place: u8,
+    serial: &Serial,
+    cut: &Cut,
+    found: &mut Record,
+    room: &mut CutRoom,
+) -> Result<u64, RecErr>
+    requires place { place < 64 }
+    requires there { IsSome (unit_at table.now.places place) }
+    requires unit { IfSome (unit_at table.now.places place) (λ u. serial_of serial.now ≡ u.serial) }
+    requires most { length locks.now.locks ≤ 4096 }
+    requires placed { IsPlaced cut.now.head volume.old.store.disk }
+    requires frames { 32 ≤ free_frames volume.old.store.pool }
+    requires sequential { cut.now.head.organization ≡ organization.Sequential }
+    requires ascends { volume.old.catalog.ru.first ≤ volume.old.catalog.ru.end }
+    requires free { volume.old.catalog.ru.end - volume.old.catalog.ru.first + owed table.now.places ≤ ring_size volume.old.catalog.ru }
+    ensures early { OnOk result (IfSome (unit_at table.now.places place) (λ u. cut_early u cut.now.file cut.now.head cut.now.from locks.now.locks ≡ None)) }
+    ensures few { OnOk result (IfSome (unit_at table.now.places place) (λ u. length u.positions + removed_from cut.now.head.count cut.now.from ≤ 1024)) }
+    ensures some { OnOk result (1 ≤ removed_from cut.now.head.count cut.now.from) }
+    ensures files { OnOk result (IfSome (unit_at table.now.places place) (λ u. length u.files ≡ 64)) }
+    ensures size { IfOk result (λ size. OfRecords cut.now.head volume.old (λ m. size ≡ entry_sizes m (keys_cut cut.now.head cut.now.from))) }
+    ensures fits { IfOk result (λ size. IfSome (unit_at table.now.places place) (λ u. journal_refused volume.old.catalog.ru table.now.places u size ≡ None)) }
+    ensures places { OnOk result (AreBegun cut.now.head volume.old room.new.places) }
+    ensures none { OnOk result (room.new.positions ≡ []) }
+    ensures same { OnOk result (volume.new ≡ volume.old) }
+    ensures err { IfErr result (λ e. (u : OpenUnit) → unit_at table.now.places place ≡ Some u → IfRefused e
+        (λ cause. CutRefused u cut.now.file cut.now.head cut.now.from cause (record { units = table.now; locks = locks.now.locks }) volume.old × (volume.new ≡ volume.old))
+        (λ down. (cut_early u cut.now.file cut.now.head cut.now.from locks.now.locks ≡ None) × FellIn down volume.old volume.new)) }
+{
+    match cut_lock_refusal(locks, &Some(*serial), cut) {
+        Some(refusal) => return Err(refusal),
+        None => {}
+    }
+    match cut_refusal(cut, table.positions(place).len()) {
+        Some(refusal) => return Err(refusal),
+        None => {}
+    }
+    match cut_quota_refusal(locks, cut) {
+        Some(refusal) => return Err(refusal),
+        None => {}
+    }
+    let size = match measure(volume, cut, found, room) {
+        Ok(size) => size,
+        Err(down) => return Err(RecErr::Down(down)),
+    };
+    match journal_refusal(volume, table, place, size) {
+        Some(refusal) => Err(refusal),
+        None => Ok(size),
+    }
+}
+
+// Lets a branch hold the records that go, and the file's end.
+fn hold_cut(locks: &mut Locks, cut: &Cut, by: &Serial)
+    requires most { locks.old.most ≡ 4096 }
+    requires free { locks_refuse (Some (serial_of by.now)) cut.now.file (cut_asked cut.now.head cut.now.from) locks.old.locks ≡ None }
+    requires few { keys_refused cut.now.file (cut_asked cut.now.head cut.now.from) locks.old.locks ≡ None }
+    ensures locks { locks.new ≡ record locks.old { locks = with_locks (serial_of by.now) cut.now.file (cut_asked cut.now.head cut.now.from) locks.old.locks } }
+    ensures few { length locks.new.locks ≤ 4096 }
+{
+    for i in 0..cut.removed() {
+        let _ = locks.lock(cut.file, &Key::Number(cut.from + i), *by);
+    }
+    let _ = locks.lock(cut.file, &Key::End, *by);
+}
+
+// Notes for the unit at a place where the entries of its truncation begin.
+fn note_cut(table: &mut UnitTable, place: u8, file: u8, positions: &[u64])
+    requires file { file < 64 }
+    requires there { IsSome (unit_at table.old.places place) }
+    requires room { IfSome (unit_at table.old.places place) (λ u. length u.positions + length positions.now ≤ 1024) }
+    ensures { IfSome (unit_at table.old.places place) (λ u. table.new ≡ with_unit place (with_positions positions.now file u) table.old) }
+{
+    for position in positions {
+        table.note(place, *position, file);
+    }
+}
+
+/// Makes a truncation by the unit at a place, which nothing refuses, and whose entries take so many bytes.
+pub(crate) fn make_cut<D: Disk>(
+    volume: &mut Volume<D>,
+    table: &mut UnitTable,
+    locks: &mut Locks,
+    place: u8,
+    branch: &Branch,
+    cut: &Cut,
+    size: u64,
+    found: &mut Record,
+    entry: &mut EntryBuf,
+    room: &mut CutRoom,
+) -> Result<(), Down>
+    requires order { IsInOrder (record { units = table.old; locks = locks.old.locks }) volume.old }
+    requires early { IsEarly volume.old }
+    requires head { head_at volume.old.catalog.heads cut.now.file ≡ Some cut.now.head }
+    requires sequential { cut.now.head.organization ≡ organization.Sequential }
+    requires there { IsSome (unit_at table.old.places place) }
+    requires unit { IfSome (unit_at table.old.places place) (λ u. (tid_of branch.now.tid ≡ u.tid) × (serial_of branch.now.serial ≡ u.serial)) }
+    requires changes { IfSome (unit_at table.old.places place) (λ u. length u.positions + removed_from cut.now.head.count cut.now.from ≤ 1024) }
+    requires some { 1 ≤ removed_from cut.now.head.count cut.now.from }
+    requires size { OfRecords cut.now.head volume.old (λ m. size ≡ entry_sizes m (keys_cut cut.now.head cut.now.from)) }
+    requires fits { IfSome (unit_at table.old.places place) (λ u. journal_refused volume.old.catalog.ru table.old.places u size ≡ None) }
+    requires places { AreBegun cut.now.head volume.old room.old.places }
+    requires none { room.old.positions ≡ [] }
+    requires most { locks.old.most ≡ 4096 }
+    requires free { locks_refuse (Some (serial_of branch.now.serial)) cut.now.file (cut_asked cut.now.head cut.now.from) locks.old.locks ≡ None }
+    requires few { keys_refused cut.now.file (cut_asked cut.now.head cut.now.from) locks.old.locks ≡ None }
+    ensures makes { OnOk result ((u : OpenUnit) → unit_at table.old.places place ≡ Some u → (es : List Entry) × MakesCut u cut.now.file cut.now.head cut.now.from es volume.old volume.new
+        × (table.new ≡ with_unit place (with_positions (begins_at volume.old.catalog.ru.end es) cut.now.file u) table.old)) }
+    ensures locks { OnOk result (locks.new ≡ record locks.old { locks = with_locks (serial_of branch.now.serial) cut.now.file (cut_asked cut.now.head cut.now.from) locks.old.locks }) }
+    ensures held { OnOk result (length locks.new.locks ≤ 4096) }
+    ensures order { OnOk result (IsInOrder (record { units = table.new; locks = locks.new.locks }) volume.new) }
+    ensures spared { OnErr result ((table.new ≡ table.old) × (locks.new ≡ locks.old)) }
+    ensures grows { Grows 0 0 volume.old volume.new }
+    ensures breaks { OnErr result ((u : OpenUnit) → unit_at table.old.places place ≡ Some u → BreaksCut (IsCut u cut.now.file cut.now.head cut.now.from (record { units = table.old; locks = locks.old.locks }) volume.old) volume.old volume.new) }
+    ensures counts { Counts result volume.old.store.disk volume.new.store.disk }
+    ensures pool { volume.new.store.pool ≡ volume.old.store.pool }
+{
+    match cut_records(volume, cut, size, branch, found, entry, room) {
+        Err(down) => return Err(down),
+        Ok(()) => {}
+    }
+    note_cut(table, place, cut.file, room.positions());
+    hold_cut(locks, cut, &branch.serial);
+    Ok(())
+}

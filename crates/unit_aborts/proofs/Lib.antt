@@ -1,0 +1,3 @@
+pub mod AbortLemmas
+pub mod GrowLemmas
+pub mod TakeLemmas

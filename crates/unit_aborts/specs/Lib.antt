@@ -1,0 +1,3 @@
+pub mod Aborting
+pub mod Growing
+pub mod Reopening

@@ -1,0 +1,6 @@
+pub mod KeyLemmas
+pub mod ReadLemmas
+pub mod RowLemmas
+pub mod LeastLemmas
+pub mod StoreLemmas
+pub mod CollectLemmas

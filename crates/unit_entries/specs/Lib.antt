@@ -1,0 +1,5 @@
+pub mod Keys
+pub mod Rows
+pub mod Collecting
+pub mod Told
+pub mod Reading

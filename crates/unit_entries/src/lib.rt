@@ -1,0 +1,13 @@
+//! What the entries of a unit tell: the keys that it changed, with the earliest entry of each. And the journal as a restart reads it.
+#![tactic(auto)]
+
+mod collecting;
+mod keys;
+mod reading;
+
+pub use collecting::collect_keys;
+pub use keys::{ChangedKey, ChangedKeys, MOST_KEYS};
+pub use reading::{find_positions, read_journal};
+
+#[cfg(test)]
+mod tests;

@@ -1,0 +1,6 @@
+pub mod Breaking
+pub mod Entered
+pub mod EntryLemmas
+pub mod Falling
+pub mod Growing
+pub mod Settled

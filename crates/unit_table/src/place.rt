@@ -1,0 +1,132 @@
+// A place of a table, for one unit.
+ghost use Rattle.std.specs.Prelude.{◌≡◌, ◌≤◌, ◌<◌, IfOk, IfSome, IsSome, None, Some, is_some, length, option_map, true};
+ghost use Rattle.std.specs.Option.{option_and_then};
+ghost use Rattle.vms_base.specs.Ids.{serial_of, tid_of};
+ghost use Rattle.unit_table.specs.declared.place.Branch.{Branch};
+ghost use Rattle.unit_table.specs.Units.{OpenUnit, first_of, has_changed, new_unit, owed_for, with_position};
+
+use std::alloc::{AllocError, Global};
+use std::marker::Model;
+use vms_base::{Serial, Tid};
+
+/// How many changes a unit may have.
+pub const MOST_CHANGES: usize = 1_024;
+
+/// The branch of a unit.
+#[derive(Clone, Copy, Debug, Drop)]
+pub struct Branch {
+    pub tid: Tid,
+    pub serial: Serial,
+}
+
+/// Room for a unit.
+#[derive(Drop)]
+pub(crate) struct Place {
+    branch: Option<Branch>,
+    // Where its changes begin in the journal, the oldest first.
+    positions: Vec<u64>,
+    files: [bool; 64],
+}
+
+impl Model for Place {
+    ghost use Rattle.std.specs.Prelude.{◌≡◌, ◌≤◌, Option, length, option_map, vec_capacity};
+    ghost use Rattle.vms_base.specs.Ids.{serial_of, tid_of};
+    ghost use Rattle.unit_table.specs.Units.{OpenUnit};
+    ghost use Rattle.unit_table.specs.declared.place.Branch.{Branch};
+
+    ghost Value = { Option OpenUnit };
+
+    ghost view = { λ p. option_map (λ (b : Branch). record { tid = tid_of b.tid; serial = serial_of b.serial; positions = p.positions.items; files = p.files }) p.branch };
+
+    ghost invariant = { λ p. (1024 ≤ vec_capacity p.positions) × (length p.positions.items ≤ 1024) × (length p.files ≡ 64) };
+}
+
+impl Place {
+    /// Without a unit, and with room for its changes.
+    pub fn reserve(alloc: Global) -> Result<Place, AllocError>
+        ensures { IfOk result (λ p. p ≡ None) }
+    {
+        Ok(Place {
+            branch: None,
+            positions: Vec::with_capacity(alloc, MOST_CHANGES)?,
+            files: [false; 64],
+        })
+    }
+
+    /// Has a unit from now on, which has changed nothing.
+    pub fn begin(&mut self, tid: Tid, serial: Serial)
+        ensures { self.new ≡ Some (new_unit (tid_of tid) (serial_of serial)) }
+    {
+        self.branch = Some(Branch { tid, serial });
+        self.positions.clear();
+        self.files = [false; 64];
+    }
+
+    /// Has none any more.
+    pub fn clear(&mut self)
+        ensures { self.new ≡ None }
+    {
+        self.branch = None;
+    }
+
+    /// Whether it has a unit.
+    pub fn is_taken(&self) -> bool
+        ensures { result ≡ is_some self.now }
+    {
+        self.branch.is_some()
+    }
+
+    /// The branch of its unit.
+    pub fn branch(&self) -> Option<Branch>
+        ensures tid { option_map (λ (b : Branch). tid_of b.tid) result ≡ option_map (λ (u : OpenUnit). u.tid) self.now }
+        ensures serial { option_map (λ (b : Branch). serial_of b.serial) result ≡ option_map (λ (u : OpenUnit). u.serial) self.now }
+    {
+        self.branch
+    }
+
+    /// Where the changes of its unit begin.
+    pub fn positions(&self) -> &[u64]
+        ensures value { IfSome self.now (λ u. result.now ≡ u.positions) }
+        ensures few { length result.now ≤ 1024 }
+        ensures files { IfSome self.now (λ u. length u.files ≡ 64) }
+    {
+        &self.positions
+    }
+
+    /// Whether its unit changed a file.
+    pub fn has_changed(&self, file: u8) -> bool
+        ensures { IfSome self.now (λ u. result ≡ has_changed u file) }
+    {
+        file < 64 && self.files[file as usize]
+    }
+
+    /// Where the first change of its unit begins.
+    pub fn first(&self) -> Option<u64>
+        ensures { result ≡ option_and_then (λ (u : OpenUnit). first_of u.positions) self.now }
+    {
+        if !self.is_taken() {
+            return None;
+        }
+        self.positions.first().copied()
+    }
+
+    /// How many bytes of the journal its unit will still take.
+    pub fn owed(&self) -> u64
+        ensures value { result ≡ elim self.now [ None ↦ 0 | Some u ↦ owed_for u.positions ] }
+        ensures few { result ≤ 96 }
+    {
+        if self.first().is_some() { 96 } else { 0 }
+    }
+
+    /// Notes one change more.
+    pub fn note(&mut self, position: u64, file: u8)
+        requires file { file < 64 }
+        requires there { IsSome self.old }
+        requires room { IfSome self.old (λ u. length u.positions < 1024) }
+        ensures noted { self.new ≡ option_map (with_position position file) self.old }
+        ensures changed { IfSome self.old (λ u. has_changed (with_position position file u) file ≡ true) }
+    {
+        self.positions.push_reserved(position);
+        self.files[file as usize] = true;
+    }
+}

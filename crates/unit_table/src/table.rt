@@ -1,0 +1,222 @@
+// A table of units.
+ghost use Rattle.std.specs.Prelude.{◌≡◌, ℕ, ◌≤◌, ◌<◌, ◌*◌, IfOk, IfSome, IfNone, IsSome, None, length, option_map, true};
+ghost use Rattle.std.specs.List.{AllByRecursion};
+ghost use Rattle.vms_base.specs.Ids.{serial_of, tid_of};
+ghost use Rattle.unit_table.specs.declared.place.Branch.{Branch as BranchSaid};
+ghost use Rattle.unit_table.specs.Places.{AreInOrder};
+ghost use Rattle.unit_table.specs.Units.{OpenUnit, Units, begun, earliest, earlier, first_to_change, has_changed, no_units, owed, unit_at, units_of, with_begun, with_position, with_unit, without_place};
+
+use crate::place::{Branch, Place};
+use std::alloc::{AllocError, Global};
+use std::marker::Model;
+use vms_base::{Serial, Tid};
+
+/// How many units may be unsettled.
+pub const MOST_UNITS: usize = 64;
+
+/// The units that are not settled, each at one of 64 places.
+#[derive(Drop)]
+pub struct UnitTable {
+    places: Vec<Place>,
+    // The places that are taken, in the order in which their units were begun.
+    order: Vec<u8>,
+}
+
+impl Model for UnitTable {
+    ghost use Rattle.std.specs.Prelude.{◌≤◌, vec_capacity};
+    ghost use Rattle.unit_table.specs.Units.{Units};
+    ghost use Rattle.unit_table.specs.Places.{AreInOrder};
+
+    ghost Value = { Units };
+
+    ghost view = { λ t. record { places = t.places.items; order = t.order.items } };
+
+    ghost invariant = { λ t. AreInOrder t.places.items t.order.items × (64 ≤ vec_capacity t.order) };
+}
+
+// How many bytes the units at some places will still take.
+fn owed_by(places: &[Place]) -> u64
+    requires few { length places.now ≤ 64 }
+    ensures value { result ≡ owed places.now }
+    ensures few { result ≤ 96 * length places.now }
+{
+    match places {
+        [] => 0,
+        [place, rest @ ..] => place.owed() + owed_by(rest),
+    }
+}
+
+// The lesser of two positions, where there are two.
+fn earlier(a: Option<u64>, b: Option<u64>) -> Option<u64>
+    ensures { result ≡ earlier a b }
+{
+    match (a, b) {
+        (None, b) => b,
+        (Some(m), None) => Some(m),
+        (Some(m), Some(n)) => Some(m.min(n)),
+    }
+}
+
+// Where the earliest change of the units at some places begins.
+fn earliest_of(places: &[Place]) -> Option<u64>
+    ensures { result ≡ earliest places.now }
+{
+    match places {
+        [] => None,
+        [place, rest @ ..] => earlier(place.first(), earliest_of(rest)),
+    }
+}
+
+// The branch of a unit.
+fn serial_at(place: &Place) -> Option<Serial>
+    ensures { option_map serial_of result ≡ option_map (λ (u : OpenUnit). u.serial) place.now }
+{
+    match place.branch() {
+        Some(branch) => Some(branch.serial),
+        None => None,
+    }
+}
+
+// The branch of the first of the units at some places that changed a file.
+fn first_to_change(places: &[Place], order: &[u8], file: u8) -> Option<Serial>
+    requires { AllByRecursion (λ p. IsSome (unit_at places.now p)) order.now }
+    ensures { option_map serial_of result ≡ first_to_change file (units_of places.now order.now) }
+{
+    match order {
+        [] => None,
+        [p, rest @ ..] => {
+            let place = &places[*p as usize];
+            if place.has_changed(file) {
+                serial_at(place)
+            } else {
+                first_to_change(places, rest, file)
+            }
+        }
+    }
+}
+
+impl UnitTable {
+    /// Without units. Room for 64 with 1,024 changes each is taken; an error where there is no memory for it.
+    pub fn reserve(alloc: Global) -> Result<UnitTable, AllocError>
+        ensures { IfOk result (λ t. t ≡ no_units) }
+    {
+        let mut places = Vec::with_capacity(alloc, MOST_UNITS)?;
+        for _ in 0..MOST_UNITS {
+            places.push(Place::reserve(alloc)?)?;
+        }
+        Ok(UnitTable {
+            places,
+            order: Vec::with_capacity(alloc, MOST_UNITS)?,
+        })
+    }
+
+    // The first place without a unit.
+    fn free_place(&self) -> Option<usize>
+        ensures found { IfSome result (λ p. (p < 64) × (unit_at self.now.places p ≡ None)) }
+        ensures none { IfNone result ((p : ℕ) → p < 64 → IsSome (unit_at self.now.places p)) }
+    {
+        for (i, place) in self.places.iter().enumerate() {
+            if !place.is_taken() {
+                return Some(i);
+            }
+        }
+        None
+    }
+
+    /// A unit of a branch is begun, at the place that is answered. None exactly where 64 are unsettled.
+    pub fn begin(&mut self, tid: Tid, serial: Serial) -> Option<u8>
+        ensures begun { IfSome result (λ p. self.new ≡ with_begun p (tid_of tid) (serial_of serial) self.old) }
+        ensures free { IfSome result (λ p. (p < 64) × (unit_at self.old.places p ≡ None)) }
+        ensures full { IfNone result ((length (begun self.old) ≡ 64) × (self.new ≡ self.old)) }
+    {
+        match self.free_place() {
+            None => None,
+            Some(place) => {
+                self.places[place].begin(tid, serial);
+                self.order.push_reserved(place as u8);
+                Some(place as u8)
+            }
+        }
+    }
+
+    /// The unit at a place is no more.
+    pub fn remove(&mut self, place: u8)
+        requires { IsSome (unit_at self.old.places place) }
+        ensures { self.new ≡ without_place place self.old }
+    {
+        self.places[place as usize].clear();
+        self.order.retain(|p| *p != place);
+    }
+
+    /// All units are no more.
+    pub fn clear(&mut self)
+        ensures { self.new ≡ no_units }
+    {
+        for i in 0..MOST_UNITS {
+            self.places[i].clear();
+        }
+        self.order.clear();
+    }
+
+    /// The places that have a unit are those that stand in the order, each once.
+    pub fn stand_in_order(&self)
+        ensures { AreInOrder self.now.places self.now.order }
+    {
+        let _ = self.order.len();
+    }
+
+    /// The branch of the unit at a place.
+    pub fn branch(&self, place: u8) -> Option<Branch>
+        ensures tid { option_map (λ (b : BranchSaid). tid_of b.tid) result ≡ option_map (λ (u : OpenUnit). u.tid) (unit_at self.now.places place) }
+        ensures serial { option_map (λ (b : BranchSaid). serial_of b.serial) result ≡ option_map (λ (u : OpenUnit). u.serial) (unit_at self.now.places place) }
+    {
+        if place < 64 {
+            self.places[place as usize].branch()
+        } else {
+            None
+        }
+    }
+
+    /// Where the changes of the unit at a place begin in the journal, the oldest first.
+    pub fn positions(&self, place: u8) -> &[u64]
+        requires { place < 64 }
+        ensures value { IfSome (unit_at self.now.places place) (λ u. result.now ≡ u.positions) }
+        ensures few { length result.now ≤ 1024 }
+        ensures files { IfSome (unit_at self.now.places place) (λ u. length u.files ≡ 64) }
+    {
+        self.places[place as usize].positions()
+    }
+
+    /// Notes one change more of the unit at a place: where its entry begins, and its file.
+    pub fn note(&mut self, place: u8, position: u64, file: u8)
+        requires file { file < 64 }
+        requires there { IsSome (unit_at self.old.places place) }
+        requires room { IfSome (unit_at self.old.places place) (λ u. length u.positions < 1024) }
+        ensures noted { IfSome (unit_at self.old.places place) (λ u. self.new ≡ with_unit place (with_position position file u) self.old) }
+        ensures changed { IfSome (unit_at self.old.places place) (λ u. has_changed (with_position position file u) file ≡ true) }
+    {
+        self.places[place as usize].note(position, file);
+    }
+
+    /// The branch of the earliest begun unit that changed a file.
+    pub fn changed_by(&self, file: u8) -> Option<Serial>
+        ensures { option_map serial_of result ≡ first_to_change file (begun self.now) }
+    {
+        first_to_change(&self.places, &self.order, file)
+    }
+
+    /// How many bytes of the journal units that changed something will still take: 96 each.
+    pub fn owed(&self) -> u64
+        ensures value { result ≡ owed self.now.places }
+        ensures few { result ≤ 96 * 64 }
+    {
+        owed_by(&self.places)
+    }
+
+    /// Where the earliest change of a unit begins. None where no unit changed anything.
+    pub fn earliest(&self) -> Option<u64>
+        ensures { result ≡ earliest self.now.places }
+    {
+        earliest_of(&self.places)
+    }
+}

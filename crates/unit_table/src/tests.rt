@@ -1,0 +1,42 @@
+use crate::UnitTable;
+use std::test::Fail;
+use vms_base::{Id, NodeName, Serial, Tid};
+
+// A branch of a number, of a transaction of the same number.
+fn ids(n: u32) -> Option<(Tid, Serial)> {
+    let node = NodeName::new(b"A")?;
+    let id = Id {
+        node,
+        boot: 1,
+        seq: n,
+    };
+    Some((Tid(id), Serial(id)))
+}
+
+// The place at which a branch's unit is begun; 255 where there is none.
+fn begin(units: &mut UnitTable, n: u32) -> u8 {
+    match ids(n) {
+        Some((tid, serial)) => units.begin(tid, serial).unwrap_or(255),
+        None => 255,
+    }
+}
+
+// The number of the branch that changed a file first; 0 where none did.
+fn changed_by(units: &UnitTable, file: u8) -> u32 {
+    match units.changed_by(file) {
+        Some(serial) => serial.0.seq,
+        None => 0,
+    }
+}
+
+#[test]
+fn units_are_found(rt: HostRuntime) -> Result<(), Fail> {
+    let mut units = UnitTable::reserve(rt.alloc())?;
+    for n in 1..65 {
+        assert!(rt; begin(&mut units, n) == n as u8 - 1, "{n}");
+    }
+    assert!(rt; begin(&mut units, 65) == 255);
+    assert!(rt; units.owed() == 0);
+    assert!(rt; units.earliest().is_none());
+    Ok(())
+}

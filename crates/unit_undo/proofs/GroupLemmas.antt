@@ -1,0 +1,99 @@
+-- Groups of an undo over all files of a volume.
+use Rattle.std.proofs.Common.{◌≡◌, ◌≢◌, ℕ, ◌<◌, ◌≤◌, List, [], ◌∷◌, length, map, Option, Some, None, refl, sym, ◌∙◌, ap, subst, inl, inr, slice_set}
+use Rattle.std.specs.List.{AllByRecursion}
+use Rattle.std.proofs.lemmas.Bool.{cases_eq}
+use Rattle.std.proofs.lemmas.List.{length-set, get_or-set_same, get_or-set_other}
+use Rattle.file_base.specs.declared.head.FileHead.{FileHead}
+use Rattle.file_base.specs.declared.head.Organization.{Organization as Kept}
+use Rattle.file_base.specs.declared.head.Organization.TheVariants as kept
+use Rattle.records_model.specs.Records.{Change}
+use Rattle.records_model.specs.Slots.{size_of}
+use Rattle.records_model.specs.History.{LiveChanges}
+use Rattle.change_set.specs.Files.{AgreesOn}
+use Rattle.record_files.specs.Any.{map_of, FormBy}
+use Rattle.record_files.specs.Local as local
+use Rattle.seq_file.specs.Layout.{records_in}
+use Rattle.seq_file.specs.Local as sequential_local
+use Rattle.seq_file.proofs.RecordLaws.{one_list}
+use Rattle.indexed_file.specs.Chain as indexed
+use Rattle.indexed_file.specs.Local as indexed_local
+use Rattle.unit_laws.specs.Units.{Map, IsUndoGroup, earliest_before}
+use Rattle.sequence_laws.specs.Undoing.{GoesBack}
+use Rattle.run_model.specs.World.{File}
+use Rattle.directory_model.specs.Files.{head_at, file_at}
+use Rattle.directory_model.specs.Restoring.{bare, CanRestoreBy, IsLeft, IsPlaceLeft, AreLeft, IsGrouped, IsPlaceGrouped, AreGrouped}
+
+all_so : {X : Type 0} (P Q : X → Type 0) (xs : List X) → ((x : X) → P x → Q x) → AllByRecursion P xs → AllByRecursion Q xs
+all_so P Q [] f all = tt
+all_so P Q (x ∷ xs) f all = (f x all.0, all_so P Q xs f all.1)
+
+-- nothing is undone yet
+
+grouped_file : (a : List (List ℕ)) (h : FileHead) (file : File) → IsLeft a h file → IsGrouped a h file.history.live a h
+grouped_file a h file left = record {
+  same = record { is = refl };
+  form = left.head.form;
+  laid = left.laid;
+  group = record { others = λ key none. refl; images = left.represents.images };
+  layout = refl;
+  can = left.can;
+}
+
+grouped_place : (a : List (List ℕ)) (o : Option FileHead) (p : Option File) → IsPlaceLeft a o p → IsPlaceGrouped a o p a o
+grouped_place a None None left = tt
+grouped_place a None (Some file) left = absurd left
+grouped_place a (Some h) None left = absurd left
+grouped_place a (Some h) (Some file) left = grouped_file a h file left
+
+pub grouped_itself : (a : List (List ℕ)) (heads : List (Option FileHead)) (directory : List (Option File)) → AreLeft a heads directory → AreGrouped a heads directory a heads
+grouped_itself a heads directory left = record { long = refl; each = λ f. grouped_place a (head_at heads f) (file_at directory f) (left.each f) }
+
+-- a file in whose blocks nothing changes
+
+can_local : (o : Kept) (b c : List (List ℕ)) (h : FileHead) (cs : List Change) → FormBy o h → AgreesOn h b c → CanRestoreBy o h b cs → CanRestoreBy o h c cs
+can_local kept.Sequential b c h cs form agrees can = (can.0, subst (λ (rs : List (List ℕ)). GoesBack h cs rs can.0) (one_list (records_in h b) (records_in h c) (sequential_local.local_law h b c form agrees)) can.1)
+can_local kept.Relative b c h cs form agrees can = can
+can_local kept.Indexed b c h cs form agrees can =
+    all_so (λ (x : Change). indexed.Suits h x.key (earliest_before cs x.key) × (size_of (earliest_before cs x.key) ≤ indexed.room_at h b x.key)) (λ (x : Change). indexed.Suits h x.key (earliest_before cs x.key) × (size_of (earliest_before cs x.key) ≤ indexed.room_at h c x.key)) cs
+    (λ x is. (is.0, subst (λ (r : ℕ). size_of (earliest_before cs x.key) ≤ r) (indexed_local.room_local_law h b c form agrees x.key) is.1)) can
+
+pub grouped_local : (a b c : List (List ℕ)) (first h : FileHead) (ls : List LiveChanges) → AgreesOn h b c → IsGrouped a first ls b h → IsGrouped a first ls c h
+grouped_local a b c first h ls agrees is = record {
+  same = is.same;
+  form = is.form;
+  laid = local.valid_local_law h b c is.form agrees is.laid;
+  group = subst (λ (m : Map). IsUndoGroup ls (map_of first a) m) (local.local_law h b c is.form agrees) is.group;
+  layout = ap (λ chain. map (map bare) chain) (sym (local.chain_local_law h b c is.form agrees)) ∙ is.layout;
+  can = all_so (λ (l : LiveChanges). CanRestoreBy h.organization h b l.changes) (λ (l : LiveChanges). CanRestoreBy h.organization h c l.changes) ls (λ l can. can_local h.organization b c h l.changes is.form agrees can) is.can;
+}
+
+local_place : (a b c : List (List ℕ)) (o : Option FileHead) (p : Option File) (m : Option FileHead) → ((h : FileHead) → m ≡ Some h → AgreesOn h b c) → IsPlaceGrouped a o p b m → IsPlaceGrouped a o p c m
+local_place a b c None None None agrees is = tt
+local_place a b c None None (Some h) agrees is = absurd is
+local_place a b c None (Some file) m agrees is = absurd is
+local_place a b c (Some first) None m agrees is = absurd is
+local_place a b c (Some first) (Some file) None agrees is = absurd is
+local_place a b c (Some first) (Some file) (Some h) agrees is = grouped_local a b c first h file.history.live (agrees h refl) is
+
+-- one file is undone further
+
+set_place : (a c : List (List ℕ)) (o : Option FileHead) (p : Option File) (first new : FileHead) (file : File) → o ≡ Some first → p ≡ Some file → IsGrouped a first file.history.live c new → IsPlaceGrouped a o p c (Some new)
+set_place a c None p first new file there named is = let never : ⊥ = cc in absurd never
+set_place a c (Some h) None first new file there named is = let never : ⊥ = cc in absurd never
+set_place a c (Some h) (Some g) first new file there named is =
+    let same : h ≡ first = cc in
+    let one : g ≡ file = cc in
+    subst (λ (x : FileHead). IsGrouped a x g.history.live c new) (sym same) (subst (λ (x : File). IsGrouped a first x.history.live c new) (sym one) is)
+
+pub grouped_more : (a b c : List (List ℕ)) (heads mid : List (Option FileHead)) (directory : List (Option File)) (f : ℕ) (first h new : FileHead) (file : File) → AreGrouped a heads directory b mid → f < length mid → head_at heads f ≡ Some first → file_at directory f ≡ Some file
+    → IsGrouped a first file.history.live c new → ((g : ℕ) (other : FileHead) → g ≢ f → head_at mid g ≡ Some other → AgreesOn other b c) → AreGrouped a heads directory c (slice_set mid f (Some new))
+grouped_more a b c heads mid directory f first h new file are below there named is others = record {
+  long = length-set mid f (Some new) ∙ are.long;
+  each = λ g. elim (cases_eq f g) [
+    | inl same ↦ subst (λ (k : ℕ). IsPlaceGrouped a (head_at heads k) (file_at directory k) c (head_at (slice_set mid f (Some new)) k)) same
+        (subst (λ (m : Option FileHead). IsPlaceGrouped a (head_at heads f) (file_at directory f) c m) (sym (get_or-set_same mid f (Some new) None below)) (set_place a c (head_at heads f) (file_at directory f) first new file there named is))
+    | inr other ↦ let apart : g ≢ f = λ e. other (sym e) in
+        subst (λ (m : Option FileHead). IsPlaceGrouped a (head_at heads g) (file_at directory g) c m) (sym (get_or-set_other mid f g (Some new) None apart))
+        (local_place a b c (head_at heads g) (file_at directory g) (head_at mid g) (λ x at. others g x apart at) (are.each g))
+  ];
+}

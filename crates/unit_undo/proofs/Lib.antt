@@ -1,0 +1,13 @@
+pub mod BackLemmas
+pub mod PositionLemmas
+pub mod BranchLemmas
+pub mod FileLemmas
+pub mod GroupLemmas
+pub mod ApartLemmas
+pub mod StepLemmas
+pub mod StagedLemmas
+pub mod SettingLemmas
+pub mod PlaceLemmas
+pub mod UnitLemmas
+pub mod LoopLemmas
+pub mod NumberLemmas

@@ -1,0 +1,61 @@
+-- What becomes of a file while the keys that a branch changed in it are set back, one after another.
+use Rattle.std.specs.Prelude.{◌≡◌, ℕ, ◌≤◌, ◌<◌, Bool, true, false, List, map, None, if◌then◌else◌}
+use Rattle.std.specs.List.{list_any, AllByRecursion}
+use Rattle.file_base.specs.declared.head.FileHead.{FileHead}
+use Rattle.vms_model.specs.Keys.{Key, Number, Text}
+use Rattle.records_model.specs.Records.{Change}
+use Rattle.records_model.specs.Slots.{Slot, with_value}
+use Rattle.records_model.specs.History.{changes_key}
+use Rattle.change_set.specs.Files.{SameFile}
+use Rattle.change_set.specs.Maps.{same_key}
+use Rattle.record_files.specs.Any as any
+use Rattle.record_files.specs.Any.{map_of, chain_of, room_at, IsLaidOut}
+use Rattle.seq_file.specs.Layout as sequential
+use Rattle.seq_file.specs.Layout.{IsSequential, records_in}
+use Rattle.seq_file.specs.Records.{record_at, map_of_list}
+use Rattle.unit_laws.specs.Units.{earliest_before, HasImages, moves_end}
+use Rattle.sequence_laws.specs.Undoing.{GoesBack, lowest_absent, is_taken_away}
+
+-- whether a key is one of these
+abbrev pub has_key : Key → List Key → Bool
+has_key key keys = list_any (same_key key) keys
+
+-- a slot once these keys have their earliest before images again
+abbrev pub slot_back : List Change → List Key → Slot → Slot
+slot_back cs keys s = if has_key (Text s.key) keys then with_value (earliest_before cs (Text s.key)) s else s
+
+-- and the slots of a chain
+abbrev pub slots_back : List Change → List Key → List (List Slot) → List (List Slot)
+slots_back cs keys chain = map (map (slot_back cs keys)) chain
+
+-- Of the keys that a branch changed in a relative or indexed file these have their earliest before images again, and nothing else is changed.
+pub record AreSetBack (a : List (List ℕ)) (h : FileHead) (cs : List Change) (keys : List Key) (b : List (List ℕ)) (new : FileHead) : Type 0 where
+  pub same : SameFile h new
+  pub form : any.IsFile new
+  pub laid : IsLaidOut new b
+  pub map : (key : Key) → map_of new b key ≡ (if has_key key keys then earliest_before cs key else map_of h a key)
+  pub chain : chain_of new b ≡ slots_back cs keys (chain_of h a)
+  pub rooms : (key : Key) → room_at h a key ≤ room_at new b key
+  pub own : AllByRecursion (λ key. changes_key key cs ≡ true) keys
+
+-- The positions of a sequential file that a branch changed have their earliest before images again up to this one, those behind it that are taken away have no
+-- record, and the file goes back to the same records as before.
+pub record ArePositionsBack (a : List (List ℕ)) (h : FileHead) (cs : List Change) (from : ℕ) (b : List (List ℕ)) (new : FileHead) : Type 0 where
+  pub same : SameFile h new
+  pub form : IsSequential new
+  pub laid : sequential.IsLaidOut new b
+  pub back : List (List ℕ)
+  pub begins : GoesBack h cs (records_in h a) back
+  pub goes : GoesBack h cs (records_in new b) back
+  pub images : HasImages (map_of_list (records_in new b)) cs
+  pub done : (n : ℕ) → 1 ≤ n → n < from → changes_key (Number n) cs ≡ true → record_at (records_in new b) n ≡ earliest_before cs (Number n)
+  pub gone : (n : ℕ) → from ≤ n → is_taken_away (lowest_absent cs) n ≡ true → record_at (records_in new b) n ≡ None
+
+-- each key that was changed is a position
+abbrev pub ArePositions : List Change → Type 0
+ArePositions cs = (key : Key) → changes_key key cs ≡ true → (n : ℕ) × (key ≡ Number n) × (1 ≤ n)
+
+-- another branch changed other keys, and only one of the two moved the end
+pub record IsBeside (cs ds : List Change) : Type 0 where
+  pub apart : (key : Key) → changes_key key cs ≡ true → changes_key key ds ≡ false
+  pub ends : moves_end cs ≡ true → moves_end ds ≡ false
