@@ -1,211 +1,163 @@
 -- Heads and files over each act of the world.
-use Rattle.std.proofs.Common.{◌≡◌, ℕ, zero, suc, ◌-◌, ◌*◌, List, [], ◌∷◌, map, Bool, true, false, Option, Some, None, replicate, slice_set, slice_index_or, refl, sym, ap, subst, ◌∙◌, arith, inl, inr}
-use Rattle.std.specs.Prelude.{◌||◌}
-use Rattle.std.specs.List.{list_any}
+use Rattle.std.proofs.Common.{◌≡◌, ℕ, zero, suc, ◌-◌, ◌*◌, List, [], ◌∷◌, Bool, Option, Some, None, replicate, slice_set, slice_index_or, refl, sym, ap, subst, ◌∙◌, arith}
 use Rattle.std.specs.Option.{option_map}
 use Rattle.std.specs.FinMap.{get}
-use Rattle.std.proofs.lemmas.Bool.{cases_eq}
-use Rattle.std.proofs.lemmas.List.{length-map, length-set, get_or-set_same, get_or-set_other}
+use Rattle.std.proofs.lemmas.List.{length-map}
 use Rattle.file_base.specs.declared.head.FileHead.{FileHead}
-use Rattle.file_base.specs.declared.head.Organization.{Organization as Kept}
-use Rattle.file_base.specs.declared.head.Organization.TheVariants.{Sequential, Relative, Indexed}
-use Rattle.change_set.specs.Files.{SameFile}
 use Rattle.change_set.specs.Maps.{Map, applied, map_of_records}
+use Rattle.change_set.specs.Maps as maps
 use Rattle.change_set.proofs.Changes.{agree}
-use Rattle.record_files.specs.Any as any
-use Rattle.record_files.specs.Any.{map_of, chain_of, IsLaidOut}
+use Rattle.record_files.specs.Any.{map_of}
 use Rattle.vms_model.specs.Ids.{Id}
 use Rattle.vms_model.specs.Keys.{Key}
-use Rattle.vms_model.specs.Transactions.{Commit, Abort}
-use Rattle.records_model.specs.Records.{Records, Change}
-use Rattle.records_model.specs.Layout.{Layout, layout_changed, layout_undone}
-use Rattle.records_model.specs.History.{History, LiveChanges, records, current, changed_with, changes_by, changes_key, is_held, settled_at}
-use Rattle.run_model.specs.World as world
-use Rattle.run_model.specs.World.{Node, File, Settlement, Formats, Boots, Marks, Changes, Settles, acted, as_it_stands, capacity, changed_file, settled_layout, settled_file}
-use Rattle.directory_model.specs.Files.{IsFile, IsPlace, AreFiles, IsNamed, Note, HasChanges, AreChanged, AreUndone, IsPlaceUndone, head_at, file_at, carried_of, holds, laid_in, layout_of, live_by, map_undone, notes_of, organized_by}
-use Rattle.directory_model.specs.Laws.{KeepsFiles, IsChanged, SameBut, marked}
+use Rattle.vms_model.specs.Transactions.{Outcome, Commit, Abort}
+use Rattle.records_model.specs.Records.{Records, Change, Found}
+use Rattle.records_model.specs.Records as base
+use Rattle.records_model.specs.Layout.{layout_changed}
+use Rattle.records_model.specs.History.{current, changed_with, changes_by, settled_at}
+use Rattle.unit_laws.specs.Units.{map_in, with_before_images, IsOrderly}
+use Rattle.unit_laws.specs.Layouts.{layout_restored}
+use Rattle.unit_laws.proofs.HistoryLaws.{aborts_one, changes_more, commits_one}
+use Rattle.run_model.specs.Locks.{is_locked}
+use Rattle.run_model.specs.World.{Node, File, Settlement, AreUnitsOf, Formats, Marks, Changes, Directs, Settles, acted, capacity, changed_file, directly_changed, settled_layout, settled_file}
+use Rattle.directory_model.specs.Files.{IsFile, IsPlace, AreFiles, IsNamed, head_at, file_at, layout_of}
+use Rattle.directory_model.specs.Restoring.{IsRestored, IsPlaceRestored, AreRestored}
+use Rattle.directory_model.specs.Laws.{KeepsFiles, AreFree, IsChanged, SameBut, marked}
 use Rattle.directory_model.proofs.Places.{file_mapped, places_set, within_list}
 use Rattle.directory_model.proofs.Finding.{finds_files}
-use Rattle.directory_model.proofs.Standing.{place_stands}
 use Rattle.directory_model.proofs.Marking.{file_marked}
-use Rattle.directory_model.proofs.Notes.{chain_undone-noted, holds_noted, keys_noted}
-use Rattle.directory_model.proofs.Histories.{changes_of, current_changed, current_committed, current_aborted}
-
-or_nothing : (b : Bool) → (b || false) ≡ b
-or_nothing true = refl
-or_nothing false = refl
-
--- The same file's head says alike how records are kept.
-organized_same : (o : Kept) (h new : FileHead) → SameFile h new → organized_by o h ≡ organized_by o new
-organized_same Sequential h new same = refl
-organized_same Relative h new same = ap (λ (x : FileHead). world.Relative x.mrn) (sym same.is)
-organized_same Indexed h new same = ap (λ (x : FileHead). world.Indexed x.key_pos x.key_size) (sym same.is)
-
-same_organization : (h new : FileHead) → SameFile h new → new.organization ≡ h.organization
-same_organization h new same = ap (λ (x : FileHead). x.organization) same.is
-
--- A file whose history, layout, content and head are others.
-pub file_moved : (a b : List (List ℕ)) (h new : FileHead) (file : File) (history : History) (layout : Layout) → SameFile h new → any.IsFile new → IsLaidOut new b → IsFile a h file →
-    ((key : Key) → get (current history) key ≡ map_of new b key) → layout ≡ layout_of new b → IsFile b new (record file { history = history; layout = layout })
-file_moved a b h new file history layout same form laid is records laid_so = record {
-  name = is.name ∙ sym (ap (λ (x : FileHead). x.name) same.is);
-  bucket = is.bucket ∙ sym (ap (λ (x : FileHead). x.bucket) same.is);
-  record_size = is.record_size ∙ sym (ap (λ (x : FileHead). x.mrs) same.is);
-  organization = is.organization ∙ organized_same h.organization h new same ∙ ap (λ (o : Kept). organized_by o new) (sym (same_organization h new same));
-  start = is.start ∙ sym (ap (λ (x : FileHead). x.start) same.is);
-  buckets = is.buckets ∙ sym (ap (λ (x : FileHead). x.alloc) same.is);
-  carried = is.carried ∙ ap carried_of (sym same.is);
-  units = is.units ∙ sym (ap (λ (x : FileHead). x.marks.ru) same.is);
-  form = form;
-  laid = laid;
-  records = records;
-  layout = laid_so;
-}
-
--- a file whose history alone is another, and has the same records
-file_again : (content : List (List ℕ)) (h : FileHead) (file : File) (history : History) (layout : Layout) → IsFile content h file → current history ≡ current file.history → layout ≡ file.layout →
-    IsFile content h (record file { history = history; layout = layout })
-file_again content h file history layout is same alike =
-    file_moved content content h h file history layout (record { is = refl }) is.form is.laid is (λ key. ap (λ (m : Records). get m key) same ∙ is.records key) (alike ∙ is.layout)
-
-place_mapped : (a b : List (List ℕ)) (change : File → File) (o : Option FileHead) (p : Option File) → ((h : FileHead) (file : File) → o ≡ Some h → p ≡ Some file → IsFile a h file → IsFile b h (change file)) → IsPlace a o p → IsPlace b o (option_map change p)
-place_mapped a b change None None so is = tt
-place_mapped a b change None (Some file) so is = absurd is
-place_mapped a b change (Some h) None so is = absurd is
-place_mapped a b change (Some h) (Some file) so is = so h file refl refl is
-
-files_mapped : (a b : List (List ℕ)) (heads : List (Option FileHead)) (directory : List (Option File)) (change : File → File) → AreFiles a heads directory →
-    ((f : ℕ) (h : FileHead) (file : File) → head_at heads f ≡ Some h → file_at directory f ≡ Some file → IsFile a h file → IsFile b h (change file)) → AreFiles b heads (map (option_map change) directory)
-files_mapped a b heads directory change are so = record {
-  heads_long = are.heads_long;
-  directory_long = length-map directory (option_map change) ∙ are.directory_long;
-  each = λ f. subst (λ x. IsPlace b (head_at heads f) x) (sym (file_mapped change directory f)) (place_mapped a b change (head_at heads f) (file_at directory f) (so f) (are.each f));
-}
+use Rattle.directory_model.proofs.Moving.{file_moved, files_mapped, places_moved}
+use Rattle.directory_model.proofs.Directly.{current_directly}
 
 -- INIT
-none_at : {A : Type 0} (count f : ℕ) → ◌≡◌ {A = Option A} (slice_index_or (replicate count None) f None) None
+pub none_at : {A : Type 0} (count f : ℕ) → ◌≡◌ {A = Option A} (slice_index_or (replicate count None) f None) None
 none_at zero f = refl
 none_at (suc count) zero = refl
 none_at (suc count) (suc f) = none_at count f
 
-formats : (content : List (List ℕ)) (n : Node) (slots journal : ℕ) → AreFiles content (replicate 64 None) (acted (Formats slots journal) n).directory
+formats : (content : List (List ℕ)) (n : Node) (slots journal : ℕ) → AreFiles content (replicate 64 None) (acted (Formats slots journal) n).durable.directory
 formats content n slots journal = record {
   heads_long = refl;
   directory_long = refl;
-  each = λ f. subst (λ x. IsPlace content x (file_at (acted (Formats slots journal) n).directory f)) (sym (none_at {A = FileHead} 64 f)) (subst (λ x. IsPlace content None x) (sym (none_at {A = File} 64 f)) tt);
+  each = λ f. subst (λ x. IsPlace content x (file_at (acted (Formats slots journal) n).durable.directory f)) (sym (none_at {A = FileHead} 64 f)) (subst (λ x. IsPlace content None x) (sym (none_at {A = File} 64 f)) tt);
 }
 
--- BOOT
-boots : (content : List (List ℕ)) (heads : List (Option FileHead)) (n : Node) → AreFiles content heads n.directory → AreFiles content heads (acted Boots n).directory
-boots content heads n are = files_mapped content content heads n.directory (as_it_stands n.greatest) are (λ f h file head there is. file_again content h file (as_it_stands n.greatest file).history file.layout is refl refl)
-
 -- SET_FILE
-marks : (content : List (List ℕ)) (heads : List (Option FileHead)) (n : Node) (f : ℕ) (h : FileHead) (name : List ℕ) (units : Bool) → AreFiles content heads n.directory → IsNamed heads f h name →
-    AreFiles content (slice_set heads f (Some (marked units h))) (acted (Marks name units) n).directory
+marks : (content : List (List ℕ)) (heads : List (Option FileHead)) (n : Node) (f : ℕ) (h : FileHead) (name : List ℕ) (units : Bool) → AreFiles content heads n.durable.directory → IsNamed heads f h name →
+    AreFiles content (slice_set heads f (Some (marked units h))) (acted (Marks name units) n).durable.directory
 marks content heads n f h name units are named =
-    let found = finds_files.found content heads n.directory f h name are named in
+    let found = finds_files.found content heads n.durable.directory f h name are named in
     let below = within_list heads f h named.there in
     let long = are.heads_long in
     subst (AreFiles content (slice_set heads f (Some (marked units h)))) (sym (found.2.changed (λ file. record file { recovery_units = units })))
-    (places_set content heads n.directory f (marked units h) (record found.0 { recovery_units = units }) are (omega arith) (file_marked units h content found.0 found.1))
+    (places_set content heads n.durable.directory f (marked units h) (record found.0 { recovery_units = units }) are (omega arith) (file_marked units h content found.0 found.1))
 
 -- PUT, UPDATE, DELETE, TRUNCATE
-places_moved : (a b : List (List ℕ)) (heads : List (Option FileHead)) (directory : List (Option File)) (f : ℕ) (h new : FileHead) (file : File) → AreFiles a heads directory → head_at heads f ≡ Some h → IsFile b new file → SameBut f heads a b →
-    AreFiles b (slice_set heads f (Some new)) (slice_set directory f (Some file))
-places_moved a b heads directory f h new file are there is same = record {
-  heads_long = length-set heads f (Some new) ∙ are.heads_long;
-  directory_long = length-set directory f (Some file) ∙ are.directory_long;
-  each = λ g. elim (cases_eq g f) [
-    | inl here ↦ let below = within_list heads f h there in let long = are.heads_long in let long_too = are.directory_long in
-        let head : head_at (slice_set heads f (Some new)) f ≡ Some new = get_or-set_same heads f (Some new) None below in
-        let now : file_at (slice_set directory f (Some file)) f ≡ Some file = get_or-set_same directory f (Some file) None (omega arith) in
-        subst (λ x. IsPlace b (head_at (slice_set heads f (Some new)) x) (file_at (slice_set directory f (Some file)) x)) (sym here)
-        (subst (λ o. IsPlace b o (file_at (slice_set directory f (Some file)) f)) (sym head) (subst (λ o. IsPlace b (Some new) o) (sym now) is))
-    | inr other ↦ subst (λ o. IsPlace b o (file_at (slice_set directory f (Some file)) g)) (sym (get_or-set_other heads f g (Some new) None other))
-        (subst (λ o. IsPlace b (head_at heads g) o) (sym (get_or-set_other directory f g (Some file) None other))
-        (place_stands a b (head_at heads g) (file_at directory g) (λ o head. same g o other head) (are.each g)))
-  ];
-}
 
--- the keys that the history of a file holds are those that were noted of it
-held_alike : (serial : Id) (notes : List Note) (f : ℕ) (file : File) → HasChanges serial notes f file → is_held file.history ≡ holds f notes
-held_alike serial notes f file has = λ i key. at_key key i
+-- the file that is found is the one at its place
+pub same_there : (directory : List (Option File)) (f : ℕ) (x y : File) → file_at directory f ≡ Some x → file_at directory f ≡ Some y → x ≡ y
+same_there directory f x y p q = inside x y (sym p ∙ q)
   where
-    held_by : (key : Key) (cs : List Change) → list_any (λ (l : LiveChanges). changes_key key l.changes) (live_by serial cs) ≡ changes_key key cs
-    held_by key [] = refl
-    held_by key (c ∷ cs) = or_nothing (changes_key key (c ∷ cs))
+    inside : (x y : File) → Some x ≡ Some y → x ≡ y
+    inside x y e = cc
 
-    at_key : (key : Key) → is_held file.history key ≡ holds f notes key
-    at_key key = ap (λ (ls : List LiveChanges). list_any (λ (l : LiveChanges). changes_key key l.changes) ls) has.live ∙ held_by key has.changes
-        ∙ sym (holds_noted f notes key ∙ keys_noted f (notes_of f notes) has.changes key has.noted)
+-- what changes leave of the records, where these have what the keys have
+applied_on : (m : Records) (keys : Map) (cs : List Change) (key : Key) → ((k : Key) → get m k ≡ keys k) → get (base.applied cs m) key ≡ applied cs keys key
+applied_on m keys cs key same = ap (λ (x : Map). x key) (agree.applied_alike cs m) ∙ ap (λ (x : Map). applied cs x key) all
+  where
+    all : map_of_records m ≡ keys
+    all = λ i k. same k i
 
-changes : (a b : List (List ℕ)) (heads : List (Option FileHead)) (n : Node) (f : ℕ) (h new : FileHead) (name : List ℕ) (serial : Id) (notes : List Note) (cs : List Change) → AreFiles a heads n.directory → AreChanged serial notes n.directory →
-    IsNamed heads f h name → IsChanged f notes cs a h b new → SameBut f heads a b → AreFiles b (slice_set heads f (Some new)) (acted (Changes serial name cs) n).directory
-changes a b heads n f h new name serial notes cs are changed_by named is same =
-    let found = finds_files.found a heads n.directory f h name are named in
-    let file : File = found.0 in
-    let has = changed_by f file found.2.there in
-    let before : map_of_records (current file.history) ≡ map_of h a = λ i key. found.1.records key i in
-    let after : map_of_records (current (changed_with serial cs file.history)) ≡ map_of new b =
-    ap map_of_records (current_changed serial cs has.changes file.history has.live)
-    ∙ agree.applied_alike cs (current file.history)
-    ∙ ap (applied cs) before
-    ∙ sym is.map in
-    let layout : layout_changed (capacity file) (is_held file.history) cs file.layout ≡ layout_of new b =
-    ap (λ x. layout_changed (512 * x - 16) (is_held file.history) cs file.layout) found.1.bucket
-    ∙ ap (λ (held : Key → Bool). layout_changed (512 * h.bucket - 16) held cs file.layout) (held_alike serial notes f file has)
-    ∙ ap (layout_changed (512 * h.bucket - 16) (holds f notes) cs) found.1.layout
-    ∙ ap laid_in (sym is.chain) in
-    subst (AreFiles b (slice_set heads f (Some new))) (sym (found.2.changed (changed_file serial cs)))
-    (places_moved a b heads n.directory f h new (changed_file serial cs file) are named.there
-    (file_moved a b h new file (changed_with serial cs file.history) (layout_changed (capacity file) (is_held file.history) cs file.layout) is.same is.form is.laid found.1 (λ key. ap (λ (m : Map). m key) after) layout) same)
+-- what was found by the keys was found in the records
+pub found_in : (m : Records) (keys : Map) (cs : List Change) → ((k : Key) → get m k ≡ keys k) → maps.Found cs keys → Found cs m
+found_in m keys [] same found = tt
+found_in m keys (c ∷ cs) same found = (found.0 ∙ sym (applied_on m keys cs c.key same), found_in m keys cs same found.1)
+
+layout_after : (held : Key → Bool) (file : File) (cs : List Change) (a b : List (List ℕ)) (h new : FileHead) → IsFile a h file → layout_of new b ≡ layout_changed (512 * h.bucket - 16) held cs (layout_of h a) →
+    layout_changed (capacity file) held cs file.layout ≡ layout_of new b
+layout_after held file cs a b h new is layout =
+    ap (λ x. layout_changed (512 * x - 16) held cs file.layout) is.head.bucket ∙ ap (layout_changed (512 * h.bucket - 16) held cs) is.layout ∙ sym layout
+
+changes : (a b : List (List ℕ)) (heads : List (Option FileHead)) (n : Node) (f : ℕ) (h new : FileHead) (name : List ℕ) (file : File) (tid serial : Id) (cs : List Change) (keys : List Key) → AreFiles a heads n.durable.directory → AreUnitsOf n →
+    IsNamed heads f h name → file_at n.durable.directory f ≡ Some file → AreFree serial file cs → maps.Found cs (map_of h a) → IsChanged (is_locked n.volatile.locks name) cs a h b new → SameBut f heads a b →
+    AreFiles b (slice_set heads f (Some new)) (acted (Changes tid serial name cs keys) n).durable.directory
+changes a b heads n f h new name file tid serial cs keys are units named there free found is same =
+    let directory = n.durable.directory in
+    let held = is_locked n.volatile.locks name in
+    let at = finds_files.found a heads directory f h name are named in
+    let one : at.0 ≡ file = same_there directory f at.0 file at.2.there there in
+    let mine : IsFile a h file = subst (IsFile a h) one at.1 in
+    let made = changes_more file.history serial cs (units.tells f file there).notes.orderly free (found_in (current file.history) (map_of h a) cs mine.records found) in
+    subst (AreFiles b (slice_set heads f (Some new))) (sym (at.2.changed (changed_file held serial cs) ∙ ap (λ (x : File). slice_set directory f (Some (changed_file held serial cs x))) one))
+    (places_moved a b heads directory f h new (changed_file held serial cs file) are named.there
+    (file_moved a b h new file (changed_with serial cs file.history) (layout_changed (capacity file) held cs file.layout) is.same is.form is.laid mine
+    (λ key. made.current key ∙ applied_on (current file.history) (map_of h a) cs key mine.records ∙ ap (λ (m : Map). m key) (sym is.map))
+    (layout_after held file cs a b h new mine is.layout)) same)
+
+-- PUT, UPDATE, DELETE, TRUNCATE without a label
+directs : (a b : List (List ℕ)) (heads : List (Option FileHead)) (n : Node) (f : ℕ) (h new : FileHead) (name : List ℕ) (file : File) (cs : List Change) (s : Settlement) → AreFiles a heads n.durable.directory → s.outcome ≡ Commit →
+    IsNamed heads f h name → file_at n.durable.directory f ≡ Some file → file.history.live ≡ [] → IsChanged (is_locked n.volatile.locks name) cs a h b new → SameBut f heads a b →
+    AreFiles b (slice_set heads f (Some new)) (acted (Directs name cs s) n).durable.directory
+directs a b heads n f h new name file cs s are commit named there none is same =
+    let directory = n.durable.directory in
+    let held = is_locked n.volatile.locks name in
+    let at = finds_files.found a heads directory f h name are named in
+    let one : at.0 ≡ file = same_there directory f at.0 file at.2.there there in
+    let mine : IsFile a h file = subst (IsFile a h) one at.1 in
+    let after : current (settled_at s.serial s.outcome s.moment (changed_with s.serial cs file.history)) ≡ base.applied cs (current file.history) =
+    ap (λ (o : Outcome). current (settled_at s.serial o s.moment (changed_with s.serial cs file.history))) commit ∙ current_directly s.serial s.moment cs file.history none in
+    subst (AreFiles b (slice_set heads f (Some new))) (sym (at.2.changed (directly_changed held s cs) ∙ ap (λ (x : File). slice_set directory f (Some (directly_changed held s cs x))) one))
+    (places_moved a b heads directory f h new (directly_changed held s cs file) are named.there
+    (file_moved a b h new file (settled_at s.serial s.outcome s.moment (changed_with s.serial cs file.history)) (layout_changed (capacity file) held cs file.layout) is.same is.form is.laid mine
+    (λ key. ap (λ (m : Records). get m key) after ∙ applied_on (current file.history) (map_of h a) cs key mine.records ∙ ap (λ (m : Map). m key) (sym is.map))
+    (layout_after held file cs a b h new mine is.layout)) same)
 
 -- END_TRANS
-commits : (content : List (List ℕ)) (heads : List (Option FileHead)) (n : Node) (notes : List Note) (s : Settlement) → AreFiles content heads n.directory → AreChanged s.serial notes n.directory → s.outcome ≡ Commit →
-    AreFiles content heads (acted (Settles s) n).directory
-commits content heads n notes s are changed_by commit = files_mapped content content heads n.directory (settled_file s) are (λ f h file head there is.
-    let has = changed_by f file there in
-    file_again content h file (settled_at s.serial s.outcome s.moment file.history) (settled_layout s.outcome (changes_by s.serial file.history.live) file.layout) is
-    (ap (λ o. current (settled_at s.serial o s.moment file.history)) commit ∙ current_committed s.serial s.moment has.changes file.history has.live)
-    (ap (λ o. settled_layout o (changes_by s.serial file.history.live) file.layout) commit))
+commits : (content : List (List ℕ)) (heads : List (Option FileHead)) (n : Node) (s : Settlement) → AreFiles content heads n.durable.directory → AreUnitsOf n → s.outcome ≡ Commit → AreFiles content heads (acted (Settles s) n).durable.directory
+commits content heads n s are units commit = files_mapped content content heads n.durable.directory (settled_file s) are (λ f h file head there is.
+    subst (λ (o : Outcome). IsFile content h (record file { history = settled_at s.serial o s.moment file.history; layout = settled_layout o (changes_by s.serial file.history.live) file.layout })) (sym commit)
+    (file_moved content content h h file (settled_at s.serial Commit s.moment file.history) file.layout (record { is = refl }) is.head.form is.laid is
+    (λ key. (commits_one file.history s.serial s.moment (units.tells f file there).notes.orderly).current key ∙ is.records key) is.layout))
 
 -- ABORT_TRANS
-place_undone : (a b : List (List ℕ)) (s : Settlement) (notes left : List Note) (f : ℕ) (o o' : Option FileHead) (p : Option File) → s.outcome ≡ Abort → ((file : File) → p ≡ Some file → HasChanges s.serial notes f file) →
-    IsPlaceUndone a o (notes_of f notes) left b o' → IsPlace a o p → IsPlace b o' (option_map (settled_file s) p)
-place_undone a b s notes left f None None None abort has undone is = tt
-place_undone a b s notes left f None None (Some file) abort has undone is = absurd is
-place_undone a b s notes left f None (Some new) p abort has undone is = absurd undone
-place_undone a b s notes left f (Some h) None p abort has undone is = absurd undone
-place_undone a b s notes left f (Some h) (Some new) None abort has undone is = absurd is
-place_undone a b s notes left f (Some h) (Some new) (Some file) abort has undone is =
-    let by = has file refl in
-    let settled : current (settled_at s.serial s.outcome s.moment file.history) ≡ records file.history =
-    ap (λ o. current (settled_at s.serial o s.moment file.history)) abort ∙ current_aborted s.serial s.moment by.changes file.history by.live in
-    let now : map_of_records (current file.history) ≡ map_of h a = λ i key. is.records key i in
-    let layout : settled_layout s.outcome (changes_by s.serial file.history.live) file.layout ≡ layout_of new b =
-    ap (λ o. settled_layout o (changes_by s.serial file.history.live) file.layout) abort
-    ∙ ap (λ (cs : List Change). layout_undone cs file.layout) (changes_of s.serial file.history by.changes by.live)
-    ∙ ap (layout_undone by.changes) is.layout
-    ∙ ap laid_in (sym (chain_undone-noted f (notes_of f notes) by.changes (chain_of h a) by.noted) ∙ sym undone.chain) in
-    file_moved a b h new file (settled_at s.serial s.outcome s.moment file.history) (settled_layout s.outcome (changes_by s.serial file.history.live) file.layout) undone.same undone.form undone.laid is
-    (λ key. ap (λ (m : Records). get m key) settled ∙ by.settled key ∙ ap (λ (m : Map). map_undone (notes_of f notes) m key) now ∙ ap (λ (m : Map). m key) (sym undone.map)) layout
+file_aborted : (a b : List (List ℕ)) (h new : FileHead) (file : File) (s : Settlement) → s.outcome ≡ Abort → IsOrderly file.history → IsRestored a h (changes_by s.serial file.history.live) b new → IsFile a h file → IsFile b new (settled_file s file)
+file_aborted a b h new file s abort orderly back is =
+    let cs = changes_by s.serial file.history.live in
+    subst (λ (o : Outcome). IsFile b new (record file { history = settled_at s.serial o s.moment file.history; layout = settled_layout o cs file.layout })) (sym abort)
+    (file_moved a b h new file (settled_at s.serial Abort s.moment file.history) (layout_restored cs file.layout) back.same back.form back.laid is
+    (λ key. (aborts_one file.history s.serial s.moment orderly).current key ∙ ap (λ (m : Map). with_before_images cs m key) all ∙ ap (λ (m : Map). m key) (sym back.map))
+    (ap (layout_restored cs) is.layout ∙ sym back.layout))
+  where
+    all : map_in (current file.history) ≡ map_of h a
+    all = λ i key. is.records key i
 
-aborts : (a b : List (List ℕ)) (heads new : List (Option FileHead)) (n : Node) (notes : List Note) (s : Settlement) → AreFiles a heads n.directory → AreChanged s.serial notes n.directory → s.outcome ≡ Abort → AreUndone a heads notes [] b new →
-    AreFiles b new (acted (Settles s) n).directory
-aborts a b heads new n notes s are changed_by abort undone = record {
-  heads_long = undone.long ∙ are.heads_long;
-  directory_long = length-map n.directory (option_map (settled_file s)) ∙ are.directory_long;
-  each = λ f. subst (λ x. IsPlace b (head_at new f) x) (sym (file_mapped (settled_file s) n.directory f))
-      (place_undone a b s notes [] f (head_at heads f) (head_at new f) (file_at n.directory f) abort (changed_by f) (undone.each f) (are.each f));
+place_aborted : (a b : List (List ℕ)) (o o' : Option FileHead) (p : Option File) (s : Settlement) → s.outcome ≡ Abort → ((file : File) → p ≡ Some file → IsOrderly file.history) → IsPlaceRestored s.serial a o p b o' → IsPlace a o p → IsPlace b o' (option_map (settled_file s) p)
+place_aborted a b None None None s abort orderly back is = tt
+place_aborted a b None (Some new) None s abort orderly back is = absurd back
+place_aborted a b None o' (Some file) s abort orderly back is = absurd is
+place_aborted a b (Some h) o' None s abort orderly back is = absurd is
+place_aborted a b (Some h) None (Some file) s abort orderly back is = absurd back
+place_aborted a b (Some h) (Some new) (Some file) s abort orderly back is = file_aborted a b h new file s abort (orderly file refl) back is
+
+aborts : (a b : List (List ℕ)) (heads new : List (Option FileHead)) (n : Node) (s : Settlement) → AreFiles a heads n.durable.directory → AreUnitsOf n → s.outcome ≡ Abort → AreRestored s.serial a heads n.durable.directory b new →
+    AreFiles b new (acted (Settles s) n).durable.directory
+aborts a b heads new n s are units abort back = record {
+  heads_long = back.long ∙ are.heads_long;
+  directory_long = length-map n.durable.directory (option_map (settled_file s)) ∙ are.directory_long;
+  each = λ f. subst (λ x. IsPlace b (head_at new f) x) (sym (file_mapped (settled_file s) n.durable.directory f))
+      (place_aborted a b (head_at heads f) (head_at new f) (file_at n.durable.directory f) s abort (λ file there. (units.tells f file there).notes.orderly) (back.each f) (are.each f));
 }
 
 pub keeps_files : KeepsFiles
 keeps_files = record {
   formats = formats;
-  boots = boots;
-  creates = λ content heads n f h file are within is. places_set content heads n.directory f h file are within is;
+  boots = λ content heads n are. are;
+  begins = λ content heads n label b are. are;
+  holds = λ content heads n serial name keys are. are;
+  creates = λ content heads n f h file are within is. places_set content heads n.durable.directory f h file are within is;
   marks = marks;
   changes = changes;
+  directs = directs;
   commits = commits;
   aborts = aborts;
 }

@@ -35,7 +35,7 @@ four_each [] = refl
 four_each (None ∷ heads) = let rest = four_each heads in omega arith
 four_each (Some h ∷ heads) = let rest = four_each heads in omega arith
 
-extent_holds : (from size n : ℕ) → (nat_le from n && nat_lt n (from + size)) ≡ true → (from ≤ n) × (n < from + size)
+pub extent_holds : (from size n : ℕ) → (nat_le from n && nat_lt n (from + size)) ≡ true → (from ≤ n) × (n < from + size)
 extent_holds from size n is = (grind (arith, nat_tests), grind (arith, nat_tests))
 
 module _ (area : Area) (heads : List (Option FileHead)) (fit : Fit area heads) where

@@ -17,7 +17,7 @@ or_assoc false b c = refl
 
 -- a file takes what the four extents of its head have
 file_takes : (content : List (List ℕ)) (h : FileHead) (file : File) (n : ℕ) → IsFile content h file → is_taken (extent_of file ∷ others_of file) n ≡ is_used (extents.extents_of (Some h)) n
-file_takes content h file n is = λ i. is_taken (record { start = is.start i; blocks = is.buckets i * is.bucket i } ∷ others (is.carried i) (is.bucket i)) n
+file_takes content h file n is = λ i. is_taken (record { start = is.head.start i; blocks = is.head.buckets i * is.head.bucket i } ∷ others (is.head.carried i) (is.head.bucket i)) n
   where
     others : Carried → ℕ → List Extent
     others c bucket = journal_extent c.after ∷ journal_extent c.before ∷ record { start = c.save.start; blocks = c.save.buckets * bucket } ∷ []

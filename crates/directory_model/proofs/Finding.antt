@@ -11,7 +11,7 @@ use Rattle.directory_model.specs.Laws.{FindsFiles, FindsPlaces}
 use Rattle.directory_model.proofs.Places.{file_there, head_there, no_file_there, no_head_there}
 
 -- no file of a lower place has this name
-abbrev NoneCalled : List (Option File) → ℕ → List ℕ → Type 0
+abbrev pub NoneCalled : List (Option File) → ℕ → List ℕ → Type 0
 NoneCalled directory f name = (g : ℕ) (other : File) → g < f → file_at directory g ≡ Some other → other.name ≡ name → ⊥
 
 -- a name that is not the file's
@@ -22,7 +22,7 @@ is_called : (name other : List ℕ) → other ≡ name → bytes_eq name other �
 is_called name other same = (bytes_eq-Decides name other).1 (sym same)
 
 -- the file of the lowest place that has this name
-found_at : (name : List ℕ) (directory : List (Option File)) (f : ℕ) (file : File) → file_at directory f ≡ Some file → file.name ≡ name → NoneCalled directory f name → IsFoundAt name directory f file
+pub found_at : (name : List ℕ) (directory : List (Option File)) (f : ℕ) (file : File) → file_at directory f ≡ Some file → file.name ≡ name → NoneCalled directory f name → IsFoundAt name directory f file
 found_at name [] f file there called lowest = let none : ⊥ = cc in absurd none
 found_at name (None ∷ directory) zero file there called lowest = let none : ⊥ = cc in absurd none
 found_at name (Some other ∷ directory) zero file there called lowest =
@@ -56,13 +56,13 @@ none_found name (Some first ∷ directory) none =
 none_called : (content : List (List ℕ)) (heads : List (Option FileHead)) (directory : List (Option File)) (f : ℕ) (name : List ℕ) → AreFiles content heads directory → NoneNamed heads f name → NoneCalled directory f name
 none_called content heads directory f name are none g other below there called =
     let head = head_there content heads directory g other are there in
-    none g head.0 below head.1 (sym head.2.name ∙ called)
+    none g head.0 below head.1 (sym head.2.head.name ∙ called)
 
 pub finds_files : FindsFiles
 finds_files = record {
   found = λ content heads directory f h name are named.
       let file = file_there content heads directory f h are named.there in
-      (file.0, file.2, found_at name directory f file.0 file.1 (file.2.name ∙ named.called) (none_called content heads directory f name are named.lowest));
+      (file.0, file.2, found_at name directory f file.0 file.1 (file.2.head.name ∙ named.called) (none_called content heads directory f name are named.lowest));
   none = λ content heads directory name are none.
       none_found name directory (none_called content heads directory (length directory) name are (λ g other below. none g other (let long = are.directory_long in omega arith)));
 }

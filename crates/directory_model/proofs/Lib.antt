@@ -1,13 +1,12 @@
 pub mod Acts
 pub mod Apart
 pub mod Blocks
-pub mod Changes
+pub mod Directly
 pub mod Finding
 pub mod Heads
-pub mod Histories
 pub mod Making
 pub mod Marking
-pub mod Notes
+pub mod Moving
 pub mod Places
 pub mod Reading
 pub mod ReadingEntries
@@ -18,8 +17,3 @@ pub mod ReadingPlaces
 pub mod Runs
 pub mod Showing
 pub mod Standing
-pub mod Undoing
-pub mod UndoingBefore
-pub mod UndoingKept
-pub mod UndoingNotes
-pub mod UndoingSteps

@@ -83,15 +83,17 @@ new_layout (form.Indexed buckets position size) h new = ap (λ o. laid_in (first
 
 new_file : (content : List (List ℕ)) (f : Form) (h : FileHead) (moment : ℕ) → IsNewHead f h → map_of h content ≡ empty_map → IsLaidOut h content → chain_of h content ≡ first_chain_of h → IsFile content h (created h.name h.bucket h.mrs f h.start moment)
 new_file content f h moment new none laid chain = record {
-  name = refl;
-  bucket = refl;
-  record_size = refl;
-  organization = new_organization f h new;
-  start = refl;
-  buckets = sym new.buckets;
-  carried = sym new.carried;
-  units = sym new.unmarked;
-  form = (new_form f h new).0;
+  head = record {
+    name = refl;
+    bucket = refl;
+    record_size = refl;
+    organization = new_organization f h new;
+    start = refl;
+    buckets = sym new.buckets;
+    carried = sym new.carried;
+    units = sym new.unmarked;
+    form = (new_form f h new).0;
+  };
   laid = laid;
   records = λ key. get-empty key_cmp key ∙ ap (λ (m : Map). m key) (sym none);
   layout = new_layout f h new ∙ ap laid_in (sym chain);

@@ -12,7 +12,7 @@ use Rattle.indexed_file.specs.Chain as indexed
 use Rattle.indexed_file.specs.Chain.{kind_of, slots_in, next_in, chain_from, leaves_of, slots_along, all_slots_of, keeps_record, all_keep, AllDiffer, Leads, IsLeaf, IsChained}
 use Rattle.record_files.specs.Any.{map_by, chain_by, FormBy, LaidOutBy}
 use Rattle.run_model.specs.World.{File}
-use Rattle.directory_model.specs.Files.{IsFile, laid_in, organized_by}
+use Rattle.directory_model.specs.Files.{IsHeadOf, IsFile, laid_in, organized_by}
 use Rattle.directory_model.specs.Laws.{marked}
 
 module _ (units : Bool) (h : FileHead) (b : List (List ℕ)) where
@@ -99,8 +99,8 @@ module _ (units : Bool) (h : FileHead) (b : List (List ℕ)) where
   organized_marked Relative = refl
   organized_marked Indexed = refl
 
-  pub file_marked : (file : File) → IsFile b h file → IsFile b (marked units h) (record file { recovery_units = units })
-  file_marked file is = record {
+  head_marked : (file : File) → IsHeadOf h file → IsHeadOf (marked units h) (record file { recovery_units = units })
+  head_marked file is = record {
     name = is.name;
     bucket = is.bucket;
     record_size = is.record_size;
@@ -110,6 +110,11 @@ module _ (units : Bool) (h : FileHead) (b : List (List ℕ)) where
     carried = is.carried;
     units = refl;
     form = form_marked h.organization is.form;
+  }
+
+  pub file_marked : (file : File) → IsFile b h file → IsFile b (marked units h) (record file { recovery_units = units })
+  file_marked file is = record {
+    head = head_marked file is.head;
     laid = laid_marked h.organization is.laid;
     records = λ key. is.records key ∙ map_marked h.organization key;
     layout = is.layout ∙ ap laid_in (chain_marked h.organization);

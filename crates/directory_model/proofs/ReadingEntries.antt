@@ -238,9 +238,9 @@ few_by kept.Indexed content h form laid numbers small used =
 
 pub few : (content : List (List ℕ)) (h : FileHead) (file : File) → IsFile content h file → h.mrn ≤ 4294967295 → h.bucket ≤ 16 → h.used ≤ 65536 → length (in_order file) ≤ 4294967295
 few content h file of numbers small used =
-    let lists = lists_by h.organization content h of.form of.laid in
+    let lists = lists_by h.organization content h of.head.form of.laid in
     let same : in_order file ≡ entries_by h.organization h content = listed (current file.history) (entries_by h.organization h content) lists.sorted (λ key. of.records key ∙ sym (lists.found key)) in
-    let most = few_by h.organization content h of.form of.laid numbers small used in
+    let most = few_by h.organization content h of.head.form of.laid numbers small used in
     omega (arith, ap length same, most)
 
 pub below : (content : List (List ℕ)) (h : FileHead) (file : File) → IsFile content h file → h.organization ≡ kept.Sequential → h.bucket ≤ 16 → h.used ≤ 65536 → h.count < 4294967295

@@ -25,14 +25,14 @@ use Rattle.record_files.specs.Any.{map_of, map_by, FormBy, LaidOutBy, chain_by, 
 use Rattle.seq_file.specs.Layout.{records_in, capacity, last_bytes}
 use Rattle.seq_file.specs.Records.{record_at, map_of_list, cut_from, slot_sizes}
 use Rattle.indexed_file.specs.Chain as indexed
-use Rattle.directory_model.specs.Files.{IsFile, AreNoted, cut_notes, laid_in, organized_by}
+use Rattle.directory_model.specs.Files.{IsFile, laid_in, organized_by}
 use Rattle.directory_model.proofs.ReadingLists.{Entries, listed, numbered, length-numbered, sorted_numbered, find_numbered, drop_numbered}
 use Rattle.directory_model.proofs.ReadingPlaces.{placed_are}
 
 -- A file of a known organization.
 
 form_as : (o : Kept) (content : List (List ℕ)) (h : FileHead) (file : File) → h.organization ≡ o → IsFile content h file → FormBy o h
-form_as o content h file is of = subst (λ (q : Kept). FormBy q h) is of.form
+form_as o content h file is of = subst (λ (q : Kept). FormBy q h) is of.head.form
 
 laid_as : (o : Kept) (content : List (List ℕ)) (h : FileHead) (file : File) → h.organization ≡ o → IsFile content h file → LaidOutBy o h content
 laid_as o content h file is of = subst (λ (q : Kept). LaidOutBy q h content) is of.laid
@@ -55,17 +55,17 @@ sizes_numbered n (r ∷ rs) = ap (λ l. (length r + 2) ∷ l) (sizes_numbered (s
 -- how the world places the records of a sequential file
 placed_is : (content : List (List ℕ)) (h : FileHead) (file : File) → IsFile content h file → h.organization ≡ kept.Sequential → placed file ≡ record { buckets = h.used; bytes = last_bytes h content }
 placed_is content h file of is =
-    ap (λ b. filled_by (512 * b - 16) first_bucket (map (λ (e : Key × List ℕ). length e.1 + 2) (in_order file))) of.bucket
+    ap (λ b. filled_by (512 * b - 16) first_bucket (map (λ (e : Key × List ℕ). length e.1 + 2) (in_order file))) of.head.bucket
     ∙ ap (λ (es : Entries). filled_by (capacity h) first_bucket (map (λ (e : Key × List ℕ). length e.1 + 2) es)) (order_is content h file of is)
     ∙ ap (filled_by (capacity h) first_bucket) (sizes_numbered 1 (records_in h content))
     ∙ placed_are h content (form_as kept.Sequential content h file is of).one (laid_as kept.Sequential content h file is of)
 
 pub used_is : (content : List (List ℕ)) (h : FileHead) (file : File) → IsFile content h file → used file ≡ h.used
-used_is content h file of = ap (λ o. used_by o file) of.organization ∙ go h.organization refl
+used_is content h file of = ap (λ o. used_by o file) of.head.organization ∙ go h.organization refl
   where
     go : (o : Kept) → h.organization ≡ o → used_by (organized_by o h) file ≡ h.used
     go kept.Sequential is = ap (λ (f : Filled). f.buckets) (placed_is content h file of is)
-    go kept.Relative is = of.buckets ∙ sym (form_as kept.Relative content h file is of).used
+    go kept.Relative is = of.head.buckets ∙ sym (form_as kept.Relative content h file is of).used
     go kept.Indexed is = ap used_of (of.layout ∙ ap (λ q. laid_in (chain_by q h content)) is) ∙ length-map (indexed.leaves_of h content) (indexed.slots_in h content) ∙ (laid_as kept.Indexed content h file is of).reached
 
 -- What a record wants.
@@ -74,19 +74,19 @@ level_asks : (levels : ℕ) → levels ≡ 1 → 3 ≡ (if levels == 12 then 655
 level_asks levels one = sym (ap (λ n. if n == 12 then 65537 else n + 2) one)
 
 pub put : (content : List (List ℕ)) (h : FileHead) (file : File) (number : Option ℕ) (bytes : List ℕ) → IsFile content h file → need_of file (Put number bytes) ≡ asks h content (length bytes)
-put content h file number bytes of = ap (λ o. put_need o file bytes) of.organization ∙ go h.organization refl
+put content h file number bytes of = ap (λ o. put_need o file bytes) of.head.organization ∙ go h.organization refl
   where
     go : (o : Kept) → h.organization ≡ o → put_need (organized_by o h) file bytes ≡ asks h content (length bytes)
     go kept.Sequential is =
         ap (λ (f : Filled). if nat_le (f.bytes + (length bytes + 2)) (512 * file.bucket - 16) then 0 else 1) (placed_is content h file of is)
-        ∙ ap (λ b. if nat_le (last_bytes h content + (length bytes + 2)) (512 * b - 16) then 0 else 1) of.bucket
+        ∙ ap (λ b. if nat_le (last_bytes h content + (length bytes + 2)) (512 * b - 16) then 0 else 1) of.head.bucket
         ∙ sym (ap (λ q. asks_by q h content (length bytes)) is)
     go kept.Relative is = sym (ap (λ q. asks_by q h content (length bytes)) is)
     go kept.Indexed is = level_asks h.levels (form_as kept.Indexed content h file is of).levels ∙ sym (ap (λ q. asks_by q h content (length bytes)) is)
 
 pub update : (content : List (List ℕ)) (h : FileHead) (file : File) (key : Key) (bytes : List ℕ) → IsFile content h file → h.organization ≡ kept.Indexed → need_of file (Update key bytes) ≡ asks h content (length bytes)
 update content h file key bytes of is =
-    ap (λ o. update_need o file) (of.organization ∙ ap (λ o. organized_by o h) is) ∙ level_asks h.levels (form_as kept.Indexed content h file is of).levels ∙ sym (ap (λ q. asks_by q h content (length bytes)) is)
+    ap (λ o. update_need o file) (of.head.organization ∙ ap (λ o. organized_by o h) is) ∙ level_asks h.levels (form_as kept.Indexed content h file is of).levels ∙ sym (ap (λ q. asks_by q h content (length bytes)) is)
 
 -- Positions.
 
@@ -104,10 +104,6 @@ pub position : (content : List (List ℕ)) (h : FileHead) (p : ℕ) (bytes : Lis
 position content h p bytes is one has = at_position (records_in h content) p bytes one (sym (ap (λ q. map_by q h content (Number p)) is) ∙ has)
 
 -- What is removed where a sequential file is cut.
-
-noted_from : (f n : ℕ) (rs : List (List ℕ)) → AreNoted f (cut_notes f n rs) (map removed (numbered n rs))
-noted_from f n [] = tt
-noted_from f n (r ∷ rs) = (refl, refl, refl, noted_from f (suc n) rs)
 
 if_true : {A : Type 0} (t : Bool) (x y : A) → t ≡ true → (if t then x else y) ≡ x
 if_true true x y e = refl
@@ -193,23 +189,21 @@ cut_is from rs one = λ i key. at_key key i
     at_key (Text t) = applied_text t from (drop (from - 1) rs) (map_of_list rs)
     at_key End = applied_end from (drop (from - 1) rs) (map_of_list rs)
 
-abbrev Removes : ℕ → ℕ → List (List ℕ) → List Change → Map → Type 0
-Removes f from tail cs keys = AreNoted f (cut_notes f from tail) cs × Found cs keys × (applied cs keys ≡ cut_from from keys)
+abbrev Removes : ℕ → List Change → Map → Type 0
+Removes from cs keys = Found cs keys × (applied cs keys ≡ cut_from from keys)
 
-removes : (f from : ℕ) (rs : List (List ℕ)) → 1 ≤ from → Removes f from (drop (from - 1) rs) (map removed (numbered from (drop (from - 1) rs))) (map_of_list rs)
-removes f from rs one = (
-  noted_from f from (drop (from - 1) rs),
+removes : (from : ℕ) (rs : List (List ℕ)) → 1 ≤ from → Removes from (map removed (numbered from (drop (from - 1) rs))) (map_of_list rs)
+removes from rs one = (
   found_from from (drop (from - 1) rs) (map_of_list rs) (has_list from (drop (from - 1) rs) (map_of_list rs) (λ k below. tail_stands from k rs one)),
   cut_is from rs one,
 )
 
-pub is_removed : (content : List (List ℕ)) (h : FileHead) (file : File) (f from : ℕ) → IsFile content h file → h.organization ≡ kept.Sequential → 1 ≤ from →
-    AreNoted f (cut_notes f from (drop (from - 1) (records_in h content))) (map removed (drop (from - 1) (in_order file))) × Found (map removed (drop (from - 1) (in_order file))) (map_of h content)
-    × (applied (map removed (drop (from - 1) (in_order file))) (map_of h content) ≡ cut_from from (map_of h content))
-is_removed content h file f from of is one =
+pub is_removed : (content : List (List ℕ)) (h : FileHead) (file : File) (from : ℕ) → IsFile content h file → h.organization ≡ kept.Sequential → 1 ≤ from →
+    Found (map removed (drop (from - 1) (in_order file))) (map_of h content) × (applied (map removed (drop (from - 1) (in_order file))) (map_of h content) ≡ cut_from from (map_of h content))
+is_removed content h file from of is one =
     let rs = records_in h content in
     let place : 1 + (from - 1) ≡ from = omega arith in
     let entries_are : drop (from - 1) (in_order file) ≡ numbered from (drop (from - 1) rs) =
     ap (drop (from - 1)) (order_is content h file of is) ∙ drop_numbered (from - 1) 1 rs ∙ ap (λ n. numbered n (drop (from - 1) rs)) place in
-    subst (λ (es : Entries). Removes f from (drop (from - 1) rs) (map removed es) (map_of h content)) (sym entries_are)
-    (subst (λ (keys : Map). Removes f from (drop (from - 1) rs) (map removed (numbered from (drop (from - 1) rs))) keys) (sym (ap (λ q. map_by q h content) is)) (removes f from rs one))
+    subst (λ (es : Entries). Removes from (map removed es) (map_of h content)) (sym entries_are)
+    (subst (λ (keys : Map). Removes from (map removed (numbered from (drop (from - 1) rs))) keys) (sym (ap (λ q. map_by q h content) is)) (removes from rs one))

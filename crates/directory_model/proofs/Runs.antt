@@ -95,12 +95,12 @@ module _ (es : List Extent) where
 
 -- Free runs of an area, by its extents.
 
-module _ (content : List (List ℕ)) (heads : List (Option FileHead)) (n : Node) (are : AreFiles content heads n.directory) where
-  alike : (b : ℕ) → is_taken (extents_of n.directory) b ≡ is_used (all_extents heads) b
-  alike b = takes_blocks content heads n.directory b are
+module _ (content : List (List ℕ)) (heads : List (Option FileHead)) (n : Node) (are : AreFiles content heads n.durable.directory) where
+  alike : (b : ℕ) → is_taken (extents_of n.durable.directory) b ≡ is_used (all_extents heads) b
+  alike b = takes_blocks content heads n.durable.directory b are
 
   -- where a free run lies
-  run_lies : (start blocks : ℕ) → IsFreeRun (area_of n) (all_extents heads) start blocks → (area_start n ≤ start) × (start < n.blocks) × (start + blocks ≤ area_start n + (n.blocks - area_start n)) × Free (extents_of n.directory) start blocks
+  run_lies : (start blocks : ℕ) → IsFreeRun (area_of n) (all_extents heads) start blocks → (area_start n ≤ start) × (start < n.blocks) × (start + blocks ≤ area_start n + (n.blocks - area_start n)) × Free (extents_of n.durable.directory) start blocks
   run_lies start zero run = let first = covered (area_of n) start (free_is (area_of n) (all_extents heads) start run.first).0 in
       (first.0, first.1, (let low = first.0 in let high = first.1 in omega arith), λ b from below. absurd (omega arith))
   run_lies start (suc blocks) run =
@@ -108,7 +108,7 @@ module _ (content : List (List ℕ)) (heads : List (Option FileHead)) (n : Node)
       let last = covered (area_of n) (start + blocks) (free_is (area_of n) (all_extents heads) (start + blocks) (run.all (start + blocks) (omega arith) (omega arith))).0 in
       (first.0, first.1, (let low = first.0 in let high = last.1 in omega arith), λ b from below. alike b ∙ (free_is (area_of n) (all_extents heads) b (run.all b from below)).1)
 
-  run_is : (start blocks : ℕ) → 1 ≤ blocks → area_start n ≤ start → start + blocks ≤ area_start n + (n.blocks - area_start n) → Free (extents_of n.directory) start blocks → IsFreeRun (area_of n) (all_extents heads) start blocks
+  run_is : (start blocks : ℕ) → 1 ≤ blocks → area_start n ≤ start → start + blocks ≤ area_start n + (n.blocks - area_start n) → Free (extents_of n.durable.directory) start blocks → IsFreeRun (area_of n) (all_extents heads) start blocks
   run_is start blocks one from to free =
       let all : (b : ℕ) → start ≤ b → b < start + blocks → is_free (area_of n) (all_extents heads) b ≡ true = λ b low high. is_free_block (area_of n) (all_extents heads) b (covering (area_of n) b (omega arith) (omega arith)) (sym (alike b) ∙ free b low high) in
       record { first = all start (omega arith) (omega arith); all = all }
@@ -121,28 +121,28 @@ module _ (content : List (List ℕ)) (heads : List (Option FileHead)) (n : Node)
 
       low : longest_free n ≤ most
       low = elim (cases_lt 0 (longest_free n)) [
-        | inl some ↦ let run = longest_found (extents_of n.directory) (area_start n) (n.blocks - area_start n) some in longest run.0 (longest_free n) (run_is run.0 (longest_free n) (omega arith) run.1 run.2 run.3)
+        | inl some ↦ let run = longest_found (extents_of n.durable.directory) (area_start n) (n.blocks - area_start n) some in longest run.0 (longest_free n) (run_is run.0 (longest_free n) (omega arith) run.1 run.2 run.3)
         | inr none ↦ omega arith
       ]
 
       high : most ≤ longest_free n
       high = elim (cases_lt 0 most) [
-        | inl some ↦ let run = found some in let lies = run_lies run.0 most run.1 in longest_most (extents_of n.directory) (area_start n) (n.blocks - area_start n) run.0 most lies.0 lies.2 lies.3
+        | inl some ↦ let run = found some in let lies = run_lies run.0 most run.1 in longest_most (extents_of n.durable.directory) (area_start n) (n.blocks - area_start n) run.0 most lies.0 lies.2 lies.3
         | inr none ↦ omega arith
       ]
 
   lowest_free_is : (blocks start : ℕ) → 1 ≤ blocks → IsFreeRun (area_of n) (all_extents heads) start blocks → ((lower : ℕ) → lower < start → IsFreeRun (area_of n) (all_extents heads) lower blocks → ⊥) → lowest_free n blocks ≡ Some start
   lowest_free_is blocks start one run lowest =
       let lies = run_lies start blocks run in
-      lowest_is (extents_of n.directory) blocks (area_start n) (n.blocks - area_start n) start one lies.0 lies.2 lies.3
+      lowest_is (extents_of n.durable.directory) blocks (area_start n) (n.blocks - area_start n) start one lies.0 lies.2 lies.3
       (λ lower from below free. lowest lower below (run_is lower blocks one from (let to = lies.2 in omega arith) free))
 
   lowest_free_none : (blocks : ℕ) → 1 ≤ blocks → ((start : ℕ) → IsFreeRun (area_of n) (all_extents heads) start blocks → ⊥) → lowest_free n blocks ≡ None
-  lowest_free_none blocks one none = lowest_none (extents_of n.directory) blocks (area_start n) (n.blocks - area_start n) one (λ start from to free. none start (run_is start blocks one from to free))
+  lowest_free_none blocks one none = lowest_none (extents_of n.durable.directory) blocks (area_start n) (n.blocks - area_start n) one (λ start from to free. none start (run_is start blocks one from to free))
 
   run_there : (blocks : ℕ) → 1 ≤ blocks → blocks ≤ longest_free n → (start : ℕ) × IsFreeRun (area_of n) (all_extents heads) start blocks
   run_there blocks one few =
-      let run = longest_found (extents_of n.directory) (area_start n) (n.blocks - area_start n) (omega arith) in
+      let run = longest_found (extents_of n.durable.directory) (area_start n) (n.blocks - area_start n) (omega arith) in
       (run.0, run_is run.0 blocks one run.1 (let to = run.2 in omega arith) (λ b from below. run.3 b from (omega arith)))
 
 pub finds_runs : FindsRuns

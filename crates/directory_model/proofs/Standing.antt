@@ -15,17 +15,17 @@ use Rattle.directory_model.specs.Laws.{StandsOnExtents}
 
 -- By organization, the keys, the layout and the chain are the same in contents that agree on the extent.
 
-map_stands : (o : Kept) (h : FileHead) (a b : List (List ℕ)) → FormBy o h → AgreesOn h a b → map_by o h a ≡ map_by o h b
+pub map_stands : (o : Kept) (h : FileHead) (a b : List (List ℕ)) → FormBy o h → AgreesOn h a b → map_by o h a ≡ map_by o h b
 map_stands Sequential h a b form agrees = sequential.local_law h a b form agrees
 map_stands Relative h a b form agrees = relative.local_law h a b form agrees
 map_stands Indexed h a b form agrees = indexed.local_law h a b form agrees
 
-laid_stands : (o : Kept) (h : FileHead) (a b : List (List ℕ)) → FormBy o h → AgreesOn h a b → LaidOutBy o h a → LaidOutBy o h b
+pub laid_stands : (o : Kept) (h : FileHead) (a b : List (List ℕ)) → FormBy o h → AgreesOn h a b → LaidOutBy o h a → LaidOutBy o h b
 laid_stands Sequential h a b form agrees laid = sequential.valid_local_law h a b form agrees laid
 laid_stands Relative h a b form agrees laid = relative.valid_local_law h a b form agrees laid
 laid_stands Indexed h a b form agrees laid = indexed.valid_local_law h a b form agrees laid
 
-chain_stands : (o : Kept) (h : FileHead) (a b : List (List ℕ)) → FormBy o h → AgreesOn h a b → chain_by o h a ≡ chain_by o h b
+pub chain_stands : (o : Kept) (h : FileHead) (a b : List (List ℕ)) → FormBy o h → AgreesOn h a b → chain_by o h a ≡ chain_by o h b
 chain_stands Sequential h a b form agrees = refl
 chain_stands Relative h a b form agrees = refl
 chain_stands Indexed h a b form agrees = indexed.chain_local_law h a b form agrees
@@ -33,18 +33,10 @@ chain_stands Indexed h a b form agrees = indexed.chain_local_law h a b form agre
 -- So the file stands.
 pub file_stands : (a b : List (List ℕ)) (h : FileHead) (file : File) → AgreesOn h a b → IsFile a h file → IsFile b h file
 file_stands a b h file agrees is = record {
-  name = is.name;
-  bucket = is.bucket;
-  record_size = is.record_size;
-  organization = is.organization;
-  start = is.start;
-  buckets = is.buckets;
-  carried = is.carried;
-  units = is.units;
-  form = is.form;
-  laid = laid_stands h.organization h a b is.form agrees is.laid;
-  records = λ key. is.records key ∙ ap (λ (m : Map). m key) (map_stands h.organization h a b is.form agrees);
-  layout = is.layout ∙ ap laid_in (chain_stands h.organization h a b is.form agrees);
+  head = is.head;
+  laid = laid_stands h.organization h a b is.head.form agrees is.laid;
+  records = λ key. is.records key ∙ ap (λ (m : Map). m key) (map_stands h.organization h a b is.head.form agrees);
+  layout = is.layout ∙ ap laid_in (chain_stands h.organization h a b is.head.form agrees);
 }
 
 pub place_stands : (a b : List (List ℕ)) (o : Option FileHead) (p : Option File) → ((h : FileHead) → o ≡ Some h → AgreesOn h a b) → IsPlace a o p → IsPlace b o p

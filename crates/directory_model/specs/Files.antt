@@ -1,6 +1,5 @@
--- Which file of the world each file of a volume is, and what an unsettled branch has changed in it.
-use Rattle.std.specs.Prelude.{◌≡◌, ◌⊎◌, ℕ, suc, ◌+◌, ◌<◌, ◌≤◌, ◌*◌, ◌==◌, ◌&&◌, ◌++◌, List, [], ◌∷◌, Bool, true, false, Option, Some, None, IfSome, IsSome, IsSomeAnd, length, if◌then◌else◌, slice_set, slice_index_or, take}
-use Rattle.std.specs.List.{list_any, All}
+-- Which file of the world each file of a volume is.
+use Rattle.std.specs.Prelude.{◌≡◌, ℕ, ◌+◌, ◌<◌, ◌≤◌, ◌*◌, List, [], ◌∷◌, false, Option, Some, None, length, slice_set, slice_index_or, take}
 use Rattle.std.specs.FinMap.{get, entries}
 use Rattle.file_base.specs.declared.head.FileHead.{FileHead}
 use Rattle.file_base.specs.declared.head.Organization.{Organization as Kept}
@@ -13,22 +12,13 @@ use Rattle.script_model.specs.Statements.{Form}
 use Rattle.script_model.specs.Statements as form
 use Rattle.run_model.specs.Answers.{buckets_for}
 use Rattle.careful_write.specs.State.{EachWhole}
-use Rattle.change_set.specs.Files.{SameFile}
-use Rattle.change_set.specs.Maps.{Map, map_of_records, same_key, set_key}
 use Rattle.record_files.specs.Any as any
 use Rattle.record_files.specs.Any.{map_of, chain_of, IsLaidOut}
-use Rattle.seq_file.specs.Layout.{IsRecord, records_in, capacity}
-use Rattle.seq_file.specs.Placing.{buckets_for as buckets_placed}
-use Rattle.seq_file.specs.Records.{list_set, record_at, slot_sizes}
-use Rattle.indexed_file.specs.Chain as indexed
-use Rattle.relative_file.specs.Cells as relative
-use Rattle.vms_model.specs.Ids.{Id}
-use Rattle.vms_model.specs.Keys.{Key, Number}
-use Rattle.records_model.specs.Records.{Records, Change}
-use Rattle.records_model.specs.Slots.{Slot, size_of}
-use Rattle.records_model.specs.Chain.{chain_back}
+use Rattle.vms_model.specs.Keys.{Key}
+use Rattle.records_model.specs.Records.{Records}
+use Rattle.records_model.specs.Slots.{Slot}
 use Rattle.records_model.specs.Layout.{Layout}
-use Rattle.records_model.specs.History.{LiveChanges, records, current}
+use Rattle.records_model.specs.History.{current}
 use Rattle.run_model.specs.World as world
 use Rattle.run_model.specs.World.{File, Organization, Carried, JournalSpan, SavedCopy, nothing_carried, find_file, with_file}
 
@@ -76,9 +66,8 @@ organized_by kept.Sequential h = world.Sequential
 organized_by kept.Relative h = world.Relative h.mrn
 organized_by kept.Indexed h = world.Indexed h.key_pos h.key_size
 
--- A file of the world is the file of a head: it has its name, its sizes, its blocks and its mark, and carries for its recovery what the head does. In this
--- content the file's buckets are laid out, the records as they stand are those in them, and the world has their layout, where the file is indexed.
-pub record IsFile (content : List (List ℕ)) (h : FileHead) (file : File) : Type 0 where
+-- A file of the world is the file of a head: it has its name, its sizes, its blocks and its mark, and carries for its recovery what the head does.
+pub record IsHeadOf (h : FileHead) (file : File) : Type 0 where
   pub name : file.name ≡ h.name
   pub bucket : file.bucket ≡ h.bucket
   pub record_size : file.record_size ≡ h.mrs
@@ -88,6 +77,11 @@ pub record IsFile (content : List (List ℕ)) (h : FileHead) (file : File) : Typ
   pub carried : file.carried ≡ carried_of h
   pub units : file.recovery_units ≡ h.marks.ru
   pub form : any.IsFile h
+
+-- It is the file of a head in this content: the file's buckets are laid out, their records are the file's current ones, those of unsettled branches too, and
+-- the world has their layout, where the file is indexed.
+pub record IsFile (content : List (List ℕ)) (h : FileHead) (file : File) : Type 0 where
+  pub head : IsHeadOf h file
   pub laid : IsLaidOut h content
   pub records : (key : Key) → get (current file.history) key ≡ map_of h content key
   pub layout : file.layout ≡ layout_of h content
@@ -149,131 +143,11 @@ pub record Fit (area : Area) (heads : List (Option FileHead)) : Type 0 where
   pub behind : 518 ≤ area.start
   pub each : (i : ℕ) → i < 256 → FitsAt area (all_extents heads) i
 
--- What an unsettled branch has changed. Of each change it is noted in which file it was made, and what its key had before; the newest stands first.
-
--- a change that was noted
-pub record Note : Type 0 where
-  pub file : ℕ
-  pub key : Key
-  pub before : Option (List ℕ)
-
--- those of one file
-abbrev pub notes_of : ℕ → List Note → List Note
-notes_of f [] = []
-notes_of f (n ∷ ns) = if n.file == f then n ∷ notes_of f ns else notes_of f ns
-
--- whether any is of the file
-abbrev pub has_changed : List Note → ℕ → Bool
-has_changed notes f = list_any (λ (n : Note). n.file == f) notes
-
--- whether any is of this key of the file: the key is held
-abbrev pub holds : ℕ → List Note → Key → Bool
-holds f notes key = list_any (λ (n : Note). (n.file == f) && same_key key n.key) notes
-
--- what the keys of a file had before these changes of it
-abbrev pub map_undone : List Note → Map → Map
-map_undone [] m = m
-map_undone (n ∷ ns) m = map_undone ns (set_key n.key n.before m)
-
--- the chain of a file with these changes of it set back in place
-abbrev pub chain_undone : List Note → List (List Slot) → List (List Slot)
-chain_undone [] chain = chain
-chain_undone (n ∷ ns) chain = chain_undone ns (chain_back n.key n.before chain)
-
--- changes of a file were noted so
-abbrev pub AreNoted : ℕ → List Note → List Change → Type 0
-AreNoted f [] [] = Unit {0}
-AreNoted f [] (c ∷ cs) = ⊥
-AreNoted f (n ∷ ns) [] = ⊥
-AreNoted f (n ∷ ns) (c ∷ cs) = (n.file ≡ f) × (n.key ≡ c.key) × (n.before ≡ c.before) × AreNoted f ns cs
-
--- what is noted where the records of a sequential file go from a position on, of which these are the records
-abbrev pub cut_notes : ℕ → ℕ → List (List ℕ) → List Note
-cut_notes f position [] = []
-cut_notes f position (r ∷ rs) = record { file = f; key = Number position; before = Some r } ∷ cut_notes f (suc position) rs
-
--- each change was made in a file that is there
-abbrev pub AreOwn : List Note → List (Option FileHead) → Type 0
-AreOwn notes heads = All (λ (n : Note). IsSome (head_at heads n.file)) notes
-
--- whether there is nothing in a list
-abbrev pub is_empty : {A : Type 0} → List A → Bool
-is_empty [] = true
-is_empty (x ∷ xs) = false
-
--- the unsettled changes of a file that this branch alone changed; where it made none, there are none
-abbrev pub live_by : Id → List Change → List LiveChanges
-live_by serial [] = []
-live_by serial (c ∷ cs) = record { serial = serial; changes = c ∷ cs } ∷ []
-
--- A file's unsettled changes are those that this branch noted of it, and once they are undone the file has its settled records.
-pub record HasChanges (serial : Id) (notes : List Note) (f : ℕ) (file : File) : Type 0 where
-  pub changes : List Change
-  pub live : file.history.live ≡ live_by serial changes
-  pub noted : AreNoted f (notes_of f notes) changes
-  pub settled : (key : Key) → get (records file.history) key ≡ map_undone (notes_of f notes) (map_of_records (current file.history)) key
-
--- so of each file
-abbrev pub AreChanged : Id → List Note → List (Option File) → Type 0
-AreChanged serial notes directory = (f : ℕ) (file : File) → file_at directory f ≡ Some file → HasChanges serial notes f file
-
--- no file has unsettled changes
-abbrev pub AreUnchanged : List (Option File) → Type 0
-AreUnchanged directory = (f : ℕ) (file : File) → file_at directory f ≡ Some file → file.history.live ≡ []
-
 -- a file's extent lies in the content, and each block there has 512 bytes
 pub record IsWithin (content : List (List ℕ)) (h : FileHead) : Type 0 where
   pub from : 518 ≤ h.start
   pub to : h.start + h.alloc * h.bucket ≤ length content + 518
   pub whole : EachWhole content
-
--- What is noted can be undone, change after change.
-
--- a position of a list of records may be set back so: one more record fits the file behind the last one, one that stands has as many bytes, or the last
--- one goes
-abbrev pub MayGoBack : FileHead → ℕ → Option (List ℕ) → List (List ℕ) → Type 0
-MayGoBack h p (Some r) records = ((p ≡ length records + 1) × (buckets_placed (capacity h) (slot_sizes (records ++ r ∷ [])) ≤ h.alloc)) ⊎ IsSomeAnd (record_at records p) (λ old. length r ≡ length old)
-MayGoBack h p None records = p ≡ length records
-
--- these changes of a sequential file may be undone one after another, from these records on
-abbrev pub GoBack : FileHead → List Note → List (List ℕ) → Type 0
-GoBack h [] records = Unit {0}
-GoBack h (n ∷ ns) records = (p : ℕ) × (n.key ≡ Number p) × (1 ≤ p) × IfSome n.before (IsRecord h.mrs) × MayGoBack h p n.before records × GoBack h ns (list_set p n.before records)
-
--- what was noted fits its file; in an indexed one its key's room holds it
-abbrev pub CanUndoBy : Kept → FileHead → List (List ℕ) → List Note → Type 0
-CanUndoBy kept.Sequential h content notes = GoBack h notes (records_in h content)
-CanUndoBy kept.Relative h content notes = All (λ (n : Note). relative.Suits h n.key n.before) notes
-CanUndoBy kept.Indexed h content notes = All (λ (n : Note). indexed.Suits h n.key n.before × (size_of n.before ≤ indexed.room_at h content n.key)) notes
-
-abbrev pub CanUndo : FileHead → List (List ℕ) → List Note → Type 0
-CanUndo h = CanUndoBy h.organization h
-
--- so of each file
-abbrev pub AreUndoable : List (List ℕ) → List (Option FileHead) → List Note → Type 0
-AreUndoable content heads notes = (f : ℕ) (h : FileHead) → head_at heads f ≡ Some h → CanUndo h content (notes_of f notes)
-
--- A file once some of its changes were undone: the head is that of the same file, the buckets are laid out, its keys and its chain have what they had
--- before these changes, and the changes that are left can be undone.
-pub record IsUndone (content : List (List ℕ)) (h : FileHead) (undone left : List Note) (now : List (List ℕ)) (new : FileHead) : Type 0 where
-  pub same : SameFile h new
-  pub form : any.IsFile new
-  pub laid : IsLaidOut new now
-  pub map : map_of new now ≡ map_undone undone (map_of h content)
-  pub chain : chain_of new now ≡ chain_undone undone (chain_of h content)
-  pub can : CanUndo new now left
-
--- so of each file number
-abbrev pub IsPlaceUndone : List (List ℕ) → Option FileHead → List Note → List Note → List (List ℕ) → Option FileHead → Type 0
-IsPlaceUndone content None undone left now None = Unit {0}
-IsPlaceUndone content None undone left now (Some new) = ⊥
-IsPlaceUndone content (Some h) undone left now None = ⊥
-IsPlaceUndone content (Some h) undone left now (Some new) = IsUndone content h undone left now new
-
--- from one content and its heads, these changes were undone, and those that are left can be
-pub record AreUndone (content : List (List ℕ)) (heads : List (Option FileHead)) (undone left : List Note) (now : List (List ℕ)) (new : List (Option FileHead)) : Type 0 where
-  pub long : length new ≡ length heads
-  pub each : (f : ℕ) → IsPlaceUndone content (head_at heads f) (notes_of f undone) (notes_of f left) now (head_at new f)
 
 -- Showing a file's records.
 

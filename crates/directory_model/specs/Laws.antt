@@ -1,17 +1,18 @@
 -- What holds of the files of a volume and of the world. A head is a file of the volume's directory, and a file is one of the world's; f is a file's
 -- number in the one and its place in the other.
-use Rattle.std.specs.Prelude.{◌≡◌, ◌≢◌, ℕ, ◌+◌, ◌-◌, ◌*◌, ◌<◌, ◌≤◌, ◌++◌, List, [], ◌∷◌, Bool, true, false, Option, Some, None, length, if◌then◌else◌, map, replicate, slice_set, take, drop}
+use Rattle.std.specs.Prelude.{◌≡◌, ◌≢◌, ℕ, ◌+◌, ◌-◌, ◌*◌, ◌<◌, ◌≤◌, ◌++◌, List, [], ◌∷◌, Bool, true, false, Option, Some, None, length, map, replicate, slice_set, take, drop}
+use Rattle.std.specs.List.{AllByRecursion}
 use Rattle.std.specs.FinMap.{entries, get}
 use Rattle.block_disk.specs.Blocks.{block_at}
 use Rattle.careful_write.specs.Steps.{AgreesOff}
 use Rattle.file_base.specs.declared.head.FileHead.{FileHead}
 use Rattle.file_base.specs.declared.head.Organization.TheVariants.{Sequential, Indexed}
 use Rattle.change_set.specs.Files.{AgreesOn, SameFile, in_extent}
-use Rattle.change_set.specs.Maps.{Map, IsNext, EndsAfter, Found, applied, empty_map, map_of_records, set_key}
+use Rattle.change_set.specs.Maps.{Map, IsNext, EndsAfter, Found, applied, empty_map}
 use Rattle.extents.specs.declared.extent.Extent.{Extent as Area}
 use Rattle.extents.specs.Extents.{IsFreeRun, all_extents, is_used}
 use Rattle.record_files.specs.Any as any
-use Rattle.record_files.specs.Any.{map_of, chain_of, first_chain_of, IsLaidOut, IsNew, Suits, Restores, room_at, asks}
+use Rattle.record_files.specs.Any.{map_of, chain_of, first_chain_of, IsLaidOut, IsNew, asks}
 use Rattle.seq_file.specs.Layout.{records_in}
 use Rattle.seq_file.specs.Records.{cut_from}
 use Rattle.script_model.specs.Statements.{Form, Put, Update}
@@ -19,13 +20,16 @@ use Rattle.vms_model.specs.Ids.{Id}
 use Rattle.vms_model.specs.Keys.{Key, Number}
 use Rattle.vms_model.specs.Transactions.{Commit, Abort}
 use Rattle.records_model.specs.Records.{Records, Change}
-use Rattle.records_model.specs.Chain.{chain_changed}
-use Rattle.records_model.specs.History.{current, first_to_change}
+use Rattle.records_model.specs.Layout.{layout_changed}
+use Rattle.unit_laws.specs.Units.{is_free}
+use Rattle.commit_protocol.specs.Table.{Branch}
 use Rattle.run_model.specs.Answers.{blocks_for, created}
 use Rattle.run_model.specs.Operations.{count_of, first_behind, in_order, need_of, removed, used}
 use Rattle.run_model.specs.Extents.{is_taken}
-use Rattle.run_model.specs.World.{Node, File, Label, Branch, Settlement, Formats, Boots, Creates, Marks, Begins, Changes, Settles, acted, area_start, extents_of, find_file, free_place, longest_free, lowest_free}
-use Rattle.directory_model.specs.Files.{AreFiles, IsFile, NoneNamed, IsNamed, IsFoundAt, AreNamedOnce, IsNewHead, Fit, Note, has_changed, holds, AreNoted, AreOwn, cut_notes, HasChanges, AreChanged, AreUnchanged, IsWithin, CanUndo, AreUndoable, AreUndone, chain_undone, head_at, IsShown}
+use Rattle.run_model.specs.Locks.{is_locked}
+use Rattle.run_model.specs.World.{Node, File, Label, Settlement, AreUnitsOf, Formats, Boots, Creates, Marks, Begins, Changes, Holds, Directs, Settles, acted, area_start, extents_of, find_file, free_place, longest_free, lowest_free}
+use Rattle.directory_model.specs.Files.{AreFiles, IsFile, NoneNamed, IsNamed, IsFoundAt, AreNamedOnce, IsNewHead, Fit, file_at, head_at, layout_of, IsShown}
+use Rattle.directory_model.specs.Restoring.{AreRestored}
 
 -- a file is found by its name: the one of the lowest number that has it, and none where none has it. So it is changed there.
 pub record FindsFiles : Type 0 where
@@ -49,14 +53,14 @@ area_of n = record { start = area_start n; end = n.blocks }
 
 -- The longest run of free blocks and the lowest one of a size are those between the heads' extents.
 pub record FindsRuns : Type 0 where
-  pub longest : (content : List (List ℕ)) (heads : List (Option FileHead)) (n : Node) (area : Area) (most : ℕ) → AreFiles content heads n.directory → area ≡ area_of n → (0 < most → (start : ℕ) × IsFreeRun area (all_extents heads) start most) →
+  pub longest : (content : List (List ℕ)) (heads : List (Option FileHead)) (n : Node) (area : Area) (most : ℕ) → AreFiles content heads n.durable.directory → area ≡ area_of n → (0 < most → (start : ℕ) × IsFreeRun area (all_extents heads) start most) →
       ((start blocks : ℕ) → IsFreeRun area (all_extents heads) start blocks → blocks ≤ most) → longest_free n ≡ most
-  pub lowest : (content : List (List ℕ)) (heads : List (Option FileHead)) (n : Node) (area : Area) (blocks start : ℕ) → AreFiles content heads n.directory → area ≡ area_of n → 1 ≤ blocks → IsFreeRun area (all_extents heads) start blocks →
+  pub lowest : (content : List (List ℕ)) (heads : List (Option FileHead)) (n : Node) (area : Area) (blocks start : ℕ) → AreFiles content heads n.durable.directory → area ≡ area_of n → 1 ≤ blocks → IsFreeRun area (all_extents heads) start blocks →
       ((lower : ℕ) → lower < start → IsFreeRun area (all_extents heads) lower blocks → ⊥) → lowest_free n blocks ≡ Some start
-  pub none : (content : List (List ℕ)) (heads : List (Option FileHead)) (n : Node) (area : Area) (blocks : ℕ) → AreFiles content heads n.directory → area ≡ area_of n → 1 ≤ blocks → ((start : ℕ) → IsFreeRun area (all_extents heads) start blocks → ⊥) →
+  pub none : (content : List (List ℕ)) (heads : List (Option FileHead)) (n : Node) (area : Area) (blocks : ℕ) → AreFiles content heads n.durable.directory → area ≡ area_of n → 1 ≤ blocks → ((start : ℕ) → IsFreeRun area (all_extents heads) start blocks → ⊥) →
       lowest_free n blocks ≡ None
   -- there is a run of each size up to that of the longest
-  pub there : (content : List (List ℕ)) (heads : List (Option FileHead)) (n : Node) (area : Area) (blocks : ℕ) → AreFiles content heads n.directory → area ≡ area_of n → 1 ≤ blocks → blocks ≤ longest_free n → (start : ℕ) × IsFreeRun area (all_extents heads) start blocks
+  pub there : (content : List (List ℕ)) (heads : List (Option FileHead)) (n : Node) (area : Area) (blocks : ℕ) → AreFiles content heads n.durable.directory → area ≡ area_of n → 1 ≤ blocks → blocks ≤ longest_free n → (start : ℕ) × IsFreeRun area (all_extents heads) start blocks
 
 -- a head that is marked for recovery units, or no more
 abbrev pub marked : Bool → FileHead → FileHead
@@ -66,79 +70,41 @@ marked units h = record h { marks = record h.marks { ru = units } }
 abbrev pub SameBut : ℕ → List (Option FileHead) → List (List ℕ) → List (List ℕ) → Type 0
 SameBut f heads a b = (g : ℕ) (h : FileHead) → g ≢ f → head_at heads g ≡ Some h → AgreesOn h a b
 
--- A file was changed from one content to another: its head, its buckets, its records and its chain are those after these changes, while the keys that
--- the notes hold were held.
-pub record IsChanged (f : ℕ) (notes : List Note) (cs : List Change) (a : List (List ℕ)) (h : FileHead) (b : List (List ℕ)) (new : FileHead) : Type 0 where
+-- A file was changed from one content to another: its head, its buckets, its records and its layout are those after these changes, while these keys were held.
+pub record IsChanged (held : Key → Bool) (cs : List Change) (a : List (List ℕ)) (h : FileHead) (b : List (List ℕ)) (new : FileHead) : Type 0 where
   pub same : SameFile h new
   pub form : any.IsFile new
   pub laid : IsLaidOut new b
   pub map : map_of new b ≡ applied cs (map_of h a)
-  pub chain : chain_of new b ≡ chain_changed (512 * h.bucket - 16) (holds f notes) cs (chain_of h a)
+  pub layout : layout_of new b ≡ layout_changed (512 * h.bucket - 16) held cs (layout_of h a)
 
--- The files stay those of the heads over each act that changes the directory. How the content changes with it is told by what the keys of the files have.
+-- the keys of these changes are free for a branch in a file: no other branch changed one of them
+abbrev pub AreFree : Id → File → List Change → Type 0
+AreFree serial file cs = AllByRecursion (λ (c : Change). is_free serial file.history.live c.key ≡ true) cs
+
+-- The files stay those of the heads over each act. How the content changes with it is told by what the keys of the files have.
 pub record KeepsFiles : Type 0 where
-  pub formats : (content : List (List ℕ)) (n : Node) (slots journal : ℕ) → AreFiles content (replicate 64 None) (acted (Formats slots journal) n).directory
-  pub boots : (content : List (List ℕ)) (heads : List (Option FileHead)) (n : Node) → AreFiles content heads n.directory → AreFiles content heads (acted Boots n).directory
-  pub creates : (content : List (List ℕ)) (heads : List (Option FileHead)) (n : Node) (f : ℕ) (h : FileHead) (file : File) → AreFiles content heads n.directory → f < 64 → IsFile content h file →
-      AreFiles content (slice_set heads f (Some h)) (acted (Creates f file) n).directory
-  pub marks : (content : List (List ℕ)) (heads : List (Option FileHead)) (n : Node) (f : ℕ) (h : FileHead) (name : List ℕ) (units : Bool) → AreFiles content heads n.directory → IsNamed heads f h name →
-      AreFiles content (slice_set heads f (Some (marked units h))) (acted (Marks name units) n).directory
-  pub changes : (a b : List (List ℕ)) (heads : List (Option FileHead)) (n : Node) (f : ℕ) (h new : FileHead) (name : List ℕ) (serial : Id) (notes : List Note) (cs : List Change) → AreFiles a heads n.directory → AreChanged serial notes n.directory →
-      IsNamed heads f h name → IsChanged f notes cs a h b new → SameBut f heads a b → AreFiles b (slice_set heads f (Some new)) (acted (Changes serial name cs) n).directory
-  pub commits : (content : List (List ℕ)) (heads : List (Option FileHead)) (n : Node) (notes : List Note) (s : Settlement) → AreFiles content heads n.directory → AreChanged s.serial notes n.directory → s.outcome ≡ Commit →
-      AreFiles content heads (acted (Settles s) n).directory
-  pub aborts : (a b : List (List ℕ)) (heads new : List (Option FileHead)) (n : Node) (notes : List Note) (s : Settlement) → AreFiles a heads n.directory → AreChanged s.serial notes n.directory → s.outcome ≡ Abort → AreUndone a heads notes [] b new →
-      AreFiles b new (acted (Settles s) n).directory
-
--- The unsettled changes over each act: they are those of one branch, or there are none.
-pub record KeepsChanges : Type 0 where
-  pub formats : (n : Node) (slots journal : ℕ) → AreUnchanged (acted (Formats slots journal) n).directory
-  pub boots : (n : Node) → AreUnchanged (acted Boots n).directory
-  pub begins : (n : Node) (label : Label) (b : Branch) (serial : Id) → AreUnchanged n.directory → AreChanged serial [] (acted (Begins label b) n).directory
-  pub creates : (n : Node) (f : ℕ) (file : File) → AreUnchanged n.directory → file.history.live ≡ [] → AreUnchanged (acted (Creates f file) n).directory
-  pub creates_beside : (heads : List (Option FileHead)) (n : Node) (f : ℕ) (file : File) (serial : Id) (notes : List Note) → AreOwn notes heads → head_at heads f ≡ None → file.history.live ≡ [] → AreChanged serial notes n.directory →
-      AreChanged serial notes (acted (Creates f file) n).directory
-  pub marks : (n : Node) (name : List ℕ) (units : Bool) → AreUnchanged n.directory → AreUnchanged (acted (Marks name units) n).directory
-  pub marks_beside : (n : Node) (name : List ℕ) (units : Bool) (serial : Id) (notes : List Note) → AreChanged serial notes n.directory → AreChanged serial notes (acted (Marks name units) n).directory
-  -- changes that noted what they found are noted before those that the branch made before them
-  pub changes : (n : Node) (name : List ℕ) (serial : Id) (made notes : List Note) (f : ℕ) (file : File) (cs : List Change) → AreChanged serial notes n.directory → IsFoundAt name n.directory f file → AreNoted f made cs →
-      Found cs (map_of_records (current file.history)) → AreChanged serial (made ++ notes) (acted (Changes serial name cs) n).directory
-  pub settles : (n : Node) (notes : List Note) (s : Settlement) → AreChanged s.serial notes n.directory → AreUnchanged (acted (Settles s) n).directory
-
--- The branch's changes stay those of files that are there, where a file is made, marked or changed.
-pub record KeepsOwn : Type 0 where
-  pub begins : (heads : List (Option FileHead)) → AreOwn [] heads
-  pub sets : (heads : List (Option FileHead)) (notes : List Note) (f : ℕ) (h : FileHead) → f < length heads → AreOwn notes heads → AreOwn notes (slice_set heads f (Some h))
-  pub changes : (heads : List (Option FileHead)) (notes : List Note) (f : ℕ) (h : FileHead) (key : Key) (before : Option (List ℕ)) → head_at heads f ≡ Some h → AreOwn notes heads → AreOwn (record { file = f; key = key; before = before } ∷ notes) heads
-  pub cuts : (heads : List (Option FileHead)) (notes : List Note) (f position : ℕ) (h : FileHead) (records : List (List ℕ)) → head_at heads f ≡ Some h → AreOwn notes heads → AreOwn (cut_notes f position records ++ notes) heads
-
--- What the branch changed can be undone, also once a file is made or marked, and once one more key is set, or a sequential file is cut.
-pub record KeepsUndo : Type 0 where
-  pub begins : (content : List (List ℕ)) (heads : List (Option FileHead)) → AreUndoable content heads []
-  pub stands : (a b : List (List ℕ)) (heads : List (Option FileHead)) (directory : List (Option File)) (notes : List Note) → ((f : ℕ) (h : FileHead) → head_at heads f ≡ Some h → AgreesOn h a b) → AreFiles a heads directory →
-      AreUndoable a heads notes → AreUndoable b heads notes
-  pub creates : (a b : List (List ℕ)) (heads : List (Option FileHead)) (directory : List (Option File)) (f : ℕ) (h : FileHead) (notes : List Note) → AreFiles a heads directory → head_at heads f ≡ None → AreOwn notes heads → SameBut f heads a b →
-      AreUndoable a heads notes → AreUndoable b (slice_set heads f (Some h)) notes
-  pub marks : (content : List (List ℕ)) (heads : List (Option FileHead)) (f : ℕ) (h : FileHead) (units : Bool) (notes : List Note) → head_at heads f ≡ Some h → AreUndoable content heads notes → AreUndoable content (slice_set heads f (Some (marked units h))) notes
-  pub sets : (a b : List (List ℕ)) (heads : List (Option FileHead)) (directory : List (Option File)) (f : ℕ) (h new : FileHead) (notes : List Note) (key : Key) (value : Option (List ℕ)) → AreFiles a heads directory → head_at heads f ≡ Some h → IsWithin a h → Suits h key value →
-      SameFile h new → any.IsFile new → IsLaidOut new b → map_of new b ≡ set_key key value (map_of h a) → Restores new b key (map_of h a key) → ((other : Key) → holds f notes other ≡ true → room_at h a other ≤ room_at new b other) → SameBut f heads a b →
-      AreUndoable a heads notes → AreUndoable b (slice_set heads f (Some new)) (record { file = f; key = key; before = map_of h a key } ∷ notes)
-  pub cuts : (a b : List (List ℕ)) (heads : List (Option FileHead)) (directory : List (Option File)) (f from : ℕ) (h new : FileHead) (notes : List Note) → AreFiles a heads directory → head_at heads f ≡ Some h → h.organization ≡ Sequential → 1 ≤ from →
-      SameFile h new → any.IsFile new → IsLaidOut new b → map_of new b ≡ cut_from from (map_of h a) → SameBut f heads a b →
-      AreUndoable a heads notes → AreUndoable b (slice_set heads f (Some new)) (cut_notes f from (drop (from - 1) (records_in h a)) ++ notes)
-
--- A file is locked by the branch exactly where that changed it.
-pub record TellsChanges : Type 0 where
-  pub changed : (serial : Id) (notes : List Note) (f : ℕ) (file : File) → HasChanges serial notes f file → first_to_change file.history (serial ∷ []) ≡ (if has_changed notes f then Some serial else None)
-  pub unchanged : (file : File) (serials : List Id) → file.history.live ≡ [] → first_to_change file.history serials ≡ None
-
--- The changes are undone one after another, from the newest on: each can be undone, and then those that are left can.
-pub record Undoes : Type 0 where
-  pub none : (content : List (List ℕ)) (heads : List (Option FileHead)) (directory : List (Option File)) (notes : List Note) → AreFiles content heads directory → AreUndoable content heads notes → AreUndone content heads [] notes content heads
-  pub can : (content : List (List ℕ)) (h : FileHead) (n : Note) (left : List Note) → any.IsFile h → IsLaidOut h content → CanUndo h content (n ∷ left) → Suits h n.key n.before × Restores h content n.key n.before
-  pub one : (a b c : List (List ℕ)) (heads mid : List (Option FileHead)) (undone left : List Note) (n : Note) (h new : FileHead) → AreUndone a heads undone (n ∷ left) b mid → head_at mid n.file ≡ Some h → SameFile h new → any.IsFile new → IsLaidOut new c →
-      map_of new c ≡ set_key n.key n.before (map_of h b) → chain_of new c ≡ chain_undone (n ∷ []) (chain_of h b) → ((other : Key) → room_at h b other ≤ room_at new c other) → SameBut n.file mid b c →
-      AreUndone a heads (undone ++ n ∷ []) left c (slice_set mid n.file (Some new))
+  pub formats : (content : List (List ℕ)) (n : Node) (slots journal : ℕ) → AreFiles content (replicate 64 None) (acted (Formats slots journal) n).durable.directory
+  pub boots : (content : List (List ℕ)) (heads : List (Option FileHead)) (n : Node) → AreFiles content heads n.durable.directory → AreFiles content heads (acted Boots n).durable.directory
+  pub begins : (content : List (List ℕ)) (heads : List (Option FileHead)) (n : Node) (label : Label) (b : Branch) → AreFiles content heads n.durable.directory → AreFiles content heads (acted (Begins label b) n).durable.directory
+  pub holds : (content : List (List ℕ)) (heads : List (Option FileHead)) (n : Node) (serial : Id) (name : List ℕ) (keys : List Key) → AreFiles content heads n.durable.directory →
+      AreFiles content heads (acted (Holds serial name keys) n).durable.directory
+  pub creates : (content : List (List ℕ)) (heads : List (Option FileHead)) (n : Node) (f : ℕ) (h : FileHead) (file : File) → AreFiles content heads n.durable.directory → f < 64 → IsFile content h file →
+      AreFiles content (slice_set heads f (Some h)) (acted (Creates f file) n).durable.directory
+  pub marks : (content : List (List ℕ)) (heads : List (Option FileHead)) (n : Node) (f : ℕ) (h : FileHead) (name : List ℕ) (units : Bool) → AreFiles content heads n.durable.directory → IsNamed heads f h name →
+      AreFiles content (slice_set heads f (Some (marked units h))) (acted (Marks name units) n).durable.directory
+  -- changes of free keys that noted what they found
+  pub changes : (a b : List (List ℕ)) (heads : List (Option FileHead)) (n : Node) (f : ℕ) (h new : FileHead) (name : List ℕ) (file : File) (tid serial : Id) (cs : List Change) (keys : List Key) → AreFiles a heads n.durable.directory → AreUnitsOf n →
+      IsNamed heads f h name → file_at n.durable.directory f ≡ Some file → AreFree serial file cs → Found cs (map_of h a) → IsChanged (is_locked n.volatile.locks name) cs a h b new → SameBut f heads a b →
+      AreFiles b (slice_set heads f (Some new)) (acted (Changes tid serial name cs keys) n).durable.directory
+  -- changes that are committed at once, in a file that no unsettled branch changed
+  pub directs : (a b : List (List ℕ)) (heads : List (Option FileHead)) (n : Node) (f : ℕ) (h new : FileHead) (name : List ℕ) (file : File) (cs : List Change) (s : Settlement) → AreFiles a heads n.durable.directory → s.outcome ≡ Commit →
+      IsNamed heads f h name → file_at n.durable.directory f ≡ Some file → file.history.live ≡ [] → IsChanged (is_locked n.volatile.locks name) cs a h b new → SameBut f heads a b →
+      AreFiles b (slice_set heads f (Some new)) (acted (Directs name cs s) n).durable.directory
+  pub commits : (content : List (List ℕ)) (heads : List (Option FileHead)) (n : Node) (s : Settlement) → AreFiles content heads n.durable.directory → AreUnitsOf n → s.outcome ≡ Commit → AreFiles content heads (acted (Settles s) n).durable.directory
+  -- an abort restores what the branch changed
+  pub aborts : (a b : List (List ℕ)) (heads new : List (Option FileHead)) (n : Node) (s : Settlement) → AreFiles a heads n.durable.directory → AreUnitsOf n → s.outcome ≡ Abort → AreRestored s.serial a heads n.durable.directory b new →
+      AreFiles b new (acted (Settles s) n).durable.directory
 
 -- How a file of the world tells what is asked of its records, by what the head and the buckets tell.
 pub record ReadsFiles : Type 0 where
@@ -153,9 +119,8 @@ pub record ReadsFiles : Type 0 where
   pub put : (content : List (List ℕ)) (h : FileHead) (file : File) (number : Option ℕ) (bytes : List ℕ) → IsFile content h file → need_of file (Put number bytes) ≡ asks h content (length bytes)
   pub update : (content : List (List ℕ)) (h : FileHead) (file : File) (key : Key) (bytes : List ℕ) → IsFile content h file → h.organization ≡ Indexed → need_of file (Update key bytes) ≡ asks h content (length bytes)
   -- what is removed where a sequential file is cut: the changes found what they noted, and without them the file is cut
-  pub removed : (content : List (List ℕ)) (h : FileHead) (file : File) (f from : ℕ) → IsFile content h file → h.organization ≡ Sequential → 1 ≤ from →
-      AreNoted f (cut_notes f from (drop (from - 1) (records_in h content))) (map removed (drop (from - 1) (in_order file))) × Found (map removed (drop (from - 1) (in_order file))) (map_of h content)
-      × (applied (map removed (drop (from - 1) (in_order file))) (map_of h content) ≡ cut_from from (map_of h content))
+  pub removed : (content : List (List ℕ)) (h : FileHead) (file : File) (from : ℕ) → IsFile content h file → h.organization ≡ Sequential → 1 ≤ from →
+      Found (map removed (drop (from - 1) (in_order file))) (map_of h content) × (applied (map removed (drop (from - 1) (in_order file))) (map_of h content) ≡ cut_from from (map_of h content))
   -- the record of a position, from which on the records are those behind it
   pub position : (content : List (List ℕ)) (h : FileHead) (position : ℕ) (bytes : List ℕ) → h.organization ≡ Sequential → 1 ≤ position → map_of h content (Number position) ≡ Some bytes →
       drop (position - 1) (records_in h content) ≡ bytes ∷ drop position (records_in h content)

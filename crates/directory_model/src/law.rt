@@ -1,5 +1,5 @@
 //! What the definitions promise.
-ghost use Rattle.directory_model.specs.Laws.{FindsFiles, FindsPlaces, FindsRuns, KeepsChanges, KeepsFiles, KeepsHeads, KeepsOwn, KeepsUndo, LieApart, MakesFiles, ReadsFiles, ShowsRecords, StandsOnExtents, TakesBlocks, TellsChanges, Undoes, WritesApart};
+ghost use Rattle.directory_model.specs.Laws.{FindsFiles, FindsPlaces, FindsRuns, KeepsFiles, KeepsHeads, LieApart, MakesFiles, ReadsFiles, ShowsRecords, StandsOnExtents, TakesBlocks, WritesApart};
 
 /// The world finds by a name the file that the volume finds by it: the one of the lowest number. Where the volume finds none, so does the world.
 pub fn files_are_found_by_name()
@@ -24,31 +24,6 @@ pub fn free_runs_are_found_alike()
 /// Each act of the world keeps its files those of the volume, where the volume changes with it.
 pub fn acts_keep_files()
     ensures { KeepsFiles }
-{}
-
-/// Each act of the world keeps its unsettled changes those that the volume's branch has noted.
-pub fn acts_keep_changes()
-    ensures { KeepsChanges }
-{}
-
-/// The changes of a branch stay those of files that are there.
-pub fn acts_keep_own()
-    ensures { KeepsOwn }
-{}
-
-/// The changes of a branch can be undone, whatever it changes next.
-pub fn acts_keep_undo()
-    ensures { KeepsUndo }
-{}
-
-/// A file is locked by the unsettled branch exactly where that changed it.
-pub fn the_branch_locks()
-    ensures { TellsChanges }
-{}
-
-/// The changes of a branch are undone one after another, from the newest on.
-pub fn changes_are_undone()
-    ensures { Undoes }
 {}
 
 /// The world's file tells what is asked of its records as the volume's file does.

@@ -1,0 +1,123 @@
+-- What unsettled branches changed in a file can be restored in place, whatever part of it is restored already.
+use Rattle.std.specs.Prelude.{◌≡◌, ℕ, ◌≤◌, List, Option, Some, None, length, map}
+use Rattle.std.specs.List.{AllByRecursion}
+use Rattle.std.specs.FinMap.{get}
+use Rattle.file_base.specs.declared.head.FileHead.{FileHead}
+use Rattle.file_base.specs.declared.head.Organization.{Organization as Kept}
+use Rattle.file_base.specs.declared.head.Organization.TheVariants as kept
+use Rattle.record_files.specs.Any as any
+use Rattle.record_files.specs.Any.{map_of, IsLaidOut}
+use Rattle.seq_file.specs.Layout.{records_in}
+use Rattle.sequence_laws.specs.Undoing.{GoesBack}
+use Rattle.indexed_file.specs.Chain as indexed
+use Rattle.relative_file.specs.Cells as relative
+use Rattle.change_set.specs.Files.{SameFile}
+use Rattle.vms_model.specs.Ids.{Id}
+use Rattle.vms_model.specs.Keys.{Text}
+use Rattle.records_model.specs.Records.{Change}
+use Rattle.records_model.specs.Slots.{Slot, size_of, lookup, IsOrdered}
+use Rattle.records_model.specs.Parts.{all_slots}
+use Rattle.records_model.specs.Layout.{Layout, no_layout}
+use Rattle.records_model.specs.History.{LiveChanges, records, current, changes_by}
+use Rattle.unit_laws.specs.Units.{map_in, earliest_before, with_before_images, Represents, IsUndoGroup}
+use Rattle.unit_laws.specs.Layouts.{layout_restored}
+use Rattle.run_model.specs.World.{File}
+use Rattle.directory_model.specs.Files.{IsHeadOf, head_at, file_at, layout_of}
+
+-- a slot but for its record
+abbrev pub bare : Slot → Slot
+bare s = record s { value = None }
+
+-- layouts that are alike but for the records: the same keys in the same buckets, each with the same room
+abbrev pub AlikeBare : Layout → Layout → Type 0
+AlikeBare a b = map (map bare) a.chain ≡ map (map bare) b.chain
+
+-- the earliest before images of a branch can be set in place
+abbrev pub CanRestoreBy : Kept → FileHead → List (List ℕ) → List Change → Type 0
+CanRestoreBy kept.Sequential h content cs = (back : List (List ℕ)) × GoesBack h cs (records_in h content) back
+CanRestoreBy kept.Relative h content cs = AllByRecursion (λ (c : Change). relative.Suits h c.key (earliest_before cs c.key)) cs
+CanRestoreBy kept.Indexed h content cs =
+    AllByRecursion (λ (c : Change). indexed.Suits h c.key (earliest_before cs c.key) × (size_of (earliest_before cs c.key) ≤ indexed.room_at h content c.key)) cs
+
+-- and so those of each of several branches
+abbrev pub CanRestore : FileHead → List (List ℕ) → List LiveChanges → Type 0
+CanRestore h content ls = AllByRecursion (λ (l : LiveChanges). CanRestoreBy h.organization h content l.changes) ls
+
+-- The layout of an indexed file in the world tells the file's current records; other files have none.
+pub record TellsRecords (file : File) : Type 0 where
+  pub ordered : IsOrdered (all_slots file.layout.chain)
+  pub tells : (k : List ℕ) → lookup (all_slots file.layout.chain) k ≡ get (current file.history) (Text k)
+
+abbrev pub IsLayoutOf : Kept → File → Type 0
+IsLayoutOf kept.Sequential file = file.layout ≡ no_layout
+IsLayoutOf kept.Relative file = file.layout ≡ no_layout
+IsLayoutOf kept.Indexed file = TellsRecords file
+
+-- What a node that fell has left of a file. Its buckets are laid out, and what they have represents the committed records, whatever part of the unsettled
+-- changes is undone; their layout is the world's but for the records; and what is not undone can be.
+pub record IsLeft (content : List (List ℕ)) (h : FileHead) (file : File) : Type 0 where
+  pub head : IsHeadOf h file
+  pub laid : IsLaidOut h content
+  pub represents : Represents file.history.live (map_of h content) (map_in (records file.history))
+  pub layout : AlikeBare (layout_of h content) file.layout
+  pub own : IsLayoutOf h.organization file
+  pub can : CanRestore h content file.history.live
+
+abbrev pub IsPlaceLeft : List (List ℕ) → Option FileHead → Option File → Type 0
+IsPlaceLeft content None None = Unit {0}
+IsPlaceLeft content None (Some file) = ⊥
+IsPlaceLeft content (Some h) None = ⊥
+IsPlaceLeft content (Some h) (Some file) = IsLeft content h file
+
+-- so of each of the 64 file numbers
+pub record AreLeft (content : List (List ℕ)) (heads : List (Option FileHead)) (directory : List (Option File)) : Type 0 where
+  pub heads_long : length heads ≡ 64
+  pub directory_long : length directory ≡ 64
+  pub each : (f : ℕ) → IsPlaceLeft content (head_at heads f) (file_at directory f)
+
+-- what unsettled branches changed in a file can be restored
+abbrev pub IsPlaceRestorable : List (List ℕ) → Option FileHead → Option File → Type 0
+IsPlaceRestorable content (Some h) (Some file) = CanRestore h content file.history.live
+IsPlaceRestorable content None file = Unit {0}
+IsPlaceRestorable content (Some h) None = Unit {0}
+
+-- and in each file
+abbrev pub AreRestorable : List (List ℕ) → List (Option FileHead) → List (Option File) → Type 0
+AreRestorable content heads directory = (f : ℕ) → IsPlaceRestorable content (head_at heads f) (file_at directory f)
+
+-- A branch's changes of a file were restored: its keys have their earliest before images again, and all others what they had.
+pub record IsRestored (a : List (List ℕ)) (h : FileHead) (cs : List Change) (b : List (List ℕ)) (new : FileHead) : Type 0 where
+  pub same : SameFile h new
+  pub form : any.IsFile new
+  pub laid : IsLaidOut new b
+  pub map : map_of new b ≡ with_before_images cs (map_of h a)
+  pub layout : layout_of new b ≡ layout_restored cs (layout_of h a)
+
+abbrev pub IsPlaceRestored : Id → List (List ℕ) → Option FileHead → Option File → List (List ℕ) → Option FileHead → Type 0
+IsPlaceRestored serial a (Some h) (Some file) b (Some new) = IsRestored a h (changes_by serial file.history.live) b new
+IsPlaceRestored serial a None None b None = Unit {0}
+IsPlaceRestored serial a h file b new = ⊥
+
+-- so in each file
+pub record AreRestored (serial : Id) (a : List (List ℕ)) (heads : List (Option FileHead)) (directory : List (Option File)) (b : List (List ℕ)) (new : List (Option FileHead)) : Type 0 where
+  pub long : length new ≡ length heads
+  pub each : (f : ℕ) → IsPlaceRestored serial a (head_at heads f) (file_at directory f) b (head_at new f)
+
+-- A group of an undo was applied to a file: each key that an unsettled branch changed has one of the images of its changes, all others have what they had,
+-- slots and rooms stay, and what is not restored yet can be.
+pub record IsGrouped (a : List (List ℕ)) (h : FileHead) (ls : List LiveChanges) (b : List (List ℕ)) (new : FileHead) : Type 0 where
+  pub same : SameFile h new
+  pub form : any.IsFile new
+  pub laid : IsLaidOut new b
+  pub group : IsUndoGroup ls (map_of h a) (map_of new b)
+  pub layout : AlikeBare (layout_of new b) (layout_of h a)
+  pub can : CanRestore new b ls
+
+abbrev pub IsPlaceGrouped : List (List ℕ) → Option FileHead → Option File → List (List ℕ) → Option FileHead → Type 0
+IsPlaceGrouped a (Some h) (Some file) b (Some new) = IsGrouped a h file.history.live b new
+IsPlaceGrouped a None None b None = Unit {0}
+IsPlaceGrouped a h file b new = ⊥
+
+pub record AreGrouped (a : List (List ℕ)) (heads : List (Option FileHead)) (directory : List (Option File)) (b : List (List ℕ)) (new : List (Option FileHead)) : Type 0 where
+  pub long : length new ≡ length heads
+  pub each : (f : ℕ) → IsPlaceGrouped a (head_at heads f) (file_at directory f) b (head_at new f)

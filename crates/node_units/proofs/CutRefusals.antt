@@ -1,0 +1,246 @@
+-- What refuses a truncation for a unit, and for the branch that the unit is.
+use Rattle.std.proofs.Common.{◌≡◌, ℕ, ◌+◌, ◌-◌, ◌≤◌, ◌++◌, List, [], ◌∷◌, Bool, true, false, not, Option, Some, None, if◌then◌else◌, length, map, drop, reverse, refl, sym, ◌∙◌, ap, arith, inl, inr, append-nil}
+use Rattle.std.proofs.lemmas.Bool.Decides.{nat_tests}
+use Rattle.std.proofs.lemmas.List.{reverse-append}
+use Rattle.std.specs.Prelude.{◌==◌, nat_le, nat_lt, option_map}
+use Rattle.std.specs.List.{AllByRecursion}
+use Rattle.std.specs.FinMap.{entries_sorted, get}
+use Rattle.commit_protocol.specs.Table.{Branch}
+use Rattle.file_base.specs.declared.head.FileHead.{FileHead}
+use Rattle.file_base.specs.declared.head.Organization.TheVariants as kept_by
+use Rattle.transcript_model.specs.Lines as line
+use Rattle.transcript_model.specs.Lines.{Line}
+use Rattle.vms_model.specs.Ids.{Id}
+use Rattle.vms_model.specs.Keys.{Key, End}
+use Rattle.volume.specs.State.{VolumeState}
+use Rattle.change_set.specs.Maps.{Map}
+use Rattle.records_model.specs.Records.{Change, Records}
+use Rattle.records_model.specs.History.{current}
+use Rattle.record_files.specs.Any.{map_of}
+use Rattle.record_operations.specs.Causes.{Cause, Changes, JournalFull, NotMarked, RecordNotFound, cause_if, first_cause}
+use Rattle.record_operations.specs.Forms as form
+use Rattle.record_operations.specs.declared.ops.RecordOp.TheVariants as op
+use Rattle.unit_journal.specs.Room as room
+use Rattle.unit_laws.specs.Journal as journal
+use Rattle.unit_laws.specs.Journal.{ChangeEntry, entries_for, entries_size, find_unit, units_in}
+use Rattle.unit_laws.proofs.TrimLemmas.{size_append}
+use Rattle.unit_table.specs.Places.{AreInOrder}
+use Rattle.unit_table.specs.Units.{OpenUnit, unit_at}
+use Rattle.run_model.specs.Answers as answers
+use Rattle.run_model.specs.Answers.{change_limit, found_refused, free_journal, is_marked, journal_full, journal_need, keys_refused, more_changes, more_locks}
+use Rattle.run_model.specs.Operations.{changes_of, data_refused, file_full, first_of, form_refused, free_buckets, in_order, keys_asked, keys_held, refused_if, removed}
+use Rattle.run_model.specs.World.{File, Node, find_branch, find_file}
+use Rattle.run_model.proofs.FoundLemmas.{all_got, dropped, sorted_in}
+use Rattle.script_model.specs.Statements.{Operation, Truncate}
+use Rattle.directory_model.specs.Files.{IsFile, head_at}
+use Rattle.recovery_units.specs.Calls.{cause_line, unit_early, unit_late}
+use Rattle.recovery_units.specs.State.{IsKept, branch_of}
+use Rattle.recovery_units.proofs.FormLemmas.{forms, line_if, lines_first}
+use Rattle.rms_units.specs.Calls as rms
+use Rattle.rms_units.specs.Changing as changing
+use Rattle.rms_units.specs.State as state
+use Rattle.rms_units.specs.State.{IsInOrder}
+use Rattle.rms_units.specs.Truncating.{CutRefused, cut_asked, cut_early, entry_sizes, keys_cut, number_refused, removed_from}
+use Rattle.node_units.specs.Seen.{seen}
+use Rattle.node_units.proofs.AskedCut.{data_alike, keys_alike, many_alike}
+use Rattle.node_units.proofs.Holding.{once_of}
+use Rattle.node_units.proofs.KeyRefusals.{entry_sized, first_end, owed_first_is}
+use Rattle.node_units.proofs.Locking.{AreOnce}
+use Rattle.node_units.proofs.Looking.{first_again, first_some}
+use Rattle.node_units.proofs.ReadLemmas.{asked_file, below_none, first_none, line_none}
+use Rattle.node_units.proofs.Refusing.{locks_alike, marked_alike, more_alike}
+use Rattle.node_units.proofs.UnitCounts.{branch_is, counted, free_is, is_there}
+
+abbrev pub Entries : Type 0
+Entries = List (Key × List ℕ)
+
+-- The bytes of the entries.
+
+sizes_more : (m : Map) (ks : List Key) (k : Key) → entry_sizes m (ks ++ k ∷ []) ≡ entry_sizes m ks + room.entry_size k (m k)
+sizes_more m [] k = omega arith
+sizes_more m (q ∷ ks) k = let rest = sizes_more m ks k in omega (arith, rest)
+
+sizes_alike : (tid serial : Id) (name : List ℕ) (m : Map) (es : Entries) → AllByRecursion (λ (e : Key × List ℕ). m e.0 ≡ Some e.1) es → entries_size (entries_for tid serial name (map removed es)) ≡ entry_sizes m (reverse (map (λ e. e.0) es))
+sizes_alike tid serial name m [] all = refl
+sizes_alike tid serial name m (e ∷ es) all =
+    let rest = sizes_alike tid serial name m es all.1 in
+    let more = size_append (entries_for tid serial name (map removed es)) (ChangeEntry tid serial name e.0 (Some e.1) ∷ []) in
+    let one : journal.entry_size (ChangeEntry tid serial name e.0 (Some e.1)) ≡ room.entry_size e.0 (m e.0) = entry_sized tid serial name e.0 (Some e.1) ∙ ap (room.entry_size e.0) (sym all.0) in
+    let back : entry_sizes m (reverse (map (λ e. e.0) (e ∷ es))) ≡ entry_sizes m (reverse (map (λ e. e.0) es)) + room.entry_size e.0 (m e.0) =
+    ap (entry_sizes m) (reverse-append (e.0 ∷ []) (map (λ e. e.0) es)) ∙ sizes_more m (reverse (map (λ e. e.0) es)) e.0 in
+    omega (arith, rest, more, one, back)
+
+all_told : (m : Map) (r : Records) (es : Entries) → ((k : Key) → get r k ≡ m k) → AllByRecursion (λ (e : Key × List ℕ). get r e.0 ≡ Some e.1) es → AllByRecursion (λ (e : Key × List ℕ). m e.0 ≡ Some e.1) es
+all_told m r [] same all = tt
+all_told m r (e ∷ es) same all = (sym (same e.0) ∙ all.0, all_told m r es same all.1)
+
+pub some_position : (count from : ℕ) → (removed_from count from == 0) ≡ false → (1 ≤ from) × (1 ≤ removed_from count from)
+some_position count from some = grind (arith, nat_tests)
+
+at_least : (from : ℕ) → 1 ≤ from → nat_le 1 from ≡ true
+at_least from one = grind (arith, nat_tests)
+
+pub none_if : (t : Bool) (c : Cause) → cause_if t c ≡ None → t ≡ false
+none_if true c none = let never : ⊥ = cc in absurd never
+none_if false c none = refl
+
+again : (a b c : Option Cause) → first_cause a (first_cause b c) ≡ first_cause (first_cause a b) c
+again None b c = refl
+again (Some x) b c = refl
+
+module _ (s : state.UnitsState) (v : VolumeState) (order : IsInOrder s v) (at : AreInOrder s.units.places s.units.order) (place : ℕ) (u : OpenUnit) (at_place : unit_at s.units.places place ≡ Some u) (n : Node) (file : File) (b : Branch) (h : FileHead)
+    (kept : IsKept (seen s) v n) (f from : ℕ) (there : head_at v.catalog.heads f ≡ Some h) (found : find_file h.name n.durable.directory ≡ Some file) (found_b : find_branch u.serial n.volatile.branches ≡ Some b) (allowed : rms.change_early h (op.Truncate f from) [] ≡ None) where
+  abbrev said : Operation
+  said = Truncate from
+
+  abbrev count : ℕ
+  count = removed_from h.count from
+
+  abbrev keys : List Key
+  keys = cut_asked h from
+
+  once : AreOnce v.catalog.heads
+  once = once_of v.catalog.home.node v.store.disk.size v.catalog order.sound order.heads
+
+  pub cut_file : IsFile kept.content h file
+  cut_file = asked_file kept.content v.catalog.heads n f h file kept.has.files kept.has.units there found
+
+  pub cut_own : b ≡ branch_of u
+  cut_own = branch_is s v order at n kept place u at_place b found_b
+
+  parts : (form.truncate_refused h ≡ None) × (cause_if (not h.marks.ru) NotMarked ≡ None)
+  parts = first_none (form.truncate_refused h) (cause_if (not h.marks.ru) NotMarked) allowed
+
+  pub cut_kind : h.organization ≡ kept_by.Sequential
+  cut_kind = sequential h.organization parts.0
+    where
+      sequential : (o : _) → form.truncate_refused_by o ≡ None → o ≡ kept_by.Sequential
+      sequential kept_by.Sequential none = refl
+      sequential kept_by.Relative none = let never : ⊥ = cc in absurd never
+      sequential kept_by.Indexed none = let never : ⊥ = cc in absurd never
+
+  form_none : form_refused file said ≡ None
+  form_none = line_none (form.truncate_refused h) (form_refused file said) (forms.changes h file (op.Truncate f from) [] cut_file.head tt) parts.0
+
+  mark_none : is_marked file ≡ None
+  mark_none = line_none (cause_if (not h.marks.ru) NotMarked) (is_marked file) (marked_alike h file cut_file.head) parts.1
+
+  abbrev L : Option Line
+  L = keys_refused n (Some b.key.serial) h.name (keys_asked file said)
+
+  locks_are : option_map cause_line (changing.locks_refuse (Some u.serial) f keys s.locks) ≡ L
+  locks_are =
+      locks_alike v.catalog.heads once f h there n s.locks kept.locks (Some u.serial) keys
+      ∙ (λ i. keys_refused n (Some (sym cut_own i).key.serial) h.name (sym (keys_alike kept.content h file cut_file cut_kind from) i))
+
+  early_is : unit_early n b h.name file said ≡ L
+  early_is = λ i. first_of (form_none i) (first_of (mark_none i) L)
+
+  -- Late refusals.
+
+  abbrev Data : Option Cause
+  Data = cause_if (count == 0) RecordNotFound
+
+  abbrev Many : Option Cause
+  Many = cause_if (nat_lt 1024 (length u.positions + count)) Changes
+
+  abbrev Held : Option Cause
+  Held = changing.keys_refused f keys s.locks
+
+  abbrev Room : Option Cause
+  Room = room.journal_refused v.catalog.ru s.units.places u (entry_sizes (map_of h kept.content) (keys_cut h from))
+
+  abbrev cs : List Change
+  cs = changes_of file said
+
+  data_is : option_map cause_line Data ≡ found_refused n (Some b.key.serial) h.name said file
+  data_is = data_alike kept.content h file cut_file cut_kind from ∙ sym (first_end (data_refused file said))
+
+  many_is : 1 ≤ from → option_map cause_line Many ≡ more_changes n cs b
+  many_is one =
+      line_if (nat_lt 1024 (length u.positions + count)) Changes
+      ∙ (λ i. refused_if (nat_lt change_limit (sym (counted s v order at n kept place u at_place) i + sym (many_alike kept.content h file cut_file cut_kind from one) i)) (line.QuotaExceeded line.Changes change_limit))
+      ∙ (λ i. more_changes n cs (sym cut_own i))
+
+  held_is : option_map cause_line Held ≡ more_locks n h.name (keys_held file said)
+  held_is = more_alike v.catalog.heads once f h there n s.locks kept.locks keys ∙ ap (more_locks n h.name) (sym (append-nil (keys_asked file said) ∙ keys_alike kept.content h file cut_file cut_kind from))
+
+  full_is : file_full file said ≡ None
+  full_is = ap (λ (t : Bool). refused_if t (line.FileFull (free_buckets file) 0)) (below_none (free_buckets file))
+
+  pub each_told : AllByRecursion (λ (e : Key × List ℕ). map_of h kept.content e.0 ≡ Some e.1) (drop (from - 1) (in_order file))
+  each_told = all_told (map_of h kept.content) (current file.history) (drop (from - 1) (in_order file)) cut_file.records
+      (dropped (λ e. get (current file.history) e.0 ≡ Some e.1) (from - 1) (in_order file) (all_got (current file.history) (in_order file) (sorted_in (in_order file) (entries_sorted (current file.history)))))
+
+  pub behind_end : 1 ≤ from → keys_cut h from ≡ reverse (map (λ e. e.0) (drop (from - 1) (in_order file)))
+  behind_end one = tail_same (sym (keys_alike kept.content h file cut_file cut_kind from) ∙ ap (λ (t : Bool). End ∷ (if t then reverse (map (λ e. e.0) (drop (from - 1) (in_order file))) else [])) (at_least from one))
+    where
+      tail_same : {xs ys : List Key} → ◌≡◌ {A = List Key} (End ∷ xs) (End ∷ ys) → xs ≡ ys
+      tail_same e = cc
+
+  pub size_is : (tid serial : Id) (name : List ℕ) → 1 ≤ from → entries_size (entries_for tid serial name cs) ≡ entry_sizes (map_of h kept.content) (keys_cut h from)
+  size_is tid serial name one = sizes_alike tid serial name (map_of h kept.content) (drop (from - 1) (in_order file)) each_told ∙ ap (entry_sizes (map_of h kept.content)) (sym (behind_end one))
+
+  need_is : 1 ≤ from → 1 ≤ count → journal_need n b h.name cs ≡ room.bytes_wanted u (entry_sizes (map_of h kept.content) (keys_cut h from))
+  need_is one some = go cs refl
+    where
+      go : (ds : List Change) → cs ≡ ds → journal_need n b h.name ds ≡ room.bytes_wanted u (entry_sizes (map_of h kept.content) (keys_cut h from))
+      go [] is = let many = sym (many_alike kept.content h file cut_file cut_kind from one) ∙ ap length is in absurd (omega (arith, many, some))
+      go (c ∷ ds) is =
+          let bytes = ap (λ xs. entries_size (entries_for b.key.tid b.key.serial h.name xs)) (sym is) ∙ size_is b.key.tid b.key.serial h.name one in
+          let owing = ap (λ (x : Branch). answers.owed_first (find_unit x.key.serial (units_in n.durable.units.entries))) cut_own ∙ owed_first_is (find_unit u.serial (units_in n.durable.units.entries)) u.positions (is_there s v order at n kept place u at_place) in
+          omega (arith, bytes, owing)
+
+  room_is : 1 ≤ from → 1 ≤ count → option_map cause_line Room ≡ journal_full n h.name cs b
+  room_is one some =
+      let size = entry_sizes (map_of h kept.content) (keys_cut h from) in
+      line_if (nat_lt (room.free_bytes v.catalog.ru s.units.places) (room.bytes_wanted u size)) (JournalFull (room.free_bytes v.catalog.ru s.units.places) (room.bytes_wanted u size))
+      ∙ (λ i. let free = sym (free_is s v order at n kept) i in let need = sym (need_is one some) i in refused_if (nat_lt free need) (line.JournalFull free need))
+
+  pub cut_late : option_map cause_line (first_cause (number_refused (length u.positions) count) (first_cause Held Room)) ≡ unit_late n b h.name file said
+  cut_late = go (count == 0) refl
+    where
+      go : (t : Bool) → (count == 0) ≡ t → option_map cause_line (first_cause (first_cause Data Many) (first_cause Held Room)) ≡ unit_late n b h.name file said
+      go true is =
+          ap (λ (t : Bool). option_map cause_line (first_cause (first_cause (cause_if t RecordNotFound) Many) (first_cause Held Room))) is
+          ∙ sym (first_some (found_refused n (Some b.key.serial) h.name said file) (first_of (more_changes n cs b) (first_of (more_locks n h.name (keys_held file said)) (first_of (file_full file said) (journal_full n h.name cs b)))) line.RecordNotFound
+          (sym data_is ∙ ap (λ (t : Bool). option_map cause_line (cause_if t RecordNotFound)) is))
+      go false is =
+          let some = some_position h.count from is in
+          ap (λ (t : Bool). option_map cause_line (first_cause (first_cause (cause_if t RecordNotFound) Many) (first_cause Held Room))) is
+          ∙ lines_first Many _ ∙ (λ i. first_of (many_is some.0 i) ((lines_first Held Room ∙ (λ j. first_of (held_is j) (room_is some.0 some.1 j))) i))
+          ∙ sym (λ i. first_of ((sym data_is ∙ ap (λ (t : Bool). option_map cause_line (cause_if t RecordNotFound)) is) i) (first_of (more_changes n cs b) (first_of (more_locks n h.name (keys_held file said)) (first_of (full_is i) (journal_full n h.name cs b)))))
+
+  pub cut_begun : cut_early u f h from s.locks ≡ None → unit_early n b h.name file said ≡ None
+  cut_begun none = early_is ∙ line_none (changing.locks_refuse (Some u.serial) f keys s.locks) L locks_are (first_none (changing.locks_refuse (Some u.serial) f keys s.locks) _ none).0
+
+  pub cut_refused : (c : Cause) → CutRefused u f h from c s v → first_of (unit_early n b h.name file said) (unit_late n b h.name file said) ≡ Some (cause_line c)
+  cut_refused c (inl early) = go (changing.locks_refuse (Some u.serial) f keys s.locks) refl
+    where
+      go : (x : Option Cause) → changing.locks_refuse (Some u.serial) f keys s.locks ≡ x → first_of (unit_early n b h.name file said) (unit_late n b h.name file said) ≡ Some (cause_line c)
+      go (Some q) is =
+          let same : Some q ≡ Some c = ap (λ x. first_cause x (first_cause (number_refused (length u.positions) count) Held)) (sym is) ∙ early in
+          first_some (unit_early n b h.name file said) (unit_late n b h.name file said) (cause_line c) (early_is ∙ sym locks_are ∙ ap (option_map cause_line) (is ∙ same))
+      go None is =
+          let late : first_cause (number_refused (length u.positions) count) Held ≡ Some c = ap (λ x. first_cause x (first_cause (number_refused (length u.positions) count) Held)) (sym is) ∙ early in
+          (λ i. first_of ((early_is ∙ line_none (changing.locks_refuse (Some u.serial) f keys s.locks) L locks_are is) i) (unit_late n b h.name file said))
+          ∙ sym cut_late ∙ ap (option_map cause_line) (again (number_refused (length u.positions) count) Held Room ∙ ap (λ x. first_cause x Room) late)
+  cut_refused c (inr late) =
+      let parts_of = first_none (changing.locks_refuse (Some u.serial) f keys s.locks) _ late.0 in
+      (λ i. first_of (cut_begun late.0 i) (unit_late n b h.name file said)) ∙ sym cut_late
+      ∙ ap (option_map cause_line) (again (number_refused (length u.positions) count) Held Room ∙ ap (λ x. first_cause x Room) parts_of.1 ∙ late.1 kept.content kept.told cut_file.head.form cut_file.laid)
+
+-- a truncation is refused by its form, by the file's mark, or late
+pub cut_cause : (s : state.UnitsState) (v : VolumeState) → (order : IsInOrder s v) → AreInOrder s.units.places s.units.order → (place : ℕ) (u : OpenUnit) → unit_at s.units.places place ≡ Some u → (n : Node) (file : File) (b : Branch) (h : FileHead) → IsKept (seen s) v n →
+    (f from : ℕ) → head_at v.catalog.heads f ≡ Some h → find_file h.name n.durable.directory ≡ Some file → find_branch u.serial n.volatile.branches ≡ Some b → (c : Cause) → rms.ChangeRefused u h (op.Truncate f from) [] c s v →
+    first_of (unit_early n b h.name file (Truncate from)) (unit_late n b h.name file (Truncate from)) ≡ Some (cause_line c)
+cut_cause s v order at place u at_place n file b h kept f from there found found_b c (inl early) =
+    let is = asked_file kept.content v.catalog.heads n f h file kept.has.files kept.has.units there found in
+    let form_is = forms.changes h file (op.Truncate f from) [] is.head tt in
+    let mark_is = marked_alike h file is.head in
+    let k : first_of (form_refused file (Truncate from)) (is_marked file) ≡ Some (cause_line c) =
+    (λ i. first_of (sym form_is i) (sym mark_is i)) ∙ sym (lines_first (form.truncate_refused h) (cause_if (not h.marks.ru) NotMarked)) ∙ ap (option_map cause_line) early in
+    let rest = keys_refused n (Some b.key.serial) h.name (keys_asked file (Truncate from)) in
+    first_some (unit_early n b h.name file (Truncate from)) (unit_late n b h.name file (Truncate from)) (cause_line c)
+    (first_again (form_refused file (Truncate from)) (is_marked file) rest ∙ first_some (first_of (form_refused file (Truncate from)) (is_marked file)) rest (cause_line c) k)
+cut_cause s v order at place u at_place n file b h kept f from there found found_b c (inr late) = cut_refused s v order at place u at_place n file b h kept f from there found found_b late.allowed c (late.cut f from refl)

@@ -1,0 +1,290 @@
+-- Changes that are committed at once are made of a node's volume.
+use Rattle.std.proofs.Common.{◌≡◌, ℕ, ◌+◌, ◌≤◌, ◌^◌, List, [], ◌∷◌, ◌++◌, Bool, true, false, Option, Some, None, map, nat_le, refl, sym, ◌∙◌, ap, subst, arith, append-nil, if◌then◌else◌}
+use Rattle.std.specs.Prelude.{is_some, option_map, unwrap_or}
+use Rattle.std.specs.List.{AllByRecursion}
+use Rattle.std.proofs.lemmas.Bool.{both_ways, leb-false}
+use Rattle.careful_write.specs.State.{EachWhole}
+use Rattle.file_base.specs.declared.head.FileHead.{FileHead}
+use Rattle.file_base.specs.declared.head.Span.{Span}
+use Rattle.vms_model.specs.Ids.{Id, IsId}
+use Rattle.vms_model.specs.Transactions.{Commit}
+use Rattle.vms_base.specs.Ids.{tid_of}
+use Rattle.vms_base.specs.declared.ids.Tid.{Tid}
+use Rattle.volume.specs.declared.catalog.Catalog.{Catalog}
+use Rattle.volume.specs.Catalogs.{IsSound, TellsCatalog}
+use Rattle.volume.specs.State.{VolumeState}
+use Rattle.volume_files.specs.Staging.{StagesFile}
+use Rattle.volume_format.specs.declared.home.Ending.TheVariants as ending
+use Rattle.journal_model.specs.Entries.{Entry}
+use Rattle.journal_model.specs.Ring.{IsJournal}
+use Rattle.records_model.specs.History.{LiveChanges, changes_by, same_id}
+use Rattle.records_model.specs.Records.{Change}
+use Rattle.unit_laws.specs.Journal.{Journal, JournalEntry, RecoveryUnit, SettledEntry, end_of, find_unit, is_settled_in, serial_in, trimmed, units_in, with_entries, with_settled}
+use Rattle.unit_laws.specs.JournalLaws.{is_unit}
+use Rattle.unit_laws.proofs.TrimLemmas.{trim_keeps_units, trimmed_begins}
+use Rattle.unit_table.specs.Units.{OpenUnit, earliest}
+use Rattle.unit_journal.specs.Settling.{MakesSettlement, entry_if}
+use Rattle.unit_journal.specs.Settling as settling
+use Rattle.unit_journal.specs.Entries.{settled_entry}
+use Rattle.run_model.specs.Answers.{commit_settlement}
+use Rattle.run_model.specs.Locks.{is_locked}
+use Rattle.run_model.specs.Ordered.{tid_in}
+use Rattle.run_model.specs.Restarts.{AllNoted}
+use Rattle.run_model.specs.Running.{Each, HasBranches, IsDrawn}
+use Rattle.commit_protocol.specs.Table.{Branch}
+use Rattle.run_model.specs.World.{Act, AreUnitsOf, IsUnprepared, Directs, File, Node, Settlement, acted, directly_changed, fallen, next_id, next_moment, serials_of}
+use Rattle.run_model.proofs.HeldLemmas.{noted_at}
+use Rattle.run_model.proofs.DirectLemmas.{live_same, none_of}
+use Rattle.run_model.proofs.HoldingLemmas.{directed_holding}
+use Rattle.run_model.proofs.IdLemmas.{each_as}
+use Rattle.run_model.proofs.KeptLemmas.{all_noted}
+use Rattle.run_model.proofs.NodeLemmas.{drawn_next, drawn_other}
+use Rattle.run_model.proofs.NotedLemmas.{all_trimmed}
+use Rattle.run_model.proofs.OrderedLemmas.{directs_keep_order}
+use Rattle.run_model.proofs.RunningLemmas.{directed_running}
+use Rattle.directory_model.specs.Files.{AreFiles, IsFoundAt, IsNamed, file_at, head_at}
+use Rattle.directory_model.specs.Laws.{IsChanged}
+use Rattle.directory_model.specs.Restoring.{AreRestorable}
+use Rattle.directory_model.proofs.Acts.{keeps_files}
+use Rattle.directory_model.proofs.Places.{within_list}
+use Rattle.directory_model.proofs.Standing.{stands_on_extents}
+use Rattle.restart_laws.proofs.ListLemmas.{both_as}
+use Rattle.restart_laws.proofs.StayLemmas.{keeps_restorable}
+use Rattle.restart_laws.proofs.UnitLemmas.{keeps_units}
+use Rattle.volume_format.specs.declared.home.Home.{Home}
+use Rattle.volume_model.specs.Entries.{entry_for}
+use Rattle.volume_model.specs.Laws.{KeepsNames}
+use Rattle.volume_model.specs.Volumes.{HasVolume, IsLeftBy}
+use Rattle.volume_laws.specs.Journals.{settled_entries}
+use Rattle.volume_laws.proofs.FollowLemmas.{follow}
+use Rattle.volume_laws.proofs.WholeLemmas.{volume_falls}
+use Rattle.settlement_laws.specs.Settled.{IsSettled, Makes}
+use Rattle.settlement_laws.proofs.MadeLemmas.{settlements_are_made}
+use Rattle.recovery_units.specs.State.{IsKept, IsUnitOf, UnitsState, branch_of, changed_at}
+use Rattle.unit_world.proofs.Found.{not_unit}
+use Rattle.unit_world.proofs.Leaving.{down}
+use Rattle.unit_world.proofs.Staying.{changed_set, locks_stay}
+use Rattle.node_units.proofs.Earliest.{earliest_in, first_is}
+use Rattle.node_units.proofs.Positions.{positions_trimmed}
+use Rattle.node_units.proofs.Settling.{each_units}
+use Rattle.node_units.proofs.SettingFile.{IsOfNode, KeepsRest, keeps_rest}
+
+-- A branch that is no unit has no entry, and the journal is trimmed alone.
+no_entries : (s : Settlement) (j : Journal) → is_unit s.serial j ≡ false → settled_entries s j ≡ []
+no_entries s j none = go (find_unit s.serial (units_in j.entries)) none
+  where
+    go : (o : Option RecoveryUnit) → is_some o ≡ false → elim o as (λ _. List Entry) [ Some u ↦ entry_for 0 (SettledEntry s.tid s.serial s.outcome s.moment) ∷ [] | None ↦ [] ] ≡ []
+    go None is = refl
+    go (Some u) is = let never : ⊥ = cc in absurd never
+
+trimmed_alone : (s : Settlement) (j : Journal) → is_unit s.serial j ≡ false → with_settled s.tid s.serial s.outcome s.moment j ≡ trimmed j
+trimmed_alone s j none = go (find_unit s.serial (units_in j.entries)) none
+  where
+    go : (o : Option RecoveryUnit) → is_some o ≡ false → trimmed (elim o as (λ _. Journal) [ Some u ↦ with_entries (SettledEntry s.tid s.serial s.outcome s.moment ∷ []) j | None ↦ j ]) ≡ trimmed j
+    go None is = refl
+    go (Some u) is = let never : ⊥ = cc in absurd never
+
+-- Moments.
+moment_later : (clock greatest : ℕ) → greatest ≤ (if nat_le clock (greatest + 1) then greatest + 1 else clock)
+moment_later clock greatest = go (nat_le clock (greatest + 1)) refl
+  where
+    go : (b : Bool) → nat_le clock (greatest + 1) ≡ b → greatest ≤ (if b then greatest + 1 else clock)
+    go true is = omega arith
+    go false is = let more = leb-false clock (greatest + 1) is in omega (arith, more)
+
+-- the next moment of a node, by the home that it has
+pub moment_of : (n : Node) (clock : ℕ) (h : Home) → n.clock ≡ clock → n.durable.greatest ≡ h.greatest_moment.0 → next_moment n ≡ settling.next_moment clock h
+moment_of n clock h ticks greatest = λ i. if nat_le (ticks i) (greatest i + 1) then greatest i + 1 else ticks i
+
+-- What a change that is committed at once makes of a node.
+
+-- the settlement of the branch that is drawn next
+abbrev pub own_settlement : Node → Settlement
+own_settlement n = commit_settlement n (next_id n) (next_id n)
+
+-- A file that no unsettled branch changed is changed in what is staged of a node's volume, and that is committed at this clock as the branch that is drawn next; the
+-- journal begins with the earliest change of a unit.
+pub record DirectsFile (n : Node) (f : ℕ) (h : FileHead) (name : List ℕ) (file : File) (tid : Tid) (clock : ℕ) (cs : List Change) (left : List (Option OpenUnit)) (a b : List (List ℕ)) (v mid made : VolumeState) (new : FileHead) : Type 0 where
+  pub named : IsNamed v.catalog.heads f h name
+  pub at : IsFoundAt name n.durable.directory f file
+  pub live : file.history.live ≡ []
+  pub stages : StagesFile f h 65 v mid new
+  pub now : mid.store.current ≡ Some b
+  pub whole : EachWhole b
+  pub changed : IsChanged (is_locked n.volatile.locks name) cs a h b new
+  pub makes : MakesSettlement tid (record { 0 = tid.0 }) ending.Commit (settling.next_moment clock v.catalog.home) None left mid made
+  pub own : tid_of tid ≡ next_id n
+  pub is_id : IsId (tid_of tid)
+  pub ticks : n.clock ≡ clock
+  pub early : settling.next_moment clock v.catalog.home ≤ 24113056319999
+  pub begins : unwrap_or (earliest left) v.catalog.ru.end ≡ (trimmed n.durable.units).first
+
+-- What the changes make of the node's branches: nothing of those that it has.
+module _ (n : Node) (f : ℕ) (name : List ℕ) (file : File) (c : Change) (more : List Change) (are : AreUnitsOf n) (holds : HasBranches n) (at : IsFoundAt name n.durable.directory f file) where
+  abbrev own_st : Settlement
+  own_st = own_settlement n
+
+  abbrev own_node : Node
+  own_node = acted (Directs name (c ∷ more) own_st) n
+
+  pub fresh : is_unit (next_id n) n.durable.units ≡ false
+  fresh = not_unit n (next_id n) holds (each_as (IsDrawn n.name n.durable.boot n.volatile.drawn) (λ (y : Id). same_id y (next_id n) ≡ false) (serials_of n.volatile.branches) (λ y k. drawn_other n y k) holds.drawn)
+
+  noted : AllNoted n.durable.units n.durable.directory
+  noted = all_noted n.durable.units n.durable.directory (λ place g there. (are.tells place g there).notes)
+
+  pub branches_made : HasBranches own_node
+  branches_made = record {
+    running = directed_running name c more own_st n fresh refl noted holds.running;
+    holding = directed_holding name c more own_st n fresh refl noted holds.holding;
+    drawn = each_as (IsDrawn n.name n.durable.boot n.volatile.drawn) (IsDrawn n.name n.durable.boot (n.volatile.drawn + 1)) (serials_of n.volatile.branches) (λ y k. drawn_next n.name n.durable.boot n.volatile.drawn y k) holds.drawn;
+    different = holds.different;
+  }
+
+  -- no unsettled branch changed more
+  changed_still : (x : Id) (g : ℕ) → changed_at x (file_at own_node.durable.directory g) ≡ changed_at x (file_at n.durable.directory g)
+  changed_still x g =
+      let change = directly_changed (is_locked n.volatile.locks name) own_st (c ∷ more) in
+      let same = live_same own_st.serial c more own_st.moment file.history (none_of n.durable.units own_st.serial file.history.live fresh (noted_at n.durable.units name n.durable.directory file noted at.found).units) in
+      ap (λ (fs : List (Option File)). changed_at x (file_at fs g)) (at.changed change)
+      ∙ changed_set n.durable.directory f (change file) x (within_list n.durable.directory f file at.there) (ap (λ (ls : List LiveChanges). elim (changes_by x ls) [ [] ↦ false | e ∷ es ↦ true ]) same ∙ sym (ap (changed_at x) at.there)) g
+
+  unit_still : (u : OpenUnit) → IsUnitOf n u → is_settled_in u.serial n.durable.units.entries ≡ false → IsUnitOf own_node u
+  unit_still u k open_still = record {
+    positions = k.positions ∙ sym (positions_trimmed u.serial n.durable.units open_still);
+    files = λ g. changed_still u.serial g ∙ k.files g;
+    transaction = all_trimmed (λ (e : JournalEntry). same_id u.serial (serial_in e) ≡ true → u.tid ≡ tid_in e) n.durable.units k.transaction;
+  }
+
+  pub units_made : (us : List OpenUnit) → n.volatile.branches ≡ map branch_of us → AllByRecursion (IsUnitOf n) us → AllByRecursion (IsUnitOf own_node) us
+  units_made us branches each = both_as (IsUnitOf n) (λ (u : OpenUnit). is_settled_in u.serial n.durable.units.entries ≡ false) (IsUnitOf own_node) us unit_still each
+      (each_units (λ (x : Id). is_settled_in x n.durable.units.entries ≡ false) us (subst (λ (bs : List Branch). Each (λ (x : Id). is_settled_in x n.durable.units.entries ≡ false) (serials_of bs)) branches holds.running.unsettled))
+
+  -- the journal begins with the earliest change of the units
+  pub begins_made : (us : List OpenUnit) → n.volatile.branches ≡ map branch_of us → AllByRecursion (IsUnitOf n) us → unwrap_or (earliest_in us) (end_of n.durable.units) ≡ (trimmed n.durable.units).first
+  begins_made us branches each =
+      ap (unwrap_or (earliest_in us)) (sym (trim_keeps_units n.durable.units).end)
+      ∙ first_is own_node us branches branches_made.running (units_made us branches each) (trimmed_begins (units_in n.durable.units.entries) n.durable.units.entries refl)
+
+module _ (n : Node) (f : ℕ) (h : FileHead) (name : List ℕ) (file : File) (tid : Tid) (clock : ℕ) (c : Change) (more : List Change) (left : List (Option OpenUnit)) (a b : List (List ℕ)) (v mid made : VolumeState) (new : FileHead) (has : HasVolume a v.catalog n)
+    (holds : HasBranches n) (is : IsOfNode n a v) (d : DirectsFile n f h name file tid clock (c ∷ more) left a b v mid made new) (content : List (List ℕ)) (told : made.store.current ≡ Some content) where
+  abbrev st : Settlement
+  st = own_settlement n
+
+  abbrev cs : List Change
+  cs = c ∷ more
+
+  abbrev m : Node
+  m = acted (Directs name cs st) n
+
+  fresh_here : is_unit (next_id n) n.durable.units ≡ false
+  fresh_here = fresh n f name file c more has.units holds d.at
+
+  rest : KeepsRest n f new a b v mid
+  rest = keeps_rest n f 65 h new a b v mid is d.named.there d.stages d.now d.whole
+
+  moment_is : next_moment n ≡ settling.next_moment clock v.catalog.home
+  moment_is = moment_of n clock v.catalog.home d.ticks has.home.greatest
+
+  home_same : mid.catalog.home ≡ v.catalog.home
+  home_same = ap (λ (k : Catalog). k.home) d.stages.catalog
+
+  end_same : made.catalog.ru.end ≡ mid.catalog.ru.end
+  end_same = ap (λ (k : Catalog). k.ru.end) d.makes.catalog
+
+  first_made : made.catalog.ru.first ≡ (trimmed n.durable.units).first
+  first_made = ap (λ (k : Catalog). k.ru.first) d.makes.catalog ∙ ap (λ (s : Span). unwrap_or (earliest left) s.end) rest.ring ∙ d.begins
+
+  makes : Makes n st tid (record { 0 = tid.0 }) ending.Commit left mid made
+  makes =
+      let entry = settled_entry (next_id n) (next_id n) Commit (next_moment n) in
+      record {
+        settlement = λ i. record { tid = sym d.own i; serial = sym d.own i; outcome = Commit; reason = None; moment = next_moment n };
+        makes = subst (λ (x : ℕ). MakesSettlement tid (record { 0 = tid.0 }) ending.Commit x (entry_if (is_unit (next_id n) n.durable.units) entry) left mid made) (sym moment_is)
+            (subst (λ (o : Option Entry). MakesSettlement tid (record { 0 = tid.0 }) ending.Commit (settling.next_moment clock v.catalog.home) o left mid made) (sym (ap (λ (t : Bool). entry_if t entry) fresh_here)) d.makes);
+        is_tid = subst IsId d.own d.is_id;
+        is_serial = subst IsId d.own d.is_id;
+        later = subst (λ (x : ℕ). x ≤ next_moment n) (has.home.greatest ∙ ap (λ (k : Home). k.greatest_moment.0) (sym home_same)) (moment_later n.clock n.durable.greatest);
+        early = subst (λ (x : ℕ). x ≤ 24113056319999) (sym moment_is) d.early;
+        room = λ unit. absurd (both_ways _ fresh_here unit);
+        first = first_made ∙ ap (λ (j : Journal). j.first) (sym (trimmed_alone st n.durable.units fresh_here));
+        low = subst (λ (x : ℕ). x ≤ 2 ^ 62) (sym (end_same ∙ ap (λ (s : Span). s.end) rest.ring)) has.journal.low;
+      }
+
+  settled : IsSettled n st rest.journal.entries b content mid.catalog made.catalog × TellsCatalog made.catalog content × IsSound n.name n.blocks made.catalog
+  settled = settlements_are_made b content n st tid (record { 0 = tid.0 }) ending.Commit left mid made n.name n.blocks d.now told rest.tells rest.sound rest.long rest.home rest.journal makes
+
+  pub tells_made : TellsCatalog made.catalog content
+  tells_made = settled.1
+
+  pub sound_made : IsSound n.name n.blocks made.catalog
+  sound_made = settled.2
+
+  names_then : KeepsNames mid.catalog.heads made.catalog.heads
+  names_then g k at = (k, ap (λ hs. head_at hs g) settled.0.heads ∙ at, refl)
+
+  pub names_made : KeepsNames v.catalog.heads made.catalog.heads
+  names_made g k at = let x = rest.names g k at in (x.0, ap (λ hs. head_at hs g) settled.0.heads ∙ x.1, x.2)
+
+  entered : IsJournal content (record made.catalog.ru { first = mid.catalog.ru.first }) rest.journal.entries
+  entered = subst (λ (es : List Entry). IsJournal content (record made.catalog.ru { first = mid.catalog.ru.first }) es)
+      (ap (λ (es : List Entry). rest.journal.entries ++ es) (no_entries st n.durable.units fresh_here) ∙ append-nil rest.journal.entries) settled.0.entered
+
+  files_mid : AreFiles b mid.catalog.heads m.durable.directory
+  files_mid = subst (λ (hs : List (Option FileHead)). AreFiles b hs m.durable.directory) (sym rest.heads)
+      (keeps_files.directs a b v.catalog.heads n f h new name file cs st has.files refl d.named d.at.there d.live d.changed rest.others)
+
+  restorable_mid : AreRestorable b mid.catalog.heads m.durable.directory
+  restorable_mid = subst (λ (hs : List (Option FileHead)). AreRestorable b hs m.durable.directory) (sym rest.heads)
+      (keeps_restorable.directs a b v.catalog.heads n f h new name file cs st has.files refl d.named d.at.there d.live rest.others has.restorable)
+
+  pub volume_made : HasVolume content made.catalog m
+  volume_made = record {
+    home = record { volume = settled.0.home.volume; slots = settled.0.home.slots; journal = settled.0.home.journal; boot = settled.0.home.boot; greatest = settled.0.home.greatest; last = settled.0.home.last };
+    journal = follow.directs b content mid.catalog made.catalog n name cs st rest.journal names_then entered first_made end_same;
+    units = keeps_units.directs n name file cs st has.units refl d.at.found d.live;
+    order = directs_keep_order n.durable n.volatile.locks name cs st has.order (moment_later n.clock n.durable.greatest);
+    active = all_trimmed IsUnprepared n.durable.units has.active;
+    files = subst (λ (hs : List (Option FileHead)). AreFiles content hs m.durable.directory) (sym settled.0.heads) (stands_on_extents b content mid.catalog.heads m.durable.directory settled.0.files files_mid);
+    restorable = subst (λ (hs : List (Option FileHead)). AreRestorable content hs m.durable.directory) (sym settled.0.heads)
+        (keeps_restorable.stands b content mid.catalog.heads m.durable.directory settled.0.files files_mid restorable_mid);
+  }
+
+-- The node is kept.
+pub direct_kept : (s : UnitsState) (v : VolumeState) (n : Node) (f : ℕ) (h : FileHead) (name : List ℕ) (file : File) (tid : Tid) (clock : ℕ) (c : Change) (more : List Change) (left : List (Option OpenUnit)) (b : List (List ℕ)) (mid w : VolumeState) (new : FileHead)
+    (content : List (List ℕ)) (kept : IsKept s v n) → IsOfNode n kept.content v → DirectsFile n f h name file tid clock (c ∷ more) left kept.content b v mid w new → w.store.current ≡ Some content → w.store.disk.size ≡ v.store.disk.size →
+    IsKept s w (acted (Directs name (c ∷ more) (own_settlement n)) n)
+direct_kept s v n f h name file tid clock c more left b mid w new content kept is d told size = record {
+  content = content;
+  told = told;
+  name = kept.name ∙ ap (λ (k : Catalog). k.home.node) (sym d.stages.catalog) ∙ ap (λ (k : Catalog). k.home.node) (sym d.makes.catalog);
+  blocks = kept.blocks ∙ sym size;
+  has = volume_made n f h name file tid clock c more left kept.content b v mid w new kept.has kept.holds is d content told;
+  branches = kept.branches;
+  locks = locks_stay v.catalog.heads w.catalog.heads s.locks n.volatile.locks (names_made n f h name file tid clock c more left kept.content b v mid w new kept.has kept.holds is d content told) kept.locks;
+  holds = branches_made n f name file c more kept.has.units kept.holds d.at;
+  each = units_made n f name file c more kept.has.units kept.holds d.at s.begun kept.branches kept.each;
+}
+
+-- what the node leaves that fell meanwhile
+pub direct_left : (n : Node) (f : ℕ) (h : FileHead) (name : List ℕ) (file : File) (tid : Tid) (clock : ℕ) (c : Change) (more : List Change) (left : List (Option OpenUnit)) (a b : List (List ℕ)) (v mid made : VolumeState) (new : FileHead) → HasVolume a v.catalog n → HasBranches n →
+    IsOfNode n a v → DirectsFile n f h name file tid clock (c ∷ more) left a b v mid made new → (content : List (List ℕ)) → made.store.current ≡ Some content → (act : Option Act) →
+    IsLeftBy content (acted (Directs name (c ∷ more) (own_settlement n)) (fallen act n))
+direct_left n f h name file tid clock c more left a b v mid made new has holds is d content told act = record {
+  catalog = made.catalog;
+  tells = tells_made n f h name file tid clock c more left a b v mid made new has holds is d content told;
+  sound = sound_made n f h name file tid clock c more left a b v mid made new has holds is d content told;
+  leaves = λ whole. down content made.catalog (acted (Directs name (c ∷ more) (own_settlement n)) n) (acted (Directs name (c ∷ more) (own_settlement n)) (fallen act n))
+      (volume_falls content made.catalog (acted (Directs name (c ∷ more) (own_settlement n)) n) (volume_made n f h name file tid clock c more left a b v mid made new has holds is d content told)) refl refl refl;
+}
+
+-- what the volume tells that is made
+abbrev front_made : (tid : Tid) → (moment : ℕ) → (left : List (Option OpenUnit)) → Catalog → List (List ℕ) → List (List ℕ)
+front_made tid moment left k c =
+    settling.with_front (settling.settled_home tid (record { 0 = tid.0 }) ending.Commit moment k.home) (settling.from_earliest left (settling.span_with None k.ru)) (settling.content_with None k.ru c)
+
+pub direct_told : (n : Node) (f : ℕ) (h : FileHead) (name : List ℕ) (file : File) (tid : Tid) (clock : ℕ) (cs : List Change) (left : List (Option OpenUnit)) (a b : List (List ℕ)) (v mid made : VolumeState) (new : FileHead) →
+    DirectsFile n f h name file tid clock cs left a b v mid made new → (content : List (List ℕ)) × (made.store.current ≡ Some content)
+direct_told n f h name file tid clock cs left a b v mid made new d =
+    let moment = settling.next_moment clock v.catalog.home in
+    (front_made tid moment left mid.catalog b, d.makes.current ∙ ap (option_map (front_made tid moment left mid.catalog)) d.now)

@@ -1,0 +1,501 @@
+-- A unit changed a key: the volume is that of the node after the change, and so are the units.
+use Rattle.std.proofs.Common.{◌≡◌, ℕ, suc, ◌+◌, ◌-◌, ◌<◌, ◌≤◌, ◌^◌, List, [], ◌∷◌, ◌++◌, Bool, true, false, not, ◌||◌, Option, Some, None, IfSome, if◌then◌else◌, length, slice_set, refl, sym, ◌∙◌, ap, subst, arith, inl, inr, get_or-set_same}
+use Rattle.std.specs.Prelude.{is_some, is_none, nat_le, nat_lt, option_map, unwrap_or}
+use Rattle.std.specs.List.{AllByRecursion}
+use Rattle.std.proofs.lemmas.Bool.{ltb-false}
+use Rattle.std.proofs.lemmas.Bool.Decides.{nat_tests}
+use Rattle.commit_protocol.specs.Table.{Branch}
+use Rattle.file_base.specs.declared.head.FileHead.{FileHead}
+use Rattle.file_base.specs.declared.head.Organization.{Organization as Kept}
+use Rattle.file_base.specs.declared.head.Organization.TheVariants as kept_by
+use Rattle.file_base.specs.declared.head.Span.{Span}
+use Rattle.transcript_model.specs.Lines as line
+use Rattle.transcript_model.specs.Lines.{Line}
+use Rattle.vms_model.specs.Ids.{Id}
+use Rattle.vms_model.specs.Keys.{Key, Number, Text, End}
+use Rattle.volume.specs.declared.catalog.Catalog.{Catalog}
+use Rattle.volume.specs.Catalogs.{IsSound, TellsCatalog}
+use Rattle.volume.specs.State.{VolumeState}
+use Rattle.volume_files.specs.Staging.{SetsKey}
+use Rattle.change_set.specs.Files.{AgreesOn}
+use Rattle.volume_format.specs.Head as head_format
+use Rattle.volume.specs.Catalogs.{entry_of}
+use Rattle.volume_files.proofs.Places.{head_below}
+use Rattle.directory_model.proofs.Places.{within_list}
+use Rattle.journal_format.proofs.Decoding.{entry_size}
+use Rattle.journal_model.specs.Entries.{Entry, spelling}
+use Rattle.journal_model.specs.Ring.{IsJournal, ring_size}
+use Rattle.records_model.specs.Records.{Change}
+use Rattle.records_model.specs.History.{is_held}
+use Rattle.record_files.specs.Any.{Suits, Takes, map_of, room_at}
+use Rattle.record_locks.specs.Locks as table
+use Rattle.record_operations.specs.Asking.{file_in, is_of_key, written}
+use Rattle.record_operations.specs.Causes.{Cause, first_cause}
+use Rattle.record_operations.specs.Forms as form
+use Rattle.record_operations.specs.declared.ops.RecordOp.{RecordOp}
+use Rattle.record_operations.specs.declared.ops.RecordOp.TheVariants as op
+use Rattle.vms_base.specs.Keys.{key_of}
+use Rattle.unit_journal.specs.Entries as spelled
+use Rattle.unit_journal.specs.Room as room
+use Rattle.unit_journal.specs.Spans.{entered, longer}
+use Rattle.unit_laws.specs.Journal.{ChangeEntry, JournalEntry, end_of, entries_for, with_entries}
+use Rattle.unit_laws.proofs.TrimLemmas.{size_append}
+use Rattle.unit_table.specs.Places.{AreInOrder}
+use Rattle.unit_table.specs.Units.{OpenUnit, unit_at}
+use Rattle.run_model.specs.Answers.{found_refused, held_against, is_marked, journal_full, keys_refused, lock_limit, more_changes, more_locks, operation_act}
+use Rattle.run_model.specs.Locks.{is_locked, not_locked}
+use Rattle.run_model.specs.Locks as world
+use Rattle.run_model.specs.Operations.{changes_of, file_full, first_of, form_refused, keys_asked, keys_held}
+use Rattle.run_model.specs.Ordered.{IsImageOf, IsKeyOf, IsNoteOf}
+use Rattle.run_model.specs.Promises.{In}
+use Rattle.run_model.specs.Running.{HasBranches}
+use Rattle.run_model.specs.World as nodes
+use Rattle.run_model.specs.World.{Act, Changes, File, Node, acted, changed_file, find_branch, find_file, serials_of, IsUnprepared}
+use Rattle.run_model.proofs.AnswerLemmas.{neither, not_refused}
+use Rattle.run_model.proofs.HeldLemmas.{IsFreeFor, free_for}
+use Rattle.run_model.proofs.RoomLemmas.{changes_have_room}
+use Rattle.run_model.proofs.NotedLemmas.{all_append}
+use Rattle.directory_model.specs.Files.{AreFiles, IsFile, IsFoundAt, IsNamed, IsWithin, file_at, head_at, organized_by}
+use Rattle.directory_model.specs.Laws.{IsChanged}
+use Rattle.directory_model.specs.Restoring.{AreRestorable}
+use Rattle.directory_model.proofs.Acts.{keeps_files}
+use Rattle.directory_model.proofs.Finding.{finds_files}
+use Rattle.directory_model.proofs.Standing.{stands_on_extents}
+use Rattle.restart_laws.proofs.ChangingLemmas.{changes_restorable}
+use Rattle.restart_laws.proofs.StayLemmas.{keeps_restorable}
+use Rattle.script_model.specs.Statements.{Operation}
+use Rattle.volume_model.specs.Entries as volume
+use Rattle.volume_model.specs.Entries.{entry_for}
+use Rattle.volume_model.specs.Laws.{KeepsNames}
+use Rattle.volume_model.specs.Volumes.{HasJournal, HasVolume}
+use Rattle.volume_laws.proofs.FollowLemmas.{follow}
+use Rattle.recovery_units.specs.Calls.{IsNumbered, change_said, unit_act, unit_early, unit_late}
+use Rattle.recovery_units.specs.State.{AreLocks, IsKept, IsUnitOf, branch_of}
+use Rattle.unit_world.proofs.Blocks.{same_names}
+use Rattle.rms_units.specs.Calls as rms
+use Rattle.rms_units.specs.Changing as changing
+use Rattle.rms_units.specs.Changing.{after_change, before_change}
+use Rattle.rms_units.specs.declared.asked.KeyChange.{KeyChange}
+use Rattle.rms_units.specs.declared.asked.KeyChange.TheVariants as change
+use Rattle.rms_units.specs.Keys.{change_in, key_in}
+use Rattle.rms_units.specs.Making.{EntersKey, need_of}
+use Rattle.rms_units.specs.State as state
+use Rattle.rms_units.specs.State.{IsEarly, IsInOrder}
+use Rattle.rms_units.proofs.OrderLemmas.{sound_longer}
+use Rattle.rms_units.proofs.RoomLemmas.{room_for, spelled_size}
+use Rattle.node_units.specs.Seen.{seen}
+use Rattle.node_units.proofs.AskedKey.{AsksKey}
+use Rattle.node_units.proofs.BranchChanges.{MayMake, frees, held_live, held_locked, holds_after, may_change, order_after, units_after}
+use Rattle.node_units.proofs.EnteredKey.{entered_files, entered_journal, entered_tells}
+use Rattle.node_units.proofs.Holding.{once_of}
+use Rattle.node_units.proofs.KeyRefusals.{asks, early_none, entry_sized, few, found_before, is_file, late_none, own}
+use Rattle.node_units.proofs.Locking.{AreOnce}
+use Rattle.node_units.proofs.NotedKey.{Noted, noted_by}
+use Rattle.node_units.proofs.ReadLemmas.{first_none}
+use Rattle.node_units.proofs.SettingFile.{IsOfNode, KeepsRest, held_alike, keeps_rest, set_change, set_changes}
+use Rattle.node_units.proofs.SuitsKey.{may_set}
+use Rattle.node_units.proofs.UnitCounts.{in_branches, unit_is}
+
+abbrev Content : Type 0
+Content = List (List ℕ)
+
+one_content : (x y : Content) → ◌≡◌ {A = Option Content} (Some x) (Some y) → x ≡ y
+one_content x y e = cc
+
+-- The entry on the disk is the world's.
+
+one_more : (n : ℕ) → nat_le 1 (suc n) ≡ true
+one_more n = grind (arith, nat_tests)
+
+flag_is : (before : Option (List ℕ)) → IfSome before (λ r. 1 ≤ length r) → ◌≡◌ {A = ℕ} (if nat_le 1 (length (unwrap_or before [])) then 1 else 0) (if is_some before then 1 else 0)
+flag_is None some = refl
+flag_is (Some []) some = absurd (omega (arith, some))
+flag_is (Some (b ∷ r)) some = ap (λ (t : Bool). if◌then◌else◌ {A = ℕ} t 1 0) (one_more (length r))
+
+image_is : (before : Option (List ℕ)) → unwrap_or before [] ≡ volume.image_bytes before
+image_is None = refl
+image_is (Some r) = refl
+
+key_is : (key : Key) → spelled.key_bytes key ≡ volume.key_bytes key
+key_is (Number n) = refl
+key_is (Text t) = refl
+key_is End = refl
+
+pub entry_is : (tid serial : Id) (f : ℕ) (name : List ℕ) (key : Key) (before : Option (List ℕ)) → IfSome before (λ r. 1 ≤ length r) → spelled.change_entry tid serial f key before ≡ entry_for f (ChangeEntry tid serial name key before)
+entry_is tid serial f name key before some = λ i. record { kind = 1; flag = flag_is before some i; file = f; tid = tid; serial = serial; moment = 0; key = key_is key i; image = image_is before i }
+
+-- Locks by heads that keep their names.
+
+pub locks_renamed : (heads new : List (Option FileHead)) → KeepsNames heads new → (ls : List table.Lock) (ms : List world.Lock) → AreLocks heads ls ms → AreLocks new ls ms
+locks_renamed heads new keep [] [] are = tt
+locks_renamed heads new keep [] (m ∷ ms) are = absurd are
+locks_renamed heads new keep (l ∷ ls) [] are = absurd are
+locks_renamed heads new keep (l ∷ ls) (m ∷ ms) are =
+    let k = keep l.file are.0.head are.0.there in
+    (record { key = are.0.key; by = are.0.by; head = k.0; there = k.1; file = are.0.file ∙ sym k.2 }, locks_renamed heads new keep ls ms are.1)
+
+-- A change that moves the end of a sequential file asks for the end.
+
+end_asked : (o : Kept) (how : KeyChange) (key : Key) (found : Option (List ℕ)) (value : List ℕ) (h : FileHead) → o ≡ kept_by.Sequential → (how ≡ change.Remove → ⊥) → changing.found_refused h how key found value ≡ None → (is_none found || is_none (after_change how value)) ≡ true → In End (changing.keys_by o how key)
+end_asked kept_by.Sequential change.Put key found value h is other none moved = inl refl
+end_asked kept_by.Sequential change.Replace key None value h is other none moved = let never : ⊥ = cc in absurd never
+end_asked kept_by.Sequential change.Replace key (Some old) value h is other none moved = let never : ⊥ = cc in absurd never
+end_asked kept_by.Sequential change.Remove key found value h is other none moved = absurd (other refl)
+end_asked kept_by.Relative how key found value h is other none moved = let never : ⊥ = cc in absurd never
+end_asked kept_by.Indexed how key found value h is other none moved = let never : ⊥ = cc in absurd never
+
+-- a sequential file's records are not deleted one by one
+not_deleted : (h : FileHead) (o : RecordOp) (size : ℕ) → h.organization ≡ kept_by.Sequential → is_of_key o ≡ true → form.form_refused h o size ≡ None → change_in o ≡ change.Remove → ⊥
+not_deleted h (op.Put f key) size is one none e = cc
+not_deleted h (op.Update f key) size is one none e = cc
+not_deleted h (op.Delete f key) size is one none e =
+    let may = (first_none (form.key_refused h (key_of key)) (form.delete_refused h) none).1 in
+    let never : ◌≡◌ {A = Option Cause} (form.delete_refused_by kept_by.Sequential) None = ap form.delete_refused_by (sym is) ∙ may in
+    cc
+not_deleted h (op.Truncate f from) size is one none e = let bad : false ≡ true = one in cc
+
+-- Lists of keys.
+
+pub at_in : (P : Key → Type 0) (key : Key) (ks : List Key) → AllByRecursion P ks → In key ks → P key
+at_in P key [] all i = absurd i
+at_in P key (k ∷ ks) all (inl same) = subst P (sym same) all.0
+at_in P key (k ∷ ks) all (inr more) = at_in P key ks all.1 more
+
+pub each_free : (n : Node) (serial : Id) (name : List ℕ) (ks : List Key) → keys_refused n (Some serial) name ks ≡ None → AllByRecursion (λ k. held_against (Some serial) (world.holder n.volatile.locks name k) ≡ None) ks
+each_free n serial name [] none = tt
+each_free n serial name (k ∷ ks) none = let parts = neither (held_against (Some serial) (world.holder n.volatile.locks name k)) (keys_refused n (Some serial) name ks) none in (parts.0, each_free n serial name ks parts.1)
+
+-- the key of a change is one that it asks for
+last_asked : (o : Kept) (how : KeyChange) (key : Key) → In key (changing.keys_by o how key)
+last_asked kept_by.Sequential change.Put key = inr (inl refl)
+last_asked kept_by.Sequential change.Replace key = inl refl
+last_asked kept_by.Sequential change.Remove key = inl refl
+last_asked kept_by.Relative how key = inl refl
+last_asked kept_by.Indexed how key = inl refl
+
+pub is_true : (t : Bool) → not t ≡ false → t ≡ true
+is_true true e = refl
+is_true false e = let never : ⊥ = cc in absurd never
+
+moved_one : (before after : Option (List ℕ)) → ((is_none before || is_none after) || false) ≡ true → (is_none before || is_none after) ≡ true
+moved_one None after e = refl
+moved_one (Some r) None e = refl
+moved_one (Some r) (Some q) e = e
+
+sequential_by : (o : Kept) (h : FileHead) → organized_by o h ≡ nodes.Sequential → o ≡ kept_by.Sequential
+sequential_by kept_by.Sequential h e = refl
+sequential_by kept_by.Relative h e = let never : ⊥ = cc in absurd never
+sequential_by kept_by.Indexed h e = let never : ⊥ = cc in absurd never
+
+pub same_file : (x y : File) → ◌≡◌ {A = Option File} (Some x) (Some y) → x ≡ y
+same_file x y e = cc
+
+module _ (s : state.UnitsState) (v : VolumeState) (order : IsInOrder s v) (at : AreInOrder s.units.places s.units.order) (place : ℕ) (u : OpenUnit) (at_place : unit_at s.units.places place ≡ Some u) (n : Node) (file : File) (b : Branch) (h : FileHead)
+    (kept : IsKept (seen s) v n) (o : RecordOp) (bytes : List ℕ) (there : head_at v.catalog.heads (file_in o) ≡ Some h) (found : find_file h.name n.durable.directory ≡ Some file) (found_b : find_branch u.serial n.volatile.branches ≡ Some b)
+    (one : is_of_key o ≡ true) (number : IsNumbered o) (low : IsEarly v) (allowed : rms.change_early h o (written o bytes) ≡ None)
+    (locks : changing.locks_refuse (Some u.serial) (file_in o) (changing.keys_asked h (change_in o) (key_in h o (written o bytes))) s.locks ≡ None) (w : VolumeState)
+    (made : rms.MakesKey u (file_in o) h (change_in o) (key_in h o (written o bytes)) (written o bytes) s v w) where
+  abbrev f : ℕ
+  f = file_in o
+
+  abbrev value : List ℕ
+  value = written o bytes
+
+  abbrev key : Key
+  key = key_in h o value
+
+  abbrev after : Option (List ℕ)
+  after = after_change (change_in o) value
+
+  abbrev keys : List Key
+  keys = changing.keys_asked h (change_in o) key
+
+  abbrev said : Operation
+  said = change_said o bytes
+
+  abbrev a : Content
+  a = kept.content
+
+  abbrev es : List JournalEntry
+  es = n.durable.units.entries
+
+  file_is : IsFile a h file
+  file_is = is_file s v order at place u at_place n file b h kept o bytes there found found_b one number
+
+  own_is : b ≡ branch_of u
+  own_is = own s v order at place u at_place n file b h kept o bytes there found found_b one number
+
+  pub asking : AsksKey a h file o bytes
+  asking = asks s v order at place u at_place n file b h kept o bytes there found found_b one number allowed
+
+  late : rms.change_late u f h (change_in o) key value s v a ≡ None
+  late = made.late a kept.told file_is.head.form file_is.laid
+
+  pub early_is_none : unit_early n b h.name file said ≡ None
+  early_is_none = early_none s v order at place u at_place n file b h kept o bytes there found found_b one number allowed locks
+
+  pub late_is_none : unit_late n b h.name file said ≡ None
+  late_is_none = late_none s v order at place u at_place n file b h kept o bytes there found found_b one number allowed late
+
+  form_none : form.form_refused h o (length value) ≡ None
+  form_none = (first_none (form.form_refused h o (length value)) _ allowed).0
+
+  had_none : changing.found_refused h (change_in o) key (map_of h a key) value ≡ None
+  had_none = (first_none (changing.found_refused h (change_in o) key (map_of h a key) value) _ late).0
+
+  behind_found : first_cause (changing.changes_refused 1 u) (first_cause (changing.keys_refused f keys s.locks) (first_cause (changing.file_refused h (need_of h a (change_in o) (length value))) (room.journal_refused v.catalog.ru s.units.places u (room.entry_size key (before_change (change_in o) (unwrap_or (map_of h a key) [])))))) ≡ None
+  behind_found = (first_none (changing.found_refused h (change_in o) key (map_of h a key) value) _ late).1
+
+  behind_quotas : first_cause (changing.file_refused h (need_of h a (change_in o) (length value))) (room.journal_refused v.catalog.ru s.units.places u (room.entry_size key (before_change (change_in o) (unwrap_or (map_of h a key) [])))) ≡ None
+  behind_quotas = (first_none (changing.keys_refused f keys s.locks) _ (first_none (changing.changes_refused 1 u) _ behind_found).1).1
+
+  full_none : changing.file_refused h (need_of h a (change_in o) (length value)) ≡ None
+  full_none = (first_none (changing.file_refused h (need_of h a (change_in o) (length value))) _ behind_quotas).0
+
+  fits : Suits h key after × Takes h a key after
+  fits = may_set h a file_is.head.form (few s v order at place u at_place n file b h kept o bytes there found found_b one number) o bytes one number form_none had_none full_none
+
+  -- what was set
+  abbrev enters : EntersKey f h (λ k. is_some (table.holder s.locks f k)) key after (spelled.change_entry u.tid u.serial f key (before_change (change_in o) made.found)) v w
+  enters = made.enters
+
+  abbrev pub mid : VolumeState
+  mid = enters.set
+
+  set_is : (c : Content) × (mid.store.current ≡ Some c) × SetsKey h (λ k. is_some (table.holder s.locks f k)) key after a c enters.head
+  set_is = enters.sets a kept.told file_is.head.form file_is.laid fits.0 fits.1
+
+  abbrev c : Content
+  c = set_is.0
+
+  of_node : IsOfNode n a v
+  of_node = record {
+    told = kept.told;
+    holds = order.holds;
+    sound = subst (λ (x : List ℕ). IsSound x n.blocks v.catalog) (sym kept.name) (subst (λ (x : ℕ). IsSound v.catalog.home.node x v.catalog) (sym kept.blocks) order.sound);
+    long = order.heads;
+    size = sym kept.blocks;
+    home = kept.has.home;
+    journal = kept.has.journal;
+  }
+
+  rest : KeepsRest n f enters.head a c v mid
+  rest = keeps_rest n f 65 h enters.head a c v mid of_node there enters.stages set_is.1 set_is.2.whole
+
+  within : IsWithin a h
+  within = record { from = set_is.2.within.from; to = set_is.2.within.to; whole = set_is.2.within.whole }
+
+  mrn_small : h.mrn < 2 ^ 32
+  mrn_small =
+      let tells : TellsCatalog v.catalog a = subst (λ x. IfSome x (TellsCatalog v.catalog)) kept.told order.holds in
+      (subst (λ x. head_format.IsEntry (entry_of x)) there (tells.heads f (head_below v.catalog.heads f h order.heads there)).ranges).form.mrn
+
+  noted : Noted h.organization h key (map_of h a key)
+  noted = noted_by h.organization h a key after file_is.head.form file_is.laid within (few s v order at place u at_place n file b h kept o bytes there found found_b one number) mrn_small fits.0 fits.1
+
+  abbrev before : Option (List ℕ)
+  before = map_of h a key
+
+  before_is : before_change (change_in o) made.found ≡ before
+  before_is = sym (made.had a kept.told file_is.head.form file_is.laid) ∙ found_before h (change_in o) key before value had_none
+
+  abbrev e : Entry
+  e = spelled.change_entry u.tid u.serial f key (before_change (change_in o) made.found)
+
+  entry_told : e ≡ entry_for f (ChangeEntry u.tid u.serial h.name key before)
+  entry_told = ap (spelled.change_entry u.tid u.serial f key) before_is ∙ entry_is u.tid u.serial f h.name key before noted.some
+
+  abbrev cs : List Change
+  cs = set_change key before after ∷ []
+
+  abbrev pub deed : Act
+  deed = Changes u.tid u.serial h.name cs keys
+
+  abbrev pub m : Node
+  m = acted deed n
+
+  -- the act is that of the operation
+  pub act_is : Changes u.tid u.serial h.name cs keys ≡ unit_act b h.name file said
+  act_is =
+      (λ i. Changes (sym own_is i).key.tid (sym own_is i).key.serial h.name (set_change key (sym (file_is.records key) i) after ∷ []) (sym asking.held i))
+      ∙ ap (λ ds. operation_act b h.name ds (keys_held file said)) (sym asking.changes)
+
+  -- The node after it.
+
+  named : IsNamed v.catalog.heads f h h.name
+  named = record { there = there; called = refl; lowest = λ g other less at_g same. let e = once_of v.catalog.home.node v.store.disk.size v.catalog order.sound order.heads g f other h at_g there same in absurd (omega (arith, e, less)) }
+
+  at_file : (x : File) × IsFile a h x × IsFoundAt h.name n.durable.directory f x
+  at_file = finds_files.found a v.catalog.heads n.durable.directory f h h.name kept.has.files named
+
+  found_is : at_file.0 ≡ file
+  found_is = same_file at_file.0 file (sym at_file.2.found ∙ found)
+
+  pub at_f : file_at n.durable.directory f ≡ Some file
+  at_f = at_file.2.there ∙ ap Some found_is
+
+  pub once : AreOnce v.catalog.heads
+  once = once_of v.catalog.home.node v.store.disk.size v.catalog order.sound order.heads
+
+  mark_none : file.recovery_units ≡ true
+  mark_none = is_true file.recovery_units (not_refused (not file.recovery_units) line.NotMarked (neither (is_marked file) (keys_refused n (Some b.key.serial) h.name (keys_asked file said)) (neither (form_refused file said) _ early_is_none).1).0)
+
+  keys_none : keys_refused n (Some u.serial) h.name keys ≡ None
+  keys_none = sym (λ i. keys_refused n (Some (own_is i).key.serial) h.name (asking.asked i)) ∙ (neither (is_marked file) _ (neither (form_refused file said) _ early_is_none).1).1
+
+  behind_data : first_of (more_changes n (changes_of file said) b) (first_of (more_locks n h.name (keys_held file said)) (first_of (file_full file said) (journal_full n h.name (changes_of file said) b))) ≡ None
+  behind_data = (neither (found_refused n (Some b.key.serial) h.name said file) _ late_is_none).1
+
+  changes_are : changes_of file said ≡ cs
+  changes_are = asking.changes ∙ (λ i. set_change key (file_is.records key i) after ∷ [])
+
+  more_none : more_changes n cs b ≡ None
+  more_none = ap (λ ds. more_changes n ds b) (sym changes_are) ∙ (neither (more_changes n (changes_of file said) b) _ behind_data).0
+
+  locks_none : more_locks n h.name keys ≡ None
+  locks_none = ap (more_locks n h.name) (sym asking.held) ∙ (neither (more_locks n h.name (keys_held file said)) _ (neither (more_changes n (changes_of file said) b) _ behind_data).1).0
+
+  bytes_none : journal_full n h.name cs b ≡ None
+  bytes_none =
+      ap (λ ds. journal_full n h.name ds b) (sym changes_are)
+      ∙ (neither (file_full file said) _ (neither (more_locks n h.name (keys_held file said)) _ (neither (more_changes n (changes_of file said) b) _ behind_data).1).1).1
+
+  key_in_keys : In key keys
+  key_in_keys = last_asked h.organization (change_in o) key
+
+  keys_free : AllByRecursion (λ k. held_against (Some u.serial) (world.holder n.volatile.locks h.name k) ≡ None) keys
+  keys_free = each_free n u.serial h.name keys keys_none
+
+  may : MayMake n u.tid u.serial h.name file cs keys
+  may = record {
+    some = refl;
+    found = found;
+    marked = mark_none;
+    free = (at_in (λ k. held_against (Some u.serial) (world.holder n.volatile.locks h.name k) ≡ None) key keys keys_free key_in_keys, tt);
+    held = (key_in_keys, tt);
+    notes = (sym (file_is.records key), tt);
+    end = λ is moved.
+        let kind : h.organization ≡ kept_by.Sequential = sequential_by h.organization h (sym file_is.head.organization ∙ is) in
+        let asked = end_asked h.organization (change_in o) key before value h kind (not_deleted h o (length value) kind one form_none) had_none (moved_one before after moved) in
+        (asked, at_in (IsFreeFor n.volatile.locks h.name u.serial) End keys (free_for n u.serial h.name keys keys_none) asked);
+    suit = (suit_is, tt);
+    branch = b;
+    own_tid = ap (λ (x : Branch). x.key.tid) own_is;
+    own_serial = ap (λ (x : Branch). x.key.serial) own_is;
+    room = changes_have_room n b h.name cs kept.has.order refl more_none bytes_none;
+    locks = ltb-false lock_limit (length n.volatile.locks + length (not_locked n.volatile.locks h.name keys)) (not_refused (nat_lt lock_limit (length n.volatile.locks + length (not_locked n.volatile.locks h.name keys))) (line.QuotaExceeded line.Locks lock_limit) locks_none);
+  }
+    where
+      suit_is : IsNoteOf file key before
+      suit_is = (
+        subst (λ x. IsKeyOf x key) (sym file_is.head.organization) noted.form,
+        subst (λ x. IsImageOf file.organization x key before) (sym file_is.head.record_size) (subst (λ x. IsImageOf x h.mrs key before) (sym file_is.head.organization) noted.image),
+      )
+
+  unit_here : IsUnitOf n u
+  unit_here = unit_is s v order at n kept place u at_place
+
+  among_them : In u.serial (serials_of n.volatile.branches)
+  among_them = in_branches s v order at n kept place u at_place
+
+  -- The volume after it.
+
+  abbrev V : Catalog
+  V = mid.catalog
+
+  abbrev pub W : Catalog
+  W = record mid.catalog { ru = longer (length (spelling e)) mid.catalog.ru }
+
+  pub catalog_is : w.catalog ≡ W
+  catalog_is = enters.catalog ∙ (λ i. record mid.catalog { ru = longer (length (spelling e)) (sym rest.ring i) })
+
+  size_is : length (spelling e) ≡ room.entry_size key before
+  size_is = spelled_size u.tid u.serial f key (before_change (change_in o) made.found) enters.entry ∙ ap (room.entry_size key) before_is
+
+  journal_none : room.journal_refused v.catalog.ru s.units.places u (room.entry_size key before) ≡ None
+  journal_none = ap (λ x. room.journal_refused v.catalog.ru s.units.places u (room.entry_size key x)) (sym (found_before h (change_in o) key before value had_none)) ∙ (first_none (changing.file_refused h (need_of h a (change_in o) (length value))) _ behind_quotas).1
+
+  room_is : V.ru.end - V.ru.first + length (spelling e) ≤ ring_size V.ru
+  room_is = subst (λ (r : Span). r.end - r.first + length (spelling e) ≤ ring_size r) (sym rest.ring) (let enough = room_for v.catalog.ru s.units.places u (room.entry_size key before) order.room journal_none in let size = size_is in omega (arith, enough, size))
+
+  pub told_after : (d : Content) × (w.store.current ≡ Some d)
+  told_after = (entered v.catalog.ru (spelling e) c, enters.current ∙ ap (option_map (entered v.catalog.ru (spelling e))) set_is.1)
+
+  module _ (d : Content) (now : w.store.current ≡ Some d) where
+    entered_is : d ≡ entered V.ru (spelling e) c
+    entered_is = one_content d (entered V.ru (spelling e) c) (sym now ∙ enters.current ∙ ap (option_map (entered v.catalog.ru (spelling e))) set_is.1 ∙ (λ i. Some (entered (sym rest.ring i) (spelling e) c)))
+
+    files_stand : (g : ℕ) (other : FileHead) → head_at V.heads g ≡ Some other → AgreesOn other c d
+    files_stand = entered_files n.name n.blocks V rest.sound rest.long c d e entered_is rest.journal.entries rest.journal.is enters.entry room_is
+
+    held_world : ◌≡◌ {A = Key → Bool} (λ k. is_some (table.holder s.locks f k)) (is_locked n.volatile.locks h.name)
+    held_world = held_alike v.catalog.heads once f h there n s.locks kept.locks
+
+    changed_is : IsChanged (is_locked n.volatile.locks h.name) cs a h c enters.head
+    changed_is = subst (λ (held : Key → Bool). IsChanged held cs a h c enters.head) held_world (set_changes f 65 h enters.head (λ k. is_some (table.holder s.locks f k)) key before after a c v mid enters.stages set_is.2)
+
+    files_set : AreFiles c V.heads m.durable.directory
+    files_set = subst (λ hs. AreFiles c hs m.durable.directory) (sym rest.heads)
+        (keeps_files.changes a c v.catalog.heads n f h enters.head h.name file u.tid u.serial cs keys kept.has.files kept.has.units named at_f (frees n kept.has.units kept.has.order kept.holds u.tid u.serial h.name file cs keys f at_f file_is.head.name among_them unit_here.transaction may) (refl, tt) changed_is rest.others)
+
+    rooms : (other : Key) → is_held file.history other ≡ true → room_at h a other ≤ room_at enters.head c other
+    rooms other is = set_is.2.rooms other ((λ i. held_world i other) ∙ held_locked n.volatile.locks h.name file.history.live other (held_live n kept.has.units kept.has.order kept.holds u.tid u.serial h.name file cs keys f at_f file_is.head.name among_them unit_here.transaction may) is)
+
+    restorable_set : AreRestorable c V.heads m.durable.directory
+    restorable_set = subst (λ hs. AreRestorable c hs m.durable.directory) (sym rest.heads)
+        (changes_restorable.sets a c v.catalog.heads n f h enters.head h.name file u.tid u.serial key after keys kept.has.files kept.has.units named at_f
+        (may_change n kept.has.units kept.has.order kept.holds u.tid u.serial h.name file cs keys f at_f file_is.head.name among_them unit_here.transaction may)
+        within fits.0 enters.stages.same set_is.2.form set_is.2.laid set_is.2.map set_is.2.back rooms rest.others kept.has.restorable)
+
+    head_there : head_at V.heads f ≡ Some enters.head
+    head_there = ap (λ hs. head_at hs f) rest.heads ∙ get_or-set_same v.catalog.heads f (Some enters.head) None (within_list v.catalog.heads f h there)
+
+    called : enters.head.name ≡ h.name
+    called = ap (λ (x : FileHead). x.name) enters.stages.same.is
+
+    journal_set : HasJournal d W m
+    journal_set = subst (λ name. HasJournal d W (acted (Changes u.tid u.serial name cs keys) n)) called
+        (follow.changes c d V W n f enters.head u.tid u.serial cs keys rest.journal head_there (same_names V.heads)
+        (subst (λ x. IsJournal d W.ru (rest.journal.entries ++ x ∷ [])) (entry_told ∙ (λ i. entry_for f (ChangeEntry u.tid u.serial (sym called i) key before)))
+        (entered_journal n.name n.blocks V rest.sound rest.long c d e entered_is rest.journal.entries rest.journal.is enters.entry room_is))
+        refl ends_at (let early = low.low in let sizes = entry_size e enters.entry in let ring = ap (λ (r : Span). r.end) rest.ring in omega (arith, early, sizes.1, ring)))
+      where
+        E : JournalEntry
+        E = ChangeEntry u.tid u.serial enters.head.name key before
+
+        ends_at : W.ru.end ≡ end_of (with_entries (entries_for u.tid u.serial enters.head.name cs) n.durable.units)
+        ends_at =
+            let more = size_append es (E ∷ []) in
+            let end = rest.journal.end in
+            let size = size_is in
+            let world = entry_sized u.tid u.serial enters.head.name key before in
+            omega (arith, more, end, size, world)
+
+    pub volume_after : HasVolume d W m
+    volume_after = record {
+      home = record { volume = rest.home.volume; slots = rest.home.slots; journal = rest.home.journal; boot = rest.home.boot; greatest = rest.home.greatest; last = rest.home.last };
+      journal = journal_set;
+      units = units_after n kept.has.units kept.has.order kept.holds u.tid u.serial h.name file cs keys f at_f file_is.head.name among_them unit_here.transaction may;
+      order = order_after n kept.has.units kept.has.order kept.holds u.tid u.serial h.name file cs keys f at_f file_is.head.name among_them unit_here.transaction may;
+      active = all_append IsUnprepared es (ChangeEntry u.tid u.serial h.name key before ∷ []) kept.has.active (tt, tt);
+      files = stands_on_extents c d V.heads m.durable.directory files_stand files_set;
+      restorable = keeps_restorable.stands c d V.heads m.durable.directory files_stand files_set restorable_set;
+    }
+
+    pub tells_after : TellsCatalog W d
+    tells_after = entered_tells n.name n.blocks V rest.sound rest.long c d e entered_is rest.journal.entries rest.journal.is enters.entry room_is rest.tells
+
+  pub names_are : KeepsNames v.catalog.heads mid.catalog.heads
+  names_are = rest.names
+
+  pub node_after : w.catalog.home.node ≡ v.catalog.home.node
+  node_after = ap (λ (k : Catalog). k.home.node) catalog_is ∙ ap (λ (k : Catalog). k.home.node) enters.stages.catalog
+
+  pub holds_then : HasBranches m
+  holds_then = holds_after n kept.has.units kept.has.order kept.holds u.tid u.serial h.name file cs keys f at_f file_is.head.name among_them unit_here.transaction may
+
+  pub directory_after : m.durable.directory ≡ slice_set n.durable.directory f (Some (changed_file (is_locked n.volatile.locks h.name) u.serial cs file))
+  directory_after = at_file.2.changed (changed_file (is_locked n.volatile.locks h.name) u.serial cs) ∙ ap (λ x. slice_set n.durable.directory f (Some (changed_file (is_locked n.volatile.locks h.name) u.serial cs x))) found_is
+
+  pub sound_after : IsSound n.name n.blocks W
+  sound_after = sound_longer n.name n.blocks (length (spelling e)) V V.ru rest.sound refl

@@ -1,0 +1,188 @@
+-- A read of the units is one of the world.
+use Rattle.std.proofs.Common.{◌≡◌, ℕ, ◌+◌, ◌-◌, ◌<◌, ◌≤◌, List, [], ◌∷◌, Bool, true, false, not, Option, Some, None, length, nat_lt, refl, sym, ◌∙◌, ap, subst, arith, inl, inr}
+use Rattle.std.proofs.lemmas.Bool.{ltb-false}
+use Rattle.std.proofs.lemmas.Bool.Decides.{nat_tests}
+use Rattle.std.specs.Prelude.{option_map}
+use Rattle.file_base.specs.declared.head.FileHead.{FileHead}
+use Rattle.transcript_model.specs.Lines as line
+use Rattle.transcript_model.specs.Lines.{Line}
+use Rattle.commit_protocol.specs.Table.{Branch}
+use Rattle.vms_model.specs.Ids.{Id}
+use Rattle.vms_model.specs.Keys.{Key}
+use Rattle.volume.specs.State.{VolumeState}
+use Rattle.unit_laws.specs.Journal.{RecoveryUnit, find_unit, units_in}
+use Rattle.unit_table.specs.Units.{OpenUnit, unit_at}
+use Rattle.record_locks.specs.Locks as table
+use Rattle.record_operations.specs.Asking.{read_file_in}
+use Rattle.record_operations.specs.Causes.{Cause, cause_if, first_cause, NotMarked}
+use Rattle.record_operations.specs.Forms as form
+use Rattle.record_operations.specs.declared.ops.ReadOp.{ReadOp}
+use Rattle.record_operations.specs.declared.ops.ReadOp.TheVariants as read
+use Rattle.run_model.specs.Answers.{change_limit, free_journal, is_marked, journal_full, keys_refused, lock_limit, more_changes, more_locks, needs_unit}
+use Rattle.run_model.specs.Locks.{not_locked}
+use Rattle.run_model.specs.Operations.{changes_of, file_full, first_of, form_refused, free_buckets, keys_asked, keys_held, need_of, operation_answer, refused_if}
+use Rattle.run_model.specs.World.{Act, AreUnitsOf, File, Holds, Node, acted, changes_made, find_file, serials_of}
+use Rattle.run_model.specs.Promises.{In}
+use Rattle.run_model.proofs.AnswerLemmas.{not_refused}
+use Rattle.run_model.proofs.FindLemmas.{found_serial}
+use Rattle.run_model.proofs.HoldingLemmas.{HasLocks}
+use Rattle.run_model.proofs.FewLemmas.{few_in}
+use Rattle.directory_model.specs.Files.{AreFiles, IsFile, head_at}
+use Rattle.directory_model.proofs.Places.{file_there}
+use Rattle.recovery_units.specs.Calls as calls
+use Rattle.recovery_units.specs.Calls.{IsAsked, IsAskedAlone, IsDone, IsSeen, alone_early, alone_late, cause_line, read_said, record_line, unit_act, unit_early, unit_late}
+use Rattle.recovery_units.specs.State.{IsKept, UnitsState}
+use Rattle.recovery_units.proofs.FormLemmas.{forms}
+use Rattle.unit_world.proofs.Found.{found_by}
+use Rattle.rms_units.specs.Calls as rms
+use Rattle.rms_units.specs.State as state
+use Rattle.rms_units.specs.State.{IsInOrder}
+use Rattle.node_units.specs.Seen.{seen}
+use Rattle.node_units.proofs.Finding.{ReadsIn, reads_in}
+use Rattle.node_units.proofs.Holding.{found_among, kept_holds, once_of}
+use Rattle.node_units.proofs.Locking.{AreOnce}
+use Rattle.node_units.proofs.Refusing.{marked_alike, more_alike}
+
+-- Of a read.
+
+pub changes_none : (file : File) (op : ReadOp) → changes_of file (read_said op) ≡ []
+changes_none file (read.Get f key) = refl
+changes_none file (read.Next f after) = refl
+
+need_none : (file : File) (op : ReadOp) → need_of file (read_said op) ≡ 0
+need_none file (read.Get f key) = refl
+need_none file (read.Next f after) = refl
+
+pub act_is : (b : Branch) (name : List ℕ) (file : File) (op : ReadOp) → unit_act b name file (read_said op) ≡ Holds b.key.serial name (keys_held file (read_said op))
+act_is b name file (read.Get f key) = refl
+act_is b name file (read.Next f after) = refl
+
+pub alone_may : (file : File) (op : ReadOp) → needs_unit (read_said op) file ≡ None
+alone_may file (read.Get f key) = refl
+alone_may file (read.Next f after) = refl
+
+pub below_none : (x : ℕ) → nat_lt x 0 ≡ false
+below_none x = grind (arith, nat_tests)
+
+not_below : (x y : ℕ) → y ≤ x → nat_lt x y ≡ false
+not_below x y less = grind (arith, nat_tests)
+
+pub first_none : (a b : Option Cause) → first_cause a b ≡ None → (a ≡ None) × (b ≡ None)
+first_none None b e = (refl, e)
+first_none (Some c) b e = let never : ⊥ = cc in absurd never
+
+pub line_none : (o : Option Cause) (p : Option Line) → option_map cause_line o ≡ p → o ≡ None → p ≡ None
+line_none o p is none = sym is ∙ ap (option_map cause_line) none
+
+-- no quota refuses it but that of locks
+pub changes_few : (n : Node) (b : Branch) → ((serial : Id) (u : RecoveryUnit) → find_unit serial (units_in n.durable.units.entries) ≡ Some u → u.changes ≤ change_limit) → more_changes n [] b ≡ None
+changes_few n b few = ap (λ (t : Bool). refused_if t (line.QuotaExceeded line.Changes change_limit)) (not_below change_limit (changes_made b.key.serial n.durable.units + 0) (go (find_unit b.key.serial (units_in n.durable.units.entries)) refl))
+  where
+    go : (o : Option RecoveryUnit) → find_unit b.key.serial (units_in n.durable.units.entries) ≡ o → (elim o [ Some u ↦ u.changes | None ↦ 0 ]) + 0 ≤ change_limit
+    go (Some u) is = let k = few b.key.serial u is in omega (arith, k)
+    go None is = omega arith
+
+pub full_none : (file : File) (op : ReadOp) → file_full file (read_said op) ≡ None
+full_none file op =
+    let need = need_none file op in
+    (λ i. refused_if (nat_lt (free_buckets file) (need i)) (line.FileFull (free_buckets file) (need i)))
+    ∙ ap (λ (t : Bool). refused_if t (line.FileFull (free_buckets file) 0)) (below_none (free_buckets file))
+
+pub journal_none : (n : Node) (name : List ℕ) (b : Branch) → journal_full n name [] b ≡ None
+journal_none n name b = ap (λ (t : Bool). refused_if t (line.JournalFull (free_journal n) 0)) (below_none (free_journal n))
+
+-- The file that is asked for.
+pub asked_file : (content : List (List ℕ)) (heads : List (Option FileHead)) (n : Node) (f : ℕ) (h : FileHead) (file : File) → AreFiles content heads n.durable.directory → AreUnitsOf n → head_at heads f ≡ Some h →
+    find_file h.name n.durable.directory ≡ Some file → IsFile content h file
+asked_file content heads n f h file files units there found =
+    let at = file_there content heads n.durable.directory f h files there in
+    subst (IsFile content h) (one at.0 (sym (ap (λ x. find_file x n.durable.directory) (at.2.head.name)) ∙ (found_by n f at.0 units at.1).found)) at.2
+  where
+    one : (x : File) → find_file h.name n.durable.directory ≡ Some x → x ≡ file
+    one x e = some (sym e ∙ found)
+      where
+        some : ◌≡◌ {A = Option File} (Some x) (Some file) → x ≡ file
+        some k = cc
+
+-- A read that was done.
+module _ (place : ℕ) (u : OpenUnit) (op : ReadOp) (key : Key) (bytes : List ℕ) (s : state.UnitsState) (v : VolumeState) (t : state.UnitsState) (w : VolumeState) (order : IsInOrder s v) (n : Node) (file : File) (b : Branch) (h : FileHead)
+    (r : rms.ReadsOk u h op key bytes s v t w) (kept : IsKept (seen s) v n) (there : head_at v.catalog.heads (read_file_in op) ≡ Some h) (found : find_file h.name n.durable.directory ≡ Some file) (own : u.serial ≡ b.key.serial)
+    (among : In b.key.serial (serials_of n.volatile.branches)) where
+  once : AreOnce v.catalog.heads
+  once = once_of v.catalog.home.node v.store.disk.size v.catalog order.sound order.heads
+
+  is_file : IsFile kept.content h file
+  is_file = asked_file kept.content v.catalog.heads n (read_file_in op) h file kept.has.files kept.has.units there found
+
+  reads : ReadsIn n (Some b.key.serial) h.name file op key bytes
+  reads = subst (λ (x : Id). ReadsIn n (Some x) h.name file op key bytes) own
+      (reads_in v.catalog.heads once (read_file_in op) h there n s.locks kept.locks kept.content file is_file (Some u.serial) op key bytes refl (r.finds kept.content kept.told is_file.head.form is_file.laid))
+
+  early : unit_early n b h.name file (read_said op) ≡ None
+  early =
+      let both = first_none (form.read_form_refused h op) (cause_if (not h.marks.ru) NotMarked) r.early in
+      let one = line_none (form.read_form_refused h op) (form_refused file (read_said op)) (forms.reads h file op is_file.head) both.0 in
+      let two = line_none (cause_if (not h.marks.ru) NotMarked) (is_marked file) (marked_alike h file is_file.head) both.1 in
+      λ i. first_of (one i) (first_of (two i) (reads.asked i))
+
+  few : more_locks n h.name (key ∷ []) ≡ None
+  few = line_none _ (more_locks n h.name (key ∷ [])) (more_alike v.catalog.heads once (read_file_in op) h there n s.locks kept.locks (key ∷ [])) r.few
+
+  late : unit_late n b h.name file (read_said op) ≡ None
+  late =
+      let none = changes_none file op in
+      let two = ap (λ cs. more_changes n cs b) none ∙ changes_few n b (few_in n.durable.units.entries kept.has.order.few).changes in
+      let three = ap (more_locks n h.name) reads.held ∙ few in
+      let five = ap (λ cs. journal_full n h.name cs b) none ∙ journal_none n h.name b in
+      λ i. first_of (reads.found i) (first_of (two i) (first_of (three i) (first_of (full_none file op i) (five i))))
+
+  room : HasLocks n h.name (key ∷ [])
+  room = ltb-false lock_limit (length n.volatile.locks + length (not_locked n.volatile.locks h.name (key ∷ []))) (not_refused (nat_lt lock_limit (length n.volatile.locks + length (not_locked n.volatile.locks h.name (key ∷ [])))) (line.QuotaExceeded line.Locks lock_limit) few)
+
+  held : IsKept (seen t) w (acted (unit_act b h.name file (read_said op)) n)
+  held =
+      let after = kept_holds (seen s) v n (read_file_in op) h b.key.serial (key ∷ []) kept once there among room in
+      let act : Holds b.key.serial h.name (key ∷ []) ≡ unit_act b h.name file (read_said op) = ap (Holds b.key.serial h.name) (sym reads.held) ∙ sym (act_is b h.name file op) in
+      let units : record (seen s) { locks = table.with_locks b.key.serial (read_file_in op) (key ∷ []) s.locks } ≡ seen t =
+      ap (λ (x : Id). seen (rms.holding x (read_file_in op) (key ∷ []) s)) (sym own) ∙ ap seen (sym r.held) in
+      subst (λ (x : VolumeState). IsKept (seen t) x (acted (unit_act b h.name file (read_said op)) n)) (sym r.same)
+      (subst (λ (x : UnitsState). IsKept x v (acted (unit_act b h.name file (read_said op)) n)) units
+      (subst (λ (a : Act). IsKept (record (seen s) { locks = table.with_locks b.key.serial (read_file_in op) (key ∷ []) s.locks }) v (acted a n)) act after))
+
+  pub read_done : IsDone (unit_early n b h.name file (read_said op)) (unit_late n b h.name file (read_said op)) (unit_act b h.name file (read_said op)) (operation_answer file (read_said op)) (record_line op key bytes) n (seen t) w
+  read_done = record { allowed = (λ i. first_of (early i) (late i)); kept = held; answers = reads.answers }
+
+pub reads_ok : (place : ℕ) (u : OpenUnit) (op : ReadOp) (key : Key) (bytes : List ℕ) (s : state.UnitsState) (v : VolumeState) (t : state.UnitsState) (w : VolumeState) → IsInOrder s v →
+    ((h : FileHead) → head_at v.catalog.heads (read_file_in op) ≡ Some h → rms.ReadsOk u h op key bytes s v t w) → calls.ReadsOk u.serial op key bytes (seen s) v (seen t) w
+reads_ok place u op key bytes s v t w order r n name file b asked =
+    subst (λ (x : List ℕ). IsDone (unit_early n b x file (read_said op)) (unit_late n b x file (read_said op)) (unit_act b x file (read_said op)) (operation_answer file (read_said op)) (record_line op key bytes) n (seen t) w) asked.named.called
+    (read_done place u op key bytes s v t w order n file b asked.head (r asked.head asked.named.there) asked.kept asked.named.there (ap (λ x. find_file x n.durable.directory) asked.named.called ∙ asked.found)
+    (found_serial u.serial n.volatile.branches b asked.branch) (found_among n u.serial b asked.branch))
+
+-- A record was looked at.
+pub looks_ok : (op : ReadOp) (key : Key) (bytes : List ℕ) (s : state.UnitsState) (v w : VolumeState) → IsInOrder s v → ((h : FileHead) → head_at v.catalog.heads (read_file_in op) ≡ Some h → rms.LooksOk h op key bytes s v w) →
+    calls.LooksOk op key bytes (seen s) v
+looks_ok op key bytes s v w order r n name file asked =
+    subst (λ (x : List ℕ). IsSeen (alone_early n x file (read_said op)) (alone_late n x file (read_said op)) (operation_answer file (read_said op)) (record_line op key bytes)) asked.named.called here
+  where
+    h : FileHead
+    h = asked.head
+
+    is : rms.LooksOk h op key bytes s v w
+    is = r h asked.named.there
+
+    is_file : IsFile asked.kept.content h file
+    is_file = asked_file asked.kept.content v.catalog.heads n (read_file_in op) h file asked.kept.has.files asked.kept.has.units asked.named.there (ap (λ x. find_file x n.durable.directory) asked.named.called ∙ asked.found)
+
+    reads : ReadsIn n None h.name file op key bytes
+    reads = reads_in v.catalog.heads (once_of v.catalog.home.node v.store.disk.size v.catalog order.sound order.heads) (read_file_in op) h asked.named.there n s.locks asked.kept.locks asked.kept.content file is_file None op key bytes refl
+        (is.finds asked.kept.content asked.kept.told is_file.head.form is_file.laid)
+
+    here : IsSeen (alone_early n h.name file (read_said op)) (alone_late n h.name file (read_said op)) (operation_answer file (read_said op)) (record_line op key bytes)
+    here =
+        let one = line_none (form.read_form_refused h op) (form_refused file (read_said op)) (forms.reads h file op is_file.head) is.early in
+        let few = ap (λ cs. refused_if (nat_lt change_limit (length cs)) (line.QuotaExceeded line.Changes change_limit)) (changes_none file op) in
+        record {
+          allowed = (λ i. first_of (first_of (one i) (first_of (alone_may file op i) (reads.asked i))) (first_of (reads.found i) (first_of (few i) (full_none file op i))));
+          answers = reads.answers;
+        }

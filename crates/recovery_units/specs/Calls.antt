@@ -1,0 +1,274 @@
+-- What the calls promise, in the words of the world: each is an act of its node, or one of the refusals of the world.
+use Rattle.std.specs.Prelude.{◌≡◌, ◌<◌, ◌⊎◌, ℕ, zero, suc, List, [], ◌∷◌, true, length, map, nat_lt, Option, Some, None, option_map}
+use Rattle.block_disk.specs.Disk.{DiskState}
+use Rattle.file_base.specs.declared.head.FileHead.{FileHead}
+use Rattle.transcript_model.specs.Lines as line
+use Rattle.transcript_model.specs.Lines.{Line}
+use Rattle.script_model.specs.Statements.{Operation, Put, Update, Delete, Truncate, Get, Next}
+use Rattle.vms_model.specs.Ids.{Id}
+use Rattle.vms_model.specs.Keys.{Key, Number, Text, End}
+use Rattle.vms_model.specs.Transactions.{Outcome, Abort, Reason, SegFail}
+use Rattle.vms_base.specs.Ids.{serial_of, tid_of}
+use Rattle.vms_base.specs.Keys.{key_of}
+use Rattle.commit_protocol.specs.Table.{Branch}
+use Rattle.volume.specs.State.{VolumeState}
+use Rattle.std.specs.List.{AllByRecursion}
+use Rattle.unit_laws.specs.Journal.{JournalEntry, RecoveryUnit, serial_in}
+use Rattle.run_model.specs.World.{Node, File, Act, Settlement, Settles, Directs, is_durable, acted, fallen, find_file, find_branch, next_id, next_moment}
+use Rattle.run_model.specs.Operations.{first_of, refused_if, form_refused, file_full, keys_asked, keys_held, changes_of, operation_answer}
+use Rattle.run_model.specs.Answers.{is_marked, needs_unit, keys_refused, found_refused, more_changes, more_locks, journal_full, operation_act, change_limit, lock_limit, abort_settlement, commit_settlement, left_active}
+use Rattle.directory_model.specs.Files.{IsNamed}
+use Rattle.volume_model.specs.Volumes.{HasDisk, LeavesVolume}
+use Rattle.record_operations.specs.declared.ops.RecordOp.{RecordOp}
+use Rattle.record_operations.specs.declared.ops.RecordOp.TheVariants as change
+use Rattle.record_operations.specs.declared.ops.ReadOp.{ReadOp}
+use Rattle.record_operations.specs.declared.ops.ReadOp.TheVariants as read
+use Rattle.record_operations.specs.declared.errors.RecErr.{RecErr}
+use Rattle.record_operations.specs.Asking.{file_in, read_file_in}
+use Rattle.record_operations.specs.Causes as cause
+use Rattle.record_operations.specs.Causes.{Cause, cause_of}
+use Rattle.recovery_units.specs.declared.settled.SettledUnit.{SettledUnit}
+use Rattle.recovery_units.specs.State.{UnitsState, IsKept}
+
+-- The file and the operation of the world that are asked for.
+
+-- the number that a record is put at, where one is said
+abbrev pub number_of : Option Key → Option ℕ
+number_of (Some (Number n)) = Some n
+number_of (Some (Text bytes)) = None
+number_of (Some End) = None
+number_of None = None
+
+-- a key is a number, where one is said
+abbrev pub IsNumber : Option Key → Type 0
+IsNumber None = Unit {0}
+IsNumber (Some (Number n)) = Unit {0}
+IsNumber (Some (Text bytes)) = ⊥
+IsNumber (Some End) = ⊥
+
+-- where a record is put at a key, that is a number
+abbrev pub IsNumbered : RecordOp → Type 0
+IsNumbered (change.Put file key) = IsNumber (option_map key_of key)
+IsNumbered (change.Update file key) = Unit {0}
+IsNumbered (change.Delete file key) = Unit {0}
+IsNumbered (change.Truncate file from) = Unit {0}
+
+abbrev pub change_said : RecordOp → (bytes : List ℕ) → Operation
+change_said (change.Put file key) bytes = Put (number_of (option_map key_of key)) bytes
+change_said (change.Update file key) bytes = Update (key_of key) bytes
+change_said (change.Delete file key) bytes = Delete (key_of key)
+change_said (change.Truncate file from) bytes = Truncate from
+
+abbrev pub read_said : ReadOp → Operation
+read_said (read.Get file key) = Get (key_of key)
+read_said (read.Next file after) = Next (option_map key_of after)
+
+-- the line for a cause
+abbrev pub cause_line : Cause → Line
+cause_line cause.BadParameter = line.BadParameter
+cause_line cause.BadOperation = line.BadOperation
+cause_line cause.BadRecordNumber = line.BadRecordNumber
+cause_line cause.BadRecordSize = line.BadRecordSize
+cause_line cause.NotMarked = line.NotMarked
+cause_line cause.NeedsUnit = line.NeedsUnit
+cause_line (cause.Locked by) = line.RecordLocked by
+cause_line cause.RecordExists = line.RecordExists
+cause_line cause.KeyExists = line.KeyExists
+cause_line cause.RecordNotFound = line.RecordNotFound
+cause_line cause.EndOfFile = line.EndOfFile
+cause_line cause.KeyChanged = line.KeyChanged
+cause_line cause.Changes = line.QuotaExceeded line.Changes change_limit
+cause_line cause.Locks = line.QuotaExceeded line.Locks lock_limit
+cause_line (cause.FileFull free need) = line.FileFull free need
+cause_line (cause.JournalFull free need) = line.JournalFull free need
+
+-- the line of a refusal; a disk that went down is none
+abbrev pub refusal_of : RecErr → Option Line
+refusal_of e = option_map cause_line (cause_of e)
+
+-- Operations of a branch.
+
+-- What refuses an operation of a branch: before a record is read, and by what is read or by a quota.
+abbrev pub unit_early : Node → Branch → (name : List ℕ) → File → Operation → Option Line
+unit_early n b name f op = first_of (form_refused f op) (first_of (is_marked f) (keys_refused n (Some b.key.serial) name (keys_asked f op)))
+
+abbrev pub unit_late : Node → Branch → (name : List ℕ) → File → Operation → Option Line
+unit_late n b name f op = first_of (found_refused n (Some b.key.serial) name op f) (first_of (more_changes n (changes_of f op) b)
+    (first_of (more_locks n name (keys_held f op)) (first_of (file_full f op) (journal_full n name (changes_of f op) b))))
+
+-- What is asked of a node that stands on the volume, of the branch of this serial and the file of this number.
+pub record IsAsked (serial : Id) (f : ℕ) (s : UnitsState) (v : VolumeState) (n : Node) (name : List ℕ) (file : File) (b : Branch) : Type 0 where
+  pub kept : IsKept s v n
+  pub branch : find_branch serial n.volatile.branches ≡ Some b
+  pub head : FileHead
+  pub named : IsNamed v.catalog.heads f head name
+  pub found : find_file name n.durable.directory ≡ Some file
+
+-- It was done: the world does not refuse it, units and volume are those of the node after its act, and its answer is this line.
+pub record IsDone (early late : Option Line) (act : Act) (answer told : Line) (n : Node) (s : UnitsState) (v : VolumeState) : Type 0 where
+  pub allowed : first_of early late ≡ None
+  pub kept : IsKept s v (acted act n)
+  pub answers : answer ≡ told
+
+-- The disk went down, where nothing refused what was asked before it was read: each image that a power loss may leave has the node as it was, or, where nothing
+-- refuses it at all and its act is one of the disk, as it is after its act.
+pub record IsBroken (early late : Option Line) (act : Act) (n : Node) (d : DiskState) : Type 0 where
+  pub begun : early ≡ None
+  pub disk : HasDisk (fallen None n) d ⊎ ((late ≡ None) × (is_durable act ≡ true) × HasDisk (fallen (Some act) n) d)
+
+-- It is the world's refusal, or the disk went down.
+abbrev pub IsNotDone : RecErr → (early late : Option Line) → Act → Node → DiskState → Type 0
+IsNotDone e early late act n d = elim (refusal_of e) [ Some l ↦ first_of early late ≡ Some l | None ↦ IsBroken early late act n d ]
+
+-- the answer to a change: a position is told of a record that was put into a sequential file, else 0
+abbrev pub position_line : ℕ → Line
+position_line zero = line.RecordNormal
+position_line (suc n) = line.RecordPosition (suc n)
+
+-- the answer to a read
+abbrev pub record_line : ReadOp → (found : Key) → (bytes : List ℕ) → Line
+record_line (read.Get file key) found bytes = line.RecordFound bytes
+record_line (read.Next file after) found bytes = line.NextFound found bytes
+
+abbrev pub unit_act : Branch → (name : List ℕ) → File → Operation → Act
+unit_act b name f op = operation_act b name (changes_of f op) (keys_held f op)
+
+abbrev pub ChangesOk : (serial : Id) → RecordOp → (bytes : List ℕ) → (position : ℕ) → UnitsState → VolumeState → UnitsState → VolumeState → Type 0
+ChangesOk serial op bytes position s v t w = (n : Node) (name : List ℕ) (file : File) (b : Branch) → IsAsked serial (file_in op) s v n name file b →
+    IsDone (unit_early n b name file (change_said op bytes)) (unit_late n b name file (change_said op bytes)) (unit_act b name file (change_said op bytes)) (operation_answer file (change_said op bytes)) (position_line position) n t w
+
+abbrev pub ChangesErr : (serial : Id) → RecordOp → (bytes : List ℕ) → RecErr → UnitsState → VolumeState → VolumeState → Type 0
+ChangesErr serial op bytes e s v w = (n : Node) (name : List ℕ) (file : File) (b : Branch) → IsAsked serial (file_in op) s v n name file b →
+    IsNotDone e (unit_early n b name file (change_said op bytes)) (unit_late n b name file (change_said op bytes)) (unit_act b name file (change_said op bytes)) n w.store.disk
+
+-- what is read is held from then on
+abbrev pub ReadsOk : (serial : Id) → ReadOp → (found : Key) → (bytes : List ℕ) → UnitsState → VolumeState → UnitsState → VolumeState → Type 0
+ReadsOk serial op found bytes s v t w = (n : Node) (name : List ℕ) (file : File) (b : Branch) → IsAsked serial (read_file_in op) s v n name file b →
+    IsDone (unit_early n b name file (read_said op)) (unit_late n b name file (read_said op)) (unit_act b name file (read_said op)) (operation_answer file (read_said op)) (record_line op found bytes) n t w
+
+abbrev pub ReadsErr : (serial : Id) → ReadOp → RecErr → UnitsState → VolumeState → VolumeState → Type 0
+ReadsErr serial op e s v w = (n : Node) (name : List ℕ) (file : File) (b : Branch) → IsAsked serial (read_file_in op) s v n name file b →
+    IsNotDone e (unit_early n b name file (read_said op)) (unit_late n b name file (read_said op)) (unit_act b name file (read_said op)) n w.store.disk
+
+-- Operations without a branch.
+
+abbrev pub alone_early : Node → (name : List ℕ) → File → Operation → Option Line
+alone_early n name f op = first_of (form_refused f op) (first_of (needs_unit op f) (keys_refused n None name (keys_asked f op)))
+
+abbrev pub alone_late : Node → (name : List ℕ) → File → Operation → Option Line
+alone_late n name f op = first_of (found_refused n None name op f) (first_of (refused_if (nat_lt change_limit (length (changes_of f op))) (line.QuotaExceeded line.Changes change_limit)) (file_full f op))
+
+pub record IsAskedAlone (f : ℕ) (s : UnitsState) (v : VolumeState) (n : Node) (name : List ℕ) (file : File) : Type 0 where
+  pub kept : IsKept s v n
+  pub head : FileHead
+  pub named : IsNamed v.catalog.heads f head name
+  pub found : find_file name n.durable.directory ≡ Some file
+
+-- looked at
+pub record IsSeen (early late : Option Line) (answer told : Line) : Type 0 where
+  pub allowed : first_of early late ≡ None
+  pub answers : answer ≡ told
+
+abbrev pub LooksOk : ReadOp → (found : Key) → (bytes : List ℕ) → UnitsState → VolumeState → Type 0
+LooksOk op found bytes s v = (n : Node) (name : List ℕ) (file : File) → IsAskedAlone (read_file_in op) s v n name file →
+    IsSeen (alone_early n name file (read_said op)) (alone_late n name file (read_said op)) (operation_answer file (read_said op)) (record_line op found bytes)
+
+abbrev pub LooksErr : ReadOp → RecErr → UnitsState → VolumeState → VolumeState → Type 0
+LooksErr op e s v w = (n : Node) (name : List ℕ) (file : File) → IsAskedAlone (read_file_in op) s v n name file →
+    elim (refusal_of e) [
+      | Some l ↦ first_of (alone_early n name file (read_said op)) (alone_late n name file (read_said op)) ≡ Some l
+      | None ↦ (alone_early n name file (read_said op) ≡ None) × HasDisk (fallen None n) w.store.disk
+    ]
+
+-- made and committed at once, under the id that is drawn next
+abbrev pub direct_act : Node → (name : List ℕ) → File → Operation → Act
+direct_act n name f op = Directs name (changes_of f op) (commit_settlement n (next_id n) (next_id n))
+
+abbrev pub DirectsOk : (tid : Id) → (clock : ℕ) → RecordOp → (bytes : List ℕ) → (position moment : ℕ) → UnitsState → VolumeState → VolumeState → Type 0
+DirectsOk tid clock op bytes position moment s v w = (n : Node) (name : List ℕ) (file : File) → IsAskedAlone (file_in op) s v n name file → next_id n ≡ tid → n.clock ≡ clock →
+    IsDone (alone_early n name file (change_said op bytes)) (alone_late n name file (change_said op bytes)) (direct_act n name file (change_said op bytes)) (operation_answer file (change_said op bytes)) (position_line position) n s w × (moment ≡ next_moment n)
+
+abbrev pub DirectsErr : (tid : Id) → (clock : ℕ) → RecordOp → (bytes : List ℕ) → RecErr → UnitsState → VolumeState → VolumeState → Type 0
+DirectsErr tid clock op bytes e s v w = (n : Node) (name : List ℕ) (file : File) → IsAskedAlone (file_in op) s v n name file → next_id n ≡ tid → n.clock ≡ clock →
+    IsNotDone e (alone_early n name file (change_said op bytes)) (alone_late n name file (change_said op bytes)) (direct_act n name file (change_said op bytes)) n w.store.disk
+
+-- Settlements. Nothing refuses one.
+
+-- the settlement of a branch
+abbrev pub settlement_with : Outcome → Option Reason → (moment : ℕ) → Branch → Settlement
+settlement_with outcome reason moment b = record { tid = b.key.tid; serial = b.key.serial; outcome = outcome; reason = reason; moment = moment }
+
+-- the node is that after the settlement, of which the transaction and the moment are told
+pub record SettlesTo (outcome : Outcome) (reason : Option Reason) (told : SettledUnit) (n : Node) (b : Branch) (t : UnitsState) (w : VolumeState) : Type 0 where
+  pub tid : tid_of told.tid ≡ b.key.tid
+  pub serial : serial_of told.serial ≡ b.key.serial
+  pub moment : told.moment.0 ≡ next_moment n
+  pub kept : IsKept t w (acted (Settles (settlement_with outcome reason (next_moment n) b)) n)
+
+abbrev pub SettlesOk : (serial : Id) → Outcome → Option Reason → (clock : ℕ) → SettledUnit → UnitsState → VolumeState → UnitsState → VolumeState → Type 0
+SettlesOk serial outcome reason clock told s v t w = (n : Node) (b : Branch) → IsKept s v n → n.clock ≡ clock → find_branch serial n.volatile.branches ≡ Some b → SettlesTo outcome reason told n b t w
+
+-- The disk went down: each image that a power loss may leave has the node as it was, of whose branch any part may be undone where it was to be aborted, or as it is
+-- after the settlement.
+abbrev pub SettlesErr : (serial : Id) → Outcome → Option Reason → (clock : ℕ) → UnitsState → VolumeState → VolumeState → Type 0
+SettlesErr serial outcome reason clock s v w = (n : Node) (b : Branch) → IsKept s v n → n.clock ≡ clock → find_branch serial n.volatile.branches ≡ Some b →
+    HasDisk (fallen (Some (Settles (settlement_with outcome reason (next_moment n) b))) n) w.store.disk
+
+-- A restart.
+
+-- The node of the world whose boot count was just raised: its branches and locks are gone, what its volume has is what a fall left, and the entries of its journal
+-- are of branches of earlier boots.
+pub record IsRestarting (v : VolumeState) (n : Node) : Type 0 where
+  pub content : List (List ℕ)
+  pub told : v.store.current ≡ Some content
+  pub name : n.name ≡ v.catalog.home.node
+  pub blocks : n.blocks ≡ v.store.disk.size
+  pub leaves : LeavesVolume content v.catalog n
+  pub branches : n.volatile.branches ≡ []
+  pub locks : n.volatile.locks ≡ []
+  pub earlier : AllByRecursion (λ (e : JournalEntry). (serial_in e).boot < n.durable.boot) n.durable.units.entries
+
+-- the act by which a unit is undone, and the node after so many of them
+abbrev pub undone_act : Node → RecoveryUnit → Act
+undone_act n u = Settles (abort_settlement SegFail n u.tid u.serial)
+
+abbrev pub after_undone : ℕ → Node → List RecoveryUnit → Node
+after_undone zero n us = n
+after_undone (suc k) n [] = n
+after_undone (suc k) n (u ∷ us) = after_undone k (acted (undone_act n u) n) us
+
+-- the act of the next of them, where there is one
+abbrev pub undone_next : ℕ → Node → List RecoveryUnit → Option Act
+undone_next zero n [] = None
+undone_next zero n (u ∷ us) = Some (undone_act n u)
+undone_next (suc k) n [] = None
+undone_next (suc k) n (u ∷ us) = undone_next k (acted (undone_act n u) n) us
+
+-- the settlements that were made, in their order
+abbrev pub settlements_of : ℕ → Node → List RecoveryUnit → List Settlement
+settlements_of zero n us = []
+settlements_of (suc k) n [] = []
+settlements_of (suc k) n (u ∷ us) = abort_settlement SegFail n u.tid u.serial ∷ settlements_of k (acted (undone_act n u) n) us
+
+-- and as they are told
+abbrev pub told_settlement : SettledUnit → Settlement
+told_settlement u = record { tid = tid_of u.tid; serial = serial_of u.serial; outcome = Abort; reason = Some SegFail; moment = u.moment.0 }
+
+abbrev pub told_in : List SettledUnit → List Settlement
+told_in us = map told_settlement us
+
+-- all are undone, and nothing is unsettled
+pub record ReopensTo (told : List SettledUnit) (n : Node) (t : UnitsState) (w : VolumeState) : Type 0 where
+  pub settled : told_in told ≡ settlements_of (length (left_active n)) n (left_active n)
+  pub kept : IsKept t w (after_undone (length (left_active n)) n (left_active n))
+
+abbrev pub ReopensOk : (clock : ℕ) → List SettledUnit → VolumeState → UnitsState → VolumeState → Type 0
+ReopensOk clock told v t w = (n : Node) → IsRestarting v n → n.clock ≡ clock → ReopensTo told n t w
+
+-- so many were undone, which are told, and then the disk went down: the next one may be undone in any part, or whole
+pub record BreaksAfter (told : List SettledUnit) (n : Node) (d : DiskState) : Type 0 where
+  pub settled : told_in told ≡ settlements_of (length told) n (left_active n)
+  pub disk : HasDisk (fallen (undone_next (length told) n (left_active n)) (after_undone (length told) n (left_active n))) d
+
+abbrev pub ReopensErr : (clock : ℕ) → List SettledUnit → VolumeState → VolumeState → Type 0
+ReopensErr clock told v w = (n : Node) → IsRestarting v n → n.clock ≡ clock → BreaksAfter told n w.store.disk

@@ -1,0 +1,76 @@
+-- What holds of a node and its volume over acts that no unit takes part in.
+use Rattle.std.specs.Prelude.{◌≡◌, ℕ, ◌+◌, ◌-◌, ◌*◌, ◌<◌, ◌≤◌, List, [], Bool, false, Some, None, length, option_map, replicate, slice_set}
+use Rattle.file_base.specs.declared.head.FileHead.{FileHead}
+use Rattle.careful_write.specs.State.{EachWhole}
+use Rattle.change_set.specs.Files.{AgreesOut, in_extent}
+use Rattle.std.specs.List.{AllByRecursion}
+use Rattle.commit_protocol.specs.Table.{Active}
+use Rattle.commit_protocol.specs.Rows.{blank}
+use Rattle.extents.specs.Extents.{IsFreeRun, all_extents}
+use Rattle.volume.specs.declared.catalog.Catalog.{Catalog}
+use Rattle.volume.specs.Catalogs.{IsSound}
+use Rattle.volume.specs.State.{VolumeState}
+use Rattle.volume.specs.Limits.{data_area}
+use Rattle.volume_format.specs.Home.{sizes_of}
+use Rattle.vms_model.specs.Ids.{Id}
+use Rattle.run_model.specs.World.{Node, File, Label, Boots, Begins, ComesUp, Creates, Formats, Marks, acted, next_id}
+use Rattle.directory_model.specs.Files.{IsFile, IsHeadOf, IsNamed, NoneNamed, head_at}
+use Rattle.directory_model.specs.Laws.{marked}
+use Rattle.volume_model.specs.Volumes.{HasVolume, LeavesVolume}
+use Rattle.unit_table.specs.Units.{first_to_change}
+use Rattle.record_operations.specs.Asking.{written}
+use Rattle.record_operations.specs.Forms as form
+use Rattle.record_operations.specs.declared.ops.RecordOp.{RecordOp}
+use Rattle.record_operations.specs.declared.ops.ReadOp.{ReadOp}
+use Rattle.run_model.specs.Operations.{form_refused}
+use Rattle.recovery_units.specs.State.{UnitsState, IsKept, IsNew, IsInOrder, IsShowable, nothing_begun, with_begun}
+use Rattle.recovery_units.specs.Calls.{IsNumbered, cause_line, change_said, read_said}
+
+-- A volume that was just made, with so many log slots and blocks of a journal: it has no file, its journal no entry, and its home tells no boot and no settlement.
+pub record IsMade (content : List (List ℕ)) (v : Catalog) (slots journal : ℕ) : Type 0 where
+  pub slots_are : v.home.slots ≡ slots
+  pub journal_is : v.home.ru_blocks ≡ journal
+  pub boot : v.home.boot ≡ 0
+  pub greatest : v.home.greatest_moment.0 ≡ 0
+  pub last : v.home.last ≡ None
+  pub heads : v.heads ≡ replicate 64 None
+  pub first : v.ru.first ≡ 0
+  pub end : v.ru.end ≡ 0
+  pub some : 0 < v.ru.blocks
+  pub within : v.ru.start - 518 + v.ru.blocks ≤ length content
+
+-- the block of a file's number is written, which has this head from then on
+abbrev pub HeadWritten : (f : ℕ) → FileHead → VolumeState → VolumeState → Type 0
+HeadWritten f h v w = (w.catalog ≡ record v.catalog { heads = slice_set v.catalog.heads f (Some h) }) × ((bytes : List ℕ) × (w.store.current ≡ option_map (λ blocks. slice_set blocks (519 + f - 518) bytes) v.store.current)) × (w.store.disk.size ≡ v.store.disk.size)
+
+-- Laws with a content ask that each of its blocks has 512 bytes, as a store promises of what it reads.
+pub record KeepsNodes : Type 0 where
+  -- what a node has in its volume is what it leaves of it,
+  pub falls : (content : List (List ℕ)) (v : Catalog) (n : Node) → HasVolume content v n → LeavesVolume content v n
+  -- also once it is down, and whatever it was to do
+  pub down : (content : List (List ℕ)) (v : Catalog) (n m : Node) → LeavesVolume content v n → m.name ≡ n.name → m.durable ≡ n.durable → m.up ≡ false → LeavesVolume content v m
+  -- its entries can be shown
+  pub shows : (s : UnitsState) (v : VolumeState) (n : Node) → IsKept s v n → AllByRecursion (IsShowable v.catalog.heads v.catalog.home.greatest_moment.0) n.durable.units.entries
+  -- a node that has no branch comes up
+  pub comes : (v : VolumeState) (n : Node) → IsKept nothing_begun v n → IsKept nothing_begun v (acted ComesUp n)
+  -- a branch begins, whose id is drawn
+  pub begins : (s : UnitsState) (v : VolumeState) (n : Node) (label : Label) (serial : Id) → IsKept s v n → IsNew serial s → serial ≡ next_id n → length s.begun < 64 → IsKept (with_begun serial serial s) v (acted (Begins label (blank serial serial None Active None)) n)
+  -- a file that no unsettled branch changed is marked, or no more
+  pub marks : (s : UnitsState) (v w : VolumeState) (n : Node) (f : ℕ) (h : FileHead) (name : List ℕ) (units : Bool) (content : List (List ℕ)) → IsKept s v n → IsInOrder s v → IsNamed v.catalog.heads f h name → first_to_change f s.begun ≡ None →
+      HeadWritten f (marked units h) v w → w.store.current ≡ Some content → EachWhole content → IsKept s w (acted (Marks name units) n)
+  -- blocks of a free run are written
+  pub free : (s : UnitsState) (v w : VolumeState) (n : Node) (h : FileHead) (content : List (List ℕ)) → IsKept s v n → IsInOrder s v → IsFreeRun (data_area (sizes_of v.catalog.home)) (all_extents v.catalog.heads) h.start (h.alloc * h.bucket) →
+      w.catalog ≡ v.catalog → w.store.disk.size ≡ v.store.disk.size → AgreesOut (in_extent h) v.store.current w.store.current → w.store.current ≡ Some content → EachWhole content → IsKept s w n
+  -- a file without records is made in a free run, under a new name, at the lowest number that is free
+  pub creates : (s : UnitsState) (v w : VolumeState) (n : Node) (f : ℕ) (h : FileHead) (file : File) (content new : List (List ℕ)) → IsKept s v n → IsInOrder s v → f < 64 → head_at v.catalog.heads f ≡ None →
+      ((g : ℕ) → g < f → head_at v.catalog.heads g ≡ None → ⊥) → NoneNamed v.catalog.heads 64 h.name → IsFreeRun (data_area (sizes_of v.catalog.home)) (all_extents v.catalog.heads) h.start (h.alloc * h.bucket) → file.history.live ≡ [] → v.store.current ≡ Some content → IsFile content h file → HeadWritten f h v w → w.store.current ≡ Some new → EachWhole new →
+      IsKept s w (acted (Creates f file) n)
+  -- the boot count is raised
+  pub boots : (content : List (List ℕ)) (bytes : List ℕ) (v : Catalog) (n : Node) → LeavesVolume content v n → IsSound n.name n.blocks v → length bytes ≡ 512 → LeavesVolume (slice_set content 0 bytes) (record v { home = record v.home { boot = v.home.boot + 1 } }) (acted Boots n)
+  -- a volume is made
+  pub formats : (content : List (List ℕ)) (v : Catalog) (n : Node) (slots journal : ℕ) → IsMade content v slots journal → EachWhole content → n.up ≡ false → LeavesVolume content v (acted (Formats slots journal) n)
+
+-- What refuses an operation by its form alone is told of a file's head as the world says it of the file.
+pub record FormsRefuseAlike : Type 0 where
+  pub changes : (h : FileHead) (file : File) (op : RecordOp) (bytes : List ℕ) → IsHeadOf h file → IsNumbered op → option_map cause_line (form.form_refused h op (length (written op bytes))) ≡ form_refused file (change_said op bytes)
+  pub reads : (h : FileHead) (file : File) (op : ReadOp) → IsHeadOf h file → option_map cause_line (form.read_form_refused h op) ≡ form_refused file (read_said op)

@@ -1,0 +1,4 @@
+pub mod State
+pub mod Uses
+pub mod Calls
+pub mod Laws

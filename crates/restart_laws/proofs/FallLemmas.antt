@@ -1,0 +1,108 @@
+-- Files after a fall and after groups of an undo.
+use Rattle.std.proofs.Common.{◌≡◌, ℕ, Bool, true, false, cond, List, [], ◌∷◌, ◌++◌, map, Option, Some, None, refl, sym, ◌∙◌, ap, subst}
+use Rattle.std.specs.FinMap.{get}
+use Rattle.file_base.specs.declared.head.FileHead.{FileHead}
+use Rattle.file_base.specs.declared.head.Organization.{Organization as Kept}
+use Rattle.file_base.specs.declared.head.Organization.TheVariants.{Sequential, Relative, Indexed}
+use Rattle.record_files.specs.Any as any
+use Rattle.record_files.specs.Any.{map_of}
+use Rattle.indexed_file.specs.Chain as indexed
+use Rattle.vms_model.specs.Keys.{Key, Text}
+use Rattle.records_model.specs.Records.{Change}
+use Rattle.records_model.specs.Slots.{Slot, with_value, lookup, IsOrdered}
+use Rattle.records_model.specs.Parts.{all_slots}
+use Rattle.records_model.specs.Layout.{Layout}
+use Rattle.records_model.specs.History.{records, current, changes_key}
+use Rattle.unit_laws.specs.Units.{Map, map_in, earliest_before, Represents, IsOrderly}
+use Rattle.unit_laws.specs.Layouts.{slot_restored, layout_restored}
+use Rattle.unit_laws.proofs.RepresentLemmas.{group_keeps}
+use Rattle.run_model.specs.World.{File}
+use Rattle.directory_model.specs.Files.{IsFile, IsPlace, head_at, file_at, laid_in}
+use Rattle.directory_model.specs.Restoring.{AlikeBare, bare, IsLeft, IsPlaceLeft, IsPlaceRestorable, CanRestore, IsLayoutOf, IsGrouped, IsPlaceGrouped}
+use Rattle.directory_model.proofs.Moving.{head_moved, same_organization}
+use Rattle.restart_laws.specs.Falls.{FallsLeave, GroupsLeave}
+
+-- The layout of the world's file.
+pub slots_of_chain : (h : FileHead) (b : List (List ℕ)) (ns : List ℕ) → all_slots (map (indexed.slots_in h b) ns) ≡ indexed.slots_along h b ns
+slots_of_chain h b [] = refl
+slots_of_chain h b (n ∷ ns) = ap (λ (ss : List Slot). indexed.slots_in h b n ++ ss) (slots_of_chain h b ns)
+
+layout_told : (o : Kept) (h : FileHead) (content : List (List ℕ)) (file : File) → any.LaidOutBy o h content → ((key : Key) → get (current file.history) key ≡ any.map_by o h content key) → file.layout ≡ laid_in (any.chain_by o h content) → IsLayoutOf o file
+layout_told Sequential h content file laid records layout = layout
+layout_told Relative h content file laid records layout = layout
+layout_told Indexed h content file laid records layout = record {
+  ordered = subst IsOrdered (sym (slots_of_chain h content (indexed.leaves_of h content)) ∙ sym (ap (λ (l : Layout). all_slots l.chain) layout)) laid.ordered;
+  tells = λ k. ap (λ (l : Layout). lookup (all_slots l.chain) k) layout ∙ ap (λ (ss : List Slot). lookup ss k) (slots_of_chain h content (indexed.leaves_of h content)) ∙ sym (records (Text k));
+}
+
+-- A fall.
+file_left : (content : List (List ℕ)) (h : FileHead) (file : File) → IsFile content h file → IsOrderly file.history → CanRestore h content file.history.live → IsLeft content h file
+file_left content h file is orderly can = record {
+  head = is.head;
+  laid = is.laid;
+  represents = subst (λ (m : Map). Represents file.history.live m (map_in (records file.history))) same orderly.represents;
+  layout = ap (λ (l : Layout). map (map bare) l.chain) (sym is.layout);
+  own = layout_told h.organization h content file is.laid is.records is.layout;
+  can = can;
+}
+  where
+    same : map_in (current file.history) ≡ map_of h content
+    same = λ i key. is.records key i
+
+place_left : (content : List (List ℕ)) (o : Option FileHead) (p : Option File) → IsPlace content o p → ((file : File) → p ≡ Some file → IsOrderly file.history) → IsPlaceRestorable content o p → IsPlaceLeft content o p
+place_left content None None is orderly can = tt
+place_left content None (Some file) is orderly can = absurd is
+place_left content (Some h) None is orderly can = absurd is
+place_left content (Some h) (Some file) is orderly can = file_left content h file is (orderly file refl) can
+
+pub falls_leave : FallsLeave
+falls_leave content heads n are units can = record {
+  heads_long = are.heads_long;
+  directory_long = are.directory_long;
+  each = λ f. place_left content (head_at heads f) (file_at n.durable.directory f) (are.each f) (λ file there. (units.tells f file there).notes.orderly) (can f);
+}
+
+-- A group of an undo.
+file_grouped : (a b : List (List ℕ)) (h new : FileHead) (file : File) → IsLeft a h file → IsGrouped a h file.history.live b new → IsLeft b new file
+file_grouped a b h new file left group = record {
+  head = head_moved h new file group.same group.form left.head;
+  laid = group.laid;
+  represents = group_keeps file.history.live (map_of h a) (map_of new b) (map_in (records file.history)) left.represents group.group.others group.group.images;
+  layout = group.layout ∙ left.layout;
+  own = subst (λ (o : Kept). IsLayoutOf o file) (sym (same_organization h new group.same)) left.own;
+  can = group.can;
+}
+
+place_grouped : (a b : List (List ℕ)) (o o' : Option FileHead) (p : Option File) → IsPlaceLeft a o p → IsPlaceGrouped a o p b o' → IsPlaceLeft b o' p
+place_grouped a b None None None left group = tt
+place_grouped a b None (Some new) None left group = absurd group
+place_grouped a b None o' (Some file) left group = absurd left
+place_grouped a b (Some h) o' None left group = absurd left
+place_grouped a b (Some h) None (Some file) left group = absurd group
+place_grouped a b (Some h) (Some new) (Some file) left group = file_grouped a b h new file left group
+
+pub groups_leave : GroupsLeave
+groups_leave a b heads new n left group = record {
+  heads_long = group.long ∙ left.heads_long;
+  directory_long = left.directory_long;
+  each = λ f. place_grouped a b (head_at heads f) (head_at new f) (file_at n.durable.directory f) (left.each f) (group.each f);
+}
+
+-- Layouts that are alike but for their records.
+restored_bare : (cs : List Change) (s : Slot) → bare (slot_restored cs s) ≡ bare (slot_restored cs (bare s))
+restored_bare cs s = step (changes_key (Text s.key) cs)
+  where
+    step : (x : Bool) → bare (cond x (with_value (earliest_before cs (Text s.key)) s) s) ≡ bare (cond x (with_value (earliest_before cs (Text s.key)) (bare s)) (bare s))
+    step true = refl
+    step false = refl
+
+pub restores_alike : (cs : List Change) (a b : Layout) → AlikeBare a b → AlikeBare (layout_restored cs a) (layout_restored cs b)
+restores_alike cs a b e = twice a.chain ∙ ap (λ (bs : List (List Slot)). map (map bare) (map (map (slot_restored cs)) bs)) e ∙ sym (twice b.chain)
+  where
+    once : (ss : List Slot) → map bare (map (slot_restored cs) ss) ≡ map bare (map (slot_restored cs) (map bare ss))
+    once [] = refl
+    once (s ∷ ss) = ap (λ (x : Slot). x ∷ map bare (map (slot_restored cs) ss)) (restored_bare cs s) ∙ ap (λ (xs : List Slot). bare (slot_restored cs (bare s)) ∷ xs) (once ss)
+
+    twice : (bs : List (List Slot)) → map (map bare) (map (map (slot_restored cs)) bs) ≡ map (map bare) (map (map (slot_restored cs)) (map (map bare) bs))
+    twice [] = refl
+    twice (ss ∷ bs) = ap (λ (x : List Slot). x ∷ map (map bare) (map (map (slot_restored cs)) bs)) (once ss) ∙ ap (λ (xs : List (List Slot)). map bare (map (slot_restored cs) (map bare ss)) ∷ xs) (twice bs)

@@ -1,0 +1,12 @@
+pub mod ListLemmas
+pub mod FallLemmas
+pub mod RestLemmas
+pub mod UndoLemmas
+pub mod RestorableLemmas
+pub mod UnitLemmas
+pub mod FoundLemmas
+pub mod StayLemmas
+pub mod StandLemmas
+pub mod SetLemmas
+pub mod SequenceSetLemmas
+pub mod ChangingLemmas

@@ -1,0 +1,156 @@
+-- What unsettled branches changed can be restored in contents that agree on the files, beside other files, and once a branch is settled.
+use Rattle.std.proofs.Common.{◌≡◌, ℕ, suc, ◌<◌, ◌≤◌, List, [], ◌∷◌, length, Bool, Option, Some, None, replicate, slice_set, refl, sym, ap, subst, ◌∙◌, inl, inr, arith}
+use Rattle.std.specs.Option.{option_map}
+use Rattle.std.specs.List.{AllByRecursion}
+use Rattle.std.proofs.lemmas.Bool.{cases_eq}
+use Rattle.std.proofs.lemmas.List.{get_or-set_same, get_or-set_other}
+use Rattle.file_base.specs.declared.head.FileHead.{FileHead}
+use Rattle.file_base.specs.declared.head.Organization.{Organization as Kept}
+use Rattle.file_base.specs.declared.head.Organization.TheVariants.{Sequential, Relative, Indexed}
+use Rattle.change_set.specs.Files.{AgreesOn}
+use Rattle.change_set.specs.Maps.{Map}
+use Rattle.seq_file.specs.Layout.{records_in}
+use Rattle.seq_file.specs.Local as sequential
+use Rattle.relative_file.specs.Cells as relative
+use Rattle.indexed_file.specs.Chain as indexed
+use Rattle.indexed_file.specs.Local as local
+use Rattle.record_files.specs.Any.{FormBy}
+use Rattle.vms_model.specs.Keys.{Key, Number, Text, End}
+use Rattle.vms_model.specs.Transactions.{Outcome, Commit}
+use Rattle.records_model.specs.Records.{Change}
+use Rattle.records_model.specs.Slots.{size_of}
+use Rattle.records_model.specs.History.{LiveChanges, changed_with, settled_at, without}
+use Rattle.unit_laws.specs.Units.{earliest_before}
+use Rattle.unit_laws.proofs.LiveLemmas.{left_so}
+use Rattle.sequence_laws.specs.Undoing.{GoesBack}
+use Rattle.sequence_laws.proofs.SequenceLemmas.{same_records}
+use Rattle.run_model.specs.Locks.{is_locked}
+use Rattle.run_model.specs.World as world
+use Rattle.run_model.specs.World.{Node, File, Settlement, acted, directly_changed, settled_file}
+use Rattle.directory_model.specs.Files.{AreFiles, IsNamed, IsPlace, head_at, file_at}
+use Rattle.directory_model.specs.Restoring.{AreRestorable, CanRestore, CanRestoreBy, IsPlaceRestorable}
+use Rattle.directory_model.specs.Laws.{SameBut, marked}
+use Rattle.directory_model.proofs.Acts.{none_at, same_there}
+use Rattle.directory_model.proofs.Directly.{live_directly}
+use Rattle.directory_model.proofs.Finding.{finds_files}
+use Rattle.directory_model.proofs.Places.{file_mapped, within_list}
+use Rattle.restart_laws.specs.Restorable.{KeepsRestorable}
+use Rattle.restart_laws.proofs.ListLemmas.{all_as}
+use Rattle.restart_laws.proofs.FallLemmas.{falls_leave}
+use Rattle.restart_laws.proofs.RestorableLemmas.{live_settled, others_stay_restorable}
+
+-- Contents that agree on a file.
+
+rooms_stand : (h : FileHead) (a b : List (List ℕ)) (all cs : List Change) → indexed.IsIndexed h → AgreesOn h a b → AllByRecursion (λ (c : Change). indexed.Suits h c.key (earliest_before all c.key) × (size_of (earliest_before all c.key) ≤ indexed.room_at h a c.key)) cs →
+    AllByRecursion (λ (c : Change). indexed.Suits h c.key (earliest_before all c.key) × (size_of (earliest_before all c.key) ≤ indexed.room_at h b c.key)) cs
+rooms_stand h a b all [] form agrees can = tt
+rooms_stand h a b all (c ∷ cs) form agrees can = ((can.0.0, subst (λ r. size_of (earliest_before all c.key) ≤ r) (local.room_local_law h a b form agrees c.key) can.0.1), rooms_stand h a b all cs form agrees can.1)
+
+pub can_stand : (o : Kept) (h : FileHead) (a b : List (List ℕ)) (ls : List LiveChanges) → FormBy o h → AgreesOn h a b → AllByRecursion (λ (l : LiveChanges). CanRestoreBy o h a l.changes) ls → AllByRecursion (λ (l : LiveChanges). CanRestoreBy o h b l.changes) ls
+can_stand Sequential h a b ls form agrees can = all_as (λ (l : LiveChanges). CanRestoreBy Sequential h a l.changes) (λ (l : LiveChanges). CanRestoreBy Sequential h b l.changes) ls
+    (λ l can. (can.0, subst (λ now. GoesBack h l.changes now can.0) (same_records (records_in h a) (records_in h b) (λ k. ap (λ (m : Map). m (Number (suc k))) (sequential.local_law h a b form agrees))) can.1)) can
+can_stand Relative h a b ls form agrees can = can
+can_stand Indexed h a b ls form agrees can = all_as (λ (l : LiveChanges). CanRestoreBy Indexed h a l.changes) (λ (l : LiveChanges). CanRestoreBy Indexed h b l.changes) ls (λ l can. rooms_stand h a b l.changes l.changes form agrees can) can
+
+pub place_stands : (a b : List (List ℕ)) (o : Option FileHead) (p : Option File) → ((h : FileHead) → o ≡ Some h → AgreesOn h a b) → IsPlace a o p → IsPlaceRestorable a o p → IsPlaceRestorable b o p
+place_stands a b None p agree is can = tt
+place_stands a b (Some h) None agree is can = tt
+place_stands a b (Some h) (Some file) agree is can = can_stand h.organization h a b file.history.live is.head.form (agree h refl) can
+
+-- One place is set.
+pub restorable_set : (b : List (List ℕ)) (heads : List (Option FileHead)) (directory : List (Option File)) (f : ℕ) (new : FileHead) (file : File) → f < length heads → f < length directory → CanRestore new b file.history.live →
+    ((g : ℕ) → (g ≡ f → ⊥) → IsPlaceRestorable b (head_at heads g) (file_at directory g)) → AreRestorable b (slice_set heads f (Some new)) (slice_set directory f (Some file))
+restorable_set b heads directory f new file below below_too can others g = elim (cases_eq g f) [
+  | inl here ↦
+      let head : head_at (slice_set heads f (Some new)) f ≡ Some new = get_or-set_same heads f (Some new) None below in
+      let now : file_at (slice_set directory f (Some file)) f ≡ Some file = get_or-set_same directory f (Some file) None below_too in
+      subst (λ x. IsPlaceRestorable b (head_at (slice_set heads f (Some new)) x) (file_at (slice_set directory f (Some file)) x)) (sym here)
+      (subst (λ o. IsPlaceRestorable b o (file_at (slice_set directory f (Some file)) f)) (sym head) (subst (λ o. IsPlaceRestorable b (Some new) o) (sym now) can))
+  | inr other ↦
+      subst (λ o. IsPlaceRestorable b o (file_at (slice_set directory f (Some file)) g)) (sym (get_or-set_other heads f g (Some new) None other))
+      (subst (λ o. IsPlaceRestorable b (head_at heads g) o) (sym (get_or-set_other directory f g (Some file) None other)) (others g other))
+]
+
+-- what can be restored of the file at a place
+pub restorable_at : (content : List (List ℕ)) (heads : List (Option FileHead)) (directory : List (Option File)) (f : ℕ) (h : FileHead) (file : File) → head_at heads f ≡ Some h → file_at directory f ≡ Some file → AreRestorable content heads directory → CanRestore h content file.history.live
+restorable_at content heads directory f h file head there can = subst (λ p. IsPlaceRestorable content (Some h) p) there (subst (λ o. IsPlaceRestorable content o (file_at directory f)) head (can f))
+
+-- the others, where one file's blocks alone changed
+pub others_stand : (a b : List (List ℕ)) (heads : List (Option FileHead)) (directory : List (Option File)) (f g : ℕ) → AreFiles a heads directory → SameBut f heads a b → AreRestorable a heads directory → (g ≡ f → ⊥) → IsPlaceRestorable b (head_at heads g) (file_at directory g)
+others_stand a b heads directory f g are same can other = place_stands a b (head_at heads g) (file_at directory g) (λ h head. same g h other head) (are.each g) (can g)
+
+-- INIT
+formats : (content : List (List ℕ)) (n : Node) (slots journal : ℕ) → AreRestorable content (replicate 64 None) (acted (world.Formats slots journal) n).durable.directory
+formats content n slots journal f = subst (λ o. IsPlaceRestorable content o (file_at (acted (world.Formats slots journal) n).durable.directory f)) (sym (none_at {A = FileHead} 64 f)) tt
+
+-- CREATE
+creates : (content : List (List ℕ)) (heads : List (Option FileHead)) (n : Node) (f : ℕ) (h : FileHead) (file : File) → AreFiles content heads n.durable.directory → f < 64 → file.history.live ≡ [] →
+    AreRestorable content heads n.durable.directory → AreRestorable content (slice_set heads f (Some h)) (acted (world.Creates f file) n).durable.directory
+creates content heads n f h file are within none can =
+    let long = are.heads_long in let long_too = are.directory_long in
+    restorable_set content heads n.durable.directory f h file (omega arith) (omega arith) (subst (CanRestore h content) (sym none) tt) (λ g other. can g)
+
+-- SET_FILE
+goes_marked : (units : Bool) (h : FileHead) (cs : List Change) (now back : List (List ℕ)) → GoesBack h cs now back → GoesBack (marked units h) cs now back
+goes_marked units h cs now back g = record { restored = g.restored; own = g.own; absent = g.absent; same = g.same; records = g.records; fits = g.fits }
+
+suits_marked : (units : Bool) (h : FileHead) (key : Key) (v : Option (List ℕ)) → relative.Suits h key v → relative.Suits (marked units h) key v
+suits_marked units h (Number n) v suits = suits
+suits_marked units h (Text t) v suits = suits
+suits_marked units h End v suits = suits
+
+fits_marked : (units : Bool) (h : FileHead) (content : List (List ℕ)) (key : Key) (v : Option (List ℕ)) → indexed.Suits h key v × (size_of v ≤ indexed.room_at h content key) → indexed.Suits (marked units h) key v × (size_of v ≤ indexed.room_at (marked units h) content key)
+fits_marked units h content (Number n) v fits = absurd fits.0
+fits_marked units h content (Text k) v fits = (record { size = fits.0.size; has = fits.0.has; most = fits.0.most }, fits.1)
+fits_marked units h content End v fits = absurd fits.0
+
+can_marked : (o : Kept) (units : Bool) (h : FileHead) (content : List (List ℕ)) (cs : List Change) → CanRestoreBy o h content cs → CanRestoreBy o (marked units h) content cs
+can_marked Sequential units h content cs can = (can.0, goes_marked units h cs (records_in h content) can.0 can.1)
+can_marked Relative units h content cs can = all_as (λ (c : Change). relative.Suits h c.key (earliest_before cs c.key)) (λ (c : Change). relative.Suits (marked units h) c.key (earliest_before cs c.key)) cs (λ c suits. suits_marked units h c.key (earliest_before cs c.key) suits) can
+can_marked Indexed units h content cs can = all_as (λ (c : Change). indexed.Suits h c.key (earliest_before cs c.key) × (size_of (earliest_before cs c.key) ≤ indexed.room_at h content c.key))
+    (λ (c : Change). indexed.Suits (marked units h) c.key (earliest_before cs c.key) × (size_of (earliest_before cs c.key) ≤ indexed.room_at (marked units h) content c.key)) cs (λ c fits. fits_marked units h content c.key (earliest_before cs c.key) fits) can
+
+marks : (content : List (List ℕ)) (heads : List (Option FileHead)) (n : Node) (f : ℕ) (h : FileHead) (name : List ℕ) (units : Bool) → AreFiles content heads n.durable.directory → IsNamed heads f h name →
+    AreRestorable content heads n.durable.directory → AreRestorable content (slice_set heads f (Some (marked units h))) (acted (world.Marks name units) n).durable.directory
+marks content heads n f h name units are named can =
+    let directory = n.durable.directory in
+    let found = finds_files.found content heads directory f h name are named in
+    let below = within_list heads f h named.there in let long = are.heads_long in let long_too = are.directory_long in
+    subst (AreRestorable content (slice_set heads f (Some (marked units h)))) (sym (found.2.changed (λ file. record file { recovery_units = units })))
+    (restorable_set content heads directory f (marked units h) (record found.0 { recovery_units = units }) below (omega arith)
+    (all_as (λ (l : LiveChanges). CanRestoreBy h.organization h content l.changes) (λ (l : LiveChanges). CanRestoreBy h.organization (marked units h) content l.changes) found.0.history.live (λ l so. can_marked h.organization units h content l.changes so)
+    (restorable_at content heads directory f h found.0 named.there found.2.there can)) (λ g other. can g))
+
+-- PUT, UPDATE, DELETE, TRUNCATE without a label
+directs : (a b : List (List ℕ)) (heads : List (Option FileHead)) (n : Node) (f : ℕ) (h new : FileHead) (name : List ℕ) (file : File) (cs : List Change) (s : Settlement) → AreFiles a heads n.durable.directory → s.outcome ≡ Commit →
+    IsNamed heads f h name → file_at n.durable.directory f ≡ Some file → file.history.live ≡ [] → SameBut f heads a b → AreRestorable a heads n.durable.directory →
+    AreRestorable b (slice_set heads f (Some new)) (acted (world.Directs name cs s) n).durable.directory
+directs a b heads n f h new name file cs s are commit named there none same can =
+    let directory = n.durable.directory in
+    let held = is_locked n.volatile.locks name in
+    let at = finds_files.found a heads directory f h name are named in
+    let one : at.0 ≡ file = same_there directory f at.0 file at.2.there there in
+    let below = within_list heads f h named.there in let long = are.heads_long in let long_too = are.directory_long in
+    let live : (directly_changed held s cs file).history.live ≡ [] = ap (λ (o : Outcome). (settled_at s.serial o s.moment (changed_with s.serial cs file.history)).live) commit ∙ live_directly s.serial s.moment cs file.history none in
+    subst (AreRestorable b (slice_set heads f (Some new))) (sym (at.2.changed (directly_changed held s cs) ∙ ap (λ (x : File). slice_set directory f (Some (directly_changed held s cs x))) one))
+    (restorable_set b heads directory f new (directly_changed held s cs file) below (omega arith) (subst (CanRestore new b) (sym live) tt) (λ g other. others_stand a b heads directory f g are same can other))
+
+-- END_TRANS
+place_settled : (content : List (List ℕ)) (o : Option FileHead) (p : Option File) (s : Settlement) → ((file : File) → p ≡ Some file → (settled_file s file).history.live ≡ without s.serial file.history.live) → IsPlaceRestorable content o p →
+    IsPlaceRestorable content o (option_map (settled_file s) p)
+place_settled content None p s live can = tt
+place_settled content (Some h) None s live can = tt
+place_settled content (Some h) (Some file) s live can =
+    subst (CanRestore h content) (sym (live file refl)) (left_so (λ (l : LiveChanges). CanRestoreBy h.organization h content l.changes) s.serial file.history.live can)
+
+pub keeps_restorable : KeepsRestorable
+keeps_restorable = record {
+  stands = λ a b heads directory agree are can f. place_stands a b (head_at heads f) (file_at directory f) (agree f) (are.each f) (can f);
+  formats = formats;
+  creates = creates;
+  marks = marks;
+  directs = directs;
+  commits = λ content heads n s units can f. subst (IsPlaceRestorable content (head_at heads f)) (sym (file_mapped (settled_file s) n.durable.directory f))
+      (place_settled content (head_at heads f) (file_at n.durable.directory f) s (λ file there. live_settled file s (units.tells f file there).notes.some) (can f));
+  aborts = λ a b heads new n s are units abort back can. others_stay_restorable a b heads new n s (falls_leave a heads n are units can) units abort back;
+}

@@ -1,0 +1,48 @@
+-- What unsettled branches changed can be restored, over each act of a node that is up.
+use Rattle.std.specs.Prelude.{◌≡◌, ℕ, ◌-◌, ◌<◌, ◌≤◌, List, [], ◌∷◌, Bool, true, Option, Some, None, map, replicate, slice_set, drop}
+use Rattle.file_base.specs.declared.head.FileHead.{FileHead}
+use Rattle.file_base.specs.declared.head.Organization.TheVariants.{Sequential}
+use Rattle.change_set.specs.Files.{AgreesOn, SameFile}
+use Rattle.change_set.specs.Maps.{set_key}
+use Rattle.record_files.specs.Any as any
+use Rattle.record_files.specs.Any.{map_of, IsLaidOut, Suits, Restores, room_at}
+use Rattle.seq_file.specs.Records.{cut_from}
+use Rattle.vms_model.specs.Ids.{Id}
+use Rattle.vms_model.specs.Keys.{Key}
+use Rattle.vms_model.specs.Transactions.{Commit, Abort}
+use Rattle.records_model.specs.Records.{Change}
+use Rattle.records_model.specs.History.{is_held}
+use Rattle.run_model.specs.Operations.{in_order, removed}
+use Rattle.run_model.specs.World.{Node, File, Settlement, AreUnitsOf, Formats, Creates, Marks, Changes, Directs, Settles, acted}
+use Rattle.directory_model.specs.Files.{AreFiles, IsNamed, IsWithin, head_at, file_at}
+use Rattle.directory_model.specs.Restoring.{AreRestorable, AreRestored}
+use Rattle.directory_model.specs.Laws.{SameBut, marked}
+use Rattle.restart_laws.specs.Units.{MayChange}
+
+-- What unsettled branches changed can be restored in contents that agree on the files, on a new volume, beside a new file or a marked one, after changes of a file that no
+-- unsettled branch changed, and once one of the branches is settled.
+pub record KeepsRestorable : Type 0 where
+  pub stands : (a b : List (List ℕ)) (heads : List (Option FileHead)) (directory : List (Option File)) → ((f : ℕ) (h : FileHead) → head_at heads f ≡ Some h → AgreesOn h a b) → AreFiles a heads directory →
+      AreRestorable a heads directory → AreRestorable b heads directory
+  pub formats : (content : List (List ℕ)) (n : Node) (slots journal : ℕ) → AreRestorable content (replicate 64 None) (acted (Formats slots journal) n).durable.directory
+  pub creates : (content : List (List ℕ)) (heads : List (Option FileHead)) (n : Node) (f : ℕ) (h : FileHead) (file : File) → AreFiles content heads n.durable.directory → f < 64 → file.history.live ≡ [] →
+      AreRestorable content heads n.durable.directory → AreRestorable content (slice_set heads f (Some h)) (acted (Creates f file) n).durable.directory
+  pub marks : (content : List (List ℕ)) (heads : List (Option FileHead)) (n : Node) (f : ℕ) (h : FileHead) (name : List ℕ) (units : Bool) → AreFiles content heads n.durable.directory → IsNamed heads f h name →
+      AreRestorable content heads n.durable.directory → AreRestorable content (slice_set heads f (Some (marked units h))) (acted (Marks name units) n).durable.directory
+  pub directs : (a b : List (List ℕ)) (heads : List (Option FileHead)) (n : Node) (f : ℕ) (h new : FileHead) (name : List ℕ) (file : File) (cs : List Change) (s : Settlement) → AreFiles a heads n.durable.directory → s.outcome ≡ Commit →
+      IsNamed heads f h name → file_at n.durable.directory f ≡ Some file → file.history.live ≡ [] → SameBut f heads a b → AreRestorable a heads n.durable.directory →
+      AreRestorable b (slice_set heads f (Some new)) (acted (Directs name cs s) n).durable.directory
+  pub commits : (content : List (List ℕ)) (heads : List (Option FileHead)) (n : Node) (s : Settlement) → AreUnitsOf n → AreRestorable content heads n.durable.directory → AreRestorable content heads (acted (Settles s) n).durable.directory
+  pub aborts : (a b : List (List ℕ)) (heads new : List (Option FileHead)) (n : Node) (s : Settlement) → AreFiles a heads n.durable.directory → AreUnitsOf n → s.outcome ≡ Abort → AreRestored s.serial a heads n.durable.directory b new →
+      AreRestorable a heads n.durable.directory → AreRestorable b new (acted (Settles s) n).durable.directory
+
+-- So it can once one of them has set one key more, or cut a sequential file.
+pub record ChangesRestorable : Type 0 where
+  pub sets : (a b : List (List ℕ)) (heads : List (Option FileHead)) (n : Node) (f : ℕ) (h new : FileHead) (name : List ℕ) (file : File) (tid serial : Id) (key : Key) (value : Option (List ℕ)) (keys : List Key) → AreFiles a heads n.durable.directory → AreUnitsOf n →
+      IsNamed heads f h name → file_at n.durable.directory f ≡ Some file → MayChange serial file (record { key = key; before = map_of h a key; after = value } ∷ []) → IsWithin a h → Suits h key value →
+      SameFile h new → any.IsFile new → IsLaidOut new b → map_of new b ≡ set_key key value (map_of h a) → Restores new b key (map_of h a key) → ((other : Key) → is_held file.history other ≡ true → room_at h a other ≤ room_at new b other) → SameBut f heads a b →
+      AreRestorable a heads n.durable.directory → AreRestorable b (slice_set heads f (Some new)) (acted (Changes tid serial name (record { key = key; before = map_of h a key; after = value } ∷ []) keys) n).durable.directory
+  pub cuts : (a b : List (List ℕ)) (heads : List (Option FileHead)) (n : Node) (f from : ℕ) (h new : FileHead) (name : List ℕ) (file : File) (tid serial : Id) (keys : List Key) → AreFiles a heads n.durable.directory → AreUnitsOf n →
+      IsNamed heads f h name → file_at n.durable.directory f ≡ Some file → h.organization ≡ Sequential → 1 ≤ from → MayChange serial file (map removed (drop (from - 1) (in_order file))) →
+      SameFile h new → any.IsFile new → IsLaidOut new b → map_of new b ≡ cut_from from (map_of h a) → SameBut f heads a b →
+      AreRestorable a heads n.durable.directory → AreRestorable b (slice_set heads f (Some new)) (acted (Changes tid serial name (map removed (drop (from - 1) (in_order file))) keys) n).durable.directory

@@ -1,0 +1,49 @@
+-- A branch of a node is aborted on its volume.
+use Rattle.std.specs.Prelude.{◌≡◌, ℕ, ◌+◌, List, Option, Some, length}
+use Rattle.careful_write.specs.State.{IsEither, Leaves, content}
+use Rattle.vms_model.specs.Transactions.{Abort}
+use Rattle.vms_base.specs.declared.ids.Serial.{Serial}
+use Rattle.vms_base.specs.declared.ids.Tid.{Tid}
+use Rattle.run_model.specs.World.{Node, Act, Settlement, Settles, acted, fallen}
+use Rattle.volume.specs.Catalogs.{IsSound}
+use Rattle.volume.specs.State.{VolumeState, Holds}
+use Rattle.volume_format.specs.declared.home.Ending.{Ending}
+use Rattle.volume_model.specs.Volumes.{HasDisk, HasVolume, LeavesVolume}
+use Rattle.unit_table.specs.Units.{OpenUnit}
+use Rattle.unit_undo.specs.Undoing.{GoesOn}
+use Rattle.unit_undo.specs.Way.{Undoes, FailsOnTheWay}
+use Rattle.settlement_laws.specs.Settled.{Makes, MaySettle}
+use Rattle.undo_laws.specs.Undoable.{positions_for}
+
+-- The volume of a node that tells this content, on which a branch may be aborted so.
+pub record MayAbort (n : Node) (s : Settlement) (a : List (List ℕ)) (v : VolumeState) : Type 0 where
+  pub told : v.store.current ≡ Some a
+  pub holds : Holds v
+  pub sound : IsSound n.name n.blocks v.catalog
+  pub long : length v.catalog.heads ≡ 64
+  pub size : length a + 518 ≡ n.blocks
+  pub disk : v.store.disk.size ≡ n.blocks
+  pub abort : s.outcome ≡ Abort
+  pub may : MaySettle n s
+
+-- What the branch changed was set back in the volume, from these positions of the journal, and its settlement was made of that.
+pub record IsAborted (n : Node) (s : Settlement) (tid : Tid) (serial : Serial) (ending : Ending) (left : List (Option OpenUnit)) (ps : List ℕ) (v mid w : VolumeState) : Type 0 where
+  pub goes : GoesOn v mid
+  pub undoes : Undoes ps v mid
+  pub makes : Makes n s tid serial ending left mid w
+
+-- Then it is the volume of the node after the settlement: of one that is up, and of one that fell.
+pub record AbortsSettle : Type 0 where
+  pub has : (a c : List (List ℕ)) (n : Node) (s : Settlement) (tid : Tid) (serial : Serial) (ending : Ending) (left : List (Option OpenUnit)) (v mid w : VolumeState) (has : HasVolume a v.catalog n) → MayAbort n s a v →
+      IsAborted n s tid serial ending left (positions_for n s.serial v.catalog has.journal.entries) v mid w → w.store.current ≡ Some c → HasVolume c w.catalog (acted (Settles s) n)
+  pub leaves : (a c : List (List ℕ)) (n : Node) (s : Settlement) (tid : Tid) (serial : Serial) (ending : Ending) (left : List (Option OpenUnit)) (v mid w : VolumeState) (fell : LeavesVolume a v.catalog n) → MayAbort n s a v →
+      IsAborted n s tid serial ending left (positions_for n s.serial v.catalog fell.journal.entries) v mid w → w.store.current ≡ Some c → LeavesVolume c w.catalog (acted (Settles s) n)
+
+-- Where the disk goes down, it has what the node leaves that falls: on the way of the undo, and in the last group.
+pub record AbortsFail : Type 0 where
+  pub undo : (a : List (List ℕ)) (n : Node) (s : Settlement) (act : Option Act) (v w : VolumeState) (fell : LeavesVolume a v.catalog n) → MayAbort n s a v → FailsOnTheWay (positions_for n s.serial v.catalog fell.journal.entries) v w →
+      HasDisk (fallen act n) w.store.disk
+  pub before : (a : List (List ℕ)) (n : Node) (s : Settlement) (act : Option Act) (v mid w : VolumeState) (fell : LeavesVolume a v.catalog n) → MayAbort n s a v → GoesOn v mid →
+      Undoes (positions_for n s.serial v.catalog fell.journal.entries) v mid → Leaves (λ c. Some c ≡ content mid.store) w.store.disk → HasDisk (fallen act n) w.store.disk
+  pub last : (a : List (List ℕ)) (n : Node) (s : Settlement) (tid : Tid) (serial : Serial) (ending : Ending) (left : List (Option OpenUnit)) (v mid made w : VolumeState) (fell : LeavesVolume a v.catalog n) → MayAbort n s a v →
+      IsAborted n s tid serial ending left (positions_for n s.serial v.catalog fell.journal.entries) v mid made → Leaves (IsEither (content mid.store) made.store.current) w.store.disk → HasDisk (fallen (Some (Settles s)) n) w.store.disk

@@ -1,0 +1,21 @@
+use Rattle.volume_laws.proofs.WholeLemmas.{volume_falls}
+use Rattle.unit_world.proofs.Keeping.{begins, comes}
+use Rattle.unit_world.proofs.Leaving.{boots, down, formats}
+use Rattle.unit_world.proofs.Showing.{shows}
+use Rattle.unit_world.proofs.Making.{creates, free}
+use Rattle.unit_world.proofs.Marking.{marks}
+use Rattle.unit_world.proofs.nodes_are_kept.Goals as goal
+
+pub returns : goal.returns
+returns c = record {
+  falls = volume_falls;
+  down = down;
+  shows = λ s v n kept. shows kept.content v.catalog n kept.has;
+  comes = comes;
+  begins = begins;
+  marks = marks;
+  free = free;
+  creates = creates;
+  boots = boots;
+  formats = formats;
+}

@@ -1,0 +1,4 @@
+pub mod Entries
+pub mod Homes
+pub mod Volumes
+pub mod Laws
