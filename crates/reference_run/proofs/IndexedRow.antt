@@ -12,17 +12,16 @@ use Rattle.records_model.specs.History.{SettledChanges, LiveChanges}
 use Rattle.records_model.proofs.KeyLemmas.{key_cmp_total}
 use Rattle.transcript_model.specs.Lines as line
 use Rattle.script_model.specs.Statements as said
-use Rattle.run_model.specs.World.{World, File, Branch, Label, Settlement, Indexed, nothing_carried, Sound, Power}
+use Rattle.unit_laws.specs.Journal.{Journal, JournalEntry, ChangeEntry, empty_journal}
+use Rattle.run_model.specs.Locks.{Lock}
+use Rattle.run_model.specs.World.{World, Volatile, File, Label, Settlement, Indexed, nothing_carried}
 use Rattle.run_model.specs.Transcript.{Entry, Done, text_of}
 use Rattle.reference_run.specs.Whole.{run_from, shown_whole}
 use Rattle.reference_run.specs.Rows.{fed, larger_disk, base_shown, IndexedFileIsRestored}
 use Rattle.reference_run.proofs.DigitLemmas.{digit_1, digit_2, digit_3, digit_4, digit_5, digit_6, digit_7, digit_8, digit_9, ten, eleven, twelve, thirteen, fourteen, fifteen, sixteen, seventeen, eighteen, first_moment, second_moment}
 use Rattle.reference_world.proofs.EntryLemmas.{one_entry}
 use Rattle.reference_run.proofs.RunLemmas.{says, told}
-use Rattle.reference_run.proofs.RowLemmas.{told_first, first_id, first_label, file_at, units, line_said, rest, done}
-
-abbrev second_id : Id
-second_id = record { node = codes "A"; boot = 1; seq = 2 }
+use Rattle.reference_run.proofs.RowLemmas.{told_first, first_id, first_branch, first_label, one_drawn, ended_at, file_at, node_at, world_of, line_said, rest, done, settlement, second_id, second_branch, both_labels, two_drawn}
 
 abbrev index_file : List SettledChanges → List LiveChanges → List Slot → File
 index_file done live slots = record {
@@ -38,32 +37,9 @@ index_file done live slots = record {
   layout = record { chain = slots ∷ [] };
 }
 
-abbrev world_idx : (greatest : ℕ) → Option Settlement → (drawn : ℕ) → List Branch → List Settlement → List Label → List SettledChanges → List LiveChanges → List Slot → World
-world_idx greatest last drawn branches ended labels done live slots = record {
-  nodes = record {
-    name = codes "A";
-    blocks = larger_disk;
-    volume = Sound;
-    unmade = false;
-    slots = 64;
-    journal = 64;
-    boot = 1;
-    greatest = greatest;
-    last = last;
-    units = units;
-    directory = Some (file_at [] []) ∷ Some (index_file done live slots) ∷ replicate 62 None;
-    up = true;
-    was_up = true;
-    clock = 0;
-    drawn = drawn;
-    branches = branches;
-    settled = ended;
-    calls = Power 0 ∷ Power 0 ∷ [];
-    under_way = None;
-  } ∷ [];
-  disks = record { faults = 0; stops = 0 } ∷ [];
-  shared = record { labels = labels; in_use = true };
-}
+abbrev world_idx : (greatest : ℕ) → Option Settlement → Journal → Volatile → List Settlement → List Label → List SettledChanges → List LiveChanges → List Slot → World
+world_idx greatest last units volatile ended labels done live slots =
+    world_of (record (node_at greatest last units (Some (file_at [] []) ∷ Some (index_file done live slots) ∷ replicate 62 None) volatile ended) { blocks = larger_disk }) labels
 
 abbrev set_at : List ℕ → Option (List ℕ) → Option (List ℕ) → Change
 set_at key before after = record { key = Text key; before = before; after = after }
@@ -71,12 +47,19 @@ set_at key before after = record { key = Text key; before = before; after = afte
 abbrev slot_at : List ℕ → Option (List ℕ) → Slot
 slot_at key value = record { key = key; room = 3; value = value }
 
--- behind the first START_TRANS, and with changes of its branch
-abbrev first_world : ℕ → List LiveChanges → List Slot → World
-first_world changes live slots = world_idx 0 None 1 (record { tid = first_id; serial = first_id; changes = changes } ∷ []) [] (first_label ∷ []) [] live slots
+-- a change's entry, by what was there, and the lock of its key
+abbrev entered : Id → List ℕ → Option (List ℕ) → JournalEntry
+entered id key before = ChangeEntry id id (codes "I") (Text key) before
 
-abbrev live_of : Id → List Change → List LiveChanges
-live_of id cs = record { serial = id; changes = cs } ∷ []
+abbrev lock_at : Id → List ℕ → Lock
+lock_at id key = record { file = codes "I"; key = Text key; by = id }
+
+-- behind the first START_TRANS, and with changes of its branch
+abbrev first_begun : World
+first_begun = world_idx 0 None empty_journal (one_drawn (first_branch false ∷ []) []) [] (first_label ∷ []) [] [] []
+
+abbrev first_world : List JournalEntry → List Lock → List Change → List Slot → World
+first_world es locks cs slots = world_idx 0 None (record { first = 0; entries = es }) (one_drawn (first_branch true ∷ []) locks) [] (first_label ∷ []) [] (record { serial = first_id; changes = cs } ∷ []) slots
 
 abbrev put_bb : List Change
 put_bb = set_at (codes "bb") None (Some (codes "bb1")) ∷ []
@@ -90,18 +73,24 @@ slot_bb = slot_at (codes "bb") (Some (codes "bb1"))
 abbrev slot_aa : Slot
 slot_aa = slot_at (codes "aa") (Some (codes "aa2"))
 
+abbrev with_bb : World
+with_bb = first_world (entered first_id (codes "bb") None ∷ []) (lock_at first_id (codes "bb") ∷ []) put_bb (slot_bb ∷ [])
+
+abbrev both_put : World
+both_put = first_world (entered first_id (codes "bb") None ∷ entered first_id (codes "aa") None ∷ []) (lock_at first_id (codes "aa") ∷ lock_at first_id (codes "bb") ∷ []) put_aa (slot_aa ∷ slot_bb ∷ [])
+
 abbrev first_end : Settlement
-first_end = record { tid = first_id; serial = first_id; outcome = settled.Commit; reason = None; moment = 1 }
+first_end = settlement settled.Commit None
 
 abbrev first_done : SettledChanges
 first_done = record { serial = first_id; outcome = settled.Commit; moment = 1; changes = put_aa }
 
 -- behind the second one
-abbrev labels : List Label
-labels = record { name = codes "U"; node = codes "A"; tid = second_id; bid = None; serial = Some second_id } ∷ first_label ∷ []
+abbrev begun_again : World
+begun_again = world_idx 1 (Some first_end) (ended_at 148) (two_drawn (second_branch false ∷ []) []) (first_end ∷ []) both_labels (first_done ∷ []) [] (slot_aa ∷ slot_bb ∷ [])
 
-abbrev second_world : ℕ → List LiveChanges → List Slot → World
-second_world changes live slots = world_idx 1 (Some first_end) 2 (record { tid = second_id; serial = second_id; changes = changes } ∷ []) (first_end ∷ []) labels (first_done ∷ []) live slots
+abbrev second_world : List JournalEntry → List Lock → List Change → List Slot → World
+second_world es locks cs slots = world_idx 1 (Some first_end) (record { first = 148; entries = es }) (two_drawn (second_branch true ∷ []) locks) (first_end ∷ []) both_labels (first_done ∷ []) (record { serial = second_id; changes = cs } ∷ []) slots
 
 abbrev gone_aa : List Change
 gone_aa = set_at (codes "aa") (Some (codes "aa2")) None ∷ []
@@ -109,12 +98,19 @@ gone_aa = set_at (codes "aa") (Some (codes "aa2")) None ∷ []
 abbrev put_ab : List Change
 put_ab = set_at (codes "ab") None (Some (codes "ab3")) ∷ gone_aa
 
+abbrev without_aa : World
+without_aa = second_world (entered second_id (codes "aa") (Some (codes "aa2")) ∷ []) (lock_at second_id (codes "aa") ∷ []) gone_aa (slot_at (codes "aa") None ∷ slot_bb ∷ [])
+
+abbrev with_ab : World
+with_ab = second_world (entered second_id (codes "aa") (Some (codes "aa2")) ∷ entered second_id (codes "ab") None ∷ []) (lock_at second_id (codes "ab") ∷ lock_at second_id (codes "aa") ∷ []) put_ab
+    (slot_at (codes "aa") None ∷ slot_at (codes "ab") (Some (codes "ab3")) ∷ slot_bb ∷ [])
+
 abbrev second_end : Settlement
 second_end = record { tid = second_id; serial = second_id; outcome = settled.Abort; reason = Some settled.Aborted; moment = 2 }
 
 -- behind its end
 abbrev last_world : World
-last_world = world_idx 2 (Some second_end) 2 [] (second_end ∷ first_end ∷ []) labels
+last_world = world_idx 2 (Some second_end) (ended_at 299) (two_drawn [] []) (second_end ∷ first_end ∷ []) both_labels
     (record { serial = second_id; outcome = settled.Abort; moment = 2; changes = put_ab } ∷ first_done ∷ []) [] (slot_aa ∷ slot_at (codes "ab") None ∷ slot_bb ∷ [])
 
 abbrev asks : List ℕ → said.Operation → said.Statement
@@ -125,14 +121,11 @@ two_entries = entries-insert key_cmp_total _ (Text (codes "aa")) (codes "aa2") �
 
 -- The statements that look at the records.
 
-puts_bb : shown_whole (first_world 0 [] []) (asks (codes "T") (said.Put None (codes "bb1"))) ≡ record { lines = line.RecordNormal ∷ []; world = first_world 1 (live_of first_id put_bb) (slot_bb ∷ []) }
+puts_bb : shown_whole first_begun (asks (codes "T") (said.Put None (codes "bb1"))) ≡ record { lines = line.RecordNormal ∷ []; world = with_bb }
 puts_bb = rw (get-empty, get-empty) refl
 
-puts_aa : shown_whole (first_world 1 (live_of first_id put_bb) (slot_bb ∷ [])) (asks (codes "T") (said.Put None (codes "aa2"))) ≡ record { lines = line.RecordNormal ∷ []; world = first_world 2 (live_of first_id put_aa) (slot_aa ∷ slot_bb ∷ []) }
+puts_aa : shown_whole with_bb (asks (codes "T") (said.Put None (codes "aa2"))) ≡ record { lines = line.RecordNormal ∷ []; world = both_put }
 puts_aa = rw (get-insert key_cmp_total, get-empty, get-insert key_cmp_total, get-empty) refl
-
-abbrev both_put : World
-both_put = first_world 2 (live_of first_id put_aa) (slot_aa ∷ slot_bb ∷ [])
 
 is_there : shown_whole both_put (asks (codes "T") (said.Put None (codes "aa9"))) ≡ record { lines = line.KeyExists ∷ []; world = both_put }
 is_there = rw (get-insert key_cmp_total) refl
@@ -140,17 +133,8 @@ is_there = rw (get-insert key_cmp_total) refl
 keeps_key : shown_whole both_put (asks (codes "T") (said.Update (Text (codes "aa")) (codes "ab2"))) ≡ record { lines = line.KeyChanged ∷ []; world = both_put }
 keeps_key = rw (get-insert key_cmp_total) refl
 
-abbrev begun_again : World
-begun_again = second_world 0 [] (slot_aa ∷ slot_bb ∷ [])
-
-abbrev without_aa : World
-without_aa = second_world 1 (live_of second_id gone_aa) (slot_at (codes "aa") None ∷ slot_bb ∷ [])
-
 deletes_aa : shown_whole begun_again (asks (codes "U") (said.Delete (Text (codes "aa")))) ≡ record { lines = line.RecordNormal ∷ []; world = without_aa }
 deletes_aa = rw (get-insert key_cmp_total, get-insert key_cmp_total) refl
-
-abbrev with_ab : World
-with_ab = second_world 2 (live_of second_id put_ab) (slot_at (codes "aa") None ∷ slot_at (codes "ab") (Some (codes "ab3")) ∷ slot_bb ∷ [])
 
 puts_ab : shown_whole without_aa (asks (codes "U") (said.Put None (codes "ab3"))) ≡ record { lines = line.RecordNormal ∷ []; world = with_ab }
 puts_ab = rw (get-remove key_cmp_total, get-insert key_cmp_total, get-insert key_cmp_total, get-empty, get-remove key_cmp_total, get-insert key_cmp_total, get-insert key_cmp_total, get-empty) refl
@@ -198,12 +182,12 @@ middle_lines = codes "A: PUT T I \"a\"" ∷ codes "A: END_TRANS T" ∷ codes "A:
 abbrev refused_lines : List (List ℕ)
 refused_lines = codes "A: PUT T I \"aa9\"" ∷ codes "A: UPDATE T I \"aa\" \"ab2\"" ∷ middle_lines
 
-runs_bb : run_from (first_world 0 [] []) told_7 (rest (codes "A: PUT T I \"bb1\"" ∷ codes "A: PUT T I \"aa2\"" ∷ refused_lines)) ≡ run_from (first_world 1 (live_of first_id put_bb) (slot_bb ∷ [])) told_8 (rest (codes "A: PUT T I \"aa2\"" ∷ refused_lines))
-runs_bb = says (first_world 0 [] []) told_7 (line_said (codes "A: PUT T I \"bb1\"")) (rest (codes "A: PUT T I \"aa2\"" ∷ refused_lines))
-    (asks (codes "T") (said.Put None (codes "bb1"))) (line.RecordNormal ∷ []) (first_world 1 (live_of first_id put_bb) (slot_bb ∷ [])) refl refl puts_bb
+runs_bb : run_from first_begun told_7 (rest (codes "A: PUT T I \"bb1\"" ∷ codes "A: PUT T I \"aa2\"" ∷ refused_lines)) ≡ run_from with_bb told_8 (rest (codes "A: PUT T I \"aa2\"" ∷ refused_lines))
+runs_bb = says first_begun told_7 (line_said (codes "A: PUT T I \"bb1\"")) (rest (codes "A: PUT T I \"aa2\"" ∷ refused_lines))
+    (asks (codes "T") (said.Put None (codes "bb1"))) (line.RecordNormal ∷ []) with_bb refl refl puts_bb
 
-runs_aa : run_from (first_world 1 (live_of first_id put_bb) (slot_bb ∷ [])) told_8 (rest (codes "A: PUT T I \"aa2\"" ∷ refused_lines)) ≡ run_from both_put told_9 (rest refused_lines)
-runs_aa = says (first_world 1 (live_of first_id put_bb) (slot_bb ∷ [])) told_8 (line_said (codes "A: PUT T I \"aa2\"")) (rest refused_lines)
+runs_aa : run_from with_bb told_8 (rest (codes "A: PUT T I \"aa2\"" ∷ refused_lines)) ≡ run_from both_put told_9 (rest refused_lines)
+runs_aa = says with_bb told_8 (line_said (codes "A: PUT T I \"aa2\"")) (rest refused_lines)
     (asks (codes "T") (said.Put None (codes "aa2"))) (line.RecordNormal ∷ []) both_put refl refl puts_aa
 
 runs_again : run_from both_put told_9 (rest refused_lines) ≡ run_from both_put told_10 (rest (codes "A: UPDATE T I \"aa\" \"ab2\"" ∷ middle_lines))

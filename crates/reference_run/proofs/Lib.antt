@@ -5,6 +5,7 @@ pub mod ServeLemmas
 pub mod TurnLemmas
 pub mod ScriptLemmas
 pub mod RowLemmas
+pub mod RoomLemmas
 pub mod ActLemmas
 pub mod OperateLemmas
 pub mod SequentialRow

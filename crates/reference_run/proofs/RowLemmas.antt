@@ -1,5 +1,5 @@
 -- What single scripts show.
-use Rattle.std.proofs.Common.{false, ◌≡◌, refl, List, [], ◌∷◌, ◌++◌, Option, Some, None, codes, ℕ, ap, ◌∙◌, true}
+use Rattle.std.proofs.Common.{false, ◌≡◌, refl, List, [], ◌∷◌, ◌++◌, Option, Some, None, codes, ℕ, ap, ◌∙◌, true, Bool}
 use Rattle.std.specs.Prelude.{replicate}
 use Rattle.std.specs.FinMap.{empty, get-empty, get-insert}
 use Rattle.vms_model.specs.Ids.{Id}
@@ -13,7 +13,11 @@ use Rattle.transcript_model.specs.Lines.{lines_text}
 use Rattle.transcript_model.specs.Script.{ScriptLine, lines_of}
 use Rattle.script_model.specs.Statements as said
 use Rattle.records_model.specs.Layout.{no_layout, first_layout}
-use Rattle.run_model.specs.World.{World, File, Branch, Label, Settlement, Relative, Indexed, JournalSpan, nothing_carried, Sound, Power}
+use Rattle.unit_laws.specs.Journal.{Journal, ChangeEntry, empty_journal}
+use Rattle.commit_protocol.specs.Table.{Branch, Active}
+use Rattle.commit_protocol.specs.Rows.{blank}
+use Rattle.run_model.specs.Locks.{Lock}
+use Rattle.run_model.specs.World.{World, Node, Volatile, File, Label, Settlement, Relative, Indexed, nothing_carried, Sound, Power}
 use Rattle.run_model.specs.Transcript.{Entry, Done, BadLine, text_of}
 use Rattle.reference_run.specs.Whole.{Ended, run_of, run_from, shown_whole}
 use Rattle.reference_run.specs.Rows.{fed, disk_size, base_script, base_shown, CommittedRecordIsShown, AbortedRecordIsGone, UnsettledRecordStands, ZerosAreNoVolume, BootBehindCrashTellsLast, OpenQuoteIsBad, FileIsFull}
@@ -30,15 +34,33 @@ told_first = told (codes "A: SET_FILE F RU") (line.Normal ∷ []) (told (codes "
 abbrev pub first_id : Id
 first_id = record { node = codes "A"; boot = 1; seq = 1 }
 
-abbrev pub first_branch : ℕ → Branch
-first_branch changes = record { tid = first_id; serial = first_id; changes = changes }
+abbrev pub first_branch : (changed : Bool) → Branch
+first_branch changed = record (blank first_id first_id None Active None) { changed = changed }
 
 abbrev pub first_label : Label
 first_label = record { name = codes "T"; node = codes "A"; tid = first_id; bid = None; serial = Some first_id }
 
--- the journal of recovery units behind 64 log slots
-abbrev pub units : JournalSpan
-units = record { start = 648; blocks = 64; first = 0; end = 0 }
+-- the second one, and what stands by it
+abbrev pub second_id : Id
+second_id = record { node = codes "A"; boot = 1; seq = 2 }
+
+abbrev pub second_branch : (changed : Bool) → Branch
+second_branch changed = record (blank second_id second_id None Active None) { changed = changed }
+
+abbrev pub both_labels : List Label
+both_labels = record { name = codes "U"; node = codes "A"; tid = second_id; bid = None; serial = Some second_id } ∷ first_label ∷ []
+
+-- a journal that has its last entry behind it
+abbrev pub ended_at : ℕ → Journal
+ended_at position = record { first = position; entries = [] }
+
+-- what the node has that is up, where one id was drawn
+abbrev pub one_drawn : List Branch → List Lock → Volatile
+one_drawn branches locks = record { drawn = 1; branches = branches; locks = locks }
+
+-- and where two were
+abbrev pub two_drawn : List Branch → List Lock → Volatile
+two_drawn branches locks = record { drawn = 2; branches = branches; locks = locks }
 
 -- the file F
 abbrev pub file_at : List SettledChanges → List LiveChanges → File
@@ -55,52 +77,49 @@ file_at done live = record {
   layout = no_layout;
 }
 
--- the world behind the base, in which one id was drawn
-abbrev world_at : (greatest : ℕ) → Option Settlement → List Settlement → List Branch → List SettledChanges → List LiveChanges → World
-world_at greatest last settled branches done live = record {
-  nodes = record {
-    name = codes "A";
-    blocks = disk_size;
-    volume = Sound;
-    unmade = false;
-    slots = 64;
-    journal = 64;
-    boot = 1;
-    greatest = greatest;
-    last = last;
-    units = units;
-    directory = Some (file_at done live) ∷ replicate 63 None;
-    up = true;
-    was_up = true;
-    clock = 0;
-    drawn = 1;
-    branches = branches;
-    settled = settled;
-    calls = Power 0 ∷ Power 0 ∷ [];
-    under_way = None;
-  } ∷ [];
-  disks = record { faults = 0; stops = 0 } ∷ [];
-  shared = record { labels = first_label ∷ []; in_use = true };
+-- the node behind the base, with these files in front of its directory's other places
+abbrev pub node_at : (greatest : ℕ) → Option Settlement → Journal → List (Option File) → Volatile → List Settlement → Node
+node_at greatest last units files volatile settled = record {
+  name = codes "A";
+  blocks = disk_size;
+  durable = record { volume = Sound; slots = 64; journal = 64; boot = 1; greatest = greatest; last = last; units = units; directory = files };
+  volatile = volatile;
+  unmade = false;
+  up = true;
+  was_up = true;
+  clock = 0;
+  settled = settled;
+  calls = Power 0 ∷ Power 0 ∷ [];
+  under_way = None;
 }
+
+-- the world of that node
+abbrev pub world_of : Node → List Label → World
+world_of n labels = record { nodes = n ∷ []; disks = record { faults = 0; stops = 0 } ∷ []; shared = record { labels = labels; in_use = true } }
+
+-- that in which the file F is, and one id was drawn
+abbrev world_at : (greatest : ℕ) → Option Settlement → Journal → List Settlement → Volatile → List SettledChanges → List LiveChanges → World
+world_at greatest last units settled volatile done live = world_of (node_at greatest last units (Some (file_at done live) ∷ replicate 63 None) volatile settled) (first_label ∷ [])
 
 -- this record is put at this number
 abbrev put_change : ℕ → List ℕ → Change
 put_change n bytes = record { key = Number n; before = None; after = Some bytes }
 
 abbrev begun : World
-begun = world_at 0 None [] (first_branch 0 ∷ []) [] []
+begun = world_at 0 None empty_journal [] (one_drawn (first_branch false ∷ []) []) [] []
 
 abbrev told_begun : List Entry
 told_begun = told (codes "A: START_TRANS T") (line.NormalId first_id ∷ []) told_first
 
 abbrev put : ℕ → List ℕ → World
-put n bytes = world_at 0 None [] (first_branch 1 ∷ []) [] (record { serial = first_id; changes = put_change n bytes ∷ [] } ∷ [])
+put n bytes = world_at 0 None (record { first = 0; entries = ChangeEntry first_id first_id (codes "F") (Number n) None ∷ [] }) []
+    (one_drawn (first_branch true ∷ []) (record { file = codes "F"; key = Number n; by = first_id } ∷ [])) [] (record { serial = first_id; changes = put_change n bytes ∷ [] } ∷ [])
 
 abbrev pub settlement : settled.Outcome → Option settled.Reason → Settlement
 settlement outcome reason = record { tid = first_id; serial = first_id; outcome = outcome; reason = reason; moment = 1 }
 
 abbrev settled_as : settled.Outcome → Option settled.Reason → World
-settled_as outcome reason = world_at 1 (Some (settlement outcome reason)) (settlement outcome reason ∷ []) []
+settled_as outcome reason = world_at 1 (Some (settlement outcome reason)) (ended_at 100) (settlement outcome reason ∷ []) (one_drawn [] [])
     (record { serial = first_id; outcome = outcome; moment = 1; changes = put_change 1 (codes "a") ∷ [] } ∷ []) []
 
 abbrev put_said : ℕ → List ℕ → said.Statement
@@ -260,31 +279,7 @@ small_file = record {
 }
 
 abbrev with_small : World
-with_small = record {
-  nodes = record {
-    name = codes "A";
-    blocks = disk_size;
-    volume = Sound;
-    unmade = false;
-    slots = 64;
-    journal = 64;
-    boot = 1;
-    greatest = 0;
-    last = None;
-    units = units;
-    directory = Some (file_at [] []) ∷ Some small_file ∷ replicate 62 None;
-    up = true;
-    was_up = true;
-    clock = 0;
-    drawn = 1;
-    branches = first_branch 0 ∷ [];
-    settled = [];
-    calls = Power 0 ∷ Power 0 ∷ [];
-    under_way = None;
-  } ∷ [];
-  disks = record { faults = 0; stops = 0 } ∷ [];
-  shared = record { labels = first_label ∷ []; in_use = true };
-}
+with_small = world_of (node_at 0 None empty_journal (Some (file_at [] []) ∷ Some small_file ∷ replicate 62 None) (one_drawn (first_branch false ∷ []) []) []) (first_label ∷ [])
 
 abbrev told_small : List Entry
 told_small = told (codes "A: START_TRANS T") (line.NormalId first_id ∷ []) (told (codes "A: SET_FILE I RU") (line.Normal ∷ [])

@@ -7,11 +7,11 @@ use Rattle.transcript_model.specs.Outside.{behind}
 use Rattle.transcript_model.specs.Lines as line
 use Rattle.transcript_model.specs.Lines.{Line, Cause, lines_text}
 use Rattle.transcript_model.specs.Script.{ScriptLine, lines_of, size_of}
-use Rattle.script_model.specs.Statements.{Statement, Reading, Blank, Says, Bad}
+use Rattle.script_model.specs.Statements.{Statement, At, Request, Reading, Blank, Says, Bad}
 use Rattle.script_model.specs.Grammar.{reading}
 use Rattle.run_model.specs.World.{World, Shared, Node, DiskCounts, find_node}
 use Rattle.run_model.specs.Steps.{Task, Serves, Whole, TaskAllowed, task_effect}
-use Rattle.run_model.specs.Statements.{Part, Does, PartEffect, Step, Parts, Then, Allowed, NoneFalls, RoseAt, part_effect, parts_of, put_into, no_node, stops_at}
+use Rattle.run_model.specs.Statements.{Part, Does, PartEffect, Begins, Step, Parts, Then, Allowed, NoneFalls, RoseAt, part_effect, parts_of, put_into, no_node, stops_at}
 use Rattle.run_model.specs.Transcript.{Entry, Ran, Legal, Turn, AreInLimits, IsInLimits, BadLine, TooLong, number_after, size_before, text_of, lines_then}
 use Rattle.reference_run.specs.Whole.{Ended, StatementShown, TranscriptsAreRuns, then_shown, parts_shown, shown_whole, run_from, opening, entry, ended_by, is_in_limits}
 
@@ -67,18 +67,44 @@ none_falls : (ds : List DiskCounts) → NoneFalls ds ds
 none_falls [] = tt
 none_falls (d ∷ ds) = (omega arith, omega arith, none_falls ds)
 
-step_whole : (w : World) (s : Statement) → Step w s (shown_whole w s).lines (shown_whole w s).world
-step_whole w s =
+-- a node of this name is not there
+step_none : (w : World) (node : List ℕ) (request : Request) → find_node node w.nodes ≡ None → Step w (At node request) (shown_whole w (At node request)).lines (shown_whole w (At node request)).world
+step_none w node request e =
+    let at_once : Option Node → Option Line = λ o. elim o [ Some n ↦ None | None ↦ Some line.NoSuchNode ] in
+    let part : Option Node → PartEffect = λ o. elim o [ Some n ↦ put_into w node (task_effect w.shared (stops_at node w) n (Serves request) (Whole false)) | None ↦ no_node w ] in
+    let shown : shown_whole w (At node request) ≡ record { lines = line.NoSuchNode ∷ []; world = w } = ap (λ o. then_shown (part o) (record { lines = (part o).answer ∷ []; world = (part o).world })) e in
+    subst (λ (x : StatementShown). Step w (At node request) x.lines x.world) (sym shown) (record {
+      events = [];
+      answer = line.NoSuchNode;
+      world = w;
+      does = subst (λ r. Begins r (Parts (parts_of (At node request)) w.disks w line.Normal) w [] line.NoSuchNode w) (sym (ap at_once e)) (refl, refl, refl);
+      counts = none_falls w.disks;
+      shows = refl;
+      goes = refl;
+    })
+
+-- it is there
+step_some : (w : World) (node : List ℕ) (request : Request) (n : Node) → find_node node w.nodes ≡ Some n → Step w (At node request) (shown_whole w (At node request)).lines (shown_whole w (At node request)).world
+step_some w node request n e =
+    let s = At node request in
+    let at_once : Option Node → Option Line = λ o. elim o [ Some n ↦ None | None ↦ Some line.NoSuchNode ] in
     let parts = parts_say (parts_of s) w line.Normal in
     record {
       events = parts.events;
       answer = parts.answer;
       world = (shown_whole w s).world;
-      does = parts.does (shown_whole w s).world.disks;
+      does = subst (λ r. Begins r (Parts (parts_of s) (shown_whole w s).world.disks w line.Normal) w parts.events parts.answer (shown_whole w s).world) (sym (ap at_once e)) (parts.does (shown_whole w s).world.disks);
       counts = subst (NoneFalls w.disks) (sym parts.disks) (none_falls w.disks);
       shows = parts.shows;
       goes = refl;
     }
+
+step_whole : (w : World) (s : Statement) → Step w s (shown_whole w s).lines (shown_whole w s).world
+step_whole w (At node request) = go (find_node node w.nodes) refl
+  where
+    go : (o : Option Node) → find_node node w.nodes ≡ o → Step w (At node request) (shown_whole w (At node request)).lines (shown_whole w (At node request)).world
+    go None e = step_none w node request e
+    go (Some n) e = step_some w node request n e
 
 -- The limits, by their tests.
 

@@ -2,4 +2,3 @@ pub mod Whole
 pub mod Served
 pub mod Rows
 pub mod Scripts
-pub mod Operations

@@ -1,12 +1,13 @@
 -- A script without a fault: each statement is done whole, or refused by its cause. What is shown then is a function of the script, and is what a run shows.
-use Rattle.std.specs.Prelude.{ℕ, List, [], ◌∷◌, ◌++◌, Bool, false, Option, Some, None, ◌&&◌, nat_le, ◌+◌, if◌then◌else◌, length, codes}
+use Rattle.std.specs.Prelude.{ℕ, List, [], ◌∷◌, ◌++◌, Bool, false, Option, Some, ◌&&◌, nat_le, ◌+◌, if◌then◌else◌, length}
 use Rattle.transcript_model.specs.Outside.{behind}
 use Rattle.transcript_model.specs.Lines as line
 use Rattle.transcript_model.specs.Lines.{Line, lines_text}
 use Rattle.transcript_model.specs.Script.{ScriptLine, lines_of, size_of}
 use Rattle.script_model.specs.Statements.{Statement, Blank, Says, Bad}
 use Rattle.script_model.specs.Grammar.{reading}
-use Rattle.run_model.specs.World.{World, Node, Faulty, empty_directory, no_journal, opened}
+use Rattle.run_model.specs.World.{World}
+use Rattle.run_model.specs.Rows.{zero_world}
 use Rattle.run_model.specs.Steps.{Whole}
 use Rattle.run_model.specs.Statements.{Part, PartEffect, part_effect, parts_of}
 use Rattle.run_model.specs.Transcript.{Entry, Exit, Done, BadLine, TooLong, Ran, number_after, size_before, text_of}
@@ -59,33 +60,9 @@ run_from w es (source ∷ more) = if is_in_limits es source
     ]
     else ended_by TooLong line.TooLong es
 
--- the node A, which is down, and whose disk has so many blocks, all of zeros: the first condition of a volume fails at block 518
-abbrev pub zeros : ℕ → Node
-zeros blocks = record {
-  name = codes "A";
-  blocks = blocks;
-  volume = Faulty 1 518;
-  unmade = false;
-  slots = 0;
-  journal = 0;
-  boot = 0;
-  greatest = 0;
-  last = None;
-  units = no_journal;
-  directory = empty_directory;
-  up = false;
-  was_up = false;
-  clock = 0;
-  drawn = 0;
-  branches = [];
-  settled = [];
-  calls = [];
-  under_way = None;
-}
-
--- the world of that node
+-- the world of the node A, which is down, and whose disk has so many blocks, all of zeros
 abbrev pub opening : ℕ → World
-opening blocks = opened (zeros blocks ∷ []) (record { faults = 0; stops = 0 } ∷ [])
+opening blocks = zero_world blocks
 
 -- what comes of a script, where the disk has so many blocks
 abbrev pub run_of : ℕ → List ℕ → Ended

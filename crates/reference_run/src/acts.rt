@@ -1,5 +1,5 @@
 // What each request does that nothing refuses.
-ghost use Rattle.std.specs.Prelude.{◌≡◌, ◌+◌, ◌<◌, ◌≤◌, ◌++◌, ℕ, List, [], ◌∷◌, Some, None, map, option_map, length, OnOk, IfOk, IfSome};
+ghost use Rattle.std.specs.Prelude.{◌≡◌, ◌+◌, ◌*◌, ◌^◌, ◌<◌, ◌≤◌, ◌++◌, ℕ, List, [], ◌∷◌, Some, None, map, option_map, length, OnOk, IfOk, IfSome};
 ghost use Rattle.std.specs.FinMap.{entries};
 ghost use Rattle.script_lang.specs.Statements.{form_of, setting_of};
 ghost use Rattle.script_model.specs.Statements as said;
@@ -7,54 +7,55 @@ ghost use Rattle.records_model.specs.History.{current};
 ghost use Rattle.run_model.specs.Answers as answers;
 ghost use Rattle.run_model.specs.Answers.{shown_record};
 ghost use Rattle.run_model.specs.Operations as operations;
-ghost use Rattle.run_model.specs.Steps.{lines_of_rows};
+ghost use Rattle.run_model.specs.Steps.{lines_of_rows, node_after_rows};
+ghost use Rattle.unit_laws.specs.Journal.{end_of};
+ghost use Rattle.vms_base.specs.Outcomes.{reason_of};
 ghost use Rattle.run_model.specs.World as world;
 ghost use Rattle.run_model.specs.World.{acted};
 ghost use Rattle.transcript_model.specs.Lines as model;
-ghost use Rattle.reference_world.specs.Standing.{id_of, changes_of, branch_of, settlement_of, history_of, organization_of, layout_of, file_of, line_of};
-ghost use Rattle.reference_run.specs.Operations.{asked_of};
-ghost use Rattle.reference_run.specs.Served.{node_of, shared_of, last_lines_of, AreFew, RoseByOne, SameCounts, Does};
+ghost use Rattle.reference_world.specs.Standing.{id_of, key_of, changes_of, branch_of, outcome_by, settlement_of, history_of, organization_of, layout_of, file_of, line_of};
+ghost use Rattle.reference_units.specs.Entries.{journal_of, units_of};
+ghost use Rattle.reference_records.specs.Operations.{asked_of};
+ghost use Rattle.reference_run.specs.Served.{node_of, shared_of, last_lines_of, AreFew, HasRoom, RoseByOne, SameCounts, SameButUnits, Does};
 
-use crate::asked::Asked;
-use crate::records::{changes_asked, operation_answer};
 use crate::refusals::{blocks_for, buckets_for};
 use crate::running::Running;
+use reference_records::{Asked, changes_asked, keys_held, operation_answer};
+use reference_units::{
+    Unit, empty_journal, journal_shown, released, units_in, with_changes, with_locks, with_settled,
+    without_settled,
+};
 use reference_world::{
-    Branch, Bucket, Change, DiskCall, File, FileChange, JournalSpan, LabelEntry, Line,
-    Organization, OwnId, Settlement, Volume, WrittenMoment, empty_places, find_file, free_place,
-    one, push_back, push_front, records_of, rows_shown, same_id, settled_files, standing_files,
-    take_first, with_file,
+    Branch, Bucket, Change, DiskCall, File, FileChange, Key, LabelEntry, Line, Organization, OwnId,
+    Settlement, Volume, WrittenMoment, empty_places, find_file, free_place, one, push_back,
+    push_front, records_of, rows_shown, same_id, settled_files, take_first, with_file,
 };
 use script_lang::{Form, Setting};
 use std::alloc::{AllocError, Global};
 use std::mem::replace;
-use vms_base::{FileName, Label, Outcome};
+use vms_base::{FileName, Label, Reason};
 
-// The branches with so many changes more of one of them.
-fn with_changes_by(
+// The branches, of which this one has changed something.
+fn with_changed(
     alloc: Global,
     branches: Vec<Branch>,
     serial: OwnId,
-    more: u32,
 ) -> Result<Vec<Branch>, AllocError>
-    requires { IfSome (world.find_branch (id_of serial) (map branch_of branches.items)) (λ b. b.changes + more ≤ 16) }
-    ensures { IfOk result (λ v. map branch_of v.items ≡ world.with_changes_by (id_of serial) more (map branch_of branches.items)) }
+    ensures { IfOk result (λ v. map branch_of v.items ≡ world.with_changed (id_of serial) (map branch_of branches.items)) }
 {
     let mut rest = branches;
     match take_first(&mut rest) {
         None => Ok(Vec::new(alloc)),
         Some(first) => {
             if same_id(serial, first.serial) {
-                push_front(
-                    &mut rest,
-                    Branch {
-                        serial: first.serial,
-                        changes: first.changes + more,
-                    },
-                )?;
+                let branch = Branch {
+                    serial: first.serial,
+                    changed: true,
+                };
+                push_front(&mut rest, branch)?;
                 Ok(rest)
             } else {
-                let mut all = with_changes_by(alloc, rest, serial, more)?;
+                let mut all = with_changed(alloc, rest, serial)?;
                 push_front(&mut all, first)?;
                 Ok(all)
             }
@@ -95,24 +96,29 @@ fn is_for_units(setting: Setting) -> bool
     }
 }
 
-// The line of the last settlement on the disk, and then another.
-fn last_then(alloc: Global, last: Option<Settlement>, line: Line) -> Result<Vec<Line>, AllocError>
-    ensures { IfOk result (λ v. map line_of v.items ≡ last_lines_of (option_map settlement_of last) ++ line_of line ∷ []) }
+// The line of the last settlement on the disk, and then others.
+fn last_then(last: Option<Settlement>, lines: Vec<Line>) -> Result<Vec<Line>, AllocError>
+    ensures { IfOk result (λ v. map line_of v.items ≡ last_lines_of (option_map settlement_of last) ++ map line_of lines.items) }
 {
-    let mut lines = one(alloc, line)?;
+    let mut all = lines;
     let Some(s) = last else {
-        return Ok(lines);
+        return Ok(all);
     };
-    match s.outcome {
-        Outcome::Commit => {
-            push_front(&mut lines, Line::LastCommitted(s.serial, s.moment))?;
-            Ok(lines)
-        }
-        Outcome::Abort => {
-            push_front(&mut lines, Line::LastAborted(s.serial, s.moment))?;
-            Ok(lines)
-        }
-    }
+    let line = match s.reason {
+        None => Line::LastCommitted(s.serial, s.moment),
+        Some(reason) => Line::LastAborted(s.serial, reason, s.moment),
+    };
+    push_front(&mut all, line)?;
+    Ok(all)
+}
+
+// A line, and others behind it.
+fn line_before(lines: Vec<Line>, line: Line) -> Result<Vec<Line>, AllocError>
+    ensures { IfOk result (λ v. map line_of v.items ≡ line_of line ∷ map line_of lines.items) }
+{
+    let mut all = lines;
+    push_front(&mut all, line)?;
+    Ok(all)
 }
 
 // How a file of this form keeps its records.
@@ -166,7 +172,6 @@ fn new_file(
         start,
         buckets: buckets_for(bucket, size, form),
         recovery_units: false,
-        base: Vec::new(alloc),
         moment,
         settled: Vec::new(alloc),
         live: Vec::new(alloc),
@@ -174,22 +179,25 @@ fn new_file(
     })
 }
 
-/// What an operation changes, the newest change first, and what it is answered.
+/// What an operation changes, the newest change first, what a branch holds that did it, and what it is answered.
 #[derive(Drop)]
 pub struct Told {
     pub changes: Vec<Change>,
+    pub keys: Vec<Key>,
     pub line: Line,
 }
 
 // The same of a file that is there.
 fn told_of(alloc: Global, f: &File, asked: Asked<'_>) -> Result<Told, AllocError>
     ensures changes { IfOk result (λ t. changes_of t.changes.items ≡ operations.changes_of (file_of f.now) (asked_of asked.entry)) }
+    ensures keys { IfOk result (λ t. map key_of t.keys.items ≡ operations.keys_held (file_of f.now) (asked_of asked.entry)) }
     ensures line { IfOk result (λ t. line_of t.line ≡ operations.operation_answer (file_of f.now) (asked_of asked.entry)) }
 {
     let all = records_of(alloc, f)?;
     let rows = all.as_slice();
     Ok(Told {
         changes: changes_asked(alloc, f, rows, asked)?,
+        keys: keys_held(alloc, f, rows, asked)?,
         line: operation_answer(alloc, f, rows, asked)?,
     })
 }
@@ -205,8 +213,10 @@ fn show_records(alloc: Global, file: &File) -> Result<Vec<Line>, AllocError>
 impl Running {
     /// INIT.
     pub fn init(&mut self, alloc: Global, slots: u32, journal: u32) -> Result<Vec<Line>, AllocError>
+        requires { journal ≤ 8192 }
         ensures does { IfOk result (λ lines. Does self.old (said.Init slots journal) lines.items self.new) }
         ensures counts { OnOk result (RoseByOne self.old self.new) }
+        ensures room { OnOk result (HasRoom self.new) }
     {
         self.directory = empty_places(alloc, 64)?;
         self.volume = Volume::Sound;
@@ -215,30 +225,67 @@ impl Running {
         self.boot = 0;
         self.greatest = 0;
         self.last = None;
-        self.units = JournalSpan {
-            start: 584 + u64::from(slots),
-            blocks: journal,
-            first: 0,
-            end: 0,
-        };
+        self.units = empty_journal(alloc);
         one(alloc, Line::Normal)
+    }
+
+    // These units are undone one after another, each at the next moment then.
+    fn undo(&mut self, alloc: Global, units: Vec<Unit>) -> Result<Vec<Line>, AllocError>
+        requires moments { self.old.greatest + length units.items < 2 ^ 44 }
+        requires end { end_of (journal_of self.old.units) + 48 * length units.items < 2 ^ 62 }
+        requires room { HasRoom self.old }
+        ensures node { OnOk result (node_of self.new ≡ node_after_rows (answers.undoes (node_of self.old) (units_of units.items)) (node_of self.old)) }
+        ensures lines { IfOk result (λ v. map line_of v.items ≡ lines_of_rows (answers.undoes (node_of self.old) (units_of units.items)) ++ model.NormalCount self.old.boot ∷ []) }
+        ensures shared { OnOk result (shared_of self.new ≡ shared_of self.old) }
+        ensures boot { self.new.boot ≡ self.old.boot }
+        ensures drawn { self.new.drawn ≡ self.old.drawn }
+        ensures greatest { OnOk result (self.new.greatest ≡ self.old.greatest + length units.items) }
+        ensures end { OnOk result (end_of (journal_of self.new.units) ≤ end_of (journal_of self.old.units) + 48 * length units.items) }
+        ensures room { OnOk result (HasRoom self.new) }
+    {
+        let mut rest = units;
+        let Some(u) = take_first(&mut rest) else {
+            return one(alloc, Line::NormalCount(u64::from(self.boot)));
+        };
+        let s = self.next_settlement(u.serial, Some(Reason::SegFail));
+        self.settle(alloc, s)?;
+        let lines = self.undo(alloc, rest)?;
+        let all = line_before(lines, Line::Aborted(u.serial, Reason::SegFail, s.moment))?;
+        Ok(all)
+    }
+
+    // The node is booted once more, and has nothing of an earlier boot.
+    fn begin_boot(&mut self, alloc: Global)
+        requires { AreFew 1000000 self.old }
+        ensures node { node_of self.new ≡ acted world.Boots (node_of self.old) }
+        ensures shared { shared_of self.new ≡ shared_of self.old }
+        ensures boot { self.new.boot ≡ self.old.boot + 1 }
+        ensures drawn { self.new.drawn ≡ 0 }
+        ensures greatest { self.new.greatest ≡ self.old.greatest }
+        ensures same { (self.new.units ≡ self.old.units) × (self.new.journal ≡ self.old.journal) × (self.new.last ≡ self.old.last) }
+    {
+        self.boot += 1;
+        self.drawn = 0;
+        self.branches = Vec::new(alloc);
+        self.locks = Vec::new(alloc);
     }
 
     /// BOOT.
     pub fn boot(&mut self, alloc: Global) -> Result<Vec<Line>, AllocError>
-        requires { AreFew 1000000 self.old }
+        requires few { AreFew 1000000 self.old }
+        requires room { HasRoom self.old }
         ensures does { IfOk result (λ lines. Does self.old said.Boot lines.items self.new) }
         ensures counts { OnOk result (RoseByOne self.old self.new) }
+        ensures room { OnOk result (HasRoom self.new) }
     {
-        let boot = self.boot + 1;
-        let files = replace(&mut self.directory, Vec::new(alloc));
-        self.directory = standing_files(alloc, files, self.greatest)?;
-        self.boot = boot;
-        self.drawn = 0;
-        self.branches = Vec::new(alloc);
+        let last = self.last;
+        let units = units_in(alloc, self.units.entries.as_slice())?;
+        self.begin_boot(alloc);
+        let lines = self.undo(alloc, units)?;
         self.up = true;
         self.was_up = true;
-        last_then(alloc, self.last, Line::NormalCount(u64::from(boot)))
+        let all = last_then(last, lines)?;
+        Ok(all)
     }
 
     /// CREATE.
@@ -250,8 +297,10 @@ impl Running {
         size: u32,
         form: Form,
     ) -> Result<Vec<Line>, AllocError>
+        requires room { HasRoom self.old }
         ensures does { IfOk result (λ lines. Does self.old (said.Create name bucket size (form_of form)) lines.items self.new) }
         ensures counts { OnOk result (RoseByOne self.old self.new) }
+        ensures room { OnOk result (HasRoom self.new) }
     {
         let need = blocks_for(bucket, size, form);
         let lines = one(alloc, Line::Normal)?;
@@ -283,21 +332,25 @@ impl Running {
         name: &FileName,
         setting: Setting,
     ) -> Result<Vec<Line>, AllocError>
+        requires room { HasRoom self.old }
         ensures does { IfOk result (λ lines. Does self.old (said.SetFile name.now (setting_of setting)) lines.items self.new) }
         ensures counts { OnOk result (RoseByOne self.old self.new) }
+        ensures room { OnOk result (HasRoom self.new) }
     {
         let lines = one(alloc, Line::Normal)?;
         let mark = FileChange::Mark(is_for_units(setting));
         let files = replace(&mut self.directory, Vec::new(alloc));
-        self.directory = with_file(alloc, files, name, mark)?;
+        self.directory = with_file(alloc, files, self.locks.as_slice(), name, mark)?;
         Ok(lines)
     }
 
     /// START_TRANS.
     pub fn start(&mut self, alloc: Global, label: Label) -> Result<Vec<Line>, AllocError>
-        requires { AreFew 1000000 self.old }
+        requires few { AreFew 1000000 self.old }
+        requires room { HasRoom self.old }
         ensures does { IfOk result (λ lines. Does self.old (said.StartTrans label) lines.items self.new) }
         ensures counts { OnOk result (RoseByOne self.old self.new) }
+        ensures room { OnOk result (HasRoom self.new) }
     {
         let seq = self.drawn + 1;
         let serial = OwnId {
@@ -311,7 +364,13 @@ impl Running {
                 serial,
             },
         )?;
-        push_back(&mut self.branches, Branch { serial, changes: 0 })?;
+        push_back(
+            &mut self.branches,
+            Branch {
+                serial,
+                changed: false,
+            },
+        )?;
         self.drawn = seq;
         one(alloc, Line::NormalId(serial))
     }
@@ -319,40 +378,80 @@ impl Running {
     // What an operation changes, and what it is answered.
     fn told(&self, alloc: Global, name: &FileName, asked: Asked<'_>) -> Result<Told, AllocError>
         ensures changes { IfOk result (λ t. changes_of t.changes.items ≡ answers.changes_at (node_of self.now) name.now (asked_of asked.entry)) }
+        ensures keys { IfOk result (λ t. map key_of t.keys.items ≡ answers.keys_at (node_of self.now) name.now (asked_of asked.entry)) }
         ensures line { IfOk result (λ t. line_of t.line ≡ answers.operation_told (node_of self.now) name.now (asked_of asked.entry)) }
     {
         match find_file(self.directory.as_slice(), name) {
             None => Ok(Told {
                 changes: Vec::new(alloc),
+                keys: Vec::new(alloc),
                 line: Line::RecordNormal,
             }),
             Some(f) => told_of(alloc, f, asked),
         }
     }
 
-    // A branch makes changes of a file.
+    // A branch makes changes of a file, and holds these keys of it.
     fn change(
         &mut self,
         alloc: Global,
         serial: OwnId,
         name: &FileName,
         changes: Vec<Change>,
+        keys: &[Key],
     ) -> Result<(), AllocError>
-        requires found { IfSome (world.find_branch (id_of serial) (map branch_of self.old.branches.items)) (λ b. b.changes + length changes.items ≤ 16) }
-        requires few { length changes.items ≤ 16 }
-        ensures changes { OnOk result (node_of self.new ≡ acted (world.Changes (id_of serial) name.now (changes_of changes.items)) (node_of self.old)) }
+        ensures changes { OnOk result (node_of self.new ≡ acted (world.Changes (id_of serial) (id_of serial) name.now (changes_of changes.items) (map key_of keys.now)) (node_of self.old)) }
         ensures shared { OnOk result (shared_of self.new ≡ shared_of self.old) }
-        ensures counts { SameCounts self.old self.new }
+        ensures counts { OnOk result (SameButUnits self.old self.new) }
     {
-        let more = changes.len() as u32;
         let branches = replace(&mut self.branches, Vec::new(alloc));
-        self.branches = with_changes_by(alloc, branches, serial, more)?;
+        self.branches = with_changed(alloc, branches, serial)?;
+        let units = replace(&mut self.units, empty_journal(alloc));
+        self.units = with_changes(alloc, units, serial, *name, changes.as_slice())?;
+        let set = FileChange::Set(serial, changes);
         let files = replace(&mut self.directory, Vec::new(alloc));
-        self.directory = with_file(alloc, files, name, FileChange::Set(serial, changes))?;
+        self.directory = with_file(alloc, files, self.locks.as_slice(), name, set)?;
+        self.hold(alloc, serial, name, keys)
+    }
+
+    // A branch holds these keys of a file too.
+    fn hold(
+        &mut self,
+        alloc: Global,
+        serial: OwnId,
+        name: &FileName,
+        keys: &[Key],
+    ) -> Result<(), AllocError>
+        ensures holds { OnOk result (node_of self.new ≡ acted (world.Holds (id_of serial) name.now (map key_of keys.now)) (node_of self.old)) }
+        ensures shared { OnOk result (shared_of self.new ≡ shared_of self.old) }
+        ensures counts { OnOk result (SameCounts self.old self.new) }
+    {
+        let locks = replace(&mut self.locks, Vec::new(alloc));
+        self.locks = with_locks(alloc, locks, serial, name, keys)?;
         Ok(())
     }
 
-    /// PUT, UPDATE, DELETE, TRUNCATE, GET and NEXT, where nothing refuses them.
+    // A branch does an operation: it makes its changes, or holds what it read.
+    fn operated(
+        &mut self,
+        alloc: Global,
+        b: Branch,
+        name: &FileName,
+        changes: Vec<Change>,
+        keys: &[Key],
+    ) -> Result<(), AllocError>
+        ensures does { OnOk result (node_of self.new ≡ acted (answers.operation_act (branch_of b) name.now (changes_of changes.items) (map key_of keys.now)) (node_of self.old)) }
+        ensures shared { OnOk result (shared_of self.new ≡ shared_of self.old) }
+        ensures counts { OnOk result (SameButUnits self.old self.new) }
+    {
+        if changes.is_empty() {
+            self.hold(alloc, b.serial, name, keys)
+        } else {
+            self.change(alloc, b.serial, name, changes, keys)
+        }
+    }
+
+    /// PUT, UPDATE, DELETE, TRUNCATE, GET and NEXT of a branch, where nothing refuses them.
     pub fn operate(
         &mut self,
         alloc: Global,
@@ -360,34 +459,117 @@ impl Running {
         name: &FileName,
         asked: Asked<'_>,
     ) -> Result<Vec<Line>, AllocError>
-        requires { answers.refused_after_reading (shared_of self.old) (node_of self.old) (said.Records label.now name.now (asked_of asked)) ≡ None }
+        requires allowed { answers.refused_after_reading (shared_of self.old) (node_of self.old) (said.Records label.now name.now (asked_of asked)) ≡ None }
+        requires few { AreFew 1000000 self.old }
+        requires room { HasRoom self.old }
         ensures does { IfOk result (λ lines. Does self.old (said.Records label.now name.now (asked_of asked.entry)) lines.items self.new) }
         ensures counts { OnOk result (RoseByOne self.old self.new) }
+        ensures room { OnOk result (HasRoom self.new) }
     {
         let told = self.told(alloc, name, asked)?;
         let lines = one(alloc, told.line)?;
         let Some(b) = self.branch_labelled(label) else {
             return Ok(lines);
         };
-        if told.changes.is_empty() {
-            return Ok(lines);
-        }
-        self.change(alloc, b.serial, name, told.changes)?;
+        self.operated(alloc, b, name, told.changes, told.keys.as_slice())?;
         Ok(lines)
     }
 
-    // A branch is settled at the next moment.
+    // Changes of a branch of its own, which is committed at once.
+    fn change_directly(
+        &mut self,
+        alloc: Global,
+        name: &FileName,
+        changes: Vec<Change>,
+        s: Settlement,
+    ) -> Result<(), AllocError>
+        requires committed { s.reason ≡ None }
+        requires few { AreFew 1000000 self.old }
+        ensures changes { OnOk result (node_of self.new ≡ acted (world.Directs name.now (changes_of changes.items) (settlement_of s)) (node_of self.old)) }
+        ensures shared { OnOk result (shared_of self.new ≡ shared_of self.old) }
+        ensures boot { self.new.boot ≡ self.old.boot }
+        ensures journal { self.new.journal ≡ self.old.journal }
+        ensures drawn { OnOk result (self.new.drawn ≡ self.old.drawn + 1) }
+        ensures greatest { OnOk result (self.new.greatest ≡ s.moment.hundredths) }
+    {
+        let direct = FileChange::Direct(s.serial, s.moment, changes);
+        let files = replace(&mut self.directory, Vec::new(alloc));
+        self.directory = with_file(alloc, files, self.locks.as_slice(), name, direct)?;
+        let units = replace(&mut self.units, empty_journal(alloc));
+        self.units = without_settled(alloc, units)?;
+        push_front(&mut self.settled, s)?;
+        self.drawn += 1;
+        self.last = Some(s);
+        self.greatest = s.moment.hundredths;
+        Ok(())
+    }
+
+    /// PUT, UPDATE, DELETE, TRUNCATE, GET and NEXT without a label, where nothing refuses them.
+    pub fn direct(
+        &mut self,
+        alloc: Global,
+        name: &FileName,
+        asked: Asked<'_>,
+    ) -> Result<Vec<Line>, AllocError>
+        requires few { AreFew 1000000 self.old }
+        requires room { HasRoom self.old }
+        ensures does { IfOk result (λ lines. Does self.old (said.Direct name.now (asked_of asked.entry)) lines.items self.new) }
+        ensures counts { OnOk result (RoseByOne self.old self.new) }
+        ensures room { OnOk result (HasRoom self.new) }
+    {
+        let told = self.told(alloc, name, asked)?;
+        let lines = one(alloc, told.line)?;
+        if told.changes.is_empty() {
+            return Ok(lines);
+        }
+        let serial = OwnId {
+            boot: self.boot,
+            seq: self.drawn + 1,
+        };
+        let s = self.next_settlement(serial, None);
+        self.change_directly(alloc, name, told.changes, s)?;
+        let all = line_before(lines, Line::Committed(serial, s.moment))?;
+        Ok(all)
+    }
+
+    // The settlement of a branch at the next moment.
+    fn next_settlement(&self, serial: OwnId, reason: Option<Reason>) -> Settlement
+        requires { self.now.greatest < 2 ^ 44 }
+        ensures serial { result.serial ≡ serial }
+        ensures reason { result.reason ≡ reason }
+        ensures moment { result.moment.hundredths ≡ self.now.greatest + 1 }
+        ensures settlement { settlement_of result ≡ record { tid = id_of serial; serial = id_of serial; outcome = outcome_by reason; reason = option_map reason_of reason; moment = world.next_moment (node_of self.now) } }
+    {
+        Settlement {
+            serial,
+            reason,
+            moment: WrittenMoment {
+                hundredths: self.greatest + 1,
+            },
+        }
+    }
+
+    // A branch is settled.
     fn settle(&mut self, alloc: Global, s: Settlement) -> Result<(), AllocError>
+        requires end { end_of (journal_of self.old.units) + 48 < 2 ^ 62 }
+        requires room { HasRoom self.old }
         ensures settles { OnOk result (node_of self.new ≡ acted (world.Settles (settlement_of s)) (node_of self.old)) }
         ensures shared { OnOk result (shared_of self.new ≡ shared_of self.old) }
         ensures boot { self.new.boot ≡ self.old.boot }
         ensures drawn { self.new.drawn ≡ self.old.drawn }
         ensures greatest { OnOk result (self.new.greatest ≡ s.moment.hundredths) }
+        ensures end { OnOk result (end_of (journal_of self.new.units) ≤ end_of (journal_of self.old.units) + 48) }
+        ensures room { OnOk result (HasRoom self.new) }
     {
         let files = replace(&mut self.directory, Vec::new(alloc));
         self.directory = settled_files(alloc, files, s)?;
         let branches = replace(&mut self.branches, Vec::new(alloc));
         self.branches = without_branch(alloc, branches, s.serial)?;
+        let locks = replace(&mut self.locks, Vec::new(alloc));
+        self.locks = released(alloc, locks, s.serial)?;
+        let before = replace(&mut self.units, empty_journal(alloc));
+        let units = with_settled(alloc, before, s)?;
+        self.units = units;
         push_front(&mut self.settled, s)?;
         self.last = Some(s);
         self.greatest = s.moment.hundredths;
@@ -396,47 +578,40 @@ impl Running {
 
     /// END_TRANS.
     pub fn end(&mut self, alloc: Global, label: &Label) -> Result<Vec<Line>, AllocError>
-        requires { AreFew 1000000 self.old }
+        requires few { AreFew 1000000 self.old }
+        requires room { HasRoom self.old }
         ensures does { IfOk result (λ lines. Does self.old (said.EndTrans label.now) lines.items self.new) }
         ensures counts { OnOk result (RoseByOne self.old self.new) }
+        ensures room { OnOk result (HasRoom self.new) }
     {
         let mut lines = one(alloc, Line::Normal)?;
         let Some(b) = self.branch_labelled(label) else {
             return Ok(lines);
         };
-        let moment = WrittenMoment {
-            hundredths: self.greatest + 1,
-        };
-        let s = Settlement {
-            serial: b.serial,
-            outcome: Outcome::Commit,
-            moment,
-        };
+        let s = self.next_settlement(b.serial, None);
         self.settle(alloc, s)?;
-        push_front(&mut lines, Line::Committed(b.serial, moment))?;
+        push_front(&mut lines, Line::Committed(b.serial, s.moment))?;
         Ok(lines)
     }
 
     /// ABORT_TRANS.
     pub fn abort(&mut self, alloc: Global, label: &Label) -> Result<Vec<Line>, AllocError>
-        requires { AreFew 1000000 self.old }
+        requires few { AreFew 1000000 self.old }
+        requires room { HasRoom self.old }
         ensures does { IfOk result (λ lines. Does self.old (said.AbortTrans label.now) lines.items self.new) }
         ensures counts { OnOk result (RoseByOne self.old self.new) }
+        ensures room { OnOk result (HasRoom self.new) }
     {
         let mut lines = one(alloc, Line::Normal)?;
         let Some(b) = self.branch_labelled(label) else {
             return Ok(lines);
         };
-        let moment = WrittenMoment {
-            hundredths: self.greatest + 1,
-        };
-        let s = Settlement {
-            serial: b.serial,
-            outcome: Outcome::Abort,
-            moment,
-        };
+        let s = self.next_settlement(b.serial, Some(Reason::Aborted));
         self.settle(alloc, s)?;
-        push_front(&mut lines, Line::Aborted(b.serial, moment))?;
+        push_front(
+            &mut lines,
+            Line::Aborted(b.serial, Reason::Aborted, s.moment),
+        )?;
         Ok(lines)
     }
 
@@ -450,10 +625,20 @@ impl Running {
         }
     }
 
+    /// DUMP_JOURNAL RU.
+    pub fn dump_journal(&self, alloc: Global) -> Result<Vec<Line>, AllocError>
+        requires { AreFew 1000000 self.now }
+        ensures { IfOk result (λ lines. Does self.now said.DumpJournal lines.items self.now) }
+    {
+        journal_shown(alloc, &self.units)
+    }
+
     /// FUSE.
     pub fn arm(&mut self, alloc: Global, writes: u32, choice: u64) -> Result<Vec<Line>, AllocError>
+        requires room { HasRoom self.old }
         ensures does { IfOk result (λ lines. Does self.old (said.Fuse writes choice) lines.items self.new) }
         ensures counts { OnOk result (RoseByOne self.old self.new) }
+        ensures room { OnOk result (HasRoom self.new) }
     {
         push_front(&mut self.calls, DiskCall::Arm { writes, choice })?;
         one(alloc, Line::Normal)
@@ -461,8 +646,10 @@ impl Running {
 
     /// CRASH.
     pub fn crash(&mut self, alloc: Global) -> Result<Vec<Line>, AllocError>
+        requires room { HasRoom self.old }
         ensures does { IfOk result (λ lines. Does self.old said.Crash lines.items self.new) }
         ensures counts { OnOk result (RoseByOne self.old self.new) }
+        ensures room { OnOk result (HasRoom self.new) }
     {
         self.up = false;
         let mut lines = one(alloc, Line::Normal)?;

@@ -2,10 +2,7 @@
 #![tactic(auto)]
 
 mod acts;
-mod asked;
-mod forms;
 mod law;
-mod records;
 mod refusals;
 mod rows;
 mod running;

@@ -5,20 +5,20 @@ ghost use Rattle.script_lang.specs.Statements.{statement_of, request_of};
 ghost use Rattle.script_model.specs.Statements.{At};
 ghost use Rattle.run_model.specs.Answers as answers;
 ghost use Rattle.run_model.specs.Steps.{ready_node, occupied};
-ghost use Rattle.reference_run.specs.Served.{node_of, shared_of, world_of, AreFew, RoseByOne, SameCounts, Serves, ServesRequest, Does};
+ghost use Rattle.reference_run.specs.Served.{node_of, shared_of, world_of, AreFew, HasRoom, IsSmall, RoseByOne, SameCounts, Serves, ServesRequest, Does};
 ghost use Rattle.reference_run.specs.Whole.{opening};
 
-use crate::asked::asked_by;
+use reference_records::asked_by;
+use reference_units::{Journal, empty_journal};
 use reference_world::{
-    Branch, DiskCall, File, JournalSpan, LabelEntry, Line, Settlement, Volume, empty_places, one,
-    push_front,
+    Branch, DiskCall, File, LabelEntry, Line, Lock, Settlement, Volume, one, push_front,
 };
 use script_lang::{Literals, Request, Statement};
 use std::alloc::{AllocError, Global};
 use vms_base::NodeName;
 
-/// What is kept of the node, in the order of a volume's sizes, its contents, and what the node has of its own. Labels, settlements and calls stand newest
-/// first, unsettled branches oldest first.
+/// What is kept of the node, in the order of a volume's sizes, its contents, and what the node has of its own. Labels, locks, settlements and calls stand
+/// newest first, unsettled branches oldest first.
 #[derive(Drop)]
 pub struct Running {
     pub blocks: u32,
@@ -28,12 +28,13 @@ pub struct Running {
     pub boot: u32,
     pub greatest: u64,
     pub last: Option<Settlement>,
-    pub units: JournalSpan,
+    pub units: Journal,
     pub directory: Vec<Option<File>>,
     pub up: bool,
     pub was_up: bool,
     pub drawn: u32,
     pub branches: Vec<Branch>,
+    pub locks: Vec<Lock>,
     pub settled: Vec<Settlement>,
     pub calls: Vec<DiskCall>,
     pub labels: Vec<LabelEntry>,
@@ -42,11 +43,12 @@ pub struct Running {
 
 impl Running {
     /// A node that is down, whose disk has so many blocks, all of zeros.
-    pub fn new(alloc: Global, blocks: u32) -> Result<Running, AllocError>
-        ensures opening { IfOk result (λ r. world_of r ≡ opening blocks) }
-        ensures few { IfOk result (AreFew 0) }
+    pub fn new(alloc: Global, blocks: u32) -> Running
+        ensures opening { world_of result ≡ opening blocks }
+        ensures few { AreFew 0 result }
+        ensures room { HasRoom result }
     {
-        Ok(Running {
+        Running {
             blocks,
             volume: Volume::Faulty {
                 condition: 1,
@@ -57,22 +59,18 @@ impl Running {
             boot: 0,
             greatest: 0,
             last: None,
-            units: JournalSpan {
-                start: 0,
-                blocks: 0,
-                first: 0,
-                end: 0,
-            },
-            directory: empty_places(alloc, 64)?,
+            units: empty_journal(alloc),
+            directory: Vec::new(alloc),
             up: false,
             was_up: false,
             drawn: 0,
             branches: Vec::new(alloc),
+            locks: Vec::new(alloc),
             settled: Vec::new(alloc),
             calls: Vec::new(alloc),
             labels: Vec::new(alloc),
             in_use: false,
-        })
+        }
     }
 
     // The disk is made to run again, where the request does that.
@@ -112,8 +110,11 @@ impl Running {
     ) -> Result<Vec<Line>, AllocError>
         requires allowed { answers.refused_after_reading (shared_of self.old) (node_of self.old) (request_of lit.now request.now) ≡ None }
         requires few { AreFew 1000000 self.old }
+        requires room { HasRoom self.old }
+        requires small { IsSmall request.now }
         ensures does { IfOk result (λ lines. Does self.old (request_of lit.now request.now) lines.items self.new) }
         ensures counts { OnOk result (RoseByOne self.old self.new) }
+        ensures room { OnOk result (HasRoom self.new) }
     {
         match request {
             Request::Init { slots, blocks } => self.init(alloc, *slots, *blocks),
@@ -129,9 +130,13 @@ impl Running {
             Request::Records(label, file, operation) => {
                 self.operate(alloc, label, file, asked_by(operation, lit))
             }
+            Request::Direct(file, operation) => {
+                self.direct(alloc, file, asked_by(operation, lit))
+            }
             Request::EndTrans(label) => self.end(alloc, label),
             Request::AbortTrans(label) => self.abort(alloc, label),
             Request::Dump(file) => self.dump(alloc, file),
+            Request::DumpJournal => self.dump_journal(alloc),
             Request::Fuse { writes, choice } => self.arm(alloc, *writes, *choice),
             Request::Crash => self.crash(alloc),
         }
@@ -146,8 +151,10 @@ impl Running {
     ) -> Result<Vec<Line>, AllocError>
         requires allowed { answers.refused_before_reading (shared_of self.old) (node_of self.old) (request_of lit.now request.now) ≡ None }
         requires few { AreFew 1000000 self.old }
+        requires room { HasRoom self.old }
         ensures serves { IfOk result (λ lines. ServesRequest self.old (request_of lit.now request.now) lines.items self.new) }
         ensures counts { OnOk result (RoseByOne self.old self.new) }
+        ensures room { OnOk result (HasRoom self.new) }
     {
         self.ready(request)?;
         if let Some(refusal) = self.late(alloc, request, lit)? {
@@ -166,14 +173,16 @@ impl Running {
         request: &Request,
         lit: &Literals,
     ) -> Result<Vec<Line>, AllocError>
-        requires { AreFew 1000000 self.old }
+        requires few { AreFew 1000000 self.old }
+        requires room { HasRoom self.old }
         ensures serves { IfOk result (λ lines. Serves self.old (At node.now (request_of lit.now request.now)) lines.items self.new) }
         ensures counts { OnOk result (RoseByOne self.old self.new) }
+        ensures room { OnOk result (HasRoom self.new) }
     {
         if node.bytes() != b"A".as_slice() {
             return one(alloc, Line::NoSuchNode);
         }
-        if let Some(refusal) = self.early(request, lit) {
+        if let Some(refusal) = self.early(alloc, request, lit)? {
             return one(alloc, refusal);
         }
         self.serve_allowed(alloc, request, lit)
@@ -186,9 +195,11 @@ impl Running {
         statement: &Statement,
         lit: &Literals,
     ) -> Result<Vec<Line>, AllocError>
-        requires { AreFew 1000000 self.old }
+        requires few { AreFew 1000000 self.old }
+        requires room { HasRoom self.old }
         ensures serves { IfOk result (λ lines. Serves self.old (statement_of lit.now statement.now) lines.items self.new) }
         ensures counts { OnOk result (RoseByOne self.old self.new) }
+        ensures room { OnOk result (HasRoom self.new) }
     {
         let Statement::At(node, request) = statement;
         self.serve_at(alloc, node, request, lit)

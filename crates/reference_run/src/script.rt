@@ -4,11 +4,12 @@ ghost use Rattle.transcript_model.specs.Script.{ScriptLine, lines_of};
 ghost use Rattle.run_model.specs.Transcript.{Entry};
 ghost use Rattle.script_lang.specs.declared.literals.Literals.{Literals as LiteralsSaid};
 ghost use Rattle.reference_run.specs.Whole.{is_in_limits, opening, run_of};
-ghost use Rattle.reference_run.specs.Served.{world_of, AreFew};
+ghost use Rattle.reference_run.specs.Served.{world_of, AreFew, HasRoom};
 ghost use Rattle.reference_run.specs.Scripts.{Feeds, Stands, Turns, Steps, RunsTo, exit_of};
 
 use crate::running::Running;
-use reference_world::{Line, one, put_lines};
+use reference_text::put_lines;
+use reference_world::{Line, one};
 use script_lang::{Literals, read_statement};
 use std::alloc::{AllocError, Global};
 use std::mem::replace;
@@ -62,11 +63,12 @@ impl Reading {
         ensures stands { IfOk result (λ r. Stands r []) }
         ensures opening { IfOk result (λ r. world_of r.running ≡ opening blocks) }
         ensures few { IfOk result (λ r. AreFew r.number r.running) }
+        ensures room { IfOk result (λ r. HasRoom r.running) }
     {
         Ok(Reading {
             number: 1,
             size: 0,
-            running: Running::new(alloc, blocks)?,
+            running: Running::new(alloc, blocks),
             literals: Literals::reserve(alloc)?,
             text: Vec::new(alloc),
         })
@@ -106,9 +108,11 @@ impl Reading {
         requires number { self.old.number ≤ 1000000 }
         requires size { self.old.size ≤ 67108864 }
         requires few { AreFew self.old.number self.old.running }
+        requires room { HasRoom self.old.running }
         ensures turns { (es : List Entry) (more : List ScriptLine) → Stands self.old es → is_in_limits es (record { text = line.now; ended = ended }) ≡ true →
             IfOk result (λ on. Turns self.old es (record { text = line.now; ended = ended }) more on self.new) }
         ensures few { IfOk result (λ on. on ≡ true → AreFew self.new.number self.new.running) }
+        ensures room { IfOk result (λ on. on ≡ true → HasRoom self.new.running) }
     {
         match read_statement(line, &mut self.literals) {
             Ok(None) => {
@@ -136,9 +140,11 @@ impl Reading {
         line: &[u8],
         ended: bool,
     ) -> Result<Option<Ending>, AllocError>
-        requires { AreFew self.old.number self.old.running }
+        requires few { AreFew self.old.number self.old.running }
+        requires room { HasRoom self.old.running }
         ensures steps { (es : List Entry) (more : List ScriptLine) → Stands self.old es → IfOk result (λ ending. Steps self.old es (record { text = line.now; ended = ended }) more ending self.new) }
         ensures few { IfOk result (λ ending. ending ≡ None → AreFew self.new.number self.new.running) }
+        ensures room { IfOk result (λ ending. ending ≡ None → HasRoom self.new.running) }
     {
         if self.is_in_limits(line, ended) {
             if self.turn(alloc, line, ended)? {
@@ -156,7 +162,8 @@ impl Reading {
 
 // Serves the lines that are left, and tells how the script ended.
 fn run_on(alloc: Global, reading: &mut Reading, rest: &[u8]) -> Result<Ending, AllocError>
-    requires { AreFew reading.old.number reading.old.running }
+    requires few { AreFew reading.old.number reading.old.running }
+    requires room { HasRoom reading.old.running }
     ensures { (es : List Entry) → Stands reading.old es → IfOk result (λ ending. RunsTo reading.old es (lines_of rest.now) ending reading.new) }
 {
     if rest.is_empty() {

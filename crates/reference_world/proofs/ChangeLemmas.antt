@@ -1,5 +1,5 @@
 -- Changes of records, and what stands after them.
-use Rattle.std.proofs.Common.{◌≡◌, ℕ, ◌≤◌, List, [], ◌∷◌, ◌++◌, Bool, true, false, Some, None, refl, sym, ◌∙◌, ap, arith, length, get_or, drop, Result, Ok, Err, IfOk}
+use Rattle.std.proofs.Common.{◌≡◌, ℕ, ◌≤◌, List, [], ◌∷◌, Bool, true, false, Some, None, refl, sym, ◌∙◌, ap, arith, length, get_or, drop, Result, Ok, Err, IfOk}
 use Rattle.std.specs.Prelude.{◌-◌, take, cond, not}
 use Rattle.std.proofs.lemmas.Grind.{common_steps}
 use Rattle.std.specs.Ordering.{eq_by_cmp, is_eq}
@@ -49,8 +49,3 @@ first_set cs c m some is = ap (λ xs. applied (changes_of xs) m) (sym (parts cs 
 pub if_ok_so : {T E : Type 0} {P Q : T → Type 0} (r : Result T E) → IfOk r P → ((x : T) → P x → Q x) → IfOk r Q
 if_ok_so (Ok x) p f = f x p
 if_ok_so (Err e) p f = tt
-
--- changes on top of others are one list of changes
-pub applied_onto : (newer older : List Change) (m : Records) → applied (changes_of (newer ++ older)) m ≡ applied (changes_of newer) (applied (changes_of older) m)
-applied_onto [] older m = refl
-applied_onto (c ∷ newer) older m = ap (λ n. set_key n (key_of c.key) (value_of c.after)) (applied_onto newer older m)

@@ -6,15 +6,17 @@ use Rattle.std.specs.FinMap.{empty}
 use Rattle.vms_model.specs.Ids.{Id}
 use Rattle.vms_model.specs.Keys as key
 use Rattle.vms_model.specs.Transactions as settled
-use Rattle.vms_base.specs.Outcomes.{outcome_of}
-use Rattle.vms_base.specs.declared.outcomes.Outcome.{Outcome}
-use Rattle.vms_base.specs.declared.outcomes.Outcome.TheVariants as outcome
+use Rattle.vms_base.specs.Outcomes.{outcome_of, reason_of}
+use Rattle.vms_base.specs.declared.outcomes.Reason.{Reason}
 use Rattle.records_model.specs.Records as records
 use Rattle.records_model.specs.Slots as slots
 use Rattle.records_model.specs.Layout.{Layout}
 use Rattle.records_model.specs.History as history
 use Rattle.transcript_model.specs.Lines as model
 use Rattle.run_model.specs.World as world
+use Rattle.run_model.specs.Locks as locks
+use Rattle.commit_protocol.specs.Table as table
+use Rattle.commit_protocol.specs.Rows.{blank}
 use Rattle.reference_world.specs.declared.world.OwnId.{OwnId}
 use Rattle.reference_world.specs.declared.keys.Key.{Key}
 use Rattle.reference_world.specs.declared.keys.Key.TheVariants as owned
@@ -27,7 +29,7 @@ use Rattle.reference_world.specs.declared.world.Slot.{Slot}
 use Rattle.reference_world.specs.declared.world.Bucket.{Bucket}
 use Rattle.reference_world.specs.declared.world.LiveChanges.{LiveChanges}
 use Rattle.reference_world.specs.declared.world.SettledChanges.{SettledChanges}
-use Rattle.reference_world.specs.declared.world.JournalSpan.{JournalSpan}
+use Rattle.reference_world.specs.declared.world.Lock.{Lock}
 use Rattle.reference_world.specs.declared.world.File.{File}
 use Rattle.reference_world.specs.declared.world.Branch.{Branch}
 use Rattle.reference_world.specs.declared.world.LabelEntry.{LabelEntry}
@@ -61,10 +63,12 @@ lent_value v = option_map (λ bytes. bytes.now) v
 abbrev pub key_of : Key → key.Key
 key_of (owned.Number n) = key.Number n
 key_of (owned.Text bytes) = key.Text bytes.items
+key_of owned.End = key.End
 
 abbrev pub lent_key : KeyRef → key.Key
 lent_key (lent.Number n) = key.Number n
 lent_key (lent.Text bytes) = key.Text bytes.now
+lent_key lent.End = key.End
 
 abbrev pub change_of : Change → records.Change
 change_of c = record { key = key_of c.key; before = value_of c.before; after = value_of c.after }
@@ -78,12 +82,9 @@ live_of l = record { serial = id_of l.serial; changes = changes_of l.changes.ite
 abbrev pub done_of : SettledChanges → history.SettledChanges
 done_of s = record { serial = id_of s.serial; outcome = outcome_of s.outcome; moment = s.moment; changes = changes_of s.changes.items }
 
--- the records that these changes leave where there were none
-abbrev pub base_of : List Change → records.Records
-base_of cs = records.applied (changes_of cs) empty
-
+-- nothing was committed before the file was made
 abbrev pub history_of : File → history.History
-history_of f = record { base = base_of f.base.items; moment = f.moment; settled = map done_of f.settled.items; live = map live_of f.live.items }
+history_of f = record { base = empty; moment = f.moment; settled = map done_of f.settled.items; live = map live_of f.live.items }
 
 abbrev pub organization_of : Organization → world.Organization
 organization_of organization.Sequential = world.Sequential
@@ -106,9 +107,12 @@ chain_of bs = map bucket_of bs
 abbrev pub layout_of : List Bucket → Layout
 layout_of bs = record { chain = chain_of bs }
 
--- a journal in the volume
-abbrev pub journal_of : JournalSpan → world.JournalSpan
-journal_of j = record { start = j.start; blocks = j.blocks; first = j.first; end = j.end }
+-- a key that a branch holds
+abbrev pub lock_of : Lock → locks.Lock
+lock_of l = record { file = l.file; key = key_of l.key; by = id_of l.by }
+
+abbrev pub locks_of : List Lock → List locks.Lock
+locks_of ls = map lock_of ls
 
 -- a file carries nothing for its recovery
 abbrev pub file_of : File → world.File
@@ -129,20 +133,20 @@ abbrev pub directory_of : List (Option File) → List (Option world.File)
 directory_of fs = map (option_map file_of) fs
 
 -- each branch is the first of its transaction
-abbrev pub branch_of : Branch → world.Branch
-branch_of b = record { tid = id_of b.serial; serial = id_of b.serial; changes = b.changes }
+abbrev pub branch_of : Branch → table.Branch
+branch_of b = record (blank (id_of b.serial) (id_of b.serial) None table.Active None) { changed = b.changed }
 
 -- so each label names its transaction's first branch
 abbrev pub label_of : LabelEntry → world.Label
 label_of l = record { name = l.name; node = own_name; tid = id_of l.serial; bid = None; serial = Some (id_of l.serial) }
 
--- a branch is aborted because that was asked
-abbrev pub reason_of : Outcome → Option settled.Reason
-reason_of outcome.Commit = None
-reason_of outcome.Abort = Some settled.Aborted
+-- a branch that was aborted for no reason was committed
+abbrev pub outcome_by : Option Reason → settled.Outcome
+outcome_by None = settled.Commit
+outcome_by (Some reason) = settled.Abort
 
 abbrev pub settlement_of : Settlement → world.Settlement
-settlement_of s = record { tid = id_of s.serial; serial = id_of s.serial; outcome = outcome_of s.outcome; reason = reason_of s.outcome; moment = s.moment.hundredths }
+settlement_of s = record { tid = id_of s.serial; serial = id_of s.serial; outcome = outcome_by s.reason; reason = option_map reason_of s.reason; moment = s.moment.hundredths }
 
 abbrev pub volume_of : Volume → world.Volume
 volume_of volume.Sound = world.Sound
@@ -170,18 +174,23 @@ quota_of quota.Files = model.Files
 quota_of quota.Changes = model.Changes
 quota_of quota.Boots = model.Boots
 quota_of quota.Moments = model.Moments
+quota_of quota.Locks = model.Locks
+quota_of quota.Positions = model.Positions
 
 -- what the line shows
 abbrev pub line_of : Line → model.Line
 line_of (line.Record k bytes) = model.Record (key_of k) bytes.items
 line_of (line.Committed i moment) = model.Committed (id_of i) (id_of i) moment.hundredths
-line_of (line.Aborted i moment) = model.Aborted (id_of i) (id_of i) settled.Aborted moment.hundredths
+line_of (line.Aborted i reason moment) = model.Aborted (id_of i) (id_of i) (reason_of reason) moment.hundredths
 line_of (line.LastCommitted i moment) = model.LastCommitted (id_of i) (id_of i) moment.hundredths
-line_of (line.LastAborted i moment) = model.LastAborted (id_of i) (id_of i) settled.Aborted moment.hundredths
+line_of (line.LastAborted i reason moment) = model.LastAborted (id_of i) (id_of i) (reason_of reason) moment.hundredths
+line_of (line.ChangeEntry position i file k image) = model.ChangeEntry position (id_of i) (id_of i) file (key_of k) (value_of image)
+line_of (line.SettledEntry position i outcome moment) = model.SettledEntry position (id_of i) (id_of i) (outcome_of outcome) moment.hundredths
 line_of line.Crashed = model.Crashed own_name
 line_of line.Normal = model.Normal
 line_of (line.NormalCount n) = model.NormalCount n
 line_of (line.NormalId i) = model.NormalId (id_of i)
+line_of (line.NormalSpan first end) = model.NormalSpan first end
 line_of line.RecordNormal = model.RecordNormal
 line_of (line.RecordPosition n) = model.RecordPosition n
 line_of (line.RecordFound bytes) = model.RecordFound bytes.items
@@ -200,6 +209,8 @@ line_of line.BadRecordNumber = model.BadRecordNumber
 line_of line.BadRecordSize = model.BadRecordSize
 line_of line.NoSuchTransaction = model.NoSuchTransaction
 line_of line.NotMarked = model.NotMarked
+line_of line.NeedsUnit = model.NeedsUnit
+line_of (line.RecordLocked i) = model.RecordLocked (id_of i)
 line_of (line.FileLocked i) = model.FileLocked (id_of i)
 line_of (line.NoVolume condition block) = model.NoVolume own_name condition block
 line_of line.RecordExists = model.RecordExists
@@ -210,5 +221,6 @@ line_of line.KeyChanged = model.KeyChanged
 line_of (line.QuotaExceeded q limit) = model.QuotaExceeded (quota_of q) limit
 line_of (line.VolumeFull free need) = model.VolumeFull free need
 line_of (line.FileFull free need) = model.FileFull free need
+line_of (line.JournalFull free need) = model.JournalFull free need
 line_of (line.BadLine column) = model.BadLine column
 line_of line.TooLong = model.TooLong

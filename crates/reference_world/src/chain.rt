@@ -2,20 +2,23 @@
 ghost use Rattle.std.specs.Prelude.{◌≡◌, ◌≤◌, ℕ, List, [], ◌∷◌, ◌++◌, map, length, IfOk};
 ghost use Rattle.std.specs.List.{list_any};
 ghost use Rattle.vms_model.specs.Keys.{Text};
-ghost use Rattle.records_model.specs.History.{is_held as is_held_by};
+ghost use Rattle.unit_laws.specs.Units as units;
+ghost use Rattle.unit_laws.specs.Layouts as layouts;
+ghost use Rattle.run_model.specs.Locks.{is_locked};
 ghost use Rattle.records_model.specs.Slots as slots;
 ghost use Rattle.records_model.specs.Parts as parts;
 ghost use Rattle.records_model.specs.Chain as chain;
-ghost use Rattle.reference_world.specs.Standing.{lent_key, lent_value, changes_of, live_of, slot_of, slots_of, bucket_of, chain_of};
-ghost use Rattle.reference_world.specs.Histories.{only_live};
+ghost use Rattle.reference_world.specs.Standing.{lent_key, lent_value, changes_of, locks_of, slot_of, slots_of, bucket_of, chain_of};
 
+use crate::history::changes_key;
 use crate::keys::KeyRef;
 use crate::lists::{append, push_front, take_first};
 use crate::parts::{fits, parted};
 use crate::slots::{copy_slot, lend_value, put, tidied, with_value};
-use crate::world::{Bucket, Change, LiveChanges, Slot};
+use crate::world::{Bucket, Change, Lock, Slot};
 use std::alloc::{AllocError, Global};
 use std::cmp::Ordering;
+use vms_base::FileName;
 
 // How many slots at the front have lesser keys.
 fn place_of(key: &[u8], all: &[Slot]) -> usize
@@ -35,15 +38,16 @@ fn place_of(key: &[u8], all: &[Slot]) -> usize
 fn tidied_with(
     alloc: Global,
     cap: u64,
-    live: &[LiveChanges],
+    locks: &[Lock],
+    file: &FileName,
     key: &[u8],
     value: Option<&[u8]>,
     all: &[Slot],
 ) -> Result<Vec<Bucket>, AllocError>
-    ensures { let more = slots.put key.now (lent_value value.entry) (slots.tidied (λ t. is_held_by (only_live (map live_of live.now)) (Text t)) (slots_of all.now)) in
+    ensures { let more = slots.put key.now (lent_value value.entry) (slots.tidied (λ t. is_locked (locks_of locks.now) file.now (Text t)) (slots_of all.now)) in
         IfOk result (λ v. chain_of v.items ≡ parts.parted cap (chain.place_of key.now more) more) }
 {
-    let tidy = tidied(alloc, live, all)?;
+    let tidy = tidied(alloc, locks, file, all)?;
     let more = put(alloc, key, value, tidy.as_slice())?;
     parted(alloc, cap, place_of(key, more.as_slice()), more.as_slice())
 }
@@ -57,22 +61,23 @@ fn one_bucket(alloc: Global, slots: Vec<Slot>) -> Result<Vec<Bucket>, AllocError
     Ok(one)
 }
 
-// A bucket with this key set, where these unsettled branches hold the keys that they changed.
+// A bucket with this key set, where these locks are held.
 fn bucket_with(
     alloc: Global,
     cap: u64,
-    live: &[LiveChanges],
+    locks: &[Lock],
+    file: &FileName,
     key: &[u8],
     value: Option<&[u8]>,
     bucket: Bucket,
 ) -> Result<Vec<Bucket>, AllocError>
-    ensures { IfOk result (λ v. chain_of v.items ≡ chain.bucket_with cap (λ t. is_held_by (only_live (map live_of live.now)) (Text t)) key.now (lent_value value.entry) (bucket_of bucket)) }
+    ensures { IfOk result (λ v. chain_of v.items ≡ chain.bucket_with cap (λ t. is_locked (locks_of locks.now) file.now (Text t)) key.now (lent_value value.entry) (bucket_of bucket)) }
 {
     let set = put(alloc, key, value, bucket.slots.as_slice())?;
     if fits(set.as_slice(), cap) {
         one_bucket(alloc, set)
     } else {
-        tidied_with(alloc, cap, live, key, value, bucket.slots.as_slice())
+        tidied_with(alloc, cap, locks, file, key, value, bucket.slots.as_slice())
     }
 }
 
@@ -103,23 +108,24 @@ fn some_begins_by(key: &[u8], buckets: &[Bucket]) -> bool
 fn chain_with(
     alloc: Global,
     cap: u64,
-    live: &[LiveChanges],
+    locks: &[Lock],
+    file: &FileName,
     key: &[u8],
     value: Option<&[u8]>,
     buckets: Vec<Bucket>,
 ) -> Result<Vec<Bucket>, AllocError>
-    ensures { IfOk result (λ v. chain_of v.items ≡ chain.chain_with cap (λ t. is_held_by (only_live (map live_of live.now)) (Text t)) key.now (lent_value value.entry) (chain_of buckets.items)) }
+    ensures { IfOk result (λ v. chain_of v.items ≡ chain.chain_with cap (λ t. is_locked (locks_of locks.now) file.now (Text t)) key.now (lent_value value.entry) (chain_of buckets.items)) }
 {
     let mut rest = buckets;
     match take_first(&mut rest) {
         None => Ok(Vec::new(alloc)),
         Some(first) => {
             if some_begins_by(key, rest.as_slice()) {
-                let mut all = chain_with(alloc, cap, live, key, value, rest)?;
+                let mut all = chain_with(alloc, cap, locks, file, key, value, rest)?;
                 push_front(&mut all, first)?;
                 Ok(all)
             } else {
-                let set = bucket_with(alloc, cap, live, key, value, first)?;
+                let set = bucket_with(alloc, cap, locks, file, key, value, first)?;
                 append(set, rest)
             }
         }
@@ -130,115 +136,105 @@ fn chain_with(
 fn chain_set(
     alloc: Global,
     cap: u64,
-    live: &[LiveChanges],
+    locks: &[Lock],
+    file: &FileName,
     key: KeyRef<'_>,
     value: Option<&[u8]>,
     buckets: Vec<Bucket>,
 ) -> Result<Vec<Bucket>, AllocError>
-    ensures { IfOk result (λ v. chain_of v.items ≡ chain.chain_set cap (is_held_by (only_live (map live_of live.now))) (lent_key key.entry) (lent_value value.entry) (chain_of buckets.items)) }
+    ensures { IfOk result (λ v. chain_of v.items ≡ chain.chain_set cap (is_locked (locks_of locks.now) file.now) (lent_key key.entry) (lent_value value.entry) (chain_of buckets.items)) }
 {
     match key {
-        KeyRef::Number(_) => Ok(buckets),
-        KeyRef::Text(bytes) => chain_with(alloc, cap, live, bytes, value, buckets),
+        KeyRef::Text(bytes) => chain_with(alloc, cap, locks, file, bytes, value, buckets),
+        _ => Ok(buckets),
     }
 }
 
-/// A chain after changes, the newest first, where these unsettled branches hold the keys that they changed.
+/// The chain of a file of this name after changes, the newest first, where these locks are held.
 pub fn chain_changed(
     alloc: Global,
     cap: u64,
-    live: &[LiveChanges],
+    locks: &[Lock],
+    file: &FileName,
     changes: &[Change],
     buckets: Vec<Bucket>,
 ) -> Result<Vec<Bucket>, AllocError>
-    ensures { IfOk result (λ v. chain_of v.items ≡ chain.chain_changed cap (is_held_by (only_live (map live_of live.now))) (changes_of changes.now) (chain_of buckets.items)) }
+    ensures { IfOk result (λ v. chain_of v.items ≡ chain.chain_changed cap (is_locked (locks_of locks.now) file.now) (changes_of changes.now) (chain_of buckets.items)) }
 {
     match changes {
         [] => Ok(buckets),
         [c, rest @ ..] => {
-            let before = chain_changed(alloc, cap, live, rest, buckets)?;
-            chain_set(alloc, cap, live, c.key.lend(), lend_value(&c.after), before)
+            let before = chain_changed(alloc, cap, locks, file, rest, buckets)?;
+            chain_set(
+                alloc,
+                cap,
+                locks,
+                file,
+                c.key.lend(),
+                lend_value(&c.after),
+                before,
+            )
         }
     }
 }
 
-// Slots in which a key has again what it had.
-fn slots_back(
-    alloc: Global,
-    key: &[u8],
-    value: Option<&[u8]>,
-    all: &[Slot],
-) -> Result<Vec<Slot>, AllocError>
-    ensures { IfOk result (λ v. slots_of v.items ≡ map (chain.slot_back key.now (lent_value value.entry)) (slots_of all.now)) }
+// The earliest before image of a key that these changes, the newest first, set.
+fn earliest_before<'a>(changes: &'a [Change], key: KeyRef<'_>) -> Option<&'a [u8]>
+    ensures { lent_value result ≡ units.earliest_before (changes_of changes.now) (lent_key key.entry) }
+{
+    match changes {
+        [] => None,
+        [c, rest @ ..] => {
+            if changes_key(rest, key) {
+                earliest_before(rest, key)
+            } else {
+                lend_value(&c.before)
+            }
+        }
+    }
+}
+
+// A slot that has again what it had before these changes, where they are of its key.
+fn slot_restored(alloc: Global, changes: &[Change], s: &Slot) -> Result<Slot, AllocError>
+    ensures { IfOk result (λ back. slot_of back ≡ layouts.slot_restored (changes_of changes.now) (slot_of s.now)) }
+{
+    let key = KeyRef::Text(s.key.as_slice());
+    if changes_key(changes, key) {
+        with_value(alloc, s, earliest_before(changes, key))
+    } else {
+        copy_slot(alloc, s)
+    }
+}
+
+// Slots that do.
+fn slots_restored(alloc: Global, changes: &[Change], all: &[Slot]) -> Result<Vec<Slot>, AllocError>
+    ensures { IfOk result (λ v. slots_of v.items ≡ map (layouts.slot_restored (changes_of changes.now)) (slots_of all.now)) }
 {
     match all {
         [] => Ok(Vec::new(alloc)),
         [s, rest @ ..] => {
-            let mut back = slots_back(alloc, key, value, rest)?;
-            push_front(&mut back, slot_back(alloc, key, value, s)?)?;
+            let mut back = slots_restored(alloc, changes, rest)?;
+            push_front(&mut back, slot_restored(alloc, changes, s)?)?;
             Ok(back)
         }
     }
 }
 
-// A slot that had this record, where it is of this key.
-fn slot_back(alloc: Global, key: &[u8], value: Option<&[u8]>, s: &Slot) -> Result<Slot, AllocError>
-    ensures { IfOk result (λ back. slot_of back ≡ chain.slot_back key.now (lent_value value.entry) (slot_of s.now)) }
-{
-    match key.cmp(s.key.as_slice()) {
-        Ordering::Equal => with_value(alloc, s, value),
-        _ => copy_slot(alloc, s),
-    }
-}
-
-// Buckets in which it has.
-fn buckets_back(
+/// A chain after the branch that made these changes, the newest first, was undone.
+pub fn chain_restored(
     alloc: Global,
-    key: &[u8],
-    value: Option<&[u8]>,
+    changes: &[Change],
     buckets: &[Bucket],
 ) -> Result<Vec<Bucket>, AllocError>
-    ensures { IfOk result (λ v. chain_of v.items ≡ chain.chain_back (Text key.now) (lent_value value.entry) (chain_of buckets.now)) }
+    ensures { IfOk result (λ v. chain_of v.items ≡ layouts.chain_restored (changes_of changes.now) (chain_of buckets.now)) }
 {
     match buckets {
         [] => Ok(Vec::new(alloc)),
         [b, rest @ ..] => {
-            let mut back = buckets_back(alloc, key, value, rest)?;
-            let slots = slots_back(alloc, key, value, b.slots.as_slice())?;
+            let mut back = chain_restored(alloc, changes, rest)?;
+            let slots = slots_restored(alloc, changes, b.slots.as_slice())?;
             push_front(&mut back, Bucket { slots })?;
             Ok(back)
-        }
-    }
-}
-
-// A chain in which a key has again what it had.
-fn chain_back(
-    alloc: Global,
-    key: KeyRef<'_>,
-    value: Option<&[u8]>,
-    buckets: Vec<Bucket>,
-) -> Result<Vec<Bucket>, AllocError>
-    ensures { IfOk result (λ v. chain_of v.items ≡ chain.chain_back (lent_key key.entry) (lent_value value.entry) (chain_of buckets.items)) }
-{
-    match key {
-        KeyRef::Number(_) => Ok(buckets),
-        KeyRef::Text(bytes) => buckets_back(alloc, bytes, value, buckets.as_slice()),
-    }
-}
-
-/// A chain after changes were undone, the newest first.
-pub fn chain_undone(
-    alloc: Global,
-    changes: &[Change],
-    buckets: Vec<Bucket>,
-) -> Result<Vec<Bucket>, AllocError>
-    ensures { IfOk result (λ v. chain_of v.items ≡ chain.chain_undone (changes_of changes.now) (chain_of buckets.items)) }
-{
-    match changes {
-        [] => Ok(buckets),
-        [c, rest @ ..] => {
-            let back = chain_back(alloc, c.key.lend(), lend_value(&c.before), buckets)?;
-            chain_undone(alloc, rest, back)
         }
     }
 }

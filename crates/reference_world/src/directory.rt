@@ -3,13 +3,15 @@ ghost use Rattle.std.specs.Prelude.{◌≡◌, ◌+◌, ◌-◌, ◌*◌, ◌^�
 ghost use Rattle.run_model.specs.World as world;
 ghost use Rattle.run_model.specs.World.{extents_of};
 ghost use Rattle.run_model.specs.Extents as extents;
-ghost use Rattle.reference_world.specs.Standing.{id_of, changes_of, file_of, directory_of, settlement_of};
+ghost use Rattle.run_model.specs.Locks.{is_locked};
+ghost use Rattle.reference_world.specs.Standing.{id_of, changes_of, file_of, directory_of, settlement_of, locks_of};
 ghost use Rattle.reference_world.specs.Directories.{file_change_of, IsRuns};
 
 use crate::chain::chain_changed;
-use crate::history::{as_it_stands, settled_file, with_changes};
+use crate::history::{settled_file, with_changes};
 use crate::lists::{push_front, take_first};
-use crate::world::{Change, File, OwnId, Settlement};
+use crate::moment::WrittenMoment;
+use crate::world::{Change, File, Lock, OwnId, Settlement};
 use std::alloc::{AllocError, Global};
 use std::cmp::max;
 use std::mem::replace;
@@ -125,42 +127,6 @@ pub fn settled_files(
     }
 }
 
-// A place of the directory then.
-fn standing_place(
-    alloc: Global,
-    place: Option<File>,
-    moment: u64,
-) -> Result<Option<File>, AllocError>
-    ensures { IfOk result (λ p. option_map file_of p ≡ option_map (world.as_it_stands moment) (option_map file_of place)) }
-{
-    match place {
-        None => Ok(None),
-        Some(f) => match as_it_stands(alloc, f, moment) {
-            Ok(f) => Ok(Some(f)),
-            Err(e) => Err(e),
-        },
-    }
-}
-
-/// The files as they stand at the node's boot.
-pub fn standing_files(
-    alloc: Global,
-    files: Vec<Option<File>>,
-    moment: u64,
-) -> Result<Vec<Option<File>>, AllocError>
-    ensures { IfOk result (λ v. directory_of v.items ≡ map (option_map (world.as_it_stands moment)) (directory_of files.items)) }
-{
-    let mut rest = files;
-    match take_first(&mut rest) {
-        None => Ok(Vec::new(alloc)),
-        Some(slot) => {
-            let mut all = standing_files(alloc, rest, moment)?;
-            push_front(&mut all, standing_place(alloc, slot, moment)?)?;
-            Ok(all)
-        }
-    }
-}
-
 /// What is changed of one file.
 #[derive(Drop)]
 pub enum FileChange {
@@ -168,6 +134,8 @@ pub enum FileChange {
     Mark(bool),
     /// A branch makes changes, which stand newest first.
     Set(OwnId, Vec<Change>),
+    /// A branch makes changes, and is committed at once at this moment.
+    Direct(OwnId, WrittenMoment, Vec<Change>),
 }
 
 /// How many bytes a bucket of so many blocks has for records.
@@ -177,27 +145,51 @@ pub fn capacity(bucket: u32) -> u64
     (512 * u64::from(bucket)).saturating_sub(16)
 }
 
-// A file after changes of an unsettled branch.
+// A file after changes of an unsettled branch, where these locks are held on files of this name.
 fn set_file(
     alloc: Global,
     file: File,
+    locks: &[Lock],
+    name: &FileName,
     serial: OwnId,
     changes: Vec<Change>,
 ) -> Result<File, AllocError>
-    ensures { IfOk result (λ f. file_of f ≡ world.changed_file (id_of serial) (changes_of changes.items) (file_of file)) }
+    ensures { IfOk result (λ f. file_of f ≡ world.changed_file (is_locked (locks_of locks.now) name.now) (id_of serial) (changes_of changes.items) (file_of file)) }
 {
     let mut f = file;
     let cap = capacity(f.bucket);
     let chain = replace(&mut f.chain, Vec::new(alloc));
-    f.chain = chain_changed(alloc, cap, f.live.as_slice(), changes.as_slice(), chain)?;
+    f.chain = chain_changed(alloc, cap, locks, name, changes.as_slice(), chain)?;
     let live = replace(&mut f.live, Vec::new(alloc));
     f.live = with_changes(alloc, live, serial, changes)?;
     Ok(f)
 }
 
-// A file with its change.
-fn changed_file(alloc: Global, file: File, change: FileChange) -> Result<File, AllocError>
-    ensures { IfOk result (λ f. file_of f ≡ file_change_of change (file_of file)) }
+// A file after changes of a branch that is committed at once.
+fn set_directly(
+    alloc: Global,
+    file: File,
+    locks: &[Lock],
+    name: &FileName,
+    s: Settlement,
+    changes: Vec<Change>,
+) -> Result<File, AllocError>
+    requires { s.reason ≡ None }
+    ensures { IfOk result (λ f. file_of f ≡ world.directly_changed (is_locked (locks_of locks.now) name.now) (settlement_of s) (changes_of changes.items) (file_of file)) }
+{
+    let changed = set_file(alloc, file, locks, name, s.serial, changes)?;
+    settled_file(alloc, changed, s)
+}
+
+// A file with its change, where these locks are held on files of this name.
+fn changed_file(
+    alloc: Global,
+    file: File,
+    locks: &[Lock],
+    name: &FileName,
+    change: FileChange,
+) -> Result<File, AllocError>
+    ensures { IfOk result (λ f. file_of f ≡ file_change_of (is_locked (locks_of locks.now) name.now) change (file_of file)) }
 {
     let mut f = file;
     match change {
@@ -205,33 +197,45 @@ fn changed_file(alloc: Global, file: File, change: FileChange) -> Result<File, A
             f.recovery_units = units;
             Ok(f)
         }
-        FileChange::Set(serial, changes) => set_file(alloc, f, serial, changes),
+        FileChange::Set(serial, changes) => set_file(alloc, f, locks, name, serial, changes),
+        FileChange::Direct(serial, moment, changes) => {
+            let s = Settlement {
+                serial,
+                reason: None,
+                moment,
+            };
+            set_directly(alloc, f, locks, name, s, changes)
+        }
     }
 }
 
-/// The files with one change of the file of this name.
+/// The files with one change of the file of this name, where these locks are held.
 pub fn with_file(
     alloc: Global,
     files: Vec<Option<File>>,
+    locks: &[Lock],
     name: &FileName,
     change: FileChange,
 ) -> Result<Vec<Option<File>>, AllocError>
-    ensures { IfOk result (λ v. directory_of v.items ≡ world.with_file name.now (file_change_of change) (directory_of files.items)) }
+    ensures { IfOk result (λ v. directory_of v.items ≡ world.with_file name.now (file_change_of (is_locked (locks_of locks.now) name.now) change) (directory_of files.items)) }
 {
     let mut rest = files;
     match take_first(&mut rest) {
         None => Ok(Vec::new(alloc)),
         Some(None) => {
-            let mut all = with_file(alloc, rest, name, change)?;
+            let mut all = with_file(alloc, rest, locks, name, change)?;
             push_front(&mut all, None)?;
             Ok(all)
         }
         Some(Some(f)) => {
             if name.bytes() == f.name.bytes() {
-                push_front(&mut rest, Some(changed_file(alloc, f, change)?))?;
+                push_front(
+                    &mut rest,
+                    Some(changed_file(alloc, f, locks, name, change)?),
+                )?;
                 Ok(rest)
             } else {
-                let mut all = with_file(alloc, rest, name, change)?;
+                let mut all = with_file(alloc, rest, locks, name, change)?;
                 push_front(&mut all, Some(f))?;
                 Ok(all)
             }

@@ -159,12 +159,9 @@ fn with_live<'a>(
 pub fn records_of(alloc: Global, file: &File) -> Result<Vec<Row<'_>>, AllocError>
     ensures { IfOk result (λ v. map entry_of v.items ≡ entries (current (history_of file.now))) }
 {
-    let changes = file.base.as_slice();
     let settled = file.settled.as_slice();
     let live = file.live.as_slice();
-    let base = with_changes(alloc, &[], changes)?;
-    let base_rows = base.as_slice();
-    let left = with_settled(alloc, base_rows, settled)?;
+    let left = with_settled(alloc, &[], settled)?;
     let left_rows = left.as_slice();
     with_live(alloc, left_rows, live)
 }

@@ -1,17 +1,15 @@
 // What branches changed of a file.
-ghost use Rattle.std.specs.Prelude.{◌≡◌, true, ℕ, List, [], ◌∷◌, map, option_map, None, OnOk, IfOk};
+ghost use Rattle.std.specs.Prelude.{◌≡◌, true, ℕ, List, [], ◌∷◌, map, option_map, OnOk, IfOk};
 ghost use Rattle.vms_base.specs.Outcomes.{outcome_of};
-ghost use Rattle.records_model.specs.Records.{applied};
 ghost use Rattle.records_model.specs.History as history;
-ghost use Rattle.records_model.specs.History.{left_by, on_top};
 ghost use Rattle.run_model.specs.World as world;
 ghost use Rattle.run_model.specs.World.{serials_of};
-ghost use Rattle.reference_world.specs.Standing.{id_of, lent_key, change_of, changes_of, live_of, done_of, base_of, history_of, layout_of, file_of, branch_of, settlement_of};
+ghost use Rattle.reference_world.specs.Standing.{id_of, lent_key, change_of, changes_of, live_of, history_of, layout_of, file_of, branch_of, settlement_of};
 ghost use Rattle.reference_world.specs.Histories.{only_live};
 
-use crate::chain::chain_undone;
+use crate::chain::chain_restored;
 use crate::keys::KeyRef;
-use crate::lists::{append, push_front, take_first};
+use crate::lists::{push_front, take_first};
 use crate::world::{Branch, Bucket, Change, File, LiveChanges, OwnId, SettledChanges, Settlement};
 use std::alloc::{AllocError, Global};
 use std::mem::replace;
@@ -25,23 +23,13 @@ pub fn same_id(a: OwnId, b: OwnId) -> bool
     a.boot == b.boot && a.seq == b.seq
 }
 
-// Whether one of these changes is of this key.
-fn changes_key(changes: &[Change], key: KeyRef<'_>) -> bool
+/// Whether one of these changes is of this key.
+pub fn changes_key(changes: &[Change], key: KeyRef<'_>) -> bool
     ensures { result ≡ history.changes_key (lent_key key.entry) (changes_of changes.now) }
 {
     match changes {
         [] => false,
         [c, rest @ ..] => key.is(c.key.lend()) || changes_key(rest, key),
-    }
-}
-
-/// Whether a key is held: an unsettled branch changed it.
-pub fn is_held(live: &[LiveChanges], key: KeyRef<'_>) -> bool
-    ensures { result ≡ history.is_held (only_live (map live_of live.now)) (lent_key key.entry) }
-{
-    match live {
-        [] => false,
-        [l, rest @ ..] => changes_key(l.changes.as_slice(), key) || is_held(rest, key),
     }
 }
 
@@ -172,7 +160,7 @@ fn settled_chain(
 {
     match outcome {
         Outcome::Commit => Ok(chain),
-        Outcome::Abort => chain_undone(alloc, changes, chain),
+        Outcome::Abort => chain_restored(alloc, changes, chain.as_slice()),
     }
 }
 
@@ -191,67 +179,15 @@ pub fn settled_file(alloc: Global, file: File, s: Settlement) -> Result<File, Al
     )?;
     settled_one.live = parted.others;
     let chain = replace(&mut settled_one.chain, Vec::new(alloc));
-    settled_one.chain = settled_chain(alloc, s.outcome, parted.changes.as_slice(), chain)?;
+    settled_one.chain = settled_chain(alloc, s.outcome(), parted.changes.as_slice(), chain)?;
     push_front(
         &mut settled_one.settled,
         SettledChanges {
             serial: s.serial,
-            outcome: s.outcome,
+            outcome: s.outcome(),
             moment: s.moment.hundredths,
             changes: parted.changes,
         },
     )?;
     Ok(settled_one)
-}
-
-// Changes on top of others.
-#[tactic(auto, using(crate::proofs::ChangeLemmas::applied_onto))]
-fn onto(newer: Vec<Change>, older: Vec<Change>) -> Result<Vec<Change>, AllocError>
-    ensures { IfOk result (λ v. base_of v.items ≡ applied (changes_of newer.items) (base_of older.items)) }
-{
-    append(newer, older)
-}
-
-// What committed branches leave on top of a base.
-fn left_on(settled: Vec<SettledChanges>, base: Vec<Change>) -> Result<Vec<Change>, AllocError>
-    ensures { IfOk result (λ v. base_of v.items ≡ left_by None (map done_of settled.items) (base_of base.items)) }
-{
-    let mut rest = settled;
-    match take_first(&mut rest) {
-        None => Ok(base),
-        Some(first) => {
-            let before = left_on(rest, base)?;
-            match first.outcome {
-                Outcome::Commit => onto(first.changes, before),
-                Outcome::Abort => Ok(before),
-            }
-        }
-    }
-}
-
-// What unsettled branches leave on top of a base.
-fn on_top_of(live: Vec<LiveChanges>, base: Vec<Change>) -> Result<Vec<Change>, AllocError>
-    ensures { IfOk result (λ v. base_of v.items ≡ on_top (map live_of live.items) (base_of base.items)) }
-{
-    let mut rest = live;
-    match take_first(&mut rest) {
-        None => Ok(base),
-        Some(first) => {
-            let before = on_top_of(rest, base)?;
-            onto(first.changes, before)
-        }
-    }
-}
-
-/// A file as it stands at the node's boot.
-pub fn as_it_stands(alloc: Global, file: File, moment: u64) -> Result<File, AllocError>
-    ensures { IfOk result (λ f. file_of f ≡ world.as_it_stands moment (file_of file)) }
-{
-    let mut standing = file;
-    let base = replace(&mut standing.base, Vec::new(alloc));
-    let settled = replace(&mut standing.settled, Vec::new(alloc));
-    let live = replace(&mut standing.live, Vec::new(alloc));
-    standing.base = on_top_of(live, left_on(settled, base)?)?;
-    standing.moment = moment;
-    Ok(standing)
 }

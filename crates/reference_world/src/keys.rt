@@ -7,11 +7,12 @@ ghost use Rattle.reference_world.specs.Standing.{key_of, lent_key};
 use std::alloc::{AllocError, Global};
 use std::cmp::Ordering;
 
-/// The key of a record: its number, or bytes of it.
+/// The key of a record: its number, or bytes of it; or a sequential file's end, which stands behind all keys.
 #[derive(Drop)]
 pub enum Key {
     Number(u64),
     Text(Vec<u8>),
+    End,
 }
 
 /// The same, where the bytes lie elsewhere.
@@ -19,6 +20,7 @@ pub enum Key {
 pub enum KeyRef<'a> {
     Number(u64),
     Text(&'a [u8]),
+    End,
 }
 
 impl Key {
@@ -29,6 +31,7 @@ impl Key {
         match self {
             Key::Number(n) => KeyRef::Number(*n),
             Key::Text(bytes) => KeyRef::Text(bytes.as_slice()),
+            Key::End => KeyRef::End,
         }
     }
 }
@@ -41,6 +44,7 @@ impl<'a> KeyRef<'a> {
         match self {
             KeyRef::Number(n) => Ok(Key::Number(n)),
             KeyRef::Text(bytes) => Ok(Key::Text(bytes.to_vec(alloc)?)),
+            KeyRef::End => Ok(Key::End),
         }
     }
 
@@ -51,11 +55,16 @@ impl<'a> KeyRef<'a> {
         match self {
             KeyRef::Number(a) => match other {
                 KeyRef::Number(b) => a.cmp(&b),
-                KeyRef::Text(_) => Ordering::Less,
+                _ => Ordering::Less,
             },
             KeyRef::Text(a) => match other {
                 KeyRef::Number(_) => Ordering::Greater,
                 KeyRef::Text(b) => a.cmp(b),
+                KeyRef::End => Ordering::Less,
+            },
+            KeyRef::End => match other {
+                KeyRef::End => Ordering::Equal,
+                _ => Ordering::Greater,
             },
         }
     }

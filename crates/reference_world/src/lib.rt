@@ -8,6 +8,7 @@ mod history;
 mod keys;
 mod line;
 mod lists;
+mod locks;
 mod moment;
 mod parts;
 mod slots;
@@ -15,16 +16,17 @@ mod world;
 
 pub use directory::{
     FileChange, Runs, capacity, empty_places, find_file, free_place, free_runs, settled_files,
-    standing_files, with_file,
+    with_file,
 };
 pub use dump::{find_row, records_of, rows_shown};
 pub use history::{first_to_change, same_id};
 pub use keys::{Key, KeyRef};
-pub use line::{Line, Quota, one, put_lines};
-pub use lists::{push_back, push_front, take_first};
+pub use line::{Line, Quota, one};
+pub use lists::{append, push_back, push_front, take_first};
+pub use locks::{is_lock_of, is_locked};
 pub use moment::WrittenMoment;
-pub use slots::own_value;
+pub use slots::{lend_value, own_value};
 pub use world::{
-    Branch, Bucket, Change, DiskCall, File, JournalSpan, LabelEntry, Organization, OwnId, Row,
-    Settlement, Slot, Volume,
+    Branch, Bucket, Change, DiskCall, File, LabelEntry, Lock, Organization, OwnId, Row, Settlement,
+    Slot, Volume,
 };

@@ -1,17 +1,17 @@
 // The slots of an indexed file's buckets.
 ghost use Rattle.std.specs.Prelude.{◌≡◌, ℕ, List, [], ◌∷◌, ◌++◌, map, false, IfOk, Some, None};
 ghost use Rattle.vms_model.specs.Keys.{Text};
-ghost use Rattle.records_model.specs.History.{is_held as is_held_by};
+ghost use Rattle.run_model.specs.Locks.{is_locked as is_locked_by};
 ghost use Rattle.records_model.specs.Slots as slots;
-ghost use Rattle.reference_world.specs.Standing.{value_of, lent_value, live_of, slot_of, slots_of};
-ghost use Rattle.reference_world.specs.Histories.{only_live};
+ghost use Rattle.reference_world.specs.Standing.{value_of, lent_value, locks_of, slot_of, slots_of};
 
-use crate::history::is_held;
 use crate::keys::KeyRef;
 use crate::lists::push_front;
-use crate::world::{LiveChanges, Slot};
+use crate::locks::is_locked;
+use crate::world::{Lock, Slot};
 use std::alloc::{AllocError, Global};
 use std::cmp::{Ordering, max};
+use vms_base::FileName;
 
 /// A record, lent.
 pub fn lend_value(value: &Option<Vec<u8>>) -> Option<&[u8]>
@@ -147,15 +147,20 @@ fn shrunk_before(alloc: Global, s: &Slot, behind: Vec<Slot>) -> Result<Vec<Slot>
     }
 }
 
-/// Tidied slots, where these unsettled branches hold the keys that they changed.
-pub fn tidied(alloc: Global, live: &[LiveChanges], all: &[Slot]) -> Result<Vec<Slot>, AllocError>
-    ensures { IfOk result (λ v. slots_of v.items ≡ slots.tidied (λ t. is_held_by (only_live (map live_of live.now)) (Text t)) (slots_of all.now)) }
+/// Tidied slots of a file of this name, where these locks are held.
+pub fn tidied(
+    alloc: Global,
+    locks: &[Lock],
+    file: &FileName,
+    all: &[Slot],
+) -> Result<Vec<Slot>, AllocError>
+    ensures { IfOk result (λ v. slots_of v.items ≡ slots.tidied (λ t. is_locked_by (locks_of locks.now) file.now (Text t)) (slots_of all.now)) }
 {
     match all {
         [] => Ok(Vec::new(alloc)),
         [s, rest @ ..] => {
-            let mut behind = tidied(alloc, live, rest)?;
-            if is_held(live, KeyRef::Text(s.key.as_slice())) {
+            let mut behind = tidied(alloc, locks, file, rest)?;
+            if is_locked(locks, file, KeyRef::Text(s.key.as_slice())) {
                 push_front(&mut behind, copy_slot(alloc, s)?)?;
                 Ok(behind)
             } else {

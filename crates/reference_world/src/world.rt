@@ -1,7 +1,11 @@
 // What the statements so far have made of the node.
+ghost use Rattle.std.specs.Prelude.{◌≡◌};
+ghost use Rattle.vms_base.specs.Outcomes.{outcome_of};
+ghost use Rattle.reference_world.specs.Standing.{outcome_by};
+
 use crate::keys::{Key, KeyRef};
 use crate::moment::WrittenMoment;
-use vms_base::{FileName, Label, Outcome};
+use vms_base::{FileName, Label, Outcome, Reason};
 
 /// An id that the node drew: in which boot, and at which place there.
 #[derive(Clone, Copy, Drop)]
@@ -57,17 +61,15 @@ pub struct Bucket {
     pub slots: Vec<Slot>,
 }
 
-/// A journal of the volume: its blocks, and between which positions, in bytes, its entries lie.
-#[derive(Clone, Copy, Drop)]
-pub struct JournalSpan {
-    pub start: u64,
-    pub blocks: u32,
-    pub first: u64,
-    pub end: u64,
+/// A key of a file, or a sequential file's end, which an unsettled branch holds.
+#[derive(Drop)]
+pub struct Lock {
+    pub file: FileName,
+    pub key: Key,
+    pub by: OwnId,
 }
 
-/// A file. Its base is what was changed before the node's boot, the newest first; settled branches stand newest first, unsettled ones oldest first. The
-/// chain is the used buckets of an indexed file.
+/// A file. Settled branches stand newest first, unsettled ones oldest first. The chain is the used buckets of an indexed file.
 #[derive(Drop)]
 pub struct File {
     pub name: FileName,
@@ -77,18 +79,17 @@ pub struct File {
     pub start: u64,
     pub buckets: u64,
     pub recovery_units: bool,
-    pub base: Vec<Change>,
     pub moment: u64,
     pub settled: Vec<SettledChanges>,
     pub live: Vec<LiveChanges>,
     pub chain: Vec<Bucket>,
 }
 
-/// An unsettled branch, and how many changes it made.
+/// An unsettled branch, and whether it changed something.
 #[derive(Clone, Copy, Drop)]
 pub struct Branch {
     pub serial: OwnId,
-    pub changes: u32,
+    pub changed: bool,
 }
 
 /// A label and the branch that it names.
@@ -98,12 +99,24 @@ pub struct LabelEntry {
     pub serial: OwnId,
 }
 
-/// A branch's end.
+/// A branch's end: why it was aborted, or None where it was committed.
 #[derive(Clone, Copy, Drop)]
 pub struct Settlement {
     pub serial: OwnId,
-    pub outcome: Outcome,
+    pub reason: Option<Reason>,
     pub moment: WrittenMoment,
+}
+
+impl Settlement {
+    /// How the branch was settled.
+    pub fn outcome(&self) -> Outcome
+        ensures { outcome_of result ≡ outcome_by self.now.reason }
+    {
+        match self.reason {
+            None => Outcome::Commit,
+            Some(_) => Outcome::Abort,
+        }
+    }
 }
 
 /// What the node's disk has.

@@ -1,11 +1,10 @@
-use Rattle.std.proofs.Common.{◌≡◌, ap, ◌∙◌, sym, false, map}
+use Rattle.std.proofs.Common.{◌≡◌, ap, ◌∙◌, sym, false}
 use Rattle.std.specs.Prelude.{nat_le}
 use Rattle.vms_model.specs.Keys.{Text}
-use Rattle.records_model.specs.History.{is_held}
+use Rattle.run_model.specs.Locks.{is_locked}
 use Rattle.records_model.specs.Slots.{put}
 use Rattle.records_model.specs.Parts.{bytes_of}
-use Rattle.reference_world.specs.Histories.{only_live}
-use Rattle.reference_world.specs.Standing.{lent_value, live_of, slots_of}
+use Rattle.reference_world.specs.Standing.{lent_value, locks_of, slots_of}
 use Rattle.reference_world.proofs.ChangeLemmas.{if_ok_so}
 use Rattle.reference_world.proofs.PartLemmas.{bucket_parted}
 use Rattle.reference_world.proofs.chain.bucket_with.Goals as goal
@@ -18,4 +17,4 @@ returns c =
     let full : nat_le (bytes_of (put c.args.key.now v slots)) c.args.cap ≡ false = ap (λ xs. nat_le (bytes_of xs) c.args.cap) (sym set)
     ∙ ap (λ xs. nat_le (bytes_of (slots_of xs)) c.args.cap) (sym c.as_slice-2.ensures.value) ∙ sym c.fits.ensures ∙ c.if-fits.false in
     if_ok_so c.tidied_with.result (rw c.as_slice-else-fits.ensures.value at c.tidied_with.ensures)
-    (λ made p. p ∙ bucket_parted c.args.cap (λ t. is_held (only_live (map live_of c.args.live.now)) (Text t)) c.args.key.now v slots full)
+    (λ made p. p ∙ bucket_parted c.args.cap (λ t. is_locked (locks_of c.args.locks.now) c.args.file.now (Text t)) c.args.key.now v slots full)

@@ -1,27 +1,28 @@
-use Rattle.std.proofs.Common.{◌≡◌, ◌+◌, ◌≤◌, ap, ◌∙◌, sym, arith, length, false}
-use Rattle.std.specs.Prelude.{◌==◌}
-use Rattle.std.proofs.lemmas.List.{length-map}
-use Rattle.run_model.specs.Answers.{changes_at}
-use Rattle.reference_world.specs.Standing.{id_of, change_of, changes_of, branch_of, line_of}
-use Rattle.reference_run.specs.Operations.{asked_of}
+use Rattle.std.proofs.Common.{◌≡◌, None, ap, ◌∙◌, arith}
+use Rattle.std.specs.Prelude.{map}
+use Rattle.run_model.specs.Answers.{journal_full}
+use Rattle.reference_world.specs.Standing.{key_of, changes_of, branch_of, line_of}
+use Rattle.reference_records.specs.Operations.{asked_of}
 use Rattle.reference_run.specs.Served.{node_of}
-use Rattle.reference_run.proofs.OperateLemmas.{operates, few_changes, some_act}
+use Rattle.reference_run.proofs.OperateLemmas.{operates, operated_room, journal_fits}
 use Rattle.reference_run.proofs.running.Running.operate.Goals as goal
-
-pub change-requires : goal.change-requires
-change-requires c =
-    let cs = changes_at (node_of c.args.self.now) c.args.name.now (asked_of c.args.asked) in
-    let items = c.in_ok-told.told.changes.items in
-    let few : c.in-Some.b.changes + length cs ≤ 16 = few_changes c.args.self.now c.args.label.now c.args.name.now (asked_of c.args.asked) (branch_of c.in-Some.b) c.requires c.in-Some.ensures.labelled in
-    let count : length items ≡ length cs = sym (length-map items change_of) ∙ ap length c.in_ok-told.ensures.changes in
-    let room : c.in-Some.b.changes + length items ≤ 16 = omega arith in
-    record { found = rw c.in-Some.ensures.found room; few = omega arith }
 
 pub returns-clause-does : goal.returns-clause-does
 returns-clause-does c =
-    let items = c.in_ok-told.told.changes.items in
-    let stored : length items ≡ c.in_ok-told.told.changes.len = omega (arith, c.in_ok-told.told.changes.ok.0) in
-    let some : (length (changes_of items) == 0) ≡ false = ap (λ n. n == 0) (length-map items change_of ∙ stored) ∙ sym c.is_empty.ensures ∙ c.if-is_empty.false in
-    operates c.args.self.now c.change.new.self c.args.label.now c.args.name.now (asked_of c.args.asked) (branch_of c.in-Some.b) (changes_of items) (line_of c.in_ok-told.told.line) c.in_ok-lines.lines.items
-    c.in-Some.ensures.labelled c.in_ok-told.ensures.changes c.in_ok-told.ensures.line c.in_ok-lines.ensures
-    (c.in_ok-change.ensures.changes ∙ sym (some_act (id_of c.in-Some.b.serial) c.args.name.now (changes_of items) (node_of c.args.self.now) some)) c.in_ok-change.ensures.shared
+    operates c.args.self.now c.operated.new.self c.args.label.now c.args.name.now (asked_of c.args.asked) (branch_of c.in-Some.b) (changes_of c.in_ok-told.told.changes.items) (map key_of c.in_ok-told.told.keys.items) (line_of c.in_ok-told.told.line) c.in_ok-lines.lines.items
+    c.in-Some.ensures.labelled c.in_ok-told.ensures.changes c.in_ok-told.ensures.keys c.in_ok-told.ensures.line c.in_ok-lines.ensures
+    (rw c.as_slice.ensures.value at c.in_ok-operated.ensures.does) c.in_ok-operated.ensures.shared
+
+pub returns-clause-room : goal.returns-clause-room
+returns-clause-room c =
+    let full : journal_full (node_of c.args.self.now) c.args.name.now (changes_of c.in_ok-told.told.changes.items) (branch_of c.in-Some.b) ≡ None = ap (λ cs. journal_full (node_of c.args.self.now) c.args.name.now cs (branch_of c.in-Some.b)) c.in_ok-told.ensures.changes
+    ∙ journal_fits c.args.self.now c.args.label.now c.args.name.now (asked_of c.args.asked) (branch_of c.in-Some.b) c.requires.allowed c.in-Some.ensures.labelled in
+    (operated_room c.args.self.now c.operated.new.self (branch_of c.in-Some.b) c.args.name.now (changes_of c.in_ok-told.told.changes.items) (map key_of c.in_ok-told.told.keys.items) (rw c.as_slice.ensures.value at c.in_ok-operated.ensures.does) c.in_ok-operated.ensures.counts.journal full c.requires.room).0
+
+pub returns-clause-counts : goal.returns-clause-counts
+returns-clause-counts c =
+    let full : journal_full (node_of c.args.self.now) c.args.name.now (changes_of c.in_ok-told.told.changes.items) (branch_of c.in-Some.b) ≡ None = ap (λ cs. journal_full (node_of c.args.self.now) c.args.name.now cs (branch_of c.in-Some.b)) c.in_ok-told.ensures.changes
+    ∙ journal_fits c.args.self.now c.args.label.now c.args.name.now (asked_of c.args.asked) (branch_of c.in-Some.b) c.requires.allowed c.in-Some.ensures.labelled in
+    let room = operated_room c.args.self.now c.operated.new.self (branch_of c.in-Some.b) c.args.name.now (changes_of c.in_ok-told.told.changes.items) (map key_of c.in_ok-told.told.keys.items) (rw c.as_slice.ensures.value at c.in_ok-operated.ensures.does) c.in_ok-operated.ensures.counts.journal full c.requires.room in
+    let same = c.in_ok-operated.ensures.counts in
+    record { boot = omega (arith, same.boot); drawn = omega (arith, same.drawn); greatest = omega (arith, same.greatest); end = omega (arith, room.1) }

@@ -7,4 +7,4 @@ use Rattle.reference_run.specs.Served.{node_of}
 use Rattle.reference_run.proofs.running.Running.place.Goals as goal
 
 pub returns-clause-creates : goal.returns-clause-creates
-returns-clause-creates c = ap (λ (d : List (Option world.File)). record (node_of c.args.self.now) { directory = d }) (map-set (option_map file_of) c.args.self.now.directory.items c.args.place (Some c.args.file))
+returns-clause-creates c = ap (λ (d : List (Option world.File)). record (node_of c.args.self.now) { durable = record (node_of c.args.self.now).durable { directory = d } }) (map-set (option_map file_of) c.args.self.now.directory.items c.args.place (Some c.args.file))

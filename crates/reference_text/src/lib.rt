@@ -1,0 +1,434 @@
+//! The text of the lines that a plain, slow program shows.
+#![tactic(auto)]
+
+ghost use Rattle.std.specs.Prelude.{◌≡◌, ◌<◌, ℕ, ◌++◌, List, [], ◌∷◌, map, flat_map, decimal, OnOk};
+ghost use Rattle.std.specs.List.{list_all};
+ghost use Rattle.vms_model.specs.Ids.{Id};
+ghost use Rattle.vms_model.specs.Texts.{id_text, is_plain as is_plain_byte, hex_digit as hex_digit_of, hex_byte, bytes_text};
+ghost use Rattle.vms_model.specs.Keys.{key_text};
+ghost use Rattle.vms_model.specs.Transactions.{reason_text};
+ghost use Rattle.vms_base.specs.Outcomes.{outcome_of, reason_of};
+ghost use Rattle.transcript_model.specs.Lines as model;
+ghost use Rattle.transcript_model.specs.Lines.{quoted_time, quota_text, image_text, outcome_text, line_words, line_text, lines_text};
+ghost use Rattle.reference_world.specs.Standing.{own_name, id_of, key_of, value_of, line_of, quota_of};
+
+use itoa::Buffer;
+use reference_world::{Key, Line, OwnId, Quota, WrittenMoment};
+use std::alloc::AllocError;
+use vms_base::{FileName, Moment, Outcome, Reason, write_time};
+
+fn put(out: &mut Vec<u8>, bytes: &[u8]) -> Result<(), AllocError>
+    ensures { OnOk result (out.new.items ≡ out.old.items ++ bytes.now) }
+{
+    out.extend_from_slice(bytes)?;
+    Ok(())
+}
+
+fn put_number(out: &mut Vec<u8>, n: u64) -> Result<(), AllocError>
+    ensures { OnOk result (out.new.items ≡ out.old.items ++ decimal n) }
+{
+    let mut buffer = Buffer::new();
+    put(out, buffer.format(n).as_bytes())
+}
+
+fn put_id(out: &mut Vec<u8>, id: OwnId) -> Result<(), AllocError>
+    ensures { OnOk result (out.new.items ≡ out.old.items ++ id_text (id_of id)) }
+{
+    put(out, b"A.")?;
+    put_number(out, u64::from(id.boot))?;
+    put(out, b".")?;
+    put_number(out, u64::from(id.seq))
+}
+
+fn is_plain(b: u8) -> bool
+    ensures { result ≡ is_plain_byte b }
+{
+    b >= 32 && b <= 126 && b != b'"'
+}
+
+fn are_plain(bytes: &[u8]) -> bool
+    ensures { result ≡ list_all is_plain_byte bytes.now }
+{
+    bytes.iter().all(|b| is_plain(*b))
+}
+
+fn hex_digit(d: u8) -> u8
+    requires { d < 16 }
+    ensures { result ≡ hex_digit_of d }
+{
+    if d < 10 { b'0' + d } else { b'A' + (d - 10) }
+}
+
+fn put_hex(out: &mut Vec<u8>, bytes: &[u8]) -> Result<(), AllocError>
+    ensures { OnOk result (out.new.items ≡ out.old.items ++ flat_map hex_byte bytes.now) }
+{
+    match bytes {
+        [] => Ok(()),
+        [b, rest @ ..] => {
+            put(out, &[hex_digit(*b / 16), hex_digit(*b % 16)])?;
+            put_hex(out, rest)
+        }
+    }
+}
+
+fn put_bytes(out: &mut Vec<u8>, bytes: &[u8]) -> Result<(), AllocError>
+    ensures { OnOk result (out.new.items ≡ out.old.items ++ bytes_text bytes.now) }
+{
+    if are_plain(bytes) {
+        put(out, b"\"")?;
+        put(out, bytes)?;
+        put(out, b"\"")
+    } else {
+        put(out, b"%X")?;
+        put_hex(out, bytes)
+    }
+}
+
+fn put_time(out: &mut Vec<u8>, moment: WrittenMoment) -> Result<(), AllocError>
+    ensures { OnOk result (out.new.items ≡ out.old.items ++ quoted_time moment.hundredths) }
+{
+    let text = write_time(Moment(moment.hundredths));
+    put(out, b"\"")?;
+    put(out, text.bytes())?;
+    put(out, b"\"")
+}
+
+// Words, and a transaction with its branch behind them.
+fn put_branch(out: &mut Vec<u8>, words: &[u8], id: OwnId) -> Result<(), AllocError>
+    ensures { OnOk result (out.new.items ≡ out.old.items ++ (words.now ++ (id_text (id_of id) ++ (32 ∷ id_text (id_of id))))) }
+{
+    put(out, words)?;
+    put_id(out, id)?;
+    put(out, b" ")?;
+    put_id(out, id)
+}
+
+// A settlement: these words, the transaction and its branch, and the moment.
+fn put_settled(
+    out: &mut Vec<u8>,
+    words: &[u8],
+    id: OwnId,
+    moment: WrittenMoment,
+) -> Result<(), AllocError>
+    ensures { OnOk result (out.new.items ≡ out.old.items ++ (words.now ++ (id_text (id_of id) ++ (32 ∷ (id_text (id_of id) ++ (32 ∷ quoted_time moment.hundredths)))))) }
+{
+    put_branch(out, words, id)?;
+    put(out, b" ")?;
+    put_time(out, moment)
+}
+
+// The same with words before the moment.
+fn put_settled_so(
+    out: &mut Vec<u8>,
+    words: &[u8],
+    id: OwnId,
+    how: &[u8],
+    moment: WrittenMoment,
+) -> Result<(), AllocError>
+    ensures { OnOk result (out.new.items ≡ out.old.items ++ (words.now ++ (id_text (id_of id) ++ (32 ∷ (id_text (id_of id) ++ (32 ∷ (how.now ++ (32 ∷ quoted_time moment.hundredths)))))))) }
+{
+    put_branch(out, words, id)?;
+    put(out, b" ")?;
+    put(out, how)?;
+    put(out, b" ")?;
+    put_time(out, moment)
+}
+
+fn put_aborted(
+    out: &mut Vec<u8>,
+    words: &[u8],
+    id: OwnId,
+    reason: Reason,
+    moment: WrittenMoment,
+) -> Result<(), AllocError>
+    ensures { OnOk result (out.new.items ≡ out.old.items ++ (words.now ++ (id_text (id_of id) ++ (32 ∷ (id_text (id_of id) ++ (32 ∷ (reason_text (reason_of reason) ++ (32 ∷ quoted_time moment.hundredths)))))))) }
+{
+    put_settled_so(out, words, id, reason.text(), moment)
+}
+
+fn put_key(out: &mut Vec<u8>, key: &Key) -> Result<(), AllocError>
+    ensures { OnOk result (out.new.items ≡ out.old.items ++ key_text (key_of key.now)) }
+{
+    match key {
+        Key::Number(n) => put_number(out, *n),
+        Key::Text(bytes) => put_bytes(out, bytes.as_slice()),
+        Key::End => Ok(()),
+    }
+}
+
+// A record with its key, behind other words.
+fn put_record(out: &mut Vec<u8>, words: &[u8], key: &Key, bytes: &[u8]) -> Result<(), AllocError>
+    ensures { OnOk result (out.new.items ≡ out.old.items ++ (words.now ++ (key_text (key_of key.now) ++ (32 ∷ bytes_text bytes.now)))) }
+{
+    put(out, words)?;
+    put_key(out, key)?;
+    put(out, b" ")?;
+    put_bytes(out, bytes)
+}
+
+fn put_found(out: &mut Vec<u8>, bytes: &[u8]) -> Result<(), AllocError>
+    ensures { OnOk result (out.new.items ≡ out.old.items ++ line_words (model.RecordFound bytes.now)) }
+{
+    put(out, b"RMS$_NORMAL ")?;
+    put_bytes(out, bytes)
+}
+
+fn put_next(out: &mut Vec<u8>, key: &Key, bytes: &[u8]) -> Result<(), AllocError>
+    ensures { OnOk result (out.new.items ≡ out.old.items ++ line_words (model.NextFound (key_of key.now) bytes.now)) }
+{
+    put_record(out, b"RMS$_NORMAL ", key, bytes)
+}
+
+fn put_with_number(out: &mut Vec<u8>, words: &[u8], n: u64) -> Result<(), AllocError>
+    ensures { OnOk result (out.new.items ≡ out.old.items ++ (words.now ++ decimal n)) }
+{
+    put(out, words)?;
+    put_number(out, n)
+}
+
+fn put_with_numbers(
+    out: &mut Vec<u8>,
+    words: &[u8],
+    first: u64,
+    second: u64,
+) -> Result<(), AllocError>
+    ensures { OnOk result (out.new.items ≡ out.old.items ++ (words.now ++ (decimal first ++ (32 ∷ decimal second)))) }
+{
+    put(out, words)?;
+    put_number(out, first)?;
+    put(out, b" ")?;
+    put_number(out, second)
+}
+
+fn put_with_id(out: &mut Vec<u8>, words: &[u8], id: OwnId) -> Result<(), AllocError>
+    ensures { OnOk result (out.new.items ≡ out.old.items ++ (words.now ++ id_text (id_of id))) }
+{
+    put(out, words)?;
+    put_id(out, id)
+}
+
+fn quota_words(quota: Quota) -> &'static [u8]
+    ensures { result.now ≡ quota_text (quota_of quota) }
+{
+    match quota {
+        Quota::Branches => b"BRANCHES",
+        Quota::Files => b"FILES",
+        Quota::Changes => b"CHANGES",
+        Quota::Boots => b"BOOTS",
+        Quota::Moments => b"MOMENTS",
+        Quota::Locks => b"LOCKS",
+        Quota::Positions => b"POSITIONS",
+    }
+}
+
+fn put_limit(out: &mut Vec<u8>, words: &[u8], quota: &[u8], limit: u64) -> Result<(), AllocError>
+    ensures { OnOk result (out.new.items ≡ out.old.items ++ (words.now ++ (quota.now ++ (32 ∷ decimal limit)))) }
+{
+    put(out, words)?;
+    put(out, quota)?;
+    put(out, b" ")?;
+    put_number(out, limit)
+}
+
+fn put_quota(out: &mut Vec<u8>, quota: Quota, limit: u64) -> Result<(), AllocError>
+    ensures { OnOk result (out.new.items ≡ out.old.items ++ line_words (model.QuotaExceeded (quota_of quota) limit)) }
+{
+    put_limit(out, b"SS$_EXQUOTA ", quota_words(quota), limit)
+}
+
+fn put_image(out: &mut Vec<u8>, image: &Option<Vec<u8>>) -> Result<(), AllocError>
+    ensures { OnOk result (out.new.items ≡ out.old.items ++ image_text (value_of image.now)) }
+{
+    match image {
+        Some(bytes) => put_bytes(out, bytes.as_slice()),
+        None => put(out, b"-"),
+    }
+}
+
+// A record with its file, its key and its image.
+fn put_of_file(
+    out: &mut Vec<u8>,
+    file: &[u8],
+    key: &Key,
+    image: &Option<Vec<u8>>,
+) -> Result<(), AllocError>
+    ensures { OnOk result (out.new.items ≡ out.old.items ++ (32 ∷ (file.now ++ (32 ∷ (key_text (key_of key.now) ++ (32 ∷ image_text (value_of image.now))))))) }
+{
+    put(out, b" ")?;
+    put(out, file)?;
+    put(out, b" ")?;
+    put_key(out, key)?;
+    put(out, b" ")?;
+    put_image(out, image)
+}
+
+// Words, a position, other words, a transaction with its branch, and a record.
+fn put_change(
+    out: &mut Vec<u8>,
+    words: &[u8],
+    position: u64,
+    kind: &[u8],
+    id: OwnId,
+    file: &FileName,
+    key: &Key,
+    image: &Option<Vec<u8>>,
+) -> Result<(), AllocError>
+    ensures { OnOk result (out.new.items ≡ out.old.items ++ (words.now ++ (decimal position ++ (kind.now ++ (id_text (id_of id) ++ (32 ∷ (id_text (id_of id) ++ (32 ∷ (file.now ++ (32 ∷ (key_text (key_of key.now) ++ (32 ∷ image_text (value_of image.now))))))))))))) }
+{
+    put_with_number(out, words, position)?;
+    put_branch(out, kind, id)?;
+    put_of_file(out, file.bytes(), key, image)
+}
+
+fn put_change_entry(
+    out: &mut Vec<u8>,
+    position: u64,
+    id: OwnId,
+    file: &FileName,
+    key: &Key,
+    image: &Option<Vec<u8>>,
+) -> Result<(), AllocError>
+    ensures { OnOk result (out.new.items ≡ out.old.items ++ line_words (model.ChangeEntry position (id_of id) (id_of id) file.now (key_of key.now) (value_of image.now))) }
+{
+    put_change(out, b"ENTRY ", position, b" CHANGE ", id, file, key, image)
+}
+
+fn outcome_words(outcome: Outcome) -> &'static [u8]
+    ensures { result.now ≡ outcome_text (outcome_of outcome) }
+{
+    match outcome {
+        Outcome::Commit => b"COMMIT",
+        Outcome::Abort => b"ABORT",
+    }
+}
+
+// Words, a position, and a settlement.
+fn put_settled_at(
+    out: &mut Vec<u8>,
+    words: &[u8],
+    position: u64,
+    kind: &[u8],
+    id: OwnId,
+    how: &[u8],
+    moment: WrittenMoment,
+) -> Result<(), AllocError>
+    ensures { OnOk result (out.new.items ≡ out.old.items ++ (words.now ++ (decimal position ++ (kind.now ++ (id_text (id_of id) ++ (32 ∷ (id_text (id_of id) ++ (32 ∷ (how.now ++ (32 ∷ quoted_time moment.hundredths)))))))))) }
+{
+    put_with_number(out, words, position)?;
+    put_settled_so(out, kind, id, how, moment)
+}
+
+fn put_settled_entry(
+    out: &mut Vec<u8>,
+    position: u64,
+    id: OwnId,
+    outcome: Outcome,
+    moment: WrittenMoment,
+) -> Result<(), AllocError>
+    ensures { OnOk result (out.new.items ≡ out.old.items ++ line_words (model.SettledEntry position (id_of id) (id_of id) (outcome_of outcome) moment.hundredths)) }
+{
+    put_settled_at(
+        out,
+        b"ENTRY ",
+        position,
+        b" SETTLED ",
+        id,
+        outcome_words(outcome),
+        moment,
+    )
+}
+
+fn put_journal_full(out: &mut Vec<u8>, free: u64, need: u128) -> Result<(), AllocError>
+    ensures { OnOk result (out.new.items ≡ out.old.items ++ line_words (model.JournalFull free need)) }
+{
+    let mut buffer = Buffer::new();
+    put_with_number(out, b"RMS$_FUL RU ", free)?;
+    put(out, b" ")?;
+    put(out, buffer.format(need).as_bytes())
+}
+
+fn put_no_volume(out: &mut Vec<u8>, condition: u32, block: u64) -> Result<(), AllocError>
+    ensures { OnOk result (out.new.items ≡ out.old.items ++ line_words (model.NoVolume own_name condition block)) }
+{
+    put_with_numbers(out, b"VOLUME A ", u64::from(condition), block)
+}
+
+fn put_words(out: &mut Vec<u8>, line: &Line) -> Result<(), AllocError>
+    ensures { OnOk result (out.new.items ≡ out.old.items ++ line_words (line_of line.now)) }
+{
+    match line {
+        Line::Record(key, bytes) => put_record(out, b"RECORD ", key, bytes.as_slice()),
+        Line::Committed(id, moment) => put_settled(out, b"COMMIT ", *id, *moment),
+        Line::Aborted(id, reason, moment) => put_aborted(out, b"ABORT ", *id, *reason, *moment),
+        Line::LastCommitted(id, moment) => put_settled(out, b"LAST COMMIT ", *id, *moment),
+        Line::LastAborted(id, reason, moment) => {
+            put_aborted(out, b"LAST ABORT ", *id, *reason, *moment)
+        }
+        Line::ChangeEntry(position, id, file, key, image) => {
+            put_change_entry(out, *position, *id, file, key, image)
+        }
+        Line::SettledEntry(position, id, outcome, moment) => {
+            put_settled_entry(out, *position, *id, *outcome, *moment)
+        }
+        Line::Crashed => put(out, b"DOWN A CRASH"),
+        Line::Normal => put(out, b"SS$_NORMAL"),
+        Line::NormalCount(n) => put_with_number(out, b"SS$_NORMAL ", *n),
+        Line::NormalId(id) => put_with_id(out, b"SS$_NORMAL ", *id),
+        Line::NormalSpan(first, end) => put_with_numbers(out, b"SS$_NORMAL ", *first, *end),
+        Line::RecordNormal => put(out, b"RMS$_NORMAL"),
+        Line::RecordPosition(n) => put_with_number(out, b"RMS$_NORMAL ", *n),
+        Line::RecordFound(bytes) => put_found(out, bytes.as_slice()),
+        Line::NextFound(key, bytes) => put_next(out, key, bytes.as_slice()),
+        Line::NoSuchNode => put(out, b"NOSUCHNODE"),
+        Line::NodeDown => put(out, b"NODEDOWN"),
+        Line::NodeUp => put(out, b"NODEUP"),
+        Line::VolumeInUse => put(out, b"VOLINUSE"),
+        Line::NotInitialized => put(out, b"NOINIT"),
+        Line::BadLabel => put(out, b"LABEL"),
+        Line::FileNotFound => put(out, b"RMS$_FNF"),
+        Line::FileExists => put(out, b"RMS$_FEX"),
+        Line::BadParameter => put(out, b"SS$_BADPARAM"),
+        Line::BadOperation => put(out, b"RMS$_IOP"),
+        Line::BadRecordNumber => put(out, b"RMS$_MRN"),
+        Line::BadRecordSize => put(out, b"RMS$_RSZ"),
+        Line::NoSuchTransaction => put(out, b"SS$_NOSUCHTID"),
+        Line::NotMarked => put(out, b"NOTRU"),
+        Line::NeedsUnit => put(out, b"RMS$_NRU"),
+        Line::RecordLocked(id) => put_with_id(out, b"RMS$_RLK ", *id),
+        Line::FileLocked(id) => put_with_id(out, b"RMS$_FLK ", *id),
+        Line::NoVolume(condition, block) => put_no_volume(out, *condition, *block),
+        Line::RecordExists => put(out, b"RMS$_REX"),
+        Line::KeyExists => put(out, b"RMS$_DUP"),
+        Line::RecordNotFound => put(out, b"RMS$_RNF"),
+        Line::EndOfFile => put(out, b"RMS$_EOF"),
+        Line::KeyChanged => put(out, b"RMS$_CHG"),
+        Line::QuotaExceeded(quota, limit) => put_quota(out, *quota, *limit),
+        Line::VolumeFull(free, need) => { put_with_numbers(out, b"RMS$_FUL VOLUME ", *free, *need) }
+        Line::FileFull(free, need) => put_with_numbers(out, b"RMS$_FUL FILE ", *free, *need),
+        Line::JournalFull(free, need) => put_journal_full(out, *free, *need),
+        Line::BadLine(column) => put_with_number(out, b"BADLINE ", u64::from(*column)),
+        Line::TooLong => put(out, b"TOOLONG"),
+    }
+}
+
+fn put_line(out: &mut Vec<u8>, number: u64, line: &Line) -> Result<(), AllocError>
+    ensures { OnOk result (out.new.items ≡ out.old.items ++ line_text number (line_of line.now)) }
+{
+    put_number(out, number)?;
+    put(out, b" ")?;
+    put_words(out, line)?;
+    put(out, b"\n")
+}
+
+/// Writes lines with their number.
+pub fn put_lines(out: &mut Vec<u8>, number: u64, lines: &[Line]) -> Result<(), AllocError>
+    ensures { OnOk result (out.new.items ≡ out.old.items ++ lines_text number (map line_of lines.now)) }
+{
+    match lines {
+        [] => Ok(()),
+        [line, rest @ ..] => {
+            put_line(out, number, line)?;
+            put_lines(out, number, rest)
+        }
+    }
+}

@@ -1,0 +1,136 @@
+// The branches that have changes in the journal and are not settled there.
+ghost use Rattle.std.specs.Prelude.{◌≡◌, ◌+◌, ◌^◌, ◌≤◌, ◌<◌, ℕ, [], length, option_map, IfOk, IfSome};
+ghost use Rattle.unit_laws.specs.Journal as model;
+ghost use Rattle.run_model.specs.World as world;
+ghost use Rattle.reference_world.specs.Standing.{id_of};
+ghost use Rattle.reference_units.specs.Entries.{entry_of, entries_of, unit_of, units_of, counted};
+
+use crate::journal::JournalEntry;
+use reference_world::{OwnId, push_front, same_id, take_first};
+use std::alloc::{AllocError, Global};
+
+/// A unit: its branch, and how many changes this made.
+#[derive(Clone, Copy, Drop)]
+pub struct Unit {
+    pub serial: OwnId,
+    pub changes: u64,
+}
+
+// One change more of a branch, which joins behind the others with its first.
+fn with_one_change(alloc: Global, units: Vec<Unit>, serial: OwnId) -> Result<Vec<Unit>, AllocError>
+    requires { counted units.items < 2 ^ 63 }
+    ensures units { IfOk result (λ v. units_of v.items ≡ model.with_one_change (id_of serial) (id_of serial) (units_of units.items)) }
+    ensures counted { IfOk result (λ v. counted v.items ≡ counted units.items + 1) }
+{
+    let mut rest = units;
+    match take_first(&mut rest) {
+        None => {
+            let mut all = Vec::new(alloc);
+            push_front(&mut all, Unit { serial, changes: 1 })?;
+            Ok(all)
+        }
+        Some(first) => {
+            if same_id(serial, first.serial) {
+                let unit = Unit {
+                    serial: first.serial,
+                    changes: first.changes + 1,
+                };
+                push_front(&mut rest, unit)?;
+                Ok(rest)
+            } else {
+                let mut all = with_one_change(alloc, rest, serial)?;
+                push_front(&mut all, first)?;
+                Ok(all)
+            }
+        }
+    }
+}
+
+// The units but for that of a branch.
+fn without_unit(alloc: Global, units: Vec<Unit>, serial: OwnId) -> Result<Vec<Unit>, AllocError>
+    ensures units { IfOk result (λ v. units_of v.items ≡ model.without_unit (id_of serial) (units_of units.items)) }
+    ensures counted { IfOk result (λ v. counted v.items ≤ counted units.items) }
+{
+    let mut rest = units;
+    match take_first(&mut rest) {
+        None => Ok(Vec::new(alloc)),
+        Some(first) => {
+            let mut all = without_unit(alloc, rest, serial)?;
+            if !same_id(serial, first.serial) {
+                push_front(&mut all, first)?;
+            }
+            Ok(all)
+        }
+    }
+}
+
+// The units after one entry more.
+fn units_after(
+    alloc: Global,
+    units: Vec<Unit>,
+    entry: &JournalEntry,
+) -> Result<Vec<Unit>, AllocError>
+    requires { counted units.items < 2 ^ 63 }
+    ensures units { IfOk result (λ v. units_of v.items ≡ model.units_after (entry_of entry.now) (units_of units.items)) }
+    ensures counted { IfOk result (λ v. counted v.items ≤ counted units.items + 1) }
+{
+    match entry {
+        JournalEntry::Changed(serial, _, _, _) => with_one_change(alloc, units, *serial),
+        JournalEntry::Settled(serial, _, _) => without_unit(alloc, units, *serial),
+    }
+}
+
+// The units after more entries.
+fn units_onto(
+    alloc: Global,
+    units: Vec<Unit>,
+    entries: &[JournalEntry],
+) -> Result<Vec<Unit>, AllocError>
+    requires { counted units.items + length entries.now ≤ 2 ^ 63 }
+    ensures units { IfOk result (λ v. units_of v.items ≡ model.units_onto (units_of units.items) (entries_of entries.now)) }
+    ensures counted { IfOk result (λ v. counted v.items ≤ 2 ^ 63) }
+{
+    match entries {
+        [] => Ok(units),
+        [e, rest @ ..] => {
+            let more = units_after(alloc, units, e)?;
+            units_onto(alloc, more, rest)
+        }
+    }
+}
+
+/// The units that these entries tell, in the order of their first entries.
+pub fn units_in(alloc: Global, entries: &[JournalEntry]) -> Result<Vec<Unit>, AllocError>
+    ensures units { IfOk result (λ v. units_of v.items ≡ model.units_in (entries_of entries.now)) }
+    ensures counted { IfOk result (λ v. counted v.items ≤ 2 ^ 63) }
+{
+    units_onto(alloc, Vec::new(alloc), entries)
+}
+
+/// The unit of a branch.
+pub fn find_unit(units: &[Unit], serial: OwnId) -> Option<Unit>
+    ensures unit { option_map unit_of result ≡ model.find_unit (id_of serial) (units_of units.now) }
+    ensures counted { IfSome result (λ u. u.changes ≤ counted units.now) }
+{
+    match units {
+        [] => None,
+        [u, rest @ ..] => {
+            if same_id(serial, u.serial) {
+                Some(*u)
+            } else {
+                find_unit(rest, serial)
+            }
+        }
+    }
+}
+
+/// How many changes a branch made, as these units of a journal tell.
+pub fn changes_made(units: &[Unit], serial: OwnId) -> u64
+    ensures changes { (j : model.Journal) → units_of units.now ≡ model.units_in j.entries → result ≡ world.changes_made (id_of serial) j }
+    ensures counted { result ≤ counted units.now }
+{
+    match find_unit(units, serial) {
+        Some(u) => u.changes,
+        None => 0,
+    }
+}

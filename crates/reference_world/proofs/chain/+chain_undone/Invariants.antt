@@ -1,5 +1,0 @@
-use Rattle.std.proofs.Common.{length}
-use Rattle.reference_world.proofs.chain.+chain_undone.Given as goal
-
-abbrev pub decreases-chain_undone : goal.decreases-chain_undone
-decreases-chain_undone l = length l.changes.now
