@@ -7,6 +7,7 @@ ghost use Rattle.dtm.specs.Images.{images_of as images_said};
 use crate::images::{ImageFiles, OpenErr, add_images};
 use crate::words::image_words;
 use dtm_run::{Exit, Rack, run};
+use node_units::NodeUnits;
 use std::alloc::Global;
 use transcript::{Sink, Source};
 
@@ -30,5 +31,5 @@ pub fn run_command<'a, F: ImageFiles, S: Source, K: Sink>(
         Ok(rack) => rack,
         Err(e) => return Err(e),
     };
-    Ok(run(alloc, words, source, sink, &mut rack))
+    Ok(run::<S, K, F::Image, NodeUnits>(alloc, words, source, sink, &mut rack))
 }

@@ -6,6 +6,7 @@ use crate::watch::{Tail, WatchedSink, WatchedSource};
 use crate::words::image_words;
 use block_disk::{CrashDisk, Disk, MemPlatter};
 use dtm_run::{Exit, Rack, run};
+use node_units::NodeUnits;
 use std::alloc::{AllocError, Global};
 use std::test::Fail;
 use transcript::{MemSink, MemSource};
@@ -164,7 +165,7 @@ fn said(alloc: Global, script: Vec<u8>) -> Result<String, Fail> {
         sink: MemSink::new(alloc, 10_000)?,
         tail: Tail::reserve(alloc)?,
     };
-    let exit = run(alloc, &words, &mut source, &mut sink, &mut rack);
+    let exit = run::<_, _, _, NodeUnits>(alloc, &words, &mut source, &mut sink, &mut rack);
     Ok(said_of(alloc, exit, &source.tail, &sink.tail)?)
 }
 
@@ -262,7 +263,13 @@ fn scripts_need_not_open_a_node(rt: HostRuntime) -> Result<(), Fail> {
         assert!(rt; added.is_ok());
         let mut source = MemSource::new(rt.alloc(), script.to_vec(rt.alloc())?);
         let mut sink = MemSink::new(rt.alloc(), 100)?;
-        let ended = run(rt.alloc(), &words, &mut source, &mut sink, &mut rack);
+        let ended = run::<_, _, _, NodeUnits>(
+            rt.alloc(),
+            &words,
+            &mut source,
+            &mut sink,
+            &mut rack,
+        );
         assert_eq!(rt; ended, exit);
         assert_eq!(rt; sink.bytes(), text);
     }

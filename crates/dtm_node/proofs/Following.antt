@@ -10,7 +10,7 @@ use Rattle.careful_write.specs.declared.down.Down.{Down}
 use Rattle.transcript_model.specs.Emitting.{Shown, Emits}
 use Rattle.transcript_model.specs.Lines as line
 use Rattle.transcript_model.specs.Lines.{Line, Cause}
-use Rattle.script_model.specs.Statements.{Request, Init, Boot, Create, SetFile, StartTrans, Records, EndTrans, AbortTrans, Dump, Fuse, Crash, Operation, Put, Update, Delete, Truncate, Get, Next}
+use Rattle.script_model.specs.Statements.{Request, Init, Boot, Create, SetFile, StartTrans, Records, Direct, EndTrans, AbortTrans, Dump, DumpJournal, Fuse, Crash, Operation, Put, Update, Delete, Truncate, Get, Next}
 use Rattle.script_lang.specs.declared.literals.Literals.{Literals}
 use Rattle.script_lang.specs.declared.statement.Request as code
 use Rattle.script_lang.specs.declared.statement.Request.TheVariants as request
@@ -20,11 +20,11 @@ use Rattle.run_model.specs.Operations.{refused_if, key_refused, place_refused, d
 use Rattle.run_model.specs.Said.{SaidLabel, SaidNode, SaidShared, find_said, is_by_lines, made_said, new_said, node_said, refused_by_lines, shared_said}
 use Rattle.run_model.specs.World.{File, Label, Organization, Sequential, Relative, Indexed, find_label, labelled, serial_labelled}
 use Rattle.run_model.proofs.AnswerLemmas.{Says, says_first, says_if, says_none, says_some}
-use Rattle.node_files.specs.Forms.{IsFine}
+use Rattle.dtm_node.specs.Plain.{IsFine}
 use Rattle.dtm_node.specs.Keeping.{IsToUp, sharing}
 use Rattle.dtm_node.specs.Calling.{FollowsLines, IsPlain, Replies, RepliesTo, FailsIn, ShowsFine, answer_in, said_down, said_label, said_shared, said_up}
 
-some_line : (x y : Line) → ◌≡◌ {A = Option Line} (Some x) (Some y) → x ≡ y
+pub some_line : (x y : Line) → ◌≡◌ {A = Option Line} (Some x) (Some y) → x ≡ y
 some_line x y e = cc
 
 some_no_line : (x : Line) → ◌≡◌ {A = Option Line} (Some x) None → ⊥
@@ -61,9 +61,11 @@ to_up lit (request.Create file bucket size form) h = refl
 to_up lit (request.SetFile file setting) h = refl
 to_up lit (request.StartTrans label) h = refl
 to_up lit (request.Records label file operation) h = refl
+to_up lit (request.Direct file operation) h = refl
 to_up lit (request.EndTrans label) h = refl
 to_up lit (request.AbortTrans label) h = refl
 to_up lit (request.Dump file) h = refl
+to_up lit request.DumpJournal h = refl
 
 -- after an answer that shows no failure the node is up
 up_said : (q : Request) (l : Line) (name : List ℕ) → is_to_up q ≡ true → IsFine l → said_up name ≡ node_said q l (said_up name)
@@ -79,12 +81,16 @@ up_said (StartTrans label) (line.Broken cause) name up h = let none : ⊥ = cc i
 up_said (StartTrans label) _ name up h = refl
 up_said (Records label file op) (line.Broken cause) name up h = let none : ⊥ = cc in absurd none
 up_said (Records label file op) _ name up h = refl
+up_said (Direct file op) (line.Broken cause) name up h = let none : ⊥ = cc in absurd none
+up_said (Direct file op) _ name up h = refl
 up_said (EndTrans label) (line.Broken cause) name up h = let none : ⊥ = cc in absurd none
 up_said (EndTrans label) _ name up h = refl
 up_said (AbortTrans label) (line.Broken cause) name up h = let none : ⊥ = cc in absurd none
 up_said (AbortTrans label) _ name up h = refl
 up_said (Dump file) (line.Broken cause) name up h = let none : ⊥ = cc in absurd none
 up_said (Dump file) _ name up h = refl
+up_said DumpJournal (line.Broken cause) name up h = let none : ⊥ = cc in absurd none
+up_said DumpJournal _ name up h = refl
 
 -- after a failure it is down
 pub fallen_said : (q : Request) (cause : Cause) (name : List ℕ) (s : SaidShared) → is_to_up q ≡ true → (said_down name false ≡ node_said q (line.Broken cause) (said_up name)) × (s ≡ shared_said name q (line.Broken cause) s)
@@ -96,9 +102,11 @@ fallen_said (Create file bucket size form) cause name s up = (refl, refl)
 fallen_said (SetFile file setting) cause name s up = (refl, refl)
 fallen_said (StartTrans label) cause name s up = (refl, refl)
 fallen_said (Records label file op) cause name s up = (refl, refl)
+fallen_said (Direct file op) cause name s up = (refl, refl)
 fallen_said (EndTrans label) cause name s up = (refl, refl)
 fallen_said (AbortTrans label) cause name s up = (refl, refl)
 fallen_said (Dump file) cause name s up = (refl, refl)
+fallen_said DumpJournal cause name s up = (refl, refl)
 
 -- a node that is down refuses it
 pub follows_down : (q : Request) (s : SaidShared) (name : List ℕ) (unmade : Bool) → is_to_up q ≡ true → FollowsLines q (line.NodeDown ∷ []) line.NodeDown s s (said_down name unmade) (said_down name unmade)
@@ -110,9 +118,11 @@ follows_down (Create file bucket size form) s name unmade up = follows_refused (
 follows_down (SetFile file setting) s name unmade up = follows_refused (SetFile file setting) line.NodeDown s (said_down name unmade) refl refl refl
 follows_down (StartTrans label) s name unmade up = follows_refused (StartTrans label) line.NodeDown s (said_down name unmade) refl refl refl
 follows_down (Records label file op) s name unmade up = follows_refused (Records label file op) line.NodeDown s (said_down name unmade) refl refl refl
+follows_down (Direct file op) s name unmade up = follows_refused (Direct file op) line.NodeDown s (said_down name unmade) refl refl refl
 follows_down (EndTrans label) s name unmade up = follows_refused (EndTrans label) line.NodeDown s (said_down name unmade) refl refl refl
 follows_down (AbortTrans label) s name unmade up = follows_refused (AbortTrans label) line.NodeDown s (said_down name unmade) refl refl refl
 follows_down (Dump file) s name unmade up = follows_refused (Dump file) line.NodeDown s (said_down name unmade) refl refl refl
+follows_down DumpJournal s name unmade up = follows_refused DumpJournal line.NodeDown s (said_down name unmade) refl refl refl
 
 -- Replies of a node that is up.
 

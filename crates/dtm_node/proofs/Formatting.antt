@@ -1,24 +1,20 @@
 -- INIT: an empty volume, and what the node's disk has then.
-use Rattle.std.proofs.Common.{◌≡◌, ℕ, zero, suc, ◌+◌, ◌<◌, ◌≤◌, List, [], ◌∷◌, Bool, true, false, Option, Some, None, IfSome, is_some, get_or, replicate, take, refl, sym, ap, subst, ◌∙◌, arith, inl}
+use Rattle.std.proofs.Common.{◌≡◌, ℕ, ◌+◌, ◌<◌, ◌≤◌, List, [], ◌∷◌, Bool, true, false, Option, Some, None, IfSome, is_some, length, refl, sym, ap, subst, ◌∙◌, arith, inl, if◌then◌else◌}
 use Rattle.std.specs.Prelude.{◌&&◌, not, nat_le, nat_lt}
-use Rattle.std.proofs.lemmas.List.{length-replicate}
+use Rattle.std.proofs.lemmas.List.{length-drop}
 use Rattle.std.proofs.lemmas.Bool.Decides.{nat_tests}
 use Rattle.vms_base.proofs.NameLemmas.{both}
-use Rattle.block_disk.specs.Blocks.{block_at}
+use Rattle.block_disk.specs.Blocks.{IsWhole, laid_from}
 use Rattle.block_disk.specs.Disk.{DiskState, CallLog, noted}
 use Rattle.block_disk.specs.declared.disk.DiskCall.TheVariants as disk_call
-use Rattle.careful_write.specs.Content.{content_of, gate_open}
+use Rattle.careful_write.specs.Content.{content_of, fits, gate_open, home, intents}
+use Rattle.careful_write.specs.State.{EachWhole}
 use Rattle.careful_write.proofs.GroupParts.{stop_reading}
 use Rattle.careful_write.proofs.Images.{closed_fits}
-use Rattle.extents.specs.Extents.{FitsBehind, all_extents, covers, nowhere}
-use Rattle.file_base.specs.declared.head.FileHead.{FileHead}
-use Rattle.volume_format.specs.Home.{IsHome, HasHome, HasRu, ru_rows}
-use Rattle.volume_format.proofs.Homes.{home_written}
-use Rattle.volume_format.proofs.Splices.{laid_again}
 use Rattle.volume.specs.declared.catalog.Catalog.{Catalog}
-use Rattle.volume.specs.Catalogs.{IsNew, IsSound, TellsCatalog, TellsEntry}
-use Rattle.volume.specs.Empty.{IsEmptyVolume, empty_home}
-use Rattle.volume.specs.Limits.{EntryFits, SizesFit, data_area}
+use Rattle.volume.specs.Catalogs.{IsSound, TellsCatalog}
+use Rattle.volume.specs.Empty.{empty_catalog, empty_home}
+use Rattle.volume.specs.Limits.{SizesFit}
 use Rattle.transcript_model.specs.Outside.{Rose}
 use Rattle.transcript_model.specs.Lines as line
 use Rattle.transcript_model.specs.Lines.{Line, Cause, Failed}
@@ -29,68 +25,37 @@ use Rattle.run_model.specs.Answers.{refused_before_reading, is_volume_form, is_w
 use Rattle.run_model.specs.Operations.{first_of, refused_if}
 use Rattle.run_model.specs.Steps.{NodeStep, Serves as Asks, count_of, occupied, spoilt}
 use Rattle.run_model.proofs.TaskLemmas.{task_cut_at_first, task_unpowered, task_whole}
-use Rattle.directory_model.specs.Laws.{KeepsFiles}
+use Rattle.volume_model.specs.Volumes.{IsLeftBy, LeavesVolume}
+use Rattle.recovery_units.specs.Laws.{IsMade, KeepsNodes}
 use Rattle.dtm_node.specs.Keeping.{Serves}
 use Rattle.dtm_node.specs.Nodes.{Passes, kept_down}
-use Rattle.dtm_node.specs.Standing.{Kept, IsVolumeOf, StandsFor, counts_of, disk_in, noted_all}
-use Rattle.dtm_node.proofs.Booting.{DiskBy, as_it_was}
+use Rattle.dtm_node.specs.Standing.{Kept, StandsFor, counts_of, disk_in, noted_all}
+use Rattle.dtm_node.proofs.DiskLemmas.{as_it_was, disk_unknown}
 use Rattle.dtm_node.proofs.NodeSteps.{refused_here, serves_both}
 use Rattle.dtm_node.proofs.StepLemmas.{occupied_not}
 
--- No file is there.
+-- a volume that was just made, on a disk of so many whole blocks
+is_made : (name : List ℕ) (size slots journal : ℕ) (blocks : List (List ℕ)) → SizesFit size (record { blocks = size; slots = slots; ru_blocks = journal }) → IsWhole size blocks → 4096 ≤ size → IsMade (home blocks) (empty_catalog (empty_home name size slots journal)) slots journal
+is_made name size slots journal blocks fit whole least = record {
+  slots_are = refl;
+  journal_is = refl;
+  boot = refl;
+  greatest = refl;
+  last = refl;
+  heads = refl;
+  first = refl;
+  end = refl;
+  some = (let some = fit.least_journal in omega (arith, some));
+  within = (let room = fit.room in let long = length-drop 518 blocks in let count = whole.count in omega (arith, room, long, count));
+}
 
-none_at : (n f : ℕ) → get_or (replicate {A = Option FileHead} n None) f None ≡ None
-none_at zero f = refl
-none_at (suc n) zero = refl
-none_at (suc n) (suc f) = none_at n f
-
-nowhere_at : (n i : ℕ) → get_or (all_extents (replicate {A = Option FileHead} n None)) i nowhere ≡ nowhere
-nowhere_at zero i = refl
-nowhere_at (suc n) zero = refl
-nowhere_at (suc n) (suc zero) = refl
-nowhere_at (suc n) (suc (suc zero)) = refl
-nowhere_at (suc n) (suc (suc (suc zero))) = refl
-nowhere_at (suc n) (suc (suc (suc (suc i)))) = nowhere_at n i
+-- whether a volume may be made so
 
 le_of : (m n : ℕ) → nat_le m n ≡ true → m ≤ n
 le_of m n e = grind (arith, nat_tests)
 
 lt_of : (m n : ℕ) → nat_lt m n ≡ true → m < n
 lt_of m n e = grind (arith, nat_tests)
-
-covers_nothing : (n : ℕ) → covers nowhere n ≡ true → ⊥
-covers_nothing n e = let lt : n < 0 = lt_of n 0 ((both (nat_le 0 n) (nat_lt n 0) e).1) in omega arith
-
-abbrev pub no_heads : List (Option FileHead)
-no_heads = replicate 64 None
-
--- what an empty volume tells
-abbrev pub empty_catalog : List ℕ → ℕ → ℕ → ℕ → Catalog
-empty_catalog name size slots journal = record { home = empty_home name size slots journal; heads = no_heads; ru = record { start = 584 + slots; blocks = journal; first = 0; end = 0 } }
-
-empty_tells : (name : List ℕ) (size slots journal : ℕ) (c : List (List ℕ)) → IsHome (empty_home name size slots journal) → IsEmptyVolume (empty_home name size slots journal) c → TellsCatalog (empty_catalog name size slots journal) c
-empty_tells name size slots journal c ranges empty = record {
-  ranges = ranges;
-  home = subst (λ b. HasHome b (empty_home name size slots journal)) (sym empty.home_block) (home_written (empty_home name size slots journal) (replicate {A = ℕ} 512 0) ranges (length-replicate {A = ℕ} 512 0));
-  heads = λ f below. subst (TellsEntry (block_at c (1 + f))) (sym (none_at 64 f)) (record { ranges = tt; bytes = sym (empty.zeros (1 + f) (omega arith) (omega arith)) });
-  ru = subst (λ b. HasRu b (record { start = 584 + slots; blocks = journal; first = 0; end = 0 })) (sym (empty.zeros 65 (omega arith) (omega arith)))
-      (laid_again 0 (ru_rows (record { start = 584 + slots; blocks = journal; first = 0; end = 0 })) (replicate {A = ℕ} 512 0) refl (refl, (refl, tt)) (length-replicate {A = ℕ} 512 0) (refl, (refl, tt)));
-}
-
-empty_sound : (name : List ℕ) (size slots journal : ℕ) → SizesFit size (record { blocks = size; slots = slots; ru_blocks = journal }) → IsSound name size (empty_catalog name size slots journal)
-empty_sound name size slots journal fit = record {
-  version = refl;
-  sizes = fit;
-  home = record { owner = refl; moment = omega arith };
-  files = λ f below. subst (EntryFits 0) (sym (none_at 64 f)) tt;
-  names = λ f below. subst (IsNew no_heads f) (sym (none_at 64 f)) tt;
-  extents = λ i below. subst (FitsBehind (data_area (record { blocks = size; slots = slots; ru_blocks = journal })) (take i (all_extents no_heads))) (sym (nowhere_at 64 i))
-      (record { inside = λ n e. absurd (covers_nothing n e); apart = λ n e. absurd (covers_nothing n e) });
-  ru_start = refl;
-  ru_blocks = refl;
-}
-
--- whether a volume may be made so
 
 all_three : (a b c : Bool) → (a && b && c) ≡ true → (a ≡ true) × (b ≡ true) × (c ≡ true)
 all_three true true true e = (refl, refl, refl)
@@ -163,14 +128,14 @@ module _ (log : CallLog) (s : Shared) (n : Node) (name : List ℕ) (unmade has_p
     woken = spoilt true (powered false d0.stops n)
 
     -- a node whose last INIT failed
-    spoilt_stands : (m : Node) (d : DiskState) → m.name ≡ n.name → m.blocks ≡ n.blocks → m.clock ≡ n.clock → m.volume ≡ Unknown → m.unmade ≡ true → m.up ≡ false → (m.was_up ≡ true → n.was_up ≡ true) → m.calls ≡ Power d0.stops ∷ n.calls → Passes d0 d →
+    spoilt_stands : (m : Node) (d : DiskState) → m.name ≡ n.name → m.blocks ≡ n.blocks → m.clock ≡ n.clock → m.durable.volume ≡ Unknown → m.unmade ≡ true → m.up ≡ false → (m.was_up ≡ true → n.was_up ≡ true) → m.calls ≡ Power d0.stops ∷ n.calls → Passes d0 d →
         d.calls ≡ noted (disk_call.Power d0.stops) d0.calls → StandsFor log (kept_down name true has_parts d) m
     spoilt_stands m d same blocks clock volume unmade down was noted_there passes calls = record {
       name = same ∙ h.name;
       blocks = blocks ∙ h.blocks ∙ sym passes.size;
       clock = clock ∙ h.clock;
       unmade = unmade;
-      place = record { down = down; reserved = λ e. h.place.reserved (was e); told = passes.told ∙ h.place.told; disk = subst (DiskBy m d) (sym volume) tt };
+      place = record { down = down; reserved = λ e. h.place.reserved (was e); told = passes.told ∙ h.place.told; disk = disk_unknown m d volume };
       calls = calls ∙ ap (noted (disk_call.Power d0.stops)) h.calls ∙ ap (λ cs. noted_all cs log) (sym noted_there);
       counts = passes.counted h.counts;
     }
@@ -209,21 +174,27 @@ module _ (log : CallLog) (s : Shared) (n : Node) (name : List ℕ) (unmade has_p
     abbrev made : Node
     made = acted (Formats slots journal) woken
 
-    made_volume : (c : List (List ℕ)) → KeepsFiles → IsHome (empty_home name d0.size slots journal) → IsEmptyVolume (empty_home name d0.size slots journal) c → IsVolumeOf c made
-    made_volume c keeps ranges empty = record {
-      catalog = empty_catalog name d0.size slots journal;
-      tells = empty_tells name d0.size slots journal c ranges empty;
-      sound = rw (h.name, h.blocks) (empty_sound name d0.size slots journal fit);
-      has = record { volume = refl; slots = refl; journal = refl; boot = refl; greatest = refl; last = refl; units = refl; files = keeps.formats c woken slots journal };
-    }
+    abbrev catalog : Catalog
+    catalog = empty_catalog (empty_home name d0.size slots journal)
 
-    pub init_done : (d : DiskState) (a b : Shown) → KeepsFiles → IsHome (empty_home name d0.size slots journal) → IfSome d.seen (λ image. IsEmptyVolume (empty_home name d0.size slots journal) (content_of image)) → IfSome d.seen (λ image. gate_open image ≡ false) → d.pending ≡ [] →
+    made_left : (image : List (List ℕ)) → KeepsNodes → TellsCatalog catalog (content_of image) → IsSound name d0.size catalog → gate_open image ≡ false → IsWhole d0.size image → 4096 ≤ d0.size → IsLeftBy (content_of image) made
+    made_left image law tells sound closed whole least =
+        let content : content_of image ≡ home image = ap (λ (b : Bool). if b && fits (length image) (intents image) then laid_from 518 (intents image) (home image) else home image) closed in
+        record {
+          catalog = catalog;
+          tells = tells;
+          sound = rw (h.name, h.blocks) sound;
+          leaves = λ each. subst (λ (c : List (List ℕ)). LeavesVolume c catalog made) (sym content) (law.formats (home image) catalog woken slots journal (is_made name d0.size slots journal image fit whole least) (subst EachWhole content each) h.place.down);
+        }
+
+    pub init_done : (d : DiskState) (a b : Shown) → KeepsNodes → IfSome d.seen (λ image. TellsCatalog catalog (content_of image)) → IsSound name d0.size catalog → IfSome d.seen (λ image. gate_open image ≡ false) → IfSome d.seen (IsWhole d.size) → 4096 ≤ d0.size → d.pending ≡ [] →
         Passes d0 d → d.calls ≡ noted (disk_call.Power d0.stops) d0.calls → Emits a (line.Normal ∷ []) b → Serves log s n (counts_of d0) (Init slots journal) a b (kept_down name false has_parts d) s
-    init_done d a b keeps ranges empty closed settled passes calls m =
+    init_done d a b law tells sound closed whole least settled passes calls m =
         let seen = some_of d.seen (passes.told ∙ h.place.told) in
         let image = seen.0 in
-        let is_empty = subst (λ o. IfSome o (λ x. IsEmptyVolume (empty_home name d0.size slots journal) (content_of x))) seen.1 empty in
-        let is_closed = subst (λ o. IfSome o (λ x. gate_open x ≡ false)) seen.1 closed in
+        let is_closed : gate_open image ≡ false = subst (λ o. IfSome o (λ x. gate_open x ≡ false)) seen.1 closed in
+        let is_whole : IsWhole d0.size image = subst (λ x. IsWhole x image) passes.size (subst (λ o. IfSome o (IsWhole d.size)) seen.1 whole) in
+        let left = made_left image law (subst (λ o. IfSome o (λ x. TellsCatalog catalog (content_of x))) seen.1 tells) sound is_closed is_whole least in
         let alike = as_it_was d.seen image d seen.1 (stop_reading d d settled refl refl) in
         record {
           lines = [];
@@ -241,7 +212,7 @@ module _ (log : CallLog) (s : Shared) (n : Node) (name : List ℕ) (unmade has_p
               down = h.place.down;
               reserved = h.place.reserved;
               told = passes.told ∙ h.place.told;
-              disk = λ i left. let x = alike i left in (x.0 ∙ closed_fits image is_closed, inl (subst (λ y. IsVolumeOf y made) (sym x.1) (made_volume (content_of image) keeps ranges is_empty)));
+              disk = λ i left_there. let x = alike i left_there in (x.0 ∙ closed_fits image is_closed, inl (subst (λ y. IsLeftBy y made) (sym x.1) left));
             };
             calls = calls ∙ ap (noted (disk_call.Power d0.stops)) h.calls;
             counts = passes.counted h.counts;

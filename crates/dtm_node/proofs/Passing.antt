@@ -19,7 +19,8 @@ use Rattle.transcript_model.specs.Emitting.{Shown, Emits}
 use Rattle.run_model.specs.Steps.{count_of}
 use Rattle.dtm_node.specs.Nodes.{Passes}
 use Rattle.dtm_node.specs.Standing.{counts_of}
-use Rattle.dtm_node.specs.Uses.{Goes, cause_of}
+use Rattle.recovery_units.specs.Uses.{Goes}
+use Rattle.dtm_node.specs.Uses.{cause_of}
 
 up : (b : Bool) (n : ℕ) → n < 2 ^ 64 → (n ≤ counted b n) × (counted b n < 2 ^ 64)
 up true n h = (omega arith, omega arith)

@@ -6,7 +6,7 @@ use Rattle.transcript_model.specs.Lines as line
 use Rattle.transcript_model.specs.Lines.{Line, Cause}
 use Rattle.script_model.specs.Statements.{Request}
 use Rattle.run_model.specs.World.{Shared, Node, DiskCounts, fallen}
-use Rattle.run_model.specs.Answers.{Row, refused_before_reading, refused_after_reading, rows_at, closing_at, answer_at, powers, occupies, touches}
+use Rattle.run_model.specs.Answers.{Row, refused_before_reading, refused_after_reading, rows_at, closing_of, answer_at, powers, occupies, touches}
 use Rattle.run_model.specs.Steps.{NodeStep, Serves, Whole, Cut, count_of, lines_of_rows, node_after_rows, shared_after_rows, act_begun, occupied}
 
 or_false : (b : Bool) → (b || false) ≡ b
@@ -23,7 +23,7 @@ module _ (s : Shared) (n : Node) (request : Request) (old new : DiskCounts) (fau
   step_refused refusal late = record { choice = Whole false; allowed = tt; faults = faults; stops = stops; shows = rw (early, power, late) refl; answers = rw (early, power, late) refl; node = rw (early, power, late) refl; shared = rw (early, power, late) refl }
 
   -- done whole, by these rows and no act with its answer
-  pub step_done : (rs : List Row) (l : Line) → refused_after_reading s n request ≡ None → rows_at s n request ≡ rs → closing_at s n request ≡ None → answer_at s n request ≡ l → occupies request ≡ false →
+  pub step_done : (rs : List Row) (l : Line) → refused_after_reading s n request ≡ None → rows_at s n request ≡ rs → closing_of request ≡ None → answer_at n request ≡ l → occupies request ≡ false →
       NodeStep s n old (Serves request) (lines_of_rows rs) l (node_after_rows rs n) (shared_after_rows rs s) new
   step_done rs l late are closing is boots_none = record {
     choice = Whole false;

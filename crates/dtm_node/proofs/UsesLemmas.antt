@@ -1,5 +1,5 @@
 -- Calls of the store, one after another.
-use Rattle.std.proofs.Common.{◌≡◌, ℕ, ◌<◌, ◌≤◌, ◌^◌, [], Bool, true, false, Result, Ok, Err, OnOk, refl, ◌∙◌, arith, inl, inr}
+use Rattle.std.proofs.Common.{◌≡◌, ℕ, ◌<◌, ◌≤◌, ◌^◌, Bool, true, false, Result, Ok, Err, OnOk, refl, ◌∙◌, arith, inl, inr}
 use Rattle.std.specs.Prelude.{nat_lt, IfErr}
 use Rattle.std.proofs.lemmas.Bool.{ltb-true, ltb-false}
 use Rattle.block_disk.specs.Counts.{counted}
@@ -11,8 +11,9 @@ use Rattle.transcript_model.specs.Outside.{Rose}
 use Rattle.transcript_model.proofs.OutsideLemmas.{rose_earlier}
 use Rattle.transcript_model.specs.Lines.{Cause, Failed, Stopped}
 use Rattle.run_model.specs.Steps.{count_of}
-use Rattle.dtm_node.specs.Standing.{counts_of, IsCounted}
-use Rattle.dtm_node.specs.Uses.{Goes, Uses, cause_of}
+use Rattle.recovery_units.specs.Uses.{Caused, Goes, HasRisen, IsCounted, down_of}
+use Rattle.dtm_node.specs.Standing.{counts_of}
+use Rattle.dtm_node.specs.Uses.{Uses, cause_of}
 
 up : (b : Bool) (n : ℕ) → n < 2 ^ 64 → (n ≤ counted b n) × (counted b n < 2 ^ 64)
 up true n h = (omega arith, omega arith)
@@ -30,8 +31,8 @@ caused (Err down.Failed) old new f s = rw f (raised old.faults)
 caused (Err down.Stopped) old new f s = rw s (raised old.stops)
 
 -- a call that was counted
-pub uses_counts : {T : Type 0} (r : Result T Down) (old new : DiskState) → Counts r old new → OnOk r (new.pending ≡ []) → Uses r old new
-uses_counts r old new c ready = record {
+pub uses_counts : {T : Type 0} (r : Result T Down) (old new : DiskState) → Counts r old new → Uses r old new
+uses_counts r old new c = record {
   goes = record {
     size = c.size;
     calls = c.calls;
@@ -41,20 +42,15 @@ uses_counts r old new c ready = record {
     told = c.told;
   };
   cause = λ h. caused r old new c.faults c.stops;
-  ready = ready;
 }
-
-ok_so : {T : Type 0} {P : Type 0} (q : Result T Down) → P → OnOk q P
-ok_so (Ok x) p = p
-ok_so (Err e) p = tt
 
 pub on_ok_then : {T E A B : Type 0} (r : Result T E) → (A → B) → OnOk r A → OnOk r B
 on_ok_then (Ok x) f a = f a
 on_ok_then (Err e) f a = tt
 
 -- one read
-pub uses_read : {T : Type 0} (r : Result T Down) (old new : DiskState) → new ≡ answered r old → old.pending ≡ [] → Uses r old new
-uses_read r old new is ready = rw is (record {
+pub uses_read : {T : Type 0} (r : Result T Down) (old new : DiskState) → new ≡ answered r old → Uses r old new
+uses_read r old new is = rw is (record {
   goes = record {
     size = refl;
     calls = refl;
@@ -64,7 +60,6 @@ uses_read r old new is ready = rw is (record {
     told = refl;
   };
   cause = λ h. caused r old (answered r old) refl refl;
-  ready = ok_so r ready;
 })
 
 -- no call
@@ -88,19 +83,27 @@ later_cause Stopped a b d h g r = rose_earlier _ _ _ (g.stops h) r
 
 -- calls, and then one more
 pub uses_on : {T : Type 0} (r : Result T Down) (a b c : DiskState) → Goes a b → Uses r b c → Uses r a c
-uses_on (Ok x) a b c f u = record { goes = goes_on a b c f u.goes; cause = λ h. tt; ready = u.ready }
-uses_on (Err e) a b c f u = record { goes = goes_on a b c f u.goes; cause = λ h. later_cause (cause_of e) a b c h f (u.cause (f.counted h)); ready = tt }
+uses_on (Ok x) a b c f u = record { goes = goes_on a b c f u.goes; cause = λ h. tt }
+uses_on (Err e) a b c f u = record { goes = goes_on a b c f u.goes; cause = λ h. later_cause (cause_of e) a b c h f (u.cause (f.counted h)) }
 
 -- an error that is handed on
 pub uses_err : {S T : Type 0} (r : Result T Down) (q : Result S Down) (e : Down) (a b : DiskState) → r ≡ Err e → q ≡ Err e → Uses r a b → Uses q a b
 uses_err r q e a b is same u = record {
   goes = u.goes;
   cause = λ h. rw same (let k = u.cause h in rw is at k);
-  ready = rw same tt;
 }
 
-pub uses_done : {T : Type 0} (x : T) (a b : DiskState) → Goes a b → b.pending ≡ [] → Uses (Ok x) a b
-uses_done x a b f ready = record { goes = f; cause = λ h. tt; ready = ready }
+pub uses_done : {T : Type 0} (x : T) (a b : DiskState) → Goes a b → Uses (Ok x) a b
+uses_done x a b f = record { goes = f; cause = λ h. tt }
 
 pub rose_of : {T : Type 0} (r : Result T Down) (e : Down) (old new : DiskState) → r ≡ Err e → Uses r old new → IsCounted old → Rose (count_of (cause_of e) (counts_of old)) (count_of (cause_of e) (counts_of new))
 rose_of r e old new is u h = let k = u.cause h in rw is at k
+
+-- a failure by what a call on units tells of it
+pub risen_is : (e : Down) (old new : DiskState) → HasRisen e old new → IsCounted old → Rose (count_of (cause_of e) (counts_of old)) (count_of (cause_of e) (counts_of new))
+risen_is down.Failed old new h c = h c
+risen_is down.Stopped old new h c = h c
+
+pub uses_caused : {T : Type 0} (r : Result T Down) (old new : DiskState) → Goes old new → Caused (down_of r) old new → Uses r old new
+uses_caused (Ok x) old new g c = record { goes = g; cause = λ h. tt }
+uses_caused (Err e) old new g c = record { goes = g; cause = risen_is e old new c }

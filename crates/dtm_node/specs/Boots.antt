@@ -1,39 +1,42 @@
--- How a boot goes, from a disk that runs to the node that is up.
-use Rattle.std.specs.Prelude.{◌≡◌, ◌⊎◌, ℕ, ◌≤◌, List, Bool, true, Option, Some, None}
+-- How a boot goes, from a disk that runs to the volume whose boot count was raised.
+use Rattle.std.specs.Prelude.{◌≡◌, ◌⊎◌, ℕ, ◌<◌, ◌≤◌, ◌^◌, ◌-◌, max, List, [], ◌∷◌, Bool, true, Option, Some, None}
 use Rattle.block_disk.specs.Disk.{DiskState, MayLeave}
 use Rattle.careful_write.specs.Content.{content_of}
 use Rattle.careful_write.specs.Load.{fitting}
 use Rattle.careful_write.specs.State.{StoreState}
+use Rattle.file_base.specs.declared.head.FileHead.{FileHead}
+use Rattle.file_base.specs.declared.head.Span.{Span}
+use Rattle.journal_model.specs.Ring.{ring_size}
 use Rattle.transcript.specs.Forms.{line_of, HasTime}
 use Rattle.transcript_model.specs.Outside.{Rose}
 use Rattle.volume.specs.Conditions.{IsFirstFinding}
 use Rattle.volume.specs.State.{VolumeState}
-use Rattle.run_model.specs.World.{Node, Boots, ComesUp, Sound, Faulty, Unknown, acted, fallen}
+use Rattle.run_model.specs.World.{Node, Boots, Sound, Faulty, Unknown, acted, fallen}
 use Rattle.run_model.specs.Answers.{bootable}
 use Rattle.run_model.specs.Steps.{count_of}
+use Rattle.volume_model.specs.Volumes.{HasDisk, IsLeftBy, LeavesVolume}
+use Rattle.recovery_units.specs.State.{IsInOrder, nothing_begun}
+use Rattle.recovery_units.specs.Calls.{IsRestarting}
+use Rattle.recovery_units.specs.Uses.{IsCounted}
 use Rattle.dtm_node.specs.declared.boot.Booted.{Booted}
 use Rattle.dtm_node.specs.declared.boot.Booted.TheVariants as booted
-use Rattle.dtm_node.specs.Standing.{Up, IsUp, StandsUp, HasCatalog, HasDisk, IsVolumeOf, IsCounted, counts_of}
+use Rattle.dtm_node.specs.Standing.{counts_of}
 use Rattle.dtm_node.specs.Uses.{cause_of}
 use Rattle.dtm_node.specs.Calling.{IsBootRefusal}
 
--- what a node keeps that has just come up with this volume
-abbrev pub fresh_up : VolumeState → Up
-fresh_up v = record { volume = v; drawn = 0; branch = None }
+abbrev pub disk_booted : {D : Type 0} → (D → DiskState) → Booted D → DiskState
+disk_booted state (booted.Up v) = v.store.disk
+disk_booted state (booted.Refused disk group pool form) = state disk
+disk_booted state (booted.Fell disk group pool down) = state disk
 
-abbrev pub disk_of : {D : Type 0} → (D → DiskState) → Booted D → DiskState
-disk_of state (booted.Up v) = v.store.disk
-disk_of state (booted.Refused disk group pool form) = state disk
-disk_of state (booted.Fell disk group pool down) = state disk
-
-abbrev pub pool_of : {D : Type 0} → Booted D → List (Option (List ℕ))
-pool_of (booted.Up v) = v.store.pool
-pool_of (booted.Refused disk group pool form) = pool
-pool_of (booted.Fell disk group pool down) = pool
+abbrev pub pool_booted : {D : Type 0} → Booted D → List (Option (List ℕ))
+pool_booted (booted.Up v) = v.store.pool
+pool_booted (booted.Refused disk group pool form) = pool
+pool_booted (booted.Fell disk group pool down) = pool
 
 -- A content, where an open group fits or does not, is what a node's disk has.
 abbrev pub HasContent : Node → Bool → List (List ℕ) → Type 0
-HasContent n fits content = elim n.volume [ Sound ↦ (fits ≡ true) × IsVolumeOf content n | Faulty condition block ↦ IsFirstFinding n.name fits content condition block | Unknown ↦ ⊥ ]
+HasContent n fits content = elim n.durable.volume [ Sound ↦ (fits ≡ true) × IsLeftBy content n | Faulty condition block ↦ IsFirstFinding n.name fits content condition block | Unknown ↦ ⊥ ]
 
 -- each image that a power loss may leave has this content, and its open group fits or does not as is said
 abbrev pub AllHave : Bool → List (List ℕ) → DiskState → Type 0
@@ -60,21 +63,44 @@ pub record IsOpened (name : List ℕ) (s : StoreState) (n : Node) : Type 0 where
   pub alike : AllHave s.fits content s.disk
   pub has : HasContent n s.fits content
 
--- its volume
+-- a journal's positions are numbers of 64 bits
+abbrev pub IsWide : Span → Type 0
+IsWide s = (s.first < 2 ^ 64) × (s.end < 2 ^ 64)
+
+-- its volume: what the journal's block tells is told of such positions alone
 pub record IsMounted (v : VolumeState) (n : Node) : Type 0 where
   pub booting : IsBooting v.catalog.home.node v.store.disk n
   pub content : List (List ℕ)
   pub told : v.store.current ≡ Some content
-  pub has : HasCatalog content v.catalog n
+  pub leaves : IsWide v.catalog.ru → LeavesVolume content v.catalog n
 
--- How a boot went of this node: it is up, or was refused, or the disk went down, perhaps while the boot count was raised.
+-- How a boot went of this node: its boot count is raised, or it was refused, or the disk went down, perhaps while the count was raised.
 abbrev pub BootsTo : {D : Type 0} → (D → DiskState) → Node → Booted D → Type 0
-BootsTo state n (booted.Up v) = (bootable n ≡ None) × StandsUp (fresh_up v) (acted ComesUp (acted Boots n))
+BootsTo state n (booted.Up v) = (bootable n ≡ None) × IsRestarting v (acted Boots n)
 BootsTo state n (booted.Refused disk group pool form) = (bootable n ≡ Some (line_of form)) × HasDisk n (state disk)
 BootsTo state n (booted.Fell disk group pool down) = HasDisk (fallen None n) (state disk) ⊎ ((bootable n ≡ None) × HasDisk (fallen (Some Boots) n) (state disk))
 
+-- a volume with which a node is booted: it is in order without units, and its numbers that only grow are low
+pub record IsRaised (name : List ℕ) (v : VolumeState) : Type 0 where
+  pub named : v.catalog.home.node ≡ name
+  pub order : IsInOrder nothing_begun v
+  pub greatest : v.catalog.home.greatest_moment.0 ≤ 24000000000000
+  pub end : v.catalog.ru.end ≤ 2 ^ 61
+
+-- the greatest end of a journal of images of these heads, whether or not it is marked
+abbrev pub ends_in : List (Option FileHead) → ℕ
+ends_in [] = 0
+ends_in (None ∷ hs) = ends_in hs
+ends_in (Some h ∷ hs) = max (max h.ai.end h.bi.end) (ends_in hs)
+
+-- a journal lies in its ring, and its positions are low
+pub record IsInRing (s : Span) : Type 0 where
+  pub order : s.first ≤ s.end
+  pub room : s.end - s.first ≤ ring_size s
+  pub low : s.end ≤ 2 ^ 62
+
 -- What holds whatever the disk has: a volume that is up is in order, a refusal is one of a disk that runs, and a failure raised its count.
 abbrev pub IsBooted : {D : Type 0} → (D → DiskState) → List ℕ → DiskState → Booted D → Type 0
-IsBooted state name old (booted.Up v) = IsUp name (fresh_up v) × (v.catalog.home.greatest_moment.0 ≤ 24000000000000)
+IsBooted state name old (booted.Up v) = IsRaised name v
 IsBooted state name old (booted.Refused disk group pool form) = HasTime form × IsBootRefusal (line_of form)
 IsBooted state name old (booted.Fell disk group pool down) = IsCounted old → Rose (count_of (cause_of down) (counts_of old)) (count_of (cause_of down) (counts_of (state disk)))

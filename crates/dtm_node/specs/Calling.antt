@@ -1,20 +1,23 @@
 -- What the lines of a statement tell of a node and its disk, whether or not the disk tells its content.
-use Rattle.std.specs.Prelude.{◌≡◌, ℕ, List, [], ◌∷◌, Bool, true, false, Option, Some, None, IfSome, if◌then◌else◌, map}
+use Rattle.std.specs.Prelude.{◌≡◌, ℕ, List, [], ◌∷◌, Bool, true, false, Option, Some, None, IfSome, Result, Ok, OnOk, MatchResult, if◌then◌else◌, map}
 use Rattle.std.specs.List.{AllByRecursion}
 use Rattle.block_disk.specs.Disk.{DiskState, CallLog, noted}
 use Rattle.block_disk.specs.declared.disk.DiskCall.TheVariants as disk_call
 use Rattle.transcript_model.specs.Outside.{Rose}
-use Rattle.transcript_model.specs.Emitting.{Shown, Emits}
+use Rattle.transcript_model.specs.Emitting.{Shown, Emits, Since}
 use Rattle.transcript_model.specs.Lines.{Line, Broken, Normal, NormalCount, NoVolume, QuotaExceeded}
 use Rattle.script_model.specs.Statements.{Statement, Request, Init, Boot, Fuse}
 use Rattle.run_model.specs.Statements.{node_of, request_of}
 use Rattle.run_model.specs.Said.{SaidLabel, SaidNode, SaidShared, is_by_lines, node_said, refused_by_lines, shared_said}
 use Rattle.run_model.specs.Steps.{count_of}
 use Rattle.run_model.specs.World.{Label, Shared}
-use Rattle.node_files.specs.Forms.{IsFine, failure_in}
 use Rattle.dtm_node.specs.Nodes.{Passes}
-use Rattle.dtm_node.specs.Keeping.{sharing}
-use Rattle.dtm_node.specs.Standing.{IsCounted, IsDown, IsRunning, Kept, Place, counts_of}
+use Rattle.dtm_node.specs.Keeping.{ServesWorld, StaysUp, disk_of, name_of, sharing}
+use Rattle.dtm_node.specs.Uses.{Uses}
+use Rattle.dtm_node.specs.Plain.{IsFine, failure_in}
+use Rattle.careful_write.specs.declared.down.Down.{Down}
+use Rattle.dtm_node.specs.Standing.{IsDown, IsRunning, IsUp, Kept, Place, Up, counts_of}
+use Rattle.recovery_units.specs.Uses.{IsCounted}
 
 -- the answer to a statement is the last of the lines that were shown for it
 abbrev pub answer_in : List Line → Option Line
@@ -132,3 +135,20 @@ is_boot_refusal answer = false
 
 abbrev pub IsBootRefusal : Line → Type 0
 IsBootRefusal answer = is_boot_refusal answer ≡ true
+
+-- What a node that is up keeps in order over a request, in which its disk perhaps went down.
+pub record KeepsUp {T : Type 0} (r : Result T Down) (old new : Up) (a b : Shown) : Type 0 where
+  pub up : OnOk r (IsUp new)
+  pub stays : StaysUp old new
+  pub since : Since a b
+  pub uses : Uses r (disk_of old) (disk_of new)
+
+-- It served a request, or its disk went down in it: what was shown follows what lines said before, and it is so in the world.
+pub record ServesUp {T : Type 0} (r : Result T Down) (request : Request) (labels after : List Label) (old new : Up) (a b : Shown) : Type 0 where
+  pub keeps : KeepsUp r old new a b
+  pub follows : MatchResult r (λ _. RepliesTo request (name_of old) labels after a b) (λ _. FailsIn request (name_of old) labels after a b)
+  pub serves : ServesWorld r request labels after old new a b
+
+-- the result of what can not fail
+abbrev pub served : Result (Unit {0}) Down
+served = Ok tt

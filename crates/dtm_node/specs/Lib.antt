@@ -2,9 +2,13 @@ pub mod LabelTable
 pub mod Standing
 pub mod Uses
 pub mod Keeping
+pub mod Plain
 pub mod TheLaws
 pub mod Listing
-pub mod Operating
+pub mod Calling
+pub mod Acting
+pub mod Making
+pub mod Naming
+pub mod Asking
 pub mod Boots
 pub mod Nodes
-pub mod Calling

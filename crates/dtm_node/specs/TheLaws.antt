@@ -1,18 +1,14 @@
 -- The laws that a node's statements rest on.
 use Rattle.careful_write.specs.State.{OneContent}
 use Rattle.volume.specs.Catalogs.{StandsOnTheFront}
-use Rattle.directory_model.specs.Laws.{FindsFiles, FindsPlaces, FindsRuns, KeepsFiles, KeepsChanges, KeepsOwn, KeepsUndo, TellsChanges, Undoes, ReadsFiles, ShowsRecords, StandsOnExtents, LieApart, WritesApart, KeepsHeads, MakesFiles}
+use Rattle.directory_model.specs.Laws.{FindsFiles, FindsPlaces, FindsRuns, KeepsFiles, ReadsFiles, ShowsRecords, StandsOnExtents, LieApart, WritesApart, KeepsHeads, MakesFiles}
+use Rattle.recovery_units.specs.Laws.{KeepsNodes}
 
 pub record TheLaws : Type 0 where
   pub finds : FindsFiles
   pub places : FindsPlaces
   pub runs : FindsRuns
   pub files : KeepsFiles
-  pub changes : KeepsChanges
-  pub own : KeepsOwn
-  pub undo : KeepsUndo
-  pub tells : TellsChanges
-  pub back : Undoes
   pub reads : ReadsFiles
   pub shows : ShowsRecords
   pub stand : StandsOnExtents
@@ -22,3 +18,4 @@ pub record TheLaws : Type 0 where
   pub makes : MakesFiles
   pub one : OneContent
   pub front : StandsOnTheFront
+  pub nodes : KeepsNodes

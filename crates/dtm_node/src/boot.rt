@@ -1,5 +1,5 @@
 //! A boot: a disk that runs is brought to a volume whose boot count is raised.
-ghost use Rattle.std.specs.Prelude.{◌≡◌, ◌<◌, ◌≤◌, ◌==◌, [], true, option_map, nat_lt};
+ghost use Rattle.std.specs.Prelude.{◌≡◌, ◌<◌, ◌≤◌, ◌==◌, ◌^◌, [], true, false, max, option_map, nat_lt};
 ghost use Rattle.careful_write.specs.State.{IsIdle};
 ghost use Rattle.change_set.specs.Files.{free_frames};
 ghost use Rattle.volume.specs.Catalogs.{IsSound};
@@ -7,29 +7,39 @@ ghost use Rattle.volume.specs.State.{Holds};
 ghost use Rattle.transcript.specs.Forms.{HasTime, line_of};
 ghost use Rattle.std.specs.Option.{IfSome, IfNone};
 ghost use Rattle.transcript_model.specs.Lines as line;
-ghost use Rattle.run_model.specs.Answers.{boot_limit, moment_limit};
+ghost use Rattle.run_model.specs.Answers.{boot_limit, moment_limit, position_limit};
 ghost use Rattle.run_model.specs.Operations.{first_of, refused_if};
 ghost use Rattle.run_model.specs.World.{Node as NodeSaid};
-ghost use Rattle.dtm_node.specs.Boots.{BootsTo, IsBooted, IsMounted, IsOpened, IsAwake, disk_of, pool_of};
-ghost use Rattle.dtm_node.specs.Uses.{Goes};
+ghost use Rattle.dtm_node.specs.Boots.{BootsTo, IsBooted, IsMounted, IsOpened, IsAwake, IsInRing, IsWide, disk_booted, ends_in, pool_booted};
+ghost use Rattle.recovery_units.specs.Uses.{Goes};
 ghost use Rattle.dtm_node.specs.Calling.{IsBootRefusal};
 
 use block_disk::Disk;
 use careful_write::{Down, Group, OpenErr, Store};
-use directory_model::{
-    acts_keep_changes, acts_keep_files, files_stand_on_their_extents, writes_stay_apart,
-};
+use file_base::Span;
 use frame_pool::Pool;
 use node_files::write_home;
 use transcript::{Form, Quota};
+use unit_world::nodes_are_kept;
 use vms_base::NodeName;
 use volume::{MountErr, Volume, sound_volumes_are_valid};
-use volume_format::Home;
 
 // How often a node is booted, and the greatest moment with which it is, at the most.
 const MOST_BOOTS: u32 = 4_294_967_295;
 
 const LATEST_MOMENT: u64 = 24_000_000_000_000;
+
+// The greatest position of a journal with which a node is booted, and the greatest that a journal may end at.
+const LAST_POSITION: u64 = 2_305_843_009_213_693_952;
+
+const GREATEST_END: u64 = 4_611_686_018_427_387_904;
+
+// What a volume fails whose journal does not lie in its ring, and where.
+const JOURNAL_CONDITION: u32 = 6;
+
+const JOURNAL_BLOCK: u32 = 583;
+
+const MOST_FILES: u8 = 64;
 
 /// How a boot went: with the volume, or with the parts of a store that are left, and the answer that refuses it or the failure.
 #[derive(Drop)]
@@ -39,19 +49,56 @@ pub(crate) enum Booted<D: Disk> {
     Fell(D, Group, Pool, Down),
 }
 
-// Why a node with this home is not booted: it was booted as often as may be, or its greatest moment is too late.
-fn refusal(home: &Home) -> Option<Form<'static>>
-    ensures refuses { option_map line_of result ≡ first_of (refused_if (home.now.boot == boot_limit) (line.QuotaExceeded line.Boots boot_limit)) (refused_if (nat_lt moment_limit home.now.greatest_moment.0) (line.QuotaExceeded line.Moments moment_limit)) }
+// The greatest position of a journal of a volume.
+fn last_position<D: Disk>(volume: &Volume<D>) -> u64
+    ensures { result ≡ max volume.now.catalog.ru.end (ends_in volume.now.catalog.heads) }
+{
+    let mut last = volume.ru().end;
+    for file in 0..MOST_FILES {
+        if let Some(head) = volume.head(file) {
+            last = last.max(head.ai.end).max(head.bi.end);
+        }
+    }
+    last
+}
+
+// Whether the journal's entries lie in its ring, and its positions are low.
+fn is_in_ring(span: &Span) -> bool
+    ensures wide { IsWide span.now }
+    ensures yes { result ≡ true → IsInRing span.now }
+    ensures no { result ≡ false → IsInRing span.now → ⊥ }
+{
+    span.first <= span.end
+        && span.end - span.first <= 512 * u64::from(span.blocks)
+        && span.end <= GREATEST_END
+}
+
+// Why a node is not booted with this volume: its journal is none, it was booted as often as may be, its greatest moment is too late, or a journal has come too
+// far.
+fn refusal<D: Disk>(volume: &Volume<D>) -> Option<Form<'static>>
+    ensures refuses { IsInRing volume.now.catalog.ru → option_map line_of result ≡ first_of (refused_if (volume.now.catalog.home.boot == boot_limit) (line.QuotaExceeded line.Boots boot_limit))
+        (first_of (refused_if (nat_lt moment_limit volume.now.catalog.home.greatest_moment.0) (line.QuotaExceeded line.Moments moment_limit))
+        (refused_if (nat_lt position_limit (max volume.now.catalog.ru.end (ends_in volume.now.catalog.heads))) (line.QuotaExceeded line.Positions position_limit))) }
+    ensures wide { IsWide volume.now.catalog.ru }
     ensures time { IfSome result HasTime }
     ensures boot { IfSome result (λ form. IsBootRefusal (line_of form)) }
-    ensures boots { IfNone result (home.now.boot < 4294967295) }
-    ensures moments { IfNone result (home.now.greatest_moment.0 ≤ 24000000000000) }
+    ensures ring { IfNone result (IsInRing volume.now.catalog.ru) }
+    ensures boots { IfNone result (volume.now.catalog.home.boot < 4294967295) }
+    ensures moments { IfNone result (volume.now.catalog.home.greatest_moment.0 ≤ 24000000000000) }
+    ensures end { IfNone result (volume.now.catalog.ru.end ≤ 2 ^ 61) }
 {
+    let home = volume.home();
+    if !is_in_ring(volume.ru()) {
+        return Some(Form::NoVolume(home.node, JOURNAL_CONDITION, JOURNAL_BLOCK));
+    }
     if home.boot == MOST_BOOTS {
         return Some(Form::QuotaExceeded(Quota::Boots, u64::from(MOST_BOOTS)));
     }
     if home.greatest_moment.0 > LATEST_MOMENT {
         return Some(Form::QuotaExceeded(Quota::Moments, LATEST_MOMENT));
+    }
+    if last_position(volume) > LAST_POSITION {
+        return Some(Form::QuotaExceeded(Quota::Positions, LAST_POSITION));
     }
     None
 }
@@ -63,8 +110,8 @@ pub(crate) fn open_disk<D: Disk>(disk: D, group: Group, pool: Pool, name: NodeNa
     requires most { (D.state disk).size ≤ 65536 }
     requires frames { 32 ≤ free_frames pool }
     ensures booted { IsBooted D.state name (D.state disk) result }
-    ensures goes { Goes (D.state disk) (disk_of D.state result) }
-    ensures pool { pool_of result ≡ pool }
+    ensures goes { Goes (D.state disk) (disk_booted D.state result) }
+    ensures pool { pool_booted result ≡ pool }
     ensures boots { (n : NodeSaid) → IsAwake name (D.state disk) n → BootsTo D.state n result }
 {
     match Store::open(disk, group, pool) {
@@ -87,8 +134,8 @@ fn mount_store<D: Disk>(store: Store<D>, name: NodeName) -> Booted<D>
     requires most { store.disk.size ≤ 65536 }
     requires frames { 32 ≤ free_frames store.pool }
     ensures booted { IsBooted D.state name store.disk result }
-    ensures goes { Goes store.disk (disk_of D.state result) }
-    ensures pool { pool_of result ≡ store.pool }
+    ensures goes { Goes store.disk (disk_booted D.state result) }
+    ensures pool { pool_booted result ≡ store.pool }
     ensures boots { (n : NodeSaid) → IsOpened name store n → BootsTo D.state n result }
 {
     sound_volumes_are_valid();
@@ -125,20 +172,17 @@ fn raise_boot<D: Disk>(mut volume: Volume<D>) -> Booted<D>
     requires sound { IsSound volume.catalog.home.node volume.store.disk.size volume.catalog }
     requires holds { Holds volume }
     ensures booted { IsBooted D.state volume.catalog.home.node volume.store.disk result }
-    ensures goes { Goes volume.store.disk (disk_of D.state result) }
-    ensures pool { pool_of result ≡ volume.store.pool }
+    ensures goes { Goes volume.store.disk (disk_booted D.state result) }
+    ensures pool { pool_booted result ≡ volume.store.pool }
     ensures boots { (n : NodeSaid) → IsMounted volume n → BootsTo D.state n result }
 {
-    let mut home = *volume.home();
-    if let Some(form) = refusal(&home) {
+    if let Some(form) = refusal(&volume) {
         let (disk, group, pool) = volume.into_store().into_parts();
         return Booted::Refused(disk, group, pool, form);
     }
+    let mut home = *volume.home();
     home.boot += 1;
-    acts_keep_files();
-    acts_keep_changes();
-    files_stand_on_their_extents();
-    writes_stay_apart();
+    nodes_are_kept();
     match write_home(&mut volume, &home) {
         Ok(()) => Booted::Up(volume),
         Err(down) => {

@@ -3,11 +3,11 @@ ghost use Rattle.dtm_node.specs.TheLaws.{TheLaws};
 
 use careful_write::one_content;
 use directory_model::{
-    acts_keep_changes, acts_keep_files, acts_keep_heads, acts_keep_own, acts_keep_undo,
-    changes_are_undone, files_are_found_by_name, files_lie_apart, files_stand_on_their_extents,
-    free_runs_are_found_alike, new_files_are_alike, places_are_found_alike, records_are_read_alike,
-    records_are_shown_in_order, the_branch_locks, writes_stay_apart,
+    acts_keep_files, acts_keep_heads, files_are_found_by_name, files_lie_apart,
+    files_stand_on_their_extents, free_runs_are_found_alike, new_files_are_alike,
+    places_are_found_alike, records_are_read_alike, records_are_shown_in_order, writes_stay_apart,
 };
+use unit_world::nodes_are_kept;
 use volume::catalogs_stand_on_the_front;
 
 /// All of them.
@@ -18,12 +18,7 @@ pub(crate) fn the_laws()
     places_are_found_alike();
     free_runs_are_found_alike();
     acts_keep_files();
-    acts_keep_changes();
-    acts_keep_own();
-    acts_keep_undo();
     acts_keep_heads();
-    the_branch_locks();
-    changes_are_undone();
     records_are_read_alike();
     records_are_shown_in_order();
     files_stand_on_their_extents();
@@ -32,4 +27,5 @@ pub(crate) fn the_laws()
     new_files_are_alike();
     one_content();
     catalogs_stand_on_the_front();
+    nodes_are_kept();
 }

@@ -1,5 +1,5 @@
 //! A node over its disk: each request is a step of it.
-ghost use Rattle.std.specs.Prelude.{◌≡◌, ◌<◌, ◌≤◌, ◌+◌, ℕ, List, [], ◌∷◌, Bool, true, false, Some, None, IfOk, IfSome, is_some};
+ghost use Rattle.std.specs.Prelude.{◌≡◌, ◌<◌, ◌≤◌, ◌+◌, ℕ, List, [], ◌∷◌, Bool, true, false, map, Some, None, IfOk, IfSome, is_some};
 ghost use Rattle.block_disk.specs.Disk.{CallLog};
 ghost use Rattle.change_set.specs.Files.{free_frames};
 ghost use Rattle.transcript_model.specs.Emitting.{Emits, Since};
@@ -13,23 +13,29 @@ ghost use Rattle.dtm_node.specs.Uses.{cause_of as cause_kept};
 ghost use Rattle.dtm_node.specs.Calling.{Answers, said_down, said_node, said_shared};
 ghost use Rattle.run_model.specs.Said.{SaidShared as SharedInLines};
 ghost use Rattle.dtm_node.specs.Standing.{IsDown, StandsFor, counts_of};
-ghost use Rattle.dtm_node.specs.Nodes.{HasParts, IsNode, IsParts, Passes, kept_down, kept_of, last_lines_of, place_armed, place_of, shared_of, state_of, IsPlaceOf};
+ghost use Rattle.std.specs.List.{AllByRecursion};
+ghost use Rattle.recovery_units.specs.State.{nothing_begun};
+ghost use Rattle.recovery_units.specs.declared.settled.SettledUnit.{SettledUnit as SettledSaid};
+ghost use Rattle.dtm_node.specs.Boots.{IsRaised};
+ghost use Rattle.dtm_node.specs.Listing.{undone_line};
+ghost use Rattle.dtm_node.specs.Nodes.{HasParts, IsNode, IsParts, Passes, kept_down, kept_of, Reopens, last_lines_of, place_armed, place_of, shared_of, state_of, IsPlaceOf};
 ghost use Rattle.dtm_node.specs.declared.node.Node.{Node as NodeSaid};
 ghost use Rattle.dtm_node.specs.declared.running.Running.{Running as RunningSaid};
 
 use crate::boot::{Booted, open_disk};
-use crate::running::Running;
+use crate::room::Room;
+use crate::running::{CLOCK, Running};
 use crate::shared::Shared;
 use block_disk::Disk;
 use careful_write::{Down, Group};
 use core::mem::replace_with;
-use directory_model::acts_keep_files;
 use frame_pool::Pool;
-use node_files::Buffers;
+use recovery_units::{RecoveryUnits, SettledUnit};
 use script_lang::{Literals, Request};
 use std::alloc::{AllocError, Global};
 use transcript::{Cause, Emit, Form};
-use vms_base::NodeName;
+use unit_world::nodes_are_kept;
+use vms_base::{NodeName, Reason};
 use volume::{Volume, sizes_fit};
 use volume_format::{Ending, Home, Sizes};
 
@@ -37,27 +43,28 @@ const FRAMES: u32 = 64;
 
 // What a node reserves at its first boot, for good.
 #[derive(Drop)]
-struct Parts {
+struct Parts<U: RecoveryUnits> {
     group: Group,
     pool: Pool,
-    room: Buffers,
+    units: U,
+    room: Room,
 }
 
 // What stands over a node's disk.
 #[derive(Drop)]
-enum Place<D: Disk> {
+enum Place<D: Disk, U: RecoveryUnits> {
     // The node is down. It has its parts from its first boot on.
-    Down(D, Option<Parts>),
-    Up(Running<D>),
+    Down(D, Option<Parts<U>>),
+    Up(Running<D, U>),
 }
 
 /// A node over its disk.
 #[derive(Drop)]
-pub struct Node<D: Disk> {
+pub struct Node<D: Disk, U: RecoveryUnits> {
     name: NodeName,
     // The last INIT that made the disk run failed, so that there is no volume.
     unmade: bool,
-    place: Place<D>,
+    place: Place<D, U>,
 }
 
 fn cause_of(down: Down) -> Cause
@@ -79,13 +86,14 @@ pub fn is_to_up(request: &Request) -> bool
     }
 }
 
-fn reserve_parts(alloc: Global) -> Result<Parts, AllocError>
-    ensures { IfOk result IsParts }
+fn reserve_parts<U: RecoveryUnits>(alloc: Global) -> Result<Parts<U>, AllocError>
+    ensures { IfOk result (IsParts U.state) }
 {
     Ok(Parts {
         group: Group::reserve(alloc)?,
         pool: Pool::new(alloc, FRAMES)?,
-        room: Buffers::reserve(alloc)?,
+        units: U::reserve(alloc)?,
+        room: Room::reserve(alloc)?,
     })
 }
 
@@ -125,12 +133,12 @@ fn show_fall<E: Emit>(name: NodeName, down: Down, out: &mut E)
     out.emit(&Form::Broken(cause));
 }
 
-impl<D: Disk + Drop> Node<D> {
+impl<D: Disk + Drop, U: RecoveryUnits> Node<D, U> {
     /// A node that was not booted yet.
-    pub fn new(name: NodeName, disk: D) -> Node<D>
-        ensures down { kept_of D.state result ≡ record { name = name; unmade = false; place = IsDown false (D.state disk) } }
+    pub fn new(name: NodeName, disk: D) -> Node<D, U>
+        ensures down { kept_of D.state U.state result ≡ record { name = name; unmade = false; place = IsDown false (D.state disk) } }
         ensures name { result.name ≡ name }
-        ensures kept { (s : SharedSaid) → 4096 ≤ (D.state disk).size → (D.state disk).size ≤ 65536 → IsNode D.state 0 s result }
+        ensures kept { (s : SharedSaid) → 4096 ≤ (D.state disk).size → (D.state disk).size ≤ 65536 → IsNode D.state U.state 0 s result }
     {
         Node {
             name,
@@ -148,12 +156,12 @@ impl<D: Disk + Drop> Node<D> {
 
     /// Its disk.
     pub fn into_disk(self) -> D
-        ensures { D.state result ≡ state_of D.state self }
+        ensures { D.state result ≡ state_of D.state U.state self }
     {
         match self.place {
             Place::Down(disk, _parts) => disk,
             Place::Up(running) => {
-                let (store, _room) = running.into_parts();
+                let (store, _units, _room) = running.into_parts();
                 let (disk, _group, _pool) = store.into_parts();
                 disk
             }
@@ -168,17 +176,17 @@ impl<D: Disk + Drop> Node<D> {
         lit: &Literals,
         shared: &mut Shared,
         out: &mut E,
-    ) -> Node<D>
-        requires kept { (n : ℕ) × (n < 1000002) × IsNode D.state n (shared_of shared.old) self }
-        ensures kept { (n : ℕ) → IsNode D.state n (shared_of shared.old) self → IsNode D.state (n + 1) (shared_of shared.new) result }
+    ) -> Node<D, U>
+        requires kept { (n : ℕ) × (n < 1000002) × IsNode D.state U.state n (shared_of shared.old) self }
+        ensures kept { (n : ℕ) → IsNode D.state U.state n (shared_of shared.old) self → IsNode D.state U.state (n + 1) (shared_of shared.new) result }
         ensures in_use { shared.old.in_use ≡ true → shared.new.in_use ≡ true }
         ensures name { result.name ≡ self.name }
-        ensures passes { Passes (state_of D.state self) (state_of D.state result) }
+        ensures passes { Passes (state_of D.state U.state self) (state_of D.state U.state result) }
         ensures place { E.place out.new ≡ E.place out.old }
         ensures since { Since (E.shows out.old) (E.shows out.new) }
-        ensures tells { Answers (request_of lit.now request.now) (E.shows out.old) (E.shows out.new) (state_of D.state self) (state_of D.state result) (said_shared (shared_of shared.old)) (said_shared (shared_of shared.new)) (said_node (kept_of D.state self)) (said_node (kept_of D.state result)) }
-        ensures serves { (log : CallLog) (n : NodeOfWorld) → StandsFor log (kept_of D.state self) n → IsPromised (request_of lit.now request.now) n →
-            Serves log (shared_of shared.old) n (counts_of (state_of D.state self)) (request_of lit.now request.now) (E.shows out.old) (E.shows out.new) (kept_of D.state result) (shared_of shared.new) }
+        ensures tells { Answers (request_of lit.now request.now) (E.shows out.old) (E.shows out.new) (state_of D.state U.state self) (state_of D.state U.state result) (said_shared (shared_of shared.old)) (said_shared (shared_of shared.new)) (said_node (kept_of D.state U.state self)) (said_node (kept_of D.state U.state result)) }
+        ensures serves { (log : CallLog) (n : NodeOfWorld) → StandsFor log (kept_of D.state U.state self) n → IsPromised (request_of lit.now request.now) n →
+            Serves log (shared_of shared.old) n (counts_of (state_of D.state U.state self)) (request_of lit.now request.now) (E.shows out.old) (E.shows out.new) (kept_of D.state U.state result) (shared_of shared.new) }
     {
         match request {
             Request::Init { slots, blocks } => self.init(*slots, *blocks, shared, out),
@@ -194,16 +202,16 @@ impl<D: Disk + Drop> Node<D> {
     }
 
     // INIT: an empty volume of this node, with so many log slots and blocks of the journal.
-    fn init<E: Emit>(self, slots: u32, blocks: u32, shared: &Shared, out: &mut E) -> Node<D>
-        requires kept { (n : ℕ) × IsNode D.state n (shared_of shared.now) self }
-        ensures kept { (n : ℕ) → IsNode D.state n (shared_of shared.now) self → IsNode D.state (n + 1) (shared_of shared.now) result }
+    fn init<E: Emit>(self, slots: u32, blocks: u32, shared: &Shared, out: &mut E) -> Node<D, U>
+        requires kept { (n : ℕ) × IsNode D.state U.state n (shared_of shared.now) self }
+        ensures kept { (n : ℕ) → IsNode D.state U.state n (shared_of shared.now) self → IsNode D.state U.state (n + 1) (shared_of shared.now) result }
         ensures name { result.name ≡ self.name }
-        ensures passes { Passes (state_of D.state self) (state_of D.state result) }
+        ensures passes { Passes (state_of D.state U.state self) (state_of D.state U.state result) }
         ensures place { E.place out.new ≡ E.place out.old }
         ensures since { Since (E.shows out.old) (E.shows out.new) }
-        ensures tells { Answers (said.Init slots blocks) (E.shows out.old) (E.shows out.new) (state_of D.state self) (state_of D.state result) (said_shared (shared_of shared.now)) (said_shared (shared_of shared.now)) (said_node (kept_of D.state self)) (said_node (kept_of D.state result)) }
-        ensures serves { (log : CallLog) (n : NodeOfWorld) → StandsFor log (kept_of D.state self) n →
-            Serves log (shared_of shared.now) n (counts_of (state_of D.state self)) (said.Init slots blocks) (E.shows out.old) (E.shows out.new) (kept_of D.state result) (shared_of shared.now) }
+        ensures tells { Answers (said.Init slots blocks) (E.shows out.old) (E.shows out.new) (state_of D.state U.state self) (state_of D.state U.state result) (said_shared (shared_of shared.now)) (said_shared (shared_of shared.now)) (said_node (kept_of D.state U.state self)) (said_node (kept_of D.state U.state result)) }
+        ensures serves { (log : CallLog) (n : NodeOfWorld) → StandsFor log (kept_of D.state U.state self) n →
+            Serves log (shared_of shared.now) n (counts_of (state_of D.state U.state self)) (said.Init slots blocks) (E.shows out.old) (E.shows out.new) (kept_of D.state U.state result) (shared_of shared.now) }
     {
         if shared.in_use {
             out.emit(&Form::VolumeInUse);
@@ -228,17 +236,17 @@ impl<D: Disk + Drop> Node<D> {
     }
 
     // BOOT: the node comes up over its volume.
-    fn boot<E: Emit>(self, alloc: Global, shared: &mut Shared, out: &mut E) -> Node<D>
-        requires kept { (n : ℕ) × (n < 1000002) × IsNode D.state n (shared_of shared.old) self }
-        ensures kept { (n : ℕ) → IsNode D.state n (shared_of shared.old) self → IsNode D.state (n + 1) (shared_of shared.new) result }
+    fn boot<E: Emit>(self, alloc: Global, shared: &mut Shared, out: &mut E) -> Node<D, U>
+        requires kept { (n : ℕ) × (n < 1000002) × IsNode D.state U.state n (shared_of shared.old) self }
+        ensures kept { (n : ℕ) → IsNode D.state U.state n (shared_of shared.old) self → IsNode D.state U.state (n + 1) (shared_of shared.new) result }
         ensures in_use { shared.old.in_use ≡ true → shared.new.in_use ≡ true }
         ensures name { result.name ≡ self.name }
-        ensures passes { Passes (state_of D.state self) (state_of D.state result) }
+        ensures passes { Passes (state_of D.state U.state self) (state_of D.state U.state result) }
         ensures place { E.place out.new ≡ E.place out.old }
         ensures since { Since (E.shows out.old) (E.shows out.new) }
-        ensures tells { Answers said.Boot (E.shows out.old) (E.shows out.new) (state_of D.state self) (state_of D.state result) (said_shared (shared_of shared.old)) (said_shared (shared_of shared.new)) (said_node (kept_of D.state self)) (said_node (kept_of D.state result)) }
-        ensures serves { (log : CallLog) (n : NodeOfWorld) → StandsFor log (kept_of D.state self) n → IsPromised said.Boot n →
-            Serves log (shared_of shared.old) n (counts_of (state_of D.state self)) said.Boot (E.shows out.old) (E.shows out.new) (kept_of D.state result) (shared_of shared.new) }
+        ensures tells { Answers said.Boot (E.shows out.old) (E.shows out.new) (state_of D.state U.state self) (state_of D.state U.state result) (said_shared (shared_of shared.old)) (said_shared (shared_of shared.new)) (said_node (kept_of D.state U.state self)) (said_node (kept_of D.state U.state result)) }
+        ensures serves { (log : CallLog) (n : NodeOfWorld) → StandsFor log (kept_of D.state U.state self) n → IsPromised said.Boot n →
+            Serves log (shared_of shared.old) n (counts_of (state_of D.state U.state self)) said.Boot (E.shows out.old) (E.shows out.new) (kept_of D.state U.state result) (shared_of shared.new) }
     {
         if self.unmade {
             out.emit(&Form::NotInitialized);
@@ -263,15 +271,15 @@ impl<D: Disk + Drop> Node<D> {
     }
 
     // FUSE: after so many further writes the disk stops, and a power loss then damages what is pending by this choice.
-    fn fuse<E: Emit>(self, writes: u32, choice: u64, out: &mut E) -> Node<D>
-        ensures kept { (n : ℕ) (s : SharedSaid) → IsNode D.state n s self → IsNode D.state (n + 1) s result }
+    fn fuse<E: Emit>(self, writes: u32, choice: u64, out: &mut E) -> Node<D, U>
+        ensures kept { (n : ℕ) (s : SharedSaid) → IsNode D.state U.state n s self → IsNode D.state U.state (n + 1) s result }
         ensures name { result.name ≡ self.name }
-        ensures passes { Passes (state_of D.state self) (state_of D.state result) }
+        ensures passes { Passes (state_of D.state U.state self) (state_of D.state U.state result) }
         ensures place { E.place out.new ≡ E.place out.old }
         ensures since { Since (E.shows out.old) (E.shows out.new) }
-        ensures tells { (s : SharedInLines) → Answers (said.Fuse writes choice) (E.shows out.old) (E.shows out.new) (state_of D.state self) (state_of D.state result) s s (said_node (kept_of D.state self)) (said_node (kept_of D.state result)) }
-        ensures serves { (s : SharedSaid) (log : CallLog) (n : NodeOfWorld) → StandsFor log (kept_of D.state self) n →
-            Serves log s n (counts_of (state_of D.state self)) (said.Fuse writes choice) (E.shows out.old) (E.shows out.new) (kept_of D.state result) s }
+        ensures tells { (s : SharedInLines) → Answers (said.Fuse writes choice) (E.shows out.old) (E.shows out.new) (state_of D.state U.state self) (state_of D.state U.state result) s s (said_node (kept_of D.state U.state self)) (said_node (kept_of D.state U.state result)) }
+        ensures serves { (s : SharedSaid) (log : CallLog) (n : NodeOfWorld) → StandsFor log (kept_of D.state U.state self) n →
+            Serves log s n (counts_of (state_of D.state U.state self)) (said.Fuse writes choice) (E.shows out.old) (E.shows out.new) (kept_of D.state U.state result) s }
     {
         let Node {
             name,
@@ -288,16 +296,16 @@ impl<D: Disk + Drop> Node<D> {
     }
 
     // CRASH: the node goes down.
-    fn crash<E: Emit>(self, out: &mut E) -> Node<D>
-        requires kept { (n : ℕ) × (s : SharedSaid) × IsNode D.state n s self }
-        ensures kept { (n : ℕ) (s : SharedSaid) → IsNode D.state n s self → IsNode D.state (n + 1) s result }
+    fn crash<E: Emit>(self, out: &mut E) -> Node<D, U>
+        requires kept { (n : ℕ) × (s : SharedSaid) × IsNode D.state U.state n s self }
+        ensures kept { (n : ℕ) (s : SharedSaid) → IsNode D.state U.state n s self → IsNode D.state U.state (n + 1) s result }
         ensures name { result.name ≡ self.name }
-        ensures passes { Passes (state_of D.state self) (state_of D.state result) }
+        ensures passes { Passes (state_of D.state U.state self) (state_of D.state U.state result) }
         ensures place { E.place out.new ≡ E.place out.old }
         ensures since { Since (E.shows out.old) (E.shows out.new) }
-        ensures tells { (s : SharedInLines) → Answers said.Crash (E.shows out.old) (E.shows out.new) (state_of D.state self) (state_of D.state result) s s (said_node (kept_of D.state self)) (said_node (kept_of D.state result)) }
-        ensures serves { (s : SharedSaid) (log : CallLog) (n : NodeOfWorld) → StandsFor log (kept_of D.state self) n →
-            Serves log s n (counts_of (state_of D.state self)) said.Crash (E.shows out.old) (E.shows out.new) (kept_of D.state result) s }
+        ensures tells { (s : SharedInLines) → Answers said.Crash (E.shows out.old) (E.shows out.new) (state_of D.state U.state self) (state_of D.state U.state result) s s (said_node (kept_of D.state U.state self)) (said_node (kept_of D.state U.state result)) }
+        ensures serves { (s : SharedSaid) (log : CallLog) (n : NodeOfWorld) → StandsFor log (kept_of D.state U.state self) n →
+            Serves log s n (counts_of (state_of D.state U.state self)) said.Crash (E.shows out.old) (E.shows out.new) (kept_of D.state U.state result) s }
     {
         let Node {
             name,
@@ -306,6 +314,7 @@ impl<D: Disk + Drop> Node<D> {
         } = self;
         match place {
             Place::Up(running) => {
+                nodes_are_kept();
                 out.emit(&Form::Crashed(name));
                 out.emit(&Form::Normal);
                 Node {
@@ -334,16 +343,16 @@ impl<D: Disk + Drop> Node<D> {
         out: &mut E,
     )
         requires asks { IsToUp request.now }
-        requires kept { (n : ℕ) × (n < 1000002) × IsNode D.state n (shared_of shared.old) self.old }
-        ensures kept { (n : ℕ) → IsNode D.state n (shared_of shared.old) self.old → IsNode D.state (n + 1) (shared_of shared.new) self.new }
+        requires kept { (n : ℕ) × (n < 1000002) × IsNode D.state U.state n (shared_of shared.old) self.old }
+        ensures kept { (n : ℕ) → IsNode D.state U.state n (shared_of shared.old) self.old → IsNode D.state U.state (n + 1) (shared_of shared.new) self.new }
         ensures in_use { shared.old.in_use ≡ true → shared.new.in_use ≡ true }
         ensures name { self.new.name ≡ self.old.name }
-        ensures passes { Passes (state_of D.state self.old) (state_of D.state self.new) }
+        ensures passes { Passes (state_of D.state U.state self.old) (state_of D.state U.state self.new) }
         ensures place { E.place out.new ≡ E.place out.old }
         ensures since { Since (E.shows out.old) (E.shows out.new) }
-        ensures tells { Answers (request_of lit.now request.now) (E.shows out.old) (E.shows out.new) (state_of D.state self.old) (state_of D.state self.new) (said_shared (shared_of shared.old)) (said_shared (shared_of shared.new)) (said_node (kept_of D.state self.old)) (said_node (kept_of D.state self.new)) }
-        ensures serves { (log : CallLog) (n : NodeOfWorld) → StandsFor log (kept_of D.state self.old) n →
-            Serves log (shared_of shared.old) n (counts_of (state_of D.state self.old)) (request_of lit.now request.now) (E.shows out.old) (E.shows out.new) (kept_of D.state self.new) (shared_of shared.new) }
+        ensures tells { Answers (request_of lit.now request.now) (E.shows out.old) (E.shows out.new) (state_of D.state U.state self.old) (state_of D.state U.state self.new) (said_shared (shared_of shared.old)) (said_shared (shared_of shared.new)) (said_node (kept_of D.state U.state self.old)) (said_node (kept_of D.state U.state self.new)) }
+        ensures serves { (log : CallLog) (n : NodeOfWorld) → StandsFor log (kept_of D.state U.state self.old) n →
+            Serves log (shared_of shared.old) n (counts_of (state_of D.state U.state self.old)) (request_of lit.now request.now) (E.shows out.old) (E.shows out.new) (kept_of D.state U.state self.new) (shared_of shared.new) }
     {
         match &mut self.place {
             Place::Up(running) => match running.serve(request, lit, &mut shared.labels, out) {
@@ -359,9 +368,9 @@ impl<D: Disk + Drop> Node<D> {
 }
 
 // The place of a node after it went down.
-fn fall<D: Disk>(place: Place<D>, _nothing: ()) -> (Place<D>, ())
-    ensures down { (r : RunningSaid D) → place ≡ Place.Up r → place_of D.state result.0 ≡ IsDown true r.volume.store.disk }
-    ensures parts { (r : RunningSaid D) → place ≡ Place.Up r → 32 ≤ free_frames r.volume.store.pool → HasParts result.0 }
+fn fall<D: Disk, U: RecoveryUnits>(place: Place<D, U>, _nothing: ()) -> (Place<D, U>, ())
+    ensures down { (r : RunningSaid D U) → place ≡ Place.Up r → place_of D.state U.state result.0 ≡ IsDown true r.volume.store.disk }
+    ensures parts { (r : RunningSaid D U) → place ≡ Place.Up r → 32 ≤ free_frames r.volume.store.pool → HasParts U.state result.0 }
 {
     match place {
         Place::Up(running) => (fallen(running), ()),
@@ -370,9 +379,13 @@ fn fall<D: Disk>(place: Place<D>, _nothing: ()) -> (Place<D>, ())
 }
 
 // What stands over a disk that is armed.
-fn armed_place<D: Disk>(place: Place<D>, writes: u32, choice: u64) -> Place<D>
-    ensures place { place_of D.state result ≡ place_armed writes choice (place_of D.state place) }
-    ensures kept { (n : ℕ) (s : SharedSaid) (node : NodeSaid D) → IsPlaceOf D.state n s node place → IsPlaceOf D.state n s node result }
+fn armed_place<D: Disk, U: RecoveryUnits>(
+    place: Place<D, U>,
+    writes: u32,
+    choice: u64,
+) -> Place<D, U>
+    ensures place { place_of D.state U.state result ≡ place_armed writes choice (place_of D.state U.state place) }
+    ensures kept { (n : ℕ) (s : SharedSaid) (node : NodeSaid D U) → IsPlaceOf D.state U.state n s node place → IsPlaceOf D.state U.state n s node result }
 {
     match place {
         Place::Down(disk, parts) => {
@@ -389,13 +402,22 @@ fn armed_place<D: Disk>(place: Place<D>, writes: u32, choice: u64) -> Place<D>
 }
 
 // What is left of a node that went down: its disk and its parts.
-fn fallen<D: Disk>(running: Running<D>) -> Place<D>
-    ensures down { place_of D.state result ≡ IsDown true running.volume.store.disk }
-    ensures parts { 32 ≤ free_frames running.volume.store.pool → HasParts result }
+fn fallen<D: Disk, U: RecoveryUnits>(running: Running<D, U>) -> Place<D, U>
+    ensures down { place_of D.state U.state result ≡ IsDown true running.volume.store.disk }
+    ensures parts { 32 ≤ free_frames running.volume.store.pool → HasParts U.state result }
 {
-    let (store, room) = running.into_parts();
+    let (store, mut units, room) = running.into_parts();
     let (disk, group, pool) = store.into_parts();
-    Place::Down(disk, Some(Parts { group, pool, room }))
+    units.forget();
+    Place::Down(
+        disk,
+        Some(Parts {
+            group,
+            pool,
+            units,
+            room,
+        }),
+    )
 }
 
 // Writes an empty volume to the disk of a node that is down, and says whether there is no volume then because an INIT failed.
@@ -429,7 +451,7 @@ fn format<D: Disk, E: Emit>(
         show_fall(name, Down::from(e), out);
         return (disk, true);
     }
-    acts_keep_files();
+    nodes_are_kept();
     let (disk, done) = Volume::format(disk, name, slots, blocks);
     match done {
         Ok(()) => {
@@ -444,26 +466,26 @@ fn format<D: Disk, E: Emit>(
 }
 
 // Boots a node that is down, with its parts or with new ones.
-fn boot_down<D: Disk, E: Emit>(
+fn boot_down<D: Disk, U: RecoveryUnits, E: Emit>(
     alloc: Global,
     name: NodeName,
     disk: D,
-    parts: Option<Parts>,
+    parts: Option<Parts<U>>,
     shared: &mut Shared,
     out: &mut E,
-) -> Node<D>
+) -> Node<D, U>
     requires least { 4096 ≤ (D.state disk).size }
     requires most { (D.state disk).size ≤ 65536 }
-    requires parts { IfSome parts IsParts }
-    ensures kept { (n : ℕ) → IsNode D.state n (shared_of shared.new) result }
+    requires parts { IfSome parts (IsParts U.state) }
+    ensures kept { (n : ℕ) → IsNode D.state U.state n (shared_of shared.new) result }
     ensures in_use { shared.old.in_use ≡ true → shared.new.in_use ≡ true }
     ensures name { result.name ≡ name }
-    ensures passes { Passes (D.state disk) (state_of D.state result) }
+    ensures passes { Passes (D.state disk) (state_of D.state U.state result) }
     ensures place { E.place out.new ≡ E.place out.old }
     ensures since { Since (E.shows out.old) (E.shows out.new) }
-    ensures tells { Answers said.Boot (E.shows out.old) (E.shows out.new) (D.state disk) (state_of D.state result) (said_shared (shared_of shared.old)) (said_shared (shared_of shared.new)) (said_down name false) (said_node (kept_of D.state result)) }
+    ensures tells { Answers said.Boot (E.shows out.old) (E.shows out.new) (D.state disk) (state_of D.state U.state result) (said_shared (shared_of shared.old)) (said_shared (shared_of shared.new)) (said_down name false) (said_node (kept_of D.state U.state result)) }
     ensures serves { (log : CallLog) (n : NodeOfWorld) → StandsFor log (kept_down name false (is_some parts) (D.state disk)) n → IsPromised said.Boot n →
-        Serves log (shared_of shared.old) n (counts_of (D.state disk)) said.Boot (E.shows out.old) (E.shows out.new) (kept_of D.state result) (shared_of shared.new) }
+        Serves log (shared_of shared.old) n (counts_of (D.state disk)) said.Boot (E.shows out.old) (E.shows out.new) (kept_of D.state U.state result) (shared_of shared.new) }
 {
     if let Some(parts) = parts {
         return boot_with(name, disk, parts, shared, out);
@@ -482,67 +504,132 @@ fn boot_down<D: Disk, E: Emit>(
 }
 
 // Boots a node that is down, with its parts.
-fn boot_with<D: Disk, E: Emit>(
+fn boot_with<D: Disk, U: RecoveryUnits, E: Emit>(
     name: NodeName,
     mut disk: D,
-    parts: Parts,
+    parts: Parts<U>,
     shared: &mut Shared,
     out: &mut E,
-) -> Node<D>
+) -> Node<D, U>
     requires least { 4096 ≤ (D.state disk).size }
     requires most { (D.state disk).size ≤ 65536 }
-    requires parts { IsParts parts }
-    ensures kept { (n : ℕ) → IsNode D.state n (shared_of shared.new) result }
+    requires parts { IsParts U.state parts }
+    ensures kept { (n : ℕ) → IsNode D.state U.state n (shared_of shared.new) result }
     ensures in_use { shared.old.in_use ≡ true → shared.new.in_use ≡ true }
     ensures name { result.name ≡ name }
-    ensures passes { Passes (D.state disk) (state_of D.state result) }
+    ensures passes { Passes (D.state disk) (state_of D.state U.state result) }
     ensures place { E.place out.new ≡ E.place out.old }
     ensures since { Since (E.shows out.old) (E.shows out.new) }
-    ensures tells { Answers said.Boot (E.shows out.old) (E.shows out.new) (D.state disk) (state_of D.state result) (said_shared (shared_of shared.old)) (said_shared (shared_of shared.new)) (said_down name false) (said_node (kept_of D.state result)) }
+    ensures tells { Answers said.Boot (E.shows out.old) (E.shows out.new) (D.state disk) (state_of D.state U.state result) (said_shared (shared_of shared.old)) (said_shared (shared_of shared.new)) (said_down name false) (said_node (kept_of D.state U.state result)) }
     ensures serves { (has_parts : Bool) (log : CallLog) (n : NodeOfWorld) → StandsFor log (kept_down name false has_parts (D.state disk)) n → IsPromised said.Boot n →
-        Serves log (shared_of shared.old) n (counts_of (D.state disk)) said.Boot (E.shows out.old) (E.shows out.new) (kept_of D.state result) (shared_of shared.new) }
+        Serves log (shared_of shared.old) n (counts_of (D.state disk)) said.Boot (E.shows out.old) (E.shows out.new) (kept_of D.state U.state result) (shared_of shared.new) }
 {
-    let Parts { group, pool, room } = parts;
+    let Parts {
+        group,
+        pool,
+        units,
+        room,
+    } = parts;
     if let Err(e) = disk.power() {
-        return fall_in_boot(
-            name,
-            Down::from(e),
-            disk,
-            Parts { group, pool, room },
-            shared,
-            out,
-        );
+        let parts = Parts {
+            group,
+            pool,
+            units,
+            room,
+        };
+        return fall_in_boot(name, Down::from(e), disk, parts, shared, out);
     }
     match open_disk(disk, group, pool, name) {
         Booted::Up(volume) => {
+            nodes_are_kept();
             shared.in_use = true;
             show_last(volume.home(), out);
-            out.emit(&Form::NormalCount(u64::from(volume.home().boot)));
-            Node {
-                name,
-                unmade: false,
-                place: Place::Up(Running::new(volume, room)),
-            }
+            reopen(name, volume, units, room, out)
         }
         Booted::Refused(disk, group, pool, form) => {
             out.emit(&form);
-            down_node(name, disk, Parts { group, pool, room })
+            let parts = Parts {
+                group,
+                pool,
+                units,
+                room,
+            };
+            down_node(name, disk, parts)
         }
         Booted::Fell(disk, group, pool, down) => {
-            fall_in_boot(name, down, disk, Parts { group, pool, room }, shared, out)
+            let parts = Parts {
+                group,
+                pool,
+                units,
+                room,
+            };
+            fall_in_boot(name, down, disk, parts, shared, out)
         }
     }
 }
 
+// Undoes the units that a fall left, shows each, and answers the boot.
+fn reopen<D: Disk, U: RecoveryUnits, E: Emit>(
+    name: NodeName,
+    mut volume: Volume<D>,
+    mut units: U,
+    mut room: Room,
+    out: &mut E,
+) -> Node<D, U>
+    requires raised { IsRaised name volume }
+    requires none { U.state units ≡ nothing_begun }
+    ensures kept { (n : ℕ) (s : SharedSaid) → s.in_use ≡ true → IsNode D.state U.state n s result }
+    ensures name { result.name ≡ name }
+    ensures place { E.place out.new ≡ E.place out.old }
+    ensures since { Since (E.shows out.old) (E.shows out.new) }
+    ensures reopens { Reopens D.state U.state name volume result (E.shows out.old) (E.shows out.new) }
+{
+    room.settled.clear();
+    let done = units.reopen(&mut volume, CLOCK, &mut room.settled);
+    show_undone(room.settled.items(), out);
+    let boot = volume.home().boot;
+    let running = Running::new(volume, units, room);
+    match done {
+        Ok(()) => {
+            out.emit(&Form::NormalCount(u64::from(boot)));
+            Node {
+                name,
+                unmade: false,
+                place: Place::Up(running),
+            }
+        }
+        Err(down) => {
+            show_fall(name, down, out);
+            Node {
+                name,
+                unmade: false,
+                place: fallen(running),
+            }
+        }
+    }
+}
+
+// Shows the units that a restart undid.
+fn show_undone<E: Emit>(units: &[SettledUnit], out: &mut E)
+    requires times { AllByRecursion (λ (u : SettledSaid). u.moment.0 < 24000001000067) units.now }
+    ensures place { E.place out.new ≡ E.place out.old }
+    ensures since { Since (E.shows out.old) (E.shows out.new) }
+    ensures emits { Emits (E.shows out.old) (map undone_line units.now) (E.shows out.new) }
+{
+    for unit in units {
+        out.emit(&Form::Aborted(unit.tid, unit.serial, Reason::SegFail, unit.moment));
+    }
+}
+
 // A node goes down in its boot, and that is answered. No volume may be made any more.
-fn fall_in_boot<D: Disk, E: Emit>(
+fn fall_in_boot<D: Disk, U: RecoveryUnits, E: Emit>(
     name: NodeName,
     down: Down,
     disk: D,
-    parts: Parts,
+    parts: Parts<U>,
     shared: &mut Shared,
     out: &mut E,
-) -> Node<D>
+) -> Node<D, U>
     ensures node { result ≡ record { name = name; unmade = false; place = Place.Down disk (Some parts) } }
     ensures shared { shared.new ≡ record shared.old { in_use = true } }
     ensures place { E.place out.new ≡ E.place out.old }
@@ -555,7 +642,7 @@ fn fall_in_boot<D: Disk, E: Emit>(
 }
 
 // A node that is down, and whose last INIT did not fail.
-fn down_node<D: Disk>(name: NodeName, disk: D, parts: Parts) -> Node<D>
+fn down_node<D: Disk, U: RecoveryUnits>(name: NodeName, disk: D, parts: Parts<U>) -> Node<D, U>
     ensures { result ≡ record { name = name; unmade = false; place = Place.Down disk (Some parts) } }
 {
     Node {

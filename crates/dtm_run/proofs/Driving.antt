@@ -18,12 +18,13 @@ use Rattle.run_model.proofs.TranscriptLemmas.{Reached, EndsIn, reached_first, re
 use Rattle.dtm_node.specs.declared.node.Node as node
 use Rattle.dtm_node.specs.declared.node.Place as place
 use Rattle.dtm_node.specs.declared.node.Place.TheVariants as at
-use Rattle.dtm_node.specs.Keeping.{up_of}
+use Rattle.recovery_units.specs.State.{UnitsState}
+use Rattle.dtm_node.specs.Keeping.{name_of, up_of}
 use Rattle.dtm_node.specs.Nodes.{IsNode, IsPlaceOf, kept_of, place_of, state_of}
-use Rattle.dtm_node.specs.Standing.{Kept, Up, IsUp, IsVolumeOf, StandsIn, StandsUp, disk_in, noted_all}
+use Rattle.dtm_node.specs.Standing.{Kept, Up, IsUp, StandsIn, StandsUp, disk_in, noted_all}
 use Rattle.dtm_run.specs.Alone.{StandsAlone, ServesAlone}
-use Rattle.dtm_node.proofs.Booting.{idle_leaves}
-use Rattle.dtm_run.specs.Headline.{Leaves, LeavesNode, LeaveNodes, RunsTo, exit_of}
+use Rattle.dtm_node.proofs.DiskLemmas.{idle_leaves}
+use Rattle.dtm_run.specs.Headline.{IsVolumeOf, Leaves, LeavesNode, LeaveNodes, RunsTo, exit_of}
 use Rattle.dtm_run.specs.declared.top.Exit.{Exit}
 use Rattle.dtm_run.specs.declared.top.Exit.TheVariants as exit
 
@@ -32,27 +33,28 @@ use Rattle.dtm_run.specs.declared.top.Exit.TheVariants as exit
 not_both : (b : Bool) → b ≡ true → b ≡ false → ⊥
 not_both b t f = let e : true ≡ false = sym t ∙ f in cc
 
-volume_up : (name : List ℕ) (u : Up) (n : Node) (s : StandsUp u n) → IsUp name u → n.name ≡ name → n.blocks ≡ u.volume.store.disk.size → IsVolumeOf s.content n
-volume_up name u n s up named sized = record {
+volume_up : (u : Up) (n : Node) (s : StandsUp u n) → IsUp u → n.name ≡ name_of u → n.blocks ≡ u.volume.store.disk.size → IsVolumeOf s.kept.content n
+volume_up u n s up named sized = record {
   catalog = u.volume.catalog;
-  tells = subst (λ o. IfSome o (TellsCatalog u.volume.catalog)) s.told up.holds;
-  sound = rw (named, sized) up.sound;
-  has = s.has;
+  tells = subst (λ o. IfSome o (TellsCatalog u.volume.catalog)) s.kept.told up.order.holds;
+  sound = rw (named, sized) up.order.sound;
+  has = s.kept.has;
 }
 
-place_leaves : {D : Type 0} (state : D → DiskState) (count : ℕ) (s : Shared) (m : node.Node D) (p : place.Place D) (n : Node) (before : DiskState) → IsPlaceOf state count s m p → StandsIn (place_of state p) n → n.name ≡ m.name → n.blocks ≡ (disk_in (place_of state p)).size →
-    (disk_in (place_of state p)).calls ≡ noted_all n.calls before.calls → LeavesNode before n (disk_in (place_of state p))
-place_leaves state count shared m (at.Down disk parts) n before kept s named sized calls = record { down = λ e. s.disk; up = λ e. absurd (not_both n.up e s.down); calls = calls }
-place_leaves state count shared m (at.Up r) n before kept s named sized calls = record {
+place_leaves : {D U : Type 0} (state : D → DiskState) (units : U → UnitsState) (count : ℕ) (s : Shared) (m : node.Node D U) (p : place.Place D U) (n : Node) (before : DiskState) → IsPlaceOf state units count s m p → StandsIn (place_of state units p) n → n.name ≡ m.name → n.blocks ≡ (disk_in (place_of state units p)).size →
+    (disk_in (place_of state units p)).calls ≡ noted_all n.calls before.calls → LeavesNode before n (disk_in (place_of state units p))
+place_leaves state units count shared m (at.Down disk parts) n before kept s named sized calls = record { down = λ e. s.disk; up = λ e. absurd (not_both n.up e s.down); blocks = sized; calls = calls }
+place_leaves state units count shared m (at.Up r) n before kept s named sized calls = record {
   down = λ e. absurd (not_both n.up s.up e);
-  up = λ e. idle_leaves r.volume.store s.content (λ content. IsVolumeOf content n) kept.0.idle s.told (volume_up m.name (up_of r) n s kept.0 named sized);
+  up = λ e. idle_leaves r.volume.store s.kept.content (λ content. IsVolumeOf content n) kept.0.order.idle s.kept.told (volume_up (up_of units r) n s kept.0 (named ∙ kept.1) sized);
+  blocks = sized;
   calls = calls;
 }
 
-pub stands_leaves : {D : Type 0} (state : D → DiskState) (count : ℕ) (m : node.Node D) (s : Shared) (before : DiskState) (w : World) → IsNode state count s m → StandsAlone before.calls (kept_of state m) s w → Leaves (before ∷ []) w (state_of state m ∷ [])
-stands_leaves state count m s before w kept h = record {
+pub stands_leaves : {D U : Type 0} (state : D → DiskState) (units : U → UnitsState) (count : ℕ) (m : node.Node D U) (s : Shared) (before : DiskState) (w : World) → IsNode state units count s m → StandsAlone before.calls (kept_of state units m) s w → Leaves (before ∷ []) w (state_of state units m ∷ [])
+stands_leaves state units count m s before w kept h = record {
   counts = h.disks;
-  nodes = subst (λ ns. LeaveNodes (before ∷ []) ns (state_of state m ∷ [])) (sym h.nodes) (place_leaves state count s m m.place h.node before kept h.stands.place h.stands.name h.stands.blocks h.stands.calls, tt);
+  nodes = subst (λ ns. LeaveNodes (before ∷ []) ns (state_of state units m ∷ [])) (sym h.nodes) (place_leaves state units count s m m.place h.node before kept h.stands.place h.stands.name h.stands.blocks h.stands.calls, tt);
 }
 
 -- what is left of every world for which this stands

@@ -1,5 +1,5 @@
 -- The files that a volume has before a run: each rests, on what its keys have.
-use Rattle.std.proofs.Common.{◌≡◌, ℕ, zero, suc, List, [], ◌∷◌, length, Option, Some, None, refl, ap, ◌∙◌}
+use Rattle.std.proofs.Common.{◌≡◌, ℕ, zero, suc, List, [], ◌∷◌, length, Option, Some, None, refl, ap, subst, ◌∙◌}
 use Rattle.file_base.specs.declared.head.FileHead.{FileHead}
 use Rattle.run_model.specs.World.{File, AreResting}
 use Rattle.directory_model.specs.Files.{AreFiles, IsFile, IsPlace, file_at, head_at, organized_by, carried_of, layout_of}
@@ -29,7 +29,12 @@ stored reads content moment h laid =
         history = record { base = base.0; moment = moment; settled = []; live = [] };
         layout = layout_of h content;
       };
-      is = record { name = refl; bucket = refl; record_size = refl; organization = refl; start = refl; buckets = refl; carried = refl; units = refl; form = laid.0; laid = laid.1; records = base.1; layout = refl };
+      is = record {
+        head = record { name = refl; bucket = refl; record_size = refl; organization = refl; start = refl; buckets = refl; carried = refl; units = refl; form = laid.0 };
+        laid = laid.1;
+        records = base.1;
+        layout = refl;
+      };
       settled = refl;
       live = refl;
     }
@@ -40,27 +45,42 @@ pub record Directory (content : List (List ℕ)) (heads : List (Option FileHead)
   pub long : length files ≡ length heads
   pub places : (f : ℕ) → IsPlace content (head_at heads f) (file_at files f)
   pub resting : AreResting files
+  pub live : (f : ℕ) (file : File) → file_at files f ≡ Some file → file.history.live ≡ []
 
 directory : (reads : ReadsFiles) (content : List (List ℕ)) (moment : ℕ) (heads : List (Option FileHead)) → AreLaidOut content heads → Directory content heads
-directory reads content moment [] laid = record { files = []; long = refl; places = λ f. tt; resting = tt }
+directory reads content moment [] laid = record { files = []; long = refl; places = λ f. tt; resting = tt; live = λ f file there. let none : ⊥ = cc in absurd none }
 directory reads content moment (None ∷ hs) laid =
     let rest = directory reads content moment hs (λ f h there. laid (suc f) h there) in
-    record { files = None ∷ rest.files; long = ap suc rest.long; places = at rest; resting = rest.resting }
+    record { files = None ∷ rest.files; long = ap suc rest.long; places = at rest; resting = rest.resting; live = live_at rest }
   where
+    live_at : (d : Directory content hs) (f : ℕ) (file : File) → file_at (None ∷ d.files) f ≡ Some file → file.history.live ≡ []
+    live_at d zero file there = let none : ⊥ = cc in absurd none
+    live_at d (suc f) file there = d.live f file there
+
     at : (d : Directory content hs) (f : ℕ) → IsPlace content (head_at (None ∷ hs) f) (file_at (None ∷ d.files) f)
     at d zero = tt
     at d (suc f) = d.places f
 directory reads content moment (Some h ∷ hs) laid =
     let first = stored reads content moment h (laid zero h refl) in
     let rest = directory reads content moment hs (λ f h there. laid (suc f) h there) in
-    record { files = Some first.file ∷ rest.files; long = ap suc rest.long; places = at first rest; resting = (first.settled, first.live, rest.resting) }
+    record { files = Some first.file ∷ rest.files; long = ap suc rest.long; places = at first rest; resting = (first.settled, rest.resting); live = live_at first rest }
   where
+    live_at : (s : Stored content h) (d : Directory content hs) (f : ℕ) (file : File) → file_at (Some s.file ∷ d.files) f ≡ Some file → file.history.live ≡ []
+    live_at s d zero file there = let same : s.file ≡ file = cc in subst (λ (x : File). x.history.live ≡ []) same s.live
+    live_at s d (suc f) file there = d.live f file there
+
     at : (s : Stored content h) (d : Directory content hs) (f : ℕ) → IsPlace content (head_at (Some h ∷ hs) f) (file_at (Some s.file ∷ d.files) f)
     at s d zero = s.is
     at s d (suc f) = d.places f
 
 -- the files of heads whose buckets are laid out are files of the world that rest
-pub has_files : (reads : ReadsFiles) (content : List (List ℕ)) (heads : List (Option FileHead)) (moment : ℕ) → length heads ≡ 64 → AreLaidOut content heads → (files : List (Option File)) × AreFiles content heads files × AreResting files
+pub record RestingFiles (content : List (List ℕ)) (heads : List (Option FileHead)) : Type 0 where
+  pub directory : List (Option File)
+  pub files : AreFiles content heads directory
+  pub resting : AreResting directory
+  pub live : (f : ℕ) (file : File) → file_at directory f ≡ Some file → file.history.live ≡ []
+
+pub has_files : (reads : ReadsFiles) (content : List (List ℕ)) (heads : List (Option FileHead)) (moment : ℕ) → length heads ≡ 64 → AreLaidOut content heads → RestingFiles content heads
 has_files reads content heads moment long laid =
     let d = directory reads content moment heads laid in
-    (d.files, record { heads_long = long; directory_long = d.long ∙ long; each = d.places }, d.resting)
+    record { directory = d.files; files = record { heads_long = long; directory_long = d.long ∙ long; each = d.places }; resting = d.resting; live = d.live }

@@ -7,7 +7,7 @@ use Rattle.block_disk.specs.Disk.{DiskState}
 use Rattle.transcript_model.specs.Lines as line
 use Rattle.transcript_model.specs.Lines.{Line}
 use Rattle.transcript_model.specs.Emitting.{Shown, Emits}
-use Rattle.script_model.specs.Statements.{At, Request, Init, Boot, Create, SetFile, StartTrans, Records, EndTrans, AbortTrans, Dump, Fuse, Crash, Says}
+use Rattle.script_model.specs.Statements.{At, Request, Init, Boot, Create, SetFile, StartTrans, Records, Direct, EndTrans, AbortTrans, Dump, DumpJournal, Fuse, Crash, Says}
 use Rattle.run_model.specs.Said.{Said, SaidNode, SaidShared, is_by_lines, node_said, refused_by_lines, refused_by_said, said_here, said_then, shared_said}
 use Rattle.dtm_node.specs.Calling.{Answers, answer_in}
 use Rattle.dtm_run.specs.Calls.{AnswersAlone}
@@ -28,9 +28,11 @@ unshared name (Create file bucket size form) s = refl
 unshared name (SetFile file setting) s = refl
 unshared name (StartTrans label) s = refl
 unshared name (Records label file op) s = refl
+unshared name (Direct file op) s = refl
 unshared name (EndTrans label) s = refl
 unshared name (AbortTrans label) s = refl
 unshared name (Dump file) s = refl
+unshared name DumpJournal s = refl
 unshared name (Fuse writes choice) s = refl
 unshared name Crash s = refl
 

@@ -3,7 +3,7 @@ use Rattle.std.proofs.Common.{ℕ, List, [], ◌∷◌, Bool, true, false, Optio
 use Rattle.transcript_model.specs.Lines.{Line}
 use Rattle.script_model.specs.Statements.{Request, Boot}
 use Rattle.run_model.specs.World.{Shared, Node, DiskCounts, Act, Formats, Power, acted, powered, unpowered}
-use Rattle.run_model.specs.Answers.{Row, powers, spoils, refused_before_reading, refused_after_reading, rows_at, closing_at}
+use Rattle.run_model.specs.Answers.{Row, powers, spoils, refused_before_reading, refused_after_reading, rows_at, closing_of}
 use Rattle.run_model.specs.Steps as task
 use Rattle.run_model.specs.Steps.{NodeStep, Choice, Whole, WithoutMemory, Unpowered, Cut, node_after, node_after_rows, rows_to_cut, ready_node, act_begun, spoilt, request_effect}
 use Rattle.run_model.proofs.ReadyLemmas.{powered_is, resolved}
@@ -43,7 +43,7 @@ ready_known taken stops request n h = go (powers request)
 
 begun_known : (s : Shared) (n : Node) (request : Request) (o : Option Line) → IsKnown n → IsKnown (task.begun s n request o).node
 begun_known s n request (Some refusal) h = h
-begun_known s n request None h = after_known (closing_at s n request) (node_after_rows (rows_at s n request) n) (rows_known (rows_at s n request) n h)
+begun_known s n request None h = after_known (closing_of request) (node_after_rows (rows_at s n request) n) (rows_known (rows_at s n request) n h)
 
 whole_known : (s : Shared) (n ready : Node) (request : Request) (o : Option Line) → IsKnown n → IsKnown ready → IsKnown (task.whole s n ready request o).node
 whole_known s n ready request (Some refusal) h k = h

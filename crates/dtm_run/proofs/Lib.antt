@@ -8,4 +8,8 @@ pub mod Following
 pub mod Telling
 pub mod Files
 mod Contents
+pub mod Opened
+pub mod Reopening
 pub mod Openings
+pub mod TakenUp
+pub mod Resting

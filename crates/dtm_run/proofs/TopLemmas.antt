@@ -6,8 +6,7 @@ use Rattle.block_disk.specs.Disk.{DiskState}
 use Rattle.transcript_model.specs.Script.{ScriptLine, lines_of}
 use Rattle.transcript_model.specs.Outside.{Rose}
 use Rattle.run_model.specs.World.{World, Shared, Node, Volume, Sound, Faulty, Unknown, opened}
-use Rattle.run_model.specs.Laws.{AreOpening}
-use Rattle.run_model.proofs.PromiseLemmas.{promised}
+use Rattle.run_model.specs.Laws.{AreOpening, PromisesHold}
 use Rattle.run_model.proofs.TranscriptLemmas.{ended_memory}
 use Rattle.dtm_node.specs.Nodes.{Passes, state_of}
 use Rattle.dtm_node.specs.Standing.{Kept, IsDown, counts_of, noted_all}
@@ -62,7 +61,7 @@ stands_first name d n s o = record {
   nodes = refl;
   disks = refl;
   shared = refl;
-  known = λ e. absurd (not_unknown n.volume s.known e);
+  known = λ e. absurd (not_unknown n.durable.volume s.known e);
   stands = record {
     name = s.name_is;
     blocks = s.blocks;
@@ -75,7 +74,7 @@ stands_first name d n s o = record {
 }
 
 first_leaves : (name : List ℕ) (d : DiskState) (n : Node) → StandsOn name d n → AreOpening (n ∷ []) → Leaves (d ∷ []) (opened (n ∷ []) (counts_of d ∷ [])) (d ∷ [])
-first_leaves name d n s o = record { counts = refl; nodes = (record { down = λ e. s.has; up = λ e. absurd (not_up n.up o.0.down e); calls = ap (λ cs. noted_all cs d.calls) (sym o.0.calls) }, tt) }
+first_leaves name d n s o = record { counts = refl; nodes = (record { down = λ e. s.has; up = λ e. absurd (not_up n.up o.0.down e); blocks = s.blocks; calls = ap (λ cs. noted_all cs d.calls) (sym o.0.calls) }, tt) }
 
 -- Where memory is missing nothing was done.
 pub memory_runs : {D : Type 0} (state_of : D → DiskState) (ps : List (List ℕ × D)) (script : Option (List ScriptLine)) (old : Option (List ℕ)) → is_served (map (λ p. p.0) ps) ≡ true → (nodes : List Node) → AreOpening nodes →
@@ -97,6 +96,14 @@ memory_runs_on {D = D} state ps qs script old same one nodes o s =
 
 pub all_stay_on : {D : Type 0} (state : D → DiskState) (ps qs : List (List ℕ × D)) → qs ≡ ps → AllGo (map (λ p. state p.1) ps) (map (λ p. state p.1) qs)
 all_stay_on {D = D} state ps qs same = subst (λ (l : List (List ℕ × D)). AllGo (map (λ p. state p.1) ps) (map (λ p. state p.1) l)) (sym same) (all_stay (map (λ p. state p.1) ps))
+
+-- a disk that is taken out of a rack is neither too small nor too large
+last_sized : {D : Type 0} (state : D → DiskState) (mid : List (List ℕ × D)) (p : List ℕ × D) → AreSized (map (λ q. state q.1) (mid ++ p ∷ [])) → (4096 ≤ (state p.1).size) × ((state p.1).size ≤ 65536)
+last_sized state [] p h = (h.0, h.1)
+last_sized state (q ∷ mid) p h = last_sized state mid p h.2
+
+pub taken_sized : {D : Type 0} (state : D → DiskState) (old mid : List (List ℕ × D)) (p : List ℕ × D) → old ≡ mid ++ p ∷ [] → AreSized (map (λ q. state q.1) old) → (4096 ≤ (state p.1).size) × ((state p.1).size ≤ 65536)
+taken_sized state old mid p parts sized = last_sized state mid p (subst (λ l. AreSized (map (λ q. state q.1) l)) parts sized)
 
 -- The only place of a rack was taken out, and put back with the disk that the run left.
 taken_only : {D : Type 0} (mid : List (List ℕ × D)) (p : List ℕ × D) → is_served (map (λ p. p.0) (mid ++ p ∷ [])) ≡ true → mid ≡ []
@@ -134,11 +141,11 @@ script_goes {D = D} state ps mid final p q one parts ends passes =
     subst (λ (l : List (List ℕ × D)). AllGo (map (λ p. state p.1) l) (map (λ p. state p.1) final)) (sym before) (subst (λ (l : List (List ℕ × D)). AllGo (state p.1 ∷ []) (map (λ p. state p.1) l)) (sym after) (passes, tt))
 
 -- The whole run keeps its promises.
-pub run_over : (nodes : List Node) (before after : List DiskState) (script old new old' new' : Option (List ℕ)) (x : Exit) → AreOpening nodes → old' ≡ old → new' ≡ new →
+pub run_over : (nodes : List Node) (before after : List DiskState) (script old new old' new' : Option (List ℕ)) (x : Exit) → PromisesHold → AreOpening nodes → old' ≡ old → new' ≡ new →
     RunsTo (opened nodes (map counts_of before)) before (option_map lines_of script) old new x after → RunOver nodes before after script old' new' x
-run_over nodes before after script old new old' new' x opening e f r =
+run_over nodes before after script old new old' new' x law opening e f r =
     subst (λ (z : Option (List ℕ)). RunOver nodes before after script z new' x) (sym e) (subst (λ (z : Option (List ℕ)). RunOver nodes before after script old z x) (sym f)
-    record { run = r; promises = promised nodes (map counts_of before) r.ran.entries r.ran.closing opening r.ran.legal })
+    record { run = r; promises = law nodes (map counts_of before) r.ran.entries r.ran.closing opening r.ran.legal })
 
 -- The rack stays a rack.
 sized_on : (olds news : List DiskState) → AllGo olds news → AreSized olds → AreSized news
@@ -153,14 +160,6 @@ rack_on state_of old new names go r = record {
   few = subst (λ (n : List (List ℕ)). length n ≤ 8) (sym names) r.few;
   sized = sized_on (states_in state_of old) (states_in state_of new) go r.sized;
 }
-
--- the place that was taken out has a disk of a rack
-pub taken_sized : {D : Type 0} (state : D → DiskState) (ps mid : List (List ℕ × D)) (p : List ℕ × D) → is_served (map (λ p. p.0) ps) ≡ true → ps ≡ mid ++ p ∷ [] → AreSized (map (λ p. state p.1) ps) → (4096 ≤ (state p.1).size) × ((state p.1).size ≤ 65536)
-taken_sized {D = D} state ps mid p one parts sized =
-    let empty : mid ≡ [] = taken_only mid p (ap (λ (l : List (List ℕ × D)). is_served (map (λ p. p.0) l)) (sym parts) ∙ one) in
-    let before : ps ≡ p ∷ [] = parts ∙ ap (λ (m : List (List ℕ × D)). m ++ p ∷ []) empty in
-    let h = subst (λ (l : List (List ℕ × D)). AreSized (map (λ p. state p.1) l)) before sized in
-    (h.0, h.1)
 
 pub some_is : {A : Type 0} (o : Option A) → IsSome o → (x : A) × (o ≡ Some x)
 some_is (Some x) h = (x, refl)

@@ -13,7 +13,7 @@ use Rattle.dtm_node.specs.Standing.{Kept, StandsFor, counts_of, disk_in}
 
 -- nothing is known of what a node's disk has only where the last INIT failed
 abbrev pub IsKnown : Node → Type 0
-IsKnown n = n.volume ≡ Unknown → n.unmade ≡ true
+IsKnown n = n.durable.volume ≡ Unknown → n.unmade ≡ true
 
 -- The node of the world is the one that is kept, on whose disk these calls were noted before the run, and the world has its disk's counts and what is shared.
 pub record StandsAlone (before : CallLog) (k : Kept) (s : Shared) (w : World) : Type 0 where

@@ -11,7 +11,11 @@ use Rattle.run_model.specs.Transcript as model
 use Rattle.run_model.specs.Transcript.{Ran, EndsUnread}
 use Rattle.run_model.specs.Promises.{Promises}
 use Rattle.dtm_node.specs.Nodes.{Passes}
-use Rattle.dtm_node.specs.Standing.{HasDisk, IsCounted, IsVolumeOf, counts_of, noted_all}
+use Rattle.volume.specs.declared.catalog.Catalog.{Catalog}
+use Rattle.volume.specs.Catalogs.{IsSound, TellsCatalog}
+use Rattle.volume_model.specs.Volumes.{HasDisk, HasVolume}
+use Rattle.recovery_units.specs.Uses.{IsCounted}
+use Rattle.dtm_node.specs.Standing.{counts_of, noted_all}
 use Rattle.dtm_run.specs.declared.top.Exit.{Exit}
 use Rattle.dtm_run.specs.declared.top.Exit.TheVariants as exit
 
@@ -44,7 +48,7 @@ is_known Unknown = false
 pub record StandsOn (name : List ℕ) (d : DiskState) (n : Node) : Type 0 where
   pub name_is : n.name ≡ name
   pub blocks : n.blocks ≡ d.size
-  pub known : is_known n.volume ≡ true
+  pub known : is_known n.durable.volume ≡ true
   pub told : is_some d.seen ≡ true
   pub counted : IsCounted d
   pub has : HasDisk n d
@@ -65,11 +69,19 @@ AllGo [] (new ∷ news) = ⊥
 AllGo (old ∷ olds) [] = ⊥
 AllGo (old ∷ olds) (new ∷ news) = Passes old new × AllGo olds news
 
+-- a content is the volume of a node that is up
+pub record IsVolumeOf (content : List (List ℕ)) (n : Node) : Type 0 where
+  pub catalog : Catalog
+  pub tells : TellsCatalog catalog content
+  pub sound : IsSound n.name n.blocks catalog
+  pub has : HasVolume content catalog n
+
 -- What a run leaves of a node's disk: it has what the node has, of a node that is up in each image that a power loss may leave; and its calls are those
 -- before the run, behind which the node's are noted.
 pub record LeavesNode (old : DiskState) (n : Node) (new : DiskState) : Type 0 where
   pub down : n.up ≡ false → HasDisk n new
   pub up : n.up ≡ true → DiskLeaves (λ content. IsVolumeOf content n) new
+  pub blocks : n.blocks ≡ new.size
   pub calls : new.calls ≡ noted_all n.calls old.calls
 
 -- so of each node and its disk

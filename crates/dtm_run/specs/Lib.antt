@@ -3,3 +3,4 @@ pub mod Alone
 pub mod Headline
 pub mod Calls
 pub mod Openings
+pub mod Reopenings

@@ -1,5 +1,5 @@
 -- The nodes that a run may begin with.
-use Rattle.std.specs.Prelude.{◌≡◌, ◌<◌, ◌≤◌, ℕ, List, [], ◌∷◌, Option, Some, length}
+use Rattle.std.specs.Prelude.{◌≡◌, ◌⊎◌, ◌<◌, ◌≤◌, ◌^◌, ℕ, List, [], ◌∷◌, Option, Some, IfSome, length}
 use Rattle.std.specs.List.{All}
 use Rattle.block_disk.specs.Blocks.{IsWhole, block_at}
 use Rattle.block_disk.specs.Disk.{DiskState}
@@ -8,10 +8,12 @@ use Rattle.file_base.specs.declared.head.FileHead.{FileHead}
 use Rattle.record_files.specs.Any.{IsFile, IsLaidOut}
 use Rattle.volume.specs.declared.catalog.Catalog.{Catalog}
 use Rattle.volume.specs.Catalogs.{IsSound, TellsCatalog}
-use Rattle.run_model.specs.World.{Node, IsOpening}
+use Rattle.run_model.specs.World.{Node, IsOpening, LastIsReached}
 use Rattle.run_model.specs.Laws.{AreOpening}
 use Rattle.directory_model.specs.Files.{head_at}
-use Rattle.dtm_node.specs.Standing.{IsCounted}
+use Rattle.volume_model.specs.Homes.{last_of}
+use Rattle.volume_model.specs.Volumes.{LeavesVolume}
+use Rattle.recovery_units.specs.Uses.{IsCounted}
 use Rattle.dtm_run.specs.Headline.{StandOn, StandsOn}
 
 -- a head is one of a file of its organization, whose buckets are laid out
@@ -22,12 +24,28 @@ HasLayout content h = IsFile h × IsLaidOut h content
 abbrev pub AreLaidOut : List (List ℕ) → List (Option FileHead) → Type 0
 AreLaidOut content heads = (f : ℕ) (h : FileHead) → head_at heads f ≡ Some h → HasLayout content h
 
--- where a content tells a sound volume of the node of this name on a disk of this size, its files are laid out
-abbrev pub HasFilesLaidOut : List ℕ → ℕ → List (List ℕ) → Type 0
-HasFilesLaidOut name size content = (catalog : Catalog) → TellsCatalog catalog content → length catalog.heads ≡ 64 → IsSound name size catalog → AreLaidOut content catalog.heads
+-- What an earlier run left of a volume whose units are all settled: its files are laid out, its journal of recovery units has no entry and did not come far, and
+-- the last settlement, where there is one, is of a branch of this node, of a boot that was counted.
+pub record Rests (content : List (List ℕ)) (v : Catalog) : Type 0 where
+  pub files : AreLaidOut content v.heads
+  pub empty : v.ru.first ≡ v.ru.end
+  pub low : v.ru.end ≤ 2 ^ 62
+  pub last : IfSome (last_of v.home) (λ s. (s.serial.node ≡ v.home.node) × (s.serial.boot ≤ v.home.boot))
+
+-- What a node left of its volume as it fell, whatever its branches had changed that were not settled.
+pub record IsLeftByOne (name : List ℕ) (size : ℕ) (content : List (List ℕ)) (v : Catalog) : Type 0 where
+  pub node : Node
+  pub named : node.name ≡ name
+  pub sized : node.blocks ≡ size
+  pub leaves : LeavesVolume content v node
+  pub last : LastIsReached node node.durable.last
+
+-- One of these is so of the volume that a content tells of the node of this name on a disk of this size, where it tells a sound one.
+abbrev pub HasKnownVolume : List ℕ → ℕ → List (List ℕ) → Type 0
+HasKnownVolume name size content = (catalog : Catalog) → TellsCatalog catalog content → length catalog.heads ≡ 64 → IsSound name size catalog → Rests content catalog ⊎ IsLeftByOne name size content catalog
 
 -- A disk that tells its content, on which nothing is pending. It has 4,096 blocks or more, as a rack asks, and each is of 512 bytes, as every disk
--- tells. Where it has a volume of the node of this name, the files are laid out.
+-- tells. Where it has a volume of the node of this name, that rests, or a node left it so.
 pub record IsMade (name : List ℕ) (d : DiskState) : Type 0 where
   pub image : List (List ℕ)
   pub told : d.seen ≡ Some image
@@ -36,7 +54,7 @@ pub record IsMade (name : List ℕ) (d : DiskState) : Type 0 where
   pub least : 4096 ≤ d.size
   pub whole : IsWhole d.size image
   pub bytes : (n : ℕ) → n < d.size → All (λ b. b < 256) (block_at image n)
-  pub files : HasFilesLaidOut name d.size (content_of image)
+  pub volume : HasKnownVolume name d.size (content_of image)
 
 -- so of the disks of a rack
 abbrev pub AreMade : List (List ℕ) → List DiskState → Type 0

@@ -1,14 +1,25 @@
 //! What the definitions promise.
 ghost use Rattle.dtm_run.specs.Openings.{OpeningsExist};
+ghost use Rattle.dtm_run.specs.Reopenings.{LeftNodesOpen};
 
 use directory_model::records_are_read_alike;
 use volume::each_content_has_a_volume_or_a_finding;
+use volume_laws::volumes_fall;
 
-/// On each disk that tells its content, on which nothing is pending, and whose files are laid out where it has a volume, there stands a node as before the first line: over its volume, or
-/// over the first condition that fails. So the promises of a run are not empty.
+/// On each disk that tells its content, on which nothing is pending, and whose volume rests or was left by a node that fell, there stands a node as before the
+/// first line: over its volume, or over the first condition that fails. So the promises of a run are not empty.
 pub fn opening_nodes_exist()
     ensures { OpeningsExist }
 {
     records_are_read_alike();
     each_content_has_a_volume_or_a_finding();
+    volumes_fall();
+}
+
+/// What a run leaves of a node's disk, the next run may begin with: on each image that a power loss may leave there stands, as before the first line, the node
+/// that was left. What was committed stands there, and what was not settled is there to be undone.
+pub fn left_nodes_open()
+    ensures { LeftNodesOpen }
+{
+    volumes_fall();
 }

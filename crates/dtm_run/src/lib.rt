@@ -5,9 +5,15 @@ mod law;
 mod rack;
 mod top;
 
-pub use law::opening_nodes_exist;
+pub use law::{left_nodes_open, opening_nodes_exist};
 pub use rack::{Rack, RackCause, RackErr};
 pub use top::{Exit, run};
 
+#[cfg(test)]
+mod compared;
+#[cfg(test)]
+mod limits;
+#[cfg(test)]
+mod restarts;
 #[cfg(test)]
 mod tests;

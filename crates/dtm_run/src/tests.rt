@@ -1,5 +1,6 @@
 use crate::{Exit, Rack, RackCause, run};
 use block_disk::{CrashDisk, Disk, MemPlatter};
+use node_units::NodeUnits;
 use std::alloc::Global;
 use std::io::{self, Read};
 use std::process::Abort;
@@ -29,10 +30,10 @@ fn run_over<S: Source, K: Sink>(
     if rack.add(name, CrashDisk::new(alloc, platter)?).is_err() {
         return Err(Fail::from("a node was refused"));
     }
-    Ok(run(alloc, &words, source, sink, &mut rack))
+    Ok(run::<_, _, _, NodeUnits>(alloc, &words, source, sink, &mut rack))
 }
 
-fn joined(alloc: Global, parts: &[&[u8]]) -> Result<Vec<u8>, Fail> {
+pub(crate) fn joined(alloc: Global, parts: &[&[u8]]) -> Result<Vec<u8>, Fail> {
     let mut all = Vec::new(alloc);
     for part in parts {
         all.extend_from_slice(part)?;
@@ -41,9 +42,9 @@ fn joined(alloc: Global, parts: &[&[u8]]) -> Result<Vec<u8>, Fail> {
 }
 
 // Runs these lines behind the opening.
-fn shown(alloc: Global, lines: &[u8], exit: Exit) -> Result<Vec<u8>, Fail> {
+pub(crate) fn shown(alloc: Global, lines: &[u8], exit: Exit) -> Result<Vec<u8>, Fail> {
     let mut source = MemSource::new(alloc, joined(alloc, &[OPENING, lines])?);
-    let mut sink = MemSink::new(alloc, 20_000)?;
+    let mut sink = MemSink::new(alloc, 200_000)?;
     if run_over(
         alloc,
         MemPlatter::new(alloc, 8_192)?,
@@ -57,7 +58,7 @@ fn shown(alloc: Global, lines: &[u8], exit: Exit) -> Result<Vec<u8>, Fail> {
 }
 
 // Runs a script by node A over a disk, which it gives back.
-fn run_on(
+pub(crate) fn run_on(
     alloc: Global,
     disk: CrashDisk<MemPlatter>,
     script: &[u8],
@@ -73,7 +74,7 @@ fn run_on(
     }
     let mut source = MemSource::new(alloc, script.to_vec(alloc)?);
     let mut sink = MemSink::new(alloc, 100_000)?;
-    if run(alloc, &words, &mut source, &mut sink, &mut rack) != Exit::Done {
+    if run::<_, _, _, NodeUnits>(alloc, &words, &mut source, &mut sink, &mut rack) != Exit::Done {
         return Err(Fail::from("another exit"));
     }
     Ok((sink.bytes().to_vec(alloc)?, rack))
@@ -81,7 +82,7 @@ fn run_on(
 
 #[test]
 fn scripts_show_their_transcripts(rt: HostRuntime) -> Result<(), Fail> {
-    let table: [(&[u8], &[u8], Exit); 17] = [
+    let table: [(&[u8], &[u8], Exit); 20] = [
         (b"", b"", Exit::Done),
         (
             COMMITTING,
@@ -100,7 +101,7 @@ fn scripts_show_their_transcripts(rt: HostRuntime) -> Result<(), Fail> {
         ),
         (
             b"! a comment\n\nA: START_TRANS T\nA: START_TRANS T\nA: START_TRANS U\nA: PUT U F 1 \"a\"\nA: PUT T F 1 \"\"\n",
-            b"7 SS$_NORMAL A.1.1\n8 LABEL\n9 SS$_EXQUOTA BRANCHES 1\n10 LABEL\n11 RMS$_RSZ\n",
+            b"7 SS$_NORMAL A.1.1\n8 LABEL\n9 SS$_NORMAL A.1.2\n10 RMS$_NORMAL\n11 RMS$_RSZ\n",
             Exit::Done,
         ),
         (
@@ -150,22 +151,38 @@ fn scripts_show_their_transcripts(rt: HostRuntime) -> Result<(), Fail> {
             b"5 SS$_NORMAL\n6 SS$_NORMAL\n7 SS$_NORMAL A.1.1\n8 COMMIT A.1.1 A.1.1 \"17-NOV-1858 00:00:00.01\"\n8 SS$_NORMAL\n9 LABEL\n10 RMS$_FNF\n11 SS$_BADPARAM\n12 RMS$_MRN\n13 RMS$_RSZ\n14 SS$_NOSUCHTID\n15 RMS$_IOP\n16 SS$_NORMAL A.1.2\n17 NOTRU\n",
             Exit::Done,
         ),
-        // The change of a branch that a crash ended stays, and the branch is gone.
+        // The change of a branch that a crash ended is undone by the next boot, and the branch is gone.
         (
             b"A: CREATE I IDX 1 40 20 0 2\nA: SET_FILE I RU\nA: START_TRANS T\nA: PUT T I \"aa1\"\nA: END_TRANS T\nA: START_TRANS U\nA: DELETE U I \"aa\"\nCRASH A\nA: BOOT\nA: DUMP I\nA: END_TRANS U\n",
-            b"5 SS$_NORMAL\n6 SS$_NORMAL\n7 SS$_NORMAL A.1.1\n8 RMS$_NORMAL\n9 COMMIT A.1.1 A.1.1 \"17-NOV-1858 00:00:00.01\"\n9 SS$_NORMAL\n10 SS$_NORMAL A.1.2\n11 RMS$_NORMAL\n12 DOWN A CRASH\n12 SS$_NORMAL\n13 LAST COMMIT A.1.1 A.1.1 \"17-NOV-1858 00:00:00.01\"\n13 SS$_NORMAL 2\n14 SS$_NORMAL 0\n15 SS$_NOSUCHTID\n",
-            Exit::Done,
-        ),
-        // A truncate makes a change for each record that it takes.
-        (
-            b"A: CREATE S SEQ 1 100 4\nA: SET_FILE S RU\nA: START_TRANS T\nA: PUT T S \"a\"\nA: PUT T S \"a\"\nA: PUT T S \"a\"\nA: PUT T S \"a\"\nA: PUT T S \"a\"\nA: PUT T S \"a\"\nA: PUT T S \"a\"\nA: PUT T S \"a\"\nA: PUT T S \"a\"\nA: PUT T S \"a\"\nA: PUT T S \"a\"\nA: PUT T S \"a\"\nA: PUT T S \"a\"\nA: PUT T S \"a\"\nA: PUT T S \"a\"\nA: PUT T S \"a\"\nA: END_TRANS T\nA: START_TRANS U\nA: PUT U S \"b\"\nA: END_TRANS U\nA: START_TRANS V\nA: TRUNCATE V S 1\nA: TRUNCATE V S 2\nA: END_TRANS V\nA: DUMP S\n",
-            b"5 SS$_NORMAL\n6 SS$_NORMAL\n7 SS$_NORMAL A.1.1\n8 RMS$_NORMAL 1\n9 RMS$_NORMAL 2\n10 RMS$_NORMAL 3\n11 RMS$_NORMAL 4\n12 RMS$_NORMAL 5\n13 RMS$_NORMAL 6\n14 RMS$_NORMAL 7\n15 RMS$_NORMAL 8\n16 RMS$_NORMAL 9\n17 RMS$_NORMAL 10\n18 RMS$_NORMAL 11\n19 RMS$_NORMAL 12\n20 RMS$_NORMAL 13\n21 RMS$_NORMAL 14\n22 RMS$_NORMAL 15\n23 RMS$_NORMAL 16\n24 COMMIT A.1.1 A.1.1 \"17-NOV-1858 00:00:00.01\"\n24 SS$_NORMAL\n25 SS$_NORMAL A.1.2\n26 RMS$_NORMAL 17\n27 COMMIT A.1.2 A.1.2 \"17-NOV-1858 00:00:00.02\"\n27 SS$_NORMAL\n28 SS$_NORMAL A.1.3\n29 SS$_EXQUOTA CHANGES 16\n30 RMS$_NORMAL\n31 COMMIT A.1.3 A.1.3 \"17-NOV-1858 00:00:00.03\"\n31 SS$_NORMAL\n32 RECORD 1 \"a\"\n32 SS$_NORMAL 1\n",
+            b"5 SS$_NORMAL\n6 SS$_NORMAL\n7 SS$_NORMAL A.1.1\n8 RMS$_NORMAL\n9 COMMIT A.1.1 A.1.1 \"17-NOV-1858 00:00:00.01\"\n9 SS$_NORMAL\n10 SS$_NORMAL A.1.2\n11 RMS$_NORMAL\n12 DOWN A CRASH\n12 SS$_NORMAL\n13 LAST COMMIT A.1.1 A.1.1 \"17-NOV-1858 00:00:00.01\"\n13 ABORT A.1.2 A.1.2 DDTM$_SEG_FAIL \"17-NOV-1858 00:00:00.02\"\n13 SS$_NORMAL 2\n14 RECORD \"aa\" \"aa1\"\n14 SS$_NORMAL 1\n15 SS$_NOSUCHTID\n",
             Exit::Done,
         ),
         // One abort over files of all three organizations.
         (
             b"A: CREATE S SEQ 1 100 4\nA: SET_FILE S RU\nA: CREATE I IDX 1 40 4 0 2\nA: SET_FILE I RU\nA: START_TRANS T\nA: PUT T F 1 \"f\"\nA: PUT T S \"s\"\nA: PUT T I \"aa1\"\nA: END_TRANS T\nA: START_TRANS U\nA: UPDATE U F 1 \"g\"\nA: PUT U S \"t\"\nA: DELETE U I \"aa\"\nA: PUT U F 2 \"h\"\nA: TRUNCATE U S 1\nA: PUT U I \"bb2\"\nA: DELETE U F 1\nA: ABORT_TRANS U\nA: DUMP F\nA: DUMP S\nA: DUMP I\n",
             b"5 SS$_NORMAL\n6 SS$_NORMAL\n7 SS$_NORMAL\n8 SS$_NORMAL\n9 SS$_NORMAL A.1.1\n10 RMS$_NORMAL\n11 RMS$_NORMAL 1\n12 RMS$_NORMAL\n13 COMMIT A.1.1 A.1.1 \"17-NOV-1858 00:00:00.01\"\n13 SS$_NORMAL\n14 SS$_NORMAL A.1.2\n15 RMS$_NORMAL\n16 RMS$_NORMAL 2\n17 RMS$_NORMAL\n18 RMS$_NORMAL\n19 RMS$_NORMAL\n20 RMS$_NORMAL\n21 RMS$_NORMAL\n22 ABORT A.1.2 A.1.2 DDTM$_ABORTED \"17-NOV-1858 00:00:00.02\"\n22 SS$_NORMAL\n23 RECORD 1 \"f\"\n23 SS$_NORMAL 1\n24 RECORD 1 \"s\"\n24 SS$_NORMAL 1\n25 RECORD \"aa\" \"aa1\"\n25 SS$_NORMAL 1\n",
+            Exit::Done,
+        ),
+        // What one transaction has changed is held against another until it is settled.
+        (
+            b"A: START_TRANS T\nA: PUT T F 1 \"a\"\nA: START_TRANS U\nA: GET U F 1\nA: END_TRANS T\nA: GET U F 1\nA: NEXT U F 1\nA: DELETE U F 2\n",
+            b"5 SS$_NORMAL A.1.1\n6 RMS$_NORMAL\n7 SS$_NORMAL A.1.2\n8 RMS$_RLK A.1.1\n9 COMMIT A.1.1 A.1.1 \"17-NOV-1858 00:00:00.01\"\n9 SS$_NORMAL\n10 RMS$_NORMAL \"a\"\n11 RMS$_EOF\n12 RMS$_RNF\n",
+            Exit::Done,
+        ),
+        (
+            b"A: CREATE I IDX 1 40 2 0 2\nA: PUT - I \"aa\"\n",
+            b"5 SS$_NORMAL\n6 RMS$_FUL FILE 1 3\n",
+            Exit::Done,
+        ),
+        // The journal of recovery units, and a restart.
+        (
+            b"A: START_TRANS T\nA: PUT T F 1 \"a\"\nA: DUMP_JOURNAL RU\nA: END_TRANS T\nA: DUMP_JOURNAL RU\n",
+            b"5 SS$_NORMAL A.1.1\n6 RMS$_NORMAL\n7 ENTRY 0 CHANGE A.1.1 A.1.1 F 1 -\n7 SS$_NORMAL 0 52\n8 COMMIT A.1.1 A.1.1 \"17-NOV-1858 00:00:00.01\"\n8 SS$_NORMAL\n9 SS$_NORMAL 100 100\n",
+            Exit::Done,
+        ),
+        (
+            b"A: START_TRANS T\nA: PUT T F 1 \"a\"\nCRASH A\nA: BOOT\n",
+            b"5 SS$_NORMAL A.1.1\n6 RMS$_NORMAL\n7 DOWN A CRASH\n7 SS$_NORMAL\n8 ABORT A.1.1 A.1.1 DDTM$_SEG_FAIL \"17-NOV-1858 00:00:00.01\"\n8 SS$_NORMAL 2\n",
             Exit::Done,
         ),
     ];
@@ -177,7 +194,7 @@ fn scripts_show_their_transcripts(rt: HostRuntime) -> Result<(), Fail> {
 }
 
 // These texts, each with so many x behind it.
-fn filled(alloc: Global, parts: &[(&[u8], usize)]) -> Result<Vec<u8>, Fail> {
+pub(crate) fn filled(alloc: Global, parts: &[(&[u8], usize)]) -> Result<Vec<u8>, Fail> {
     let mut all = Vec::new(alloc);
     for (text, count) in parts {
         all.extend_from_slice(text)?;
@@ -188,7 +205,22 @@ fn filled(alloc: Global, parts: &[(&[u8], usize)]) -> Result<Vec<u8>, Fail> {
 
 #[test]
 fn long_records_show_their_transcripts(rt: HostRuntime) -> Result<(), Fail> {
-    let table: [(&[(&[u8], usize)], &[(&[u8], usize)]); 15] = [
+    let table: [(&[(&[u8], usize)], &[(&[u8], usize)]); 16] = [
+        // A change without a transaction, and files with a mark and without one.
+        (
+            &[
+                (b"A: CREATE G REL 16 8160 4\nA: PUT - G 4 \"", 8160),
+                (b"\"\nA: PUT - G 4 \"", 8161),
+                (
+                    b"\"\nA: START_TRANS T\nA: GET T G 4\nA: PUT - F 1 \"a\"\n",
+                    0,
+                ),
+            ],
+            &[(
+                b"5 SS$_NORMAL\n6 COMMIT A.1.1 A.1.1 \"17-NOV-1858 00:00:00.01\"\n6 RMS$_NORMAL\n7 RMS$_RSZ\n8 SS$_NORMAL A.1.2\n9 NOTRU\n10 RMS$_NRU\n",
+                0,
+            )],
+        ),
         // A truncate goes across buckets.
         (
             &[
@@ -210,7 +242,7 @@ fn long_records_show_their_transcripts(rt: HostRuntime) -> Result<(), Fail> {
                 ),
             ],
             &[(
-                b"5 SS$_NORMAL\n6 SS$_NORMAL\n7 SS$_NORMAL A.1.1\n8 RMS$_NORMAL 1\n9 RMS$_NORMAL 2\n10 RMS$_NORMAL 3\n11 RMS$_NORMAL 4\n12 RMS$_NORMAL 5\n13 RMS$_NORMAL 6\n14 RMS$_NORMAL 7\n15 RMS$_NORMAL 8\n16 RMS$_FUL FILE 0 1\n17 RMS$_NORMAL\n18 RMS$_NORMAL 2\n19 SS$_EXQUOTA CHANGES 16\n20 ABORT A.1.1 A.1.1 DDTM$_ABORTED \"17-NOV-1858 00:00:00.01\"\n20 SS$_NORMAL\n21 SS$_NORMAL 0\n",
+                b"5 SS$_NORMAL\n6 SS$_NORMAL\n7 SS$_NORMAL A.1.1\n8 RMS$_NORMAL 1\n9 RMS$_NORMAL 2\n10 RMS$_NORMAL 3\n11 RMS$_NORMAL 4\n12 RMS$_NORMAL 5\n13 RMS$_NORMAL 6\n14 RMS$_NORMAL 7\n15 RMS$_NORMAL 8\n16 RMS$_FUL FILE 0 1\n17 RMS$_NORMAL\n18 RMS$_NORMAL 2\n19 RMS$_NORMAL 3\n20 ABORT A.1.1 A.1.1 DDTM$_ABORTED \"17-NOV-1858 00:00:00.01\"\n20 SS$_NORMAL\n21 SS$_NORMAL 0\n",
                 0,
             )],
         ),
@@ -571,23 +603,24 @@ fn long_records_show_their_transcripts(rt: HostRuntime) -> Result<(), Fail> {
     Ok(())
 }
 
+// An abort that sets back more blocks than a group has.
 #[test]
-fn the_largest_group_is_undone(rt: HostRuntime) -> Result<(), Fail> {
+fn an_abort_takes_several_groups(rt: HostRuntime) -> Result<(), Fail> {
     let mut lines = Vec::new(rt.alloc());
-    for number in 0..16u32 {
+    for number in 0..60u32 {
         lines.extend_from_slice(format!(in rt.alloc();
             "A: CREATE S{number} SEQ 16 8160 1\nA: SET_FILE S{number} RU\n"
         )?.as_bytes())?;
     }
     lines.extend_from_slice(b"A: START_TRANS T\n")?;
-    for number in 0..16u32 {
+    for number in 0..60u32 {
         lines.extend_from_slice(format!(in rt.alloc(); "A: PUT T S{number} \"a\"\n")?.as_bytes())?;
     }
-    lines.extend_from_slice(b"A: PUT T S0 \"b\"\nA: ABORT_TRANS T\nA: DUMP S0\nA: DUMP S15\n")?;
+    lines.extend_from_slice(b"A: PUT T S0 \"b\"\nA: ABORT_TRANS T\nA: DUMP S0\nA: DUMP S59\n")?;
     let text = shown(rt.alloc(), &lines, Exit::Done)?;
     assert!(rt;
         text.ends_with(
-            b"\n53 RMS$_NORMAL 1\n54 SS$_EXQUOTA CHANGES 16\n55 ABORT A.1.1 A.1.1 DDTM$_ABORTED \"17-NOV-1858 00:00:00.01\"\n55 SS$_NORMAL\n56 SS$_NORMAL 0\n57 SS$_NORMAL 0\n"
+            b"\n185 RMS$_NORMAL 1\n186 RMS$_NORMAL 2\n187 ABORT A.1.1 A.1.1 DDTM$_ABORTED \"17-NOV-1858 00:00:00.01\"\n187 SS$_NORMAL\n188 SS$_NORMAL 0\n189 SS$_NORMAL 0\n"
         )
     );
     Ok(())
@@ -612,7 +645,9 @@ fn a_last_line_needs_no_line_feed(rt: HostRuntime) -> Result<(), Fail> {
 }
 
 // The disk of a rack's only node.
-fn disk_of(mut rack: Rack<CrashDisk<MemPlatter>>) -> Result<CrashDisk<MemPlatter>, Fail> {
+pub(crate) fn disk_of(
+    mut rack: Rack<CrashDisk<MemPlatter>>,
+) -> Result<CrashDisk<MemPlatter>, Fail> {
     match rack.take_last() {
         Some((_, disk)) => Ok(disk),
         None => Err(Fail::from("no disk")),
@@ -660,10 +695,13 @@ struct Stop<'a> {
 const STARTING: &[u8] =
     b"A: CREATE S SEQ 1 400 4\nA: SET_FILE S RU\nA: CREATE I IDX 1 200 9 0 2\nA: SET_FILE I RU\nA: START_TRANS T\n";
 
+const UNMARKED: &[u8] =
+    b"A: CREATE S SEQ 1 400 4\nA: CREATE I IDX 1 200 9 0 2\nA: SET_FILE F NORU\n";
+
 const BOOTING: &[u8] = b"A: DUMP F\nA: BOOT\nA: DUMP F\nA: DUMP S\nA: DUMP I\n";
 
 // Whether these lines are somewhere in a text.
-fn has(text: &[u8], lines: &[u8]) -> bool {
+pub(crate) fn has(text: &[u8], lines: &[u8]) -> bool {
     !lines.is_empty() && text.windows(lines.len()).any(|part| part == lines)
 }
 
@@ -675,7 +713,7 @@ fn stopped(alloc: Global, stop: &Stop<'_>, writes: u32, choice: u64) -> Result<V
     let lines = joined(
         alloc,
         &[
-            STARTING,
+            UNMARKED,
             before.as_slice(),
             fuse.as_bytes(),
             statement.as_slice(),
@@ -709,23 +747,26 @@ fn a_stop_leaves_each_statement_whole_or_undone(rt: HostRuntime) -> Result<(), F
     let table: [Stop<'_>; 6] = [
         Stop {
             lines: &[(b"", 0)],
-            statement: &[(b"A: PUT T F 1 \"a\"\n", 0)],
-            blocks: 1,
+            statement: &[(b"A: PUT - F 1 \"a\"\n", 0)],
+            blocks: 3,
             undone: &[(
-                b"12 NODEDOWN\n13 SS$_NORMAL 2\n14 SS$_NORMAL 0\n15 SS$_NORMAL 0\n16 SS$_NORMAL 0\n",
+                b"10 NODEDOWN\n11 SS$_NORMAL 2\n12 SS$_NORMAL 0\n13 SS$_NORMAL 0\n14 SS$_NORMAL 0\n",
                 0,
             )],
             whole: &[(
-                b"12 NODEDOWN\n13 SS$_NORMAL 2\n14 RECORD 1 \"a\"\n14 SS$_NORMAL 1\n15 SS$_NORMAL 0\n16 SS$_NORMAL 0\n",
+                b"10 NODEDOWN\n11 LAST COMMIT A.1.1 A.1.1 \"17-NOV-1858 00:00:00.01\"\n11 SS$_NORMAL 2\n12 RECORD 1 \"a\"\n12 SS$_NORMAL 1\n13 SS$_NORMAL 0\n14 SS$_NORMAL 0\n",
                 0,
             )],
         },
         Stop {
-            lines: &[(b"A: PUT T F 1 \"a\"\n", 0)],
+            lines: &[(
+                b"A: SET_FILE F RU\nA: START_TRANS T\nA: PUT T F 1 \"a\"\n",
+                0,
+            )],
             statement: &[(b"A: END_TRANS T\n", 0)],
-            blocks: 1,
+            blocks: 3,
             undone: &[(
-                b"13 NODEDOWN\n14 SS$_NORMAL 2\n15 RECORD 1 \"a\"\n15 SS$_NORMAL 1\n16 SS$_NORMAL 0\n17 SS$_NORMAL 0\n",
+                b"13 NODEDOWN\n14 ABORT A.1.1 A.1.1 DDTM$_SEG_FAIL \"17-NOV-1858 00:00:00.01\"\n14 SS$_NORMAL 2\n15 SS$_NORMAL 0\n16 SS$_NORMAL 0\n17 SS$_NORMAL 0\n",
                 0,
             )],
             whole: &[(
@@ -734,89 +775,89 @@ fn a_stop_leaves_each_statement_whole_or_undone(rt: HostRuntime) -> Result<(), F
             )],
         },
         Stop {
-            lines: &[(b"A: PUT T S \"a\"\n", 0)],
-            statement: &[(b"A: PUT T S \"b\"\n", 0)],
-            blocks: 2,
+            lines: &[(b"A: PUT - S \"a\"\n", 0)],
+            statement: &[(b"A: PUT - S \"b\"\n", 0)],
+            blocks: 4,
             undone: &[(
-                b"13 NODEDOWN\n14 SS$_NORMAL 2\n15 SS$_NORMAL 0\n16 RECORD 1 \"a\"\n16 SS$_NORMAL 1\n17 SS$_NORMAL 0\n",
+                b"11 NODEDOWN\n12 LAST COMMIT A.1.1 A.1.1 \"17-NOV-1858 00:00:00.01\"\n12 SS$_NORMAL 2\n13 SS$_NORMAL 0\n14 RECORD 1 \"a\"\n14 SS$_NORMAL 1\n15 SS$_NORMAL 0\n",
                 0,
             )],
             whole: &[(
-                b"13 NODEDOWN\n14 SS$_NORMAL 2\n15 SS$_NORMAL 0\n16 RECORD 1 \"a\"\n16 RECORD 2 \"b\"\n16 SS$_NORMAL 2\n17 SS$_NORMAL 0\n",
+                b"11 NODEDOWN\n12 LAST COMMIT A.1.2 A.1.2 \"17-NOV-1858 00:00:00.02\"\n12 SS$_NORMAL 2\n13 SS$_NORMAL 0\n14 RECORD 1 \"a\"\n14 RECORD 2 \"b\"\n14 SS$_NORMAL 2\n15 SS$_NORMAL 0\n",
                 0,
             )],
         },
         Stop {
             lines: &[
-                (b"A: PUT T I \"aa", 118),
-                (b"\"\nA: PUT T I \"bb", 118),
-                (b"\"\nA: PUT T I \"cc", 118),
-                (b"\"\nA: PUT T I \"dd", 118),
+                (b"A: PUT - I \"aa", 118),
+                (b"\"\nA: PUT - I \"bb", 118),
+                (b"\"\nA: PUT - I \"cc", 118),
+                (b"\"\nA: PUT - I \"dd", 118),
                 (b"\"\n", 0),
             ],
-            statement: &[(b"A: PUT T I \"ee", 118), (b"\"\n", 0)],
-            blocks: 3,
+            statement: &[(b"A: PUT - I \"ee", 118), (b"\"\n", 0)],
+            blocks: 5,
             undone: &[
                 (
-                    b"16 NODEDOWN\n17 SS$_NORMAL 2\n18 SS$_NORMAL 0\n19 SS$_NORMAL 0\n20 RECORD \"aa\" \"aa",
+                    b"14 NODEDOWN\n15 LAST COMMIT A.1.4 A.1.4 \"17-NOV-1858 00:00:00.04\"\n15 SS$_NORMAL 2\n16 SS$_NORMAL 0\n17 SS$_NORMAL 0\n18 RECORD \"aa\" \"aa",
                     118,
                 ),
-                (b"\"\n20 RECORD \"bb\" \"bb", 118),
-                (b"\"\n20 RECORD \"cc\" \"cc", 118),
-                (b"\"\n20 RECORD \"dd\" \"dd", 118),
-                (b"\"\n20 SS$_NORMAL 4\n", 0),
+                (b"\"\n18 RECORD \"bb\" \"bb", 118),
+                (b"\"\n18 RECORD \"cc\" \"cc", 118),
+                (b"\"\n18 RECORD \"dd\" \"dd", 118),
+                (b"\"\n18 SS$_NORMAL 4\n", 0),
             ],
             whole: &[
                 (
-                    b"16 NODEDOWN\n17 SS$_NORMAL 2\n18 SS$_NORMAL 0\n19 SS$_NORMAL 0\n20 RECORD \"aa\" \"aa",
+                    b"14 NODEDOWN\n15 LAST COMMIT A.1.5 A.1.5 \"17-NOV-1858 00:00:00.05\"\n15 SS$_NORMAL 2\n16 SS$_NORMAL 0\n17 SS$_NORMAL 0\n18 RECORD \"aa\" \"aa",
                     118,
                 ),
-                (b"\"\n20 RECORD \"bb\" \"bb", 118),
-                (b"\"\n20 RECORD \"cc\" \"cc", 118),
-                (b"\"\n20 RECORD \"dd\" \"dd", 118),
-                (b"\"\n20 RECORD \"ee\" \"ee", 118),
-                (b"\"\n20 SS$_NORMAL 5\n", 0),
+                (b"\"\n18 RECORD \"bb\" \"bb", 118),
+                (b"\"\n18 RECORD \"cc\" \"cc", 118),
+                (b"\"\n18 RECORD \"dd\" \"dd", 118),
+                (b"\"\n18 RECORD \"ee\" \"ee", 118),
+                (b"\"\n18 SS$_NORMAL 5\n", 0),
             ],
         },
         Stop {
             lines: &[
-                (b"A: PUT T S \"", 240),
-                (b"\"\nA: PUT T S \"", 240),
-                (b"\"\nA: PUT T S \"", 240),
+                (b"A: PUT - S \"", 240),
+                (b"\"\nA: PUT - S \"", 240),
+                (b"\"\nA: PUT - S \"", 240),
                 (b"\"\n", 0),
             ],
-            statement: &[(b"A: TRUNCATE T S 2\n", 0)],
-            blocks: 2,
+            statement: &[(b"A: TRUNCATE - S 2\n", 0)],
+            blocks: 4,
             undone: &[
                 (
-                    b"15 NODEDOWN\n16 SS$_NORMAL 2\n17 SS$_NORMAL 0\n18 RECORD 1 \"",
+                    b"13 NODEDOWN\n14 LAST COMMIT A.1.3 A.1.3 \"17-NOV-1858 00:00:00.03\"\n14 SS$_NORMAL 2\n15 SS$_NORMAL 0\n16 RECORD 1 \"",
                     240,
                 ),
-                (b"\"\n18 RECORD 2 \"", 240),
-                (b"\"\n18 RECORD 3 \"", 240),
-                (b"\"\n18 SS$_NORMAL 3\n19 SS$_NORMAL 0\n", 0),
+                (b"\"\n16 RECORD 2 \"", 240),
+                (b"\"\n16 RECORD 3 \"", 240),
+                (b"\"\n16 SS$_NORMAL 3\n17 SS$_NORMAL 0\n", 0),
             ],
             whole: &[
                 (
-                    b"15 NODEDOWN\n16 SS$_NORMAL 2\n17 SS$_NORMAL 0\n18 RECORD 1 \"",
+                    b"13 NODEDOWN\n14 LAST COMMIT A.1.4 A.1.4 \"17-NOV-1858 00:00:00.04\"\n14 SS$_NORMAL 2\n15 SS$_NORMAL 0\n16 RECORD 1 \"",
                     240,
                 ),
-                (b"\"\n18 SS$_NORMAL 1\n19 SS$_NORMAL 0\n", 0),
+                (b"\"\n16 SS$_NORMAL 1\n17 SS$_NORMAL 0\n", 0),
             ],
         },
         Stop {
             lines: &[(
-                b"A: PUT T F 1 \"a\"\nA: PUT T S \"b\"\nA: PUT T I \"cc1\"\n",
+                b"A: SET_FILE F RU\nA: SET_FILE S RU\nA: SET_FILE I RU\nA: START_TRANS T\nA: PUT T F 1 \"a\"\nA: PUT T S \"b\"\nA: PUT T I \"cc1\"\n",
                 0,
             )],
             statement: &[(b"A: ABORT_TRANS T\n", 0)],
-            blocks: 5,
+            blocks: 7,
             undone: &[(
-                b"15 NODEDOWN\n16 SS$_NORMAL 2\n17 RECORD 1 \"a\"\n17 SS$_NORMAL 1\n18 RECORD 1 \"b\"\n18 SS$_NORMAL 1\n19 RECORD \"cc\" \"cc1\"\n19 SS$_NORMAL 1\n",
+                b"17 NODEDOWN\n18 ABORT A.1.1 A.1.1 DDTM$_SEG_FAIL \"17-NOV-1858 00:00:00.01\"\n18 SS$_NORMAL 2\n19 SS$_NORMAL 0\n20 SS$_NORMAL 0\n21 SS$_NORMAL 0\n",
                 0,
             )],
             whole: &[(
-                b"15 NODEDOWN\n16 LAST ABORT A.1.1 A.1.1 DDTM$_ABORTED \"17-NOV-1858 00:00:00.01\"\n16 SS$_NORMAL 2\n17 SS$_NORMAL 0\n18 SS$_NORMAL 0\n19 SS$_NORMAL 0\n",
+                b"17 NODEDOWN\n18 LAST ABORT A.1.1 A.1.1 DDTM$_ABORTED \"17-NOV-1858 00:00:00.01\"\n18 SS$_NORMAL 2\n19 SS$_NORMAL 0\n20 SS$_NORMAL 0\n21 SS$_NORMAL 0\n",
                 0,
             )],
         },
@@ -1184,7 +1225,7 @@ fn words_that_are_no_command_leave_the_script_unread(rt: HostRuntime) -> Result<
         let mut rack: Rack<CrashDisk<MemPlatter>> = Rack::new(rt.alloc());
         let mut source = MemSource::new(rt.alloc(), b"A: INIT\n".to_vec(rt.alloc())?);
         let mut sink = MemSink::new(rt.alloc(), 100)?;
-        let exit = run(rt.alloc(), &words, &mut source, &mut sink, &mut rack);
+        let exit = run::<_, _, _, NodeUnits>(rt.alloc(), &words, &mut source, &mut sink, &mut rack);
         assert_eq!(rt; exit, Exit::Usage);
         assert_eq!(rt;
             sink.bytes(),

@@ -24,6 +24,8 @@ ghost use Rattle.dtm_run.specs.Headline.{is_command as is_command_of, is_served 
 use crate::rack::Rack;
 use block_disk::Disk;
 use dtm_node::{Node, Shared, is_to_up};
+use recovery_units::RecoveryUnits;
+use run_model::promises_hold;
 use script_lang::{Literals, Request, Statement, is_run_form, read_statement};
 use std::alloc::Global;
 use transcript::{Emit, Form, LineBuffer, LineReader, Next, Sink, SinkEmit, Source};
@@ -51,7 +53,7 @@ pub enum Exit {
 }
 
 /// Runs the script of a source by the nodes of a rack, and writes its transcript to a sink. The words are those of the command line.
-pub fn run<S: Source, K: Sink, D: Disk + Drop>(
+pub fn run<S: Source, K: Sink, D: Disk + Drop, U: RecoveryUnits>(
     alloc: Global,
     words: &[String],
     source: &mut S,
@@ -77,12 +79,13 @@ pub fn run<S: Source, K: Sink, D: Disk + Drop>(
     ensures disks { AllGo (states_in D.state rack.old) (states_in D.state rack.new) }
     ensures rack { IsRack D.state rack.new }
 {
+    promises_hold();
     let Ok(buffer) = LineBuffer::reserve(alloc) else {
         return Exit::Memory;
     };
     let mut out = SinkEmit::over(sink, buffer);
     if is_command(rack, words) {
-        let exit = run_script(alloc, source, &mut out, rack);
+        let exit = run_script::<S, K, D, U>(alloc, source, &mut out, rack);
         out.into_sink();
         exit
     } else {
@@ -120,7 +123,7 @@ fn answer_usage<K: Sink>(out: &mut SinkEmit<'_, K>) -> Exit
 }
 
 // Takes all memory, and runs the script by the rack's only node.
-fn run_script<S: Source, K: Sink, D: Disk + Drop>(
+fn run_script<S: Source, K: Sink, D: Disk + Drop, U: RecoveryUnits>(
     alloc: Global,
     source: &mut S,
     out: &mut SinkEmit<'_, K>,
@@ -156,6 +159,7 @@ fn run_script<S: Source, K: Sink, D: Disk + Drop>(
         unreachable!()
     };
     let (name, disk) = node;
+    let node: Node<D, U> = Node::new(name, disk);
     let (exit, disk) = drive(
         alloc,
         source,
@@ -163,7 +167,7 @@ fn run_script<S: Source, K: Sink, D: Disk + Drop>(
         &mut literals,
         &mut shared,
         out,
-        Node::new(name, disk),
+        node,
     );
     rack.put_back(name, disk);
     exit
@@ -182,49 +186,49 @@ fn close<K: Sink>(out: &mut SinkEmit<'_, K>, form: &Form<'_>, exit: Exit) -> Exi
 }
 
 // Serves a statement by the only node, where it speaks of that.
-fn serve_statement<E: Emit, D: Disk + Drop>(
+fn serve_statement<E: Emit, D: Disk + Drop, U: RecoveryUnits>(
     alloc: Global,
-    node: Node<D>,
+    node: Node<D, U>,
     statement: &Statement,
     literals: &Literals,
     shared: &mut Shared,
     out: &mut E,
-) -> Node<D>
-    requires kept { (n : ℕ) × (n < 1000002) × IsNode D.state n (shared_of shared.old) node }
-    ensures kept { (n : ℕ) → IsNode D.state n (shared_of shared.old) node → IsNode D.state (n + 1) (shared_of shared.new) result }
+) -> Node<D, U>
+    requires kept { (n : ℕ) × (n < 1000002) × IsNode D.state U.state n (shared_of shared.old) node }
+    ensures kept { (n : ℕ) → IsNode D.state U.state n (shared_of shared.old) node → IsNode D.state U.state (n + 1) (shared_of shared.new) result }
     ensures name { result.name ≡ node.name }
-    ensures passes { Passes (state_of D.state node) (state_of D.state result) }
+    ensures passes { Passes (state_of D.state U.state node) (state_of D.state U.state result) }
     ensures place { E.place out.new ≡ E.place out.old }
     ensures since { Since (E.shows out.old) (E.shows out.new) }
-    ensures tells { AnswersAlone node.name (statement_of literals.now statement.now) (E.shows out.old) (E.shows out.new) (state_of D.state node) (state_of D.state result)
-        (said_alone (kept_of D.state node) (shared_of shared.old)) (said_alone (kept_of D.state result) (shared_of shared.new)) }
-    ensures serves { (log : CallLog) (w : World) → StandsAlone log (kept_of D.state node) (shared_of shared.old) w →
-        ServesAlone log w (statement_of literals.now statement.now) (E.shows out.old) (E.shows out.new) (kept_of D.state result) (shared_of shared.new) }
+    ensures tells { AnswersAlone node.name (statement_of literals.now statement.now) (E.shows out.old) (E.shows out.new) (state_of D.state U.state node) (state_of D.state U.state result)
+        (said_alone (kept_of D.state U.state node) (shared_of shared.old)) (said_alone (kept_of D.state U.state result) (shared_of shared.new)) }
+    ensures serves { (log : CallLog) (w : World) → StandsAlone log (kept_of D.state U.state node) (shared_of shared.old) w →
+        ServesAlone log w (statement_of literals.now statement.now) (E.shows out.old) (E.shows out.new) (kept_of D.state U.state result) (shared_of shared.new) }
 {
     let Statement::At(name, request) = statement;
     serve_request(alloc, node, *name, request, literals, shared, out)
 }
 
 // Serves a request to the node of a name by the only node, where that has the name.
-fn serve_request<E: Emit, D: Disk + Drop>(
+fn serve_request<E: Emit, D: Disk + Drop, U: RecoveryUnits>(
     alloc: Global,
-    node: Node<D>,
+    node: Node<D, U>,
     name: NodeName,
     request: &Request,
     literals: &Literals,
     shared: &mut Shared,
     out: &mut E,
-) -> Node<D>
-    requires kept { (n : ℕ) × (n < 1000002) × IsNode D.state n (shared_of shared.old) node }
-    ensures kept { (n : ℕ) → IsNode D.state n (shared_of shared.old) node → IsNode D.state (n + 1) (shared_of shared.new) result }
+) -> Node<D, U>
+    requires kept { (n : ℕ) × (n < 1000002) × IsNode D.state U.state n (shared_of shared.old) node }
+    ensures kept { (n : ℕ) → IsNode D.state U.state n (shared_of shared.old) node → IsNode D.state U.state (n + 1) (shared_of shared.new) result }
     ensures name { result.name ≡ node.name }
-    ensures passes { Passes (state_of D.state node) (state_of D.state result) }
+    ensures passes { Passes (state_of D.state U.state node) (state_of D.state U.state result) }
     ensures place { E.place out.new ≡ E.place out.old }
     ensures since { Since (E.shows out.old) (E.shows out.new) }
-    ensures tells { AnswersAlone node.name (At name (request_of literals.now request.now)) (E.shows out.old) (E.shows out.new) (state_of D.state node) (state_of D.state result)
-        (said_alone (kept_of D.state node) (shared_of shared.old)) (said_alone (kept_of D.state result) (shared_of shared.new)) }
-    ensures serves { (log : CallLog) (w : World) → StandsAlone log (kept_of D.state node) (shared_of shared.old) w →
-        ServesAlone log w (At name (request_of literals.now request.now)) (E.shows out.old) (E.shows out.new) (kept_of D.state result) (shared_of shared.new) }
+    ensures tells { AnswersAlone node.name (At name (request_of literals.now request.now)) (E.shows out.old) (E.shows out.new) (state_of D.state U.state node) (state_of D.state U.state result)
+        (said_alone (kept_of D.state U.state node) (shared_of shared.old)) (said_alone (kept_of D.state U.state result) (shared_of shared.new)) }
+    ensures serves { (log : CallLog) (w : World) → StandsAlone log (kept_of D.state U.state node) (shared_of shared.old) w →
+        ServesAlone log w (At name (request_of literals.now request.now)) (E.shows out.old) (E.shows out.new) (kept_of D.state U.state result) (shared_of shared.new) }
 {
     if name.bytes() == node.name().bytes() {
         node.serve(alloc, request, literals, shared, out)
@@ -243,32 +247,32 @@ fn is_for_up(statement: &Statement) -> bool
 }
 
 // Serves such a statement by the only node where that stands, where the statement speaks of it.
-fn serve_in_place<E: Emit, D: Disk + Drop>(
-    node: &mut Node<D>,
+fn serve_in_place<E: Emit, D: Disk + Drop, U: RecoveryUnits>(
+    node: &mut Node<D, U>,
     statement: &Statement,
     literals: &Literals,
     shared: &mut Shared,
     out: &mut E,
 )
     requires asks { IsForUp statement.now }
-    requires kept { (n : ℕ) × (n < 1000002) × IsNode D.state n (shared_of shared.old) node.old }
-    ensures kept { (n : ℕ) → IsNode D.state n (shared_of shared.old) node.old → IsNode D.state (n + 1) (shared_of shared.new) node.new }
+    requires kept { (n : ℕ) × (n < 1000002) × IsNode D.state U.state n (shared_of shared.old) node.old }
+    ensures kept { (n : ℕ) → IsNode D.state U.state n (shared_of shared.old) node.old → IsNode D.state U.state (n + 1) (shared_of shared.new) node.new }
     ensures name { node.new.name ≡ node.old.name }
-    ensures passes { Passes (state_of D.state node.old) (state_of D.state node.new) }
+    ensures passes { Passes (state_of D.state U.state node.old) (state_of D.state U.state node.new) }
     ensures place { E.place out.new ≡ E.place out.old }
     ensures since { Since (E.shows out.old) (E.shows out.new) }
-    ensures tells { AnswersAlone node.old.name (statement_of literals.now statement.now) (E.shows out.old) (E.shows out.new) (state_of D.state node.old) (state_of D.state node.new)
-        (said_alone (kept_of D.state node.old) (shared_of shared.old)) (said_alone (kept_of D.state node.new) (shared_of shared.new)) }
-    ensures serves { (log : CallLog) (w : World) → StandsAlone log (kept_of D.state node.old) (shared_of shared.old) w →
-        ServesAlone log w (statement_of literals.now statement.now) (E.shows out.old) (E.shows out.new) (kept_of D.state node.new) (shared_of shared.new) }
+    ensures tells { AnswersAlone node.old.name (statement_of literals.now statement.now) (E.shows out.old) (E.shows out.new) (state_of D.state U.state node.old) (state_of D.state U.state node.new)
+        (said_alone (kept_of D.state U.state node.old) (shared_of shared.old)) (said_alone (kept_of D.state U.state node.new) (shared_of shared.new)) }
+    ensures serves { (log : CallLog) (w : World) → StandsAlone log (kept_of D.state U.state node.old) (shared_of shared.old) w →
+        ServesAlone log w (statement_of literals.now statement.now) (E.shows out.old) (E.shows out.new) (kept_of D.state U.state node.new) (shared_of shared.new) }
 {
     let Statement::At(name, request) = statement;
     request_in_place(node, *name, request, literals, shared, out);
 }
 
 // Serves such a request to the node of a name by the only node where that stands, where it has the name.
-fn request_in_place<E: Emit, D: Disk + Drop>(
-    node: &mut Node<D>,
+fn request_in_place<E: Emit, D: Disk + Drop, U: RecoveryUnits>(
+    node: &mut Node<D, U>,
     name: NodeName,
     request: &Request,
     literals: &Literals,
@@ -276,16 +280,16 @@ fn request_in_place<E: Emit, D: Disk + Drop>(
     out: &mut E,
 )
     requires asks { IsToUp request.now }
-    requires kept { (n : ℕ) × (n < 1000002) × IsNode D.state n (shared_of shared.old) node.old }
-    ensures kept { (n : ℕ) → IsNode D.state n (shared_of shared.old) node.old → IsNode D.state (n + 1) (shared_of shared.new) node.new }
+    requires kept { (n : ℕ) × (n < 1000002) × IsNode D.state U.state n (shared_of shared.old) node.old }
+    ensures kept { (n : ℕ) → IsNode D.state U.state n (shared_of shared.old) node.old → IsNode D.state U.state (n + 1) (shared_of shared.new) node.new }
     ensures name { node.new.name ≡ node.old.name }
-    ensures passes { Passes (state_of D.state node.old) (state_of D.state node.new) }
+    ensures passes { Passes (state_of D.state U.state node.old) (state_of D.state U.state node.new) }
     ensures place { E.place out.new ≡ E.place out.old }
     ensures since { Since (E.shows out.old) (E.shows out.new) }
-    ensures tells { AnswersAlone node.old.name (At name (request_of literals.now request.now)) (E.shows out.old) (E.shows out.new) (state_of D.state node.old) (state_of D.state node.new)
-        (said_alone (kept_of D.state node.old) (shared_of shared.old)) (said_alone (kept_of D.state node.new) (shared_of shared.new)) }
-    ensures serves { (log : CallLog) (w : World) → StandsAlone log (kept_of D.state node.old) (shared_of shared.old) w →
-        ServesAlone log w (At name (request_of literals.now request.now)) (E.shows out.old) (E.shows out.new) (kept_of D.state node.new) (shared_of shared.new) }
+    ensures tells { AnswersAlone node.old.name (At name (request_of literals.now request.now)) (E.shows out.old) (E.shows out.new) (state_of D.state U.state node.old) (state_of D.state U.state node.new)
+        (said_alone (kept_of D.state U.state node.old) (shared_of shared.old)) (said_alone (kept_of D.state U.state node.new) (shared_of shared.new)) }
+    ensures serves { (log : CallLog) (w : World) → StandsAlone log (kept_of D.state U.state node.old) (shared_of shared.old) w →
+        ServesAlone log w (At name (request_of literals.now request.now)) (E.shows out.old) (E.shows out.new) (kept_of D.state U.state node.new) (shared_of shared.new) }
 {
     if name.bytes() == node.name().bytes() {
         node.serve_up(request, literals, shared, out);
@@ -295,29 +299,29 @@ fn request_in_place<E: Emit, D: Disk + Drop>(
 }
 
 // Serves line after line, and gives the disk back.
-fn drive<S: Source, K: Sink, D: Disk + Drop>(
+fn drive<S: Source, K: Sink, D: Disk + Drop, U: RecoveryUnits>(
     alloc: Global,
     source: &mut S,
     reader: &mut LineReader,
     literals: &mut Literals,
     shared: &mut Shared,
     out: &mut SinkEmit<'_, K>,
-    node: Node<D>,
+    node: Node<D, U>,
 ) -> (Exit, D)
     requires sound { IsSound reader.old }
     requires first { taken_bytes reader.old ≡ 0 }
     requires failed { out.old.failed ≡ false }
-    requires kept { IsNode D.state 0 (shared_of shared.old) node }
-    requires unsaid { said_alone (kept_of D.state node) (shared_of shared.old) ≡ nothing_said (node.name ∷ []) }
+    requires kept { IsNode D.state U.state 0 (shared_of shared.old) node }
+    requires unsaid { said_alone (kept_of D.state U.state node) (shared_of shared.old) ≡ nothing_said (node.name ∷ []) }
     ensures same_sink { out.new.sink.ghost_name ≡ out.old.sink.ghost_name }
-    ensures runs { (w : World) → StandsAlone (state_of D.state node).calls (kept_of D.state node) (shared_of shared.old) w →
-        RunsTo w (state_of D.state node ∷ []) (lines_ahead reader.old (S.left source.old)) (K.shown out.old.sink.now) (K.shown out.new.sink.now) result.0 (D.state result.1 ∷ []) }
-    ensures calls { TellsOver (node.name ∷ []) (state_of D.state node ∷ []) (D.state result.1 ∷ []) (lines_ahead reader.old (S.left source.old)) (K.shown out.old.sink.now) (K.shown out.new.sink.now) result.0 }
+    ensures runs { (w : World) → StandsAlone (state_of D.state U.state node).calls (kept_of D.state U.state node) (shared_of shared.old) w →
+        RunsTo w (state_of D.state U.state node ∷ []) (lines_ahead reader.old (S.left source.old)) (K.shown out.old.sink.now) (K.shown out.new.sink.now) result.0 (D.state result.1 ∷ []) }
+    ensures calls { TellsOver (node.name ∷ []) (state_of D.state U.state node ∷ []) (D.state result.1 ∷ []) (lines_ahead reader.old (S.left source.old)) (K.shown out.old.sink.now) (K.shown out.new.sink.now) result.0 }
     ensures commanded { result.0 ≡ Exit.Usage → ⊥ }
     ensures begun { result.0 ≡ Exit.Memory → ⊥ }
     ensures read_fault { result.0 ≡ Exit.ReadFault → Rose (S.faults source.old) (S.faults source.new) }
     ensures write_fault { result.0 ≡ Exit.WriteFault → Rose (K.faults out.old.sink.now) (K.faults out.new.sink.now) }
-    ensures disk { Passes (state_of D.state node) (D.state result.1) }
+    ensures disk { Passes (state_of D.state U.state node) (D.state result.1) }
 {
     let mut node = node;
     for number in 1..1_000_002 {

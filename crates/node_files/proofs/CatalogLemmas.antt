@@ -21,11 +21,8 @@ use Rattle.volume.specs.Catalogs.{IsSound, IsNew, StandsOnTheFront, TellsCatalog
 use Rattle.volume.specs.Limits.{FileFits, EntryFits, SaveFits, KeysFit, RootFits, data_area, file_buckets, save_buckets}
 use Rattle.volume.specs.declared.limits.Buckets.{Buckets}
 use Rattle.run_model.specs.World.{File}
-use Rattle.directory_model.specs.Files.{AreFiles, AreNamedOnce, AreUndoable, Fit, Note, head_at}
-use Rattle.directory_model.specs.Laws.{KeepsHeads, KeepsUndo, LieApart, SameBut, StandsOnExtents, marked}
-use Rattle.node_files.specs.Staging.{is_of_file}
-use Rattle.node_files.specs.Writing.{settled_home}
-use Rattle.node_files.proofs.FormLemmas.{RootIs, root_is}
+use Rattle.directory_model.specs.Files.{AreFiles, AreNamedOnce, Fit, head_at}
+use Rattle.directory_model.specs.Laws.{KeepsHeads, LieApart, StandsOnExtents, marked}
 
 -- Heads.
 
@@ -87,38 +84,6 @@ front_files name size v a b directory apart stand sound files agree = stand a b 
 
 pub front_set : (a : List (List ℕ)) (k : ℕ) (bytes : List ℕ) → k < 66 → (n : ℕ) → 66 ≤ n → block_at a n ≡ block_at (slice_set a k bytes) n
 front_set a k bytes below n behind = sym (get_or-set_other a k n bytes [] (λ same. let no_way : ⊥ = omega (arith, same, below, behind) in no_way))
-
--- what can be undone still can
-pub front_undo : (name : List ℕ) (size : ℕ) (v : Catalog) (a b : List (List ℕ)) (directory : List (Option File)) (notes : List Note) → LieApart → KeepsUndo → IsSound name size v → AreFiles a v.heads directory → ((n : ℕ) → 66 ≤ n → block_at a n ≡ block_at b n) → AreUndoable a v.heads notes →
-    AreUndoable b v.heads notes
-front_undo name size v a b directory notes apart law sound files agree can = law.stands a b v.heads directory notes (λ f h there. front_agrees name size v f h a b apart files.heads_long sound there agree) files can
-
--- A branch is settled.
-
-save_later : (m : Bool) (g j : ℕ) (h : FileHead) → g ≤ j → SaveFits m g h → SaveFits m j h
-save_later true g j h le f = record { buckets = f.buckets; position = f.position; moment = omega (arith, f.moment, le) }
-save_later false g j h le f = f
-
-pub fits_later : (g j : ℕ) (h : FileHead) → g ≤ j → FileFits g h → FileFits j h
-fits_later g j h le f = record { bucket = f.bucket; keys = f.keys; buckets = f.buckets; ai = f.ai; bi = f.bi; since = omega (arith, f.since, le); save = save_later h.marks.save g j h le f.save }
-
-entry_later : (g j : ℕ) (o : Option FileHead) → g ≤ j → EntryFits g o → EntryFits j o
-entry_later g j None le f = f
-entry_later g j (Some h) le f = fits_later g j h le f
-
-pub sound_settled : (name : List ℕ) (size : ℕ) (v : Catalog) (serial : Serial) (ending : Ending) → v.home.greatest_moment.0 < 24000001000002 → IsSound name size v → IsSound name size (record v { home = settled_home serial ending v.home })
-sound_settled name size v serial ending early s = record {
-  version = s.version;
-  sizes = s.sizes;
-  home = record { owner = s.home.owner; moment = omega arith };
-  files = λ f below. entry_later v.home.greatest_moment.0 (v.home.greatest_moment.0 + 1) (head_at v.heads f) (omega arith) (s.files f below);
-  names = s.names;
-  extents = s.extents;
-  ru_start = s.ru_start;
-  ru_blocks = s.ru_blocks;
-}
-
--- A catalog with another head at a file number.
 
 pub named_new : (heads : List (Option FileHead)) (g : ℕ) (o : Option FileHead) → head_at heads g ≡ o → AreNamedOnce heads → IsNew heads g o
 named_new heads g None is once = tt
@@ -183,45 +148,6 @@ root_moved Sequential h used root levels count b f = f
 root_moved Relative h used root levels count b f = f
 root_moved Indexed h used root levels count b f = f
 
-buckets_moved : (o : Organization) (h : FileHead) (used root levels count : ℕ) → FormBy o (moved h used root levels count) → RootIs o (moved h used root levels count) → 1 ≤ h.alloc → RootFits o h (file_buckets h) →
-    (1 ≤ used) × (used ≤ h.alloc) × RootFits o (moved h used root levels count) (file_buckets (moved h used root levels count))
-buckets_moved Sequential h used root levels count form is some f = (form.one, form.used, (is.0, is.1))
-buckets_moved Relative h used root levels count form is some f = ((let e = form.used in omega (arith, e, some)), (let e = form.used in omega (arith, e)), (is.0, is.1, is.2, f.3, form.used ∙ f.3))
-buckets_moved Indexed h used root levels count form is some f = (form.some, form.within, ((let e = form.root in let one = form.some in omega (arith, e, one)), is))
-
-fits_moved : (g : ℕ) (h : FileHead) (used root levels count : ℕ) → any.IsFile (moved h used root levels count) → RootIs h.organization (moved h used root levels count) → FileFits g h → FileFits g (moved h used root levels count)
-fits_moved g h used root levels count form is f =
-    let b = buckets_moved h.organization h used root levels count form is (omega (arith, f.buckets.least, f.buckets.most)) f.buckets.root in
-    record {
-      bucket = record { least_blocks = f.bucket.least_blocks; most_blocks = f.bucket.most_blocks; least_record = f.bucket.least_record; most_record = f.bucket.most_record; record_fits = f.bucket.record_fits };
-      keys = keys_moved h.organization h used root levels count f.keys;
-      buckets = record { least = b.0; most = b.1; root = b.2 };
-      ai = f.ai;
-      bi = f.bi;
-      since = f.since;
-      save = save_moved h.marks.save f.save;
-    }
-  where
-    save_moved : (m : Bool) → SaveFits m g h → SaveFits m g (moved h used root levels count)
-    save_moved true s = record { buckets = record { least = s.buckets.least; most = s.buckets.most; root = root_moved h.organization h used root levels count (save_buckets h.save) s.buckets.root }; position = s.position; moment = s.moment }
-    save_moved false s = s
-
--- the head of the same file fits as it did
-pub fits_same : (g : ℕ) (h new : FileHead) → SameFile h new → any.IsFile new ⊎ (new ≡ h) → FileFits g h → FileFits g new
-fits_same g h new same form f = ⊎_elim
-    (λ is.
-    let at : any.IsFile (moved h new.used new.root new.levels new.count) = subst any.IsFile same.is is in
-    subst (FileFits g) (sym same.is) (fits_moved g h new.used new.root new.levels new.count at (root_is (moved h new.used new.root new.levels new.count) at) f))
-    (λ is. subst (FileFits g) (sym is) f)
-    form
-
-pub sound_changed : (name : List ℕ) (size : ℕ) (v : Catalog) (f : ℕ) (h new : FileHead) → KeepsHeads → length v.heads ≡ 64 → head_at v.heads f ≡ Some h → SameFile h new → any.IsFile new ⊎ (new ≡ h) → IsSound name size v → IsSound name size (record v { heads = slice_set v.heads f (Some new) })
-sound_changed name size v f h new law long there same form s =
-    sound_set name size v f new long (head_below v.heads f h long there) (law.changes (data_area (sizes_of v.home)) v.heads f h new (fit_of name size v long s) there same) (law.changes_named v.heads f h new (named_once name size v long s) there same)
-    (fits_same v.home.greatest_moment.0 h new same form (fits_at name size v f h long s there)) s
-
--- What is staged or written outside the front blocks leaves the catalog.
-
 pub off_front : (h : FileHead) (n : ℕ) → n < 66 → (in_extent h n ≡ true → 66 ≤ n) → in_extent h n ≡ false
 off_front h n below behind = is_false (in_extent h n) (λ t. let b = behind t in omega arith)
   where
@@ -242,12 +168,3 @@ holds_out p v (Some a) (Some c) front off out holds = front v a c (λ n below. s
 pub out_some : (p : ℕ → Bool) (old after : Option (List (List ℕ))) (a : List (List ℕ)) → old ≡ Some a → AgreesOut p old after → (c : List (List ℕ)) × (after ≡ Some c) × AgreesOff p a c
 out_some p old None a is out = absurd (let o = rw is at out in o)
 out_some p old (Some c) a is out = (c, refl, (let o = rw is at out in o))
-
--- the blocks of a file and its directory block: the other files keep theirs
-pub same_but : (name : List ℕ) (size : ℕ) (v : Catalog) (f : ℕ) (h : FileHead) (a b : List (List ℕ)) → LieApart → length v.heads ≡ 64 → IsSound name size v → head_at v.heads f ≡ Some h → AgreesOff (is_of_file f h) a b → SameBut f v.heads a b
-same_but name size v f h a b apart long sound there off = λ g other unlike at n within.
-    let fit = fit_of name size v long sound in
-    let away = apart.apart (data_area (sizes_of v.home)) v.heads g f n other h fit (λ e. unlike (sym e)) at there within in
-    let area = apart.within (data_area (sizes_of v.home)) v.heads g n other fit at within in
-    let behind : (n == 1 + f) ≡ false = (let below = head_below v.heads f h long there in grind (arith, nat_tests)) in
-    sym (off.others n (ap (λ (t : Bool). t || (n == 1 + f)) away ∙ behind))

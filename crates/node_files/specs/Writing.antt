@@ -1,26 +1,20 @@
 -- Groups that change a volume.
-use Rattle.std.specs.Prelude.{◌≡◌, ℕ, ◌+◌, List, [], Option, Some, Result, OnOk, OnErr, IfSome}
+use Rattle.std.specs.Prelude.{◌≡◌, ℕ, List, [], Option, Result, OnOk, OnErr, IfSome}
 use Rattle.careful_write.specs.declared.down.Down.{Down}
 use Rattle.careful_write.specs.Down.{Counts}
-use Rattle.careful_write.specs.State.{IsEither, IsIdle, Leaves, content}
+use Rattle.careful_write.specs.State.{EachWhole, IsEither, IsIdle, Leaves, content}
 use Rattle.volume.specs.declared.catalog.Catalog.{Catalog}
 use Rattle.volume.specs.Catalogs.{TellsCatalog}
 use Rattle.volume.specs.State.{VolumeState, Holds}
-use Rattle.volume_format.specs.declared.home.Home.{Home}
-use Rattle.volume_format.specs.declared.home.Ending.{Ending}
-use Rattle.vms_base.specs.declared.ids.Serial.{Serial}
 
--- One group was to make this content and this catalog of a volume's. Where it failed, each image has the content before or after it.
+-- One group was to make this content and this catalog of a volume's, in whole blocks. Where it failed, each image has the content before or after it.
 pub record Writes {T : Type 0} (r : Result T Down) (after : Option (List (List ℕ))) (v : Catalog) (old new : VolumeState) : Type 0 where
   pub current : OnOk r (new.store.current ≡ after)
   pub idle : OnOk r (IsIdle new.store)
   pub catalog : new.catalog ≡ v
   pub tells : Holds old → IfSome after (TellsCatalog v)
+  pub each : IfSome after EachWhole
   pub down : OnErr r (Leaves (IsEither (content old.store) after) new.store.disk)
   pub counts : Counts r old.store.disk new.store.disk
   pub ready : OnOk r (new.store.disk.pending ≡ [])
   pub pool : new.store.pool ≡ old.store.pool
-
--- the home once a branch ended so, at the next moment
-abbrev pub settled_home : Serial → Ending → Home → Home
-settled_home serial ending h = record h { greatest_moment = record { 0 = h.greatest_moment.0 + 1 }; last = Some (record { tid = record { 0 = serial.0 }; serial = serial; ending = ending }) }

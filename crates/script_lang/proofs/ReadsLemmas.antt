@@ -1,5 +1,5 @@
 -- Shapes, and the words that are left.
-use Rattle.std.proofs.Common.{◌≡◌, ℕ, List, [], ◌∷◌, true, false, refl, ◌∙◌, Result, Ok, Err}
+use Rattle.std.proofs.Common.{◌≡◌, ℕ, List, [], ◌∷◌, true, false, refl, subst, ◌∙◌, Result, Ok, Err}
 use Rattle.std.specs.Result.{IsErrAnd}
 use Rattle.std.proofs.lemmas.Result.{err_from_is_err_and}
 use Rattle.script_model.specs.LineWords.{Ahead, Word, is_empty}
@@ -28,6 +28,10 @@ ends_here s shape (w ∷ ws) end h = cc
 -- no word was left
 pub or_ended : {view : Statement → model.Statement} {old : Ahead} {shape : Shape} (v : Statement) → is_empty old.words ≡ true → Reads view (EndsOr (view v) shape) old (Ok v)
 or_ended {view = view} {old = old} {shape = shape} v h = record { is = ends_here (view v) shape old.words old.end h }
+
+-- nor where it is said that this statement ends there
+pub or_ended_as : {view : Statement → model.Statement} {old : Ahead} {shape : Shape} (v : Statement) (s : model.Statement) → view v ≡ s → is_empty old.words ≡ true → Reads view (EndsOr s shape) old (Ok v)
+or_ended_as {view = view} {old = old} {shape = shape} v s e h = subst (λ t. Reads view (EndsOr t shape) old (Ok v)) e (or_ended v h)
 
 -- a word was left
 pub or_went_on : {view : Statement → model.Statement} {old : Ahead} {result : Result Statement LineErr} {shape : Shape} (s : model.Statement) → is_empty old.words ≡ false → Reads view shape old result → Reads view (EndsOr s shape) old result

@@ -4,7 +4,7 @@ use Rattle.std.specs.Prelude.{if◌then◌else◌, codes}
 use Rattle.script_model.specs.LineWords.{Word, words_of}
 use Rattle.script_model.specs.Statements.{Statement, Reading, Blank, Says, Bad, RecoveryUnits}
 use Rattle.script_model.specs.Operands.{KeyWord, Numbered, Spelled}
-use Rattle.script_model.specs.Grammar.{Kind, Meaning, meaning, AFirst, AVerb, ANode, ALabel, AFile, AnOrganization, ASetting, ANumber, ALongNumber, SomeBytes, AKey, Verb, Init, Boot, Create, SetFile, StartTrans, Put, Update, Delete, Truncate, Get, Next, EndTrans, AbortTrans, Dump, Fuse, Crash, Organization, Sequential, Relative, Indexed, First, ToNode, ToWorld, Shape, Ends, Then, EndsOr, reads, form_operands, put_operands, operands, behind_first, line_shape, is_skipped}
+use Rattle.script_model.specs.Grammar.{Kind, Meaning, meaning, AFirst, AVerb, ANode, ALabel, ALabelOrNone, AFile, AnOrganization, ASetting, AJournal, RecoveryUnitJournal, ANumber, ALongNumber, SomeBytes, AKey, Verb, Init, Boot, Create, SetFile, StartTrans, Put, Update, Delete, Truncate, Get, Next, EndTrans, AbortTrans, Dump, DumpJournal, Fuse, Crash, Organization, Sequential, Relative, Indexed, First, ToNode, ToWorld, Shape, Ends, Then, EndsOr, reads, form_operands, put_operands, operands, behind_first, line_shape, is_skipped}
 use Rattle.script_lang.specs.Where.{CanGoOn, TellsWhere, LineTellsWhere}
 
 -- there is such a word
@@ -82,6 +82,12 @@ a_node = record { text = codes "A"; meant = codes "A"; says = refl }
 a_label : Sample ALabel
 a_label = record { text = codes "T"; meant = codes "T"; says = refl }
 
+a_label_or_none : Sample ALabelOrNone
+a_label_or_none = record { text = codes "-"; meant = None; says = refl }
+
+a_journal : Sample AJournal
+a_journal = record { text = codes "RU"; meant = RecoveryUnitJournal; says = refl }
+
 a_file : Sample AFile
 a_file = record { text = codes "F"; meant = codes "F"; says = refl }
 
@@ -114,7 +120,7 @@ form_writable n f Sequential bucket size count = tt
 form_writable n f Relative bucket size count = tt
 form_writable n f Indexed bucket size count = (a_number, λ position. (a_number, λ key_size. tt))
 
-put_writable : (n l f : List ℕ) (k : KeyWord) → IsWritable (put_operands n l f k)
+put_writable : (n : List ℕ) (l : Option (List ℕ)) (f : List ℕ) (k : KeyWord) → IsWritable (put_operands n l f k)
 put_writable n l f (Numbered number) = (some_bytes, λ b. tt)
 put_writable n l f (Spelled bytes) = tt
 
@@ -124,15 +130,16 @@ operands_writable n Boot = tt
 operands_writable n Create = (a_file, λ f. (an_organization, λ o. (a_number, λ bucket. (a_number, λ size. (a_number, λ count. form_writable n f o bucket size count)))))
 operands_writable n SetFile = (a_file, λ f. (a_setting, λ setting. tt))
 operands_writable n StartTrans = (a_label, λ l. tt)
-operands_writable n Put = (a_label, λ l. (a_file, λ f. (a_key, λ k. put_writable n l f k)))
-operands_writable n Update = (a_label, λ l. (a_file, λ f. (a_key, λ k. (some_bytes, λ b. tt))))
-operands_writable n Delete = (a_label, λ l. (a_file, λ f. (a_key, λ k. tt)))
-operands_writable n Truncate = (a_label, λ l. (a_file, λ f. (a_number, λ k. tt)))
-operands_writable n Get = (a_label, λ l. (a_file, λ f. (a_key, λ k. tt)))
-operands_writable n Next = (a_label, λ l. (a_file, λ f. (a_key, λ k. tt)))
+operands_writable n Put = (a_label_or_none, λ l. (a_file, λ f. (a_key, λ k. put_writable n l f k)))
+operands_writable n Update = (a_label_or_none, λ l. (a_file, λ f. (a_key, λ k. (some_bytes, λ b. tt))))
+operands_writable n Delete = (a_label_or_none, λ l. (a_file, λ f. (a_key, λ k. tt)))
+operands_writable n Truncate = (a_label_or_none, λ l. (a_file, λ f. (a_number, λ k. tt)))
+operands_writable n Get = (a_label_or_none, λ l. (a_file, λ f. (a_key, λ k. tt)))
+operands_writable n Next = (a_label_or_none, λ l. (a_file, λ f. (a_key, λ k. tt)))
 operands_writable n EndTrans = (a_label, λ l. tt)
 operands_writable n AbortTrans = (a_label, λ l. tt)
 operands_writable n Dump = (a_file, λ f. tt)
+operands_writable n DumpJournal = (a_journal, λ j. tt)
 
 behind_writable : (first : First) → IsWritable (behind_first first)
 behind_writable (ToNode n) = (a_verb, λ v. operands_writable n v)

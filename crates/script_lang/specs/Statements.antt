@@ -21,6 +21,8 @@ use Rattle.script_lang.specs.declared.statement.Operation.{Operation}
 use Rattle.script_lang.specs.declared.statement.Operation.TheVariants as operation
 use Rattle.script_lang.specs.declared.statement.Setting.{Setting}
 use Rattle.script_lang.specs.declared.statement.Setting.TheVariants as setting
+use Rattle.script_lang.specs.declared.statement.Journal.{Journal}
+use Rattle.script_lang.specs.declared.statement.Journal.TheVariants as journal
 use Rattle.script_lang.specs.declared.statement.Verb.{Verb}
 use Rattle.script_lang.specs.declared.statement.Verb.TheVariants as verb
 use Rattle.script_lang.specs.declared.statement.WorldVerb.{WorldVerb}
@@ -46,6 +48,9 @@ abbrev pub setting_of : Setting → model.Setting
 setting_of setting.RecoveryUnits = model.RecoveryUnits
 setting_of setting.NoRecoveryUnits = model.NoRecoveryUnits
 
+abbrev pub journal_of : Journal → grammar.Journal
+journal_of journal.RecoveryUnits = grammar.RecoveryUnitJournal
+
 abbrev pub verb_of : Verb → grammar.Verb
 verb_of verb.Init = grammar.Init
 verb_of verb.Boot = grammar.Boot
@@ -61,6 +66,7 @@ verb_of verb.Next = grammar.Next
 verb_of verb.EndTrans = grammar.EndTrans
 verb_of verb.AbortTrans = grammar.AbortTrans
 verb_of verb.Dump = grammar.Dump
+verb_of verb.DumpJournal = grammar.DumpJournal
 
 abbrev pub world_verb_of : WorldVerb → grammar.WorldVerb
 world_verb_of world_verb.Fuse = grammar.Fuse
@@ -96,9 +102,11 @@ request_of lit (request.Create file bucket size form) = model.Create file bucket
 request_of lit (request.SetFile file setting) = model.SetFile file (setting_of setting)
 request_of lit (request.StartTrans label) = model.StartTrans label
 request_of lit (request.Records label file operation) = model.Records label file (operation_of lit operation)
+request_of lit (request.Direct file operation) = model.Direct file (operation_of lit operation)
 request_of lit (request.EndTrans label) = model.EndTrans label
 request_of lit (request.AbortTrans label) = model.AbortTrans label
 request_of lit (request.Dump file) = model.Dump file
+request_of lit request.DumpJournal = model.DumpJournal
 request_of lit (request.Fuse writes choice) = model.Fuse writes choice
 request_of lit request.Crash = model.Crash
 

@@ -154,6 +154,13 @@ fn dump(node: NodeName, words: &mut Words<'_>) -> Result<Statement, LineErr>
     ends(Statement::At(node, Request::Dump(file)), words)
 }
 
+fn dump_journal(node: NodeName, words: &mut Words<'_>) -> Result<Statement, LineErr>
+    ensures { ReadsPlain (operands_of node TheVerb.DumpJournal) words.old result }
+{
+    let _journal = words.journal()?;
+    ends(Statement::At(node, Request::DumpJournal), words)
+}
+
 fn operands(
     verb: Verb,
     node: NodeName,
@@ -177,6 +184,7 @@ fn operands(
         Verb::EndTrans => end_trans(node, words),
         Verb::AbortTrans => abort_trans(node, words),
         Verb::Dump => dump(node, words),
+        Verb::DumpJournal => dump_journal(node, words),
     }
 }
 

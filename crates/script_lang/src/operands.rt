@@ -3,13 +3,13 @@ ghost use Rattle.std.specs.Prelude.{◌≡◌, ℕ, ◌≤◌, IfSome, Option};
 ghost use Rattle.std.specs.Option.{option_map};
 ghost use Rattle.vms_model.specs.Words.{number_up_to, among};
 ghost use Rattle.script_model.specs.Operands.{prefix_said};
-ghost use Rattle.script_model.specs.Grammar.{verbs, world_verbs, organizations, settings, first_said};
-ghost use Rattle.script_lang.specs.Statements.{verb_of, world_verb_of, organization_of, setting_of, first_of};
+ghost use Rattle.script_model.specs.Grammar.{verbs, world_verbs, organizations, settings, journals, first_said};
+ghost use Rattle.script_lang.specs.Statements.{verb_of, world_verb_of, organization_of, setting_of, journal_of, first_of};
 
-use crate::statement::{First, Organization, Setting, Verb, WorldVerb};
+use crate::statement::{First, Journal, Organization, Setting, Verb, WorldVerb};
 use vms_base::{NodeName, find, part_at, read_digits};
 
-const VERBS: [(&[u8], Verb); 14] = [
+const VERBS: [(&[u8], Verb); 15] = [
     (b"INIT", Verb::Init),
     (b"BOOT", Verb::Boot),
     (b"CREATE", Verb::Create),
@@ -24,6 +24,7 @@ const VERBS: [(&[u8], Verb); 14] = [
     (b"END_TRANS", Verb::EndTrans),
     (b"ABORT_TRANS", Verb::AbortTrans),
     (b"DUMP", Verb::Dump),
+    (b"DUMP_JOURNAL", Verb::DumpJournal),
 ];
 
 const WORLD_VERBS: [(&[u8], WorldVerb); 2] = [
@@ -41,6 +42,8 @@ const SETTINGS: [(&[u8], Setting); 2] = [
     (b"RU", Setting::RecoveryUnits),
     (b"NORU", Setting::NoRecoveryUnits),
 ];
+
+const JOURNALS: [(&[u8], Journal); 1] = [(b"RU", Journal::RecoveryUnits)];
 
 /// The verb of a word in either case of letters.
 pub fn read_verb(text: &[u8]) -> Option<Verb>
@@ -68,6 +71,13 @@ pub fn read_setting(text: &[u8]) -> Option<Setting>
     ensures { option_map setting_of result ≡ among settings text.now }
 {
     find(&SETTINGS, text)
+}
+
+/// The journal of a word in either case of letters.
+pub fn read_journal(text: &[u8]) -> Option<Journal>
+    ensures { option_map journal_of result ≡ among journals text.now }
+{
+    find(&JOURNALS, text)
 }
 
 /// The number of 1 to 20 digits, at most the limit.

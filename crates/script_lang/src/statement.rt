@@ -35,6 +35,12 @@ pub enum Setting {
     NoRecoveryUnits,
 }
 
+/// The word that names a journal of a volume.
+#[derive(Clone, Copy, Debug, PartialEq, Eq, Drop)]
+pub enum Journal {
+    RecoveryUnits,
+}
+
 /// The word that tells a statement to a node from others.
 #[derive(Clone, Copy, Debug, PartialEq, Eq, Drop)]
 pub enum Verb {
@@ -52,6 +58,7 @@ pub enum Verb {
     EndTrans,
     AbortTrans,
     Dump,
+    DumpJournal,
 }
 
 /// The word that begins a statement of the world.
@@ -110,10 +117,15 @@ pub enum Request {
     },
     SetFile(FileName, Setting),
     StartTrans(Label),
+    /// The branch of a label is asked.
     Records(Label, FileName, Operation),
+    /// No branch is asked: a change is a transaction of its own.
+    Direct(FileName, Operation),
     EndTrans(Label),
     AbortTrans(Label),
     Dump(FileName),
+    /// The journal of recovery units is shown.
+    DumpJournal,
     /// The node's disk stops after so many further writes of blocks; the choice says what is then left of each block that was not made durable.
     Fuse {
         writes: u32,

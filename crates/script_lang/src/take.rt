@@ -1,12 +1,14 @@
 // Operands from the words of a line.
 ghost use Rattle.std.specs.Prelude.{◌≡◌};
-ghost use Rattle.script_model.specs.Grammar.{AFirst, AVerb, ANode, ALabel, AFile, AnOrganization, ASetting, ANumber, ALongNumber, SomeBytes, AKey};
+ghost use Rattle.script_model.specs.Grammar.{AFirst, AVerb, ANode, ALabel, ALabelOrNone, AFile, AnOrganization, ASetting, AJournal, ANumber, ALongNumber, SomeBytes, AKey};
 ghost use Rattle.script_lang.specs.Reads.{Takes, Finishes};
-ghost use Rattle.script_lang.specs.Statements.{first_of, verb_of, organization_of, setting_of, word_in};
+ghost use Rattle.script_lang.specs.Statements.{first_of, verb_of, organization_of, setting_of, journal_of, word_in};
 
 use crate::literals::Literal;
-use crate::operands::{read_first, read_number, read_organization, read_setting, read_verb};
-use crate::statement::{First, KeyWord, Organization, Setting, Verb};
+use crate::operands::{
+    read_first, read_journal, read_number, read_organization, read_setting, read_verb,
+};
+use crate::statement::{First, Journal, KeyWord, Organization, Setting, Verb};
 use crate::wanted::Wanted;
 use crate::words::{LineErr, Word, Words};
 use vms_base::{FileName, Label, NodeName};
@@ -64,6 +66,20 @@ impl<'a> Words<'a> {
         }
     }
 
+    /// A label, or a dash where there is none.
+    pub fn label_or_none(&mut self) -> Result<Option<Label>, LineErr>
+        ensures { Takes ALabelOrNone (λ l. l) self.old result self.new }
+    {
+        let word = self.word(Wanted::LabelOrNone)?;
+        if word.text == b"-".as_slice() {
+            return Ok(None);
+        }
+        match Label::new(word.text) {
+            Some(label) => Ok(Some(label)),
+            None => Err(word.cannot_stand()),
+        }
+    }
+
     pub fn file(&mut self) -> Result<FileName, LineErr>
         ensures { Takes AFile (λ f. f) self.old result self.new }
     {
@@ -90,6 +106,16 @@ impl<'a> Words<'a> {
         let word = self.word(Wanted::Setting)?;
         match read_setting(word.text) {
             Some(setting) => Ok(setting),
+            None => Err(word.cannot_stand()),
+        }
+    }
+
+    pub fn journal(&mut self) -> Result<Journal, LineErr>
+        ensures { Takes AJournal journal_of self.old result self.new }
+    {
+        let word = self.word(Wanted::Journal)?;
+        match read_journal(word.text) {
+            Some(journal) => Ok(journal),
             None => Err(word.cannot_stand()),
         }
     }

@@ -32,7 +32,7 @@ fn say(rt: &impl Abort, alloc: Global, table: &[(&[u8], Request)]) -> Result<(),
 #[test]
 fn lines_ask_nodes(rt: HostRuntime) -> Result<(), Fail> {
     let (file, label) = (file()?, label()?);
-    let table: [(&[u8], Request); 19] = [
+    let table: [(&[u8], Request); 21] = [
         (
             b"A: INIT",
             Request::Init {
@@ -130,6 +130,8 @@ fn lines_ask_nodes(rt: HostRuntime) -> Result<(), Fail> {
         (b"A: End_Trans T", Request::EndTrans(label)),
         (b"A: ABORT_TRANS T", Request::AbortTrans(label)),
         (b"A: dump F", Request::Dump(file)),
+        (b"A: DUMP_JOURNAL RU", Request::DumpJournal),
+        (b"a: dump_journal ru ", Request::DumpJournal),
     ];
     say(&rt, rt.alloc(), &table)
 }
@@ -174,6 +176,39 @@ fn lines_ask_for_records(rt: HostRuntime) -> Result<(), Fail> {
         say(&rt, rt.alloc(), &table)?;
     }
     Ok(())
+}
+
+#[test]
+fn lines_ask_for_records_without_a_label(rt: HostRuntime) -> Result<(), Fail> {
+    let file = file()?;
+    let table: [(&[u8], Request); 7] = [
+        (
+            b"A: PUT - F \"7\"",
+            Request::Direct(file, Operation::Put(None)),
+        ),
+        (
+            b"A: PUT - F 7 \"x\"",
+            Request::Direct(file, Operation::Put(Some(7))),
+        ),
+        (
+            b"A: UPDATE - F \"aa\" \"ab\"",
+            Request::Direct(file, Operation::Update(KeyWord::Bytes)),
+        ),
+        (
+            b"A: DELETE - F 1",
+            Request::Direct(file, Operation::Delete(KeyWord::Number(1))),
+        ),
+        (
+            b"A: TRUNCATE - F 2",
+            Request::Direct(file, Operation::Truncate(2)),
+        ),
+        (
+            b"A: GET - F 1",
+            Request::Direct(file, Operation::Get(KeyWord::Number(1))),
+        ),
+        (b"A: NEXT - F", Request::Direct(file, Operation::Next(None))),
+    ];
+    say(&rt, rt.alloc(), &table)
 }
 
 #[test]
@@ -228,7 +263,7 @@ fn column(alloc: Global, line: &[u8]) -> Result<Option<u32>, Fail> {
 
 #[test]
 fn lines_leave_the_grammar_at_their_columns(rt: HostRuntime) -> Result<(), Fail> {
-    let table: [(&[u8], Option<u32>); 43] = [
+    let table: [(&[u8], Option<u32>); 45] = [
         (b"", None),
         (b"   ", None),
         (b"!A: PUT", None),
@@ -250,9 +285,12 @@ fn lines_leave_the_grammar_at_their_columns(rt: HostRuntime) -> Result<(), Fail>
         (b"A: DELETE T F", Some(14)),
         (b"A: DELETE T F 1 1", Some(17)),
         (b"A: TRUNCATE T F \"1\"", Some(17)),
-        (b"A: GET - F 1", Some(8)),
+        (b"A: GET - F", Some(11)),
+        (b"A: GET -T F 1", Some(8)),
+        (b"A: DUMP -", Some(9)),
         (b"A: GET T F 1 \"a\"", Some(14)),
-        (b"A: NEXT - F", Some(9)),
+        (b"A: NEXT - F x", Some(13)),
+        (b"A: END_TRANS -", Some(14)),
         (b"A: NEXT T", Some(10)),
         (b"A: NEXT T F x", Some(13)),
         (b"A: NEXT T F 1 1", Some(15)),
@@ -260,7 +298,6 @@ fn lines_leave_the_grammar_at_their_columns(rt: HostRuntime) -> Result<(), Fail>
         (b"A: PUT T F 000000000000000000001 \"a\"", Some(12)),
         (b"A: PUT T F 1", Some(13)),
         (b"A: PUT T F 1  ", Some(15)),
-        (b"A: PUT - F 1 \"a\"", Some(8)),
         (b"A: PUT T 1F 1 \"a\"", Some(10)),
         (b"A: START_TRANS T TIMEOUT 1", Some(18)),
         (b"A : DUMP F", Some(1)),
@@ -281,7 +318,7 @@ fn lines_leave_the_grammar_at_their_columns(rt: HostRuntime) -> Result<(), Fail>
 
 #[test]
 fn lines_of_nodes_and_of_the_world_leave_it_at_theirs(rt: HostRuntime) -> Result<(), Fail> {
-    let table: [(&[u8], Option<u32>); 33] = [
+    let table: [(&[u8], Option<u32>); 38] = [
         (b"A:INIT", Some(1)),
         (b"INIT", Some(1)),
         (b"A: INIT x", Some(9)),
@@ -312,6 +349,11 @@ fn lines_of_nodes_and_of_the_world_leave_it_at_theirs(rt: HostRuntime) -> Result
         (b"FUSE A 0 000000000000000000001", Some(10)),
         (b"FUSE A 1 2 3", Some(12)),
         (b"A: CRASH", Some(4)),
+        (b"A: DUMP_JOURNAL", Some(16)),
+        (b"A: DUMP_JOURNAL F", Some(17)),
+        (b"A: DUMP_JOURNAL AI", Some(17)),
+        (b"A: DUMP_JOURNAL RU AI", Some(20)),
+        (b"DUMP_JOURNAL RU", Some(1)),
         (b"CRASH", Some(6)),
         (b"CRASH 1A", Some(7)),
         (b"CRASH A B", Some(9)),
@@ -337,12 +379,14 @@ fn wanted(alloc: Global, line: &[u8]) -> Result<Option<Wanted>, Fail> {
 
 #[test]
 fn a_faulty_line_tells_what_it_wants(rt: HostRuntime) -> Result<(), Fail> {
-    let table: [(&[u8], Wanted); 12] = [
+    let table: [(&[u8], Wanted); 14] = [
         (b"INIT", Wanted::First),
         (b"A: FROB", Wanted::Verb),
         (b"CRASH 1A", Wanted::Node),
         (b"A: END_TRANS", Wanted::Label),
+        (b"A: GET", Wanted::LabelOrNone),
         (b"A: DUMP", Wanted::File),
+        (b"A: DUMP_JOURNAL F", Wanted::Journal),
         (b"A: CREATE F SEK 1 100 10", Wanted::Organization),
         (b"A: SET_FILE F AI", Wanted::Setting),
         (b"A: INIT x", Wanted::Number),

@@ -10,9 +10,12 @@ pub enum Wanted {
     Verb,
     Node,
     Label,
+    /// A label, or a dash where there is none.
+    LabelOrNone,
     File,
     Organization,
     Setting,
+    Journal,
     /// A number of 32 bits.
     Number,
     /// A number of 64 bits.
@@ -29,12 +32,14 @@ impl Wanted {
         match self {
             Wanted::First => "a node and a colon in one word, as A:, or FUSE or CRASH",
             Wanted::Verb =>
-                "a verb: INIT, BOOT, CREATE, SET_FILE, START_TRANS, PUT, UPDATE, DELETE, TRUNCATE, GET, NEXT, END_TRANS, ABORT_TRANS or DUMP",
+                "a verb: INIT, BOOT, CREATE, SET_FILE, START_TRANS, PUT, UPDATE, DELETE, TRUNCATE, GET, NEXT, END_TRANS, ABORT_TRANS, DUMP or DUMP_JOURNAL",
             Wanted::Node => "a node: 1 to 6 letters and digits, a letter first",
             Wanted::Label => "a label: 1 to 15 letters, digits and _, a letter first",
+            Wanted::LabelOrNone => "a label: 1 to 15 letters, digits and _, a letter first, or -",
             Wanted::File => "a file: 1 to 39 letters, digits, _, $ and ., a letter first",
             Wanted::Organization => "an organization: SEQ, REL or IDX",
             Wanted::Setting => "a setting: RU or NORU",
+            Wanted::Journal => "a journal: RU",
             Wanted::Number => "a number from 0 to 4294967295",
             Wanted::LongNumber => "a number from 0 to 18446744073709551615",
             Wanted::Bytes => "bytes: \"text\" in quotes, or %X and pairs of hexadecimal digits",

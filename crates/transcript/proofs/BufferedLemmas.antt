@@ -1,5 +1,5 @@
 -- Texts that are put through a buffer, one after another.
-use Rattle.std.proofs.Common.{◌≡◌, List, [], ◌++◌, ℕ, Bool, true, false, refl, sym, ◌∙◌, ap, subst, append-nil, append_assoc}
+use Rattle.std.proofs.Common.{◌≡◌, List, [], ◌∷◌, ◌++◌, ℕ, Bool, true, false, refl, sym, ◌∙◌, ap, subst, append-nil, append_assoc}
 use Rattle.transcript_model.specs.Emitting.{Shown, Adds, Puts}
 use Rattle.transcript_model.proofs.EmittingLemmas.{puts_on, puts_nothing, puts2}
 use Rattle.transcript.specs.Buffered.{Kept, Holds, Appends}
@@ -108,3 +108,7 @@ pub puts_through : (old now : Kept) (new : Shown) (text : List ℕ) → old.wait
 puts_through old now new text empty h p =
     let nothing : Holds old.shown [] old = subst (λ w. Holds old.shown [] (record { shown = old.shown; waiting = w })) (sym empty) (holds_nothing old.shown) in
     puts_whole old.shown text now new (h.behind old.shown [] nothing) p
+
+-- what stands behind an entry's branch
+pub entry_behind : (a b c d e x : List ℕ) → a ++ (b ++ (c ++ (d ++ (32 ∷ (e ++ x))))) ≡ (a ++ (b ++ (c ++ (d ++ (32 ∷ e))))) ++ x
+entry_behind a b c d e x = rw (append_assoc a (b ++ (c ++ (d ++ (32 ∷ e)))) x, append_assoc b (c ++ (d ++ (32 ∷ e))) x, append_assoc c (d ++ (32 ∷ e)) x, append_assoc d (32 ∷ e) x) refl

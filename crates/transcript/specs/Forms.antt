@@ -1,8 +1,10 @@
 -- The lines that the code's forms are.
+use Rattle.std.specs.Prelude.{ℕ, List, Option, option_map}
+use Rattle.std.specs.Borrow.{Bor}
 use Rattle.vms_model.specs.Times.{CanBeWritten}
 use Rattle.vms_base.specs.Ids.{id_of, tid_of, serial_of}
 use Rattle.vms_base.specs.Keys.{key_of}
-use Rattle.vms_base.specs.Outcomes.{reason_of}
+use Rattle.vms_base.specs.Outcomes.{outcome_of, reason_of}
 use Rattle.transcript_model.specs.Lines as model
 use Rattle.transcript.specs.declared.form.Cause.{Cause}
 use Rattle.transcript.specs.declared.form.Cause.TheVariants as cause
@@ -21,6 +23,12 @@ quota_of quota.Files = model.Files
 quota_of quota.Changes = model.Changes
 quota_of quota.Boots = model.Boots
 quota_of quota.Moments = model.Moments
+quota_of quota.Locks = model.Locks
+quota_of quota.Positions = model.Positions
+
+-- the bytes of an image, where there is one
+abbrev pub image_of : Option (Bor (List ℕ)) → Option (List ℕ)
+image_of image = option_map (λ bytes. bytes.now) image
 
 -- what the form shows
 abbrev pub line_of : Form → model.Line
@@ -29,11 +37,15 @@ line_of (form.Committed tid serial moment) = model.Committed (tid_of tid) (seria
 line_of (form.Aborted tid serial reason moment) = model.Aborted (tid_of tid) (serial_of serial) (reason_of reason) moment.0
 line_of (form.LastCommitted tid serial moment) = model.LastCommitted (tid_of tid) (serial_of serial) moment.0
 line_of (form.LastAborted tid serial reason moment) = model.LastAborted (tid_of tid) (serial_of serial) (reason_of reason) moment.0
+line_of (form.ChangeEntry position tid serial file key image) = model.ChangeEntry position (tid_of tid) (serial_of serial) file (key_of key) (image_of image)
+line_of (form.PreparedEntry position tid serial) = model.PreparedEntry position (tid_of tid) (serial_of serial)
+line_of (form.SettledEntry position tid serial outcome moment) = model.SettledEntry position (tid_of tid) (serial_of serial) (outcome_of outcome) moment.0
 line_of (form.Down node cause) = model.Down node (cause_of cause)
 line_of (form.Crashed node) = model.Crashed node
 line_of form.Normal = model.Normal
 line_of (form.NormalCount n) = model.NormalCount n
 line_of (form.NormalId id) = model.NormalId (id_of id)
+line_of (form.NormalSpan first end) = model.NormalSpan first end
 line_of form.RecordNormal = model.RecordNormal
 line_of (form.RecordPosition position) = model.RecordPosition position
 line_of (form.RecordFound bytes) = model.RecordFound bytes.now
@@ -52,6 +64,8 @@ line_of form.BadRecordNumber = model.BadRecordNumber
 line_of form.BadRecordSize = model.BadRecordSize
 line_of form.NoSuchTransaction = model.NoSuchTransaction
 line_of form.NotMarked = model.NotMarked
+line_of form.NeedsUnit = model.NeedsUnit
+line_of (form.RecordLocked serial) = model.RecordLocked (serial_of serial)
 line_of (form.FileLocked serial) = model.FileLocked (serial_of serial)
 line_of (form.NoVolume node condition block) = model.NoVolume node condition block
 line_of form.RecordExists = model.RecordExists
@@ -62,6 +76,7 @@ line_of form.KeyChanged = model.KeyChanged
 line_of (form.QuotaExceeded quota limit) = model.QuotaExceeded (quota_of quota) limit
 line_of (form.VolumeFull free need) = model.VolumeFull free need
 line_of (form.FileFull free need) = model.FileFull free need
+line_of (form.JournalFull free need) = model.JournalFull free need
 line_of form.NoMemory = model.NoMemory
 line_of (form.Broken cause) = model.Broken (cause_of cause)
 line_of (form.BadLine column) = model.BadLine column
@@ -73,4 +88,5 @@ HasTime (form.Committed tid serial moment) = CanBeWritten moment.0
 HasTime (form.Aborted tid serial reason moment) = CanBeWritten moment.0
 HasTime (form.LastCommitted tid serial moment) = CanBeWritten moment.0
 HasTime (form.LastAborted tid serial reason moment) = CanBeWritten moment.0
+HasTime (form.SettledEntry position tid serial outcome moment) = CanBeWritten moment.0
 HasTime _ = Unit {0}

@@ -1,5 +1,5 @@
 //! Transcript lines, one after another, up to the first write that fails.
-ghost use Rattle.std.specs.Prelude.{◌≡◌, ◌<◌, ◌≤◌, [], ◌∷◌, ◌++◌, ℕ, true, false, take, IfOk, decimal, flat_map};
+ghost use Rattle.std.specs.Prelude.{◌≡◌, ◌<◌, ◌≤◌, [], ◌∷◌, ◌++◌, ℕ, true, false, take, IfOk, decimal, flat_map, codes};
 ghost use Rattle.std.specs.Bool.{OnTrue, OnFalse};
 ghost use Rattle.std.specs.Borrow.{GName};
 ghost use Rattle.std.specs.List.{list_all};
@@ -8,20 +8,22 @@ ghost use Rattle.vms_model.specs.Texts.{id_text, is_plain as is_plain_byte, hex_
 ghost use Rattle.vms_model.specs.Times.{CanBeWritten};
 ghost use Rattle.vms_base.specs.Ids.{id_of, tid_of, serial_of};
 ghost use Rattle.vms_base.specs.Keys.{key_of};
-ghost use Rattle.vms_base.specs.Outcomes.{reason_of};
+ghost use Rattle.vms_base.specs.Outcomes.{outcome_of, reason_of};
 ghost use Rattle.transcript_model.specs.Lines as model;
-ghost use Rattle.transcript_model.specs.Lines.{line_words, quoted_time, cause_text, quota_text, usage_text};
+ghost use Rattle.transcript_model.specs.Lines.{line_words, quoted_time, cause_text, quota_text, image_text, outcome_text, usage_text};
 ghost use Rattle.transcript_model.specs.Emitting.{Puts, Emits, EmittingComposes, Shown, Since};
 ghost use Rattle.transcript.specs.Writes.{Writes};
 ghost use Rattle.transcript.specs.Buffered.{Appends};
 ghost use Rattle.transcript.specs.Emitters.{shown_by, kept_by};
-ghost use Rattle.transcript.specs.Forms.{HasTime, line_of, cause_of, quota_of};
+ghost use Rattle.transcript.specs.Forms.{HasTime, line_of, cause_of, quota_of, image_of};
 
 use crate::form::{Cause, Form, Quota};
 use crate::outside::Sink;
 use itoa::Buffer;
 use std::alloc::{AllocError, Global};
-use vms_base::{Id, Key, Moment, NodeName, Reason, Record, Serial, Tid, write_time};
+use vms_base::{
+    FileName, Id, Key, Moment, NodeName, Outcome, Reason, Record, Serial, Tid, write_time,
+};
 
 const BUFFER_BYTES: usize = 16_384;
 
@@ -275,6 +277,8 @@ impl<'a, K: Sink> SinkEmit<'a, K> {
             Quota::Changes => self.put(b"CHANGES"),
             Quota::Boots => self.put(b"BOOTS"),
             Quota::Moments => self.put(b"MOMENTS"),
+            Quota::Locks => self.put(b"LOCKS"),
+            Quota::Positions => self.put(b"POSITIONS"),
         }
     }
 
@@ -394,6 +398,93 @@ impl<'a, K: Sink> SinkEmit<'a, K> {
         self.put_aborted(tid, serial, reason, moment);
     }
 
+    // An image, or a dash where there is none.
+    fn put_image(&mut self, image: Option<&Record>)
+        ensures same_sink { self.new.sink.ghost_name ≡ self.old.sink.ghost_name }
+        ensures number { self.new.number ≡ self.old.number }
+        ensures appends { Appends (kept_by K.shown K.faults self.old) (image_text (image_of image.entry)) (kept_by K.shown K.faults self.new) }
+    {
+        match image {
+            Some(shown) => self.put_bytes(shown.bytes()),
+            None => self.put(b"-"),
+        }
+    }
+
+    fn put_outcome(&mut self, outcome: Outcome)
+        ensures same_sink { self.new.sink.ghost_name ≡ self.old.sink.ghost_name }
+        ensures number { self.new.number ≡ self.old.number }
+        ensures appends { Appends (kept_by K.shown K.faults self.old) (outcome_text (outcome_of outcome)) (kept_by K.shown K.faults self.new) }
+    {
+        match outcome {
+            Outcome::Commit => self.put(b"COMMIT"),
+            Outcome::Abort => self.put(b"ABORT"),
+        }
+    }
+
+    // What each entry of a journal begins with: its position, its kind and its branch.
+    fn put_entry(&mut self, position: u64, kind: &[u8], tid: &Tid, serial: &Serial)
+        ensures same_sink { self.new.sink.ghost_name ≡ self.old.sink.ghost_name }
+        ensures number { self.new.number ≡ self.old.number }
+        ensures appends { Appends (kept_by K.shown K.faults self.old) (codes "ENTRY " ++ (decimal position ++ (kind.now ++ (id_text (tid_of tid.now) ++ (32 ∷ id_text (serial_of serial.now)))))) (kept_by K.shown K.faults self.new) }
+    {
+        self.put(b"ENTRY ");
+        self.put_number(position);
+        self.put(kind);
+        self.put_id(&tid.0);
+        self.put(b" ");
+        self.put_id(&serial.0);
+    }
+
+    fn put_change_entry(
+        &mut self,
+        position: u64,
+        tid: &Tid,
+        serial: &Serial,
+        file: &FileName,
+        key: &Key,
+        image: Option<&Record>,
+    )
+        ensures same_sink { self.new.sink.ghost_name ≡ self.old.sink.ghost_name }
+        ensures number { self.new.number ≡ self.old.number }
+        ensures appends { Appends (kept_by K.shown K.faults self.old) (line_words (model.ChangeEntry position (tid_of tid.now) (serial_of serial.now) file.now (key_of key.now) (image_of image.entry))) (kept_by K.shown K.faults self.new) }
+    {
+        self.put_entry(position, b" CHANGE ", tid, serial);
+        self.put(b" ");
+        self.put(file.bytes());
+        self.put(b" ");
+        self.put_key(key);
+        self.put(b" ");
+        self.put_image(image);
+    }
+
+    fn put_prepared_entry(&mut self, position: u64, tid: &Tid, serial: &Serial)
+        ensures same_sink { self.new.sink.ghost_name ≡ self.old.sink.ghost_name }
+        ensures number { self.new.number ≡ self.old.number }
+        ensures appends { Appends (kept_by K.shown K.faults self.old) (line_words (model.PreparedEntry position (tid_of tid.now) (serial_of serial.now))) (kept_by K.shown K.faults self.new) }
+    {
+        self.put_entry(position, b" PREPARED ", tid, serial);
+    }
+
+    fn put_settled_entry(
+        &mut self,
+        position: u64,
+        tid: &Tid,
+        serial: &Serial,
+        outcome: Outcome,
+        moment: Moment,
+    )
+        requires { CanBeWritten moment.0 }
+        ensures same_sink { self.new.sink.ghost_name ≡ self.old.sink.ghost_name }
+        ensures number { self.new.number ≡ self.old.number }
+        ensures appends { Appends (kept_by K.shown K.faults self.old) (line_words (model.SettledEntry position (tid_of tid.now) (serial_of serial.now) (outcome_of outcome) moment.0)) (kept_by K.shown K.faults self.new) }
+    {
+        self.put_entry(position, b" SETTLED ", tid, serial);
+        self.put(b" ");
+        self.put_outcome(outcome);
+        self.put(b" ");
+        self.put_time(moment);
+    }
+
     fn put_down(&mut self, node: &NodeName, cause: Cause)
         ensures same_sink { self.new.sink.ghost_name ≡ self.old.sink.ghost_name }
         ensures number { self.new.number ≡ self.old.number }
@@ -453,6 +544,14 @@ impl<'a, K: Sink> SinkEmit<'a, K> {
         self.put_with_numbers(b"RMS$_FUL FILE ", u64::from(free), u64::from(need));
     }
 
+    fn put_journal_full(&mut self, free: u64, need: u64)
+        ensures same_sink { self.new.sink.ghost_name ≡ self.old.sink.ghost_name }
+        ensures number { self.new.number ≡ self.old.number }
+        ensures appends { Appends (kept_by K.shown K.faults self.old) (line_words (model.JournalFull free need)) (kept_by K.shown K.faults self.new) }
+    {
+        self.put_with_numbers(b"RMS$_FUL RU ", free, need);
+    }
+
     fn put_quota_exceeded(&mut self, quota: Quota, limit: u64)
         ensures same_sink { self.new.sink.ghost_name ≡ self.old.sink.ghost_name }
         ensures number { self.new.number ≡ self.old.number }
@@ -483,11 +582,21 @@ impl<'a, K: Sink> SinkEmit<'a, K> {
             Form::LastAborted(tid, serial, reason, moment) => {
                 self.put_last_aborted(tid, serial, *reason, *moment);
             }
+            Form::ChangeEntry(position, tid, serial, file, key, image) => {
+                self.put_change_entry(*position, tid, serial, file, key, *image);
+            }
+            Form::PreparedEntry(position, tid, serial) => {
+                self.put_prepared_entry(*position, tid, serial);
+            }
+            Form::SettledEntry(position, tid, serial, outcome, moment) => {
+                self.put_settled_entry(*position, tid, serial, *outcome, *moment);
+            }
             Form::Down(node, cause) => self.put_down(node, *cause),
             Form::Crashed(node) => self.put_crashed(node),
             Form::Normal => self.put(b"SS$_NORMAL"),
             Form::NormalCount(n) => self.put_with_number(b"SS$_NORMAL ", *n),
             Form::NormalId(id) => self.put_with_id(b"SS$_NORMAL ", id),
+            Form::NormalSpan(first, end) => self.put_with_numbers(b"SS$_NORMAL ", *first, *end),
             Form::RecordNormal => self.put(b"RMS$_NORMAL"),
             Form::RecordPosition(position) => self.put_position(*position),
             Form::RecordFound(record) => self.put_found(record),
@@ -506,6 +615,8 @@ impl<'a, K: Sink> SinkEmit<'a, K> {
             Form::BadRecordSize => self.put(b"RMS$_RSZ"),
             Form::NoSuchTransaction => self.put(b"SS$_NOSUCHTID"),
             Form::NotMarked => self.put(b"NOTRU"),
+            Form::NeedsUnit => self.put(b"RMS$_NRU"),
+            Form::RecordLocked(serial) => self.put_with_id(b"RMS$_RLK ", &serial.0),
             Form::FileLocked(serial) => self.put_with_id(b"RMS$_FLK ", &serial.0),
             Form::NoVolume(node, condition, block) => self.put_no_volume(node, *condition, *block),
             Form::RecordExists => self.put(b"RMS$_REX"),
@@ -516,6 +627,7 @@ impl<'a, K: Sink> SinkEmit<'a, K> {
             Form::QuotaExceeded(quota, limit) => self.put_quota_exceeded(*quota, *limit),
             Form::VolumeFull(free, need) => self.put_volume_full(*free, *need),
             Form::FileFull(free, need) => self.put_file_full(*free, *need),
+            Form::JournalFull(free, need) => self.put_journal_full(*free, *need),
             Form::NoMemory => self.put(b"SS$_INSFMEM"),
             Form::Broken(cause) => self.put_cause(*cause),
             Form::BadLine(column) => self.put_with_number(b"BADLINE ", u64::from(*column)),

@@ -1,5 +1,5 @@
 //! What the lines of a transcript show.
-use vms_base::{Id, Key, Moment, NodeName, Reason, Record, Serial, Tid};
+use vms_base::{FileName, Id, Key, Moment, NodeName, Outcome, Reason, Record, Serial, Tid};
 
 /// Why a node went down in a statement that its disk did not serve.
 #[derive(Clone, Copy, Debug, PartialEq, Eq)]
@@ -23,6 +23,10 @@ pub enum Quota {
     Boots,
     /// Moments, of which the greatest of a volume is one.
     Moments,
+    /// Keys that the unsettled branches of a node hold.
+    Locks,
+    /// Positions of a journal, of which its end is one.
+    Positions,
 }
 
 /// What one line shows: an event, or the answer of a statement.
@@ -35,11 +39,19 @@ pub enum Form<'a> {
     LastCommitted(Tid, Serial, Moment),
     /// It was an abort.
     LastAborted(Tid, Serial, Reason, Moment),
+    /// An entry of a journal, with its position: a branch changed this key of a file, which had this record before, or none.
+    ChangeEntry(u64, Tid, Serial, FileName, Key, Option<&'a Record>),
+    /// An entry by which a branch was prepared.
+    PreparedEntry(u64, Tid, Serial),
+    /// An entry by which a branch was settled.
+    SettledEntry(u64, Tid, Serial, Outcome, Moment),
     Down(NodeName, Cause),
     Crashed(NodeName),
     Normal,
     NormalCount(u64),
     NormalId(Id),
+    /// The positions at which a journal begins and ends.
+    NormalSpan(u64, u64),
     RecordNormal,
     /// The position at which a record was put.
     RecordPosition(u32),
@@ -60,6 +72,10 @@ pub enum Form<'a> {
     BadRecordSize,
     NoSuchTransaction,
     NotMarked,
+    /// A change without a branch is asked for, of a file that is marked for recovery units.
+    NeedsUnit,
+    /// The branch that holds the record.
+    RecordLocked(Serial),
     FileLocked(Serial),
     /// The node's disk has no volume: the first condition that fails, and the block where it does.
     NoVolume(NodeName, u32, u32),
@@ -74,6 +90,8 @@ pub enum Form<'a> {
     VolumeFull(u64, u64),
     /// The free buckets of a file, and the buckets that are wanted.
     FileFull(u32, u32),
+    /// The free bytes of the journal of recovery units, and the bytes that are wanted.
+    JournalFull(u64, u64),
     NoMemory,
     Broken(Cause),
     BadLine(u32),

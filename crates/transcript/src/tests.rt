@@ -4,7 +4,9 @@ use crate::{
 };
 use std::io::{self, Read};
 use std::test::Fail;
-use vms_base::{Id, Key, KeyText, Moment, NodeName, Reason, Record, Serial, Tid};
+use vms_base::{
+    FileName, Id, Key, KeyText, Moment, NodeName, Outcome, Reason, Record, Serial, Tid,
+};
 
 // Gives at most so many bytes at a time.
 #[derive(Drop)]
@@ -162,6 +164,13 @@ fn lines_have_their_bytes(rt: HostRuntime) -> Result<(), Fail> {
         out.emit(&Form::Aborted(tid, serial, Reason::Vetoed, Moment(1)));
         out.emit(&Form::LastCommitted(tid, serial, Moment(445_343_760_000)));
         out.emit(&Form::LastAborted(tid, serial, Reason::SegFail, Moment(2)));
+        let file = FileName::new(b"f").ok_or("a name")?;
+        out.emit(&Form::ChangeEntry(0, tid, serial, file, Key::Number(1), None));
+        out.emit(&Form::ChangeEntry(52, tid, serial, file, Key::Text(text), Some(&record)));
+        out.emit(&Form::PreparedEntry(104, tid, serial));
+        out.emit(&Form::SettledEntry(152, tid, serial, Outcome::Commit, Moment(1)));
+        out.emit(&Form::SettledEntry(200, tid, serial, Outcome::Abort, Moment(2)));
+        out.emit(&Form::NormalSpan(0, 248));
         out.emit(&Form::Down(node, Cause::Failed));
         out.emit(&Form::Down(node, Cause::Stopped));
         out.emit(&Form::Crashed(node));
@@ -181,6 +190,12 @@ fn lines_have_their_bytes(rt: HostRuntime) -> Result<(), Fail> {
 12 ABORT A.1.1 A.1.2 DDTM$_VETOED \"17-NOV-1858 00:00:00.01\"\n\
 12 LAST COMMIT A.1.1 A.1.2 \"1-JAN-2000 10:00:00.00\"\n\
 12 LAST ABORT A.1.1 A.1.2 DDTM$_SEG_FAIL \"17-NOV-1858 00:00:00.02\"\n\
+12 ENTRY 0 CHANGE A.1.1 A.1.2 F 1 -\n\
+12 ENTRY 52 CHANGE A.1.1 A.1.2 F \"aa\" %X22AF\n\
+12 ENTRY 104 PREPARED A.1.1 A.1.2\n\
+12 ENTRY 152 SETTLED A.1.1 A.1.2 COMMIT \"17-NOV-1858 00:00:00.01\"\n\
+12 ENTRY 200 SETTLED A.1.1 A.1.2 ABORT \"17-NOV-1858 00:00:00.02\"\n\
+12 SS$_NORMAL 0 248\n\
 12 DOWN A FAULT\n\
 12 DOWN A STOPPED\n\
 12 DOWN A CRASH\n\
@@ -214,13 +229,18 @@ fn refusals_and_a_record_without_bytes_have_their_bytes(rt: HostRuntime) -> Resu
         out.emit(&Form::BadParameter);
         out.emit(&Form::NotMarked);
         out.emit(&Form::NoVolume(node, 1, 518));
-        out.emit(&Form::QuotaExceeded(Quota::Branches, 1));
+        out.emit(&Form::QuotaExceeded(Quota::Branches, 64));
         out.emit(&Form::QuotaExceeded(Quota::Files, 64));
         out.emit(&Form::QuotaExceeded(Quota::Changes, 1_024));
         out.emit(&Form::QuotaExceeded(Quota::Boots, 4_294_967_295));
         out.emit(&Form::QuotaExceeded(Quota::Moments, 24_000_000_000_000));
+        out.emit(&Form::QuotaExceeded(Quota::Locks, 4_096));
+        out.emit(&Form::QuotaExceeded(Quota::Positions, 2_305_843_009_213_693_952));
         out.emit(&Form::VolumeFull(7_000, 68_719_476_720));
         out.emit(&Form::FileFull(1, 3));
+        out.emit(&Form::JournalFull(4_096, 8_268));
+        out.emit(&Form::NeedsUnit);
+        out.emit(&Form::RecordLocked(Serial(id(2)?)));
         out.emit(&Form::BadOperation);
         out.emit(&Form::KeyExists);
         out.emit(&Form::RecordNotFound);
@@ -251,13 +271,18 @@ fn refusals_and_a_record_without_bytes_have_their_bytes(rt: HostRuntime) -> Resu
 1 SS$_BADPARAM\n\
 1 NOTRU\n\
 1 VOLUME A 1 518\n\
-1 SS$_EXQUOTA BRANCHES 1\n\
+1 SS$_EXQUOTA BRANCHES 64\n\
 1 SS$_EXQUOTA FILES 64\n\
 1 SS$_EXQUOTA CHANGES 1024\n\
 1 SS$_EXQUOTA BOOTS 4294967295\n\
 1 SS$_EXQUOTA MOMENTS 24000000000000\n\
+1 SS$_EXQUOTA LOCKS 4096\n\
+1 SS$_EXQUOTA POSITIONS 2305843009213693952\n\
 1 RMS$_FUL VOLUME 7000 68719476720\n\
 1 RMS$_FUL FILE 1 3\n\
+1 RMS$_FUL RU 4096 8268\n\
+1 RMS$_NRU\n\
+1 RMS$_RLK A.1.2\n\
 1 RMS$_IOP\n\
 1 RMS$_DUP\n\
 1 RMS$_RNF\n\

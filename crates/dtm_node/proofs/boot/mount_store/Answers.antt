@@ -1,6 +1,6 @@
 use Rattle.std.proofs.Common.{◌≡◌, inl, rules}
 use Rattle.block_disk.specs.Disk.{DiskState}
-use Rattle.dtm_node.proofs.Booting.{mounted, condition_found, mount_fell}
+use Rattle.dtm_node.proofs.Mounting.{mounted, condition_found, mount_fell}
 use Rattle.dtm_node.proofs.boot.mount_store.Goals as goal
 
 pub returns-in-Ok-clause-boots : goal.returns-in-Ok-clause-boots

@@ -1,6 +1,6 @@
 use Rattle.std.proofs.Common.{inl, rules}
 use Rattle.careful_write.specs.State.{LeavesAsItWas}
-use Rattle.dtm_node.proofs.Booting.{opened, open_fell}
+use Rattle.dtm_node.proofs.Mounting.{opened, open_fell}
 use Rattle.dtm_node.proofs.boot.open_disk.Goals as goal
 
 pub returns-in-Ok-clause-boots : goal.returns-in-Ok-clause-boots

@@ -6,11 +6,6 @@ returns c = record {
   places = c.places_are_found_alike.ensures;
   runs = c.free_runs_are_found_alike.ensures;
   files = c.acts_keep_files.ensures;
-  changes = c.acts_keep_changes.ensures;
-  own = c.acts_keep_own.ensures;
-  undo = c.acts_keep_undo.ensures;
-  tells = c.the_branch_locks.ensures;
-  back = c.changes_are_undone.ensures;
   reads = c.records_are_read_alike.ensures;
   shows = c.records_are_shown_in_order.ensures;
   stand = c.files_stand_on_their_extents.ensures;
@@ -20,4 +15,5 @@ returns c = record {
   makes = c.new_files_are_alike.ensures;
   one = c.one_content.ensures;
   front = c.catalogs_stand_on_the_front.ensures;
+  nodes = c.nodes_are_kept.ensures;
 }

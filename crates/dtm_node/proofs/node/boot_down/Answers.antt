@@ -3,7 +3,7 @@ use Rattle.dtm_node.specs.Nodes.{kept_down, shared_of}
 use Rattle.dtm_node.specs.Standing.{StandsFor}
 use Rattle.transcript_model.specs.Lines.{NoMemory}
 use Rattle.dtm_node.specs.Calling.{said_down, said_shared}
-use Rattle.dtm_node.proofs.Calling.{answers_same}
+use Rattle.dtm_node.proofs.CallingLemmas.{answers_same}
 use Rattle.dtm_node.proofs.Following.{follows_other}
 use Rattle.dtm_node.proofs.NodeServes.{lacks_memory}
 use Rattle.script_model.specs.Statements.{Boot}

@@ -1,19 +1,15 @@
-use Rattle.std.proofs.Common.{◌≡◌, ap, subst, refl, ◌∙◌, ◌∷◌, [], false}
+use Rattle.std.proofs.Common.{subst, refl, true}
 use Rattle.block_disk.specs.Disk.{DiskState}
 use Rattle.transcript_model.specs.Emitting.{Emits}
-use Rattle.transcript_model.specs.Lines as line
 use Rattle.transcript_model.specs.Lines.{Failed}
 use Rattle.volume_format.specs.declared.home.Home.{Home}
-use Rattle.dtm_node.specs.Boots.{fresh_up}
-use Rattle.dtm_node.specs.Keeping.{up_of}
 use Rattle.dtm_node.specs.Nodes.{last_lines_of, shared_of}
-use Rattle.dtm_node.proofs.NodeServes.{awake_here, boot_fell, boot_refused, boot_unpowered, boot_up_serves, wakes_here}
+use Rattle.dtm_node.proofs.Booting.{awake_here, boot_fell, boot_refused, boot_unpowered, wakes_here}
+use Rattle.dtm_node.proofs.BootTells.{reopened_serves, reopened_tells}
 use Rattle.dtm_node.proofs.Passing.{fall_as, goes_passes, passes_on, passes_power, power_calls, rose_after, unpowers}
-use Rattle.dtm_node.specs.Calling.{said_down, said_shared, said_up}
-use Rattle.dtm_node.proofs.Calling.{answers_after, answers_at, answers_fell_first, answers_one, boot_calls, boot_fell_follows, boot_fine, boot_follows, shows_last}
-use Rattle.dtm_node.proofs.Following.{follows_other}
+use Rattle.dtm_node.specs.Calling.{said_shared}
+use Rattle.dtm_node.proofs.CallingLemmas.{answers_fell_first, answers_one, boot_calls, boot_fell_follows, boot_fine, boot_follows}
 use Rattle.script_model.specs.Statements.{Boot}
-use Rattle.volume.specs.State.{VolumeState}
 use Rattle.transcript.specs.Forms.{line_of}
 use Rattle.dtm_node.specs.Uses.{cause_of}
 use Rattle.dtm_node.proofs.node.boot_with.Goals as goal
@@ -31,16 +27,15 @@ returns-in-Up-clause-serves g c = λ has_parts log n h promised.
     let mid : DiskState = g.D.Disk.state c.power.new.self in
     let v = c.in-Up.volume in
     let power = c.in_default.ensures.ok in
-    let x = wakes_here log (shared_of c.args.shared.now) n c.args.name has_parts old h mid promised power in
-    let boots = c.in-Up.ensures.boots _ (awake_here log (shared_of c.args.shared.now) n c.args.name has_parts old h mid x) in
+    let s = shared_of c.args.shared.now in
+    let x = wakes_here log s n c.args.name has_parts old h mid promised power in
+    let boots = c.in-Up.ensures.boots _ (awake_here log s n c.args.name has_parts old h mid x) in
     let goes = c.in-Up.ensures.goes in
     let out = g.E.Emit.shows c.args.out.now in
     let mid_out = g.E.Emit.shows c.show_last.new.out in
     let last = subst (λ (k : Home). Emits out (last_lines_of k) mid_out) c.home.ensures c.show_last.ensures.emits in
-    let count = subst (λ k. Emits mid_out (line.NormalCount k ∷ []) (g.E.Emit.shows c.emit.new.self)) (c.from-in-Up.ensures ∙ ap (λ (k : Home). k.boot) c.home-in-Up.ensures) c.emit.ensures.emits in
-    let is : up_of c.new.result ≡ fresh_up v = rw (c.new.ensures.volume, c.new.ensures.drawn, c.new.ensures.branch) refl in
-    boot_up_serves log (shared_of c.args.shared.now) n c.args.name has_parts old h mid x v (up_of c.new.result) out mid_out (g.E.Emit.shows c.emit.new.self) is boots.0 boots.1 (passes_on old mid v.store.disk (passes_power old mid power) (goes_passes mid v.store.disk goes))
-    (power_calls old mid v.store.disk power goes.calls) last count
+    reopened_serves g.D.Disk.state g.U.RecoveryUnits.state c.args.name v c.reopen.result out mid_out (g.E.Emit.shows c.reopen.new.out) log s n has_parts old mid h x c.nodes_are_kept.ensures boots.0 boots.1
+    (passes_on old mid v.store.disk (passes_power old mid power) (goes_passes mid v.store.disk goes)) (power_calls old mid v.store.disk power goes.calls) last c.reopen.ensures.reopens
 
 pub returns-in-Refused-clause-serves : goal.returns-in-Refused-clause-serves
 returns-in-Refused-clause-serves g c = λ has_parts log n h promised.
@@ -51,7 +46,7 @@ returns-in-Refused-clause-serves g c = λ has_parts log n h promised.
     let x = wakes_here log (shared_of c.args.shared.now) n c.args.name has_parts old h mid promised power in
     let boots = c.in-Refused.ensures.boots _ (awake_here log (shared_of c.args.shared.now) n c.args.name has_parts old h mid x) in
     let goes = c.in-Refused.ensures.goes in
-    rw c.down_node.ensures (boot_refused log (shared_of c.args.shared.now) n c.args.name has_parts old h mid x _ new _ _ boots.0 boots.1 (passes_on old mid new (passes_power old mid power) (goes_passes mid new goes)) (power_calls old mid new power goes.calls) c.emit-in-Refused.ensures.emits)
+    rw c.down_node.ensures (boot_refused log (shared_of c.args.shared.now) n c.args.name has_parts old h mid x _ new _ _ boots.0 boots.1 (passes_on old mid new (passes_power old mid power) (goes_passes mid new goes)) (power_calls old mid new power goes.calls) c.emit.ensures.emits)
 
 pub returns-in-Fell-clause-serves : goal.returns-in-Fell-clause-serves
 returns-in-Fell-clause-serves g c = λ has_parts log n h promised.
@@ -82,9 +77,8 @@ returns-in-Up-clause-tells g c =
     let out = g.E.Emit.shows c.args.out.now in
     let mid_out = g.E.Emit.shows c.show_last.new.out in
     let last = subst (λ (k : Home). Emits out (last_lines_of k) mid_out) c.home.ensures c.show_last.ensures.emits in
-    answers_at Boot _ _ old v.store.disk _ _ _ _ _ _ _ _ refl (ap (λ (x : VolumeState). x.store.disk) c.new.ensures.volume) refl refl
-    (answers_after Boot (line.NormalCount c.from-in-Up.result) out mid_out _ old v.store.disk (said_shared (shared_of c.args.shared.now)) _ (said_down c.args.name false) (said_up c.args.name) (shows_last v.catalog.home out mid_out last) c.emit.ensures.emits refl (power_calls old mid v.store.disk power goes.calls) (passes_on old mid v.store.disk (passes_power old mid power) (goes_passes mid v.store.disk goes))
-    (λ lines. follows_other Boot lines (line.NormalCount c.from-in-Up.result) _ _ _ _ refl refl refl refl))
+    reopened_tells g.D.Disk.state g.U.RecoveryUnits.state c.args.name v c.reopen.result out mid_out (g.E.Emit.shows c.reopen.new.out) old
+    (passes_on old mid v.store.disk (passes_power old mid power) (goes_passes mid v.store.disk goes)) (power_calls old mid v.store.disk power goes.calls) last (said_shared (shared_of c.args.shared.now)) c.reopen.ensures.reopens
 
 pub returns-in-Refused-clause-tells : goal.returns-in-Refused-clause-tells
 returns-in-Refused-clause-tells g c =
@@ -94,7 +88,7 @@ returns-in-Refused-clause-tells g c =
     let power = c.in_default.ensures.ok in
     let goes = c.in-Refused.ensures.goes in
     let refusal = c.in-Refused.ensures.booted.1 in
-    rw c.down_node.ensures (answers_one Boot (line_of c.in-Refused.form) _ _ old new (said_shared (shared_of c.args.shared.now)) _ _ _ c.emit-in-Refused.ensures.emits (boot_fine _ refusal) (boot_calls _ old new refusal (power_calls old mid new power goes.calls)) (passes_on old mid new (passes_power old mid power) (goes_passes mid new goes)) (boot_follows _ _ c.args.name _ refusal))
+    rw c.down_node.ensures (answers_one Boot (line_of c.in-Refused.form) _ _ old new (said_shared (shared_of c.args.shared.now)) _ _ _ c.emit.ensures.emits (boot_fine _ refusal) (boot_calls _ old new refusal (power_calls old mid new power goes.calls)) (passes_on old mid new (passes_power old mid power) (goes_passes mid new goes)) (boot_follows _ _ c.args.name _ refusal))
 
 pub returns-in-Fell-clause-tells : goal.returns-in-Fell-clause-tells
 returns-in-Fell-clause-tells g c =
@@ -104,3 +98,6 @@ returns-in-Fell-clause-tells g c =
     let power = c.in_default.ensures.ok in
     let goes = c.in-Fell.ensures.goes in
     rw (c.fall_in_boot-in-Fell.ensures.node, c.fall_in_boot-in-Fell.ensures.shared) (answers_fell_first Boot c.args.name (cause_of c.in-Fell.down) _ _ old new _ _ _ _ c.fall_in_boot-in-Fell.ensures.emits (power_calls old mid new power goes.calls) (λ counted. rose_after _ old mid new power (c.in-Fell.ensures.booted ((passes_power old mid power).counted counted))) (passes_on old mid new (passes_power old mid power) (goes_passes mid new goes)) (λ lines. boot_fell_follows (cause_of c.in-Fell.down) (said_shared (shared_of c.args.shared.now)) c.args.name lines))
+
+pub returns-in-Up-clause-kept : goal.returns-in-Up-clause-kept
+returns-in-Up-clause-kept g c = λ n. c.reopen.ensures.kept n (record (shared_of c.args.shared.now) { in_use = true }) refl

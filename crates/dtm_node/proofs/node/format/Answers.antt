@@ -1,4 +1,6 @@
-use Rattle.std.proofs.Common.{◌≡◌, Bool, true, false, ap, refl, rules}
+use Rattle.std.proofs.Common.{◌≡◌, Bool, true, false, ap, refl, rules, subst}
+use Rattle.volume.specs.Catalogs.{IsSound}
+use Rattle.volume.specs.Empty.{empty_catalog, empty_home}
 use Rattle.run_model.specs.Operations.{refused_if}
 use Rattle.dtm_node.specs.Calling.{said_down}
 use Rattle.dtm_node.proofs.Following.{follows_other}
@@ -8,7 +10,7 @@ use Rattle.careful_write.specs.Steps.{Quiet}
 use Rattle.volume.specs.Limits.{SizesFit}
 use Rattle.dtm_node.proofs.Formatting.{bad_init, init_done, init_fell, init_unpowered}
 use Rattle.dtm_node.proofs.Passing.{fall_as, passes_counts, passes_on, passes_power, power_calls, rose_after, rose_down, unpowers}
-use Rattle.dtm_node.proofs.Calling.{answers_fell_first, answers_one, answers_same}
+use Rattle.dtm_node.proofs.CallingLemmas.{answers_fell_first, answers_one, answers_same}
 use Rattle.script_model.specs.Statements.{Init}
 use Rattle.transcript_model.specs.Lines.{Broken, Failed, Normal, BadParameter, VolumeInUse}
 use Rattle.dtm_node.specs.Uses.{cause_of}
@@ -34,7 +36,7 @@ returns-in-Ok-clause-serves g c = λ has_parts s log n unused h.
     let power = c.in_default.ensures.ok in
     let quiet : Quiet mid new = search rules in
     let size : mid.size ≡ old.size = ap (λ (t : DiskState). t.size) power.state in
-    init_done log s n c.args.name c.args.unmade has_parts old c.args.slots c.args.blocks unused h fit new _ _ c.acts_keep_files.ensures (search rules) (search rules) (search rules) (search rules)
+    init_done log s n c.args.name c.args.unmade has_parts old c.args.slots c.args.blocks unused h fit new _ _ c.nodes_are_kept.ensures (search rules) (subst (λ x. IsSound c.args.name x (empty_catalog (empty_home c.args.name x c.args.slots c.args.blocks))) size c.format-disk.ensures.sound) (search rules) (g.met.D.Disk.whole c.format-disk.result.0) (search rules) (search rules)
     (passes_on old mid new (passes_power old mid power) (passes_counts _ _ mid new quiet)) (power_calls old mid new power quiet.calls) c.emit-in-Ok.ensures.emits
 
 pub returns-in-Err-done-clause-serves : goal.returns-in-Err-done-clause-serves

@@ -10,19 +10,19 @@ use Rattle.dtm_run.proofs.top.drive.Goals as goal
 pub returns-in-Failed-clause-runs : goal.returns-in-Failed-clause-runs
 returns-in-Failed-clause-runs g c = λ w h.
     let l = c.loop-number in
-    runs_as _ _ _ _ _ _ _ _ _ refl c.into_disk.ensures (going_read_fault _ (state_of g.D.Disk.state c.args.node) _ _ _ _ _ _ (kept_of g.D.Disk.state l.node) (shared_of l.shared) (λ v s. stands_leaves g.D.Disk.state l.number l.node (shared_of l.shared) (state_of g.D.Disk.state c.args.node) v l.invariant.kept s) (l.invariant.going w h))
+    runs_as _ _ _ _ _ _ _ _ _ refl c.into_disk.ensures (going_read_fault _ (state_of g.D.Disk.state g.U.RecoveryUnits.state c.args.node) _ _ _ _ _ _ (kept_of g.D.Disk.state g.U.RecoveryUnits.state l.node) (shared_of l.shared) (λ v s. stands_leaves g.D.Disk.state g.U.RecoveryUnits.state l.number l.node (shared_of l.shared) (state_of g.D.Disk.state g.U.RecoveryUnits.state c.args.node) v l.invariant.kept s) (l.invariant.going w h))
 
 pub returns-in-End-clause-runs : goal.returns-in-End-clause-runs
 returns-in-End-clause-runs g c = λ w h.
     let l = c.loop-number in
-    runs_as _ _ _ _ _ _ _ _ _ refl c.into_disk-in-End.ensures (going_done _ (state_of g.D.Disk.state c.args.node) _ _ _ _ _ _ (kept_of g.D.Disk.state l.node) (shared_of l.shared) (λ v s. stands_leaves g.D.Disk.state l.number l.node (shared_of l.shared) (state_of g.D.Disk.state c.args.node) v l.invariant.kept s) (l.invariant.going w h) c.in-End.ensures.tells)
+    runs_as _ _ _ _ _ _ _ _ _ refl c.into_disk-in-End.ensures (going_done _ (state_of g.D.Disk.state g.U.RecoveryUnits.state c.args.node) _ _ _ _ _ _ (kept_of g.D.Disk.state g.U.RecoveryUnits.state l.node) (shared_of l.shared) (λ v s. stands_leaves g.D.Disk.state g.U.RecoveryUnits.state l.number l.node (shared_of l.shared) (state_of g.D.Disk.state g.U.RecoveryUnits.state c.args.node) v l.invariant.kept s) (l.invariant.going w h) c.in-End.ensures.tells)
 
 pub returns-in-TooLong-clause-runs : goal.returns-in-TooLong-clause-runs
 returns-in-TooLong-clause-runs g c = λ w h.
     let l = c.loop-number in
     let at = c.at.ensures.at in
     runs_as _ _ _ _ _ _ _ _ _ c.close-exit.ensures.exit c.into_disk-in-TooLong.ensures
-    (going_too_long _ (state_of g.D.Disk.state c.args.node) _ _ _ _ _ _ (kept_of g.D.Disk.state l.node) (shared_of l.shared) (λ v s. stands_leaves g.D.Disk.state l.number l.node (shared_of l.shared) (state_of g.D.Disk.state c.args.node) v l.invariant.kept s) (l.invariant.going w h) _ _ (ap (λ s. s.text) at) (ap (λ s. s.number) at) (ap (λ s. s.failed) at ∙ l.invariant.failed) c.close-exit.ensures.emits c.in-TooLong.ensures.tells)
+    (going_too_long _ (state_of g.D.Disk.state g.U.RecoveryUnits.state c.args.node) _ _ _ _ _ _ (kept_of g.D.Disk.state g.U.RecoveryUnits.state l.node) (shared_of l.shared) (λ v s. stands_leaves g.D.Disk.state g.U.RecoveryUnits.state l.number l.node (shared_of l.shared) (state_of g.D.Disk.state g.U.RecoveryUnits.state c.args.node) v l.invariant.kept s) (l.invariant.going w h) _ _ (ap (λ s. s.text) at) (ap (λ s. s.number) at) (ap (λ s. s.failed) at ∙ l.invariant.failed) c.close-exit.ensures.emits c.in-TooLong.ensures.tells)
 
 pub returns-then-number-gt-MOST_LINES-clause-runs : goal.returns-then-number-gt-MOST_LINES-clause-runs
 returns-then-number-gt-MOST_LINES-clause-runs g c = λ w h.
@@ -30,7 +30,7 @@ returns-then-number-gt-MOST_LINES-clause-runs g c = λ w h.
     let at = c.at-in-loop-number.ensures.at in
     let close = c.close-exit-then-number-gt-MOST_LINES.ensures in
     runs_as _ _ _ _ _ _ _ _ _ close.exit c.into_disk-then-number-gt-MOST_LINES.ensures
-    (going_too_many _ (state_of g.D.Disk.state c.args.node) _ _ _ _ _ _ (kept_of g.D.Disk.state l.node) (shared_of l.shared) (λ v s. stands_leaves g.D.Disk.state l.number l.node (shared_of l.shared) (state_of g.D.Disk.state c.args.node) v l.invariant.kept s) (l.invariant.going w h) _ _ c.in-Line.ensures.tells _ _ (ap (λ s. s.text) at) (ap (λ s. s.number) at) (ap (λ s. s.failed) at ∙ l.invariant.failed) close.emits c.if-number-gt-MOST_LINES.true)
+    (going_too_many _ (state_of g.D.Disk.state g.U.RecoveryUnits.state c.args.node) _ _ _ _ _ _ (kept_of g.D.Disk.state g.U.RecoveryUnits.state l.node) (shared_of l.shared) (λ v s. stands_leaves g.D.Disk.state g.U.RecoveryUnits.state l.number l.node (shared_of l.shared) (state_of g.D.Disk.state g.U.RecoveryUnits.state c.args.node) v l.invariant.kept s) (l.invariant.going w h) _ _ c.in-Line.ensures.tells _ _ (ap (λ s. s.text) at) (ap (λ s. s.number) at) (ap (λ s. s.failed) at ∙ l.invariant.failed) close.emits c.if-number-gt-MOST_LINES.true)
 
 pub returns-in-Err-clause-runs : goal.returns-in-Err-clause-runs
 returns-in-Err-clause-runs g c = λ w h.
@@ -38,7 +38,7 @@ returns-in-Err-clause-runs g c = λ w h.
     let at = c.at-in-loop-number.ensures.at in
     let close = c.close-exit-in-Err.ensures in
     runs_as _ _ _ _ _ _ _ _ _ close.exit c.into_disk-in-Err.ensures
-    (going_bad _ (state_of g.D.Disk.state c.args.node) _ _ _ _ _ _ (kept_of g.D.Disk.state l.node) (shared_of l.shared) (λ v s. stands_leaves g.D.Disk.state l.number l.node (shared_of l.shared) (state_of g.D.Disk.state c.args.node) v l.invariant.kept s) (l.invariant.going w h) _ _ c.in-Line.ensures.tells c.in-Line.ensures.taken.0 c.if-number-gt-MOST_LINES.false _ _ _
+    (going_bad _ (state_of g.D.Disk.state g.U.RecoveryUnits.state c.args.node) _ _ _ _ _ _ (kept_of g.D.Disk.state g.U.RecoveryUnits.state l.node) (shared_of l.shared) (λ v s. stands_leaves g.D.Disk.state g.U.RecoveryUnits.state l.number l.node (shared_of l.shared) (state_of g.D.Disk.state g.U.RecoveryUnits.state c.args.node) v l.invariant.kept s) (l.invariant.going w h) _ _ c.in-Line.ensures.tells c.in-Line.ensures.taken.0 c.if-number-gt-MOST_LINES.false _ _ _
     (ap (λ s. s.text) at) (ap (λ s. s.number) at) (ap (λ s. s.failed) at ∙ l.invariant.failed) close.emits (read_bad c.in-Err.e.column _ _ c.line.ensures c.in-Err.ensures))
 
 pub returns-then-failed-2-clause-runs : goal.returns-then-failed-2-clause-runs
@@ -47,11 +47,11 @@ returns-then-failed-2-clause-runs g c = λ w h.
     let at = c.at-in-loop-number.ensures.at in
     let some = c.in-Ok-Some in
     runs_as _ _ _ _ _ _ _ _ _ refl c.into_disk-then-failed-2.ensures
-    (going_cut _ (state_of g.D.Disk.state c.args.node) _ _ _ _ _ _ (kept_of g.D.Disk.state l.node) (shared_of l.shared) (λ v s. stands_leaves g.D.Disk.state l.number l.node (shared_of l.shared) (state_of g.D.Disk.state c.args.node) v l.invariant.kept s) (l.invariant.going w h) _ _ c.in-Line.ensures.tells c.in-Line.ensures.taken.0 c.if-number-gt-MOST_LINES.false
-    (statement_of c.read_statement.new.lit some.statement) _ _ (kept_of g.D.Disk.state c.serve_statement-node.result) (shared_of c.serve_statement-node.new.shared)
+    (going_cut _ (state_of g.D.Disk.state g.U.RecoveryUnits.state c.args.node) _ _ _ _ _ _ (kept_of g.D.Disk.state g.U.RecoveryUnits.state l.node) (shared_of l.shared) (λ v s. stands_leaves g.D.Disk.state g.U.RecoveryUnits.state l.number l.node (shared_of l.shared) (state_of g.D.Disk.state g.U.RecoveryUnits.state c.args.node) v l.invariant.kept s) (l.invariant.going w h) _ _ c.in-Line.ensures.tells c.in-Line.ensures.taken.0 c.if-number-gt-MOST_LINES.false
+    (statement_of c.read_statement.new.lit some.statement) _ _ (kept_of g.D.Disk.state g.U.RecoveryUnits.state c.serve_statement-node.result) (shared_of c.serve_statement-node.new.shared)
     (ap (λ s. s.text) at) (ap (λ s. s.number) at) (ap (λ s. s.failed) at ∙ l.invariant.failed) (read_says c.read_statement.new.lit some.field-0 some.statement _ _ some.field-0-is c.line.ensures some.ensures)
     (λ v s. c.serve_statement-node.ensures.serves _ v s)
-    (λ v s. stands_leaves g.D.Disk.state (l.number + 1) c.serve_statement-node.result (shared_of c.serve_statement-node.new.shared) (state_of g.D.Disk.state c.args.node) v (c.serve_statement-node.ensures.kept l.number l.invariant.kept) s) (sym c.failed-in-loop-number.ensures ∙ c.if-failed-2.true))
+    (λ v s. stands_leaves g.D.Disk.state g.U.RecoveryUnits.state (l.number + 1) c.serve_statement-node.result (shared_of c.serve_statement-node.new.shared) (state_of g.D.Disk.state g.U.RecoveryUnits.state c.args.node) v (c.serve_statement-node.ensures.kept l.number l.invariant.kept) s) (sym c.failed-in-loop-number.ensures ∙ c.if-failed-2.true))
 
 pub loop-number-preserved-in-Ok-None : goal.loop-number-preserved-in-Ok-None
 loop-number-preserved-in-Ok-None g c =
@@ -62,14 +62,14 @@ loop-number-preserved-in-Ok-None g c =
     record {
       sound = c.next.ensures.sound;
       few = omega (arith, c.if-number-gt-MOST_LINES.false);
-      kept = place_later g.D.Disk.state l.number (shared_of l.shared) (shared_of l.shared) l.node l.node l.node.place refl (λ u. u) refl l.invariant.kept;
+      kept = place_later g.D.Disk.state g.U.RecoveryUnits.state l.number (shared_of l.shared) (shared_of l.shared) l.node l.node l.node.place refl (λ u. u) refl l.invariant.kept;
       passes = l.invariant.passes;
       same_sink = c.at-in-loop-number.ensures.same_sink ∙ l.invariant.same_sink;
       failed = ap (λ s. s.failed) at ∙ l.invariant.failed;
       read_count = omega (arith, l.invariant.read_count, c.next.ensures.count);
       write_count = omega (arith, l.invariant.write_count, same_count);
       going = λ w h.
-          going_blank _ (state_of g.D.Disk.state c.args.node) _ _ _ _ _ _ (kept_of g.D.Disk.state l.node) (shared_of l.shared) (λ v s. stands_leaves g.D.Disk.state l.number l.node (shared_of l.shared) (state_of g.D.Disk.state c.args.node) v l.invariant.kept s) (l.invariant.going w h) _ _ c.in-Line.ensures.tells c.in-Line.ensures.taken.0 c.if-number-gt-MOST_LINES.false
+          going_blank _ (state_of g.D.Disk.state g.U.RecoveryUnits.state c.args.node) _ _ _ _ _ _ (kept_of g.D.Disk.state g.U.RecoveryUnits.state l.node) (shared_of l.shared) (λ v s. stands_leaves g.D.Disk.state g.U.RecoveryUnits.state l.number l.node (shared_of l.shared) (state_of g.D.Disk.state g.U.RecoveryUnits.state c.args.node) v l.invariant.kept s) (l.invariant.going w h) _ _ c.in-Line.ensures.tells c.in-Line.ensures.taken.0 c.if-number-gt-MOST_LINES.false
           _ _ _ refl c.in-Line.ensures.taken.1 (ap (λ s. s.text) at)
           (read_blank c.read_statement.new.lit none.field-0 _ _ none.field-0-is c.line.ensures none.ensures);
       name = l.invariant.name;
@@ -87,14 +87,14 @@ loop-number-preserved g c =
       sound = c.next.ensures.sound;
       few = omega (arith, c.if-number-gt-MOST_LINES.false);
       kept = c.serve_statement-node.ensures.kept l.number l.invariant.kept;
-      passes = passes_to (state_of g.D.Disk.state c.args.node) (state_of g.D.Disk.state l.node) (state_of g.D.Disk.state c.serve_statement-node.result) l.invariant.passes c.serve_statement-node.ensures.passes;
+      passes = passes_to (state_of g.D.Disk.state g.U.RecoveryUnits.state c.args.node) (state_of g.D.Disk.state g.U.RecoveryUnits.state l.node) (state_of g.D.Disk.state g.U.RecoveryUnits.state c.serve_statement-node.result) l.invariant.passes c.serve_statement-node.ensures.passes;
       same_sink = c.serve_statement-node.ensures.place ∙ (c.at-in-loop-number.ensures.same_sink ∙ l.invariant.same_sink);
       failed = sym c.failed-in-loop-number.ensures ∙ c.if-failed-2.false;
       read_count = omega (arith, l.invariant.read_count, c.next.ensures.count);
       write_count = omega (arith, l.invariant.write_count, c.serve_statement-node.ensures.since.counts, same_count);
       going = λ w h.
-          going_served _ (state_of g.D.Disk.state c.args.node) _ _ _ _ _ _ (kept_of g.D.Disk.state l.node) (shared_of l.shared) (λ v s. stands_leaves g.D.Disk.state l.number l.node (shared_of l.shared) (state_of g.D.Disk.state c.args.node) v l.invariant.kept s) (l.invariant.going w h) _ _ c.in-Line.ensures.tells c.in-Line.ensures.taken.0 c.if-number-gt-MOST_LINES.false
-          (statement_of c.read_statement.new.lit some.statement) _ _ (kept_of g.D.Disk.state c.serve_statement-node.result) (shared_of c.serve_statement-node.new.shared)
+          going_served _ (state_of g.D.Disk.state g.U.RecoveryUnits.state c.args.node) _ _ _ _ _ _ (kept_of g.D.Disk.state g.U.RecoveryUnits.state l.node) (shared_of l.shared) (λ v s. stands_leaves g.D.Disk.state g.U.RecoveryUnits.state l.number l.node (shared_of l.shared) (state_of g.D.Disk.state g.U.RecoveryUnits.state c.args.node) v l.invariant.kept s) (l.invariant.going w h) _ _ c.in-Line.ensures.tells c.in-Line.ensures.taken.0 c.if-number-gt-MOST_LINES.false
+          (statement_of c.read_statement.new.lit some.statement) _ _ (kept_of g.D.Disk.state g.U.RecoveryUnits.state c.serve_statement-node.result) (shared_of c.serve_statement-node.new.shared)
           (ap (λ s. s.text) at) (ap (λ s. s.number) at) (ap (λ s. s.failed) at ∙ l.invariant.failed) (read_says c.read_statement.new.lit some.field-0 some.statement _ _ some.field-0-is c.line.ensures some.ensures)
           (λ v s. c.serve_statement-node.ensures.serves _ v s) _ _ refl c.in-Line.ensures.taken.1 (sym c.failed-in-loop-number.ensures ∙ c.if-failed-2.false);
       name = c.serve_statement-node.ensures.name ∙ l.invariant.name;
@@ -147,15 +147,15 @@ pub loop-number-init : goal.loop-number-init
 loop-number-init g c = record {
   sound = c.requires.sound;
   few = omega arith;
-  kept = place_later g.D.Disk.state 0 (shared_of c.args.shared.now) (shared_of c.args.shared.now) c.args.node c.args.node c.args.node.place refl (λ u. u) refl c.requires.kept;
-  passes = passes_same (state_of g.D.Disk.state c.args.node) (state_of g.D.Disk.state c.args.node) refl;
+  kept = place_later g.D.Disk.state g.U.RecoveryUnits.state 0 (shared_of c.args.shared.now) (shared_of c.args.shared.now) c.args.node c.args.node c.args.node.place refl (λ u. u) refl c.requires.kept;
+  passes = passes_same (state_of g.D.Disk.state g.U.RecoveryUnits.state c.args.node) (state_of g.D.Disk.state g.U.RecoveryUnits.state c.args.node) refl;
   same_sink = refl;
   failed = c.requires.failed;
   read_count = omega arith;
   write_count = omega arith;
-  going = λ w h. going_first w (state_of g.D.Disk.state c.args.node) _ _ (kept_of g.D.Disk.state c.args.node) (shared_of c.args.shared.now) _ c.requires.first h;
+  going = λ w h. going_first w (state_of g.D.Disk.state g.U.RecoveryUnits.state c.args.node) _ _ (kept_of g.D.Disk.state g.U.RecoveryUnits.state c.args.node) (shared_of c.args.shared.now) _ c.requires.first h;
   name = refl;
-  telling = telling_first c.args.node.name (state_of g.D.Disk.state c.args.node) _ _ _ _ c.requires.first c.requires.unsaid;
+  telling = telling_first c.args.node.name (state_of g.D.Disk.state g.U.RecoveryUnits.state c.args.node) _ _ _ _ c.requires.first c.requires.unsaid;
 }
 
 pub returns-then-failed-clause-runs : goal.returns-then-failed-clause-runs
@@ -164,11 +164,11 @@ returns-then-failed-clause-runs g c = λ w h.
     let at = c.at-in-loop-number.ensures.at in
     let some = c.in-Ok-Some in
     runs_as _ _ _ _ _ _ _ _ _ refl c.into_disk-then-failed.ensures
-    (going_cut _ (state_of g.D.Disk.state c.args.node) _ _ _ _ _ _ (kept_of g.D.Disk.state l.node) (shared_of l.shared) (λ v s. stands_leaves g.D.Disk.state l.number l.node (shared_of l.shared) (state_of g.D.Disk.state c.args.node) v l.invariant.kept s) (l.invariant.going w h) _ _ c.in-Line.ensures.tells c.in-Line.ensures.taken.0 c.if-number-gt-MOST_LINES.false
-    (statement_of c.read_statement.new.lit some.statement) _ _ (kept_of g.D.Disk.state c.serve_in_place.new.node) (shared_of c.serve_in_place.new.shared)
+    (going_cut _ (state_of g.D.Disk.state g.U.RecoveryUnits.state c.args.node) _ _ _ _ _ _ (kept_of g.D.Disk.state g.U.RecoveryUnits.state l.node) (shared_of l.shared) (λ v s. stands_leaves g.D.Disk.state g.U.RecoveryUnits.state l.number l.node (shared_of l.shared) (state_of g.D.Disk.state g.U.RecoveryUnits.state c.args.node) v l.invariant.kept s) (l.invariant.going w h) _ _ c.in-Line.ensures.tells c.in-Line.ensures.taken.0 c.if-number-gt-MOST_LINES.false
+    (statement_of c.read_statement.new.lit some.statement) _ _ (kept_of g.D.Disk.state g.U.RecoveryUnits.state c.serve_in_place.new.node) (shared_of c.serve_in_place.new.shared)
     (ap (λ s. s.text) at) (ap (λ s. s.number) at) (ap (λ s. s.failed) at ∙ l.invariant.failed) (read_says c.read_statement.new.lit some.field-0 some.statement _ _ some.field-0-is c.line.ensures some.ensures)
     (λ v s. c.serve_in_place.ensures.serves _ v s)
-    (λ v s. stands_leaves g.D.Disk.state (l.number + 1) c.serve_in_place.new.node (shared_of c.serve_in_place.new.shared) (state_of g.D.Disk.state c.args.node) v (c.serve_in_place.ensures.kept l.number l.invariant.kept) s) (sym c.failed.ensures ∙ c.if-failed.true))
+    (λ v s. stands_leaves g.D.Disk.state g.U.RecoveryUnits.state (l.number + 1) c.serve_in_place.new.node (shared_of c.serve_in_place.new.shared) (state_of g.D.Disk.state g.U.RecoveryUnits.state c.args.node) v (c.serve_in_place.ensures.kept l.number l.invariant.kept) s) (sym c.failed.ensures ∙ c.if-failed.true))
 
 pub returns-then-failed-clause-calls : goal.returns-then-failed-clause-calls
 returns-then-failed-clause-calls g c =
@@ -190,14 +190,14 @@ loop-number-preserved-then-is_for_up g c =
       sound = c.next.ensures.sound;
       few = omega (arith, c.if-number-gt-MOST_LINES.false);
       kept = c.serve_in_place.ensures.kept l.number l.invariant.kept;
-      passes = passes_to (state_of g.D.Disk.state c.args.node) (state_of g.D.Disk.state l.node) (state_of g.D.Disk.state c.serve_in_place.new.node) l.invariant.passes c.serve_in_place.ensures.passes;
+      passes = passes_to (state_of g.D.Disk.state g.U.RecoveryUnits.state c.args.node) (state_of g.D.Disk.state g.U.RecoveryUnits.state l.node) (state_of g.D.Disk.state g.U.RecoveryUnits.state c.serve_in_place.new.node) l.invariant.passes c.serve_in_place.ensures.passes;
       same_sink = c.serve_in_place.ensures.place ∙ (c.at-in-loop-number.ensures.same_sink ∙ l.invariant.same_sink);
       failed = sym c.failed.ensures ∙ c.if-failed.false;
       read_count = omega (arith, l.invariant.read_count, c.next.ensures.count);
       write_count = omega (arith, l.invariant.write_count, c.serve_in_place.ensures.since.counts, same_count);
       going = λ w h.
-          going_served _ (state_of g.D.Disk.state c.args.node) _ _ _ _ _ _ (kept_of g.D.Disk.state l.node) (shared_of l.shared) (λ v s. stands_leaves g.D.Disk.state l.number l.node (shared_of l.shared) (state_of g.D.Disk.state c.args.node) v l.invariant.kept s) (l.invariant.going w h) _ _ c.in-Line.ensures.tells c.in-Line.ensures.taken.0 c.if-number-gt-MOST_LINES.false
-          (statement_of c.read_statement.new.lit some.statement) _ _ (kept_of g.D.Disk.state c.serve_in_place.new.node) (shared_of c.serve_in_place.new.shared)
+          going_served _ (state_of g.D.Disk.state g.U.RecoveryUnits.state c.args.node) _ _ _ _ _ _ (kept_of g.D.Disk.state g.U.RecoveryUnits.state l.node) (shared_of l.shared) (λ v s. stands_leaves g.D.Disk.state g.U.RecoveryUnits.state l.number l.node (shared_of l.shared) (state_of g.D.Disk.state g.U.RecoveryUnits.state c.args.node) v l.invariant.kept s) (l.invariant.going w h) _ _ c.in-Line.ensures.tells c.in-Line.ensures.taken.0 c.if-number-gt-MOST_LINES.false
+          (statement_of c.read_statement.new.lit some.statement) _ _ (kept_of g.D.Disk.state g.U.RecoveryUnits.state c.serve_in_place.new.node) (shared_of c.serve_in_place.new.shared)
           (ap (λ s. s.text) at) (ap (λ s. s.number) at) (ap (λ s. s.failed) at ∙ l.invariant.failed) (read_says c.read_statement.new.lit some.field-0 some.statement _ _ some.field-0-is c.line.ensures some.ensures)
           (λ v s. c.serve_in_place.ensures.serves _ v s) _ _ refl c.in-Line.ensures.taken.1 (sym c.failed.ensures ∙ c.if-failed.false);
       name = c.serve_in_place.ensures.name ∙ l.invariant.name;

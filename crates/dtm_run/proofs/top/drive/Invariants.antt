@@ -12,16 +12,16 @@ abbrev pub invariant-loop-number : goal.invariant-loop-number
 invariant-loop-number g l = record {
   sound : IsSound l.reader;
   few : l.number ≤ 1000001;
-  kept : IsNode g.D.Disk.state l.number (shared_of l.shared) l.node;
-  passes : Passes (state_of g.D.Disk.state l.fn.node) (state_of g.D.Disk.state l.node);
+  kept : IsNode g.D.Disk.state g.U.RecoveryUnits.state l.number (shared_of l.shared) l.node;
+  passes : Passes (state_of g.D.Disk.state g.U.RecoveryUnits.state l.fn.node) (state_of g.D.Disk.state g.U.RecoveryUnits.state l.node);
   same_sink : l.out.sink.ghost_name ≡ l.fn.out.sink.ghost_name;
   failed : l.out.failed ≡ false;
   read_count : g.S.Source.faults l.fn.source ≤ g.S.Source.faults l.source;
   write_count : g.K.Sink.faults l.fn.out.sink.now ≤ g.K.Sink.faults l.out.sink.now;
-  going : (w : World) → StandsAlone (state_of g.D.Disk.state l.fn.node).calls (kept_of g.D.Disk.state l.fn.node) (shared_of l.fn.shared) w →
-      Going w (state_of g.D.Disk.state l.fn.node) (lines_ahead l.fn.reader (g.S.Source.left l.fn.source)) (lines_ahead l.reader (g.S.Source.left l.source)) (g.K.Sink.shown l.fn.out.sink.now) (g.K.Sink.shown l.out.sink.now)
-      l.number (taken_bytes l.reader) (kept_of g.D.Disk.state l.node) (shared_of l.shared);
+  going : (w : World) → StandsAlone (state_of g.D.Disk.state g.U.RecoveryUnits.state l.fn.node).calls (kept_of g.D.Disk.state g.U.RecoveryUnits.state l.fn.node) (shared_of l.fn.shared) w →
+      Going w (state_of g.D.Disk.state g.U.RecoveryUnits.state l.fn.node) (lines_ahead l.fn.reader (g.S.Source.left l.fn.source)) (lines_ahead l.reader (g.S.Source.left l.source)) (g.K.Sink.shown l.fn.out.sink.now) (g.K.Sink.shown l.out.sink.now)
+      l.number (taken_bytes l.reader) (kept_of g.D.Disk.state g.U.RecoveryUnits.state l.node) (shared_of l.shared);
   name : l.node.name ≡ l.fn.node.name;
-  telling : Telling l.fn.node.name (state_of g.D.Disk.state l.fn.node) (lines_ahead l.fn.reader (g.S.Source.left l.fn.source)) (lines_ahead l.reader (g.S.Source.left l.source)) (g.K.Sink.shown l.fn.out.sink.now) (g.K.Sink.shown l.out.sink.now)
-      l.number (taken_bytes l.reader) (state_of g.D.Disk.state l.node) (said_alone (kept_of g.D.Disk.state l.node) (shared_of l.shared));
+  telling : Telling l.fn.node.name (state_of g.D.Disk.state g.U.RecoveryUnits.state l.fn.node) (lines_ahead l.fn.reader (g.S.Source.left l.fn.source)) (lines_ahead l.reader (g.S.Source.left l.source)) (g.K.Sink.shown l.fn.out.sink.now) (g.K.Sink.shown l.out.sink.now)
+      l.number (taken_bytes l.reader) (state_of g.D.Disk.state g.U.RecoveryUnits.state l.node) (said_alone (kept_of g.D.Disk.state g.U.RecoveryUnits.state l.node) (shared_of l.shared));
 }

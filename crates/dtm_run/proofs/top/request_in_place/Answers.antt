@@ -12,23 +12,23 @@ use Rattle.dtm_run.proofs.top.request_in_place.Goals as goal
 pub returns-then-eq-clause-serves : goal.returns-then-eq-clause-serves
 returns-then-eq-clause-serves g c = λ log w h.
     let eq : bytes_eq c.args.name c.args.node.now.name ≡ true = search rules in
-    serves_alone log (kept_of g.D.Disk.state c.args.node.now) (shared_of c.args.shared.now) w h node_steps c.args.name (request_of c.args.literals.now c.args.request.now) (g.E.Emit.shows c.args.out.now) (g.E.Emit.shows c.serve_up.new.out)
-    (kept_of g.D.Disk.state c.serve_up.new.self) (shared_of c.serve_up.new.shared) ((bytes_eq-Decides c.args.name c.args.node.now.name).0 eq)
+    serves_alone log (kept_of g.D.Disk.state g.U.RecoveryUnits.state c.args.node.now) (shared_of c.args.shared.now) w h node_steps c.args.name (request_of c.args.literals.now c.args.request.now) (g.E.Emit.shows c.args.out.now) (g.E.Emit.shows c.serve_up.new.out)
+    (kept_of g.D.Disk.state g.U.RecoveryUnits.state c.serve_up.new.self) (shared_of c.serve_up.new.shared) ((bytes_eq-Decides c.args.name c.args.node.now.name).0 eq)
     (λ promised. c.serve_up.ensures.serves log h.node h.stands)
 
 pub returns-else-eq-clause-serves : goal.returns-else-eq-clause-serves
 returns-else-eq-clause-serves g c = λ log w h.
     let other : bytes_eq c.args.name c.args.node.now.name ≡ false = search rules in
-    no_node_alone log (kept_of g.D.Disk.state c.args.node.now) (shared_of c.args.shared.now) w h node_steps c.args.name (request_of c.args.literals.now c.args.request.now) _ _ other c.emit.ensures.emits
+    no_node_alone log (kept_of g.D.Disk.state g.U.RecoveryUnits.state c.args.node.now) (shared_of c.args.shared.now) w h node_steps c.args.name (request_of c.args.literals.now c.args.request.now) _ _ other c.emit.ensures.emits
 
 pub returns-then-eq-clause-tells : goal.returns-then-eq-clause-tells
 returns-then-eq-clause-tells g c =
     let eq : bytes_eq c.args.name c.args.node.now.name ≡ true = search rules in
-    answers_alone c.args.name (request_of c.args.literals.now c.args.request.now) (g.E.Emit.shows c.args.out.now) (g.E.Emit.shows c.serve_up.new.out) (state_of g.D.Disk.state c.args.node.now) (state_of g.D.Disk.state c.serve_up.new.self)
-    (said_shared (shared_of c.args.shared.now)) (said_node (kept_of g.D.Disk.state c.args.node.now)) (said_shared (shared_of c.serve_up.new.shared)) (said_node (kept_of g.D.Disk.state c.serve_up.new.self)) ((bytes_eq-Decides c.args.name c.args.node.now.name).0 eq) c.serve_up.ensures.tells
+    answers_alone c.args.name (request_of c.args.literals.now c.args.request.now) (g.E.Emit.shows c.args.out.now) (g.E.Emit.shows c.serve_up.new.out) (state_of g.D.Disk.state g.U.RecoveryUnits.state c.args.node.now) (state_of g.D.Disk.state g.U.RecoveryUnits.state c.serve_up.new.self)
+    (said_shared (shared_of c.args.shared.now)) (said_node (kept_of g.D.Disk.state g.U.RecoveryUnits.state c.args.node.now)) (said_shared (shared_of c.serve_up.new.shared)) (said_node (kept_of g.D.Disk.state g.U.RecoveryUnits.state c.serve_up.new.self)) ((bytes_eq-Decides c.args.name c.args.node.now.name).0 eq) c.serve_up.ensures.tells
 
 pub returns-else-eq-clause-tells : goal.returns-else-eq-clause-tells
 returns-else-eq-clause-tells g c =
     let other : bytes_eq c.args.name c.args.node.now.name ≡ false = search rules in
-    nowhere_alone c.args.name (request_of c.args.literals.now c.args.request.now) (g.E.Emit.shows c.args.out.now) (g.E.Emit.shows c.emit.new.self) (state_of g.D.Disk.state c.args.node.now) (state_of g.D.Disk.state c.args.node.now)
-    (said_shared (shared_of c.args.shared.now)) (said_node (kept_of g.D.Disk.state c.args.node.now)) other c.emit.ensures.emits refl
+    nowhere_alone c.args.name (request_of c.args.literals.now c.args.request.now) (g.E.Emit.shows c.args.out.now) (g.E.Emit.shows c.emit.new.self) (state_of g.D.Disk.state g.U.RecoveryUnits.state c.args.node.now) (state_of g.D.Disk.state g.U.RecoveryUnits.state c.args.node.now)
+    (said_shared (shared_of c.args.shared.now)) (said_node (kept_of g.D.Disk.state g.U.RecoveryUnits.state c.args.node.now)) other c.emit.ensures.emits refl

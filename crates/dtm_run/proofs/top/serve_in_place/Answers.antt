@@ -7,9 +7,9 @@ use Rattle.dtm_run.proofs.top.serve_in_place.Goals as goal
 
 pub returns-clause-serves : goal.returns-clause-serves
 returns-clause-serves g c = λ log w h.
-    subst (λ (t : Statement). ServesAlone log w t (g.E.Emit.shows c.args.out.now) (g.E.Emit.shows c.request_in_place.new.out) (kept_of g.D.Disk.state c.request_in_place.new.node) (shared_of c.request_in_place.new.shared)) (search rules) (c.request_in_place.ensures.serves log w h)
+    subst (λ (t : Statement). ServesAlone log w t (g.E.Emit.shows c.args.out.now) (g.E.Emit.shows c.request_in_place.new.out) (kept_of g.D.Disk.state g.U.RecoveryUnits.state c.request_in_place.new.node) (shared_of c.request_in_place.new.shared)) (search rules) (c.request_in_place.ensures.serves log w h)
 
 pub returns-clause-tells : goal.returns-clause-tells
 returns-clause-tells g c =
-    subst (λ (t : Statement). AnswersAlone c.args.node.now.name t (g.E.Emit.shows c.args.out.now) (g.E.Emit.shows c.request_in_place.new.out) (state_of g.D.Disk.state c.args.node.now) (state_of g.D.Disk.state c.request_in_place.new.node)
-    (said_alone (kept_of g.D.Disk.state c.args.node.now) (shared_of c.args.shared.now)) (said_alone (kept_of g.D.Disk.state c.request_in_place.new.node) (shared_of c.request_in_place.new.shared))) (search rules) c.request_in_place.ensures.tells
+    subst (λ (t : Statement). AnswersAlone c.args.node.now.name t (g.E.Emit.shows c.args.out.now) (g.E.Emit.shows c.request_in_place.new.out) (state_of g.D.Disk.state g.U.RecoveryUnits.state c.args.node.now) (state_of g.D.Disk.state g.U.RecoveryUnits.state c.request_in_place.new.node)
+    (said_alone (kept_of g.D.Disk.state g.U.RecoveryUnits.state c.args.node.now) (shared_of c.args.shared.now)) (said_alone (kept_of g.D.Disk.state g.U.RecoveryUnits.state c.request_in_place.new.node) (shared_of c.request_in_place.new.shared))) (search rules) c.request_in_place.ensures.tells

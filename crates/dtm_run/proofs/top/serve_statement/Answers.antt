@@ -7,9 +7,9 @@ use Rattle.dtm_run.proofs.top.serve_statement.Goals as goal
 
 pub returns-clause-serves : goal.returns-clause-serves
 returns-clause-serves g c = λ log w h.
-    subst (λ (t : Statement). ServesAlone log w t (g.E.Emit.shows c.args.out.now) (g.E.Emit.shows c.serve_request.new.out) (kept_of g.D.Disk.state c.serve_request.result) (shared_of c.serve_request.new.shared)) (search rules) (c.serve_request.ensures.serves log w h)
+    subst (λ (t : Statement). ServesAlone log w t (g.E.Emit.shows c.args.out.now) (g.E.Emit.shows c.serve_request.new.out) (kept_of g.D.Disk.state g.U.RecoveryUnits.state c.serve_request.result) (shared_of c.serve_request.new.shared)) (search rules) (c.serve_request.ensures.serves log w h)
 
 pub returns-clause-tells : goal.returns-clause-tells
 returns-clause-tells g c =
-    subst (λ (t : Statement). AnswersAlone c.args.node.name t (g.E.Emit.shows c.args.out.now) (g.E.Emit.shows c.serve_request.new.out) (state_of g.D.Disk.state c.args.node) (state_of g.D.Disk.state c.serve_request.result)
-    (said_alone (kept_of g.D.Disk.state c.args.node) (shared_of c.args.shared.now)) (said_alone (kept_of g.D.Disk.state c.serve_request.result) (shared_of c.serve_request.new.shared))) (search rules) c.serve_request.ensures.tells
+    subst (λ (t : Statement). AnswersAlone c.args.node.name t (g.E.Emit.shows c.args.out.now) (g.E.Emit.shows c.serve_request.new.out) (state_of g.D.Disk.state g.U.RecoveryUnits.state c.args.node) (state_of g.D.Disk.state g.U.RecoveryUnits.state c.serve_request.result)
+    (said_alone (kept_of g.D.Disk.state g.U.RecoveryUnits.state c.args.node) (shared_of c.args.shared.now)) (said_alone (kept_of g.D.Disk.state g.U.RecoveryUnits.state c.serve_request.result) (shared_of c.serve_request.new.shared))) (search rules) c.serve_request.ensures.tells

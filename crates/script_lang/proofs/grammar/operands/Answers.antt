@@ -41,3 +41,6 @@ returns-in-AbortTrans c = rw c.in-AbortTrans.is (c.abort_trans.ensures c.args.li
 
 pub returns-in-Dump : goal.returns-in-Dump
 returns-in-Dump c = rw c.in-Dump.is (c.dump.ensures c.args.lit.now)
+
+pub returns-in-DumpJournal : goal.returns-in-DumpJournal
+returns-in-DumpJournal c = rw c.in-DumpJournal.is (c.dump_journal.ensures c.args.lit.now)

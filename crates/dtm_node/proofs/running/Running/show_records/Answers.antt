@@ -8,18 +8,18 @@ use Rattle.record_files.specs.Any.{Begins, IsFile, IsLaidOut, map_of}
 use Rattle.vms_base.specs.Keys.{key_of}
 use Rattle.transcript_model.specs.Emitting.{Emits}
 use Rattle.transcript_model.specs.Lines as line
-use Rattle.transcript_model.proofs.EmittingLemmas.{since_on}
+use Rattle.transcript_model.proofs.EmittingLemmas.{emits_nothing, since_on}
 use Rattle.dtm_node.specs.Keeping.{up_of}
 use Rattle.dtm_node.specs.Standing.{Up}
 use Rattle.node_files.proofs.CatalogLemmas.{placed}
-use Rattle.dtm_node.proofs.Dumping.{begins_anew, emits_next, shows_all, shows_most}
-use Rattle.dtm_node.proofs.Calling.{fine_more, replies_after}
+use Rattle.dtm_node.proofs.Dumping.{begins_anew, emits_next, shown_few, shows_all, shows_most}
+use Rattle.dtm_node.proofs.CallingLemmas.{fine_more, fine_none, replies_after}
 use Rattle.dtm_node.proofs.running.Running.show_records.Goals as goal
 
 pub next_record_from-requires-clause-placed : goal.next_record_from-requires-clause-placed
 next_record_from-requires-clause-placed g c =
     subst (λ (u : Up). IsPlaced c.args.head.now u.volume.store.disk) (sym c.loop-count.invariant.same)
-    (placed _ c.args.self.now.volume.catalog c.requires.there.0 c.args.head.now _ c.the_laws.ensures.apart c.requires.whole c.requires.up.sound c.requires.up.most c.requires.there.1)
+    (placed _ c.args.self.now.volume.catalog c.requires.there.0 c.args.head.now _ c.the_laws.ensures.apart c.requires.up.order.heads c.requires.up.order.sound c.requires.up.order.most c.requires.there.1)
 
 pub next_record_from-requires-clause-begins : goal.next_record_from-requires-clause-begins
 next_record_from-requires-clause-begins g c =
@@ -33,7 +33,7 @@ loop-count-init g c = record {
   same = search rules;
   place = search rules;
   since = search rules;
-  fine = search rules;
+  fine = fine_none _ _ (emits_nothing _);
   most = search rules;
   begins = subst (λ (p : Place). IfSome c.args.self.now.volume.store.current (λ content. IsFile c.args.head.now → IsLaidOut c.args.head.now content → Begins c.args.head.now content None p)) (sym c.first-place.ensures)
       (begins_anew c.args.self.now.volume.store.current c.args.head.now None);
@@ -44,7 +44,7 @@ pub loop-count-preserved : goal.loop-count-preserved
 loop-count-preserved g c =
     let head = c.args.head.now in
     record {
-      same = (λ i. record (up_of c.loop-count.self) { volume = c.in-Ok-true.ensures.same i }) ∙ c.loop-count.invariant.same;
+      same = (λ i. record (up_of g.U.RecoveryUnits.state c.loop-count.self) { volume = c.in-Ok-true.ensures.same i }) ∙ c.loop-count.invariant.same;
       place = c.emit.ensures.same_place ∙ c.loop-count.invariant.place;
       since = since_on _ _ _ c.loop-count.invariant.since c.emit.ensures.since;
       fine = fine_more _ _ _ _ c.loop-count.invariant.fine c.emit.ensures.emits refl;
@@ -83,3 +83,8 @@ returns-in-Ok-false-clause-fine g c = replies_after _ _ _ _ c.loop-count.invaria
 
 pub returns-clause-fine : goal.returns-clause-fine
 returns-clause-fine g c = replies_after _ _ _ _ c.loop-count.invariant.fine c.emit-2.ensures.emits (refl, refl)
+
+pub returns-in-Err-clause-shows : goal.returns-in-Err-clause-shows
+returns-in-Err-clause-shows g c = λ content m told form laid few same.
+    let s = c.loop-count.invariant.shows content m told form laid same in
+    shown_few m c.loop-count.count (option_map key_of c.loop-count.after) _ _ s.0 s.1 c.in-Err.down

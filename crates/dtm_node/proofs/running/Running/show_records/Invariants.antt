@@ -8,13 +8,13 @@ use Rattle.records_model.specs.Records.{Records}
 use Rattle.record_files.specs.Any.{Begins, IsFile, IsLaidOut, map_of}
 use Rattle.directory_model.specs.Files.{IsShown}
 use Rattle.dtm_node.specs.Keeping.{up_of}
-use Rattle.dtm_node.specs.Listing.{ShowsSome}
 use Rattle.dtm_node.specs.Calling.{ShowsFine}
+use Rattle.dtm_node.proofs.Dumping.{ShowsSome}
 use Rattle.dtm_node.proofs.running.Running.show_records.Given as goal
 
 abbrev pub invariant-loop-count : goal.invariant-loop-count
 invariant-loop-count g l = record {
-  same : up_of l.self ≡ up_of l.fn.self;
+  same : up_of g.U.RecoveryUnits.state l.self ≡ up_of g.U.RecoveryUnits.state l.fn.self;
   place : g.E.Emit.place l.out ≡ g.E.Emit.place l.fn.out;
   since : Since (g.E.Emit.shows l.fn.out) (g.E.Emit.shows l.out);
   fine : ShowsFine (g.E.Emit.shows l.fn.out) (g.E.Emit.shows l.out);

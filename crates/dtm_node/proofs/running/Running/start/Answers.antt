@@ -1,54 +1,48 @@
-use Rattle.std.proofs.Common.{true, false, sym, ◌∙◌, ap, refl}
-use Rattle.std.specs.Prelude.{option_map}
-use Rattle.script_model.specs.Statements.{StartTrans}
+use Rattle.std.proofs.Common.{◌<◌, ◌+◌, [], ◌∷◌, Some, None, length, option_map, refl, sym, ap, subst, ◌∙◌}
+use Rattle.std.proofs.lemmas.Bool.{leb-false}
+use Rattle.transcript_model.specs.Emitting.{Emits}
 use Rattle.transcript_model.specs.Lines as line
+use Rattle.vms_model.specs.Ids.{Id}
+use Rattle.vms_base.specs.Ids.{id_of}
 use Rattle.volume_format.specs.declared.home.Home.{Home}
+use Rattle.recovery_units.specs.State.{with_begun}
 use Rattle.dtm_node.specs.LabelTable.{label_of}
-use Rattle.dtm_node.specs.Keeping.{sharing, up_of}
-use Rattle.node_files.specs.Notes.{notes_in}
-use Rattle.dtm_node.proofs.UpLemmas.{refused_early, refused_late}
-use Rattle.dtm_node.proofs.Named.{new_made, new_full, new_none, no_unsettled, quota_says, some_unsettled, start_as}
-use Rattle.dtm_node.proofs.Following.{bad_label, new_said_is, new_taken, replies_line, started}
+use Rattle.dtm_node.specs.Keeping.{name_of, up_of}
+use Rattle.dtm_node.proofs.Begun.{start_begun, start_crowded, start_full, start_taken}
+use Rattle.dtm_node.proofs.Starting.{is_fresh}
 use Rattle.dtm_node.proofs.running.Running.start.Goals as goal
 
 pub returns-in-Some-clause-serves : goal.returns-in-Some-clause-serves
-returns-in-Some-clause-serves g c = λ in_use log m h.
-    refused_early log (sharing c.args.labels.now in_use) m _ (up_of c.args.self.now) h (StartTrans c.args.label) line.BadLabel _ _
-    (new_made log (sharing c.args.labels.now in_use) m _ (up_of c.args.self.now) h c.args.label _ (sym c.find.ensures ∙ ap (option_map (label_of c.args.label)) c.in-Some.is)) c.emit.ensures.emits
+returns-in-Some-clause-serves g c =
+    let u = up_of g.U.RecoveryUnits.state c.args.self.now in
+    start_taken c.args.label c.args.labels.now u c.requires.up c.the_laws.ensures _ _ _ (sym c.find.ensures ∙ ap (option_map (label_of c.args.label)) c.in-Some.is) c.emit.ensures.emits
 
 pub returns-then-is_full-clause-serves : goal.returns-then-is_full-clause-serves
-returns-then-is_full-clause-serves g c = λ in_use log m h.
-    refused_early log (sharing c.args.labels.now in_use) m _ (up_of c.args.self.now) h (StartTrans c.args.label) line.BadLabel _ _
-    (new_full log (sharing c.args.labels.now in_use) m _ (up_of c.args.self.now) h c.args.label (sym c.find.ensures ∙ ap (option_map (label_of c.args.label)) c.in_default.is) (sym c.is_full.ensures ∙ c.if-is_full.true)) c.emit-then-is_full.ensures.emits
+returns-then-is_full-clause-serves g c =
+    let u = up_of g.U.RecoveryUnits.state c.args.self.now in
+    let none = sym c.find.ensures ∙ ap (option_map (label_of c.args.label)) c.in_default.is in
+    start_full c.args.label c.args.labels.now u c.requires.up c.the_laws.ensures none _ _ (sym c.is_full.ensures ∙ c.if-is_full.true) c.emit-then-is_full.ensures.emits
 
-pub returns-then-is_some-clause-serves : goal.returns-then-is_some-clause-serves
-returns-then-is_some-clause-serves g c = λ in_use log m h.
-    let b = some_unsettled (notes_in c.args.self.now.buffers.undo) c.args.self.now.branch (sym c.is_some.ensures ∙ c.if-is_some.true) in
-    refused_late log (sharing c.args.labels.now in_use) m _ (up_of c.args.self.now) h (StartTrans c.args.label) (line.QuotaExceeded line.Branches 1) _ _ refl
-    (new_none log (sharing c.args.labels.now in_use) m _ (up_of c.args.self.now) h c.args.label (sym c.find.ensures ∙ ap (option_map (label_of c.args.label)) c.in_default.is) (sym c.is_full.ensures ∙ c.if-is_full.false))
-    (quota_says log (sharing c.args.labels.now in_use) m _ (up_of c.args.self.now) h c.args.label b.0 b.1) c.emit-then-is_some.ensures.emits
+pub returns-then-is_full-2-clause-serves : goal.returns-then-is_full-2-clause-serves
+returns-then-is_full-2-clause-serves g c =
+    let u = up_of g.U.RecoveryUnits.state c.args.self.now in
+    let none = sym c.find.ensures ∙ ap (option_map (label_of c.args.label)) c.in_default.is in
+    start_crowded c.args.label c.args.labels.now u c.requires.up c.the_laws.ensures none (sym c.is_full.ensures ∙ c.if-is_full.false) _ _ (sym c.is_full-2.ensures ∙ c.if-is_full-2.true) c.emit-then-is_full-2.ensures.emits
+
+pub begin-requires-clause-fresh : goal.begin-requires-clause-fresh
+begin-requires-clause-fresh g c =
+    let u = up_of g.U.RecoveryUnits.state c.args.self.now in
+    is_fresh (id_of c.next_id-3.result) u c.requires.up (ap (λ (k : Id). k.seq) c.next_id-3.ensures)
 
 pub returns-clause-serves : goal.returns-clause-serves
-returns-clause-serves g c = λ in_use log m h.
-    start_as log (sharing c.args.labels.now in_use) m _ (up_of c.args.self.now) h c.args.label _ _ _ _ _ _ _ _ _ c.the_laws.ensures (no_unsettled (notes_in c.args.self.now.buffers.undo) c.args.self.now.branch (sym c.is_some.ensures ∙ c.if-is_some.false))
-    (sym c.find.ensures ∙ ap (option_map (label_of c.args.label)) c.in_default.is) (sym c.is_full.ensures ∙ c.if-is_full.false) refl refl
-    c.next_id.ensures c.next_id-2.ensures c.next_id-id.ensures c.clear.ensures (ap (λ (h : Home). h.node) c.home.ensures) c.insert.ensures refl c.emit-2.ensures.emits
-
-pub returns-in-Some-clause-follows : goal.returns-in-Some-clause-follows
-returns-in-Some-clause-follows g c =
-    bad_label (StartTrans c.args.label) _ _ _ _ refl (λ in_use. new_taken c.args.label c.args.labels.now _ (sym c.find.ensures ∙ ap (option_map (label_of c.args.label)) c.in-Some.is)) (λ s. refl) c.emit.ensures.emits
-
-pub returns-then-is_full-clause-follows : goal.returns-then-is_full-clause-follows
-returns-then-is_full-clause-follows g c =
+returns-clause-serves g c =
+    let u = up_of g.U.RecoveryUnits.state c.args.self.now in
     let none = sym c.find.ensures ∙ ap (option_map (label_of c.args.label)) c.in_default.is in
-    bad_label (StartTrans c.args.label) _ _ _ _ refl (λ in_use. new_said_is c.args.label c.args.labels.now true none (sym c.is_full.ensures ∙ c.if-is_full.true)) (λ s. refl) c.emit-then-is_full.ensures.emits
-
-pub returns-then-is_some-clause-follows : goal.returns-then-is_some-clause-follows
-returns-then-is_some-clause-follows g c =
-    let none = sym c.find.ensures ∙ ap (option_map (label_of c.args.label)) c.in_default.is in
-    replies_line (StartTrans c.args.label) _ _ (line.QuotaExceeded line.Branches 1) _ _ refl (λ in_use. new_said_is c.args.label c.args.labels.now false none (sym c.is_full.ensures ∙ c.if-is_full.false)) (λ s. refl) c.emit-then-is_some.ensures.emits (refl, refl)
-
-pub returns-clause-follows : goal.returns-clause-follows
-returns-clause-follows g c =
-    let none = sym c.find.ensures ∙ ap (option_map (label_of c.args.label)) c.in_default.is in
-    started c.args.label _ _ _ c.args.labels.now _ _ _ c.insert.ensures refl (ap (λ (h : Home). h.node) c.home.ensures) none (sym c.is_full.ensures ∙ c.if-is_full.false) c.emit-2.ensures.emits
+    let few = sym c.is_full-2.ensures ∙ c.if-is_full-2.false in
+    let id : Id = record { node = name_of u; boot = u.volume.catalog.home.boot; seq = u.drawn + 1 } in
+    let less : length u.units.begun < 64 = leb-false 64 (length u.units.begun) few in
+    let here = ap (λ (h : Home). h.node) c.home.ensures in
+    start_begun c.args.label c.args.labels.now u c.requires.up c.the_laws.ensures none (sym c.is_full.ensures ∙ c.if-is_full.false) _ _ id _ _ refl few less
+    (λ i. record { volume = u.volume; drawn = u.drawn + 1; units = (c.begin.ensures ∙ (λ j. with_begun (c.next_id-2.ensures j) (c.next_id-3.ensures j) u.units)) i })
+    (c.insert.ensures ∙ (λ i. record { name = c.args.label; node = here i; tid = c.next_id.ensures i; bid = None; serial = Some (c.next_id.ensures i) } ∷ c.args.labels.now))
+    (subst (λ (k : Id). Emits (g.E.Emit.shows c.args.out.now) (line.NormalId k ∷ []) (g.E.Emit.shows c.emit-2.new.self)) c.next_id-id.ensures c.emit-2.ensures.emits)

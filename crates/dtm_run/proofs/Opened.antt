@@ -1,0 +1,47 @@
+-- A node before the first line, and what its disk has.
+use Rattle.std.proofs.Common.{◌≡◌, ℕ, List, [], true, false, Option, Some, None, is_some, refl, ap}
+use Rattle.block_disk.specs.Disk.{DiskState}
+use Rattle.careful_write.specs.Content.{content_of}
+use Rattle.careful_write.specs.Load.{fitting}
+use Rattle.careful_write.proofs.GroupParts.{stop_reading}
+use Rattle.unit_laws.specs.Journal.{empty_journal}
+use Rattle.run_model.specs.World.{Durable, Node, IsOpening, Volume, Faulty, nothing_volatile}
+use Rattle.dtm_node.specs.Boots.{AllHave}
+use Rattle.dtm_node.proofs.DiskLemmas.{as_it_was}
+
+-- each image of a disk on which nothing is pending is what it reads as
+pub all_have : (d : DiskState) (image : List (List ℕ)) → d.seen ≡ Some image → d.pending ≡ [] → AllHave (fitting image) (content_of image) d
+all_have d image told settled = as_it_was d.seen image d told (stop_reading d d settled refl refl)
+
+pub is_told : (o : Option (List (List ℕ))) (image : List (List ℕ)) → o ≡ Some image → is_some o ≡ true
+is_told o image e = ap (λ (x : Option (List (List ℕ))). is_some x) e
+
+-- what a disk has that stands for nothing
+abbrev pub nothing_durable : Volume → Durable
+nothing_durable v = record { volume = v; slots = 0; journal = 0; boot = 0; greatest = 0; last = None; units = empty_journal; directory = [] }
+
+-- a node before the first line, over this
+abbrev pub resting_node : List ℕ → ℕ → Durable → Node
+resting_node name blocks d = record { name = name; blocks = blocks; durable = d; volatile = nothing_volatile; unmade = false; up = false; was_up = false; clock = 0; settled = []; calls = []; under_way = None }
+
+-- a node over a volume that fails a condition is as before the first line
+pub faulty_opening : (name : List ℕ) (blocks condition block : ℕ) → IsOpening (resting_node name blocks (nothing_durable (Faulty condition block)))
+faulty_opening name blocks condition block = record {
+  down = refl;
+  made = refl;
+  was_down = refl;
+  clock = refl;
+  volatile = refl;
+  settled = refl;
+  calls = refl;
+  under_way = refl;
+  resting = tt;
+  last = tt;
+  units = record {
+    tells = λ place f there. let none : ⊥ = cc in absurd none;
+    marked = λ up place f there unmarked. let none : ⊥ = cc in absurd none;
+    reached = tt;
+    names = λ p q f g there other same. let none : ⊥ = cc in absurd none;
+  };
+  active = tt;
+}
