@@ -47,6 +47,7 @@ transcript again ledger.img
 transcript more second.img
 transcript orders orders.img
 transcript stopped stopped.img
+transcript undone undone.img
 
 # The standard streams are no image.
 no_output() { run 'A: DUMP F
