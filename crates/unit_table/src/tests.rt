@@ -2,22 +2,21 @@ use crate::UnitTable;
 use std::test::Fail;
 use vms_base::{Id, NodeName, Serial, Tid};
 
-// A branch of a number, of a transaction of the same number.
-fn ids(n: u32) -> Option<(Tid, Serial)> {
+// The id of a number.
+fn id_of(n: u32) -> Option<Id> {
     let node = NodeName::new(b"A")?;
-    let id = Id {
+    Some(Id {
         node,
         boot: 1,
         seq: n,
-    };
-    Some((Tid(id), Serial(id)))
+    })
 }
 
-// The place at which a branch's unit is begun; 255 where there is none.
+// The place at which a branch's unit is begun, of a transaction of the same number; 255 where there is none.
 fn begin(units: &mut UnitTable, n: u32) -> u8 {
-    match ids(n) {
-        Some((tid, serial)) => units.begin(tid, serial).unwrap_or(255),
-        None => 255,
+    match (id_of(n), id_of(n)) {
+        (Some(tid), Some(serial)) => units.begin(Tid(tid), Serial(serial)).unwrap_or(255),
+        _ => 255,
     }
 }
 
