@@ -5,6 +5,3 @@
 mod undoing;
 
 pub use undoing::undo_unit;
-
-#[cfg(test)]
-mod tests;
