@@ -7,7 +7,8 @@ use Rattle.dtm_run.specs.declared.top.Exit.{Exit}
 use Rattle.dtm_run.specs.declared.top.Exit.TheVariants as exit
 use Rattle.run_model.specs.World.{Node}
 use Rattle.run_model.specs.Laws.{AreOpening}
-use Rattle.dtm_run.specs.Headline.{is_command, StandOn, RunOver, Unread}
+use Rattle.dtm_run.specs.Headline.{is_command, StandOn, Unread}
+use Rattle.dtm_run.specs.Leading.{RunOver}
 use Rattle.dtm.specs.Images.{Store, IsImageOf, IsFilled, images_of}
 
 -- A command that ended so: a rack was filled with the nodes and images that its words name, and by these nodes the script was run, or the words are no command over them.
@@ -15,5 +16,5 @@ pub record CommandRan {File Image : Type 0} (store : Store File Image) (state : 
   pub rack : Rack Image
   pub filled : IsFilled (IsImageOf store state) (λ image. (state image).size) (images_of words) [] [] (names_in rack) (disks_in rack)
   pub after : List DiskState
-  pub ran : is_command (names_in rack) words ≡ true → (nodes : List Node) → AreOpening nodes → StandOn (names_in rack) (states_in state rack) nodes → RunOver nodes (states_in state rack) after script old new ended
+  pub ran : is_command (names_in rack) words ≡ true → (nodes : List Node) → AreOpening nodes → StandOn (names_in rack) (states_in state rack) nodes → RunOver (names_in rack) nodes (states_in state rack) after script old new ended
   pub unread : is_command (names_in rack) words ≡ false → (ended ≡ exit.Memory) ⊎ Unread old new ended

@@ -6,15 +6,16 @@ use Rattle.volume.specs.Catalogs.{TellsCatalog}
 use Rattle.transcript_model.specs.Lines as line
 use Rattle.transcript_model.specs.Script.{ScriptLine, size_of, IsWithinLimits, BeginsTooLong}
 use Rattle.transcript_model.specs.Emitting.{Shown, Emits}
-use Rattle.script_model.specs.Statements.{Statement, Blank, Says, Bad}
+use Rattle.script_model.specs.Statements.{Blank, Says, Bad}
 use Rattle.script_model.specs.Grammar.{reading}
 use Rattle.script_lang.specs.declared.literals.Literals.{Literals}
 use Rattle.script_lang.specs.declared.statement.Statement as code
 use Rattle.script_lang.specs.Statements.{reading_of, statement_of}
 use Rattle.run_model.specs.World.{World, Node, Shared}
+use Rattle.run_model.specs.Said.{nothing_said}
+use Rattle.run_model.specs.Laws.{AreOpening}
 use Rattle.run_model.specs.Transcript as model
-use Rattle.run_model.specs.Transcript.{EndsTooLong, BeginsBad}
-use Rattle.run_model.proofs.TranscriptLemmas.{Reached, EndsIn, reached_first, reached_blank, reached_served, ended_done, ended_read_fault, ended_cut, ended_bad, ended_too_long, line_bad, line_too_long, line_too_many}
+use Rattle.run_model.specs.Transcript.{EndsTooLong, Entry}
 use Rattle.dtm_node.specs.declared.node.Node as node
 use Rattle.dtm_node.specs.declared.node.Place as place
 use Rattle.dtm_node.specs.declared.node.Place.TheVariants as at
@@ -22,16 +23,18 @@ use Rattle.recovery_units.specs.State.{UnitsState}
 use Rattle.dtm_node.specs.Keeping.{name_of, up_of}
 use Rattle.dtm_node.specs.Nodes.{IsNode, IsPlaceOf, kept_of, place_of, state_of}
 use Rattle.dtm_node.specs.Standing.{Kept, Up, IsUp, StandsIn, StandsUp, disk_in, noted_all}
-use Rattle.dtm_run.specs.Alone.{StandsAlone, ServesAlone}
+use Rattle.dtm_node.specs.Calling.{is_up}
 use Rattle.dtm_node.proofs.DiskLemmas.{idle_leaves}
-use Rattle.dtm_run.specs.Headline.{IsVolumeOf, Leaves, LeavesNode, LeaveNodes, RunsTo, exit_of}
+use Rattle.dtm_run.specs.Alone.{StandsAlone}
+use Rattle.dtm_run.specs.Calls.{said_alone}
+use Rattle.dtm_run.specs.Headline.{IsVolumeOf, Leaves, LeavesNode, LeaveNodes, StandOn, exit_of}
+use Rattle.dtm_run.specs.Leading.{Beginning, RunsFrom}
 use Rattle.dtm_run.specs.declared.top.Exit.{Exit}
 use Rattle.dtm_run.specs.declared.top.Exit.TheVariants as exit
+use Rattle.dtm_run.proofs.Entries.{AreRead, EndsWith, ends_bad, ends_cut, ends_done, ends_read_fault, ends_too_long, next_bad, next_too_long, next_too_many, read_first, read_nothing, read_shown}
+use Rattle.dtm_run.proofs.Leading.{Next, Way, not_both, runs_from, way_blank, way_first}
 
 -- What the node stands for is what the run leaves.
-
-not_both : (b : Bool) → b ≡ true → b ≡ false → ⊥
-not_both b t f = let e : true ≡ false = sym t ∙ f in cc
 
 volume_up : (u : Up) (n : Node) (s : StandsUp u n) → IsUp u → n.name ≡ name_of u → n.blocks ≡ u.volume.store.disk.size → IsVolumeOf s.kept.content n
 volume_up u n s up named sized = record {
@@ -57,90 +60,81 @@ stands_leaves state units count m s before w kept h = record {
   nodes = subst (λ ns. LeaveNodes (before ∷ []) ns (state_of state units m ∷ [])) (sym h.nodes) (place_leaves state units count s m m.place h.node before kept h.stands.place h.stands.name h.stands.blocks h.stands.calls, tt);
 }
 
--- what is left of every world for which this stands
-abbrev pub Leaving : DiskState → Kept → Shared → Type 0
-Leaving before k s = (w : World) → StandsAlone before.calls k s w → Leaves (before ∷ []) w (disk_in k.place ∷ [])
+-- Between two lines: these entries were read and shown, and lead so far.
+pub record Going (names : List (List ℕ)) (first : Beginning) (script ahead : Option (List ScriptLine)) (old now : Option (List ℕ)) (number taken : ℕ) (k : Kept) (s : Shared) : Type 0 where
+  pub entries : List Entry
+  pub read : AreRead entries script ahead old now number taken
+  pub way : Way names first entries k s
 
--- Between two lines the node stands for the world that the lines led to.
-pub record Going (opening : World) (before : DiskState) (script ahead : Option (List ScriptLine)) (old now : Option (List ℕ)) (number taken : ℕ) (k : Kept) (s : Shared) : Type 0 where
-  pub world : World
-  pub reached : Reached opening script ahead old now number taken world
-  pub stands : StandsAlone before.calls k s world
-
-pub going_first : (opening : World) (before : DiskState) (script : Option (List ScriptLine)) (old : Option (List ℕ)) (k : Kept) (s : Shared) (taken : ℕ) → taken ≡ 0 → StandsAlone before.calls k s opening → Going opening before script script old old 1 taken k s
-going_first opening before script old k s taken e h = subst (λ n. Going opening before script script old old 1 n k s) (sym e) record { world = opening; reached = reached_first opening script old; stands = h }
-
-pub ends_to : (opening : World) (before : List DiskState) (script : Option (List ScriptLine)) (old new : Option (List ℕ)) (ended : Exit) (after : List DiskState) (w : World) → EndsIn opening script old new (exit_of ended) w → Leaves before w after →
-    RunsTo opening before script old new ended after
-ends_to opening before script old new ended after w e leaves = record { ran = e.ran; leaves = subst (λ v. Leaves before v after) (sym e.closes) leaves }
+pub going_first : (name : List ℕ) (k : Kept) (s : Shared) (script : Option (List ScriptLine)) (old : Option (List ℕ)) (taken : ℕ) → taken ≡ 0 → said_alone k s ≡ nothing_said (name ∷ []) → name ≡ k.name → (nodes : List Node) → AreOpening nodes → StandOn (name ∷ []) (disk_in k.place ∷ []) nodes →
+    Going (name ∷ []) (record { nodes = nodes; disks = disk_in k.place ∷ [] }) script script old old 1 taken k s
+going_first name k s script old taken e unsaid named nodes o stand =
+    subst (λ n. Going (name ∷ []) (record { nodes = nodes; disks = disk_in k.place ∷ [] }) script script old old 1 n k s) (sym e) (record { entries = []; read = read_first script old; way = way_first name k s unsaid named nodes o stand })
 
 exit_if : (failed : Bool) (ended : Exit) → (if failed then model.WriteFault else exit_of ended) ≡ exit_of (if failed then exit.WriteFault else ended)
 exit_if true ended = refl
 exit_if false ended = refl
 
-module _ (opening : World) (before : DiskState) (script ahead : Option (List ScriptLine)) (old now : Option (List ℕ)) (number taken : ℕ) (k : Kept) (h : Shared) (fine : Leaving before k h) (g : Going opening before script ahead old now number taken k h) where
-  abbrev after : List DiskState
-  after = disk_in k.place ∷ []
+-- what is left of every world for which this stands
+abbrev pub Leaving : Kept → Shared → Type 0
+Leaving k s = (d : DiskState) (w : World) → StandsAlone d.calls k s w → Leaves (d ∷ []) w (disk_in k.place ∷ [])
 
-  leaves : Leaves (before ∷ []) g.world (disk_in k.place ∷ [])
-  leaves = fine g.world g.stands
+module _ (names : List (List ℕ)) (first : Beginning) (script ahead : Option (List ScriptLine)) (old now : Option (List ℕ)) (number taken : ℕ) (k : Kept) (h : Shared) (fine : Leaving k h) (g : Going names first script ahead old now number taken k h) where
+  ended : (new : Option (List ℕ)) (x : Exit) → EndsWith g.entries script old new (exit_of x) → RunsFrom names first script old new x (disk_in k.place ∷ [])
+  ended new x e = runs_from names first g.entries k h script old new x g.way e fine
 
-  pub going_done : IfSome ahead (λ more. more ≡ []) → RunsTo opening (before ∷ []) script old now exit.Done (disk_in k.place ∷ [])
-  going_done h = ends_to opening (before ∷ []) script old now exit.Done after g.world (ended_done opening script ahead old now number taken g.world g.reached h) leaves
+  pub going_done : IfSome ahead (λ more. more ≡ []) → RunsFrom names first script old now exit.Done (disk_in k.place ∷ [])
+  going_done e = ended now exit.Done (ends_done g.entries script ahead old now number taken g.read e)
 
-  pub going_read_fault : RunsTo opening (before ∷ []) script old now exit.ReadFault (disk_in k.place ∷ [])
-  going_read_fault = ends_to opening (before ∷ []) script old now exit.ReadFault after g.world (ended_read_fault opening script ahead old now number taken g.world g.reached) leaves
+  pub going_read_fault : RunsFrom names first script old now exit.ReadFault (disk_in k.place ∷ [])
+  going_read_fault = ended now exit.ReadFault (ends_read_fault g.entries script ahead old now number taken g.read)
 
-  -- the last line says that the script is too long
-  too_long_at : (a b : Shown) → a.text ≡ now → a.number ≡ number → a.failed ≡ false → Emits a (line.TooLong ∷ []) b → IfSome ahead (EndsTooLong g.reached.entries) →
-      RunsTo opening (before ∷ []) script old b.text (if b.failed then exit.WriteFault else exit.TooLong) (disk_in k.place ∷ [])
-  too_long_at a b t n e m h = ends_to opening (before ∷ []) script old b.text (if b.failed then exit.WriteFault else exit.TooLong) after g.world
-      (subst (λ x. EndsIn opening script old b.text x g.world) (exit_if b.failed exit.TooLong) (ended_too_long opening script ahead old now number taken g.world g.reached a b t n e m h)) leaves
+  module _ (a b : Shown) (t : a.text ≡ now) (n : a.number ≡ number) (e : a.failed ≡ false) where
+    -- the last line says that the script is too long
+    too_long_at : Emits a (line.TooLong ∷ []) b → IfSome ahead (EndsTooLong g.entries) → RunsFrom names first script old b.text (if b.failed then exit.WriteFault else exit.TooLong) (disk_in k.place ∷ [])
+    too_long_at m more = ended b.text (if b.failed then exit.WriteFault else exit.TooLong)
+        (subst (λ x. EndsWith g.entries script old b.text x) (exit_if b.failed exit.TooLong) (ends_too_long g.entries script ahead old now number taken g.read a b t n e m more))
 
-  pub going_too_long : (a b : Shown) → a.text ≡ now → a.number ≡ number → a.failed ≡ false → Emits a (line.TooLong ∷ []) b → IfSome ahead (BeginsTooLong taken) →
-      RunsTo opening (before ∷ []) script old b.text (if b.failed then exit.WriteFault else exit.TooLong) (disk_in k.place ∷ [])
-  going_too_long a b t n e m h = too_long_at a b t n e m (line_too_long opening script ahead old now number taken g.world g.reached h)
+    pub going_too_long : Emits a (line.TooLong ∷ []) b → IfSome ahead (BeginsTooLong taken) → RunsFrom names first script old b.text (if b.failed then exit.WriteFault else exit.TooLong) (disk_in k.place ∷ [])
+    going_too_long m more = too_long_at m (next_too_long g.entries script ahead old now number taken g.read more)
 
-  module _ (source : ScriptLine) (later : Option (List ScriptLine)) (next : ahead ≡ option_map (λ more. source ∷ more) later) where
-    pub going_too_many : (a b : Shown) → a.text ≡ now → a.number ≡ number → a.failed ≡ false → Emits a (line.TooLong ∷ []) b → 1000000 < number →
-        RunsTo opening (before ∷ []) script old b.text (if b.failed then exit.WriteFault else exit.TooLong) (disk_in k.place ∷ [])
-    going_too_many a b t n e m many = too_long_at a b t n e m (line_too_many opening script ahead old now number taken g.world g.reached source later next many)
+    module _ (source : ScriptLine) (later : Option (List ScriptLine)) (next : ahead ≡ option_map (λ more. source ∷ more) later) where
+      pub going_too_many : Emits a (line.TooLong ∷ []) b → 1000000 < number → RunsFrom names first script old b.text (if b.failed then exit.WriteFault else exit.TooLong) (disk_in k.place ∷ [])
+      going_too_many m many = too_long_at m (next_too_many g.entries script ahead old now number taken g.read source later next many)
 
-    module _ (within : IsWithinLimits taken source) (few : number ≤ 1000000) where
-      pub going_bad : (a b : Shown) (column : ℕ) → a.text ≡ now → a.number ≡ number → a.failed ≡ false → Emits a (line.BadLine column ∷ []) b → reading source.text ≡ Bad column →
-          RunsTo opening (before ∷ []) script old b.text (if b.failed then exit.WriteFault else exit.BadLine) (disk_in k.place ∷ [])
-      going_bad a b column t n e m bad = ends_to opening (before ∷ []) script old b.text (if b.failed then exit.WriteFault else exit.BadLine) after g.world
-          (subst (λ x. EndsIn opening script old b.text x g.world) (exit_if b.failed exit.BadLine)
-          (ended_bad opening script ahead old now number taken g.world g.reached a b column t n e m (line_bad opening script ahead old now number taken g.world g.reached source later next within few column bad)))
-          leaves
+      module _ (within : IsWithinLimits taken source) (few : number ≤ 1000000) where
+        pub going_bad : (column : ℕ) → Emits a (line.BadLine column ∷ []) b → reading source.text ≡ Bad column → RunsFrom names first script old b.text (if b.failed then exit.WriteFault else exit.BadLine) (disk_in k.place ∷ [])
+        going_bad column m bad = ended b.text (if b.failed then exit.WriteFault else exit.BadLine)
+            (subst (λ x. EndsWith g.entries script old b.text x) (exit_if b.failed exit.BadLine)
+            (ends_bad g.entries script ahead old now number taken g.read a b column t n e m (next_bad g.entries script ahead old now number taken g.read source later next within few column bad)))
 
-      pub going_blank : (i j : ℕ) (text : Option (List ℕ)) → i ≡ number + 1 → j ≡ taken + size_of source → text ≡ now → reading source.text ≡ Blank → Going opening before script later old text i j k h
-      going_blank i j text ei ej et blank =
-          subst (λ (x : Option (List ℕ)). Going opening before script later old x i j k h) (sym et)
-          (subst (λ (x : ℕ). Going opening before script later old now x j k h) (sym ei) (subst (λ (x : ℕ). Going opening before script later old now (number + 1) x k h) (sym ej)
-          record { world = g.world; reached = reached_blank opening script ahead old now number taken g.world g.reached source later next within few blank; stands = g.stands }))
+        module _ (new : Kept) (shared : Shared) (v : Next names first source g.entries a b new shared) where
+          pub going_served : (i j : ℕ) → i ≡ number + 1 → j ≡ taken + size_of source → b.failed ≡ false → Going names first script later old b.text i j new shared
+          going_served i j ei ej f = subst (λ i. Going names first script later old b.text i j new shared) (sym ei) (subst (λ j. Going names first script later old b.text (number + 1) j new shared) (sym ej)
+              record { entries = record { source = source; lines = v.lines } ∷ g.entries; read = read_shown g.entries script ahead old now number taken g.read source later next within few a b v.lines t n e f v.emits; way = v.way })
 
-      module _ (s : Statement) (a b : Shown) (new : Kept) (shared : Shared) (t : a.text ≡ now) (n : a.number ≡ number) (e : a.failed ≡ false) (says : reading source.text ≡ Says s)
-          (serves : (w : World) → StandsAlone before.calls k h w → ServesAlone before.calls w s a b new shared) where
-        served : ServesAlone before.calls g.world s a b new shared
-        served = serves g.world g.stands
+          pub going_cut : Leaving new shared → b.failed ≡ true → RunsFrom names first script old b.text exit.WriteFault (disk_in new.place ∷ [])
+          going_cut ok f = runs_from names first (record { source = source; lines = v.lines } ∷ g.entries) new shared script old b.text exit.WriteFault v.way
+              (ends_cut g.entries script ahead old now number taken g.read source later next within few a b v.lines t n e f v.emits) ok
 
-        pub going_served : (i j : ℕ) → i ≡ number + 1 → j ≡ taken + size_of source → b.failed ≡ false → Going opening before script later old b.text i j new shared
-        going_served i j ei ej f = subst (λ i. Going opening before script later old b.text i j new shared) (sym ei) (subst (λ j. Going opening before script later old b.text (number + 1) j new shared) (sym ej)
-            record {
-              world = served.world;
-              reached = reached_served opening script ahead old now number taken g.world g.reached source later next within few s a b served.lines served.world says t n e f served.emits served.step;
-              stands = served.stands;
-            })
-
-        pub going_cut : Leaving before new shared → b.failed ≡ true → RunsTo opening (before ∷ []) script old b.text exit.WriteFault (disk_in new.place ∷ [])
-        going_cut ok f = ends_to opening (before ∷ []) script old b.text exit.WriteFault (disk_in new.place ∷ []) served.world
-            (ended_cut opening script ahead old now number taken g.world g.reached source later next within few s a b served.lines served.world says t n e f served.emits served.step)
-            (ok served.world served.stands)
+  module _ (source : ScriptLine) (later : Option (List ScriptLine)) (next : ahead ≡ option_map (λ more. source ∷ more) later) (within : IsWithinLimits taken source) (few : number ≤ 1000000) where
+    pub going_blank : (i j : ℕ) (text : Option (List ℕ)) → i ≡ number + 1 → j ≡ taken + size_of source → text ≡ now → reading source.text ≡ Blank → Going names first script later old text i j k h
+    going_blank i j text ei ej et blank =
+        subst (λ (x : Option (List ℕ)). Going names first script later old x i j k h) (sym et)
+        (subst (λ (x : ℕ). Going names first script later old now x j k h) (sym ei) (subst (λ (x : ℕ). Going names first script later old now (number + 1) x k h) (sym ej)
+        record { entries = record { source = source; lines = [] } ∷ g.entries; read = read_nothing g.entries script ahead old now number taken g.read source later next within few; way = way_blank names first source g.entries k h blank g.way }))
 
 -- the exit and the disk as they are given back
-pub runs_as : (opening : World) (before : List DiskState) (script : Option (List ScriptLine)) (old new : Option (List ℕ)) (x y : Exit) (d e : DiskState) → y ≡ x → e ≡ d → RunsTo opening before script old new x (d ∷ []) → RunsTo opening before script old new y (e ∷ [])
-runs_as opening before script old new x y d e is same r = subst (λ z. RunsTo opening before script old new z (e ∷ [])) (sym is) (subst (λ (z : DiskState). RunsTo opening before script old new x (z ∷ [])) (sym same) r)
+pub runs_as : (names : List (List ℕ)) (first : Beginning) (script : Option (List ScriptLine)) (old new : Option (List ℕ)) (x y : Exit) (d e : DiskState) → y ≡ x → e ≡ d → RunsFrom names first script old new x (d ∷ []) → RunsFrom names first script old new y (e ∷ [])
+runs_as names first script old new x y d e is same r = subst (λ z. RunsFrom names first script old new z (e ∷ [])) (sym is) (subst (λ (z : DiskState). RunsFrom names first script old new x (z ∷ [])) (sym same) r)
+
+-- a node that is up is in use
+pub unused_down : {D U : Type 0} (state : D → DiskState) (units : U → UnitsState) (count : ℕ) (m : node.Node D U) (s : Shared) → IsNode state units count s m → s.in_use ≡ false → is_up (place_of state units m.place) ≡ false
+unused_down {D = D} {U = U} state units count m s kept unused = go m.place kept
+  where
+    go : (p : place.Place D U) → IsPlaceOf state units count s m p → is_up (place_of state units p) ≡ false
+    go (at.Down disk parts) h = refl
+    go (at.Up r) h = absurd (not_both s.in_use h.2 unused)
 
 -- what a line was read to say
 

@@ -1,6 +1,8 @@
 pub mod TopLemmas
-pub mod Known
 pub mod Alone
+pub mod Leading
+pub mod Known
+pub mod Made
 pub mod Driving
 pub mod RackLemmas
 pub mod Entries

@@ -5,9 +5,11 @@ use Rattle.careful_write.specs.Content.{content_of}
 use Rattle.careful_write.specs.Load.{fitting}
 use Rattle.careful_write.proofs.GroupParts.{stop_reading}
 use Rattle.unit_laws.specs.Journal.{empty_journal}
-use Rattle.run_model.specs.World.{Durable, Node, IsOpening, Volume, Faulty, nothing_volatile}
+use Rattle.run_model.specs.World.{Durable, Node, IsOpening, Volume, Unknown, nothing_volatile}
+use Rattle.recovery_units.specs.Uses.{IsCounted}
 use Rattle.dtm_node.specs.Boots.{AllHave}
 use Rattle.dtm_node.proofs.DiskLemmas.{as_it_was}
+use Rattle.dtm_run.specs.Headline.{StandsOn}
 
 -- each image of a disk on which nothing is pending is what it reads as
 pub all_have : (d : DiskState) (image : List (List ℕ)) → d.seen ≡ Some image → d.pending ≡ [] → AllHave (fitting image) (content_of image) d
@@ -24,9 +26,9 @@ nothing_durable v = record { volume = v; slots = 0; journal = 0; boot = 0; great
 abbrev pub resting_node : List ℕ → ℕ → Durable → Node
 resting_node name blocks d = record { name = name; blocks = blocks; durable = d; volatile = nothing_volatile; unmade = false; up = false; was_up = false; clock = 0; settled = []; calls = []; under_way = None }
 
--- a node over a volume that fails a condition is as before the first line
-pub faulty_opening : (name : List ℕ) (blocks condition block : ℕ) → IsOpening (resting_node name blocks (nothing_durable (Faulty condition block)))
-faulty_opening name blocks condition block = record {
+-- a node over a disk that stands for nothing is as before the first line
+pub nothing_opening : (name : List ℕ) (blocks : ℕ) (v : Volume) → IsOpening (resting_node name blocks (nothing_durable v))
+nothing_opening name blocks v = record {
   down = refl;
   made = refl;
   was_down = refl;
@@ -45,3 +47,11 @@ faulty_opening name blocks condition block = record {
   };
   active = tt;
 }
+
+-- Of any disk that tells its content nothing may be known.
+
+abbrev pub unknown_node : List ℕ → ℕ → Node
+unknown_node name blocks = resting_node name blocks (nothing_durable Unknown)
+
+pub unknown_stands : (name : List ℕ) (d : DiskState) → is_some d.seen ≡ true → IsCounted d → StandsOn name d (unknown_node name d.size)
+unknown_stands name d told counted = record { name_is = refl; blocks = refl; told = told; counted = counted; has = tt }

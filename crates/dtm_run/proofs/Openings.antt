@@ -1,30 +1,31 @@
 -- A node for each disk before a run.
-use Rattle.std.proofs.Common.{⊎_elim, ℕ, List, [], ◌∷◌, refl, subst}
+use Rattle.std.proofs.Common.{◌≡◌, ⊎_elim, ℕ, List, [], ◌∷◌, true, refl, ap, subst}
 use Rattle.block_disk.specs.Disk.{DiskState}
 use Rattle.careful_write.specs.Content.{content_of}
 use Rattle.careful_write.specs.Load.{fitting}
 use Rattle.volume.specs.Catalogs.{IsSound}
 use Rattle.volume.specs.Contents.{HasFinding, HasSound, SoundOrFinding}
-use Rattle.run_model.specs.World.{Node, IsOpening, Sound, Faulty}
+use Rattle.run_model.specs.World.{Node, IsOpening, Volume, Sound, Faulty, Unknown}
 use Rattle.run_model.specs.Laws.{AreOpening}
 use Rattle.directory_model.specs.Laws.{ReadsFiles}
 use Rattle.volume_model.specs.Homes.{last_of}
 use Rattle.volume_model.specs.Volumes.{IsLeftBy}
 use Rattle.volume_laws.specs.Falls.{VolumeFalls}
 use Rattle.dtm_node.proofs.DiskLemmas.{have_disk}
-use Rattle.dtm_run.specs.Headline.{StandOn, StandsOn}
-use Rattle.dtm_run.specs.Openings.{AreMade, IsLeftByOne, IsMade, OpeningsExist, Rests}
+use Rattle.dtm_run.specs.Headline.{StandOn, StandsOn, is_known}
+use Rattle.dtm_run.specs.Leading.{AreKnown}
+use Rattle.dtm_run.specs.Openings.{AreMade, AreTold, IsLeftByOne, IsMade, IsTold, OpeningsExist, Rests}
 use Rattle.dtm_run.specs.Reopenings.{reopened}
 use Rattle.dtm_run.proofs.Contents.{content_count, content_is}
 use Rattle.dtm_run.proofs.Files.{has_files}
-use Rattle.dtm_run.proofs.Opened.{all_have, faulty_opening, is_told, nothing_durable, resting_node}
+use Rattle.dtm_run.proofs.Opened.{all_have, is_told, nothing_durable, nothing_opening, resting_node, unknown_node, unknown_stands}
 use Rattle.dtm_run.proofs.Reopening.{opens_again, stands_again}
 use Rattle.dtm_run.proofs.Resting.{last_reached, resting_journal, rests_in}
 
 -- a node over a sound volume, or over a finding
 module _ (reads : ReadsFiles) (contents : SoundOrFinding) (falls : VolumeFalls) (name : List ℕ) (d : DiskState) (m : IsMade name d) where
   abbrev Opens : Type 0
-  Opens = (n : Node) × IsOpening n × StandsOn name d n
+  Opens = (n : Node) × IsOpening n × StandsOn name d n × (is_known n.durable.volume ≡ true)
 
   module _ (v : HasSound name (fitting m.image) (content_of m.image)) where
     sound : IsSound name d.size v.catalog
@@ -63,7 +64,8 @@ module _ (reads : ReadsFiles) (contents : SoundOrFinding) (falls : VolumeFalls) 
             units = has.units;
             active = tt;
           },
-          record { name_is = refl; blocks = refl; known = refl; told = is_told d.seen m.image m.told; counted = m.counted; has = have_disk n (fitting m.image) content d refl (all_have d m.image m.told m.settled) (v.group, left) },
+          record { name_is = refl; blocks = refl; told = is_told d.seen m.image m.told; counted = m.counted; has = have_disk n (fitting m.image) content d refl (all_have d m.image m.told m.settled) (v.group, left) },
+          refl,
         )
 
     left_opens : IsLeftByOne name d.size (content_of m.image) v.catalog → Opens
@@ -74,6 +76,7 @@ module _ (reads : ReadsFiles) (contents : SoundOrFinding) (falls : VolumeFalls) 
           reopened l.node,
           opens_again content v.catalog l.node l.leaves l.last,
           stands_again name d l.node m.image l.named l.sized m.told m.settled m.counted is.whole v.group left,
+          ap (λ (x : Volume). is_known x) l.leaves.home.volume,
         )
 
     sound_opens : Opens
@@ -83,21 +86,36 @@ module _ (reads : ReadsFiles) (contents : SoundOrFinding) (falls : VolumeFalls) 
   faulty_opens f =
       let n : Node = resting_node name d.size (nothing_durable (Faulty f.number f.block)) in (
         n,
-        faulty_opening name d.size f.number f.block,
-        record { name_is = refl; blocks = refl; known = refl; told = is_told d.seen m.image m.told; counted = m.counted; has = have_disk n (fitting m.image) (content_of m.image) d refl (all_have d m.image m.told m.settled) f.first },
+        nothing_opening name d.size (Faulty f.number f.block),
+        record { name_is = refl; blocks = refl; told = is_told d.seen m.image m.told; counted = m.counted; has = have_disk n (fitting m.image) (content_of m.image) d refl (all_have d m.image m.told m.settled) f.first },
+        refl,
       )
 
   opens : Opens
   opens = ⊎_elim sound_opens faulty_opens (contents name (fitting m.image) (content_of m.image) (content_is d.size m.image m.least m.whole m.bytes))
 
-all_open : (reads : ReadsFiles) (contents : SoundOrFinding) (falls : VolumeFalls) (names : List (List ℕ)) (ds : List DiskState) → AreMade names ds → (nodes : List Node) × AreOpening nodes × StandOn names ds nodes
-all_open reads contents falls [] [] h = ([], tt, tt)
+all_open : (reads : ReadsFiles) (contents : SoundOrFinding) (falls : VolumeFalls) (names : List (List ℕ)) (ds : List DiskState) → AreMade names ds → (nodes : List Node) × AreOpening nodes × StandOn names ds nodes × AreKnown nodes
+all_open reads contents falls [] [] h = ([], tt, tt, tt)
 all_open reads contents falls [] (d ∷ ds) h = absurd h
 all_open reads contents falls (name ∷ names) [] h = absurd h
 all_open reads contents falls (name ∷ names) (d ∷ ds) h =
     let first = opens reads contents falls name d h.0 in
     let rest = all_open reads contents falls names ds h.1 in
+    (first.0 ∷ rest.0, (first.1, rest.1), (first.2, rest.2), (first.3, rest.3))
+
+-- Of any disk that tells its content nothing may be known.
+
+unknown_opens : (name : List ℕ) (d : DiskState) → IsTold d → (n : Node) × IsOpening n × StandsOn name d n
+unknown_opens name d t = (unknown_node name d.size, nothing_opening name d.size Unknown, unknown_stands name d t.told t.counted)
+
+unknown_open : (names : List (List ℕ)) (ds : List DiskState) → AreTold names ds → (nodes : List Node) × AreOpening nodes × StandOn names ds nodes
+unknown_open [] [] h = ([], tt, tt)
+unknown_open [] (d ∷ ds) h = absurd h
+unknown_open (name ∷ names) [] h = absurd h
+unknown_open (name ∷ names) (d ∷ ds) h =
+    let first = unknown_opens name d h.0 in
+    let rest = unknown_open names ds h.1 in
     (first.0 ∷ rest.0, (first.1, rest.1), (first.2, rest.2))
 
 pub openings_exist : ReadsFiles → SoundOrFinding → VolumeFalls → OpeningsExist
-openings_exist reads contents falls = record { one = opens reads contents falls; all = all_open reads contents falls }
+openings_exist reads contents falls = record { one = unknown_opens; all = unknown_open; one_known = opens reads contents falls; all_known = all_open reads contents falls }

@@ -20,7 +20,7 @@ use Rattle.directory_model.specs.Restoring.{AreLeft, IsLayoutOf, IsLeft, IsPlace
 use Rattle.volume_model.specs.Volumes.{IsLeftBy, LeavesVolume}
 use Rattle.recovery_units.specs.Uses.{IsCounted}
 use Rattle.dtm_node.proofs.DiskLemmas.{ContentBy, have_disk}
-use Rattle.dtm_run.specs.Headline.{StandsOn, is_known}
+use Rattle.dtm_run.specs.Headline.{StandsOn}
 use Rattle.dtm_run.specs.Reopenings.{rebased_file, rebased_files, reopened}
 use Rattle.dtm_run.proofs.Opened.{all_have, is_told}
 
@@ -176,7 +176,6 @@ stands_again name d n image named sized told settled counted whole fits left =
     record {
       name_is = named;
       blocks = sized;
-      known = ap is_known sound;
       told = is_told d.seen image told;
       counted = counted;
       has = have_disk (reopened n) (fitting image) (content_of image) d refl (all_have d image told settled) (subst (ContentBy (reopened n) (fitting image) (content_of image)) (sym sound) (fits, again));

@@ -15,17 +15,17 @@ use Rattle.run_model.proofs.SoundLemmas.{opened_sound}
 use Rattle.volume_model.specs.Volumes.{IsLeftBy}
 use Rattle.volume_laws.specs.Falls.{VolumeFalls}
 use Rattle.dtm_node.proofs.DiskLemmas.{DiskBy, have_disk}
-use Rattle.dtm_run.specs.Headline.{IsVolumeOf, LeavesNode, StandsOn, is_known}
+use Rattle.dtm_run.specs.Headline.{IsVolumeOf, LeavesNode, StandsOn}
 use Rattle.dtm_run.specs.Reopenings.{IsReopened, IsTakenUp, LeftNodesOpen, reopened}
 use Rattle.dtm_run.proofs.Contents.{content_is}
-use Rattle.dtm_run.proofs.Opened.{all_have, faulty_opening, is_told, nothing_durable, resting_node}
+use Rattle.dtm_run.proofs.Opened.{all_have, is_told, nothing_durable, nothing_opening, resting_node, unknown_node, unknown_stands}
 use Rattle.dtm_run.proofs.Reopening.{opens_again, stands_again}
 
 abbrev ReopenedBy : Node → Node → Volume → Type 0
 ReopenedBy n m v = elim v [
   | Sound ↦ (m ≡ reopened n) ⊎ ((act : Act) × (n.under_way ≡ Some act) × (m ≡ reopened (acted act n)))
   | Faulty condition block ↦ m.durable.volume ≡ Faulty condition block
-  | Unknown ↦ Unit {0}
+  | Unknown ↦ m.durable.volume ≡ Unknown
 ]
 
 same_blocks : (act : Act) (n : Node) → (acted act n).blocks ≡ n.blocks
@@ -88,11 +88,10 @@ module _ (name : List ℕ) (n : Node) (named : n.name ≡ name) (kept : IsKeptNo
   faulty_left condition block faulty first =
       let m : Node = resting_node name next.size (nothing_durable (Faulty condition block)) in (
         m,
-        faulty_opening name next.size condition block,
+        nothing_opening name next.size (Faulty condition block),
         record {
           name_is = refl;
           blocks = refl;
-          known = refl;
           told = is_told next.seen t.image t.told;
           counted = t.counted;
           has = have_disk m (fitting t.image) (content_of t.image) next refl (all_have next t.image t.told t.settled) (subst (λ x. IsFirstFinding x (fitting t.image) (content_of t.image) condition block) named first);
@@ -100,15 +99,23 @@ module _ (name : List ℕ) (n : Node) (named : n.name ≡ name) (kept : IsKeptNo
         subst (ReopenedBy n m) (sym faulty) refl,
       )
 
-  down_opens : (v : Volume) → n.durable.volume ≡ v → is_known v ≡ true → DiskBy n left v → Opens
-  down_opens Sound e known has =
+  unknown_left : n.durable.volume ≡ Unknown → Opens
+  unknown_left unknown = (
+    unknown_node name next.size,
+    nothing_opening name next.size Unknown,
+    unknown_stands name next (is_told next.seen t.image t.told) t.counted,
+    subst (ReopenedBy n (unknown_node name next.size)) (sym unknown) refl,
+  )
+
+  down_opens : (v : Volume) → n.durable.volume ≡ v → DiskBy n left v → Opens
+  down_opens Sound e has =
       let i = has t.image t.may in
       ⊎_elim (λ same. same_opens e i.0 same) (λ x. acted_opens e i.0 x.0 x.1 x.2) i.1
-  down_opens (Faulty condition block) e known has = faulty_left condition block e (has.0 t.image t.may)
-  down_opens Unknown e known has = let none : ⊥ = cc in absurd none
+  down_opens (Faulty condition block) e has = faulty_left condition block e (has.0 t.image t.may)
+  down_opens Unknown e has = unknown_left e
 
-  pub taken_up : VolumeFalls → is_known n.durable.volume ≡ true → Opens
-  taken_up falls known = go n.up refl
+  pub taken_up : VolumeFalls → Opens
+  taken_up falls = go n.up refl
     where
       up_opens : (fitting t.image ≡ true) × IsVolumeOf (content_of t.image) n → Opens
       up_opens i =
@@ -117,8 +124,8 @@ module _ (name : List ℕ) (n : Node) (named : n.name ≡ name) (kept : IsKeptNo
 
       go : (b : Bool) → n.up ≡ b → Opens
       go true e = up_opens (l.up e t.image t.may)
-      go false e = down_opens n.durable.volume refl known (l.down e)
+      go false e = down_opens n.durable.volume refl (l.down e)
 
 pub left_nodes_open : VolumeFalls → LeftNodesOpen
-left_nodes_open falls nodes disks es closing opening legal name n found known before left next l t =
-    taken_up name n (found_name name closing.nodes n found) (legal_kept (opened nodes disks) closing es (opened_sound nodes disks opening) (opened_kept nodes disks opening) legal name n found) before left next l t falls known
+left_nodes_open falls nodes disks es closing opening legal name n found before left next l t =
+    taken_up name n (found_name name closing.nodes n found) (legal_kept (opened nodes disks) closing es (opened_sound nodes disks opening) (opened_kept nodes disks opening) legal name n found) before left next l t falls

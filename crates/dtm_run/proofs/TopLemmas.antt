@@ -5,30 +5,18 @@ use Rattle.std.specs.Option.{option_map}
 use Rattle.block_disk.specs.Disk.{DiskState}
 use Rattle.transcript_model.specs.Script.{ScriptLine, lines_of}
 use Rattle.transcript_model.specs.Outside.{Rose}
-use Rattle.run_model.specs.World.{World, Shared, Node, Volume, Sound, Faulty, Unknown, opened}
+use Rattle.run_model.specs.World.{Node, opened}
 use Rattle.run_model.specs.Laws.{AreOpening, PromisesHold}
-use Rattle.run_model.proofs.TranscriptLemmas.{ended_memory}
-use Rattle.dtm_node.specs.Nodes.{Passes, state_of}
-use Rattle.dtm_node.specs.Standing.{Kept, IsDown, counts_of, noted_all}
-use Rattle.dtm_run.specs.Alone.{StandsAlone}
+use Rattle.dtm_node.specs.Nodes.{Passes}
+use Rattle.dtm_node.specs.Standing.{counts_of, noted_all}
 use Rattle.dtm_run.specs.Racks.{names_in, states_in, AreSized, AreApart, IsRack}
-use Rattle.dtm_run.specs.Headline.{AllGo, Leaves, is_known, RunsTo, RunOver, StandOn, StandsOn, is_served}
+use Rattle.dtm_run.specs.Headline.{AllGo, Leaves, StandOn, StandsOn, is_served}
+use Rattle.dtm_run.specs.Leading.{Beginning, RunsFrom, RunOver, world_at}
 use Rattle.dtm_run.specs.declared.rack.Rack.{Rack}
 use Rattle.dtm_run.specs.declared.top.Exit.{Exit}
 use Rattle.dtm_run.specs.declared.top.Exit.TheVariants as exit
-use Rattle.dtm_run.proofs.Driving.{ends_to}
-
-passes_nowhere : (d : DiskState) → Passes d d
-passes_nowhere d = record { size = refl; faults = λ h. omega arith; stops = λ h. omega arith; counted = λ h. h; told = refl }
-
-pub passes_to : (a b c : DiskState) → Passes a b → Passes b c → Passes a c
-passes_to a b c f g = record {
-  size = g.size ∙ f.size;
-  faults = λ h. omega (arith, f.faults h, g.faults (f.counted h));
-  stops = λ h. omega (arith, f.stops h, g.stops (f.counted h));
-  counted = λ h. g.counted (f.counted h);
-  told = g.told ∙ f.told;
-}
+use Rattle.dtm_run.proofs.Entries.{ends_memory}
+use Rattle.dtm_run.proofs.Leading.{last_begins, not_both, passes_nowhere, since_legal}
 
 pub passes_same : (a b : DiskState) → b ≡ a → Passes a b
 passes_same a b e = subst (Passes a) (sym e) (passes_nowhere a)
@@ -41,58 +29,27 @@ pub both_first : (a b : Bool) → (a && b) ≡ true → a ≡ true
 both_first true b e = refl
 both_first false b e = let none : ⊥ = cc in absurd none
 
-not_up : (b : Bool) → b ≡ false → b ≡ true → ⊥
-not_up b f t = let e : true ≡ false = sym t ∙ f in cc
-
-not_unknown : (v : Volume) → is_known v ≡ true → v ≡ Unknown → ⊥
-not_unknown Sound k e = let none : ⊥ = cc in none
-not_unknown (Faulty condition block) k e = let none : ⊥ = cc in none
-not_unknown Unknown k e = let none : ⊥ = cc in none
-
--- The opening world of one node stands for a node that was not booted.
-
--- what nodes share before the first line
-abbrev pub nothing_shared : Shared
-nothing_shared = record { labels = []; in_use = false }
-
-pub stands_first : (name : List ℕ) (d : DiskState) (n : Node) → StandsOn name d n → AreOpening (n ∷ []) → StandsAlone d.calls (record { name = name; unmade = false; place = IsDown false d }) nothing_shared (opened (n ∷ []) (counts_of d ∷ []))
-stands_first name d n s o = record {
-  node = n;
-  nodes = refl;
-  disks = refl;
-  shared = refl;
-  known = λ e. absurd (not_unknown n.durable.volume s.known e);
-  stands = record {
-    name = s.name_is;
-    blocks = s.blocks;
-    clock = o.0.clock;
-    unmade = o.0.made;
-    place = record { down = o.0.down; reserved = λ was. absurd (not_up n.was_up o.0.was_down was); told = s.told; disk = s.has };
-    calls = ap (λ cs. noted_all cs d.calls) (sym o.0.calls);
-    counts = s.counted;
-  };
-}
-
 first_leaves : (name : List ℕ) (d : DiskState) (n : Node) → StandsOn name d n → AreOpening (n ∷ []) → Leaves (d ∷ []) (opened (n ∷ []) (counts_of d ∷ [])) (d ∷ [])
-first_leaves name d n s o = record { counts = refl; nodes = (record { down = λ e. s.has; up = λ e. absurd (not_up n.up o.0.down e); blocks = s.blocks; calls = ap (λ cs. noted_all cs d.calls) (sym o.0.calls) }, tt) }
+first_leaves name d n s o = record { counts = refl; nodes = (record { down = λ e. s.has; up = λ e. absurd (not_both n.up e o.0.down); blocks = s.blocks; calls = ap (λ cs. noted_all cs d.calls) (sym o.0.calls) }, tt) }
 
 -- Where memory is missing nothing was done.
 pub memory_runs : {D : Type 0} (state_of : D → DiskState) (ps : List (List ℕ × D)) (script : Option (List ScriptLine)) (old : Option (List ℕ)) → is_served (map (λ p. p.0) ps) ≡ true → (nodes : List Node) → AreOpening nodes →
-    StandOn (map (λ p. p.0) ps) (map (λ p. state_of p.1) ps) nodes → RunsTo (opened nodes (map counts_of (map (λ p. state_of p.1) ps))) (map (λ p. state_of p.1) ps) script old old exit.Memory (map (λ p. state_of p.1) ps)
+    StandOn (map (λ p. p.0) ps) (map (λ p. state_of p.1) ps) nodes → RunsFrom (map (λ p. p.0) ps) (record { nodes = nodes; disks = map (λ p. state_of p.1) ps }) script old old exit.Memory (map (λ p. state_of p.1) ps)
 memory_runs state_of [] script old e nodes o s = let none : ⊥ = cc in absurd none
 memory_runs state_of (p ∷ []) script old e [] o s = absurd s
 memory_runs state_of (p ∷ []) script old e (n ∷ m ∷ ns) o s = absurd s.1
 memory_runs state_of (p ∷ []) script old e (n ∷ []) o s =
     let d : DiskState = state_of p.1 in
-    let w : World = opened (n ∷ []) (counts_of d ∷ []) in
-    ends_to w (d ∷ []) script old old exit.Memory (d ∷ []) w (ended_memory w script old) (first_leaves p.0 d n s.0 o)
+    let first : Beginning = record { nodes = n ∷ []; disks = d ∷ [] } in
+    let ends = ends_memory script old in
+    record { led = []; left_over = []; last = first; since = []; closing = world_at first; leads = (refl, refl, refl); leaves = first_leaves p.0 d n s.0 o; in_limits = ends.in_limits; added = ends.added; shows = ends.shows; ends = ends.ends }
 memory_runs state_of (p ∷ q ∷ ps) script old e nodes o s = let none : ⊥ = cc in absurd none
 
 -- so where the nodes were only given room
 pub memory_runs_on : {D : Type 0} (state : D → DiskState) (ps qs : List (List ℕ × D)) (script : Option (List ScriptLine)) (old : Option (List ℕ)) → qs ≡ ps → is_served (map (λ p. p.0) ps) ≡ true → (nodes : List Node) → AreOpening nodes →
-    StandOn (map (λ p. p.0) ps) (map (λ p. state p.1) ps) nodes → RunsTo (opened nodes (map counts_of (map (λ p. state p.1) ps))) (map (λ p. state p.1) ps) script old old exit.Memory (map (λ p. state p.1) qs)
+    StandOn (map (λ p. p.0) ps) (map (λ p. state p.1) ps) nodes → RunsFrom (map (λ p. p.0) ps) (record { nodes = nodes; disks = map (λ p. state p.1) ps }) script old old exit.Memory (map (λ p. state p.1) qs)
 memory_runs_on {D = D} state ps qs script old same one nodes o s =
-    subst (λ (l : List (List ℕ × D)). RunsTo (opened nodes (map counts_of (map (λ p. state p.1) ps))) (map (λ p. state p.1) ps) script old old exit.Memory (map (λ p. state p.1) l)) (sym same) (memory_runs state ps script old one nodes o s)
+    subst (λ (l : List (List ℕ × D)). RunsFrom (map (λ p. p.0) ps) (record { nodes = nodes; disks = map (λ p. state p.1) ps }) script old old exit.Memory (map (λ p. state p.1) l)) (sym same) (memory_runs state ps script old one nodes o s)
 
 pub all_stay_on : {D : Type 0} (state : D → DiskState) (ps qs : List (List ℕ × D)) → qs ≡ ps → AllGo (map (λ p. state p.1) ps) (map (λ p. state p.1) qs)
 all_stay_on {D = D} state ps qs same = subst (λ (l : List (List ℕ × D)). AllGo (map (λ p. state p.1) ps) (map (λ p. state p.1) l)) (sym same) (all_stay (map (λ p. state p.1) ps))
@@ -111,25 +68,22 @@ taken_only [] p e = refl
 taken_only (q ∷ []) p e = let none : ⊥ = cc in absurd none
 taken_only (q ∷ r ∷ mid) p e = let none : ⊥ = cc in absurd none
 
-one_runs : (name : List ℕ) (d left : DiskState) (k : Kept) (shared : Shared) (script : Option (List ScriptLine)) (old new : Option (List ℕ)) (x : Exit) → k ≡ record { name = name; unmade = false; place = IsDown false d } → shared ≡ nothing_shared →
-    ((w : World) → StandsAlone d.calls k shared w → RunsTo w (d ∷ []) script old new x (left ∷ [])) → (nodes : List Node) → AreOpening nodes → StandOn (name ∷ []) (d ∷ []) nodes → RunsTo (opened nodes (counts_of d ∷ [])) (d ∷ []) script old new x (left ∷ [])
-one_runs name d left k shared script old new x is none runs [] o s = absurd s
-one_runs name d left k shared script old new x is none runs (n ∷ m ∷ ns) o s = absurd s.1
-one_runs name d left k shared script old new x is none runs (n ∷ []) o s = runs (opened (n ∷ []) (counts_of d ∷ []))
-    (subst (λ (j : Kept). StandsAlone d.calls j shared (opened (n ∷ []) (counts_of d ∷ []))) (sym is) (subst (λ (z : Shared). StandsAlone d.calls (record { name = name; unmade = false; place = IsDown false d }) z (opened (n ∷ []) (counts_of d ∷ []))) (sym none) (stands_first name d n s.0 o)))
+-- what a run of these nodes on these disks comes to
+abbrev pub RunsOver : List (List ℕ) → List DiskState → Option (List ScriptLine) → Option (List ℕ) → Option (List ℕ) → Exit → List DiskState → Type 0
+RunsOver names before script old new x after = (nodes : List Node) → AreOpening nodes → StandOn names before nodes → RunsFrom names (record { nodes = nodes; disks = before }) script old new x after
 
-pub script_runs : {D : Type 0} (state : D → DiskState) (ps mid final : List (List ℕ × D)) (p q : List ℕ × D) (d left : DiskState) (k : Kept) (shared : Shared) (script : Option (List ScriptLine)) (old new : Option (List ℕ)) (x : Exit) →
-    is_served (map (λ p. p.0) ps) ≡ true → ps ≡ mid ++ p ∷ [] → final ≡ mid ++ q ∷ [] → state p.1 ≡ d → state q.1 ≡ left → k ≡ record { name = p.0; unmade = false; place = IsDown false d } → shared ≡ nothing_shared →
-    ((w : World) → StandsAlone d.calls k shared w → RunsTo w (d ∷ []) script old new x (left ∷ [])) → (nodes : List Node) → AreOpening nodes → StandOn (map (λ p. p.0) ps) (map (λ p. state p.1) ps) nodes →
-    RunsTo (opened nodes (map counts_of (map (λ p. state p.1) ps))) (map (λ p. state p.1) ps) script old new x (map (λ p. state p.1) final)
-script_runs {D = D} state ps mid final p q d left k shared script old new x one parts ends is_d is_left is none runs =
+pub script_runs : {D : Type 0} (state : D → DiskState) (ps mid final : List (List ℕ × D)) (p q : List ℕ × D) (name : List ℕ) (d left : DiskState) (script : Option (List ScriptLine)) (old new : Option (List ℕ)) (x : Exit) →
+    is_served (map (λ p. p.0) ps) ≡ true → ps ≡ mid ++ p ∷ [] → final ≡ mid ++ q ∷ [] → name ≡ p.0 → d ≡ state p.1 → left ≡ state q.1 → RunsOver (name ∷ []) (d ∷ []) script old new x (left ∷ []) →
+    RunsOver (map (λ p. p.0) ps) (map (λ p. state p.1) ps) script old new x (map (λ p. state p.1) final)
+script_runs {D = D} state ps mid final p q name d left script old new x one parts ends named is_d is_left runs =
     let empty : mid ≡ [] = taken_only mid p (ap (λ (l : List (List ℕ × D)). is_served (map (λ p. p.0) l)) (sym parts) ∙ one) in
     let before : ps ≡ p ∷ [] = parts ∙ ap (λ (m : List (List ℕ × D)). m ++ p ∷ []) empty in
     let after : final ≡ q ∷ [] = ends ∙ ap (λ (m : List (List ℕ × D)). m ++ q ∷ []) empty in
-    subst (λ (l : List (List ℕ × D)). (nodes : List Node) → AreOpening nodes → StandOn (map (λ p. p.0) l) (map (λ p. state p.1) l) nodes → RunsTo (opened nodes (map counts_of (map (λ p. state p.1) l))) (map (λ p. state p.1) l) script old new x (map (λ p. state p.1) final)) (sym before)
-    (subst (λ (l : List (List ℕ × D)). (nodes : List Node) → AreOpening nodes → StandOn (p.0 ∷ []) (state p.1 ∷ []) nodes → RunsTo (opened nodes (counts_of (state p.1) ∷ [])) (state p.1 ∷ []) script old new x (map (λ p. state p.1) l)) (sym after)
-    (subst (λ (y : DiskState). (nodes : List Node) → AreOpening nodes → StandOn (p.0 ∷ []) (y ∷ []) nodes → RunsTo (opened nodes (counts_of y ∷ [])) (y ∷ []) script old new x (state q.1 ∷ [])) (sym is_d)
-    (subst (λ (y : DiskState). (nodes : List Node) → AreOpening nodes → StandOn (p.0 ∷ []) (d ∷ []) nodes → RunsTo (opened nodes (counts_of d ∷ [])) (d ∷ []) script old new x (y ∷ [])) (sym is_left) (one_runs p.0 d left k shared script old new x is none runs))))
+    subst (λ (l : List (List ℕ × D)). RunsOver (map (λ p. p.0) l) (map (λ p. state p.1) l) script old new x (map (λ p. state p.1) final)) (sym before)
+    (subst (λ (l : List (List ℕ × D)). RunsOver (p.0 ∷ []) (state p.1 ∷ []) script old new x (map (λ p. state p.1) l)) (sym after)
+    (subst (λ (y : DiskState). RunsOver (p.0 ∷ []) (state p.1 ∷ []) script old new x (y ∷ [])) is_left
+    (subst (λ (y : DiskState). RunsOver (p.0 ∷ []) (y ∷ []) script old new x (left ∷ [])) is_d
+    (subst (λ (y : List ℕ). RunsOver (y ∷ []) (d ∷ []) script old new x (left ∷ [])) named runs))))
 
 -- the disks over such a run
 pub script_goes : {D : Type 0} (state : D → DiskState) (ps mid final : List (List ℕ × D)) (p q : List ℕ × D) → is_served (map (λ p. p.0) ps) ≡ true → ps ≡ mid ++ p ∷ [] → final ≡ mid ++ q ∷ [] → Passes (state p.1) (state q.1) →
@@ -141,11 +95,12 @@ script_goes {D = D} state ps mid final p q one parts ends passes =
     subst (λ (l : List (List ℕ × D)). AllGo (map (λ p. state p.1) l) (map (λ p. state p.1) final)) (sym before) (subst (λ (l : List (List ℕ × D)). AllGo (state p.1 ∷ []) (map (λ p. state p.1) l)) (sym after) (passes, tt))
 
 -- The whole run keeps its promises.
-pub run_over : (nodes : List Node) (before after : List DiskState) (script old new old' new' : Option (List ℕ)) (x : Exit) → PromisesHold → AreOpening nodes → old' ≡ old → new' ≡ new →
-    RunsTo (opened nodes (map counts_of before)) before (option_map lines_of script) old new x after → RunOver nodes before after script old' new' x
-run_over nodes before after script old new old' new' x law opening e f r =
-    subst (λ (z : Option (List ℕ)). RunOver nodes before after script z new' x) (sym e) (subst (λ (z : Option (List ℕ)). RunOver nodes before after script old z x) (sym f)
-    record { run = r; promises = law nodes (map counts_of before) r.ran.entries r.ran.closing opening r.ran.legal })
+pub run_over : (names : List (List ℕ)) (nodes : List Node) (before after : List DiskState) (script old new old' new' : Option (List ℕ)) (x : Exit) → PromisesHold → AreOpening nodes → old' ≡ old → new' ≡ new →
+    RunsFrom names (record { nodes = nodes; disks = before }) (option_map lines_of script) old new x after → RunOver names nodes before after script old' new' x
+run_over names nodes before after script old new old' new' x law opening e f r =
+    let first : Beginning = record { nodes = nodes; disks = before } in
+    subst (λ (z : Option (List ℕ)). RunOver names nodes before after script z new' x) (sym e) (subst (λ (z : Option (List ℕ)). RunOver names nodes before after script old z x) (sym f)
+    record { run = r; promises = law r.last.nodes (map counts_of r.last.disks) r.since r.closing (last_begins names first r.last r.led r.since r.closing opening r.leads) (since_legal names first r.last r.led r.since r.closing r.leads) })
 
 -- The rack stays a rack.
 sized_on : (olds news : List DiskState) → AllGo olds news → AreSized olds → AreSized news

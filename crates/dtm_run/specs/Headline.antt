@@ -44,11 +44,11 @@ is_known Sound = true
 is_known (Faulty condition block) = true
 is_known Unknown = false
 
--- a node of the world stands on a disk: it has this name and as many blocks, it is known what its disk has, and the disk has that
+-- A node of the world stands on a disk that tells its content: it has this name and as many blocks, and the disk has what the node's disk has. Where nothing is
+-- known of that, any disk has it.
 pub record StandsOn (name : List ℕ) (d : DiskState) (n : Node) : Type 0 where
   pub name_is : n.name ≡ name
   pub blocks : n.blocks ≡ d.size
-  pub known : is_known n.durable.volume ≡ true
   pub told : is_some d.seen ≡ true
   pub counted : IsCounted d
   pub has : HasDisk n d
@@ -104,7 +104,7 @@ pub record RunsTo (opening : World) (before : List DiskState) (script : Option (
   pub leaves : Leaves before ran.closing after
 
 -- The whole run over a script's bytes, from these nodes on, which are down at first: as above, and all that the transcript tells is kept for good.
-pub record RunOver (nodes : List Node) (before after : List DiskState) (script old new : Option (List ℕ)) (ended : Exit) : Type 0 where
+pub record WholeRun (nodes : List Node) (before after : List DiskState) (script old new : Option (List ℕ)) (ended : Exit) : Type 0 where
   pub run : RunsTo (opened nodes (map counts_of before)) before (option_map lines_of script) old new ended after
   pub promises : Promises (opened nodes (map counts_of before)) run.ran.entries run.ran.closing
 

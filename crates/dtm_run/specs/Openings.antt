@@ -1,5 +1,5 @@
 -- The nodes that a run may begin with.
-use Rattle.std.specs.Prelude.{◌≡◌, ◌⊎◌, ◌<◌, ◌≤◌, ◌^◌, ℕ, List, [], ◌∷◌, Option, Some, IfSome, length}
+use Rattle.std.specs.Prelude.{◌≡◌, ◌⊎◌, ◌<◌, ◌≤◌, ◌^◌, ℕ, List, [], ◌∷◌, true, Option, Some, IfSome, is_some, length}
 use Rattle.std.specs.List.{All}
 use Rattle.block_disk.specs.Blocks.{IsWhole, block_at}
 use Rattle.block_disk.specs.Disk.{DiskState}
@@ -14,7 +14,8 @@ use Rattle.directory_model.specs.Files.{head_at}
 use Rattle.volume_model.specs.Homes.{last_of}
 use Rattle.volume_model.specs.Volumes.{LeavesVolume}
 use Rattle.recovery_units.specs.Uses.{IsCounted}
-use Rattle.dtm_run.specs.Headline.{StandOn, StandsOn}
+use Rattle.dtm_run.specs.Headline.{StandOn, StandsOn, is_known}
+use Rattle.dtm_run.specs.Leading.{AreKnown}
 
 -- a head is one of a file of its organization, whose buckets are laid out
 abbrev pub HasLayout : List (List ℕ) → FileHead → Type 0
@@ -62,7 +63,20 @@ AreMade [] [] = Unit {0}
 AreMade (name ∷ names) (d ∷ ds) = IsMade name d × AreMade names ds
 AreMade names ds = ⊥
 
--- On each such disk there stands a node as before the first line, and so for all disks of a rack.
+-- a disk that tells its content, whatever that is
+pub record IsTold (d : DiskState) : Type 0 where
+  pub told : is_some d.seen ≡ true
+  pub counted : IsCounted d
+
+abbrev pub AreTold : List (List ℕ) → List DiskState → Type 0
+AreTold [] [] = Unit {0}
+AreTold (name ∷ names) (d ∷ ds) = IsTold d × AreTold names ds
+AreTold names ds = ⊥
+
+-- On each disk that tells its content there stands a node as before the first line. Where an earlier run is known to have left its volume, or it has none, so is
+-- what the node's disk has. And so for all disks of a rack.
 pub record OpeningsExist : Type 0 where
-  pub one : (name : List ℕ) (d : DiskState) → IsMade name d → (n : Node) × IsOpening n × StandsOn name d n
-  pub all : (names : List (List ℕ)) (ds : List DiskState) → AreMade names ds → (nodes : List Node) × AreOpening nodes × StandOn names ds nodes
+  pub one : (name : List ℕ) (d : DiskState) → IsTold d → (n : Node) × IsOpening n × StandsOn name d n
+  pub all : (names : List (List ℕ)) (ds : List DiskState) → AreTold names ds → (nodes : List Node) × AreOpening nodes × StandOn names ds nodes
+  pub one_known : (name : List ℕ) (d : DiskState) → IsMade name d → (n : Node) × IsOpening n × StandsOn name d n × (is_known n.durable.volume ≡ true)
+  pub all_known : (names : List (List ℕ)) (ds : List DiskState) → AreMade names ds → (nodes : List Node) × AreOpening nodes × StandOn names ds nodes × AreKnown nodes

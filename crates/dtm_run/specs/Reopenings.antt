@@ -1,5 +1,5 @@
 -- The nodes that a run leaves are nodes that the next may begin with.
-use Rattle.std.specs.Prelude.{◌≡◌, ◌⊎◌, ◌<◌, ◌≤◌, ℕ, List, [], true, false, Option, Some, None, map, option_map}
+use Rattle.std.specs.Prelude.{◌≡◌, ◌⊎◌, ◌<◌, ◌≤◌, ℕ, List, [], false, Option, Some, None, map, option_map}
 use Rattle.std.specs.List.{All}
 use Rattle.block_disk.specs.Blocks.{IsWhole, block_at}
 use Rattle.block_disk.specs.Disk.{DiskState, MayLeave}
@@ -8,7 +8,7 @@ use Rattle.run_model.specs.World.{World, Node, File, Act, DiskCounts, Sound, Fau
 use Rattle.run_model.specs.Transcript.{Entry, Legal}
 use Rattle.run_model.specs.Laws.{AreOpening}
 use Rattle.recovery_units.specs.Uses.{IsCounted}
-use Rattle.dtm_run.specs.Headline.{LeavesNode, StandsOn, is_known}
+use Rattle.dtm_run.specs.Headline.{LeavesNode, StandsOn}
 
 -- a history from this moment on: the records that were committed are its base, and branches that are not settled have their changes on top
 abbrev pub rebased : ℕ → History → History
@@ -36,12 +36,13 @@ reopened n = record {
   under_way = None;
 }
 
--- The next run finds the node that this one left, or that node after the act that was under way; of a disk that fails a condition it finds this condition.
+-- The next run finds the node that this one left, or that node after the act that was under way; of a disk that fails a condition it finds this condition, and of
+-- one of which nothing is known nothing.
 abbrev pub IsReopened : Node → Node → Type 0
 IsReopened n m = elim n.durable.volume [
   | Sound ↦ (m ≡ reopened n) ⊎ ((act : Act) × (n.under_way ≡ Some act) × (m ≡ reopened (acted act n)))
   | Faulty condition block ↦ m.durable.volume ≡ Faulty condition block
-  | Unknown ↦ Unit {0}
+  | Unknown ↦ m.durable.volume ≡ Unknown
 ]
 
 -- The disk of the next run has one of the images that a power loss may leave of the disk of this one, and nothing is pending on it. It has 4,096 blocks or more,
@@ -57,9 +58,8 @@ pub record IsTakenUp (left next : DiskState) : Type 0 where
   pub whole : IsWhole next.size image
   pub bytes : (n : ℕ) → n < next.size → All (λ b. b < 256) (block_at image n)
 
--- On each disk that is taken up so, but for one whose last INIT failed, there stands a node as before the first line: the one that the run left. So what a run
--- has committed stands at the beginning of the next, and what it left unsettled is there to be undone.
+-- On each disk that is taken up so there stands a node as before the first line: the one that the run left. So what a run has committed stands at the beginning of
+-- the next, and what it left unsettled is there to be undone.
 abbrev pub LeftNodesOpen : Type 0
 LeftNodesOpen = (nodes : List Node) (disks : List DiskCounts) (es : List Entry) (closing : World) → AreOpening nodes → Legal (opened nodes disks) es closing →
-    (name : List ℕ) (n : Node) → find_node name closing.nodes ≡ Some n → is_known n.durable.volume ≡ true → (before left next : DiskState) → LeavesNode before n left → IsTakenUp left next →
-    (m : Node) × IsOpening m × StandsOn name next m × IsReopened n m
+    (name : List ℕ) (n : Node) → find_node name closing.nodes ≡ Some n → (before left next : DiskState) → LeavesNode before n left → IsTakenUp left next → (m : Node) × IsOpening m × StandsOn name next m × IsReopened n m

@@ -1,4 +1,5 @@
 //! What the definitions promise.
+ghost use Rattle.dtm_run.specs.Leading.{KnownRunsAreWhole, MadeRunsAreWhole};
 ghost use Rattle.dtm_run.specs.Openings.{OpeningsExist};
 ghost use Rattle.dtm_run.specs.Reopenings.{LeftNodesOpen};
 
@@ -6,8 +7,8 @@ use directory_model::records_are_read_alike;
 use volume::each_content_has_a_volume_or_a_finding;
 use volume_laws::volumes_fall;
 
-/// On each disk that tells its content, on which nothing is pending, and whose volume rests or was left by a node that fell, there stands a node as before the
-/// first line: over its volume, or over the first condition that fails. So the promises of a run are not empty.
+/// On each disk that tells its content there stands a node as before the first line. Where nothing is pending on it, and its volume rests or was left by a node
+/// that fell, this has the volume, or the first condition that fails. So the promises of a run are not empty.
 pub fn opening_nodes_exist()
     ensures { OpeningsExist }
 {
@@ -23,3 +24,14 @@ pub fn left_nodes_open()
 {
     volumes_fall();
 }
+
+/// From nodes of whose disks something is known on, a run leads on to its end: the whole transcript is legal and keeps its promises, and the disks have what
+/// the nodes have.
+pub fn known_runs_are_whole()
+    ensures { KnownRunsAreWhole }
+{}
+
+/// Whatever the only node's disk had: where an INIT succeeds before the first BOOT, a run leads on to its end.
+pub fn made_runs_are_whole()
+    ensures { MadeRunsAreWhole }
+{}

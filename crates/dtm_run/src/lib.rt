@@ -5,7 +5,7 @@ mod law;
 mod rack;
 mod top;
 
-pub use law::{left_nodes_open, opening_nodes_exist};
+pub use law::{known_runs_are_whole, left_nodes_open, made_runs_are_whole, opening_nodes_exist};
 pub use rack::{Rack, RackCause, RackErr};
 pub use top::{Exit, run};
 

@@ -1,6 +1,7 @@
 //! Transactions beside each other, a node that falls before they are settled, and stops at each write of it and of its boots.
 use crate::Exit;
-use crate::tests::{filled, has, joined, shown};
+use crate::tests::{COMMITTING, OPENING, disk_of, filled, has, joined, run_on, shown};
+use block_disk::{CrashDisk, Disk, MemPlatter};
 use std::alloc::Global;
 use std::process::Abort;
 use std::test::Fail;
@@ -205,5 +206,50 @@ fn of_two_transactions_one_stays(rt: HostRuntime) -> Result<(), Fail> {
         &BY_FIRST,
         b"\"\n27 SS$_NORMAL 5\n",
     )?;
+    Ok(())
+}
+
+// A disk with this byte all over a block.
+fn damaged(
+    mut disk: CrashDisk<MemPlatter>,
+    block: u32,
+    byte: u8,
+) -> Result<CrashDisk<MemPlatter>, Fail> {
+    if block >= disk.blocks() || disk.pending() >= 1_024 {
+        return Err(Fail::from("no such block"));
+    }
+    if disk.write(block, &[byte; 512]).is_err() || disk.barrier().is_err() {
+        return Err(Fail::from("a write failed"));
+    }
+    Ok(disk)
+}
+
+// The first bucket of the only file, and the block that says where the journal's entries lie: a disk with either in ruins has a volume that nobody left.
+const BUCKET: u32 = 712;
+
+const SPAN: u32 = 583;
+
+#[test]
+fn a_disk_of_which_nothing_is_known_is_made_anew(rt: HostRuntime) -> Result<(), Fail> {
+    let anew = joined(rt.alloc(), &[OPENING, COMMITTING])?;
+    let want = shown(rt.alloc(), COMMITTING, Exit::Done)?;
+    for (block, booted) in [
+        (BUCKET, b"".as_slice()),
+        (SPAN, b"1 VOLUME A 6 583\n2 NODEDOWN\n3 VOLUME A 6 583\n"),
+    ] {
+        let disk = CrashDisk::new(rt.alloc(), MemPlatter::new(rt.alloc(), 8_192)?)?;
+        let (_, rack) = run_on(
+            rt.alloc(),
+            disk,
+            b"A: INIT 64 64\nA: BOOT\nA: CREATE F REL 1 100 10\nA: PUT - F 1 \"b\"\n",
+        )?;
+        let disk = damaged(disk_of(rack)?, block, 255)?;
+        let (text, rack) = run_on(rt.alloc(), disk, b"A: BOOT\nA: DUMP F\nA: BOOT\n")?;
+        if !booted.is_empty() {
+            assert_eq!(rt; text.as_slice(), booted);
+        }
+        let (text, _) = run_on(rt.alloc(), disk_of(rack)?, &anew)?;
+        assert_eq!(rt; text, want, "{block}");
+    }
     Ok(())
 }

@@ -8,11 +8,12 @@ use std::test::Fail;
 use transcript::{MemSink, MemSource, ReaderSource, Sink, Source};
 use vms_base::NodeName;
 
-const OPENING: &[u8] = b"A: INIT\nA: BOOT\nA: CREATE F REL 1 100 10\nA: SET_FILE F RU\n";
+pub(crate) const OPENING: &[u8] = b"A: INIT\nA: BOOT\nA: CREATE F REL 1 100 10\nA: SET_FILE F RU\n";
 
 const OPENED: &[u8] = b"1 SS$_NORMAL\n2 SS$_NORMAL 1\n3 SS$_NORMAL\n4 SS$_NORMAL\n";
 
-const COMMITTING: &[u8] = b"A: START_TRANS T\nA: PUT T F 1 \"a\"\nA: END_TRANS T\nA: DUMP F\n";
+pub(crate) const COMMITTING: &[u8] =
+    b"A: START_TRANS T\nA: PUT T F 1 \"a\"\nA: END_TRANS T\nA: DUMP F\n";
 
 // Runs a script by node A over a disk of 8,192 blocks.
 fn run_over<S: Source, K: Sink>(

@@ -8,10 +8,9 @@ ghost use Rattle.transcript.specs.Emitters.{shown_by};
 ghost use Rattle.transcript.specs.Forms.{HasTime, line_of};
 ghost use Rattle.transcript.specs.Reading.{IsSound, lines_ahead, taken_bytes};
 ghost use Rattle.block_disk.specs.Disk.{CallLog};
-ghost use Rattle.run_model.specs.World.{Node as NodeSaid, World, opened};
+ghost use Rattle.run_model.specs.World.{Node as NodeSaid, World};
 ghost use Rattle.run_model.specs.Laws.{AreOpening};
 ghost use Rattle.run_model.specs.Said.{nothing_said};
-ghost use Rattle.dtm_node.specs.Standing.{counts_of};
 ghost use Rattle.dtm_node.specs.Keeping.{IsToUp};
 ghost use Rattle.dtm_node.specs.Nodes.{IsNode, Passes, kept_of, shared_of, state_of};
 ghost use Rattle.script_lang.specs.Statements.{request_of, statement_of};
@@ -19,7 +18,8 @@ ghost use Rattle.script_model.specs.Statements.{At};
 ghost use Rattle.dtm_run.specs.Alone.{IsForUp, StandsAlone, ServesAlone};
 ghost use Rattle.dtm_run.specs.Racks.{names_in, disks_in, states_in, IsRack};
 ghost use Rattle.dtm_run.specs.Calls.{AnswersAlone, TellsOver, said_alone};
-ghost use Rattle.dtm_run.specs.Headline.{is_command as is_command_of, is_served as is_served_of, StandOn, AllGo, RunsTo, RunOver, Unread};
+ghost use Rattle.dtm_run.specs.Headline.{is_command as is_command_of, is_served as is_served_of, StandOn, AllGo, Unread};
+ghost use Rattle.dtm_run.specs.Leading.{BootsUnknown, RunsFrom, RunOver};
 
 use crate::rack::Rack;
 use block_disk::Disk;
@@ -62,9 +62,9 @@ pub fn run<S: Source, K: Sink, D: Disk + Drop, U: RecoveryUnits>(
 ) -> Exit
     requires rack { IsRack D.state rack.old }
     // Where the words are a command: from all nodes that stand on the disks before the first line, the transcript is legal and keeps its promises, and the
-    // disks have what its nodes have.
+    // disks have what its nodes have. Where nothing is known of a disk, this is so up to a BOOT of its node, and anew behind one that was refused.
     ensures runs { is_command_of (names_in rack.old) (map string_bytes words.now) ≡ true → (nodes : List NodeSaid) → AreOpening nodes → StandOn (names_in rack.old) (states_in D.state rack.old) nodes →
-        RunOver nodes (states_in D.state rack.old) (states_in D.state rack.new) (S.left source.old) (K.shown sink.old) (K.shown sink.new) result }
+        RunOver (names_in rack.old) nodes (states_in D.state rack.old) (states_in D.state rack.new) (S.left source.old) (K.shown sink.old) (K.shown sink.new) result }
     // Whether or not the disks tell their content: what was shown for each line tells which calls armed or powered them, each failure that is shown raised
     // its count, and a statement is refused with NOSUCHNODE, NODEDOWN, NODEUP, VOLINUSE, NOINIT or LABEL just where the lines before it say so.
     ensures calls { is_command_of (names_in rack.old) (map string_bytes words.now) ≡ true →
@@ -134,7 +134,7 @@ fn run_script<S: Source, K: Sink, D: Disk + Drop, U: RecoveryUnits>(
     requires rack { IsRack D.state rack.old }
     ensures same_sink { out.new.sink.ghost_name ≡ out.old.sink.ghost_name }
     ensures runs { (nodes : List NodeSaid) → AreOpening nodes → StandOn (names_in rack.old) (states_in D.state rack.old) nodes →
-        RunsTo (opened nodes (map counts_of (states_in D.state rack.old))) (states_in D.state rack.old) (option_map lines_of (S.left source.old)) (K.shown out.old.sink.now) (K.shown out.new.sink.now) result (states_in D.state rack.new) }
+        RunsFrom (names_in rack.old) (record { nodes = nodes; disks = states_in D.state rack.old }) (option_map lines_of (S.left source.old)) (K.shown out.old.sink.now) (K.shown out.new.sink.now) result (states_in D.state rack.new) }
     ensures calls { TellsOver (names_in rack.old) (states_in D.state rack.old) (states_in D.state rack.new) (option_map lines_of (S.left source.old)) (K.shown out.old.sink.now) (K.shown out.new.sink.now) result }
     ensures commanded { result ≡ Exit.Usage → ⊥ }
     ensures read_fault { result ≡ Exit.ReadFault → Rose (S.faults source.old) (S.faults source.new) }
@@ -202,7 +202,7 @@ fn serve_statement<E: Emit, D: Disk + Drop, U: RecoveryUnits>(
     ensures since { Since (E.shows out.old) (E.shows out.new) }
     ensures tells { AnswersAlone node.name (statement_of literals.now statement.now) (E.shows out.old) (E.shows out.new) (state_of D.state U.state node) (state_of D.state U.state result)
         (said_alone (kept_of D.state U.state node) (shared_of shared.old)) (said_alone (kept_of D.state U.state result) (shared_of shared.new)) }
-    ensures serves { (log : CallLog) (w : World) → StandsAlone log (kept_of D.state U.state node) (shared_of shared.old) w →
+    ensures serves { (log : CallLog) (w : World) → StandsAlone log (kept_of D.state U.state node) (shared_of shared.old) w → (BootsUnknown w (statement_of literals.now statement.now) → ⊥) →
         ServesAlone log w (statement_of literals.now statement.now) (E.shows out.old) (E.shows out.new) (kept_of D.state U.state result) (shared_of shared.new) }
 {
     let Statement::At(name, request) = statement;
@@ -227,7 +227,7 @@ fn serve_request<E: Emit, D: Disk + Drop, U: RecoveryUnits>(
     ensures since { Since (E.shows out.old) (E.shows out.new) }
     ensures tells { AnswersAlone node.name (At name (request_of literals.now request.now)) (E.shows out.old) (E.shows out.new) (state_of D.state U.state node) (state_of D.state U.state result)
         (said_alone (kept_of D.state U.state node) (shared_of shared.old)) (said_alone (kept_of D.state U.state result) (shared_of shared.new)) }
-    ensures serves { (log : CallLog) (w : World) → StandsAlone log (kept_of D.state U.state node) (shared_of shared.old) w →
+    ensures serves { (log : CallLog) (w : World) → StandsAlone log (kept_of D.state U.state node) (shared_of shared.old) w → (BootsUnknown w (At name (request_of literals.now request.now)) → ⊥) →
         ServesAlone log w (At name (request_of literals.now request.now)) (E.shows out.old) (E.shows out.new) (kept_of D.state U.state result) (shared_of shared.new) }
 {
     if name.bytes() == node.name().bytes() {
@@ -314,8 +314,8 @@ fn drive<S: Source, K: Sink, D: Disk + Drop, U: RecoveryUnits>(
     requires kept { IsNode D.state U.state 0 (shared_of shared.old) node }
     requires unsaid { said_alone (kept_of D.state U.state node) (shared_of shared.old) ≡ nothing_said (node.name ∷ []) }
     ensures same_sink { out.new.sink.ghost_name ≡ out.old.sink.ghost_name }
-    ensures runs { (w : World) → StandsAlone (state_of D.state U.state node).calls (kept_of D.state U.state node) (shared_of shared.old) w →
-        RunsTo w (state_of D.state U.state node ∷ []) (lines_ahead reader.old (S.left source.old)) (K.shown out.old.sink.now) (K.shown out.new.sink.now) result.0 (D.state result.1 ∷ []) }
+    ensures runs { (nodes : List NodeSaid) → AreOpening nodes → StandOn (node.name ∷ []) (state_of D.state U.state node ∷ []) nodes →
+        RunsFrom (node.name ∷ []) (record { nodes = nodes; disks = state_of D.state U.state node ∷ [] }) (lines_ahead reader.old (S.left source.old)) (K.shown out.old.sink.now) (K.shown out.new.sink.now) result.0 (D.state result.1 ∷ []) }
     ensures calls { TellsOver (node.name ∷ []) (state_of D.state U.state node ∷ []) (D.state result.1 ∷ []) (lines_ahead reader.old (S.left source.old)) (K.shown out.old.sink.now) (K.shown out.new.sink.now) result.0 }
     ensures commanded { result.0 ≡ Exit.Usage → ⊥ }
     ensures begun { result.0 ≡ Exit.Memory → ⊥ }

@@ -2,56 +2,58 @@ use Rattle.std.proofs.Common.{◌∙◌, ◌+◌, sym, refl, ap, arith}
 use Rattle.script_lang.specs.Statements.{statement_of}
 use Rattle.dtm_node.specs.Nodes.{kept_of, shared_of, state_of}
 use Rattle.dtm_node.proofs.NodeServes.{place_later}
-use Rattle.dtm_run.proofs.Driving.{going_first, going_done, going_read_fault, going_too_long, going_too_many, going_bad, going_blank, going_served, going_cut, runs_as, stands_leaves, read_blank, read_says, read_bad}
-use Rattle.dtm_run.proofs.TopLemmas.{passes_same, passes_to}
+use Rattle.dtm_node.proofs.Passing.{passes_on}
+use Rattle.dtm_run.proofs.Driving.{going_first, going_done, going_read_fault, going_too_long, going_too_many, going_bad, going_blank, going_served, going_cut, runs_as, stands_leaves, unused_down, read_blank, read_says, read_bad}
+use Rattle.dtm_run.proofs.Leading.{way_next}
+use Rattle.dtm_run.proofs.TopLemmas.{passes_same}
 use Rattle.dtm_run.proofs.Telling.{answers_named, telling_blank, telling_first, telling_served, tells_as, tells_bad, tells_cut, tells_done, tells_read_fault, tells_too_long, tells_too_many}
 use Rattle.dtm_run.proofs.top.drive.Goals as goal
 
 pub returns-in-Failed-clause-runs : goal.returns-in-Failed-clause-runs
-returns-in-Failed-clause-runs g c = λ w h.
+returns-in-Failed-clause-runs g c = λ nodes o stand.
     let l = c.loop-number in
-    runs_as _ _ _ _ _ _ _ _ _ refl c.into_disk.ensures (going_read_fault _ (state_of g.D.Disk.state g.U.RecoveryUnits.state c.args.node) _ _ _ _ _ _ (kept_of g.D.Disk.state g.U.RecoveryUnits.state l.node) (shared_of l.shared) (λ v s. stands_leaves g.D.Disk.state g.U.RecoveryUnits.state l.number l.node (shared_of l.shared) (state_of g.D.Disk.state g.U.RecoveryUnits.state c.args.node) v l.invariant.kept s) (l.invariant.going w h))
+    runs_as _ _ _ _ _ _ _ _ _ refl c.into_disk.ensures (going_read_fault _ _ _ _ _ _ _ _ (kept_of g.D.Disk.state g.U.RecoveryUnits.state l.node) (shared_of l.shared) (λ d w s. stands_leaves g.D.Disk.state g.U.RecoveryUnits.state l.number l.node (shared_of l.shared) d w l.invariant.kept s) (l.invariant.going nodes o stand))
 
 pub returns-in-End-clause-runs : goal.returns-in-End-clause-runs
-returns-in-End-clause-runs g c = λ w h.
+returns-in-End-clause-runs g c = λ nodes o stand.
     let l = c.loop-number in
-    runs_as _ _ _ _ _ _ _ _ _ refl c.into_disk-in-End.ensures (going_done _ (state_of g.D.Disk.state g.U.RecoveryUnits.state c.args.node) _ _ _ _ _ _ (kept_of g.D.Disk.state g.U.RecoveryUnits.state l.node) (shared_of l.shared) (λ v s. stands_leaves g.D.Disk.state g.U.RecoveryUnits.state l.number l.node (shared_of l.shared) (state_of g.D.Disk.state g.U.RecoveryUnits.state c.args.node) v l.invariant.kept s) (l.invariant.going w h) c.in-End.ensures.tells)
+    runs_as _ _ _ _ _ _ _ _ _ refl c.into_disk-in-End.ensures (going_done _ _ _ _ _ _ _ _ (kept_of g.D.Disk.state g.U.RecoveryUnits.state l.node) (shared_of l.shared) (λ d w s. stands_leaves g.D.Disk.state g.U.RecoveryUnits.state l.number l.node (shared_of l.shared) d w l.invariant.kept s) (l.invariant.going nodes o stand) c.in-End.ensures.tells)
 
 pub returns-in-TooLong-clause-runs : goal.returns-in-TooLong-clause-runs
-returns-in-TooLong-clause-runs g c = λ w h.
+returns-in-TooLong-clause-runs g c = λ nodes o stand.
     let l = c.loop-number in
     let at = c.at.ensures.at in
     runs_as _ _ _ _ _ _ _ _ _ c.close-exit.ensures.exit c.into_disk-in-TooLong.ensures
-    (going_too_long _ (state_of g.D.Disk.state g.U.RecoveryUnits.state c.args.node) _ _ _ _ _ _ (kept_of g.D.Disk.state g.U.RecoveryUnits.state l.node) (shared_of l.shared) (λ v s. stands_leaves g.D.Disk.state g.U.RecoveryUnits.state l.number l.node (shared_of l.shared) (state_of g.D.Disk.state g.U.RecoveryUnits.state c.args.node) v l.invariant.kept s) (l.invariant.going w h) _ _ (ap (λ s. s.text) at) (ap (λ s. s.number) at) (ap (λ s. s.failed) at ∙ l.invariant.failed) c.close-exit.ensures.emits c.in-TooLong.ensures.tells)
+    (going_too_long _ _ _ _ _ _ _ _ (kept_of g.D.Disk.state g.U.RecoveryUnits.state l.node) (shared_of l.shared) (λ d w s. stands_leaves g.D.Disk.state g.U.RecoveryUnits.state l.number l.node (shared_of l.shared) d w l.invariant.kept s) (l.invariant.going nodes o stand) _ _ (ap (λ s. s.text) at) (ap (λ s. s.number) at) (ap (λ s. s.failed) at ∙ l.invariant.failed) c.close-exit.ensures.emits c.in-TooLong.ensures.tells)
 
 pub returns-then-number-gt-MOST_LINES-clause-runs : goal.returns-then-number-gt-MOST_LINES-clause-runs
-returns-then-number-gt-MOST_LINES-clause-runs g c = λ w h.
+returns-then-number-gt-MOST_LINES-clause-runs g c = λ nodes o stand.
     let l = c.loop-number in
     let at = c.at-in-loop-number.ensures.at in
     let close = c.close-exit-then-number-gt-MOST_LINES.ensures in
     runs_as _ _ _ _ _ _ _ _ _ close.exit c.into_disk-then-number-gt-MOST_LINES.ensures
-    (going_too_many _ (state_of g.D.Disk.state g.U.RecoveryUnits.state c.args.node) _ _ _ _ _ _ (kept_of g.D.Disk.state g.U.RecoveryUnits.state l.node) (shared_of l.shared) (λ v s. stands_leaves g.D.Disk.state g.U.RecoveryUnits.state l.number l.node (shared_of l.shared) (state_of g.D.Disk.state g.U.RecoveryUnits.state c.args.node) v l.invariant.kept s) (l.invariant.going w h) _ _ c.in-Line.ensures.tells _ _ (ap (λ s. s.text) at) (ap (λ s. s.number) at) (ap (λ s. s.failed) at ∙ l.invariant.failed) close.emits c.if-number-gt-MOST_LINES.true)
+    (going_too_many _ _ _ _ _ _ _ _ (kept_of g.D.Disk.state g.U.RecoveryUnits.state l.node) (shared_of l.shared) (λ d w s. stands_leaves g.D.Disk.state g.U.RecoveryUnits.state l.number l.node (shared_of l.shared) d w l.invariant.kept s) (l.invariant.going nodes o stand) _ _ (ap (λ s. s.text) at) (ap (λ s. s.number) at) (ap (λ s. s.failed) at ∙ l.invariant.failed) _ _ c.in-Line.ensures.tells close.emits c.if-number-gt-MOST_LINES.true)
 
 pub returns-in-Err-clause-runs : goal.returns-in-Err-clause-runs
-returns-in-Err-clause-runs g c = λ w h.
+returns-in-Err-clause-runs g c = λ nodes o stand.
     let l = c.loop-number in
     let at = c.at-in-loop-number.ensures.at in
     let close = c.close-exit-in-Err.ensures in
     runs_as _ _ _ _ _ _ _ _ _ close.exit c.into_disk-in-Err.ensures
-    (going_bad _ (state_of g.D.Disk.state g.U.RecoveryUnits.state c.args.node) _ _ _ _ _ _ (kept_of g.D.Disk.state g.U.RecoveryUnits.state l.node) (shared_of l.shared) (λ v s. stands_leaves g.D.Disk.state g.U.RecoveryUnits.state l.number l.node (shared_of l.shared) (state_of g.D.Disk.state g.U.RecoveryUnits.state c.args.node) v l.invariant.kept s) (l.invariant.going w h) _ _ c.in-Line.ensures.tells c.in-Line.ensures.taken.0 c.if-number-gt-MOST_LINES.false _ _ _
-    (ap (λ s. s.text) at) (ap (λ s. s.number) at) (ap (λ s. s.failed) at ∙ l.invariant.failed) close.emits (read_bad c.in-Err.e.column _ _ c.line.ensures c.in-Err.ensures))
+    (going_bad _ _ _ _ _ _ _ _ (kept_of g.D.Disk.state g.U.RecoveryUnits.state l.node) (shared_of l.shared) (λ d w s. stands_leaves g.D.Disk.state g.U.RecoveryUnits.state l.number l.node (shared_of l.shared) d w l.invariant.kept s) (l.invariant.going nodes o stand) _ _ (ap (λ s. s.text) at) (ap (λ s. s.number) at) (ap (λ s. s.failed) at ∙ l.invariant.failed) _ _ c.in-Line.ensures.tells c.in-Line.ensures.taken.0 c.if-number-gt-MOST_LINES.false _ close.emits (read_bad c.in-Err.e.column _ _ c.line.ensures c.in-Err.ensures))
 
 pub returns-then-failed-2-clause-runs : goal.returns-then-failed-2-clause-runs
-returns-then-failed-2-clause-runs g c = λ w h.
+returns-then-failed-2-clause-runs g c = λ nodes o stand.
     let l = c.loop-number in
     let at = c.at-in-loop-number.ensures.at in
     let some = c.in-Ok-Some in
     runs_as _ _ _ _ _ _ _ _ _ refl c.into_disk-then-failed-2.ensures
-    (going_cut _ (state_of g.D.Disk.state g.U.RecoveryUnits.state c.args.node) _ _ _ _ _ _ (kept_of g.D.Disk.state g.U.RecoveryUnits.state l.node) (shared_of l.shared) (λ v s. stands_leaves g.D.Disk.state g.U.RecoveryUnits.state l.number l.node (shared_of l.shared) (state_of g.D.Disk.state g.U.RecoveryUnits.state c.args.node) v l.invariant.kept s) (l.invariant.going w h) _ _ c.in-Line.ensures.tells c.in-Line.ensures.taken.0 c.if-number-gt-MOST_LINES.false
-    (statement_of c.read_statement.new.lit some.statement) _ _ (kept_of g.D.Disk.state g.U.RecoveryUnits.state c.serve_statement-node.result) (shared_of c.serve_statement-node.new.shared)
-    (ap (λ s. s.text) at) (ap (λ s. s.number) at) (ap (λ s. s.failed) at ∙ l.invariant.failed) (read_says c.read_statement.new.lit some.field-0 some.statement _ _ some.field-0-is c.line.ensures some.ensures)
-    (λ v s. c.serve_statement-node.ensures.serves _ v s)
-    (λ v s. stands_leaves g.D.Disk.state g.U.RecoveryUnits.state (l.number + 1) c.serve_statement-node.result (shared_of c.serve_statement-node.new.shared) (state_of g.D.Disk.state g.U.RecoveryUnits.state c.args.node) v (c.serve_statement-node.ensures.kept l.number l.invariant.kept) s) (sym c.failed-in-loop-number.ensures ∙ c.if-failed-2.true))
+    (going_cut _ _ _ _ _ _ _ _ (kept_of g.D.Disk.state g.U.RecoveryUnits.state l.node) (shared_of l.shared) (λ d w s. stands_leaves g.D.Disk.state g.U.RecoveryUnits.state l.number l.node (shared_of l.shared) d w l.invariant.kept s) (l.invariant.going nodes o stand) _ _ (ap (λ s. s.text) at) (ap (λ s. s.number) at) (ap (λ s. s.failed) at ∙ l.invariant.failed) _ _ c.in-Line.ensures.tells c.in-Line.ensures.taken.0 c.if-number-gt-MOST_LINES.false (kept_of g.D.Disk.state g.U.RecoveryUnits.state c.serve_statement-node.result) (shared_of c.serve_statement-node.new.shared)
+    (way_next _ _ _ _ (kept_of g.D.Disk.state g.U.RecoveryUnits.state l.node) (kept_of g.D.Disk.state g.U.RecoveryUnits.state c.serve_statement-node.result) (shared_of l.shared) (shared_of c.serve_statement-node.new.shared) (l.invariant.going nodes o stand).way (statement_of c.read_statement.new.lit some.statement)
+    (read_says c.read_statement.new.lit some.field-0 some.statement _ _ some.field-0-is c.line.ensures some.ensures) _ _
+    (λ log w s never. c.serve_statement-node.ensures.serves log w s never) _ c.serve_statement-node.ensures.tells c.serve_statement-node.ensures.passes (sym (c.serve_statement-node.ensures.name ∙ l.invariant.name))
+    (λ e. unused_down g.D.Disk.state g.U.RecoveryUnits.state (l.number + 1) c.serve_statement-node.result (shared_of c.serve_statement-node.new.shared) (c.serve_statement-node.ensures.kept l.number l.invariant.kept) e))
+    (λ d w s. stands_leaves g.D.Disk.state g.U.RecoveryUnits.state (l.number + 1) c.serve_statement-node.result (shared_of c.serve_statement-node.new.shared) d w (c.serve_statement-node.ensures.kept l.number l.invariant.kept) s) (sym c.failed-in-loop-number.ensures ∙ c.if-failed-2.true))
 
 pub loop-number-preserved-in-Ok-None : goal.loop-number-preserved-in-Ok-None
 loop-number-preserved-in-Ok-None g c =
@@ -68,8 +70,8 @@ loop-number-preserved-in-Ok-None g c =
       failed = ap (λ s. s.failed) at ∙ l.invariant.failed;
       read_count = omega (arith, l.invariant.read_count, c.next.ensures.count);
       write_count = omega (arith, l.invariant.write_count, same_count);
-      going = λ w h.
-          going_blank _ (state_of g.D.Disk.state g.U.RecoveryUnits.state c.args.node) _ _ _ _ _ _ (kept_of g.D.Disk.state g.U.RecoveryUnits.state l.node) (shared_of l.shared) (λ v s. stands_leaves g.D.Disk.state g.U.RecoveryUnits.state l.number l.node (shared_of l.shared) (state_of g.D.Disk.state g.U.RecoveryUnits.state c.args.node) v l.invariant.kept s) (l.invariant.going w h) _ _ c.in-Line.ensures.tells c.in-Line.ensures.taken.0 c.if-number-gt-MOST_LINES.false
+      going = λ nodes o stand.
+          going_blank _ _ _ _ _ _ _ _ (kept_of g.D.Disk.state g.U.RecoveryUnits.state l.node) (shared_of l.shared) (λ d w s. stands_leaves g.D.Disk.state g.U.RecoveryUnits.state l.number l.node (shared_of l.shared) d w l.invariant.kept s) (l.invariant.going nodes o stand) _ _ c.in-Line.ensures.tells c.in-Line.ensures.taken.0 c.if-number-gt-MOST_LINES.false
           _ _ _ refl c.in-Line.ensures.taken.1 (ap (λ s. s.text) at)
           (read_blank c.read_statement.new.lit none.field-0 _ _ none.field-0-is c.line.ensures none.ensures);
       name = l.invariant.name;
@@ -87,16 +89,18 @@ loop-number-preserved g c =
       sound = c.next.ensures.sound;
       few = omega (arith, c.if-number-gt-MOST_LINES.false);
       kept = c.serve_statement-node.ensures.kept l.number l.invariant.kept;
-      passes = passes_to (state_of g.D.Disk.state g.U.RecoveryUnits.state c.args.node) (state_of g.D.Disk.state g.U.RecoveryUnits.state l.node) (state_of g.D.Disk.state g.U.RecoveryUnits.state c.serve_statement-node.result) l.invariant.passes c.serve_statement-node.ensures.passes;
+      passes = passes_on (state_of g.D.Disk.state g.U.RecoveryUnits.state c.args.node) (state_of g.D.Disk.state g.U.RecoveryUnits.state l.node) (state_of g.D.Disk.state g.U.RecoveryUnits.state c.serve_statement-node.result) l.invariant.passes c.serve_statement-node.ensures.passes;
       same_sink = c.serve_statement-node.ensures.place ∙ (c.at-in-loop-number.ensures.same_sink ∙ l.invariant.same_sink);
       failed = sym c.failed-in-loop-number.ensures ∙ c.if-failed-2.false;
       read_count = omega (arith, l.invariant.read_count, c.next.ensures.count);
       write_count = omega (arith, l.invariant.write_count, c.serve_statement-node.ensures.since.counts, same_count);
-      going = λ w h.
-          going_served _ (state_of g.D.Disk.state g.U.RecoveryUnits.state c.args.node) _ _ _ _ _ _ (kept_of g.D.Disk.state g.U.RecoveryUnits.state l.node) (shared_of l.shared) (λ v s. stands_leaves g.D.Disk.state g.U.RecoveryUnits.state l.number l.node (shared_of l.shared) (state_of g.D.Disk.state g.U.RecoveryUnits.state c.args.node) v l.invariant.kept s) (l.invariant.going w h) _ _ c.in-Line.ensures.tells c.in-Line.ensures.taken.0 c.if-number-gt-MOST_LINES.false
-          (statement_of c.read_statement.new.lit some.statement) _ _ (kept_of g.D.Disk.state g.U.RecoveryUnits.state c.serve_statement-node.result) (shared_of c.serve_statement-node.new.shared)
-          (ap (λ s. s.text) at) (ap (λ s. s.number) at) (ap (λ s. s.failed) at ∙ l.invariant.failed) (read_says c.read_statement.new.lit some.field-0 some.statement _ _ some.field-0-is c.line.ensures some.ensures)
-          (λ v s. c.serve_statement-node.ensures.serves _ v s) _ _ refl c.in-Line.ensures.taken.1 (sym c.failed-in-loop-number.ensures ∙ c.if-failed-2.false);
+      going = λ nodes o stand.
+          going_served _ _ _ _ _ _ _ _ (kept_of g.D.Disk.state g.U.RecoveryUnits.state l.node) (shared_of l.shared) (λ d w s. stands_leaves g.D.Disk.state g.U.RecoveryUnits.state l.number l.node (shared_of l.shared) d w l.invariant.kept s) (l.invariant.going nodes o stand) _ _ (ap (λ s. s.text) at) (ap (λ s. s.number) at) (ap (λ s. s.failed) at ∙ l.invariant.failed) _ _ c.in-Line.ensures.tells c.in-Line.ensures.taken.0 c.if-number-gt-MOST_LINES.false (kept_of g.D.Disk.state g.U.RecoveryUnits.state c.serve_statement-node.result) (shared_of c.serve_statement-node.new.shared)
+          (way_next _ _ _ _ (kept_of g.D.Disk.state g.U.RecoveryUnits.state l.node) (kept_of g.D.Disk.state g.U.RecoveryUnits.state c.serve_statement-node.result) (shared_of l.shared) (shared_of c.serve_statement-node.new.shared) (l.invariant.going nodes o stand).way (statement_of c.read_statement.new.lit some.statement)
+          (read_says c.read_statement.new.lit some.field-0 some.statement _ _ some.field-0-is c.line.ensures some.ensures) _ _
+          (λ log w s never. c.serve_statement-node.ensures.serves log w s never) _ c.serve_statement-node.ensures.tells c.serve_statement-node.ensures.passes (sym (c.serve_statement-node.ensures.name ∙ l.invariant.name))
+          (λ e. unused_down g.D.Disk.state g.U.RecoveryUnits.state (l.number + 1) c.serve_statement-node.result (shared_of c.serve_statement-node.new.shared) (c.serve_statement-node.ensures.kept l.number l.invariant.kept) e))
+          _ _ refl c.in-Line.ensures.taken.1 (sym c.failed-in-loop-number.ensures ∙ c.if-failed-2.false);
       name = c.serve_statement-node.ensures.name ∙ l.invariant.name;
       telling = telling_served _ _ _ _ _ _ _ _ _ _ l.invariant.telling _ _ (ap (λ s. s.text) at) (ap (λ s. s.number) at) (ap (λ s. s.failed) at ∙ l.invariant.failed) _ _ c.in-Line.ensures.tells c.in-Line.ensures.taken.0 c.if-number-gt-MOST_LINES.false
           (statement_of c.read_statement.new.lit some.statement) _ _ (read_says c.read_statement.new.lit some.field-0 some.statement _ _ some.field-0-is c.line.ensures some.ensures)
@@ -153,22 +157,23 @@ loop-number-init g c = record {
   failed = c.requires.failed;
   read_count = omega arith;
   write_count = omega arith;
-  going = λ w h. going_first w (state_of g.D.Disk.state g.U.RecoveryUnits.state c.args.node) _ _ (kept_of g.D.Disk.state g.U.RecoveryUnits.state c.args.node) (shared_of c.args.shared.now) _ c.requires.first h;
+  going = λ nodes o stand. going_first c.args.node.name (kept_of g.D.Disk.state g.U.RecoveryUnits.state c.args.node) (shared_of c.args.shared.now) _ _ _ c.requires.first c.requires.unsaid refl nodes o stand;
   name = refl;
   telling = telling_first c.args.node.name (state_of g.D.Disk.state g.U.RecoveryUnits.state c.args.node) _ _ _ _ c.requires.first c.requires.unsaid;
 }
 
 pub returns-then-failed-clause-runs : goal.returns-then-failed-clause-runs
-returns-then-failed-clause-runs g c = λ w h.
+returns-then-failed-clause-runs g c = λ nodes o stand.
     let l = c.loop-number in
     let at = c.at-in-loop-number.ensures.at in
     let some = c.in-Ok-Some in
     runs_as _ _ _ _ _ _ _ _ _ refl c.into_disk-then-failed.ensures
-    (going_cut _ (state_of g.D.Disk.state g.U.RecoveryUnits.state c.args.node) _ _ _ _ _ _ (kept_of g.D.Disk.state g.U.RecoveryUnits.state l.node) (shared_of l.shared) (λ v s. stands_leaves g.D.Disk.state g.U.RecoveryUnits.state l.number l.node (shared_of l.shared) (state_of g.D.Disk.state g.U.RecoveryUnits.state c.args.node) v l.invariant.kept s) (l.invariant.going w h) _ _ c.in-Line.ensures.tells c.in-Line.ensures.taken.0 c.if-number-gt-MOST_LINES.false
-    (statement_of c.read_statement.new.lit some.statement) _ _ (kept_of g.D.Disk.state g.U.RecoveryUnits.state c.serve_in_place.new.node) (shared_of c.serve_in_place.new.shared)
-    (ap (λ s. s.text) at) (ap (λ s. s.number) at) (ap (λ s. s.failed) at ∙ l.invariant.failed) (read_says c.read_statement.new.lit some.field-0 some.statement _ _ some.field-0-is c.line.ensures some.ensures)
-    (λ v s. c.serve_in_place.ensures.serves _ v s)
-    (λ v s. stands_leaves g.D.Disk.state g.U.RecoveryUnits.state (l.number + 1) c.serve_in_place.new.node (shared_of c.serve_in_place.new.shared) (state_of g.D.Disk.state g.U.RecoveryUnits.state c.args.node) v (c.serve_in_place.ensures.kept l.number l.invariant.kept) s) (sym c.failed.ensures ∙ c.if-failed.true))
+    (going_cut _ _ _ _ _ _ _ _ (kept_of g.D.Disk.state g.U.RecoveryUnits.state l.node) (shared_of l.shared) (λ d w s. stands_leaves g.D.Disk.state g.U.RecoveryUnits.state l.number l.node (shared_of l.shared) d w l.invariant.kept s) (l.invariant.going nodes o stand) _ _ (ap (λ s. s.text) at) (ap (λ s. s.number) at) (ap (λ s. s.failed) at ∙ l.invariant.failed) _ _ c.in-Line.ensures.tells c.in-Line.ensures.taken.0 c.if-number-gt-MOST_LINES.false (kept_of g.D.Disk.state g.U.RecoveryUnits.state c.serve_in_place.new.node) (shared_of c.serve_in_place.new.shared)
+    (way_next _ _ _ _ (kept_of g.D.Disk.state g.U.RecoveryUnits.state l.node) (kept_of g.D.Disk.state g.U.RecoveryUnits.state c.serve_in_place.new.node) (shared_of l.shared) (shared_of c.serve_in_place.new.shared) (l.invariant.going nodes o stand).way (statement_of c.read_statement.new.lit some.statement)
+    (read_says c.read_statement.new.lit some.field-0 some.statement _ _ some.field-0-is c.line.ensures some.ensures) _ _
+    (λ log w s never. c.serve_in_place.ensures.serves log w s) _ c.serve_in_place.ensures.tells c.serve_in_place.ensures.passes (sym (c.serve_in_place.ensures.name ∙ l.invariant.name))
+    (λ e. unused_down g.D.Disk.state g.U.RecoveryUnits.state (l.number + 1) c.serve_in_place.new.node (shared_of c.serve_in_place.new.shared) (c.serve_in_place.ensures.kept l.number l.invariant.kept) e))
+    (λ d w s. stands_leaves g.D.Disk.state g.U.RecoveryUnits.state (l.number + 1) c.serve_in_place.new.node (shared_of c.serve_in_place.new.shared) d w (c.serve_in_place.ensures.kept l.number l.invariant.kept) s) (sym c.failed.ensures ∙ c.if-failed.true))
 
 pub returns-then-failed-clause-calls : goal.returns-then-failed-clause-calls
 returns-then-failed-clause-calls g c =
@@ -190,16 +195,18 @@ loop-number-preserved-then-is_for_up g c =
       sound = c.next.ensures.sound;
       few = omega (arith, c.if-number-gt-MOST_LINES.false);
       kept = c.serve_in_place.ensures.kept l.number l.invariant.kept;
-      passes = passes_to (state_of g.D.Disk.state g.U.RecoveryUnits.state c.args.node) (state_of g.D.Disk.state g.U.RecoveryUnits.state l.node) (state_of g.D.Disk.state g.U.RecoveryUnits.state c.serve_in_place.new.node) l.invariant.passes c.serve_in_place.ensures.passes;
+      passes = passes_on (state_of g.D.Disk.state g.U.RecoveryUnits.state c.args.node) (state_of g.D.Disk.state g.U.RecoveryUnits.state l.node) (state_of g.D.Disk.state g.U.RecoveryUnits.state c.serve_in_place.new.node) l.invariant.passes c.serve_in_place.ensures.passes;
       same_sink = c.serve_in_place.ensures.place ∙ (c.at-in-loop-number.ensures.same_sink ∙ l.invariant.same_sink);
       failed = sym c.failed.ensures ∙ c.if-failed.false;
       read_count = omega (arith, l.invariant.read_count, c.next.ensures.count);
       write_count = omega (arith, l.invariant.write_count, c.serve_in_place.ensures.since.counts, same_count);
-      going = λ w h.
-          going_served _ (state_of g.D.Disk.state g.U.RecoveryUnits.state c.args.node) _ _ _ _ _ _ (kept_of g.D.Disk.state g.U.RecoveryUnits.state l.node) (shared_of l.shared) (λ v s. stands_leaves g.D.Disk.state g.U.RecoveryUnits.state l.number l.node (shared_of l.shared) (state_of g.D.Disk.state g.U.RecoveryUnits.state c.args.node) v l.invariant.kept s) (l.invariant.going w h) _ _ c.in-Line.ensures.tells c.in-Line.ensures.taken.0 c.if-number-gt-MOST_LINES.false
-          (statement_of c.read_statement.new.lit some.statement) _ _ (kept_of g.D.Disk.state g.U.RecoveryUnits.state c.serve_in_place.new.node) (shared_of c.serve_in_place.new.shared)
-          (ap (λ s. s.text) at) (ap (λ s. s.number) at) (ap (λ s. s.failed) at ∙ l.invariant.failed) (read_says c.read_statement.new.lit some.field-0 some.statement _ _ some.field-0-is c.line.ensures some.ensures)
-          (λ v s. c.serve_in_place.ensures.serves _ v s) _ _ refl c.in-Line.ensures.taken.1 (sym c.failed.ensures ∙ c.if-failed.false);
+      going = λ nodes o stand.
+          going_served _ _ _ _ _ _ _ _ (kept_of g.D.Disk.state g.U.RecoveryUnits.state l.node) (shared_of l.shared) (λ d w s. stands_leaves g.D.Disk.state g.U.RecoveryUnits.state l.number l.node (shared_of l.shared) d w l.invariant.kept s) (l.invariant.going nodes o stand) _ _ (ap (λ s. s.text) at) (ap (λ s. s.number) at) (ap (λ s. s.failed) at ∙ l.invariant.failed) _ _ c.in-Line.ensures.tells c.in-Line.ensures.taken.0 c.if-number-gt-MOST_LINES.false (kept_of g.D.Disk.state g.U.RecoveryUnits.state c.serve_in_place.new.node) (shared_of c.serve_in_place.new.shared)
+          (way_next _ _ _ _ (kept_of g.D.Disk.state g.U.RecoveryUnits.state l.node) (kept_of g.D.Disk.state g.U.RecoveryUnits.state c.serve_in_place.new.node) (shared_of l.shared) (shared_of c.serve_in_place.new.shared) (l.invariant.going nodes o stand).way (statement_of c.read_statement.new.lit some.statement)
+          (read_says c.read_statement.new.lit some.field-0 some.statement _ _ some.field-0-is c.line.ensures some.ensures) _ _
+          (λ log w s never. c.serve_in_place.ensures.serves log w s) _ c.serve_in_place.ensures.tells c.serve_in_place.ensures.passes (sym (c.serve_in_place.ensures.name ∙ l.invariant.name))
+          (λ e. unused_down g.D.Disk.state g.U.RecoveryUnits.state (l.number + 1) c.serve_in_place.new.node (shared_of c.serve_in_place.new.shared) (c.serve_in_place.ensures.kept l.number l.invariant.kept) e))
+          _ _ refl c.in-Line.ensures.taken.1 (sym c.failed.ensures ∙ c.if-failed.false);
       name = c.serve_in_place.ensures.name ∙ l.invariant.name;
       telling = telling_served _ _ _ _ _ _ _ _ _ _ l.invariant.telling _ _ (ap (λ s. s.text) at) (ap (λ s. s.number) at) (ap (λ s. s.failed) at ∙ l.invariant.failed) _ _ c.in-Line.ensures.tells c.in-Line.ensures.taken.0 c.if-number-gt-MOST_LINES.false
           (statement_of c.read_statement.new.lit some.statement) _ _ (read_says c.read_statement.new.lit some.field-0 some.statement _ _ some.field-0-is c.line.ensures some.ensures)

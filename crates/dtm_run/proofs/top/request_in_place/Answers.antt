@@ -14,7 +14,7 @@ returns-then-eq-clause-serves g c = λ log w h.
     let eq : bytes_eq c.args.name c.args.node.now.name ≡ true = search rules in
     serves_alone log (kept_of g.D.Disk.state g.U.RecoveryUnits.state c.args.node.now) (shared_of c.args.shared.now) w h node_steps c.args.name (request_of c.args.literals.now c.args.request.now) (g.E.Emit.shows c.args.out.now) (g.E.Emit.shows c.serve_up.new.out)
     (kept_of g.D.Disk.state g.U.RecoveryUnits.state c.serve_up.new.self) (shared_of c.serve_up.new.shared) ((bytes_eq-Decides c.args.name c.args.node.now.name).0 eq)
-    (λ promised. c.serve_up.ensures.serves log h.node h.stands)
+    (c.serve_up.ensures.serves log h.node h.stands)
 
 pub returns-else-eq-clause-serves : goal.returns-else-eq-clause-serves
 returns-else-eq-clause-serves g c = λ log w h.

@@ -6,14 +6,14 @@ use Rattle.dtm_run.proofs.top.run.Goals as goal
 
 pub returns-in_default-clause-runs : goal.returns-in_default-clause-runs
 returns-in_default-clause-runs g c = λ e nodes o s.
-    run_over nodes _ _ _ _ _ _ _ _ c.promises_hold.ensures o refl refl (memory_runs g.D.Disk.state c.args.rack.now.nodes.entries _ _ (both_first _ _ e) nodes o s)
+    run_over _ nodes _ _ _ _ _ _ _ _ c.promises_hold.ensures o refl refl (memory_runs g.D.Disk.state c.args.rack.now.nodes.entries _ _ (both_first _ _ e) nodes o s)
 
 pub returns-in_default-clause-disks : goal.returns-in_default-clause-disks
 returns-in_default-clause-disks g c = all_stay (states_in g.D.Disk.state c.args.rack.now)
 
 pub returns-then-is_command-clause-runs : goal.returns-then-is_command-clause-runs
 returns-then-is_command-clause-runs g c = λ e nodes o s.
-    run_over nodes (states_in g.D.Disk.state c.args.rack.now) (states_in g.D.Disk.state c.run_script-exit.new.rack) (g.S.Source.left c.args.source.now) (g.K.Sink.shown c.over-out.result.sink.now) (g.K.Sink.shown c.run_script-exit.new.out.sink.now)
+    run_over (names_in c.args.rack.now) nodes (states_in g.D.Disk.state c.args.rack.now) (states_in g.D.Disk.state c.run_script-exit.new.rack) (g.S.Source.left c.args.source.now) (g.K.Sink.shown c.over-out.result.sink.now) (g.K.Sink.shown c.run_script-exit.new.out.sink.now)
     (g.K.Sink.shown c.args.sink.now) _ c.run_script-exit.result c.promises_hold.ensures o (sym (ap (λ s. s.text) c.over-out.ensures.now)) (search rules) (c.run_script-exit.ensures.runs nodes o s)
 
 pub returns-then-is_command-clause-rack : goal.returns-then-is_command-clause-rack

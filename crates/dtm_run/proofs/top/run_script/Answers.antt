@@ -1,11 +1,10 @@
-use Rattle.std.proofs.Common.{◌≡◌, ap, map, sym, subst, refl, rules, ◌∙◌, ◌∷◌, [], false}
+use Rattle.std.proofs.Common.{◌≡◌, ap, map, sym, subst, refl, rules, ◌∙◌, ◌∷◌, []}
 use Rattle.block_disk.specs.Disk.{DiskState}
-use Rattle.dtm_node.specs.Nodes.{kept_of, shared_of, state_of}
-use Rattle.dtm_node.specs.Standing.{Kept, IsDown, disk_in}
+use Rattle.dtm_node.specs.Nodes.{shared_of, state_of}
+use Rattle.dtm_node.specs.Standing.{Kept, disk_in}
 use Rattle.dtm_run.specs.Racks.{names_in, states_in}
-use Rattle.dtm_run.specs.Headline.{RunsTo}
 use Rattle.dtm_run.specs.Calls.{TellsOver}
-use Rattle.dtm_run.proofs.TopLemmas.{all_stay, all_stay_on, memory_runs, memory_runs_on, script_runs, script_goes, taken_sized}
+use Rattle.dtm_run.proofs.TopLemmas.{RunsOver, all_stay, all_stay_on, memory_runs, memory_runs_on, script_runs, script_goes, taken_sized}
 use Rattle.dtm_run.proofs.Telling.{script_tells, tells_memory, tells_memory_on}
 use Rattle.dtm_run.proofs.top.run_script.Goals as goal
 
@@ -52,10 +51,8 @@ returns-clause-runs g c =
     let state = g.D.Disk.state in
     let d : DiskState = state_of state g.U.RecoveryUnits.state c.new-node.result in
     let is : d ≡ state c.in-Some.node.1 = ap (λ (k : Kept). disk_in k.place) c.new-node.ensures.down in
-    let k = kept_of state g.U.RecoveryUnits.state c.new-node.result in
-    script_runs state c.args.rack.now.nodes.entries c.take_last.new.self.nodes.entries c.put_back.new.self.nodes.entries c.in-Some.node (c.in-Some.node.0, c.drive-exit.result.1) d (state c.drive-exit.result.1) k _ _ _ _ _ c.requires.only (sym c.in-Ok-make_room.ensures.same ∙ c.in-Some.ensures.nodes) c.put_back.ensures (sym is) refl
-    (c.new-node.ensures.down ∙ ap (λ (x : DiskState). record { name = c.in-Some.node.0; unmade = false; place = IsDown false x }) (sym is)) c.in-Ok-reserve.ensures
-    (λ w h. subst (λ z. RunsTo w (d ∷ []) z (g.K.Sink.shown c.args.out.now.sink.now) (g.K.Sink.shown c.drive-exit.new.out.sink.now) c.drive-exit.result.0 (state c.drive-exit.result.1 ∷ [])) (c.in-Ok.ensures.nothing _) (c.drive-exit.ensures.runs w h))
+    script_runs state c.args.rack.now.nodes.entries c.take_last.new.self.nodes.entries c.put_back.new.self.nodes.entries c.in-Some.node (c.in-Some.node.0, c.drive-exit.result.1) c.new-node.result.name d (state c.drive-exit.result.1) _ _ _ _ c.requires.only (sym c.in-Ok-make_room.ensures.same ∙ c.in-Some.ensures.nodes) c.put_back.ensures c.new-node.ensures.name is refl
+    (subst (λ z. RunsOver (c.new-node.result.name ∷ []) (d ∷ []) z (g.K.Sink.shown c.args.out.now.sink.now) (g.K.Sink.shown c.drive-exit.new.out.sink.now) c.drive-exit.result.0 (state c.drive-exit.result.1 ∷ [])) (c.in-Ok.ensures.nothing _) c.drive-exit.ensures.runs)
 
 pub returns-clause-disks : goal.returns-clause-disks
 returns-clause-disks g c =

@@ -5,19 +5,20 @@ use Rattle.script_lang.specs.Statements.{request_of}
 use Rattle.run_model.proofs.Lifting.{node_steps}
 use Rattle.dtm_node.specs.Nodes.{kept_of, shared_of, state_of}
 use Rattle.dtm_node.specs.Calling.{said_node, said_shared}
-use Rattle.dtm_run.proofs.Alone.{serves_alone, no_node_alone}
+use Rattle.dtm_run.proofs.Alone.{found, promised, serves_alone, no_node_alone}
 use Rattle.dtm_run.proofs.Following.{answers_alone, nowhere_alone}
 use Rattle.dtm_run.proofs.top.serve_request.Goals as goal
 
 pub returns-then-eq-clause-serves : goal.returns-then-eq-clause-serves
-returns-then-eq-clause-serves g c = λ log w h.
+returns-then-eq-clause-serves g c = λ log w h never.
     let eq : bytes_eq c.args.name c.args.node.name ≡ true = search rules in
+    let named : c.args.name ≡ c.args.node.name = (bytes_eq-Decides c.args.name c.args.node.name).0 eq in
     serves_alone log (kept_of g.D.Disk.state g.U.RecoveryUnits.state c.args.node) (shared_of c.args.shared.now) w h node_steps c.args.name (request_of c.args.literals.now c.args.request.now) (g.E.Emit.shows c.args.out.now) (g.E.Emit.shows c.serve.new.out)
-    (kept_of g.D.Disk.state g.U.RecoveryUnits.state c.serve.result) (shared_of c.serve.new.shared) ((bytes_eq-Decides c.args.name c.args.node.name).0 eq)
-    (λ promised. c.serve.ensures.serves log h.node h.stands promised)
+    (kept_of g.D.Disk.state g.U.RecoveryUnits.state c.serve.result) (shared_of c.serve.new.shared) named
+    (c.serve.ensures.serves log h.node h.stands (promised w c.args.name (request_of c.args.literals.now c.args.request.now) h.node (found log (kept_of g.D.Disk.state g.U.RecoveryUnits.state c.args.node) (shared_of c.args.shared.now) w h c.args.name named) never))
 
 pub returns-else-eq-clause-serves : goal.returns-else-eq-clause-serves
-returns-else-eq-clause-serves g c = λ log w h.
+returns-else-eq-clause-serves g c = λ log w h never.
     let other : bytes_eq c.args.name c.args.node.name ≡ false = search rules in
     no_node_alone log (kept_of g.D.Disk.state g.U.RecoveryUnits.state c.args.node) (shared_of c.args.shared.now) w h node_steps c.args.name (request_of c.args.literals.now c.args.request.now) _ _ other c.emit.ensures.emits
 

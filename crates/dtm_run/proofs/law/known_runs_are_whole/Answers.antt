@@ -1,0 +1,5 @@
+use Rattle.dtm_run.proofs.Known.{known_runs_are_whole}
+use Rattle.dtm_run.proofs.law.known_runs_are_whole.Goals as goal
+
+pub returns : goal.returns
+returns c = known_runs_are_whole
