@@ -1,0 +1,5 @@
+pub mod StageLaws
+pub mod WayLaws
+pub mod WriteLaws
+pub mod LevelLaws
+pub mod ClimbLaws
