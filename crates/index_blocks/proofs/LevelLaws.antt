@@ -25,7 +25,7 @@ child_is P k (e ∷ f ∷ fs) some all = go (list_any (leads_by k) (f ∷ fs)) (
     go true later = later
     go false later = all.0
 
-length_levels : (h : FileHead) (b : List (List ℕ)) (d : ℕ) → length (levels_above h b d) ≡ d
+pub length_levels : (h : FileHead) (b : List (List ℕ)) (d : ℕ) → length (levels_above h b d) ≡ d
 length_levels h b zero = refl
 length_levels h b (suc d) = ap suc (length_levels h b d)
 
@@ -58,7 +58,7 @@ module _ (h : FileHead) (b : List (List ℕ)) (is : LeadsDown h b) (up : Ascends
       let below : d < height h = omega (arith, same) in
       subst Ascends (is.joins d below) (parents_ascend (entries_in h b) [] (map child_of (below_at h b d)) (some_of (map child_of (below_at h b d)) (level_buckets d below)) (ascends_at more (suc d) (omega (arith, same))))
 
-  way_is : (k : List ℕ) (d : ℕ) → d ≤ height h → way h b k d ≡ child_for k (below_at h b d)
+  pub way_is : (k : List ℕ) (d : ℕ) → d ≤ height h → way h b k d ≡ child_for k (below_at h b d)
   way_is k d within =
       ap (descended (entries_in h b) k h.root) (sym (length_levels h b d))
       ∙ descends (least_key h) (entries_in h b) (below_at h b d) (levels_above h b d) h.root k (ascends_at (height h - d) d (omega (arith, within))) (levels_at d within)

@@ -3,3 +3,4 @@ pub mod WayLaws
 pub mod WriteLaws
 pub mod LevelLaws
 pub mod ClimbLaws
+pub mod MayLaws

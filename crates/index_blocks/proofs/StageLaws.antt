@@ -1,5 +1,5 @@
 -- Buckets that are read and staged through a frame.
-use Rattle.std.proofs.Common.{◌≡◌, ◌≤◌, ◌<◌, ◌+◌, ◌-◌, ◌*◌, ℕ, Bool, true, false, List, [], ◌∷◌, length, take, set, Option, Some, None, IfSome, is_some, option_map, refl, sym, ap, subst, ◌∙◌, arith}
+use Rattle.std.proofs.Common.{◌≡◌, ◌≤◌, ◌<◌, ◌+◌, ◌-◌, ◌*◌, ℕ, Bool, true, false, List, [], ◌∷◌, length, take, Option, Some, None, IfSome, is_some, option_map, refl, sym, ap, subst, ◌∙◌, arith}
 use Rattle.std.proofs.lemmas.List.{set-set, length-take-le}
 use Rattle.block_disk.specs.Disk.{DiskState}
 use Rattle.careful_write.specs.State.{StoreState}
@@ -132,7 +132,7 @@ handed_in h k added n fresh up f x s0 t s parted bytes low high most is was stag
     let whole : s ≡ with_frame f (frame_of s.pool f) after = staged_so f x s0 t s C T was staged' in
     let P : List ℕ → Type 0 = λ y. IsBucket (index_kind h) (512 * h.bucket) y → 1 ≤ length (entries_at h y) → TakesIn h (512 * h.bucket) k added y (is_some up) (take (512 * h.bucket) low) (take (512 * h.bucket) high) in
     let here : P (take (512 * h.bucket) bytes) = λ laid some. subst (λ (p : Bool). TakesIn h (512 * h.bucket) k added (take (512 * h.bucket) bytes) p (take (512 * h.bucket) low) (take (512 * h.bucket) high)) (sym is)
-        (takes laid (let count = length_entries h (slots_of (index_kind h) (take (512 * h.bucket) bytes)) in omega (arith, count, some))) in
+    (takes laid (let count = length_entries h (slots_of (index_kind h) (take (512 * h.bucket) bytes)) in omega (arith, count, some))) in
     record {
       hands = record {
         low = low;

@@ -1,5 +1,5 @@
 -- The way of a key.
-use Rattle.std.proofs.Common.{◌≡◌, ◌≤◌, ◌<◌, ⊎_elim, ◌+◌, ◌*◌, ℕ, suc, List, Option, Some, None, IfSome, set, length, slice_index_or, sym, ap, ◌∙◌, subst, arith}
+use Rattle.std.proofs.Common.{◌≡◌, ◌<◌, ⊎_elim, ◌+◌, ℕ, suc, List, Option, Some, None, IfSome, set, length, slice_index_or, sym, ap, ◌∙◌, subst, arith}
 use Rattle.std.proofs.lemmas.Bool.{cases_lt}
 use Rattle.std.proofs.Common.{get_or-set_same, get_or-set_other}
 use Rattle.file_base.specs.declared.head.FileHead.{FileHead}

@@ -1,4 +1,4 @@
-use Rattle.std.proofs.Common.{◌<◌, Result, Err, ℕ, List, IfSome, ap, arith}
+use Rattle.std.proofs.Common.{◌<◌, Result, Err, ℕ, ap, arith}
 use Rattle.block_disk.specs.Disk.{DiskState}
 use Rattle.careful_write.specs.State.{StoreState}
 use Rattle.careful_write.specs.Down.{answered}

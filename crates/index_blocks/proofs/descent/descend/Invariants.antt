@@ -1,4 +1,4 @@
-use Rattle.std.proofs.Common.{◌≡◌, ◌≤◌, ◌<◌, ◌+◌, ◌*◌, ℕ, IfSome, slice_index_or}
+use Rattle.std.proofs.Common.{◌≡◌, ◌<◌, ℕ, IfSome, slice_index_or}
 use Rattle.frame_pool.specs.Pool.{IsOut}
 use Rattle.change_set.specs.Buckets.{frame_of, with_frame}
 use Rattle.index_blocks.specs.Levels.{IsWay, way}

@@ -1,5 +1,5 @@
-use Rattle.std.proofs.Common.{◌+◌, ◌*◌, refl, arith}
-use Rattle.index_blocks.proofs.StageLaws.{bucket_lies, block_fits}
+use Rattle.std.proofs.Common.{refl}
+use Rattle.index_blocks.proofs.StageLaws.{bucket_lies}
 use Rattle.index_blocks.proofs.descent.load_index.Goals as goal
 
 pub load_bucket-requires-clause-in_home : goal.load_bucket-requires-clause-in_home

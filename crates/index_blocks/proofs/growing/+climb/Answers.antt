@@ -1,10 +1,9 @@
-use Rattle.std.proofs.Common.{◌≡◌, ◌-◌, ℕ, Option, Some, None, Result, Ok, Err, IfOk, slice_index_or, refl, ap, subst, arith}
+use Rattle.std.proofs.Common.{◌-◌, ℕ, Option, Some, None, Result, Ok, Err, IfOk, slice_index_or, refl, ap, subst, arith}
 use Rattle.careful_write.specs.State.{StoreState}
 use Rattle.careful_write.specs.Down.{answered}
 use Rattle.index_bucket.specs.declared.hand.Handed.{Handed}
 use Rattle.index_bucket.specs.Takes.{entries_of}
 use Rattle.index_blocks.specs.Writes.{HandsIn}
-use Rattle.index_blocks.specs.declared.growing.Growth.{Growth}
 use Rattle.index_blocks.proofs.StageLaws.{rest_again}
 use Rattle.index_blocks.proofs.ClimbLaws.{at_root, fit_told, cut_told}
 use Rattle.index_blocks.proofs.growing.+climb.Goals as goal

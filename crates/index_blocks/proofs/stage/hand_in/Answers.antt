@@ -3,7 +3,7 @@ use Rattle.careful_write.specs.State.{StoreState}
 use Rattle.change_set.specs.Buckets.{frame_of}
 use Rattle.index_bucket.specs.declared.hand.Handed.{Handed}
 use Rattle.index_bucket.specs.Takes.{entries_of}
-use Rattle.index_blocks.proofs.StageLaws.{HandedIn, handed_in}
+use Rattle.index_blocks.proofs.StageLaws.{handed_in}
 use Rattle.index_blocks.proofs.stage.hand_in.Goals as goal
 
 pub returns-then-parted-clause-hands : goal.returns-then-parted-clause-hands

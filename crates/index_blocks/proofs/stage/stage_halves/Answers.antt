@@ -1,4 +1,4 @@
-use Rattle.std.proofs.Common.{◌≡◌, ◌≤◌, Bool, length, option_map, sym, ap, subst, arith}
+use Rattle.std.proofs.Common.{◌≡◌, Bool, length, option_map, sym, ap, subst, arith}
 use Rattle.careful_write.specs.State.{StoreState}
 use Rattle.change_set.specs.Buckets.{frame_of, with_frame}
 use Rattle.index_blocks.specs.Writes.{with_halves, with_blocks_of_halves}
