@@ -1,14 +1,16 @@
 -- Buckets that are read and staged through a frame.
-use Rattle.std.proofs.Common.{◌≡◌, ◌≤◌, ◌<◌, ◌+◌, ◌-◌, ◌*◌, ℕ, Bool, true, false, List, [], ◌∷◌, length, take, Option, Some, None, IfSome, is_some, option_map, refl, sym, ap, subst, ◌∙◌, arith}
+use Rattle.std.proofs.Common.{◌≡◌, ◌≤◌, ◌<◌, ◌+◌, ◌-◌, ◌*◌, ℕ, Bool, true, false, List, [], ◌∷◌, length, take, Option, Some, None, IfSome, is_some, option_map, refl, sym, ap, subst, ◌∙◌, arith, ◌⊎◌, ⊎_elim, inl, inr, zero, suc, MatchOption, IsSomeAnd}
 use Rattle.std.proofs.lemmas.List.{set-set, length-take-le}
 use Rattle.block_disk.specs.Disk.{DiskState}
 use Rattle.careful_write.specs.State.{StoreState}
 use Rattle.frame_pool.specs.Pool.{IsOut}
 use Rattle.file_base.specs.declared.head.FileHead.{FileHead}
 use Rattle.change_set.specs.Buckets.{frame_of, with_frame, with_bucket, with_numbers, LiesInHome}
-use Rattle.change_set.specs.Files.{IsPlaced}
+use Rattle.change_set.specs.Files.{IsPlaced, StagesIn, in_extent}
 use Rattle.change_set.proofs.Frames.{frame_of-with_frame}
-use Rattle.change_set.proofs.Extents.{ranges_apart}
+use Rattle.std.proofs.lemmas.Nat.{mul-le}
+use Rattle.careful_write.specs.Steps.{AgreesOff}
+use Rattle.change_set.proofs.Extents.{ranges_apart, bucket_staged as extent_staged, agrees_trans, stages_more}
 use Rattle.change_set.proofs.Loading.{length-with_numbers}
 use Rattle.bucket_page.specs.Pages.{slots_of, IsBucket}
 use Rattle.index_model.specs.Indexes.{Entry, first_separator}
@@ -111,19 +113,77 @@ pub taken : (told : Told) (h : FileHead) (n : ℕ) (frame bytes : List ℕ) (P :
 taken None h n frame bytes P same read fact = tt
 taken (Some b) h n frame bytes P same read fact = subst P (ap (take (512 * h.bucket)) same ∙ read) fact
 
+match_trans : (p : ℕ → Bool) (a b c : Told) → MatchOption a (b ≡ None) (λ x. IsSomeAnd b (AgreesOff p x)) → MatchOption b (c ≡ None) (λ x. IsSomeAnd c (AgreesOff p x)) → MatchOption a (c ≡ None) (λ x. IsSomeAnd c (AgreesOff p x))
+match_trans p None None c first second = second
+match_trans p None (Some y) c first second = cc
+match_trans p (Some x) None c first second = absurd first
+match_trans p (Some x) (Some y) None first second = absurd second
+match_trans p (Some x) (Some y) (Some z) first second = agrees_trans p x y z first second
+
+-- what is staged in two steps
+pub stages_both : (h : FileHead) (x y : ℕ) (s0 s1 s2 : StoreState) → StagesIn h x s0 s1 → StagesIn h y s1 s2 → StagesIn h (x + y) s0 s2
+stages_both h x y s0 s1 s2 first second = record {
+  rest = second.rest ∙ (λ i. record (first.rest i) { current = s2.current; touched = s2.touched });
+  blocks = match_trans (in_extent h) s0.current s1.current s2.current first.blocks second.blocks;
+  touched = λ n has. ⊎_elim (λ one. first.touched n one) inr (second.touched n has);
+  few = let a = first.few in let b = second.few in omega arith;
+}
+
+-- the same beside other frames
+pub stages_beside : (h : FileHead) (limit : ℕ) (s s' : StoreState) (pool : List (Option (List ℕ))) → StagesIn h limit s (record s' { pool = s.pool }) → StagesIn h limit (record s { pool = pool }) (record s' { pool = pool })
+stages_beside h limit s s' pool stages = record { rest = λ i. record (stages.rest i) { pool = pool }; blocks = stages.blocks; touched = stages.touched; few = stages.few }
+
+with_one : FileHead → ℕ → List ℕ → StoreState → StoreState
+with_one h n bytes s = record s { current = option_map (λ b. with_bucket bytes b (bucket_first h n) h.bucket) s.current; touched = with_blocks_of h n s.touched }
+
+one_staged : (h : FileHead) (n : ℕ) (bytes : List ℕ) (s : StoreState) → n < h.alloc → StagesIn h h.bucket s (with_one h n bytes s)
+unfolding with_one
+one_staged h n bytes s below = extent_staged h n bytes s (with_one h n bytes s) below refl
+
+pub stages_one : (h : FileHead) (f n : ℕ) (bytes : List ℕ) (s0 s : StoreState) → n < h.alloc
+    → s ≡ with_frame f (frame_of s.pool f) (record s0 { current = option_map (λ b. with_bucket bytes b (bucket_first h n) h.bucket) s0.current; touched = with_blocks_of h n s0.touched }) → StagesIn h h.bucket s0 (record s { pool = s0.pool })
+unfolding with_one
+stages_one h f n bytes s0 s below is = subst (λ (t : StoreState). StagesIn h h.bucket s0 t) (sym (λ i. record (is i) { pool = s0.pool })) (one_staged h n bytes s0 below)
+
+pub stages_halves : (h : FileHead) (n fresh : ℕ) (parted : Bool) (low high : List ℕ) (s : StoreState) → n < h.alloc → fresh < h.alloc
+    → StagesIn h (2 * h.bucket) s (record s { current = option_map (with_halves h n fresh parted low high) s.current; touched = with_blocks_of_halves h n fresh parted s.touched })
+unfolding with_one
+stages_halves h n fresh false low high s there free = stages_more h h.bucket (2 * h.bucket) s _ (omega arith) (one_staged h n low s there)
+stages_halves h n fresh true low high s there free =
+    let first = one_staged h n low s there in
+    let second = one_staged h fresh high (with_one h n low s) free in
+    let both = stages_both h h.bucket h.bucket s (with_one h n low s) (with_one h fresh high (with_one h n low s)) first second in
+    let is : with_one h fresh high (with_one h n low s) ≡ record s { current = option_map (with_halves h n fresh true low high) s.current; touched = with_blocks_of_halves h n fresh true s.touched } =
+    λ i. record s { current = told_twice (λ b. with_bucket low b (bucket_first h n) h.bucket) (λ b. with_bucket high b (bucket_first h fresh) h.bucket) s.current i; touched = with_blocks_of_halves h n fresh true s.touched } in
+    subst (λ (t : StoreState). StagesIn h (2 * h.bucket) s t) is (stages_more h (h.bucket + h.bucket) (2 * h.bucket) s _ (omega arith) both)
+
+-- two steps of a climb
+pub stages_climb : (h : FileHead) (depth : ℕ) (s0 s1 s2 : StoreState) → 1 ≤ depth → StagesIn h (2 * h.bucket) s0 (record s1 { pool = s0.pool }) → StagesIn h ((2 * (depth - 1) + 1) * h.bucket) s1 (record s2 { pool = s1.pool })
+    → StagesIn h ((2 * depth + 1) * h.bucket) s0 (record s2 { pool = s0.pool })
+stages_climb h depth s0 s1 s2 some first second =
+    let same : depth - 1 + 1 ≡ depth = omega (arith, some) in
+    let sum : 2 * h.bucket + (2 * (depth - 1) + 1) * h.bucket ≡ (2 * (depth - 1 + 1) + 1) * h.bucket = omega arith in
+    subst (λ (d : ℕ). StagesIn h ((2 * d + 1) * h.bucket) s0 (record s2 { pool = s0.pool })) same
+    (subst (λ (l : ℕ). StagesIn h l s0 (record s2 { pool = s0.pool })) sum
+    (stages_both h (2 * h.bucket) ((2 * (depth - 1) + 1) * h.bucket) s0 (record s1 { pool = s0.pool }) (record s2 { pool = s0.pool }) first (stages_beside h ((2 * (depth - 1) + 1) * h.bucket) s1 s2 s0.pool second)))
+
+pub stages_least : (h : FileHead) (depth few : ℕ) (s s' : StoreState) → few ≤ 2 * depth + 1 → StagesIn h (few * h.bucket) s s' → StagesIn h ((2 * depth + 1) * h.bucket) s s'
+stages_least h depth few s s' less stages = stages_more h (few * h.bucket) ((2 * depth + 1) * h.bucket) s s' (mul-le few h.bucket (2 * depth + 1) h.bucket less (omega arith)) stages
+
 -- a bucket that was read, took entries, and was staged
 pub record HandedIn (h : FileHead) (k : List ℕ) (added : List Entry) (n fresh : ℕ) (up : Option Handed) (f : ℕ) (s0 s : StoreState) : Type 0 where
   pub hands : HandsIn h k added n fresh up s0 (record s { pool = s0.pool })
   pub pool : s ≡ with_frame f (frame_of s.pool f) (record s { pool = s0.pool })
   pub few : length s.touched ≤ length s0.touched + 32
+  pub stages : StagesIn h (2 * h.bucket) s0 (record s { pool = s0.pool })
 
-pub handed_in : (h : FileHead) (k : List ℕ) (added : List Entry) (n fresh : ℕ) (up : Option Handed) (f : ℕ) (x : List ℕ) (s0 t s : StoreState) (parted : Bool) (bytes low high : List ℕ) → h.bucket ≤ 16 → is_some up ≡ parted
+pub handed_in : (h : FileHead) (k : List ℕ) (added : List Entry) (n fresh : ℕ) (up : Option Handed) (f : ℕ) (x : List ℕ) (s0 t s : StoreState) (parted : Bool) (bytes low high : List ℕ) → h.bucket ≤ 16 → n < h.alloc → fresh < h.alloc → is_some up ≡ parted
     → t ≡ with_frame f x s0
     → s ≡ with_frame f (frame_of s.pool f) (record t { current = option_map (with_halves h n fresh parted low high) t.current; touched = with_blocks_of_halves h n fresh parted t.touched })
     → bytes ≡ x → IfSome s0.current (λ b. take (512 * h.bucket) x ≡ bucket_at h b n)
     → (IsBucket (index_kind h) (512 * h.bucket) (take (512 * h.bucket) bytes) → 1 ≤ length (slots_of (index_kind h) (take (512 * h.bucket) bytes)) → TakesIn h (512 * h.bucket) k added (take (512 * h.bucket) bytes) parted (take (512 * h.bucket) low) (take (512 * h.bucket) high))
     → IfSome up (λ handed. entries_of h handed ≡ record { separator = first_separator (entries_at h (take (512 * h.bucket) high)); child = fresh } ∷ []) → HandedIn h k added n fresh up f s0 s
-handed_in h k added n fresh up f x s0 t s parted bytes low high most is was staged same read takes leads =
+handed_in h k added n fresh up f x s0 t s parted bytes low high most there free is was staged same read takes leads =
     let C : Told → Told = option_map (with_halves h n fresh (is_some up) low high) in
     let T : List ℕ → List ℕ = with_blocks_of_halves h n fresh (is_some up) in
     let staged' : s ≡ with_frame f (frame_of s.pool f) (record t { current = C t.current; touched = T t.touched }) =
@@ -143,6 +203,7 @@ handed_in h k added n fresh up f x s0 t s parted bytes low high most is was stag
       };
       pool = frame_beside f s0 after s refl whole;
       few = let many = halves_few h n fresh (is_some up) s0.touched most in omega (arith, many, ap (λ (y : StoreState). length y.touched) whole);
+      stages = subst (λ (y : StoreState). StagesIn h (2 * h.bucket) s0 y) (sym (beside_frame f s0 after s refl whole)) (stages_halves h n fresh (is_some up) low high s0 there free);
     }
 
 -- the store beside a frame that was read, after an error

@@ -1,9 +1,9 @@
 //! Entries that are handed up from level to level, and the new root where the old one is parted.
-ghost use Rattle.std.specs.Prelude.{◌≡◌, ◌≤◌, ◌<◌, ◌+◌, ◌-◌, ◌*◌, ℕ, List, [], Some, length, OnErr, IfOk, IfSome, slice_index_or, IsSomeAnd};
+ghost use Rattle.std.specs.Prelude.{◌≡◌, ◌≤◌, ◌<◌, ◌+◌, ◌-◌, ◌*◌, ℕ, List, [], Some, length, OnOk, OnErr, IfOk, IfSome, slice_index_or, IsSomeAnd};
 ghost use Rattle.careful_write.specs.Down.{answered};
 ghost use Rattle.frame_pool.specs.Pool.{IsOut};
 ghost use Rattle.change_set.specs.Buckets.{frame_of, with_frame};
-ghost use Rattle.change_set.specs.Files.{IsPlaced};
+ghost use Rattle.change_set.specs.Files.{IsPlaced, StagesIn};
 ghost use Rattle.index_model.specs.Indexes.{Entry};
 ghost use Rattle.index_bucket.specs.Takes.{entries_of};
 ghost use Rattle.index_blocks.specs.Climbs.{MayClimb, Climbs};
@@ -39,6 +39,7 @@ fn stage_root<D: Disk>(
     requires room { length store.old.touched ≤ 480 }
     ensures rest { store.new ≡ with_frame frame.now (frame_of store.new.pool frame.now) (record store.old { current = store.new.current; touched = store.new.touched }) }
     ensures few { length store.new.touched ≤ length store.old.touched + 16 }
+    ensures stages { StagesIn head.now head.now.bucket store.old (record store.new { pool = store.old.pool }) }
     ensures climbs { IfSome store.old.current (λ old. IsSomeAnd store.new.current (λ new. (below : List Entry) (path : List ℕ) → MayClimb head.now key.now (entries_of head.now handed.now) below [] path fresh old
         → Climbs head.now key.now (entries_of head.now handed.now) [] fresh (record { root = Some fresh; used = fresh + 1 }) old new)) }
     ensures out { IsOut store.new.pool frame.now }
@@ -75,6 +76,7 @@ pub fn climb<D: Disk>(
       touched = store.new.touched;
     }) }
     ensures few { length store.new.touched ≤ length store.old.touched + 32 * depth + 16 }
+    ensures stages { OnOk result (StagesIn head.now ((2 * depth + 1) * head.now.bucket) store.old (record store.new { pool = store.old.pool })) }
     ensures used { IfOk result (λ growth. (used ≤ growth.used) × (growth.used ≤ used + depth + 1)) }
     ensures climbs { IfOk result (λ growth. IfSome store.old.current (λ old. IsSomeAnd store.new.current (λ new. (levels : List (List ℕ)) (below : List Entry) → length levels ≡ depth
         → MayClimb head.now key.now (entries_of head.now handed.now) below levels path.now used old → Climbs head.now key.now (entries_of head.now handed.now) levels used growth old new))) }

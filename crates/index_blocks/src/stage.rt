@@ -3,7 +3,7 @@ ghost use Rattle.std.specs.Prelude.{◌≡◌, ◌≤◌, ◌<◌, ◌+◌, ◌-
 ghost use Rattle.careful_write.specs.Down.{answered};
 ghost use Rattle.frame_pool.specs.Pool.{IsOut};
 ghost use Rattle.change_set.specs.Buckets.{frame_of, with_frame, with_bucket};
-ghost use Rattle.change_set.specs.Files.{IsPlaced};
+ghost use Rattle.change_set.specs.Files.{IsPlaced, StagesIn};
 ghost use Rattle.index_bucket.specs.Takes.{entries_of};
 ghost use Rattle.index_blocks.specs.Buckets.{bucket_first, bucket_at, with_blocks_of};
 ghost use Rattle.index_blocks.specs.Writes.{with_halves, with_blocks_of_halves, HandsIn};
@@ -112,6 +112,7 @@ pub fn hand_in<D: Disk>(
     ensures hands { IfOk result (λ up. HandsIn head.now key.now (entries_of head.now handed.now) n fresh up store.old (record store.new { pool = store.old.pool })) }
     ensures whole { OnOk result (IfSome store.old.current (λ blocks. length blocks + 518 ≡ store.old.disk.size)) }
     ensures few { length store.new.touched ≤ length store.old.touched + 32 }
+    ensures stages { OnOk result (StagesIn head.now (2 * head.now.bucket) store.old (record store.new { pool = store.old.pool })) }
     ensures down { OnErr result (record store.new { pool = store.old.pool } ≡ record store.old { disk = answered result store.old.disk }) }
     ensures pool { store.new ≡ with_frame frame.now (frame_of store.new.pool frame.now) (record store.new { pool = store.old.pool }) }
     ensures out { IsOut store.new.pool frame.now }

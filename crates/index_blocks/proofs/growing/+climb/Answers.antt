@@ -1,10 +1,11 @@
-use Rattle.std.proofs.Common.{◌-◌, ℕ, Option, Some, None, Result, Ok, Err, IfOk, slice_index_or, refl, ap, subst, arith}
+use Rattle.std.proofs.Common.{◌-◌, ℕ, Option, Some, None, Result, Ok, Err, IfOk, slice_index_or, refl, ap, subst, arith, ◌+◌, ◌*◌, OnOk}
 use Rattle.careful_write.specs.State.{StoreState}
 use Rattle.careful_write.specs.Down.{answered}
+use Rattle.change_set.specs.Files.{StagesIn}
 use Rattle.index_bucket.specs.declared.hand.Handed.{Handed}
 use Rattle.index_bucket.specs.Takes.{entries_of}
 use Rattle.index_blocks.specs.Writes.{HandsIn}
-use Rattle.index_blocks.proofs.StageLaws.{rest_again}
+use Rattle.index_blocks.proofs.StageLaws.{rest_again, stages_climb, stages_least}
 use Rattle.index_blocks.proofs.ClimbLaws.{at_root, fit_told, cut_told}
 use Rattle.index_blocks.proofs.growing.+climb.Goals as goal
 
@@ -44,3 +45,24 @@ returns-in-None-clause-climbs g t c =
     subst (λ (o : Option Handed). HandsIn h c.args.key.now (entries_of h c.args.handed.now) n c.args.used o s0 (record c.hand_in.new.store { pool = s0.pool })) c.in-None.is c.in_ok-up.ensures.hands in
     fit_told s0.current c.hand_in.new.store.current h s0.disk c.args.key.now (entries_of h c.args.handed.now) c.args.depth c.args.path.now c.args.used n hands.low hands.high c.requires.placed c.requires.short (omega (arith, c.requires.free))
     c.in_ok-up.ensures.whole (omega (arith, c.if-depth-eq0.false)) refl (ap (λ (s : StoreState). s.current) hands.state) hands.takes
+
+on_ok_then : {T E A B : Type 0} (r : Result T E) → (A → B) → OnOk r A → OnOk r B
+on_ok_then (Ok x) f a = f a
+on_ok_then (Err e) f a = tt
+
+pub returns-then-depth-eq0-clause-stages : goal.returns-then-depth-eq0-clause-stages
+returns-then-depth-eq0-clause-stages g t c =
+    let h = c.args.head.now in
+    let least : StagesIn h (1 * h.bucket) c.args.store.now (record c.stage_root.new.store { pool = c.args.store.now.pool }) =
+    subst (λ (l : ℕ). StagesIn h l c.args.store.now (record c.stage_root.new.store { pool = c.args.store.now.pool })) (omega arith) c.stage_root.ensures.stages in
+    stages_least h c.args.depth 1 c.args.store.now (record c.stage_root.new.store { pool = c.args.store.now.pool }) (omega arith) least
+
+pub returns-in-None-clause-stages : goal.returns-in-None-clause-stages
+returns-in-None-clause-stages g t c =
+    stages_least c.args.head.now c.args.depth 2 c.args.store.now (record c.hand_in.new.store { pool = c.args.store.now.pool }) (omega (arith, c.if-depth-eq0.false)) c.in_ok-up.ensures.stages
+
+pub returns-in-Some-clause-stages : goal.returns-in-Some-clause-stages
+returns-in-Some-clause-stages g t c =
+    on_ok_then c.climb.result (λ (stages : StagesIn c.args.head.now ((2 * (c.args.depth - 1) + 1) * c.args.head.now.bucket) c.hand_in.new.store (record c.climb.new.store { pool = c.hand_in.new.store.pool })).
+    stages_climb c.args.head.now c.args.depth c.args.store.now c.hand_in.new.store c.climb.new.store (omega (arith, c.if-depth-eq0.false)) c.in_ok-up.ensures.stages stages)
+    c.climb.ensures.stages
