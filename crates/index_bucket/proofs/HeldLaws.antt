@@ -2,13 +2,13 @@
 use Rattle.std.proofs.Common.{◌≡◌, ◌≤◌, ◌*◌, ◌/◌, ◌&&◌, ℕ, zero, suc, Bool, true, false, List, [], ◌∷◌, length, map, take, drop, refl, sym, ap, ◌∙◌, subst, length-drop, arith}
 use Rattle.std.proofs.lemmas.List.{length-take-le, take-map, drop-map}
 use Rattle.file_base.specs.declared.head.FileHead.{FileHead}
-use Rattle.bucket_page.specs.Pages.{key_in, ascend, precedes_all, may_follow, no_next, next_of, Packs}
+use Rattle.bucket_page.specs.Pages.{key_in, ascend, precedes_all, may_follow, no_next, next_of, IsBucket, Packs}
 use Rattle.records_model.specs.Slots.{bytes_before}
 use Rattle.index_model.specs.Indexes.{Entry, AllAbove, Ascends, AllBelow, with_added}
 use Rattle.index_model.specs.Trees.{child_of}
 use Rattle.index_model.proofs.HandLemmas.{length_added}
 use Rattle.index_bucket.specs.Entries.{index_kind, sizes_of, entry_of, entries_at, IsIndexBucket}
-use Rattle.index_bucket.specs.Takes.{Takes, whole, halved}
+use Rattle.index_bucket.specs.Takes.{Takes, whole, halved, TakesIn}
 use Rattle.index_bucket.specs.Laws.{HoldEntries, TakenAreHeld}
 use Rattle.index_bucket.proofs.EntryLaws.{length_entries}
 use Rattle.index_bucket.proofs.HandLaws.{fan_out_wide}
@@ -54,18 +54,48 @@ in_order : (h : FileHead) (raws : List (List ℕ)) → Ascends (map (entry_of h)
 in_order h [] up = refl
 in_order h (r ∷ rs) up = and_both (precedes_all (index_kind h) r rs) (ascend (index_kind h) rs) (in_front h r rs up.0) (in_order h rs up.1)
 
+-- packed bytes with entries that ascend are laid out
+pub packed_laid : (h : FileHead) (raws : List (List ℕ)) (next : ℕ) (bytes : List ℕ) (es : List Entry) → Packs (index_kind h) (512 * h.bucket) raws next bytes → map (entry_of h) raws ≡ es → Ascends es → may_follow (index_kind h) next ≡ true
+    → IsBucket (index_kind h) (512 * h.bucket) bytes
+packed_laid h raws next bytes es packs are up follows = record {
+  packed = packs.packed;
+  order = ap (ascend (index_kind h)) packs.slots_are ∙ in_order h raws (subst Ascends (sym are) up);
+  number = refl;
+  next = ap (may_follow (index_kind h)) packs.next_is ∙ follows;
+}
+
+-- a bucket that took entries is laid out, and so is the new one beside it, which has the upper half
+pub taken_laid : (h : FileHead) (k : List ℕ) (added : List Entry) (old : List ℕ) (parted : Bool) (low high : List ℕ) → IsBucket (index_kind h) (512 * h.bucket) old → TakesIn h (512 * h.bucket) k added old parted low high
+    → Ascends (with_added k added (entries_at h old))
+    → IsBucket (index_kind h) (512 * h.bucket) low × (parted ≡ true → IsBucket (index_kind h) (512 * h.bucket) high × (entries_at h high ≡ drop (length (with_added k added (entries_at h old)) / 2) (with_added k added (entries_at h old))))
+taken_laid h k added old parted low high laid takes up = by parted takes.takes
+  where
+    all : List Entry
+    all = with_added k added (entries_at h old)
+
+    half : length takes.raws / 2 ≡ length all / 2
+    half = ap (λ m. m / 2) (sym (length_entries h takes.raws) ∙ ap (λ (x : List Entry). length x) takes.entries)
+
+    by : (p : Bool) → Takes (index_kind h) (512 * h.bucket) (sizes_of h).fan_out (next_of old) takes.raws p low high
+        → IsBucket (index_kind h) (512 * h.bucket) low × (p ≡ true → IsBucket (index_kind h) (512 * h.bucket) high × (entries_at h high ≡ drop (length all / 2) all))
+    by p (whole one few packs) = (packed_laid h takes.raws (next_of old) low all packs takes.entries up laid.next, λ two. let none : ⊥ = cc in absurd none)
+    by p (halved two many lower upper) =
+        let first : map (entry_of h) (take (length takes.raws / 2) takes.raws) ≡ take (length all / 2) all = sym (take-map (entry_of h) (length takes.raws / 2) takes.raws) ∙ (λ i. take (half i) (takes.entries i)) in
+        let last : map (entry_of h) (drop (length takes.raws / 2) takes.raws) ≡ drop (length all / 2) all = sym (drop-map (entry_of h) (length takes.raws / 2) takes.raws) ∙ (λ i. drop (half i) (takes.entries i)) in (
+          packed_laid h (take (length takes.raws / 2) takes.raws) (next_of old) low (take (length all / 2) all) lower first (ascends_take (length all / 2) all up) laid.next,
+          λ same. (
+            packed_laid h (drop (length takes.raws / 2) takes.raws) no_next high (drop (length all / 2) all) upper last (ascends_drop (length all / 2) all up) refl,
+            ap (map (entry_of h)) upper.slots_are ∙ last,
+          ),
+        )
+
 -- packed bytes with entries that ascend and lead to used buckets
 holds : (h : FileHead) (raws : List (List ℕ)) (next : ℕ) (bytes : List ℕ) (es : List Entry) → Packs (index_kind h) (512 * h.bucket) raws next bytes → map (entry_of h) raws ≡ es → Ascends es → may_follow (index_kind h) next ≡ true
     → 1 ≤ length es → AllBelow h.used (map child_of es) → IsIndexBucket h bytes × (entries_at h bytes ≡ es)
 holds h raws next bytes es packs are up follows some used =
     let same : entries_at h bytes ≡ es = ap (map (entry_of h)) packs.slots_are ∙ are in (
       record {
-        bucket = record {
-          packed = packs.packed;
-          order = ap (ascend (index_kind h)) packs.slots_are ∙ in_order h raws (subst Ascends (sym are) up);
-          number = refl;
-          next = ap (may_follow (index_kind h)) packs.next_is ∙ follows;
-        };
+        bucket = packed_laid h raws next bytes es packs are up follows;
         some = subst (λ (x : List Entry). 1 ≤ length x) (sym same) some;
         used = subst (λ (x : List Entry). AllBelow h.used (map child_of x)) (sym same) used;
       },

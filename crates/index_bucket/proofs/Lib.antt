@@ -4,3 +4,4 @@ pub mod GrowLaws
 pub mod AddedLaws
 pub mod HandLaws
 pub mod HeldLaws
+pub mod ParentLaws

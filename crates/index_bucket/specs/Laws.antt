@@ -14,6 +14,11 @@ pub record HoldEntries (h : FileHead) (all : List Entry) (parted : Bool) (low hi
   pub whole : parted ≡ false → entries_at h low ≡ all
   pub halved : parted ≡ true → (entries_at h low ≡ take (length all / 2) all) × (entries_at h high ≡ drop (length all / 2) all)
 
+-- the bytes have these entries, and are laid out as an index bucket where the separators ascend
+pub record HasEntries (h : FileHead) (all : List Entry) (bytes : List ℕ) : Type 0 where
+  pub are : entries_at h bytes ≡ all
+  pub bucket : Ascends all → IsBucket (index_kind h) (512 * h.bucket) bytes
+
 -- a bucket that took entries has them so, where all separators ascend and all children are used
 abbrev pub TakenAreHeld : Type 0
 TakenAreHeld = (h : FileHead) (k : List ℕ) (added : List Entry) (old : List ℕ) (parted : Bool) (low high : List ℕ) → 1 ≤ h.bucket → h.key_size ≤ 64 → IsBucket (index_kind h) (512 * h.bucket) old → 1 ≤ length (entries_at h old)

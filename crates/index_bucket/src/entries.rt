@@ -31,7 +31,7 @@ fn entry_start(bytes: &[u8], head: &FileHead, i: u16) -> usize
 }
 
 // The bytes of entry i.
-fn entry<'a>(bytes: &'a [u8], head: &FileHead, i: u16) -> &'a [u8]
+pub(crate) fn entry<'a>(bytes: &'a [u8], head: &FileHead, i: u16) -> &'a [u8]
     requires packed { IsPacked (index_kind head.now) (length bytes.now) bytes.now }
     requires there { i < length (slots_of (index_kind head.now) bytes.now) }
     ensures is { result.now ≡ slot_at (slots_of (index_kind head.now) bytes.now) i }

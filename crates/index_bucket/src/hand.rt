@@ -1,6 +1,6 @@
 //! Entries that are handed up into an index bucket.
 ghost use Rattle.std.specs.Prelude.{◌≡◌, ◌≤◌, ◌<◌, ◌+◌, ◌-◌, ◌*◌, ◌/◌, ℕ, List, true, false, length, take, drop};
-ghost use Rattle.bucket_page.specs.Pages.{slots_of, next_of, IsBucket};
+ghost use Rattle.bucket_page.specs.Pages.{slots_of, next_of, IsBucket, IsPacked};
 ghost use Rattle.index_bucket.specs.Entries.{index_kind, sizes_of};
 ghost use Rattle.index_bucket.specs.Takes.{entries_of, TakesIn};
 ghost use Rattle.index_bucket.specs.Laws.{TakenAreHeld};
@@ -90,6 +90,7 @@ pub fn take_handed(
     requires high_within { size ≤ length high.old }
     ensures takes { IsBucket (index_kind head.now) size (take size low.old) → 1 ≤ length (slots_of (index_kind head.now) (take size low.old))
         → TakesIn head.now size key.now (entries_of head.now handed.now) (take size low.old) result (take size low.new) (take size high.new) }
+    ensures upper { result ≡ true → IsPacked (index_kind head.now) size (take size high.new) × (1 ≤ length (slots_of (index_kind head.now) (take size high.new))) }
     ensures stays { (IsBucket (index_kind head.now) size (take size low.old) → length (slots_of (index_kind head.now) (take size low.old)) ≡ 0)
         → (result ≡ false) × (low.new ≡ low.old) × (high.new ≡ high.old) }
 {

@@ -4,6 +4,8 @@
 mod entries;
 mod grow;
 mod hand;
+mod parents;
 
 pub use entries::{find_entry, step};
 pub use hand::{ENTRY_BYTES, Handed, take_handed, taken_are_held};
+pub use parents::{make_root, parent_of};

@@ -9,7 +9,7 @@ use Rattle.tree_model.specs.Setting.{halves, level_with, place_above, index_with
 use Rattle.tree_model.specs.Trees.{total}
 use Rattle.index_model.specs.Indexes.{Entry, Index, entries_along, first_separator, parent_entry, AllSome, AreLevels, leads_by, entry_place, Ascends, with_added, set_entries, beside, bucket_for, handed_up, numbers_of, IsNoneOf, AllDiffer, AllBelow, counts_of, IsIndexed}
 use Rattle.index_model.specs.Laws.{HandsUp, HandUpKeeps}
-use Rattle.index_model.proofs.DescentLemmas.{later_ascend, any-append, any_parents, parents_ascend, length_parents, some_below}
+use Rattle.index_model.proofs.DescentLemmas.{above_parts, later_ascend, any-append, any_parents, parents_ascend, length_parents, some_below}
 
 -- Tests.
 
@@ -125,7 +125,7 @@ agree_trans : (f g h : ℕ → List Entry) (ns : List ℕ) → AgreeOn f g ns �
 agree_trans f g h [] first second = tt
 agree_trans f g h (n ∷ ns) first second = (first.0 ∙ second.0, agree_trans f g h ns first.1 second.1)
 
-agree_parts : (f g : ℕ → List Entry) (a c : List ℕ) → AgreeOn f g (a ++ c) → AgreeOn f g a × AgreeOn f g c
+pub agree_parts : (f g : ℕ → List Entry) (a c : List ℕ) → AgreeOn f g (a ++ c) → AgreeOn f g a × AgreeOn f g c
 agree_parts f g [] c agree = (tt, agree)
 agree_parts f g (n ∷ ns) c agree = let rest = agree_parts f g ns c agree.1 in ((agree.0, rest.0), rest.1)
 
@@ -133,7 +133,7 @@ along_agree : (f g : ℕ → List Entry) (ns : List ℕ) → AgreeOn f g ns → 
 along_agree f g [] agree = refl
 along_agree f g (n ∷ ns) agree = λ i. agree.0 i ++ along_agree f g ns agree.1 i
 
-parents_agree : (f g : ℕ → List Entry) (ns : List ℕ) → AgreeOn f g ns → map (parent_entry f) ns ≡ map (parent_entry g) ns
+pub parents_agree : (f g : ℕ → List Entry) (ns : List ℕ) → AgreeOn f g ns → map (parent_entry f) ns ≡ map (parent_entry g) ns
 parents_agree f g [] agree = refl
 parents_agree f g (n ∷ ns) agree = λ i. record { separator = first_separator (agree.0 i); child = n } ∷ parents_agree f g ns agree.1 i
 
@@ -525,6 +525,10 @@ pub each_where : (bound : ℕ) (above later ns : List ℕ) → ((n : ℕ) → n 
 each_where bound above later [] keeps below each = tt
 each_where bound above later (n ∷ ns) keeps below each = (keeps n below.0 each.0, each_where bound above later ns keeps below.1 each.1)
 
+former_ascend : (a b : List Entry) → Ascends (a ++ b) → Ascends a
+former_ascend [] b up = tt
+former_ascend (e ∷ es) b up = ((above_parts e.separator es b up.0).0, former_ascend es b up.1)
+
 -- a number that comes in behind another one
 differ_beside : (x m : ℕ) (a c : List ℕ) → IsNoneOf x (a ++ m ∷ c) → AllDiffer (a ++ m ∷ c) → AllDiffer (a ++ m ∷ x ∷ c)
 differ_beside x m [] c none differ = (((λ same. none.0 (sym same)), differ.0), (none.1, differ.1))
@@ -596,6 +600,21 @@ module _ (least : List ℕ) (fan_out : ℕ) (wide : 3 ≤ fan_out) (k : List ℕ
     abbrev cut_index : ℕ → Index
     cut_index m = record (upper_index m) { levels = beside m used ns ∷ (upper_index m).levels }
 
+    -- the entry that is handed up from a bucket of this level, once it was parted, comes into an index over the parents
+    pub record NextLevel (m : ℕ) : Type 0 where
+      pub ascends : Ascends parents
+      pub added_ascend : Ascends (with_added k (record { separator = first_separator (upper_at m); child = used } ∷ []) parents)
+      pub index : IsIndexed least parents (record { entries = cut_at m; levels = above; root = root; used = suc used })
+      pub agree : AgreeOn (cut_at m) entries (numbers_of above)
+
+    -- a bucket of this level has entries, and ascends with those that come in
+    pub record LevelAdded (m : ℕ) : Type 0 where
+      pub ascends : Ascends (all_at m)
+      pub some : 1 ≤ length (entries m)
+      pub within : m < used
+      pub apart : IsNoneOf m (numbers_of above)
+      pub there : IsNoneOf m ns → ⊥
+
     module _ (at : At k entries ns) where
       here_differ : IsNoneOf at.bucket (numbers_of above)
       here_differ = (each_parts at.pre (at.bucket ∷ at.post) (numbers_of above) (subst (λ l. EachNone l (numbers_of above)) at.is parts.2)).1.0
@@ -632,6 +651,37 @@ module _ (least : List ℕ) (fan_out : ℕ) (wide : 3 ≤ fan_out) (k : List ℕ
             taken = refl;
           }
 
+      next_here : nat_le (length (all_at at.bucket)) fan_out ≡ false → NextLevel at.bucket
+      next_here more =
+          let two : 2 ≤ length (all_at at.bucket) = (let over = le_false (length (all_at at.bucket)) fan_out more in omega (arith, over, wide)) in
+          let fresh_x : IsNoneOf used ns = none_below used ns under.0 in
+          let cut : ℕ → List Entry = cut_at at.bucket in
+          let bes : List ℕ = beside at.bucket used ns in
+          let x : Entry = record { separator = first_separator (upper_at at.bucket); child = used } in
+          let parents_are : map (parent_entry cut) bes ≡ with_added k (x ∷ []) parents = halved_parents k (e ∷ es) entries ns is.leads.1 ascends parts.0 at used fresh_x two in
+          let along_are : entries_along cut bes ≡ with_added k (e ∷ es) below = halved_along k (e ∷ es) entries ns is.leads.1 ascends parts.0 at used fresh_x two ∙ ap (with_added k (e ∷ es)) is.leads.0 in
+          let some_are : AllSome cut bes = halved_some k (e ∷ es) entries ns is.leads.1 ascends parts.0 at used fresh_x two in
+          let none_used : IsNoneOf used (numbers_of above) = none_below used (numbers_of above) under.1 in
+          let agree : AgreeOn cut entries (numbers_of above) = agree_apart k (e ∷ es) entries ns is.leads.1 ascends parts.0 at used fresh_x two (numbers_of above) none_used here_differ in
+          record {
+            ascends = parents_ascend entries k ns is.leads.1 ascends;
+            added_ascend = subst Ascends parents_are (parents_ascend cut k bes some_are (subst Ascends (sym along_are) up'));
+            index = record { leads = levels_agree least cut entries parents above root agree is.leads.2; differ = parts.1; used = below_more used (suc used) (numbers_of above) (omega arith) under.1 };
+            agree = agree;
+          }
+
+      added_here : LevelAdded at.bucket
+      added_here =
+          let all : Ascends (entries_along entries at.pre ++ (all_at at.bucket ++ entries_along entries at.post)) =
+          subst Ascends (sym (ap (with_added k (e ∷ es)) is.leads.0) ∙ added_are k (e ∷ es) entries ns is.leads.1 ascends parts.0 at) up' in
+          record {
+            ascends = former_ascend (all_at at.bucket) (entries_along entries at.post) (later_ascend (entries_along entries at.pre) (all_at at.bucket ++ entries_along entries at.post) all);
+            some = here_some k (e ∷ es) entries ns is.leads.1 ascends parts.0 at;
+            within = (below_parts used at.pre (at.bucket ∷ at.post) (subst (AllBelow used) at.is under.0)).1.0;
+            apart = here_differ;
+            there = λ none. below_bucket at.bucket at.pre at.post (subst (IsNoneOf at.bucket) at.is none);
+          }
+
       cut_here : nat_le (length (all_at at.bucket)) fan_out ≡ false → Later → HandsUp least fan_out k (e ∷ es) below Old (cut_index at.bucket)
       cut_here more later =
           let two : 2 ≤ length (all_at at.bucket) = (let over = le_false (length (all_at at.bucket)) fan_out more in omega (arith, over, wide)) in
@@ -645,10 +695,9 @@ module _ (least : List ℕ) (fan_out : ℕ) (wide : 3 ≤ fan_out) (k : List ℕ
           let some_are : AllSome cut bes = halved_some k (e ∷ es) entries ns is.leads.1 ascends parts.0 at used fresh_x two in
           let none_used : IsNoneOf used (numbers_of above) = none_below used (numbers_of above) under.1 in
           let agree : AgreeOn cut entries (numbers_of above) = agree_apart k (e ∷ es) entries ns is.leads.1 ascends parts.0 at used fresh_x two (numbers_of above) none_used here_differ in
+          let next : NextLevel at.bucket = next_here more in
           let rest : HandsUp least fan_out k (x ∷ []) parents (record { entries = cut; levels = above; root = root; used = suc used }) (upper_index at.bucket) =
-          later used (first_separator (upper_at at.bucket)) cut (parents_ascend entries k ns is.leads.1 ascends)
-          (subst Ascends parents_are (parents_ascend cut k bes some_are (subst Ascends (sym along_are) up')))
-          (record { leads = levels_agree least cut entries parents above root agree is.leads.2; differ = parts.1; used = below_more used (suc used) (numbers_of above) (omega arith) under.1 }) in
+          later used (first_separator (upper_at at.bucket)) cut next.ascends next.added_ascend next.index in
           let upper : Index = upper_index at.bucket in
           let bes_below : AllBelow (suc used) bes = subst (AllBelow (suc used)) (sym bes_is) (below_beside (suc used) used at.bucket at.pre at.post (omega arith) (subst (AllBelow (suc used)) at.is (below_more used (suc used) ns (omega arith) under.0))) in
           let bes_each : EachNone bes (numbers_of above) = subst (λ l. EachNone l (numbers_of above)) (sym bes_is) (each_beside used at.bucket at.pre at.post (numbers_of above) none_used (subst (λ l. EachNone l (numbers_of above)) at.is parts.2)) in
@@ -695,6 +744,16 @@ module _ (least : List ℕ) (fan_out : ℕ) (wide : 3 ≤ fan_out) (k : List ℕ
           go : (t : Bool) → nat_le (length (all_at at.bucket)) fan_out ≡ t → HandsUp least fan_out k (e ∷ es) below Old (if t then fit_index at.bucket else cut_index at.bucket)
           go true fits = fits_here fits
           go false over = cut_here over later
+
+    pub next_level : nat_le (length (all_at (bucket_for k entries ns))) fan_out ≡ false → NextLevel (bucket_for k entries ns)
+    next_level =
+        let at = at_level k entries ns some_ns is.leads.1 ascends in
+        subst (λ m. nat_le (length (all_at m)) fan_out ≡ false → NextLevel m) (sym at.chosen) (next_here at)
+
+    pub level_added : LevelAdded (bucket_for k entries ns)
+    level_added =
+        let at = at_level k entries ns some_ns is.leads.1 ascends in
+        subst LevelAdded (sym at.chosen) (added_here at)
 
     hand_level : Later → HandsUp least fan_out k (e ∷ es) below Old (handed_up least fan_out k (e ∷ es) entries (ns ∷ above) root used)
     hand_level later =

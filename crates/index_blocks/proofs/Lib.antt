@@ -1,0 +1,6 @@
+pub mod StageLaws
+pub mod WayLaws
+pub mod WriteLaws
+pub mod LevelLaws
+pub mod ClimbLaws
+pub mod MayLaws

@@ -1,0 +1,28 @@
+use Rattle.std.proofs.Common.{◌<◌, Result, Err, ℕ, ap, arith}
+use Rattle.block_disk.specs.Disk.{DiskState}
+use Rattle.careful_write.specs.State.{StoreState}
+use Rattle.careful_write.specs.Down.{answered}
+use Rattle.careful_write.specs.declared.down.Down.{Down}
+use Rattle.index_blocks.proofs.StageLaws.{read_again, told_same}
+use Rattle.index_blocks.proofs.WayLaws.{way_step, way_noted, noted}
+use Rattle.index_blocks.proofs.descent.descend.Goals as goal
+
+pub returns-in-Err-clause-state : goal.returns-in-Err-clause-state
+returns-in-Err-clause-state g c =
+    let r : Result ℕ Down = Err c.in-Err.down in
+    read_again c.args.frame.now c.args.store.now c.loop-i.store c.visit.new.store (answered r) c.loop-i.invariant.state c.in-Err.ensures.state
+
+pub loop-i-preserved : goal.loop-i-preserved
+loop-i-preserved g c =
+    let h = c.args.head.now in
+    let k = c.args.key.now in
+    let told = c.args.store.now.current in
+    let same = ap (λ (s : StoreState). s.current) c.loop-i.invariant.state in
+    record {
+      state = read_again c.args.frame.now c.args.store.now c.loop-i.store c.visit.new.store (λ (d : DiskState). d) c.loop-i.invariant.state c.in-Ok.ensures.state;
+      out = c.visit.ensures.out;
+      there = c.in-Ok.ensures.used;
+      here = way_step told h k c.loop-i.i c.loop-i.n c.in-Ok.to c.loop-i-test.true c.loop-i.invariant.here (told_same _ _ _ same c.in-Ok.ensures.child);
+      noted = way_noted told h k c.loop-i.path c.loop-i.i c.loop-i.n (omega arith) c.loop-i.invariant.here c.loop-i.invariant.noted;
+      noted_used = noted (λ steps m. m < h.used) c.loop-i.path c.loop-i.i c.loop-i.n (omega arith) c.loop-i.invariant.noted_used c.loop-i.invariant.there;
+    }

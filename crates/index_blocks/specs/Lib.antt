@@ -1,0 +1,5 @@
+pub mod Buckets
+pub mod Levels
+pub mod Writes
+pub mod Climbs
+pub mod Laws
