@@ -26,8 +26,8 @@ use Rattle.dtm_node.proofs.UsesLemmas.{goes_nowhere, uses_done}
 -- One more unit, which has changed nothing.
 
 owed_behind : (us : List OpenUnit) (v : OpenUnit) → v.positions ≡ [] → owed (us ++ v ∷ []) ≡ owed us
-owed_behind [] v e = ap (λ (ps : List ℕ). owed_for ps + 0) e
-owed_behind (u ∷ us) v e = ap (λ (k : ℕ). owed_for u.positions + k) (owed_behind us v e)
+owed_behind [] v e = ap (λ (ps : List ℕ). owed_for v.prepared ps + 0) e
+owed_behind (u ∷ us) v e = ap (λ (k : ℕ). owed_for u.prepared u.positions + k) (owed_behind us v e)
 
 all_behind : (P : OpenUnit → Type 0) (us : List OpenUnit) (v : OpenUnit) → AllByRecursion P us → P v → AllByRecursion P (us ++ v ∷ [])
 all_behind P [] v h k = (k, tt)

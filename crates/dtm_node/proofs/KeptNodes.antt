@@ -14,7 +14,7 @@ called n cs = record n { calls = cs }
 
 called_each : (n : Node) (cs : List Call) (us : List OpenUnit) → AllByRecursion (IsUnitOf n) us → AllByRecursion (IsUnitOf (called n cs)) us
 called_each n cs [] h = tt
-called_each n cs (u ∷ us) h = (record { positions = h.0.positions; files = h.0.files; transaction = h.0.transaction }, called_each n cs us h.1)
+called_each n cs (u ∷ us) h = (record { positions = h.0.positions; files = h.0.files; transaction = h.0.transaction; active = h.0.active }, called_each n cs us h.1)
 
 called_branches : (n : Node) (cs : List Call) → HasBranches n → HasBranches (called n cs)
 called_branches n cs h = record {

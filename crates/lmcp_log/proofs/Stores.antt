@@ -36,6 +36,7 @@ ok_so (Err e) p n = absurd (n refl)
 pub record Staged (s t : StoreState) (place : ℕ) (block : List ℕ) : Type 0 where
   pub current : t.current ≡ option_map (λ c. set c (66 + place) block) s.current
   pub touched : t.touched ≡ with_number (584 + place) s.touched
+  pub rest : t ≡ record s { current = t.current; touched = t.touched }
   pub disk : SameDisk s t
 
 pub staged : (s t : StoreState) (place : ℕ) (bytes block : List ℕ) → bytes ≡ block → (let u : StoreState = record s { current = option_map (λ c. set c (584 + place - 518) bytes) s.current; touched = with_number (584 + place) s.touched } in t ≡ u) → Staged s t place block
@@ -45,5 +46,6 @@ staged s t place bytes block same e =
     record {
       current = ap (λ (x : StoreState). x.current) e ∙ (λ k. option_map (λ c. set c (n k) (same k)) s.current);
       touched = ap (λ (x : StoreState). x.touched) e;
+      rest = subst (λ (x : StoreState). x ≡ record s { current = x.current; touched = x.touched }) (sym e) refl;
       disk = subst P (sym e) (same_disk s _ _);
     }

@@ -74,6 +74,7 @@ pub record StagesSlot (old new : Slots) (s t : StoreState) (entry : Option LogRe
   pub slots : new ≡ slice_set old place entry
   pub current : t.current ≡ option_map (λ c. slice_set c (66 + place) (block_of entry)) s.current
   pub touched : t.touched ≡ with_number (584 + place) s.touched
+  pub rest : t ≡ record s { current = t.current; touched = t.touched }
   pub disk : SameDisk s t
 
 -- the record of a serial

@@ -19,7 +19,8 @@ use Rattle.directory_model.proofs.ReadingFiles.{order_is}
 use Rattle.directory_model.proofs.ReadingLists.{drop_numbered, length-numbered, numbered}
 use Rattle.recovery_units.specs.Calls.{cause_line}
 use Rattle.recovery_units.proofs.FormLemmas.{line_if}
-use Rattle.rms_units.specs.Truncating.{cut_asked, keys_down, removed_from}
+use Rattle.rms_units.specs.Truncating.{cut_asked}
+use Rattle.unit_cuts.specs.Truncating.{keys_down, removed_from}
 
 abbrev Entries : Type 0
 Entries = List (Key × List ℕ)

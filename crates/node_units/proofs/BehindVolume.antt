@@ -19,7 +19,7 @@ use Rattle.unit_world.proofs.Leaving.{down}
 use Rattle.recovery_units.specs.State.{IsKept}
 use Rattle.rms_units.specs.State as state
 use Rattle.rms_units.specs.State.{IsInOrder}
-use Rattle.rms_units.specs.Truncating.{IsBehind, IsTold}
+use Rattle.unit_cuts.specs.Truncating.{IsBehind, IsTold}
 use Rattle.node_units.specs.Seen.{seen}
 
 abbrev Content : Type 0

@@ -149,15 +149,15 @@ owed_sum (u ∷ us) xs d active differ known =
     either false x = refl
 
 -- what units are owed that are begun
-owed_each : (ps : List ℕ) → ◌≡◌ {A = ℕ} (owed_for ps) (if are_there ps then 96 else 0)
+owed_each : (ps : List ℕ) → ◌≡◌ {A = ℕ} (owed_for false ps) (if are_there ps then 96 else 0)
 owed_each [] = refl
 owed_each (p ∷ ps) = refl
 
-pub owed_begun : (us : List RecoveryUnit) (begun : List OpenUnit) → AllByRecursion (λ (u : OpenUnit). is_some (find_unit u.serial us) ≡ are_there u.positions) begun → calls.owed begun ≡ sum (owed_by us) (map (λ (u : OpenUnit). u.serial) begun)
+pub owed_begun : (us : List RecoveryUnit) (begun : List OpenUnit) → AllByRecursion (λ (u : OpenUnit). (is_some (find_unit u.serial us) ≡ are_there u.positions) × (u.prepared ≡ false)) begun → calls.owed begun ≡ sum (owed_by us) (map (λ (u : OpenUnit). u.serial) begun)
 owed_begun us [] each = refl
-owed_begun us (u ∷ begun) each = λ i. (owed_each u.positions ∙ ap (λ (t : Bool). if t then 96 else 0) (sym each.0)) i + owed_begun us begun each.1 i
+owed_begun us (u ∷ begun) each = λ i. (ap (λ (b : Bool). owed_for b u.positions) each.0.1 ∙ owed_each u.positions ∙ ap (λ (t : Bool). if t then 96 else 0) (sym each.0.0)) i + owed_begun us begun each.1 i
 
 -- the world owes what the units are owed, where each unit is one of these
 pub owed_alike : (us : List RecoveryUnit) (begun : List OpenUnit) → Distinct (unit_serials us) → AllActive us → Distinct (map (λ (u : OpenUnit). u.serial) begun) → ((x : Id) → is_some (find_unit x us) ≡ true → In x (map (λ (u : OpenUnit). u.serial) begun)) →
-    AllByRecursion (λ (u : OpenUnit). is_some (find_unit u.serial us) ≡ are_there u.positions) begun → owed us ≡ calls.owed begun
+    AllByRecursion (λ (u : OpenUnit). (is_some (find_unit u.serial us) ≡ are_there u.positions) × (u.prepared ≡ false)) begun → owed us ≡ calls.owed begun
 owed_alike us begun d active differ known each = owed_sum us (map (λ (u : OpenUnit). u.serial) begun) d active differ known ∙ sym (owed_begun us begun each)

@@ -18,8 +18,9 @@ use Rattle.directory_model.specs.Files.{IsFile}
 use Rattle.recovery_units.specs.Calls.{cause_line, position_line}
 use Rattle.recovery_units.proofs.FormLemmas.{line_if, lines_first}
 use Rattle.rms_units.specs.Keys.{change_in, position_by}
-use Rattle.rms_units.specs.Truncating.{number_refused, removed_from}
-use Rattle.rms_units.proofs.CutLemmas.{removed_lies}
+use Rattle.rms_units.specs.Truncating.{number_refused}
+use Rattle.unit_cuts.specs.Truncating.{removed_from}
+use Rattle.unit_cuts.proofs.CutLemmas.{removed_lies}
 use Rattle.node_units.proofs.AskedCut.{data_alike, many_alike}
 
 module _ (content : List (List ℕ)) (h : FileHead) (file : File) (is : IsFile content h file) (sequential : h.organization ≡ kept.Sequential) (from : ℕ) where

@@ -55,7 +55,8 @@ use Rattle.journal_format.proofs.Decoding.{total_is}
 use Rattle.records_model.specs.Slots.{size_of}
 use Rattle.volume_files.proofs.Places.{head_below}
 use Rattle.node_units.proofs.Holding.{once_of}
-use Rattle.rms_units.specs.Truncating.{BreaksCut, ChangesCut, CutBroke, IsCut, IsTold, begins_at, cut_asked, with_positions}
+use Rattle.rms_units.specs.Truncating.{ChangesCut, CutBroke, IsCut, cut_asked, with_positions}
+use Rattle.unit_cuts.specs.Truncating.{BreaksCut, IsTold, begins_at}
 use Rattle.rms_units.proofs.CutOrder as cut_order
 use Rattle.node_units.proofs.BehindVolume.{told_left}
 use Rattle.node_units.proofs.CutMade as made_by
@@ -261,6 +262,7 @@ module _ (s : state.UnitsState) (v : VolumeState) (order : IsInOrder s v) (at : 
             (subst (λ (y : Id). AllByRecursion (λ (e : JournalEntry). same_id u.serial (serial_in e) ≡ true → y ≡ tid_in e) (js ++ fs)) (sym (same_tid ps f u))
             (all_append (λ (e : JournalEntry). same_id u.serial (serial_in e) ≡ true → u.tid ≡ tid_in e) js fs is.transaction
             (all_entered (λ (e : JournalEntry). same_id u.serial (serial_in e) ≡ true → u.tid ≡ tid_in e) u.tid u.serial h.name cs (λ c same. refl))));
+        active = cut_order.prepared_still ps f u ∙ is.active;
       }
 
   other_after : (x : OpenUnit) → IsUnitOf n x → same_id x.serial u.serial ≡ false → IsUnitOf m x
@@ -273,6 +275,7 @@ module _ (s : state.UnitsState) (v : VolumeState) (order : IsInOrder s v) (at : 
         ∙ changed_set n.durable.directory f new_file x.serial wide (still_changed x.serial u.serial cs file.history other ∙ ap (changed_at x.serial) (sym (made_by.at_f s v order at place u at_place n file b h kept f from there found found_b allowed low done.early w done.late done.entries done.made))) g ∙ is.files g;
     transaction = all_append (λ (e : JournalEntry). same_id x.serial (serial_in e) ≡ true → x.tid ≡ tid_in e) js fs is.transaction
         (all_entered (λ (e : JournalEntry). same_id x.serial (serial_in e) ≡ true → x.tid ≡ tid_in e) u.tid u.serial h.name cs (λ c same. absurd (both_ways _ other same)));
+    active = is.active;
   }
 
   each_after : AllByRecursion (IsUnitOf m) (seen t).begun

@@ -82,11 +82,12 @@ use Rattle.recovery_units.specs.Calls.{unit_act, unit_early, unit_late}
 use Rattle.recovery_units.specs.State.{IsKept, IsUnitOf, branch_of}
 use Rattle.rms_units.specs.Calls as rms
 use Rattle.rms_units.specs.Changing as changing
-use Rattle.rms_units.specs.Reading.{OfRecords}
+use Rattle.unit_cuts.specs.Records.{OfRecords}
 use Rattle.rms_units.specs.State as state
 use Rattle.rms_units.specs.State.{IsEarly, IsInOrder}
-use Rattle.rms_units.specs.Truncating.{EntersCut, IsBehind, MakesCut, cut_asked, cut_early, cut_entries, entry_sizes, keys_cut, number_refused, removed_from, span_behind, with_entries}
-use Rattle.rms_units.proofs.CutEntering.{entries_long, entries_more, journal_more}
+use Rattle.rms_units.specs.Truncating.{MakesCut, cut_asked, cut_early, number_refused}
+use Rattle.unit_cuts.specs.Truncating.{EntersCut, IsBehind, cut_entries, entry_sizes, keys_cut, removed_from, span_behind, with_entries}
+use Rattle.unit_cuts.proofs.CutEntering.{entries_long, entries_more, journal_more}
 use Rattle.node_units.specs.Seen.{seen}
 use Rattle.node_units.proofs.AskedCut.{keys_alike, many_alike}
 use Rattle.node_units.proofs.BehindVolume.{behind_tells, behind_volume, sound_of}

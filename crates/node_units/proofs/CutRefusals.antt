@@ -40,7 +40,8 @@ use Rattle.rms_units.specs.Calls as rms
 use Rattle.rms_units.specs.Changing as changing
 use Rattle.rms_units.specs.State as state
 use Rattle.rms_units.specs.State.{IsInOrder}
-use Rattle.rms_units.specs.Truncating.{CutRefused, cut_asked, cut_early, entry_sizes, keys_cut, number_refused, removed_from}
+use Rattle.rms_units.specs.Truncating.{CutRefused, cut_asked, cut_early, number_refused}
+use Rattle.unit_cuts.specs.Truncating.{entry_sizes, keys_cut, removed_from}
 use Rattle.node_units.specs.Seen.{seen}
 use Rattle.node_units.proofs.AskedCut.{data_alike, keys_alike, many_alike}
 use Rattle.node_units.proofs.Holding.{once_of}

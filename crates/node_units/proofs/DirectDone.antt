@@ -12,7 +12,8 @@ use Rattle.volume_files.specs.Staging.{CutsFile, SetsKey}
 use Rattle.directory_model.specs.Laws.{IsChanged}
 use Rattle.rms_units.specs.Changing as keys_by
 use Rattle.rms_units.specs.Making as making
-use Rattle.rms_units.specs.Truncating.{CommitsCut, DirectsCut, cut_asked, number_refused, removed_from}
+use Rattle.rms_units.specs.Truncating.{DirectsCut, cut_asked, number_refused}
+use Rattle.unit_cuts.specs.Truncating.{CommitsCut, removed_from}
 use Rattle.recovery_units.proofs.FormLemmas.{forms, line_if, lines_first}
 use Rattle.rms_units.specs.Keys.{change_in, key_in, position_by}
 use Rattle.node_units.proofs.AskedCut.{keys_alike}

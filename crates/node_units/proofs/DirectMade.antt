@@ -154,6 +154,7 @@ module _ (n : Node) (f : ℕ) (name : List ℕ) (file : File) (c : Change) (more
     positions = k.positions ∙ sym (positions_trimmed u.serial n.durable.units open_still);
     files = λ g. changed_still u.serial g ∙ k.files g;
     transaction = all_trimmed (λ (e : JournalEntry). same_id u.serial (serial_in e) ≡ true → u.tid ≡ tid_in e) n.durable.units k.transaction;
+    active = k.active;
   }
 
   pub units_made : (us : List OpenUnit) → n.volatile.branches ≡ map branch_of us → AllByRecursion (IsUnitOf n) us → AllByRecursion (IsUnitOf own_node) us

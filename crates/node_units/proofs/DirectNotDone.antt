@@ -33,7 +33,8 @@ use Rattle.run_model.specs.Operations.{changes_of, keys_asked}
 use Rattle.script_model.specs.Statements.{Truncate}
 use Rattle.volume_files.specs.Staging.{CutsFile}
 use Rattle.rms_units.specs.Changing.{locks_refuse}
-use Rattle.rms_units.specs.Truncating.{CommitsCut, DirectCutBroke, cut_asked, direct_cut_refused, number_refused, removed_from}
+use Rattle.rms_units.specs.Truncating.{DirectCutBroke, cut_asked, direct_cut_refused, number_refused}
+use Rattle.unit_cuts.specs.Truncating.{CommitsCut, removed_from}
 use Rattle.node_units.proofs.AskedCut.{keys_alike}
 use Rattle.node_units.proofs.CutAlike.{cut_some}
 use Rattle.node_units.proofs.Looking.{first_some}

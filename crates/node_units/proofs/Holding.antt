@@ -69,5 +69,5 @@ kept_holds s v n f h serial ks kept once there among room =
         drawn = kept.holds.drawn;
         different = kept.holds.different;
       };
-      each = all_as (IsUnitOf n) (IsUnitOf m) s.begun (λ u k. record { positions = k.positions; files = k.files; transaction = k.transaction }) kept.each;
+      each = all_as (IsUnitOf n) (IsUnitOf m) s.begun (λ u k. record { positions = k.positions; files = k.files; transaction = k.transaction; active = k.active }) kept.each;
     }

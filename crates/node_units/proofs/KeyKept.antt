@@ -158,6 +158,7 @@ module _ (s : state.UnitsState) (v : VolumeState) (order : IsInOrder s v) (at : 
               ∙ is.files g ∙ sym (get_or-set_other u.files f g true false apart)
         ];
         transaction = all_append (λ (e : JournalEntry). same_id u.serial (serial_in e) ≡ true → u.tid ≡ tid_in e) es (E ∷ []) is.transaction ((λ same. refl), tt);
+        active = is.active;
       }
 
   other_after : (x : OpenUnit) → IsUnitOf n x → same_id x.serial u.serial ≡ false → IsUnitOf m x
@@ -167,6 +168,7 @@ module _ (s : state.UnitsState) (v : VolumeState) (order : IsInOrder s v) (at : 
         ap (λ ds. changed_at x.serial (file_at ds g)) directory_is
         ∙ changed_set n.durable.directory f new_file x.serial wide (still_changed x.serial u.serial (set_change key before after) file.history other ∙ ap (changed_at x.serial) (sym file_before)) g ∙ is.files g;
     transaction = all_append (λ (e : JournalEntry). same_id x.serial (serial_in e) ≡ true → x.tid ≡ tid_in e) es (E ∷ []) is.transaction ((λ same. absurd (both_ways _ other same)), tt);
+    active = is.active;
   }
 
   each_after : AllByRecursion (IsUnitOf m) (seen t).begun

@@ -82,7 +82,8 @@ use Rattle.rms_units.specs.Making.{EntersKey, need_of}
 use Rattle.rms_units.specs.State as state
 use Rattle.rms_units.specs.State.{IsEarly, IsInOrder}
 use Rattle.rms_units.proofs.OrderLemmas.{sound_longer}
-use Rattle.rms_units.proofs.RoomLemmas.{room_for, spelled_size}
+use Rattle.rms_units.proofs.RoomLemmas.{room_for}
+use Rattle.unit_cuts.proofs.EntrySizes.{spelled_size}
 use Rattle.node_units.specs.Seen.{seen}
 use Rattle.node_units.proofs.AskedKey.{AsksKey}
 use Rattle.node_units.proofs.BranchChanges.{MayMake, frees, held_live, held_locked, holds_after, may_change, order_after, units_after}

@@ -19,10 +19,10 @@ one_unit u w e = cc
 
 -- What units are owed.
 
-owed_step : (us : List (Option OpenUnit)) (i : ℕ) (u : OpenUnit) → unit_at us i ≡ Some u → table.owed us ≡ owed_for u.positions + table.owed (slice_set us i None)
+owed_step : (us : List (Option OpenUnit)) (i : ℕ) (u : OpenUnit) → unit_at us i ≡ Some u → table.owed us ≡ owed_for u.prepared u.positions + table.owed (slice_set us i None)
 owed_step [] i u there = let never : ⊥ = cc in absurd never
 owed_step (None ∷ us) zero u there = let never : ⊥ = cc in absurd never
-owed_step (Some w ∷ us) zero u there = ap (λ (x : OpenUnit). owed_for x.positions + table.owed us) (one_unit w u there)
+owed_step (Some w ∷ us) zero u there = ap (λ (x : OpenUnit). owed_for x.prepared x.positions + table.owed us) (one_unit w u there)
 owed_step (None ∷ us) (suc i) u there = owed_step us i u there
 owed_step (Some w ∷ us) (suc i) u there = let rest = owed_step us i u there in omega (arith, rest)
 
@@ -57,7 +57,7 @@ owed_order (q ∷ qs) us each = go (unit_at us q) refl (owed_order qs (slice_set
           | inl same ↦ ap (λ k. occurrences k qs) same ∙ none ∙ ap count_at (sym (get_or-set_same us q None None below)) ∙ ap (λ k. count_at (unit_at (slice_set us q None) k)) (sym same)
           | inr apart ↦ sym (more_there p q qs (λ e. apart (sym e))) ∙ each p ∙ ap count_at (sym (get_or-set_other us q p None None apart))
         ] in
-        owed_step us q u there ∙ ap (λ k. owed_for u.positions + k) (rest later ∙ ap calls.owed (units_other us q None qs none))
+        owed_step us q u there ∙ ap (λ k. owed_for u.prepared u.positions + k) (rest later ∙ ap calls.owed (units_other us q None qs none))
 
 pub owed_seen : (s : rms.UnitsState) → AreInOrder s.units.places s.units.order → table.owed s.units.places ≡ calls.owed (seen s).begun
 owed_seen s order = owed_order s.units.order s.units.places order.each

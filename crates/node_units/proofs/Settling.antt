@@ -142,6 +142,7 @@ module _ (s : UnitsState) (v : VolumeState) (n : Node) (b : Branch) (c : Settlem
         positions = is.positions ∙ sym (positions_settled u.serial c.tid c.serial c.outcome c.moment n.durable.units k.1 other);
         files = λ f. changed_still u.serial other f ∙ is.files f;
         transaction = all_settled (λ (e : JournalEntry). same_id u.serial (serial_in e) ≡ true → u.tid ≡ tid_in e) c.tid c.serial c.outcome c.moment n.durable.units is.transaction (λ same. absurd (both_ways _ other same));
+        active = is.active;
       }
 
   each_still : AllByRecursion (IsUnitOf m) us

@@ -23,7 +23,8 @@ use Rattle.record_operations.specs.declared.ops.RecordOp.{RecordOp}
 use Rattle.record_operations.specs.declared.ops.RecordOp.TheVariants as op
 use Rattle.volume.specs.State.{VolumeState}
 use Rattle.rms_units.specs.Calls.{ChangesOk}
-use Rattle.rms_units.specs.Truncating.{begins_at, with_positions}
+use Rattle.rms_units.specs.Truncating.{with_positions}
+use Rattle.unit_cuts.specs.Truncating.{begins_at}
 use Rattle.rms_units.specs.State as rms
 use Rattle.rms_units.specs.State.{unit_of}
 use Rattle.node_units.specs.declared.begun.BegunUnit.{BegunUnit}

@@ -84,7 +84,7 @@ module _ (s : state.UnitsState) (v : VolumeState) (order : IsInOrder s v) (at : 
   pub owed_is : journal.owed (units_in es) ≡ table.owed s.units.places
   owed_is =
       owed_alike (units_in es) begun (distinct_onto [] es tt) (all_active es kept.has.active) differ (λ x k. subst (In x) serials_then (kept.holds.running.known x k))
-      (all_seen (λ (u : OpenUnit). is_some (find_unit u.serial (units_in es)) ≡ are_there u.positions) s.units.places s.units.order (λ p u there. is_there p u there))
+      (all_seen (λ (u : OpenUnit). (is_some (find_unit u.serial (units_in es)) ≡ are_there u.positions) × (u.prepared ≡ false)) s.units.places s.units.order (λ p u there. (is_there p u there, (unit_is p u there).active)))
       ∙ sym (owed_seen s at)
 
   pub free_is : free_journal n ≡ free_bytes v.catalog.ru s.units.places

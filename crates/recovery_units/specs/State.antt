@@ -57,7 +57,7 @@ without_begun serial s = record { begun = without_unit serial s.begun; locks = r
 -- what units are owed of the journal
 abbrev pub owed : List OpenUnit → ℕ
 owed [] = 0
-owed (u ∷ us) = owed_for u.positions + owed us
+owed (u ∷ us) = owed_for u.prepared u.positions + owed us
 
 -- What holds on any disk: the next group may be applied, nothing is staged, frames are free, what is kept of the volume is in order, and the journal has room
 -- for what units are owed. The changes of each unit begin in the journal, one behind the other.
@@ -122,11 +122,13 @@ abbrev pub changed_at : Id → Option File → Bool
 changed_at serial (Some file) = changed_it file.history serial
 changed_at serial None = false
 
--- A unit of a node: it knows where its changes begin in the journal, and which files it changed, and its entries are of its transaction.
+-- A unit of a node: it knows where its changes begin in the journal, and which files it changed, and its entries are of its transaction;
+-- and it is not prepared.
 pub record IsUnitOf (n : Node) (u : OpenUnit) : Type 0 where
   pub positions : u.positions ≡ positions_of u.serial n.durable.units.first n.durable.units.entries
   pub files : (f : ℕ) → changed_at u.serial (file_at n.durable.directory f) ≡ has_changed u f
   pub transaction : AllByRecursion (λ (e : JournalEntry). same_id u.serial (serial_in e) ≡ true → u.tid ≡ tid_in e) n.durable.units.entries
+  pub active : u.prepared ≡ false
 
 -- An entry can be shown: its file is there, and its key is of the form that the file's organization has; its moment is not past the greatest of the volume.
 abbrev pub IsKeyBy : Organization → Key → Type 0

@@ -27,7 +27,7 @@ use Rattle.rms_units.specs.Aborting.{AbortsNot, AbortsUnit, abortion_of}
 use Rattle.rms_units.specs.State.{AreAscending, AreWithin, IsEarly, IsInOrder, UnitsState, nothing_begun, unit_of, without_place}
 use Rattle.rms_units.proofs.OrderLemmas.{ring_of}
 use Rattle.rms_units.proofs.PositionLemmas.{ascending_gone, owed_gone}
-use Rattle.rms_units.proofs.RoomLemmas.{room_to_settle}
+use Rattle.rms_units.proofs.RoomLemmas.{owed_least, room_to_settle}
 use Rattle.rms_units.proofs.SettledLemmas.{bytes_of, next_bound, next_later, order_settled, with_end}
 
 -- What an abort asks for.
@@ -52,9 +52,9 @@ module _ (place : ℕ) (u : OpenUnit) (s : UnitsState) (v : VolumeState) (at : u
   room_to_abort changed = room_to_settle s.units.places place u (v.catalog.ru.end - v.catalog.ru.first) (ring_size v.catalog.ru) at (λ none. absurd (false≢true (ap has_changes (sym none) ∙ changed))) o.room
 
 -- The entry of its settlement takes no more than the unit was owed.
-entry_owed : (ps : List ℕ) (e : Entry) → bytes_of (entry_if (has_changes ps) e) ≤ 48 → bytes_of (entry_if (has_changes ps) e) ≤ owed_for ps
-entry_owed [] e few = omega arith
-entry_owed (p ∷ ps) e few = omega (arith, few)
+pub entry_owed : (prepared : Bool) (ps : List ℕ) (e : Entry) → bytes_of (entry_if (has_changes ps) e) ≤ 48 → bytes_of (entry_if (has_changes ps) e) ≤ owed_for prepared ps
+entry_owed prepared [] e few = omega arith
+entry_owed prepared (p ∷ ps) e few = let least = owed_least prepared p ps in omega (arith, few, least)
 
 module _ (place : ℕ) (u : OpenUnit) (tid : Tid) (serial : Serial) (reason : Reason) (clock moment : ℕ) (s t : UnitsState) (v w : VolumeState) (at : unit_of place s ≡ Some u) (is : moment ≡ next_moment clock v.catalog.home) (spent : t ≡ without_place place u.serial s) where
   gone : t.units.places ≡ slice_set s.units.places place None
@@ -73,7 +73,7 @@ module _ (place : ℕ) (u : OpenUnit) (tid : Tid) (serial : Serial) (reason : Re
       let same : mid.catalog.ru.end ≡ v.catalog.ru.end = ap (λ (c : Catalog). c.ru.end) aborts.goes.catalog in
       let ends : w.catalog.ru.end ≡ mid.catalog.ru.end + bytes_of entry = ap (λ (c : Catalog). c.ru.end) aborts.makes.catalog ∙ with_end entry mid.catalog.ru in
       let few : bytes_of entry ≤ 48 = let a = once.end in omega (arith, a, ends, same) in
-      let owes = entry_owed u.positions (settled_entry (tid_of tid) (serial_of serial) Abort moment) few in
+      let owes = entry_owed u.prepared u.positions (settled_entry (tid_of tid) (serial_of serial) Abort moment) few in
       let less : owed t.units.places + bytes_of entry ≤ owed s.units.places = let a = owed_gone s.units.places place u at in let b = ap owed gone in omega (arith, a, b, owes) in
       order_settled tid serial (ending.Abort reason) moment entry s t v mid w o home ru (aborts.goes.long ∙ o.heads) (aborts.goes.sound v.catalog.home.node o.sound) later bound each less aborts.makes idle holds size pool
 

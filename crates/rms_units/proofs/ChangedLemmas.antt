@@ -23,9 +23,9 @@ use Rattle.rms_units.specs.declared.asked.KeyChange.{KeyChange}
 use Rattle.rms_units.specs.Calls.{ChangesKey, CommitsChange, KeyBroke, MakesEntry, MakesKey, change_late, direct_late}
 use Rattle.rms_units.specs.Changing.{after_change, before_change, keys_asked, locks_refuse}
 use Rattle.rms_units.specs.Making.{CommitsKey}
-use Rattle.rms_units.specs.Reading.{OfRecords}
+use Rattle.unit_cuts.specs.Records.{OfRecords}
 use Rattle.rms_units.specs.State.{UnitsState}
-use Rattle.rms_units.proofs.Outcomes.{breaks_so}
+use Rattle.unit_cuts.proofs.Outcomes.{breaks_so}
 use Rattle.rms_units.proofs.Refusing.{either_way, refused_so}
 
 -- What a call leaves that was refused, or in which the disk went down before anything was written.

@@ -17,7 +17,7 @@ use Rattle.vms_model.specs.Ids.{Id}
 use Rattle.vms_model.specs.Keys.{Key, Number, End}
 use Rattle.rms_units.specs.Changing.{held_against, keys_refused, locks_refuse}
 use Rattle.rms_units.proofs.RoomLemmas.{not_refused}
-use Rattle.rms_units.specs.Truncating.{keys_down}
+use Rattle.unit_cuts.specs.Truncating.{keys_down}
 
 -- Refusals.
 

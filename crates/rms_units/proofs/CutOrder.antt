@@ -1,5 +1,5 @@
 -- What holds of units and a volume on any disk, where records of a file went.
-use Rattle.std.proofs.Common.{◌≡◌, ℕ, ◌+◌, ◌-◌, ◌<◌, ◌≤◌, List, [], ◌∷◌, ◌++◌, Option, Some, length, slice_set, sym, ap, subst, ◌∙◌, arith, append_assoc, length-set}
+use Rattle.std.proofs.Common.{◌≡◌, ℕ, ◌+◌, ◌-◌, ◌<◌, ◌≤◌, Bool, true, false, List, [], ◌∷◌, ◌++◌, Option, Some, length, slice_set, refl, sym, ap, subst, ◌∙◌, arith, append_assoc, length-set}
 use Rattle.std.specs.List.{AllByRecursion, flat_map}
 use Rattle.std.proofs.lemmas.List.{append-nil}
 use Rattle.careful_write.specs.State.{IsIdle}
@@ -15,8 +15,9 @@ use Rattle.volume.specs.declared.catalog.Catalog.{Catalog}
 use Rattle.volume.specs.Catalogs.{IsSound}
 use Rattle.volume.specs.State.{VolumeState, Holds}
 use Rattle.rms_units.specs.State.{AreAscending, Ascend, IsInOrder, UnitsState}
-use Rattle.rms_units.specs.Truncating.{EntersCut, begins_at, span_behind, with_positions}
-use Rattle.rms_units.proofs.CutEntering.{long_front}
+use Rattle.rms_units.specs.Truncating.{with_positions}
+use Rattle.unit_cuts.specs.Truncating.{EntersCut, begins_at, span_behind}
+use Rattle.unit_cuts.proofs.CutEntering.{long_front}
 use Rattle.rms_units.proofs.OrderLemmas.{owed_set, sound_longer}
 use Rattle.rms_units.proofs.PositionLemmas.{ascend_longer, ascending_within, each_put}
 
@@ -24,18 +25,23 @@ pub positions_of : (ps : List ℕ) (file : ℕ) (u : OpenUnit) → (with_positio
 positions_of [] file u = sym (append-nil u.positions)
 positions_of (p ∷ ps) file u = positions_of ps file (with_position p file u) ∙ append_assoc u.positions (p ∷ []) ps
 
+pub prepared_still : (ps : List ℕ) (file : ℕ) (u : OpenUnit) → (with_positions ps file u).prepared ≡ u.prepared
+prepared_still [] file u = refl
+prepared_still (p ∷ ps) file u = prepared_still ps file (with_position p file u)
+
 -- What units are owed.
 
-owed_at_most : (qs ps : List ℕ) → owed_for (qs ++ ps) ≤ owed_for qs + owed_first qs
-owed_at_most [] [] = omega arith
-owed_at_most [] (p ∷ ps) = omega arith
-owed_at_most (q ∷ qs) ps = omega arith
+owed_at_most : (prepared : Bool) (qs ps : List ℕ) → owed_for prepared (qs ++ ps) ≤ owed_for prepared qs + owed_first qs
+owed_at_most prepared [] [] = omega arith
+owed_at_most true [] (p ∷ ps) = omega arith
+owed_at_most false [] (p ∷ ps) = omega arith
+owed_at_most prepared (q ∷ qs) ps = omega arith
 
 owed_cut : (us : List (Option OpenUnit)) (i file : ℕ) (ps : List ℕ) (u : OpenUnit) → unit_at us i ≡ Some u → owed (slice_set us i (Some (with_positions ps file u))) ≤ owed us + owed_first u.positions
 owed_cut us i file ps u is =
     let set = owed_set us i u (with_positions ps file u) is in
-    let same = ap owed_for (positions_of ps file u) in
-    let most = owed_at_most u.positions ps in
+    let same : owed_for (with_positions ps file u).prepared (with_positions ps file u).positions ≡ owed_for u.prepared (u.positions ++ ps) = λ i. owed_for (prepared_still ps file u i) (positions_of ps file u i) in
+    let most = owed_at_most u.prepared u.positions ps in
     omega (arith, set, same, most)
 
 -- Where changes begin.

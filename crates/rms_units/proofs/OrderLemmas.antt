@@ -44,19 +44,20 @@ ring_behind s v o = let a = o.sound.ru_start in omega (arith, a)
 
 -- What units are owed.
 
-owed_more : (ps : List ℕ) (p : ℕ) → owed_for (ps ++ p ∷ []) ≡ owed_for ps + owed_first ps
-owed_more [] p = refl
-owed_more (q ∷ ps) p = refl
+owed_more : (prepared : Bool) (ps : List ℕ) (p : ℕ) → owed_for prepared (ps ++ p ∷ []) ≤ owed_for prepared ps + owed_first ps
+owed_more true [] p = omega arith
+owed_more false [] p = omega arith
+owed_more prepared (q ∷ ps) p = omega arith
 
-pub owed_set : (us : List (Option OpenUnit)) (i : ℕ) (u v : OpenUnit) → unit_at us i ≡ Some u → owed (slice_set us i (Some v)) + owed_for u.positions ≡ owed us + owed_for v.positions
+pub owed_set : (us : List (Option OpenUnit)) (i : ℕ) (u v : OpenUnit) → unit_at us i ≡ Some u → owed (slice_set us i (Some v)) + owed_for u.prepared u.positions ≡ owed us + owed_for v.prepared v.positions
 owed_set [] i u v is = let no : ⊥ = cc in absurd no
 owed_set (None ∷ us) zero u v is = let no : ⊥ = cc in absurd no
-owed_set (Some x ∷ us) zero u v is = let same : x ≡ u = cc in let e = ap (λ (y : OpenUnit). owed_for y.positions) same in omega (arith, e)
+owed_set (Some x ∷ us) zero u v is = let same : x ≡ u = cc in let e = ap (λ (y : OpenUnit). owed_for y.prepared y.positions) same in omega (arith, e)
 owed_set (None ∷ us) (suc i) u v is = owed_set us i u v is
 owed_set (Some x ∷ us) (suc i) u v is = let more = owed_set us i u v is in omega (arith, more)
 
-pub owed_noted : (us : List (Option OpenUnit)) (i position file : ℕ) (u : OpenUnit) → unit_at us i ≡ Some u → owed (slice_set us i (Some (with_position position file u))) ≡ owed us + owed_first u.positions
-owed_noted us i position file u is = let set = owed_set us i u (with_position position file u) is in let more = owed_more u.positions position in omega (arith, set, more)
+pub owed_noted : (us : List (Option OpenUnit)) (i position file : ℕ) (u : OpenUnit) → unit_at us i ≡ Some u → owed (slice_set us i (Some (with_position position file u))) ≤ owed us + owed_first u.positions
+owed_noted us i position file u is = let set = owed_set us i u (with_position position file u) is in let more = owed_more u.prepared u.positions position in omega (arith, set, more)
 
 -- All of it.
 

@@ -118,10 +118,10 @@ module _ (first end : ℕ) (us : List (Option OpenUnit)) (order : first ≤ end)
 
 -- What units are owed without one.
 
-pub owed_gone : (us : List (Option OpenUnit)) (i : ℕ) (u : OpenUnit) → unit_at us i ≡ Some u → owed (slice_set us i None) + owed_for u.positions ≡ owed us
+pub owed_gone : (us : List (Option OpenUnit)) (i : ℕ) (u : OpenUnit) → unit_at us i ≡ Some u → owed (slice_set us i None) + owed_for u.prepared u.positions ≡ owed us
 owed_gone [] i u is = let no : ⊥ = cc in absurd no
 owed_gone (None ∷ us) zero u is = let no : ⊥ = cc in absurd no
-owed_gone (Some x ∷ us) zero u is = let same : x ≡ u = cc in let e = ap (λ (y : OpenUnit). owed_for y.positions) same in omega (arith, e)
+owed_gone (Some x ∷ us) zero u is = let same : x ≡ u = cc in let e = ap (λ (y : OpenUnit). owed_for y.prepared y.positions) same in omega (arith, e)
 owed_gone (None ∷ us) (suc i) u is = owed_gone us i u is
 owed_gone (Some x ∷ us) (suc i) u is = let more = owed_gone us i u is in omega (arith, more)
 

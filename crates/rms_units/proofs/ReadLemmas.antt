@@ -12,7 +12,8 @@ use Rattle.vms_model.specs.Keys.{Key}
 use Rattle.volume.specs.State.{VolumeState}
 use Rattle.rms_units.specs.Calls.{ReadRefused, read_early}
 use Rattle.rms_units.specs.Changing.{keys_refused}
-use Rattle.rms_units.specs.Reading.{Finds, OfRecords}
+use Rattle.rms_units.specs.Reading.{Finds}
+use Rattle.unit_cuts.specs.Records.{OfRecords}
 use Rattle.rms_units.specs.State.{UnitsState}
 use Rattle.rms_units.proofs.Refusing.{refused_by, second_is}
 

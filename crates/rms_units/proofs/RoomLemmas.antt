@@ -19,15 +19,16 @@ pub not_refused : (b : Bool) (cause : Cause) → cause_if b cause ≡ None → b
 not_refused true cause is = let no : ⊥ = cc in absurd no
 not_refused false cause is = refl
 
--- the bytes of a change's entry
-pub spelled_size : (tid serial : Id) (file : ℕ) (key : Key) (before : Option (List ℕ)) → IsEntry (change_entry tid serial file key before) → length (spelling (change_entry tid serial file key before)) ≡ entry_size key before
-spelled_size tid serial file key before is = total_is (change_entry tid serial file key before) is
-
 -- there is room for what is not refused
 pub room_for : (ru : Span) (places : List (Option OpenUnit)) (u : OpenUnit) (size : ℕ) → ru.end - ru.first + owed places ≤ ring_size ru → journal_refused ru places u size ≡ None → ru.end - ru.first + size + owed_first u.positions + owed places ≤ ring_size ru
 room_for ru places u size room is =
     let le : bytes_wanted u size ≤ free_bytes ru places = ltb-false (free_bytes ru places) (bytes_wanted u size) (not_refused _ _ is) in
     omega (arith, room, le)
+
+-- a unit that changed something is owed one entry at least
+pub owed_least : (prepared : Bool) (p : ℕ) (ps : List ℕ) → 48 ≤ owed_for prepared (p ∷ ps)
+owed_least true p ps = omega arith
+owed_least false p ps = omega arith
 
 -- and for the settlement of a unit that changed something
 pub room_to_settle : (us : List (Option OpenUnit)) (i : ℕ) (u : OpenUnit) (used ring : ℕ) → unit_at us i ≡ Some u → u.positions ≢ [] → used + owed us ≤ ring → used + 48 ≤ ring
@@ -35,4 +36,4 @@ room_to_settle us i u used ring is changed room = some u.positions refl
   where
     some : (ps : List ℕ) → u.positions ≡ ps → used + 48 ≤ ring
     some [] none = absurd (changed none)
-    some (p ∷ ps) at = let gone = owed_gone us i u is in let more : owed_for u.positions ≡ 96 = ap owed_for at in omega (arith, gone, more, room)
+    some (p ∷ ps) at = let gone = owed_gone us i u is in let least = owed_least u.prepared p ps in let more = ap (owed_for u.prepared) at in omega (arith, gone, least, more, room)

@@ -28,7 +28,7 @@ use Rattle.volume_files.proofs.Places.{within_list}
 use Rattle.rms_units.specs.Calls.{Commits, is_some_change}
 use Rattle.rms_units.specs.State.{AreAscending, IsEarly, IsInOrder, UnitsState, unit_of, without_place}
 use Rattle.rms_units.proofs.PositionLemmas.{ascending_from, ascending_gone, ascending_longer, ascending_within, from_bounds, owed_gone}
-use Rattle.rms_units.proofs.RoomLemmas.{room_to_settle}
+use Rattle.rms_units.proofs.RoomLemmas.{owed_least, room_to_settle}
 
 -- A later moment.
 
@@ -71,7 +71,7 @@ pub with_end : (e : Option Entry) (s : Span) → (span_with e s).end ≡ s.end +
 with_end None s = omega arith
 with_end (Some e) s = refl
 
-with_first : (e : Option Entry) (s : Span) → (span_with e s).first ≡ s.first
+pub with_first : (e : Option Entry) (s : Span) → (span_with e s).first ≡ s.first
 with_first None s = refl
 with_first (Some e) s = refl
 
@@ -79,9 +79,21 @@ with_start : (e : Option Entry) (s : Span) → (span_with e s).start ≡ s.start
 with_start None s = refl
 with_start (Some e) s = refl
 
-with_blocks : (e : Option Entry) (s : Span) → (span_with e s).blocks ≡ s.blocks
+pub with_blocks : (e : Option Entry) (s : Span) → (span_with e s).blocks ≡ s.blocks
 with_blocks None s = refl
 with_blocks (Some e) s = refl
+
+pub sound_with : (node : List ℕ) (size : ℕ) (e : Option Entry) (c : Catalog) → IsSound node size c → IsSound node size (record c { ru = span_with e c.ru })
+sound_with node size e c s = record {
+  version = s.version;
+  sizes = s.sizes;
+  home = s.home;
+  files = s.files;
+  names = s.names;
+  extents = s.extents;
+  ru_start = with_start e c.ru ∙ s.ru_start;
+  ru_blocks = with_blocks e c.ru ∙ s.ru_blocks;
+}
 
 -- A branch is settled on a volume whose files may have other heads by then. What is left of the units begins where it did, and has as much room for the entry as it
 -- is owed less.
@@ -174,22 +186,22 @@ grows_next clock moment v w is g = record {
 
 -- The entry of a settlement, where there was a change.
 
-abbrev has : List ℕ → Bool
+abbrev pub has : List ℕ → Bool
 has ps = not (length ps == 0)
 
-has_some : (ps : List ℕ) → has ps ≡ is_some_change ps
+pub has_some : (ps : List ℕ) → has ps ≡ is_some_change ps
 has_some [] = refl
 has_some (p ∷ ps) = let some : (length (p ∷ ps) == 0) ≡ false = grind (arith, nat_tests) in ap not some
 
-has_change : (ps : List ℕ) → has ps ≡ true → ps ≢ []
+pub has_change : (ps : List ℕ) → has ps ≡ true → ps ≢ []
 has_change ps changed none = absurd (false≢true (ap has (sym none) ∙ changed))
 
-owed_some : (ps : List ℕ) → (if is_some_change ps then 48 else 0) ≤ owed_for ps
-owed_some [] = omega arith
-owed_some (p ∷ ps) = omega arith
+pub owed_some : (prepared : Bool) (ps : List ℕ) → (if is_some_change ps then 48 else 0) ≤ owed_for prepared ps
+owed_some prepared [] = omega arith
+owed_some prepared (p ∷ ps) = owed_least prepared p ps
 
-owed_if : (ps : List ℕ) → (if has ps then 48 else 0) ≤ owed_for ps
-owed_if ps = subst (λ (b : Bool). (if b then 48 else 0) ≤ owed_for ps) (sym (has_some ps)) (owed_some ps)
+owed_if : (prepared : Bool) (ps : List ℕ) → (if has ps then 48 else 0) ≤ owed_for prepared ps
+owed_if prepared ps = subst (λ (b : Bool). (if b then 48 else 0) ≤ owed_for prepared ps) (sym (has_some ps)) (owed_some prepared ps)
 
 -- A unit is committed.
 module _ (place : ℕ) (u : OpenUnit) (told_tid : Tid) (told_serial : Serial) (clock moment : ℕ) (ps : List ℕ) (changed : Bool) (s t : UnitsState) (v w : VolumeState) (at : unit_of place s ≡ Some u) (positions : ps ≡ u.positions)
@@ -223,6 +235,6 @@ module _ (place : ℕ) (u : OpenUnit) (told_tid : Tid) (told_serial : Serial) (c
       let each : AreAscending v.catalog.ru.first v.catalog.ru.end t.units.places =
       subst (AreAscending v.catalog.ru.first v.catalog.ru.end) (sym gone) (ascending_gone v.catalog.ru.first v.catalog.ru.end s.units.places place (within_list s.units.places place u at) o.ascending) in
       let longer : v.catalog.ru.end + bytes_of entry ≡ v.catalog.ru.end + (if changed then 48 else 0) = sym (ap (λ (c : Catalog). c.ru.end) makes.catalog ∙ with_end entry v.catalog.ru) ∙ end in
-      let owes : (if changed then 48 else 0) ≤ owed_for u.positions = subst (λ (b : Bool). (if b then 48 else 0) ≤ owed_for u.positions) (sym whether) (subst (λ (qs : List ℕ). (if has ps then 48 else 0) ≤ owed_for qs) positions (owed_if ps)) in
+      let owes : (if changed then 48 else 0) ≤ owed_for u.prepared u.positions = subst (λ (b : Bool). (if b then 48 else 0) ≤ owed_for u.prepared u.positions) (sym whether) (subst (λ (qs : List ℕ). (if has ps then 48 else 0) ≤ owed_for u.prepared qs) positions (owed_if u.prepared ps)) in
       let less : owed t.units.places + bytes_of entry ≤ owed s.units.places = let a = owed_gone s.units.places place u at in let b = ap owed gone in omega (arith, a, b, longer, owes) in
       order_settled told_tid told_serial ending.Commit moment entry s t v v w o refl refl o.heads o.sound later bound each less makes idle holds size pool

@@ -33,7 +33,8 @@ use Rattle.unit_journal.specs.Groups.{Breaks}
 use Rattle.unit_journal.specs.Leaving.{FellIn}
 use Rattle.unit_journal.specs.Room.{entry_size, journal_refused}
 use Rattle.unit_journal.specs.Settling.{MakesSettlement, entry_if, next_moment}
-use Rattle.rms_units.specs.Reading.{Finds, FindsNone, OfRecords, read_keys}
+use Rattle.rms_units.specs.Reading.{Finds, FindsNone, read_keys}
+use Rattle.unit_cuts.specs.Records.{OfRecords}
 use Rattle.rms_units.specs.State.{UnitsState, unit_of, without_place}
 use Rattle.rms_units.specs.Truncating.{ChangesCut, CutBroke, CutRefused, DirectCutBroke, DirectsCut, direct_cut_refused}
 

@@ -6,3 +6,4 @@ pub mod State
 pub mod Reading
 pub mod Calls
 pub mod Truncating
+pub mod Voting

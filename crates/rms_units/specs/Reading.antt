@@ -14,10 +14,6 @@ use Rattle.record_operations.specs.declared.ops.ReadOp.TheVariants.{Get, Next}
 use Rattle.record_operations.specs.Causes.{Cause, RecordNotFound, EndOfFile, first_cause}
 use Rattle.rms_units.specs.Changing.{held_against}
 
--- this holds of the records of a file, where the disk tells them and they are laid out as the file's
-abbrev pub OfRecords : FileHead → VolumeState → (Map → Type 0) → Type 0
-OfRecords h v P = (a : List (List ℕ)) → v.store.current ≡ Some a → IsFile h → IsLaidOut h a → P (map_of h a)
-
 -- a walk to a key of a file may begin at a place
 abbrev pub MayBegin : FileHead → VolumeState → Key → Place → Type 0
 MayBegin h v key place = IfSome v.store.current (λ a. IsFile h → IsLaidOut h a → Begins h a (Some key) place)

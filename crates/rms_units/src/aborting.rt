@@ -28,7 +28,7 @@ use volume::Volume;
 /// Room for what an abort reads of the journal: which keys a unit changed and, at a restart, which units there are and where their entries begin.
 #[derive(Drop)]
 pub(crate) struct AbortRoom {
-    keys: ChangedKeys,
+    pub keys: ChangedKeys,
     state: RuState,
     positions: Vec<u64>,
 }

@@ -16,13 +16,15 @@ ghost use Rattle.rms_units.specs.Changing.{IsFormed, before_change, exists_by, f
 ghost use Rattle.unit_journal.specs.Entries.{key_bytes};
 ghost use Rattle.record_operations.specs.Forms.{form_refused, place_refused};
 ghost use Rattle.rms_units.specs.Making.{need_of};
-ghost use Rattle.rms_units.specs.Reading.{MayBegin, OfRecords};
+ghost use Rattle.rms_units.specs.Reading.{MayBegin};
+ghost use Rattle.unit_cuts.specs.Records.{OfRecords};
 
 use crate::asked::{Asked, KeyChange};
 use block_disk::Disk;
 use change_set::Place;
 use file_base::{FileHead, Organization};
 use record_operations::{RecErr, RecordOp};
+use unit_cuts::record_if;
 use vms_base::{Key, KeyText, Record};
 use volume::Volume;
 use volume_files::{find_record, need_buckets};
@@ -143,13 +145,6 @@ fn found_refusal(asked: &Asked, found: Option<&Record>, new: &[u8]) -> Option<Re
         (KeyChange::Replace, Some(old)) => other_refusal(asked, old.bytes(), new),
         (KeyChange::Remove, Some(_)) => None,
     }
-}
-
-// A record, where there is one.
-pub(crate) fn record_if(there: bool, found: &Record) -> Option<&Record>
-    ensures { option_copied result ≡ (if there then Some found.now else None) }
-{
-    if there { Some(found) } else { None }
 }
 
 /// Reads what the key of a change has, which is then in `found`, and refuses the change where that does not allow it. A walk to the key may begin at the place

@@ -17,7 +17,8 @@ ghost use Rattle.rms_units.specs.Changing.{IsFormed, after_change, before_change
 ghost use Rattle.unit_journal.specs.Groups.{Breaks, Grows};
 ghost use Rattle.unit_journal.specs.Leaving.{FellIn};
 ghost use Rattle.unit_journal.specs.Room.{entry_size as entry_said, journal_refused};
-ghost use Rattle.rms_units.specs.Reading.{MayBegin, OfRecords};
+ghost use Rattle.rms_units.specs.Reading.{MayBegin};
+ghost use Rattle.unit_cuts.specs.Records.{OfRecords};
 ghost use Rattle.rms_units.specs.State.{IsEarly, IsInOrder, UnitsState};
 
 use crate::asked::Asked;

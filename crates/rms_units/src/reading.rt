@@ -10,7 +10,8 @@ ghost use Rattle.record_operations.specs.Asking.{read_file_in};
 ghost use Rattle.unit_journal.specs.Leaving.{FellIn};
 ghost use Rattle.record_operations.specs.Causes.{IfRefused, first_cause};
 ghost use Rattle.rms_units.specs.Changing.{held_against, locks_refuse};
-ghost use Rattle.rms_units.specs.Reading.{Finds, FindsNone, NextIsNot, OfRecords, missing, read_keys};
+ghost use Rattle.rms_units.specs.Reading.{Finds, FindsNone, NextIsNot, missing, read_keys};
+ghost use Rattle.unit_cuts.specs.Records.{OfRecords};
 
 use crate::locking::lock_refusal;
 use block_disk::Disk;

@@ -27,6 +27,31 @@ impl Model for ActiveUnit {
     ghost invariant = { λ u. u.place < 64 };
 }
 
+/// A unit that is prepared: it waits for its outcome. It is to be spent, or all units to be forgotten.
+#[derive(Drop)]
+pub struct PreparedUnit {
+    pub(crate) place: u8,
+}
+
+impl Model for PreparedUnit {
+    ghost use Rattle.std.specs.Prelude.{ℕ, ◌<◌};
+
+    ghost Value = { ℕ };
+
+    ghost view = { λ u. u.place };
+
+    ghost invariant = { λ u. u.place < 64 };
+}
+
+/// What a unit votes.
+#[derive(Drop)]
+pub enum Vote {
+    /// It changed nothing, and no manager is to be told its outcome: it is no more.
+    ReadOnly,
+    /// It is prepared.
+    Yes(PreparedUnit),
+}
+
 /// How a unit was settled. It has to be spent.
 pub struct SettledUnit {
     pub(crate) tid: Tid,

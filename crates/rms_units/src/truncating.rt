@@ -17,54 +17,23 @@ ghost use Rattle.vms_base.specs.Ids.{serial_of, tid_of};
 ghost use Rattle.vms_base.specs.Keys.{key_of};
 ghost use Rattle.vms_model.specs.Keys.{Number};
 ghost use Rattle.rms_units.specs.Changing.{keys_refused, locks_refuse};
-ghost use Rattle.rms_units.specs.Reading.{OfRecords};
+ghost use Rattle.unit_cuts.specs.Records.{OfRecords};
 ghost use Rattle.rms_units.specs.State.{IsEarly, IsInOrder};
-ghost use Rattle.rms_units.specs.Truncating.{AreBegun, BreaksCut, CutRefused, IsCut, MakesCut, begins_at, with_positions, cut_asked, cut_early, direct_cut_refused, entry_sizes, keys_cut, number_refused, removed_from};
+ghost use Rattle.rms_units.specs.Truncating.{CutRefused, IsCut, MakesCut, with_positions, cut_asked, cut_early, direct_cut_refused, number_refused};
+ghost use Rattle.unit_cuts.specs.Truncating.{AreBegun, BreaksCut, begins_at, entry_sizes, keys_cut, removed_from};
 
-use crate::cutting::cut_records;
 use crate::locking::{MOST_LOCKS, lock_refusal};
-use crate::measuring::{CutRoom, measure};
 use block_disk::Disk;
 use careful_write::Down;
 use file_base::FileHead;
 use journal_format::EntryBuf;
 use record_locks::Locks;
 use record_operations::RecErr;
+use unit_cuts::{Cut, CutRoom, cut_records, measure};
 use unit_journal::journal_refusal;
 use unit_table::{Branch, MOST_CHANGES, UnitTable};
 use vms_base::{Key, Record, Serial};
 use volume::Volume;
-
-/// A truncation that is asked for: of which sequential file, and from which position on.
-#[derive(Clone, Copy, Debug, Drop)]
-pub(crate) struct Cut {
-    pub file: u8,
-    pub head: FileHead,
-    pub from: u32,
-}
-
-impl Cut {
-    /// How many records go; none, where the file has no such position.
-    pub fn removed(&self) -> u32
-        ensures many { result ≡ removed_from self.now.head.count self.now.from }
-        ensures lies { 1 ≤ result → (1 ≤ self.now.from) × (self.now.from + result ≡ self.now.head.count + 1) }
-        ensures fits { self.now.head.count < 4294967296 }
-    {
-        let count = self.head.count;
-        if self.from < 1 || count < self.from {
-            return 0;
-        }
-        count - self.from + 1
-    }
-
-    /// The position of the last record but so many.
-    pub fn key(&self, behind: u32) -> Key
-        requires { behind ≤ self.now.head.count }
-        ensures { key_of result ≡ Number (self.now.head.count - behind) }
-    {
-        Key::Number(self.head.count - behind)
-    }
-}
 
 /// Whether another branch holds the file's end, or a record that goes, the last one first.
 pub(crate) fn cut_lock_refusal(locks: &Locks, by: &Option<Serial>, cut: &Cut) -> Option<RecErr>

@@ -1,8 +1,12 @@
 //! The recovery units of one volume.
-ghost use Rattle.std.specs.Prelude.{◌≡◌, ◌≤◌, ◌<◌, ◌+◌, ◌∷◌, [], ℕ, List, None, Some, IfOk, IfErr, IfSome, OnOk, OnErr, IsErr, IsSome, length, option_map, vec_capacity};
+ghost use Rattle.std.specs.Prelude.{◌≡◌, ◌≤◌, ◌<◌, ◌+◌, ◌⊎◌, ◌∷◌, [], ℕ, true, false, List, None, Some, IfOk, IfErr, IfSome, OnOk, OnErr, IsErr, IsSome, length, option_copied, option_map, vec_capacity};
 ghost use Rattle.std.specs.Option.{option_and_then};
 ghost use Rattle.file_base.specs.declared.head.FileHead.{FileHead as HeadSaid};
+ghost use Rattle.careful_write.specs.Down.{Counts};
+ghost use Rattle.lmcp_log.specs.Log.{slot_of};
+ghost use Rattle.log_laws.specs.Slots.{has_free, has_slot};
 ghost use Rattle.unit_table.specs.Places.{AreInOrder};
+ghost use Rattle.unit_votes.specs.Logging.{HasLog, MayHave};
 ghost use Rattle.unit_table.specs.Units.{OpenUnit, begun, first_to_change};
 ghost use Rattle.vms_base.specs.Ids.{serial_of, tid_of};
 ghost use Rattle.vms_model.specs.Ids.{IsId};
@@ -22,30 +26,32 @@ ghost use Rattle.unit_journal.specs.Settling.{next_moment as next_said};
 ghost use Rattle.rms_units.specs.Truncating.{ChangesCut, ChangesCutErr, DirectsCut, DirectsCutErr};
 ghost use Rattle.file_base.specs.declared.head.Organization.TheVariants as organization;
 ghost use Rattle.rms_units.specs.State.{IsEarly, IsInOrder, nothing_begun, unit_of, with_begun, without_place};
+ghost use Rattle.rms_units.specs.Voting.{AbortsPrepared, AbortsPreparedNot, CommitsLogged, CommitsLoggedNot, IfYes, Votes, VotesNot, is_yes, votes_yes};
 
 use crate::aborting::{AbortRoom, abort_branch, reopen_journal};
 use crate::asked::Asked;
 use crate::changing::asked_by;
-use crate::cutting::commit_cut;
 use crate::directly::{make_directly, refuse_directly};
 use crate::locking::{MOST_LOCKS, asks_end, hold_key};
-use crate::measuring::CutRoom;
 use crate::one_key::{make_key, refuse_key};
 use crate::reading::find;
-use crate::tokens::{ActiveUnit, BeginErr, SettledUnit};
-use crate::truncating::{Cut, direct_cut_refusal, make_cut, refuse_cut};
+use crate::tokens::{ActiveUnit, BeginErr, PreparedUnit, SettledUnit, Vote};
+use crate::truncating::{direct_cut_refusal, make_cut, refuse_cut};
+use crate::voting::{abort_prepared, commit, vote, vote_at};
 use block_disk::Disk;
 use careful_write::{Down, one_content};
 use file_base::FileHead;
 use journal_format::EntryBuf;
+use lmcp_log::Log;
 use record_locks::Locks;
 use record_operations::{ReadOp, RecErr, RecordOp, form_refusal, read_refusal};
 use std::alloc::{AllocError, Global};
 use std::marker::Model;
 use unit_aborts::AbortedUnit;
+use unit_cuts::{Cut, CutRoom, commit_cut};
 use unit_journal::{next_moment, settle};
 use unit_table::{Branch, UnitTable};
-use vms_base::{Key, Moment, Outcome, Reason, Record, Serial, Tid, put_id};
+use vms_base::{Key, LogRec, Moment, Outcome, Reason, Record, RmList, Serial, Tid, put_id};
 use volume::Volume;
 use volume_format::Ending;
 
@@ -624,6 +630,217 @@ impl Units {
             outcome: Outcome::Abort,
             moment,
         })
+    }
+
+    /// A unit votes. It is read only exactly where it changed nothing and no manager is to be told its outcome; then it is no more, and what it held is free. Else
+    /// its Prepared entry, where it changed something, and its record are written in one group, and it keeps what it holds. On Down it is spent as well.
+    pub fn prepare<D: Disk>(
+        &mut self,
+        unit: ActiveUnit,
+        volume: &mut Volume<D>,
+        log: &mut Log,
+        rms: &RmList,
+    ) -> Result<Vote, Down>
+        requires unit { IsSome (unit_of unit self.old) }
+        requires active { IfSome (unit_of unit self.old) (λ u. u.prepared ≡ false) }
+        requires slot { IfSome (unit_of unit self.old) (λ u. votes_yes u.positions rms.now ≡ true → (has_slot u.serial log.old ≡ true) ⊎ (has_free log.old ≡ true)) }
+        requires order { IsInOrder self.old volume.old }
+        requires early { IsEarly volume.old }
+        requires log { HasLog log.old volume.old }
+        ensures order { OnOk result (IsInOrder self.new volume.new) }
+        ensures log { OnOk result (HasLog log.new volume.new) }
+        ensures place { IfOk result (λ vote. IfYes vote (λ place. place ≡ unit)) }
+        ensures votes { IfOk result (λ vote. (u : OpenUnit) → unit_of unit self.old ≡ Some u → Votes (is_yes vote) unit u rms.now self.old log.old volume.old self.new log.new volume.new) }
+        ensures err { OnErr result ((u : OpenUnit) → unit_of unit self.old ≡ Some u → VotesNot unit u rms.now self.old log.old volume.old self.new log.new volume.new) }
+        ensures grows { Grows 0 0 volume.old volume.new }
+        ensures goes { Goes volume.old.store.disk volume.new.store.disk }
+        ensures cause { IfErr result (λ down. Caused (Some down) volume.old.store.disk volume.new.store.disk) }
+        ensures pool { volume.new.store.pool ≡ volume.old.store.pool }
+    {
+        let ActiveUnit { place } = unit;
+        let branch = self.branch(place);
+        let yes = match vote(
+            volume,
+            log,
+            &mut self.table,
+            &mut self.locks,
+            place,
+            &branch,
+            rms,
+            &mut self.entry,
+        ) {
+            Err(down) => return Err(down),
+            Ok(yes) => yes,
+        };
+        Ok(vote_at(place, yes))
+    }
+
+    /// Commits a unit, and writes the record of those that are to be told in the same group, where there is one. On Down it is spent as well.
+    pub fn one_phase_with<D: Disk>(
+        &mut self,
+        unit: ActiveUnit,
+        volume: &mut Volume<D>,
+        log: &mut Log,
+        logged: Option<&LogRec>,
+        clock: Moment,
+    ) -> Result<SettledUnit, Down>
+        requires unit { IsSome (unit_of unit self.old) }
+        requires may { IfSome (unit_of unit self.old) (λ u. MayHave u.serial (slot_of (option_copied logged)) log.old) }
+        requires order { IsInOrder self.old volume.old }
+        requires early { IsEarly volume.old }
+        requires clock { clock.0 < 24000001000066 }
+        requires log { HasLog log.old volume.old }
+        ensures order { OnOk result (IsInOrder self.new volume.new) }
+        ensures log { OnOk result (HasLog log.new volume.new) }
+        ensures done { IfOk result (λ told. (u : OpenUnit) → unit_of unit self.old ≡ Some u → CommitsLogged unit u told.tid told.serial (slot_of (option_copied logged.entry)) clock.0 told.moment.0 self.old log.old volume.old self.new log.new volume.new) }
+        ensures commits { IfOk result (λ told. told.outcome ≡ outcome.Commit) }
+        ensures err { OnErr result ((u : OpenUnit) → unit_of unit self.old ≡ Some u → CommitsLoggedNot unit u (slot_of (option_copied logged.entry)) clock.0 self.old log.old volume.old self.new log.new volume.new) }
+        ensures grows { Grows 1 clock.0 volume.old volume.new }
+        ensures goes { Goes volume.old.store.disk volume.new.store.disk }
+        ensures cause { IfErr result (λ down. Caused (Some down) volume.old.store.disk volume.new.store.disk) }
+        ensures pool { volume.new.store.pool ≡ volume.old.store.pool }
+    {
+        let ActiveUnit { place } = unit;
+        self.commit_at(place, volume, log, logged, clock)
+    }
+
+    // Commits the unit at a place, and leaves this of it in the log.
+    fn commit_at<D: Disk>(
+        &mut self,
+        place: u8,
+        volume: &mut Volume<D>,
+        log: &mut Log,
+        logged: Option<&LogRec>,
+        clock: Moment,
+    ) -> Result<SettledUnit, Down>
+        requires place { place < 64 }
+        requires unit { IsSome (unit_of place self.old) }
+        requires may { IfSome (unit_of place self.old) (λ u. MayHave u.serial (slot_of (option_copied logged)) log.old) }
+        requires order { IsInOrder self.old volume.old }
+        requires early { IsEarly volume.old }
+        requires clock { clock.0 < 24000001000066 }
+        requires log { HasLog log.old volume.old }
+        ensures order { OnOk result (IsInOrder self.new volume.new) }
+        ensures log { OnOk result (HasLog log.new volume.new) }
+        ensures done { IfOk result (λ told. (u : OpenUnit) → unit_of place self.old ≡ Some u → CommitsLogged place u told.tid told.serial (slot_of (option_copied logged.entry)) clock.0 told.moment.0 self.old log.old volume.old self.new log.new volume.new) }
+        ensures commits { IfOk result (λ told. told.outcome ≡ outcome.Commit) }
+        ensures err { OnErr result ((u : OpenUnit) → unit_of place self.old ≡ Some u → CommitsLoggedNot place u (slot_of (option_copied logged.entry)) clock.0 self.old log.old volume.old self.new log.new volume.new) }
+        ensures grows { Grows 1 clock.0 volume.old volume.new }
+        ensures counts { Counts result volume.old.store.disk volume.new.store.disk }
+        ensures pool { volume.new.store.pool ≡ volume.old.store.pool }
+    {
+        let branch = self.branch(place);
+        let moment = match commit(
+            volume,
+            log,
+            &mut self.table,
+            &mut self.locks,
+            place,
+            &branch,
+            logged,
+            clock,
+            &mut self.entry,
+        ) {
+            Err(down) => return Err(down),
+            Ok(moment) => moment,
+        };
+        Ok(SettledUnit {
+            tid: branch.tid,
+            serial: branch.serial,
+            outcome: Outcome::Commit,
+            moment,
+        })
+    }
+
+    /// Commits a prepared unit: its settlement and the record of those that are to be told, or nothing in that record's place, in one group. On Down it is spent as
+    /// well.
+    pub fn commit_prepared<D: Disk>(
+        &mut self,
+        unit: PreparedUnit,
+        volume: &mut Volume<D>,
+        log: &mut Log,
+        logged: Option<&LogRec>,
+        clock: Moment,
+    ) -> Result<SettledUnit, Down>
+        requires unit { IsSome (unit_of unit self.old) }
+        requires may { IfSome (unit_of unit self.old) (λ u. MayHave u.serial (slot_of (option_copied logged)) log.old) }
+        requires order { IsInOrder self.old volume.old }
+        requires early { IsEarly volume.old }
+        requires clock { clock.0 < 24000001000066 }
+        requires log { HasLog log.old volume.old }
+        ensures order { OnOk result (IsInOrder self.new volume.new) }
+        ensures log { OnOk result (HasLog log.new volume.new) }
+        ensures done { IfOk result (λ told. (u : OpenUnit) → unit_of unit self.old ≡ Some u → CommitsLogged unit u told.tid told.serial (slot_of (option_copied logged.entry)) clock.0 told.moment.0 self.old log.old volume.old self.new log.new volume.new) }
+        ensures commits { IfOk result (λ told. told.outcome ≡ outcome.Commit) }
+        ensures err { OnErr result ((u : OpenUnit) → unit_of unit self.old ≡ Some u → CommitsLoggedNot unit u (slot_of (option_copied logged.entry)) clock.0 self.old log.old volume.old self.new log.new volume.new) }
+        ensures grows { Grows 1 clock.0 volume.old volume.new }
+        ensures goes { Goes volume.old.store.disk volume.new.store.disk }
+        ensures cause { IfErr result (λ down. Caused (Some down) volume.old.store.disk volume.new.store.disk) }
+        ensures pool { volume.new.store.pool ≡ volume.old.store.pool }
+    {
+        let PreparedUnit { place } = unit;
+        self.commit_at(place, volume, log, logged, clock)
+    }
+
+    /// Aborts a prepared unit: what it changed is set back, in as many groups as that takes, and the last of them settles it and frees its slot in the log. On Down
+    /// it is spent as well.
+    pub fn abort_prepared<D: Disk>(
+        &mut self,
+        unit: PreparedUnit,
+        volume: &mut Volume<D>,
+        log: &mut Log,
+        reason: Reason,
+        clock: Moment,
+    ) -> Result<SettledUnit, Down>
+        requires unit { IsSome (unit_of unit self.old) }
+        requires order { IsInOrder self.old volume.old }
+        requires early { IsEarly volume.old }
+        requires clock { clock.0 < 24000001000066 }
+        requires log { HasLog log.old volume.old }
+        ensures order { OnOk result (IsInOrder self.new volume.new) }
+        ensures done { IfOk result (λ told. (u : OpenUnit) → unit_of unit self.old ≡ Some u → AbortsPrepared unit u told.tid told.serial reason clock.0 told.moment.0 self.old log.old volume.old self.new log.new volume.new) }
+        ensures aborts { IfOk result (λ told. told.outcome ≡ outcome.Abort) }
+        ensures err { OnErr result ((u : OpenUnit) → unit_of unit self.old ≡ Some u → AbortsPreparedNot unit u reason clock.0 self.old log.old volume.old self.new log.new volume.new) }
+        ensures grows { Grows 1 clock.0 volume.old volume.new }
+        ensures goes { Goes volume.old.store.disk volume.new.store.disk }
+        ensures cause { IfErr result (λ down. Caused (Some down) volume.old.store.disk volume.new.store.disk) }
+        ensures pool { volume.new.store.pool ≡ volume.old.store.pool }
+    {
+        let PreparedUnit { place } = unit;
+        let branch = self.branch(place);
+        let moment = match abort_prepared(
+            volume,
+            log,
+            &mut self.table,
+            &mut self.locks,
+            place,
+            &branch,
+            reason,
+            clock,
+            &mut self.abort,
+            &mut self.found,
+            &mut self.entry,
+        ) {
+            Err(down) => return Err(down),
+            Ok(moment) => moment,
+        };
+        Ok(SettledUnit {
+            tid: branch.tid,
+            serial: branch.serial,
+            outcome: Outcome::Abort,
+            moment,
+        })
+    }
+
+    /// Forgets a prepared unit, where its node goes down.
+    pub fn lose_prepared(&mut self, unit: PreparedUnit)
+        requires { IsSome (unit_of unit self.old) }
+        ensures { IfSome (unit_of unit self.old) (λ u. self.new ≡ without_place unit u.serial self.old) }
+    {
+        let PreparedUnit { place } = unit;
+        let branch = self.branch(place);
+        self.table.remove(place);
+        self.locks.release_all(branch.serial);
     }
 
     /// Aborts the units that a fall left in the journal, in the order of their first entries, and tells their settlements, also after Down. Nothing is done where

@@ -6,7 +6,7 @@ use Rattle.journal_model.specs.Entries.{IsEntry, has_image, is_flag, is_image, i
 use Rattle.vms_model.specs.Ids.{Id, IsId}
 use Rattle.vms_model.specs.Keys.{Key}
 use Rattle.vms_model.specs.Transactions.{Outcome, Commit, Abort}
-use Rattle.unit_journal.specs.Entries.{change_entry, key_bytes, outcome_code, settled_entry}
+use Rattle.unit_journal.specs.Entries.{change_entry, key_bytes, outcome_code, prepared_entry, settled_entry}
 
 flag_fits : (b : Bool) → is_flag 1 (if b then 1 else 0) ≡ true
 flag_fits true = refl
@@ -34,6 +34,9 @@ change_is tid serial file key before t s some few image = record {
   moment = refl;
   fits = lit< tt;
 }
+
+pub prepared_is : (tid serial : Id) → IsId tid → IsId serial → IsEntry (prepared_entry tid serial)
+prepared_is tid serial t s = record { kind = refl; flag = refl; file = refl; key = refl; image = refl; tid = t; serial = s; moment = refl; fits = lit< tt }
 
 outcome_fits : (o : Outcome) → is_flag 3 (outcome_code o) ≡ true
 outcome_fits Commit = refl

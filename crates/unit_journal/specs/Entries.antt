@@ -25,6 +25,10 @@ change_entry tid serial file key before = record {
   image = unwrap_or before [];
 }
 
+-- a branch is prepared
+abbrev pub prepared_entry : (tid serial : Id) → Entry
+prepared_entry tid serial = record { kind = 2; flag = 0; file = 0; tid = tid; serial = serial; moment = 0; key = []; image = [] }
+
 abbrev pub outcome_code : Outcome → ℕ
 outcome_code Commit = 1
 outcome_code Abort = 2

@@ -7,7 +7,7 @@ ghost use Rattle.vms_base.specs.Ids.{id_of, serial_of, tid_of};
 ghost use Rattle.vms_base.specs.Keys.{key_of};
 ghost use Rattle.vms_base.specs.Outcomes.{outcome_of};
 ghost use Rattle.unit_journal.specs.Room.{entry_size as size_said};
-ghost use Rattle.unit_journal.specs.Entries.{change_entry, key_bytes, settled_entry};
+ghost use Rattle.unit_journal.specs.Entries.{change_entry, key_bytes, prepared_entry, settled_entry};
 
 use journal_format::{EntryBuf, EntryHead, EntryKind, encode, number_key};
 use vms_base::{Id, Key, KeyText, Moment, Outcome, Record, Serial, Tid, put_id};
@@ -86,6 +86,27 @@ pub fn encode_change(
         moment: Moment(0),
     };
     encode(&head, before, out);
+}
+
+/// Spells the entry that a branch is prepared.
+pub fn encode_prepared(tid: Tid, serial: Serial, out: &mut EntryBuf)
+    ensures spelled { out.new ≡ spelling (prepared_entry (tid_of tid) (serial_of serial)) }
+    ensures is { IsEntry (prepared_entry (tid_of tid) (serial_of serial)) }
+{
+    is_written(&tid.0);
+    is_written(&serial.0);
+    let head = EntryHead {
+        kind: EntryKind::Prepared,
+        present: false,
+        outcome: None,
+        file: 0,
+        key: None,
+        image_len: 0,
+        tid,
+        serial,
+        moment: Moment(0),
+    };
+    encode(&head, None, out);
 }
 
 /// Spells the entry of a branch's settlement.

@@ -1,5 +1,5 @@
 -- The order of a table's units, where one is begun and where one goes.
-use Rattle.std.proofs.Common.{◌≡◌, ℕ, zero, suc, ◌+◌, ◌<◌, ◌≤◌, List, [], ◌∷◌, ◌++◌, Bool, true, false, not, Option, Some, None, length, slice_set, refl, sym, ap, subst, ◌∙◌, arith, replicate, get_or-set_same, get_or-set_other, length-set, length-append, ⊎_elim}
+use Rattle.std.proofs.Common.{◌≡◌, ℕ, zero, suc, ◌+◌, ◌<◌, ◌≤◌, List, [], ◌∷◌, ◌++◌, Bool, true, false, not, Option, Some, None, length, slice_set, option_map, refl, sym, ap, subst, ◌∙◌, arith, replicate, get_or-set_same, get_or-set_other, length-set, length-append, ⊎_elim}
 use Rattle.std.specs.Prelude.{◌==◌, if◌then◌else◌, IsSome}
 use Rattle.std.specs.List.{AllByRecursion, filter}
 use Rattle.std.proofs.lemmas.Bool.{cases_eq}
@@ -229,6 +229,15 @@ all_none (suc n) (u ∷ us) long none = λ i. none 0 (omega arith) i ∷ all_non
 
 pub empty_in_order : AreInOrder (replicate 64 None) []
 empty_in_order = record { whole = refl; each = λ p. sym (ap count_at (none_at 64 p)); many = sym (none_taken 64) }
+
+-- where there is a unit, it stays one
+pub still_in_order : (places : List (Option OpenUnit)) (order : List ℕ) (place : ℕ) (change : OpenUnit → OpenUnit) → AreInOrder places order → (x : Option OpenUnit) → unit_at places place ≡ x → IsSome x → AreInOrder (slice_set places place (option_map change x)) order
+still_in_order places order place change o None is some = let no : ⊥ = cc in absurd no
+still_in_order places order place change o (Some u) is some =
+    let at : IsSome (unit_at places place) = subst IsSome (sym is) some in
+    let below = at_below places place at in
+    let whole = o.whole in
+    noted_in_order places order o place (omega (arith, below, whole)) (change u) at
 
 -- Each place in the order has a unit.
 

@@ -3,12 +3,14 @@ use Rattle.std.specs.Prelude.{ℕ, ◌+◌, ◌≤◌, ◌==◌, List, [], ◌�
 use Rattle.std.specs.List.{filter}
 use Rattle.vms_model.specs.Ids.{Id}
 
--- A unit that is not settled: its branch, where its changes begin in the journal, the oldest first, and of each file number whether it changed the file.
+-- A unit that is not settled: its branch, where its changes begin in the journal, the oldest first, of each file number whether it changed the file, and
+-- whether it is prepared.
 pub record OpenUnit : Type 0 where
   pub tid : Id
   pub serial : Id
   pub positions : List ℕ
   pub files : List Bool
+  pub prepared : Bool
 
 -- the units at their places, and the places that have one in the order in which their units were begun
 pub record Units : Type 0 where
@@ -25,11 +27,23 @@ no_files = replicate 64 false
 
 -- a unit that has changed nothing
 abbrev pub new_unit : (tid serial : Id) → OpenUnit
-new_unit tid serial = record { tid = tid; serial = serial; positions = []; files = no_files }
+new_unit tid serial = record { tid = tid; serial = serial; positions = []; files = no_files; prepared = false }
 
 -- a unit after one change more of a file, whose entry begins at this position
 abbrev pub with_position : (position file : ℕ) → OpenUnit → OpenUnit
 with_position position file u = record u { positions = u.positions ++ position ∷ []; files = slice_set u.files file true }
+
+-- a unit that is prepared from now on
+abbrev pub prepared_unit : OpenUnit → OpenUnit
+prepared_unit u = record u { prepared = true }
+
+-- a prepared unit whose changes begin at these positions
+abbrev pub unit_back : List ℕ → OpenUnit → OpenUnit
+unit_back positions u = record u { positions = positions; prepared = true }
+
+-- a unit that is known to have changed a file
+abbrev pub with_file : (file : ℕ) → OpenUnit → OpenUnit
+with_file file u = record u { files = slice_set u.files file true }
 
 -- positions ascend, each from this one on and below the end
 abbrev pub Ascend : (from end : ℕ) → List ℕ → Type 0
@@ -70,16 +84,16 @@ abbrev pub first_to_change : (file : ℕ) → List OpenUnit → Option Id
 first_to_change file [] = None
 first_to_change file (u ∷ us) = if has_changed u file then Some u.serial else first_to_change file us
 
--- what a unit is owed of the journal: its Prepared and its Settled entry, once it has changed something
-abbrev pub owed_for : List ℕ → ℕ
-owed_for [] = 0
-owed_for (p ∷ ps) = 96
+-- what a unit is owed of the journal once it has changed something: its Settled entry, and until it is prepared its Prepared entry too
+abbrev pub owed_for : (prepared : Bool) → List ℕ → ℕ
+owed_for prepared [] = 0
+owed_for prepared (p ∷ ps) = if prepared then 48 else 96
 
 -- what the units at some places are owed
 abbrev pub owed : List (Option OpenUnit) → ℕ
 owed [] = 0
 owed (None ∷ us) = owed us
-owed (Some u ∷ us) = owed_for u.positions + owed us
+owed (Some u ∷ us) = owed_for u.prepared u.positions + owed us
 
 -- the lesser of two positions, where there are two
 abbrev pub earlier : Option ℕ → Option ℕ → Option ℕ

@@ -1,9 +1,9 @@
 // A place of a table, for one unit.
-ghost use Rattle.std.specs.Prelude.{◌≡◌, ◌≤◌, ◌<◌, IfOk, IfSome, IsSome, None, Some, is_some, length, option_map, true};
+ghost use Rattle.std.specs.Prelude.{◌≡◌, ◌≤◌, ◌<◌, IfOk, IfSome, IsSome, None, Some, is_some, length, option_map, true, vec_capacity};
 ghost use Rattle.std.specs.Option.{option_and_then};
 ghost use Rattle.vms_base.specs.Ids.{serial_of, tid_of};
 ghost use Rattle.unit_table.specs.declared.place.Branch.{Branch};
-ghost use Rattle.unit_table.specs.Units.{OpenUnit, first_of, has_changed, new_unit, owed_for, with_position};
+ghost use Rattle.unit_table.specs.Units.{OpenUnit, first_of, has_changed, new_unit, owed_for, prepared_unit, unit_back, with_file, with_position};
 
 use std::alloc::{AllocError, Global};
 use std::marker::Model;
@@ -26,6 +26,7 @@ pub(crate) struct Place {
     // Where its changes begin in the journal, the oldest first.
     positions: Vec<u64>,
     files: [bool; 64],
+    is_prepared: bool,
 }
 
 impl Model for Place {
@@ -36,9 +37,22 @@ impl Model for Place {
 
     ghost Value = { Option OpenUnit };
 
-    ghost view = { λ p. option_map (λ (b : Branch). record { tid = tid_of b.tid; serial = serial_of b.serial; positions = p.positions.items; files = p.files }) p.branch };
+    ghost view = { λ p. option_map (λ (b : Branch). record { tid = tid_of b.tid; serial = serial_of b.serial; positions = p.positions.items; files = p.files; prepared = p.is_prepared }) p.branch };
 
     ghost invariant = { λ p. (1024 ≤ vec_capacity p.positions) × (length p.positions.items ≤ 1024) × (length p.files ≡ 64) };
+}
+
+// Lists these positions in place of others.
+fn fill(list: &mut Vec<u64>, positions: &[u64])
+    requires few { length positions.now ≤ 1024 }
+    requires room { 1024 ≤ vec_capacity list.old }
+    ensures list { list.new.items ≡ positions.now }
+    ensures room { 1024 ≤ vec_capacity list.new }
+{
+    list.clear();
+    for i in 0..positions.len() {
+        list.push_reserved(positions[i]);
+    }
 }
 
 impl Place {
@@ -50,6 +64,7 @@ impl Place {
             branch: None,
             positions: Vec::with_capacity(alloc, MOST_CHANGES)?,
             files: [false; 64],
+            is_prepared: false,
         })
     }
 
@@ -60,6 +75,7 @@ impl Place {
         self.branch = Some(Branch { tid, serial });
         self.positions.clear();
         self.files = [false; 64];
+        self.is_prepared = false;
     }
 
     /// Has none any more.
@@ -112,10 +128,46 @@ impl Place {
 
     /// How many bytes of the journal its unit will still take.
     pub fn owed(&self) -> u64
-        ensures value { result ≡ elim self.now [ None ↦ 0 | Some u ↦ owed_for u.positions ] }
+        ensures value { result ≡ elim self.now [ None ↦ 0 | Some u ↦ owed_for u.prepared u.positions ] }
         ensures few { result ≤ 96 }
     {
-        if self.first().is_some() { 96 } else { 0 }
+        if self.first().is_none() {
+            return 0;
+        }
+        if self.is_prepared { 48 } else { 96 }
+    }
+
+    /// Whether its unit is prepared.
+    pub fn is_prepared(&self) -> bool
+        ensures { IfSome self.now (λ u. result ≡ u.prepared) }
+    {
+        self.is_prepared
+    }
+
+    /// Its unit is prepared from now on.
+    pub fn prepare(&mut self)
+        ensures { self.new ≡ option_map prepared_unit self.old }
+    {
+        self.is_prepared = true;
+    }
+
+    /// Its unit is a prepared one whose changes begin at these positions.
+    pub fn take_back(&mut self, positions: &[u64])
+        requires room { length positions.now ≤ 1024 }
+        ensures { self.new ≡ option_map (unit_back positions.now) self.old }
+    {
+        fill(&mut self.positions, positions);
+        self.prepare();
+    }
+
+    /// Its unit changed a file.
+    pub fn mark(&mut self, file: u8)
+        ensures { self.new ≡ option_map (with_file file) self.old }
+    {
+        let number = file as usize;
+        if number < 64 {
+            self.files[number] = true;
+        }
     }
 
     /// Notes one change more.

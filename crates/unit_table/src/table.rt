@@ -4,7 +4,7 @@ ghost use Rattle.std.specs.List.{AllByRecursion};
 ghost use Rattle.vms_base.specs.Ids.{serial_of, tid_of};
 ghost use Rattle.unit_table.specs.declared.place.Branch.{Branch as BranchSaid};
 ghost use Rattle.unit_table.specs.Places.{AreInOrder};
-ghost use Rattle.unit_table.specs.Units.{OpenUnit, Units, begun, earliest, earlier, first_to_change, has_changed, no_units, owed, unit_at, units_of, with_begun, with_position, with_unit, without_place};
+ghost use Rattle.unit_table.specs.Units.{OpenUnit, Units, begun, earliest, earlier, first_to_change, has_changed, no_units, owed, prepared_unit, unit_at, unit_back, units_of, with_begun, with_file, with_position, with_unit, without_place};
 
 use crate::place::{Branch, Place};
 use std::alloc::{AllocError, Global};
@@ -198,6 +198,39 @@ impl UnitTable {
         self.places[place as usize].note(position, file);
     }
 
+    /// The unit at a place is a prepared one whose changes begin at these positions, the oldest first.
+    pub fn take_back(&mut self, place: u8, positions: &[u64])
+        requires there { IsSome (unit_at self.old.places place) }
+        requires room { length positions.now ≤ 1024 }
+        ensures { IfSome (unit_at self.old.places place) (λ u. self.new ≡ with_unit place (unit_back positions.now u) self.old) }
+    {
+        self.places[place as usize].take_back(positions);
+    }
+
+    /// The unit at a place changed a file. No file has a number from 64 on.
+    pub fn mark(&mut self, place: u8, file: u8)
+        requires { IsSome (unit_at self.old.places place) }
+        ensures { IfSome (unit_at self.old.places place) (λ u. self.new ≡ with_unit place (with_file file u) self.old) }
+    {
+        self.places[place as usize].mark(file);
+    }
+
+    /// Whether the unit at a place is prepared.
+    pub fn is_prepared(&self, place: u8) -> bool
+        requires { place < 64 }
+        ensures { IfSome (unit_at self.now.places place) (λ u. result ≡ u.prepared) }
+    {
+        self.places[place as usize].is_prepared()
+    }
+
+    /// The unit at a place is prepared from now on.
+    pub fn prepare(&mut self, place: u8)
+        requires { IsSome (unit_at self.old.places place) }
+        ensures { IfSome (unit_at self.old.places place) (λ u. self.new ≡ with_unit place (prepared_unit u) self.old) }
+    {
+        self.places[place as usize].prepare();
+    }
+
     /// The branch of the earliest begun unit that changed a file.
     pub fn changed_by(&self, file: u8) -> Option<Serial>
         ensures { option_map serial_of result ≡ first_to_change file (begun self.now) }
@@ -205,7 +238,7 @@ impl UnitTable {
         first_to_change(&self.places, &self.order, file)
     }
 
-    /// How many bytes of the journal units that changed something will still take: 96 each.
+    /// How many bytes of the journal units that changed something will still take: 96 each, and 48 once it is prepared.
     pub fn owed(&self) -> u64
         ensures value { result ≡ owed self.now.places }
         ensures few { result ≤ 96 * 64 }

@@ -100,11 +100,12 @@ next_begins s v n label kept room =
         different = subst Distinct (sym (serials_push bs b)) (distinct_push x (serials_of bs) kept.holds.different others);
       };
       each = all_append (IsUnitOf m) s.begun (new_unit x x ∷ [])
-          (all_as (IsUnitOf n) (IsUnitOf m) s.begun (λ u k. record { positions = k.positions; files = k.files; transaction = k.transaction }) kept.each) (
+          (all_as (IsUnitOf n) (IsUnitOf m) s.begun (λ u k. record { positions = k.positions; files = k.files; transaction = k.transaction; active = k.active }) kept.each) (
             record {
               positions = sym (no_positions x n.durable.units.first es none);
               files = λ f. unchanged_at n x has.units fresh f ∙ sym (none_of_none 64 f);
               transaction = all_as (λ (e : JournalEntry). same_id x (serial_in e) ≡ false) (λ (e : JournalEntry). same_id x (serial_in e) ≡ true → x ≡ tid_in e) es (λ e k t. absurd (both_ways _ k t)) none;
+              active = refl;
             },
             tt,
           );

@@ -179,7 +179,7 @@ module _ (s : UnitsState) (v : VolumeState) (n : Node) (f : ℕ) (h : FileHead) 
       drawn = kept.holds.drawn;
       different = kept.holds.different;
     };
-    each = all_as (IsUnitOf n) (IsUnitOf m) s.begun (λ u k. record { positions = k.positions; files = λ g. changed_set d f file u.serial within (nobody u.serial) g ∙ k.files g; transaction = k.transaction }) kept.each;
+    each = all_as (IsUnitOf n) (IsUnitOf m) s.begun (λ u k. record { positions = k.positions; files = λ g. changed_set d f file u.serial within (nobody u.serial) g ∙ k.files g; transaction = k.transaction; active = k.active }) kept.each;
   }
 
 pub creates : (s : UnitsState) (v w : VolumeState) (n : Node) (f : ℕ) (h : FileHead) (file : File) (content new : List (List ℕ)) → IsKept s v n → IsInOrder s v → f < 64 → head_at v.catalog.heads f ≡ None →

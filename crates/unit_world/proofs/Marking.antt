@@ -132,6 +132,7 @@ module _ (s : UnitsState) (v : VolumeState) (n : Node) (f : ℕ) (h : FileHead) 
         ∙ changed_set n.durable.directory f (record here.0 { recovery_units = units }) u.serial (within_list n.durable.directory f here.0 here.1) (ap (changed_at u.serial) (sym here.1)) g
         ∙ k.files g;
     transaction = k.transaction;
+    active = k.active;
   }
 
   marks_kept : (w : VolumeState) → w.catalog ≡ after → w.store.current ≡ Some b → w.store.disk.size ≡ v.store.disk.size → IsKept s w m

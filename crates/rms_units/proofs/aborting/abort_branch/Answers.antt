@@ -8,7 +8,7 @@ use Rattle.vms_base.specs.Ids.{serial_of, tid_of}
 use Rattle.rms_units.specs.Aborting.{abortion_of}
 use Rattle.rms_units.specs.State.{UnitsState, without_place}
 use Rattle.rms_units.proofs.AbortLemmas.{low_changes, may_abort, order_aborted, room_to_abort}
-use Rattle.rms_units.proofs.Outcomes.{of_some, the_one}
+use Rattle.unit_cuts.proofs.Outcomes.{of_some, the_one}
 use Rattle.rms_units.proofs.SettledLemmas.{grows_next}
 use Rattle.rms_units.proofs.aborting.abort_branch.Goals as goal
 

@@ -12,7 +12,7 @@ use Rattle.volume.specs.declared.catalog.Catalog.{Catalog}
 use Rattle.volume_format.specs.declared.home.Ending.TheVariants as ending
 use Rattle.rms_units.specs.Making.{CommitsKey}
 use Rattle.rms_units.specs.State.{UnitsState}
-use Rattle.rms_units.proofs.Outcomes.{three_ok}
+use Rattle.unit_cuts.proofs.Outcomes.{three_ok}
 use Rattle.rms_units.proofs.SettledLemmas.{bytes_of, order_settled}
 use Rattle.rms_units.proofs.directly.make_directly.Goals as goal
 

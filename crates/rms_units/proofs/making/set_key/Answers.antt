@@ -13,7 +13,7 @@ use Rattle.unit_journal.specs.Entries.{change_entry}
 use Rattle.unit_journal.proofs.Breaking.{breaks_made}
 use Rattle.rms_units.specs.Making.{EntersKey}
 use Rattle.rms_units.proofs.MakingLemmas.{enters_grows, enters_key}
-use Rattle.rms_units.proofs.RoomLemmas.{spelled_size}
+use Rattle.unit_cuts.proofs.EntrySizes.{spelled_size}
 use Rattle.rms_units.proofs.making.set_key.Goals as goal
 
 pub enter-requires-clause-room : goal.enter-requires-clause-room

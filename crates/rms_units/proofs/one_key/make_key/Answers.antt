@@ -19,8 +19,9 @@ use Rattle.rms_units.specs.Making.{EntersKey}
 use Rattle.rms_units.specs.State.{UnitsState}
 use Rattle.rms_units.proofs.MakingLemmas.{makes_entry}
 use Rattle.rms_units.proofs.OrderLemmas.{order_changed}
-use Rattle.rms_units.proofs.Outcomes.{breaks_so, of_some, the_one}
-use Rattle.rms_units.proofs.RoomLemmas.{room_for, spelled_size}
+use Rattle.unit_cuts.proofs.Outcomes.{breaks_so, of_some, the_one}
+use Rattle.rms_units.proofs.RoomLemmas.{room_for}
+use Rattle.unit_cuts.proofs.EntrySizes.{spelled_size}
 use Rattle.rms_units.proofs.one_key.make_key.Goals as goal
 
 pub returns-in-Err-clause-breaks : goal.returns-in-Err-clause-breaks

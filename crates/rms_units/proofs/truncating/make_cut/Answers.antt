@@ -6,12 +6,13 @@ use Rattle.unit_journal.specs.Room.{journal_refused}
 use Rattle.unit_table.specs.Units.{OpenUnit, Units, unit_at, with_unit}
 use Rattle.vms_base.specs.Ids.{serial_of, tid_of}
 use Rattle.volume_files.proofs.Places.{within_list}
-use Rattle.rms_units.specs.Reading.{OfRecords}
+use Rattle.unit_cuts.specs.Records.{OfRecords}
 use Rattle.rms_units.specs.State.{UnitsState}
-use Rattle.rms_units.specs.Truncating.{EntersCut, IsCut, begins_at, cut_entries, keys_cut, with_positions}
-use Rattle.rms_units.proofs.CutMade.{breaks_cut_so}
+use Rattle.rms_units.specs.Truncating.{IsCut, with_positions}
+use Rattle.unit_cuts.specs.Truncating.{EntersCut, begins_at, cut_entries, keys_cut}
+use Rattle.unit_cuts.proofs.CutMade.{breaks_cut_so}
 use Rattle.rms_units.proofs.CutOrder.{order_cut}
-use Rattle.rms_units.proofs.Outcomes.{of_some, the_one}
+use Rattle.unit_cuts.proofs.Outcomes.{of_some, the_one}
 use Rattle.rms_units.proofs.RoomLemmas.{room_for}
 use Rattle.rms_units.proofs.truncating.make_cut.Goals as goal
 

@@ -37,6 +37,7 @@ returns-in-Some-clause-staged g c = λ h.
       slots = map-set slot_of items place None ∙ ap (λ (ss : Slots). set ss place None) c.self.view_is;
       current = t.current;
       touched = t.touched;
+      rest = t.rest;
       disk = t.disk;
     }
 

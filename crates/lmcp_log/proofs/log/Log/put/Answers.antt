@@ -32,6 +32,7 @@ returns-clause-staged g c =
       slots = map-set slot_of items place (Some c.copy.result) ∙ (λ k. set (c.self.view_is k) place (Some (log_record_of (c.copy.ensures k))));
       current = t.current;
       touched = t.touched;
+      rest = t.rest;
       disk = t.disk;
     }
 

@@ -10,7 +10,7 @@ use Rattle.rms_units.specs.Changing.{keys_asked, locks_refuse}
 use Rattle.rms_units.specs.State.{UnitsState, unit_of}
 use Rattle.rms_units.proofs.ChangedLemmas.{broken, changed, refused_breaks, refused_caused, refused_goes, refused_grows, refused_pool}
 use Rattle.rms_units.proofs.OrderLemmas.{placed_in}
-use Rattle.rms_units.proofs.Outcomes.{of_some, the_one}
+use Rattle.unit_cuts.proofs.Outcomes.{of_some, the_one}
 use Rattle.rms_units.proofs.units.Units.change_key.Goals as goal
 
 pub refuse_key-requires-clause-placed : goal.refuse_key-requires-clause-placed

@@ -6,7 +6,7 @@ use Rattle.vms_base.specs.Ids.{serial_of, tid_of}
 use Rattle.rms_units.specs.Calls.{Commits}
 use Rattle.rms_units.specs.State.{IsInOrder, UnitsState, unit_of, without_place}
 use Rattle.rms_units.proofs.Holding.{released_fits}
-use Rattle.rms_units.proofs.Outcomes.{of_some, the_one}
+use Rattle.unit_cuts.proofs.Outcomes.{of_some, the_one}
 use Rattle.rms_units.proofs.SettledLemmas.{commits, order_committed, room_to_commit}
 use Rattle.rms_units.proofs.units.Units.one_phase.Goals as goal
 

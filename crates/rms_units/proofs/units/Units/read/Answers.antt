@@ -11,9 +11,10 @@ use Rattle.vms_base.specs.Keys.{key_of}
 use Rattle.vms_model.specs.Ids.{Id}
 use Rattle.rms_units.specs.Calls.{MayRead, ReadRefused, ReadsErr}
 use Rattle.rms_units.specs.Changing.{keys_refused}
-use Rattle.rms_units.specs.Reading.{Finds, OfRecords}
+use Rattle.rms_units.specs.Reading.{Finds}
+use Rattle.unit_cuts.specs.Records.{OfRecords}
 use Rattle.rms_units.specs.State.{UnitsState, unit_of}
-use Rattle.rms_units.proofs.Outcomes.{of_some}
+use Rattle.unit_cuts.proofs.Outcomes.{of_some}
 use Rattle.rms_units.proofs.ReadLemmas.{hold_refused, read_allowed}
 use Rattle.record_operations.specs.Asking.{read_file_in}
 use Rattle.volume.specs.Catalogs.{head_at}

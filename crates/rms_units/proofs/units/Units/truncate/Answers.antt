@@ -9,11 +9,12 @@ use Rattle.unit_journal.proofs.Growing.{fell_grows, grows_nowhere}
 use Rattle.unit_table.specs.Units.{OpenUnit}
 use Rattle.volume.specs.State.{VolumeState}
 use Rattle.rms_units.specs.State.{UnitsState, unit_of}
-use Rattle.rms_units.specs.Truncating.{BreaksCut, ChangesCutErr, CutBroke, CutRefused, IsCut, IsTold, cut_early}
-use Rattle.rms_units.proofs.CutEntering.{same_none}
-use Rattle.rms_units.proofs.CutSofar.{leaves_told, told_of}
+use Rattle.rms_units.specs.Truncating.{ChangesCutErr, CutBroke, CutRefused, IsCut, cut_early}
+use Rattle.unit_cuts.specs.Truncating.{BreaksCut, IsTold}
+use Rattle.unit_cuts.proofs.CutEntering.{same_none}
+use Rattle.unit_cuts.proofs.CutSofar.{leaves_told, told_of}
 use Rattle.rms_units.proofs.OrderLemmas.{placed_in}
-use Rattle.rms_units.proofs.Outcomes.{of_some, the_one}
+use Rattle.unit_cuts.proofs.Outcomes.{of_some, the_one}
 use Rattle.rms_units.proofs.Refusing.{either_way, refused_so}
 use Rattle.rms_units.proofs.units.Units.truncate.Goals as goal
 use Rattle.rms_units.proofs.units.Units.truncate.Goals.{in-Err-make_cut, in-Ok-make_cut}

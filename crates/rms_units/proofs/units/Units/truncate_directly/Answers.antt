@@ -4,7 +4,8 @@ use Rattle.std.specs.Option.{option_and_then}
 use Rattle.record_operations.specs.Causes.{cause_of}
 use Rattle.unit_journal.specs.Groups.{Breaks}
 use Rattle.unit_table.specs.Units.{owed}
-use Rattle.rms_units.specs.Truncating.{CommitsCut, DirectCutBroke, DirectsCutErr, direct_cut_refused}
+use Rattle.rms_units.specs.Truncating.{DirectCutBroke, DirectsCutErr, direct_cut_refused}
+use Rattle.unit_cuts.specs.Truncating.{CommitsCut}
 use Rattle.vms_base.specs.declared.ids.Serial.{Serial}
 use Rattle.volume.specs.declared.catalog.Catalog.{Catalog}
 use Rattle.volume_format.specs.declared.home.Ending.TheVariants as ending

@@ -1,4 +1,4 @@
-use Rattle.std.proofs.Common.{◌≡◌, ◌∷◌, List, [], Option, None, replicate, subst, sym, ap, ◌∙◌, arith}
+use Rattle.std.proofs.Common.{◌≡◌, List, Option, None, replicate, subst, sym, arith}
 use Rattle.unit_table.specs.Units.{OpenUnit}
 use Rattle.unit_table.specs.Places.{AreInOrder}
 use Rattle.unit_table.proofs.OrderLemmas.{all_none, empty_in_order}

@@ -1,5 +1,0 @@
-use Rattle.std.proofs.Common.{arith}
-use Rattle.rms_units.proofs.measuring.measure.Goals as goal
-
-pub overflow_add-cut : goal.overflow_add-cut
-overflow_add-cut g c = let lies = c.removed-i-end.ensures.lies (omega arith) in let count = c.removed-i-end.ensures.fits in omega (arith, lies.1, count)

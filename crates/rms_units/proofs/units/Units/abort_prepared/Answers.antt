@@ -1,0 +1,21 @@
+-- What an aborted unit held is free, also where the disk went down.
+use Rattle.std.proofs.Common.{◌≡◌, ◌∙◌, ℕ, Some, subst}
+use Rattle.vms_base.specs.Ids.{serial_of}
+use Rattle.rms_units.specs.State.{UnitsState, unit_of}
+use Rattle.rms_units.specs.Voting.{AbortsPreparedNot}
+use Rattle.rms_units.proofs.Holding.{released_fits}
+use Rattle.rms_units.proofs.units.Units.abort_prepared.Goals as goal
+
+pub invariant_of-self : goal.invariant_of-self
+invariant_of-self g c = released_fits (serial_of c.branch-branch.result.serial) c.self.inside.locks c.abort_prepared.new.locks c.abort_prepared.ensures.locks c.self.invariant.0 c.self.invariant.1
+
+pub invariant_of-self-2 : goal.invariant_of-self-2
+invariant_of-self-2 g c = released_fits (serial_of c.branch-branch.result.serial) c.self.inside.locks c.abort_prepared.new.locks c.abort_prepared.ensures.locks c.self.invariant.0 c.self.invariant.1
+
+pub returns-in-Err-clause-err : goal.returns-in-Err-clause-err
+returns-in-Err-clause-err g c = λ u at.
+    let s : UnitsState = record { units = c.self.inside.table; locks = c.self.inside.locks.locks } in
+    let t : UnitsState = record { units = c.abort_prepared.new.table; locks = c.abort_prepared.new.locks.locks } in
+    let there : unit_of c.unit.inside.place s ≡ Some u = (λ i. unit_of (c.unit.view_is i) (c.self.view_is i)) ∙ at in
+    subst (λ (x : UnitsState). AbortsPreparedNot c.args.unit u c.args.reason c.args.clock.0 x c.args.log.now c.args.volume.now t c.abort_prepared.new.log c.abort_prepared.new.volume) c.self.view_is
+    (subst (λ (p : ℕ). AbortsPreparedNot p u c.args.reason c.args.clock.0 s c.args.log.now c.args.volume.now t c.abort_prepared.new.log c.abort_prepared.new.volume) c.unit.view_is (c.in-Err.ensures.breaks u there))

@@ -1,0 +1,27 @@
+-- What a committed unit held is free.
+use Rattle.std.proofs.Common.{◌≡◌, sym, subst}
+use Rattle.std.specs.Prelude.{option_copied}
+use Rattle.lmcp_log.specs.Log.{slot_of}
+use Rattle.unit_table.specs.Units.{OpenUnit}
+use Rattle.unit_votes.specs.Logging.{MayHave}
+use Rattle.vms_base.specs.Ids.{serial_of, tid_of}
+use Rattle.vms_model.specs.Ids.{Id}
+use Rattle.rms_units.specs.State.{unit_of}
+use Rattle.rms_units.proofs.Holding.{released_fits}
+use Rattle.unit_cuts.proofs.Outcomes.{of_some, the_one}
+use Rattle.rms_units.proofs.units.Units.commit_at.Goals as goal
+
+pub commit-requires-clause-may : goal.commit-requires-clause-may
+commit-requires-clause-may g c =
+    let o = unit_of c.args.place c.args.self.now in
+    let one = the_one o c.requires.unit in
+    let b = c.branch-branch.result in
+    let is = of_some (λ (x : OpenUnit). (tid_of b.tid ≡ x.tid) × (serial_of b.serial ≡ x.serial)) o one.0 one.1 c.branch-branch.ensures in
+    subst (λ (x : Id). MayHave x (slot_of (option_copied c.args.logged)) c.args.log.now) (sym is.1)
+    (of_some (λ (x : OpenUnit). MayHave x.serial (slot_of (option_copied c.args.logged)) c.args.log.now) o one.0 one.1 c.requires.may)
+
+pub invariant_of-self : goal.invariant_of-self
+invariant_of-self g c = released_fits (serial_of c.branch-branch.result.serial) c.self.inside.locks c.commit.new.locks c.commit.ensures.locks c.self.invariant.0 c.self.invariant.1
+
+pub invariant_of-self-2 : goal.invariant_of-self-2
+invariant_of-self-2 g c = released_fits (serial_of c.branch-branch.result.serial) c.self.inside.locks c.commit.new.locks c.commit.ensures.locks c.self.invariant.0 c.self.invariant.1

@@ -1,0 +1,4 @@
+pub mod Keeping
+pub mod Setting
+pub mod Settled
+pub mod Tied
