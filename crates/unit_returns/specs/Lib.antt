@@ -1,3 +1,0 @@
-pub mod Locking
-pub mod Returning
-pub mod Taking
