@@ -1,12 +1,13 @@
 -- What a committed unit held is free.
-use Rattle.std.proofs.Common.{◌≡◌, sym, subst}
+use Rattle.std.proofs.Common.{◌≡◌, ◌∙◌, Some, ap, sym, subst}
 use Rattle.std.specs.Prelude.{option_copied}
 use Rattle.lmcp_log.specs.Log.{slot_of}
 use Rattle.unit_table.specs.Units.{OpenUnit}
 use Rattle.unit_votes.specs.Logging.{MayHave}
 use Rattle.vms_base.specs.Ids.{serial_of, tid_of}
 use Rattle.vms_model.specs.Ids.{Id}
-use Rattle.rms_units.specs.State.{unit_of}
+use Rattle.rms_units.specs.State.{UnitsState, unit_of}
+use Rattle.rms_units.specs.Voting.{CommitsLoggedNot}
 use Rattle.rms_units.proofs.Holding.{released_fits}
 use Rattle.unit_cuts.proofs.Outcomes.{of_some, the_one}
 use Rattle.rms_units.proofs.units.Units.commit_at.Goals as goal
@@ -25,3 +26,10 @@ invariant_of-self g c = released_fits (serial_of c.branch-branch.result.serial) 
 
 pub invariant_of-self-2 : goal.invariant_of-self-2
 invariant_of-self-2 g c = released_fits (serial_of c.branch-branch.result.serial) c.self.inside.locks c.commit.new.locks c.commit.ensures.locks c.self.invariant.0 c.self.invariant.1
+
+pub returns-in-Err-clause-err : goal.returns-in-Err-clause-err
+returns-in-Err-clause-err g c = λ u at.
+    let s : UnitsState = record { units = c.self.inside.table; locks = c.self.inside.locks.locks } in
+    let t : UnitsState = record { units = c.commit.new.table; locks = c.commit.new.locks.locks } in
+    let there : unit_of c.args.place s ≡ Some u = ap (unit_of c.args.place) c.self.view_is ∙ at in
+    subst (λ (x : UnitsState). CommitsLoggedNot c.args.place u (slot_of (option_copied c.args.logged)) c.args.clock.0 x c.args.log.now c.args.volume.now t c.commit.new.log c.commit.new.volume) c.self.view_is (c.in-Err.ensures.breaks u there)
