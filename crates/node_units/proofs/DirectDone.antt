@@ -7,7 +7,7 @@ use Rattle.vms_model.specs.Keys.{Key, Number, End}
 use Rattle.unit_laws.specs.Journal.{trimmed}
 use Rattle.unit_table.specs.Places.{AreInOrder}
 use Rattle.unit_table.specs.Units.{earliest}
-use Rattle.node_units.proofs.Earliest.{earliest_seen}
+use Rattle.unit_table.proofs.BegunLemmas.{earliest_seen}
 use Rattle.volume_files.specs.Staging.{CutsFile, SetsKey}
 use Rattle.directory_model.specs.Laws.{IsChanged}
 use Rattle.rms_units.specs.Changing as keys_by

@@ -64,7 +64,8 @@ use Rattle.recovery_units.specs.State.{IsKept, IsUnitOf, UnitsState, branch_of, 
 use Rattle.unit_world.proofs.Found.{not_unit}
 use Rattle.unit_world.proofs.Leaving.{down}
 use Rattle.unit_world.proofs.Staying.{changed_set, locks_stay}
-use Rattle.node_units.proofs.Earliest.{earliest_in, first_is}
+use Rattle.unit_table.proofs.BegunLemmas.{earliest_in}
+use Rattle.node_units.proofs.Earliest.{first_is}
 use Rattle.node_units.proofs.Positions.{positions_trimmed}
 use Rattle.node_units.proofs.Settling.{each_units}
 use Rattle.node_units.proofs.SettingFile.{IsOfNode, KeepsRest, keeps_rest}

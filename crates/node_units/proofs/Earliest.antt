@@ -11,7 +11,7 @@ use Rattle.unit_laws.specs.JournalLaws.{BeginsUnsettled, is_unit}
 use Rattle.unit_laws.proofs.Tests.{or_either, or_one, or_other}
 use Rattle.unit_table.specs.Places.{AreInOrder, count_at, occurrences}
 use Rattle.unit_table.specs.Units.{OpenUnit, earlier, earliest, first_of, unit_at, units_of}
-use Rattle.unit_table.proofs.OrderLemmas.{at_below, more_here, more_there}
+use Rattle.unit_table.proofs.BegunLemmas.{earlier_either, earliest_in}
 use Rattle.commit_protocol.specs.Table.{Branch}
 use Rattle.run_model.specs.Promises.{In}
 use Rattle.run_model.specs.Running.{Each, IsRunning}
@@ -20,62 +20,6 @@ use Rattle.run_model.proofs.IdLemmas.{id_itself}
 use Rattle.restart_laws.proofs.ListLemmas.{all_as, all_of, both_as}
 use Rattle.recovery_units.specs.State.{IsUnitOf, branch_of, is_change_by, positions_of}
 use Rattle.node_units.proofs.Positions.{changes_of_units}
-use Rattle.node_units.proofs.Seeing.{counted_none, one_unit, units_other}
-
--- The earlier of two positions.
-
-earlier_none : (a : Option ℕ) → earlier a None ≡ a
-earlier_none None = refl
-earlier_none (Some m) = refl
-
-earlier_either : (a b : Option ℕ) → earlier a b ≡ earlier b a
-earlier_either None b = sym (earlier_none b)
-earlier_either (Some m) None = refl
-earlier_either (Some m) (Some n) = ap Some (omega arith)
-
-earlier_swap : (a b c : Option ℕ) → earlier a (earlier b c) ≡ earlier b (earlier a c)
-earlier_swap None b c = refl
-earlier_swap (Some m) None c = refl
-earlier_swap (Some m) (Some n) None = ap Some (omega arith)
-earlier_swap (Some m) (Some n) (Some k) = ap Some (omega arith)
-
--- Units at their places, and in their order.
-
-abbrev pub earliest_in : List OpenUnit → Option ℕ
-earliest_in [] = None
-earliest_in (u ∷ us) = earlier (first_of u.positions) (earliest_in us)
-
-earliest_step : (us : List (Option OpenUnit)) (i : ℕ) (u : OpenUnit) → unit_at us i ≡ Some u → earliest us ≡ earlier (first_of u.positions) (earliest (slice_set us i None))
-earliest_step [] i u there = let never : ⊥ = cc in absurd never
-earliest_step (None ∷ us) zero u there = let never : ⊥ = cc in absurd never
-earliest_step (Some w ∷ us) zero u there = ap (λ (x : OpenUnit). earlier (first_of x.positions) (earliest us)) (one_unit w u there)
-earliest_step (None ∷ us) (suc i) u there = earliest_step us i u there
-earliest_step (Some w ∷ us) (suc i) u there =
-    ap (earlier (first_of w.positions)) (earliest_step us i u there) ∙ earlier_swap (first_of w.positions) (first_of u.positions) (earliest (slice_set us i None))
-
-earliest_none : (us : List (Option OpenUnit)) → ((p : ℕ) → unit_at us p ≡ None) → earliest us ≡ None
-earliest_none [] none = refl
-earliest_none (None ∷ us) none = earliest_none us (λ p. none (suc p))
-earliest_none (Some u ∷ us) none = let never : ⊥ = (let e : ◌≡◌ {A = Option OpenUnit} (Some u) None = none 0 in cc) in absurd never
-
-earliest_order : (order : List ℕ) (us : List (Option OpenUnit)) → ((p : ℕ) → occurrences p order ≡ count_at (unit_at us p)) → earliest us ≡ earliest_in (units_of us order)
-earliest_order [] us each = earliest_none us (λ p. counted_none (unit_at us p) (each p))
-earliest_order (q ∷ qs) us each = go (unit_at us q) refl (earliest_order qs (slice_set us q None))
-  where
-    go : (o : Option OpenUnit) → unit_at us q ≡ o → (((p : ℕ) → occurrences p qs ≡ count_at (unit_at (slice_set us q None) p)) → earliest (slice_set us q None) ≡ earliest_in (units_of (slice_set us q None) qs)) →
-        earliest us ≡ earliest_in (elim o [ Some u ↦ u ∷ units_of us qs | None ↦ units_of us qs ])
-    go None there rest = let one = sym (more_here q qs) ∙ each q ∙ ap count_at there in absurd (omega (arith, one))
-    go (Some u) there rest =
-        let none : occurrences q qs ≡ 0 = (let one : suc (occurrences q qs) ≡ 1 = sym (more_here q qs) ∙ each q ∙ ap count_at there in omega (arith, one)) in
-        let below = at_below us q (subst IsSome (sym there) refl) in
-        let later : (p : ℕ) → occurrences p qs ≡ count_at (unit_at (slice_set us q None) p) = λ p. elim (cases_eq p q) [
-          | inl same ↦ ap (λ k. occurrences k qs) same ∙ none ∙ ap count_at (sym (get_or-set_same us q None None below)) ∙ ap (λ k. count_at (unit_at (slice_set us q None) k)) (sym same)
-          | inr apart ↦ sym (more_there p q qs (λ e. apart (sym e))) ∙ each p ∙ ap count_at (sym (get_or-set_other us q p None None apart))
-        ] in
-        earliest_step us q u there ∙ ap (earlier (first_of u.positions)) (rest later ∙ ap earliest_in (units_other us q None qs none))
-
-pub earliest_seen : (places : List (Option OpenUnit)) (order : List ℕ) → AreInOrder places order → earliest places ≡ earliest_in (units_of places order)
-earliest_seen places order at = earliest_order order places at.each
 
 -- Where the first entry of a kind begins.
 

@@ -16,7 +16,7 @@ use Rattle.commit_protocol.specs.Table.{Branch}
 use Rattle.rms_units.specs.State as rms
 use Rattle.recovery_units.specs.State.{branch_of, without_begun, without_unit}
 use Rattle.node_units.specs.Seen.{seen}
-use Rattle.node_units.proofs.Seeing.{units_other}
+use Rattle.unit_table.proofs.BegunLemmas.{units_other}
 
 -- The unit at a place is one of those that were begun.
 

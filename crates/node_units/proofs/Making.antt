@@ -35,7 +35,7 @@ use Rattle.rms_units.specs.State as rms
 use Rattle.rms_units.proofs.RoomLemmas.{room_to_settle}
 use Rattle.recovery_units.specs.State.{IsKept, IsUnitOf, UnitsState, branch_of, is_change_by, positions_of, without_begun}
 use Rattle.node_units.specs.Seen.{seen}
-use Rattle.node_units.proofs.Earliest.{earliest_in, earliest_seen}
+use Rattle.unit_table.proofs.BegunLemmas.{earliest_in, earliest_seen}
 use Rattle.node_units.proofs.Going.{begun_without, found_unit, unit_seen}
 use Rattle.node_units.proofs.Positions.{had_still}
 use Rattle.node_units.proofs.Settling.{all_at, first_settled, may_settle, unsettled}

@@ -15,7 +15,7 @@ use Rattle.journal_model.specs.Ring.{IsJournal, ring_size}
 use Rattle.ru_journal.specs.Told.{UnitTold, nothing_told, told_by}
 use Rattle.volume.specs.Catalogs.{IsSound, TellsCatalog}
 use Rattle.volume.specs.State.{VolumeState}
-use Rattle.unit_aborts.specs.Reopening.{AreUnits, BreaksUnit, HasTaken, IsBroken, Reopens, ReopensNot, TakesUnit, aborting, broken, finding, full, left_in, left_unit, prepared, reading, taken, undone}
+use Rattle.unit_aborts.specs.Reopening.{AreFound, AreUnits, BreaksUnit, HasTaken, Reopens, ReopensNot, UndoesOne, aborting, broken, but_next, full, left_after, left_unit, left_units, next_of, reading, taken}
 use Rattle.unit_aborts.specs.declared.reopening.AbortedUnit.{AbortedUnit}
 use Rattle.unit_entries.specs.Reading.{AreInOrder, placed}
 use Rattle.unit_entries.specs.Reading as entries
@@ -48,7 +48,7 @@ use Rattle.node_units.proofs.Alike.{next_alike, positions_alike}
 use Rattle.node_units.proofs.Earliest.{first_by}
 use Rattle.node_units.proofs.Standing.{entries_stand}
 use Rattle.node_units.proofs.Telling.{AreTold, IsTold, unit_shown, units_told}
-use Rattle.node_units.proofs.Undoing.{Stage, earliest_told, fails_before, fails_last, fails_on_the_way, found, next_stage, unsettled}
+use Rattle.node_units.proofs.Undoing.{AreWhere, Stage, earliest_told, entered, fails_before, fails_last, fails_on_the_way, next_stage, stay_next}
 
 -- how a settlement of a restart is told
 abbrev pub unit_settled : AbortedUnit → SettledUnit
@@ -107,63 +107,53 @@ behind_all (u ∷ us) = behind_all us
 
 -- Where the units that are left begin.
 
-not_zero : (i : ℕ) → (suc i == 0) ≡ false
-not_zero i = grind (arith, nat_tests)
-
 some_changes : (k : ℕ) → 1 ≤ k → nat_lt 0 k ≡ true
 some_changes k le = grind (arith, nat_tests, le)
 
-left_begins : (f : Id → Option ℕ) (i : ℕ) (us : List UnitTold) → AllByRecursion (IsTold f) us → earliest (left_in i us) ≡ earliest_told (behind i us)
-left_begins f zero [] all = refl
-left_begins f (suc i) [] all = refl
-left_begins f zero (u ∷ us) all =
-    (λ k. earliest (left_unit u (if some_changes u.changes all.0.some k then Some u.first else None) ∷ left_in 0 us))
-    ∙ ap (earlier (Some u.first)) (left_begins f zero us all.1)
-left_begins f (suc i) (u ∷ us) all =
-    let less : suc i - 1 ≡ i = omega arith in
-    (λ k. earliest (left_unit u (if ((not_zero i k || all.0.active k) && nat_lt 0 u.changes) then Some u.first else None) ∷ left_in (less k) us))
-    ∙ left_begins f i us all.1
+left_begins : (f : Id → Option ℕ) (us : List UnitTold) → AllByRecursion (IsTold f) us → earliest (left_units us) ≡ earliest_told us
+left_begins f [] all = refl
+left_begins f (u ∷ us) all =
+    (λ k. earliest (left_unit u (if some_changes u.changes all.0.some k then Some u.first else None) ∷ left_units us))
+    ∙ ap (earlier (Some u.first)) (left_begins f us all.1)
 
--- How many changes a unit made.
+-- Where all units are active, those that are left are the ones behind.
 
-abbrev count_in : Id → List RecoveryUnit → ℕ
-count_in x us = elim (find_unit x us) [ Some r ↦ r.changes | None ↦ 0 ]
+abbrev AreActive : List UnitTold → Type 0
+AreActive us = AllByRecursion (λ (u : UnitTold). u.prepared ≡ false) us
 
-abbrev count_of : Option RecoveryUnit → ℕ
-count_of o = elim o [ Some r ↦ r.changes | None ↦ 0 ]
+told_active : (f : Id → Option ℕ) (us : List UnitTold) → AllByRecursion (IsTold f) us → AreActive us
+told_active f [] all = tt
+told_active f (u ∷ us) all = (all.0.active, told_active f us all.1)
 
-count_after : (x : Id) (e : JournalEntry) (us : List RecoveryUnit) → is_settling x e ≡ false → count_in x (units_after e us) ≡ count_in x us + (if is_change_by x e then 1 else 0)
-count_after x (ChangeEntry tid by file key before) us off = ap count_of (found_changed x tid by us) ∙ go (same_id x by) refl
-  where
-    more : (o : Option RecoveryUnit) → count_of (Some (with_more 1 (unit_or_new tid by o))) ≡ count_of o + 1
-    more None = refl
-    more (Some r) = refl
+behind_but : (i : ℕ) (us : List UnitTold) → AreActive us → but_next (behind i us) ≡ behind (suc i) us
+behind_but zero [] all = refl
+behind_but zero (u ∷ us) all = ap (λ (b : Bool). if b then u ∷ but_next us else us) all.0
+behind_but (suc i) [] all = refl
+behind_but (suc i) (u ∷ us) all = behind_but i us all.1
 
-    go : (b : Bool) → same_id x by ≡ b → count_of (if b then Some (with_more 1 (unit_or_new tid by (find_unit by us))) else find_unit x us) ≡ count_in x us + (if b then 1 else 0)
-    go true same = more (find_unit by us) ∙ ap (λ (y : Id). count_in y us + 1) (sym (id_is x by same))
-    go false other = omega arith
-count_after x (PreparedEntry tid by) us off = ap count_of (found_prepared x by us) ∙ go (same_id x by) (find_unit x us)
-  where
-    go : (b : Bool) (o : Option RecoveryUnit) → count_of (if b then elim o as (λ _. Option RecoveryUnit) [ Some r ↦ Some (record r { prepared = true }) | None ↦ None ] else o) ≡ count_of o + 0
-    go true None = refl
-    go true (Some r) = omega arith
-    go false None = refl
-    go false (Some r) = omega arith
-count_after x (SettledEntry tid by outcome moment) us off = ap count_of (found_settled x by us) ∙ go (same_id x by) off
-  where
-    go : (b : Bool) → b ≡ false → count_of (if b then None else find_unit x us) ≡ count_in x us + 0
-    go true k = let never : ⊥ = cc in absurd never
-    go false k = omega arith
+left_behind : (i : ℕ) (us : List UnitTold) → AreActive us → left_after i us ≡ behind i us
+left_behind zero us all = refl
+left_behind (suc i) us all = ap but_next (left_behind i us all) ∙ behind_but i us all
 
-counts : (x : Id) (p : ℕ) (es : List JournalEntry) (us : List RecoveryUnit) → is_settled_in x es ≡ false → count_in x (units_onto us es) ≡ count_in x us + length (positions_of x p es)
-counts x p [] us off = omega arith
-counts x p (e ∷ es) us off =
-    let parts = or_parts (is_settling x e) (is_settled_in x es) off in
-    counts x (p + entry_size e) es (units_after e us) parts.1 ∙ ap (λ (k : ℕ). k + length (positions_of x (p + entry_size e) es)) (count_after x e us parts.0) ∙ go (is_change_by x e)
-  where
-    go : (b : Bool) → count_in x us + (if b then 1 else 0) + length (positions_of x (p + entry_size e) es) ≡ count_in x us + length (if b then p ∷ positions_of x (p + entry_size e) es else positions_of x (p + entry_size e) es)
-    go true = omega arith
-    go false = omega arith
+next_got : (i : ℕ) (us : List UnitTold) (u : UnitTold) → AreActive us → next_of (behind i us) ≡ Some u → slice_get us i ≡ Some u
+next_got zero [] u all at = let never : ⊥ = cc in absurd never
+next_got zero (w ∷ us) u all at = sym (ap (λ (b : Bool). if b then next_of us else Some w) all.0) ∙ at
+next_got (suc i) [] u all at = let never : ⊥ = cc in absurd never
+next_got (suc i) (w ∷ us) u all at = next_got i us u all.1 at
+
+none_behind : (i : ℕ) (us : List UnitTold) → AreActive us → next_of (behind i us) ≡ None → length us ≤ i
+none_behind zero [] all none = omega arith
+none_behind zero (w ∷ us) all none = let never : ⊥ = (let e : ◌≡◌ {A = Option UnitTold} (Some w) None = sym (ap (λ (b : Bool). if b then next_of us else Some w) all.0) ∙ none in cc) in absurd never
+none_behind (suc i) [] all none = omega arith
+none_behind (suc i) (w ∷ us) all none = let rest = none_behind i us all.1 none in omega (arith, rest)
+
+where_on : (f : Id → List ℕ) (m next : Node) (us : List UnitTold) → AreWhere f m us → AreWhere (λ (x : Id). positions_of x m.durable.units.first m.durable.units.entries) next us → AreWhere f next us
+where_on f m next [] here on = tt
+where_on f m next (u ∷ us) here on = (here.0 ∙ on.0, where_on f m next us here.1 on.1)
+
+where_first : (m : Node) (us : List UnitTold) → AreWhere (λ (x : Id). positions_of x m.durable.units.first m.durable.units.entries) m us
+where_first m [] = tt
+where_first m (u ∷ us) = (refl, where_first m us)
 
 -- Units are taken one after another.
 
@@ -171,8 +161,17 @@ module _ (clock most size : ℕ) (us : List UnitTold) (v : VolumeState) (n : Nod
   abbrev node : ℕ → Node
   node i = after_undone i n (map unit_shown us)
 
-  abbrev Taken : ℕ → VolumeState → List AbortedUnit → Type 0
-  Taken i mid out = Stage clock (most + i) size (behind i us) mid (node i) × (map (λ (t : AbortedUnit). told_settlement (unit_settled t)) out ≡ settlements_of i n (map unit_shown us))
+  are_active : AreActive us
+  are_active = told_active (λ (x : Id). first_by (is_change_by x) n.durable.units.first n.durable.units.entries) us begun.units.each
+
+  -- where the changes of a branch began
+  abbrev first_places : Id → List ℕ
+  first_places x = positions_of x n.durable.units.first n.durable.units.entries
+
+  pub record Taken (i : ℕ) (mid : VolumeState) (out : List AbortedUnit) : Type 0 where
+    pub stage : Stage clock (most + i) size (behind i us) mid (node i)
+    pub told : map (λ (t : AbortedUnit). told_settlement (unit_settled t)) out ≡ settlements_of i n (map unit_shown us)
+    pub places : AreWhere first_places (node i) (behind i us)
 
   late_at : (i : ℕ) → clock ≤ most + i
   late_at i = omega (arith, late)
@@ -180,50 +179,58 @@ module _ (clock most size : ℕ) (us : List UnitTold) (v : VolumeState) (n : Nod
   far_at : (i : ℕ) → i ≤ 64 → most + i < 24113056319999
   far_at i le = omega (arith, le, far)
 
-  -- its journal is not broken
-  not_broken : (i : ℕ) → i ≤ 64 → (u : UnitTold) (rest : List UnitTold) (mid : VolumeState) (m : Node) → Stage clock (most + i) size (u ∷ rest) mid m → IsBroken u.serial mid → ⊥
-  not_broken i le u rest mid m at is =
-      let j = at.leaves.journal in
-      let there = found clock (most + i) size u rest mid m at (late_at i) (far_at i le) in
-      let off = unsettled clock (most + i) size u rest mid m at (late_at i) (far_at i le) in
-      let many = counts u.serial mid.catalog.ru.first m.durable.units.entries [] off in
-      let changes = ap count_of there in
-      let most_changes : u.changes ≤ 1024 = (few_in _ at.leaves.order.few).changes u.serial (unit_shown u) there in
-      let alike = ap length (positions_alike mid.catalog.heads u.serial mid.catalog.ru.first m.durable.units.entries j.entries j.alike j.is.each) in
-      subst (λ o. IfSome o (λ c. (es : List Entry) → IsJournal c mid.catalog.ru es → length (entries.positions_of u.serial (placed mid.catalog.ru.first es)) ≤ 1024 → ⊥)) at.told is j.entries j.is
-      (omega (arith, many, changes, most_changes, alike))
+  pub got_next : (i : ℕ) (u : UnitTold) → next_of (left_after i us) ≡ Some u → slice_get us i ≡ Some u
+  got_next i u at = next_got i us u are_active (ap next_of (sym (left_behind i us are_active)) ∙ at)
 
-  one : (i : ℕ) (u : UnitTold) (mid w : VolumeState) (out new : List AbortedUnit) → slice_get us i ≡ Some u → i ≤ 64 → Taken i mid out → TakesUnit clock u (left_in (suc i) us) mid w out new → Taken (suc i) w new
-  one i u mid w out new got le so_far takes = go takes
-    where
-      at : Stage clock (most + i) size (u ∷ behind (suc i) us) mid (node i)
-      at = subst (λ (xs : List UnitTold). Stage clock (most + i) size xs mid (node i)) (behind_next us i u got) so_far.0
+  -- the changes that were found at first are those that its entries have now
+  pub found_now : (i : ℕ) (u : UnitTold) (mid : VolumeState) (at : Stage clock (most + i) size (u ∷ behind (suc i) us) mid (node i)) → i ≤ 64 → AreWhere first_places (node i) (u ∷ behind (suc i) us) → (ps : List ℕ) → AreFound u.serial v ps →
+      ps ≡ entries.positions_of u.serial (placed mid.catalog.ru.first at.leaves.journal.entries)
+  found_now i u mid at le places ps found =
+      let j = begun.leaves.journal in
+      subst (λ o. IfSome o (λ c. (es : List Entry) → IsJournal c v.catalog.ru es → ps ≡ entries.positions_of u.serial (placed v.catalog.ru.first es))) begun.told found j.entries j.is
+      ∙ positions_alike v.catalog.heads u.serial v.catalog.ru.first n.durable.units.entries j.entries j.alike j.is.each
+      ∙ ap (λ (p : ℕ). positions_of u.serial p n.durable.units.entries) j.first ∙ places.0
+      ∙ sym (entered clock (most + i) size u (behind (suc i) us) mid (node i) at (late_at i) (far_at i le))
 
-      go : TakesUnit clock u (left_in (suc i) us) mid w out new → Taken (suc i) w new
-      go (prepared is same told) = absurd (both_ways _ at.units.each.0.active is)
-      go (broken wrong same told) = absurd (not_broken i le u (behind (suc i) us) mid (node i) at wrong)
-      go (undone t is told) =
-          let j = at.leaves.journal in
-          let places : is.positions ≡ entries.positions_of u.serial (placed mid.catalog.ru.first j.entries) =
-          subst (λ o. IfSome o (λ c. (es : List Entry) → IsJournal c mid.catalog.ru es → is.positions ≡ entries.positions_of u.serial (placed mid.catalog.ru.first es))) at.told is.found j.entries j.is in
-          let left = left_begins (λ (x : Id). first_by (is_change_by x) n.durable.units.first n.durable.units.entries) (suc i) us begun.units.each in
-          let stage = next_stage clock (most + i) size u (behind (suc i) us) mid (node i) at (late_at i) (far_at i le) is.positions places t.tid t.serial is.tid is.serial t.moment.0 is.moment (left_in (suc i) us) left
-          is.aborts.mid is.aborts.goes is.aborts.undoes w is.aborts.makes is.idle in
-          let moment : t.moment.0 ≡ next_moment (node i) = is.moment ∙ next_alike clock mid.catalog.home (node i) at.leaves.home at.same in
-          let next : most + i + 1 ≡ most + suc i = omega arith in (
-            subst (λ (k : ℕ). Stage clock k size (behind (suc i) us) w (node (suc i))) next (subst (λ (m : Node). Stage clock (most + i + 1) size (behind (suc i) us) w m) (sym (after_next us i u n got)) stage),
+  pub left_now : (i : ℕ) (u : UnitTold) (mid : VolumeState) → Stage clock (most + i) size (u ∷ behind (suc i) us) mid (node i) → earliest (left_units (left_after (suc i) us)) ≡ earliest_told (behind (suc i) us)
+  left_now i u mid at =
+      ap (λ (ws : List UnitTold). earliest (left_units ws)) (left_behind (suc i) us are_active)
+      ∙ left_begins (λ (x : Id). first_by (is_change_by x) (node i).durable.units.first (node i).durable.units.entries) (behind (suc i) us) at.units.each.1
+
+  one : (i : ℕ) (u : UnitTold) (t : AbortedUnit) (mid w : VolumeState) (out new : List AbortedUnit) → slice_get us i ≡ Some u → i ≤ 64 → Taken i mid out → UndoesOne clock u (left_units (left_after (suc i) us)) t v mid w → new ≡ out ++ t ∷ [] → Taken (suc i) w new
+  one i u t mid w out new got le so_far is told =
+      let at : Stage clock (most + i) size (u ∷ behind (suc i) us) mid (node i) = subst (λ (xs : List UnitTold). Stage clock (most + i) size xs mid (node i)) (behind_next us i u got) so_far.stage in
+      let where_ : AreWhere first_places (node i) (u ∷ behind (suc i) us) = subst (AreWhere first_places (node i)) (behind_next us i u got) so_far.places in
+      let places = found_now i u mid at le where_ is.positions is.found in
+      let stage = next_stage clock (most + i) size u (behind (suc i) us) mid (node i) at (late_at i) (far_at i le) is.positions places t.tid t.serial is.tid is.serial t.moment.0 is.moment (left_units (left_after (suc i) us)) (left_now i u mid at)
+      is.aborts.mid is.aborts.goes is.aborts.undoes w is.aborts.makes is.idle in
+      let moment : t.moment.0 ≡ next_moment (node i) = is.moment ∙ next_alike clock mid.catalog.home (node i) at.leaves.home at.same in
+      let next : most + i + 1 ≡ most + suc i = omega arith in
+      record {
+        stage = subst (λ (k : ℕ). Stage clock k size (behind (suc i) us) w (node (suc i))) next (subst (λ (m : Node). Stage clock (most + i + 1) size (behind (suc i) us) w m) (sym (after_next us i u n got)) stage);
+        told =
             ap (map (λ (x : AbortedUnit). told_settlement (unit_settled x))) told ∙ map-append (λ (x : AbortedUnit). told_settlement (unit_settled x)) out (t ∷ [])
-                ∙ (λ k. so_far.1 k ++ record { tid = is.tid k; serial = is.serial k; outcome = model.Abort; reason = Some model.SegFail; moment = moment k } ∷ [])
-                ∙ sym (settlements_next us i u n got),
-          )
+            ∙ (λ k. so_far.told k ++ record { tid = is.tid k; serial = is.serial k; outcome = model.Abort; reason = Some model.SegFail; moment = moment k } ∷ [])
+            ∙ sym (settlements_next us i u n got);
+        places = subst (λ (m : Node). AreWhere first_places m (behind (suc i) us)) (sym (after_next us i u n got))
+            (where_on first_places (node i) (acted (undone_act (node i) (unit_shown u)) (node i)) (behind (suc i) us) where_.1 (stay_next clock (most + i) size u (behind (suc i) us) mid (node i) at (late_at i) (far_at i le)));
+      }
 
-  pub taken_on : (i : ℕ) (mid : VolumeState) (out : List AbortedUnit) → i ≤ 64 → HasTaken clock us i v mid out → Taken i mid out
-  taken_on zero mid out le h =
-      let none : most ≡ most + 0 = omega arith in (
-        subst (λ (k : ℕ). Stage clock k size us mid n) none (subst (λ (x : VolumeState). Stage clock most size us x n) (sym h.0) begun),
-        ap (map (λ (x : AbortedUnit). told_settlement (unit_settled x))) h.1,
-      )
-  taken_on (suc i) mid out le h = one i h.2 h.0 mid h.1 out h.4 (omega (arith, le)) (taken_on i h.0 h.1 (omega (arith, le)) h.3) h.5
+  pub taken_few : (i : ℕ) (mid : VolumeState) (out : List AbortedUnit) → HasTaken clock us i v mid out → i ≤ length us
+  taken_few zero mid out h = omega arith
+  taken_few (suc i) mid out h = let within = got_within us i h.2 (got_next i h.2 h.5) in omega (arith, within)
+
+  pub taken_on : (i : ℕ) (mid : VolumeState) (out : List AbortedUnit) → HasTaken clock us i v mid out → Taken i mid out
+  taken_on zero mid out h =
+      let none : most ≡ most + 0 = omega arith in
+      record {
+        stage = subst (λ (k : ℕ). Stage clock k size us mid n) none (subst (λ (x : VolumeState). Stage clock most size us x n) (sym h.0) begun);
+        told = ap (map (λ (x : AbortedUnit). told_settlement (unit_settled x))) h.1;
+        places = where_first n us;
+      }
+  taken_on (suc i) mid out h =
+      let got = got_next i h.2 h.5 in let within = got_within us i h.2 got in
+      one i h.2 h.3 h.0 mid h.1 out got (omega (arith, within, few)) (taken_on i h.0 h.1 h.4) h.6 h.7
 
 -- A restart.
 
@@ -310,11 +317,11 @@ module _ (clock : ℕ) (v w : VolumeState) (n : Node) (out : List AbortedUnit) (
 
   -- all are undone
   module _ (has : HasTaken clock us (length us) v w out) (size : w.store.disk.size ≡ v.store.disk.size) where
-    all_taken : Stage clock (24000001000066 + length us) v.store.disk.size (behind (length us) us) w last × (map (λ (t : AbortedUnit). told_settlement (unit_settled t)) out ≡ settlements_of (length us) n (map unit_shown us))
-    all_taken = taken_on clock 24000001000066 v.store.disk.size us v n start (omega (arith, before)) (omega arith) few (length us) w out few has
+    all_taken : Taken clock 24000001000066 v.store.disk.size us v n start (omega (arith, before)) (omega arith) few (length us) w out
+    all_taken = taken_on clock 24000001000066 v.store.disk.size us v n start (omega (arith, before)) (omega arith) few (length us) w out has
 
     at : Stage clock (24000001000066 + length us) v.store.disk.size [] w last
-    at = subst (λ (xs : List UnitTold). Stage clock (24000001000066 + length us) v.store.disk.size xs w last) (behind_all us) all_taken.0
+    at = subst (λ (xs : List UnitTold). Stage clock (24000001000066 + length us) v.store.disk.size xs w last) (behind_all us) all_taken.stage
 
     none_left : units_in last.durable.units.entries ≡ []
     none_left = sym at.units.units
@@ -347,7 +354,7 @@ module _ (clock : ℕ) (v w : VolumeState) (n : Node) (out : List AbortedUnit) (
     undone_all k rs is long =
         let count : length us ≡ k = sym (length-map us unit_shown) ∙ sym (ap length is) ∙ sym long in
         subst (λ (xs : List RecoveryUnit). IsKept nothing_begun w (after_undone k n xs) × (map (λ (t : AbortedUnit). told_settlement (unit_settled t)) out ≡ settlements_of k n xs)) (sym is)
-        (subst (λ (i : ℕ). IsKept nothing_begun w (after_undone i n (map unit_shown us)) × (map (λ (t : AbortedUnit). told_settlement (unit_settled t)) out ≡ settlements_of i n (map unit_shown us))) count (kept_last, all_taken.1))
+        (subst (λ (i : ℕ). IsKept nothing_begun w (after_undone i n (map unit_shown us)) × (map (λ (t : AbortedUnit). told_settlement (unit_settled t)) out ≡ settlements_of i n (map unit_shown us))) count (kept_last, all_taken.told))
 
     pub to_all : ReopensTo (map unit_settled out) n nothing_begun w
     to_all =
@@ -377,9 +384,14 @@ module _ (clock : ℕ) (v w : VolumeState) (n : Node) (out : List AbortedUnit) (
       let is_us : these ≡ us = subst (λ o. IfSome o (λ c. (ds : List Entry) → IsJournal c v.catalog.ru ds → these ≡ (told_by (placed v.catalog.ru.first ds)).units)) r.told are es r.leaves.journal.is in
       let as_long = ap length is_us in
       absurd (omega (arith, over, as_long, fits, spans))
-  reopens_to size (taken these are has) =
+  reopens_to size (taken these many_taken are has none) =
       let is_us : these ≡ us = subst (λ o. IfSome o (λ c. (ds : List Entry) → IsJournal c v.catalog.ru ds → these ≡ (told_by (placed v.catalog.ru.first ds)).units)) r.told are es r.leaves.journal.is in
-      to_all (subst (λ (xs : List UnitTold). HasTaken clock xs (length xs) v w out) is_us has) size
+      let has_us = subst (λ (xs : List UnitTold). HasTaken clock xs many_taken v w out) is_us has in
+      let active_us = told_active (λ (x : Id). first_by (is_change_by x) n.durable.units.first n.durable.units.entries) us told.each in
+      let past = none_behind many_taken us active_us (ap next_of (sym (left_behind many_taken us active_us) ∙ ap (left_after many_taken) (sym is_us)) ∙ none) in
+      let upto = taken_few clock 24000001000066 v.store.disk.size us v n start (omega (arith, before)) (omega arith) few many_taken w out has_us in
+      let all : many_taken ≡ length us = omega (arith, past, upto) in
+      to_all (subst (λ (k : ℕ). HasTaken clock us k v w out) all has_us) size
 
   -- The disk goes down.
 
@@ -410,19 +422,18 @@ module _ (clock : ℕ) (v w : VolumeState) (n : Node) (out : List AbortedUnit) (
             (record { catalog = x.catalog; tells = is.tells; sound = is.sound; leaves = λ whole. volume_left_fallen is.content x.catalog m act is.leaves })),
       ))
 
-  taken_at : (i : ℕ) (mid : VolumeState) (so_far : List AbortedUnit) → i ≤ length us → HasTaken clock us i v mid so_far →
-      Stage clock (24000001000066 + i) v.store.disk.size (behind i us) mid (node_after i) × (map (λ (t : AbortedUnit). told_settlement (unit_settled t)) so_far ≡ settlements_of i n (map unit_shown us))
-  taken_at i mid so_far le has = taken_on clock 24000001000066 v.store.disk.size us v n start (omega (arith, before)) (omega arith) few i mid so_far (let most = few in omega (arith, le, most)) has
+  taken_at : (i : ℕ) (mid : VolumeState) (so_far : List AbortedUnit) → HasTaken clock us i v mid so_far → Taken clock 24000001000066 v.store.disk.size us v n start (omega (arith, before)) (omega arith) few i mid so_far
+  taken_at i mid so_far has = taken_on clock 24000001000066 v.store.disk.size us v n start (omega (arith, before)) (omega arith) few i mid so_far has
 
   -- where it goes down in the abort of one
-  breaks_unit : (i : ℕ) (mid : VolumeState) (u : UnitTold) → slice_get us i ≡ Some u → HasTaken clock us i v mid out → BreaksUnit clock u (left_in (suc i) us) mid w → HasDisk (fallen (undone_next i n (map unit_shown us)) (node_after i)) w.store.disk
+  breaks_unit : (i : ℕ) (mid : VolumeState) (u : UnitTold) → slice_get us i ≡ Some u → HasTaken clock us i v mid out → BreaksUnit clock u (left_units (left_after (suc i) us)) v mid w → HasDisk (fallen (undone_next i n (map unit_shown us)) (node_after i)) w.store.disk
   breaks_unit i mid u got has breaks = subst (λ (act : Option Act). HasDisk (fallen act (node_after i)) w.store.disk) (sym (act_next us i u n got)) (elim breaks.breaks [
     | inl fails ↦ fails_on_the_way clock (24000001000066 + i) v.store.disk.size u (behind (suc i) us) mid (node_after i) at late far breaks.positions places act w fails
     | inr last ↦ elim last.breaks [
       | inl old ↦ fails_before clock (24000001000066 + i) v.store.disk.size u (behind (suc i) us) mid (node_after i) at late far breaks.positions places breaks.tid breaks.serial breaks.same_tid breaks.same_serial (moment_next clock mid.catalog.home) refl
-          (left_in (suc i) us) left last.mid last.goes last.undoes act w old
+          (left_units (left_after (suc i) us)) left last.mid last.goes last.undoes act w old
       | inr either ↦ fails_last clock (24000001000066 + i) v.store.disk.size u (behind (suc i) us) mid (node_after i) at late far breaks.positions places breaks.tid breaks.serial breaks.same_tid breaks.same_serial (moment_next clock mid.catalog.home) refl
-          (left_in (suc i) us) left last.mid last.goes last.undoes either.made either.is w either.either
+          (left_units (left_after (suc i) us)) left last.mid last.goes last.undoes either.made either.is w either.either
     ]
   ])
     where
@@ -439,28 +450,25 @@ module _ (clock : ℕ) (v w : VolumeState) (n : Node) (out : List AbortedUnit) (
       far = let most = few in omega (arith, most, within)
 
       at : Stage clock (24000001000066 + i) v.store.disk.size (u ∷ behind (suc i) us) mid (node_after i)
-      at = subst (λ (xs : List UnitTold). Stage clock (24000001000066 + i) v.store.disk.size xs mid (node_after i)) (behind_next us i u got) (taken_at i mid out (omega (arith, within)) has).0
+      at = subst (λ (xs : List UnitTold). Stage clock (24000001000066 + i) v.store.disk.size xs mid (node_after i)) (behind_next us i u got) (taken_at i mid out has).stage
 
       places : breaks.positions ≡ entries.positions_of u.serial (placed mid.catalog.ru.first at.leaves.journal.entries)
-      places = subst (λ o. IfSome o (λ c. (ds : List Entry) → IsJournal c mid.catalog.ru ds → breaks.positions ≡ entries.positions_of u.serial (placed mid.catalog.ru.first ds))) at.told breaks.found at.leaves.journal.entries at.leaves.journal.is
+      places = found_now clock 24000001000066 v.store.disk.size us v n start (omega (arith, before)) (omega arith) few i u mid at (let most = few in omega (arith, most, within))
+          (subst (AreWhere (λ (x : Id). positions_of x n.durable.units.first n.durable.units.entries) (node_after i)) (behind_next us i u got) (taken_at i mid out has).places) breaks.positions breaks.found
 
-      left : earliest (left_in (suc i) us) ≡ earliest_told (behind (suc i) us)
-      left = left_begins (λ (x : Id). first_by (is_change_by x) n.durable.units.first n.durable.units.entries) (suc i) us told.each
+      left : earliest (left_units (left_after (suc i) us)) ≡ earliest_told (behind (suc i) us)
+      left = left_now clock 24000001000066 v.store.disk.size us v n start (omega (arith, before)) (omega arith) few i u mid at
 
   pub breaks_after : ReopensNot clock v w out → BreaksAfter (map unit_settled out) n w.store.disk
   breaks_after (reading old nothing) = so_many 0 (omega arith) (ap (map (λ (t : AbortedUnit). told_settlement (unit_settled t))) nothing) (left_fails 24000001000066 us v n start old (undone_next 0 n (map unit_shown us)))
-  breaks_after (finding these i mid are lt has old) =
+  breaks_after (aborting these i mid u are next has breaks) =
       let is_us = these_are these are in
-      let within : i < length us = (let same = ap length is_us in omega (arith, lt, same)) in
-      let done = taken_at i mid out (omega (arith, within)) (subst (λ (xs : List UnitTold). HasTaken clock xs i v mid out) is_us has) in
-      so_many i (omega (arith, within)) done.1 (left_fails (24000001000066 + i) (behind i us) mid (node_after i) done.0 old (undone_next i n (map unit_shown us)))
-  breaks_after (aborting these i mid u are got has breaks) =
-      let is_us = these_are these are in
-      let there : slice_get us i ≡ Some u = ap (λ (xs : List UnitTold). slice_get xs i) (sym is_us) ∙ got in
+      let next_us : next_of (left_after i us) ≡ Some u = ap (λ (xs : List UnitTold). next_of (left_after i xs)) (sym is_us) ∙ next in
+      let there = got_next clock 24000001000066 v.store.disk.size us v n start (omega (arith, before)) (omega arith) few i u next_us in
       let within = got_within us i u there in
       let taken_so = subst (λ (xs : List UnitTold). HasTaken clock xs i v mid out) is_us has in
-      so_many i (omega (arith, within)) (taken_at i mid out (omega (arith, within)) taken_so).1
-      (breaks_unit i mid u there taken_so (subst (λ (xs : List UnitTold). BreaksUnit clock u (left_in (suc i) xs) mid w) is_us breaks))
+      so_many i (omega (arith, within)) (taken_at i mid out taken_so).told
+      (breaks_unit i mid u there taken_so (subst (λ (xs : List UnitTold). BreaksUnit clock u (left_units (left_after (suc i) xs)) v mid w) is_us breaks))
 
 -- So a restart promises of each node that the volume may be of, and so does one whose disk goes down.
 pub reopens_ok : (clock : ℕ) (v w : VolumeState) (out : List AbortedUnit) → ((n : Node) → IsRestarting v n → MayUndo v n) → clock < 24000001000066 → IsInOrder nothing_begun v → IsEarly v → w.store.disk.size ≡ v.store.disk.size → Reopens clock v w out →

@@ -9,13 +9,11 @@ use Rattle.journal_model.specs.Ring.{ring_size}
 use Rattle.unit_table.specs.Places.{AreInOrder, count_at, occurrences}
 use Rattle.unit_table.specs.Units as table
 use Rattle.unit_table.specs.Units.{OpenUnit, owed_for, unit_at, units_of}
+use Rattle.unit_table.proofs.BegunLemmas.{counted_none, one_unit, units_other}
 use Rattle.unit_table.proofs.OrderLemmas.{at_below, more_here, more_there, taken_few, taken_is, units_many}
 use Rattle.rms_units.specs.State as rms
 use Rattle.recovery_units.specs.State as calls
 use Rattle.node_units.specs.Seen.{seen}
-
-pub one_unit : (u w : OpenUnit) → ◌≡◌ {A = Option OpenUnit} (Some u) (Some w) → u ≡ w
-one_unit u w e = cc
 
 -- What units are owed.
 
@@ -30,18 +28,6 @@ owed_none : (us : List (Option OpenUnit)) → ((p : ℕ) → unit_at us p ≡ No
 owed_none [] none = refl
 owed_none (None ∷ us) none = owed_none us (λ p. none (suc p))
 owed_none (Some u ∷ us) none = let never : ⊥ = (let e : ◌≡◌ {A = Option OpenUnit} (Some u) None = none 0 in cc) in absurd never
-
-pub counted_none : (o : Option OpenUnit) → 0 ≡ count_at o → o ≡ None
-counted_none None e = refl
-counted_none (Some u) e = absurd (omega (arith, e))
-
--- another place's unit makes no difference
-pub units_other : (us : List (Option OpenUnit)) (q : ℕ) (x : Option OpenUnit) (qs : List ℕ) → occurrences q qs ≡ 0 → units_of (slice_set us q x) qs ≡ units_of us qs
-units_other us q x [] none = refl
-units_other us q x (r ∷ qs) none = elim (cases_eq r q) [
-  | inl same ↦ absurd (let here = ap (λ k. occurrences q (k ∷ qs)) same in let more = more_here q qs in omega (arith, here, more, none))
-  | inr apart ↦ (λ i. elim (get_or-set_other us q r x None apart i) [ Some u ↦ u ∷ units_other us q x qs (sym (more_there q r qs apart) ∙ none) i | None ↦ units_other us q x qs (sym (more_there q r qs apart) ∙ none) i ])
-]
 
 owed_order : (order : List ℕ) (us : List (Option OpenUnit)) → ((p : ℕ) → occurrences p order ≡ count_at (unit_at us p)) → table.owed us ≡ calls.owed (units_of us order)
 owed_order [] us each = owed_none us (λ p. counted_none (unit_at us p) (each p))

@@ -43,7 +43,8 @@ use Rattle.volume_model.specs.Homes.{HasHome}
 use Rattle.volume_model.specs.Laws.{KeepsNames}
 use Rattle.volume_model.specs.Volumes.{HasJournal, HasVolume}
 use Rattle.recovery_units.specs.State.{IsKept, IsUnitOf, UnitsState, branch_of, changed_at, without_begun, without_unit}
-use Rattle.node_units.proofs.Earliest.{earliest_in, first_is}
+use Rattle.unit_table.proofs.BegunLemmas.{earliest_in}
+use Rattle.node_units.proofs.Earliest.{first_is}
 use Rattle.node_units.proofs.Holding.{found_among}
 use Rattle.node_units.proofs.Locking.{locks_less}
 use Rattle.node_units.proofs.Positions.{positions_settled}

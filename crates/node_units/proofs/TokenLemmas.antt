@@ -30,7 +30,7 @@ use Rattle.rms_units.specs.State.{unit_of}
 use Rattle.node_units.specs.declared.begun.BegunUnit.{BegunUnit}
 use Rattle.node_units.specs.Seen.{seen}
 use Rattle.node_units.specs.Tokens.{StandFor, is_of}
-use Rattle.node_units.proofs.Seeing.{units_other}
+use Rattle.unit_table.proofs.BegunLemmas.{begun_last, units_other}
 
 -- Whether a unit is found.
 
@@ -109,22 +109,6 @@ same_serials us (q ∷ qs) p u w there same = elim (cases_eq q p) [
         map (λ (x : OpenUnit). x.serial) (elim o [ Some y ↦ y ∷ units_of (slice_set us p (Some w)) qs | None ↦ units_of (slice_set us p (Some w)) qs ]) ≡ map (λ (x : OpenUnit). x.serial) (elim o [ Some y ↦ y ∷ units_of us qs | None ↦ units_of us qs ])
     go (Some y) rest = ap (λ (xs : List Id). y.serial ∷ xs) rest
     go None rest = rest
-
--- A unit more.
-pub begun_last : (us : List (Option OpenUnit)) (qs : List ℕ) (p : ℕ) (w : OpenUnit) → p < length us → occurrences p qs ≡ 0 → units_of (slice_set us p (Some w)) (qs ++ p ∷ []) ≡ units_of us qs ++ w ∷ []
-begun_last us [] p w below none = (λ i. elim (get_or-set_same us p (Some w) None below i) [ Some y ↦ y ∷ [] | None ↦ [] ])
-begun_last us (q ∷ qs) p w below none = last us qs p q w none (λ apart. begun_last us qs p w below (sym (more_there p q qs apart) ∙ none))
-  where
-    last : (us : List (Option OpenUnit)) (qs : List ℕ) (p q : ℕ) (w : OpenUnit) → occurrences p (q ∷ qs) ≡ 0 → ((q ≡ p → ⊥) → units_of (slice_set us p (Some w)) (qs ++ p ∷ []) ≡ units_of us qs ++ w ∷ []) →
-        units_of (slice_set us p (Some w)) ((q ∷ qs) ++ p ∷ []) ≡ units_of us (q ∷ qs) ++ w ∷ []
-    last us qs p q w none rest = elim (cases_eq q p) [
-      | inl same ↦ absurd (let here = ap (λ k. occurrences p (k ∷ qs)) same in let more = more_here p qs in omega (arith, here, more, none))
-      | inr apart ↦ (λ i. elim (get_or-set_other us p q (Some w) None apart i) [ Some y ↦ y ∷ rest apart i | None ↦ rest apart i ]) ∙ go (unit_at us q)
-    ]
-      where
-        go : (o : Option OpenUnit) → (elim o [ Some y ↦ y ∷ (units_of us qs ++ w ∷ []) | None ↦ units_of us qs ++ w ∷ [] ]) ≡ (elim o [ Some y ↦ y ∷ units_of us qs | None ↦ units_of us qs ]) ++ w ∷ []
-        go (Some y) = refl
-        go None = refl
 
 -- A unit less.
 

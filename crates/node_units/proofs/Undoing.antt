@@ -235,6 +235,10 @@ pub record Stage (clock most disk : ℕ) (us : List UnitTold) (v : VolumeState) 
   pub low : v.catalog.ru.end + 48 * length us ≤ 2 ^ 62
   pub drawn : AllByRecursion (λ (e : JournalEntry). IsDrawn m.name m.durable.boot m.volatile.drawn (serial_in e)) m.durable.units.entries
 
+-- the changes of these branches begin here in the journal of a node
+abbrev pub AreWhere : (Id → List ℕ) → Node → List UnitTold → Type 0
+AreWhere f m us = AllByRecursion (λ (u : UnitTold). f u.serial ≡ positions_of u.serial m.durable.units.first m.durable.units.entries) us
+
 module _ (clock most size : ℕ) (u : UnitTold) (us : List UnitTold) (v : VolumeState) (m : Node) (is : Stage clock most size (u ∷ us) v m) (late : clock ≤ most) (far : most < 24113056319999) where
   abbrev c : Settlement
   c = abort_settlement model.SegFail m u.tid u.serial
@@ -268,7 +272,7 @@ module _ (clock most size : ℕ) (u : UnitTold) (us : List UnitTold) (v : Volume
 
   -- The changes of the unit.
 
-  entered : entered_at u.serial v.catalog es ≡ positions_of u.serial m.durable.units.first m.durable.units.entries
+  pub entered : entered_at u.serial v.catalog es ≡ positions_of u.serial m.durable.units.first m.durable.units.entries
   entered =
       positions_alike v.catalog.heads u.serial v.catalog.ru.first m.durable.units.entries es is.leaves.journal.alike is.leaves.journal.is.each
       ∙ ap (λ (p : ℕ). positions_of u.serial p m.durable.units.entries) is.leaves.journal.first
@@ -316,6 +320,16 @@ module _ (clock most size : ℕ) (u : UnitTold) (us : List UnitTold) (v : Volume
   open_now : Each (λ (x : Id). is_settled_in x m.durable.units.entries ≡ false) (serials_told (u ∷ us))
   open_now = each_found (u ∷ us) is.units.differ (λ (x : Id). is_settled_in x m.durable.units.entries ≡ false)
       (λ x k. units_are_unsettled m.durable.units.entries x is.leaves.order.order (ap (λ (rs : List RecoveryUnit). is_some (find_unit x rs)) (sym is.units.units) ∙ k))
+
+  -- and where their changes begin
+  stay : (ws : List UnitTold) → find_told u.serial ws ≡ None → Each (λ (x : Id). is_settled_in x m.durable.units.entries ≡ false) (serials_told ws) → AreWhere (λ (x : Id). positions_of x m.durable.units.first m.durable.units.entries) next ws
+  stay [] none off = tt
+  stay (w ∷ ws) none off =
+      let parts = none_found (same_id u.serial w.serial) w (find_told u.serial ws) none in
+      (sym (positions_settled w.serial u.tid u.serial model.Abort c.moment m.durable.units off.0 (id_other u.serial w.serial parts.0)), stay ws parts.1 off.1)
+
+  pub stay_next : AreWhere (λ (x : Id). positions_of x m.durable.units.first m.durable.units.entries) next us
+  stay_next = stay us differ open_now.1
 
   units_next : AreTold next.durable.units.first next.durable.units.entries us
   units_next = record { units = left_in; differ = is.units.differ.1; each = others us differ is.units.each.1 open_now.1 }

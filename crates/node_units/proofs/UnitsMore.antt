@@ -13,13 +13,10 @@ use Rattle.run_model.specs.Running.{Distinct}
 use Rattle.run_model.specs.World.{with_changed}
 use Rattle.run_model.proofs.IdLemmas.{each_at, id_itself, id_other}
 use Rattle.recovery_units.specs.State.{are_there, branch_of, is_change_by, positions_of}
-use Rattle.node_units.proofs.Seeing.{units_other}
+use Rattle.unit_table.proofs.BegunLemmas.{one_unit, units_other}
 
 abbrev serials : List OpenUnit → List Id
 serials us = map (λ (u : OpenUnit). u.serial) us
-
-one_unit : (u w : OpenUnit) → ◌≡◌ {A = Option OpenUnit} (Some u) (Some w) → u ≡ w
-one_unit u w e = cc
 
 -- a unit at a place that is in the order is one of them
 pub among : (us : List (Option OpenUnit)) (order : List ℕ) (p : ℕ) (u : OpenUnit) → unit_at us p ≡ Some u → 1 ≤ occurrences p order → In u (units_of us order)

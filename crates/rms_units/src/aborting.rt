@@ -6,7 +6,7 @@ ghost use Rattle.record_locks.specs.Locks.{released};
 ghost use Rattle.unit_aborts.specs.Growing.{AreTold};
 ghost use Rattle.unit_aborts.specs.Reopening.{Reopens, ReopensNot};
 ghost use Rattle.unit_journal.specs.Groups.{Grows};
-ghost use Rattle.unit_table.specs.Units.{OpenUnit, unit_at, without_place};
+ghost use Rattle.unit_table.specs.Units.{OpenUnit, no_units, unit_at, without_place};
 ghost use Rattle.vms_base.specs.Ids.{serial_of, tid_of};
 ghost use Rattle.rms_units.specs.Aborting.{AbortsNot, AbortsUnit};
 ghost use Rattle.rms_units.specs.State.{IsEarly, IsInOrder, nothing_begun};
@@ -17,39 +17,26 @@ use journal_format::EntryBuf;
 use record_locks::Locks;
 use ru_journal::RuState;
 use std::alloc::{AllocError, Global};
-use std::marker::Model;
 use unit_aborts::{AbortedUnit, abort_unit, reopen_units};
 use unit_entries::ChangedKeys;
 use unit_journal::next_moment;
-use unit_table::{Branch, MOST_CHANGES, UnitTable};
+use unit_table::{Branch, UnitTable};
 use vms_base::{Moment, Reason, Record};
 use volume::Volume;
 
-/// Room for what an abort reads of the journal: which keys a unit changed and, at a restart, which units there are and where their entries begin.
+/// Room for what an abort reads of the journal: which keys a unit changed and, at a restart, whether its entries are in order.
 #[derive(Drop)]
 pub(crate) struct AbortRoom {
     pub keys: ChangedKeys,
     state: RuState,
-    positions: Vec<u64>,
-}
-
-impl Model for AbortRoom {
-    ghost use Rattle.std.specs.Prelude.{ℕ, List, ◌≤◌, vec_capacity};
-
-    ghost Value = { List ℕ };
-
-    ghost view = { λ r. r.positions.items };
-
-    ghost invariant = { λ r. 1024 ≤ vec_capacity r.positions };
 }
 
 impl AbortRoom {
-    /// Room for 64 units with as many changes as a unit may make.
+    /// Room for as many keys as a unit may change, and for as many entries as a journal may have.
     pub fn reserve(alloc: Global) -> Result<AbortRoom, AllocError> {
         Ok(AbortRoom {
             keys: ChangedKeys::reserve(alloc)?,
             state: RuState::reserve(alloc)?,
-            positions: Vec::with_capacity(alloc, MOST_CHANGES)?,
         })
     }
 }
@@ -103,10 +90,11 @@ pub(crate) fn abort_branch<D: Disk>(
     Ok(moment)
 }
 
-/// Aborts the units that a fall left in the journal, and tells their settlements.
+/// Aborts the units that a fall left in the journal, and tells their settlements. The table is without units afterwards, on Down too.
 pub(crate) fn reopen_journal<D: Disk>(
     volume: &mut Volume<D>,
     clock: Moment,
+    table: &mut UnitTable,
     room: &mut AbortRoom,
     image: &mut Record,
     entry: &mut EntryBuf,
@@ -117,6 +105,7 @@ pub(crate) fn reopen_journal<D: Disk>(
     requires moment { volume.old.catalog.home.greatest_moment.0 + 64 ≤ 24000001000066 }
     requires clock { clock.0 + 64 ≤ 24000001000066 }
     requires places { 64 ≤ vec_capacity out.old }
+    ensures clear { table.new ≡ no_units }
     ensures order { OnOk result (IsInOrder nothing_begun volume.new) }
     ensures done { OnOk result (Reopens clock.0 volume.old volume.new out.new.items) }
     ensures err { OnErr result (ReopensNot clock.0 volume.old volume.new out.new.items) }
@@ -131,14 +120,18 @@ pub(crate) fn reopen_journal<D: Disk>(
         volume,
         clock,
         &mut room.state,
-        &mut room.positions,
+        table,
         &mut room.keys,
         image,
         entry,
         out,
     ) {
-        Err(down) => return Err(down),
+        Err(down) => {
+            table.clear();
+            return Err(down);
+        }
         Ok(()) => {}
     }
+    table.clear();
     Ok(())
 }

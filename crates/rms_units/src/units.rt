@@ -872,6 +872,7 @@ impl Units {
         match reopen_journal(
             volume,
             clock,
+            &mut self.table,
             &mut self.abort,
             &mut self.found,
             &mut self.entry,

@@ -1,5 +1,5 @@
 -- How numbers that only grow have grown, one abort after another.
-use Rattle.std.proofs.Common.{◌≡◌, ℕ, ◌+◌, ◌≤◌, Bool, true, false, if◌then◌else◌, refl, ◌∙◌, arith, inl, inr}
+use Rattle.std.proofs.Common.{◌≡◌, List, [], ◌∷◌, ◌++◌, ℕ, ◌+◌, ◌≤◌, Bool, true, false, if◌then◌else◌, refl, ◌∙◌, arith, inl, inr}
 use Rattle.std.specs.Prelude.{max, nat_le}
 use Rattle.std.proofs.lemmas.Bool.{leb-false}
 use Rattle.unit_journal.specs.Groups.{Grows, GrowsOnce}
@@ -7,7 +7,8 @@ use Rattle.unit_journal.specs.Settling.{next_moment}
 use Rattle.unit_undo.specs.Undoing.{ChangesHeads}
 use Rattle.volume.specs.State.{VolumeState}
 use Rattle.volume_format.specs.declared.home.Home.{Home}
-use Rattle.unit_aborts.specs.Growing.{GrowsBy}
+use Rattle.unit_aborts.specs.Growing.{AreTold, GrowsBy}
+use Rattle.unit_aborts.specs.declared.reopening.AbortedUnit.{AbortedUnit}
 
 -- An undo changes heads alone.
 
@@ -83,3 +84,22 @@ by_more units clock u v w first second = record {
   greatest = let a = first.greatest in let b = second.greatest in omega (arith, a, b);
   end = let a = first.end in let b = second.end in omega (arith, a, b);
 }
+
+pub by_most : (most clock : ℕ) (u v : VolumeState) (units : ℕ) → units ≤ most → GrowsBy units clock u v → GrowsBy most clock u v
+by_most most clock u v units le g = record {
+  node = g.node;
+  boot = g.boot;
+  later = g.later;
+  greatest = let a = g.greatest in omega (arith, a, le);
+  end = let a = g.end in omega (arith, a, le);
+}
+
+-- What was told is no later than the greatest moment.
+
+pub told_on : (v w : VolumeState) (out : List AbortedUnit) → v.catalog.home.greatest_moment.0 ≤ w.catalog.home.greatest_moment.0 → AreTold v out → AreTold w out
+told_on v w [] le all = tt
+told_on v w (t ∷ ts) le all = ((let one = all.0 in omega (arith, one, le)), told_on v w ts le all.1)
+
+pub told_more : (w : VolumeState) (out : List AbortedUnit) (t : AbortedUnit) → t.moment.0 ≤ w.catalog.home.greatest_moment.0 → AreTold w out → AreTold w (out ++ t ∷ [])
+told_more w [] t is all = (is, tt)
+told_more w (s ∷ ts) t is all = (all.0, told_more w ts t is all.1)

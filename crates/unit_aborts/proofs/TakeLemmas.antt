@@ -1,8 +1,10 @@
 -- Units are aborted one after another.
-use Rattle.std.proofs.Common.{◌≡◌, ℕ, zero, suc, ◌+◌, ◌-◌, ◌*◌, ◌<◌, ◌≤◌, ◌==◌, ◌&&◌, ◌||◌, nat_le, Bool, true, false, List, [], ◌∷◌, Option, Some, None, length, map, get_or, slice_get, if◌then◌else◌, refl, sym, ap, subst, ◌∙◌, arith}
-use Rattle.std.specs.Prelude.{unwrap_or, nat_lt}
-use Rattle.std.specs.List.{AllByRecursion}
+use Rattle.std.proofs.Common.{◌≡◌, ℕ, zero, suc, ◌+◌, ◌-◌, ◌*◌, ◌^◌, ◌<◌, ◌≤◌, not, nat_le, Bool, true, false, List, [], ◌∷◌, Option, Some, None, IfSome, length, map, if◌then◌else◌, refl, sym, ap, subst, ◌∙◌, arith, inl, inr}
+use Rattle.std.specs.Prelude.{unwrap_or, nat_lt, option_map, IsSome}
+use Rattle.std.specs.List.{All, AllByRecursion}
 use Rattle.std.proofs.lemmas.Bool.{leb-false}
+use Rattle.std.proofs.lemmas.Bool.Decides.{nat_tests}
+use Rattle.std.proofs.lemmas.List.Elements.{All-head, All-weaker}
 use Rattle.block_disk.specs.Disk.{DiskState}
 use Rattle.careful_write.specs.State.{IsIdle}
 use Rattle.careful_write.specs.Steps.{Quiet}
@@ -10,37 +12,29 @@ use Rattle.change_set.specs.Files.{free_frames}
 use Rattle.file_base.specs.declared.head.FileHead.{FileHead}
 use Rattle.file_base.specs.declared.head.Span.{Span}
 use Rattle.journal_model.specs.Entries.{Entry}
-use Rattle.journal_model.specs.Ring.{ring_size}
+use Rattle.journal_model.specs.Ring.{IsJournal, ring_size}
 use Rattle.journal_store.specs.Rings.{IsRing}
 use Rattle.ru_journal.specs.Told.{UnitTold}
-use Rattle.ru_journal.specs.Units.{unit_of}
-use Rattle.ru_journal.specs.declared.unit.UnitInfo.{UnitInfo}
-use Rattle.unit_entries.specs.Reading.{AreWithin}
-use Rattle.unit_entries.proofs.RowLemmas.{indexed}
-use Rattle.unit_journal.specs.Settling.{from_earliest, next_moment, settled_home, span_with}
-use Rattle.unit_table.specs.Units.{earlier, earliest}
+use Rattle.unit_entries.specs.Opening.{AreAlike, AreChangesIn, BeginWithin, IsAlike}
+use Rattle.unit_entries.specs.Reading.{placed, positions_of}
+use Rattle.unit_entries.proofs.OpenLemmas.{all_less, first_holds}
+use Rattle.unit_journal.specs.Settling.{MakesSettlement, content_with, from_earliest, next_moment, settled_home, span_with, starting, with_front}
+use Rattle.unit_table.specs.Places.{AreInOrder}
+use Rattle.unit_table.specs.Units.{OpenUnit, Units, begun, earlier, earliest, first_of, first_that, is_active, unit_at, without_first, without_place}
+use Rattle.unit_table.proofs.BegunLemmas.{earliest_in, earliest_seen}
+use Rattle.unit_table.proofs.OrderLemmas.{gone_in_order}
 use Rattle.vms_base.specs.declared.ids.Serial.{Serial}
 use Rattle.vms_base.specs.declared.ids.Tid.{Tid}
+use Rattle.vms_base.specs.declared.outcomes.Reason.TheVariants as reason
 use Rattle.volume.specs.declared.catalog.Catalog.{Catalog}
 use Rattle.volume.specs.Catalogs.{IsSound, head_at}
 use Rattle.volume.specs.Limits.{EntryFits, SaveFits}
 use Rattle.volume.specs.State.{VolumeState, Holds}
 use Rattle.volume_format.specs.declared.home.Ending.{Ending}
+use Rattle.volume_format.specs.declared.home.Ending.TheVariants as ending
 use Rattle.volume_format.specs.declared.home.Home.{Home}
-use Rattle.unit_aborts.specs.Aborting.{Aborts, MayAbort, abort_entry}
-use Rattle.unit_aborts.specs.Reopening.{MayReopen, MayTake, failed_at, left_in, left_unit}
-
--- the unit of a number
-pub unit_is : (us : List UnitInfo) (i : ℕ) (x : UnitInfo) (u : UnitTold) → i < length us → x ≡ get_or us i x → slice_get (map unit_of us) i ≡ Some u → unit_of x ≡ u
-unit_is us i x u lt at got = same (sym (mapped us i x (indexed us i x lt at)) ∙ got)
-  where
-    mapped : (us : List UnitInfo) (i : ℕ) (x : UnitInfo) → slice_get us i ≡ Some x → slice_get (map unit_of us) i ≡ Some (unit_of x)
-    mapped [] i x at = absurd cc
-    mapped (y ∷ us) zero x at = let e : y ≡ x = cc in ap (λ (z : UnitInfo). Some (unit_of z)) e
-    mapped (y ∷ us) (suc i) x at = mapped us i x at
-
-    same : Some (unit_of x) ≡ Some u → unit_of x ≡ u
-    same e = cc
+use Rattle.unit_aborts.specs.Aborting.{Aborts, BreaksOff, HasRoom, MayAbort, abort_entry}
+use Rattle.unit_aborts.specs.Reopening.{AreFoundIn, MayReopen, MayTake, but_next, failed_at, left_unit, left_units, next_of}
 
 -- A later moment.
 
@@ -84,21 +78,24 @@ earlier_within from to None b x y = y
 earlier_within from to (Some m) None x y = x
 earlier_within from to (Some m) (Some n) x y = (omega (arith, x.0, y.0), omega (arith, x.1))
 
-earliest_within : (from to done : ℕ) (us : List UnitTold) → AllByRecursion (λ (u : UnitTold). (from ≤ u.first) × (u.first ≤ to)) us → IsWithin from to (earliest (left_in done us))
-earliest_within from to done [] all = tt
-earliest_within from to done (u ∷ us) all = go ((done == 0 || u.prepared) && nat_lt 0 u.changes) (earliest_within from to (done - 1) us all.1)
-  where
-    go : (b : Bool) → IsWithin from to (earliest (left_in (done - 1) us)) → IsWithin from to (earliest (left_unit u (if b then Some u.first else None) ∷ left_in (done - 1) us))
-    go true rest = earlier_within from to (Some u.first) (earliest (left_in (done - 1) us)) all.0 rest
-    go false rest = rest
+first_within : (from to : ℕ) (ps : List ℕ) → All (λ p. (from ≤ p) × (p ≤ to)) ps → IsWithin from to (first_of ps)
+first_within from to [] all = tt
+first_within from to (p ∷ ps) all = All-head (λ q. (from ≤ q) × (q ≤ to)) p ps all
+
+abbrev AreWithin : (from to : ℕ) → List OpenUnit → Type 0
+AreWithin from to us = AllByRecursion (λ (u : OpenUnit). All (λ p. (from ≤ p) × (p ≤ to)) u.positions) us
+
+earliest_within : (from to : ℕ) (us : List OpenUnit) → AreWithin from to us → IsWithin from to (earliest (map Some us))
+earliest_within from to [] all = tt
+earliest_within from to (u ∷ us) all = earlier_within from to (first_of u.positions) (earliest (map Some us)) (first_within from to u.positions all.0) (earliest_within from to us all.1)
 
 or_end : (from to : ℕ) (o : Option ℕ) → from ≤ to → IsWithin from to o → (from ≤ unwrap_or o to) × (unwrap_or o to ≤ to)
 or_end from to None order is = (order, omega arith)
 or_end from to (Some p) order is = is
 
-longer_within : (from to more : ℕ) (us : List UnitTold) → to ≤ more → AllByRecursion (λ (u : UnitTold). (from ≤ u.first) × (u.first ≤ to)) us → AllByRecursion (λ (u : UnitTold). (from ≤ u.first) × (u.first ≤ more)) us
+longer_within : (from to more : ℕ) (us : List OpenUnit) → to ≤ more → AreWithin from to us → AreWithin from more us
 longer_within from to more [] le all = tt
-longer_within from to more (u ∷ us) le all = let is = all.0 in ((is.0, omega (arith, is.1, le)), longer_within from to more us le all.1)
+longer_within from to more (u ∷ us) le all = (All-weaker (λ p. (from ≤ p) × (p ≤ to)) (λ p. (from ≤ p) × (p ≤ more)) (λ p is. (is.0, (let last = is.1 in omega (arith, last, le)))) u.positions all.0, longer_within from to more us le all.1)
 
 with_start : (e : Option Entry) (s : Span) → (span_with e s).start ≡ s.start
 with_start None s = refl
@@ -116,13 +113,143 @@ next_moment_is clock home more most g c = go (nat_le clock (home.greatest_moment
     go true e = (omega arith, omega (arith, g))
     go false e = let far = leb-false clock (home.greatest_moment.0 + 1) e in (omega (arith, far), omega (arith, c))
 
-module _ (start : ℕ) (us : List UnitTold) (a b clock : ℕ) (v w : VolumeState) (ps : List ℕ) (tid : Tid) (serial : Serial) (moment done : ℕ) (may : MayTake start us a clock v) (one : a ≡ b + 1) (is : moment ≡ next_moment clock v.catalog.home)
-    (aborts : Aborts (failed_at ps tid serial moment (left_in done us)) v w) (longer : v.catalog.ru.end ≤ w.catalog.ru.end) (short : w.catalog.ru.end ≤ v.catalog.ru.end + 48) where
+longer_with : (e : Option Entry) (s : Span) → s.end ≤ (span_with e s).end
+longer_with None s = omega arith
+longer_with (Some e) s = omega arith
+
+-- Of the units that are left no more counts than where the earliest change begins.
+
+makes_as : (tid : Tid) (serial : Serial) (ending : Ending) (moment : ℕ) (e : Option Entry) (a b : List (Option OpenUnit)) (v w : VolumeState) → earliest a ≡ earliest b → MakesSettlement tid serial ending moment e a v w → MakesSettlement tid serial ending moment e b v w
+makes_as tid serial ending moment e a b v w same m = record {
+  current = m.current ∙ ap (λ (o : Option ℕ). option_map (λ c. with_front (settled_home tid serial ending moment v.catalog.home) (starting o (span_with e v.catalog.ru)) (content_with e v.catalog.ru c)) v.store.current) same;
+  catalog = m.catalog ∙ ap (λ (o : Option ℕ). record v.catalog { home = settled_home tid serial ending moment v.catalog.home; ru = starting o (span_with e v.catalog.ru) }) same;
+}
+
+pub aborts_as : (ps : List ℕ) (tid : Tid) (serial : Serial) (moment : ℕ) (a b : List (Option OpenUnit)) (v w : VolumeState) → earliest a ≡ earliest b → Aborts (failed_at ps tid serial moment a) v w → Aborts (failed_at ps tid serial moment b) v w
+aborts_as ps tid serial moment a b v w same x = record {
+  mid = x.mid;
+  goes = x.goes;
+  undoes = x.undoes;
+  makes = makes_as tid serial (ending.Abort reason.SegFail) moment (abort_entry (failed_at ps tid serial moment a)) a b x.mid w same x.makes;
+}
+
+pub breaks_as : (ps : List ℕ) (tid : Tid) (serial : Serial) (moment : ℕ) (a b : List (Option OpenUnit)) (v w : VolumeState) → earliest a ≡ earliest b → BreaksOff (failed_at ps tid serial moment a) v w → BreaksOff (failed_at ps tid serial moment b) v w
+breaks_as ps tid serial moment a b v w same (inl fails) = inl fails
+breaks_as ps tid serial moment a b v w same (inr x) = inr record {
+  mid = x.mid;
+  goes = x.goes;
+  undoes = x.undoes;
+  breaks = elim x.breaks [
+    | inl old ↦ inl old
+    | inr either ↦ inr record { made = either.made; is = makes_as tid serial (ending.Abort reason.SegFail) moment (abort_entry (failed_at ps tid serial moment a)) a b x.mid either.made same either.is; either = either.either }
+  ];
+}
+
+-- The units of a table.
+
+pub some_units : (us : List OpenUnit) → earliest (map Some us) ≡ earliest_in us
+some_units [] = refl
+some_units (u ∷ us) = ap (earlier (first_of u.positions)) (some_units us)
+
+pub one_fewer : (P : OpenUnit → Bool) (us : List OpenUnit) (u : OpenUnit) → first_that P us ≡ Some u → length us ≡ length (without_first P us) + 1
+one_fewer P [] u at = let never : ⊥ = cc in absurd never
+one_fewer P (w ∷ us) u at = go (P w) at (one_fewer P us u)
+  where
+    go : (b : Bool) → (if b then Some w else first_that P us) ≡ Some u → (first_that P us ≡ Some u → length us ≡ length (without_first P us) + 1) → length (w ∷ us) ≡ length (if b then us else w ∷ without_first P us) + 1
+    go true here rest = omega arith
+    go false here rest = let more = rest here in omega (arith, more)
+
+no_changes : (k : ℕ) → 0 ≡ k → nat_lt 0 k ≡ false
+no_changes k is = grind (arith, nat_tests, is)
+
+some_changes : (k : ℕ) → 1 ≤ k → nat_lt 0 k ≡ true
+some_changes k le = grind (arith, nat_tests, le)
+
+left_first : (changes first : ℕ) (u : UnitTold) (ps : List ℕ) → length ps ≡ changes → (1 ≤ changes → first_of ps ≡ Some first) → (rest : Option ℕ) (us : List (Option OpenUnit)) → earliest us ≡ rest →
+    earliest (left_unit u (if nat_lt 0 changes then Some first else None) ∷ us) ≡ earlier (first_of ps) rest
+left_first changes first u [] long is rest us at = (λ k. earliest (left_unit u (if no_changes changes long k then Some first else None) ∷ us)) ∙ at
+left_first changes first u (p ∷ ps) long is rest us at =
+    let some : 1 ≤ changes = omega (arith, long) in
+    (λ k. earliest (left_unit u (if some_changes changes some k then Some first else None) ∷ us)) ∙ (λ k. earlier (sym (is some) k) (at k))
+
+pub left_begins : (us : List UnitTold) (ws : List OpenUnit) → AreAlike us ws → earliest (left_units us) ≡ earliest (map Some ws)
+left_begins [] [] a = refl
+left_begins [] (w ∷ ws) a = absurd a
+left_begins (u ∷ us) [] a = absurd a
+left_begins (u ∷ us) (w ∷ ws) a = left_first u.changes u.first u w.positions a.0.changes a.0.first (earliest (map Some ws)) (left_units us) (left_begins us ws a.1)
+
+-- The next of those that are told is that of the table.
+
+pub next_alike : (us : List UnitTold) (ws : List OpenUnit) (w : OpenUnit) → AreAlike us ws → first_that is_active ws ≡ Some w → (u : UnitTold) × (next_of us ≡ Some u) × IsAlike u w
+next_alike [] [] w a at = let never : ⊥ = cc in absurd never
+next_alike [] (y ∷ ws) w a at = absurd a
+next_alike (u ∷ us) [] w a at = absurd a
+next_alike (u ∷ us) (y ∷ ws) w a at = go u.prepared refl y.prepared a.0.prepared at (next_alike us ws w a.1)
+  where
+    same : ◌≡◌ {A = Option OpenUnit} (Some y) (Some w) → y ≡ w
+    same e = cc
+
+    go : (b : Bool) → u.prepared ≡ b → (c : Bool) → c ≡ u.prepared → (if not c then Some y else first_that is_active ws) ≡ Some w → (first_that is_active ws ≡ Some w → (v : UnitTold) × (next_of us ≡ Some v) × IsAlike v w) →
+        (v : UnitTold) × ((if u.prepared then next_of us else Some u) ≡ Some v) × IsAlike v w
+    go true is true e here rest = let r = rest here in (r.0, ap (λ (b : Bool). if b then next_of us else Some u) is ∙ r.1, r.2)
+    go false is false e here rest = (u, ap (λ (b : Bool). if b then next_of us else Some u) is, subst (IsAlike u) (same here) a.0)
+    go true is false e here rest = let never : ⊥ = cc in absurd never
+    go false is true e here rest = let never : ⊥ = cc in absurd never
+
+pub none_alike : (us : List UnitTold) (ws : List OpenUnit) → AreAlike us ws → first_that is_active ws ≡ None → next_of us ≡ None
+none_alike [] [] a none = refl
+none_alike [] (y ∷ ws) a none = absurd a
+none_alike (u ∷ us) [] a none = absurd a
+none_alike (u ∷ us) (y ∷ ws) a none = go u.prepared refl y.prepared a.0.prepared none (none_alike us ws a.1)
+  where
+    go : (b : Bool) → u.prepared ≡ b → (c : Bool) → c ≡ u.prepared → (if not c then Some y else first_that is_active ws) ≡ None → (first_that is_active ws ≡ None → next_of us ≡ None) → (if u.prepared then next_of us else Some u) ≡ None
+    go true is true e here rest = ap (λ (b : Bool). if b then next_of us else Some u) is ∙ rest here
+    go b is false e here rest = let never : ⊥ = cc in absurd never
+    go false is true e here rest = let never : ⊥ = cc in absurd never
+
+pub rest_alike : (us : List UnitTold) (ws : List OpenUnit) → AreAlike us ws → AreAlike (but_next us) (without_first is_active ws)
+rest_alike [] [] a = tt
+rest_alike [] (y ∷ ws) a = absurd a
+rest_alike (u ∷ us) [] a = absurd a
+rest_alike (u ∷ us) (y ∷ ws) a = go u.prepared y.prepared a.0.prepared (rest_alike us ws a.1)
+  where
+    go : (b c : Bool) → c ≡ b → AreAlike (but_next us) (without_first is_active ws) → AreAlike (if b then u ∷ but_next us else us) (if not c then ws else y ∷ without_first is_active ws)
+    go true true e rest = (a.0, rest)
+    go false false e rest = a.1
+    go true false e rest = let never : ⊥ = cc in absurd never
+    go false true e rest = let never : ⊥ = cc in absurd never
+
+-- each of some units has its positions in the journal, where that is one
+pub each_found : (v : VolumeState) (us : List OpenUnit) → IfSome v.store.current (λ c. (es : List Entry) → IsJournal c v.catalog.ru es → AreChangesIn (placed v.catalog.ru.first es) us) → AreFoundIn v us
+each_found v us found = go v.store.current found
+  where
+    none : (us : List OpenUnit) → AllByRecursion (λ (u : OpenUnit). IfSome {T = List (List ℕ)} None (λ c. (es : List Entry) → IsJournal c v.catalog.ru es → u.positions ≡ positions_of u.serial (placed v.catalog.ru.first es))) us
+    none [] = tt
+    none (u ∷ us) = (tt, none us)
+
+    some : (c : List (List ℕ)) (us : List OpenUnit) → ((es : List Entry) → IsJournal c v.catalog.ru es → AreChangesIn (placed v.catalog.ru.first es) us) →
+        AllByRecursion (λ (u : OpenUnit). (es : List Entry) → IsJournal c v.catalog.ru es → u.positions ≡ positions_of u.serial (placed v.catalog.ru.first es)) us
+    some c [] all = tt
+    some c (u ∷ us) all = (λ es journal. (all es journal).0, some c us (λ es journal. (all es journal).1))
+
+    go : (o : Option (List (List ℕ))) → IfSome o (λ c. (es : List Entry) → IsJournal c v.catalog.ru es → AreChangesIn (placed v.catalog.ru.first es) us) →
+        AllByRecursion (λ (u : OpenUnit). IfSome o (λ c. (es : List Entry) → IsJournal c v.catalog.ru es → u.positions ≡ positions_of u.serial (placed v.catalog.ru.first es))) us
+    go None h = none us
+    go (Some c) h = some c us h
+
+module _ (start : ℕ) (us : List OpenUnit) (u : OpenUnit) (clock : ℕ) (v w : VolumeState) (ps : List ℕ) (tid : Tid) (serial : Serial) (moment : ℕ) (may : MayTake start us clock v) (at : first_that is_active us ≡ Some u) (is : moment ≡ next_moment clock v.catalog.home)
+    (aborts : Aborts (failed_at ps tid serial moment (map Some (without_first is_active us))) v w) (short : w.catalog.ru.end ≤ v.catalog.ru.end + 48) where
+  abbrev left : List OpenUnit
+  left = without_first is_active us
+
   abbrev mid : Catalog
   mid = aborts.mid.catalog
 
   abbrev entry : Option Entry
-  entry = abort_entry (failed_at ps tid serial moment (left_in done us))
+  entry = abort_entry (failed_at ps tid serial moment (map Some left))
+
+  one : length us ≡ length left + 1
+  one = one_fewer is_active us u at
 
   home : mid.home ≡ v.catalog.home
   home = ap (λ (c : Catalog). c.home) aborts.goes.catalog
@@ -133,31 +260,37 @@ module _ (start : ℕ) (us : List UnitTold) (a b clock : ℕ) (v w : VolumeState
   now_ends : w.catalog.ru.end ≡ (span_with entry mid.ru).end
   now_ends = ap (λ (c : Catalog). c.ru.end) aborts.makes.catalog
 
-  now_begins : w.catalog.ru.first ≡ unwrap_or (earliest (left_in done us)) w.catalog.ru.end
-  now_begins = ap (λ (c : Catalog). c.ru.first) aborts.makes.catalog ∙ ap (λ (n : ℕ). unwrap_or (earliest (left_in done us)) n) (sym now_ends)
+  longer : v.catalog.ru.end ≤ w.catalog.ru.end
+  longer = let more = longer_with entry mid.ru in let same = ap (λ (r : Span). r.end) ru in omega (arith, more, same, now_ends)
+
+  now_begins : w.catalog.ru.first ≡ unwrap_or (earliest (map Some left)) w.catalog.ru.end
+  now_begins = ap (λ (c : Catalog). c.ru.first) aborts.makes.catalog ∙ ap (λ (n : ℕ). unwrap_or (earliest (map Some left)) n) (sym now_ends)
 
   now_blocks : w.catalog.ru.blocks ≡ v.catalog.ru.blocks
   now_blocks = ap (λ (c : Catalog). c.ru.blocks) aborts.makes.catalog ∙ with_blocks entry mid.ru ∙ ap (λ (r : Span). r.blocks) ru
 
+  within : AreWithin start w.catalog.ru.end left
+  within = longer_within start v.catalog.ru.end w.catalog.ru.end left longer (all_less (λ (x : OpenUnit). All (λ p. (start ≤ p) × (p ≤ v.catalog.ru.end)) x.positions) is_active us may.within)
+
   begins : (start ≤ w.catalog.ru.first) × (w.catalog.ru.first ≤ w.catalog.ru.end)
   begins =
       let order = may.ascends in let behind = may.behind in
-      let o = or_end start w.catalog.ru.end (earliest (left_in done us)) (omega (arith, order, behind, longer)) (earliest_within start w.catalog.ru.end done us (longer_within start v.catalog.ru.end w.catalog.ru.end us longer may.within)) in
+      let o = or_end start w.catalog.ru.end (earliest (map Some left)) (omega (arith, order, behind, longer)) (earliest_within start w.catalog.ru.end left within) in
       (omega (arith, now_begins, o.0), omega (arith, now_begins, o.1))
 
-  moments : (v.catalog.home.greatest_moment.0 ≤ moment) × (moment + b ≤ 24000001000066)
+  moments : (v.catalog.home.greatest_moment.0 ≤ moment) × (moment + length left ≤ 24000001000066)
   moments =
       let g = may.moment in let c = may.clock_bound in
-      let n = next_moment_is clock v.catalog.home b 24000001000066 (omega (arith, g, one)) (omega (arith, c, one)) in
+      let n = next_moment_is clock v.catalog.home (length left) 24000001000066 (omega (arith, g, one)) (omega (arith, c, one)) in
       (omega (arith, n.0, is), omega (arith, n.1, is))
 
-  pub next_may : IsIdle w.store → Holds w → w.store.disk.size ≡ v.store.disk.size → w.store.pool ≡ v.store.pool → MayTake start us b clock w
+  pub next_may : IsIdle w.store → Holds w → w.store.disk.size ≡ v.store.disk.size → w.store.pool ≡ v.store.pool → MayTake start left clock w
   next_may idle holds size pool = record {
     idle = idle;
     holds = holds;
     node = may.node;
     sound = subst (λ (n : ℕ). IsSound may.node n w.catalog) (sym size) (subst (IsSound may.node v.store.disk.size) (sym aborts.makes.catalog)
-        (sound_settled may.node v.store.disk.size tid serial _ moment mid (from_earliest (left_in done us) (span_with entry mid.ru)) (let m = moments in let same : mid.home.greatest_moment.0 ≡ v.catalog.home.greatest_moment.0 = ap (λ (h : Home). h.greatest_moment.0) home in omega (arith, m.0, same))
+        (sound_settled may.node v.store.disk.size tid serial _ moment mid (from_earliest (map Some left) (span_with entry mid.ru)) (let m = moments in let same : mid.home.greatest_moment.0 ≡ v.catalog.home.greatest_moment.0 = ap (λ (h : Home). h.greatest_moment.0) home in omega (arith, m.0, same))
         (let m = moments in omega (arith, m.1)) (with_start entry mid.ru) (with_blocks entry mid.ru) (aborts.goes.sound may.node may.sound)));
     least = let l = may.least in omega (arith, l, size);
     most = let m = may.most in omega (arith, m, size);
@@ -168,42 +301,58 @@ module _ (start : ℕ) (us : List UnitTold) (a b clock : ℕ) (v w : VolumeState
     low = let l = may.low in omega (arith, l, short, one);
     moment = let m = moments in let same : w.catalog.home.greatest_moment.0 ≡ moment = ap (λ (c : Catalog). c.home.greatest_moment.0) aborts.makes.catalog in omega (arith, m.1, same);
     clock_bound = let c = may.clock_bound in omega (arith, c, one);
-    within = longer_within start v.catalog.ru.end w.catalog.ru.end us longer may.within;
+    within = within;
   }
+
+-- the units that are left stand in their order
+pub order_gone : (s t : Units) (p : ℕ) → AreInOrder s.places s.order → p < 64 → IsSome (unit_at s.places p) → t ≡ without_place p s → AreInOrder t.places t.order
+order_gone s t p order below some is = subst (λ (x : Units). AreInOrder x.places x.order) (sym is) (gone_in_order s.places s.order order p below some)
+
+pub left_seen : (t : Units) → AreInOrder t.places t.order → earliest t.places ≡ earliest (map Some (begun t))
+left_seen t order = earliest_seen t.places t.order order ∙ sym (some_units (begun t))
 
 -- what the calls ask for
 
-pub ring_taken : (start : ℕ) (us : List UnitTold) (more clock : ℕ) (v : VolumeState) → MayTake start us more clock v → IsRing v.catalog.ru v.store.disk
-ring_taken start us more clock v m = record {
-  from = let a = m.sound.ru_start in omega (arith, a);
-  to = let a = m.sound.ru_start in let b = m.sound.ru_blocks in let c = m.sound.sizes.room in omega (arith, a, b, c);
-  fits = m.most;
-  some = let b = m.sound.ru_blocks in let c = m.sound.sizes.least_journal in omega (arith, b, c);
-  order = m.ascends;
-  low = let a = m.low in omega (arith, a);
-  room = let a = m.room in let b = m.behind in omega (arith, a, b);
-}
+module _ (start : ℕ) (us : List OpenUnit) (clock : ℕ) (v : VolumeState) (m : MayTake start us clock v) where
+  pub ring_taken : IsRing v.catalog.ru v.store.disk
+  ring_taken = record {
+    from = let a = m.sound.ru_start in omega (arith, a);
+    to = let a = m.sound.ru_start in let b = m.sound.ru_blocks in let c = m.sound.sizes.room in omega (arith, a, b, c);
+    fits = m.most;
+    some = let b = m.sound.ru_blocks in let c = m.sound.sizes.least_journal in omega (arith, b, c);
+    order = m.ascends;
+    low = let a = m.low in omega (arith, a);
+    room = let a = m.room in let b = m.behind in omega (arith, a, b);
+  }
 
-pub may_abort : (start : ℕ) (us : List UnitTold) (more clock : ℕ) (v : VolumeState) → MayTake start us more clock v → MayAbort v
-may_abort start us more clock v m = record {
-  idle = m.idle;
-  holds = m.holds;
-  node = m.node;
-  sound = m.sound;
-  least = m.least;
-  most = m.most;
-  frames = m.frames;
-  ring = ring_taken start us more clock v m;
-}
+  pub may_abort : MayAbort v
+  may_abort = record {
+    idle = m.idle;
+    holds = m.holds;
+    node = m.node;
+    sound = m.sound;
+    least = m.least;
+    most = m.most;
+    frames = m.frames;
+    ring = ring_taken;
+  }
+
+  -- of one of them
+  pub low_taken : (u : OpenUnit) → first_that is_active us ≡ Some u → All (λ p. p ≤ 2 ^ 62) u.positions
+  low_taken u at =
+      All-weaker (λ p. (start ≤ p) × (p ≤ v.catalog.ru.end)) (λ p. p ≤ 2 ^ 62) (λ p is. (let last = is.1 in let low = m.low in omega (arith, last, low))) u.positions (first_holds (λ (x : OpenUnit). All (λ p. (start ≤ p) × (p ≤ v.catalog.ru.end)) x.positions) is_active us u m.within at)
+
+  pub room_taken : (u : OpenUnit) → first_that is_active us ≡ Some u → HasRoom u.positions v
+  room_taken u at has = let more = one_fewer is_active us u at in let a = m.room in let b = m.behind in omega (arith, more, a, b)
 
 -- The first of them.
 
-within_begin : (s : Span) (us : List UnitTold) → AreWithin s us → AllByRecursion (λ (u : UnitTold). (s.first ≤ u.first) × (u.first ≤ s.end)) us
+within_begin : (s : Span) (us : List OpenUnit) → BeginWithin s us → AreWithin s.first s.end us
 within_begin s [] all = tt
-within_begin s (u ∷ us) all = let is = all.0 in ((is.0, omega (arith, is.1)), within_begin s us all.1)
+within_begin s (u ∷ us) all = (All-weaker (λ p. (s.first ≤ p) × (p < s.end)) (λ p. (s.first ≤ p) × (p ≤ s.end)) (λ p is. (is.0, (let before = is.1 in omega (arith, before)))) u.positions all.0, within_begin s us all.1)
 
-pub may_begin : (us : List UnitTold) (n clock : ℕ) (v : VolumeState) → MayReopen clock v → AreWithin v.catalog.ru us → n ≤ 64 → v.catalog.ru.end - v.catalog.ru.first + 48 * n ≤ ring_size v.catalog.ru → MayTake v.catalog.ru.first us n clock v
-may_begin us n clock v m within few room = record {
+pub may_begin : (us : List OpenUnit) (clock : ℕ) (v : VolumeState) → MayReopen clock v → BeginWithin v.catalog.ru us → length us ≤ 64 → v.catalog.ru.end - v.catalog.ru.first + 48 * length us ≤ ring_size v.catalog.ru → MayTake v.catalog.ru.first us clock v
+may_begin us clock v m within few room = record {
   idle = m.may.idle;
   holds = m.may.holds;
   node = m.may.node;
@@ -219,11 +368,6 @@ may_begin us n clock v m within few room = record {
   clock_bound = let c = m.clock_bound in omega (arith, c, few);
   within = within_begin v.catalog.ru us within;
 }
-
-pub there_is : (us : List UnitTold) (i : ℕ) → i < length us → (u : UnitTold) × (slice_get us i ≡ Some u)
-there_is [] i lt = absurd (omega (arith, lt))
-there_is (u ∷ us) zero lt = (u, refl)
-there_is (u ∷ us) (suc i) lt = there_is us i (omega (arith, lt))
 
 -- no count rose
 

@@ -4,3 +4,4 @@ pub mod RowLemmas
 pub mod LeastLemmas
 pub mod StoreLemmas
 pub mod CollectLemmas
+pub mod OpenLemmas

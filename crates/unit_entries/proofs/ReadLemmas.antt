@@ -5,15 +5,20 @@ use Rattle.file_base.specs.declared.head.Span.{Span}
 use Rattle.vms_model.specs.Ids.{Id}
 use Rattle.journal_model.specs.Entries.{Entry, IsEntry, spelling}
 use Rattle.journal_model.specs.Ring.{stream, StandsAt, IsJournal, BeginsAt}
-use Rattle.journal_format.specs.Heads.{entry_of}
+use Rattle.journal_format.specs.Heads.{entry_of, kind_code}
+use Rattle.journal_format.specs.declared.head.EntryKind.{EntryKind}
+use Rattle.journal_format.specs.declared.head.EntryKind.TheVariants as kind
 use Rattle.journal_format.specs.declared.head.EntryHead.{EntryHead}
 use Rattle.journal_store.specs.Reading.{Stands, ReadsAt}
 use Rattle.journal_store.proofs.EntriesAt.{stands_in, length-stream}
 use Rattle.records_model.specs.History.{same_id}
 use Rattle.ru_journal.specs.Told.{Told, UnitTold, after, file_bit, find_unit, first_told, is_out_of_order, more_told, nothing_told, told_by, told_onto, with_unit, without_unit}
-use Rattle.std.specs.List.{AllByRecursion}
-use Rattle.unit_entries.proofs.RowLemmas.{all_behind}
-use Rattle.unit_entries.specs.Reading.{placed, AreInOrder, AreWithin, is_change_of, changes_of, positions_of, AreRead, HasRead, HasFound}
+use Rattle.std.specs.List.{AllByRecursion, list_any}
+use Rattle.std.proofs.lemmas.Bool.{or_parts}
+use Rattle.unit_table.specs.Units.{OpenUnit, first_that, is_of}
+use Rattle.unit_entries.specs.Opening.{AreChangesIn, Differ, HasOpened, opened_after}
+use Rattle.unit_entries.specs.Reading.{placed, AreInOrder, is_change_of, changes_of, positions_of, AreRead, HasRead}
+use Rattle.unit_entries.proofs.OpenLemmas.{found_after}
 
 spelled_append : (es fs : List Entry) → flat_map spelling (es ++ fs) ≡ flat_map spelling es ++ flat_map spelling fs
 spelled_append [] fs = refl
@@ -46,38 +51,17 @@ map_append : (xs ys : List (ℕ × Entry)) → map (λ (e : ℕ × Entry). e.0) 
 map_append [] ys = refl
 map_append (x ∷ xs) ys = ap (λ (ps : List ℕ). x.0 ∷ ps) (map_append xs ys)
 
--- Where the first entries of units begin.
+-- a settlement is no change
+settled_kind : (k : EntryKind) → (kind_code k == 3) ≡ true → (kind_code k == 1) ≡ false
+settled_kind kind.Change is = let never : ⊥ = cc in absurd never
+settled_kind kind.Prepared is = refl
+settled_kind kind.Settled is = refl
 
-all_without : (P : UnitTold → Type 0) (serial : Id) (us : List UnitTold) → AllByRecursion P us → AllByRecursion P (without_unit serial us)
-all_without P serial [] all = tt
-all_without P serial (u ∷ us) all = go (same_id serial u.serial) (all_without P serial us all.1)
-  where
-    go : (b : Bool) → AllByRecursion P (without_unit serial us) → AllByRecursion P (if b then us else u ∷ without_unit serial us)
-    go true rest = all.1
-    go false rest = (all.0, rest)
-
-all_with : (P : UnitTold → Type 0) (serial : Id) (f : UnitTold → UnitTold) (us : List UnitTold) → ((u : UnitTold) → P u → P (f u)) → AllByRecursion P us → AllByRecursion P (with_unit serial f us)
-all_with P serial f [] keeps all = tt
-all_with P serial f (u ∷ us) keeps all = go (same_id serial u.serial) (all_with P serial f us keeps all.1)
-  where
-    go : (b : Bool) → AllByRecursion P (with_unit serial f us) → AllByRecursion P (if b then f u ∷ us else u ∷ with_unit serial f us)
-    go true rest = (keeps u all.0, all.1)
-    go false rest = (all.0, rest)
-
-more_first : (e : Entry) (u : UnitTold) → (more_told e u).first ≡ u.first
-more_first e u = go (e.kind == 1)
-  where
-    go : (b : Bool) → (if b then record u { changes = u.changes + 1; files = bit_or u.files (file_bit e.file) } else record u { prepared = true }).first ≡ u.first
-    go true = refl
-    go false = refl
-
-pub within_after : (s : Span) (p : ℕ) (e : Entry) (t : Told) → s.first ≤ p → p < s.end → AreWithin s t.units → AreWithin s (after p e t).units
-within_after s p e t behind before all = go (e.kind == 3) (is_some (find_unit e.serial t.units))
-  where
-    go : (b d : Bool) → AllByRecursion (λ (u : UnitTold). (s.first ≤ u.first) × (u.first < s.end)) (if b then without_unit e.serial t.units else (if d then with_unit e.serial (more_told e) t.units else t.units ++ first_told p e ∷ []))
-    go true d = all_without (λ (u : UnitTold). (s.first ≤ u.first) × (u.first < s.end)) e.serial t.units all
-    go false true = all_with (λ (u : UnitTold). (s.first ≤ u.first) × (u.first < s.end)) e.serial (more_told e) t.units (λ u is. let same = more_first e u in (omega (arith, is.0, same), omega (arith, is.1, same))) all
-    go false false = all_behind (λ (u : UnitTold). (s.first ≤ u.first) × (u.first < s.end)) t.units (first_told p e) (behind, before) all
+-- one that is neither a change nor a settlement is that it is prepared
+pub prepared_kind : (k : EntryKind) → (kind_code k == 1) ≡ false → (kind_code k == 3) ≡ false → (kind_code k == 2) ≡ true
+prepared_kind kind.Change is open_ = let never : ⊥ = cc in absurd never
+prepared_kind kind.Prepared is open_ = refl
+prepared_kind kind.Settled is open_ = let never : ⊥ = cc in absurd never
 
 module _ (c : List (List ℕ)) (s : Span) (es : List Entry) (journal : IsJournal c s es) where
   whole : s.end - s.first ≡ length (flat_map spelling es)
@@ -175,50 +159,38 @@ module _ (c : List (List ℕ)) (s : Span) (es : List Entry) (journal : IsJournal
   pub told_all : (position : ℕ) (t : Told) → HasRead c s es position t → s.end ≤ position → t ≡ told_by (placed s.first es)
   told_all position t r end = r.told ∙ ap (λ (xs : List Entry). told_by (placed s.first xs)) (all_read r.front position r.read end)
 
-  -- The positions of a branch's changes.
+  -- The positions of branches' changes.
 
-  pub nothing_found : (serial : Id) → HasFound s serial es s.first []
-  nothing_found serial = record { front = []; read = begins_read; found = refl }
-
-  found_behind : (serial : Id) (position : ℕ) (ps : List ℕ) (r : HasFound s serial es position ps) (e : Entry) → positions_of serial (placed s.first (r.front ++ e ∷ [])) ≡ ps ++ positions_of serial ((position, e) ∷ [])
-  found_behind serial position ps r e =
-      ap (positions_of serial) (placed_append s.first r.front (e ∷ []) ∙ ap (λ (p : ℕ). placed s.first r.front ++ ((p, e) ∷ [])) (sym r.read.place))
-      ∙ ap (map (λ (e : ℕ × Entry). e.0)) (changes_append serial (placed s.first r.front) ((position, e) ∷ []))
-      ∙ map_append (changes_of serial (placed s.first r.front)) (changes_of serial ((position, e) ∷ []))
-      ∙ ap (λ (qs : List ℕ). qs ++ positions_of serial ((position, e) ∷ [])) (sym r.found)
-
-  one_position : (serial : Id) (position : ℕ) (e : Entry) → (b : Bool) → is_change_of serial e ≡ b → positions_of serial ((position, e) ∷ []) ≡ (if b then position ∷ [] else [])
-  one_position serial position e b is = ap (λ (b : Bool). map (λ (e : ℕ × Entry). e.0) (if b then (position, e) ∷ [] else [])) is ∙ go b
+  one_position : (serial : Id) (position : ℕ) (e : Entry) → positions_of serial ((position, e) ∷ []) ≡ (if is_change_of serial e then position ∷ [] else [])
+  one_position serial position e = go (is_change_of serial e)
     where
       go : (b : Bool) → map (λ (e : ℕ × Entry). e.0) (if b then (position, e) ∷ [] else []) ≡ (if b then position ∷ [] else [])
       go true = refl
       go false = refl
 
-  pub found_more : (serial : Id) (position : ℕ) (ps new : List ℕ) (h : EntryHead) (next : ℕ) (image : List ℕ) (b : Bool) → position < s.end → HasFound s serial es position ps → Stands s position h next image c
-      → is_change_of serial (entry_of h []) ≡ b → new ≡ ps ++ (if b then position ∷ [] else []) → HasFound s serial es next new
-  found_more serial position ps new h next image b before r stands is put =
+  positions_on : (front : List Entry) (position : ℕ) → AreRead s es front position → (e : Entry) (x : Id) → positions_of x (placed s.first (front ++ e ∷ [])) ≡ positions_of x (placed s.first front) ++ (if is_change_of x e then position ∷ [] else [])
+  positions_on front position r e x =
+      ap (positions_of x) (placed_append s.first front (e ∷ []) ∙ ap (λ (p : ℕ). placed s.first front ++ ((p, e) ∷ [])) (sym r.place))
+      ∙ ap (map (λ (e : ℕ × Entry). e.0)) (changes_append x (placed s.first front) ((position, e) ∷ []))
+      ∙ map_append (changes_of x (placed s.first front)) (changes_of x ((position, e) ∷ []))
+      ∙ ap (λ (qs : List ℕ). positions_of x (placed s.first front) ++ qs) (one_position x position e)
+
+  pub nothing_opened : HasOpened s es s.first nothing_told []
+  nothing_opened = record { front = []; read = begins_read; found = tt; differ = tt; fresh = λ x none off. refl }
+
+  pub opened_more : (position : ℕ) (t new : Told) (ws vs : List OpenUnit) (h : EntryHead) (next : ℕ) (image : List ℕ) → position < s.end → HasOpened s es position t ws → Stands s position h next image c →
+      is_out_of_order (entry_of h []) t ≡ false → new ≡ after position (entry_of h []) t → vs ≡ opened_after position (entry_of h []) ws → HasOpened s es next new vs
+  opened_more position t new ws vs h next image before r stands may taken opened =
       let n = next_is r.front position r.read before h next image stands in
       let e = entry_of h image in
-      subst (λ (p : ℕ). HasFound s serial es p new) (sym stands.behind) record {
+      let after_ = found_after (λ x. positions_of x (placed s.first r.front)) (λ x. positions_of x (placed s.first (r.front ++ e ∷ []))) position e (positions_on r.front position r.read e) t ws r.found r.differ r.fresh (or_parts _ _ may).0 (settled_kind h.kind) in
+      subst (λ (p : ℕ). HasOpened s es p new vs) (sym stands.behind) record {
         front = r.front ++ e ∷ [];
         read = read_on r.front position r.read e n.0 n.1;
-        found = put ∙ ap (λ (qs : List ℕ). ps ++ qs) (sym (one_position serial position e b is)) ∙ sym (found_behind serial position ps r e);
+        found = subst (AreChangesIn (placed s.first (r.front ++ e ∷ []))) (sym opened) after_.0;
+        differ = subst Differ (sym opened) after_.1;
+        fresh = λ x none off. after_.2 x (ap (first_that (is_of x)) (sym opened) ∙ none) (ap (λ (u : Told). list_any (same_id x) u.settled) (sym taken) ∙ off);
       }
 
-  pub found_all : (serial : Id) (position : ℕ) (ps : List ℕ) → HasFound s serial es position ps → s.end ≤ position → ps ≡ positions_of serial (placed s.first es)
-  found_all serial position ps r end = r.found ∙ ap (λ (xs : List Entry). positions_of serial (placed s.first xs)) (all_read r.front position r.read end)
-
-  -- one more than 1,024
-  pub too_many : (serial : Id) (position : ℕ) (ps : List ℕ) (h : EntryHead) (next : ℕ) (image : List ℕ) → position < s.end → HasFound s serial es position ps → Stands s position h next image c → is_change_of serial (entry_of h []) ≡ true
-      → length ps + 1 ≤ length (positions_of serial (placed s.first es))
-  too_many serial position ps h next image before r stands is =
-      let n = next_is r.front position r.read before h next image stands in
-      let e = entry_of h image in
-      let all : es ≡ (r.front ++ e ∷ []) ++ n.0 = r.read.split ∙ ap (λ (xs : List Entry). r.front ++ xs) n.1 ∙ sym (append_assoc r.front (e ∷ []) n.0) in
-      let p = s.first + length (flat_map spelling (r.front ++ e ∷ [])) in
-      let split = ap (λ (xs : List Entry). positions_of serial (placed s.first xs)) all ∙ ap (positions_of serial) (placed_append s.first (r.front ++ e ∷ []) n.0)
-      ∙ ap (map (λ (e : ℕ × Entry). e.0)) (changes_append serial (placed s.first (r.front ++ e ∷ [])) (placed p n.0)) ∙ map_append (changes_of serial (placed s.first (r.front ++ e ∷ []))) (changes_of serial (placed p n.0)) in
-      let first = found_behind serial position ps r e ∙ ap (λ (qs : List ℕ). ps ++ qs) (one_position serial position e true is) in
-      let size = ap length split ∙ length-append (positions_of serial (placed s.first (r.front ++ e ∷ []))) (positions_of serial (placed p n.0)) in
-      let more = ap length first ∙ length-append ps (position ∷ []) in
-      omega (arith, size, more)
+  pub opened_all : (position : ℕ) (t : Told) (ws : List OpenUnit) → HasOpened s es position t ws → s.end ≤ position → AreChangesIn (placed s.first es) ws
+  opened_all position t ws r end = subst (λ (xs : List Entry). AreChangesIn (placed s.first xs) ws) (all_read r.front position r.read end) r.found

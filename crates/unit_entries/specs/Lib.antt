@@ -3,3 +3,4 @@ pub mod Rows
 pub mod Collecting
 pub mod Told
 pub mod Reading
+pub mod Opening

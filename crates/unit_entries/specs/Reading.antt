@@ -18,10 +18,6 @@ abbrev pub AreInOrder : Told → List (ℕ × Entry) → Type 0
 AreInOrder t [] = Unit {0}
 AreInOrder t (e ∷ es) = (is_out_of_order e.1 t ≡ false) × (e.1.file < 64) × AreInOrder (after e.0 e.1 t) es
 
--- the first entry of each unit begins in the journal
-abbrev pub AreWithin : Span → List UnitTold → Type 0
-AreWithin s us = AllByRecursion (λ (u : UnitTold). (s.first ≤ u.first) × (u.first < s.end)) us
-
 -- whether an entry is of a change that a branch made
 abbrev pub is_change_of : Id → Entry → Bool
 is_change_of serial e = (e.kind == 1) && same_id serial e.serial
@@ -48,9 +44,3 @@ pub record HasRead (c : List (List ℕ)) (s : Span) (es : List Entry) (position 
   pub told : t ≡ told_by (placed s.first front)
   pub count : t.entries ≡ length front
   pub order : AreInOrder nothing_told (placed s.first es) → AreInOrder t (placed position read.back)
-
--- up to this position these are where the changes of a branch begin
-pub record HasFound (s : Span) (serial : Id) (es : List Entry) (position : ℕ) (ps : List ℕ) : Type 0 where
-  pub front : List Entry
-  pub read : AreRead s es front position
-  pub found : ps ≡ positions_of serial (placed s.first front)

@@ -7,7 +7,7 @@ mod reading;
 
 pub use collecting::collect_keys;
 pub use keys::{ChangedKey, ChangedKeys, MOST_KEYS};
-pub use reading::{find_positions, read_journal};
+pub use reading::read_journal;
 
 #[cfg(test)]
 mod tests;

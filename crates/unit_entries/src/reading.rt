@@ -1,111 +1,135 @@
 // The journal of recovery units as a restart reads it.
-ghost use Rattle.std.specs.Prelude.{◌≡◌, ◌≤◌, ◌<◌, ◌+◌, ◌^◌, ◌∷◌, ◌++◌, ◌==◌, ℕ, List, [], true, false, OnOk, OnErr, IfOk, IfErr, IfSome, length, vec_capacity, vec_len, is_err, if◌then◌else◌};
-ghost use Rattle.std.specs.List.{All};
-ghost use Rattle.records_model.specs.History.{same_id};
-ghost use Rattle.vms_base.specs.Ids.{id_of, serial_of};
-ghost use Rattle.journal_format.specs.Heads.{entry_of};
+ghost use Rattle.std.specs.Prelude.{◌≡◌, ◌≤◌, ◌<◌, ◌+◌, ◌^◌, ◌∷◌, ◌++◌, ◌==◌, ℕ, List, [], None, true, false, OnOk, OnErr, IfOk, IfErr, IfSome, IsSome, length, is_err};
+ghost use Rattle.vms_base.specs.Ids.{serial_of, tid_of};
+ghost use Rattle.journal_format.specs.Heads.{entry_of, kind_code};
 ghost use Rattle.journal_model.specs.Entries.{Entry};
 ghost use Rattle.journal_model.specs.Ring.{IsJournal};
 ghost use Rattle.journal_store.specs.Leaving.{OnlyReads, Fell};
 ghost use Rattle.journal_store.specs.Rings.{IsRing};
 ghost use Rattle.ru_journal.specs.Told.{after, is_out_of_order, nothing_told, told_by};
-ghost use Rattle.unit_entries.specs.Reading.{placed, AreInOrder, AreWithin, is_change_of, positions_of};
+ghost use Rattle.unit_table.specs.Units.{begun, first_that, is_of, new_unit, unit_at, with_unit, without_first};
+ghost use Rattle.unit_entries.specs.Opening.{AreAlike, AreChangesIn, BeginWithin, more_open, opened_after};
+ghost use Rattle.unit_entries.specs.Reading.{placed, AreInOrder};
 
-use crate::keys::MOST_KEYS;
 use block_disk::Disk;
 use careful_write::{Down, Store};
 use file_base::Span;
 use journal_format::{EntryHead, EntryKind};
 use journal_store::entry_at;
 use ru_journal::{MOST_ENTRIES, RuState};
+use unit_table::UnitTable;
 use vms_base::{Record, Serial};
 
-// Takes one entry more. False, and nothing changes, where it may not stand there, or there is no room for it.
-fn take_entry(state: &mut RuState, position: u64, e: &EntryHead) -> bool
+// Whether an entry tells that a branch is settled.
+fn settles(e: &EntryHead) -> bool
+    ensures { result ≡ (kind_code e.now.kind == 3) }
+{
+    match e.kind {
+        EntryKind::Settled => true,
+        _ => false,
+    }
+}
+
+// Notes what an entry at a position tells of the unit at a place.
+fn note_entry(units: &mut UnitTable, place: u8, position: u64, e: &EntryHead)
+    requires file { e.now.file < 64 }
+    requires there { IsSome (unit_at units.old.places place) }
+    requires room { IfSome (unit_at units.old.places place) (λ w. kind_code e.now.kind ≡ 1 → length w.positions < 1024) }
+    ensures { IfSome (unit_at units.old.places place) (λ w. units.new ≡ with_unit place (more_open position (entry_of e.now []) w) units.old) }
+{
+    match e.kind {
+        EntryKind::Change => units.note(place, position, e.file),
+        _ => units.prepare(place),
+    }
+}
+
+// The unit of a branch begins with an entry at a position.
+fn open_unit(units: &mut UnitTable, position: u64, e: &EntryHead)
+    requires file { e.now.file < 64 }
+    requires places { length (begun units.old) < 64 }
+    ensures { begun units.new ≡ begun units.old ++ more_open position (entry_of e.now []) (new_unit (tid_of e.now.tid) (serial_of e.now.serial)) ∷ [] }
+{
+    units.stand_in_order();
+    let Some(place) = units.begin(e.tid, e.serial) else {
+        unreachable!()
+    };
+    note_entry(units, place, position, e);
+}
+
+// The unit of a branch is no more, where it has one.
+fn forget_unit(units: &mut UnitTable, serial: &Serial)
+    ensures { begun units.new ≡ without_first (is_of (serial_of serial.now)) (begun units.old) }
+{
+    match units.find(serial) {
+        Some(place) => units.remove(place),
+        None => {}
+    }
+}
+
+// The units after one entry more.
+fn follow_entry(units: &mut UnitTable, position: u64, e: &EntryHead)
+    requires file { e.now.file < 64 }
+    requires room { IfSome (first_that (is_of (serial_of e.now.serial)) (begun units.old)) (λ w. kind_code e.now.kind ≡ 1 → length w.positions < 1024) }
+    requires places { first_that (is_of (serial_of e.now.serial)) (begun units.old) ≡ None → (kind_code e.now.kind == 3) ≡ false → length (begun units.old) < 64 }
+    ensures { begun units.new ≡ opened_after position (entry_of e.now []) (begun units.old) }
+{
+    if settles(e) {
+        forget_unit(units, &e.serial);
+        return;
+    }
+    match units.find(&e.serial) {
+        Some(place) => note_entry(units, place, position, e),
+        None => open_unit(units, position, e),
+    }
+}
+
+// Takes one entry more. False where it may not stand there, or there is no room for it.
+fn take_entry(state: &mut RuState, units: &mut UnitTable, position: u64, e: &EntryHead) -> bool
+    requires alike { AreAlike state.old.units (begun units.old) }
     ensures taken { result ≡ true → state.new ≡ after position (entry_of e.now []) state.old }
+    ensures units { result ≡ true → begun units.new ≡ opened_after position (entry_of e.now []) (begun units.old) }
+    ensures order { result ≡ true → is_out_of_order (entry_of e.now []) state.old ≡ false }
+    ensures alike { result ≡ true → AreAlike state.new.units (begun units.new) }
     ensures may { state.old.entries < 87381 → e.now.file < 64 → is_out_of_order (entry_of e.now []) state.old ≡ false → result ≡ true }
 {
     if state.taken() >= MOST_ENTRIES || e.file >= 64 {
         return false;
     }
-    state.take(position, e).is_ok()
+    if state.take(position, e).is_err() {
+        return false;
+    }
+    follow_entry(units, position, e);
+    true
 }
 
-/// Reads the entries of a journal, the oldest first, in place of those that were taken. False where one of them may not stand there; those before it are
-/// taken then.
+/// Reads the entries of a journal, the oldest first, in place of those that were taken, and puts the units that they leave in place of those of the table. False
+/// where one of them may not stand there; those before it are taken then.
 pub fn read_journal<D: Disk>(
     store: &mut Store<D>,
     span: &Span,
     state: &mut RuState,
+    units: &mut UnitTable,
     image: &mut Record,
 ) -> Result<bool, Down>
     requires ring { IsRing span.now store.old.disk }
     ensures told { IfOk result (λ whole. whole ≡ true → IfSome store.old.current (λ c. (es : List Entry) → IsJournal c span.now es → state.new ≡ told_by (placed span.now.first es))) }
     ensures whole { IfOk result (λ whole. IfSome store.old.current (λ c. (es : List Entry) → IsJournal c span.now es → length es ≤ 87381 → AreInOrder nothing_told (placed span.now.first es) → whole ≡ true)) }
-    ensures within { IfOk result (λ whole. whole ≡ true → AreWithin span.now state.new.units) }
+    ensures found { IfOk result (λ whole. whole ≡ true → IfSome store.old.current (λ c. (es : List Entry) → IsJournal c span.now es → AreChangesIn (placed span.now.first es) (begun units.new))) }
+    ensures alike { IfOk result (λ whole. whole ≡ true → AreAlike state.new.units (begun units.new)) }
+    ensures within { IfOk result (λ whole. whole ≡ true → BeginWithin span.now (begun units.new)) }
     ensures ok { OnOk result (OnlyReads result store.old store.new) }
     ensures down { IfErr result (λ down. Fell down store.old store.new) }
 {
     state.clear();
+    units.clear();
     let mut position = span.first;
     while position < span.end {
         match entry_at(store, span, position, image) {
             Err(down) => return Err(down),
             Ok(None) => return Ok(false),
             Ok(Some((e, next))) => {
-                if !take_entry(state, position, &e) {
+                if !take_entry(state, units, position, &e) {
                     return Ok(false);
-                }
-                position = next;
-            }
-        }
-    }
-    Ok(true)
-}
-
-// Whether an entry is of a change that a branch made.
-fn is_change_of(serial: &Serial, e: &EntryHead) -> bool
-    ensures { result ≡ is_change_of (serial_of serial.now) (entry_of e.now []) }
-{
-    let is_change = match e.kind {
-        EntryKind::Change => true,
-        _ => false,
-    };
-    let (a, b) = (&serial.0, &e.serial.0);
-    is_change && a.node.bytes() == b.node.bytes() && a.boot == b.boot && a.seq == b.seq
-}
-
-/// Reads where the entries of a branch's changes begin, the oldest first, in place of the positions that were listed, of which the list has room for 1,024.
-/// False where there are more, or an entry may not stand in the journal.
-pub fn find_positions<D: Disk>(
-    store: &mut Store<D>,
-    span: &Span,
-    serial: &Serial,
-    positions: &mut Vec<u64>,
-    image: &mut Record,
-) -> Result<bool, Down>
-    requires ring { IsRing span.now store.old.disk }
-    requires room { 1024 ≤ vec_capacity positions.old }
-    ensures found { IfOk result (λ whole. whole ≡ true → IfSome store.old.current (λ c. (es : List Entry) → IsJournal c span.now es → positions.new.items ≡ positions_of (serial_of serial.now) (placed span.now.first es))) }
-    ensures whole { IfOk result (λ whole. IfSome store.old.current (λ c. (es : List Entry) → IsJournal c span.now es → length (positions_of (serial_of serial.now) (placed span.now.first es)) ≤ 1024 → whole ≡ true)) }
-    ensures few { length positions.new.items ≤ 1024 }
-    ensures low { All (λ p. p ≤ 2 ^ 62) positions.new.items }
-    ensures room { 1024 ≤ vec_capacity positions.new }
-    ensures ok { OnOk result (OnlyReads result store.old store.new) }
-    ensures down { IfErr result (λ down. Fell down store.old store.new) }
-{
-    positions.clear();
-    let mut position = span.first;
-    while position < span.end {
-        match entry_at(store, span, position, image) {
-            Err(down) => return Err(down),
-            Ok(None) => return Ok(false),
-            Ok(Some((e, next))) => {
-                if is_change_of(serial, &e) {
-                    if positions.len() >= MOST_KEYS {
-                        return Ok(false);
-                    }
-                    positions.push_reserved(position);
                 }
                 position = next;
             }

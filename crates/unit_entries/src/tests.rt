@@ -10,6 +10,7 @@ use frame_pool::Pool;
 use ru_journal::RuState;
 use std::alloc::{AllocError, Global};
 use std::test::Fail;
+use unit_table::UnitTable;
 use vms_base::{FileName, Id, Key, KeyText, Moment, NodeName, Record, Serial};
 use volume::Volume;
 
@@ -89,37 +90,35 @@ fn store(alloc: Global, node: NodeName) -> Result<Option<Store<Disk1>>, AllocErr
     }
 }
 
-// Stages a block, and then reads the journal in it: how many units are told, and where the changes of a branch begin.
+// Stages a block, and then reads the journal in it: how many units are told.
 fn read<D: Disk>(
     store: &mut Store<D>,
     block: &[u8; 512],
     ends: (u64, u64),
-    serial: &Serial,
     state: &mut RuState,
-    positions: &mut Vec<u64>,
+    units: &mut UnitTable,
     image: &mut Record,
 ) -> Option<usize> {
     let (first, end) = ends;
     let blocks = store.blocks();
-    if positions.capacity() < MOST_KEYS
-        || blocks < 4096
-        || blocks > 65536
-        || first > end
-        || end - first > 512
-        || end > 4096
-    {
+    if blocks < 4096 || blocks > 65536 || first > end || end - first > 512 || end > 4096 {
         return None;
     }
     store.unstage();
     let _ = store.stage(600, block);
     let span = journal(600, first, end);
-    if read_journal(store, &span, state, image) != Ok(true) {
-        return None;
-    }
-    if find_positions(store, &span, serial, positions, image) != Ok(true) {
+    if read_journal(store, &span, state, units, image) != Ok(true) {
         return None;
     }
     Some(state.units().len())
+}
+
+// Where the changes of a branch's unit begin; none where it has no unit.
+fn positions<'a>(units: &'a UnitTable, serial: &Serial) -> &'a [u64] {
+    match units.find(serial) {
+        Some(place) => units.positions(place),
+        None => &[],
+    }
 }
 
 #[test]
@@ -141,7 +140,7 @@ fn a_journal_is_read(rt: HostRuntime) -> Result<(), Fail> {
         seq: 7,
     });
     let mut state = RuState::reserve(alloc)?;
-    let mut positions: Vec<u64> = Vec::with_capacity(alloc, MOST_KEYS)?;
+    let mut units = UnitTable::reserve(alloc)?;
     let mut image = Record::reserve(alloc)?;
     let rows: [Row; 5] = [
         (1, 1, 0, 7, 1),
@@ -158,20 +157,19 @@ fn a_journal_is_read(rt: HostRuntime) -> Result<(), Fail> {
         (7, 1, 1, &[7]),
         (9, 0, 0, &[]),
     ];
-    for (first, count, units, want) in table {
+    for (first, count, many, want) in table {
         let mut block = [0; 512];
         let end = lay(&mut block, &rows[..count], first);
         let told = read(
             &mut store,
             &block,
             (first as u64, end as u64),
-            &serial,
             &mut state,
-            &mut positions,
+            &mut units,
             &mut image,
         );
-        assert!(rt; told == Some(units), "{first}");
-        assert!(rt; positions.as_slice() == want, "{first}");
+        assert!(rt; told == Some(many), "{first}");
+        assert!(rt; positions(&units, &serial) == want, "{first}");
     }
     // A branch is not settled twice, and no entry stands in zeros.
     let twice: [Row; 3] = [(1, 1, 0, 7, 1), (3, 2, 0, 7, 0), (3, 2, 0, 7, 0)];
@@ -182,9 +180,8 @@ fn a_journal_is_read(rt: HostRuntime) -> Result<(), Fail> {
             &mut store,
             &block,
             (0, end as u64),
-            &serial,
             &mut state,
-            &mut positions,
+            &mut units,
             &mut image,
         );
         assert!(rt; told.is_some() == whole, "{count} {more}");

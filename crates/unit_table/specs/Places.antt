@@ -1,6 +1,6 @@
 -- How the places and the order of a table of units hang together.
-use Rattle.std.specs.Prelude.{◌≡◌, ℕ, suc, ◌==◌, List, [], ◌∷◌, Option, Some, None, length, if◌then◌else◌}
-use Rattle.unit_table.specs.Units.{OpenUnit, unit_at}
+use Rattle.std.specs.Prelude.{◌≡◌, ℕ, suc, ◌==◌, Bool, true, List, [], ◌∷◌, ◌++◌, Option, Some, None, length, if◌then◌else◌}
+use Rattle.unit_table.specs.Units.{OpenUnit, first_that, unit_at, units_of}
 
 -- how often a number stands in a list
 abbrev pub occurrences : ℕ → List ℕ → ℕ
@@ -23,3 +23,13 @@ pub record AreInOrder (places : List (Option OpenUnit)) (order : List ℕ) : Typ
   pub whole : length places ≡ 64
   pub each : (p : ℕ) → occurrences p order ≡ count_at (unit_at places p)
   pub many : length order ≡ taken places
+
+-- the first place in an order that has a unit of which this holds
+pub record IsFirstPlace (P : OpenUnit → Bool) (places : List (Option OpenUnit)) (order : List ℕ) (p : ℕ) : Type 0 where
+  pub front : List ℕ
+  pub back : List ℕ
+  pub split : order ≡ front ++ p ∷ back
+  pub unit : OpenUnit
+  pub there : unit_at places p ≡ Some unit
+  pub is : P unit ≡ true
+  pub before : first_that P (units_of places front) ≡ None

@@ -1,7 +1,8 @@
 -- The unsettled units of a node, as its memory has them.
-use Rattle.std.specs.Prelude.{ℕ, ◌+◌, ◌≤◌, ◌==◌, List, [], ◌∷◌, ◌++◌, Bool, true, false, not, Option, Some, None, min, replicate, slice_set, slice_index_or, if◌then◌else◌}
+use Rattle.std.specs.Prelude.{◌≡◌, ℕ, ◌+◌, ◌≤◌, ◌==◌, List, [], ◌∷◌, ◌++◌, Bool, true, false, not, Option, Some, None, min, replicate, slice_set, slice_index_or, if◌then◌else◌}
 use Rattle.std.specs.List.{filter}
 use Rattle.vms_model.specs.Ids.{Id}
+use Rattle.records_model.specs.History.{same_id}
 
 -- A unit that is not settled: its branch, where its changes begin in the journal, the oldest first, of each file number whether it changed the file, and
 -- whether it is prepared.
@@ -78,6 +79,38 @@ units_of places (p ∷ ps) = elim (unit_at places p) [ Some u ↦ u ∷ units_of
 -- the units in the order in which they were begun
 abbrev pub begun : Units → List OpenUnit
 begun s = units_of s.places s.order
+
+-- the first of some units of which this holds
+abbrev pub first_that : (OpenUnit → Bool) → List OpenUnit → Option OpenUnit
+first_that P [] = None
+first_that P (u ∷ us) = if P u then Some u else first_that P us
+
+-- the units with another in its stead
+abbrev pub with_first : (OpenUnit → Bool) → OpenUnit → List OpenUnit → List OpenUnit
+with_first P w [] = []
+with_first P w (u ∷ us) = if P u then w ∷ us else u ∷ with_first P w us
+
+-- and without it
+abbrev pub without_first : (OpenUnit → Bool) → List OpenUnit → List OpenUnit
+without_first P [] = []
+without_first P (u ∷ us) = if P u then us else u ∷ without_first P us
+
+-- whether a unit is of a branch
+abbrev pub is_of : Id → OpenUnit → Bool
+is_of serial u = same_id serial u.serial
+
+-- whether it is not prepared
+abbrev pub is_active : OpenUnit → Bool
+is_active u = not u.prepared
+
+-- At this place is the first of a table's units of which this holds. Another in its stead stands where it stood in the order, and without it the others stand.
+pub record IsFirst (P : OpenUnit → Bool) (s : Units) (place : ℕ) : Type 0 where
+  pub unit : OpenUnit
+  pub there : unit_at s.places place ≡ Some unit
+  pub is : P unit ≡ true
+  pub first : first_that P (begun s) ≡ Some unit
+  pub changed : (w : OpenUnit) → begun (with_unit place w s) ≡ with_first P w (begun s)
+  pub gone : begun (without_place place s) ≡ without_first P (begun s)
 
 -- the first of some units that changed a file
 abbrev pub first_to_change : (file : ℕ) → List OpenUnit → Option Id

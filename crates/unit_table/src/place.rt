@@ -1,13 +1,14 @@
 // A place of a table, for one unit.
 ghost use Rattle.std.specs.Prelude.{◌≡◌, ◌≤◌, ◌<◌, IfOk, IfSome, IsSome, None, Some, is_some, length, option_map, true, vec_capacity};
 ghost use Rattle.std.specs.Option.{option_and_then};
-ghost use Rattle.vms_base.specs.Ids.{serial_of, tid_of};
+ghost use Rattle.vms_base.specs.Ids.{id_of, serial_of, tid_of};
+ghost use Rattle.records_model.specs.History.{same_id};
 ghost use Rattle.unit_table.specs.declared.place.Branch.{Branch};
 ghost use Rattle.unit_table.specs.Units.{OpenUnit, first_of, has_changed, new_unit, owed_for, prepared_unit, unit_back, with_file, with_position};
 
 use std::alloc::{AllocError, Global};
 use std::marker::Model;
-use vms_base::{Serial, Tid};
+use vms_base::{Id, Serial, Tid};
 
 /// How many changes a unit may have.
 pub const MOST_CHANGES: usize = 1_024;
@@ -17,6 +18,13 @@ pub const MOST_CHANGES: usize = 1_024;
 pub struct Branch {
     pub tid: Tid,
     pub serial: Serial,
+}
+
+// Whether two ids are one.
+pub(crate) fn is_same(a: &Id, b: &Id) -> bool
+    ensures { result ≡ same_id (id_of a.now) (id_of b.now) }
+{
+    a.node.bytes() == b.node.bytes() && a.boot == b.boot && a.seq == b.seq
 }
 
 /// Room for a unit.

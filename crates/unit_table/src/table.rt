@@ -1,12 +1,12 @@
 // A table of units.
-ghost use Rattle.std.specs.Prelude.{◌≡◌, ℕ, ◌≤◌, ◌<◌, ◌*◌, IfOk, IfSome, IfNone, IsSome, None, length, option_map, true};
+ghost use Rattle.std.specs.Prelude.{◌≡◌, ◌++◌, ◌∷◌, [], ℕ, ◌≤◌, ◌<◌, ◌*◌, IfOk, IfSome, IfNone, IsSome, None, length, option_map, true};
 ghost use Rattle.std.specs.List.{AllByRecursion};
 ghost use Rattle.vms_base.specs.Ids.{serial_of, tid_of};
 ghost use Rattle.unit_table.specs.declared.place.Branch.{Branch as BranchSaid};
-ghost use Rattle.unit_table.specs.Places.{AreInOrder};
-ghost use Rattle.unit_table.specs.Units.{OpenUnit, Units, begun, earliest, earlier, first_to_change, has_changed, no_units, owed, prepared_unit, unit_at, unit_back, units_of, with_begun, with_file, with_position, with_unit, without_place};
+ghost use Rattle.unit_table.specs.Places.{AreInOrder, IsFirstPlace};
+ghost use Rattle.unit_table.specs.Units.{OpenUnit, IsFirst, Units, begun, earliest, earlier, first_that, first_to_change, has_changed, is_active, is_of, no_units, owed, prepared_unit, unit_at, unit_back, units_of, with_begun, with_file, with_position, with_unit, without_place};
 
-use crate::place::{Branch, Place};
+use crate::place::{Branch, Place, is_same};
 use std::alloc::{AllocError, Global};
 use std::marker::Model;
 use vms_base::{Serial, Tid};
@@ -95,6 +95,52 @@ fn first_to_change(places: &[Place], order: &[u8], file: u8) -> Option<Serial>
     }
 }
 
+// Whether a place has a unit of a branch.
+fn is_of(place: &Place, serial: &Serial) -> bool
+    ensures { IfSome place.now (λ u. result ≡ is_of (serial_of serial.now) u) }
+{
+    match place.branch() {
+        Some(branch) => is_same(&serial.0, &branch.serial.0),
+        None => false,
+    }
+}
+
+// The first of some places in an order that has a unit of a branch.
+fn place_of(places: &[Place], order: &[u8], serial: &Serial) -> Option<u8>
+    requires { AllByRecursion (λ p. IsSome (unit_at places.now p)) order.now }
+    ensures found { IfSome result (IsFirstPlace (is_of (serial_of serial.now)) places.now order.now) }
+    ensures none { IfNone result (first_that (is_of (serial_of serial.now)) (units_of places.now order.now) ≡ None) }
+{
+    match order {
+        [] => None,
+        [p, rest @ ..] => {
+            if is_of(&places[*p as usize], serial) {
+                Some(*p)
+            } else {
+                place_of(places, rest, serial)
+            }
+        }
+    }
+}
+
+// The first of some places in an order that has a unit that is not prepared.
+fn active_place(places: &[Place], order: &[u8]) -> Option<u8>
+    requires { AllByRecursion (λ p. IsSome (unit_at places.now p)) order.now }
+    ensures found { IfSome result (IsFirstPlace is_active places.now order.now) }
+    ensures none { IfNone result (first_that is_active (units_of places.now order.now) ≡ None) }
+{
+    match order {
+        [] => None,
+        [p, rest @ ..] => {
+            if !places[*p as usize].is_prepared() {
+                Some(*p)
+            } else {
+                active_place(places, rest)
+            }
+        }
+    }
+}
+
 impl UnitTable {
     /// Without units. Room for 64 with 1,024 changes each is taken; an error where there is no memory for it.
     pub fn reserve(alloc: Global) -> Result<UnitTable, AllocError>
@@ -127,6 +173,7 @@ impl UnitTable {
     pub fn begin(&mut self, tid: Tid, serial: Serial) -> Option<u8>
         ensures begun { IfSome result (λ p. self.new ≡ with_begun p (tid_of tid) (serial_of serial) self.old) }
         ensures free { IfSome result (λ p. (p < 64) × (unit_at self.old.places p ≡ None)) }
+        ensures last { IfSome result (λ p. (w : OpenUnit) → begun (with_unit p w self.new) ≡ begun self.old ++ w ∷ []) }
         ensures full { IfNone result ((length (begun self.old) ≡ 64) × (self.new ≡ self.old)) }
     {
         match self.free_place() {
@@ -175,6 +222,22 @@ impl UnitTable {
         } else {
             None
         }
+    }
+
+    /// The place of the earliest begun unit of a branch.
+    pub fn find(&self, serial: &Serial) -> Option<u8>
+        ensures found { IfSome result (λ p. (p < 64) × IsFirst (is_of (serial_of serial.now)) self.now p) }
+        ensures none { IfNone result (first_that (is_of (serial_of serial.now)) (begun self.now) ≡ None) }
+    {
+        place_of(&self.places, &self.order, serial)
+    }
+
+    /// The place of the earliest begun unit that is not prepared.
+    pub fn first_active(&self) -> Option<u8>
+        ensures found { IfSome result (λ p. (p < 64) × IsFirst is_active self.now p) }
+        ensures none { IfNone result (first_that is_active (begun self.now) ≡ None) }
+    {
+        active_place(&self.places, &self.order)
     }
 
     /// Where the changes of the unit at a place begin in the journal, the oldest first.

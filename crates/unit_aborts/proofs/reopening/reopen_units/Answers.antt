@@ -1,112 +1,162 @@
-use Rattle.std.proofs.Common.{◌≡◌, ℕ, suc, ◌+◌, ◌-◌, ◌*◌, ◌<◌, ◌≤◌, List, length, map, ap, subst, sym, ◌∙◌, arith, inl, inr}
-use Rattle.std.proofs.lemmas.List.{length-map}
+use Rattle.std.proofs.Common.{◌≡◌, ℕ, suc, ◌+◌, ◌-◌, ◌*◌, ◌<◌, ◌≤◌, [], ◌∷◌, List, Some, length, map, ap, subst, sym, ◌∙◌, arith}
+use Rattle.std.proofs.lemmas.List.{length-append, length-map}
 use Rattle.careful_write.specs.Steps.{Quiet}
 use Rattle.journal_model.specs.Ring.{ring_size}
-use Rattle.ru_journal.specs.Told.{UnitTold}
 use Rattle.ru_journal.specs.Units.{unit_of}
-use Rattle.unit_entries.specs.Reading.{AreWithin}
+use Rattle.unit_entries.specs.Opening.{AreAlike}
+use Rattle.unit_entries.proofs.OpenLemmas.{alike_long, all_less, first_holds}
+use Rattle.unit_table.specs.Units.{OpenUnit, begun, is_active}
+use Rattle.vms_model.specs.Ids.{Id}
 use Rattle.volume.specs.State.{VolumeState}
-use Rattle.unit_aborts.specs.Growing.{AreTold}
-use Rattle.unit_aborts.specs.Reopening.{AreUnits, BreaksUnit, HasTaken, MayTake, TakesUnit, left_in, full, taken, finding, aborting}
-use Rattle.unit_aborts.proofs.GrowLemmas.{by_more, by_none}
-use Rattle.unit_aborts.proofs.TakeLemmas.{may_begin, quiet_on, quiet_there, there_is}
+use Rattle.unit_aborts.specs.Growing.{AreTold, GrowsBy}
+use Rattle.unit_aborts.specs.Reopening.{AreFound, AreFoundIn, AreUnits, HasTaken, MayTake, aborting, full, left_after, left_units, taken}
+use Rattle.unit_aborts.proofs.GrowLemmas.{by_more, by_most, by_none}
+use Rattle.unit_aborts.proofs.TakeLemmas.{left_begins, may_abort, may_begin, next_alike, none_alike, one_fewer, quiet_on, quiet_there, rest_alike}
 use Rattle.unit_aborts.proofs.reopening.reopen_units.Goals as goal
 
 pub returns-then-not-has_room-clause-reopens : goal.returns-then-not-has_room-clause-reopens
 returns-then-not-has_room-clause-reopens g c =
     let v = c.args.volume.now in
-    let us = map unit_of c.units-units.result.now in
-    let are = subst (λ (us : List UnitTold). AreUnits us v) (sym c.units-units.ensures.value) (c.in-Ok-true.ensures.units c.in-Ok-true.field-0-test) in
-    let count = length-map c.units-units.result.now unit_of in
+    let us = c.read_units.new.state.units in
+    let are = c.in-Ok-true.ensures.units c.in-Ok-true.field-0-test in
+    let count : length c.units.result.now ≡ length us = sym (length-map c.units.result.now unit_of) ∙ ap length c.units.ensures.value in
     let same = c.in-Ok-true.ensures.same in
-    let no = subst (λ (x : VolumeState). ring_size x.catalog.ru < x.catalog.ru.end - x.catalog.ru.first + 48 * length c.units-units.result.now) same (c.has_room.ensures.no c.if-not-has_room.true) in
+    let no = subst (λ (x : VolumeState). ring_size x.catalog.ru < x.catalog.ru.end - x.catalog.ru.first + 48 * length c.units.result.now) same (c.has_room.ensures.no c.if-not-has_room.true) in
     full us are (omega (arith, no, count)) same c.clear.ensures.items
 
-pub loop-i-init : goal.loop-i-init
-loop-i-init g c =
+pub loop-place-init : goal.loop-place-init
+loop-place-init g c =
     let v = c.args.volume.now in
-    let us = map unit_of c.units-units.result.now in
-    let are = subst (λ (us : List UnitTold). AreUnits us v) (sym c.units-units.ensures.value) (c.in-Ok-true.ensures.units c.in-Ok-true.field-0-test) in
-    let count = length-map c.units-units.result.now unit_of in
+    let us = c.read_units.new.state.units in
     let same = c.in-Ok-true.ensures.same in
-    let n = length c.units-units.result.now in
-    let yes = subst (λ (x : VolumeState). x.catalog.ru.end - x.catalog.ru.first + 48 * n ≤ ring_size x.catalog.ru) same (c.has_room.ensures.yes c.if-not-has_room.false) in
-    let within = subst (AreWithin v.catalog.ru) (sym c.units-units.ensures.value) (c.in-Ok-true.ensures.within c.in-Ok-true.field-0-test) in
-    let long = ap length c.units-units.ensures.value in
-    let most = c.units-units.ensures.few in
-    let all : n ≡ n - 0 = omega arith in
+    let alike = c.in-Ok-true.ensures.alike c.in-Ok-true.field-0-test in
+    let long = alike_long us (begun c.read_units.new.units) alike in
+    let count : length c.units.result.now ≡ length us = sym (length-map c.units.result.now unit_of) ∙ ap length c.units.ensures.value in
+    let few = c.units.ensures.few in
+    let yes = subst (λ (x : VolumeState). x.catalog.ru.end - x.catalog.ru.first + 48 * length c.units.result.now ≤ ring_size x.catalog.ru) same (c.has_room.ensures.yes c.if-not-has_room.false) in
     let none = ap length c.clear.ensures.items in
     let wide = c.clear.ensures.capacity in
     let places = c.requires.places in
     record {
-      taken = (same, c.clear.ensures.items);
-      may = subst (MayTake v.catalog.ru.first us (n - 0) c.args.clock.0) (sym same) (subst (λ (m : ℕ). MayTake v.catalog.ru.first us m c.args.clock.0 v) all (may_begin us n c.args.clock.0 v c.requires.may within (omega (arith, long, most, count)) yes));
-      room = c.requires.room;
+      taken = subst (λ (n : ℕ). HasTaken c.args.clock.0 us n v c.read_units.new.volume c.clear.new.self.items) (sym none) (same, c.clear.ensures.items);
+      alike = subst (λ (n : ℕ). AreAlike (left_after n us) (begun c.read_units.new.units)) (sym none) alike;
+      found = c.in-Ok-true.ensures.found c.in-Ok-true.field-0-test;
+      may = subst (MayTake v.catalog.ru.first (begun c.read_units.new.units) c.args.clock.0) (sym same)
+          (may_begin (begun c.read_units.new.units) c.args.clock.0 v c.requires.may (c.in-Ok-true.ensures.within c.in-Ok-true.field-0-test) (omega (arith, long, few)) (omega (arith, yes, long, count)));
       places = omega (arith, places, wide);
-      few = omega (arith, none);
-      grows = by_none 0 c.args.clock.0 v c.read_units.new.volume c.read_units.ensures.kept;
+      few = omega (arith, none, long, few);
+      grows = by_none (length c.clear.new.self.items) c.args.clock.0 v c.read_units.new.volume c.read_units.ensures.kept;
       told = subst (AreTold c.read_units.new.volume) (sym c.clear.ensures.items) tt;
       heads = ap (λ (x : VolumeState). length x.catalog.heads) same;
       quiet = subst (λ (x : VolumeState). Quiet v.store.disk x.store.disk) (sym same) (quiet_there v.store.disk);
       pool = ap (λ (x : VolumeState). x.store.pool) same;
     }
 
-pub returns-in-Err-take_unit-clause-fails : goal.returns-in-Err-take_unit-clause-fails
-returns-in-Err-take_unit-clause-fails g c =
-    let v = c.args.volume.now in
-    let us = map unit_of c.units-units.result.now in
-    let are = subst (λ (us : List UnitTold). AreUnits us v) (sym c.units-units.ensures.value) (c.in-Ok-true.ensures.units c.in-Ok-true.field-0-test) in
-    let count = length-map c.units-units.result.now unit_of in
-    let same = c.in-Ok-true.ensures.same in
-    let i = c.loop-i.i in
-    let lt = c.loop-i-test.true in
-    let below : i < length us = omega (arith, lt, count) in
-    let next : i + 1 ≡ suc i = omega arith in
-    let u = there_is us i below in
-    let so_far = subst (HasTaken c.args.clock.0 us i v c.loop-i.volume) (sym c.in-Err-take_unit.ensures.same) c.loop-i.invariant.taken in
-    elim c.in-Err-take_unit.ensures.fails [
-      | inl old ↦ finding us i c.loop-i.volume are below so_far old
-      | inr breaks ↦ aborting us i c.loop-i.volume u.0 are u.1 so_far (subst (λ (n : ℕ). BreaksUnit c.args.clock.0 u.0 (left_in n us) c.loop-i.volume c.take_unit.new.volume) next (breaks u.0 u.1))
-    ]
+pub abort_next-requires-clause-may : goal.abort_next-requires-clause-may
+abort_next-requires-clause-may g c = (c.args.volume.now.catalog.ru.first, c.loop-place.invariant.may)
 
-pub loop-i-preserved : goal.loop-i-preserved
-loop-i-preserved g c =
+pub abort_next-requires-clause-places : goal.abort_next-requires-clause-places
+abort_next-requires-clause-places g c =
+    let next = c.in-Some.ensures.found.1 in
+    let more = one_fewer is_active (begun c.loop-place.units) next.unit next.first in
+    let few = c.loop-place.invariant.few in
+    let places = c.loop-place.invariant.places in
+    omega (arith, more, few, places)
+
+pub returns-in-Err-abort_next-clause-fails : goal.returns-in-Err-abort_next-clause-fails
+returns-in-Err-abort_next-clause-fails g c =
     let v = c.args.volume.now in
-    let us = map unit_of c.units-units.result.now in
-    let are = subst (λ (us : List UnitTold). AreUnits us v) (sym c.units-units.ensures.value) (c.in-Ok-true.ensures.units c.in-Ok-true.field-0-test) in
-    let count = length-map c.units-units.result.now unit_of in
-    let same = c.in-Ok-true.ensures.same in
-    let i = c.loop-i.i in
-    let lt = c.loop-i-test.true in
-    let below : i < length us = omega (arith, lt, count) in
-    let next : i + 1 ≡ suc i = omega arith in
-    let u = there_is us i below in
-    let takes = subst (λ (n : ℕ). TakesUnit c.args.clock.0 u.0 (left_in n us) c.loop-i.volume c.take_unit.new.volume c.loop-i.out.items c.take_unit.new.out.items) next (c.in-Ok.ensures.takes u.0 u.1) in
-    let places = c.loop-i.invariant.places in
-    let wide = c.take_unit.ensures.places in
-    let few = c.loop-i.invariant.few in
-    let more = c.take_unit.ensures.more in
-    record {
-      taken = subst (λ (n : ℕ). HasTaken c.args.clock.0 us n v c.take_unit.new.volume c.take_unit.new.out.items) (sym next) (c.loop-i.volume, c.loop-i.out.items, u.0, c.loop-i.invariant.taken, u.1, takes);
-      may = c.in-Ok.ensures.may v.catalog.ru.first c.loop-i.invariant.may;
-      room = c.take_unit.ensures.room;
-      places = omega (arith, places, wide);
-      few = omega (arith, few, more);
-      grows = by_more i c.args.clock.0 v c.loop-i.volume c.take_unit.new.volume c.loop-i.invariant.grows c.take_unit.ensures.grows;
-      told = c.take_unit.ensures.told c.loop-i.invariant.told;
-      heads = c.in-Ok.ensures.heads ∙ c.loop-i.invariant.heads;
-      quiet = quiet_on v.store.disk c.loop-i.volume.store.disk c.take_unit.new.volume.store.disk c.loop-i.invariant.quiet c.in-Ok.ensures.counts;
-      pool = c.take_unit.ensures.pool ∙ c.loop-i.invariant.pool;
+    let us = c.read_units.new.state.units in
+    let n = length c.loop-place.out.items in
+    let next = c.in-Some.ensures.found.1 in
+    let ws = begun c.loop-place.units in
+    let r = next_alike (left_after n us) ws next.unit c.loop-place.invariant.alike next.first in
+    let u = r.0 in
+    let breaks = c.in-Err-abort_next.ensures.breaks next.unit next.first in
+    let rest = subst (AreAlike (left_after (suc n) us)) (sym c.abort_next.ensures.less) (rest_alike (left_after n us) ws c.loop-place.invariant.alike) in
+    aborting us n c.loop-place.volume u (c.in-Ok-true.ensures.units c.in-Ok-true.field-0-test) r.1 (subst (HasTaken c.args.clock.0 us n v c.loop-place.volume) (sym c.in-Err-abort_next.ensures.same) c.loop-place.invariant.taken) record {
+      positions = next.unit.positions;
+      found = subst (λ (x : Id). AreFound x v next.unit.positions) r.2.serial (first_holds (λ (w : OpenUnit). AreFound w.serial v w.positions) is_active ws next.unit c.loop-place.invariant.found next.first);
+      tid = breaks.tid;
+      serial = breaks.serial;
+      same_tid = breaks.same_tid ∙ r.2.tid;
+      same_serial = breaks.same_serial ∙ r.2.serial;
+      breaks = breaks.breaks (left_units (left_after (suc n) us)) (left_begins (left_after (suc n) us) (begun c.abort_next.new.units) rest);
     }
+
+pub returns-in-Err-abort_next-clause-few : goal.returns-in-Err-abort_next-clause-few
+returns-in-Err-abort_next-clause-few g c = let few = c.loop-place.invariant.few in let same = ap length c.in-Err-abort_next.ensures.same in omega (arith, few, same)
+
+pub returns-in-Err-abort_next-clause-grows : goal.returns-in-Err-abort_next-clause-grows
+returns-in-Err-abort_next-clause-grows g c =
+    let next = c.in-Some.ensures.found.1 in
+    let more = one_fewer is_active (begun c.loop-place.units) next.unit next.first in
+    let few = c.loop-place.invariant.few in
+    by_most 64 c.args.clock.0 c.args.volume.now c.abort_next.new.volume (length c.loop-place.out.items + 1) (omega (arith, more, few))
+    (by_more (length c.loop-place.out.items) c.args.clock.0 c.args.volume.now c.loop-place.volume c.abort_next.new.volume c.loop-place.invariant.grows c.abort_next.ensures.grows)
+
+pub loop-place-preserved : goal.loop-place-preserved
+loop-place-preserved g c =
+    let v = c.args.volume.now in
+    let us = c.read_units.new.state.units in
+    let out = c.loop-place.out.items in
+    let new = c.abort_next.new.out.items in
+    let n = length out in
+    let next = c.in-Some.ensures.found.1 in
+    let ws = begun c.loop-place.units in
+    let r = next_alike (left_after n us) ws next.unit c.loop-place.invariant.alike next.first in
+    let undoes = c.in-Ok.ensures.undoes next.unit next.first in
+    let rest = subst (AreAlike (left_after (suc n) us)) (sym c.abort_next.ensures.less) (rest_alike (left_after n us) ws c.loop-place.invariant.alike) in
+    let long : length new ≡ suc n = (let e = ap length undoes.told in let a = length-append out (undoes.one ∷ []) in omega (arith, e, a)) in
+    let more = one_fewer is_active ws next.unit next.first in
+    let less = ap length c.abort_next.ensures.less in
+    let places = c.loop-place.invariant.places in
+    let wide = c.abort_next.ensures.places in
+    let few = c.loop-place.invariant.few in
+    let one : n + 1 ≡ suc n = omega arith in
+    record {
+      taken = subst (λ (k : ℕ). HasTaken c.args.clock.0 us k v c.abort_next.new.volume new) (sym long) (
+        c.loop-place.volume,
+        out,
+        r.0,
+        undoes.one,
+        c.loop-place.invariant.taken,
+        r.1,
+        record {
+          positions = next.unit.positions;
+          found = subst (λ (x : Id). AreFound x v next.unit.positions) r.2.serial (first_holds (λ (w : OpenUnit). AreFound w.serial v w.positions) is_active ws next.unit c.loop-place.invariant.found next.first);
+          tid = undoes.tid ∙ r.2.tid;
+          serial = undoes.serial ∙ r.2.serial;
+          moment = undoes.moment;
+          aborts = undoes.aborts (left_units (left_after (suc n) us)) (left_begins (left_after (suc n) us) (begun c.abort_next.new.units) rest);
+          idle = undoes.idle;
+        },
+        undoes.told,
+      );
+      alike = subst (λ (k : ℕ). AreAlike (left_after k us) (begun c.abort_next.new.units)) (sym long) rest;
+      found = subst (AreFoundIn v) (sym c.abort_next.ensures.less) (all_less (λ (w : OpenUnit). AreFound w.serial v w.positions) is_active ws c.loop-place.invariant.found);
+      may = c.in-Ok.ensures.may v.catalog.ru.first c.loop-place.invariant.may;
+      places = omega (arith, places, wide);
+      few = omega (arith, few, more, less, long);
+      grows = subst (λ (k : ℕ). GrowsBy k c.args.clock.0 v c.abort_next.new.volume) (one ∙ sym long) (by_more n c.args.clock.0 v c.loop-place.volume c.abort_next.new.volume c.loop-place.invariant.grows c.abort_next.ensures.grows);
+      told = c.abort_next.ensures.told c.loop-place.invariant.told;
+      heads = c.in-Ok.ensures.heads ∙ c.loop-place.invariant.heads;
+      quiet = quiet_on v.store.disk c.loop-place.volume.store.disk c.abort_next.new.volume.store.disk c.loop-place.invariant.quiet c.in-Ok.ensures.counts;
+      pool = c.abort_next.ensures.pool ∙ c.loop-place.invariant.pool;
+    }
+
+pub loop-place-smaller : goal.loop-place-smaller
+loop-place-smaller g c =
+    let next = c.in-Some.ensures.found.1 in
+    let more = one_fewer is_active (begun c.loop-place.units) next.unit next.first in
+    let less = ap length c.abort_next.ensures.less in
+    omega (arith, more, less)
 
 pub returns-clause-reopens : goal.returns-clause-reopens
 returns-clause-reopens g c =
-    let v = c.args.volume.now in
-    let us = map unit_of c.units-units.result.now in
-    let are = subst (λ (us : List UnitTold). AreUnits us v) (sym c.units-units.ensures.value) (c.in-Ok-true.ensures.units c.in-Ok-true.field-0-test) in
-    let count = length-map c.units-units.result.now unit_of in
-    let same = c.in-Ok-true.ensures.same in
-    let past = c.loop-i-test.false in
-    let upto = c.loop-i.auto.i-end in
-    let all : c.loop-i.i ≡ length us = omega (arith, past, upto, count) in
-    taken us are (subst (λ (n : ℕ). HasTaken c.args.clock.0 us n v c.loop-i.volume c.loop-i.out.items) all c.loop-i.invariant.taken)
+    let us = c.read_units.new.state.units in
+    let n = length c.loop-place.out.items in
+    taken us n (c.in-Ok-true.ensures.units c.in-Ok-true.field-0-test) c.loop-place.invariant.taken (none_alike (left_after n us) (begun c.loop-place.units) c.loop-place.invariant.alike c.in_default.ensures.none)
+
+pub returns-clause-may : goal.returns-clause-may
+returns-clause-may g c = may_abort c.args.volume.now.catalog.ru.first (begun c.loop-place.units) c.args.clock.0 c.loop-place.volume c.loop-place.invariant.may

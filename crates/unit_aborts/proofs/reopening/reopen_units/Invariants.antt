@@ -1,20 +1,25 @@
-use Rattle.std.proofs.Common.{◌≡◌, ◌≤◌, ◌-◌, length, map, vec_capacity}
+use Rattle.std.proofs.Common.{◌≡◌, ◌+◌, ◌≤◌, length, vec_capacity}
 use Rattle.careful_write.specs.Steps.{Quiet}
-use Rattle.ru_journal.specs.Units.{unit_of}
+use Rattle.unit_entries.specs.Opening.{AreAlike}
+use Rattle.unit_table.specs.Units.{begun}
 use Rattle.unit_aborts.specs.Growing.{AreTold, GrowsBy}
-use Rattle.unit_aborts.specs.Reopening.{HasTaken, MayTake}
+use Rattle.unit_aborts.specs.Reopening.{AreFoundIn, HasTaken, MayTake, left_after}
 use Rattle.unit_aborts.proofs.reopening.reopen_units.Given as goal
 
-abbrev pub invariant-loop-i : goal.invariant-loop-i
-invariant-loop-i g l = record {
-  taken : HasTaken l.clock.0 (map unit_of l.units) l.i l.fn.volume l.volume l.out.items;
-  may : MayTake l.fn.volume.catalog.ru.first (map unit_of l.units) (length l.units - l.i) l.clock.0 l.volume;
-  room : 1024 ≤ vec_capacity l.positions;
+abbrev pub invariant-loop-place : goal.invariant-loop-place
+invariant-loop-place g l = record {
+  taken : HasTaken l.clock.0 l.state.units (length l.out.items) l.fn.volume l.volume l.out.items;
+  alike : AreAlike (left_after (length l.out.items) l.state.units) (begun l.units);
+  found : AreFoundIn l.fn.volume (begun l.units);
+  may : MayTake l.fn.volume.catalog.ru.first (begun l.units) l.clock.0 l.volume;
   places : 64 ≤ vec_capacity l.out;
-  few : length l.out.items ≤ l.i;
-  grows : GrowsBy l.i l.clock.0 l.fn.volume l.volume;
+  few : length (begun l.units) + length l.out.items ≤ 64;
+  grows : GrowsBy (length l.out.items) l.clock.0 l.fn.volume l.volume;
   told : AreTold l.volume l.out.items;
   heads : length l.volume.catalog.heads ≡ length l.fn.volume.catalog.heads;
   quiet : Quiet l.fn.volume.store.disk l.volume.store.disk;
   pool : l.volume.store.pool ≡ l.fn.volume.store.pool;
 }
+
+abbrev pub decreases-loop-place : goal.decreases-loop-place
+decreases-loop-place g l = length (begun l.units)

@@ -6,8 +6,11 @@ use Rattle.journal_model.specs.Entries.{Entry}
 use Rattle.journal_model.specs.Ring.{IsJournal}
 use Rattle.journal_store.specs.Reading.{ReadsAt}
 use Rattle.ru_journal.specs.Told.{Told, nothing_told, told_by}
-use Rattle.unit_entries.specs.Reading.{placed, AreInOrder, AreWithin, HasRead}
-use Rattle.unit_entries.proofs.ReadLemmas.{nothing_read, within_after, one_is_there, read_more, may_take, told_all}
+use Rattle.unit_table.specs.Units.{Units, begun, no_units}
+use Rattle.unit_entries.specs.Opening.{AreAlike, BeginWithin, HasOpened}
+use Rattle.unit_entries.specs.Reading.{placed, AreInOrder, HasRead}
+use Rattle.unit_entries.proofs.OpenLemmas.{within_opened}
+use Rattle.unit_entries.proofs.ReadLemmas.{may_take, nothing_opened, nothing_read, one_is_there, opened_all, opened_more, read_more, told_all}
 use Rattle.unit_entries.proofs.StoreLemmas.{stays_so, stays_read, of_any, of_content, of_both}
 use Rattle.unit_entries.proofs.reading.read_journal.Goals as goal
 
@@ -15,8 +18,12 @@ pub loop-position-init : goal.loop-position-init
 loop-position-init g c = record {
   stays = stays_so c.args.store.now;
   behind = omega arith;
-  within = subst (λ (t : Told). AreWithin c.args.span.now t.units) (sym c.clear.ensures) tt;
+  alike = subst (λ (x : Units). AreAlike c.clear.new.self.units (begun x)) (sym c.clear-2.ensures) (subst (λ (t : Told). AreAlike t.units (begun no_units)) (sym c.clear.ensures) tt);
+  within = subst (λ (x : Units). BeginWithin c.args.span.now (begun x)) (sym c.clear-2.ensures) tt;
   read = of_any c.args.store.now.current (λ x es journal. subst (HasRead x c.args.span.now es c.args.span.now.first) (sym c.clear.ensures) (nothing_read x c.args.span.now es journal));
+  opened = of_any c.args.store.now.current (λ x es journal.
+      subst (λ (y : Units). HasOpened c.args.span.now es c.args.span.now.first c.clear.new.self (begun y)) (sym c.clear-2.ensures)
+      (subst (λ (t : Told). HasOpened c.args.span.now es c.args.span.now.first t (begun no_units)) (sym c.clear.ensures) (nothing_opened x c.args.span.now es journal)));
 }
 
 pub returns-in-Ok-None-clause-whole : goal.returns-in-Ok-None-clause-whole
@@ -47,11 +54,18 @@ loop-position-preserved g c =
     record {
       stays = stays_read c.args.store.now c.loop-position.store c.entry_at.new.store c.loop-position.invariant.stays c.in-Ok-Some.field-0 c.in-Ok-Some.ensures.ok;
       behind = let on : position < next = (rw c.in-Ok-Some.field-0-is at c.in-Ok-Some.ensures.on) in let before = c.loop-position.invariant.behind in omega (arith, on, before);
-      within = subst (λ (t : Told). AreWithin c.args.span.now t.units) (sym (c.take_entry.ensures.taken c.if-not-take_entry.false))
-          (within_after c.args.span.now position (entry_of h []) c.loop-position.state c.loop-position.invariant.behind c.loop-position-test.true c.loop-position.invariant.within);
+      alike = c.take_entry.ensures.alike c.if-not-take_entry.false;
+      within = subst (BeginWithin c.args.span.now) (sym (c.take_entry.ensures.units c.if-not-take_entry.false))
+          (within_opened c.args.span.now position (entry_of h []) (begun c.loop-position.units) c.loop-position.invariant.behind c.loop-position-test.true c.loop-position.invariant.within);
       read = of_both c.args.store.now.current (λ x before stands es journal.
           read_more x c.args.span.now es journal position c.loop-position.state c.take_entry.new.state h next image c.loop-position-test.true (before es journal) stands (c.take_entry.ensures.taken c.if-not-take_entry.false)) c.loop-position.invariant.read read;
+      opened = of_both c.args.store.now.current (λ x before stands es journal.
+          opened_more x c.args.span.now es journal position c.loop-position.state c.take_entry.new.state (begun c.loop-position.units) (begun c.take_entry.new.units) h next image c.loop-position-test.true (before es journal) stands
+          (c.take_entry.ensures.order c.if-not-take_entry.false) (c.take_entry.ensures.taken c.if-not-take_entry.false) (c.take_entry.ensures.units c.if-not-take_entry.false)) c.loop-position.invariant.opened read;
     }
 
 pub returns-clause-told : goal.returns-clause-told
 returns-clause-told g c = λ _. of_content c.args.store.now.current (λ x before es journal. told_all x c.args.span.now es journal c.loop-position.position c.loop-position.state (before es journal) c.loop-position-test.false) c.loop-position.invariant.read
+
+pub returns-clause-found : goal.returns-clause-found
+returns-clause-found g c = λ _. of_content c.args.store.now.current (λ x before es journal. opened_all x c.args.span.now es journal c.loop-position.position c.loop-position.state (begun c.loop-position.units) (before es journal) c.loop-position-test.false) c.loop-position.invariant.opened
