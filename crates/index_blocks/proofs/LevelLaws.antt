@@ -12,11 +12,11 @@ use Rattle.index_blocks.specs.Buckets.{bucket_at}
 use Rattle.index_blocks.specs.Levels.{entries_in, least_key, below_at, levels_above, height, AllAre, LeadsDown, IsWay, way, leaf_for}
 use Rattle.index_blocks.specs.Laws.{LevelsLead, LevelsRead}
 
-are_parts : (P : ℕ → Type 0) (a b : List ℕ) → AllAre P (a ++ b) → AllAre P a × AllAre P b
+pub are_parts : (P : ℕ → Type 0) (a b : List ℕ) → AllAre P (a ++ b) → AllAre P a × AllAre P b
 are_parts P [] b all = (tt, all)
 are_parts P (n ∷ ns) b all = let rest = are_parts P ns b all.1 in ((all.0, rest.0), rest.1)
 
-child_is : (P : ℕ → Type 0) (k : List ℕ) (es : List Entry) → 1 ≤ length es → AllAre P (map child_of es) → P (child_for k es)
+pub child_is : (P : ℕ → Type 0) (k : List ℕ) (es : List Entry) → 1 ≤ length es → AllAre P (map child_of es) → P (child_for k es)
 child_is P k [] some all = absurd (omega arith)
 child_is P k (e ∷ []) some all = all.0
 child_is P k (e ∷ f ∷ fs) some all = go (list_any (leads_by k) (f ∷ fs)) (child_is P k (f ∷ fs) (omega arith) all.1)
@@ -75,11 +75,11 @@ module _ (h : FileHead) (b : List (List ℕ)) (is : LeadsDown h b) (up : Ascends
 pub levels_lead : LevelsLead
 levels_lead h b is up = let all = leads h b is up in record { levels = all.0; ways = all.1; ends = all.2 }
 
-children_of_parents : (f : ℕ → List Entry) (ns : List ℕ) → map child_of (map (parent_entry f) ns) ≡ ns
+pub children_of_parents : (f : ℕ → List Entry) (ns : List ℕ) → map child_of (map (parent_entry f) ns) ≡ ns
 children_of_parents f [] = refl
 children_of_parents f (n ∷ ns) = ap (λ l. n ∷ l) (children_of_parents f ns)
 
-agree_on : (f g : ℕ → List Entry) (ns : List ℕ) → AllAre (λ n. f n ≡ g n) ns → AgreeOn f g ns
+pub agree_on : (f g : ℕ → List Entry) (ns : List ℕ) → AllAre (λ n. f n ≡ g n) ns → AgreeOn f g ns
 agree_on f g [] all = tt
 agree_on f g (n ∷ ns) all = (all.0, agree_on f g ns all.1)
 

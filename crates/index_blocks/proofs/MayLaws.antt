@@ -17,7 +17,7 @@ use Rattle.index_blocks.specs.declared.growing.Growth.{Growth}
 use Rattle.index_blocks.proofs.LevelLaws.{length_levels, levels_lead, levels_read, way_is}
 
 -- one of these numbers is so
-one_is : (P : ℕ → Type 0) (ns : List ℕ) (n : ℕ) → AllAre P ns → (IsNoneOf n ns → ⊥) → P n
+pub one_is : (P : ℕ → Type 0) (ns : List ℕ) (n : ℕ) → AllAre P ns → (IsNoneOf n ns → ⊥) → P n
 one_is P [] n all one = absurd (one tt)
 one_is P (m ∷ ms) n all one = go (n == m) refl (one_is P ms n all.1)
   where
@@ -44,11 +44,11 @@ levels_may_climb h b k path added used is up numbers noted some ascends = record
 }
 
 -- each number that is one of these is so
-all_from : (P : ℕ → Type 0) (ns : List ℕ) → ((n : ℕ) → (IsNoneOf n ns → ⊥) → P n) → AllAre P ns
+pub all_from : (P : ℕ → Type 0) (ns : List ℕ) → ((n : ℕ) → (IsNoneOf n ns → ⊥) → P n) → AllAre P ns
 all_from P [] each = tt
 all_from P (n ∷ ns) each = (each n (λ none. none.0 refl), all_from P ns (λ m one. each m (λ none. one none.1)))
 
-all_both : (P : ℕ → Type 0) (a c : List ℕ) → AllAre P a → AllAre P c → AllAre P (a ++ c)
+pub all_both : (P : ℕ → Type 0) (a c : List ℕ) → AllAre P a → AllAre P c → AllAre P (a ++ c)
 all_both P [] c first second = second
 all_both P (n ∷ ns) c first second = (first.0, all_both P ns c first.1 second)
 
@@ -56,7 +56,7 @@ each_below : (bound : ℕ) (ns : List ℕ) → AllBelow bound ns → AllAre (λ 
 each_below bound [] all = tt
 each_below bound (n ∷ ns) all = (all.0, each_below bound ns all.1)
 
-map_append : (a c : List Entry) → map child_of (a ++ c) ≡ map child_of a ++ map child_of c
+pub map_append : (a c : List Entry) → map child_of (a ++ c) ≡ map child_of a ++ map child_of c
 map_append [] c = refl
 map_append (e ∷ es) c = ap (λ l. e.child ∷ l) (map_append es c)
 

@@ -78,6 +78,7 @@ pub fn climb<D: Disk>(
     ensures few { length store.new.touched ≤ length store.old.touched + 32 * depth + 16 }
     ensures stages { OnOk result (StagesIn head.now ((2 * depth + 1) * head.now.bucket) store.old (record store.new { pool = store.old.pool })) }
     ensures used { IfOk result (λ growth. (used ≤ growth.used) × (growth.used ≤ used + depth + 1)) }
+    ensures root { IfOk result (λ growth. IfSome growth.root (λ root. root < growth.used)) }
     ensures climbs { IfOk result (λ growth. IfSome store.old.current (λ old. IsSomeAnd store.new.current (λ new. (levels : List (List ℕ)) (below : List Entry) → length levels ≡ depth
         → MayClimb head.now key.now (entries_of head.now handed.now) below levels path.now used old → Climbs head.now key.now (entries_of head.now handed.now) levels used growth old new))) }
     ensures out { IsOut store.new.pool frame.now }

@@ -8,4 +8,4 @@ mod parents;
 
 pub use entries::{find_entry, step};
 pub use hand::{ENTRY_BYTES, Handed, take_handed, taken_are_held};
-pub use parents::{make_root, parent_of};
+pub use parents::{entry_bytes, make_root, parent_of};

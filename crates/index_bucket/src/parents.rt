@@ -22,8 +22,8 @@ fn number_bytes(number: u32) -> [u8; 4]
     bytes
 }
 
-// The entry of a separator and a child, with zeros behind it.
-fn entry_bytes(head: &FileHead, separator: &[u8], child: u32) -> [u8; ENTRY_BYTES]
+/// The bytes of the entry of a separator and a child, with zeros behind them.
+pub fn entry_bytes(head: &FileHead, separator: &[u8], child: u32) -> [u8; ENTRY_BYTES]
     requires key { head.now.key_size ≤ 64 }
     requires separator { length separator.now ≡ head.now.key_size }
     ensures is { entry_of head.now (take (head.now.key_size + 4) result) ≡ record { separator = separator.now; child = child } }

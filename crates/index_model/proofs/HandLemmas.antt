@@ -80,7 +80,7 @@ differ_both [] c first second each = second
 differ_both (n ∷ ns) c first second each = (none_both n ns c first.0 each.0, differ_both ns c first.1 second each.1)
 
 -- the number in the midst is none of the others
-differ_about : (m : ℕ) (a c : List ℕ) → AllDiffer (a ++ m ∷ c) → IsNoneOf m a × IsNoneOf m c
+pub differ_about : (m : ℕ) (a c : List ℕ) → AllDiffer (a ++ m ∷ c) → IsNoneOf m a × IsNoneOf m c
 differ_about m [] c differ = (tt, differ.0)
 differ_about m (n ∷ ns) c differ =
     let rest = differ_about m ns c differ.1 in
@@ -129,7 +129,7 @@ pub agree_parts : (f g : ℕ → List Entry) (a c : List ℕ) → AgreeOn f g (a
 agree_parts f g [] c agree = (tt, agree)
 agree_parts f g (n ∷ ns) c agree = let rest = agree_parts f g ns c agree.1 in ((agree.0, rest.0), rest.1)
 
-along_agree : (f g : ℕ → List Entry) (ns : List ℕ) → AgreeOn f g ns → entries_along f ns ≡ entries_along g ns
+pub along_agree : (f g : ℕ → List Entry) (ns : List ℕ) → AgreeOn f g ns → entries_along f ns ≡ entries_along g ns
 along_agree f g [] agree = refl
 along_agree f g (n ∷ ns) agree = λ i. agree.0 i ++ along_agree f g ns agree.1 i
 

@@ -29,7 +29,7 @@ bounded_ascend S (e ∷ []) bounded = (tt, tt)
 bounded_ascend S (e ∷ f ∷ fs) bounded = (above_all S e.separator f fs bounded.1.1 bounded.2, bounded_ascend S (f ∷ fs) bounded.2)
 
 -- leaves count where their entries do
-any_same : (S : ℕ → List Slot) (k : List ℕ) (es : List Entry) → list_any (starts_by k) (map (leaf_at S) es) ≡ list_any (leads_by k) es
+pub any_same : (S : ℕ → List Slot) (k : List ℕ) (es : List Entry) → list_any (starts_by k) (map (leaf_at S) es) ≡ list_any (leads_by k) es
 any_same S k [] = refl
 any_same S k (e ∷ es) = ap (λ t. leads_by k e || t) (any_same S k es)
 
@@ -38,11 +38,11 @@ place_same S k [] = refl
 place_same S k (e ∷ es) = λ i. if any_same S k es i then suc (place_same S k es i) else 0
 
 -- slots that agree
-abbrev SameSlots : (S T : ℕ → List Slot) → List ℕ → Type 0
+abbrev pub SameSlots : (S T : ℕ → List Slot) → List ℕ → Type 0
 SameSlots S T [] = Unit {0}
 SameSlots S T (n ∷ ns) = (S n ≡ T n) × SameSlots S T ns
 
-leaves_same : (S T : ℕ → List Slot) (es : List Entry) → SameSlots S T (map child_of es) → map (leaf_at S) es ≡ map (leaf_at T) es
+pub leaves_same : (S T : ℕ → List Slot) (es : List Entry) → SameSlots S T (map child_of es) → map (leaf_at S) es ≡ map (leaf_at T) es
 leaves_same S T [] same = refl
 leaves_same S T (e ∷ es) same = λ i. record { lowest = e.separator; slots = same.0 i } ∷ leaves_same S T es same.1 i
 
@@ -50,14 +50,14 @@ map-append : {X Y : Type 0} (f : X → Y) (a c : List X) → map f (a ++ c) ≡ 
 map-append f [] c = refl
 map-append f (x ∷ xs) c = ap (λ l. f x ∷ l) (map-append f xs c)
 
-set_slots_here : (n : ℕ) (ss : List Slot) (S : ℕ → List Slot) → set_slots n ss S n ≡ ss
+pub set_slots_here : (n : ℕ) (ss : List Slot) (S : ℕ → List Slot) → set_slots n ss S n ≡ ss
 set_slots_here n ss S = if_true (n == n) ss (S n) (self_test n)
 
-set_slots_other : (n m : ℕ) (ss : List Slot) (S : ℕ → List Slot) → (m ≡ n → ⊥) → set_slots n ss S m ≡ S m
+pub set_slots_other : (n m : ℕ) (ss : List Slot) (S : ℕ → List Slot) → (m ≡ n → ⊥) → set_slots n ss S m ≡ S m
 set_slots_other n m ss S other = if_false (m == n) ss (S m) (other_test m n other)
 
 -- numbers below the new ones keep what they have
-from_below : (n m : ℕ) (ps : List (List Slot)) (S : ℕ → List Slot) → m < n → slots_from n ps S m ≡ S m
+pub from_below : (n m : ℕ) (ps : List (List Slot)) (S : ℕ → List Slot) → m < n → slots_from n ps S m ≡ S m
 from_below n m [] S less = refl
 from_below n m (p ∷ ps) S less = from_below (suc n) m ps (set_slots n p S) (omega (arith, less)) ∙ set_slots_other n m p S (λ same. omega (arith, less, same))
 
@@ -66,7 +66,7 @@ new_have : (n : ℕ) (ps : List (List Slot)) (S : ℕ → List Slot) → map (le
 new_have n [] S = refl
 new_have n (p ∷ ps) S = λ i. record { lowest = first_key p; slots = (from_below (suc n) n ps (set_slots n p S) (omega arith) ∙ set_slots_here n p S) i } ∷ new_have (suc n) ps (set_slots n p S) i
 
-length_entries : (n : ℕ) (ps : List (List Slot)) → length (entries_from n ps) ≡ length ps
+pub length_entries : (n : ℕ) (ps : List (List Slot)) → length (entries_from n ps) ≡ length ps
 length_entries n [] = refl
 length_entries n (p ∷ ps) = ap suc (length_entries (suc n) ps)
 
@@ -126,7 +126,7 @@ module _ (capacity : ℕ) (held : List ℕ → Bool) (k : List ℕ) (v : Option 
       go false is later = parted_leaf e (f ∷ fs) (parts_at e.child) (some e.child) below.0 below.1 differ.0
 
 -- a leaf with a key set has a part at least
-bucket_some : (cap : ℕ) (held : List ℕ → Bool) (k : List ℕ) (v : Option (List ℕ)) (slots : List Slot) → 1 ≤ length (bucket_with cap held k v slots)
+pub bucket_some : (cap : ℕ) (held : List ℕ → Bool) (k : List ℕ) (v : Option (List ℕ)) (slots : List Slot) → 1 ≤ length (bucket_with cap held k v slots)
 bucket_some cap held k v slots = go (nat_le (bytes_of (put k v slots)) cap)
   where
     more : List Slot
@@ -170,7 +170,7 @@ entries_differ : (n : ℕ) (ps : List (List Slot)) → AllDiffer (map child_of (
 entries_differ n [] = tt
 entries_differ n (p ∷ ps) = (none_up n (suc n) (map child_of (entries_from (suc n) ps)) (omega arith) (entries_up (suc n) ps), entries_differ (suc n) ps)
 
-entries_below : (n bound : ℕ) (ps : List (List Slot)) → n + length ps ≤ bound → AllBelow bound (map child_of (entries_from n ps))
+pub entries_below : (n bound : ℕ) (ps : List (List Slot)) → n + length ps ≤ bound → AllBelow bound (map child_of (entries_from n ps))
 entries_below n bound [] less = tt
 entries_below n bound (p ∷ ps) less = (omega (arith, less), entries_below (suc n) bound ps (omega (arith, less)))
 
@@ -276,7 +276,7 @@ pub numbered_has_set : NumberedSets
 numbered_has_set least sizes held k v t wide fits from is = sets_in least sizes held k v wide fits t.slots t.below t.index from is
 
 -- a leaf for a key has the slots of that leaf of the layout
-slots_same : (S : ℕ → List Slot) (k : List ℕ) (es : List Entry) → 1 ≤ length es → S (child_for k es) ≡ slots_for k (map (leaf_at S) es)
+pub slots_same : (S : ℕ → List Slot) (k : List ℕ) (es : List Entry) → 1 ≤ length es → S (child_for k es) ≡ slots_for k (map (leaf_at S) es)
 slots_same S k [] some = absurd (omega (arith, some))
 slots_same S k (e ∷ []) some = refl
 slots_same S k (e ∷ f ∷ fs) some = go (list_any (leads_by k) (f ∷ fs)) (slots_same S k (f ∷ fs) (omega arith)) ∙ ap (λ t. if t then slots_for k (map (leaf_at S) (f ∷ fs)) else S e.child) (sym (any_same S k (f ∷ fs)))

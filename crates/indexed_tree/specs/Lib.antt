@@ -1,0 +1,5 @@
+pub mod Rooted
+pub mod Laws
+pub mod Sets
+pub mod Backs
+pub mod Puts
