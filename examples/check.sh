@@ -35,19 +35,22 @@ run() { # SCRIPT WORD..: a RUN over the script's text
     printf '%s' "$script" | "$dtm" RUN "$@"
 }
 
-# transcript SCRIPT IMAGE: the stored transcript is what the script shows over this image.
+# transcript SCRIPT NODE=IMAGE..: the stored transcript is what the script shows over these images.
 transcript() {
-    ends "$1.dtm" 0 "$dtm" RUN "A=$2" < "$here/$1.dtm"
-    check "the transcript of $1.dtm" cmp -s out "$here/$1.txt"
+    local script=$1
+    shift
+    ends "$script.dtm" 0 "$dtm" RUN "$@" < "$here/$script.dtm"
+    check "the transcript of $script.dtm" cmp -s out "$here/$script.txt"
 }
 
-transcript first ledger.img
+transcript first A=ledger.img
 cp ledger.img second.img
-transcript again ledger.img
-transcript more second.img
-transcript orders orders.img
-transcript stopped stopped.img
-transcript undone undone.img
+transcript again A=ledger.img
+transcript more A=second.img
+transcript orders A=orders.img
+transcript stopped A=stopped.img
+transcript undone A=undone.img
+transcript doubt A=here.img B=there.img
 
 # The standard streams are no image.
 no_output() { run 'A: DUMP F
@@ -95,10 +98,10 @@ check "what is said of an empty image" grep -q 'it is empty' err
 
 # Words, lines and limits are explained on the standard error alone.
 usage='usage: dtm RUN NODE=IMAGE ... or dtm MAKE n start'
-for words in '' '--help' 'RUN' 'MAKE 0 1' 'RUN A' 'RUN A=new.img B=second.img' 'RUN A=new.img -v'; do
+for words in '' '--help' 'RUN' 'MAKE 0 1' 'RUN A' 'RUN A=new.img B' 'RUN A=new.img -v'; do
     ends "the words '$words'" 2 "$dtm" $words < /dev/null
     check "the line for '$words'" [ "$(cat out)" = "$usage" ]
-    check "the forms for '$words'" grep -q 'dtm RUN NODE=IMAGE   reads' err
+    check "the forms for '$words'" grep -q 'dtm RUN NODE=IMAGE \.\.\.   reads' err
 done
 ends "a faulty line" 1 run 'A: PUT T F 1 %xAA
 ' A=new.img

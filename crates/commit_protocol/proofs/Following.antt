@@ -107,7 +107,7 @@ distinct_cut k (r ∷ rs) d =
       | inr e ↦ rw e ((λ q i s. d.0 q (in_cut_records k rs q i).0 s), distinct_cut k rs d.1)
     ]
 
-find_record : (rs : List LogRecord) (r : LogRecord) → DistinctKeys rs → In r rs → find (record_key r) (branches_of rs) ≡ Some (branch_of r)
+pub find_record : (rs : List LogRecord) (r : LogRecord) → DistinctKeys rs → In r rs → find (record_key r) (branches_of rs) ≡ Some (branch_of r)
 find_record [] r d h = absurd h
 find_record (q ∷ rs) r d (inl e) =
     let P : LogRecord → Type 0 = λ x. find (record_key x) (branches_of (q ∷ rs)) ≡ Some (branch_of x) in
@@ -159,7 +159,7 @@ after_undo (k ∷ ks) tm h =
     let same : after_act (Undoes k) tm ≡ tm = ap (λ (bs : List Branch). (let t : Tm = record { node = tm.node; table = bs; records = tm.records } in t)) (cut_none k tm.table (h k (inl refl))) in
     ap (after (undo_all ks)) same ∙ after_undo ks tm (λ x i. h x (inr i))
 
-gone_none : (o : Option Branch) → phase o ≡ Gone → o ≡ None
+pub gone_none : (o : Option Branch) → phase o ≡ Gone → o ≡ None
 gone_none None h = refl
 gone_none (Some b) h = go b.state h
   where
@@ -171,7 +171,7 @@ gone_none (Some b) h = go b.state h
     go Prepared e = absurd cc
 
 -- a restarted node knows the records of its log
-restart_tm : (w : World) (n : Name) (ps qs : List LogRecord) (us : List Key) → (w.nodes n).table ≡ branches_of qs → Rearranged ps qs
+pub restart_tm : (w : World) (n : Name) (ps qs : List LogRecord) (us : List Key) → (w.nodes n).table ≡ branches_of qs → Rearranged ps qs
     → tm_at (raised n (record_keys ps ++ us) w) n ≡ restarted n ps (w.nodes n).records
 restart_tm w n ps qs us table a =
     let order : List Key = record_keys ps ++ us in

@@ -5,12 +5,12 @@ use Rattle.vms_model.specs.Transactions.{Commit as ToCommit, Abort as ToAbort}
 use Rattle.commit_protocol.specs.Messages.{Name, LogRecord}
 use Rattle.commit_protocol.specs.Table.{Key, Branch, first, find, record_key, record_serials, branch_of, branches_of}
 use Rattle.commit_protocol.specs.World.{World, In, Step, run}
-use Rattle.commit_protocol.specs.Agreement.{Phase, Gone, Running, Ready, phase, View, view, IsRunning, IsReady, IsCommitted, Commits, IsOld, IsDead, AreOld, Agrees, SettlesAlike, Distinct}
+use Rattle.commit_protocol.specs.Agreement.{Phase, Gone, Running, Ready, phase, View, view, IsRunning, IsReady, IsCommitted, Commits, IsOld, IsDead, AreOld, Agrees, NoneAborted, SettlesAlike, Distinct}
 use Rattle.commit_protocol.proofs.Lists.{told_key, find-key, in_left, Unique}
 use Rattle.commit_protocol.proofs.Serials.{in_serial}
 use Rattle.commit_protocol.proofs.Settling.{not_gone, not_gone_ready, not_both}
 use Rattle.commit_protocol.proofs.Gathered.{IsShown, is_shown}
-use Rattle.commit_protocol.proofs.Running.{agrees, settles_alike, goes_run, run-append}
+use Rattle.commit_protocol.proofs.Running.{agrees, none_aborted, settles_alike, goes_run, run-append}
 use Rattle.commit_protocol.proofs.Acting.{Good}
 use Rattle.commit_protocol.specs.Opening.{Opening, image_at, PreparedIn, WaitedFor, Shows, OldIn, OldKey, IsAgreeing, opened}
 
@@ -22,7 +22,7 @@ find_prepared (h ∷ hs) k b e =
       | inr q ↦ let e' : find k (branches_of hs) ≡ Some b = rw (q.0) at e in let r = find_prepared hs k b e' in (r.0, inr r.1, r.2, r.3)
     ]
 
-prepared_found : (hs : List LogRecord) (k : Key) (h : LogRecord) → In h hs → record_key h ≡ k → phase (find k (branches_of hs)) ≡ Ready
+pub prepared_found : (hs : List LogRecord) (k : Key) (h : LogRecord) → In h hs → record_key h ≡ k → phase (find k (branches_of hs)) ≡ Ready
 prepared_found [] k h i e = absurd i
 prepared_found (g ∷ hs) k h i e =
     elim (told_key (record_key g) k) [
@@ -163,6 +163,9 @@ agreement_from o a steps = agrees (view (run steps (opened o))) (goes_run steps 
 
 pub alike_from : (o : Opening) → IsAgreeing o → (steps : List Step) → SettlesAlike (view (run steps (opened o)))
 alike_from o a steps = settles_alike (view (run steps (opened o))) (goes_run steps (opened o) (good_opened o a (is_shown o a))).good.inv
+
+pub none_from : (o : Opening) → IsAgreeing o → (steps : List Step) → NoneAborted (view (run steps (opened o)))
+none_from o a steps = none_aborted (view (run steps (opened o))) (goes_run steps (opened o) (good_opened o a (is_shown o a))).good.inv
 
 pub dead_from : (o : Opening) → IsAgreeing o → (early late : List Step) (t : Id) → IsDead (view (run early (opened o))) t → IsDead (view (run (early ++ late) (opened o))) t
 dead_from o a early late t h =

@@ -280,7 +280,7 @@ act_apart x (Notes b) h q = same_serials x (Notes b) h (serials_put b x.table q)
 act_apart x (Accepts b c) h q = same_serials x (Accepts b c) h (serials_put (record b { accepted = b.accepted ++ c ∷ [] }) x.table q) refl
 act_apart x (Prepares b) h q = same_serials x (Prepares b) h (serials_put (record b { state = Prepared }) x.table q) refl
 act_apart x (Settles k o why None) h q = cut_apart x (Settles k o why None) k h refl refl
-act_apart x (Settles k o why (Some r)) h q = moved_apart x k o why r h q.0 q.1
+act_apart x (Settles k o why (Some r)) h q = moved_apart x k o why r h q.0 q.1.serial
 act_apart x (Leaves k) h q = cut_apart x (Leaves k) k h refl refl
 act_apart x (Acknowledges k) h q = fewer_apart x (Acknowledges k) h refl (acknowledge_distinct k x.records h.two) (in_acknowledge k x.records)
 act_apart x (Releases s m) h q = fewer_apart x (Releases s m) h refl (release_distinct s m x.records h.two) (in_release s m x.records)

@@ -62,8 +62,8 @@ noted_here bs b st = record { there = find-put b bs; unprepared = st }
 -- commits, aborts
 settles_there : (b : Branch) (o : Outcome) (why : Reason) (bs : List Branch) (ss : List Id) (xs : List Name) → IsThere bs b.key → Stands bs (Settles b.key o why (rows.owing b.key ss xs))
 settles_there b o why bs [] [] e = (e, tt)
-settles_there b o why bs [] (x ∷ xs) e = (e, refl)
-settles_there b o why bs (s ∷ ss) xs e = (e, refl)
+settles_there b o why bs [] (x ∷ xs) e = (e, record { serial = refl; kind = refl })
+settles_there b o why bs (s ∷ ss) xs e = (e, record { serial = refl; kind = refl })
 
 stand_commits : (b : Branch) (shown : List Act) (bs : List Branch) → IsThere bs b.key → IsShown shown → AllStand bs (commits_if_all b shown)
 stand_commits b shown bs found rest = stand_if (all_voted b.accepted && all_replied b.managers) bs (commits b shown) [] (λ e. (

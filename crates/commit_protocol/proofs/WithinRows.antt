@@ -523,7 +523,7 @@ asks_within tm (Some b) = go b.state
     go Prepared = (tt, tt)
     go _ = tt
 
-row_within : (tm : Tm) (e : Event) → TmWithin tm → allowed tm e ≡ true → ActsWithin tm (row tm e)
+pub row_within : (tm : Tm) (e : Event) → TmWithin tm → allowed tm e ≡ true → ActsWithin tm (row tm e)
 row_within tm (Start t due) w a = ((blank_within, inr (room_of tm a)), tt)
 row_within tm (Authorise t bid) w a = authorise_within tm t bid w (find (first t) tm.table) refl a
 row_within tm (Begin t s bid) w a = ((blank_within, inr (room_of tm a)), (tt, tt))

@@ -205,6 +205,10 @@ pub record Agrees (w : View) : Type 0 where
 abbrev pub IsBranch : View → Key → Type 0
 IsBranch w k = (k ≡ first k.tid) ⊎ IsAccepted w k
 
+-- no branch of a committed transaction is aborted
+abbrev pub NoneAborted : View → Type 0
+NoneAborted w = (k : Key) → IsBranch w k → Commits w k.tid → IsAborted w k → ⊥
+
 -- no transaction has a committed branch and an aborted one
 abbrev pub SettlesAlike : View → Type 0
 SettlesAlike w = (j k : Key) → j.tid ≡ k.tid → IsBranch w k → IsCommitted w j → IsAborted w k → ⊥

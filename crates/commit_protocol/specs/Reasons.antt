@@ -2,7 +2,7 @@
 use Rattle.std.specs.Prelude.{◌≡◌, List, [], ◌∷◌, Some}
 use Rattle.vms_model.specs.Transactions.{Abort as ToAbort, Reason, Aborted, Vetoed, SyncFail, Timeout, CommFail, SegFail}
 use Rattle.commit_protocol.specs.Messages.{Kind, JoinNo, No, Abort, Message, VetoReply}
-use Rattle.commit_protocol.specs.Table.{Key, Act, Settles, Prints, Ended, key_of}
+use Rattle.commit_protocol.specs.Table.{Key, Act, Settles, Undoes, Prints, Ended, key_of}
 use Rattle.commit_protocol.specs.Rows.{Event, EndTrans, AbortBranch, Replied, Got, Clock, LinkDown, RunDown}
 
 -- a refused Join, an Abort, and a No of another branch of the transaction
@@ -23,10 +23,11 @@ Causes (LinkDown x) k reason = reason ≡ CommFail
 Causes RunDown k reason = reason ≡ SegFail
 Causes _ k reason = ⊥
 
--- each abort, and each outcome of an END_TRANS that is shown as one, has its cause
+-- each abort, and each outcome of an END_TRANS that is shown as one, has its cause; no event undoes a unit, which a boot alone does
 abbrev pub HasCause : Event → Act → Type 0
 HasCause e (Settles k ToAbort reason r) = Causes e k reason
 HasCause e (Prints (Ended t (Some reason))) = (k : Key) × (k.tid ≡ t) × Causes e k reason
+HasCause e (Undoes k) = ⊥
 HasCause e _ = Unit {0}
 
 -- so has each act of these

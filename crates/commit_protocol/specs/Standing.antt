@@ -1,6 +1,6 @@
 -- What each act of a row finds at the table: the branch that it speaks of stands there, in such a state. And which acts of a row leave what lasts on the disk.
 use Rattle.std.specs.Prelude.{◌≡◌, Bool, true, false, List, [], ◌∷◌, ◌++◌, Option, Some, None}
-use Rattle.commit_protocol.specs.Messages.{LogRecord}
+use Rattle.commit_protocol.specs.Messages.{LogRecord, CommittedRecord}
 use Rattle.commit_protocol.specs.Table.{Key, Branch, Tm, Act, Notes, Accepts, Prepares, Settles, Leaves, Acknowledges, Releases, Undoes, find, prepared_records, branch_serials, record_serials, table_after}
 use Rattle.commit_protocol.specs.Rows.{Event, Start, Begin, Changed}
 use Rattle.commit_protocol.specs.Allowed.{is_prepared}
@@ -32,10 +32,14 @@ pub record Restates (bs : List Branch) (b : Branch) : Type 0 where
   pub stays : is_prepared b.state ≡ false
   pub changed : b.changed ≡ old.changed
 
--- a record is of the branch's serial
+-- a record is a committed one, of the branch's serial
+pub record IsCommittedOf (k : Key) (r : LogRecord) : Type 0 where
+  pub serial : r.serial ≡ k.serial
+  pub kind : r.kind ≡ CommittedRecord
+
 abbrev pub IsRecordOf : Key → Option LogRecord → Type 0
 IsRecordOf k None = Unit {0}
-IsRecordOf k (Some r) = r.serial ≡ k.serial
+IsRecordOf k (Some r) = IsCommittedOf k r
 
 -- What an act finds: what is noted, or leaves, stands there unprepared; what is prepared stands there and was not; what is settled stands there; and a unit that
 -- a boot undoes has no branch there.

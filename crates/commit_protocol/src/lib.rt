@@ -20,14 +20,14 @@ ghost use Rattle.commit_protocol.specs.World.{World, In, Step, run, acts_all, tm
 ghost use Rattle.commit_protocol.specs.Orders.{IsPermuted, reordered, swaps_of};
 ghost use Rattle.commit_protocol.specs.Settling.{inquiry, run_down, IsOut};
 ghost use Rattle.commit_protocol.specs.Opening.{Opening, IsAgreeing, AreRearranged, record_keys, opened, left, new_volumes};
-ghost use Rattle.commit_protocol.specs.Agreement.{view, phase, Running, Agrees, IsDead, SettlesAlike, Distinct};
+ghost use Rattle.commit_protocol.specs.Agreement.{view, phase, Running, Agrees, IsDead, NoneAborted, SettlesAlike, Distinct};
 ghost use Rattle.commit_protocol.specs.Standing.{BeginsNothing, AllStand, Stands, writes, LastsAlike, IsNew, HasApartLog};
 
 /// The agreement theorem of presumed abort. Over every list of statements, messages that come late, twice or never, stops at any act of a row, crashes and
 /// restarts, from images that agree:
 ///
 /// - the world that is reached agrees in all eleven parts;
-/// - no transaction has a committed branch and an aborted one;
+/// - no transaction has a committed branch and an aborted one, and no branch of a committed transaction is aborted;
 /// - a transaction that is dead, neither undecided nor committed, stays dead;
 /// - the images that the run leaves agree again, so that they are a lawful beginning of the next run.
 ///
@@ -35,6 +35,7 @@ ghost use Rattle.commit_protocol.specs.Standing.{BeginsNothing, AllStand, Stands
 pub fn agreement()
     ensures agrees { (o : Opening) → IsAgreeing o → (steps : List Step) → Agrees (view (run steps (opened o))) }
     ensures settles_alike { (o : Opening) → IsAgreeing o → (steps : List Step) → SettlesAlike (view (run steps (opened o))) }
+    ensures none_aborted { (o : Opening) → IsAgreeing o → (steps : List Step) → NoneAborted (view (run steps (opened o))) }
     ensures stays_dead { (o : Opening) → IsAgreeing o → (early late : List Step) (t : Id)
         → IsDead (view (run early (opened o))) t → IsDead (view (run (early ++ late) (opened o))) t }
     ensures images_agree { (o : Opening) → IsAgreeing o → (steps : List Step) → IsAgreeing (left (run steps (opened o)) o) }

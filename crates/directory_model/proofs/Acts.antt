@@ -1,5 +1,5 @@
 -- Heads and files over each act of the world.
-use Rattle.std.proofs.Common.{◌≡◌, ℕ, zero, suc, ◌-◌, ◌*◌, List, [], ◌∷◌, Bool, Option, Some, None, replicate, slice_set, slice_index_or, refl, sym, ap, subst, ◌∙◌, arith}
+use Rattle.std.proofs.Common.{◌≡◌, ℕ, zero, suc, ◌-◌, ◌*◌, List, [], ◌∷◌, Bool, Option, Some, None, map, replicate, slice_set, slice_index_or, refl, sym, ap, subst, ◌∙◌, arith}
 use Rattle.std.specs.Option.{option_map}
 use Rattle.std.specs.FinMap.{get}
 use Rattle.std.proofs.lemmas.List.{length-map}
@@ -19,7 +19,9 @@ use Rattle.unit_laws.specs.Units.{map_in, with_before_images, IsOrderly}
 use Rattle.unit_laws.specs.Layouts.{layout_restored}
 use Rattle.unit_laws.proofs.HistoryLaws.{aborts_one, changes_more, commits_one}
 use Rattle.run_model.specs.Locks.{is_locked}
-use Rattle.run_model.specs.World.{Node, File, Settlement, AreUnitsOf, Formats, Marks, Changes, Directs, Settles, acted, capacity, changed_file, directly_changed, settled_layout, settled_file}
+use Rattle.run_model.specs.World.{Durable, Node, File, Settlement, AreUnitsOf, Formats, Marks, Tables, Changes, Directs, acted, capacity, changed_file, directly_changed, settled_layout, settled_file, settlement_of, with_prepared, with_settlement}
+use Rattle.commit_protocol.specs.Table as table
+use Rattle.log_laws.specs.Slots.{slots_after}
 use Rattle.directory_model.specs.Files.{IsFile, IsPlace, AreFiles, IsNamed, head_at, file_at, layout_of}
 use Rattle.directory_model.specs.Restoring.{IsRestored, IsPlaceRestored, AreRestored}
 use Rattle.directory_model.specs.Laws.{KeepsFiles, AreFree, IsChanged, SameBut, marked}
@@ -112,12 +114,28 @@ directs a b heads n f h new name file cs s are commit named there none is same =
     (λ key. ap (λ (m : Records). get m key) after ∙ applied_on (current file.history) (map_of h a) cs key mine.records ∙ ap (λ (m : Map). m key) (sym is.map))
     (layout_after held file cs a b h new mine is.layout)) same)
 
+-- The table.
+
+-- what an act of the table makes of the directory: every file notes the settlement, where there is one
+abbrev tabled_onto : Node → table.Act → ℕ → Durable
+tabled_onto n a moment = record n.durable { log = slots_after a n.volatile.records n.durable.log; units = with_prepared a n.durable.units }
+
+pub settled_directory : (n : Node) (a : table.Act) (moment : ℕ) (s : Settlement) → settlement_of a moment ≡ Some s → (acted (Tables a moment) n).durable.directory ≡ map (option_map (settled_file s)) n.durable.directory
+settled_directory n a moment s is = ap (λ (o : Option Settlement). (with_settlement o (tabled_onto n a moment)).directory) is
+
+pub quiet_directory : (n : Node) (a : table.Act) (moment : ℕ) → settlement_of a moment ≡ None → (acted (Tables a moment) n).durable.directory ≡ n.durable.directory
+quiet_directory n a moment is = ap (λ (o : Option Settlement). (with_settlement o (tabled_onto n a moment)).directory) is
+
+tables : (content : List (List ℕ)) (heads : List (Option FileHead)) (n : Node) (a : table.Act) (moment : ℕ) → settlement_of a moment ≡ None → AreFiles content heads n.durable.directory → AreFiles content heads (acted (Tables a moment) n).durable.directory
+tables content heads n a moment none are = subst (AreFiles content heads) (sym (quiet_directory n a moment none)) are
+
 -- END_TRANS
-commits : (content : List (List ℕ)) (heads : List (Option FileHead)) (n : Node) (s : Settlement) → AreFiles content heads n.durable.directory → AreUnitsOf n → s.outcome ≡ Commit → AreFiles content heads (acted (Settles s) n).durable.directory
-commits content heads n s are units commit = files_mapped content content heads n.durable.directory (settled_file s) are (λ f h file head there is.
+commits : (content : List (List ℕ)) (heads : List (Option FileHead)) (n : Node) (a : table.Act) (moment : ℕ) (s : Settlement) → settlement_of a moment ≡ Some s → AreFiles content heads n.durable.directory → AreUnitsOf n → s.outcome ≡ Commit →
+    AreFiles content heads (acted (Tables a moment) n).durable.directory
+commits content heads n a moment s settles are units commit = subst (AreFiles content heads) (sym (settled_directory n a moment s settles)) (files_mapped content content heads n.durable.directory (settled_file s) are (λ f h file head there is.
     subst (λ (o : Outcome). IsFile content h (record file { history = settled_at s.serial o s.moment file.history; layout = settled_layout o (changes_by s.serial file.history.live) file.layout })) (sym commit)
     (file_moved content content h h file (settled_at s.serial Commit s.moment file.history) file.layout (record { is = refl }) is.head.form is.laid is
-    (λ key. (commits_one file.history s.serial s.moment (units.tells f file there).notes.orderly).current key ∙ is.records key) is.layout))
+    (λ key. (commits_one file.history s.serial s.moment (units.tells f file there).notes.orderly).current key ∙ is.records key) is.layout)))
 
 -- ABORT_TRANS
 file_aborted : (a b : List (List ℕ)) (h new : FileHead) (file : File) (s : Settlement) → s.outcome ≡ Abort → IsOrderly file.history → IsRestored a h (changes_by s.serial file.history.live) b new → IsFile a h file → IsFile b new (settled_file s file)
@@ -139,25 +157,26 @@ place_aborted a b (Some h) o' None s abort orderly back is = absurd is
 place_aborted a b (Some h) None (Some file) s abort orderly back is = absurd back
 place_aborted a b (Some h) (Some new) (Some file) s abort orderly back is = file_aborted a b h new file s abort (orderly file refl) back is
 
-aborts : (a b : List (List ℕ)) (heads new : List (Option FileHead)) (n : Node) (s : Settlement) → AreFiles a heads n.durable.directory → AreUnitsOf n → s.outcome ≡ Abort → AreRestored s.serial a heads n.durable.directory b new →
-    AreFiles b new (acted (Settles s) n).durable.directory
-aborts a b heads new n s are units abort back = record {
+aborts : (b c : List (List ℕ)) (heads new : List (Option FileHead)) (n : Node) (a : table.Act) (moment : ℕ) (s : Settlement) → settlement_of a moment ≡ Some s → AreFiles b heads n.durable.directory → AreUnitsOf n → s.outcome ≡ Abort →
+    AreRestored s.serial b heads n.durable.directory c new → AreFiles c new (acted (Tables a moment) n).durable.directory
+aborts b c heads new n a moment s settles are units abort back = subst (AreFiles c new) (sym (settled_directory n a moment s settles)) (record {
   heads_long = back.long ∙ are.heads_long;
   directory_long = length-map n.durable.directory (option_map (settled_file s)) ∙ are.directory_long;
-  each = λ f. subst (λ x. IsPlace b (head_at new f) x) (sym (file_mapped (settled_file s) n.durable.directory f))
-      (place_aborted a b (head_at heads f) (head_at new f) (file_at n.durable.directory f) s abort (λ file there. (units.tells f file there).notes.orderly) (back.each f) (are.each f));
-}
+  each = λ f. subst (λ x. IsPlace c (head_at new f) x) (sym (file_mapped (settled_file s) n.durable.directory f))
+      (place_aborted b c (head_at heads f) (head_at new f) (file_at n.durable.directory f) s abort (λ file there. (units.tells f file there).notes.orderly) (back.each f) (are.each f));
+})
 
 pub keeps_files : KeepsFiles
 keeps_files = record {
   formats = formats;
   boots = λ content heads n are. are;
-  begins = λ content heads n label b are. are;
+  draws = λ content heads n are. are;
   holds = λ content heads n serial name keys are. are;
   creates = λ content heads n f h file are within is. places_set content heads n.durable.directory f h file are within is;
   marks = marks;
   changes = changes;
   directs = directs;
+  tables = tables;
   commits = commits;
   aborts = aborts;
 }

@@ -22,12 +22,12 @@ use Rattle.vms_model.specs.Transactions.{Commit, Abort}
 use Rattle.records_model.specs.Records.{Records, Change}
 use Rattle.records_model.specs.Layout.{layout_changed}
 use Rattle.unit_laws.specs.Units.{is_free}
-use Rattle.commit_protocol.specs.Table.{Branch}
+use Rattle.commit_protocol.specs.Table as table
 use Rattle.run_model.specs.Answers.{blocks_for, created}
 use Rattle.run_model.specs.Operations.{count_of, first_behind, in_order, need_of, removed, used}
 use Rattle.run_model.specs.Extents.{is_taken}
 use Rattle.run_model.specs.Locks.{is_locked}
-use Rattle.run_model.specs.World.{Node, File, Label, Settlement, AreUnitsOf, Formats, Boots, Creates, Marks, Begins, Changes, Holds, Directs, Settles, acted, area_start, extents_of, find_file, free_place, longest_free, lowest_free}
+use Rattle.run_model.specs.World.{Node, File, Settlement, AreUnitsOf, Formats, Boots, Creates, Marks, Draws, Tables, Changes, Holds, Directs, acted, area_start, extents_of, find_file, free_place, longest_free, lowest_free, settlement_of}
 use Rattle.directory_model.specs.Files.{AreFiles, IsFile, NoneNamed, IsNamed, IsFoundAt, AreNamedOnce, IsNewHead, Fit, file_at, head_at, layout_of, IsShown}
 use Rattle.directory_model.specs.Restoring.{AreRestored}
 
@@ -86,7 +86,7 @@ AreFree serial file cs = AllByRecursion (λ (c : Change). is_free serial file.hi
 pub record KeepsFiles : Type 0 where
   pub formats : (content : List (List ℕ)) (n : Node) (slots journal : ℕ) → AreFiles content (replicate 64 None) (acted (Formats slots journal) n).durable.directory
   pub boots : (content : List (List ℕ)) (heads : List (Option FileHead)) (n : Node) → AreFiles content heads n.durable.directory → AreFiles content heads (acted Boots n).durable.directory
-  pub begins : (content : List (List ℕ)) (heads : List (Option FileHead)) (n : Node) (label : Label) (b : Branch) → AreFiles content heads n.durable.directory → AreFiles content heads (acted (Begins label b) n).durable.directory
+  pub draws : (content : List (List ℕ)) (heads : List (Option FileHead)) (n : Node) → AreFiles content heads n.durable.directory → AreFiles content heads (acted Draws n).durable.directory
   pub holds : (content : List (List ℕ)) (heads : List (Option FileHead)) (n : Node) (serial : Id) (name : List ℕ) (keys : List Key) → AreFiles content heads n.durable.directory →
       AreFiles content heads (acted (Holds serial name keys) n).durable.directory
   pub creates : (content : List (List ℕ)) (heads : List (Option FileHead)) (n : Node) (f : ℕ) (h : FileHead) (file : File) → AreFiles content heads n.durable.directory → f < 64 → IsFile content h file →
@@ -101,10 +101,14 @@ pub record KeepsFiles : Type 0 where
   pub directs : (a b : List (List ℕ)) (heads : List (Option FileHead)) (n : Node) (f : ℕ) (h new : FileHead) (name : List ℕ) (file : File) (cs : List Change) (s : Settlement) → AreFiles a heads n.durable.directory → s.outcome ≡ Commit →
       IsNamed heads f h name → file_at n.durable.directory f ≡ Some file → file.history.live ≡ [] → IsChanged (is_locked n.volatile.locks name) cs a h b new → SameBut f heads a b →
       AreFiles b (slice_set heads f (Some new)) (acted (Directs name cs s) n).durable.directory
-  pub commits : (content : List (List ℕ)) (heads : List (Option FileHead)) (n : Node) (s : Settlement) → AreFiles content heads n.durable.directory → AreUnitsOf n → s.outcome ≡ Commit → AreFiles content heads (acted (Settles s) n).durable.directory
+  -- an act of the table that settles no branch, and one that commits a branch
+  pub tables : (content : List (List ℕ)) (heads : List (Option FileHead)) (n : Node) (a : table.Act) (moment : ℕ) → settlement_of a moment ≡ None → AreFiles content heads n.durable.directory →
+      AreFiles content heads (acted (Tables a moment) n).durable.directory
+  pub commits : (content : List (List ℕ)) (heads : List (Option FileHead)) (n : Node) (a : table.Act) (moment : ℕ) (s : Settlement) → settlement_of a moment ≡ Some s → AreFiles content heads n.durable.directory → AreUnitsOf n → s.outcome ≡ Commit →
+      AreFiles content heads (acted (Tables a moment) n).durable.directory
   -- an abort restores what the branch changed
-  pub aborts : (a b : List (List ℕ)) (heads new : List (Option FileHead)) (n : Node) (s : Settlement) → AreFiles a heads n.durable.directory → AreUnitsOf n → s.outcome ≡ Abort → AreRestored s.serial a heads n.durable.directory b new →
-      AreFiles b new (acted (Settles s) n).durable.directory
+  pub aborts : (b c : List (List ℕ)) (heads new : List (Option FileHead)) (n : Node) (a : table.Act) (moment : ℕ) (s : Settlement) → settlement_of a moment ≡ Some s → AreFiles b heads n.durable.directory → AreUnitsOf n → s.outcome ≡ Abort →
+      AreRestored s.serial b heads n.durable.directory c new → AreFiles c new (acted (Tables a moment) n).durable.directory
 
 -- How a file of the world tells what is asked of its records, by what the head and the buckets tell.
 pub record ReadsFiles : Type 0 where

@@ -19,9 +19,10 @@ use Rattle.records_model.specs.Slots.{Slot, size_of, lookup, IsOrdered}
 use Rattle.records_model.specs.Parts.{all_slots}
 use Rattle.records_model.specs.Layout.{Layout, no_layout}
 use Rattle.records_model.specs.History.{LiveChanges, records, current, changes_by}
-use Rattle.unit_laws.specs.Units.{map_in, earliest_before, with_before_images, Represents, IsUndoGroup}
+use Rattle.unit_laws.specs.Units.{map_in, earliest_before, with_before_images, HasLatest, Represents, IsUndoGroup}
+use Rattle.unit_laws.specs.Journal.{Journal}
 use Rattle.unit_laws.specs.Layouts.{layout_restored}
-use Rattle.run_model.specs.World.{File}
+use Rattle.run_model.specs.World.{File, IsPreparedUnit}
 use Rattle.directory_model.specs.Files.{IsHeadOf, head_at, file_at, layout_of}
 
 -- a slot but for its record
@@ -74,6 +75,19 @@ pub record AreLeft (content : List (List ℕ)) (heads : List (Option FileHead)) 
   pub heads_long : length heads ≡ 64
   pub directory_long : length directory ≡ 64
   pub each : (f : ℕ) → IsPlaceLeft content (head_at heads f) (file_at directory f)
+
+-- what branches that are prepared changed in a file stands there as they left it
+abbrev pub StandsPrepared : Journal → List (List ℕ) → FileHead → File → Type 0
+StandsPrepared units content h file = AllByRecursion (λ (l : LiveChanges). IsPreparedUnit units l.serial → HasLatest (map_of h content) l.changes) file.history.live
+
+abbrev pub IsPlacePrepared : Journal → List (List ℕ) → Option FileHead → Option File → Type 0
+IsPlacePrepared units content (Some h) (Some file) = StandsPrepared units content h file
+IsPlacePrepared units content None file = Unit {0}
+IsPlacePrepared units content (Some h) None = Unit {0}
+
+-- and in each file
+abbrev pub StandPrepared : Journal → List (List ℕ) → List (Option FileHead) → List (Option File) → Type 0
+StandPrepared units content heads directory = (f : ℕ) → IsPlacePrepared units content (head_at heads f) (file_at directory f)
 
 -- what unsettled branches changed in a file can be restored
 abbrev pub IsPlaceRestorable : List (List ℕ) → Option FileHead → Option File → Type 0

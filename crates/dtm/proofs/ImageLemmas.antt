@@ -11,7 +11,8 @@ use Rattle.vms_model.specs.Names.{node_named}
 use Rattle.vms_model.specs.Words.{parted_at}
 use Rattle.script_model.specs.LineWords.{is_empty}
 use Rattle.script_model.specs.Command.{is_disk_of}
-use Rattle.dtm_run.specs.Racks.{is_among, refusal_of}
+use Rattle.run_nodes.specs.Names.{is_among}
+use Rattle.dtm_run.specs.Racks.{refusal_of}
 use Rattle.dtm_run.specs.declared.rack.RackCause.{RackCause}
 use Rattle.dtm_run.specs.declared.rack.RackCause.TheVariants as cause
 use Rattle.dtm.specs.Images.{node_and_image, is_for, Store, IsImageOf, Names, Stops, IsUnwanted, IsFilled, Reaches}

@@ -1,11 +1,11 @@
 -- What the reader of command lines makes of words of which none begins with a dash.
-use Rattle.std.proofs.Common.{◌≡◌, ◌∙◌, ◌+◌, ◌<◌, ◌≤◌, ◌||◌, ◌&&◌, ◌==◌, ℕ, List, [], ◌∷◌, ◌++◌, Bool, true, false, not, Option, Some, None, map, length, take, drop, fold, nat_eq, unwrap_or, codes, refl, sym, ap, subst, if◌then◌else◌}
+use Rattle.std.proofs.Common.{◌≡◌, ◌∙◌, ◌||◌, ◌&&◌, ◌==◌, ℕ, List, [], ◌∷◌, ◌++◌, Bool, true, false, Some, None, fold, unwrap_or, codes, refl, sym, ap}
 use Rattle.std.specs.List.{list_any}
 use Rattle.std.proofs.lemmas.Bool.{false≢true}
 use Rattle.std.proofs.lemmas.List.{append_assoc}
-use Rattle.clap.specs.Walk.{Held, Row, Rule, Text, Walk, all_of, finished, positional, reading_by, walk_from, walked, nothing_held}
-use Rattle.clap.specs.Simple.{App, Shape, app_of, app_of_fields, built, built_above, is_simple, matches_of, new_app, new_rule, new_shape, with_rule}
-use Rattle.clap.specs.Takes.{level_passes, takes, turn_passes, walk_passes}
+use Rattle.clap.specs.Walk.{Row, Rule, Text, Walk, all_of, finished, positional, reading_by, walk_from, walked, nothing_held}
+use Rattle.clap.specs.Simple.{App, Shape, app_of, app_of_fields, built, is_simple, matches_of, new_app, new_rule, new_shape, with_rule}
+use Rattle.clap.specs.Takes.{takes, turn_passes, walk_passes}
 use Rattle.clap.specs.declared.builder.action.ArgAction.TheVariants.{Append}
 use Rattle.clap.specs.declared.builder.command.Command.{Command}
 use Rattle.clap.specs.declared.builder.command.Command.TheOpen.{Command-F}

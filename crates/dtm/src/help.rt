@@ -19,14 +19,14 @@ const SHOWN_BEFORE: usize = 60;
 const SHOWN_BEHIND: usize = 20;
 
 const USAGE: &str = "\
-dtm runs a script of transaction and record services by one simulated node over a disk image.
+dtm runs a script of transaction and record services by simulated nodes, each over a disk image.
 
-  dtm RUN NODE=IMAGE   reads the script from the standard input and writes its transcript to the standard output
-  dtm --help           shows this
-  dtm MAKE n start     is not built yet
+  dtm RUN NODE=IMAGE ...   reads the script from the standard input and writes its transcript to the standard output
+  dtm --help               shows this
+  dtm MAKE n start         is not built yet
 
-NODE is 1 to 6 letters and digits, a letter first. IMAGE is the path of a file of 4096 to 65536 blocks of 512 bytes;
-where there is none, one of 8192 blocks is made. INIT in a script erases what the image had.
+There are one to eight nodes, each over an image of its own. NODE is 1 to 6 letters and digits, a letter first. IMAGE is the path
+of a file of 4096 to 65536 blocks of 512 bytes; where there is none, one of 8192 blocks is made. INIT in a script erases what the image had.
 
   dtm RUN A=ledger.img < examples/first.dtm
 

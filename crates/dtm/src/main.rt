@@ -78,7 +78,7 @@ fn main(rt: HostRuntime) -> ExitCode {
         tail: transcript,
     };
     match run_command(&files, alloc, &words, &mut source, &mut sink) {
-        Ok(exit) => {
+        Ok((exit, _rack)) => {
             say(&rt, said_of(alloc, exit, &source.tail, &sink.tail));
             ExitCode::from(status_of(exit))
         }

@@ -7,10 +7,10 @@ use Rattle.careful_write.specs.Load.{fitting}
 use Rattle.careful_write.specs.State.{IsIdle, Leaves, LeavesAsItWas, StoreState}
 use Rattle.careful_write.proofs.GroupParts.{stop_closed}
 use Rattle.volume.specs.Conditions.{IsFirstFinding}
-use Rattle.run_model.specs.World.{Node, Act, Call, Volume, Sound, Faulty, Unknown, acted, fallen}
-use Rattle.volume_model.specs.Volumes.{FailsFirst, HasDisk, IsEitherOf, IsLeftBy}
+use Rattle.run_model.specs.World.{Node, Act, Call, Volume, Sound, Faulty, Barred, Unknown, fallen}
+use Rattle.volume_model.specs.Volumes.{BarsBoots, FailsFirst, HasBarred, HasDisk, IsEitherOf, IsLeftBy}
 use Rattle.dtm_node.specs.Boots.{AllHave, HasContent}
-use Rattle.dtm_node.proofs.SameNodes.{same_acted, same_called, same_fallen, same_left}
+use Rattle.dtm_node.proofs.SameNodes.{same_clocked, same_either, same_fallen, same_left}
 
 abbrev pub Content : Type 0
 Content = List (List ℕ)
@@ -20,10 +20,10 @@ same_some x y e = cc
 
 -- what a node's disk has, and a content, by its volume
 abbrev pub DiskBy : Node → DiskState → Volume → Type 0
-DiskBy n d v = elim v [ Sound ↦ Leaves (IsEitherOf n) d | Faulty condition block ↦ FailsFirst n.name condition block d × (n.under_way ≡ None) | Unknown ↦ Unit {0} ]
+DiskBy n d v = elim v [ Sound ↦ Leaves (IsEitherOf n) d | Faulty condition block ↦ FailsFirst n.name condition block d × (n.under_way ≡ None) | Barred bar ↦ BarsBoots n.name n.blocks bar d × (n.under_way ≡ None) | Unknown ↦ Unit {0} ]
 
 abbrev pub ContentBy : Node → Bool → Content → Volume → Type 0
-ContentBy n fits c v = elim v [ Sound ↦ (fits ≡ true) × IsLeftBy c n | Faulty condition block ↦ IsFirstFinding n.name fits c condition block | Unknown ↦ ⊥ ]
+ContentBy n fits c v = elim v [ Sound ↦ (fits ≡ true) × IsLeftBy c n | Faulty condition block ↦ IsFirstFinding n.name fits c condition block | Barred bar ↦ (fits ≡ true) × HasBarred n.name n.blocks bar c | Unknown ↦ ⊥ ]
 
 pub disk_sound : (n : Node) (d : DiskState) → n.durable.volume ≡ Sound → Leaves (IsEitherOf n) d → HasDisk n d
 disk_sound n d e l = subst (DiskBy n d) (sym e) l
@@ -38,6 +38,7 @@ have_disk n fits c d none all has = go n.durable.volume has
     go : (v : Volume) → ContentBy n fits c v → DiskBy n d v
     go Sound h = λ image left. let i = all image left in (i.0 ∙ h.0, inl (subst (λ x. IsLeftBy x n) (sym i.1) h.1))
     go (Faulty condition block) h = (λ image left. let i = all image left in subst (λ f. IsFirstFinding n.name f (content_of image) condition block) (sym i.0) (subst (λ x. IsFirstFinding n.name fits x condition block) (sym i.1) h), none)
+    go (Barred bar) h = (λ image left. let i = all image left in (i.0 ∙ h.0, subst (λ x. HasBarred n.name n.blocks bar x) (sym i.1) h.1), none)
     go Unknown h = absurd h
 
 -- a fall changes nothing of that
@@ -45,8 +46,9 @@ pub content_fallen : (n : Node) (under : Option Act) (fits : Bool) (c : Content)
 content_fallen n under fits c has = go n.durable.volume has
   where
     go : (v : Volume) → ContentBy n fits c v → ContentBy (fallen under n) fits c v
-    go Sound h = (h.0, same_left (fallen under n) n c (same_fallen under n) h.1)
+    go Sound h = (h.0, same_left (fallen under n) n (same_fallen under n) c h.1)
     go (Faulty condition block) h = h
+    go (Barred bar) h = h
     go Unknown h = absurd h
 
 -- Images of disks.
@@ -77,13 +79,17 @@ disk_kept n u cs d new up pending seen has = go n.durable.volume has
     back image left = subst (λ o. IsSomeAnd o (λ b. SameBut d.pending b image)) seen (subst (λ p. IsSomeAnd new.seen (λ b. SameBut p b image)) pending left)
 
     go : (v : Volume) → DiskBy n d v → DiskBy (record n { up = u; calls = cs }) new v
-    go Sound l = λ image left.
-        let i = l image (back image left) in (
-          i.0,
-          ⊎_elim
-              (λ v. inl (same_left (record n { up = u; calls = cs }) n (content_of image) (same_called u cs n up) v))
-              (λ x. inr (x.0, x.1, same_left (acted x.0 (record n { up = u; calls = cs })) (acted x.0 n) (content_of image) (same_acted x.0 u cs n up) x.2))
-              i.1,
-        )
+    go Sound l = λ image left. let i = l image (back image left) in (i.0, same_either u cs n (content_of image) up i.1)
     go (Faulty condition block) f = (λ image left. f.0 image (back image left), f.1)
+    go (Barred bar) f = (λ image left. f.0 image (back image left), f.1)
+    go Unknown h = tt
+
+-- The same disk, of a node whose clock is set.
+pub disk_clocked : (now : ℕ) (n : Node) (d : DiskState) → HasDisk n d → HasDisk (record n { clock = now }) d
+disk_clocked now n d has = go n.durable.volume has
+  where
+    go : (v : Volume) → DiskBy n d v → DiskBy (record n { clock = now }) d v
+    go Sound l = λ image left. let i = l image left in (i.0, same_clocked now n (content_of image) i.1)
+    go (Faulty condition block) f = f
+    go (Barred bar) f = f
     go Unknown h = tt

@@ -1,43 +1,57 @@
 -- INIT: an empty volume, and what the node's disk has then.
-use Rattle.std.proofs.Common.{◌≡◌, ℕ, ◌+◌, ◌<◌, ◌≤◌, List, [], ◌∷◌, Bool, true, false, Option, Some, None, IfSome, is_some, length, refl, sym, ap, subst, ◌∙◌, arith, inl, if◌then◌else◌}
-use Rattle.std.specs.Prelude.{◌&&◌, not, nat_le, nat_lt}
+use Rattle.std.proofs.Common.{◌≡◌, inl, inr, ℕ, ◌+◌, ◌<◌, ◌≤◌, List, [], ◌∷◌, ◌++◌, Bool, true, false, not, Option, Some, None, IfSome, is_some, length, if◌then◌else◌, refl, sym, ap, subst, ◌∙◌, arith}
+use Rattle.std.specs.Prelude.{◌&&◌, ◌||◌, nat_le, nat_lt}
 use Rattle.std.proofs.lemmas.List.{length-drop}
 use Rattle.std.proofs.lemmas.Bool.Decides.{nat_tests}
+use Rattle.std.specs.List.{AllByRecursion}
 use Rattle.vms_base.proofs.NameLemmas.{both}
 use Rattle.block_disk.specs.Blocks.{IsWhole, laid_from}
-use Rattle.block_disk.specs.Disk.{DiskState, CallLog, noted}
+use Rattle.block_disk.specs.Disk.{DiskState, CallLog, IsPowered, noted}
 use Rattle.block_disk.specs.declared.disk.DiskCall.TheVariants as disk_call
+use Rattle.block_disk.specs.declared.disk.DiskErr.{DiskErr}
 use Rattle.careful_write.specs.Content.{content_of, fits, gate_open, home, intents}
+use Rattle.careful_write.specs.Down.{CountsDown, down_of}
 use Rattle.careful_write.specs.State.{EachWhole}
+use Rattle.careful_write.specs.Steps.{Quiet}
+use Rattle.careful_write.specs.declared.down.Down.{Down}
 use Rattle.careful_write.proofs.GroupParts.{stop_reading}
 use Rattle.careful_write.proofs.Images.{closed_fits}
+use Rattle.commit_protocol.specs.World.{In}
 use Rattle.volume.specs.declared.catalog.Catalog.{Catalog}
 use Rattle.volume.specs.Catalogs.{IsSound, TellsCatalog}
-use Rattle.volume.specs.Empty.{empty_catalog, empty_home}
+use Rattle.volume.specs.Empty.{IsEmptyVolume, empty_catalog, empty_home}
 use Rattle.volume.specs.Limits.{SizesFit}
 use Rattle.transcript_model.specs.Outside.{Rose}
 use Rattle.transcript_model.specs.Lines as line
 use Rattle.transcript_model.specs.Lines.{Line, Cause, Failed}
 use Rattle.transcript_model.specs.Emitting.{Shown, Emits}
-use Rattle.script_model.specs.Statements.{Init}
-use Rattle.run_model.specs.World.{Shared, Node, Formats, Power, Unknown, acted, fallen, powered, unpowered}
-use Rattle.run_model.specs.Answers.{refused_before_reading, is_volume_form, is_within}
+use Rattle.script_model.specs.Statements.{Fuse, Init}
+use Rattle.run_laws.specs.Said.{Said, SaidNode, SaidShared, is_of_lines, line_said, lines_said, request_said, with_said}
+use Rattle.said_steps.specs.Own.{IsOwn, alone}
+use Rattle.run_model.specs.World.{DiskCounts, Formats, Lost, Node, Power, Shared, Unknown, acted, fallen, powered, unpowered}
+use Rattle.run_model.specs.Answers.{Restarts, Serves, Task, is_volume_form, is_within, refused_before_reading, service, task_service}
 use Rattle.run_model.specs.Operations.{first_of, refused_if}
-use Rattle.run_model.specs.Steps.{NodeStep, Serves as Asks, count_of, occupied, spoilt}
-use Rattle.run_model.proofs.TaskLemmas.{task_cut_at_first, task_unpowered, task_whole}
+use Rattle.run_model.specs.Steps.{Cut, NodeStep, Unpowered, Whole, count_of, spoilt}
 use Rattle.volume_model.specs.Volumes.{IsLeftBy, LeavesVolume}
 use Rattle.recovery_units.specs.Laws.{IsMade, KeepsNodes}
-use Rattle.dtm_node.specs.Keeping.{Serves}
-use Rattle.dtm_node.specs.Nodes.{Passes, kept_down}
-use Rattle.dtm_node.specs.Standing.{Kept, StandsFor, counts_of, disk_in, noted_all}
+use Rattle.recovery_units.specs.Uses.{IsCounted}
+use Rattle.run_shared.specs.Sharing.{IsShared, SharedState}
+use Rattle.dtm_node.specs.declared.node.Formatted.{Formatted}
+use Rattle.dtm_node.specs.declared.node.Formatted.TheVariants as formatted
+use Rattle.dtm_node.specs.Causes.{cause_of}
+use Rattle.dtm_node.specs.Formatting.{Formats as FormatsPlace, FormatsDisk, init_answer, init_lines, is_ended, kept_so, unmade_then}
+use Rattle.dtm_node.specs.Keeping.{Performs, PerformsRequest, PerformsTask}
+use Rattle.dtm_node.specs.Standing.{IsDown, IsRunning, Kept, Place, StandsFor, counts_of, disk_in, noted_all}
+use Rattle.dtm_node.specs.Telling.{Passes, TellsTask, powered_task, refused_task, said_alone, said_node, said_shared, task_said}
 use Rattle.dtm_node.proofs.DiskLemmas.{as_it_was, disk_unknown}
-use Rattle.dtm_node.proofs.NodeSteps.{refused_here, serves_both}
-use Rattle.dtm_node.proofs.StepLemmas.{occupied_not}
+use Rattle.dtm_node.proofs.Passing.{Unpowers, passes_counts, passes_on, passes_power, passes_same, power_calls, rose_after, rose_down}
+use Rattle.dtm_node.proofs.SaysLemmas.{alone_down, same_text}
 
 -- a volume that was just made, on a disk of so many whole blocks
-is_made : (name : List ℕ) (size slots journal : ℕ) (blocks : List (List ℕ)) → SizesFit size (record { blocks = size; slots = slots; ru_blocks = journal }) → IsWhole size blocks → 4096 ≤ size → IsMade (home blocks) (empty_catalog (empty_home name size slots journal)) slots journal
-is_made name size slots journal blocks fit whole least = record {
+is_made : (name : List ℕ) (size slots journal : ℕ) (blocks : List (List ℕ)) → SizesFit size (record { blocks = size; slots = slots; ru_blocks = journal }) → IsWhole size blocks → 4096 ≤ size → IsEmptyVolume (empty_home name size slots journal) (home blocks) → IsMade (home blocks) (empty_catalog (empty_home name size slots journal)) slots journal
+is_made name size slots journal blocks fit whole least empty = record {
   slots_are = refl;
+  few = fit.most_slots;
   journal_is = refl;
   boot = refl;
   greatest = refl;
@@ -47,6 +61,7 @@ is_made name size slots journal blocks fit whole least = record {
   end = refl;
   some = (let some = fit.least_journal in omega (arith, some));
   within = (let room = fit.room in let long = length-drop 518 blocks in let count = whole.count in omega (arith, room, long, count));
+  log = empty;
 }
 
 -- whether a volume may be made so
@@ -105,116 +120,289 @@ some_of : (o : Option (List (List ℕ))) → is_some o ≡ true → (b : List (L
 some_of (Some b) e = (b, refl)
 some_of None e = let none : ⊥ = cc in absurd none
 
--- a node was booted
-pub in_use_init : (log : CallLog) (s : Shared) (n : Node) (k : Kept) (slots journal : ℕ) (a b : Shown) → s.in_use ≡ true → StandsFor log k n → Emits a (line.VolumeInUse ∷ []) b → Serves log s n (counts_of (disk_in k.place)) (Init slots journal) a b k s
-in_use_init log s n k slots journal a b used h m =
-    refused_here log s n k h (Init slots journal) line.VolumeInUse a b
-    (serves_both s n (Init slots journal) refl ∙ ap (λ (x : Bool). first_of (refused_if x line.VolumeInUse) (refused_if (not (is_volume_form slots journal n)) line.BadParameter)) used) m
+-- The steps of an INIT.
 
-module _ (log : CallLog) (s : Shared) (n : Node) (name : List ℕ) (unmade has_parts : Bool) (d0 : DiskState) (slots journal : ℕ) (unused : s.in_use ≡ false) (h : StandsFor log (kept_down name unmade has_parts d0) n) where
-  early_by : (form : Bool) → is_volume_form slots journal n ≡ form → refused_before_reading s n (Init slots journal) ≡ refused_if (not form) line.BadParameter
-  early_by form e = serves_both s n (Init slots journal) refl
-      ∙ ap (λ (x : Bool). first_of (refused_if x line.VolumeInUse) (refused_if (not (is_volume_form slots journal n)) line.BadParameter)) unused
-      ∙ ap (λ (x : Bool). refused_if (not x) line.BadParameter) e
+or_false : (b : Bool) → (b || false) ≡ b
+or_false true = refl
+or_false false = refl
 
-  pub bad_init : (a b : Shown) → (SizesFit d0.size (record { blocks = d0.size; slots = slots; ru_blocks = journal }) → ⊥) → Emits a (line.BadParameter ∷ []) b → Serves log s n (counts_of d0) (Init slots journal) a b (kept_down name unmade has_parts d0) s
-  bad_init a b misfit m = refused_here log s n (kept_down name unmade has_parts d0) h (Init slots journal) line.BadParameter a b (early_by false (no_form slots journal d0.size n h.blocks misfit)) m
+module _ (s : Shared) (n : Node) (slots journal : ℕ) (old new : DiskCounts) (faults : old.faults ≤ new.faults) (stops : old.stops ≤ new.stops) where
+  unoccupied : s ≡ record s { in_use = s.in_use || false }
+  unoccupied = λ i. record s { in_use = sym (or_false s.in_use) i }
+
+  step_early : (refusal : Line) → refused_before_reading s n (service (Init slots journal)) ≡ Some refusal → NodeStep s n old (Serves (Init slots journal)) [] refusal true n s new
+  step_early refusal early = record { choice = Whole Lost; allowed = tt; faults = faults; stops = stops; shows = rw early refl; answers = rw early refl; over = rw early refl; node = rw early refl; shared = rw early refl }
+
+  module _ (early : refused_before_reading s n (service (Init slots journal)) ≡ None) where
+    step_dead : Rose (count_of Failed old) (count_of Failed new) → NodeStep s n old (Serves (Init slots journal)) (line.Down n.name Failed ∷ []) (line.Broken Failed) true (spoilt true (unpowered old.stops n)) s new
+    step_dead rose = record { choice = Unpowered; allowed = (early, refl, rose); faults = faults; stops = stops; shows = refl; answers = refl; over = refl; node = refl; shared = unoccupied }
+
+    step_fell : (cause : Cause) → Rose (count_of cause old) (count_of cause new) → NodeStep s n old (Serves (Init slots journal)) (line.Down n.name cause ∷ []) (line.Broken cause) true (fallen None (spoilt true (powered Lost old.stops n))) s new
+    step_fell cause rose = record { choice = Cut Lost 0 false cause; allowed = (early, refl, tt, omega arith, rose); faults = faults; stops = stops; shows = refl; answers = refl; over = refl; node = refl; shared = unoccupied }
+
+    step_made : NodeStep s n old (Serves (Init slots journal)) [] line.Normal false (acted (Formats slots journal) (spoilt true (powered Lost old.stops n))) s new
+    step_made = record { choice = Whole Lost; allowed = tt; faults = faults; stops = stops; shows = rw early refl; answers = rw early refl; over = rw early refl; node = rw early refl; shared = rw early unoccupied }
+
+early_by : (s : Shared) (n : Node) (slots journal : ℕ) (used form : Bool) → n.up ≡ false → s.in_use ≡ used → is_volume_form slots journal n ≡ form
+    → refused_before_reading s n (service (Init slots journal)) ≡ first_of (refused_if used line.VolumeInUse) (refused_if (not form) line.BadParameter)
+early_by s n slots journal used form down free is = λ i. first_of (refused_if (not (down i || true)) line.NodeDown) (first_of (refused_if (free i) line.VolumeInUse) (refused_if (not (is i)) line.BadParameter))
+
+-- What an INIT says of a node that is down.
+
+alone_unmade : (n : SaidNode) (s : SaidShared) (u : Bool) → (record { nodes = with_said n.name (λ m. record m { unmade = u }) (n ∷ []); shared = s }) ≡ alone (record n { unmade = u }) s
+alone_unmade n s u = ap (λ (b : Bool). record { nodes = (if b then record n { unmade = u } ∷ [] else n ∷ []); shared = s }) (same_text n.name)
+
+module _ (name : List ℕ) (slots journal : ℕ) (has_parts : Bool) (d0 : DiskState) where
+  module _ (unmade : Bool) (clock : ℕ) (s : SharedState) (unused : s.in_use ≡ false) (a b : Shown) where
+    abbrev before : Kept
+    before = kept_so name unmade clock has_parts d0
+
+    unrefused : refused_task (said_shared s) (said_node before) (Serves (Init slots journal)) ≡ None
+    unrefused = ap (λ (x : Bool). refused_if x line.VolumeInUse) unused
+
+    none_some : (x : Line) → ◌≡◌ {A = Option Line} None (Some x) → ⊥
+    none_some x e = cc
+
+    tells : (done : Formatted) (d : DiskState) → Emits a (init_lines name done ++ init_answer done ∷ []) b → AllByRecursion (IsOwn name) (init_lines name done) → is_of_lines (init_answer done) ≡ false
+        → task_said (Serves (Init slots journal)) (init_lines name done) (init_answer done) before s ≡ said_alone (kept_so name (unmade_then done unmade) clock has_parts d) s → ((u : Said) → line_said (init_answer done) u ≡ u)
+        → d.calls ≡ (let cs : CallLog = if powered_task (Serves (Init slots journal)) (is_ended done) (init_answer done) then noted (disk_call.Power d0.stops) d0.calls else d0.calls in cs)
+        → ((cause : Cause) → In (line.Down name cause) (init_lines name done) → IsCounted d0 → Rose (count_of cause (counts_of d0)) (count_of cause (counts_of d))) → Passes d0 d
+        → TellsTask (Serves (Init slots journal)) true (is_ended done) before s a b (kept_so name (unmade_then done unmade) clock has_parts d) s
+    tells done d m own plain says quiet calls failures passes = record {
+      lines = init_lines name done;
+      answer = init_answer done;
+      emits = m;
+      own = own;
+      refused = λ refusal q. absurd (none_some refusal (sym unrefused ∙ q));
+      others = λ none. plain;
+      says = says;
+      calls = calls;
+      failures = failures;
+      passes = passes;
+      quiet = quiet;
+      fused = λ writes choice q. (let f : ⊥ = cc in absurd f);
+      boots = λ q. (let f : ⊥ = cc in absurd f);
+    }
+
+    fell_says : (cause : Cause) (d : DiskState) → task_said (Serves (Init slots journal)) (line.Down name cause ∷ []) (line.Broken cause) before s ≡ said_alone (kept_so name true clock has_parts d) s
+    fell_says cause d =
+        ap (request_said name (Init slots journal) (line.Broken cause)) (alone_down (record { name = name; up = false; unmade = unmade }) (said_shared s) cause)
+        ∙ alone_unmade (record { name = name; up = false; unmade = unmade }) (said_shared s) true
+
+    fell_tells : (down : Down) (d : DiskState) → Emits a (line.Down name (cause_of down) ∷ line.Broken (cause_of down) ∷ []) b → d.calls ≡ noted (disk_call.Power d0.stops) d0.calls → (IsCounted d0 → Rose (count_of (cause_of down) (counts_of d0)) (count_of (cause_of down) (counts_of d))) → Passes d0 d
+        → TellsTask (Serves (Init slots journal)) true true before s a b (kept_so name true clock has_parts d) s
+    fell_tells down d m calls rose passes = tells (formatted.Failed down) d m (refl, tt) refl (fell_says (cause_of down) d) (λ u. refl) calls only passes
+      where
+        cause_in : (x y : Cause) → line.Down name x ≡ line.Down name y → x ≡ y
+        cause_in x y e = cc
+
+        only : (cause : Cause) → In (line.Down name cause) (line.Down name (cause_of down) ∷ []) → IsCounted d0 → Rose (count_of cause (counts_of d0)) (count_of cause (counts_of d))
+        only cause (inl e) counted = subst (λ x. Rose (count_of x (counts_of d0)) (count_of x (counts_of d))) (sym (cause_in cause (cause_of down) e)) (rose counted)
+        only cause (inr i) counted = absurd i
+
+    -- In the world.
+    module _ (log : CallLog) (w : Shared) (n : Node) (h : StandsFor log before n) (share : IsShared s w) where
+      no_use : w.in_use ≡ false
+      no_use = share.in_use ∙ unused
+
+      misfit_performs : (SizesFit d0.size (record { blocks = d0.size; slots = slots; ru_blocks = journal }) → ⊥) → Emits a (line.BadParameter ∷ []) b → Performs log w n (counts_of d0) (Serves (Init slots journal)) true true a b before s
+      misfit_performs misfit m = record {
+        lines = [];
+        answer = line.BadParameter;
+        node = n;
+        shared = w;
+        step = step_early w n slots journal (counts_of d0) (counts_of d0) (omega arith) (omega arith) line.BadParameter (early_by w n slots journal false false h.place.down no_use (no_form slots journal d0.size n h.blocks misfit));
+        emits = m;
+        alike = share;
+        stands = h;
+      }
+
+      module _ (fit : SizesFit d0.size (record { blocks = d0.size; slots = slots; ru_blocks = journal })) (d : DiskState) (passes : Passes d0 d) (calls : d.calls ≡ noted (disk_call.Power d0.stops) d0.calls) where
+        none_early : refused_before_reading w n (service (Init slots journal)) ≡ None
+        none_early = early_by w n slots journal false true h.place.down no_use (fits_form slots journal d0.size n h.blocks fit)
+
+        -- a node whose last INIT failed
+        spoilt_stands : (m : Node) → m.name ≡ n.name → m.blocks ≡ n.blocks → m.clock ≡ n.clock → m.durable.volume ≡ Unknown → m.unmade ≡ true → m.up ≡ false → (m.was_up ≡ true → n.was_up ≡ true) → m.calls ≡ Power d0.stops ∷ n.calls → StandsFor log (kept_so name true clock has_parts d) m
+        spoilt_stands m same blocks clocked volume made down was noted_there = record {
+          name = same ∙ h.name;
+          blocks = blocks ∙ h.blocks ∙ sym passes.size;
+          clock = clocked ∙ h.clock;
+          unmade = made;
+          place = record { down = down; reserved = λ e. h.place.reserved (was e); told = passes.told ∙ h.place.told; disk = disk_unknown m d volume };
+          calls = calls ∙ ap (noted (disk_call.Power d0.stops)) h.calls ∙ ap (λ cs. noted_all cs log) (sym noted_there);
+          counts = passes.counted h.counts;
+        }
+
+        -- the disk does not run again
+        dead_performs : Rose (count_of Failed (counts_of d0)) (count_of Failed (counts_of d)) → Emits a (line.Down name Failed ∷ line.Broken Failed ∷ []) b → Performs log w n (counts_of d0) (Serves (Init slots journal)) true true a b (kept_so name true clock has_parts d) s
+        dead_performs rose m = record {
+          lines = line.Down name Failed ∷ [];
+          answer = line.Broken Failed;
+          node = spoilt true (unpowered d0.stops n);
+          shared = w;
+          step = subst (λ x. NodeStep w n (counts_of d0) (Serves (Init slots journal)) (line.Down x Failed ∷ []) (line.Broken Failed) true (spoilt true (unpowered d0.stops n)) w (counts_of d)) h.name
+              (step_dead w n slots journal (counts_of d0) (counts_of d) (passes.faults h.counts) (passes.stops h.counts) none_early rose);
+          emits = m;
+          alike = share;
+          stands = spoilt_stands (spoilt true (unpowered d0.stops n)) refl refl refl refl refl refl (λ e. e) refl;
+        }
+
+        -- it went down while the volume was written
+        fell_performs : (cause : Cause) → Rose (count_of cause (counts_of d0)) (count_of cause (counts_of d)) → Emits a (line.Down name cause ∷ line.Broken cause ∷ []) b → Performs log w n (counts_of d0) (Serves (Init slots journal)) true true a b (kept_so name true clock has_parts d) s
+        fell_performs cause rose m = record {
+          lines = line.Down name cause ∷ [];
+          answer = line.Broken cause;
+          node = fallen None (spoilt true (powered Lost d0.stops n));
+          shared = w;
+          step = subst (λ x. NodeStep w n (counts_of d0) (Serves (Init slots journal)) (line.Down x cause ∷ []) (line.Broken cause) true (fallen None (spoilt true (powered Lost d0.stops n))) w (counts_of d)) h.name
+              (step_fell w n slots journal (counts_of d0) (counts_of d) (passes.faults h.counts) (passes.stops h.counts) none_early cause rose);
+          emits = m;
+          alike = share;
+          stands = spoilt_stands (fallen None (spoilt true (powered Lost d0.stops n))) refl refl refl refl refl refl (λ e. e) refl;
+        }
+
+        abbrev made : Node
+        made = acted (Formats slots journal) (spoilt true (powered Lost d0.stops n))
+
+        abbrev catalog : Catalog
+        catalog = empty_catalog (empty_home name d0.size slots journal)
+
+        made_left : (image : List (List ℕ)) → KeepsNodes → TellsCatalog catalog (content_of image) → IsEmptyVolume (empty_home name d0.size slots journal) (content_of image) → IsSound name d0.size catalog → gate_open image ≡ false → IsWhole d0.size image → 4096 ≤ d0.size → IsLeftBy (content_of image) made
+        made_left image law told empty sound closed whole least =
+            let content : content_of image ≡ home image = ap (λ (x : Bool). if x && fits (length image) (intents image) then laid_from 518 (intents image) (home image) else home image) closed in
+            record {
+              catalog = catalog;
+              tells = told;
+              sound = rw (h.name, h.blocks) sound;
+              leaves = λ each. subst (λ (c : List (List ℕ)). LeavesVolume c catalog made) (sym content)
+                  (law.formats (home image) catalog (spoilt true (powered Lost d0.stops n)) slots journal (is_made name d0.size slots journal image fit whole least (subst (IsEmptyVolume (empty_home name d0.size slots journal)) content empty)) (subst EachWhole content each) h.place.down);
+            }
+
+        made_performs : KeepsNodes → IfSome d.seen (λ image. TellsCatalog catalog (content_of image)) → IfSome d.seen (λ image. IsEmptyVolume (empty_home name d0.size slots journal) (content_of image)) → IsSound name d0.size catalog → IfSome d.seen (λ image. gate_open image ≡ false) → IfSome d.seen (IsWhole d.size) → 4096 ≤ d0.size
+            → d.pending ≡ [] → Emits a (line.Normal ∷ []) b → Performs log w n (counts_of d0) (Serves (Init slots journal)) true false a b (kept_so name false clock has_parts d) s
+        made_performs law told empty sound closed whole least settled m =
+            let seen = some_of d.seen (passes.told ∙ h.place.told) in
+            let image = seen.0 in
+            let is_closed : gate_open image ≡ false = subst (λ o. IfSome o (λ x. gate_open x ≡ false)) seen.1 closed in
+            let is_whole : IsWhole d0.size image = subst (λ x. IsWhole x image) passes.size (subst (λ o. IfSome o (IsWhole d.size)) seen.1 whole) in
+            let left = made_left image law (subst (λ o. IfSome o (λ x. TellsCatalog catalog (content_of x))) seen.1 told) (subst (λ o. IfSome o (λ x. IsEmptyVolume (empty_home name d0.size slots journal) (content_of x))) seen.1 empty) sound is_closed is_whole least in
+            let alike = as_it_was d.seen image d seen.1 (stop_reading d d settled refl refl) in
+            record {
+              lines = [];
+              answer = line.Normal;
+              node = made;
+              shared = w;
+              step = step_made w n slots journal (counts_of d0) (counts_of d) (passes.faults h.counts) (passes.stops h.counts) none_early;
+              emits = m;
+              alike = share;
+              stands = record {
+                name = h.name;
+                blocks = h.blocks ∙ sym passes.size;
+                clock = h.clock;
+                unmade = refl;
+                place = record {
+                  down = h.place.down;
+                  reserved = h.place.reserved;
+                  told = passes.told ∙ h.place.told;
+                  disk = λ i left_there. let x = alike i left_there in (x.0 ∙ closed_fits image is_closed, inl (subst (λ y. IsLeftBy y made) (sym x.1) left));
+                };
+                calls = calls ∙ ap (noted (disk_call.Power d0.stops)) h.calls;
+                counts = passes.counted h.counts;
+              };
+            }
+
+  -- What an INIT came to on a disk.
+
+  pub format_misfits : (SizesFit d0.size (record { blocks = d0.size; slots = slots; ru_blocks = journal }) → ⊥) → FormatsDisk name slots journal has_parts d0 formatted.Refused d0
+  format_misfits misfit = λ unmade clock s unused a b m. (
+    tells unmade clock s unused a b formatted.Refused d0 m tt refl refl (λ u. refl) refl (λ cause i. absurd i) (passes_same d0),
+    λ log n w h share kept promised. misfit_performs unmade clock s unused a b log w n h share misfit m,
+  )
 
   module _ (fit : SizesFit d0.size (record { blocks = d0.size; slots = slots; ru_blocks = journal })) where
-    none_early : refused_before_reading s n (Init slots journal) ≡ None
-    none_early = early_by true (fits_form slots journal d0.size n h.blocks fit)
+    pub format_unpowered : (e : DiskErr) (d : DiskState) → Unpowers e d0 d → (down : Down) → down ≡ down_of e → FormatsDisk name slots journal has_parts d0 (formatted.Failed down) d
+    format_unpowered e d u down is = λ unmade clock s unused a b m.
+        let cause : cause_of down ≡ Failed = ap cause_of is ∙ u.cause in (
+          fell_tells unmade clock s unused a b down d m u.calls (λ counted. subst (λ (x : Cause). Rose (count_of x (counts_of d0)) (count_of x (counts_of d))) (sym cause) u.rose) u.passes,
+          λ log n w h share kept promised. dead_performs unmade clock s unused a b log w n h share fit d u.passes u.calls u.rose (subst (λ (x : Cause). Emits a (line.Down name x ∷ line.Broken x ∷ []) b) cause m),
+        )
 
-    abbrev woken : Node
-    woken = spoilt true (powered false d0.stops n)
+    module _ (mid : DiskState) (power : IsPowered d0 mid) (d : DiskState) where
+      pub format_made : KeepsNodes → Quiet mid d → IfSome d.seen (λ image. TellsCatalog (empty_catalog (empty_home name d0.size slots journal)) (content_of image)) → IfSome d.seen (λ image. IsEmptyVolume (empty_home name d0.size slots journal) (content_of image))
+          → IsSound name d0.size (empty_catalog (empty_home name d0.size slots journal)) → IfSome d.seen (λ image. gate_open image ≡ false) → IfSome d.seen (IsWhole d.size) → 4096 ≤ d0.size → d.pending ≡ [] → FormatsDisk name slots journal has_parts d0 formatted.Made d
+      format_made law quiet told empty sound closed whole least settled = λ unmade clock s unused a b m.
+          let passes = passes_on d0 mid d (passes_power d0 mid power) (passes_counts _ _ mid d quiet) in
+          let calls = power_calls d0 mid d power quiet.calls in (
+            tells unmade clock s unused a b formatted.Made d m tt refl (alone_unmade (record { name = name; up = false; unmade = unmade }) (said_shared s) false) (λ u. refl) calls (λ cause i. absurd i) passes,
+            λ log n w h share kept promised. made_performs unmade clock s unused a b log w n h share fit d passes calls law told empty sound closed whole least settled m,
+          )
 
-    -- a node whose last INIT failed
-    spoilt_stands : (m : Node) (d : DiskState) → m.name ≡ n.name → m.blocks ≡ n.blocks → m.clock ≡ n.clock → m.durable.volume ≡ Unknown → m.unmade ≡ true → m.up ≡ false → (m.was_up ≡ true → n.was_up ≡ true) → m.calls ≡ Power d0.stops ∷ n.calls → Passes d0 d →
-        d.calls ≡ noted (disk_call.Power d0.stops) d0.calls → StandsFor log (kept_down name true has_parts d) m
-    spoilt_stands m d same blocks clock volume unmade down was noted_there passes calls = record {
-      name = same ∙ h.name;
-      blocks = blocks ∙ h.blocks ∙ sym passes.size;
-      clock = clock ∙ h.clock;
-      unmade = unmade;
-      place = record { down = down; reserved = λ e. h.place.reserved (was e); told = passes.told ∙ h.place.told; disk = disk_unknown m d volume };
-      calls = calls ∙ ap (noted (disk_call.Power d0.stops)) h.calls ∙ ap (λ cs. noted_all cs log) (sym noted_there);
-      counts = passes.counted h.counts;
-    }
+      pub format_fell : (down : Down) → CountsDown down mid d → FormatsDisk name slots journal has_parts d0 (formatted.Failed down) d
+      format_fell down counts = λ unmade clock s unused a b m.
+          let passes = passes_on d0 mid d (passes_power d0 mid power) (passes_counts _ _ mid d counts) in
+          let calls = power_calls d0 mid d power counts.calls in
+          let rose = rose_after (cause_of down) d0 mid d power (rose_down down mid d counts) in (
+            fell_tells unmade clock s unused a b down d m calls (λ counted. rose) passes,
+            λ log n w h share kept promised. fell_performs unmade clock s unused a b log w n h share fit d passes calls (cause_of down) rose m,
+          )
 
-    -- a fall, by the node's name
-    fell_as : (cause : Cause) (m : Node) (d : DiskState) → NodeStep s n (counts_of d0) (Asks (Init slots journal)) (line.Down n.name cause ∷ []) (line.Broken cause) m (occupied (Init slots journal) s) (counts_of d) →
-        NodeStep s n (counts_of d0) (Asks (Init slots journal)) (line.Down name cause ∷ []) (line.Broken cause) m s (counts_of d)
-    fell_as cause m d step =
-        subst (λ x. NodeStep s n (counts_of d0) (Asks (Init slots journal)) (line.Down name cause ∷ []) (line.Broken cause) m x (counts_of d)) (occupied_not (Init slots journal) s refl)
-        (subst (λ x. NodeStep s n (counts_of d0) (Asks (Init slots journal)) (line.Down x cause ∷ []) (line.Broken cause) m (occupied (Init slots journal) s) (counts_of d)) h.name step)
+-- At a node.
 
-    -- the disk does not run again
-    pub init_unpowered : (d : DiskState) (a b : Shown) → Passes d0 d → d.calls ≡ noted (disk_call.Power d0.stops) d0.calls → Rose (count_of Failed (counts_of d0)) (count_of Failed (counts_of d)) →
-        Emits a (line.Down name Failed ∷ line.Broken Failed ∷ []) b → Serves log s n (counts_of d0) (Init slots journal) a b (kept_down name true has_parts d) s
-    init_unpowered d a b passes calls rose m = record {
-      lines = line.Down name Failed ∷ [];
-      answer = line.Broken Failed;
-      node = spoilt true (unpowered d0.stops n);
-      step = fell_as Failed (spoilt true (unpowered d0.stops n)) d (task_unpowered s n (Init slots journal) (counts_of d0) (counts_of d) (passes.faults h.counts) (passes.stops h.counts) none_early refl rose);
+or_true : (x : Bool) → (x || true) ≡ true
+or_true true = refl
+or_true false = refl
+
+-- A node may have been in use.
+pub init_in_use : (slots journal : ℕ) (k : Kept) (s : SharedState) (a b : Shown) → s.in_use ≡ true → Emits a (line.VolumeInUse ∷ []) b → TellsTask (Serves (Init slots journal)) true true k s a b k s × PerformsRequest (Init slots journal) k s a b k s
+init_in_use slots journal k s a b used m = (
+  record {
+    lines = [];
+    answer = line.VolumeInUse;
+    emits = m;
+    own = tt;
+    refused = λ refusal q. (refl, some_line line.VolumeInUse refusal (sym says ∙ q), refl);
+    others = λ none. absurd (let e : ◌≡◌ {A = Option Line} (Some line.VolumeInUse) None = sym says ∙ none in (let f : ⊥ = cc in f));
+    says = refl;
+    calls = refl;
+    failures = λ cause i counted. absurd i;
+    passes = passes_same (disk_in k.place);
+    quiet = λ u. refl;
+    fused = λ writes choice q. (let f : ⊥ = cc in absurd f);
+    boots = λ q. (let f : ⊥ = cc in absurd f);
+  },
+  λ log n w h share kept promised. (
+    true,
+    record {
+      lines = [];
+      answer = line.VolumeInUse;
+      node = n;
+      shared = w;
+      step = step_early w n slots journal (counts_of (disk_in k.place)) (counts_of (disk_in k.place)) (omega arith) (omega arith) line.VolumeInUse
+          (λ i. first_of (refused_if (not (or_true n.up i)) line.NodeDown) (first_of (refused_if ((share.in_use ∙ used) i) line.VolumeInUse) (refused_if (not (is_volume_form slots journal n)) line.BadParameter)));
       emits = m;
-      stands = spoilt_stands (spoilt true (unpowered d0.stops n)) d refl refl refl refl refl refl (λ e. e) refl passes calls;
-    }
+      alike = share;
+      stands = h;
+    },
+  ),
+)
+  where
+    says : refused_task (said_shared s) (said_node k) (Serves (Init slots journal)) ≡ Some line.VolumeInUse
+    says = ap (λ (x : Bool). refused_if x line.VolumeInUse) used
 
-    -- it went down while the volume was written
-    pub init_fell : (cause : Cause) (d : DiskState) (a b : Shown) → Passes d0 d → d.calls ≡ noted (disk_call.Power d0.stops) d0.calls → Rose (count_of cause (counts_of d0)) (count_of cause (counts_of d)) →
-        Emits a (line.Down name cause ∷ line.Broken cause ∷ []) b → Serves log s n (counts_of d0) (Init slots journal) a b (kept_down name true has_parts d) s
-    init_fell cause d a b passes calls rose m = record {
-      lines = line.Down name cause ∷ [];
-      answer = line.Broken cause;
-      node = fallen None woken;
-      step = fell_as cause (fallen None woken) d (task_cut_at_first s n (Init slots journal) (counts_of d0) (counts_of d) (passes.faults h.counts) (passes.stops h.counts) false cause none_early refl rose);
-      emits = m;
-      stands = spoilt_stands (fallen None woken) d refl refl refl refl refl refl (λ e. e) refl passes calls;
-    }
+    some_line : (x y : Line) → ◌≡◌ {A = Option Line} (Some x) (Some y) → x ≡ y
+    some_line x y e = cc
 
-    abbrev made : Node
-    made = acted (Formats slots journal) woken
-
-    abbrev catalog : Catalog
-    catalog = empty_catalog (empty_home name d0.size slots journal)
-
-    made_left : (image : List (List ℕ)) → KeepsNodes → TellsCatalog catalog (content_of image) → IsSound name d0.size catalog → gate_open image ≡ false → IsWhole d0.size image → 4096 ≤ d0.size → IsLeftBy (content_of image) made
-    made_left image law tells sound closed whole least =
-        let content : content_of image ≡ home image = ap (λ (b : Bool). if b && fits (length image) (intents image) then laid_from 518 (intents image) (home image) else home image) closed in
-        record {
-          catalog = catalog;
-          tells = tells;
-          sound = rw (h.name, h.blocks) sound;
-          leaves = λ each. subst (λ (c : List (List ℕ)). LeavesVolume c catalog made) (sym content) (law.formats (home image) catalog woken slots journal (is_made name d0.size slots journal image fit whole least) (subst EachWhole content each) h.place.down);
-        }
-
-    pub init_done : (d : DiskState) (a b : Shown) → KeepsNodes → IfSome d.seen (λ image. TellsCatalog catalog (content_of image)) → IsSound name d0.size catalog → IfSome d.seen (λ image. gate_open image ≡ false) → IfSome d.seen (IsWhole d.size) → 4096 ≤ d0.size → d.pending ≡ [] →
-        Passes d0 d → d.calls ≡ noted (disk_call.Power d0.stops) d0.calls → Emits a (line.Normal ∷ []) b → Serves log s n (counts_of d0) (Init slots journal) a b (kept_down name false has_parts d) s
-    init_done d a b law tells sound closed whole least settled passes calls m =
-        let seen = some_of d.seen (passes.told ∙ h.place.told) in
-        let image = seen.0 in
-        let is_closed : gate_open image ≡ false = subst (λ o. IfSome o (λ x. gate_open x ≡ false)) seen.1 closed in
-        let is_whole : IsWhole d0.size image = subst (λ x. IsWhole x image) passes.size (subst (λ o. IfSome o (IsWhole d.size)) seen.1 whole) in
-        let left = made_left image law (subst (λ o. IfSome o (λ x. TellsCatalog catalog (content_of x))) seen.1 tells) sound is_closed is_whole least in
-        let alike = as_it_was d.seen image d seen.1 (stop_reading d d settled refl refl) in
-        record {
-          lines = [];
-          answer = line.Normal;
-          node = made;
-          step = subst (λ t. NodeStep s n (counts_of d0) (Asks (Init slots journal)) [] line.Normal made t (counts_of d)) (occupied_not (Init slots journal) s refl)
-              (task_whole s n (Init slots journal) (counts_of d0) (counts_of d) (passes.faults h.counts) (passes.stops h.counts) false none_early refl);
-          emits = m;
-          stands = record {
-            name = h.name;
-            blocks = h.blocks ∙ sym passes.size;
-            clock = h.clock;
-            unmade = refl;
-            place = record {
-              down = h.place.down;
-              reserved = h.place.reserved;
-              told = passes.told ∙ h.place.told;
-              disk = λ i left_there. let x = alike i left_there in (x.0 ∙ closed_fits image is_closed, inl (subst (λ y. IsLeftBy y made) (sym x.1) left));
-            };
-            calls = calls ∙ ap (noted (disk_call.Power d0.stops)) h.calls;
-            counts = passes.counted h.counts;
-          };
-        }
+-- None was, and it was refused, done or cut.
+pub init_at : (slots journal : ℕ) (k : Kept) (done : Formatted) (p : Place) → FormatsPlace k.name slots journal k.place done p → (s : SharedState) → s.in_use ≡ false → (a b : Shown) → Emits a (init_lines k.name done ++ init_answer done ∷ []) b
+    → TellsTask (Serves (Init slots journal)) true (is_ended done) k s a b (record k { unmade = unmade_then done k.unmade; place = p }) s × PerformsRequest (Init slots journal) k s a b (record k { unmade = unmade_then done k.unmade; place = p }) s
+init_at slots journal k done p h s unused a b m = go k.place p h
+  where
+    go : (x y : Place) → FormatsPlace k.name slots journal x done y → (let j : Kept = record { name = k.name; unmade = k.unmade; clock = k.clock; place = x } in let l : Kept = record { name = k.name; unmade = unmade_then done k.unmade; clock = k.clock; place = y } in
+        TellsTask (Serves (Init slots journal)) true (is_ended done) j s a b l s × PerformsRequest (Init slots journal) j s a b l s)
+    go (IsRunning r) y h = absurd h
+    go (IsDown has_parts d0) (IsRunning r) h = absurd h
+    go (IsDown has_parts d0) (IsDown has_then d) h =
+        let does = h.1 k.unmade k.clock s unused a b m in
+        subst (λ (x : Bool). TellsTask (Serves (Init slots journal)) true (is_ended done) (kept_so k.name k.unmade k.clock has_parts d0) s a b (kept_so k.name (unmade_then done k.unmade) k.clock x d) s
+        × PerformsRequest (Init slots journal) (kept_so k.name k.unmade k.clock has_parts d0) s a b (kept_so k.name (unmade_then done k.unmade) k.clock x d) s) (sym h.0)
+        (does.0, λ log n w stands share kept promised. (is_ended done, does.1 log n w stands share kept promised))

@@ -20,8 +20,9 @@ use Rattle.volume.specs.declared.catalog.Catalog.{Catalog}
 use Rattle.volume.specs.Catalogs.{IsSound, TellsCatalog, TellsOnly}
 use Rattle.volume.specs.Conditions.{IsFirstFinding, IsValid, SoundIsValid}
 use Rattle.volume.specs.State.{VolumeState, Holds}
-use Rattle.run_model.specs.World.{Node, Volume, Sound, Faulty, Unknown, fallen}
+use Rattle.run_model.specs.World.{Node, Volume, Sound, Faulty, Barred, Unknown, fallen}
 use Rattle.run_model.specs.Answers.{bootable}
+use Rattle.volume_model.specs.Bars.{first_bar}
 use Rattle.volume_model.specs.Volumes.{HasDisk, LeavesVolume}
 use Rattle.dtm_node.specs.Boots.{AllHave, HasContent, IsAwake, IsMounted, IsOpened, IsWide}
 use Rattle.dtm_node.proofs.DiskLemmas.{Content, ContentBy, alike_on, as_it_was, content_fallen, have_disk, idle_alike}
@@ -31,7 +32,7 @@ use Rattle.dtm_node.proofs.DiskLemmas.{Content, ContentBy, alike_on, as_it_was, 
 pub opened : (name : List ℕ) (d : DiskState) (s : StoreState) (n : Node) → d.pending ≡ [] → (s.fits ≡ true → IsIdle s) → s.current ≡ option_map content_of d.seen → IfSome d.seen (λ b. s.fits ≡ fitting b) → (s.fits ≡ false → s.disk ≡ d) → s.disk.size ≡ d.size →
     IsAwake name d n → IsOpened name s n
 opened name d s n settled idle current fits unfit size a = record {
-  booting = record { name_is = a.booting.name_is; blocks = a.booting.blocks ∙ sym size; under_way = a.booting.under_way };
+  booting = record { name_is = a.booting.name_is; blocks = a.booting.blocks ∙ sym size; under_way = a.booting.under_way; kept = a.booting.kept };
   content = content_of a.image;
   told = told;
   alike = go s.fits refl;
@@ -70,13 +71,17 @@ span_same block a b long f g start blocks wide_a wide_b =
 left_wide : (c : Content) (v : Catalog) (n : Node) → LeavesVolume c v n → IsWide v.ru
 left_wide c v n h = let order = h.journal.is.order in let low = h.journal.low in (omega (arith, order, low), omega (arith, low))
 
+-- what the volume of a node is, by what its disk has
+abbrev pub MountedBy : Node → Content → VolumeState → Volume → Type 0
+MountedBy n c v x = elim x [ Sound ↦ (IsWide v.catalog.ru → LeavesVolume c v.catalog n) | Faulty condition block ↦ ⊥ | Barred bar ↦ (IsWide v.catalog.ru → first_bar v.catalog ≡ Some bar) | Unknown ↦ ⊥ ]
+
 pub mounted : (name : List ℕ) (s : StoreState) (v : VolumeState) (n : Node) → v.store ≡ s → 4096 ≤ s.disk.size → IfSome s.current (λ c. length c + 518 ≡ s.disk.size) → IfSome s.current EachWhole → Holds v → IsSound name s.disk.size v.catalog → IfSome s.current (TellsOnly v.catalog) →
     IfSome s.current (IsValid name s.fits) → IsOpened name s n → IsMounted v n
 mounted name s v n store least whole each holds sound only valid o = record {
-  booting = record { name_is = o.booting.name_is ∙ sym sound.home.owner; blocks = o.booting.blocks ∙ sym (ap (λ (t : StoreState). t.disk.size) store); under_way = o.booting.under_way };
+  booting = record { name_is = o.booting.name_is ∙ sym sound.home.owner; blocks = o.booting.blocks ∙ sym (ap (λ (t : StoreState). t.disk.size) store); under_way = o.booting.under_way; kept = o.booting.kept };
   content = o.content;
   told = told;
-  leaves = λ wide. go wide n.durable.volume o.has;
+  has = go n.durable.volume o.has;
 }
   where
     told : v.store.current ≡ Some o.content
@@ -96,17 +101,22 @@ mounted name s v n store least whole each holds sound only valid o = record {
         let long : length o.content + 518 ≡ s.disk.size = subst (λ t. IfSome t (λ c. length c + 518 ≡ s.disk.size)) o.told whole in
         bytes 65 (omega (arith, long, least))
 
-    go : IsWide v.catalog.ru → (x : Volume) → ContentBy n s.fits o.content x → LeavesVolume o.content v.catalog n
-    go wide Sound h =
-        let leaves = h.1.leaves bytes in
-        let same = one h.1.catalog h.1.tells leaves.files.heads_long in
+    -- a catalog that the content tells is that of the volume
+    same_catalog : (k : Catalog) → TellsCatalog k o.content → length k.heads ≡ 64 → IsSound n.name n.blocks k → IsWide k.ru → IsWide v.catalog.ru → k ≡ v.catalog
+    same_catalog k k_tells long k_sound k_wide wide =
+        let same = one k k_tells long in
         let tells : TellsCatalog v.catalog o.content = subst (λ t. IfSome t (TellsCatalog v.catalog)) told holds in
-        let units : h.1.catalog.ru ≡ v.catalog.ru = span_same (block_at o.content 65) h.1.catalog.ru v.catalog.ru block h.1.tells.ru tells.ru
-        (h.1.sound.ru_start ∙ ap (λ (k : Home). 584 + k.slots) same.0 ∙ sym sound.ru_start) (h.1.sound.ru_blocks ∙ ap (λ (k : Home). k.ru_blocks) same.0 ∙ sym sound.ru_blocks) (left_wide o.content h.1.catalog n leaves) wide in
-        let all : h.1.catalog ≡ v.catalog = λ i. record { home = same.0 i; heads = same.1 i; ru = units i } in
-        subst (λ (k : Catalog). LeavesVolume o.content k n) all leaves
-    go wide (Faulty condition block) h = absurd (h.finding.fails (is_valid condition block h.finding.tested))
-    go wide Unknown h = absurd h
+        let units : k.ru ≡ v.catalog.ru = span_same (block_at o.content 65) k.ru v.catalog.ru block k_tells.ru tells.ru
+        (k_sound.ru_start ∙ ap (λ (h : Home). 584 + h.slots) same.0 ∙ sym sound.ru_start) (k_sound.ru_blocks ∙ ap (λ (h : Home). h.ru_blocks) same.0 ∙ sym sound.ru_blocks) k_wide wide in
+        λ i. record { home = same.0 i; heads = same.1 i; ru = units i }
+
+    go : (x : Volume) → ContentBy n s.fits o.content x → MountedBy n o.content v x
+    go Sound h = λ wide.
+        let leaves = h.1.leaves bytes in
+        subst (λ (k : Catalog). LeavesVolume o.content k n) (same_catalog h.1.catalog h.1.tells leaves.files.heads_long h.1.sound (left_wide o.content h.1.catalog n leaves) wide) leaves
+    go (Faulty condition block) h = h.finding.fails (is_valid condition block h.finding.tested)
+    go (Barred bar) h = λ wide. subst (λ (k : Catalog). first_bar k ≡ Some bar) (same_catalog h.1.catalog h.1.tells h.1.heads h.1.sound h.1.wide wide) h.1.bars
+    go Unknown h = h
 
 -- Two conditions that fail first are one.
 
@@ -150,15 +160,20 @@ condition_found name s n number block d law least whole each finds same o =
     bytes : EachWhole o.content
     bytes = subst (λ t. IfSome t EachWhole) o.told each
 
+    -- no condition of a sound volume fails
+    none_fails : s.fits ≡ true → (k : Catalog) → TellsCatalog k o.content → length k.heads ≡ 64 → IsSound n.name n.blocks k → ⊥
+    none_fails fits k tells heads k_sound =
+        let sound : IsSound n.name (length o.content + 518) k = subst (λ m. IsSound n.name m k) (o.booting.blocks ∙ sym long) k_sound in
+        let valid : IsValid n.name true o.content = law n.name o.content k tells sound heads (bytes 0 (sound_size o.content s.disk.size long least)) in
+        let fails : IsFirstFinding n.name true o.content number block = subst (λ f. IsFirstFinding n.name f o.content number block) fits found in
+        fails.finding.fails (valid number block fails.finding.tested)
+
     go : (x : Volume) → n.durable.volume ≡ x → ContentBy n s.fits o.content x → bootable n ≡ Some (line.NoVolume name number block)
-    go Sound e h =
-        let sound : IsSound n.name (length o.content + 518) h.1.catalog = subst (λ m. IsSound n.name m h.1.catalog) (o.booting.blocks ∙ sym long) h.1.sound in
-        let valid : IsValid n.name true o.content = law n.name o.content h.1.catalog h.1.tells sound (h.1.leaves bytes).files.heads_long (bytes 0 (sound_size o.content s.disk.size long least)) in
-        let fails : IsFirstFinding n.name true o.content number block = subst (λ f. IsFirstFinding n.name f o.content number block) h.0 found in
-        absurd (fails.finding.fails (valid number block fails.finding.tested))
+    go Sound e h = absurd (none_fails h.0 h.1.catalog h.1.tells (h.1.leaves bytes).files.heads_long h.1.sound)
     go (Faulty condition place) e h =
         let one = same_finding n.name s.fits o.content condition number place block h found in
         faulty_by n condition place e ∙ rw (o.booting.name_is, one.0, one.1) refl
+    go (Barred bar) e h = absurd (none_fails h.0 h.1.catalog h.1.tells h.1.heads h.1.sound)
     go Unknown e h = absurd h
 
 pub mount_fell : (name : List ℕ) (s : StoreState) (n : Node) (d : DiskState) → d.pending ≡ s.disk.pending → d.seen ≡ s.disk.seen → IsOpened name s n → HasDisk (fallen None n) d

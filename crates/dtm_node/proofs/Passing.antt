@@ -13,27 +13,37 @@ use Rattle.careful_write.specs.Steps.{CountsOnce}
 use Rattle.careful_write.specs.declared.down.Down.{Down}
 use Rattle.careful_write.specs.declared.down.Down.TheVariants as down
 use Rattle.transcript_model.specs.Outside.{Rose}
+use Rattle.transcript_model.proofs.OutsideLemmas.{rose_earlier}
 use Rattle.transcript_model.specs.Lines as line
 use Rattle.transcript_model.specs.Lines.{Cause, Failed, Stopped}
 use Rattle.transcript_model.specs.Emitting.{Shown, Emits}
 use Rattle.run_model.specs.Steps.{count_of}
-use Rattle.dtm_node.specs.Nodes.{Passes}
+use Rattle.recovery_units.specs.Uses.{Goes, IsCounted}
+use Rattle.dtm_node.specs.Causes.{cause_of}
 use Rattle.dtm_node.specs.Standing.{counts_of}
-use Rattle.recovery_units.specs.Uses.{Goes}
-use Rattle.dtm_node.specs.Uses.{cause_of}
+use Rattle.dtm_node.specs.Telling.{Passes}
 
 up : (b : Bool) (n : ℕ) → n < 2 ^ 64 → (n ≤ counted b n) × (counted b n < 2 ^ 64)
 up true n h = (omega arith, omega arith)
 up false n h = (omega arith, h)
 
-raised : (n : ℕ) → Rose n (counted true n)
-raised n = elim (nat_lt n 18446744073709551615) as (λ t. nat_lt n 18446744073709551615 ≡ t → Rose n (counted true n)) [
+risen : (n : ℕ) → Rose n (counted true n)
+risen n = elim (nat_lt n 18446744073709551615) as (λ t. nat_lt n 18446744073709551615 ≡ t → Rose n (counted true n)) [
   | true ↦ λ t. let lt : n < 18446744073709551615 = ltb-true n 18446744073709551615 t in inl (omega arith)
   | false ↦ λ t. let le : 18446744073709551615 ≤ n = ltb-false n 18446744073709551615 t in inr (omega arith)
 ] refl
 
-pub goes_passes : (a b : DiskState) → Goes a b → Passes a b
-goes_passes a b g = record { size = g.size; faults = g.faults; stops = g.stops; counted = g.counted; told = g.told }
+pub passes_same : (d : DiskState) → Passes d d
+passes_same d = record { size = refl; faults = λ h. omega arith; stops = λ h. omega arith; counted = λ h. h; told = refl }
+
+pub passes_goes : (a b c : DiskState) → Passes a b → Goes b c → Passes a c
+passes_goes a b c f g = record {
+  size = g.size ∙ f.size;
+  faults = λ h. omega (arith, f.faults h, g.faults (f.counted h));
+  stops = λ h. omega (arith, f.stops h, g.stops (f.counted h));
+  counted = λ h. g.counted (f.counted h);
+  told = g.told ∙ f.told;
+}
 
 pub passes_on : (a b c : DiskState) → Passes a b → Passes b c → Passes a c
 passes_on a b c f g = record {
@@ -71,19 +81,21 @@ passes_power old new p = record {
 pub power_calls : (old new later : DiskState) → IsPowered old new → later.calls ≡ new.calls → later.calls ≡ noted (disk_call.Power old.stops) old.calls
 power_calls old new later p e = e ∙ ap (λ (t : DiskState). t.calls) p.state
 
-pub power_pending : (old new : DiskState) → IsPowered old new → new.pending ≡ []
-power_pending old new p = ap (λ (t : DiskState). t.pending) p.state
-
-pub power_count : (cause : Cause) (old new : DiskState) → IsPowered old new → count_of cause (counts_of new) ≡ count_of cause (counts_of old)
+power_count : (cause : Cause) (old new : DiskState) → IsPowered old new → count_of cause (counts_of new) ≡ count_of cause (counts_of old)
 power_count Failed old new p = ap (λ (t : DiskState). t.faults) p.state
 power_count Stopped old new p = ap (λ (t : DiskState). t.stops) p.state
 
 pub rose_after : (cause : Cause) (old mid new : DiskState) → IsPowered old mid → Rose (count_of cause (counts_of mid)) (count_of cause (counts_of new)) → Rose (count_of cause (counts_of old)) (count_of cause (counts_of new))
 rose_after cause old mid new p r = subst (λ n. Rose n (count_of cause (counts_of new))) (power_count cause old mid p) r
 
+-- a failure that came behind calls that raised no count
+pub rose_behind : (cause : Cause) (a b d : DiskState) → IsCounted a → Passes a b → Rose (count_of cause (counts_of b)) (count_of cause (counts_of d)) → Rose (count_of cause (counts_of a)) (count_of cause (counts_of d))
+rose_behind Failed a b d h p r = rose_earlier _ _ _ (p.faults h) r
+rose_behind Stopped a b d h p r = rose_earlier _ _ _ (p.stops h) r
+
 pub rose_down : (d : Down) (old new : DiskState) → CountsDown d old new → Rose (count_of (cause_of d) (counts_of old)) (count_of (cause_of d) (counts_of new))
-rose_down down.Failed old new h = subst (λ n. Rose old.faults n) (sym h.faults) (raised old.faults)
-rose_down down.Stopped old new h = subst (λ n. Rose old.stops n) (sym h.stops) (raised old.stops)
+rose_down down.Failed old new h = subst (λ n. Rose old.faults n) (sym h.faults) (risen old.faults)
+rose_down down.Stopped old new h = subst (λ n. Rose old.stops n) (sym h.stops) (risen old.stops)
 
 -- it does not run again
 pub record Unpowers (e : DiskErr) (old new : DiskState) : Type 0 where
@@ -111,8 +123,5 @@ unpowers error.Failed old new is never = subst (λ d. Unpowers error.Failed old 
     counted = λ h. ((up true old.faults h.0).1, h.1);
     told = refl;
   };
-  rose = raised old.faults;
+  rose = risen old.faults;
 })
-
-pub fall_as : (name : List ℕ) (cause : Cause) (d e : Down) (a b : Shown) → d ≡ e → cause_of e ≡ cause → Emits a (line.Down name (cause_of d) ∷ line.Broken (cause_of d) ∷ []) b → Emits a (line.Down name cause ∷ line.Broken cause ∷ []) b
-fall_as name cause d e a b is so m = subst (λ q. Emits a (line.Down name q ∷ line.Broken q ∷ []) b) (ap cause_of is ∙ so) m

@@ -1,6 +1,8 @@
 -- A boot from the volume that is mounted to the one whose boot count is raised.
-use Rattle.std.proofs.Common.{◌≡◌, ⊎_elim, inl, inr, ℕ, zero, suc, ◌+◌, ◌<◌, ◌≤◌, ◌^◌, List, [], ◌∷◌, Option, Some, None, IfSome, length, take, replicate, slice_set, option_map, refl, sym, ap, subst, ◌∙◌, arith, nat_lt, max}
-use Rattle.std.specs.Prelude.{◌==◌}
+use Rattle.std.proofs.Common.{◌≡◌, ⊎_elim, inl, inr, ℕ, zero, suc, ◌+◌, ◌-◌, ◌<◌, ◌≤◌, ◌^◌, List, [], ◌∷◌, Bool, true, false, Option, Some, None, IfSome, if◌then◌else◌, length, take, replicate, slice_set, map, option_map, refl, sym, ap, subst, ◌∙◌, arith, nat_lt, max}
+use Rattle.std.specs.Prelude.{◌==◌, ◌&&◌, nat_le}
+use Rattle.std.proofs.lemmas.Bool.Decides.{nat_tests}
+use Rattle.journal_model.specs.Ring.{ring_size}
 use Rattle.std.proofs.Math.Seq.{take-length}
 use Rattle.block_disk.specs.Disk.{DiskState}
 use Rattle.careful_write.specs.State.{IsEither, IsIdle, Leaves, content}
@@ -16,18 +18,23 @@ use Rattle.std.proofs.lemmas.List.{length-replicate}
 use Rattle.volume.specs.declared.catalog.Catalog.{Catalog}
 use Rattle.volume.specs.Catalogs.{IsSound, TellsCatalog}
 use Rattle.volume.specs.State.{VolumeState, Holds}
-use Rattle.unit_laws.specs.Journal.{JournalEntry, serial_in}
-use Rattle.run_model.specs.World.{Node, File, Carried, Boots, IsReached, acted, fallen}
-use Rattle.run_model.specs.Answers.{bootable, boot_limit, images_end, last_position, moment_limit, position_limit}
+use Rattle.run_model.specs.World.{Node, File, Carried, Boots, Volume, Sound, Faulty, Barred, Unknown, Bar, NoRing, AllBoots, LateMoment, FarPosition, Shared, acted, booted, fallen, prepared_left}
+use Rattle.run_model.specs.Answers.{Row, bar_line, bootable, boot_limit, images_end, last_position, left_active, moment_limit, position_limit, table_rows, unit_key}
 use Rattle.run_model.specs.Operations.{first_of, refused_if}
-use Rattle.run_model.proofs.NotedLemmas.{all_more}
+use Rattle.commit_protocol.specs.World.{undo_all}
+use Rattle.unit_table.specs.Units.{OpenUnit}
 use Rattle.directory_model.specs.Files.{file_at, head_at}
 use Rattle.directory_model.specs.Restoring.{IsPlaceLeft}
-use Rattle.volume_model.specs.Volumes.{HasDisk, IsEitherOf, IsLeftBy, LeavesVolume}
+use Rattle.volume_model.specs.Bars.{ends_in, first_bar, is_in_ring}
+use Rattle.volume_model.specs.Volumes.{HasBarred, HasDisk, IsEitherOf, IsLeftBy, LeavesVolume}
+use Rattle.world_laws.specs.Nodes.{AreKept, BootsKeepUp, IsKeptDisk}
+use Rattle.world_laws.proofs.UndoLemmas.{relocked_booted}
 use Rattle.recovery_units.specs.Calls.{IsRestarting}
 use Rattle.recovery_units.specs.Laws.{KeepsNodes}
-use Rattle.dtm_node.specs.Boots.{IsInRing, IsMounted, IsRaised, IsWide, ends_in}
-use Rattle.dtm_node.proofs.DiskLemmas.{Content, disk_sound, idle_leaves, same_some}
+use Rattle.recovery_units.specs.State.{IsInOrder}
+use Rattle.dtm_node.specs.Boots.{IsMounted, IsWide}
+use Rattle.dtm_node.proofs.DiskLemmas.{Content, DiskBy, disk_sound, idle_leaves, same_some}
+use Rattle.dtm_node.proofs.Mounting.{MountedBy}
 use Rattle.dtm_node.proofs.SameNodes.{SameDisk, same_fallen, same_left}
 
 -- The greatest position of a journal.
@@ -77,37 +84,101 @@ position_is c v n h =
     λ i. max (sym h.journal.end i) (ends_same c v.heads n.durable.directory (h.files.heads_long ∙ sym h.files.directory_long) h.files.each i)
 
 -- the journal of a volume that a node left lies in its ring
-pub left_in_ring : (c : Content) (v : Catalog) (n : Node) → LeavesVolume c v n → IsInRing v.ru
-left_in_ring c v n h = record { order = h.journal.is.order; room = h.journal.is.room; low = h.journal.low }
+both_true : (a b c : Bool) → a ≡ true → b ≡ true → c ≡ true → (a && (b && c)) ≡ true
+both_true true true true p q r = refl
+both_true true true false p q r = r
+both_true true false c p q r = let none : ⊥ = cc in absurd none
+both_true false b c p q r = let none : ⊥ = cc in absurd none
 
--- What refuses the boot.
+le_true : (m n : ℕ) → m ≤ n → nat_le m n ≡ true
+le_true m n le = grind (arith, nat_tests)
+
+left_in_ring : (c : Content) (v : Catalog) (n : Node) → LeavesVolume c v n → is_in_ring v.ru ≡ true
+left_in_ring c v n h =
+    both_true (nat_le v.ru.first v.ru.end) (nat_le (v.ru.end - v.ru.first) (ring_size v.ru)) (nat_le v.ru.end (2 ^ 62)) (le_true v.ru.first v.ru.end h.journal.is.order)
+    (le_true (v.ru.end - v.ru.first) (ring_size v.ru) h.journal.is.room) (le_true v.ru.end (2 ^ 62) h.journal.low)
+
+-- What refuses the boot: the first of the bars.
 
 abbrev refused_by : (boot greatest last : ℕ) → Option Line
 refused_by boot greatest last = first_of (refused_if (boot == boot_limit) (line.QuotaExceeded line.Boots boot_limit))
     (first_of (refused_if (nat_lt moment_limit greatest) (line.QuotaExceeded line.Moments moment_limit)) (refused_if (nat_lt position_limit last) (line.QuotaExceeded line.Positions position_limit)))
 
-bootable_sound : (c : Content) (v : Catalog) (n : Node) → LeavesVolume c v n → bootable n ≡ refused_by n.durable.boot n.durable.greatest (last_position n)
-bootable_sound c v n h = rw h.home.volume refl
+abbrev bar_among : (ring boots late far : Bool) → Option Bar
+bar_among ring boots late far = if ring then (if boots then Some AllBoots else (if late then Some LateMoment else (if far then Some FarPosition else None))) else Some NoRing
 
-pub bootable_is : (v : VolumeState) (n : Node) (o : Option Line) → IsWide v.catalog.ru → IsMounted v n → (IsInRing v.catalog.ru → o ≡ refused_by v.catalog.home.boot v.catalog.home.greatest_moment.0 (max v.catalog.ru.end (ends_in v.catalog.heads))) → bootable n ≡ o
-bootable_is v n o wide m says =
-    bootable_sound m.content v.catalog n (m.leaves wide)
-    ∙ (λ i. refused_by ((m.leaves wide).home.boot i) ((m.leaves wide).home.greatest i) (position_is m.content v.catalog n (m.leaves wide) i))
-    ∙ sym (says (left_in_ring m.content v.catalog n (m.leaves wide)))
+bars_refuse : (name : List ℕ) (ring boots late far : Bool) → ring ≡ true → option_map (bar_line name) (bar_among ring boots late far)
+    ≡ first_of (refused_if boots (line.QuotaExceeded line.Boots boot_limit)) (first_of (refused_if late (line.QuotaExceeded line.Moments moment_limit)) (refused_if far (line.QuotaExceeded line.Positions position_limit)))
+bars_refuse name true true late far e = refl
+bars_refuse name true false true far e = refl
+bars_refuse name true false false true e = refl
+bars_refuse name true false false false e = refl
+bars_refuse name false boots late far e = let none : ⊥ = cc in absurd none
+
+-- which of them is so
+pub bar_of : (v : Catalog) (ring boots late far : Bool) → is_in_ring v.ru ≡ ring → (v.home.boot == boot_limit) ≡ boots → nat_lt moment_limit v.home.greatest_moment.0 ≡ late → nat_lt position_limit (max v.ru.end (ends_in v.heads)) ≡ far → bar_among ring boots late far ≡ first_bar v
+bar_of v ring boots late far r b l f = λ i. bar_among (sym r i) (sym b i) (sym l i) (sym f i)
+
+pub bar_without_ring : (v : Catalog) → is_in_ring v.ru ≡ false → Some NoRing ≡ first_bar v
+bar_without_ring v r = bar_of v false (v.home.boot == boot_limit) (nat_lt moment_limit v.home.greatest_moment.0) (nat_lt position_limit (max v.ru.end (ends_in v.heads))) r refl refl refl
+
+bootable_sound : (n : Node) → n.durable.volume ≡ Sound → bootable n ≡ refused_by n.durable.boot n.durable.greatest (last_position n)
+bootable_sound n e = rw e refl
+
+bootable_barred : (n : Node) (bar : Bar) → n.durable.volume ≡ Barred bar → bootable n ≡ Some (bar_line n.name bar)
+bootable_barred n bar e = rw e refl
+
+module _ (v : VolumeState) (n : Node) (wide : IsWide v.catalog.ru) (m : IsMounted v n) where
+  pub bootable_is : (o : Option Line) → o ≡ option_map (bar_line v.catalog.home.node) (first_bar v.catalog) → bootable n ≡ o
+  bootable_is o says = go n.durable.volume refl m.has ∙ sym says
+    where
+      go : (x : Volume) → n.durable.volume ≡ x → MountedBy n m.content v x → bootable n ≡ option_map (bar_line v.catalog.home.node) (first_bar v.catalog)
+      go Sound e h =
+          let l = h wide in
+          bootable_sound n e
+          ∙ (λ i. refused_by (l.home.boot i) (l.home.greatest i) (position_is m.content v.catalog n l i))
+          ∙ sym (bars_refuse v.catalog.home.node (is_in_ring v.catalog.ru) (v.catalog.home.boot == boot_limit) (nat_lt moment_limit v.catalog.home.greatest_moment.0) (nat_lt position_limit (max v.catalog.ru.end (ends_in v.catalog.heads))) (left_in_ring m.content v.catalog n l))
+      go (Faulty condition block) e h = absurd h
+      go (Barred bar) e h = bootable_barred n bar e ∙ (λ i. Some (bar_line (m.booting.name_is i) bar)) ∙ sym (ap (option_map (bar_line v.catalog.home.node)) (h wide))
+      go Unknown e h = absurd h
+
+  -- where nothing bars it, the volume is what the node left
+  pub mounted_left : None ≡ option_map (bar_line v.catalog.home.node) (first_bar v.catalog) → LeavesVolume m.content v.catalog n
+  mounted_left none = go n.durable.volume m.has
+    where
+      go : (x : Volume) → MountedBy n m.content v x → LeavesVolume m.content v.catalog n
+      go Sound h = h wide
+      go (Faulty condition block) h = absurd h
+      go (Barred bar) h = absurd (let e : None ≡ Some (bar_line v.catalog.home.node bar) = none ∙ ap (option_map (bar_line v.catalog.home.node)) (h wide) in (let f : ⊥ = cc in f))
+      go Unknown h = absurd h
 
 -- the volume of the node as it was mounted
-pub left_mounted : (v : VolumeState) (n m : Node) → IsWide v.catalog.ru → (h : IsMounted v n) → Holds v → IsSound v.catalog.home.node v.store.disk.size v.catalog → SameDisk m n → IsLeftBy h.content m
-left_mounted v n m wide h holds sound same = same_left m n h.content same (record {
+pub left_mounted : (v : VolumeState) (n m : Node) → (h : IsMounted v n) → LeavesVolume h.content v.catalog n → Holds v → IsSound v.catalog.home.node v.store.disk.size v.catalog → SameDisk m n → IsLeftBy h.content m
+left_mounted v n m h leaves holds sound same = same_left m n same h.content (record {
   catalog = v.catalog;
   tells = subst (λ o. IfSome o (TellsCatalog v.catalog)) h.told holds;
   sound = rw (h.booting.name_is, h.booting.blocks) sound;
-  leaves = λ whole. h.leaves wide;
+  leaves = λ whole. leaves;
 })
 
-pub raise_refused : (v : VolumeState) (n : Node) (d : DiskState) → IsWide v.catalog.ru → IsIdle v.store → Holds v → IsSound v.catalog.home.node v.store.disk.size v.catalog → d ≡ v.store.disk → IsMounted v n → HasDisk n d
-raise_refused v n d wide idle holds sound same m =
-    subst (HasDisk n) (sym same) (disk_sound n v.store.disk (m.leaves wide).home.volume (idle_leaves v.store m.content (IsEitherOf n) idle m.told
-    (inl (left_mounted v n n wide m holds sound (record { name = refl; blocks = refl; durable = refl; up = λ e. e })))))
+pub raise_refused : (v : VolumeState) (n : Node) (d : DiskState) → IsWide v.catalog.ru → IsIdle v.store → Holds v → IsSound v.catalog.home.node v.store.disk.size v.catalog → length v.catalog.heads ≡ 64 → d ≡ v.store.disk → IsMounted v n → HasDisk n d
+raise_refused v n d wide idle holds sound heads same m = subst (HasDisk n) (sym same) (go n.durable.volume m.has)
+  where
+    go : (x : Volume) → MountedBy n m.content v x → DiskBy n v.store.disk x
+    go Sound h = idle_leaves v.store m.content (IsEitherOf n) idle m.told (inl (left_mounted v n n m (h wide) holds sound (record { name = refl; blocks = refl; durable = refl; up = λ e. e })))
+    go (Faulty condition block) h = absurd h
+    go (Barred bar) h = (
+      idle_leaves v.store m.content (HasBarred n.name n.blocks bar) idle m.told (record {
+        catalog = v.catalog;
+        tells = subst (λ o. IfSome o (TellsCatalog v.catalog)) m.told holds;
+        heads = heads;
+        sound = rw (m.booting.name_is, m.booting.blocks) sound;
+        wide = wide;
+        bars = h wide;
+      }),
+      m.booting.under_way,
+    )
+    go Unknown h = absurd h
 
 -- Raising the boot count.
 
@@ -131,9 +202,20 @@ home_long : (h : Home) → IsHome h → length (home_block_of h) ≡ 512
 unfolding home_rows
 home_long h is = length-laid 0 (home_rows h) (replicate {A = ℕ} 512 0) refl (home_wide h is) (length-replicate {A = ℕ} 512 0)
 
+-- rows keep a disk that is kept before them
+kept_first : (rs : List Row) (n : Node) → AreKept rs n → IsKeptDisk n
+kept_first [] n h = h
+kept_first (r ∷ rs) n h = h.0
+
+nothing_shared : Shared
+nothing_shared = record { labels = []; in_use = false; wire = []; accepted = []; read_only = [] }
+
+boots_kept : BootsKeepUp → (n : Node) → IsKeptDisk n → IsKeptDisk (acted Boots n)
+boots_kept boots n h = kept_first (table_rows (undo_all (map unit_key (left_active n))) nothing_shared (acted Boots n)) (acted Boots n) (boots nothing_shared n h).rows.1
+
 -- The home block is written, which tells this catalog then.
-module _ (v : VolumeState) (n : Node) (k : Catalog) (wide : IsWide v.catalog.ru) (law : KeepsNodes) (sound : IsSound v.catalog.home.node v.store.disk.size v.catalog) (is : k ≡ record v.catalog { home = raised v.catalog.home })
-    (tells : IfSome (option_map (λ b. slice_set b 0 (home_block_of k.home)) v.store.current) (TellsCatalog k)) (m : IsMounted v n) where
+module _ (v : VolumeState) (n : Node) (k : Catalog) (law : KeepsNodes) (boots : BootsKeepUp) (sound : IsSound v.catalog.home.node v.store.disk.size v.catalog) (is : k ≡ record v.catalog { home = raised v.catalog.home })
+    (tells : IfSome (option_map (λ b. slice_set b 0 (home_block_of k.home)) v.store.current) (TellsCatalog k)) (m : IsMounted v n) (left : LeavesVolume m.content v.catalog n) where
   abbrev written : Content
   written = slice_set m.content 0 (home_block_of k.home)
 
@@ -145,7 +227,7 @@ module _ (v : VolumeState) (n : Node) (k : Catalog) (wide : IsWide v.catalog.ru)
 
   raised_leaves : LeavesVolume written k (acted Boots n)
   raised_leaves = subst (λ (x : Catalog). LeavesVolume written x (acted Boots n)) (sym is)
-      (law.boots m.content (home_block_of k.home) v.catalog n (m.leaves wide) (rw (m.booting.name_is, m.booting.blocks) sound) (home_long k.home told.ranges))
+      (law.boots m.content (home_block_of k.home) v.catalog n left (rw (m.booting.name_is, m.booting.blocks) sound) (home_long k.home told.ranges))
 
   pub raise_up : (new : VolumeState) → new.store.current ≡ option_map (λ b. slice_set b 0 (home_block_of k.home)) v.store.current → new.catalog ≡ k → new.store.disk.size ≡ v.store.disk.size → IsRestarting new (acted Boots n)
   raise_up new current catalog size = record {
@@ -154,46 +236,21 @@ module _ (v : VolumeState) (n : Node) (k : Catalog) (wide : IsWide v.catalog.ru)
     name = m.booting.name_is ∙ sym (ap (λ (x : Catalog). x.home.node) (catalog ∙ is));
     blocks = m.booting.blocks ∙ sym size;
     leaves = subst (λ x. LeavesVolume written x (acted Boots n)) (sym catalog) raised_leaves;
-    branches = refl;
-    locks = refl;
-    earlier = all_more (λ (e : JournalEntry). IsReached n (serial_in e)) (λ (e : JournalEntry). (serial_in e).boot < n.durable.boot + 1) n.durable.units.entries (λ e is. let most = is.1 in omega (arith, most)) (m.leaves wide).units.reached;
+    disk = boots_kept boots n m.booting.kept;
+    booted = λ i. record (booted n.durable) { locks = sym (relocked_booted n.durable (n.durable.boot + 1) (prepared_left n.durable) []) i };
   }
 
   pub raise_fell : (d : DiskState) → IsIdle v.store → Holds v → Leaves (IsEither (content v.store) (option_map (λ b. slice_set b 0 (home_block_of k.home)) v.store.current)) d → HasDisk (fallen (Some Boots) n) d
   raise_fell d idle holds leaves =
-      disk_sound (fallen (Some Boots) n) d (m.leaves wide).home.volume (λ image left.
-      let l = leaves image left in (
+      disk_sound (fallen (Some Boots) n) d left.home.volume (λ image there.
+      let l = leaves image there in (
         l.0,
         ⊎_elim
-            (λ was. inl (subst (λ x. IsLeftBy x (fallen (Some Boots) n)) (sym (same_some _ _ (was ∙ sym idle.current ∙ m.told))) (left_mounted v n (fallen (Some Boots) n) wide m holds sound (same_fallen (Some Boots) n))))
-            (λ now. inr (Boots, refl, subst (λ x. IsLeftBy x (acted Boots (fallen (Some Boots) n))) (sym (same_some _ _ (now ∙ is_written))) taken))
+            (λ was. inl (subst (λ x. IsLeftBy x (fallen (Some Boots) n)) (sym (same_some _ _ (was ∙ sym idle.current ∙ m.told))) (left_mounted v n (fallen (Some Boots) n) m left holds sound (same_fallen (Some Boots) n))))
+            (λ now. inr (inl (Boots, refl, subst (λ x. IsLeftBy x (acted Boots (fallen (Some Boots) n))) (sym (same_some _ _ (now ∙ is_written))) taken)))
             l.1,
       ))
     where
       taken : IsLeftBy written (acted Boots (fallen (Some Boots) n))
-      taken = same_left (acted Boots (fallen (Some Boots) n)) (acted Boots n) written (record { name = refl; blocks = refl; durable = refl; up = λ e. let none : ⊥ = cc in absurd none })
+      taken = same_left (acted Boots (fallen (Some Boots) n)) (acted Boots n) (record { name = refl; blocks = refl; durable = refl; up = λ e. let none : ⊥ = cc in absurd none }) written
           (record { catalog = k; tells = told; sound = rw (is, m.booting.name_is, m.booting.blocks) (raised_sound _ _ v.catalog sound); leaves = λ whole. raised_leaves })
-
--- what is kept of the volume is in order
-pub raised_order : (v new : VolumeState) (k : Catalog) → IsIdle new.store → new.store.pool ≡ v.store.pool → new.store.disk.size ≡ v.store.disk.size → 32 ≤ free_frames v.store.pool → length v.catalog.heads ≡ 64 → 4096 ≤ v.store.disk.size → v.store.disk.size ≤ 65536 → IsSound v.catalog.home.node v.store.disk.size v.catalog →
-    Holds new → IsInRing v.catalog.ru → v.catalog.home.greatest_moment.0 ≤ 24000000000000 → v.catalog.ru.end ≤ 2 ^ 61 → k ≡ record v.catalog { home = raised v.catalog.home } → new.catalog ≡ k → IsRaised v.catalog.home.node new
-raised_order v new k idle pool size frames long least most sound holds ring moment end is catalog =
-    let at : new.catalog ≡ record v.catalog { home = raised v.catalog.home } = catalog ∙ is in
-    record {
-      named = ap (λ (x : Catalog). x.home.node) at;
-      order = record {
-        idle = idle;
-        frames = rw pool frames;
-        heads = ap (λ (x : Catalog). length x.heads) at ∙ long;
-        sound = rw (at, size) (raised_sound _ _ v.catalog sound);
-        holds = holds;
-        least = rw size least;
-        most = rw size most;
-        ascends = rw at ring.order;
-        room = rw at (let r = ring.room in omega (arith, r));
-        within = tt;
-        few = omega arith;
-      };
-      greatest = rw at moment;
-      end = rw at end;
-    }

@@ -1,22 +1,27 @@
 -- A restart undoes units, row after row, as calls on units tell it.
-use Rattle.std.proofs.Common.{◌≡◌, ℕ, zero, suc, ◌≤◌, List, [], ◌∷◌, true, length, map, take, drop, refl, sym, ap, ◌∙◌, arith}
+use Rattle.std.proofs.Common.{◌≡◌, ℕ, zero, suc, ◌≤◌, List, [], ◌∷◌, ◌++◌, Bool, true, false, Option, Some, None, if◌then◌else◌, length, map, take, drop, refl, sym, ap, subst, ◌∙◌, arith}
 use Rattle.std.specs.List.{AllByRecursion}
 use Rattle.std.proofs.Math.Seq.{take-length}
 use Rattle.std.proofs.lemmas.List.{length-map}
+use Rattle.commit_protocol.specs.Messages.{Message}
+use Rattle.commit_protocol.specs.Table.{Branch, Key, cut, same_key}
+use Rattle.commit_protocol.specs.World.{undo_all}
 use Rattle.transcript_model.specs.Lines as line
 use Rattle.transcript_model.specs.Lines.{Line}
-use Rattle.vms_model.specs.Transactions.{SegFail}
+use Rattle.vms_model.specs.Transactions.{Abort, SegFail}
 use Rattle.unit_laws.specs.Journal.{RecoveryUnit}
-use Rattle.run_model.specs.World.{Node, Settlement, Shared, acted}
-use Rattle.run_model.specs.Answers.{abort_settlement, undoes}
+use Rattle.run_model.specs.World.{Act, Node, Settlement, Shared, acted, next_moment, settlement}
+use Rattle.run_model.specs.Answers.{Row, table_rows, unit_key}
 use Rattle.run_model.specs.Steps.{act_begun, lines_of_rows, node_after_rows, shared_after_rows}
 use Rattle.recovery_units.specs.Calls.{after_undone, settlements_of, told_in, told_settlement, undone_act, undone_next}
 use Rattle.recovery_units.specs.declared.settled.SettledUnit.{SettledUnit}
-use Rattle.dtm_node.specs.Listing.{undone_line}
-use Rattle.dtm_node.specs.Plain.{IsFine}
-use Rattle.dtm_node.proofs.UpLemmas.{SameUp, work_same}
+use Rattle.node_table.specs.Telling.{IsOfWork, wire_after}
+use Rattle.dtm_node.specs.Nodes.{undone_line}
+use Rattle.dtm_node.proofs.Performing.{Same, same_itself, same_on}
 
--- The rows of a restart.
+-- the rows of a restart
+abbrev pub undone_rows : Shared → Node → List RecoveryUnit → List Row
+undone_rows s n us = table_rows (undo_all (map unit_key us)) s n
 
 abbrev line_in : Settlement → Line
 line_in s = line.Aborted s.tid s.serial SegFail s.moment
@@ -26,34 +31,34 @@ none_told [] e = refl
 none_told (t ∷ ts) e = let none : ⊥ = cc in absurd none
 
 -- they show what is told
-pub undone_shown : (k : ℕ) (n : Node) (us : List RecoveryUnit) (told : List SettledUnit) → told_in told ≡ settlements_of k n us → lines_of_rows (take k (undoes n us)) ≡ map undone_line told
-undone_shown zero n us told e = none_told told e
-undone_shown (suc k) n [] told e = none_told told e
-undone_shown (suc k) n (u ∷ us) [] e = let none : ⊥ = cc in absurd none
-undone_shown (suc k) n (u ∷ us) (t ∷ ts) e =
-    let first : told_settlement t ≡ abort_settlement SegFail n u.tid u.serial = cc in
+pub undone_shown : (k : ℕ) (s : Shared) (n : Node) (us : List RecoveryUnit) (told : List SettledUnit) → told_in told ≡ settlements_of k n us → lines_of_rows (take k (undone_rows s n us)) ≡ map undone_line told
+undone_shown zero s n us told e = none_told told e
+undone_shown (suc k) s n [] told e = none_told told e
+undone_shown (suc k) s n (u ∷ us) [] e = let none : ⊥ = cc in absurd none
+undone_shown (suc k) s n (u ∷ us) (t ∷ ts) e =
+    let first : told_settlement Abort SegFail t ≡ settlement (unit_key u) Abort SegFail (next_moment n) = cc in
     let rest : told_in ts ≡ settlements_of k (acted (undone_act n u) n) us = cc in
-    λ i. line_in (sym first i) ∷ undone_shown k (acted (undone_act n u) n) us ts rest i
+    λ i. line_in (sym first i) ∷ undone_shown k s (acted (undone_act n u) n) us ts rest i
 
-pub undone_nodes : (k : ℕ) (n : Node) (us : List RecoveryUnit) → node_after_rows (take k (undoes n us)) n ≡ after_undone k n us
-undone_nodes zero n us = refl
-undone_nodes (suc k) n [] = refl
-undone_nodes (suc k) n (u ∷ us) = undone_nodes k (acted (undone_act n u) n) us
+pub undone_nodes : (k : ℕ) (s : Shared) (n : Node) (us : List RecoveryUnit) → node_after_rows (take k (undone_rows s n us)) n ≡ after_undone k n us
+undone_nodes zero s n us = refl
+undone_nodes (suc k) s n [] = refl
+undone_nodes (suc k) s n (u ∷ us) = undone_nodes k s (acted (undone_act n u) n) us
 
-pub undone_begun : (k : ℕ) (n : Node) (us : List RecoveryUnit) → act_begun true (drop k (undoes n us)) ≡ undone_next k n us
-undone_begun zero n [] = refl
-undone_begun zero n (u ∷ us) = refl
-undone_begun (suc k) n [] = refl
-undone_begun (suc k) n (u ∷ us) = undone_begun k (acted (undone_act n u) n) us
+pub undone_begun : (k : ℕ) (s : Shared) (n : Node) (us : List RecoveryUnit) → act_begun true (drop k (undone_rows s n us)) ≡ undone_next k n us
+undone_begun zero s n [] = refl
+undone_begun zero s n (u ∷ us) = refl
+undone_begun (suc k) s n [] = refl
+undone_begun (suc k) s n (u ∷ us) = undone_begun k s (acted (undone_act n u) n) us
 
-pub undone_shared : (k : ℕ) (n : Node) (us : List RecoveryUnit) (s : Shared) → shared_after_rows (take k (undoes n us)) s ≡ s
-undone_shared zero n us s = refl
-undone_shared (suc k) n [] s = refl
-undone_shared (suc k) n (u ∷ us) s = undone_shared k (acted (undone_act n u) n) us s
+pub undone_shared : (k : ℕ) (s : Shared) (n : Node) (us : List RecoveryUnit) → shared_after_rows (take k (undone_rows s n us)) s ≡ s
+undone_shared zero s n us = refl
+undone_shared (suc k) s n [] = refl
+undone_shared (suc k) s n (u ∷ us) = undone_shared k s (acted (undone_act n u) n) us
 
-pub undone_count : (n : Node) (us : List RecoveryUnit) → length (undoes n us) ≡ length us
-undone_count n [] = refl
-undone_count n (u ∷ us) = ap suc (undone_count (acted (undone_act n u) n) us)
+pub undone_count : (s : Shared) (n : Node) (us : List RecoveryUnit) → length (undone_rows s n us) ≡ length us
+undone_count s n [] = refl
+undone_count s n (u ∷ us) = ap suc (undone_count s (acted (undone_act n u) n) us)
 
 settled_few : (k : ℕ) (n : Node) (us : List RecoveryUnit) → length (settlements_of k n us) ≤ length us
 settled_few zero n us = omega arith
@@ -64,37 +69,76 @@ settled_few (suc k) n (u ∷ us) = let few = settled_few k (acted (undone_act n 
 pub told_few : (k : ℕ) (n : Node) (us : List RecoveryUnit) (told : List SettledUnit) → told_in told ≡ settlements_of k n us → length told ≤ length us
 told_few k n us told e =
     let few = settled_few k n us in
-    let same = sym (length-map told told_settlement) ∙ ap length e in
+    let same = sym (length-map told (told_settlement Abort SegFail)) ∙ ap length e in
     omega (arith, few, same)
 
-pub all_rows : (n : Node) (us : List RecoveryUnit) → take (length us) (undoes n us) ≡ undoes n us
-all_rows n us = ap (λ k. take k (undoes n us)) (sym (undone_count n us)) ∙ take-length (undoes n us)
+pub all_rows : (s : Shared) (n : Node) (us : List RecoveryUnit) → take (length us) (undone_rows s n us) ≡ undone_rows s n us
+all_rows s n us = ap (λ k. take k (undone_rows s n us)) (sym (undone_count s n us)) ∙ take-length (undone_rows s n us)
 
 -- What they leave of a node.
 
-same_on : (a b c : Node) → SameUp a b → SameUp b c → SameUp a c
-same_on a b c f g = record {
-  name = f.name ∙ g.name;
-  blocks = f.blocks ∙ g.blocks;
-  clock = f.clock ∙ g.clock;
-  calls = f.calls ∙ g.calls;
-  unmade = f.unmade ∙ g.unmade;
-  up = f.up ∙ g.up;
-  was_up = f.was_up ∙ g.was_up;
-  under_way = f.under_way ∙ g.under_way;
-}
+pub record StaysSo (m n : Node) : Type 0 where
+  pub same : Same m n
+  pub up : m.up ≡ n.up
+  pub was_up : m.was_up ≡ n.was_up
+  pub under_way : m.under_way ≡ n.under_way
+  pub drawn : m.volatile.drawn ≡ n.volatile.drawn
+  pub records : m.volatile.records ≡ n.volatile.records
+  pub preparation : m.volatile.preparation ≡ n.volatile.preparation
+  pub log : m.durable.log ≡ n.durable.log
+  pub boot : m.durable.boot ≡ n.durable.boot
 
-pub undone_same : (k : ℕ) (n : Node) (us : List RecoveryUnit) → SameUp (after_undone k n us) n
-undone_same zero n us = record { name = refl; blocks = refl; clock = refl; calls = refl; unmade = refl; up = refl; was_up = refl; under_way = refl }
-undone_same (suc k) n [] = record { name = refl; blocks = refl; clock = refl; calls = refl; unmade = refl; up = refl; was_up = refl; under_way = refl }
-undone_same (suc k) n (u ∷ us) = same_on (after_undone k (acted (undone_act n u) n) us) (acted (undone_act n u) n) n (undone_same k (acted (undone_act n u) n) us) (work_same (undone_act n u) n refl)
+stays_itself : (n : Node) → StaysSo n n
+stays_itself n = record { same = same_itself n; up = refl; was_up = refl; under_way = refl; drawn = refl; records = refl; preparation = refl; log = refl; boot = refl }
 
-pub undone_drawn : (k : ℕ) (n : Node) (us : List RecoveryUnit) → (after_undone k n us).volatile.drawn ≡ n.volatile.drawn
-undone_drawn zero n us = refl
-undone_drawn (suc k) n [] = refl
-undone_drawn (suc k) n (u ∷ us) = undone_drawn k (acted (undone_act n u) n) us
+pub undone_same : (k : ℕ) (n : Node) (us : List RecoveryUnit) → StaysSo (after_undone k n us) n
+undone_same zero n us = stays_itself n
+undone_same (suc k) n [] = stays_itself n
+undone_same (suc k) n (u ∷ us) =
+    let r = undone_same k (acted (undone_act n u) n) us in
+    record {
+      same = same_on (after_undone k (acted (undone_act n u) n) us) (acted (undone_act n u) n) n r.same (record { name = refl; blocks = refl; clock = refl; unmade = refl; calls = refl });
+      up = r.up;
+      was_up = r.was_up;
+      under_way = r.under_way;
+      drawn = r.drawn;
+      records = r.records;
+      preparation = r.preparation;
+      log = r.log;
+      boot = r.boot;
+    }
 
--- What a restart shows tells of no failure.
-pub undone_fine : (told : List SettledUnit) → AllByRecursion IsFine (map undone_line told)
-undone_fine [] = tt
-undone_fine (t ∷ ts) = (refl, undone_fine ts)
+-- No branch of the table goes with them, where as many are left.
+
+cut_few : (k : Key) (bs : List Branch) → length (cut k bs) ≤ length bs
+cut_few k [] = omega arith
+cut_few k (b ∷ bs) = go (same_key b.key k) (cut_few k bs)
+  where
+    go : (t : Bool) → length (cut k bs) ≤ length bs → length (let xs : List Branch = if t then cut k bs else b ∷ cut k bs in xs) ≤ suc (length bs)
+    go true few = omega (arith, few)
+    go false few = omega (arith, few)
+
+cut_none : (k : Key) (bs : List Branch) → length bs ≤ length (cut k bs) → cut k bs ≡ bs
+cut_none k [] few = refl
+cut_none k (b ∷ bs) few = go (same_key b.key k) few (cut_none k bs)
+  where
+    go : (t : Bool) → suc (length bs) ≤ length (let xs : List Branch = if t then cut k bs else b ∷ cut k bs in xs) → (length bs ≤ length (cut k bs) → cut k bs ≡ bs) → (let xs : List Branch = if t then cut k bs else b ∷ cut k bs in xs) ≡ b ∷ bs
+    go true h rest = let less = cut_few k bs in absurd (omega (arith, h, less))
+    go false h rest = ap (λ (xs : List Branch). b ∷ xs) (rest (omega (arith, h)))
+
+pub undone_branches : (k : ℕ) (n : Node) (us : List RecoveryUnit) → length n.volatile.branches ≤ length (after_undone k n us).volatile.branches → (after_undone k n us).volatile.branches ≡ n.volatile.branches
+undone_branches zero n us few = refl
+undone_branches (suc k) n [] few = refl
+undone_branches (suc k) n (u ∷ us) few =
+    let less = cut_few (unit_key u) n.volatile.branches in
+    let rest = undone_branches k (acted (undone_act n u) n) us (omega (arith, less, few)) in
+    rest ∙ cut_none (unit_key u) n.volatile.branches (subst (λ (xs : List Branch). length n.volatile.branches ≤ length xs) rest few)
+
+pub undone_unsent : (told : List SettledUnit) (wire : List Message) → wire_after (map undone_line told) wire ≡ wire
+undone_unsent [] wire = refl
+undone_unsent (t ∷ ts) wire = undone_unsent ts wire
+
+-- What a restart shows is the node's work.
+pub undone_work : (told : List SettledUnit) → AllByRecursion IsOfWork (map undone_line told)
+undone_work [] = tt
+undone_work (t ∷ ts) = (refl, undone_work ts)

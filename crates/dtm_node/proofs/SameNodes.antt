@@ -1,14 +1,16 @@
 -- Nodes that differ in nothing that their disks have.
-use Rattle.std.proofs.Common.{◌≡◌, ℕ, ◌≤◌, List, [], Bool, true, false, Option, Some, None, refl, sym, ap, subst, ◌∙◌, slice_index_or}
-use Rattle.std.specs.List.{AllByRecursion}
+use Rattle.std.proofs.Common.{◌≡◌, ⊎_elim, inl, inr, ℕ, List, Bool, true, false, Option, Some, None, refl, sym, ap, subst, ◌∙◌}
+use Rattle.careful_write.specs.State.{EachWhole}
 use Rattle.volume.specs.declared.catalog.Catalog.{Catalog}
-use Rattle.unit_laws.specs.Journal.{JournalEntry, end_of, serial_in}
-use Rattle.run_model.specs.Ordered.{IsJournalInOrder}
-use Rattle.run_model.specs.World.{Node, Act, NonePrepared, Call, Durable, File, AreUnitsOf, ComesUp, Falls, Sound, TellsUnits, Formats, acted, fallen}
-use Rattle.directory_model.specs.Restoring.{AreLeft}
-use Rattle.volume_model.specs.Entries.{AreEntries}
+use Rattle.world_laws.specs.Ordered.{IsJournalInOrder}
+use Rattle.unit_laws.specs.Units.{Map}
+use Rattle.run_model.specs.World.{Node, Act, Call, Durable, AreUnitsOf, ComesUp, Falls, Formats, Half, IsLogInOrder, MayTurnOut, Sound, Tables, acted, fallen}
+use Rattle.commit_protocol.specs.Table as table
+use Rattle.commit_protocol.specs.Table.{Settles, Undoes}
+use Rattle.directory_model.specs.Files.{AreFiles}
+use Rattle.directory_model.specs.Restoring.{AreLeft, AreRestorable, StandPrepared}
 use Rattle.volume_model.specs.Homes.{HasHome}
-use Rattle.volume_model.specs.Volumes.{HasJournal, IsLeftBy, LeavesVolume}
+use Rattle.volume_model.specs.Volumes.{HasJournal, HasLog, HasVolume, IsEitherOf, IsLeftBy, LeavesVolume, half_done}
 
 -- the parts of a node by which its disk is judged
 pub record SameDisk (m n : Node) : Type 0 where
@@ -17,61 +19,67 @@ pub record SameDisk (m n : Node) : Type 0 where
   pub durable : m.durable ≡ n.durable
   pub up : m.up ≡ true → n.up ≡ true
 
--- a file that is not marked has no unsettled branch
-abbrev pub UnmarkedRest : Durable → Type 0
-UnmarkedRest d = (place : ℕ) (f : File) → slice_index_or d.directory place None ≡ Some f → f.recovery_units ≡ false → f.history.live ≡ []
+module _ (m n : Node) (s : SameDisk m n) where
+  -- a node with these, and the rest of the other
+  abbrev with_these : List ℕ → Durable → Node
+  with_these name d = record n { name = name; durable = d }
 
-abbrev TellIn : Durable → Type 0
-TellIn d = (place : ℕ) (f : File) → slice_index_or d.directory place None ≡ Some f → TellsUnits d.units f
+  these : (P : Node → Type 0) → P n → P (with_these m.name m.durable)
+  these P h = subst (λ x. P (with_these x m.durable)) (sym s.name) (subst (λ d. P (with_these n.name d)) (sym s.durable) h)
 
-abbrev ReachedIn : List ℕ → Durable → Type 0
-ReachedIn name d = AllByRecursion (λ (e : JournalEntry). ((serial_in e).node ≡ name) × ((serial_in e).boot ≤ d.boot)) d.units.entries
+  pub same_told : IsLogInOrder n → IsLogInOrder m
+  same_told h =
+      let k : IsLogInOrder (with_these m.name m.durable) = these IsLogInOrder h in
+      record { distinct = k.distinct; reached = k.reached; prepared_within = k.prepared_within; committed_within = k.committed_within; prepared = k.prepared; active = k.active; transactions = k.transactions; unsettled = k.unsettled; few = k.few; slots = k.slots }
 
-abbrev NamesIn : Durable → Type 0
-NamesIn d = (p q : ℕ) (f g : File) → slice_index_or d.directory p None ≡ Some f → slice_index_or d.directory q None ≡ Some g → f.name ≡ g.name → p ≡ q
+  pub same_units : AreUnitsOf n → AreUnitsOf m
+  same_units h =
+      let k : AreUnitsOf (with_these m.name m.durable) = these AreUnitsOf h in
+      record { tells = k.tells; marked = λ up. k.marked (s.up up); reached = k.reached; names = k.names }
 
-pub same_units : (m n : Node) → m.name ≡ n.name → m.durable ≡ n.durable → (m.up ≡ true → UnmarkedRest n.durable) → AreUnitsOf n → AreUnitsOf m
-same_units m n name durable marked h = record {
-  tells = subst TellIn (sym durable) h.tells;
-  marked = λ up. subst UnmarkedRest (sym durable) (marked up);
-  reached = subst (λ x. ReachedIn x m.durable) (sym name) (subst (ReachedIn n.name) (sym durable) h.reached);
-  names = subst NamesIn (sym durable) h.names;
-}
+  pub same_home : (v : Catalog) → HasHome v.home n → HasHome v.home m
+  same_home v h =
+      let k : HasHome v.home (with_these m.name m.durable) = these (HasHome v.home) h in
+      record { volume = k.volume; slots = k.slots; journal = k.journal; boot = k.boot; greatest = k.greatest; last = k.last }
 
-pub same_home : (m n : Node) → m.durable ≡ n.durable → (v : Catalog) → HasHome v.home n → HasHome v.home m
-same_home m n durable v h = record {
-  volume = ap (λ (d : Durable). d.volume) durable ∙ h.volume;
-  slots = ap (λ (d : Durable). d.slots) durable ∙ h.slots;
-  journal = ap (λ (d : Durable). d.journal) durable ∙ h.journal;
-  boot = ap (λ (d : Durable). d.boot) durable ∙ h.boot;
-  greatest = ap (λ (d : Durable). d.greatest) durable ∙ h.greatest;
-  last = ap (λ (d : Durable). d.last) durable ∙ h.last;
-}
+  pub same_journal : (c : List (List ℕ)) (v : Catalog) → HasJournal c v n → HasJournal c v m
+  same_journal c v h =
+      let k : HasJournal c v (with_these m.name m.durable) = these (HasJournal c v) h in
+      record { entries = k.entries; is = k.is; alike = k.alike; first = k.first; end = k.end; low = k.low }
 
-pub same_journal : (m n : Node) → m.durable ≡ n.durable → (c : List (List ℕ)) (v : Catalog) → HasJournal c v n → HasJournal c v m
-same_journal m n durable c v j = record {
-  entries = j.entries;
-  is = j.is;
-  alike = subst (λ (d : Durable). AreEntries v.heads d.units.entries j.entries) (sym durable) j.alike;
-  first = j.first ∙ ap (λ (d : Durable). d.units.first) (sym durable);
-  end = j.end ∙ ap (λ (d : Durable). end_of d.units) (sym durable);
-  low = j.low;
-}
+  pub same_log : (c : List (List ℕ)) → HasLog c n → HasLog c m
+  same_log c h =
+      let k : HasLog c (with_these m.name m.durable) = these (HasLog c) h in
+      record { keeps = k.keeps; whole = k.whole }
 
--- what is left of a volume is left by each of them
+  -- what is left of a volume is left by each of them
+  pub same_leaves : (c : List (List ℕ)) (v : Catalog) → LeavesVolume c v n → LeavesVolume c v m
+  same_leaves c v h = record {
+    home = same_home v h.home;
+    log = same_log c h.log;
+    journal = same_journal c v h.journal;
+    units = same_units h.units;
+    order = subst IsJournalInOrder (sym s.durable) h.order;
+    told = same_told h.told;
+    files = subst (λ (d : Durable). AreLeft c v.heads d.directory) (sym s.durable) h.files;
+    prepared = subst (λ (d : Durable). StandPrepared d.units c v.heads d.directory) (sym s.durable) h.prepared;
+  }
 
-pub same_leaves : (m n : Node) (c : List (List ℕ)) (v : Catalog) → SameDisk m n → LeavesVolume c v n → LeavesVolume c v m
-same_leaves m n c v s h = record {
-  home = same_home m n s.durable v h.home;
-  journal = same_journal m n s.durable c v h.journal;
-  units = same_units m n s.name s.durable (λ up. h.units.marked (s.up up)) h.units;
-  order = subst IsJournalInOrder (sym s.durable) h.order;
-  active = subst (λ (d : Durable). NonePrepared d.units.entries) (sym s.durable) h.active;
-  files = subst (λ (d : Durable). AreLeft c v.heads d.directory) (sym s.durable) h.files;
-}
+  pub same_left : (c : List (List ℕ)) → IsLeftBy c n → IsLeftBy c m
+  same_left c h = record { catalog = h.catalog; tells = h.tells; sound = rw (s.name, s.blocks) h.sound; leaves = λ whole. same_leaves c h.catalog (h.leaves whole) }
 
-pub same_left : (m n : Node) (c : List (List ℕ)) → SameDisk m n → IsLeftBy c n → IsLeftBy c m
-same_left m n c s h = record { catalog = h.catalog; tells = h.tells; sound = rw (s.name, s.blocks) h.sound; leaves = λ whole. same_leaves m n c h.catalog s (h.leaves whole) }
+  -- and what is in a volume is in it
+  pub same_volume : (c : List (List ℕ)) (v : Catalog) → HasVolume c v n → HasVolume c v m
+  same_volume c v h = record {
+    home = same_home v h.home;
+    log = same_log c h.log;
+    journal = same_journal c v h.journal;
+    units = same_units h.units;
+    order = subst IsJournalInOrder (sym s.durable) h.order;
+    told = same_told h.told;
+    files = subst (λ (d : Durable). AreFiles c v.heads d.directory) (sym s.durable) h.files;
+    restorable = subst (λ (d : Durable). AreRestorable c v.heads d.directory) (sym s.durable) h.restorable;
+  }
 
 -- a fall changes nothing of that
 pub same_fallen : (under : Option Act) (n : Node) → SameDisk (fallen under n) n
@@ -87,9 +95,34 @@ same_acted ComesUp u cs n up = record { name = refl; blocks = refl; durable = re
 same_acted Falls u cs n up = record { name = refl; blocks = refl; durable = refl; up = λ e. e }
 same_acted _ u cs n up = record { name = refl; blocks = refl; durable = refl; up = up }
 
+same_half : (standing : List ℕ → Map) (u : Bool) (cs : List Call) (n : Node) → (u ≡ true → n.up ≡ true) → SameDisk (half_done standing (record n { up = u; calls = cs })) (half_done standing n)
+same_half standing u cs n up = record { name = refl; blocks = refl; durable = refl; up = up }
+
+-- each content that may be left
+pub same_either : (u : Bool) (cs : List Call) (n : Node) (c : List (List ℕ)) → (u ≡ true → n.up ≡ true) → IsEitherOf n c → IsEitherOf (record n { up = u; calls = cs }) c
+same_either u cs n c up (inl h) = inl (same_left (record n { up = u; calls = cs }) n (same_called u cs n up) c h)
+same_either u cs n c up (inr (inl h)) = inr (inl (h.0, h.1, same_left (acted h.0 (record n { up = u; calls = cs })) (acted h.0 n) (same_acted h.0 u cs n up) c h.2))
+same_either u cs n c up (inr (inr h)) = inr (inr (h.0, h.1, same_left (half_done h.0 (record n { up = u; calls = cs })) (half_done h.0 n) (same_half h.0 u cs n up) c h.2))
+
+-- nor does the clock
+pub same_clocked : (now : ℕ) (n : Node) (c : List (List ℕ)) → IsEitherOf n c → IsEitherOf (record n { clock = now }) c
+same_clocked now n c (inl h) = inl (same_left (record n { clock = now }) n (record { name = refl; blocks = refl; durable = refl; up = λ e. e }) c h)
+same_clocked now n c (inr (inl h)) = inr (inl (h.0, h.1, same_left (acted h.0 (record n { clock = now })) (acted h.0 n) (clocked_act h.0) c h.2))
+  where
+    clocked_act : (act : Act) → SameDisk (acted act (record n { clock = now })) (acted act n)
+    clocked_act Falls = record { name = refl; blocks = refl; durable = refl; up = λ e. e }
+    clocked_act _ = record { name = refl; blocks = refl; durable = refl; up = λ e. e }
+same_clocked now n c (inr (inr h)) = inr (inr (h.0, h.1, same_left (half_done h.0 (record n { clock = now })) (half_done h.0 n) (record { name = refl; blocks = refl; durable = refl; up = λ e. e }) c h.2))
+
 -- a sound volume stays sound over an act
 pub stays_sound : (act : Act) (n : Node) → n.durable.volume ≡ Sound → (acted act n).durable.volume ≡ Sound
 stays_sound (Formats slots journal) n e = refl
+stays_sound (Tables a moment) n e = tables_sound a
+  where
+    tables_sound : (x : table.Act) → (acted (Tables x moment) n).durable.volume ≡ Sound
+    tables_sound (Settles k outcome reason r) = e
+    tables_sound (Undoes k) = e
+    tables_sound _ = e
 stays_sound _ n e = e
 
 -- no act unmakes a volume

@@ -1,117 +1,112 @@
--- START_TRANS.
-use Rattle.std.proofs.Common.{◌≡◌, ℕ, ◌+◌, ◌≤◌, ◌<◌, List, [], ◌∷◌, ◌++◌, Bool, true, false, Option, Some, None, length, map, nat_le, refl, sym, ap, subst, ◌∙◌, arith}
-use Rattle.std.specs.Prelude.{◌&&◌, ◌||◌}
-use Rattle.std.specs.List.{AllByRecursion, list_any}
-use Rattle.std.proofs.lemmas.Bool.{eqb-true}
+-- START_TRANS at a node that is up.
+use Rattle.std.proofs.Common.{◌≡◌, ℕ, ◌<◌, ◌+◌, List, [], ◌∷◌, ◌++◌, Bool, false, Option, Some, None, Ok, map, length, nat_le, refl, ◌∙◌, ap, sym, subst, arith}
+use Rattle.std.proofs.lemmas.Bool.{lt-leb}
 use Rattle.std.proofs.lemmas.List.{length-map}
-use Rattle.block_disk.specs.Disk.{CallLog}
+use Rattle.std.specs.Option.{option_map}
+use Rattle.commit_protocol.specs.Rows as rows
+use Rattle.commit_protocol.specs.Table.{branch_serials, record_serials}
+use Rattle.commit_protocol.specs.World.{In}
+use Rattle.vms_model.specs.Ids.{Id}
+use Rattle.transcript_model.specs.Emitting.{Emits, Shown, Since}
 use Rattle.transcript_model.specs.Lines as line
 use Rattle.transcript_model.specs.Lines.{Line}
-use Rattle.transcript_model.specs.Emitting.{Shown, Emits}
 use Rattle.script_model.specs.Statements.{StartTrans}
-use Rattle.vms_model.specs.Ids.{Id}
-use Rattle.commit_protocol.specs.Table.{Active, Branch}
-use Rattle.commit_protocol.specs.Rows.{blank}
-use Rattle.records_model.specs.History.{same_id}
-use Rattle.run_model.specs.World.{Begins, Label, Node, Shared, acted, find_label, next_id}
-use Rattle.run_model.specs.Answers.{branch_limit, label_limit, refused_after_reading, refused_where_served}
-use Rattle.run_model.specs.Operations.{refused_if}
-use Rattle.unit_table.specs.Units.{OpenUnit}
-use Rattle.recovery_units.specs.State.{IsKept, IsNew, branch_of, with_begun}
-use Rattle.dtm_node.specs.Standing.{IsUp, Up, StandsFor, counts_of}
-use Rattle.dtm_node.specs.Keeping.{Serves, disk_of, kept_up, name_of, sharing}
-use Rattle.dtm_node.specs.TheLaws.{TheLaws}
-use Rattle.dtm_node.proofs.StepLemmas.{step_done}
-use Rattle.dtm_node.proofs.UpLemmas.{before_here, stands_then}
-use Rattle.dtm_node.proofs.UsesLemmas.{goes_nowhere}
+use Rattle.run_laws.specs.Said.{Said, is_of_lines, line_said, new_said, refused_by_lines, request_said}
+use Rattle.run_model.specs.Operations.{first_of, refused_if}
+use Rattle.run_model.specs.World.{Draws, Label, Node, Shared, acted, find_label}
+use Rattle.run_model.specs.Answers.{label_limit, more_branches, new_label, seconds_refused}
+use Rattle.world_laws.specs.Nodes.{RowsKeepUp}
+use Rattle.run_shared.specs.Sharing.{IsShared, SharedState}
+use Rattle.node_table.specs.Running.{KeepsUp, TellsRows}
+use Rattle.node_table.specs.Standing.{IsUp, StandsUp, Up}
+use Rattle.dtm_node.specs.Requests.{DoesRequest, node_up}
+use Rattle.dtm_node.specs.Running.{name_of}
+use Rattle.dtm_node.specs.Telling.{said_label, said_shared}
+use Rattle.dtm_node.specs.Transacting.{IsQuota, due_in, more_in, new_in}
+use Rattle.dtm_node.proofs.Drawing.{id_next, more_is, new_is, next_free, next_is, start_acts, start_told, with_drawn}
+use Rattle.dtm_node.proofs.Labels.{said_found}
+use Rattle.dtm_node.proofs.Transacting.{IsToldBy, refuses, told_serves}
 
--- An id that is drawn next is none that was drawn.
+pub no_line : (x : Line) → ◌≡◌ {A = Option Line} None (Some x) → ⊥
+no_line x e = cc
 
-last_of : (x y : Bool) → (x && y) ≡ true → y ≡ true
-last_of true y e = e
-last_of false y e = let none : ⊥ = cc in absurd none
+pub one_line : (x y : Line) → ◌≡◌ {A = Option Line} (Some x) (Some y) → x ≡ y
+one_line x y e = cc
 
-later : (a b : Id) → b.seq ≤ a.seq → (a.seq ≡ b.seq → ⊥) → same_id a b ≡ false
-later a b le other = go (same_id a b) refl
+-- lines tell whether a label may be made
+pub new_says : (name : List ℕ) (ls : List Label) → new_said (map said_label ls) name ≡ new_in name ls
+new_says name ls =
+    ap (λ o. elim o [ Some l ↦ Some line.BadLabel | None ↦ refused_if (nat_le label_limit (length (map said_label ls))) line.BadLabel ]) (said_found name ls)
+    ∙ go (find_label name ls) ∙ ap (λ (k : ℕ). elim (find_label name ls) [ Some l ↦ Some line.BadLabel | None ↦ refused_if (nat_le label_limit k) line.BadLabel ]) (length-map ls said_label)
   where
-    go : (t : Bool) → same_id a b ≡ t → t ≡ false
-    go true e = absurd (other (eqb-true a.seq b.seq (last_of _ _ e)))
-    go false e = refl
+    go : (o : Option Label) → ◌≡◌ {A = Option Line} (elim (option_map said_label o) [ Some l ↦ Some line.BadLabel | None ↦ refused_if (nat_le label_limit (length (map said_label ls))) line.BadLabel ]) (elim o [ Some l ↦ Some line.BadLabel | None ↦ refused_if (nat_le label_limit (length (map said_label ls))) line.BadLabel ])
+    go (Some l) = refl
+    go None = refl
 
-none_of : (x y : Bool) → x ≡ false → y ≡ false → (x || y) ≡ false
-none_of x y e f = λ i. e i || f i
+-- a label that may be made is refused by nothing
+pub made_free : (name : List ℕ) (ls : List Label) → (find_label name ls ≡ None) × (length ls < label_limit) → new_in name ls ≡ None
+made_free name ls h = ap (λ (o : Option Label). elim o [ Some l ↦ Some line.BadLabel | None ↦ refused_if (nat_le label_limit (length ls)) line.BadLabel ]) h.0 ∙ ap (λ (t : Bool). refused_if t line.BadLabel) (lt-leb label_limit (length ls) h.1)
 
-fresh_in : (id : Id) (drawn : ℕ) (us : List OpenUnit) → id.seq ≡ drawn + 1 → AllByRecursion (λ (k : Id). k.seq ≤ drawn) (map (λ (u : OpenUnit). u.serial) us) → list_any (λ (u : OpenUnit). same_id id u.serial) us ≡ false
-fresh_in id drawn [] is h = refl
-fresh_in id drawn (u ∷ us) is h =
-    let le = h.0 in
-    none_of _ _ (later id u.serial (omega (arith, is, le)) (λ e. let no_way : ⊥ = omega (arith, is, le, e) in no_way)) (fresh_in id drawn us is h.1)
+-- A quota is told by a line that says nothing else.
 
-pub is_fresh : (id : Id) (u : Up) → IsUp u → id.seq ≡ u.drawn + 1 → IsNew id u.units
-is_fresh id u up is = fresh_in id u.drawn u.units.begun is up.drawn
+pub quota_quiet : (l : Line) → IsQuota l → (s : Said) → line_said l s ≡ s
+quota_quiet (line.QuotaExceeded quota limit) q s = refl
+quota_quiet _ q s = absurd q
 
--- and is drawn then
-more_drawn : (drawn : ℕ) (ids : List Id) → AllByRecursion (λ (k : Id). k.seq ≤ drawn) ids → AllByRecursion (λ (k : Id). k.seq ≤ drawn + 1) ids
-more_drawn drawn [] h = tt
-more_drawn drawn (k ∷ ids) h = (let le = h.0 in omega (arith, le), more_drawn drawn ids h.1)
+pub quota_other : (l : Line) → IsQuota l → is_of_lines l ≡ false
+quota_other (line.QuotaExceeded quota limit) q = refl
+quota_other _ q = absurd q
 
-drawn_behind : (drawn : ℕ) (us : List OpenUnit) (v : OpenUnit) → AllByRecursion (λ (k : Id). k.seq ≤ drawn) (map (λ (u : OpenUnit). u.serial) us) → v.serial.seq ≤ drawn → AllByRecursion (λ (k : Id). k.seq ≤ drawn) (map (λ (u : OpenUnit). u.serial) (us ++ v ∷ []))
-drawn_behind drawn [] v h le = (le, tt)
-drawn_behind drawn (u ∷ us) v h le = (h.0, drawn_behind drawn us v h.1 le)
+module _ (label : List ℕ) (seconds : Option ℕ) (clock : ℕ) (r : Up) (sh : SharedState) (a b : Shown) (up : IsUp r) where
+  by_lines : refused_by_lines (said_shared sh) (node_up (name_of r)) (StartTrans label seconds) ≡ new_in label sh.labels
+  by_lines = new_says label sh.labels
 
-pub begun_drawn : (id : Id) (u : Up) → IsUp u → id.seq ≡ u.drawn + 1 → AllByRecursion (λ (k : Id). k.seq ≤ u.drawn + 1) (map (λ (o : OpenUnit). o.serial) (with_begun id id u.units).begun)
-begun_drawn id u up is = drawn_behind (u.drawn + 1) u.units.begun _ (more_drawn u.drawn _ up.drawn) (omega (arith, is))
+  -- its label may not be made
+  pub start_unlabelled : Since a b → Emits a (line.BadLabel ∷ []) b → new_in label sh.labels ≡ Some line.BadLabel → DoesRequest {T = Unit {0}} (Ok tt) (StartTrans label seconds) clock r r sh sh a b
+  start_unlabelled since shows bad = refuses (StartTrans label seconds) clock r sh a b line.BadLabel up since shows (λ s. refl) (λ s. refl) (λ refusal e. one_line line.BadLabel refusal (sym bad ∙ sym by_lines ∙ e)) (λ e. absurd (no_line line.BadLabel (sym e ∙ by_lines ∙ bad)))
+      (λ s n h share kept. ap (λ x. first_of (first_of x (seconds_refused seconds)) (more_branches n)) (new_is clock r sh s n h share label ∙ bad))
 
--- What refuses it.
+  module _ (made : new_in label sh.labels ≡ None) where
+    unrefused : refused_by_lines (said_shared sh) (node_up (name_of r)) (StartTrans label seconds) ≡ None
+    unrefused = by_lines ∙ made
 
-abbrev new_by : Option Label → ℕ → Option Line
-new_by o count = elim o [ Some label ↦ Some line.BadLabel | None ↦ refused_if (nat_le label_limit count) line.BadLabel ]
+    behind : (l : Line) (s : Shared) (n : Node) → StandsUp clock r n → IsShared sh s → first_of (seconds_refused seconds) (more_in r) ≡ Some l → first_of (first_of (new_label s label) (seconds_refused seconds)) (more_branches n) ≡ Some l
+    behind l s n h share no_more = (λ i. first_of (first_of ((new_is clock r sh s n h share label ∙ made) i) (seconds_refused seconds)) (more_is clock r sh s n h share i)) ∙ no_more
 
-pub start_made : (s : Shared) (n : Node) (name : List ℕ) (l : Label) → find_label name s.labels ≡ Some l → refused_where_served s n (StartTrans name) ≡ Some line.BadLabel
-start_made s n name l e = ap (λ o. new_by o (length s.labels)) e
+    -- it is given too many seconds, or none
+    pub start_untimed : Since a b → Emits a (line.BadParameter ∷ []) b → seconds_refused seconds ≡ Some line.BadParameter → DoesRequest {T = Unit {0}} (Ok tt) (StartTrans label seconds) clock r r sh sh a b
+    start_untimed since shows bad = refuses (StartTrans label seconds) clock r sh a b line.BadParameter up since shows (λ s. refl) (λ s. refl) (λ refusal e. absurd (no_line refusal (sym unrefused ∙ e))) (λ e. refl)
+        (λ s n h share kept. behind line.BadParameter s n h share (ap (λ x. first_of x (more_in r)) bad))
 
-pub start_new : (s : Shared) (n : Node) (name : List ℕ) (full : Bool) → find_label name s.labels ≡ None → nat_le label_limit (length s.labels) ≡ full → refused_where_served s n (StartTrans name) ≡ refused_if full line.BadLabel
-start_new s n name full none is = ap (λ o. new_by o (length s.labels)) none ∙ ap (λ (b : Bool). refused_if b line.BadLabel) is
+    module _ (given : seconds_refused seconds ≡ None) where
+      -- there are as many branches as may be
+      pub start_full : (l : Line) → IsQuota l → Since a b → Emits a (l ∷ []) b → more_in r ≡ Some l → DoesRequest {T = Unit {0}} (Ok tt) (StartTrans label seconds) clock r r sh sh a b
+      start_full l quota since shows full = refuses (StartTrans label seconds) clock r sh a b l up since shows (quota_quiet l quota) (said_quota l quota) (λ refusal e. absurd (no_line refusal (sym unrefused ∙ e))) (λ e. quota_other l quota)
+          (λ s n h share kept. behind l s n h share (ap (λ x. first_of x (more_in r)) given ∙ full))
+        where
+          said_quota : (k : Line) → IsQuota k → (s : Said) → request_said (name_of r) (StartTrans label seconds) k s ≡ s
+          said_quota (line.QuotaExceeded quota limit) q s = refl
+          said_quota _ q s = absurd q
 
-pub start_quota : (log : CallLog) (s : Shared) (n : Node) (u : Up) (h : StandsFor log (kept_up u) n) (name : List ℕ) (full : Bool) → nat_le 64 (length u.units.begun) ≡ full → refused_after_reading s n (StartTrans name) ≡ refused_if full (line.QuotaExceeded line.Branches branch_limit)
-start_quota log s n u h name full is =
-    ap (λ (bs : List Branch). refused_if (nat_le branch_limit (length bs)) (line.QuotaExceeded line.Branches branch_limit)) h.place.kept.branches
-    ∙ ap (λ (k : ℕ). refused_if (nat_le branch_limit k) (line.QuotaExceeded line.Branches branch_limit)) (length-map u.units.begun branch_of)
-    ∙ ap (λ (b : Bool). refused_if b (line.QuotaExceeded line.Branches branch_limit)) is
+      -- its id stands in the table or in the log, which it does on no disk that tells its content
+      pub start_taken : Since a b → Emits a (line.WrongState ∷ []) b → In (id_next r) (branch_serials r.tm.table ++ record_serials r.tm.records) → DoesRequest {T = Unit {0}} (Ok tt) (StartTrans label seconds) clock r r sh sh a b
+      start_taken since shows taken = refuses (StartTrans label seconds) clock r sh a b line.WrongState up since shows (λ s. refl) (λ s. refl) (λ refusal e. absurd (no_line refusal (sym unrefused ∙ e))) (λ e. refl)
+          (λ s n h share kept. absurd (next_free clock r sh s n h share kept taken))
 
--- What it does.
+      module _ (room : more_in r ≡ None) (rows_keep_up : RowsKeepUp) (draws : (n : Node) → StandsUp clock r n → StandsUp clock (with_drawn r) (acted Draws n)) (new : Up) (after : SharedState) where
+        abbrev labelled_so : Id → List ℕ → SharedState
+        labelled_so id node = record sh { labels = record { name = label; node = node; tid = id; bid = None; serial = Some id } ∷ sh.labels }
 
-pub same_next : (log : CallLog) (n : Node) (u : Up) (h : StandsFor log (kept_up u) n) (id : Id) → id ≡ record { node = name_of u; boot = u.volume.catalog.home.boot; seq = u.drawn + 1 } → next_id n ≡ id
-same_next log n u h id is = (λ i. record { node = h.name i; boot = h.place.kept.has.home.boot i; seq = h.place.drawn i + 1 }) ∙ sym is
-
-abbrev pub label_for : List ℕ → List ℕ → Id → Label
-label_for name node id = record { name = name; node = node; tid = id; bid = None; serial = Some id }
-
-pub start_serves : (log : CallLog) (labels after : List Label) (in_use : Bool) (n : Node) (u new : Up) (h : StandsFor log (kept_up u) n) (name : List ℕ) (id : Id) (a b : Shown) → TheLaws → IsUp u → id ≡ record { node = name_of u; boot = u.volume.catalog.home.boot; seq = u.drawn + 1 } →
-    find_label name labels ≡ None → nat_le label_limit (length labels) ≡ false → nat_le 64 (length u.units.begun) ≡ false → length u.units.begun < 64 → new ≡ record { volume = u.volume; drawn = u.drawn + 1; units = with_begun id id u.units } → after ≡ label_for name (name_of u) id ∷ labels → Emits a (line.NormalId id ∷ []) b →
-    Serves log (sharing labels in_use) n (counts_of (disk_of u)) (StartTrans name) a b (kept_up new) (sharing after in_use)
-start_serves log labels after in_use n u new h name id a b laws up is none room few less made are m =
-    let s = sharing labels in_use in
-    let next = same_next log n u h id is in
-    let seq : id.seq ≡ u.drawn + 1 = ap (λ (k : Id). k.seq) is in
-    let label = label_for name n.name (next_id n) in
-    let branch = blank (next_id n) (next_id n) None Active None in
-    let up_then : Up = record { volume = u.volume; drawn = u.drawn + 1; units = with_begun id id u.units } in
-    let kept = laws.nodes.begins u.units u.volume n label id h.place.kept (is_fresh id u up seq) (sym next) less in
-    let still = goes_nowhere (disk_of u) in
-    subst (λ v. Serves log s n (counts_of (disk_of u)) (StartTrans name) a b (kept_up v) (sharing after in_use)) (sym made)
-    (subst (λ ls. Serves log s n (counts_of (disk_of u)) (StartTrans name) a b (kept_up up_then) (sharing ls in_use)) (sym (are ∙ sym (λ i. label_for name (h.name i) (next i) ∷ labels)))
-    (record {
-      lines = [];
-      answer = line.NormalId (next_id n);
-      node = acted (Begins label branch) n;
-      step = step_done s n (StartTrans name) (counts_of (disk_of u)) (counts_of (disk_of u)) (still.faults h.counts) (still.stops h.counts) refl (before_here log s n u h (StartTrans name) ∙ start_new s n name false none room) (record { act = Some (Begins label branch); lines = [] } ∷ []) (line.NormalId (next_id n)) (start_quota log s n u h name false few) refl refl refl refl;
-      emits = subst (λ (k : Id). Emits a (line.NormalId k ∷ []) b) (sym next) m;
-      stands = stands_then log s n u h (Begins label branch) up_then refl still refl (record {
-        kept = subst (λ (k : Id). IsKept (with_begun id id u.units) u.volume (acted (Begins label (blank k k None Active None)) n)) (sym next) kept;
-        up = h.place.up;
-        was_up = h.place.was_up;
-        drawn = ap (λ (k : ℕ). k + 1) h.place.drawn;
-        under_way = h.place.under_way;
-      });
-    }))
+        pub start_done : (id : Id) → id ≡ id_next r → (node : List ℕ) → node ≡ name_of r → (due : Option ℕ) → due ≡ due_in clock seconds → (c : Shown) → Since b c → Emits b (line.NormalId id ∷ []) c
+            → (mid : SharedState) → mid ≡ labelled_so id node
+            → KeepsUp {T = Unit {0}} (Ok tt) (rows.Start id due) clock (with_drawn r) new mid after a b → TellsRows {T = Unit {0}} (Ok tt) (rows.Start id due) clock (with_drawn r) new mid after a b
+            → DoesRequest {T = Unit {0}} (Ok tt) (StartTrans label seconds) clock r new sh after a c
+        start_done id is node named due due_is c since shows mid made_so keeps does = told_serves rows_keep_up (StartTrans label seconds) (rows.Start id due) clock r (with_drawn r) new sh (labelled_so id node) after a b refl (omega arith, omega arith) (omega arith) refl (start_acts clock r sh label seconds draws)
+            (λ s n h share kept. subst (λ x. IsToldBy (StartTrans label seconds) (start_acts clock r sh label seconds draws n) (rows.Start x due) clock (with_drawn r) (labelled_so x node) s n) (sym is)
+            (subst (λ x. IsToldBy (StartTrans label seconds) (start_acts clock r sh label seconds draws n) (rows.Start (id_next r) due) clock (with_drawn r) (labelled_so (id_next r) x) s n) (sym named)
+            (subst (λ x. IsToldBy (StartTrans label seconds) (start_acts clock r sh label seconds draws n) (rows.Start (id_next r) x) clock (with_drawn r) (labelled_so (id_next r) (name_of r)) s n) (sym due_is)
+            (start_told clock r sh label seconds draws made given room s n h share kept))))
+            c (line.NormalId id) since shows (λ s. refl) refl unrefused
+            (λ ws. ap (λ (x : List ℕ). record { nodes = node_up (name_of r) ∷ []; shared = record (said_shared (labelled_so id x)) { wire = ws } }) (sym named))
+            (subst (λ m. KeepsUp {T = Unit {0}} (Ok tt) (rows.Start id due) clock (with_drawn r) new m after a b) made_so keeps) (subst (λ m. TellsRows {T = Unit {0}} (Ok tt) (rows.Start id due) clock (with_drawn r) new m after a b) made_so does)
+            (λ s n h share kept stands. ap line.NormalId (next_is clock r sh s n h share ∙ sym is))

@@ -1,45 +1,32 @@
--- What a statement asks of the records of a file.
-use Rattle.std.specs.Prelude.{◌≡◌, ℕ, List, [], ◌∷◌, Option, Some, None, Result, Ok, Err}
-use Rattle.file_base.specs.declared.head.FileHead.{FileHead}
-use Rattle.careful_write.specs.declared.down.Down.{Down}
-use Rattle.transcript_model.specs.Lines as line
-use Rattle.transcript_model.specs.Lines.{Line}
-use Rattle.script_model.specs.Statements.{Operation}
-use Rattle.run_model.specs.Operations.{first_of, form_refused}
-use Rattle.run_model.specs.World.{File}
-use Rattle.directory_model.specs.Files.{IsHeadOf}
-use Rattle.record_operations.specs.Asking.{file_in, read_file_in}
-use Rattle.record_operations.specs.Causes.{down_in}
-use Rattle.recovery_units.specs.Calls.{IsNumbered, change_said, read_said, refusal_of}
-use Rattle.record_operations.specs.declared.errors.RecErr.{RecErr}
-use Rattle.transcript_model.specs.Emitting.{Shown, Emits}
-use Rattle.dtm_node.specs.declared.asked.Asked.{Asked}
-use Rattle.dtm_node.specs.declared.asked.Asked.TheVariants.{Change, Read}
+-- The prepared branches of a node, what they ask, and what a coordinator answers.
+use Rattle.std.specs.Prelude.{List, [], Bool, true, false, Option, None}
+use Rattle.std.specs.Option.{option_and_then}
+use Rattle.commit_protocol.specs.Messages.{Message}
+use Rattle.commit_protocol.specs.Rows.{Got, row}
+use Rattle.commit_protocol.specs.Table.{find_serial}
+use Rattle.run_model.specs.Statements.{answer_in}
+use Rattle.statement_steps.specs.Settling.{question_of}
+use Rattle.vms_model.specs.Ids.{Id}
+use Rattle.dtm_node.specs.declared.node.Flow.{Flow}
+use Rattle.dtm_node.specs.declared.node.Flow.TheVariants as flow
+use Rattle.dtm_node.specs.Standing.{IsDown, IsRunning, Place}
 
--- the operation that is asked for, where these are the bytes of a record that goes with it
-abbrev pub said_of : Asked → (bytes : List ℕ) → Operation
-said_of (Change op) bytes = change_said op bytes
-said_of (Read op) bytes = read_said op
+-- whether a statement was ended and answered
+abbrev pub is_over : Flow → Bool
+is_over flow.GoesOn = false
+is_over flow.Over = true
 
--- the number of its file
-abbrev pub number_in : Asked → ℕ
-number_in (Change op) = file_in op
-number_in (Read op) = read_file_in op
+-- the serials of the prepared branches of a node that is up, in the order of their preparation
+abbrev pub in_doubt_in : Place → List Id
+in_doubt_in (IsDown has_parts d) = []
+in_doubt_in (IsRunning r) = r.stored.in_doubt
 
--- where it puts a record at a key, that is a number
-abbrev pub IsNumberedIn : Asked → Type 0
-IsNumberedIn (Change op) = IsNumbered op
-IsNumberedIn (Read op) = Unit {0}
+-- the question of the branch of this serial, where it is prepared
+abbrev pub question_in : Id → Place → Option Message
+question_in serial (IsDown has_parts d) = None
+question_in serial (IsRunning r) = option_and_then question_of (find_serial serial r.tm.table)
 
--- A word stands for no key that a file may have: its form refuses what is asked of each file.
-abbrev pub IsUnkeyed : Operation → Type 0
-IsUnkeyed op = (h : FileHead) (file : File) → IsHeadOf h file → form_refused file op ≡ Some line.BadParameter
-
--- what refuses an operation of a settled branch: its form, or that the transaction is not there
-abbrev pub settled_refusal : File → Operation → Option Line
-settled_refusal file op = first_of (form_refused file op) (Some line.NoSuchTransaction)
-
--- The line for a cause was shown; or it is no refusal but that the disk went down, and nothing was shown.
-abbrev pub ShowsCause : RecErr → Result (Unit {0}) Down → (a b : Shown) → Type 0
-ShowsCause e (Ok done) a b = (l : Line) × (refusal_of e ≡ Some l) × Emits a (l ∷ []) b
-ShowsCause e (Err down) a b = (refusal_of e ≡ None) × (down_in e ≡ Some down) × Emits a [] b
+-- what is answered to a question: the one message that the row of it sends
+abbrev pub answer_in_place : Message → Place → Option Message
+answer_in_place m (IsDown has_parts d) = None
+answer_in_place m (IsRunning r) = answer_in (row r.tm (Got m))

@@ -1,5 +1,5 @@
 -- How a boot goes, from a disk that runs to the volume whose boot count was raised.
-use Rattle.std.specs.Prelude.{◌≡◌, ◌⊎◌, ℕ, ◌<◌, ◌≤◌, ◌^◌, ◌-◌, max, List, [], ◌∷◌, Bool, true, Option, Some, None}
+use Rattle.std.specs.Prelude.{◌≡◌, ◌⊎◌, ℕ, ◌<◌, ◌≤◌, ◌^◌, ◌-◌, max, List, [], ◌∷◌, Bool, true, false, Option, Some, None}
 use Rattle.block_disk.specs.Disk.{DiskState, MayLeave}
 use Rattle.careful_write.specs.Content.{content_of}
 use Rattle.careful_write.specs.Load.{fitting}
@@ -8,21 +8,23 @@ use Rattle.file_base.specs.declared.head.FileHead.{FileHead}
 use Rattle.file_base.specs.declared.head.Span.{Span}
 use Rattle.journal_model.specs.Ring.{ring_size}
 use Rattle.transcript.specs.Forms.{line_of, HasTime}
+use Rattle.transcript_model.specs.Lines.{Line, NoVolume, QuotaExceeded}
 use Rattle.transcript_model.specs.Outside.{Rose}
 use Rattle.volume.specs.Conditions.{IsFirstFinding}
 use Rattle.volume.specs.State.{VolumeState}
-use Rattle.run_model.specs.World.{Node, Boots, Sound, Faulty, Unknown, acted, fallen}
+use Rattle.run_model.specs.World.{Barred, Boots, Faulty, Node, Sound, Unknown, acted, fallen}
 use Rattle.run_model.specs.Answers.{bootable}
 use Rattle.run_model.specs.Steps.{count_of}
-use Rattle.volume_model.specs.Volumes.{HasDisk, IsLeftBy, LeavesVolume}
-use Rattle.recovery_units.specs.State.{IsInOrder, nothing_begun}
+use Rattle.volume_model.specs.Bars.{first_bar}
+use Rattle.volume_model.specs.Volumes.{HasBarred, HasDisk, IsLeftBy, LeavesVolume}
+use Rattle.world_laws.specs.Nodes.{IsKeptDisk}
+use Rattle.recovery_units.specs.State.{HasNoUnit, IsInOrder, UnitsState}
 use Rattle.recovery_units.specs.Calls.{IsRestarting}
 use Rattle.recovery_units.specs.Uses.{IsCounted}
 use Rattle.dtm_node.specs.declared.boot.Booted.{Booted}
 use Rattle.dtm_node.specs.declared.boot.Booted.TheVariants as booted
 use Rattle.dtm_node.specs.Standing.{counts_of}
-use Rattle.dtm_node.specs.Uses.{cause_of}
-use Rattle.dtm_node.specs.Calling.{IsBootRefusal}
+use Rattle.dtm_node.specs.Causes.{cause_of}
 
 abbrev pub disk_booted : {D : Type 0} → (D → DiskState) → Booted D → DiskState
 disk_booted state (booted.Up v) = v.store.disk
@@ -36,7 +38,12 @@ pool_booted (booted.Fell disk group pool down) = pool
 
 -- A content, where an open group fits or does not, is what a node's disk has.
 abbrev pub HasContent : Node → Bool → List (List ℕ) → Type 0
-HasContent n fits content = elim n.durable.volume [ Sound ↦ (fits ≡ true) × IsLeftBy content n | Faulty condition block ↦ IsFirstFinding n.name fits content condition block | Unknown ↦ ⊥ ]
+HasContent n fits content = elim n.durable.volume [
+  | Sound ↦ (fits ≡ true) × IsLeftBy content n
+  | Faulty condition block ↦ IsFirstFinding n.name fits content condition block
+  | Barred bar ↦ (fits ≡ true) × HasBarred n.name n.blocks bar content
+  | Unknown ↦ ⊥
+]
 
 -- each image that a power loss may leave has this content, and its open group fits or does not as is said
 abbrev pub AllHave : Bool → List (List ℕ) → DiskState → Type 0
@@ -47,6 +54,7 @@ pub record IsBooting (name : List ℕ) (d : DiskState) (n : Node) : Type 0 where
   pub name_is : n.name ≡ name
   pub blocks : n.blocks ≡ d.size
   pub under_way : n.under_way ≡ None
+  pub kept : IsKeptDisk n
 
 -- its disk runs, and has what the node has
 pub record IsAwake (name : List ℕ) (d : DiskState) (n : Node) : Type 0 where
@@ -67,12 +75,20 @@ pub record IsOpened (name : List ℕ) (s : StoreState) (n : Node) : Type 0 where
 abbrev pub IsWide : Span → Type 0
 IsWide s = (s.first < 2 ^ 64) × (s.end < 2 ^ 64)
 
--- its volume: what the journal's block tells is told of such positions alone
+-- its volume is what the node has, or bars each boot so: what the journal's block tells is told of such positions alone
+abbrev pub HasMounted : Node → List (List ℕ) → VolumeState → Type 0
+HasMounted n content v = elim n.durable.volume [
+  | Sound ↦ (IsWide v.catalog.ru → LeavesVolume content v.catalog n)
+  | Faulty condition block ↦ ⊥
+  | Barred bar ↦ (IsWide v.catalog.ru → first_bar v.catalog ≡ Some bar)
+  | Unknown ↦ ⊥
+]
+
 pub record IsMounted (v : VolumeState) (n : Node) : Type 0 where
   pub booting : IsBooting v.catalog.home.node v.store.disk n
   pub content : List (List ℕ)
   pub told : v.store.current ≡ Some content
-  pub leaves : IsWide v.catalog.ru → LeavesVolume content v.catalog n
+  pub has : HasMounted n content v
 
 -- How a boot went of this node: its boot count is raised, or it was refused, or the disk went down, perhaps while the count was raised.
 abbrev pub BootsTo : {D : Type 0} → (D → DiskState) → Node → Booted D → Type 0
@@ -80,24 +96,27 @@ BootsTo state n (booted.Up v) = (bootable n ≡ None) × IsRestarting v (acted B
 BootsTo state n (booted.Refused disk group pool form) = (bootable n ≡ Some (line_of form)) × HasDisk n (state disk)
 BootsTo state n (booted.Fell disk group pool down) = HasDisk (fallen None n) (state disk) ⊎ ((bootable n ≡ None) × HasDisk (fallen (Some Boots) n) (state disk))
 
--- a volume with which a node is booted: it is in order without units, and its numbers that only grow are low
+-- a volume with which a node is booted: it is in order without units and before its log is read, and its numbers that only grow are low
 pub record IsRaised (name : List ℕ) (v : VolumeState) : Type 0 where
   pub named : v.catalog.home.node ≡ name
-  pub order : IsInOrder nothing_begun v
+  pub order : (s : UnitsState) → HasNoUnit s → IsInOrder (record s { log = [] }) v
   pub greatest : v.catalog.home.greatest_moment.0 ≤ 24000000000000
   pub end : v.catalog.ru.end ≤ 2 ^ 61
-
--- the greatest end of a journal of images of these heads, whether or not it is marked
-abbrev pub ends_in : List (Option FileHead) → ℕ
-ends_in [] = 0
-ends_in (None ∷ hs) = ends_in hs
-ends_in (Some h ∷ hs) = max (max h.ai.end h.bi.end) (ends_in hs)
 
 -- a journal lies in its ring, and its positions are low
 pub record IsInRing (s : Span) : Type 0 where
   pub order : s.first ≤ s.end
   pub room : s.end - s.first ≤ ring_size s
   pub low : s.end ≤ 2 ^ 62
+
+-- whether an answer refuses a boot once its disk runs again: by what the disk has, or by a quota
+abbrev pub is_boot_refusal : Line → Bool
+is_boot_refusal (NoVolume node condition block) = true
+is_boot_refusal (QuotaExceeded quota limit) = true
+is_boot_refusal answer = false
+
+abbrev pub IsBootRefusal : Line → Type 0
+IsBootRefusal answer = is_boot_refusal answer ≡ true
 
 -- What holds whatever the disk has: a volume that is up is in order, a refusal is one of a disk that runs, and a failure raised its count.
 abbrev pub IsBooted : {D : Type 0} → (D → DiskState) → List ℕ → DiskState → Booted D → Type 0

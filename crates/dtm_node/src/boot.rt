@@ -1,26 +1,24 @@
 //! A boot: a disk that runs is brought to a volume whose boot count is raised.
-ghost use Rattle.std.specs.Prelude.{◌≡◌, ◌<◌, ◌≤◌, ◌==◌, ◌^◌, [], true, false, max, option_map, nat_lt};
+ghost use Rattle.std.specs.Prelude.{◌≡◌, ◌<◌, ◌≤◌, ◌^◌, [], true, false, max, option_map};
 ghost use Rattle.careful_write.specs.State.{IsIdle};
 ghost use Rattle.change_set.specs.Files.{free_frames};
 ghost use Rattle.volume.specs.Catalogs.{IsSound};
 ghost use Rattle.volume.specs.State.{Holds};
+ghost use Rattle.volume_model.specs.Bars.{ends_in, first_bar, is_in_ring as is_in_ring_said};
 ghost use Rattle.transcript.specs.Forms.{HasTime, line_of};
 ghost use Rattle.std.specs.Option.{IfSome, IfNone};
-ghost use Rattle.transcript_model.specs.Lines as line;
-ghost use Rattle.run_model.specs.Answers.{boot_limit, moment_limit, position_limit};
-ghost use Rattle.run_model.specs.Operations.{first_of, refused_if};
+ghost use Rattle.run_model.specs.Answers.{bar_line};
 ghost use Rattle.run_model.specs.World.{Node as NodeSaid};
-ghost use Rattle.dtm_node.specs.Boots.{BootsTo, IsBooted, IsMounted, IsOpened, IsAwake, IsInRing, IsWide, disk_booted, ends_in, pool_booted};
+ghost use Rattle.dtm_node.specs.Boots.{BootsTo, IsBootRefusal, IsBooted, IsMounted, IsOpened, IsAwake, IsInRing, IsWide, disk_booted, pool_booted};
 ghost use Rattle.recovery_units.specs.Uses.{Goes};
-ghost use Rattle.dtm_node.specs.Calling.{IsBootRefusal};
 
+use crate::law::the_laws;
 use block_disk::Disk;
 use careful_write::{Down, Group, OpenErr, Store};
 use file_base::Span;
 use frame_pool::Pool;
 use node_files::write_home;
 use transcript::{Form, Quota};
-use unit_world::nodes_are_kept;
 use vms_base::NodeName;
 use volume::{MountErr, Volume, sound_volumes_are_valid};
 
@@ -64,6 +62,7 @@ fn last_position<D: Disk>(volume: &Volume<D>) -> u64
 
 // Whether the journal's entries lie in its ring, and its positions are low.
 fn is_in_ring(span: &Span) -> bool
+    ensures told { result ≡ is_in_ring_said span.now }
     ensures wide { IsWide span.now }
     ensures yes { result ≡ true → IsInRing span.now }
     ensures no { result ≡ false → IsInRing span.now → ⊥ }
@@ -76,9 +75,7 @@ fn is_in_ring(span: &Span) -> bool
 // Why a node is not booted with this volume: its journal is none, it was booted as often as may be, its greatest moment is too late, or a journal has come too
 // far.
 fn refusal<D: Disk>(volume: &Volume<D>) -> Option<Form<'static>>
-    ensures refuses { IsInRing volume.now.catalog.ru → option_map line_of result ≡ first_of (refused_if (volume.now.catalog.home.boot == boot_limit) (line.QuotaExceeded line.Boots boot_limit))
-        (first_of (refused_if (nat_lt moment_limit volume.now.catalog.home.greatest_moment.0) (line.QuotaExceeded line.Moments moment_limit))
-        (refused_if (nat_lt position_limit (max volume.now.catalog.ru.end (ends_in volume.now.catalog.heads))) (line.QuotaExceeded line.Positions position_limit))) }
+    ensures refuses { option_map line_of result ≡ option_map (bar_line volume.now.catalog.home.node) (first_bar volume.now.catalog) }
     ensures wide { IsWide volume.now.catalog.ru }
     ensures time { IfSome result HasTime }
     ensures boot { IfSome result (λ form. IsBootRefusal (line_of form)) }
@@ -182,7 +179,7 @@ fn raise_boot<D: Disk>(mut volume: Volume<D>) -> Booted<D>
     }
     let mut home = *volume.home();
     home.boot += 1;
-    nodes_are_kept();
+    the_laws();
     match write_home(&mut volume, &home) {
         Ok(()) => Booted::Up(volume),
         Err(down) => {

@@ -1,18 +1,12 @@
 //! One node over its disk: what is asked of it, answered step by step as the world of a run says.
 #![tactic(auto)]
 
-mod asked;
 mod boot;
-mod files;
-mod journal;
-mod labels;
+mod labelled;
 mod law;
 mod node;
-mod records;
-mod room;
-mod running;
-mod shared;
+mod requests;
+mod transactions;
 
-pub use labels::{LabelEntry, Labels};
-pub use node::{Node, is_to_up};
-pub use shared::Shared;
+pub use node::{Flow, Node};
+pub use run_shared::Shared;

@@ -1,53 +1,73 @@
-//! A node over its disk: each request is a step of it.
-ghost use Rattle.std.specs.Prelude.{◌≡◌, ◌<◌, ◌≤◌, ◌+◌, ℕ, List, [], ◌∷◌, Bool, true, false, map, Some, None, IfOk, IfSome, is_some};
-ghost use Rattle.block_disk.specs.Disk.{CallLog};
+//! A node over its disk: each task is a step of it.
+ghost use Rattle.std.specs.Prelude.{◌≡◌, ◌<◌, ◌≤◌, ◌+◌, ◌∷◌, [], ℕ, Bool, true, false, IfErr, IfOk, List, OnErr, OnOk, length, map, max, slice_get};
+ghost use Rattle.std.specs.Option.{option_map};
 ghost use Rattle.change_set.specs.Files.{free_frames};
-ghost use Rattle.transcript_model.specs.Emitting.{Emits, Since};
+ghost use Rattle.commit_protocol.specs.Messages.{Inquire as InquireSaid};
+ghost use Rattle.vms_base.specs.Ids.{serial_of};
+ghost use Rattle.vms_base.specs.Outcomes.{outcome_of};
+ghost use Rattle.transcript.specs.Forms.{cause_of as cause_told};
+ghost use Rattle.transcript_model.specs.Emitting.{Emits, Shown, Since};
 ghost use Rattle.transcript_model.specs.Lines as line;
-ghost use Rattle.transcript.specs.Forms.{cause_of as cause_said};
+ghost use Rattle.net_wire.specs.Messages.{kind_of, message_of};
+ghost use Rattle.tm_types.specs.Events.{event_of};
+ghost use Rattle.run_model.specs.Answers.{Hears, LosesLink, Restarts, RunsDown, Serves, Takes, Ticks, outcome_told as outcome_said};
+ghost use Rattle.run_shared.specs.Sharing.{SharedState};
 ghost use Rattle.script_lang.specs.Statements.{request_of};
 ghost use Rattle.script_model.specs.Statements as said;
-ghost use Rattle.run_model.specs.World.{Node as NodeOfWorld, Shared as SharedSaid};
-ghost use Rattle.dtm_node.specs.Keeping.{Serves, IsPromised, IsToUp};
-ghost use Rattle.dtm_node.specs.Uses.{cause_of as cause_kept};
-ghost use Rattle.dtm_node.specs.Calling.{Answers, said_down, said_node, said_shared};
-ghost use Rattle.run_model.specs.Said.{SaidShared as SharedInLines};
-ghost use Rattle.dtm_node.specs.Standing.{IsDown, StandsFor, counts_of};
-ghost use Rattle.std.specs.List.{AllByRecursion};
-ghost use Rattle.recovery_units.specs.State.{nothing_begun};
-ghost use Rattle.recovery_units.specs.declared.settled.SettledUnit.{SettledUnit as SettledSaid};
-ghost use Rattle.dtm_node.specs.Boots.{IsRaised};
-ghost use Rattle.dtm_node.specs.Listing.{undone_line};
-ghost use Rattle.dtm_node.specs.Nodes.{HasParts, IsNode, IsParts, Passes, kept_down, kept_of, Reopens, last_lines_of, place_armed, place_of, shared_of, state_of, IsPlaceOf};
 ghost use Rattle.dtm_node.specs.declared.node.Node.{Node as NodeSaid};
-ghost use Rattle.dtm_node.specs.declared.running.Running.{Running as RunningSaid};
+ghost use Rattle.dtm_node.specs.Causes.{cause_of as cause_said};
+ghost use Rattle.dtm_node.specs.Keeping.{PerformsRequest, PerformsTask};
+ghost use Rattle.dtm_node.specs.Nodes.{IsFallen, IsNode, IsParts, IsPlaceOf, MayFall, fallen_place, kept_of, last_lines_of, place_armed, place_of, state_of, undone_line};
+ghost use Rattle.dtm_node.specs.Boots.{IsRaised};
+ghost use Rattle.dtm_node.specs.Formatting.{Formats, FormatsDisk};
+ghost use Rattle.dtm_node.specs.Opening.{Breaks, ComesTo, IsOpen, Opens, ReopensUp, Reopens, kept_down, prepared_told};
+ghost use Rattle.std.specs.List.{AllByRecursion};
+ghost use Rattle.commit_protocol.specs.Table.{branches_of};
+ghost use Rattle.tm_types.specs.Parts.{log_record_of};
+ghost use Rattle.recovery_units.specs.declared.settled.SettledUnit.{SettledUnit as SettledSaid};
+ghost use Rattle.recovery_units.specs.Calls.{MayBegin, ReopensErr, ReopensOk};
+ghost use Rattle.recovery_units.specs.State.{AreOfBranches, HasNoUnit, IsEarly, IsInOrder};
+ghost use Rattle.recovery_units.specs.Told.{nothing_told};
+ghost use Rattle.recovery_units.specs.Uses.{Caused, Grows, down_of};
+ghost use Rattle.node_table.specs.Code.{up_of};
+ghost use Rattle.dtm_node.specs.Asking.{answer_in_place, in_doubt_in, is_over, question_in};
+ghost use Rattle.dtm_node.specs.Requests.{IsForUp};
+ghost use Rattle.dtm_node.specs.Running.{ComesFreely, TellsEvent};
+ghost use Rattle.dtm_node.specs.Standing.{IsDown, is_up as is_up_in};
+ghost use Rattle.dtm_node.specs.Telling.{TellsTask};
 
 use crate::boot::{Booted, open_disk};
-use crate::room::Room;
-use crate::running::{CLOCK, Running};
-use crate::shared::Shared;
+use crate::law::the_laws;
+use crate::requests::serve_up;
 use block_disk::Disk;
 use careful_write::{Down, Group};
 use core::mem::replace_with;
 use frame_pool::Pool;
+use net_wire::Message;
+use node_table::{Room, Running, Stored};
 use recovery_units::{RecoveryUnits, SettledUnit};
+use run_shared::Shared;
 use script_lang::{Literals, Request};
 use std::alloc::{AllocError, Global};
+use tm_table::Tm;
+use tm_types::{Effects, Event, State};
 use transcript::{Cause, Emit, Form};
-use unit_world::nodes_are_kept;
-use vms_base::{NodeName, Reason};
+use vms_base::{Kind, LogRec, Moment, NodeName, Outcome, Reason, Serial};
 use volume::{Volume, sizes_fit};
 use volume_format::{Ending, Home, Sizes};
+use world_laws::nodes_stay_kept;
 
 const FRAMES: u32 = 64;
 
 // What a node reserves at its first boot, for good.
 #[derive(Drop)]
-struct Parts<U: RecoveryUnits> {
-    group: Group,
-    pool: Pool,
-    units: U,
-    room: Room,
+pub(crate) struct Parts<U: RecoveryUnits> {
+    pub group: Group,
+    pub pool: Pool,
+    pub units: U,
+    pub room: Room,
+    pub table: Tm,
+    pub effects: Effects,
 }
 
 // What stands over a node's disk.
@@ -64,11 +84,19 @@ pub struct Node<D: Disk, U: RecoveryUnits> {
     name: NodeName,
     // The last INIT that made the disk run failed, so that there is no volume.
     unmade: bool,
+    clock: Moment,
     place: Place<D, U>,
 }
 
+/// Whether the statement of which a task is a part goes on behind it, or was ended and answered by it.
+#[derive(Clone, Copy, Debug, PartialEq, Eq)]
+pub enum Flow {
+    GoesOn,
+    Over,
+}
+
 fn cause_of(down: Down) -> Cause
-    ensures { cause_said result ≡ cause_kept down }
+    ensures { cause_told result ≡ cause_said down }
 {
     match down {
         Down::Failed => Cause::Failed,
@@ -76,13 +104,13 @@ fn cause_of(down: Down) -> Cause
     }
 }
 
-/// Whether a request is a statement that its node has to be up for.
-pub fn is_to_up(request: &Request) -> bool
-    ensures { result ≡ true → IsToUp request.now }
+// The answer that a settling gives a prepared branch tells this outcome.
+fn outcome_told(kind: Kind) -> Outcome
+    ensures { outcome_of result ≡ outcome_said (kind_of kind) }
 {
-    match request {
-        Request::Init { .. } | Request::Boot | Request::Fuse { .. } | Request::Crash => false,
-        _ => true,
+    match kind {
+        Kind::Commit => Outcome::Commit,
+        _ => Outcome::Abort,
     }
 }
 
@@ -94,6 +122,8 @@ fn reserve_parts<U: RecoveryUnits>(alloc: Global) -> Result<Parts<U>, AllocError
         pool: Pool::new(alloc, FRAMES)?,
         units: U::reserve(alloc)?,
         room: Room::reserve(alloc)?,
+        table: Tm::reserve(alloc)?,
+        effects: Effects::reserve(alloc)?,
     })
 }
 
@@ -102,7 +132,7 @@ fn show_last<E: Emit>(home: &Home, out: &mut E)
     requires moment { home.now.greatest_moment.0 ≤ 24000000000000 }
     ensures place { E.place out.new ≡ E.place out.old }
     ensures since { Since (E.shows out.old) (E.shows out.new) }
-    ensures emits { Emits (E.shows out.old) (last_lines_of home.now) (E.shows out.new) }
+    ensures shows { Emits (E.shows out.old) (last_lines_of home.now) (E.shows out.new) }
 {
     let Some(last) = &home.last else {
         return;
@@ -122,27 +152,16 @@ fn show_last<E: Emit>(home: &Home, out: &mut E)
     }
 }
 
-// A node goes down in a statement, and that is answered.
-fn show_fall<E: Emit>(name: NodeName, down: Down, out: &mut E)
-    ensures place { E.place out.new ≡ E.place out.old }
-    ensures since { Since (E.shows out.old) (E.shows out.new) }
-    ensures emits { Emits (E.shows out.old) (line.Down name (cause_kept down) ∷ line.Broken (cause_kept down) ∷ []) (E.shows out.new) }
-{
-    let cause = cause_of(down);
-    out.emit(&Form::Down(name, cause));
-    out.emit(&Form::Broken(cause));
-}
-
 impl<D: Disk + Drop, U: RecoveryUnits> Node<D, U> {
     /// A node that was not booted yet.
     pub fn new(name: NodeName, disk: D) -> Node<D, U>
-        ensures down { kept_of D.state U.state result ≡ record { name = name; unmade = false; place = IsDown false (D.state disk) } }
-        ensures name { result.name ≡ name }
-        ensures kept { (s : SharedSaid) → 4096 ≤ (D.state disk).size → (D.state disk).size ≤ 65536 → IsNode D.state U.state 0 s result }
+        ensures kept { kept_of D.state U.state result ≡ record { name = name; unmade = false; clock = 0; place = IsDown false (D.state disk) } }
+        ensures node { (s : SharedState) → 4096 ≤ (D.state disk).size → (D.state disk).size ≤ 65536 → IsNode D.state U.state 0 s result }
     {
         Node {
             name,
             unmade: false,
+            clock: Moment(0),
             place: Place::Down(disk, None),
         }
     }
@@ -154,6 +173,16 @@ impl<D: Disk + Drop, U: RecoveryUnits> Node<D, U> {
         self.name
     }
 
+    /// Whether it is up.
+    pub fn is_up(&self) -> bool
+        ensures { result ≡ is_up_in (kept_of D.state U.state self.now).place }
+    {
+        match &self.place {
+            Place::Down(_, _) => false,
+            Place::Up(_) => true,
+        }
+    }
+
     /// Its disk.
     pub fn into_disk(self) -> D
         ensures { D.state result ≡ state_of D.state U.state self }
@@ -161,400 +190,669 @@ impl<D: Disk + Drop, U: RecoveryUnits> Node<D, U> {
         match self.place {
             Place::Down(disk, _parts) => disk,
             Place::Up(running) => {
-                let (store, _units, _room) = running.into_parts();
-                let (disk, _group, _pool) = store.into_parts();
+                let (disk, _parts) = taken_apart(running);
                 disk
             }
         }
     }
 
-    /// Serves what is asked of it. No volume may be made any more once the node was booted.
+    /// Serves a request and answers it. A CLOCK is none of these: the answer to it comes behind what is aborted by then.
     pub fn serve<E: Emit>(
-        self,
+        &mut self,
         alloc: Global,
         request: &Request,
         lit: &Literals,
         shared: &mut Shared,
         out: &mut E,
-    ) -> Node<D, U>
-        requires kept { (n : ℕ) × (n < 1000002) × IsNode D.state U.state n (shared_of shared.old) self }
-        ensures kept { (n : ℕ) → IsNode D.state U.state n (shared_of shared.old) self → IsNode D.state U.state (n + 1) (shared_of shared.new) result }
+    )
+        requires answered { (now : ℕ) → request_of lit.now request.now ≡ said.Clock now → ⊥ }
+        requires node { (count : ℕ) × (count < 1000002) × IsNode D.state U.state count shared.old self.old }
+        ensures node { (count : ℕ) → IsNode D.state U.state count shared.old self.old → IsNode D.state U.state (count + 1) shared.new self.new }
+        ensures name { self.new.name ≡ self.old.name }
+        ensures clock { self.new.clock ≡ self.old.clock }
         ensures in_use { shared.old.in_use ≡ true → shared.new.in_use ≡ true }
-        ensures name { result.name ≡ self.name }
-        ensures passes { Passes (state_of D.state U.state self) (state_of D.state U.state result) }
         ensures place { E.place out.new ≡ E.place out.old }
         ensures since { Since (E.shows out.old) (E.shows out.new) }
-        ensures tells { Answers (request_of lit.now request.now) (E.shows out.old) (E.shows out.new) (state_of D.state U.state self) (state_of D.state U.state result) (said_shared (shared_of shared.old)) (said_shared (shared_of shared.new)) (said_node (kept_of D.state U.state self)) (said_node (kept_of D.state U.state result)) }
-        ensures serves { (log : CallLog) (n : NodeOfWorld) → StandsFor log (kept_of D.state U.state self) n → IsPromised (request_of lit.now request.now) n →
-            Serves log (shared_of shared.old) n (counts_of (state_of D.state U.state self)) (request_of lit.now request.now) (E.shows out.old) (E.shows out.new) (kept_of D.state U.state result) (shared_of shared.new) }
+        ensures tells { (ends : Bool) × TellsTask (Serves (request_of lit.now request.now)) true ends (kept_of D.state U.state self.old) shared.old (E.shows out.old) (E.shows out.new) (kept_of D.state U.state self.new) shared.new }
+        ensures performs { PerformsRequest (request_of lit.now request.now) (kept_of D.state U.state self.old) shared.old (E.shows out.old) (E.shows out.new) (kept_of D.state U.state self.new) shared.new }
     {
         match request {
             Request::Init { slots, blocks } => self.init(*slots, *blocks, shared, out),
             Request::Boot => self.boot(alloc, shared, out),
-            Request::Fuse { writes, choice } => self.fuse(*writes, *choice, out),
-            Request::Crash => self.crash(out),
-            _ => {
-                let mut node = self;
-                node.serve_up(request, lit, shared, out);
-                node
-            }
+            Request::Fuse { writes, choice } => self.fuse(*writes, *choice, shared, out),
+            Request::Crash => self.crash(shared, out),
+            _ => self.serve_up(request, lit, shared, out),
         }
     }
 
-    // INIT: an empty volume of this node, with so many log slots and blocks of the journal.
-    fn init<E: Emit>(self, slots: u32, blocks: u32, shared: &Shared, out: &mut E) -> Node<D, U>
-        requires kept { (n : ℕ) × IsNode D.state U.state n (shared_of shared.now) self }
-        ensures kept { (n : ℕ) → IsNode D.state U.state n (shared_of shared.now) self → IsNode D.state U.state (n + 1) (shared_of shared.now) result }
-        ensures name { result.name ≡ self.name }
-        ensures passes { Passes (state_of D.state U.state self) (state_of D.state U.state result) }
-        ensures place { E.place out.new ≡ E.place out.old }
-        ensures since { Since (E.shows out.old) (E.shows out.new) }
-        ensures tells { Answers (said.Init slots blocks) (E.shows out.old) (E.shows out.new) (state_of D.state U.state self) (state_of D.state U.state result) (said_shared (shared_of shared.now)) (said_shared (shared_of shared.now)) (said_node (kept_of D.state U.state self)) (said_node (kept_of D.state U.state result)) }
-        ensures serves { (log : CallLog) (n : NodeOfWorld) → StandsFor log (kept_of D.state U.state self) n →
-            Serves log (shared_of shared.now) n (counts_of (state_of D.state U.state self)) (said.Init slots blocks) (E.shows out.old) (E.shows out.new) (kept_of D.state U.state result) (shared_of shared.now) }
-    {
-        if shared.in_use {
-            out.emit(&Form::VolumeInUse);
-            return self;
-        }
-        let Node {
-            name,
-            unmade,
-            place,
-        } = self;
-        match place {
-            Place::Up(_running) => unreachable!(),
-            Place::Down(disk, parts) => {
-                let (disk, unmade) = format(name, unmade, disk, slots, blocks, out);
-                Node {
-                    name,
-                    unmade,
-                    place: Place::Down(disk, parts),
-                }
-            }
-        }
-    }
-
-    // BOOT: the node comes up over its volume.
-    fn boot<E: Emit>(self, alloc: Global, shared: &mut Shared, out: &mut E) -> Node<D, U>
-        requires kept { (n : ℕ) × (n < 1000002) × IsNode D.state U.state n (shared_of shared.old) self }
-        ensures kept { (n : ℕ) → IsNode D.state U.state n (shared_of shared.old) self → IsNode D.state U.state (n + 1) (shared_of shared.new) result }
-        ensures in_use { shared.old.in_use ≡ true → shared.new.in_use ≡ true }
-        ensures name { result.name ≡ self.name }
-        ensures passes { Passes (state_of D.state U.state self) (state_of D.state U.state result) }
-        ensures place { E.place out.new ≡ E.place out.old }
-        ensures since { Since (E.shows out.old) (E.shows out.new) }
-        ensures tells { Answers said.Boot (E.shows out.old) (E.shows out.new) (state_of D.state U.state self) (state_of D.state U.state result) (said_shared (shared_of shared.old)) (said_shared (shared_of shared.new)) (said_node (kept_of D.state U.state self)) (said_node (kept_of D.state U.state result)) }
-        ensures serves { (log : CallLog) (n : NodeOfWorld) → StandsFor log (kept_of D.state U.state self) n → IsPromised said.Boot n →
-            Serves log (shared_of shared.old) n (counts_of (state_of D.state U.state self)) said.Boot (E.shows out.old) (E.shows out.new) (kept_of D.state U.state result) (shared_of shared.new) }
-    {
-        if self.unmade {
-            out.emit(&Form::NotInitialized);
-            return self;
-        }
-        let Node {
-            name,
-            unmade: _,
-            place,
-        } = self;
-        match place {
-            Place::Up(running) => {
-                out.emit(&Form::NodeUp);
-                Node {
-                    name,
-                    unmade: false,
-                    place: Place::Up(running),
-                }
-            }
-            Place::Down(disk, parts) => boot_down(alloc, name, disk, parts, shared, out),
-        }
-    }
-
-    // FUSE: after so many further writes the disk stops, and a power loss then damages what is pending by this choice.
-    fn fuse<E: Emit>(self, writes: u32, choice: u64, out: &mut E) -> Node<D, U>
-        ensures kept { (n : ℕ) (s : SharedSaid) → IsNode D.state U.state n s self → IsNode D.state U.state (n + 1) s result }
-        ensures name { result.name ≡ self.name }
-        ensures passes { Passes (state_of D.state U.state self) (state_of D.state U.state result) }
-        ensures place { E.place out.new ≡ E.place out.old }
-        ensures since { Since (E.shows out.old) (E.shows out.new) }
-        ensures tells { (s : SharedInLines) → Answers (said.Fuse writes choice) (E.shows out.old) (E.shows out.new) (state_of D.state U.state self) (state_of D.state U.state result) s s (said_node (kept_of D.state U.state self)) (said_node (kept_of D.state U.state result)) }
-        ensures serves { (s : SharedSaid) (log : CallLog) (n : NodeOfWorld) → StandsFor log (kept_of D.state U.state self) n →
-            Serves log s n (counts_of (state_of D.state U.state self)) (said.Fuse writes choice) (E.shows out.old) (E.shows out.new) (kept_of D.state U.state result) s }
-    {
-        let Node {
-            name,
-            unmade,
-            place,
-        } = self;
-        let place = armed_place(place, writes, choice);
-        out.emit(&Form::Normal);
-        Node {
-            name,
-            unmade,
-            place,
-        }
-    }
-
-    // CRASH: the node goes down.
-    fn crash<E: Emit>(self, out: &mut E) -> Node<D, U>
-        requires kept { (n : ℕ) × (s : SharedSaid) × IsNode D.state U.state n s self }
-        ensures kept { (n : ℕ) (s : SharedSaid) → IsNode D.state U.state n s self → IsNode D.state U.state (n + 1) s result }
-        ensures name { result.name ≡ self.name }
-        ensures passes { Passes (state_of D.state U.state self) (state_of D.state U.state result) }
-        ensures place { E.place out.new ≡ E.place out.old }
-        ensures since { Since (E.shows out.old) (E.shows out.new) }
-        ensures tells { (s : SharedInLines) → Answers said.Crash (E.shows out.old) (E.shows out.new) (state_of D.state U.state self) (state_of D.state U.state result) s s (said_node (kept_of D.state U.state self)) (said_node (kept_of D.state U.state result)) }
-        ensures serves { (s : SharedSaid) (log : CallLog) (n : NodeOfWorld) → StandsFor log (kept_of D.state U.state self) n →
-            Serves log s n (counts_of (state_of D.state U.state self)) said.Crash (E.shows out.old) (E.shows out.new) (kept_of D.state U.state result) s }
-    {
-        let Node {
-            name,
-            unmade,
-            place,
-        } = self;
-        match place {
-            Place::Up(running) => {
-                nodes_are_kept();
-                out.emit(&Form::Crashed(name));
-                out.emit(&Form::Normal);
-                Node {
-                    name,
-                    unmade,
-                    place: fallen(running),
-                }
-            }
-            Place::Down(disk, parts) => {
-                out.emit(&Form::NodeDown);
-                Node {
-                    name,
-                    unmade,
-                    place: Place::Down(disk, parts),
-                }
-            }
-        }
-    }
-
-    /// Serves a statement that a node has to be up for, as `serve` does, and moves nothing: what a node keeps takes kilobytes.
-    pub fn serve_up<E: Emit>(
+    // Serves a statement that a node has to be up for.
+    fn serve_up<E: Emit>(
         &mut self,
         request: &Request,
         lit: &Literals,
         shared: &mut Shared,
         out: &mut E,
     )
-        requires asks { IsToUp request.now }
-        requires kept { (n : ℕ) × (n < 1000002) × IsNode D.state U.state n (shared_of shared.old) self.old }
-        ensures kept { (n : ℕ) → IsNode D.state U.state n (shared_of shared.old) self.old → IsNode D.state U.state (n + 1) (shared_of shared.new) self.new }
-        ensures in_use { shared.old.in_use ≡ true → shared.new.in_use ≡ true }
+        requires asks { IsForUp (request_of lit.now request.now) }
+        requires node { (count : ℕ) × (count < 1000002) × IsNode D.state U.state count shared.old self.old }
+        ensures node { (count : ℕ) → IsNode D.state U.state count shared.old self.old → IsNode D.state U.state (count + 1) shared.new self.new }
         ensures name { self.new.name ≡ self.old.name }
-        ensures passes { Passes (state_of D.state U.state self.old) (state_of D.state U.state self.new) }
+        ensures clock { self.new.clock ≡ self.old.clock }
+        ensures in_use { shared.old.in_use ≡ true → shared.new.in_use ≡ true }
         ensures place { E.place out.new ≡ E.place out.old }
         ensures since { Since (E.shows out.old) (E.shows out.new) }
-        ensures tells { Answers (request_of lit.now request.now) (E.shows out.old) (E.shows out.new) (state_of D.state U.state self.old) (state_of D.state U.state self.new) (said_shared (shared_of shared.old)) (said_shared (shared_of shared.new)) (said_node (kept_of D.state U.state self.old)) (said_node (kept_of D.state U.state self.new)) }
-        ensures serves { (log : CallLog) (n : NodeOfWorld) → StandsFor log (kept_of D.state U.state self.old) n →
-            Serves log (shared_of shared.old) n (counts_of (state_of D.state U.state self.old)) (request_of lit.now request.now) (E.shows out.old) (E.shows out.new) (kept_of D.state U.state self.new) (shared_of shared.new) }
+        ensures tells { (ends : Bool) × TellsTask (Serves (request_of lit.now request.now)) true ends (kept_of D.state U.state self.old) shared.old (E.shows out.old) (E.shows out.new) (kept_of D.state U.state self.new) shared.new }
+        ensures performs { PerformsRequest (request_of lit.now request.now) (kept_of D.state U.state self.old) shared.old (E.shows out.old) (E.shows out.new) (kept_of D.state U.state self.new) shared.new }
     {
         match &mut self.place {
-            Place::Up(running) => match running.serve(request, lit, &mut shared.labels, out) {
+            Place::Up(running) => match serve_up(running, request, lit, self.clock, shared, out) {
                 Ok(()) => {}
                 Err(down) => {
-                    show_fall(self.name, down, out);
-                    replace_with(&mut self.place, (), fall);
+                    self.go_down(down, out);
+                    out.emit(&Form::Broken(cause_of(down)));
                 }
             },
             Place::Down(_, _) => out.emit(&Form::NodeDown),
         }
     }
+
+    // The node goes down, for its disk did, which is shown.
+    fn go_down<E: Emit>(&mut self, down: Down, out: &mut E)
+        requires falls { MayFall D.state U.state self.old.place }
+        ensures kept { kept_of D.state U.state self.new ≡ record (kept_of D.state U.state self.old) { place = fallen_place (kept_of D.state U.state self.old).place } }
+        ensures node { (count : ℕ) (s : SharedState) → self.old.clock.0 ≤ 24000000000000 → IsNode D.state U.state count s self.new }
+        ensures place { E.place out.new ≡ E.place out.old }
+        ensures since { Since (E.shows out.old) (E.shows out.new) }
+        ensures shows { Emits (E.shows out.old) (line.Down self.old.name (cause_said down) ∷ []) (E.shows out.new) }
+    {
+        out.emit(&Form::Down(self.name, cause_of(down)));
+        replace_with(&mut self.place, (), fall);
+    }
+
+    // An event comes to a node that is up, by which no statement ends: not even where the disk goes down.
+    fn tell_on<E: Emit>(&mut self, event: &Event, shared: &mut Shared, out: &mut E)
+        requires event { ComesFreely (event_of event.now) }
+        requires up { is_up_in (kept_of D.state U.state self.old).place ≡ true }
+        requires node { (count : ℕ) × (count < 1000002) × IsNode D.state U.state count shared.old self.old }
+        ensures node { (count : ℕ) → IsNode D.state U.state count shared.old self.old → IsNode D.state U.state count shared.new self.new }
+        ensures name { self.new.name ≡ self.old.name }
+        ensures in_use { shared.old.in_use ≡ true → shared.new.in_use ≡ true }
+        ensures place { E.place out.new ≡ E.place out.old }
+        ensures since { Since (E.shows out.old) (E.shows out.new) }
+        ensures does { TellsEvent (event_of event.now) true false (kept_of D.state U.state self.old) shared.old (E.shows out.old) (E.shows out.new) (kept_of D.state U.state self.new) shared.new }
+    {
+        the_laws();
+        match &mut self.place {
+            Place::Up(running) => match running.tell(event, self.clock, shared, out) {
+                Ok(()) => {}
+                Err(down) => self.go_down(down, out),
+            },
+            Place::Down(_, _) => unreachable!(),
+        }
+    }
+
+    // An event comes to a node; where that is down, or its disk goes down, the statement is answered with that.
+    fn tell_or_end<E: Emit>(&mut self, event: &Event, shared: &mut Shared, out: &mut E) -> Flow
+        requires event { ComesFreely (event_of event.now) }
+        requires node { (count : ℕ) × (count < 1000002) × IsNode D.state U.state count shared.old self.old }
+        ensures node { (count : ℕ) → IsNode D.state U.state count shared.old self.old → IsNode D.state U.state count shared.new self.new }
+        ensures name { self.new.name ≡ self.old.name }
+        ensures in_use { shared.old.in_use ≡ true → shared.new.in_use ≡ true }
+        ensures place { E.place out.new ≡ E.place out.old }
+        ensures since { Since (E.shows out.old) (E.shows out.new) }
+        ensures does { TellsEvent (event_of event.now) false (is_over result) (kept_of D.state U.state self.old) shared.old (E.shows out.old) (E.shows out.new) (kept_of D.state U.state self.new) shared.new }
+    {
+        the_laws();
+        match &mut self.place {
+            Place::Up(running) => match running.tell(event, self.clock, shared, out) {
+                Ok(()) => Flow::GoesOn,
+                Err(down) => {
+                    self.go_down(down, out);
+                    out.emit(&Form::Broken(cause_of(down)));
+                    Flow::Over
+                }
+            },
+            Place::Down(_, _) => {
+                out.emit(&Form::NodeDown);
+                Flow::Over
+            }
+        }
+    }
+
+    /// CLOCK: its clock is set.
+    pub fn set_clock(&mut self, now: Moment)
+        requires limit { now.0 ≤ 24000000000000 }
+        ensures kept { kept_of D.state U.state self.new ≡ record (kept_of D.state U.state self.old) { clock = now.0 } }
+        ensures node { (count : ℕ) (s : SharedState) → IsNode D.state U.state count s self.old → IsNode D.state U.state count s self.new }
+        ensures performs { (s : SharedState) (a : Shown) → PerformsTask (Serves (said.Clock now.0)) false false (kept_of D.state U.state self.old) s a a (kept_of D.state U.state self.new) s }
+    {
+        the_laws();
+        self.clock = now;
+    }
+
+    /// Aborts what is due by the clock of a node that is up.
+    pub fn tick<E: Emit>(&mut self, shared: &mut Shared, out: &mut E)
+        requires up { is_up_in (kept_of D.state U.state self.old).place ≡ true }
+        requires node { (count : ℕ) × (count < 1000002) × IsNode D.state U.state count shared.old self.old }
+        ensures node { (count : ℕ) → IsNode D.state U.state count shared.old self.old → IsNode D.state U.state count shared.new self.new }
+        ensures name { self.new.name ≡ self.old.name }
+        ensures in_use { shared.old.in_use ≡ true → shared.new.in_use ≡ true }
+        ensures place { E.place out.new ≡ E.place out.old }
+        ensures since { Since (E.shows out.old) (E.shows out.new) }
+        ensures tells { TellsTask (Ticks) false false (kept_of D.state U.state self.old) shared.old (E.shows out.old) (E.shows out.new) (kept_of D.state U.state self.new) shared.new }
+        ensures performs { PerformsTask (Ticks) false false (kept_of D.state U.state self.old) shared.old (E.shows out.old) (E.shows out.new) (kept_of D.state U.state self.new) shared.new }
+    {
+        self.tell_on(&Event::Clock(self.clock), shared, out);
+    }
+
+    /// The link of a node that is up to another node fails.
+    pub fn lose_link<E: Emit>(&mut self, other: NodeName, shared: &mut Shared, out: &mut E)
+        requires up { is_up_in (kept_of D.state U.state self.old).place ≡ true }
+        requires node { (count : ℕ) × (count < 1000002) × IsNode D.state U.state count shared.old self.old }
+        ensures node { (count : ℕ) → IsNode D.state U.state count shared.old self.old → IsNode D.state U.state count shared.new self.new }
+        ensures name { self.new.name ≡ self.old.name }
+        ensures in_use { shared.old.in_use ≡ true → shared.new.in_use ≡ true }
+        ensures place { E.place out.new ≡ E.place out.old }
+        ensures since { Since (E.shows out.old) (E.shows out.new) }
+        ensures tells { TellsTask (LosesLink other) false false (kept_of D.state U.state self.old) shared.old (E.shows out.old) (E.shows out.new) (kept_of D.state U.state self.new) shared.new }
+        ensures performs { PerformsTask (LosesLink other) false false (kept_of D.state U.state self.old) shared.old (E.shows out.old) (E.shows out.new) (kept_of D.state U.state self.new) shared.new }
+    {
+        self.tell_on(&Event::LinkDown(other), shared, out);
+    }
+
+    /// A message comes to the node.
+    pub fn take<E: Emit>(&mut self, m: &Message, shared: &mut Shared, out: &mut E) -> Flow
+        requires node { (count : ℕ) × (count < 1000002) × IsNode D.state U.state count shared.old self.old }
+        ensures node { (count : ℕ) → IsNode D.state U.state count shared.old self.old → IsNode D.state U.state count shared.new self.new }
+        ensures name { self.new.name ≡ self.old.name }
+        ensures in_use { shared.old.in_use ≡ true → shared.new.in_use ≡ true }
+        ensures place { E.place out.new ≡ E.place out.old }
+        ensures since { Since (E.shows out.old) (E.shows out.new) }
+        ensures tells { TellsTask (Takes (message_of m.now)) (is_over result) (is_over result) (kept_of D.state U.state self.old) shared.old (E.shows out.old) (E.shows out.new) (kept_of D.state U.state self.new) shared.new }
+        ensures performs { PerformsTask (Takes (message_of m.now)) (is_over result) (is_over result) (kept_of D.state U.state self.old) shared.old (E.shows out.old) (E.shows out.new) (kept_of D.state U.state self.new) shared.new }
+    {
+        self.tell_or_end(&Event::Got(*m), shared, out)
+    }
+
+    /// The answer to a question of one of its branches comes, which a settling asked.
+    pub fn hear<E: Emit>(&mut self, m: &Message, shared: &mut Shared, out: &mut E) -> Flow
+        requires node { (count : ℕ) × (count < 1000002) × IsNode D.state U.state count shared.old self.old }
+        ensures node { (count : ℕ) → IsNode D.state U.state count shared.old self.old → IsNode D.state U.state count shared.new self.new }
+        ensures name { self.new.name ≡ self.old.name }
+        ensures in_use { shared.old.in_use ≡ true → shared.new.in_use ≡ true }
+        ensures place { E.place out.new ≡ E.place out.old }
+        ensures since { Since (E.shows out.old) (E.shows out.new) }
+        ensures tells { TellsTask (Hears (message_of m.now)) (is_over result) (is_over result) (kept_of D.state U.state self.old) shared.old (E.shows out.old) (E.shows out.new) (kept_of D.state U.state self.new) shared.new }
+        ensures performs { PerformsTask (Hears (message_of m.now)) (is_over result) (is_over result) (kept_of D.state U.state self.old) shared.old (E.shows out.old) (E.shows out.new) (kept_of D.state U.state self.new) shared.new }
+    {
+        if !self.is_up() {
+            out.emit(&Form::NodeDown);
+            return Flow::Over;
+        }
+        out.emit(&Form::Asked(m.tid, m.serial, outcome_told(m.kind)));
+        self.tell_or_end(&Event::Got(*m), shared, out)
+    }
+
+    /// Aborts all branches that are not prepared.
+    pub fn run_down<E: Emit>(&mut self, shared: &mut Shared, out: &mut E) -> Flow
+        requires node { (count : ℕ) × (count < 1000002) × IsNode D.state U.state count shared.old self.old }
+        ensures node { (count : ℕ) → IsNode D.state U.state count shared.old self.old → IsNode D.state U.state count shared.new self.new }
+        ensures name { self.new.name ≡ self.old.name }
+        ensures in_use { shared.old.in_use ≡ true → shared.new.in_use ≡ true }
+        ensures place { E.place out.new ≡ E.place out.old }
+        ensures since { Since (E.shows out.old) (E.shows out.new) }
+        ensures tells { TellsTask (RunsDown) (is_over result) (is_over result) (kept_of D.state U.state self.old) shared.old (E.shows out.old) (E.shows out.new) (kept_of D.state U.state self.new) shared.new }
+        ensures performs { PerformsTask (RunsDown) (is_over result) (is_over result) (kept_of D.state U.state self.old) shared.old (E.shows out.old) (E.shows out.new) (kept_of D.state U.state self.new) shared.new }
+    {
+        self.tell_or_end(&Event::RunDown, shared, out)
+    }
+
+    /// How many prepared branches it has.
+    pub fn doubts(&self) -> usize
+        ensures { result ≡ length (in_doubt_in (kept_of D.state U.state self.now).place) }
+    {
+        match &self.place {
+            Place::Up(running) => running.stored.room.in_doubt.len(),
+            Place::Down(_, _) => 0,
+        }
+    }
+
+    /// The serial of the prepared branch at this place of the order in which they were prepared.
+    pub fn in_doubt(&self, place: usize) -> Option<Serial>
+        ensures { option_map serial_of result ≡ slice_get (in_doubt_in (kept_of D.state U.state self.now).place) place }
+    {
+        match &self.place {
+            Place::Up(running) => running.stored.room.in_doubt.get(place).copied(),
+            Place::Down(_, _) => None,
+        }
+    }
+
+    /// The question of a prepared branch of this serial to its coordinator.
+    pub fn question(&self, serial: Serial) -> Option<Message>
+        ensures { option_map message_of result ≡ question_in (serial_of serial) (kept_of D.state U.state self.now).place }
+    {
+        let Place::Up(running) = &self.place else {
+            return None;
+        };
+        let branch = running.table.branch(serial)?;
+        if branch.state != State::Prepared {
+            return None;
+        }
+        Some(Message {
+            kind: Kind::Inquire,
+            from: branch.serial.0.node,
+            to: branch.tid.0.node,
+            tid: branch.tid,
+            serial: branch.serial,
+            bid: None,
+        })
+    }
+
+    /// What the node answers the question of a branch; None where it does not answer.
+    pub fn answer(&mut self, question: &Message) -> Option<Message>
+        requires asks { (message_of question.now).kind ≡ InquireSaid }
+        ensures kept { kept_of D.state U.state self.new ≡ kept_of D.state U.state self.old }
+        ensures node { (count : ℕ) (s : SharedState) → IsNode D.state U.state count s self.old → IsNode D.state U.state count s self.new }
+        ensures answer { option_map message_of result ≡ answer_in_place (message_of question.now) (kept_of D.state U.state self.old).place }
+    {
+        match &mut self.place {
+            Place::Up(running) => running.answer(&question.tid, &question.serial),
+            Place::Down(_, _) => None,
+        }
+    }
+
+    /// Boots the node in a settling, where it is down.
+    pub fn restart<E: Emit>(&mut self, alloc: Global, shared: &mut Shared, out: &mut E) -> Flow
+        requires down { is_up_in (kept_of D.state U.state self.old).place ≡ false }
+        requires used { shared.old.in_use ≡ true }
+        requires node { (count : ℕ) × (count < 1000002) × IsNode D.state U.state count shared.old self.old }
+        ensures node { (count : ℕ) → IsNode D.state U.state count shared.old self.old → IsNode D.state U.state count shared.new self.new }
+        ensures name { self.new.name ≡ self.old.name }
+        ensures in_use { shared.old.in_use ≡ true → shared.new.in_use ≡ true }
+        ensures place { E.place out.new ≡ E.place out.old }
+        ensures since { Since (E.shows out.old) (E.shows out.new) }
+        ensures tells { TellsTask (Restarts) (is_over result) (is_over result) (kept_of D.state U.state self.old) shared.old (E.shows out.old) (E.shows out.new) (kept_of D.state U.state self.new) shared.new }
+        ensures performs { PerformsTask (Restarts) (is_over result) (is_over result) (kept_of D.state U.state self.old) shared.old (E.shows out.old) (E.shows out.new) (kept_of D.state U.state self.new) shared.new }
+    {
+        if self.unmade {
+            out.emit(&Form::NotInitializedAt(self.name));
+            return Flow::Over;
+        }
+        match self.come_up(alloc, shared, out) {
+            Some(boot) => {
+                out.emit(&Form::Booted(self.name, boot));
+                Flow::GoesOn
+            }
+            None => Flow::Over,
+        }
+    }
+
+    // BOOT: the node comes up over its volume.
+    fn boot<E: Emit>(&mut self, alloc: Global, shared: &mut Shared, out: &mut E)
+        requires node { (count : ℕ) × (count < 1000002) × IsNode D.state U.state count shared.old self.old }
+        ensures node { (count : ℕ) → IsNode D.state U.state count shared.old self.old → IsNode D.state U.state (count + 1) shared.new self.new }
+        ensures name { self.new.name ≡ self.old.name }
+        ensures clock { self.new.clock ≡ self.old.clock }
+        ensures in_use { shared.old.in_use ≡ true → shared.new.in_use ≡ true }
+        ensures place { E.place out.new ≡ E.place out.old }
+        ensures since { Since (E.shows out.old) (E.shows out.new) }
+        ensures tells { (ends : Bool) × TellsTask (Serves (said.Boot)) true ends (kept_of D.state U.state self.old) shared.old (E.shows out.old) (E.shows out.new) (kept_of D.state U.state self.new) shared.new }
+        ensures performs { PerformsRequest (said.Boot) (kept_of D.state U.state self.old) shared.old (E.shows out.old) (E.shows out.new) (kept_of D.state U.state self.new) shared.new }
+    {
+        if self.is_up() {
+            out.emit(&Form::NodeUp);
+            return;
+        }
+        if self.unmade {
+            out.emit(&Form::NotInitialized);
+            return;
+        }
+        if let Some(boot) = self.come_up(alloc, shared, out) {
+            out.emit(&Form::NormalCount(u64::from(boot)));
+        }
+    }
+
+    // A node that is down comes up, and tells its boot count; None where it does not and has been answered.
+    fn come_up<E: Emit>(&mut self, alloc: Global, shared: &mut Shared, out: &mut E) -> Option<u32>
+        requires down { is_up_in (kept_of D.state U.state self.old).place ≡ false }
+        requires made { self.old.unmade ≡ false }
+        requires node { (count : ℕ) × (count < 1000002) × IsNode D.state U.state count shared.old self.old }
+        ensures node { (count : ℕ) → IsNode D.state U.state count shared.old self.old → IsNode D.state U.state count shared.new self.new }
+        ensures name { self.new.name ≡ self.old.name }
+        ensures clock { self.new.clock ≡ self.old.clock }
+        ensures in_use { shared.old.in_use ≡ true → shared.new.in_use ≡ true }
+        ensures place { E.place out.new ≡ E.place out.old }
+        ensures since { Since (E.shows out.old) (E.shows out.new) }
+        ensures comes { ComesTo (kept_of D.state U.state self.old) shared.old result (E.shows out.old) (E.shows out.new) (kept_of D.state U.state self.new) shared.new }
+    {
+        let boot = Boot {
+            alloc,
+            name: self.name,
+        };
+        the_laws();
+        match replace_with(&mut self.place, boot, open_place) {
+            Opened::Up => {
+                shared.occupy();
+                self.rise(out)
+            }
+            Opened::NoMemory => {
+                out.emit(&Form::NoMemory);
+                None
+            }
+            Opened::Refused(form) => {
+                out.emit(&form);
+                None
+            }
+            Opened::Fell(down) => {
+                shared.occupy();
+                show_fall(self.name, down, out);
+                None
+            }
+        }
+    }
+
+    // Reopens the volume of a node that was opened, and tells its boot count; None where the disk goes down, which is answered.
+    fn rise<E: Emit>(&mut self, out: &mut E) -> Option<u32>
+        requires open { IsOpen self.old.name (kept_of D.state U.state self.old).place }
+        requires clock { self.old.clock.0 ≤ 24000000000000 }
+        ensures kept { kept_of D.state U.state self.new ≡ record (kept_of D.state U.state self.old) { place = (kept_of D.state U.state self.new).place } }
+        ensures node { (count : ℕ) (s : SharedState) → s.in_use ≡ true → self.old.unmade ≡ false → IsNode D.state U.state count s self.new }
+        ensures place { E.place out.new ≡ E.place out.old }
+        ensures since { Since (E.shows out.old) (E.shows out.new) }
+        ensures reopens { Reopens self.old.name self.old.clock.0 (kept_of D.state U.state self.old).place result (kept_of D.state U.state self.new).place (E.shows out.old) (E.shows out.new) }
+    {
+        match &mut self.place {
+            Place::Up(running) => match reopen(running, self.clock, out) {
+                Ok(boot) => Some(boot),
+                Err(down) => {
+                    self.go_down(down, out);
+                    out.emit(&Form::Broken(cause_of(down)));
+                    None
+                }
+            },
+            Place::Down(_, _) => unreachable!(),
+        }
+    }
+
+    // INIT: an empty volume of this node, with so many log slots and blocks of the journal.
+    fn init<E: Emit>(&mut self, slots: u32, blocks: u32, shared: &Shared, out: &mut E)
+        requires node { (count : ℕ) × (count < 1000002) × IsNode D.state U.state count shared.now self.old }
+        ensures node { (count : ℕ) → IsNode D.state U.state count shared.now self.old → IsNode D.state U.state (count + 1) shared.now self.new }
+        ensures name { self.new.name ≡ self.old.name }
+        ensures clock { self.new.clock ≡ self.old.clock }
+        ensures place { E.place out.new ≡ E.place out.old }
+        ensures since { Since (E.shows out.old) (E.shows out.new) }
+        ensures tells { (ends : Bool) × TellsTask (Serves (said.Init slots blocks)) true ends (kept_of D.state U.state self.old) shared.now (E.shows out.old) (E.shows out.new) (kept_of D.state U.state self.new) shared.now }
+        ensures performs { PerformsRequest (said.Init slots blocks) (kept_of D.state U.state self.old) shared.now (E.shows out.old) (E.shows out.new) (kept_of D.state U.state self.new) shared.now }
+    {
+        if shared.is_in_use() {
+            out.emit(&Form::VolumeInUse);
+            return;
+        }
+        let new = NewVolume {
+            name: self.name,
+            slots,
+            blocks,
+        };
+        match replace_with(&mut self.place, new, format_place) {
+            Formatted::Refused => out.emit(&Form::BadParameter),
+            Formatted::Made => {
+                self.unmade = false;
+                out.emit(&Form::Normal);
+            }
+            Formatted::Failed(down) => {
+                self.unmade = true;
+                show_fall(self.name, down, out);
+            }
+        }
+    }
+
+    // FUSE: after so many further writes the disk stops, and a power loss then damages what is pending by this choice.
+    fn fuse<E: Emit>(&mut self, writes: u32, choice: u64, shared: &Shared, out: &mut E)
+        requires node { (count : ℕ) × (count < 1000002) × IsNode D.state U.state count shared.now self.old }
+        ensures node { (count : ℕ) → IsNode D.state U.state count shared.now self.old → IsNode D.state U.state (count + 1) shared.now self.new }
+        ensures name { self.new.name ≡ self.old.name }
+        ensures clock { self.new.clock ≡ self.old.clock }
+        ensures place { E.place out.new ≡ E.place out.old }
+        ensures since { Since (E.shows out.old) (E.shows out.new) }
+        ensures tells { (ends : Bool) × TellsTask (Serves (said.Fuse writes choice)) true ends (kept_of D.state U.state self.old) shared.now (E.shows out.old) (E.shows out.new) (kept_of D.state U.state self.new) shared.now }
+        ensures performs { PerformsRequest (said.Fuse writes choice) (kept_of D.state U.state self.old) shared.now (E.shows out.old) (E.shows out.new) (kept_of D.state U.state self.new) shared.now }
+    {
+        the_laws();
+        arm(&mut self.place, writes, choice);
+        out.emit(&Form::Normal);
+    }
+
+    // CRASH: the node goes down.
+    fn crash<E: Emit>(&mut self, shared: &Shared, out: &mut E)
+        requires node { (count : ℕ) × (count < 1000002) × IsNode D.state U.state count shared.now self.old }
+        ensures node { (count : ℕ) → IsNode D.state U.state count shared.now self.old → IsNode D.state U.state (count + 1) shared.now self.new }
+        ensures name { self.new.name ≡ self.old.name }
+        ensures clock { self.new.clock ≡ self.old.clock }
+        ensures place { E.place out.new ≡ E.place out.old }
+        ensures since { Since (E.shows out.old) (E.shows out.new) }
+        ensures tells { (ends : Bool) × TellsTask (Serves (said.Crash)) true ends (kept_of D.state U.state self.old) shared.now (E.shows out.old) (E.shows out.new) (kept_of D.state U.state self.new) shared.now }
+        ensures performs { PerformsRequest (said.Crash) (kept_of D.state U.state self.old) shared.now (E.shows out.old) (E.shows out.new) (kept_of D.state U.state self.new) shared.now }
+    {
+        the_laws();
+        if !self.is_up() {
+            out.emit(&Form::NodeDown);
+            return;
+        }
+        replace_with(&mut self.place, (), fall);
+        out.emit(&Form::Crashed(self.name));
+        out.emit(&Form::Normal);
+    }
 }
 
-// The place of a node after it went down.
-fn fall<D: Disk, U: RecoveryUnits>(place: Place<D, U>, _nothing: ()) -> (Place<D, U>, ())
-    ensures down { (r : RunningSaid D U) → place ≡ Place.Up r → place_of D.state U.state result.0 ≡ IsDown true r.volume.store.disk }
-    ensures parts { (r : RunningSaid D U) → place ≡ Place.Up r → 32 ≤ free_frames r.volume.store.pool → HasParts U.state result.0 }
+// The disk of a place is armed.
+fn arm<D: Disk, U: RecoveryUnits>(place: &mut Place<D, U>, writes: u32, choice: u64)
+    ensures place { place_of D.state U.state place.new ≡ place_armed writes choice (place_of D.state U.state place.old) }
+    ensures kept { (count : ℕ) (s : SharedState) (n : NodeSaid D U) → IsPlaceOf D.state U.state count s n place.old → IsPlaceOf D.state U.state (count + 1) s n place.new }
 {
     match place {
-        Place::Up(running) => (fallen(running), ()),
+        Place::Down(disk, _) => disk.arm(writes, choice),
+        Place::Up(running) => running.stored.volume.store().arm(writes, choice),
+    }
+}
+
+// What a boot is of.
+#[derive(Drop)]
+struct Boot {
+    alloc: Global,
+    name: NodeName,
+}
+
+// How the opening of a node that is down went: it has its volume; or it is down still, for want of memory, for this refusal, or for this failure.
+#[derive(Drop)]
+enum Opened {
+    Up,
+    NoMemory,
+    Refused(Form<'static>),
+    Fell(Down),
+}
+
+// The volume that an INIT makes.
+#[derive(Drop)]
+struct NewVolume {
+    name: NodeName,
+    slots: u32,
+    blocks: u32,
+}
+
+// How an INIT went at a node that is down.
+#[derive(Drop)]
+enum Formatted {
+    Refused,
+    Made,
+    Failed(Down),
+}
+
+// The disk and the parts of a node that went down.
+fn taken_apart<D: Disk, U: RecoveryUnits>(running: Running<D, U>) -> (D, Parts<U>)
+    ensures disk { D.state result.0 ≡ running.stored.volume.store.disk }
+    ensures parts { 32 ≤ free_frames running.stored.volume.store.pool → IsParts U.state result.1 }
+{
+    let Running {
+        stored,
+        table,
+        effects,
+        drawn: _,
+    } = running;
+    let Stored {
+        volume,
+        mut units,
+        mut room,
+    } = stored;
+    let (disk, group, pool) = volume.into_store().into_parts();
+    units.forget();
+    room.in_doubt.clear();
+    let parts = Parts {
+        group,
+        pool,
+        units,
+        room,
+        table,
+        effects,
+    };
+    (disk, parts)
+}
+
+// What is left of a place when its node goes down.
+fn fall<D: Disk, U: RecoveryUnits>(place: Place<D, U>, _nothing: ()) -> (Place<D, U>, ())
+    ensures place { place_of D.state U.state result.0 ≡ fallen_place (place_of D.state U.state place) }
+    ensures falls { MayFall D.state U.state place → IsFallen D.state U.state result.0 }
+{
+    match place {
+        Place::Up(running) => {
+            let (disk, parts) = taken_apart(running);
+            (Place::Down(disk, Some(parts)), ())
+        }
         Place::Down(disk, parts) => (Place::Down(disk, parts), ()),
     }
 }
 
-// What stands over a disk that is armed.
-fn armed_place<D: Disk, U: RecoveryUnits>(
+// Shows that a node goes down in a statement, and answers it so.
+fn show_fall<E: Emit>(name: NodeName, down: Down, out: &mut E)
+    ensures place { E.place out.new ≡ E.place out.old }
+    ensures since { Since (E.shows out.old) (E.shows out.new) }
+    ensures shows { Emits (E.shows out.old) (line.Down name (cause_said down) ∷ line.Broken (cause_said down) ∷ []) (E.shows out.new) }
+{
+    let cause = cause_of(down);
+    out.emit(&Form::Down(name, cause));
+    out.emit(&Form::Broken(cause));
+}
+
+// Writes an empty volume to the disk of a node that is down.
+fn format_place<D: Disk, U: RecoveryUnits>(
     place: Place<D, U>,
-    writes: u32,
-    choice: u64,
-) -> Place<D, U>
-    ensures place { place_of D.state U.state result ≡ place_armed writes choice (place_of D.state U.state place) }
-    ensures kept { (n : ℕ) (s : SharedSaid) (node : NodeSaid D U) → IsPlaceOf D.state U.state n s node place → IsPlaceOf D.state U.state n s node result }
+    new: NewVolume,
+) -> (Place<D, U>, Formatted)
+    requires down { IsFallen D.state U.state place }
+    ensures falls { IsFallen D.state U.state result.0 }
+    ensures formats { Formats new.name new.slots new.blocks (place_of D.state U.state place) result.1 (place_of D.state U.state result.0) }
 {
     match place {
+        Place::Up(_) => unreachable!(),
         Place::Down(disk, parts) => {
-            let mut disk = disk;
-            disk.arm(writes, choice);
-            Place::Down(disk, parts)
-        }
-        Place::Up(running) => {
-            let mut running = running;
-            running.arm(writes, choice);
-            Place::Up(running)
+            let (disk, done) = format(disk, &new);
+            (Place::Down(disk, parts), done)
         }
     }
 }
 
-// What is left of a node that went down: its disk and its parts.
-fn fallen<D: Disk, U: RecoveryUnits>(running: Running<D, U>) -> Place<D, U>
-    ensures down { place_of D.state U.state result ≡ IsDown true running.volume.store.disk }
-    ensures parts { 32 ≤ free_frames running.volume.store.pool → HasParts U.state result }
-{
-    let (store, mut units, room) = running.into_parts();
-    let (disk, group, pool) = store.into_parts();
-    units.forget();
-    Place::Down(
-        disk,
-        Some(Parts {
-            group,
-            pool,
-            units,
-            room,
-        }),
-    )
-}
-
-// Writes an empty volume to the disk of a node that is down, and says whether there is no volume then because an INIT failed.
-fn format<D: Disk, E: Emit>(
-    name: NodeName,
-    unmade: bool,
-    mut disk: D,
-    slots: u32,
-    blocks: u32,
-    out: &mut E,
-) -> (D, bool)
+// Writes an empty volume to a disk.
+fn format<D: Disk>(mut disk: D, new: &NewVolume) -> (D, Formatted)
     requires least { 4096 ≤ (D.state disk).size }
-    ensures passes { Passes (D.state disk) (D.state result.0) }
-    ensures place { E.place out.new ≡ E.place out.old }
-    ensures since { Since (E.shows out.old) (E.shows out.new) }
-    ensures tells { (s : SharedInLines) → s.in_use ≡ false → Answers (said.Init slots blocks) (E.shows out.old) (E.shows out.new) (D.state disk) (D.state result.0) s s (said_down name unmade) (said_down name result.1) }
-    ensures serves { (has_parts : Bool) (s : SharedSaid) (log : CallLog) (n : NodeOfWorld) → s.in_use ≡ false → StandsFor log (kept_down name unmade has_parts (D.state disk)) n →
-        Serves log s n (counts_of (D.state disk)) (said.Init slots blocks) (E.shows out.old) (E.shows out.new) (kept_down name result.1 has_parts (D.state result.0)) s }
+    ensures size { (D.state result.0).size ≡ (D.state disk).size }
+    ensures formats { (has_parts : Bool) → FormatsDisk new.now.name new.now.slots new.now.blocks has_parts (D.state disk) result.1 (D.state result.0) }
 {
     let size = disk.blocks();
     let sizes = Sizes {
         blocks: size,
-        slots,
-        ru_blocks: blocks,
+        slots: new.slots,
+        ru_blocks: new.blocks,
     };
     if !sizes_fit(&sizes, size) {
-        out.emit(&Form::BadParameter);
-        return (disk, unmade);
+        return (disk, Formatted::Refused);
     }
     if let Err(e) = disk.power() {
-        show_fall(name, Down::from(e), out);
-        return (disk, true);
+        return (disk, Formatted::Failed(Down::from(e)));
     }
-    nodes_are_kept();
-    let (disk, done) = Volume::format(disk, name, slots, blocks);
+    the_laws();
+    let (disk, done) = Volume::format(disk, new.name, new.slots, new.blocks);
     match done {
-        Ok(()) => {
-            out.emit(&Form::Normal);
-            (disk, false)
-        }
-        Err(down) => {
-            show_fall(name, down, out);
-            (disk, true)
-        }
+        Ok(()) => (disk, Formatted::Made),
+        Err(down) => (disk, Formatted::Failed(down)),
     }
 }
 
-// Boots a node that is down, with its parts or with new ones.
-fn boot_down<D: Disk, U: RecoveryUnits, E: Emit>(
-    alloc: Global,
-    name: NodeName,
-    disk: D,
-    parts: Option<Parts<U>>,
-    shared: &mut Shared,
-    out: &mut E,
-) -> Node<D, U>
-    requires least { 4096 ≤ (D.state disk).size }
-    requires most { (D.state disk).size ≤ 65536 }
-    requires parts { IfSome parts (IsParts U.state) }
-    ensures kept { (n : ℕ) → IsNode D.state U.state n (shared_of shared.new) result }
-    ensures in_use { shared.old.in_use ≡ true → shared.new.in_use ≡ true }
-    ensures name { result.name ≡ name }
-    ensures passes { Passes (D.state disk) (state_of D.state U.state result) }
-    ensures place { E.place out.new ≡ E.place out.old }
-    ensures since { Since (E.shows out.old) (E.shows out.new) }
-    ensures tells { Answers said.Boot (E.shows out.old) (E.shows out.new) (D.state disk) (state_of D.state U.state result) (said_shared (shared_of shared.old)) (said_shared (shared_of shared.new)) (said_down name false) (said_node (kept_of D.state U.state result)) }
-    ensures serves { (log : CallLog) (n : NodeOfWorld) → StandsFor log (kept_down name false (is_some parts) (D.state disk)) n → IsPromised said.Boot n →
-        Serves log (shared_of shared.old) n (counts_of (D.state disk)) said.Boot (E.shows out.old) (E.shows out.new) (kept_of D.state U.state result) (shared_of shared.new) }
+// Opens a node that is down, with its parts or with new ones.
+fn open_place<D: Disk, U: RecoveryUnits>(place: Place<D, U>, boot: Boot) -> (Place<D, U>, Opened)
+    requires down { IsFallen D.state U.state place }
+    ensures falls { MayFall D.state U.state result.0 }
+    ensures opens { (clock : ℕ) → Opens (record { name = boot.name; unmade = false; clock = clock; place = place_of D.state U.state place }) (place_of D.state U.state result.0) result.1 }
 {
-    if let Some(parts) = parts {
-        return boot_with(name, disk, parts, shared, out);
-    }
-    match reserve_parts(alloc) {
-        Ok(parts) => boot_with(name, disk, parts, shared, out),
-        Err(_) => {
-            out.emit(&Form::NoMemory);
-            Node {
-                name,
-                unmade: false,
-                place: Place::Down(disk, None),
-            }
-        }
+    match place {
+        Place::Up(_) => unreachable!(),
+        Place::Down(disk, parts) => match parts {
+            Some(parts) => open_with(boot.name, disk, parts),
+            None => match reserve_parts(boot.alloc) {
+                Ok(parts) => open_with(boot.name, disk, parts),
+                Err(_) => (Place::Down(disk, None), Opened::NoMemory),
+            },
+        },
     }
 }
 
-// Boots a node that is down, with its parts.
-fn boot_with<D: Disk, U: RecoveryUnits, E: Emit>(
+// Opens a node that is down, with its parts.
+fn open_with<D: Disk, U: RecoveryUnits>(
     name: NodeName,
     mut disk: D,
     parts: Parts<U>,
-    shared: &mut Shared,
-    out: &mut E,
-) -> Node<D, U>
+) -> (Place<D, U>, Opened)
     requires least { 4096 ≤ (D.state disk).size }
     requires most { (D.state disk).size ≤ 65536 }
     requires parts { IsParts U.state parts }
-    ensures kept { (n : ℕ) → IsNode D.state U.state n (shared_of shared.new) result }
-    ensures in_use { shared.old.in_use ≡ true → shared.new.in_use ≡ true }
-    ensures name { result.name ≡ name }
-    ensures passes { Passes (D.state disk) (state_of D.state U.state result) }
-    ensures place { E.place out.new ≡ E.place out.old }
-    ensures since { Since (E.shows out.old) (E.shows out.new) }
-    ensures tells { Answers said.Boot (E.shows out.old) (E.shows out.new) (D.state disk) (state_of D.state U.state result) (said_shared (shared_of shared.old)) (said_shared (shared_of shared.new)) (said_down name false) (said_node (kept_of D.state U.state result)) }
-    ensures serves { (has_parts : Bool) (log : CallLog) (n : NodeOfWorld) → StandsFor log (kept_down name false has_parts (D.state disk)) n → IsPromised said.Boot n →
-        Serves log (shared_of shared.old) n (counts_of (D.state disk)) said.Boot (E.shows out.old) (E.shows out.new) (kept_of D.state U.state result) (shared_of shared.new) }
+    ensures falls { MayFall D.state U.state result.0 }
+    ensures opens { (clock : ℕ) (has_parts : Bool) → Opens (kept_down name clock has_parts (D.state disk)) (place_of D.state U.state result.0) result.1 }
 {
+    nodes_stay_kept();
+    if let Err(e) = disk.power() {
+        return (Place::Down(disk, Some(parts)), Opened::Fell(Down::from(e)));
+    }
     let Parts {
         group,
         pool,
         units,
         room,
+        table,
+        effects,
     } = parts;
-    if let Err(e) = disk.power() {
-        let parts = Parts {
-            group,
-            pool,
-            units,
-            room,
-        };
-        return fall_in_boot(name, Down::from(e), disk, parts, shared, out);
-    }
     match open_disk(disk, group, pool, name) {
         Booted::Up(volume) => {
-            nodes_are_kept();
-            shared.in_use = true;
-            show_last(volume.home(), out);
-            reopen(name, volume, units, room, out)
+            let running = Running {
+                stored: Stored {
+                    volume,
+                    units,
+                    room,
+                },
+                table,
+                effects,
+                drawn: 0,
+            };
+            (Place::Up(running), Opened::Up)
         }
         Booted::Refused(disk, group, pool, form) => {
-            out.emit(&form);
             let parts = Parts {
                 group,
                 pool,
                 units,
                 room,
+                table,
+                effects,
             };
-            down_node(name, disk, parts)
+            (Place::Down(disk, Some(parts)), Opened::Refused(form))
         }
         Booted::Fell(disk, group, pool, down) => {
             let parts = Parts {
@@ -562,51 +860,66 @@ fn boot_with<D: Disk, U: RecoveryUnits, E: Emit>(
                 pool,
                 units,
                 room,
+                table,
+                effects,
             };
-            fall_in_boot(name, down, disk, parts, shared, out)
+            (Place::Down(disk, Some(parts)), Opened::Fell(down))
         }
     }
 }
 
-// Undoes the units that a fall left, shows each, and answers the boot.
+// Undoes the units that a fall left, shows each, and then the branches that are prepared. Before them it shows the last settlement on the disk.
 fn reopen<D: Disk, U: RecoveryUnits, E: Emit>(
-    name: NodeName,
-    mut volume: Volume<D>,
-    mut units: U,
-    mut room: Room,
+    running: &mut Running<D, U>,
+    clock: Moment,
     out: &mut E,
-) -> Node<D, U>
-    requires raised { IsRaised name volume }
-    requires none { U.state units ≡ nothing_begun }
-    ensures kept { (n : ℕ) (s : SharedSaid) → s.in_use ≡ true → IsNode D.state U.state n s result }
-    ensures name { result.name ≡ name }
+) -> Result<u32, Down>
+    requires raised { (name : List ℕ) × IsRaised name running.old.stored.volume }
+    requires none { HasNoUnit (U.state running.old.stored.units) }
+    requires clock { clock.0 ≤ 24000000000000 }
     ensures place { E.place out.new ≡ E.place out.old }
     ensures since { Since (E.shows out.old) (E.shows out.new) }
-    ensures reopens { Reopens D.state U.state name volume result (E.shows out.old) (E.shows out.new) }
+    ensures up { IfOk result (λ boot. ReopensUp clock.0 running.old.stored.volume boot (up_of U.state running.new) (E.shows out.old) (E.shows out.new)) }
+    ensures down { IfErr result (λ down. Breaks clock.0 running.old.stored.volume running.new.stored.volume down (E.shows out.old) (E.shows out.new)) }
 {
-    room.settled.clear();
-    let done = units.reopen(&mut volume, CLOCK, &mut room.settled);
-    show_undone(room.settled.items(), out);
-    let boot = volume.home().boot;
-    let running = Running::new(volume, units, room);
+    show_last(running.stored.volume.home(), out);
+    running.stored.room.told.clear();
+    let done = reopen_units(&mut running.stored, clock);
+    show_undone(running.stored.room.told.settled(), out);
     match done {
         Ok(()) => {
-            out.emit(&Form::NormalCount(u64::from(boot)));
-            Node {
-                name,
-                unmade: false,
-                place: Place::Up(running),
-            }
+            running.boot();
+            show_prepared(running.stored.room.told.prepared(), out);
+            Ok(running.stored.volume.home().boot)
         }
-        Err(down) => {
-            show_fall(name, down, out);
-            Node {
-                name,
-                unmade: false,
-                place: fallen(running),
-            }
-        }
+        Err(down) => Err(down),
     }
+}
+
+// Undoes the units that a fall left, and tells what it found.
+fn reopen_units<D: Disk, U: RecoveryUnits>(
+    stored: &mut Stored<D, U>,
+    clock: Moment,
+) -> Result<(), Down>
+    requires empty { HasNoUnit (U.state stored.old.units) }
+    requires order { IsInOrder (record (U.state stored.old.units) { log = [] }) stored.old.volume }
+    requires early { IsEarly stored.old.volume }
+    requires moment { stored.old.volume.catalog.home.greatest_moment.0 + 64 ≤ 24000001000066 }
+    requires clock { clock.0 + 64 ≤ 24000001000066 }
+    requires none { stored.old.room.told ≡ nothing_told }
+    ensures units { OnOk result (AreOfBranches (U.state stored.new.units).begun (branches_of (map log_record_of stored.new.room.told.prepared))) }
+    ensures begins { OnOk result (MayBegin stored.new.room.told (U.state stored.new.units).log) }
+    ensures order { OnOk result (IsInOrder (U.state stored.new.units) stored.new.volume) }
+    ensures grows { Grows 64 (clock.0 + 64) stored.old.volume stored.new.volume }
+    ensures room { OnOk result (stored.new.volume.catalog.home.greatest_moment.0 + length (U.state stored.new.units).begun ≤ max stored.old.volume.catalog.home.greatest_moment.0 clock.0 + 64) }
+    ensures moments { AllByRecursion (λ (u : SettledSaid). u.moment.0 ≤ stored.new.volume.catalog.home.greatest_moment.0) stored.new.room.told.settled }
+    ensures cause { Caused (down_of result) stored.old.volume.store.disk stored.new.volume.store.disk }
+    ensures done { OnOk result (ReopensOk clock.0 stored.new.room.told stored.old.volume (U.state stored.new.units) stored.new.volume) }
+    ensures err { OnErr result (ReopensErr clock.0 stored.new.room.told stored.old.volume stored.new.volume) }
+{
+    stored
+        .units
+        .reopen(&mut stored.volume, clock, &mut stored.room.told)
 }
 
 // Shows the units that a restart undid.
@@ -614,40 +927,20 @@ fn show_undone<E: Emit>(units: &[SettledUnit], out: &mut E)
     requires times { AllByRecursion (λ (u : SettledSaid). u.moment.0 < 24000001000067) units.now }
     ensures place { E.place out.new ≡ E.place out.old }
     ensures since { Since (E.shows out.old) (E.shows out.new) }
-    ensures emits { Emits (E.shows out.old) (map undone_line units.now) (E.shows out.new) }
+    ensures shows { Emits (E.shows out.old) (map undone_line units.now) (E.shows out.new) }
 {
     for unit in units {
         out.emit(&Form::Aborted(unit.tid, unit.serial, Reason::SegFail, unit.moment));
     }
 }
 
-// A node goes down in its boot, and that is answered. No volume may be made any more.
-fn fall_in_boot<D: Disk, U: RecoveryUnits, E: Emit>(
-    name: NodeName,
-    down: Down,
-    disk: D,
-    parts: Parts<U>,
-    shared: &mut Shared,
-    out: &mut E,
-) -> Node<D, U>
-    ensures node { result ≡ record { name = name; unmade = false; place = Place.Down disk (Some parts) } }
-    ensures shared { shared.new ≡ record shared.old { in_use = true } }
+// Shows the branches that a restart found prepared, in the order of their preparation.
+fn show_prepared<E: Emit>(records: &[LogRec], out: &mut E)
     ensures place { E.place out.new ≡ E.place out.old }
     ensures since { Since (E.shows out.old) (E.shows out.new) }
-    ensures emits { Emits (E.shows out.old) (line.Down name (cause_kept down) ∷ line.Broken (cause_kept down) ∷ []) (E.shows out.new) }
+    ensures shows { Emits (E.shows out.old) (map prepared_told records.now) (E.shows out.new) }
 {
-    shared.in_use = true;
-    show_fall(name, down, out);
-    down_node(name, disk, parts)
-}
-
-// A node that is down, and whose last INIT did not fail.
-fn down_node<D: Disk, U: RecoveryUnits>(name: NodeName, disk: D, parts: Parts<U>) -> Node<D, U>
-    ensures { result ≡ record { name = name; unmade = false; place = Place.Down disk (Some parts) } }
-{
-    Node {
-        name,
-        unmade: false,
-        place: Place::Down(disk, Some(parts)),
+    for logged in records {
+        out.emit(&Form::Prepared(logged.tid, logged.serial));
     }
 }

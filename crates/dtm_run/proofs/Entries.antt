@@ -10,7 +10,7 @@ use Rattle.transcript_model.proofs.OutsideLemmas.{behind_on, behind_none}
 use Rattle.script_model.specs.Statements.{Bad}
 use Rattle.script_model.specs.Grammar.{reading}
 use Rattle.run_model.specs.Transcript.{Entry, number_after, size_before, text_of, lines_then, Exit, Done, BadLine, TooLong, ReadFault, WriteFault, Memory, IsInLimits, AreInLimits, BeginsBad, EndsTooLong, CutIn, Ends}
-use Rattle.run_model.proofs.TranscriptLemmas.{IsCutFrom, emitted_whole, emitted_cut, told_at_first, told_next, continues, anything}
+use Rattle.dtm_run.proofs.Emitted.{IsCutFrom, emitted_whole, emitted_cut, told_at_first, told_next, continues, anything}
 
 begins : (P : List ScriptLine → Type 0) (ahead later : Option (List ScriptLine)) (source : ScriptLine) → ahead ≡ option_map (λ more. source ∷ more) later → ((more : List ScriptLine) → P (source ∷ more)) → IfSome ahead P
 begins P ahead None source told h = subst (λ o. IfSome o P) (sym told) tt

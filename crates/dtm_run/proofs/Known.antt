@@ -1,34 +1,28 @@
--- Of which disks something is known, or an INIT failed: a node keeps that whatever it is asked, so from nodes of which something is known a run leads on whole.
-use Rattle.std.proofs.Common.{◌≡◌, ℕ, List, [], ◌∷◌, ◌++◌, Bool, true, false, Option, Some, None, take, if◌then◌else◌, refl, sym, ◌∙◌, ap, subst}
+-- Of which disks something is known, or an INIT failed: a node keeps that whatever it is asked.
+use Rattle.std.proofs.Common.{◌≡◌, ◌⊎◌, inl, inr, ℕ, List, [], ◌∷◌, Bool, true, false, Option, Some, None, take, if◌then◌else◌, refl, sym, ◌∙◌, ap, subst}
 use Rattle.std.specs.Str.{bytes_eq}
-use Rattle.std.specs.List.{AllByRecursion}
-use Rattle.std.specs.Option.{option_map}
-use Rattle.block_disk.specs.Disk.{DiskState}
-use Rattle.transcript_model.specs.Lines.{Line}
-use Rattle.transcript_model.specs.Script.{lines_of}
-use Rattle.script_model.specs.Statements.{At, Request, Reading, Blank, Says, Bad}
-use Rattle.script_model.specs.Grammar.{reading}
-use Rattle.run_model.specs.World.{World, Shared, Node, Act, Formats, Power, Unknown, acted, find_node, powered, unpowered, with_node}
-use Rattle.run_model.specs.Answers.{Row, powers, spoils, refused_before_reading, refused_after_reading, rows_at, closing_of}
+use Rattle.transcript_model.specs.Lines.{Line, Normal}
+use Rattle.script_model.specs.Statements.{At, Bad, Blank, Deliver, LinkDown, Reading, Says, Settle, Statement}
+use Rattle.vms_model.specs.Ids.{Id}
+use Rattle.unit_laws.specs.Units.{Map}
+use Rattle.run_agreement.specs.Seen.{IsKnown}
+use Rattle.run_model.specs.World.{Act, DiskCounts, Durable, Formats, Half, Lost, Node, Outturn, Settlement, Shared, Tables, Taken, World, aborted_prepared, acted, find_node, powered, settlement_of, unpowered, with_half, with_node, with_settlement}
+use Rattle.run_model.specs.Answers.{Row, Service, powers, refused_before_reading, spoils, task_service}
 use Rattle.run_model.specs.Steps as task
-use Rattle.run_model.specs.Steps.{Choice, Whole, WithoutMemory, Unpowered, Cut, node_after, node_after_rows, rows_to_cut, ready_node, spoilt, request_effect}
-use Rattle.run_model.specs.Statements.{node_of, stops_at}
-use Rattle.run_model.specs.Transcript.{AreInLimits, Ends, Entry, Legal, Turn}
-use Rattle.run_model.specs.Promises.{Promises}
-use Rattle.run_model.proofs.FindLemmas.{some_is}
-use Rattle.run_model.proofs.NodeTurns.{node_turn, none_turn}
-use Rattle.run_model.proofs.ReadyLemmas.{powered_is, resolved}
-use Rattle.dtm_run.specs.Headline.{Leaves, WholeRun, exit_of, is_known}
-use Rattle.dtm_run.specs.declared.top.Exit.{Exit}
-use Rattle.dtm_run.specs.Leading.{AreKnown, Beginning, IsUnknown, KnownRunsAreWhole, Leads, LeadsNowhere, LeavesOver, RunOver, world_at}
-use Rattle.dtm_run.proofs.Leading.{since_legal}
+use Rattle.run_model.specs.Steps.{Choice, Cut, Unpowered, Whole, WithoutMemory, node_after, node_after_rows, ready_node, rows_to_cut, service_effect, spoilt, task_effect}
+use Rattle.run_model.specs.Statements.{Allowed, Begins, Part, PartEffect, Phase, Phases, Step, begun_with, part_effect, phases_of, refused_at_once, stops_at}
+use Rattle.run_model.specs.Transcript.{Turn}
+use Rattle.run_model.proofs.NodeLists.{some_is}
+use Rattle.run_model.proofs.PartLemmas.{Doubted, Done, EachPart, EachPhase, Idle, Missing, Way, phases_fold, way}
+use Rattle.world_laws.proofs.Induction.{acts_name}
 
--- nothing is known of what a node's disk has only where the last INIT failed
-abbrev pub IsKnown : Node → Type 0
-IsKnown n = n.durable.volume ≡ Unknown → n.unmade ≡ true
+settled_volume : (o : Option Settlement) (d : Durable) → (with_settlement o d).volume ≡ d.volume
+settled_volume None d = refl
+settled_volume (Some s) d = refl
 
 pub act_known : (act : Act) (n : Node) → IsKnown n → IsKnown (acted act n)
 act_known (Formats slots journal) n h = λ e. let none : ⊥ = cc in absurd none
+act_known (Tables a moment) n h = λ e. h (sym (settled_volume (settlement_of a moment) _) ∙ e)
 act_known _ n h = h
 
 after_known : (o : Option Act) (n : Node) → IsKnown n → IsKnown (node_after o n)
@@ -43,132 +37,126 @@ spoilt_known : (b : Bool) (n : Node) → IsKnown n → IsKnown (spoilt b n)
 spoilt_known true n h = λ e. refl
 spoilt_known false n h = h
 
-powered_known : (taken : Bool) (stops : ℕ) (n : Node) → IsKnown n → IsKnown (powered taken stops n)
-powered_known taken stops n h = subst IsKnown (sym (powered_is taken stops n)) (go taken n.under_way)
-  where
-    go : (t : Bool) (o : Option Act) → IsKnown (record (resolved t o n) { calls = Power stops ∷ n.calls; under_way = None })
-    go true (Some act) = act_known act n h
-    go true None = h
-    go false o = h
+half_volume : (o : Option Id) (standing : List ℕ → Map) (d : Durable) → (with_half o standing d).volume ≡ d.volume
+half_volume None standing d = refl
+half_volume (Some serial) standing d = refl
 
-ready_known : (taken : Bool) (stops : ℕ) (request : Request) (n : Node) → IsKnown n → IsKnown (ready_node taken stops request n)
-ready_known taken stops request n h = go (powers request)
+powered_known : (o : Outturn) (stops : ℕ) (n : Node) → IsKnown n → IsKnown (powered o stops n)
+powered_known Lost stops n h = h
+powered_known (Half standing) stops n h = λ e. h (sym (half_volume (aborted_prepared n.under_way n.durable) standing n.durable) ∙ e)
+powered_known Taken stops n h = go n.under_way h
   where
-    go : (b : Bool) → IsKnown (if b then spoilt (spoils request) (powered taken stops n) else n)
-    go true = spoilt_known (spoils request) (powered taken stops n) (powered_known taken stops n h)
+    go : (w : Option Act) → IsKnown (record n { under_way = w }) → IsKnown (powered Taken stops (record n { under_way = w }))
+    go None k = k
+    go (Some act) k = act_known act (record n { under_way = Some act }) k
+
+ready_known : (o : Outturn) (stops : ℕ) (e : Service) (n : Node) → IsKnown n → IsKnown (ready_node o stops e n)
+ready_known o stops e n h = go (powers e)
+  where
+    go : (b : Bool) → IsKnown (if b then spoilt (spoils e) (powered o stops n) else n)
+    go true = spoilt_known (spoils e) (powered o stops n) (powered_known o stops n h)
     go false = h
 
-begun_known : (s : Shared) (n : Node) (request : Request) (o : Option Line) → IsKnown n → IsKnown (task.begun s n request o).node
-begun_known s n request (Some refusal) h = h
-begun_known s n request None h = after_known (closing_of request) (node_after_rows (rows_at s n request) n) (rows_known (rows_at s n request) n h)
+begun_known : (s : Shared) (n : Node) (e : Service) (o : Option Line) → IsKnown n → IsKnown (task.begun s n e o).node
+begun_known s n e (Some refusal) h = h
+begun_known s n e None h = after_known e.closing (node_after_rows (e.rows s n) n) (rows_known (e.rows s n) n h)
 
-whole_known : (s : Shared) (n ready : Node) (request : Request) (o : Option Line) → IsKnown n → IsKnown ready → IsKnown (task.whole s n ready request o).node
-whole_known s n ready request (Some refusal) h k = h
-whole_known s n ready request None h k = begun_known s ready request (refused_after_reading s ready request) k
+whole_known : (s : Shared) (n ready : Node) (e : Service) (o : Option Line) → IsKnown n → IsKnown ready → IsKnown (task.whole s n ready e o).node
+whole_known s n ready e (Some refusal) h k = h
+whole_known s n ready e None h k = begun_known s ready e (e.refused_after_reading s ready) k
 
-effect_known : (s : Shared) (stops : ℕ) (n : Node) (request : Request) (c : Choice) → IsKnown n → IsKnown (request_effect s stops n request c).node
-effect_known s stops n request (Whole taken) h = whole_known s n (ready_node taken stops request n) request (refused_before_reading s n request) h (ready_known taken stops request n h)
-effect_known s stops n request WithoutMemory h = h
-effect_known s stops n request Unpowered h = spoilt_known (spoils request) (unpowered stops n) h
-effect_known s stops n request (Cut taken done begun cause) h =
-    let ready = ready_node taken stops request n in
-    rows_known (take done (rows_to_cut s ready request)) ready (ready_known taken stops request n h)
+effect_known : (s : Shared) (stops : ℕ) (n : Node) (e : Service) (c : Choice) → IsKnown n → IsKnown (service_effect s stops n e c).node
+effect_known s stops n e (Whole o) h = whole_known s n (ready_node o stops e n) e (refused_before_reading s n e) h (ready_known o stops e n h)
+effect_known s stops n e WithoutMemory h = h
+effect_known s stops n e Unpowered h = spoilt_known (spoils e) (unpowered stops n) h
+effect_known s stops n e (Cut o done begun cause) h =
+    let ready = ready_node o stops e n in
+    rows_known (take done (rows_to_cut s ready e)) ready (ready_known o stops e n h)
 
--- So do all nodes of a world.
+-- One node among others becomes another of its name.
 
-abbrev pub AreKnownNodes : List Node → Type 0
-AreKnownNodes ns = AllByRecursion IsKnown ns
+abbrev WithOne : List ℕ → Node → List Node → List Node
+WithOne node m ns = with_node node (λ k. m) ns
 
-known_put : (name : List ℕ) (m : Node) (ns : List Node) → IsKnown m → AreKnownNodes ns → AreKnownNodes (with_node name (λ k. m) ns)
-known_put name m [] known all = tt
-known_put name m (n ∷ ns) known all = go (bytes_eq name n.name) (known_put name m ns known all.1)
+-- the one of a name is it, or it is found as before
+record IsPut (name : List ℕ) (m : Node) (ns : List Node) (n k : Node) : Type 0 where
+  same : k ≡ m
+  was : find_node name ns ≡ Some n
+
+found_put : (name node : List ℕ) (m : Node) (ns : List Node) (n k : Node) → find_node node ns ≡ Some n → m.name ≡ n.name → find_node name (WithOne node m ns) ≡ Some k → IsPut name m ns n k ⊎ (find_node name ns ≡ Some k)
+found_put name node m [] n k found named e = let none : ⊥ = cc in absurd none
+found_put name node m (x ∷ ns) n k found named e = go (bytes_eq node x.name) found e (found_put name node m ns n k)
   where
-    go : (b : Bool) → AreKnownNodes (with_node name (λ k. m) ns) → AreKnownNodes (if b then m ∷ ns else n ∷ with_node name (λ k. m) ns)
-    go true more = (known, all.1)
-    go false more = (all.0, more)
+    there : (b : Bool) → bytes_eq name x.name ≡ b → (o : Option Node) → ◌≡◌ {A = Option Node} (if b then Some x else find_node name ns) o → find_node name (x ∷ ns) ≡ o
+    there b is o f = ap (λ (c : Bool). if c then Some x else find_node name ns) is ∙ f
 
-found_known : (name : List ℕ) (ns : List Node) (n : Node) → AreKnownNodes ns → find_node name ns ≡ Some n → IsKnown n
-found_known name [] n all found = let none : ⊥ = cc in absurd none
-found_known name (m ∷ ns) n all found = go (bytes_eq name m.name) (found_known name ns n all.1) found
+    it : (b : Bool) → bytes_eq name m.name ≡ b → x ≡ n → m.name ≡ x.name → ◌≡◌ {A = Option Node} (if b then Some m else find_node name ns) (Some k) → IsPut name m (x ∷ ns) n k ⊎ (find_node name (x ∷ ns) ≡ Some k)
+    it true is it_is same f = inl (record { same = sym (some_is m k f); was = there true (ap (bytes_eq name) (sym same) ∙ is) (Some n) (ap (λ (y : Node). Some y) it_is) })
+    it false is it_is same f = inr (there false (ap (bytes_eq name) (sym same) ∙ is) (Some k) f)
+
+    other : (b : Bool) → bytes_eq name x.name ≡ b → ◌≡◌ {A = Option Node} (if b then Some x else find_node name (WithOne node m ns)) (Some k) → (find_node name (WithOne node m ns) ≡ Some k → IsPut name m ns n k ⊎ (find_node name ns ≡ Some k)) → IsPut name m (x ∷ ns) n k ⊎ (find_node name (x ∷ ns) ≡ Some k)
+    other true is f more = inr (there true is (Some k) f)
+    other false is f more = elim (more f) [ inl p ↦ inl (record { same = p.same; was = there false is (Some n) p.was }) | inr q ↦ inr (there false is (Some k) q) ]
+
+    go : (b : Bool) → ◌≡◌ {A = Option Node} (if b then Some x else find_node node ns) (Some n) → find_node name (if b then m ∷ ns else x ∷ WithOne node m ns) ≡ Some k → (find_node node ns ≡ Some n → m.name ≡ n.name → find_node name (WithOne node m ns) ≡ Some k → IsPut name m ns n k ⊎ (find_node name ns ≡ Some k)) →
+        IsPut name m (x ∷ ns) n k ⊎ (find_node name (x ∷ ns) ≡ Some k)
+    go true f g more = let is = some_is x n f in it (bytes_eq name m.name) refl is (named ∙ ap (λ (y : Node). y.name) (sym is)) g
+    go false f g more = other (bytes_eq name x.name) refl g (more f named)
+
+pub found_same : (node : List ℕ) (m : Node) (ns : List Node) (n : Node) → find_node node ns ≡ Some n → m.name ≡ n.name → find_node node (WithOne node m ns) ≡ Some m
+found_same node m [] n found named = let none : ⊥ = cc in absurd none
+found_same node m (x ∷ ns) n found named = go (bytes_eq node x.name) refl found (found_same node m ns n)
   where
-    go : (b : Bool) → (find_node name ns ≡ Some n → IsKnown n) → ◌≡◌ {A = Option Node} (if b then Some m else find_node name ns) (Some n) → IsKnown n
-    go true more e = subst IsKnown (some_is m n e) all.0
-    go false more e = more e
+    go : (b : Bool) → bytes_eq node x.name ≡ b → ◌≡◌ {A = Option Node} (if b then Some x else find_node node ns) (Some n) → (find_node node ns ≡ Some n → m.name ≡ n.name → find_node node (WithOne node m ns) ≡ Some m) → find_node node (if b then m ∷ ns else x ∷ WithOne node m ns) ≡ Some m
+    go true is f more = ap (λ (b : Bool). if b then Some m else find_node node ns) (ap (bytes_eq node) (named ∙ ap (λ (y : Node). y.name) (sym (some_is x n f))) ∙ is)
+    go false is f more = ap (λ (b : Bool). if b then Some x else find_node node (WithOne node m ns)) is ∙ more f named
 
-pub turn_known : (w v : World) (r : Reading) (lines : List Line) → Turn w r lines v → AreKnownNodes w.nodes → AreKnownNodes v.nodes
-turn_known w v Blank lines turn all = subst (λ (x : World). AreKnownNodes x.nodes) (sym turn.1) all
-turn_known w v (Bad column) lines turn all = absurd turn
-turn_known w v (Says (At node request)) lines turn all = go (find_node node w.nodes) refl
+-- Of the node of a name something is known.
+abbrev pub KnownAt : List ℕ → World → Type 0
+KnownAt name w = (n : Node) → find_node name w.nodes ≡ Some n → IsKnown n
+
+part_known : (name : List ℕ) (w : World) (p : Part) (c : Choice) (after : List DiskCounts) → Allowed w p after c → KnownAt name w → KnownAt name (part_effect w p c).world
+part_known name w p c after allowed h = by (way w p c after allowed)
   where
-    go : (o : Option Node) → find_node node w.nodes ≡ o → AreKnownNodes v.nodes
-    go None missing = subst (λ (x : World). AreKnownNodes x.nodes) (sym (none_turn w v node request lines missing turn).1) all
-    go (Some n) there =
-        let t = node_turn w v node request lines n there turn in
-        let m = (request_effect w.shared (stops_at node w) n request t.choice).node in
-        subst AreKnownNodes (sym t.nodes) (known_put node m w.nodes (effect_known w.shared (stops_at node w) n request t.choice (found_known node w.nodes n all there)) all)
+    unchanged : (e : PartEffect) → part_effect w p c ≡ e → e.world ≡ w → KnownAt name (part_effect w p c).world
+    unchanged e is same = subst (KnownAt name) (sym (ap (λ (x : PartEffect). x.world) is ∙ same)) h
 
--- A node of which nothing is known is not booted then.
-pub not_unknown : (w : World) (e : Entry) (unused : Bool) → AreKnownNodes w.nodes → IsUnknown w e unused → ⊥
-not_unknown w e unused all h =
-    let made : h.boots.node.unmade ≡ true = found_known (node_of h.statement) w.nodes h.boots.node all h.boots.there h.boots.unknown in
-    let none : true ≡ false = sym made ∙ h.boots.made in
-    cc
+    by : Way w p c after → KnownAt name (part_effect w p c).world
+    by (Done node t n found ok is) = subst (KnownAt name) (sym (ap (λ (x : PartEffect). x.world) is)) (λ k e.
+        elim (found_put name node (task_effect w.shared (stops_at node w) n t c).node w.nodes n k found (acts_name w.shared (stops_at node w) n t c) e) [
+          | inl p ↦ subst IsKnown (sym p.same) (effect_known w.shared (stops_at node w) n (task_service t) c (h n p.was))
+          | inr q ↦ h k q
+        ])
+    by (Missing node none is) = unchanged _ is refl
+    by (Idle is) = unchanged _ is refl
+    by (Doubted node serial b there none is) = unchanged _ is refl
 
--- All entries lead on from the first beginning.
-pub record LeadWhole (first last : Beginning) (es since : List Entry) (w : World) : Type 0 where
-  pub same : last ≡ first
-  pub all : since ≡ es
-  pub known : AreKnownNodes w.nodes
+-- each part is as good as another
+each_part : (ps : List Part) → EachPart (λ p. Unit {0}) ps
+each_part [] = tt
+each_part (p ∷ ps) = (tt, each_part ps)
 
-leads_whole : (names : List (List ℕ)) (first last : Beginning) (es since : List Entry) (w : World) → AreKnownNodes first.nodes → Leads names first es last since w → LeadWhole first last es since w
-leads_whole names first last [] since w known h = record { same = h.0; all = h.1; known = subst (λ (x : World). AreKnownNodes x.nodes) (sym h.2) known }
-leads_whole names first last (e ∷ es) [] w known h = absurd (not_unknown h.2 e true (leads_whole names first h.0 es h.1 h.2 known h.3).known h.4)
-leads_whole names first last (e ∷ es) (latest ∷ since) w known h =
-    let before = leads_whole names first last es since h.1 known h.2 in
-    record { same = before.same; all = λ i. h.0 i ∷ before.all i; known = turn_known h.1 w (reading e.source.text) e.lines h.3 before.known }
+each_phase : (ps : List Phase) → EachPhase (λ p. Unit {0}) ps
+each_phase [] = tt
+each_phase (p ∷ ps) = (λ w. each_part (p w), each_phase ps)
 
-nowhere_known : (w : World) (es : List Entry) → AreKnownNodes w.nodes → LeadsNowhere w es → ⊥
-nowhere_known w [] known h = h
-nowhere_known w (e ∷ []) known h = not_unknown w e false known h
-nowhere_known w (e ∷ f ∷ es) known h = nowhere_known w (f ∷ es) known h
+begun_same : (name : List ℕ) (s : Statement) (w : World) → KnownAt name w → KnownAt name (begun_with s w)
+begun_same name Settle w h = h
+begun_same name (At node request) w h = h
+begun_same name (Deliver number) w h = h
+begun_same name (LinkDown a b) w h = h
 
-volume_known : (n : Node) → is_known n.durable.volume ≡ true → IsKnown n
-volume_known n known unknown = let none : false ≡ true = ap is_known (sym unknown) ∙ known in let absurdity : ⊥ = cc in absurd absurdity
-
-all_known : (ns : List Node) → AreKnown ns → AreKnownNodes ns
-all_known [] h = tt
-all_known (n ∷ ns) h = (volume_known n h.0, all_known ns h.1)
-
--- what is so since a beginning
-abbrev KeptSince : Beginning → List Entry → World → Type 0
-KeptSince b since w = Legal (world_at b) since w × Promises (world_at b) since w
-
-pub led_whole : (names : List (List ℕ)) (nodes : List Node) (before after : List DiskState) (script old new : Option (List ℕ)) (ended : Exit) (r : RunOver names nodes before after script old new ended) →
-    LeadWhole (record { nodes = nodes; disks = before }) r.run.last r.run.led r.run.since r.run.closing → WholeRun nodes before after script old new ended
-led_whole names nodes before after script old new ended r led = go r.run.left_over refl r.run.leaves
+step_known : (name : List ℕ) (w v : World) (s : Statement) (lines : List Line) → Step w s lines v → KnownAt name w → KnownAt name v
+step_known name w v s lines d h = subst (KnownAt name) (sym d.goes) (go (refused_at_once w s) d.does)
   where
-    since : KeptSince (record { nodes = nodes; disks = before }) r.run.led r.run.closing
-    since = subst (λ (b : Beginning). KeptSince b r.run.led r.run.closing) led.same
-        (subst (λ (es : List Entry). KeptSince r.run.last es r.run.closing) led.all (since_legal names (record { nodes = nodes; disks = before }) r.run.last r.run.led r.run.since r.run.closing r.run.leads, r.promises))
+    go : (o : Option Line) → Begins o (Phases (phases_of s) v.disks (begun_with s w) Normal) w d.events d.answer d.world → KnownAt name d.world
+    go (Some refusal) q = subst (KnownAt name) (sym q.2) h
+    go None q =
+        phases_fold v.disks (λ p. Unit {0}) (λ given. Unit {0}) (λ u ls a x. KnownAt name u → KnownAt name x) (λ u given ok k. k) (λ u p c ok allowed ends k. part_known name u p c v.disks allowed k)
+        (λ u p c ok allowed on. (tt, λ rest a x more k. more (part_known name u p c v.disks allowed k)))
+        (phases_of s) (each_phase (phases_of s)) (begun_with s w) Normal d.events d.answer d.world tt q (begun_same name s w h)
 
-    go : (left : List Entry) → r.run.left_over ≡ left → LeavesOver r.run.last r.run.closing left after → WholeRun nodes before after script old new ended
-    go (e ∷ es) is leaves = absurd (nowhere_known r.run.closing (e ∷ es) led.known leaves)
-    go [] is leaves = record {
-      run = record {
-        ran = record {
-          entries = r.run.led;
-          closing = r.run.closing;
-          legal = since.0;
-          in_limits = subst (λ (es : List Entry). AreInLimits (es ++ r.run.led)) is r.run.in_limits;
-          added = r.run.added;
-          shows = r.run.shows;
-          ends = subst (λ (es : List Entry). Ends (exit_of ended) (option_map lines_of script) (es ++ r.run.led) r.run.added) is r.run.ends;
-        };
-        leaves = subst (λ (b : Beginning). Leaves b.disks r.run.closing after) led.same leaves;
-      };
-      promises = since.1;
-    }
-
-pub known_runs_are_whole : KnownRunsAreWhole
-known_runs_are_whole names nodes before after script old new ended known r =
-    led_whole names nodes before after script old new ended r (leads_whole names (record { nodes = nodes; disks = before }) r.run.last r.run.led r.run.since r.run.closing (all_known nodes known) r.run.leads)
+pub turn_known : (name : List ℕ) (w v : World) (r : Reading) (lines : List Line) → Turn w r lines v → KnownAt name w → KnownAt name v
+turn_known name w v Blank lines turn h = subst (KnownAt name) (sym turn.1) h
+turn_known name w v (Bad column) lines turn h = absurd turn
+turn_known name w v (Says s) lines turn h = step_known name w v s lines turn h

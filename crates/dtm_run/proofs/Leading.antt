@@ -1,202 +1,331 @@
--- How far the lines of a run of the only node lead.
-use Rattle.std.proofs.Common.{◌≡◌, ◌⊎◌, inl, inr, ℕ, List, [], ◌∷◌, ◌++◌, Bool, true, false, Option, Some, None, map, if◌then◌else◌, is_some, refl, sym, ◌∙◌, ap, subst, arith}
-use Rattle.std.specs.List.{last_or}
+-- How far the lines of a run lead.
+use Rattle.std.specs.Prelude.{slice_get}
+use Rattle.std.proofs.Common.{◌≡◌, ◌⊎◌, inl, inr, ℕ, zero, suc, List, [], ◌∷◌, ◌++◌, ◌==◌, Bool, true, false, not, ◌&&◌, Option, Some, None, map, if◌then◌else◌, is_some, refl, sym, ◌∙◌, ap, subst}
 use Rattle.std.specs.Str.{bytes_eq}
+use Rattle.std.proofs.lemmas.Bool.{eqb-true}
 use Rattle.block_disk.specs.Disk.{DiskState, CallLog}
+use Rattle.commit_protocol.specs.Messages.{Message}
 use Rattle.transcript_model.specs.Lines.{Line}
 use Rattle.transcript_model.specs.Script.{ScriptLine}
 use Rattle.transcript_model.specs.Emitting.{Shown, Emits}
-use Rattle.script_model.specs.Statements.{Statement, At, Request, Boot, Blank, Says}
+use Rattle.script_model.specs.Statements.{Statement, At, Deliver, LinkDown, Settle, Request, Boot, Blank, Says}
 use Rattle.script_model.specs.Grammar.{reading}
-use Rattle.run_model.specs.World.{World, Node, Shared, Label, Volume, Sound, Faulty, Unknown, find_node, opened}
-use Rattle.run_model.specs.Statements.{node_of, request_of}
-use Rattle.run_model.specs.Said.{Said, SaidNode, SaidShared, node_said, nothing_said, said_here, said_then}
-use Rattle.run_model.specs.Transcript.{AreInLimits, Ends, Entry, Legal, Turn}
-use Rattle.run_model.specs.Laws.{AreOpening}
-use Rattle.run_model.proofs.FindLemmas.{some_is}
-use Rattle.dtm_node.proofs.Passing.{passes_on}
-use Rattle.dtm_node.specs.Calling.{is_up, said_label, said_node, said_shared}
-use Rattle.dtm_node.specs.Nodes.{Passes}
-use Rattle.dtm_node.specs.Standing.{Kept, Place, IsDown, IsRunning, StandsIn, counts_of, disk_in, noted_all}
-use Rattle.dtm_run.specs.Alone.{StandsAlone, ServesAlone}
-use Rattle.dtm_run.specs.Calls.{AnswersAlone, said_alone}
+use Rattle.run_agreement.specs.Laws.{NamesApart}
+use Rattle.run_model.specs.World.{World, Node, Label, Volume, Sound, Faulty, Barred, Unknown, find_node, opened}
+use Rattle.run_model.specs.Transcript.{AreInLimits, AreOpening, Ends, Entry, Legal, Turn}
+use Rattle.run_model.proofs.NodeLists.{some_is}
+use Rattle.run_laws.specs.Said.{Said, SaidLabel, nothing_said, said_here}
+use Rattle.run_shared.specs.Sharing.{SharedState}
+use Rattle.recovery_units.specs.Uses.{IsCounted}
+use Rattle.world_laws.specs.Nodes.{NodesAreKept}
+use Rattle.dtm_node.specs.Standing.{Kept, Place, IsDown, IsRunning, StandsIn, counts_of, disk_in, is_up, noted_all}
+use Rattle.dtm_node.specs.Telling.{said_label, said_node}
+use Rattle.statement_steps.specs.Doing.{AllKept}
+use Rattle.statement_steps.proofs.Keeping.{all_kept}
+use Rattle.statement_steps.proofs.Places.{find_at}
+use Rattle.run_nodes.specs.Calls.{LineTellsAll}
+use Rattle.run_nodes.specs.Held.{clocks_of}
+use Rattle.run_nodes.specs.Names.{AreApart}
+use Rattle.run_nodes.specs.Together.{AnswersTogether, ServesTogether, StandAll, StandsTogether, disks_of, said_together}
+use Rattle.run_nodes.specs.Told.{kept_names}
+use Rattle.run_nodes.specs.Untold.{BootsUnknown, IsUntold}
+use Rattle.run_nodes.proofs.Places.{world_apart}
+use Rattle.run_nodes.proofs.Telling.{passes_on, passes_same}
 use Rattle.dtm_run.specs.Headline.{AllGo, Leaves, StandOn, StandsOn, exit_of}
-use Rattle.dtm_run.specs.Leading.{Beginning, BootsUnknown, IsUnknown, Leads, LeadsNowhere, LeavesOver, RunsFrom, is_unused, said_behind, world_at}
+use Rattle.dtm_run.specs.Leading.{Beginning, Begins, IsUnknown, Leads, LeadsNowhere, LeavesOver, RunsFrom, are_resting, are_unset, is_unused, is_unused_behind, said_node_of, said_world, world_at}
+use Rattle.dtm_run.specs.Taking.{AreAtZero}
 use Rattle.dtm_run.specs.declared.top.Exit.{Exit}
 use Rattle.dtm_run.proofs.Entries.{EndsWith}
 use Rattle.dtm_run.proofs.Opened.{nothing_opening, unknown_node, unknown_stands}
 
-pub passes_nowhere : (d : DiskState) → Passes d d
-passes_nowhere d = record { size = refl; faults = λ h. omega arith; stops = λ h. omega arith; counted = λ h. h; told = refl }
-
--- Whether a statement boots a node of whose disk nothing is known.
-
-is_boot : (request : Request) → (request ≡ Boot) ⊎ (request ≡ Boot → ⊥)
-is_boot Boot = inl refl
-is_boot _ = inr (λ e. let none : ⊥ = cc in none)
-
-is_unknown : (v : Volume) → (v ≡ Unknown) ⊎ (v ≡ Unknown → ⊥)
-is_unknown Sound = inr (λ e. let none : ⊥ = cc in none)
-is_unknown (Faulty condition block) = inr (λ e. let none : ⊥ = cc in none)
-is_unknown Unknown = inl refl
-
 pub not_both : (b : Bool) → b ≡ true → b ≡ false → ⊥
 not_both b t f = let e : true ≡ false = sym t ∙ f in cc
+
+-- Whether a statement may bring up a node of whose disk nothing is known.
+
+pub is_unknown : (v : Volume) → (v ≡ Unknown) ⊎ (v ≡ Unknown → ⊥)
+is_unknown Sound = inr (λ e. let none : ⊥ = cc in none)
+is_unknown (Faulty condition block) = inr (λ e. let none : ⊥ = cc in none)
+is_unknown (Barred bar) = inr (λ e. let none : ⊥ = cc in none)
+is_unknown Unknown = inl refl
 
 is_false : (b : Bool) → (b ≡ false) ⊎ (b ≡ false → ⊥)
 is_false false = inl refl
 is_false true = inr (λ e. let none : ⊥ = cc in none)
 
-pub boots_unknown : (w : World) (s : Statement) → BootsUnknown w s ⊎ (BootsUnknown w s → ⊥)
-boots_unknown w s = go (find_node (node_of s) w.nodes) refl
-  where
-    same : (n : Node) → find_node (node_of s) w.nodes ≡ Some n → (b : BootsUnknown w s) → b.node ≡ n
-    same n found b = some_is b.node n (sym b.there ∙ found)
-
-    go : (o : Option Node) → find_node (node_of s) w.nodes ≡ o → BootsUnknown w s ⊎ (BootsUnknown w s → ⊥)
-    go None found = inr (λ b. let e : Some b.node ≡ None = sym b.there ∙ found in let none : ⊥ = cc in none)
-    go (Some n) found = elim (is_boot (request_of s)) [
-      | inr other ↦ inr (λ b. other b.boots)
-      | inl boots ↦ elim (is_unknown n.durable.volume) [
-        | inr other ↦ inr (λ b. other (ap (λ (x : Node). x.durable.volume) (sym (same n found b)) ∙ b.unknown))
-        | inl unknown ↦ elim (is_false n.unmade) [
-          | inr other ↦ inr (λ b. other (ap (λ (x : Node). x.unmade) (sym (same n found b)) ∙ b.made))
-          | inl made ↦ inl (record { node = n; there = found; boots = boots; unknown = unknown; made = made })
-        ]
-      ]
+untold : (n : Node) → IsUntold n ⊎ (IsUntold n → ⊥)
+untold n = elim (is_false n.up) [
+  | inr other ↦ inr (λ u. other u.down)
+  | inl down ↦ elim (is_unknown n.durable.volume) [
+    | inr other ↦ inr (λ u. other u.unknown)
+    | inl unknown ↦ elim (is_false n.unmade) [
+      | inr other ↦ inr (λ u. other u.made)
+      | inl made ↦ inl (record { down = down; unknown = unknown; made = made })
     ]
+  ]
+]
+
+-- one of these nodes
+record HasUntold (ns : List Node) : Type 0 where
+  place : ℕ
+  node : Node
+  at : slice_get ns place ≡ Some node
+  is : IsUntold node
+
+some_untold : (ns : List Node) → HasUntold ns ⊎ ((place : ℕ) (n : Node) → slice_get ns place ≡ Some n → IsUntold n → ⊥)
+some_untold [] = inr (λ place n e u. let none : ⊥ = cc in none)
+some_untold (x ∷ ns) = elim (untold x) [
+  | inl u ↦ inl (record { place = zero; node = x; at = refl; is = u })
+  | inr other ↦ elim (some_untold ns) [
+    | inl h ↦ inl (record { place = suc h.place; node = h.node; at = h.at; is = h.is })
+    | inr others ↦ inr (by other others)
+  ]
+]
+  where
+    by : (IsUntold x → ⊥) → ((place : ℕ) (n : Node) → slice_get ns place ≡ Some n → IsUntold n → ⊥) → (place : ℕ) (n : Node) → slice_get (x ∷ ns) place ≡ Some n → IsUntold n → ⊥
+    by other others zero n e u = other (subst IsUntold (sym (some_is x n e)) u)
+    by other others (suc place) n e u = others place n e u
+
+found_place : (name : List ℕ) (ns : List Node) (n : Node) → find_node name ns ≡ Some n → (place : ℕ) × (slice_get ns place ≡ Some n)
+found_place name [] n e = let none : ⊥ = cc in absurd none
+found_place name (x ∷ ns) n e = go (bytes_eq name x.name) e (found_place name ns n)
+  where
+    go : (b : Bool) → ◌≡◌ {A = Option Node} (if b then Some x else find_node name ns) (Some n) → (find_node name ns ≡ Some n → (place : ℕ) × (slice_get ns place ≡ Some n)) → (place : ℕ) × (slice_get (x ∷ ns) place ≡ Some n)
+    go true f more = (zero, f)
+    go false f more = let r = more f in (suc r.0, r.1)
+
+abbrev MayBoot : World → Statement → Type 0
+MayBoot w s = BootsUnknown w s ⊎ (BootsUnknown w s → ⊥)
+
+boots_at : (w : World) (name : List ℕ) → MayBoot w (At name Boot)
+boots_at w name = go (find_node name w.nodes) refl
+  where
+    go : (o : Option Node) → find_node name w.nodes ≡ o → MayBoot w (At name Boot)
+    go None e = inr (λ b. let f : Some b.0 ≡ None = sym b.1 ∙ e in let none : ⊥ = cc in none)
+    go (Some n) e = elim (untold n) [
+      | inl u ↦ inl (n, e, u)
+      | inr other ↦ inr (λ b. other (subst IsUntold (some_is b.0 n (sym b.1 ∙ e)) b.2))
+    ]
+
+request_boots : (w : World) (name : List ℕ) (r : Request) → MayBoot w (At name r)
+request_boots w name Boot = boots_at w name
+request_boots w name _ = inr (λ b. b)
+
+pub boots_unknown : (w : World) → NamesApart w.nodes → (s : Statement) → MayBoot w s
+boots_unknown w apart (At name r) = request_boots w name r
+boots_unknown w apart (Deliver number) = inr (λ b. b)
+boots_unknown w apart (LinkDown a b) = inr (λ x. x)
+boots_unknown w apart Settle = elim (some_untold w.nodes) [
+  | inl h ↦ inl (h.node.name, h.node, find_at w.nodes h.place h.node apart h.at, h.is)
+  | inr others ↦ inr (λ b. let r = found_place b.0 w.nodes b.1 b.2 in others r.0 b.1 r.1 b.3)
+]
+
+-- Disks that go on.
+
+pub all_stay : (ds : List DiskState) → AllGo ds ds
+all_stay [] = tt
+all_stay (d ∷ ds) = (passes_same d, all_stay ds)
+
+pub go_on : (xs ys zs : List DiskState) → AllGo xs ys → AllGo ys zs → AllGo xs zs
+go_on [] [] zs g h = h
+go_on [] (y ∷ ys) zs g h = absurd g
+go_on (x ∷ xs) [] zs g h = absurd g
+go_on (x ∷ xs) (y ∷ ys) [] g h = absurd h
+go_on (x ∷ xs) (y ∷ ys) (z ∷ zs) g h = (passes_on x y z g.0 h.0, go_on xs ys zs g.1 h.1)
+
+pub tells_go : (names : List (List ℕ)) (said : Said) (s : Statement) (lines : List Line) (olds news : List DiskState) → LineTellsAll names said (Says s) lines olds news → AllGo olds news
+tells_go [] said s lines [] [] h = tt
+tells_go [] said s lines [] (new ∷ news) h = absurd h
+tells_go [] said s lines (old ∷ olds) news h = absurd h
+tells_go (name ∷ names) said s lines [] news h = absurd h
+tells_go (name ∷ names) said s lines (old ∷ olds) [] h = absurd h
+tells_go (name ∷ names) said s lines (old ∷ olds) (new ∷ news) h = (h.0.passes, tells_go names said s lines olds news h.1)
+
+-- What stands is what was said.
+
+stand_said : (logs : List CallLog) (ks : List Kept) (ns : List Node) → StandAll logs ks ns → map said_node ks ≡ map said_node_of ns
+stand_said [] [] [] h = refl
+stand_said [] [] (n ∷ ns) h = absurd h
+stand_said [] (k ∷ ks) ns h = absurd h
+stand_said (log ∷ logs) [] ns h = absurd h
+stand_said (log ∷ logs) (k ∷ ks) [] h = absurd h
+stand_said (log ∷ logs) (k ∷ ks) (n ∷ ns) h =
+    let up = by k.place h.0.place in
+    λ i. record { name = sym h.0.name i; up = up i; unmade = sym h.0.unmade i } ∷ stand_said logs ks ns h.1 i
+  where
+    by : (p : Place) → StandsIn k.clock p n → is_up p ≡ n.up
+    by (IsDown has_parts d) s = sym s.down
+    by (IsRunning r) s = sym s.stands.up
+
+pub together_said : (logs : List CallLog) (ks : List Kept) (s : SharedState) (w : World) → StandsTogether logs ks s w → said_together ks s ≡ said_world w
+together_said logs ks s w h = λ i. record {
+  nodes = stand_said logs ks w.nodes h.nodes i;
+  shared = record { labels = map said_label (sym h.shared.labels i); in_use = sym h.shared.in_use i; wire = sym h.shared.wire i };
+}
+
+-- Nodes as before a first line.
+
+both : (a b : Bool) → (a && b) ≡ true → (a ≡ true) × (b ≡ true)
+both true b e = (refl, e)
+both false b e = let none : ⊥ = cc in absurd none
+
+was_not : (b : Bool) → not b ≡ true → b ≡ false
+was_not false e = refl
+was_not true e = let none : ⊥ = cc in absurd none
+
+no_labels : (ls : List Label) → map said_label ls ≡ [] → ls ≡ []
+no_labels [] e = refl
+no_labels (l ∷ ls) e = let none : ⊥ = cc in absurd none
+
+-- nothing is shared, and each node is down, with no INIT that failed
+pub record IsFresh (ks : List Kept) (s : SharedState) : Type 0 where
+  pub labels : s.labels ≡ []
+  pub wire : s.wire ≡ []
+  pub in_use : s.in_use ≡ false
+  pub resting : are_resting (map said_node ks) ≡ true
+
+pub fresh : (ks : List Kept) (s : SharedState) → is_unused (said_together ks s) ≡ true → IsFresh ks s
+fresh ks s e = go (map said_label s.labels) refl s.wire refl e
+  where
+    go : (ls : List SaidLabel) → map said_label s.labels ≡ ls → (ms : List Message) → s.wire ≡ ms →
+        ◌≡◌ {A = Bool} (elim ls [ [] ↦ elim ms [ [] ↦ not s.in_use && are_resting (map said_node ks) | m ∷ more ↦ false ] | label ∷ labels ↦ false ]) true → IsFresh ks s
+    go [] el [] em f = let h = both (not s.in_use) (are_resting (map said_node ks)) f in record { labels = no_labels s.labels el; wire = em; in_use = was_not s.in_use h.0; resting = h.1 }
+    go [] el (m ∷ ms) em f = let none : ⊥ = cc in absurd none
+    go (l ∷ ls) el ms em f = let none : ⊥ = cc in absurd none
+
+unset_zero : (logs : List CallLog) (ks : List Kept) (ns : List Node) → StandAll logs ks ns → are_unset ns ≡ true → AreAtZero ks
+unset_zero [] [] [] h e = tt
+unset_zero [] [] (n ∷ ns) h e = absurd h
+unset_zero [] (k ∷ ks) ns h e = absurd h
+unset_zero (log ∷ logs) [] ns h e = absurd h
+unset_zero (log ∷ logs) (k ∷ ks) [] h e = absurd h
+unset_zero (log ∷ logs) (k ∷ ks) (n ∷ ns) h e =
+    let f = both (n.clock == 0) (are_unset ns) e in
+    (sym h.0.clock ∙ eqb-true n.clock 0 f.0, unset_zero logs ks ns h.1 f.1)
+
+zero_as : (ks ls : List Kept) → clocks_of ls ≡ clocks_of ks → AreAtZero ks → AreAtZero ls
+zero_as ks [] e h = tt
+zero_as [] (l ∷ ls) e h = let none : ⊥ = cc in absurd none
+zero_as (k ∷ ks) (l ∷ ls) e h = (ap (λ (xs : List ℕ). elim xs [ [] ↦ 0 | x ∷ more ↦ x ]) e ∙ h.0, zero_as ks ls (ap (λ (xs : List ℕ). elim xs [ [] ↦ [] | x ∷ more ↦ more ]) e) h.1)
+
+-- the nodes of the disks of such nodes, of which nothing is known
+abbrev pub unknown_of : Kept → Node
+unknown_of k = unknown_node k.name (disk_in k.place).size
+
+-- each of these disks tells its content, and was counted
+abbrev pub AreTold : List DiskState → Type 0
+AreTold [] = Unit {0}
+AreTold (d ∷ ds) = (is_some d.seen ≡ true) × IsCounted d × AreTold ds
+
+stand_told : (names : List (List ℕ)) (ds : List DiskState) (ns : List Node) → StandOn names ds ns → AreTold ds
+stand_told [] [] [] h = tt
+stand_told [] [] (n ∷ ns) h = absurd h
+stand_told [] (d ∷ ds) ns h = absurd h
+stand_told (name ∷ names) [] ns h = absurd h
+stand_told (name ∷ names) (d ∷ ds) [] h = absurd h
+stand_told (name ∷ names) (d ∷ ds) (n ∷ ns) h = (h.0.told, h.0.counted, stand_told names ds ns h.1)
+
+told_on : (olds news : List DiskState) → AllGo olds news → AreTold olds → AreTold news
+told_on [] [] g h = tt
+told_on [] (new ∷ news) g h = absurd g
+told_on (old ∷ olds) [] g h = absurd g
+told_on (old ∷ olds) (new ∷ news) g h = (g.0.told ∙ h.0, g.0.counted h.1, told_on olds news g.1 h.2)
+
+unknown_opening : (ks : List Kept) → AreOpening (map unknown_of ks)
+unknown_opening [] = tt
+unknown_opening (k ∷ ks) = (nothing_opening k.name (disk_in k.place).size Unknown, unknown_opening ks)
+
+unknown_stand : (ks : List Kept) → AreTold (disks_of ks) → StandOn (kept_names ks) (disks_of ks) (map unknown_of ks)
+unknown_stand [] h = tt
+unknown_stand (k ∷ ks) h = (unknown_stands k.name (disk_in k.place) h.0 h.1, unknown_stand ks h.2)
 
 -- A node that was not booted, over its disk.
 
--- what nodes share before the first line
-abbrev pub nothing_shared : Shared
-nothing_shared = record { labels = []; in_use = false }
+place_first : (name : List ℕ) (clock : ℕ) (p : Place) (n : Node) → is_up p ≡ false → StandsOn name (disk_in p) n → AreOpening (n ∷ []) → StandsIn clock p n
+place_first name clock (IsDown has_parts d) n down s o = record { down = o.0.down; reserved = λ was. absurd (not_both n.was_up was o.0.was_down); told = s.told; disk = s.has }
+place_first name clock (IsRunning r) n down s o = let none : ⊥ = cc in absurd none
 
-place_first : (name : List ℕ) (p : Place) (n : Node) → is_up p ≡ false → StandsOn name (disk_in p) n → AreOpening (n ∷ []) → StandsIn p n
-place_first name (IsDown has_parts d) n down s o = record { down = o.0.down; reserved = λ was. absurd (not_both n.was_up was o.0.was_down); told = s.told; disk = s.has }
-place_first name (IsRunning r) n down s o = let none : ⊥ = cc in absurd none
+abbrev pub logs_of : List DiskState → List CallLog
+logs_of ds = map (λ (d : DiskState). d.calls) ds
 
-pub stands_first : (name : List ℕ) (k : Kept) (s : Shared) (n : Node) → name ≡ k.name → is_up k.place ≡ false → k.unmade ≡ false → s ≡ nothing_shared → StandsOn name (disk_in k.place) n → AreOpening (n ∷ []) →
-    StandsAlone (disk_in k.place).calls k s (opened (n ∷ []) (counts_of (disk_in k.place) ∷ []))
-stands_first name k s n named down made none stand o = record {
-  node = n;
-  nodes = refl;
+stand_first : (ks : List Kept) (ns : List Node) → AreAtZero ks → are_resting (map said_node ks) ≡ true → AreOpening ns → StandOn (kept_names ks) (disks_of ks) ns → StandAll (logs_of (disks_of ks)) ks ns
+stand_first [] [] at_zero rest o h = tt
+stand_first [] (n ∷ ns) at_zero rest o h = absurd h
+stand_first (k ∷ ks) [] at_zero rest o h = absurd h
+stand_first (k ∷ ks) (n ∷ ns) at_zero rest o h =
+    let f = both (not (is_up k.place)) (not k.unmade && are_resting (map said_node ks)) rest in
+    let g = both (not k.unmade) (are_resting (map said_node ks)) f.1 in (
+      record {
+        name = h.0.name_is;
+        blocks = h.0.blocks;
+        clock = o.0.clock ∙ sym at_zero.0;
+        unmade = o.0.made ∙ sym (was_not k.unmade g.0);
+        place = place_first k.name k.clock k.place n (was_not (is_up k.place) f.0) h.0 (o.0, tt);
+        calls = ap (λ cs. noted_all cs (disk_in k.place).calls) (sym o.0.calls);
+        counts = h.0.counted;
+      },
+      stand_first ks ns at_zero.1 g.1 o.1 h.1,
+    )
+
+pub stands_first : (names : List (List ℕ)) (ks : List Kept) (s : SharedState) (ns : List Node) → names ≡ kept_names ks → AreAtZero ks → IsFresh ks s → AreOpening ns → StandOn names (disks_of ks) ns →
+    StandsTogether (logs_of (disks_of ks)) ks s (opened ns (map counts_of (disks_of ks)))
+stands_first names ks s ns named at_zero f o h = record {
+  nodes = stand_first ks ns at_zero f.resting o (subst (λ xs. StandOn xs (disks_of ks) ns) named h);
   disks = refl;
-  shared = sym none;
-  stands = record {
-    name = stand.name_is ∙ named;
-    blocks = stand.blocks;
-    clock = o.0.clock;
-    unmade = o.0.made ∙ sym made;
-    place = place_first name k.place n down stand o;
-    calls = ap (λ cs. noted_all cs (disk_in k.place).calls) (sym o.0.calls);
-    counts = stand.counted;
-  };
+  shared = record { labels = sym f.labels; in_use = sym f.in_use; wire = sym f.wire };
 }
 
--- What was said.
+-- what is said of nodes before a first line
+nothing_resting : (names : List (List ℕ)) → are_resting (nothing_said names).nodes ≡ true
+nothing_resting [] = refl
+nothing_resting (name ∷ names) = nothing_resting names
 
--- what was said once a statement was answered so
-abbrev said_so : Statement → Said → Option Line → Said
-said_so s said answer = elim answer [ Some answer ↦ said_then said s answer | None ↦ said ]
-
-same_shared : (s : Statement) (lines : List Line) (ns : List SaidNode) (x : SaidShared) → (said_here (Says s) lines (record { nodes = ns; shared = x })).shared ≡ (said_here (Says s) lines (record { nodes = []; shared = x })).shared
-same_shared (At node request) lines ns x = go (last_or None lines)
-  where
-    go : (o : Option Line) → (said_so (At node request) (record { nodes = ns; shared = x }) o).shared ≡ (said_so (At node request) (record { nodes = []; shared = x }) o).shared
-    go None = refl
-    go (Some answer) = refl
-
--- of the only node
-abbrev first_up : List SaidNode → Bool
-first_up [] = true
-first_up (n ∷ ns) = n.up
-
-abbrev first_unmade : List SaidNode → Bool
-first_unmade [] = true
-first_unmade (n ∷ ns) = n.unmade
-
--- a BOOT makes no volume, and leaves none unmade
-same_unmade : (s : Statement) (lines : List Line) (n : SaidNode) (x : SaidShared) → request_of s ≡ Boot → first_unmade (said_here (Says s) lines (record { nodes = n ∷ []; shared = x })).nodes ≡ n.unmade
-same_unmade (At node request) lines n x boots = subst (λ (r : Request). first_unmade (said_here (Says (At node r)) lines (record { nodes = n ∷ []; shared = x })).nodes ≡ n.unmade) (sym boots) (go (last_or None lines))
-  where
-    named : (b : Bool) (answer : Line) → first_unmade (if b then node_said Boot answer n ∷ [] else n ∷ []) ≡ n.unmade
-    named true answer = refl
-    named false answer = refl
-
-    go : (o : Option Line) → first_unmade (said_so (At node Boot) (record { nodes = n ∷ []; shared = x }) o).nodes ≡ n.unmade
-    go None = refl
-    go (Some answer) = named (bytes_eq node n.name) answer
-
-no_labels : (ls : List Label) (in_use : Bool) → is_unused (record { labels = map said_label ls; in_use = in_use }) ≡ true → (ls ≡ []) × (in_use ≡ false)
-no_labels [] false e = (refl, refl)
-no_labels [] true e = let none : ⊥ = cc in absurd none
-no_labels (l ∷ ls) in_use e = let none : ⊥ = cc in absurd none
-
-nothing_there : (s : Shared) → is_unused (said_shared s) ≡ true → s ≡ nothing_shared
-nothing_there s e = let h = no_labels s.labels s.in_use e in λ i. record { labels = h.0 i; in_use = h.1 i }
-
--- The only node is found.
-found_only : (name : List ℕ) (n m : Node) → find_node name (n ∷ []) ≡ Some m → n ≡ m
-found_only name n m found = go (bytes_eq name n.name) found
-  where
-    go : (b : Bool) → ◌≡◌ {A = Option Node} (if b then Some n else None) (Some m) → n ≡ m
-    go true e = some_is n m e
-    go false e = let none : ⊥ = cc in absurd none
-
--- a node of whose disk nothing is known is down, and its disk tells its content
-told_of : (p : Place) (n : Node) → StandsIn p n → n.durable.volume ≡ Unknown → is_some (disk_in p).seen ≡ true
-told_of (IsDown has_parts d) n s unknown = s.told
-told_of (IsRunning r) n s unknown = let e : Sound ≡ Unknown = sym s.kept.has.home.volume ∙ unknown in let none : ⊥ = cc in absurd none
+pub nothing_unused : (names : List (List ℕ)) → is_unused (nothing_said names) ≡ true
+nothing_unused names = nothing_resting names
 
 -- Between two lines.
 
--- the node kept stands for the world since the last beginning, or the entries lead nowhere
-abbrev pub Stays : Beginning → World → List Entry → Kept → Shared → Type 0
-Stays last w [] k s = (d : DiskState) × (last.disks ≡ d ∷ []) × Passes d (disk_in k.place) × StandsAlone d.calls k s w
-Stays last w (e ∷ es) k s = LeadsNowhere w (e ∷ es)
+-- the kept nodes stand for the world since the last beginning, or the entries lead nowhere
+abbrev pub Stays : Beginning → World → List Entry → List Kept → SharedState → Type 0
+Stays last w [] ks s = AllGo last.disks (disks_of ks) × StandsTogether (logs_of last.disks) ks s w
+Stays last w (e ∷ es) ks s = LeadsNowhere w (e ∷ es)
 
 -- these entries were served
-pub record Way (names : List (List ℕ)) (first : Beginning) (es : List Entry) (k : Kept) (s : Shared) : Type 0 where
+pub record Way (names : List (List ℕ)) (first : Beginning) (es : List Entry) (ks : List Kept) (s : SharedState) : Type 0 where
   pub led : List Entry
   pub left_over : List Entry
   pub parts : es ≡ left_over ++ led
   pub last : Beginning
   pub since : List Entry
   pub closing : World
+  pub begins : Begins names last
   pub leads : Leads names first led last since closing
-  pub stays : Stays last closing left_over k s
+  pub stays : Stays last closing left_over ks s
 
 -- and one more, for which these lines were shown
-pub record Next (names : List (List ℕ)) (first : Beginning) (source : ScriptLine) (es : List Entry) (a b : Shown) (k : Kept) (s : Shared) : Type 0 where
+pub record Next (names : List (List ℕ)) (first : Beginning) (source : ScriptLine) (es : List Entry) (a b : Shown) (ks : List Kept) (s : SharedState) : Type 0 where
   pub lines : List Line
   pub emits : Emits a lines b
-  pub way : Way names first (record { source = source; lines = lines } ∷ es) k s
+  pub way : Way names first (record { source = source; lines = lines } ∷ es) ks s
 
-pub way_first : (name : List ℕ) (k : Kept) (s : Shared) → said_alone k s ≡ nothing_said (name ∷ []) → name ≡ k.name → (nodes : List Node) → AreOpening nodes → StandOn (name ∷ []) (disk_in k.place ∷ []) nodes →
-    Way (name ∷ []) (record { nodes = nodes; disks = disk_in k.place ∷ [] }) [] k s
-way_first name k s unsaid named [] o stand = absurd stand
-way_first name k s unsaid named (n ∷ m ∷ ns) o stand = absurd stand.1
-way_first name k s unsaid named (n ∷ []) o stand = record {
+pub way_first : (names : List (List ℕ)) (ks : List Kept) (s : SharedState) → said_together ks s ≡ nothing_said names → names ≡ kept_names ks → AreAtZero ks → (nodes : List Node) → AreOpening nodes → StandOn names (disks_of ks) nodes →
+    Way names (record { nodes = nodes; disks = disks_of ks }) [] ks s
+way_first names ks s unsaid named at_zero nodes o stand = record {
   led = [];
   left_over = [];
   parts = refl;
-  last = record { nodes = n ∷ []; disks = disk_in k.place ∷ [] };
+  last = record { nodes = nodes; disks = disks_of ks };
   since = [];
-  closing = opened (n ∷ []) (counts_of (disk_in k.place) ∷ []);
+  closing = opened nodes (map counts_of (disks_of ks));
+  begins = record { opening = o; stand = stand };
   leads = (refl, refl, refl);
-  stays = (
-    disk_in k.place,
-    refl,
-    passes_nowhere (disk_in k.place),
-    stands_first name k s n named (ap (λ (x : Said). first_up x.nodes) unsaid) (ap (λ (x : Said). first_unmade x.nodes) unsaid) (nothing_there s (ap (λ (x : Said). is_unused x.shared) unsaid)) stand.0 o,
-  );
+  stays = (all_stay (disks_of ks), stands_first names ks s nodes named at_zero (fresh ks s (ap is_unused unsaid ∙ nothing_unused names)) o stand);
 }
 
-pub way_blank : (names : List (List ℕ)) (first : Beginning) (source : ScriptLine) (es : List Entry) (k : Kept) (s : Shared) → reading source.text ≡ Blank → Way names first es k s → Way names first (record { source = source; lines = [] } ∷ es) k s
-way_blank names first source es k s blank g = go g.left_over g.parts g.stays
+pub way_blank : (names : List (List ℕ)) (first : Beginning) (source : ScriptLine) (es : List Entry) (ks : List Kept) (s : SharedState) → reading source.text ≡ Blank → Way names first es ks s → Way names first (record { source = source; lines = [] } ∷ es) ks s
+way_blank names first source es ks s blank g = go g.left_over g.parts g.stays
   where
-    go : (left : List Entry) → es ≡ left ++ g.led → Stays g.last g.closing left k s → Way names first (record { source = source; lines = [] } ∷ es) k s
+    go : (left : List Entry) → es ≡ left ++ g.led → Stays g.last g.closing left ks s → Way names first (record { source = source; lines = [] } ∷ es) ks s
     go [] parts stays = record {
       led = record { source = source; lines = [] } ∷ g.led;
       left_over = [];
@@ -204,26 +333,60 @@ way_blank names first source es k s blank g = go g.left_over g.parts g.stays
       last = g.last;
       since = record { source = source; lines = [] } ∷ g.since;
       closing = g.closing;
+      begins = g.begins;
       leads = (refl, g.closing, g.leads, subst (λ r. Turn g.closing r [] g.closing) (sym blank) (refl, refl));
       stays = stays;
     }
-    go (x ∷ xs) parts stays = record { led = g.led; left_over = record { source = source; lines = [] } ∷ x ∷ xs; parts = ap (λ (ys : List Entry). record { source = source; lines = [] } ∷ ys) parts; last = g.last; since = g.since; closing = g.closing; leads = g.leads; stays = stays }
+    go (x ∷ xs) parts stays = record {
+      led = g.led;
+      left_over = record { source = source; lines = [] } ∷ x ∷ xs;
+      parts = ap (λ (ys : List Entry). record { source = source; lines = [] } ∷ ys) parts;
+      last = g.last;
+      since = g.since;
+      closing = g.closing;
+      begins = g.begins;
+      leads = g.leads;
+      stays = stays;
+    }
+
+-- The entries since the last beginning are legal.
+pub since_legal : (names : List (List ℕ)) (first last : Beginning) (es since : List Entry) (w : World) → Leads names first es last since w → Legal (world_at last) since w
+since_legal names first last [] since w h = subst (λ xs. Legal (world_at last) xs w) (sym h.1) (h.2 ∙ ap (λ (x : Beginning). world_at x) (sym h.0))
+since_legal names first last (e ∷ es) [] w h = h.7
+since_legal names first last (e ∷ es) (latest ∷ since) w h = subst (λ (x : Entry). Legal (world_at last) (x ∷ since) w) (sym h.0) (h.1, since_legal names first last es since h.1 h.2, h.3)
+
+-- and they begin with nodes as before a first line
+pub last_begins : (names : List (List ℕ)) (first last : Beginning) (es since : List Entry) (w : World) → AreOpening first.nodes → Leads names first es last since w → AreOpening last.nodes
+last_begins names first last [] since w o h = subst (λ (x : Beginning). AreOpening x.nodes) (sym h.0) o
+last_begins names first last (e ∷ es) [] w o h = h.6.opening
+last_begins names first last (e ∷ es) (latest ∷ since) w o h = last_begins names first last es since h.1 o h.2
 
 -- A statement was served.
-module _ (name : List ℕ) (first : Beginning) (source : ScriptLine) (es : List Entry) (k new : Kept) (s after : Shared) (g : Way (name ∷ []) first es k s) (statement : Statement) (says : reading source.text ≡ Says statement) (a b : Shown)
-    (serves : (log : CallLog) (w : World) → StandsAlone log k s w → (BootsUnknown w statement → ⊥) → ServesAlone log w statement a b new after) (other : List ℕ)
-    (answers : AnswersAlone other statement a b (disk_in k.place) (disk_in new.place) (said_alone k s) (said_alone new after)) (passes : Passes (disk_in k.place) (disk_in new.place)) (named : name ≡ new.name)
-    (unused : after.in_use ≡ false → is_up new.place ≡ false) where
+module _ (law : NodesAreKept) (names : List (List ℕ)) (apart : AreApart names) (first : Beginning) (source : ScriptLine) (es : List Entry) (ks ls : List Kept) (s after : SharedState) (same : names ≡ kept_names ks) (named : names ≡ kept_names ls) (g : Way names first es ks s) (statement : Statement)
+    (says : reading source.text ≡ Says statement) (a b : Shown) (serves : (logs : List CallLog) (w : World) → StandsTogether logs ks s w → AllKept w.shared w.nodes → (BootsUnknown w statement → ⊥) → ServesTogether logs w statement a b ls after)
+    (answers : AnswersTogether names statement a b ks s ls after) (clocks : (node : List ℕ) → statement ≡ At node Boot → clocks_of ls ≡ clocks_of ks) where
   abbrev answered : Entry
   answered = record { source = source; lines = answers.lines }
 
   abbrev Led : Type 0
-  Led = Stays g.last g.closing [] k s
+  Led = Stays g.last g.closing [] ks s
+
+  apart_kept : AreApart (kept_names ks)
+  apart_kept = subst AreApart same apart
+
+  goes : AllGo (disks_of ks) (disks_of ls)
+  goes = tells_go names (said_together ks s) statement answers.lines (disks_of ks) (disks_of ls) answers.tells
+
+  differ : Led → NamesApart g.closing.nodes
+  differ stays = world_apart (logs_of g.last.disks) ks s g.closing stays.1 apart_kept
+
+  kept : Led → AllKept g.closing.shared g.closing.nodes
+  kept stays = all_kept g.closing.shared g.closing.nodes (differ stays) (law g.last.nodes (map counts_of g.last.disks) g.since g.closing g.begins.opening (since_legal names first g.last g.led g.since g.closing g.leads))
 
   -- it is a step of the world
-  step_on : es ≡ g.led → Led → (BootsUnknown g.closing statement → ⊥) → Next (name ∷ []) first source es a b new after
+  step_on : es ≡ g.led → Led → (BootsUnknown g.closing statement → ⊥) → Next names first source es a b ls after
   step_on parts stays never =
-      let v = serves stays.0.calls g.closing stays.3 never in
+      let v = serves (logs_of g.last.disks) g.closing stays.1 (kept stays) never in
       let e : Entry = record { source = source; lines = v.lines } in
       record {
         lines = v.lines;
@@ -235,61 +398,46 @@ module _ (name : List ℕ) (first : Beginning) (source : ScriptLine) (es : List 
           last = g.last;
           since = e ∷ g.since;
           closing = v.world;
+          begins = g.begins;
           leads = (refl, g.closing, g.leads, subst (λ r. Turn g.closing r v.lines v.world) (sym says) v.step);
-          stays = (stays.0, stays.1, passes_on stays.0 (disk_in k.place) (disk_in new.place) stays.2 passes, v.stands);
+          stays = (go_on g.last.disks (disks_of ks) (disks_of ls) stays.0 goes, v.stands);
         };
       }
 
   module _ (parts : es ≡ g.led) (stays : Led) (boots : BootsUnknown g.closing statement) where
-    behind_it : said_behind g.closing statement answers.lines ≡ said_shared after
-    behind_it = ap (λ (x : Shared). (said_here (Says statement) answers.lines (record { nodes = []; shared = said_shared x })).shared) stays.3.shared
-        ∙ sym (same_shared statement answers.lines (said_alone k s).nodes (said_shared s)) ∙ sym (ap (λ (x : Said). x.shared) answers.says)
+    is : (unused : Bool) → is_unused_behind g.closing statement answers.lines ≡ unused → IsUnknown g.closing answered unused
+    is unused e = record { statement = statement; says = says; boots = boots; leaves = e }
 
-    is : (unused : Bool) → is_unused (said_shared after) ≡ unused → IsUnknown g.closing answered unused
-    is unused e = record { statement = statement; says = says; boots = boots; leaves = ap (λ (x : SaidShared). is_unused x) behind_it ∙ e }
-
-    -- it was not refused
-    step_out : is_unused (said_shared after) ≡ false → Next (name ∷ []) first source es a b new after
+    -- nodes are not unused behind it
+    step_out : is_unused_behind g.closing statement answers.lines ≡ false → Next names first source es a b ls after
     step_out e = record {
       lines = answers.lines;
       emits = answers.emits;
-      way = record {
-        led = g.led;
-        left_over = answered ∷ [];
-        parts = ap (λ (xs : List Entry). answered ∷ xs) parts;
-        last = g.last;
-        since = g.since;
-        closing = g.closing;
-        leads = g.leads;
-        stays = is false e;
-      };
+      way = record { led = g.led; left_over = answered ∷ []; parts = ap (λ (xs : List Entry). answered ∷ xs) parts; last = g.last; since = g.since; closing = g.closing; begins = g.begins; leads = g.leads; stays = is false e };
     }
 
-    made : new.unmade ≡ false
-    made =
-        let node : stays.3.node ≡ boots.node = found_only (node_of statement) stays.3.node boots.node (ap (λ (ns : List Node). find_node (node_of statement) ns) (sym stays.3.nodes) ∙ boots.there) in
-        ap (λ (x : Said). first_unmade x.nodes) answers.says ∙ same_unmade statement answers.lines (said_node k) (said_shared s) boots.boots
-        ∙ sym stays.3.stands.unmade ∙ ap (λ (x : Node). x.unmade) node ∙ boots.made
+    -- what is said behind it
+    behind : said_together ls after ≡ said_here (Says statement) answers.lines (said_world g.closing)
+    behind = answers.says ∙ ap (said_here (Says statement) answers.lines) (together_said (logs_of g.last.disks) ks s g.closing stays.1)
 
-    told : is_some (disk_in new.place).seen ≡ true
-    told =
-        let node : stays.3.node ≡ boots.node = found_only (node_of statement) stays.3.node boots.node (ap (λ (ns : List Node). find_node (node_of statement) ns) (sym stays.3.nodes) ∙ boots.there) in
-        passes.told ∙ told_of k.place stays.3.node stays.3.stands.place (ap (λ (x : Node). x.durable.volume) node ∙ boots.unknown)
-
-    -- the node again, of whose disk nothing is known
+    -- the nodes again, of whose disks nothing is known
     abbrev again : Beginning
-    again = record { nodes = unknown_node name (disk_in new.place).size ∷ []; disks = disk_in new.place ∷ [] }
+    again = record { nodes = map unknown_of ls; disks = disks_of ls }
 
-    opening : AreOpening again.nodes
-    opening = (nothing_opening name (disk_in new.place).size Unknown, tt)
+    gone : AllGo g.last.disks (disks_of ls)
+    gone = go_on g.last.disks (disks_of ks) (disks_of ls) stays.0 goes
 
-    stand : StandsOn name (disk_in new.place) (unknown_node name (disk_in new.place).size)
-    stand = unknown_stands name (disk_in new.place) told (passes.counted stays.3.stands.counts)
+    begins_again : Begins names again
+    begins_again = record {
+      opening = unknown_opening ls;
+      stand = subst (λ xs. StandOn xs (disks_of ls) (map unknown_of ls)) (sym named) (unknown_stand ls (told_on g.last.disks (disks_of ls) gone (stand_told names g.last.disks g.last.nodes g.begins.stand)));
+    }
 
-    -- it was refused
-    step_anew : is_unused (said_shared after) ≡ true → Next (name ∷ []) first source es a b new after
-    step_anew e =
-        let none : after ≡ nothing_shared = nothing_there after e in
+    -- the boot was refused
+    step_anew : (node : List ℕ) → statement ≡ At node Boot → is_unused_behind g.closing statement answers.lines ≡ true → Next names first source es a b ls after
+    step_anew node boot e =
+        let f = both (is_unused (said_here (Says statement) answers.lines (said_world g.closing))) (are_unset g.closing.nodes) (unsettled node boot e) in
+        let at_zero = zero_as ks ls (clocks node boot) (unset_zero (logs_of g.last.disks) ks g.closing.nodes stays.1.nodes f.1) in
         record {
           lines = answers.lines;
           emits = answers.emits;
@@ -300,44 +448,44 @@ module _ (name : List ℕ) (first : Beginning) (source : ScriptLine) (es : List 
             last = again;
             since = [];
             closing = world_at again;
-            leads = (
-              g.last,
-              g.since,
-              g.closing,
-              g.leads,
-              is true e,
-              subst (λ ds. AllGo ds (disk_in new.place ∷ [])) (sym stays.1) (passes_on stays.0 (disk_in k.place) (disk_in new.place) stays.2 passes, tt),
-              record { opening = opening; stand = (stand, tt) },
-              refl,
-            );
-            stays = (
-              disk_in new.place,
-              refl,
-              passes_nowhere (disk_in new.place),
-              stands_first name new after (unknown_node name (disk_in new.place).size) named (unused (ap (λ (x : Shared). x.in_use) none)) made none stand opening,
-            );
+            begins = begins_again;
+            leads = (g.last, g.since, g.closing, g.leads, is true e, gone, begins_again, refl);
+            stays = (all_stay (disks_of ls), stands_first names ls after (map unknown_of ls) named at_zero (fresh ls after (ap is_unused behind ∙ f.0)) (unknown_opening ls) begins_again.stand);
           };
         }
+      where
+        unsettled : (node : List ℕ) → statement ≡ At node Boot → is_unused_behind g.closing statement answers.lines ≡ true → (is_unused (said_here (Says statement) answers.lines (said_world g.closing)) && are_unset g.closing.nodes) ≡ true
+        unsettled node boot e = subst (λ (x : Statement). is_unused_behind g.closing x answers.lines ≡ true → (is_unused (said_here (Says x) answers.lines (said_world g.closing)) && are_unset g.closing.nodes) ≡ true) (sym boot) (λ y. y) e
 
-    step_beyond : (unused : Bool) → is_unused (said_shared after) ≡ unused → Next (name ∷ []) first source es a b new after
-    step_beyond true e = step_anew e
-    step_beyond false e = step_out e
+    request_beyond : (name : List ℕ) (r : Request) → statement ≡ At name r → BootsUnknown g.closing (At name r) → Next names first source es a b ls after
+    request_beyond name Boot is u = by (is_unused_behind g.closing statement answers.lines) refl
+      where
+        by : (unused : Bool) → is_unused_behind g.closing statement answers.lines ≡ unused → Next names first source es a b ls after
+        by true e = step_anew name is e
+        by false e = step_out e
+    request_beyond name _ is u = absurd u
 
-  pub way_next : Next (name ∷ []) first source es a b new after
+    step_beyond : (x : Statement) → statement ≡ x → BootsUnknown g.closing x → Next names first source es a b ls after
+    step_beyond (At name r) same u = request_beyond name r same u
+    step_beyond (Deliver number) same u = absurd u
+    step_beyond (LinkDown x y) same u = absurd u
+    step_beyond Settle same u = step_out (ap (λ (x : Statement). is_unused_behind g.closing x answers.lines) same)
+
+  pub way_next : Next names first source es a b ls after
   way_next = go g.left_over g.parts g.stays
     where
-      go : (left : List Entry) → es ≡ left ++ g.led → Stays g.last g.closing left k s → Next (name ∷ []) first source es a b new after
-      go [] parts stays = elim (boots_unknown g.closing statement) [ inl boots ↦ step_beyond parts stays boots (is_unused (said_shared after)) refl | inr never ↦ step_on parts stays never ]
+      go : (left : List Entry) → es ≡ left ++ g.led → Stays g.last g.closing left ks s → Next names first source es a b ls after
+      go [] parts stays = elim (boots_unknown g.closing (differ stays) statement) [ inl boots ↦ step_beyond parts stays boots statement refl boots | inr never ↦ step_on parts stays never ]
       go (x ∷ xs) parts stays = record {
         lines = answers.lines;
         emits = answers.emits;
-        way = record { led = g.led; left_over = answered ∷ x ∷ xs; parts = ap (λ (ys : List Entry). answered ∷ ys) parts; last = g.last; since = g.since; closing = g.closing; leads = g.leads; stays = stays };
+        way = record { led = g.led; left_over = answered ∷ x ∷ xs; parts = ap (λ (ys : List Entry). answered ∷ ys) parts; last = g.last; since = g.since; closing = g.closing; begins = g.begins; leads = g.leads; stays = stays };
       }
 
 -- A run that ended.
-pub runs_from : (names : List (List ℕ)) (first : Beginning) (es : List Entry) (k : Kept) (s : Shared) (script : Option (List ScriptLine)) (old new : Option (List ℕ)) (ended : Exit) → Way names first es k s → EndsWith es script old new (exit_of ended) →
-    ((d : DiskState) (w : World) → StandsAlone d.calls k s w → Leaves (d ∷ []) w (disk_in k.place ∷ [])) → RunsFrom names first script old new ended (disk_in k.place ∷ [])
-runs_from names first es k s script old new ended g e leaves = record {
+pub runs_from : (names : List (List ℕ)) (first : Beginning) (es : List Entry) (ks : List Kept) (s : SharedState) (script : Option (List ScriptLine)) (old new : Option (List ℕ)) (ended : Exit) → Way names first es ks s → EndsWith es script old new (exit_of ended) →
+    ((ds : List DiskState) (w : World) → StandsTogether (logs_of ds) ks s w → Leaves ds w (disks_of ks)) → RunsFrom names first script old new ended (disks_of ks)
+runs_from names first es ks s script old new ended g e leaves = record {
   led = g.led;
   left_over = g.left_over;
   last = g.last;
@@ -351,18 +499,6 @@ runs_from names first es k s script old new ended g e leaves = record {
   ends = subst (λ xs. Ends (exit_of ended) script xs e.added) g.parts e.ends;
 }
   where
-    go : (left : List Entry) → Stays g.last g.closing left k s → LeavesOver g.last g.closing left (disk_in k.place ∷ [])
-    go [] stays = subst (λ ds. Leaves ds g.closing (disk_in k.place ∷ [])) (sym stays.1) (leaves stays.0 g.closing stays.3)
+    go : (left : List Entry) → Stays g.last g.closing left ks s → LeavesOver g.last g.closing left (disks_of ks)
+    go [] stays = leaves g.last.disks g.closing stays.1
     go (x ∷ xs) stays = stays
-
--- The entries since the last beginning are legal.
-pub since_legal : (names : List (List ℕ)) (first last : Beginning) (es since : List Entry) (w : World) → Leads names first es last since w → Legal (world_at last) since w
-since_legal names first last [] since w h = subst (λ xs. Legal (world_at last) xs w) (sym h.1) (h.2 ∙ ap (λ (x : Beginning). world_at x) (sym h.0))
-since_legal names first last (e ∷ es) [] w h = h.7
-since_legal names first last (e ∷ es) (latest ∷ since) w h = subst (λ (x : Entry). Legal (world_at last) (x ∷ since) w) (sym h.0) (h.1, since_legal names first last es since h.1 h.2, h.3)
-
--- and they begin with nodes as before a first line
-pub last_begins : (names : List (List ℕ)) (first last : Beginning) (es since : List Entry) (w : World) → AreOpening first.nodes → Leads names first es last since w → AreOpening last.nodes
-last_begins names first last [] since w o h = subst (λ (x : Beginning). AreOpening x.nodes) (sym h.0) o
-last_begins names first last (e ∷ es) [] w o h = h.6.opening
-last_begins names first last (e ∷ es) (latest ∷ since) w o h = last_begins names first last es since h.1 o h.2

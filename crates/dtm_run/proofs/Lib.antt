@@ -1,12 +1,12 @@
 pub mod TopLemmas
-pub mod Alone
 pub mod Leading
 pub mod Known
 pub mod Made
+pub mod Taking
 pub mod Driving
 pub mod RackLemmas
+mod Emitted
 pub mod Entries
-pub mod Following
 pub mod Telling
 pub mod Files
 mod Contents

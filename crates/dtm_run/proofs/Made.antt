@@ -1,29 +1,41 @@
--- From an INIT that succeeds on, something is known of the only node's disk.
-use Rattle.std.proofs.Common.{◌≡◌, ◌⊎◌, ⊎_elim, inl, inr, ℕ, List, [], ◌∷◌, ◌++◌, Bool, true, false, not, ◌||◌, Option, Some, None, if◌then◌else◌, refl, sym, ◌∙◌, ap, subst}
+-- Where the volume of each node of whose disk nothing is known is made before it is booted, a run leads on whole.
+use Rattle.std.proofs.Common.{◌≡◌, ◌⊎◌, inl, inr, ℕ, List, [], ◌∷◌, ◌++◌, Bool, true, false, not, ◌||◌, Option, Some, None, if◌then◌else◌, refl, sym, ◌∙◌, ap, subst, append_assoc}
 use Rattle.std.specs.Str.{bytes_eq}
-use Rattle.std.specs.List.{AllByRecursion, last_or}
+use Rattle.std.specs.List.{last_or}
+use Rattle.std.specs.Option.{option_map}
+use Rattle.std.proofs.lemmas.Slice.Eq.{bytes_eq-Decides}
+use Rattle.block_disk.specs.Disk.{DiskState}
 use Rattle.transcript_model.specs.Lines as line
 use Rattle.transcript_model.specs.Lines.{Line, Normal}
-use Rattle.script_model.specs.Statements.{Statement, At, Request, Init, Boot, Reading, Blank, Says, Bad}
+use Rattle.transcript_model.specs.Script.{lines_of}
+use Rattle.script_model.specs.Statements.{At, Boot, Deliver, Init, LinkDown, Request, Says, Settle, Statement}
 use Rattle.script_model.specs.Grammar.{reading}
-use Rattle.run_model.specs.World.{World, Shared, Node, find_node, with_node}
-use Rattle.run_model.specs.Answers.{is_volume_form, refused_before_reading}
+use Rattle.run_agreement.specs.Seen.{IsKnown}
+use Rattle.run_model.specs.World.{Node, Shared, Unknown, World, find_node}
+use Rattle.run_model.specs.Answers.{Serves, is_volume_form, refused_before_reading, task_service}
 use Rattle.run_model.specs.Operations.{first_of, refused_if}
 use Rattle.run_model.specs.Steps as task
-use Rattle.run_model.specs.Steps.{Choice, Whole, WithoutMemory, Unpowered, Cut, ready_node, request_effect}
-use Rattle.run_model.specs.Statements.{request_of, stops_at}
-use Rattle.run_model.specs.Transcript.{Entry, Turn}
-use Rattle.run_model.proofs.NodeTurns.{node_turn, none_turn}
-use Rattle.dtm_run.specs.Headline.{WholeRun}
-use Rattle.dtm_run.specs.Leading.{Beginning, BootsNone, IsUnknown, Leads, LeadsNowhere, LeavesOver, MadeRunsAreWhole, Makes, world_at}
-use Rattle.dtm_run.proofs.Known.{AreKnownNodes, IsKnown, LeadWhole, led_whole, not_unknown, turn_known}
+use Rattle.run_model.specs.Steps.{Choice, Cut, Unpowered, Whole, WithoutMemory, ready_node, task_effect}
+use Rattle.run_model.specs.Statements.{Begins, Phases, Step, begun_with, phases_of, refused_at_once, stops_at}
+use Rattle.run_model.specs.Transcript.{AreInLimits, Ends, Entry, Legal, Turn}
+use Rattle.run_model.proofs.NodeLists.{some_is}
+use Rattle.run_model.proofs.PartLemmas.{turn}
+use Rattle.run_laws.specs.Promises.{KeptPromises}
+use Rattle.statement_steps.proofs.Stepping.{request_missing, request_there}
+use Rattle.run_nodes.specs.Untold.{BootsUnknown, IsUntold}
+use Rattle.world_laws.proofs.Induction.{acts_name}
+use Rattle.dtm_run.specs.Headline.{KeepsAgreed, Leaves, WholeRun, exit_of, is_known}
+use Rattle.dtm_run.specs.Leading.{AreKnown, AreMadeFirst, Beginning, IsMadeFirst, IsUnknown, KnownRunsAreWhole, Leads, LeadsNowhere, LeavesOver, MadeRunsAreWhole, Makes, RunOver, world_at}
+use Rattle.dtm_run.specs.declared.top.Exit.{Exit}
+use Rattle.dtm_run.proofs.Known.{KnownAt, found_same, turn_known}
+use Rattle.dtm_run.proofs.Leading.{is_unknown, since_legal}
 
 last_behind : (xs : List Line) (x : Line) → last_or None (xs ++ x ∷ []) ≡ Some x
 last_behind [] x = refl
 last_behind (y ∷ []) x = refl
 last_behind (y ∷ z ∷ xs) x = last_behind (z ∷ xs) x
 
--- The effect of an INIT that is answered so.
+-- An INIT that is answered so.
 
 refused_init : (up in_use form : Bool) (refusal : Line) → first_of (refused_if (not (up || true)) line.NodeDown) (first_of (refused_if in_use line.VolumeInUse) (refused_if (not form) line.BadParameter)) ≡ Some refusal → refusal ≡ Normal → ⊥
 refused_init true true true refusal e = λ n. let none : ⊥ = cc in none
@@ -35,130 +47,167 @@ refused_init false true false refusal e = λ n. let none : ⊥ = cc in none
 refused_init false false true refusal e = λ n. let none : ⊥ = cc in none
 refused_init false false false refusal e = λ n. let none : ⊥ = cc in none
 
-made_known : (s : Shared) (stops : ℕ) (n : Node) (slots journal : ℕ) (c : Choice) → (request_effect s stops n (Init slots journal) c).answer ≡ Normal → IsKnown (request_effect s stops n (Init slots journal) c).node
-made_known s stops n slots journal (Whole taken) e = go (refused_before_reading s n (Init slots journal)) refl e
+made_known : (s : Shared) (stops : ℕ) (n : Node) (slots journal : ℕ) (c : Choice) → (task_effect s stops n (Serves (Init slots journal)) c).answer ≡ Normal → IsKnown (task_effect s stops n (Serves (Init slots journal)) c).node
+made_known s stops n slots journal (Whole o) e = go (refused_before_reading s n (task_service (Serves (Init slots journal)))) refl e
   where
-    go : (o : Option Line) → refused_before_reading s n (Init slots journal) ≡ o → (task.whole s n (ready_node taken stops (Init slots journal) n) (Init slots journal) o).answer ≡ Normal → IsKnown (task.whole s n (ready_node taken stops (Init slots journal) n) (Init slots journal) o).node
+    go : (q : Option Line) → refused_before_reading s n (task_service (Serves (Init slots journal))) ≡ q → (task.whole s n (ready_node o stops (task_service (Serves (Init slots journal))) n) (task_service (Serves (Init slots journal))) q).answer ≡ Normal →
+        IsKnown (task.whole s n (ready_node o stops (task_service (Serves (Init slots journal))) n) (task_service (Serves (Init slots journal))) q).node
     go (Some refusal) is e = absurd (refused_init n.up s.in_use (is_volume_form slots journal n) refusal is e)
     go None is e = λ unknown. let none : ⊥ = cc in absurd none
 made_known s stops n slots journal WithoutMemory e = let none : ⊥ = cc in absurd none
 made_known s stops n slots journal Unpowered e = let none : ⊥ = cc in absurd none
-made_known s stops n slots journal (Cut taken done begun cause) e = let none : ⊥ = cc in absurd none
+made_known s stops n slots journal (Cut o done begun cause) e = let none : ⊥ = cc in absurd none
 
--- A world with one node.
+-- a statement that a node is not there to serve is refused
+refused_so : (w v : World) (s : Statement) (lines : List Line) (refusal : Line) (d : Step w s lines v) → refused_at_once w s ≡ Some refusal → d.answer ≡ refusal
+refused_so w v s lines refusal d e = (subst (λ o. Begins o (Phases (phases_of s) v.disks (begun_with s w) Normal) w d.events d.answer d.world) e d.does).1
 
-abbrev IsOne : World → Type 0
-IsOne w = (n : Node) × (w.nodes ≡ n ∷ [])
-
-one_put : (name : List ℕ) (n m : Node) → (k : Node) × (with_node name (λ x. m) (n ∷ []) ≡ k ∷ [])
-one_put name n m = go (bytes_eq name n.name)
+step_made : (w v : World) (node : List ℕ) (slots journal : ℕ) (lines : List Line) → Step w (At node (Init slots journal)) lines v → last_or None lines ≡ Some Normal → KnownAt node v
+step_made w v node slots journal lines d answered = go (find_node node w.nodes) refl
   where
-    go : (b : Bool) → (k : Node) × ((if b then m ∷ [] else n ∷ []) ≡ k ∷ [])
-    go true = (m, refl)
-    go false = (n, refl)
+    normal : d.answer ≡ Normal
+    normal = some_is d.answer Normal (sym (last_behind d.events d.answer) ∙ sym (ap (λ (ls : List Line). last_or None ls) d.shows) ∙ answered)
 
-turn_one : (w v : World) (r : Reading) (lines : List Line) → Turn w r lines v → IsOne w → IsOne v
-turn_one w v Blank lines turn one = subst IsOne (sym turn.1) one
-turn_one w v (Bad column) lines turn one = absurd turn
-turn_one w v (Says (At node request)) lines turn one = go (find_node node w.nodes) refl
-  where
-    go : (o : Option Node) → find_node node w.nodes ≡ o → IsOne v
-    go None missing = (one.0, ap (λ (x : World). x.nodes) (none_turn w v node request lines missing turn).1 ∙ one.1)
-    go (Some n) there =
-        let t = node_turn w v node request lines n there turn in
-        let m = (request_effect w.shared (stops_at node w) n request t.choice).node in
-        let k = one_put node one.0 m in
-        (k.0, t.nodes ∙ ap (λ (ns : List Node). with_node node (λ x. m) ns) one.1 ∙ k.1)
+    go : (o : Option Node) → find_node node w.nodes ≡ o → KnownAt node v
+    go None missing = let e : line.NoSuchNode ≡ Normal = sym (refused_so w v (At node (Init slots journal)) lines line.NoSuchNode d (request_missing w node (Init slots journal) missing)) ∙ normal in let none : ⊥ = cc in absurd none
+    go (Some n) there = λ k e.
+        let t = turn w v (At node (Init slots journal)) node (Serves (Init slots journal)) n lines (record { begins = request_there w node (Init slots journal) refl n there; task = refl; found = there }) d in
+        let m = (task_effect w.shared (stops_at node w) n (Serves (Init slots journal)) t.choice).node in
+        let found : find_node node v.nodes ≡ Some m = ap (λ (x : World). find_node node x.nodes) t.goes ∙ found_same node m w.nodes n there (acts_name w.shared (stops_at node w) n (Serves (Init slots journal)) t.choice) in
+        subst IsKnown (some_is m k (sym found ∙ e)) (made_known w.shared (stops_at node w) n slots journal t.choice (sym t.answers ∙ normal))
 
--- it is the node that is found, and put
-found_put : (name : List ℕ) (n m k : Node) → find_node name (n ∷ []) ≡ Some k → with_node name (λ x. m) (n ∷ []) ≡ m ∷ []
-found_put name n m k found = go (bytes_eq name n.name) found
-  where
-    go : (b : Bool) → ◌≡◌ {A = Option Node} (if b then Some n else None) (Some k) → (if b then m ∷ [] else n ∷ []) ≡ m ∷ []
-    go true e = refl
-    go false e = let none : ⊥ = cc in absurd none
+turn_made : (w v : World) (node : List ℕ) (e : Entry) → Makes node e → Turn w (reading e.source.text) e.lines v → KnownAt node v
+turn_made w v node e m t = step_made w v node m.slots m.journal e.lines (subst (λ r. Turn w r e.lines v) m.says t) m.answered
 
-turn_made : (w v : World) (node : List ℕ) (slots journal : ℕ) (lines : List Line) → Turn w (Says (At node (Init slots journal))) lines v → last_or None lines ≡ Some Normal → IsOne w → AreKnownNodes v.nodes
-turn_made w v node slots journal lines turn answered one = go (find_node node w.nodes) refl
-  where
-    go : (o : Option Node) → find_node node w.nodes ≡ o → AreKnownNodes v.nodes
-    go None missing =
-        let e : Some line.NoSuchNode ≡ Some Normal = sym (ap (λ (ls : List Line). last_or None ls) (none_turn w v node (Init slots journal) lines missing turn).0) ∙ answered in
-        let none : ⊥ = cc in
-        absurd none
-    go (Some n) there =
-        let t = node_turn w v node (Init slots journal) lines n there turn in
-        let e = request_effect w.shared (stops_at node w) n (Init slots journal) t.choice in
-        let last : Some e.answer ≡ Some Normal = sym (last_behind e.lines e.answer) ∙ sym (ap (λ (ls : List Line). last_or None ls) t.shows) ∙ answered in
-        let normal : e.answer ≡ Normal = cc in
-        let put : v.nodes ≡ e.node ∷ [] = t.nodes ∙ ap (λ (ns : List Node). with_node node (λ x. e.node) ns) one.1 ∙ found_put node one.0 e.node n (ap (λ (ns : List Node). find_node node ns) (sym one.1) ∙ there) in
-        subst AreKnownNodes (sym put) (made_known w.shared (stops_at node w) n slots journal t.choice normal, tt)
+-- Of each node something is known at the first beginning, or its volume is made before it is booted.
+abbrev Sure : Beginning → List Entry → Type 0
+Sure first full = (name : List ℕ) → KnownAt name (world_at first) ⊎ IsMadeFirst name full
 
--- Entries without a BOOT lead on from the first beginning.
-
-unknown_boots : (w : World) (e : Entry) (unused : Bool) → BootsNone e → IsUnknown w e unused → ⊥
-unknown_boots w e unused none h = go h.statement h.says h.boots.boots
-  where
-    go : (s : Statement) → reading e.source.text ≡ Says s → request_of s ≡ Boot → ⊥
-    go (At node request) says boots = none node (says ∙ ap (λ (r : Request). Says (At node r)) boots)
-
-makes_boots : (e : Entry) → Makes e → BootsNone e
-makes_boots e m node says = let same : Says (At m.node (Init m.slots m.journal)) ≡ Says (At node Boot) = sym m.says ∙ says in let none : ⊥ = cc in none
-
-nowhere_boots : (w : World) (es : List Entry) → AllByRecursion BootsNone es → LeadsNowhere w es → ⊥
-nowhere_boots w [] none h = h
-nowhere_boots w (e ∷ []) none h = unknown_boots w e false none.0 h
-nowhere_boots w (e ∷ f ∷ es) none h = nowhere_boots w (f ∷ es) none.1 h
-
-record LeadsOne (first last : Beginning) (es since : List Entry) (w : World) : Type 0 where
+record LeadMade (first last : Beginning) (es since : List Entry) (w : World) : Type 0 where
   same : last ≡ first
   all : since ≡ es
-  one : IsOne w
+  old : (name : List ℕ) → KnownAt name (world_at first) → KnownAt name w
+  made : (name : List ℕ) (f : Entry) (front back : List Entry) → es ≡ front ++ f ∷ back → Makes name f → KnownAt name w
 
-leads_one : (names : List (List ℕ)) (first last : Beginning) (es since : List Entry) (w : World) → AllByRecursion BootsNone es → IsOne (world_at first) → Leads names first es last since w → LeadsOne first last es since w
-leads_one names first last [] since w none one h = record { same = h.0; all = h.1; one = subst IsOne (sym h.2) one }
-leads_one names first last (e ∷ es) [] w none one h = absurd (unknown_boots h.2 e true none.0 h.4)
-leads_one names first last (e ∷ es) (latest ∷ since) w none one h =
-    let before = leads_one names first last es since h.1 none.1 one h.2 in
-    record { same = before.same; all = λ i. h.0 i ∷ before.all i; one = turn_one h.1 w (reading e.source.text) e.lines h.3 before.one }
-
-made_leads : (names : List (List ℕ)) (first last : Beginning) (later earlier since : List Entry) (e : Entry) (w : World) → Makes e → AllByRecursion BootsNone earlier → IsOne (world_at first) → Leads names first (later ++ e ∷ earlier) last since w → LeadWhole first last (later ++ e ∷ earlier) since w
-made_leads names first last [] earlier [] e w m none one h = absurd (unknown_boots h.2 e true (makes_boots e m) h.4)
-made_leads names first last [] earlier (latest ∷ since) e w m none one h =
-    let before = leads_one names first last earlier since h.1 none one h.2 in
-    record { same = before.same; all = λ i. h.0 i ∷ before.all i; known = turn_made h.1 w m.node m.slots m.journal e.lines (subst (λ r. Turn h.1 r e.lines w) m.says h.3) m.answered before.one }
-made_leads names first last (x ∷ later) earlier [] e w m none one h = absurd (not_unknown h.2 x true (made_leads names first h.0 later earlier h.1 e h.2 m none one h.3).known h.4)
-made_leads names first last (x ∷ later) earlier (latest ∷ since) e w m none one h =
-    let before = made_leads names first last later earlier since e h.1 m none one h.2 in
-    record { same = before.same; all = λ i. h.0 i ∷ before.all i; known = turn_known h.1 w (reading x.source.text) x.lines h.3 before.known }
-
--- The INIT is one of the entries that lead on.
-
-front_boots : (left led es : List Entry) → left ++ led ≡ es → AllByRecursion BootsNone es → AllByRecursion BootsNone left
-front_boots left led es e none = go left (subst (λ xs. AllByRecursion BootsNone xs) (sym e) none)
+-- So a node of which nothing is known is not booted.
+not_unknown : (first last : Beginning) (full later es since : List Entry) (e : Entry) (w : World) (unused : Bool) → Sure first full → full ≡ later ++ e ∷ es → LeadMade first last es since w → IsUnknown w e unused → ⊥
+not_unknown first last full later es since e w unused sure parts led h = by h.statement h.says h.boots
   where
-    go : (xs : List Entry) → AllByRecursion BootsNone (xs ++ led) → AllByRecursion BootsNone xs
-    go [] h = tt
-    go (x ∷ xs) h = (h.0, go xs h.1)
+    booted : (s : Statement) → reading e.source.text ≡ Says s → (name : List ℕ) (n : Node) → find_node name w.nodes ≡ Some n → IsUntold n → (s ≡ At name Boot) ⊎ (s ≡ Settle) → ⊥
+    booted s says name n found untold which = elim (sure name) [
+      | inl k ↦ never (led.old name k)
+      | inr m ↦ (let r = m es later e s parts says which in never (led.made name r.0 r.1 r.2 r.3 r.4))
+    ]
+      where
+        never : KnownAt name w → ⊥
+        never k = let no : true ≡ false = sym (k n found untold.unknown) ∙ untold.made in let none : ⊥ = cc in none
 
-abbrev IsLedAt : (left led earlier : List Entry) → Entry → World → Type 0
-IsLedAt left led earlier e w = ((later : List Entry) × (led ≡ later ++ e ∷ earlier)) ⊎ (LeadsNowhere w left → ⊥)
+    request : (name : List ℕ) (r : Request) → reading e.source.text ≡ Says (At name r) → BootsUnknown w (At name r) → ⊥
+    request name Boot says b = booted (At name Boot) says name b.0 b.1 b.2 (inl refl)
+    request name _ says b = b
 
-led_at : (left led later earlier : List Entry) (e : Entry) (w : World) → left ++ led ≡ later ++ e ∷ earlier → AllByRecursion BootsNone (e ∷ earlier) → IsLedAt left led earlier e w
-led_at [] led later earlier e w parts none = inl (later, parts)
-led_at (x ∷ xs) led [] earlier e w parts none = inr (nowhere_boots w (x ∷ xs) (front_boots (x ∷ xs) led (e ∷ earlier) parts none))
-led_at (x ∷ []) led (y ∷ later) earlier e w parts none = inl (later, let same : led ≡ later ++ e ∷ earlier = cc in same)
-led_at (x ∷ z ∷ zs) led (y ∷ later) earlier e w parts none = led_at (z ∷ zs) led later earlier e w (let same : z ∷ (zs ++ led) ≡ later ++ e ∷ earlier = cc in same) none
+    by : (s : Statement) → reading e.source.text ≡ Says s → BootsUnknown w s → ⊥
+    by (At name r) says b = request name r says b
+    by (Deliver number) says b = b
+    by (LinkDown x y) says b = b
+    by Settle says b = booted Settle says b.0 b.1 b.2 b.3 (inr refl)
+
+no_split : (front back : List Entry) (f : Entry) → [] ≡ front ++ f ∷ back → ⊥
+no_split [] back f e = let none : ⊥ = cc in none
+no_split (x ∷ front) back f e = let none : ⊥ = cc in none
+
+-- the next entry is one of those that are later
+moved_on : (full later es : List Entry) (e : Entry) → full ≡ later ++ e ∷ es → full ≡ (later ++ e ∷ []) ++ es
+moved_on full later es e parts = parts ∙ sym (append_assoc later (e ∷ []) es)
+
+leads_made : (names : List (List ℕ)) (first last : Beginning) (es since : List Entry) (w : World) (full later : List Entry) → full ≡ later ++ es → Sure first full → Leads names first es last since w → LeadMade first last es since w
+leads_made names first last [] since w full later parts sure h = record {
+  same = h.0;
+  all = h.1;
+  old = λ name k. subst (KnownAt name) (sym h.2) k;
+  made = λ name f front back is m. absurd (no_split front back f is);
+}
+leads_made names first last (e ∷ es) [] w full later parts sure h =
+    absurd (not_unknown first h.0 full later es h.1 e h.2 true sure parts (leads_made names first h.0 es h.1 h.2 full (later ++ e ∷ []) (moved_on full later es e parts) sure h.3) h.4)
+leads_made names first last (e ∷ es) (latest ∷ since) w full later parts sure h =
+    let before = leads_made names first last es since h.1 full (later ++ e ∷ []) (moved_on full later es e parts) sure h.2 in
+    record {
+      same = before.same;
+      all = λ i. h.0 i ∷ before.all i;
+      old = λ name k. turn_known name h.1 w (reading e.source.text) e.lines h.3 (before.old name k);
+      made = λ name f front back is m. at name f front back is m before;
+    }
+  where
+    at : (name : List ℕ) (f : Entry) (front back : List Entry) → e ∷ es ≡ front ++ f ∷ back → Makes name f → LeadMade first last es since h.1 → KnownAt name w
+    at name f [] back is m before = turn_made h.1 w name e (subst (Makes name) (sym (let same : e ≡ f = cc in same)) m) h.3
+    at name f (x ∷ front) back is m before = turn_known name h.1 w (reading e.source.text) e.lines h.3 (before.made name f front back (let same : es ≡ front ++ f ∷ back = cc in same) m)
+
+-- nor does an entry that is left over lead nowhere
+nowhere_made : (first last : Beginning) (full later left es since : List Entry) (w : World) → Sure first full → full ≡ later ++ (left ++ es) → LeadMade first last es since w → LeadsNowhere w left → ⊥
+nowhere_made first last full later [] es since w sure parts led h = h
+nowhere_made first last full later (e ∷ []) es since w sure parts led h = not_unknown first last full later es since e w false sure parts led h
+nowhere_made first last full later (e ∷ f ∷ left) es since w sure parts led h = nowhere_made first last full (later ++ e ∷ []) (f ∷ left) es since w sure (moved_on full later ((f ∷ left) ++ es) e parts) led h
+
+-- what is so since a beginning
+abbrev KeptSince : Beginning → List Entry → World → Type 0
+KeptSince b since w = Legal (world_at b) since w × KeptPromises (world_at b) since w × KeepsAgreed (world_at b) b.nodes since w
+
+whole : (names : List (List ℕ)) (nodes : List Node) (before after : List DiskState) (script old new : Option (List ℕ)) (ended : Exit) (r : RunOver names nodes before after script old new ended) →
+    Sure (record { nodes = nodes; disks = before }) (r.run.left_over ++ r.run.led) → WholeRun nodes before after script old new ended
+whole names nodes before after script old new ended r sure = go r.run.left_over refl r.run.leaves
+  where
+    first : Beginning
+    first = record { nodes = nodes; disks = before }
+
+    led : LeadMade (record { nodes = nodes; disks = before }) r.run.last r.run.led r.run.since r.run.closing
+    led = leads_made names (record { nodes = nodes; disks = before }) r.run.last r.run.led r.run.since r.run.closing (r.run.left_over ++ r.run.led) r.run.left_over refl sure r.run.leads
+
+    since : KeptSince (record { nodes = nodes; disks = before }) r.run.led r.run.closing
+    since = subst (λ (b : Beginning). KeptSince b r.run.led r.run.closing) led.same
+        (subst (λ (es : List Entry). KeptSince r.run.last es r.run.closing) led.all (since_legal names (record { nodes = nodes; disks = before }) r.run.last r.run.led r.run.since r.run.closing r.run.leads, r.promises, r.agreed))
+
+    go : (left : List Entry) → r.run.left_over ≡ left → LeavesOver r.run.last r.run.closing left after → WholeRun nodes before after script old new ended
+    go (e ∷ es) is leaves = absurd (nowhere_made (record { nodes = nodes; disks = before }) r.run.last (r.run.left_over ++ r.run.led) [] (e ∷ es) r.run.led r.run.since r.run.closing sure (ap (λ (l : List Entry). l ++ r.run.led) is) led leaves)
+    go [] is leaves = record {
+      run = record {
+        ran = record {
+          entries = r.run.led;
+          closing = r.run.closing;
+          legal = since.0;
+          in_limits = subst (λ (es : List Entry). AreInLimits (es ++ r.run.led)) is r.run.in_limits;
+          added = r.run.added;
+          shows = r.run.shows;
+          ends = subst (λ (es : List Entry). Ends (exit_of ended) (option_map lines_of script) (es ++ r.run.led) r.run.added) is r.run.ends;
+        };
+        leaves = subst (λ (b : Beginning). Leaves b.disks r.run.closing after) led.same leaves;
+      };
+      promises = since.1;
+      agreed = since.2;
+    }
+
+found_made : (name : List ℕ) (ns : List Node) (n : Node) (es : List Entry) → AreMadeFirst ns es → find_node name ns ≡ Some n → (n.durable.volume ≡ Unknown → IsMadeFirst n.name es) × (name ≡ n.name)
+found_made name [] n es h e = let none : ⊥ = cc in absurd none
+found_made name (x ∷ ns) n es h e = go (bytes_eq name x.name) refl e (found_made name ns n es h.1)
+  where
+    go : (b : Bool) → bytes_eq name x.name ≡ b → ◌≡◌ {A = Option Node} (if b then Some x else find_node name ns) (Some n) → (find_node name ns ≡ Some n → (n.durable.volume ≡ Unknown → IsMadeFirst n.name es) × (name ≡ n.name)) → (n.durable.volume ≡ Unknown → IsMadeFirst n.name es) × (name ≡ n.name)
+    go true is f more = subst (λ (y : Node). (y.durable.volume ≡ Unknown → IsMadeFirst y.name es) × (name ≡ y.name)) (some_is x n f) (h.0, (bytes_eq-Decides name x.name).0 is)
+    go false is f more = more f
 
 pub made_runs_are_whole : MadeRunsAreWhole
-made_runs_are_whole name n before after script old new ended r later earlier e parts m none = go r.run.left_over parts r.run.leaves
+made_runs_are_whole names nodes before after script old new ended r made = whole names nodes before after script old new ended r (λ name. sure name (find_node name nodes) refl)
   where
-    whole : (more : List Entry) → r.run.led ≡ more ++ e ∷ earlier → WholeRun (n ∷ []) before after script old new ended
-    whole more is = led_whole (name ∷ []) (n ∷ []) before after script old new ended r
-        (subst (λ (es : List Entry). LeadWhole (record { nodes = n ∷ []; disks = before }) r.run.last es r.run.since r.run.closing) (sym is)
-        (made_leads (name ∷ []) (record { nodes = n ∷ []; disks = before }) r.run.last more earlier r.run.since e r.run.closing m none (n, refl)
-        (subst (λ (es : List Entry). Leads (name ∷ []) (record { nodes = n ∷ []; disks = before }) es r.run.last r.run.since r.run.closing) is r.run.leads)))
+    sure : (name : List ℕ) (o : Option Node) → find_node name nodes ≡ o → KnownAt name (world_at (record { nodes = nodes; disks = before })) ⊎ IsMadeFirst name (r.run.left_over ++ r.run.led)
+    sure name None none = inl (λ n e. let no : None ≡ Some n = sym none ∙ e in let never : ⊥ = cc in absurd never)
+    sure name (Some n) found =
+        let m = found_made name nodes n (r.run.left_over ++ r.run.led) made found in
+        elim (is_unknown n.durable.volume) [
+          | inl unknown ↦ inr (subst (λ y. IsMadeFirst y (r.run.left_over ++ r.run.led)) (sym m.1) (m.0 unknown))
+          | inr known ↦ inl (λ k e u. absurd (known (ap (λ (x : Node). x.durable.volume) (some_is n k (sym found ∙ e)) ∙ u)))
+        ]
 
-    go : (left : List Entry) → left ++ r.run.led ≡ later ++ e ∷ earlier → LeavesOver r.run.last r.run.closing left after → WholeRun (n ∷ []) before after script old new ended
-    go [] parts leaves = whole later parts
-    go (x ∷ xs) parts leaves = ⊎_elim (λ h. whole h.0 h.1) (λ h. absurd (h leaves)) (led_at (x ∷ xs) r.run.led later earlier e r.run.closing parts (makes_boots e m, none))
+known_made : (ns : List Node) (es : List Entry) → AreKnown ns → AreMadeFirst ns es
+known_made [] es h = tt
+known_made (n ∷ ns) es h = ((λ unknown. let no : false ≡ true = ap is_known (sym unknown) ∙ h.0 in let none : ⊥ = cc in absurd none), known_made ns es h.1)
+
+pub known_runs_are_whole : KnownRunsAreWhole
+known_runs_are_whole names nodes before after script old new ended known r = made_runs_are_whole names nodes before after script old new ended r (known_made nodes (r.run.left_over ++ r.run.led) known)

@@ -1,5 +1,5 @@
 -- A node before the first line, and what its disk has.
-use Rattle.std.proofs.Common.{◌≡◌, ℕ, List, [], true, false, Option, Some, None, is_some, refl, ap}
+use Rattle.std.proofs.Common.{◌≡◌, ℕ, List, [], true, false, Option, Some, None, is_some, refl, ap, arith}
 use Rattle.block_disk.specs.Disk.{DiskState}
 use Rattle.careful_write.specs.Content.{content_of}
 use Rattle.careful_write.specs.Load.{fitting}
@@ -20,7 +20,7 @@ is_told o image e = ap (λ (x : Option (List (List ℕ))). is_some x) e
 
 -- what a disk has that stands for nothing
 abbrev pub nothing_durable : Volume → Durable
-nothing_durable v = record { volume = v; slots = 0; journal = 0; boot = 0; greatest = 0; last = None; units = empty_journal; directory = [] }
+nothing_durable v = record { volume = v; log = []; journal = 0; boot = 0; greatest = 0; last = None; units = empty_journal; directory = [] }
 
 -- a node before the first line, over this
 abbrev pub resting_node : List ℕ → ℕ → Durable → Node
@@ -45,7 +45,21 @@ nothing_opening name blocks v = record {
     reached = tt;
     names = λ p q f g there other same. let none : ⊥ = cc in absurd none;
   };
-  active = tt;
+  log = record {
+    distinct = tt;
+    reached = tt;
+    prepared_within = λ r i. absurd i;
+    committed_within = λ r i. absurd i;
+    prepared = λ serial u there ready. let none : ⊥ = cc in absurd none;
+    active = λ r u i there. absurd i;
+    transactions = tt;
+    unsettled = tt;
+    few = omega arith;
+    slots = omega arith;
+  };
+  ends = tt;
+  named = λ file none. refl;
+  few_locks = omega arith;
 }
 
 -- Of any disk that tells its content nothing may be known.

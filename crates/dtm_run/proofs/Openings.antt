@@ -6,7 +6,7 @@ use Rattle.careful_write.specs.Load.{fitting}
 use Rattle.volume.specs.Catalogs.{IsSound}
 use Rattle.volume.specs.Contents.{HasFinding, HasSound, SoundOrFinding}
 use Rattle.run_model.specs.World.{Node, IsOpening, Volume, Sound, Faulty, Unknown}
-use Rattle.run_model.specs.Laws.{AreOpening}
+use Rattle.run_model.specs.Transcript.{AreOpening}
 use Rattle.directory_model.specs.Laws.{ReadsFiles}
 use Rattle.volume_model.specs.Homes.{last_of}
 use Rattle.volume_model.specs.Volumes.{IsLeftBy}
@@ -20,7 +20,7 @@ use Rattle.dtm_run.proofs.Contents.{content_count, content_is}
 use Rattle.dtm_run.proofs.Files.{has_files}
 use Rattle.dtm_run.proofs.Opened.{all_have, is_told, nothing_durable, nothing_opening, resting_node, unknown_node, unknown_stands}
 use Rattle.dtm_run.proofs.Reopening.{opens_again, stands_again}
-use Rattle.dtm_run.proofs.Resting.{last_reached, resting_journal, rests_in}
+use Rattle.dtm_run.proofs.Resting.{few_rest, last_reached, named_rest, resting_journal, rests_in}
 
 -- a node over a sound volume, or over a finding
 module _ (reads : ReadsFiles) (contents : SoundOrFinding) (falls : VolumeFalls) (name : List ℕ) (d : DiskState) (m : IsMade name d) where
@@ -39,7 +39,7 @@ module _ (reads : ReadsFiles) (contents : SoundOrFinding) (falls : VolumeFalls) 
         let files = has_files reads content v.catalog.heads v.catalog.home.greatest_moment.0 v.count rests.files in
         let n : Node = resting_node name d.size (record {
           volume = Sound;
-          slots = v.catalog.home.slots;
+          log = rests.log.slots;
           journal = v.catalog.home.ru_blocks;
           boot = v.catalog.home.boot;
           greatest = v.catalog.home.greatest_moment.0;
@@ -62,7 +62,10 @@ module _ (reads : ReadsFiles) (contents : SoundOrFinding) (falls : VolumeFalls) 
             resting = files.resting;
             last = last_reached n (last_of v.catalog.home) v.catalog.home.node v.catalog.home.boot sound.home.owner refl rests.last;
             units = has.units;
-            active = tt;
+            log = has.told;
+            ends = files.ends;
+            named = λ file none. named_rest content v.catalog n rests sound count is.whole files.files files.live refl file;
+            few_locks = few_rest content v.catalog n rests sound count is.whole files.files files.live refl refl;
           },
           record { name_is = refl; blocks = refl; told = is_told d.seen m.image m.told; counted = m.counted; has = have_disk n (fitting m.image) content d refl (all_have d m.image m.told m.settled) (v.group, left) },
           refl,
@@ -74,7 +77,7 @@ module _ (reads : ReadsFiles) (contents : SoundOrFinding) (falls : VolumeFalls) 
         let is = content_is d.size m.image m.least m.whole m.bytes in
         let left : IsLeftBy content l.node = record { catalog = v.catalog; tells = v.tells; sound = rw (l.named, l.sized) sound; leaves = λ each. l.leaves } in (
           reopened l.node,
-          opens_again content v.catalog l.node l.leaves l.last,
+          opens_again content v.catalog l.node l.leaves l.kept l.last,
           stands_again name d l.node m.image l.named l.sized m.told m.settled m.counted is.whole v.group left,
           ap (λ (x : Volume). is_known x) l.leaves.home.volume,
         )

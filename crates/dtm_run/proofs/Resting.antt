@@ -1,5 +1,5 @@
 -- A node over a volume that rests.
-use Rattle.std.proofs.Common.{◌≡◌, inl, inr, ℕ, zero, suc, ◌+◌, ◌-◌, ◌<◌, ◌≤◌, List, [], ◌∷◌, Option, Some, None, IfSome, length, refl, sym, ap, subst, ◌∙◌, arith}
+use Rattle.std.proofs.Common.{◌≡◌, inl, inr, ℕ, zero, suc, ◌+◌, ◌-◌, ◌<◌, ◌≤◌, List, [], ◌∷◌, false, Option, Some, None, IfSome, length, refl, sym, ap, subst, ◌∙◌, arith}
 use Rattle.std.proofs.lemmas.Bool.{cases_lt}
 use Rattle.careful_write.specs.State.{EachWhole}
 use Rattle.file_base.specs.declared.head.FileHead.{FileHead}
@@ -7,8 +7,13 @@ use Rattle.journal_model.specs.Ring.{IsJournal, stream}
 use Rattle.volume.specs.declared.catalog.Catalog.{Catalog}
 use Rattle.volume.specs.Catalogs.{IsNew, IsSound}
 use Rattle.unit_laws.proofs.NoteLemmas.{unchanged_has_notes}
-use Rattle.unit_laws.specs.Journal.{Journal}
-use Rattle.run_model.specs.World.{AreUnitsOf, File, LastIsReached, Node, OneMovesEndOf, Organization, Sequential, Relative, Indexed, Settlement, Sound, TellsUnits}
+use Rattle.std.specs.List.{AllByRecursion, list_any}
+use Rattle.commit_protocol.specs.World.{In}
+use Rattle.log_laws.specs.Slots.{Slots, committed_of, prepared_of, records_in}
+use Rattle.lmcp_log.specs.Keeping.{IsWhole as IsWholeLog, Keeps}
+use Rattle.records_model.specs.History.{LiveChanges}
+use Rattle.unit_laws.specs.Journal.{Journal, find_unit, is_of_file, units_in}
+use Rattle.run_model.specs.World.{AreUnitsOf, IsLogInOrder, IsPreparedUnit, booted, File, LastIsReached, Node, OneMovesEndOf, Organization, Sequential, Relative, Indexed, Settlement, Sound, TellsUnits}
 use Rattle.directory_model.specs.Files.{AreFiles, IsPlace, file_at, head_at}
 use Rattle.directory_model.specs.Restoring.{CanRestore, IsPlaceRestorable}
 use Rattle.volume_model.specs.Homes.{last_of}
@@ -82,7 +87,7 @@ module _ (c : List (List ℕ)) (v : Catalog) (n : Node) (rests : Rests c v) (sou
   units_of : AreUnitsOf n
   units_of = record {
     tells = λ place f there. tells f (live place f there);
-    marked = λ up place f there unmarked. live place f there;
+    marked = λ up place f there unmarked. subst (λ (ls : List LiveChanges). AllByRecursion (λ (x : LiveChanges). IsPreparedUnit n.durable.units x.serial) ls) (sym (live place f there)) tt;
     reached = rw units tt;
     names = λ p q f g at_p at_q same. elim (cases_lt p q) [
       | inl less ↦ absurd (names_differ c v n.name n.blocks n.durable.directory sound are p q f g at_p at_q same less)
@@ -93,9 +98,27 @@ module _ (c : List (List ℕ)) (v : Catalog) (n : Node) (rests : Rests c v) (sou
     ];
   }
 
-  pub rests_in : n.durable.volume ≡ Sound → n.durable.slots ≡ v.home.slots → n.durable.journal ≡ v.home.ru_blocks → n.durable.boot ≡ v.home.boot → n.durable.greatest ≡ v.home.greatest_moment.0 → n.durable.last ≡ last_of v.home → HasVolume c v n
-  rests_in volume slots journal boot greatest last = record {
-    home = record { volume = volume; slots = slots; journal = journal; boot = boot; greatest = greatest; last = last };
+  -- a log without a record tells nothing
+  told_none : n.durable.log ≡ rests.log.slots → IsLogInOrder n
+  told_none log =
+      let none : records_in n.durable.log ≡ [] = ap records_in log ∙ rests.log.none in
+      record {
+        distinct = rw none tt;
+        reached = rw none tt;
+        prepared_within = λ r i. absurd (subst (λ rs. In r (prepared_of rs)) none i);
+        committed_within = λ r i. absurd (subst (λ rs. In r (committed_of rs)) none i);
+        prepared = λ serial u there ready. (let e : None ≡ Some u = subst (λ (j : Journal). find_unit serial (units_in j.entries) ≡ Some u) units there in let never : ⊥ = cc in absurd never);
+        active = λ r u i there. absurd (subst (λ rs. In r (prepared_of rs)) none i);
+        transactions = rw none tt;
+        unsettled = rw none tt;
+        few = rw (none, units) (omega arith);
+        slots = subst (λ (ss : Slots). length ss ≤ 512) (sym log) rests.log.few;
+      }
+
+  pub rests_in : n.durable.volume ≡ Sound → n.durable.log ≡ rests.log.slots → n.durable.journal ≡ v.home.ru_blocks → n.durable.boot ≡ v.home.boot → n.durable.greatest ≡ v.home.greatest_moment.0 → n.durable.last ≡ last_of v.home → HasVolume c v n
+  rests_in volume log journal boot greatest last = record {
+    home = record { volume = volume; slots = ap length log ∙ rests.log.count; journal = journal; boot = boot; greatest = greatest; last = last };
+    log = record { keeps = subst (λ (ss : Slots). Keeps ss c) (sym log) rests.log.keeps; whole = subst (λ (ss : Slots). IsWholeLog ss c) (sym log) rests.log.whole };
     journal = record {
       entries = [];
       is = empty_journal c v n.name n.blocks long whole sound rests.empty;
@@ -106,10 +129,22 @@ module _ (c : List (List ℕ)) (v : Catalog) (n : Node) (rests : Rests c v) (sou
     };
     units = units_of;
     order = rw units (record { suit = tt; order = tt; few = tt; moments = tt; fits = omega arith });
-    active = rw units tt;
+    told = told_none log;
     files = are;
     restorable = λ f. restorable_at c (head_at v.heads f) (file_at n.durable.directory f) (λ file there. live f file there);
   }
+
+  pub told_rests : n.durable.log ≡ rests.log.slots → IsLogInOrder n
+  told_rests log = told_none log
+
+  -- a boot finds no lock there
+  pub few_rest : n.durable.log ≡ rests.log.slots → length (booted n.durable).locks ≤ 4096
+  few_rest log =
+      let none : records_in n.durable.log ≡ [] = ap records_in log ∙ rests.log.none in
+      rw (none, units) (omega arith)
+
+  pub named_rest : (name : List ℕ) → list_any (is_of_file name) n.durable.units.entries ≡ false
+  named_rest name = ap (λ (j : Journal). list_any (is_of_file name) j.entries) units
 
   pub units_rest : AreUnitsOf n
   units_rest = units_of

@@ -1,16 +1,20 @@
 -- What a run promises.
-use Rattle.std.specs.Prelude.{◌≡◌, ℕ, List, [], ◌∷◌, Bool, true, false, ◌&&◌, Option, map, is_some}
+use Rattle.std.specs.Prelude.{◌≡◌, ℕ, List, [], ◌∷◌, Bool, true, false, Option, Some, map, is_some}
 use Rattle.std.specs.Option.{option_map}
 use Rattle.block_disk.specs.Disk.{DiskState}
 use Rattle.careful_write.specs.State.{Leaves as DiskLeaves}
 use Rattle.transcript_model.specs.Script.{ScriptLine, lines_of}
 use Rattle.transcript_model.specs.Outside.{behind}
 use Rattle.script_model.specs.Command.{is_run_form}
-use Rattle.run_model.specs.World.{World, Node, Volume, Sound, Faulty, Unknown, opened}
+use Rattle.commit_protocol.specs.Opening.{IsAgreeing}
+use Rattle.run_agreement.specs.Laws.{opening_told}
+use Rattle.run_agreement.specs.Seen.{IsKnown}
+use Rattle.run_model.specs.World.{World, Node, Volume, Sound, Faulty, Barred, Unknown, find_node, opened}
 use Rattle.run_model.specs.Transcript as model
-use Rattle.run_model.specs.Transcript.{Ran, EndsUnread}
-use Rattle.run_model.specs.Promises.{Promises}
-use Rattle.dtm_node.specs.Nodes.{Passes}
+use Rattle.run_model.specs.Transcript.{Entry, Ran, EndsUnread}
+use Rattle.run_laws.specs.Laws.{AgreedPromises}
+use Rattle.run_laws.specs.Promises.{AreLastApart, KeptPromises}
+use Rattle.dtm_node.specs.Telling.{Passes}
 use Rattle.volume.specs.declared.catalog.Catalog.{Catalog}
 use Rattle.volume.specs.Catalogs.{IsSound, TellsCatalog}
 use Rattle.volume_model.specs.Volumes.{HasDisk, HasVolume}
@@ -28,20 +32,15 @@ exit_of exit.WriteFault = model.WriteFault
 exit_of exit.Memory = model.Memory
 exit_of exit.TooLong = model.TooLong
 
--- Scaffolding: a rack with one node alone is served.
-abbrev pub is_served : List (List ℕ) → Bool
-is_served [] = false
-is_served (name ∷ []) = true
-is_served (name ∷ other ∷ names) = false
-
 -- whether these words are a command over the nodes of these names
 abbrev pub is_command : List (List ℕ) → List (List ℕ) → Bool
-is_command names words = is_served names && is_run_form names words
+is_command names words = is_run_form names words
 
 -- whether something is known of what a disk has
 abbrev pub is_known : Volume → Bool
 is_known Sound = true
 is_known (Faulty condition block) = true
+is_known (Barred bar) = true
 is_known Unknown = false
 
 -- A node of the world stands on a disk that tells its content: it has this name and as many blocks, and the disk has what the node's disk has. Where nothing is
@@ -103,10 +102,15 @@ pub record RunsTo (opening : World) (before : List DiskState) (script : Option (
   pub ran : Ran opening script old new (exit_of ended)
   pub leaves : Leaves before ran.closing after
 
+-- From these nodes on, where something is known of the disk of each and the images agree with which the run began, more of what entries tell is kept, as what dumps show.
+abbrev pub KeepsAgreed : World → List Node → List Entry → World → Type 0
+KeepsAgreed opening nodes es closing = ((name : List ℕ) (n : Node) → find_node name nodes ≡ Some n → IsKnown n) → AreLastApart nodes → IsAgreeing (opening_told nodes es) → AgreedPromises opening es closing
+
 -- The whole run over a script's bytes, from these nodes on, which are down at first: as above, and all that the transcript tells is kept for good.
 pub record WholeRun (nodes : List Node) (before after : List DiskState) (script old new : Option (List ℕ)) (ended : Exit) : Type 0 where
   pub run : RunsTo (opened nodes (map counts_of before)) before (option_map lines_of script) old new ended after
-  pub promises : Promises (opened nodes (map counts_of before)) run.ran.entries run.ran.closing
+  pub promises : KeptPromises (opened nodes (map counts_of before)) run.ran.entries run.ran.closing
+  pub agreed : KeepsAgreed (opened nodes (map counts_of before)) nodes run.ran.entries run.ran.closing
 
 -- the answer to words that are no command, and what was shown for it
 pub record Unread (old new : Option (List ℕ)) (ended : Exit) : Type 0 where

@@ -1,22 +1,21 @@
 -- How the entries of a run lead on from the nodes before its first line, where of some of their disks nothing is known.
-use Rattle.std.specs.Prelude.{◌≡◌, ℕ, List, [], ◌∷◌, ◌++◌, Bool, true, false, not, Option, Some, None, map}
+use Rattle.std.specs.Prelude.{◌≡◌, ◌⊎◌, ℕ, List, [], ◌∷◌, ◌++◌, ◌==◌, Bool, true, false, not, ◌&&◌, Option, Some, None, map}
 use Rattle.std.specs.Option.{option_map}
 use Rattle.std.specs.List.{AllByRecursion, last_or}
 use Rattle.block_disk.specs.Disk.{DiskState}
 use Rattle.transcript_model.specs.Lines.{Line, Normal}
 use Rattle.transcript_model.specs.Outside.{behind}
 use Rattle.transcript_model.specs.Script.{ScriptLine, lines_of}
-use Rattle.script_model.specs.Statements.{Statement, At, Init, Boot, Says}
+use Rattle.script_model.specs.Statements.{At, Boot, Init, Says, Settle, Statement}
 use Rattle.script_model.specs.Grammar.{reading}
-use Rattle.run_model.specs.World.{World, Node, Unknown, find_node, opened}
-use Rattle.run_model.specs.Statements.{node_of, request_of}
-use Rattle.run_model.specs.Said.{SaidShared, said_here}
-use Rattle.run_model.specs.Transcript.{AreInLimits, Ends, Entry, Turn}
-use Rattle.run_model.specs.Laws.{AreOpening}
-use Rattle.run_model.specs.Promises.{Promises}
-use Rattle.dtm_node.specs.Calling.{said_shared}
+use Rattle.run_model.specs.World.{Node, Unknown, World, opened}
+use Rattle.run_model.specs.Transcript.{AreInLimits, AreOpening, Ends, Entry, Turn}
+use Rattle.run_laws.specs.Promises.{KeptPromises}
+use Rattle.run_laws.specs.Said.{Said, SaidNode, is_settling, said_here}
 use Rattle.dtm_node.specs.Standing.{counts_of}
-use Rattle.dtm_run.specs.Headline.{AllGo, Leaves, StandOn, WholeRun, exit_of, is_known}
+use Rattle.dtm_node.specs.Telling.{said_label}
+use Rattle.run_nodes.specs.Untold.{BootsUnknown}
+use Rattle.dtm_run.specs.Headline.{AllGo, KeepsAgreed, Leaves, StandOn, WholeRun, exit_of, is_known}
 use Rattle.dtm_run.specs.declared.top.Exit.{Exit}
 
 -- nodes as before a first line, and their disks
@@ -33,28 +32,40 @@ pub record Begins (names : List (List ℕ)) (b : Beginning) : Type 0 where
 abbrev pub world_at : Beginning → World
 world_at b = opened b.nodes (map counts_of b.disks)
 
--- A statement boots a node of whose disk nothing is known, and that not for an INIT that failed. The world does not say what it is answered.
-pub record BootsUnknown (w : World) (s : Statement) : Type 0 where
-  pub node : Node
-  pub there : find_node (node_of s) w.nodes ≡ Some node
-  pub boots : request_of s ≡ Boot
-  pub unknown : node.durable.volume ≡ Unknown
-  pub made : node.unmade ≡ false
+-- what lines say that lead to a world
+abbrev pub said_node_of : Node → SaidNode
+said_node_of n = record { name = n.name; up = n.up; unmade = n.unmade }
 
--- whether a volume may still be made, and no label was
-abbrev pub is_unused : SaidShared → Bool
-is_unused s = elim s.labels [ [] ↦ not s.in_use | label ∷ labels ↦ false ]
+abbrev pub said_world : World → Said
+said_world w = record { nodes = map said_node_of w.nodes; shared = record { labels = map said_label w.shared.labels; in_use = w.shared.in_use; wire = w.shared.wire } }
 
--- what is said of what nodes share once a statement was answered so
-abbrev pub said_behind : World → Statement → List Line → SaidShared
-said_behind w s lines = (said_here (Says s) lines (record { nodes = []; shared = said_shared w.shared })).shared
+-- each of these nodes is down, and no INIT of it failed
+abbrev pub are_resting : List SaidNode → Bool
+are_resting [] = true
+are_resting (n ∷ ns) = not n.up && (not n.unmade && are_resting ns)
 
--- an entry of such a statement, behind which nodes are unused or are not
+-- whether a volume may still be made, no label was, and no message was sent
+abbrev pub is_unused : Said → Bool
+is_unused said = elim said.shared.labels [
+  | [] ↦ elim said.shared.wire [ [] ↦ not said.shared.in_use && are_resting said.nodes | m ∷ ms ↦ false ]
+  | label ∷ labels ↦ false
+]
+
+-- no clock was set
+abbrev pub are_unset : List Node → Bool
+are_unset [] = true
+are_unset (n ∷ ns) = (n.clock == 0) && are_unset ns
+
+-- whether nodes are as before a first line once a statement was answered so, but for what their disks have
+abbrev pub is_unused_behind : World → Statement → List Line → Bool
+is_unused_behind w s lines = not (is_settling s) && (is_unused (said_here (Says s) lines (said_world w)) && are_unset w.nodes)
+
+-- an entry of a statement that may bring up a node of whose disk nothing is known, behind which nodes are unused or are not
 pub record IsUnknown (w : World) (e : Entry) (unused : Bool) : Type 0 where
   pub statement : Statement
   pub says : reading e.source.text ≡ Says statement
   pub boots : BootsUnknown w statement
-  pub leaves : is_unused (said_behind w statement e.lines) ≡ unused
+  pub leaves : is_unused_behind w statement e.lines ≡ unused
 
 -- Entries, the newest first, lead from the first beginning to this world, which those since the last beginning made. Each is a turn of the world, but for a BOOT of a
 -- node of whose disk nothing is known: where it was refused, so that nodes are unused, the run begins anew behind it.
@@ -64,7 +75,7 @@ Leads names first (e ∷ es) last [] w =
     (former : Beginning) × (earlier : List Entry) × (mid : World) × Leads names first es former earlier mid × IsUnknown mid e true × AllGo former.disks last.disks × Begins names last × (w ≡ world_at last)
 Leads names first (e ∷ es) last (latest ∷ since) w = (latest ≡ e) × (mid : World) × Leads names first es last since mid × Turn mid (reading e.source.text) e.lines w
 
--- the oldest of these entries is a BOOT of such a node that was not refused, so that no volume is made any more
+-- the oldest of these entries is a statement of that kind behind which nodes are not unused
 abbrev pub LeadsNowhere : World → List Entry → Type 0
 LeadsNowhere w [] = ⊥
 LeadsNowhere w (e ∷ []) = IsUnknown w e false
@@ -75,7 +86,7 @@ abbrev pub LeavesOver : Beginning → World → List Entry → List DiskState �
 LeavesOver last w [] after = Leaves last.disks w after
 LeavesOver last w (e ∷ es) after = LeadsNowhere w (e ∷ es)
 
--- A run from a beginning on: what was shown is the text of entries, which lead to a world, up to a BOOT that leads nowhere; and these disks are left.
+-- A run from a beginning on: what was shown is the text of entries, which lead to a world, up to a statement that leads nowhere; and these disks are left.
 pub record RunsFrom (names : List (List ℕ)) (first : Beginning) (script : Option (List ScriptLine)) (old new : Option (List ℕ)) (ended : Exit) (after : List DiskState) : Type 0 where
   pub led : List Entry
   pub left_over : List Entry
@@ -90,10 +101,11 @@ pub record RunsFrom (names : List (List ℕ)) (first : Beginning) (script : Opti
   pub ends : Ends (exit_of ended) script (left_over ++ led) added
 
 -- The whole run over a script's bytes, from these nodes on, which are down at first: as above, and all that the entries since the last beginning tell is kept
--- for good.
+-- for good; more of it, as what dumps show, where the images agree with which that began.
 pub record RunOver (names : List (List ℕ)) (nodes : List Node) (before after : List DiskState) (script old new : Option (List ℕ)) (ended : Exit) : Type 0 where
   pub run : RunsFrom names (record { nodes = nodes; disks = before }) (option_map lines_of script) old new ended after
-  pub promises : Promises (world_at run.last) run.since run.closing
+  pub promises : KeptPromises (world_at run.last) run.since run.closing
+  pub agreed : KeepsAgreed (world_at run.last) run.last.nodes run.since run.closing
 
 -- something is known of the disk of each of these nodes
 abbrev pub AreKnown : List Node → Type 0
@@ -104,18 +116,23 @@ abbrev pub KnownRunsAreWhole : Type 0
 KnownRunsAreWhole = (names : List (List ℕ)) (nodes : List Node) (before after : List DiskState) (script old new : Option (List ℕ)) (ended : Exit) → AreKnown nodes →
     RunOver names nodes before after script old new ended → WholeRun nodes before after script old new ended
 
--- an entry boots no node, and one makes a volume
-abbrev pub BootsNone : Entry → Type 0
-BootsNone e = (node : List ℕ) → reading e.source.text ≡ Says (At node Boot) → ⊥
-
-pub record Makes (e : Entry) : Type 0 where
-  pub node : List ℕ
+-- an entry makes the volume of this node
+pub record Makes (node : List ℕ) (e : Entry) : Type 0 where
   pub slots : ℕ
   pub journal : ℕ
   pub says : reading e.source.text ≡ Says (At node (Init slots journal))
   pub answered : last_or None e.lines ≡ Some Normal
 
--- Whatever was known of the only node's disk: where an INIT succeeded, before which there was no BOOT, all entries lead on from the first line.
+-- Before each of these entries that may boot the node of this name its volume was made.
+abbrev pub IsMadeFirst : List ℕ → List Entry → Type 0
+IsMadeFirst node es = (earlier later : List Entry) (e : Entry) (s : Statement) → es ≡ later ++ e ∷ earlier → reading e.source.text ≡ Says s → (s ≡ At node Boot) ⊎ (s ≡ Settle) →
+    (f : Entry) × (front : List Entry) × (back : List Entry) × (earlier ≡ front ++ f ∷ back) × Makes node f
+
+-- so it is of each node of whose disk nothing is known
+abbrev pub AreMadeFirst : List Node → List Entry → Type 0
+AreMadeFirst ns es = AllByRecursion (λ (n : Node). n.durable.volume ≡ Unknown → IsMadeFirst n.name es) ns
+
+-- Whatever was known of the disks: where the volume of each node of whose disk nothing is known is made before it is booted, all entries lead on from the first line.
 abbrev pub MadeRunsAreWhole : Type 0
-MadeRunsAreWhole = (name : List ℕ) (n : Node) (before after : List DiskState) (script old new : Option (List ℕ)) (ended : Exit) (r : RunOver (name ∷ []) (n ∷ []) before after script old new ended) →
-    (later earlier : List Entry) (e : Entry) → r.run.left_over ++ r.run.led ≡ later ++ e ∷ earlier → Makes e → AllByRecursion BootsNone earlier → WholeRun (n ∷ []) before after script old new ended
+MadeRunsAreWhole = (names : List (List ℕ)) (nodes : List Node) (before after : List DiskState) (script old new : Option (List ℕ)) (ended : Exit) (r : RunOver names nodes before after script old new ended) →
+    AreMadeFirst nodes (r.run.left_over ++ r.run.led) → WholeRun nodes before after script old new ended

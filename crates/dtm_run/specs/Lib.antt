@@ -1,6 +1,6 @@
 pub mod Racks
-pub mod Alone
 pub mod Headline
+pub mod Taking
 pub mod Leading
 pub mod Calls
 pub mod Openings

@@ -8,8 +8,11 @@ use Rattle.file_base.specs.declared.head.FileHead.{FileHead}
 use Rattle.record_files.specs.Any.{IsFile, IsLaidOut}
 use Rattle.volume.specs.declared.catalog.Catalog.{Catalog}
 use Rattle.volume.specs.Catalogs.{IsSound, TellsCatalog}
+use Rattle.log_laws.specs.Slots.{Slots, records_in}
+use Rattle.lmcp_log.specs.Keeping.{IsWhole as IsWholeLog, Keeps}
 use Rattle.run_model.specs.World.{Node, IsOpening, LastIsReached}
-use Rattle.run_model.specs.Laws.{AreOpening}
+use Rattle.run_model.specs.Transcript.{AreOpening}
+use Rattle.world_laws.specs.Nodes.{IsKeptDisk}
 use Rattle.directory_model.specs.Files.{head_at}
 use Rattle.volume_model.specs.Homes.{last_of}
 use Rattle.volume_model.specs.Volumes.{LeavesVolume}
@@ -25,17 +28,28 @@ HasLayout content h = IsFile h × IsLaidOut h content
 abbrev pub AreLaidOut : List (List ℕ) → List (Option FileHead) → Type 0
 AreLaidOut content heads = (f : ℕ) (h : FileHead) → head_at heads f ≡ Some h → HasLayout content h
 
--- What an earlier run left of a volume whose units are all settled: its files are laid out, its journal of recovery units has no entry and did not come far, and
--- the last settlement, where there is one, is of a branch of this node, of a boot that was counted.
+-- the slots of a log that has no record, as they stand in a volume
+pub record HasNoRecord (content : List (List ℕ)) (v : Catalog) : Type 0 where
+  pub slots : Slots
+  pub count : length slots ≡ v.home.slots
+  pub few : length slots ≤ 512
+  pub none : records_in slots ≡ []
+  pub keeps : Keeps slots content
+  pub whole : IsWholeLog slots content
+
+-- What an earlier run left of a volume whose units are all settled: its files are laid out, its log has no record, its journal of recovery units has no entry and did
+-- not come far, and the last settlement, where there is one, is of a branch of this node, of a boot that was counted.
 pub record Rests (content : List (List ℕ)) (v : Catalog) : Type 0 where
+  pub log : HasNoRecord content v
   pub files : AreLaidOut content v.heads
   pub empty : v.ru.first ≡ v.ru.end
   pub low : v.ru.end ≤ 2 ^ 62
   pub last : IfSome (last_of v.home) (λ s. (s.serial.node ≡ v.home.node) × (s.serial.boot ≤ v.home.boot))
 
--- What a node left of its volume as it fell, whatever its branches had changed that were not settled.
+-- What a node left of its volume as it fell, whatever its branches had changed that were not settled: one whose disk is as those of nodes are in the worlds of runs.
 pub record IsLeftByOne (name : List ℕ) (size : ℕ) (content : List (List ℕ)) (v : Catalog) : Type 0 where
   pub node : Node
+  pub kept : IsKeptDisk node
   pub named : node.name ≡ name
   pub sized : node.blocks ≡ size
   pub leaves : LeavesVolume content v node

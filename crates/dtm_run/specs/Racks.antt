@@ -1,8 +1,7 @@
 -- What a rack has, and what it is refused.
-use Rattle.std.specs.Prelude.{◌≡◌, ℕ, ◌≤◌, ◌||◌, List, [], ◌∷◌, Bool, false, Option, Some, None, map, length, if◌then◌else◌, nat_lt, nat_le}
-use Rattle.std.specs.Str.{bytes_eq}
-use Rattle.std.specs.List.{list_any}
+use Rattle.std.specs.Prelude.{ℕ, ◌≤◌, ◌||◌, List, [], ◌∷◌, Option, Some, None, map, length, if◌then◌else◌, nat_lt, nat_le}
 use Rattle.block_disk.specs.Disk.{DiskState}
+use Rattle.run_nodes.specs.Names.{AreApart, is_among}
 use Rattle.dtm_run.specs.declared.rack.Rack.{Rack}
 use Rattle.dtm_run.specs.declared.rack.RackCause.{RackCause}
 use Rattle.dtm_run.specs.declared.rack.RackCause.TheVariants as cause
@@ -19,10 +18,6 @@ disks_in rack = map (λ node. node.1) rack.nodes.entries
 abbrev pub states_in : {D : Type 0} → (D → DiskState) → Rack D → List DiskState
 states_in state rack = map (λ node. state node.1) rack.nodes.entries
 
--- whether a name is one of these
-abbrev pub is_among : List ℕ → List (List ℕ) → Bool
-is_among name names = list_any (λ other. bytes_eq other name) names
-
 -- Why a rack with these names refuses a node of this name and with a disk of so many blocks, where it does: the name is there, the disk is too small or too
 -- large, or there are 8 nodes.
 abbrev pub refusal_of : List (List ℕ) → List ℕ → ℕ → Option RackCause
@@ -32,11 +27,6 @@ refusal_of names name size = if is_among name names then Some cause.Name else (i
 abbrev pub AreSized : List DiskState → Type 0
 AreSized [] = Unit {0}
 AreSized (disk ∷ disks) = (4096 ≤ disk.size) × (disk.size ≤ 65536) × AreSized disks
-
--- no name is there twice
-abbrev pub AreApart : List (List ℕ) → Type 0
-AreApart [] = Unit {0}
-AreApart (name ∷ names) = (is_among name names ≡ false) × AreApart names
 
 -- A rack: nodes of different names, at most 8, whose disks are neither too small nor too large.
 pub record IsRack {D : Type 0} (state : D → DiskState) (rack : Rack D) : Type 0 where

@@ -4,9 +4,10 @@ use Rattle.std.specs.List.{All}
 use Rattle.block_disk.specs.Blocks.{IsWhole, block_at}
 use Rattle.block_disk.specs.Disk.{DiskState, MayLeave}
 use Rattle.records_model.specs.History.{History, records}
-use Rattle.run_model.specs.World.{World, Node, File, Act, DiskCounts, Sound, Faulty, Unknown, IsOpening, acted, find_node, nothing_volatile, opened}
-use Rattle.run_model.specs.Transcript.{Entry, Legal}
-use Rattle.run_model.specs.Laws.{AreOpening}
+use Rattle.unit_laws.specs.Units.{Map}
+use Rattle.run_model.specs.World.{World, Node, File, Act, DiskCounts, Half, MayTurnOut, Sound, Faulty, Barred, Unknown, IsOpening, acted, find_node, nothing_volatile, opened}
+use Rattle.run_model.specs.Transcript.{AreOpening, Entry, Legal}
+use Rattle.volume_model.specs.Volumes.{half_done}
 use Rattle.recovery_units.specs.Uses.{IsCounted}
 use Rattle.dtm_run.specs.Headline.{LeavesNode, StandsOn}
 
@@ -36,12 +37,13 @@ reopened n = record {
   under_way = None;
 }
 
--- The next run finds the node that this one left, or that node after the act that was under way; of a disk that fails a condition it finds this condition, and of
--- one of which nothing is known nothing.
+-- The next run finds the node that this one left, or that node after the act that was under way, or with a part of it, where that is the abort of a prepared branch;
+-- of a disk that fails a condition it finds this condition, of one that bars each boot what bars it, and of one of which nothing is known nothing.
 abbrev pub IsReopened : Node → Node → Type 0
 IsReopened n m = elim n.durable.volume [
-  | Sound ↦ (m ≡ reopened n) ⊎ ((act : Act) × (n.under_way ≡ Some act) × (m ≡ reopened (acted act n)))
+  | Sound ↦ (m ≡ reopened n) ⊎ (((act : Act) × (n.under_way ≡ Some act) × (m ≡ reopened (acted act n))) ⊎ ((standing : List ℕ → Map) × MayTurnOut n (Half standing) × (m ≡ reopened (half_done standing n))))
   | Faulty condition block ↦ m.durable.volume ≡ Faulty condition block
+  | Barred bar ↦ m.durable.volume ≡ Barred bar
   | Unknown ↦ m.durable.volume ≡ Unknown
 ]
 

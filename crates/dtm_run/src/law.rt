@@ -6,6 +6,7 @@ ghost use Rattle.dtm_run.specs.Reopenings.{LeftNodesOpen};
 use directory_model::records_are_read_alike;
 use volume::each_content_has_a_volume_or_a_finding;
 use volume_laws::volumes_fall;
+use world_laws::nodes_stay_kept;
 
 /// On each disk that tells its content there stands a node as before the first line. Where nothing is pending on it, and its volume rests or was left by a node
 /// that fell, this has the volume, or the first condition that fails. So the promises of a run are not empty.
@@ -22,6 +23,7 @@ pub fn opening_nodes_exist()
 pub fn left_nodes_open()
     ensures { LeftNodesOpen }
 {
+    nodes_stay_kept();
     volumes_fall();
 }
 
@@ -31,7 +33,7 @@ pub fn known_runs_are_whole()
     ensures { KnownRunsAreWhole }
 {}
 
-/// Whatever the only node's disk had: where an INIT succeeds before the first BOOT, a run leads on to its end.
+/// Whatever the disks had: where the volume of each node of whose disk nothing is known is made before it is booted, a run leads on to its end.
 pub fn made_runs_are_whole()
     ensures { MadeRunsAreWhole }
 {}

@@ -14,6 +14,8 @@ mod compared;
 #[cfg(test)]
 mod limits;
 #[cfg(test)]
+mod racks;
+#[cfg(test)]
 mod restarts;
 #[cfg(test)]
 mod tests;

@@ -1,9 +1,10 @@
 //! The nodes of a run, and their disks.
-ghost use Rattle.std.specs.Prelude.{◌≡◌, ℕ, ◌<◌, ◌≤◌, List, [], ◌∷◌, ◌++◌, Option, Some, None, false, OnOk, OnErr, IfErr, IfSome, IsSome, map, length, slice_get, option_to_list, unwrap_or};
+ghost use Rattle.std.specs.Prelude.{◌≡◌, ℕ, ◌<◌, ◌≤◌, ◌+◌, List, [], ◌∷◌, ◌++◌, Option, Some, None, false, OnOk, OnErr, IfErr, IfSome, IsSome, map, length, slice_get, option_to_list, unwrap_or};
 ghost use Rattle.std.specs.Option.{option_map};
 ghost use Rattle.indexmap.specs.IndexMap.{spare};
 ghost use Rattle.block_disk.specs.Disk.{DiskState};
-ghost use Rattle.dtm_run.specs.Racks.{names_in, disks_in, is_among, refusal_of, IsRack};
+ghost use Rattle.dtm_run.specs.Racks.{names_in, disks_in, refusal_of, IsRack};
+ghost use Rattle.run_nodes.specs.Names.{is_among};
 
 use block_disk::Disk;
 use indexmap::IndexMap;
@@ -107,22 +108,21 @@ impl<D> Rack<D> {
         }
     }
 
-    /// Makes room for one node more, which `put_back` wants.
+    /// Makes room for as many nodes as it may have, which `put_back` wants.
     pub(crate) fn make_room(&mut self) -> Result<(), AllocError>
         ensures same { self.new.nodes.entries ≡ self.old.nodes.entries }
-        ensures room { OnOk result (0 < spare self.new.nodes) }
+        ensures room { OnOk result (8 ≤ spare self.new.nodes) }
     {
-        self.nodes.reserve(1)
+        self.nodes.reserve(MOST_NODES)
     }
 
-    /// Takes the last node out.
-    pub(crate) fn take_last(&mut self) -> Option<(NodeName, D)>
-        ensures nodes { self.old.nodes.entries ≡ self.new.nodes.entries ++ option_to_list result }
+    /// Takes the first node out.
+    pub(crate) fn take_first(&mut self) -> Option<(NodeName, D)>
+        ensures nodes { self.old.nodes.entries ≡ option_to_list result ++ self.new.nodes.entries }
         ensures some { 0 < length (names_in self.old) → IsSome result }
         ensures room { spare self.old.nodes ≤ spare self.new.nodes }
-        ensures gone { IfSome result (λ node. is_among node.0 (names_in self.new) ≡ false) }
     {
-        self.nodes.pop()
+        self.nodes.shift_remove_index(0)
     }
 }
 
@@ -131,7 +131,8 @@ impl<D: Drop> Rack<D> {
     pub(crate) fn put_back(&mut self, name: NodeName, disk: D)
         requires room { 0 < spare self.old.nodes }
         requires new { is_among name (names_in self.old) ≡ false }
-        ensures { self.new.nodes.entries ≡ self.old.nodes.entries ++ (name, disk) ∷ [] }
+        ensures nodes { self.new.nodes.entries ≡ self.old.nodes.entries ++ (name, disk) ∷ [] }
+        ensures room { spare self.old.nodes ≤ spare self.new.nodes + 1 }
     {
         let _ = self.nodes.insert(name, disk);
     }

@@ -649,7 +649,7 @@ fn a_last_line_needs_no_line_feed(rt: HostRuntime) -> Result<(), Fail> {
 pub(crate) fn disk_of(
     mut rack: Rack<CrashDisk<MemPlatter>>,
 ) -> Result<CrashDisk<MemPlatter>, Fail> {
-    match rack.take_last() {
+    match rack.take_first() {
         Some((_, disk)) => Ok(disk),
         None => Err(Fail::from("no disk")),
     }

@@ -1,35 +1,38 @@
 //! The top call: a script is read line by line, served, and its transcript written.
-ghost use Rattle.std.specs.Prelude.{◌≡◌, ℕ, ◌+◌, ◌<◌, ◌≤◌, List, [], ◌∷◌, ◌⊎◌, true, false, map, string_bytes, if◌then◌else◌};
+ghost use Rattle.std.specs.Prelude.{◌≡◌, ℕ, ◌<◌, ◌≤◌, List, [], ◌∷◌, ◌⊎◌, length, true, false, map, string_bytes, if◌then◌else◌};
 ghost use Rattle.std.specs.Option.{option_map};
+ghost use Rattle.indexmap.specs.IndexMap.{spare};
 ghost use Rattle.transcript_model.specs.Outside.{Rose};
 ghost use Rattle.transcript_model.specs.Script.{lines_of};
 ghost use Rattle.transcript_model.specs.Emitting.{Emits, Since};
 ghost use Rattle.transcript.specs.Emitters.{shown_by};
 ghost use Rattle.transcript.specs.Forms.{HasTime, line_of};
 ghost use Rattle.transcript.specs.Reading.{IsSound, lines_ahead, taken_bytes};
-ghost use Rattle.block_disk.specs.Disk.{CallLog};
-ghost use Rattle.run_model.specs.World.{Node as NodeSaid, World};
-ghost use Rattle.run_model.specs.Laws.{AreOpening};
-ghost use Rattle.run_model.specs.Said.{nothing_said};
-ghost use Rattle.dtm_node.specs.Keeping.{IsToUp};
-ghost use Rattle.dtm_node.specs.Nodes.{IsNode, Passes, kept_of, shared_of, state_of};
-ghost use Rattle.script_lang.specs.Statements.{request_of, statement_of};
-ghost use Rattle.script_model.specs.Statements.{At};
-ghost use Rattle.dtm_run.specs.Alone.{IsForUp, StandsAlone, ServesAlone};
+ghost use Rattle.run_model.specs.Transcript.{AreOpening};
+ghost use Rattle.run_model.specs.World.{Node as NodeSaid};
+ghost use Rattle.run_laws.specs.Said.{nothing_said};
 ghost use Rattle.dtm_run.specs.Racks.{names_in, disks_in, states_in, IsRack};
-ghost use Rattle.dtm_run.specs.Calls.{AnswersAlone, TellsOver, said_alone};
-ghost use Rattle.dtm_run.specs.Headline.{is_command as is_command_of, is_served as is_served_of, StandOn, AllGo, Unread};
-ghost use Rattle.dtm_run.specs.Leading.{BootsUnknown, RunsFrom, RunOver};
+ghost use Rattle.run_nodes.specs.Held.{AreNodes, kept_all, names_of};
+ghost use Rattle.run_nodes.specs.Names.{AreApart, is_among};
+ghost use Rattle.run_nodes.specs.Together.{disks_of, said_together};
+ghost use Rattle.dtm_run.specs.Calls.{TellsOver};
+ghost use Rattle.dtm_run.specs.Headline.{is_command as is_command_of, StandOn, AllGo, Unread};
+ghost use Rattle.dtm_run.specs.Leading.{RunsFrom, RunOver};
+ghost use Rattle.dtm_run.specs.Taking.{AreAtZero, AreNew};
 
 use crate::rack::Rack;
 use block_disk::Disk;
-use dtm_node::{Node, Shared, is_to_up};
+use dtm_node::{Node, Shared};
 use recovery_units::RecoveryUnits;
-use run_model::promises_hold;
-use script_lang::{Literals, Request, Statement, is_run_form, read_statement};
+use run_laws::promises::promises_hold;
+use run_nodes::{Nodes, serve_statement};
+use script_lang::{Literals, is_run_form, read_statement};
 use std::alloc::Global;
 use transcript::{Emit, Form, LineBuffer, LineReader, Next, Sink, SinkEmit, Source};
 use vms_base::NodeName;
+use world_laws::nodes_stay_kept;
+
+const MOST_NODES: usize = 8;
 
 const MOST_LINES: u32 = 1_000_000;
 
@@ -62,11 +65,12 @@ pub fn run<S: Source, K: Sink, D: Disk + Drop, U: RecoveryUnits>(
 ) -> Exit
     requires rack { IsRack D.state rack.old }
     // Where the words are a command: from all nodes that stand on the disks before the first line, the transcript is legal and keeps its promises, and the
-    // disks have what its nodes have. Where nothing is known of a disk, this is so up to a BOOT of its node, and anew behind one that was refused.
+    // disks have what its nodes have. Where nothing is known of a disk, this is so up to a statement that may bring its node up, and anew behind a BOOT that was
+    // refused while nothing else had come of the nodes.
     ensures runs { is_command_of (names_in rack.old) (map string_bytes words.now) ≡ true → (nodes : List NodeSaid) → AreOpening nodes → StandOn (names_in rack.old) (states_in D.state rack.old) nodes →
         RunOver (names_in rack.old) nodes (states_in D.state rack.old) (states_in D.state rack.new) (S.left source.old) (K.shown sink.old) (K.shown sink.new) result }
     // Whether or not the disks tell their content: what was shown for each line tells which calls armed or powered them, each failure that is shown raised
-    // its count, and a statement is refused with NOSUCHNODE, NODEDOWN, NODEUP, VOLINUSE, NOINIT or LABEL just where the lines before it say so.
+    // its count, and a statement is refused with NOSUCHNODE, NODEDOWN, NODEUP, VOLINUSE, NOINIT, NOSUCHMSG or LABEL just where the lines before it say so.
     ensures calls { is_command_of (names_in rack.old) (map string_bytes words.now) ≡ true →
         TellsOver (names_in rack.old) (states_in D.state rack.old) (states_in D.state rack.new) (option_map lines_of (S.left source.old)) (K.shown sink.old) (K.shown sink.new) result }
     ensures usage { is_command_of (names_in rack.old) (map string_bytes words.now) ≡ false → (result ≡ Exit.Memory) ⊎ Unread (K.shown sink.old) (K.shown sink.new) result }
@@ -95,17 +99,19 @@ pub fn run<S: Source, K: Sink, D: Disk + Drop, U: RecoveryUnits>(
     }
 }
 
-// Whether the words are a command over the nodes of the rack. Scaffolding: a rack with one node alone is served.
+// Whether the words are a command over the nodes of the rack.
 fn is_command<D>(rack: &Rack<D>, words: &[String]) -> bool
+    requires few { length (names_in rack.now) ≤ 8 }
     ensures { result ≡ is_command_of (names_in rack.now) (map string_bytes words.now) }
 {
-    if rack.len() != 1 {
-        return false;
+    let mut names = [NodeName::default(); MOST_NODES];
+    let count = rack.len();
+    for place in 0..count {
+        if let Some(name) = rack.name(place) {
+            names[place] = name;
+        }
     }
-    match rack.name(0) {
-        Some(name) => is_run_form(&[name], words),
-        None => false,
-    }
+    is_run_form(&names[..count], words)
 }
 
 fn answer_usage<K: Sink>(out: &mut SinkEmit<'_, K>) -> Exit
@@ -122,7 +128,7 @@ fn answer_usage<K: Sink>(out: &mut SinkEmit<'_, K>) -> Exit
     }
 }
 
-// Takes all memory, and runs the script by the rack's only node.
+// Takes all memory, and runs the script by the rack's nodes.
 fn run_script<S: Source, K: Sink, D: Disk + Drop, U: RecoveryUnits>(
     alloc: Global,
     source: &mut S,
@@ -130,7 +136,6 @@ fn run_script<S: Source, K: Sink, D: Disk + Drop, U: RecoveryUnits>(
     rack: &mut Rack<D>,
 ) -> Exit
     requires failed { out.old.failed ≡ false }
-    requires only { is_served_of (names_in rack.old) ≡ true }
     requires rack { IsRack D.state rack.old }
     ensures same_sink { out.new.sink.ghost_name ≡ out.old.sink.ghost_name }
     ensures runs { (nodes : List NodeSaid) → AreOpening nodes → StandOn (names_in rack.old) (states_in D.state rack.old) nodes →
@@ -142,6 +147,7 @@ fn run_script<S: Source, K: Sink, D: Disk + Drop, U: RecoveryUnits>(
     ensures memory { result ≡ Exit.Memory → (K.shown out.new.sink.now ≡ K.shown out.old.sink.now) × (S.left source.new ≡ S.left source.old) × (disks_in rack.new ≡ disks_in rack.old) }
     ensures names { names_in rack.new ≡ names_in rack.old }
     ensures disks { AllGo (states_in D.state rack.old) (states_in D.state rack.new) }
+    ensures rack { IsRack D.state rack.new }
 {
     let Ok(mut reader) = LineReader::reserve(alloc) else {
         return Exit::Memory;
@@ -152,25 +158,58 @@ fn run_script<S: Source, K: Sink, D: Disk + Drop, U: RecoveryUnits>(
     let Ok(mut literals) = Literals::reserve(alloc) else {
         return Exit::Memory;
     };
+    let Ok(mut nodes) = Nodes::reserve(alloc) else {
+        return Exit::Memory;
+    };
     let Ok(()) = rack.make_room() else {
         return Exit::Memory;
     };
-    let Some(node) = rack.take_last() else {
-        unreachable!()
-    };
-    let (name, disk) = node;
-    let node: Node<D, U> = Node::new(name, disk);
-    let (exit, disk) = drive(
+    take_out(&mut nodes, rack);
+    let exit = drive::<S, K, D, U>(
         alloc,
         source,
         &mut reader,
         &mut literals,
         &mut shared,
         out,
-        node,
+        &mut nodes,
     );
-    rack.put_back(name, disk);
+    put_back(rack, &mut nodes);
     exit
+}
+
+// Takes the nodes of a rack out, which are not booted yet.
+fn take_out<D: Disk + Drop, U: RecoveryUnits>(nodes: &mut Nodes<D, U>, rack: &mut Rack<D>)
+    requires none { nodes.old.nodes.entries ≡ [] }
+    requires room { 8 ≤ spare nodes.old.nodes }
+    requires rack { IsRack D.state rack.old }
+    ensures nodes { AreNew D.state U.state rack.old.nodes.entries nodes.new.nodes.entries }
+    ensures rack { rack.new.nodes.entries ≡ [] }
+    ensures room { spare rack.old.nodes ≤ spare rack.new.nodes }
+{
+    for _number in 0..rack.len() {
+        let Some(node) = rack.take_first() else {
+            unreachable!()
+        };
+        nodes.push(node.0, Node::new(node.0, node.1));
+    }
+}
+
+// Puts the disks of nodes back into their rack.
+fn put_back<D: Disk + Drop, U: RecoveryUnits>(rack: &mut Rack<D>, nodes: &mut Nodes<D, U>)
+    requires none { rack.old.nodes.entries ≡ [] }
+    requires room { 8 ≤ spare rack.old.nodes }
+    requires few { length (names_of nodes.old) ≤ 8 }
+    requires apart { AreApart (names_of nodes.old) }
+    ensures names { names_in rack.new ≡ names_of nodes.old }
+    ensures disks { states_in D.state rack.new ≡ disks_of (kept_all D.state U.state nodes.old) }
+{
+    for _number in 0..nodes.len() {
+        let Some(node) = nodes.take_first() else {
+            unreachable!()
+        };
+        rack.put_back(node.0, node.1.into_disk());
+    }
 }
 
 // Writes the last line of a run.
@@ -185,120 +224,7 @@ fn close<K: Sink>(out: &mut SinkEmit<'_, K>, form: &Form<'_>, exit: Exit) -> Exi
     if out.failed() { Exit::WriteFault } else { exit }
 }
 
-// Serves a statement by the only node, where it speaks of that.
-fn serve_statement<E: Emit, D: Disk + Drop, U: RecoveryUnits>(
-    alloc: Global,
-    node: Node<D, U>,
-    statement: &Statement,
-    literals: &Literals,
-    shared: &mut Shared,
-    out: &mut E,
-) -> Node<D, U>
-    requires kept { (n : ℕ) × (n < 1000002) × IsNode D.state U.state n (shared_of shared.old) node }
-    ensures kept { (n : ℕ) → IsNode D.state U.state n (shared_of shared.old) node → IsNode D.state U.state (n + 1) (shared_of shared.new) result }
-    ensures name { result.name ≡ node.name }
-    ensures passes { Passes (state_of D.state U.state node) (state_of D.state U.state result) }
-    ensures place { E.place out.new ≡ E.place out.old }
-    ensures since { Since (E.shows out.old) (E.shows out.new) }
-    ensures tells { AnswersAlone node.name (statement_of literals.now statement.now) (E.shows out.old) (E.shows out.new) (state_of D.state U.state node) (state_of D.state U.state result)
-        (said_alone (kept_of D.state U.state node) (shared_of shared.old)) (said_alone (kept_of D.state U.state result) (shared_of shared.new)) }
-    ensures serves { (log : CallLog) (w : World) → StandsAlone log (kept_of D.state U.state node) (shared_of shared.old) w → (BootsUnknown w (statement_of literals.now statement.now) → ⊥) →
-        ServesAlone log w (statement_of literals.now statement.now) (E.shows out.old) (E.shows out.new) (kept_of D.state U.state result) (shared_of shared.new) }
-{
-    let Statement::At(name, request) = statement;
-    serve_request(alloc, node, *name, request, literals, shared, out)
-}
-
-// Serves a request to the node of a name by the only node, where that has the name.
-fn serve_request<E: Emit, D: Disk + Drop, U: RecoveryUnits>(
-    alloc: Global,
-    node: Node<D, U>,
-    name: NodeName,
-    request: &Request,
-    literals: &Literals,
-    shared: &mut Shared,
-    out: &mut E,
-) -> Node<D, U>
-    requires kept { (n : ℕ) × (n < 1000002) × IsNode D.state U.state n (shared_of shared.old) node }
-    ensures kept { (n : ℕ) → IsNode D.state U.state n (shared_of shared.old) node → IsNode D.state U.state (n + 1) (shared_of shared.new) result }
-    ensures name { result.name ≡ node.name }
-    ensures passes { Passes (state_of D.state U.state node) (state_of D.state U.state result) }
-    ensures place { E.place out.new ≡ E.place out.old }
-    ensures since { Since (E.shows out.old) (E.shows out.new) }
-    ensures tells { AnswersAlone node.name (At name (request_of literals.now request.now)) (E.shows out.old) (E.shows out.new) (state_of D.state U.state node) (state_of D.state U.state result)
-        (said_alone (kept_of D.state U.state node) (shared_of shared.old)) (said_alone (kept_of D.state U.state result) (shared_of shared.new)) }
-    ensures serves { (log : CallLog) (w : World) → StandsAlone log (kept_of D.state U.state node) (shared_of shared.old) w → (BootsUnknown w (At name (request_of literals.now request.now)) → ⊥) →
-        ServesAlone log w (At name (request_of literals.now request.now)) (E.shows out.old) (E.shows out.new) (kept_of D.state U.state result) (shared_of shared.new) }
-{
-    if name.bytes() == node.name().bytes() {
-        node.serve(alloc, request, literals, shared, out)
-    } else {
-        out.emit(&Form::NoSuchNode);
-        node
-    }
-}
-
-// Whether a statement is one that its node has to be up for.
-fn is_for_up(statement: &Statement) -> bool
-    ensures { result ≡ true → IsForUp statement.now }
-{
-    let Statement::At(_name, request) = statement;
-    is_to_up(request)
-}
-
-// Serves such a statement by the only node where that stands, where the statement speaks of it.
-fn serve_in_place<E: Emit, D: Disk + Drop, U: RecoveryUnits>(
-    node: &mut Node<D, U>,
-    statement: &Statement,
-    literals: &Literals,
-    shared: &mut Shared,
-    out: &mut E,
-)
-    requires asks { IsForUp statement.now }
-    requires kept { (n : ℕ) × (n < 1000002) × IsNode D.state U.state n (shared_of shared.old) node.old }
-    ensures kept { (n : ℕ) → IsNode D.state U.state n (shared_of shared.old) node.old → IsNode D.state U.state (n + 1) (shared_of shared.new) node.new }
-    ensures name { node.new.name ≡ node.old.name }
-    ensures passes { Passes (state_of D.state U.state node.old) (state_of D.state U.state node.new) }
-    ensures place { E.place out.new ≡ E.place out.old }
-    ensures since { Since (E.shows out.old) (E.shows out.new) }
-    ensures tells { AnswersAlone node.old.name (statement_of literals.now statement.now) (E.shows out.old) (E.shows out.new) (state_of D.state U.state node.old) (state_of D.state U.state node.new)
-        (said_alone (kept_of D.state U.state node.old) (shared_of shared.old)) (said_alone (kept_of D.state U.state node.new) (shared_of shared.new)) }
-    ensures serves { (log : CallLog) (w : World) → StandsAlone log (kept_of D.state U.state node.old) (shared_of shared.old) w →
-        ServesAlone log w (statement_of literals.now statement.now) (E.shows out.old) (E.shows out.new) (kept_of D.state U.state node.new) (shared_of shared.new) }
-{
-    let Statement::At(name, request) = statement;
-    request_in_place(node, *name, request, literals, shared, out);
-}
-
-// Serves such a request to the node of a name by the only node where that stands, where it has the name.
-fn request_in_place<E: Emit, D: Disk + Drop, U: RecoveryUnits>(
-    node: &mut Node<D, U>,
-    name: NodeName,
-    request: &Request,
-    literals: &Literals,
-    shared: &mut Shared,
-    out: &mut E,
-)
-    requires asks { IsToUp request.now }
-    requires kept { (n : ℕ) × (n < 1000002) × IsNode D.state U.state n (shared_of shared.old) node.old }
-    ensures kept { (n : ℕ) → IsNode D.state U.state n (shared_of shared.old) node.old → IsNode D.state U.state (n + 1) (shared_of shared.new) node.new }
-    ensures name { node.new.name ≡ node.old.name }
-    ensures passes { Passes (state_of D.state U.state node.old) (state_of D.state U.state node.new) }
-    ensures place { E.place out.new ≡ E.place out.old }
-    ensures since { Since (E.shows out.old) (E.shows out.new) }
-    ensures tells { AnswersAlone node.old.name (At name (request_of literals.now request.now)) (E.shows out.old) (E.shows out.new) (state_of D.state U.state node.old) (state_of D.state U.state node.new)
-        (said_alone (kept_of D.state U.state node.old) (shared_of shared.old)) (said_alone (kept_of D.state U.state node.new) (shared_of shared.new)) }
-    ensures serves { (log : CallLog) (w : World) → StandsAlone log (kept_of D.state U.state node.old) (shared_of shared.old) w →
-        ServesAlone log w (At name (request_of literals.now request.now)) (E.shows out.old) (E.shows out.new) (kept_of D.state U.state node.new) (shared_of shared.new) }
-{
-    if name.bytes() == node.name().bytes() {
-        node.serve_up(request, literals, shared, out);
-    } else {
-        out.emit(&Form::NoSuchNode);
-    }
-}
-
-// Serves line after line, and gives the disk back.
+// Serves line after line.
 fn drive<S: Source, K: Sink, D: Disk + Drop, U: RecoveryUnits>(
     alloc: Global,
     source: &mut S,
@@ -306,58 +232,49 @@ fn drive<S: Source, K: Sink, D: Disk + Drop, U: RecoveryUnits>(
     literals: &mut Literals,
     shared: &mut Shared,
     out: &mut SinkEmit<'_, K>,
-    node: Node<D, U>,
-) -> (Exit, D)
+    nodes: &mut Nodes<D, U>,
+) -> Exit
     requires sound { IsSound reader.old }
     requires first { taken_bytes reader.old ≡ 0 }
     requires failed { out.old.failed ≡ false }
-    requires kept { IsNode D.state U.state 0 (shared_of shared.old) node }
-    requires unsaid { said_alone (kept_of D.state U.state node) (shared_of shared.old) ≡ nothing_said (node.name ∷ []) }
+    requires apart { AreApart (names_of nodes.old) }
+    requires nodes { AreNodes D.state U.state 0 shared.old nodes.old }
+    requires zero { AreAtZero (kept_all D.state U.state nodes.old) }
+    requires unsaid { said_together (kept_all D.state U.state nodes.old) shared.old ≡ nothing_said (names_of nodes.old) }
     ensures same_sink { out.new.sink.ghost_name ≡ out.old.sink.ghost_name }
-    ensures runs { (nodes : List NodeSaid) → AreOpening nodes → StandOn (node.name ∷ []) (state_of D.state U.state node ∷ []) nodes →
-        RunsFrom (node.name ∷ []) (record { nodes = nodes; disks = state_of D.state U.state node ∷ [] }) (lines_ahead reader.old (S.left source.old)) (K.shown out.old.sink.now) (K.shown out.new.sink.now) result.0 (D.state result.1 ∷ []) }
-    ensures calls { TellsOver (node.name ∷ []) (state_of D.state U.state node ∷ []) (D.state result.1 ∷ []) (lines_ahead reader.old (S.left source.old)) (K.shown out.old.sink.now) (K.shown out.new.sink.now) result.0 }
-    ensures commanded { result.0 ≡ Exit.Usage → ⊥ }
-    ensures begun { result.0 ≡ Exit.Memory → ⊥ }
-    ensures read_fault { result.0 ≡ Exit.ReadFault → Rose (S.faults source.old) (S.faults source.new) }
-    ensures write_fault { result.0 ≡ Exit.WriteFault → Rose (K.faults out.old.sink.now) (K.faults out.new.sink.now) }
-    ensures disk { Passes (state_of D.state U.state node) (D.state result.1) }
+    ensures runs { (said : List NodeSaid) → AreOpening said → StandOn (names_of nodes.old) (disks_of (kept_all D.state U.state nodes.old)) said →
+        RunsFrom (names_of nodes.old) (record { nodes = said; disks = disks_of (kept_all D.state U.state nodes.old) }) (lines_ahead reader.old (S.left source.old)) (K.shown out.old.sink.now) (K.shown out.new.sink.now) result (disks_of (kept_all D.state U.state nodes.new)) }
+    ensures calls { TellsOver (names_of nodes.old) (disks_of (kept_all D.state U.state nodes.old)) (disks_of (kept_all D.state U.state nodes.new)) (lines_ahead reader.old (S.left source.old)) (K.shown out.old.sink.now) (K.shown out.new.sink.now) result }
+    ensures commanded { result ≡ Exit.Usage → ⊥ }
+    ensures begun { result ≡ Exit.Memory → ⊥ }
+    ensures read_fault { result ≡ Exit.ReadFault → Rose (S.faults source.old) (S.faults source.new) }
+    ensures write_fault { result ≡ Exit.WriteFault → Rose (K.faults out.old.sink.now) (K.faults out.new.sink.now) }
+    ensures names { names_of nodes.new ≡ names_of nodes.old }
+    ensures disks { AllGo (disks_of (kept_all D.state U.state nodes.old)) (disks_of (kept_all D.state U.state nodes.new)) }
 {
-    let mut node = node;
+    nodes_stay_kept();
     for number in 1..1_000_002 {
         match reader.next(source) {
-            Next::Failed => return (Exit::ReadFault, node.into_disk()),
-            Next::End => return (Exit::Done, node.into_disk()),
+            Next::Failed => return Exit::ReadFault,
+            Next::End => return Exit::Done,
             Next::TooLong => {
                 out.at(number);
-                let exit = close(out, &Form::TooLong, Exit::TooLong);
-                return (exit, node.into_disk());
+                return close(out, &Form::TooLong, Exit::TooLong);
             }
             Next::Line => {}
         }
         out.at(number);
         if number > MOST_LINES {
-            let exit = close(out, &Form::TooLong, Exit::TooLong);
-            return (exit, node.into_disk());
+            return close(out, &Form::TooLong, Exit::TooLong);
         }
         let statement = match read_statement(reader.line(), literals) {
             Ok(Some(statement)) => statement,
             Ok(None) => continue,
-            Err(e) => {
-                let exit = close(out, &Form::BadLine(e.column), Exit::BadLine);
-                return (exit, node.into_disk());
-            }
+            Err(e) => return close(out, &Form::BadLine(e.column), Exit::BadLine),
         };
-        if is_for_up(&statement) {
-            serve_in_place(&mut node, &statement, literals, shared, out);
-            if out.failed() {
-                return (Exit::WriteFault, node.into_disk());
-            }
-            continue;
-        }
-        node = serve_statement(alloc, node, &statement, literals, shared, out);
+        serve_statement(alloc, nodes, &statement, literals, shared, out);
         if out.failed() {
-            return (Exit::WriteFault, node.into_disk());
+            return Exit::WriteFault;
         }
     }
     unreachable!()

@@ -111,7 +111,7 @@ parts_of_set cap held k v slots = go (nat_le (bytes_of (put k v slots)) cap) ref
     go false over = refl
 
 -- the records of a bucket are in their slots' rooms
-all_hold : (h : FileHead) (raws : List (List ℕ)) → all_suit (kind_of h) raws ≡ true → AllHold (map (slot_of h) raws)
+pub all_hold : (h : FileHead) (raws : List (List ℕ)) → all_suit (kind_of h) raws ≡ true → AllHold (map (slot_of h) raws)
 all_hold h [] suit = tt
 all_hold h (s ∷ ss) suit =
     let both = both_true (suits (kind_of h) s) (all_suit (kind_of h) ss) suit in

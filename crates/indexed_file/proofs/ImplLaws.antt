@@ -28,7 +28,7 @@ use Rattle.records_model.specs.Chain.{chain_set}
 
 -- the first slot behind a key
 
-record First (after : Option (List ℕ)) (slots : List Slot) (k bytes : List ℕ) : Type 0 where
+pub record First (after : Option (List ℕ)) (slots : List Slot) (k bytes : List ℕ) : Type 0 where
   pub has : lookup slots k ≡ Some bytes
   pub behind : is_behind after k ≡ true
   pub least : (q : List ℕ) → is_behind after q ≡ true → bytes_before q k ≡ true → lookup slots q ≡ None
@@ -41,7 +41,7 @@ absent_value false o h yes_it = cc
 not_none : (o : Option (List ℕ)) (bytes : List ℕ) → o ≡ None → o ≡ Some bytes → ⊥
 not_none o bytes none some = cc
 
-first_is : (after : Option (List ℕ)) (slots : List Slot) (k bytes : List ℕ) → IsOrdered slots → IsFound (first_behind after slots) k bytes → First after slots k bytes
+pub first_is : (after : Option (List ℕ)) (slots : List Slot) (k bytes : List ℕ) → IsOrdered slots → IsFound (first_behind after slots) k bytes → First after slots k bytes
 first_is after [] k bytes ordered found = let wrong = found.is in cc
 first_is after (s ∷ ss) k bytes ordered found = ⊎_elim
     (λ here. let both = both_true (is_behind after s.key) (is_some s.value) here in
@@ -74,7 +74,7 @@ first_is after (s ∷ ss) k bytes ordered found = ⊎_elim
         (λ other. ap value_in (if_false (same_bytes q s.key) (Some s) (slot_at q ss) other) ∙ none)
         (cases_Bool (same_bytes q s.key))
 
-none_behind : (after : Option (List ℕ)) (slots : List Slot) → first_behind after slots ≡ None → (q : List ℕ) → is_behind after q ≡ true → lookup slots q ≡ None
+pub none_behind : (after : Option (List ℕ)) (slots : List Slot) → first_behind after slots ≡ None → (q : List ℕ) → is_behind after q ≡ true → lookup slots q ≡ None
 none_behind after [] none q after_q = refl
 none_behind after (s ∷ ss) none q after_q = ⊎_elim
     (λ here. let wrong : Some s ≡ None = sym (if_true (is_behind after s.key && is_some s.value) (Some s) (first_behind after ss) here) ∙ none in cc)
@@ -86,7 +86,7 @@ none_behind after (s ∷ ss) none q after_q = ⊎_elim
     (cases_Bool (same_bytes q s.key)))
     (cases_Bool (is_behind after s.key && is_some s.value))
 
-after_text : (after : Option (List ℕ)) (q : List ℕ) → is_after (option_map Text after) (Text q) ≡ is_behind after q
+pub after_text : (after : Option (List ℕ)) (q : List ℕ) → is_after (option_map Text after) (Text q) ≡ is_behind after q
 after_text None q = refl
 after_text (Some a) q = refl
 

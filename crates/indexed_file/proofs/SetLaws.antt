@@ -169,7 +169,7 @@ abbrev pub AllHold : List Slot → Type 0
 AllHold [] = Unit {0}
 AllHold (s ∷ ss) = (size_of s.value ≤ s.room) × AllHold ss
 
-held_here : (k : List ℕ) (slots : List Slot) → AllHold slots → size_of (lookup slots k) ≤ room_of slots k
+pub held_here : (k : List ℕ) (slots : List Slot) → AllHold slots → size_of (lookup slots k) ≤ room_of slots k
 held_here k [] all = omega arith
 held_here k (s ∷ ss) all = go (same_bytes k s.key) (held_here k ss all.1)
   where

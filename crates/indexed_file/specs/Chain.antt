@@ -184,6 +184,12 @@ pub record IsIndexed (h : FileHead) : Type 0 where
   pub holds : h.key_pos + h.key_size ≤ h.mrs
   pub count : h.count ≡ 0
 
+-- the keys of records are not empty, are short, and lie in each record
+pub record HasKeys (h : FileHead) : Type 0 where
+  pub key : 1 ≤ h.key_size
+  pub short : h.key_size ≤ 64
+  pub holds : h.key_pos + h.key_size ≤ h.mrs
+
 -- a new file has one bucket
 abbrev pub IsNew : FileHead → Type 0
 IsNew h = h.used ≡ 1

@@ -10,7 +10,7 @@ ghost use Rattle.change_set.specs.Files.{IsPlaced};
 ghost use Rattle.records_model.specs.Slots.{bytes_before};
 ghost use Rattle.std.specs.Ordering.{nat_cmp, is_lt, ordering_reverse};
 ghost use Rattle.std.specs.Cmp.Lexicographic.{slice_cmp};
-ghost use Rattle.indexed_file.specs.Chain.{IsIndexed, kind_of, bucket_at, value_of, slot_of};
+ghost use Rattle.indexed_file.specs.Chain.{HasKeys, kind_of, bucket_at, value_of, slot_of};
 ghost use Rattle.indexed_file.specs.Places.{IsPlace, key_at};
 
 use block_disk::Disk;
@@ -88,7 +88,7 @@ pub(crate) fn number_at(slot: &[u8], at: usize) -> u16
 
 /// The key of a slot.
 pub(crate) fn slot_key(slot: &[u8], head: &FileHead) -> Option<KeyText>
-    requires form { IsIndexed head.now }
+    requires form { HasKeys head.now }
     requires key { 4 + (head.now.key_pos + head.now.key_size) ≤ length slot.now }
     ensures { result ≡ Some (key_in (kind_of head.now) slot.now) }
 {

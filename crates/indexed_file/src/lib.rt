@@ -17,3 +17,7 @@ mod walk;
 
 pub use indexed::IndexedFile;
 pub use law::{order_law, part_law, put_law, room_law, target_law, tidy_law};
+pub use next::next_in_leaf;
+pub use read::read_slot;
+pub use restore::restore_in_leaf;
+pub use set::set_in_leaf;

@@ -6,7 +6,7 @@ ghost use Rattle.frame_pool.specs.Pool.{IsOut};
 ghost use Rattle.bucket_page.specs.Pages.{slots_of, IsBucket};
 ghost use Rattle.change_set.specs.Buckets.{frame_of, with_frame};
 ghost use Rattle.change_set.specs.Files.{IsPlaced, free_frames};
-ghost use Rattle.indexed_file.specs.Chain.{IsIndexed, IsChained, kind_of, slot_of, slots_in, next_in, all_slots_of, HasSlot, Stands};
+ghost use Rattle.indexed_file.specs.Chain.{HasKeys, IsIndexed, IsChained, kind_of, slot_of, slots_in, next_in, all_slots_of, HasSlot, Stands};
 ghost use Rattle.indexed_file.specs.Behind.{first_behind, IsFound, StartsBehind, BeginsAt};
 
 use crate::leaf::{bucket_size, find_place, kind, load_leaf, read_record, slot, slot_key};
@@ -34,14 +34,14 @@ fn start_behind(bytes: &[u8], head: &FileHead, count: u16, after: Option<&KeyTex
     }
 }
 
-// The first key of a bucket behind another that has a record.
-fn next_in_leaf(
+/// The first key of a bucket behind another that has a record.
+pub fn next_in_leaf(
     head: &FileHead,
     bytes: &[u8],
     after: Option<&KeyText>,
     out: &mut Record,
 ) -> Option<KeyText>
-    requires form { IsIndexed head.now }
+    requires form { HasKeys head.now }
     requires small { length bytes.now ≤ 8192 }
     requires most { head.now.mrs ≤ 8160 }
     ensures some { IfSome result (λ k. IsBucket (kind_of head.now) (length bytes.now) bytes.now → IsFound (first_behind (option_copied after.entry) (map (slot_of head.now) (slots_of (kind_of head.now) bytes.now))) k out.new) }

@@ -21,10 +21,15 @@ use file_base::FileHead;
 use frame_pool::Frame;
 use vms_base::Record;
 
-// The record of a key in a bucket: true where it has one, and false where neither it nor a later bucket can have one. None
-// where a later bucket may have it; bytes that are not laid out as a bucket have no key. And whether the bucket begins by the
-// key: where this is so, its first key is at most that.
-fn read_slot(head: &FileHead, bytes: &[u8], key: &[u8], out: &mut Record) -> (Option<bool>, bool)
+/// The record of a key in a bucket: true where it has one, and false where neither it nor a later bucket can have one. None
+/// where a later bucket may have it; bytes that are not laid out as a bucket have no key. And whether the bucket begins by the
+/// key: where this is so, its first key is at most that.
+pub fn read_slot(
+    head: &FileHead,
+    bytes: &[u8],
+    key: &[u8],
+    out: &mut Record,
+) -> (Option<bool>, bool)
     requires small { length bytes.now ≤ 8192 }
     requires most { head.now.mrs ≤ 8160 }
     ensures some { result.0 ≡ Some true → IsBucket (kind_of head.now) (length bytes.now) bytes.now → Decides key.now (slots_at head.now bytes.now) (Some out.new) }

@@ -6,7 +6,7 @@ ghost use Rattle.frame_pool.specs.Pool.{IsOut};
 ghost use Rattle.bucket_page.specs.Pages.{slots_of, IsBucket};
 ghost use Rattle.change_set.specs.Buckets.{frame_of, with_frame};
 ghost use Rattle.change_set.specs.Files.{IsPlaced, free_frames};
-ghost use Rattle.indexed_file.specs.Chain.{IsIndexed, kind_of, SuitsText};
+ghost use Rattle.indexed_file.specs.Chain.{HasKeys, IsIndexed, kind_of, SuitsText};
 ghost use Rattle.indexed_file.specs.Places.{IsPlace};
 ghost use Rattle.indexed_file.specs.Backs.{TriesBytes, RestoresFile, RestoresLoaded};
 
@@ -30,7 +30,7 @@ fn restore_found(
     key: &[u8],
     value: Option<&Record>,
 ) -> bool
-    requires form { IsIndexed head.now }
+    requires form { HasKeys head.now }
     requires low_within { size ≤ length low.old }
     requires small { size ≤ 8192 }
     requires records { head.now.mrs + 32 ≤ size }
@@ -48,15 +48,15 @@ fn restore_found(
     true
 }
 
-// Sets a key back in the bucket for it, where its slot is there and has room for the value. Answers whether it has.
-fn restore_in_leaf(
+/// Sets a key back in the bucket for it, where its slot is there and has room for the value. Answers whether it has.
+pub fn restore_in_leaf(
     head: &FileHead,
     size: usize,
     low: &mut [u8],
     key: &[u8],
     value: Option<&Record>,
 ) -> bool
-    requires form { IsIndexed head.now }
+    requires form { HasKeys head.now }
     requires low_within { size ≤ length low.old }
     requires small { size ≤ 8192 }
     requires records { head.now.mrs + 32 ≤ size }

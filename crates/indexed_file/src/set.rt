@@ -8,7 +8,7 @@ ghost use Rattle.bucket_page.specs.Pages.{slots_of, next_of, slot_at, joined, su
 ghost use Rattle.change_set.specs.Buckets.{frame_of, with_frame, with_bucket};
 ghost use Rattle.change_set.specs.Files.{IsPlaced, free_frames};
 ghost use Rattle.records_model.specs.Slots.{size_of};
-ghost use Rattle.indexed_file.specs.Chain.{IsIndexed, IsChained, kind_of, bucket_first, all_keep, SuitsText};
+ghost use Rattle.indexed_file.specs.Chain.{HasKeys, IsIndexed, IsChained, kind_of, bucket_first, all_keep, SuitsText};
 ghost use Rattle.indexed_file.specs.Behind.{BeginsAt};
 ghost use Rattle.indexed_file.specs.Places.{IsPlace};
 ghost use Rattle.indexed_file.specs.Raws.{slot_bytes, Means, tidied_raws, raws_added, place_added, Parted, SetsLeaf};
@@ -39,7 +39,7 @@ fn add_tidied<H: Held>(
     slot: &[u8],
     held: &H,
 ) -> u32
-    requires form { IsIndexed head.now }
+    requires form { HasKeys head.now }
     requires low_within { size ≤ length low.old }
     requires mid_within { size ≤ length mid.old }
     requires high_within { size ≤ length high.old }
@@ -76,7 +76,7 @@ fn add_slot<H: Held>(
     slot: &[u8],
     held: &H,
 ) -> u32
-    requires form { IsIndexed head.now }
+    requires form { HasKeys head.now }
     requires low_within { size ≤ length low.old }
     requires mid_within { size ≤ length mid.old }
     requires high_within { size ≤ length high.old }
@@ -111,7 +111,7 @@ fn add_record<H: Held>(
     bytes: &[u8],
     held: &H,
 ) -> u32
-    requires form { IsIndexed head.now }
+    requires form { HasKeys head.now }
     requires low_within { size ≤ length low.old }
     requires mid_within { size ≤ length mid.old }
     requires high_within { size ≤ length high.old }
@@ -147,7 +147,7 @@ fn add_record<H: Held>(
 
 // Writes the slot of a key with a room, and a record or none.
 fn make_slot(head: &FileHead, key: &[u8], value: Option<&Record>, room: u16, out: &mut [u8])
-    requires form { IsIndexed head.now }
+    requires form { HasKeys head.now }
     requires suits { SuitsText head.now key.now (option_copied value) }
     requires holds { size_of (option_copied value) ≤ room }
     requires key_room { head.now.key_pos + head.now.key_size ≤ room }
@@ -173,7 +173,7 @@ pub(crate) fn change_slot(
     key: &[u8],
     value: Option<&Record>,
 )
-    requires form { IsIndexed head.now }
+    requires form { HasKeys head.now }
     requires low_within { size ≤ length low.old }
     requires small { size ≤ 8192 }
     requires packed { IsPacked (kind_of head.now) size (take size low.old) }
@@ -219,7 +219,7 @@ fn set_missing<H: Held>(
     value: Option<&Record>,
     held: &H,
 ) -> u32
-    requires form { IsIndexed head.now }
+    requires form { HasKeys head.now }
     requires low_within { size ≤ length low.old }
     requires mid_within { size ≤ length mid.old }
     requires high_within { size ≤ length high.old }
@@ -253,7 +253,7 @@ fn set_found<H: Held>(
     value: Option<&Record>,
     held: &H,
 ) -> u32
-    requires form { IsIndexed head.now }
+    requires form { HasKeys head.now }
     requires low_within { size ≤ length low.old }
     requires mid_within { size ≤ length mid.old }
     requires high_within { size ≤ length high.old }
@@ -303,9 +303,9 @@ fn clear_leaf(head: &FileHead, size: usize, low: &mut [u8])
     clear_front(low, size, kind(head), next);
 }
 
-// Sets a key in the bucket for it, which may part in two or three. Bytes that are not laid out as a bucket are one without
-// slots. Answers how many buckets that adds.
-fn set_in_leaf<H: Held>(
+/// Sets a key in the bytes of the bucket for it, which may part in two or three. Bytes that are not laid out as a bucket are one without
+/// slots. Answers how many buckets that adds.
+pub fn set_in_leaf<H: Held>(
     head: &FileHead,
     size: usize,
     low: &mut [u8],
@@ -315,7 +315,7 @@ fn set_in_leaf<H: Held>(
     value: Option<&Record>,
     held: &H,
 ) -> u32
-    requires form { IsIndexed head.now }
+    requires form { HasKeys head.now }
     requires low_within { size ≤ length low.old }
     requires mid_within { size ≤ length mid.old }
     requires high_within { size ≤ length high.old }

@@ -3,7 +3,7 @@ ghost use Rattle.std.specs.Prelude.{◌≡◌, ◌≤◌, ◌<◌, ◌+◌, ◌-
 ghost use Rattle.vms_model.specs.Keys.{Text};
 ghost use Rattle.byteorder.specs.Endian.{little_bytes};
 ghost use Rattle.bucket_page.specs.Pages.{slots_of, next_of, key_in, slot_at, suits, IsPacked, Packs, u16_at, u16_bytes};
-ghost use Rattle.indexed_file.specs.Chain.{IsIndexed, kind_of};
+ghost use Rattle.indexed_file.specs.Chain.{HasKeys, kind_of};
 ghost use Rattle.indexed_file.specs.Raws.{slot_bytes, shortened, tidied_raw, tidied_raws, one_of, TidiesSlot};
 
 use crate::leaf::{kind, number_at, slot, slot_key};
@@ -37,7 +37,7 @@ pub(crate) fn put_slot(out: &mut [u8], room: u16, size: u16, at: u16, piece: &[u
 
 // Whether the key of a slot is held.
 fn holds_key<H: Held>(head: &FileHead, slot: &[u8], held: &H) -> bool
-    requires form { IsIndexed head.now }
+    requires form { HasKeys head.now }
     requires key { 4 + (head.now.key_pos + head.now.key_size) ≤ length slot.now }
     ensures { result ≡ H.held held.now (Text (key_in (kind_of head.now) slot.now)) }
 {
@@ -49,7 +49,7 @@ fn holds_key<H: Held>(head: &FileHead, slot: &[u8], held: &H) -> bool
 
 // Writes a slot whose room is its record's length, and answers how many bytes it has.
 fn shorten(head: &FileHead, slot: &[u8], out: &mut [u8]) -> usize
-    requires form { IsIndexed head.now }
+    requires form { HasKeys head.now }
     requires whole { 4 + u16_at slot.now 2 ≤ length slot.now }
     requires within { length slot.now ≤ length out.old }
     ensures slot { take result out.new ≡ shortened head.now slot.now }
@@ -66,7 +66,7 @@ fn shorten(head: &FileHead, slot: &[u8], out: &mut [u8]) -> usize
 
 // Writes what tidying leaves of a slot, and answers how many bytes it has.
 fn tidied<H: Held>(head: &FileHead, slot: &[u8], held: &H, out: &mut [u8]) -> usize
-    requires form { IsIndexed head.now }
+    requires form { HasKeys head.now }
     requires key { 4 + (head.now.key_pos + head.now.key_size) ≤ length slot.now }
     requires whole { 4 + u16_at slot.now 2 ≤ length slot.now }
     requires within { length slot.now ≤ length out.old }
@@ -85,7 +85,7 @@ fn tidied<H: Held>(head: &FileHead, slot: &[u8], held: &H, out: &mut [u8]) -> us
 
 // Tidies slot i: true where it stays.
 fn tidy_slot<H: Held>(head: &FileHead, bytes: &mut [u8], size: usize, i: u16, held: &H) -> bool
-    requires form { IsIndexed head.now }
+    requires form { HasKeys head.now }
     requires within { size ≤ length bytes.old }
     requires small { size ≤ 8192 }
     requires packed { IsPacked (kind_of head.now) size (take size bytes.old) }
@@ -118,7 +118,7 @@ pub(crate) fn tidy<H: Held>(
     place: u16,
     held: &H,
 ) -> u16
-    requires form { IsIndexed head.now }
+    requires form { HasKeys head.now }
     requires within { size ≤ length bytes.old }
     requires small { size ≤ 8192 }
     requires packed { IsPacked (kind_of head.now) size (take size bytes.old) }

@@ -1,15 +1,15 @@
 -- A key that is set back in the leaf for it.
-use Rattle.std.proofs.Common.{◌≡◌, ◌≤◌, ◌<◌, ⊎_elim, inl, inr, ◌+◌, ◌-◌, ◌*◌, ℕ, zero, suc, Bool, true, false, List, [], ◌∷◌, ◌++◌, length, map, take, Option, Some, None, IfSome, is_some, if◌then◌else◌, nat_le, refl, sym, ap, ◌∙◌, subst, arith}
+use Rattle.std.proofs.Common.{◌≡◌, ◌≤◌, ◌<◌, ⊎_elim, inl, inr, ◌-◌, ◌*◌, ℕ, Bool, true, false, List, [], ◌∷◌, ◌++◌, length, map, take, Option, Some, None, IfSome, is_some, if◌then◌else◌, nat_le, refl, sym, ap, ◌∙◌, subst, arith}
 use Rattle.std.specs.List.{list_any}
 use Rattle.std.proofs.lemmas.Bool.{cases_Bool}
 use Rattle.file_base.specs.declared.head.FileHead.{FileHead}
 use Rattle.vms_model.specs.Keys.{Text}
 use Rattle.bucket_page.specs.Pages.{slots_of}
-use Rattle.records_model.specs.Slots.{Slot, same_bytes, bytes_before, slot_at, room_in, room_of, size_of, with_value, put, AllBehind, IsOrdered, IsFor}
+use Rattle.records_model.specs.Slots.{Slot, same_bytes, bytes_before, slot_at, value_in, room_in, lookup, size_of, with_value, put, IsOrdered}
 use Rattle.records_model.specs.Parts.{bytes_of}
 use Rattle.records_model.specs.Chain.{bucket_with, slot_back}
-use Rattle.records_model.proofs.SlotLaws.{same_bytes_are, or_slot, if_true, if_false, slot_at-append, behind_absent, before_absent, behind_trans, ordered_parts}
-use Rattle.tree_model.specs.Layouts.{Leaf, Layout, slots_along}
+use Rattle.records_model.proofs.SlotLaws.{same_bytes_are, or_slot, if_true, if_false, slot_at-append, behind_absent, before_absent, behind_trans}
+use Rattle.tree_model.specs.Layouts.{Leaf, slots_along}
 use Rattle.tree_model.specs.Setting.{starts_by, leaves_from, leaves_with, slots_for, leaf_place, leaf_back, index_with, layout_with, layout_back}
 use Rattle.tree_model.specs.Trees.{AreBounded}
 use Rattle.tree_model.proofs.BoundLemmas.{lower_slots, higher_slots}
@@ -24,9 +24,11 @@ use Rattle.indexed_file.proofs.ImplLaws.{put_small}
 use Rattle.indexed_file.proofs.PartedLaws.{fits_test}
 use Rattle.indexed_file.proofs.RawLaws.{bytes_of_raws}
 use Rattle.indexed_tree.specs.Rooted.{layout_in, IsRooted}
-use Rattle.indexed_tree.specs.Sets.{MaySet, HasSet}
+use Rattle.indexed_tree.specs.Sets.{HasSet}
+use Rattle.indexed_tree.specs.Maps.{all_slots, KeyIsSet}
 use Rattle.indexed_tree.specs.Backs.{HasSetBack, BackStages, BackLeaves}
-use Rattle.indexed_tree.proofs.RootLaws.{length_map, entries_some, rooted_splits, rooted_finds}
+use Rattle.indexed_tree.proofs.MapLaws.{key_is_set}
+use Rattle.indexed_tree.proofs.RootLaws.{length_map, entries_some, rooted_finds, leaf_order}
 use Rattle.indexed_tree.proofs.SetLaws.{whole_set}
 
 clash : (b : Bool) → b ≡ true → b ≡ false → ⊥
@@ -86,18 +88,13 @@ module _ (h : FileHead) (b : List (List ℕ)) (k : List ℕ) (v : Option (List �
   abbrev n : ℕ
   n = leaf_for h b k
 
-  leaf_order : h.root < h.used → IsOrdered (slots_in h b n)
-  leaf_order root =
-      let split = rooted_splits h b k root is in
-      subst (λ m. IsOrdered (slots_in h b m)) (sym split.child) (ordered_parts (slots_in h b split.at.child) _ (ordered_parts _ (slots_in h b split.at.child ++ _) split.for.ordered).1).0
-
   slots_are : slots_for k (layout_in h b).leaves ≡ slots_in h b n
   slots_are = sym (slots_same (slots_in h b) k (leaf_entries h b) (entries_some h b is))
 
   bucket_back : 1 ≤ h.bucket → h.root < h.used → HasRoom (slots_in h b n) k v → bucket_with (sizes_of h).capacity (λ t. true) k v (slots_in h b n) ≡ map (slot_back k v) (slots_in h b n) ∷ []
   bucket_back one root has =
       let slots = slots_in h b n in
-      let ordered = leaf_order root in
+      let ordered = leaf_order h b k is root in
       let leaf = (rooted_finds h b k root is).leaf.bucket in
       let bytes = put_small k v slots some ordered has.holds in
       let count = bytes_of_raws h (slots_of (kind_of h) (bucket_at h b n)) leaf.packed.suit in
@@ -120,8 +117,14 @@ back_stages h b k v n bytes may some is at tries =
     by_leaf : TriesLeaf h k v (512 * h.bucket) true (bucket_at h b (leaf_for h b k)) (take (512 * h.bucket) bytes) → HasSetBack h k v b (with_parts h (leaf_for h b k) 0 bytes bytes bytes b)
     by_leaf (changed done has sets) =
         let set : HasSet h h (λ t. true) k v b (with_parts h (leaf_for h b k) 0 bytes bytes bytes b) = whole_set h b (λ t. true) k v 0 may is bytes bytes bytes sets refl in
-        record { rooted = set.rooted; layout = set.layout ∙ layout_is h b k v some is may.one may.form.root has }
+        let key : KeyIsSet h h (λ t. true) k v b (with_parts h (leaf_for h b k) 0 bytes bytes bytes b) = key_is_set h h (λ t. true) k v b (with_parts h (leaf_for h b k) 0 bytes bytes bytes b) may.form may.one may.key may.fits is set in
+        record { rooted = set.rooted; layout = set.layout ∙ layout_is h b k v some is may.one may.form.root has; sets = key.sets; rooms = λ q. key.rooms q refl }
     by_leaf (lacking done lacks) = let wrong : ⊥ = cc in absurd wrong
+
+-- the key has no slot, nor a value to be set back to
+no_value : (v : Option (List ℕ)) → IfSome v (λ r. 1 ≤ length r) → size_of v ≤ 0 → v ≡ None
+no_value None some small = refl
+no_value (Some r) some small = absurd (omega (arith, some, small))
 
 pub back_leaves : BackLeaves
 back_leaves h b k v n bytes root some is at room tries = by_leaf (subst (λ m. TriesLeaf h k v (512 * h.bucket) false (bucket_at h b m) (take (512 * h.bucket) bytes)) at tries)
@@ -129,8 +132,18 @@ back_leaves h b k v n bytes root some is at room tries = by_leaf (subst (λ m. T
     here : slot_at k (slots_along (layout_in h b).leaves) ≡ slot_at k (slots_in h b (leaf_for h b k))
     here = (rooted_finds h b k root is).finds
 
+    none_or : (q : List ℕ) → slot_at k (all_slots h b) ≡ None → v ≡ None → (t : Bool) → same_bytes q k ≡ t → lookup (all_slots h b) q ≡ (if t then v else lookup (all_slots h b) q)
+    none_or q absent nothing true same = ap (lookup (all_slots h b)) (same_bytes_are q k same) ∙ ap value_in absent ∙ sym nothing
+    none_or q absent nothing false other = refl
+
     by_leaf : TriesLeaf h k v (512 * h.bucket) false (bucket_at h b (leaf_for h b k)) (take (512 * h.bucket) bytes) → HasSetBack h k v b b
     by_leaf (changed done has sets) = let wrong : ⊥ = cc in absurd wrong
     by_leaf (lacking done (inl none)) =
-        record { rooted = is; layout = λ i. record { leaves = sym (none_back k v (layout_in h b).leaves (here ∙ none)) i; index = (layout_in h b).index } }
+        let nothing : v ≡ None = no_value v some (let small = ap room_in (here ∙ none) in omega (arith, room, small)) in
+        record {
+          rooted = is;
+          layout = λ i. record { leaves = sym (none_back k v (layout_in h b).leaves (here ∙ none)) i; index = (layout_in h b).index };
+          sets = λ q. none_or q (here ∙ none) nothing (same_bytes q k) refl;
+          rooms = λ q. omega arith;
+        }
     by_leaf (lacking done (inr less)) = absurd (omega (arith, room, less, ap room_in here))

@@ -1,7 +1,12 @@
 pub mod BackLaws
 pub mod EntryLaws
+pub mod FileLaws
 pub mod LocalLaws
+pub mod MapLaws
+pub mod NextLaws
 pub mod PartLaws
+pub mod ReadLaws
+pub mod RestoreLaws
 pub mod RootLaws
 pub mod SetLaws
 pub mod StayLaws

@@ -1,24 +1,23 @@
 -- An indexed file under an index rests on its buckets alone; and a new one.
-use Rattle.std.proofs.Common.{◌≡◌, ◌≤◌, ◌<◌, ◌⊎◌, inr, ◌+◌, ◌-◌, ◌*◌, ℕ, zero, suc, List, [], ◌∷◌, ◌++◌, length, map, replicate, refl, sym, ap, ◌∙◌, subst, arith}
+use Rattle.std.proofs.Common.{◌≡◌, ◌≤◌, inr, ◌+◌, ℕ, List, [], ◌∷◌, ◌++◌, length, map, sym, ap, ◌∙◌, subst, arith}
 use Rattle.file_base.specs.declared.head.FileHead.{FileHead}
 use Rattle.bucket_page.specs.Pages.{no_next, next_of}
 use Rattle.change_set.specs.Files.{AgreesOn}
 use Rattle.change_set.proofs.Extents.{extent_bucket}
-use Rattle.records_model.specs.Slots.{Slot}
 use Rattle.tree_model.specs.Layouts.{Layout, first_layout}
 use Rattle.tree_model.specs.Trees.{IsTree}
 use Rattle.tree_model.proofs.ZeroLemmas.{first_is_tree}
-use Rattle.index_model.specs.Indexes.{Entry, numbers_of, counts_of, AllDiffer, AllBelow}
+use Rattle.index_model.specs.Indexes.{numbers_of, counts_of, AllDiffer, AllBelow}
 use Rattle.index_model.specs.Trees.{child_of, leaf_at}
 use Rattle.index_model.proofs.HandLemmas.{counts_agree}
 use Rattle.index_model.proofs.TreeLemmas.{SameSlots, leaves_same}
 use Rattle.index_bucket.specs.Entries.{sizes_of, IsIndexBucket}
 use Rattle.index_blocks.specs.Buckets.{bucket_at}
-use Rattle.index_blocks.specs.Levels.{entries_in, least_key, below_at, levels_above, height, leaf_entries, levels_of, AllAre, LeadsDown}
+use Rattle.index_blocks.specs.Levels.{entries_in, least_key, below_at, levels_above, height, leaf_entries, levels_of, AllAre}
 use Rattle.indexed_file.specs.Chain.{slot_of, slots_in, all_keep, IsLeaf, Leads}
 use Rattle.indexed_file.specs.Raws.{slots_at}
 use Rattle.indexed_tree.specs.Rooted.{leaf_numbers, layout_in, IsRooted}
-use Rattle.indexed_tree.specs.Laws.{StaysRooted, RootedStays, IsBlank, IsNewTree, BlankIsRooted}
+use Rattle.indexed_tree.specs.Laws.{StaysRooted, RootedStays, IsBlank, BlankIsRooted}
 use Rattle.indexed_tree.proofs.RootLaws.{numbers_used}
 use Rattle.indexed_tree.proofs.StayLaws.{both_are, Same, entries_agree, leaves_stay, levels_stay, leads_stays}
 

@@ -1,19 +1,19 @@
 -- An indexed file under an index is a tree, and its leaves are found.
-use Rattle.std.proofs.Common.{◌≡◌, ◌≤◌, ◌<◌, ◌+◌, ◌-◌, ℕ, zero, suc, Bool, true, false, List, [], ◌∷◌, ◌++◌, length, map, if◌then◌else◌, refl, sym, ap, ◌∙◌, subst, arith, length-append, append_assoc}
+use Rattle.std.proofs.Common.{◌≡◌, ◌≤◌, ◌<◌, ℕ, zero, suc, Bool, true, false, List, [], ◌∷◌, ◌++◌, length, map, refl, sym, ap, ◌∙◌, subst, arith, length-append, append_assoc}
 use Rattle.std.specs.List.{list_any}
 use Rattle.file_base.specs.declared.head.FileHead.{FileHead}
 use Rattle.records_model.specs.Slots.{Slot, slot_at, AllBefore, AllBehind, IsOrdered, IsFor}
-use Rattle.records_model.proofs.SlotLaws.{if_true, if_false}
-use Rattle.tree_model.specs.Layouts.{Leaf, slots_along, index_size}
+use Rattle.records_model.proofs.SlotLaws.{if_true, if_false, ordered_parts}
+use Rattle.tree_model.specs.Layouts.{slots_along, index_size}
 use Rattle.tree_model.specs.Laws.{first_lowest}
 use Rattle.tree_model.specs.Trees.{AreBounded}
 use Rattle.tree_model.proofs.BoundLemmas.{lower_slots, higher_slots}
 use Rattle.tree_model.proofs.IndexLemmas.{one_level_one_bucket}
 use Rattle.tree_model.proofs.FindLemmas.{tree_finds}
 use Rattle.index_model.specs.Indexes.{Entry, first_separator, entries_along, parent_entry, AreLevels, leads_by, child_for, Ascends, with_added, numbers_of, counts_of, AllBelow}
-use Rattle.index_model.specs.Trees.{child_of, leaf_at, IsNumbered}
+use Rattle.index_model.specs.Trees.{child_of, leaf_at}
 use Rattle.index_model.proofs.DescentLemmas.{some_below}
-use Rattle.index_model.proofs.HandLemmas.{below_parts, below_both, differ_parts}
+use Rattle.index_model.proofs.HandLemmas.{below_both, differ_parts}
 use Rattle.index_model.proofs.TreeLemmas.{bounded_ascend, any_same, slots_same}
 use Rattle.index_bucket.specs.Entries.{sizes_of, IsIndexBucket}
 use Rattle.index_blocks.specs.Buckets.{bucket_at}
@@ -22,8 +22,8 @@ use Rattle.index_blocks.specs.Laws as index
 use Rattle.index_blocks.proofs.LevelLaws.{are_parts, child_is, length_levels, levels_lead}
 use Rattle.index_blocks.proofs.MayLaws.{map_append}
 use Rattle.indexed_file.specs.Chain.{slots_in, IsLeaf}
-use Rattle.indexed_tree.specs.Rooted.{leaf_numbers, tree_of, layout_in, IsRooted}
-use Rattle.indexed_tree.specs.Laws.{RootedIsTree, LayoutTells, RootedFinds, RootedSplits, slots_below, LiesBetween}
+use Rattle.indexed_tree.specs.Rooted.{leaf_numbers, layout_in, IsRooted}
+use Rattle.indexed_tree.specs.Laws.{RootedIsTree, LayoutTells, RootedFinds, RootedSplits, slots_below}
 
 pub length_map : {X Y : Type 0} (f : X → Y) (xs : List X) → length (map f xs) ≡ length xs
 length_map f [] = refl
@@ -191,3 +191,13 @@ rooted_finds h b k root is =
       leaf = child_is (λ n. IsLeaf h (bucket_at h b n)) k (leaf_entries h b) some is.leaves;
       finds = tree_finds (sizes_of h) k (layout_in h b) is.tree ∙ ap (slot_at k) (sym (slots_same (slots_in h b) k (leaf_entries h b) some));
     }
+
+-- the slots of the leaf for a key are in order
+pub leaf_order : (h : FileHead) (b : List (List ℕ)) (k : List ℕ) → IsRooted h b → h.root < h.used → IsOrdered (slots_in h b (leaf_for h b k))
+leaf_order h b k is root =
+    let split = rooted_splits h b k root is in
+    subst (λ m. IsOrdered (slots_in h b m)) (sym split.child) (ordered_parts (slots_in h b split.at.child) _ (ordered_parts _ (slots_in h b split.at.child ++ _) split.for.ordered).1).0
+
+-- the separator of the first leaf's entry is the least key
+pub first_of_leaves : (h : FileHead) (b : List (List ℕ)) → IsRooted h b → (e : Entry) (es : List Entry) → leaf_entries h b ≡ e ∷ es → e.separator ≡ least_key h
+first_of_leaves h b is e es entries = ap first_separator (sym entries) ∙ first_is (least_key h) (entries_in h b) (leaf_entries h b) (levels_of h b) h.root (index_leads h b is).levels

@@ -1,27 +1,26 @@
 -- A key that is set in the leaf for it, and the entries that are handed up for it.
-use Rattle.std.proofs.Common.{◌≡◌, ◌≤◌, ◌<◌, ◌⊎◌, inl, inr, ◌+◌, ◌-◌, ◌*◌, ℕ, zero, suc, Bool, true, false, List, [], ◌∷◌, ◌++◌, length, map, replicate, take, Option, Some, None, if◌then◌else◌, nat_le, is_some, unwrap_or, slice_index_or, refl, sym, ap, ◌∙◌, subst, arith, length-append}
+use Rattle.std.proofs.Common.{◌≡◌, ◌≤◌, ◌<◌, ◌⊎◌, inl, inr, ◌+◌, ◌*◌, ℕ, zero, suc, Bool, true, false, List, [], ◌∷◌, ◌++◌, length, map, replicate, take, Option, Some, None, if◌then◌else◌, nat_le, is_some, unwrap_or, refl, sym, ap, ◌∙◌, subst, arith}
 use Rattle.std.proofs.lemmas.List.{map-append}
 use Rattle.file_base.specs.declared.head.FileHead.{FileHead}
 use Rattle.bucket_page.specs.Pages.{no_next, next_of, slots_of, IsBucket}
-use Rattle.records_model.specs.Slots.{Slot, bytes_before, size_of, put, tidied, IsOrdered, IsFor}
+use Rattle.records_model.specs.Slots.{Slot, bytes_before, put, tidied, IsOrdered, IsFor}
 use Rattle.records_model.specs.Parts.{bytes_of, parted}
 use Rattle.records_model.specs.Chain.{bucket_with, place_of}
-use Rattle.records_model.proofs.SlotLaws.{if_true, if_false, ordered_parts}
-use Rattle.tree_model.specs.Layouts.{Leaf, Layout}
+use Rattle.records_model.proofs.SlotLaws.{if_true, ordered_parts}
 use Rattle.tree_model.specs.Setting.{first_key, layout_with}
-use Rattle.tree_model.specs.Laws.{first_lowest, MayHold}
-use Rattle.tree_model.specs.Trees.{AreBounded, AllHold, AllFit, IsTree}
+use Rattle.tree_model.specs.Laws.{first_lowest}
+use Rattle.tree_model.specs.Trees.{AllHold, AllFit, IsTree}
 use Rattle.tree_model.proofs.PartsLemmas.{AllFull, bucket_parts}
 use Rattle.tree_model.proofs.ZeroLemmas.{zeros_least}
 use Rattle.index_model.specs.Indexes.{Entry, Index, AreLevels, Ascends, child_for, with_added, handed_up, numbers_of, counts_of, IsNoneOf, AllDiffer, AllBelow}
 use Rattle.index_model.specs.Trees.{Tree, child_of, leaf_at, layout_of, entries_from, set_slots, slots_from, first_part, later_parts, tree_with, IsNumbered}
 use Rattle.index_model.specs.Laws.{NumberedHasSet}
-use Rattle.index_model.proofs.HandLemmas.{AgreeOn, counts_agree, levels_agree, none_below, below_more, none_parts, below_parts, differ_about, differ_parts, EachNone, added_none, hand_up_keeps_index}
-use Rattle.index_model.proofs.TreeLemmas.{bounded_ascend, SameSlots, leaves_same, from_below, set_slots_here, set_slots_other, length_entries, bucket_some, numbered_has_set}
+use Rattle.index_model.proofs.HandLemmas.{AgreeOn, counts_agree, levels_agree, none_below, below_more, below_parts, differ_about, differ_parts, EachNone, added_none, hand_up_keeps_index}
+use Rattle.index_model.proofs.TreeLemmas.{bounded_ascend, SameSlots, leaves_same, from_below, set_slots_here, set_slots_other, length_entries, numbered_has_set}
 use Rattle.index_bucket.specs.Entries.{sizes_of}
 use Rattle.index_bucket.proofs.HandLaws.{fan_out_wide}
 use Rattle.index_blocks.specs.Buckets.{bucket_at}
-use Rattle.index_blocks.specs.Levels.{entries_in, least_key, below_at, height, leaf_entries, levels_of, AllAre, LeadsDown, HasRoot, way, leaf_for}
+use Rattle.index_blocks.specs.Levels.{entries_in, least_key, height, leaf_entries, levels_of, AllAre, LeadsDown, way, leaf_for}
 use Rattle.index_blocks.specs.Climbs.{MayClimb, Climbs, TellsRoot, climbed}
 use Rattle.index_blocks.specs.Laws.{IsNoted, grown_head}
 use Rattle.index_blocks.specs.Laws as index
@@ -37,9 +36,9 @@ use Rattle.indexed_file.proofs.PartedLaws.{parted_is}
 use Rattle.indexed_file.proofs.SetLaws.{sets_for}
 use Rattle.indexed_tree.specs.Rooted.{leaf_numbers, tree_of, layout_in, IsRooted}
 use Rattle.indexed_tree.specs.Laws.{slots_below}
-use Rattle.indexed_tree.specs.Sets.{added_leaves, entry_to, entries_to, HasSlots, NewHaveSlots, MaySet, HasSet, StagesLeaf, SetStages}
+use Rattle.indexed_tree.specs.Sets.{added_leaves, entries_to, NewHaveSlots, MaySet, HasSet, StagesLeaf, SetStages}
 use Rattle.indexed_tree.proofs.PartLaws.{numbers_from, with_used, Written, parts_written, HaveBytes, bytes_written, parted_few}
-use Rattle.indexed_tree.proofs.RootLaws.{length_map, leaves_ascend, index_leads, rooted_is_tree, layout_tells, rooted_finds, numbers_used, Found, leaf_found, found_for}
+use Rattle.indexed_tree.proofs.RootLaws.{length_map, leaves_ascend, rooted_is_tree, layout_tells, rooted_finds, numbers_used, Found, leaf_found, found_for}
 use Rattle.indexed_tree.proofs.StayLaws.{moved, both_are, Same, entries_agree, below_stays, leaves_stay, levels_stay, leads_stays}
 
 abbrev Blocks : Type 0

@@ -1,5 +1,5 @@
 -- An index whose buckets stay is read as before.
-use Rattle.std.proofs.Common.{◌≡◌, ◌≤◌, ◌<◌, ◌+◌, ◌-◌, ℕ, zero, suc, List, [], ◌∷◌, ◌++◌, map, refl, sym, ap, ◌∙◌, subst, arith}
+use Rattle.std.proofs.Common.{◌≡◌, ◌≤◌, ◌+◌, ◌-◌, ℕ, zero, suc, List, [], ◌∷◌, map, refl, sym, ap, ◌∙◌, subst, arith}
 use Rattle.file_base.specs.declared.head.FileHead.{FileHead}
 use Rattle.index_model.specs.Indexes.{Entry, entries_along, parent_entry, numbers_of}
 use Rattle.index_model.specs.Trees.{child_of}

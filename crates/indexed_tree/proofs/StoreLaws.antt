@@ -1,27 +1,29 @@
 -- Leaves that are staged through a frame, and what is handed up for them.
-use Rattle.std.proofs.Common.{◌≡◌, ◌≤◌, ◌<◌, ◌+◌, ◌-◌, ◌*◌, ℕ, zero, suc, Bool, true, false, List, [], ◌∷◌, length, take, set, Option, Some, None, IfSome, IsSomeAnd, is_some, unwrap_or, option_map, if◌then◌else◌, slice_index_or, refl, sym, ap, subst, ◌∙◌, arith}
+use Rattle.std.proofs.Common.{◌≡◌, ◌≤◌, ◌<◌, ◌+◌, ◌-◌, ◌*◌, ℕ, zero, suc, List, length, take, set, Option, Some, None, IfSome, IsSomeAnd, option_map, refl, sym, ap, subst, ◌∙◌, arith}
 use Rattle.std.proofs.lemmas.List.{set-set}
 use Rattle.std.proofs.lemmas.Nat.{mul-le}
 use Rattle.block_disk.specs.Disk.{DiskState}
 use Rattle.careful_write.specs.State.{StoreState}
 use Rattle.file_base.specs.declared.head.FileHead.{FileHead}
-use Rattle.change_set.specs.Buckets.{frame_of, with_frame, with_bucket}
+use Rattle.frame_pool.specs.Pool.{IsOut}
+use Rattle.change_set.specs.Buckets.{frame_of, with_frame, with_bucket, WasFree}
 use Rattle.change_set.specs.Files.{IsPlaced, StagesIn}
 use Rattle.change_set.proofs.Extents.{bucket_staged, stages_more}
+use Rattle.change_set.proofs.Frames.{with_frame_own}
 use Rattle.records_model.specs.Slots.{size_of}
 use Rattle.index_model.specs.Indexes.{Entry}
 use Rattle.index_bucket.specs.Entries.{sizes_of}
-use Rattle.index_blocks.specs.Buckets.{bucket_first, bucket_at, with_blocks_of}
+use Rattle.index_blocks.specs.Buckets.{bucket_first, with_blocks_of}
 use Rattle.index_blocks.specs.Climbs.{MayClimb, Climbs}
 use Rattle.index_blocks.specs.Laws.{IsNoted, grown_head}
 use Rattle.index_blocks.specs.Levels.{height, leaf_entries, levels_of, leaf_for, way, HasRoot, IsWay}
 use Rattle.index_blocks.specs.declared.growing.Growth.{Growth}
 use Rattle.index_blocks.proofs.LevelLaws.{length_levels}
 use Rattle.index_blocks.proofs.StageLaws.{blocks_few, stages_both, stages_beside}
-use Rattle.indexed_file.specs.Raws.{SetsLeaf}
 use Rattle.indexed_file.specs.Sets.{with_parts, touched_by}
+use Rattle.indexed_file.proofs.StoreLaws.{given_after}
 use Rattle.indexed_tree.specs.Rooted.{IsRooted}
-use Rattle.indexed_tree.specs.Sets.{added_leaves, entries_to, NewHaveSlots, MaySet, HasSet, StagesLeaf}
+use Rattle.indexed_tree.specs.Sets.{added_leaves, entries_to, NewHaveSlots, MaySet, StagesLeaf}
 use Rattle.indexed_tree.specs.Puts.{PutsLeaf, PutsBack}
 use Rattle.indexed_tree.proofs.BackLaws.{back_stages}
 use Rattle.indexed_tree.proofs.RootLaws.{rooted_finds}
@@ -170,3 +172,42 @@ sets_back None now h disk n bytes form placed whole is = tt
 sets_back (Some b) now h disk n bytes form placed whole is =
     let puts : PutsBack h n bytes b (with_parts h n 0 bytes bytes bytes b) = λ k v key fits some rooted at tries. back_stages h b k v n bytes (may_set h disk b k v 0 form placed (omega (arith, form.within)) whole key fits) some rooted at tries in
     subst (λ (o : Told). IsSomeAnd o (PutsBack h n bytes b)) (sym is) puts
+
+-- Stores that were read through a frame.
+
+-- and then staged into
+pub rest_read : (f : ℕ) (s0 s2 s3 : StoreState) (D : DiskState → DiskState) → s2 ≡ with_frame f (frame_of s2.pool f) s0 → s3 ≡ with_frame f (frame_of s3.pool f) (record s2 { disk = D s2.disk; current = s3.current; touched = s3.touched })
+    → s3 ≡ with_frame f (frame_of s3.pool f) (record s0 { disk = D s0.disk; current = s3.current; touched = s3.touched })
+rest_read f s0 s2 s3 D was is =
+    is ∙ (λ i. with_frame f (frame_of s3.pool f) (record (was i) { disk = D (was i).disk; current = s3.current; touched = s3.touched }))
+    ∙ (λ i. record s0 { disk = D s0.disk; current = s3.current; touched = s3.touched; pool = set-set s0.pool f (Some (frame_of s2.pool f)) (Some (frame_of s3.pool f)) i })
+
+-- and no more
+pub rest_same : (f : ℕ) (s0 s : StoreState) (d : DiskState) → s ≡ with_frame f (frame_of s.pool f) (record s0 { disk = d }) → s ≡ with_frame f (frame_of s.pool f) (record s0 { disk = d; current = s.current; touched = s.touched })
+rest_same f s0 s d is = is ∙ (λ i. with_frame f (frame_of s.pool f) (record s0 { disk = d; current = ap (λ (t : StoreState). t.current) (sym is) i; touched = ap (λ (t : StoreState). t.touched) (sym is) i }))
+
+-- a store that is the same, beside its frame
+pub rest_own : (f : ℕ) (s0 s : StoreState) → IsOut s0.pool f → s ≡ s0 → s ≡ with_frame f (frame_of s.pool f) (record s0 { current = s.current; touched = s.touched })
+rest_own f s0 s out same = same ∙ with_frame_own f s0 out ∙ (λ i. with_frame f (frame_of (sym same i).pool f) (record s0 { current = (sym same i).current; touched = (sym same i).touched }))
+
+-- A frame that was taken, and given back.
+
+abbrev pub Kept : ℕ → (DiskState → DiskState) → StoreState → StoreState → Type 0
+Kept f D s1 s3 = s3 ≡ with_frame f (frame_of s3.pool f) (record s1 { disk = D s1.disk; current = s3.current; touched = s3.touched })
+
+given : (f : ℕ) (D : DiskState → DiskState) (s0 s1 s3 s4 : StoreState) → WasFree s0.pool f → s1 ≡ with_frame f (frame_of s1.pool f) s0 → Kept f D s1 s3 → s4 ≡ record s3 { pool = set s3.pool f None } → s4 ≡ record s3 { pool = s0.pool }
+given f D s0 s1 s3 s4 was taken kept gave = given_after f s0 s1 s3 s4 was taken (λ i. record s3 { pool = ap (λ (s : StoreState). s.pool) kept i }) gave
+
+pub rest_given : (f : ℕ) (D : DiskState → DiskState) (s0 s1 s3 s4 : StoreState) → WasFree s0.pool f → s1 ≡ with_frame f (frame_of s1.pool f) s0 → Kept f D s1 s3 → s4 ≡ record s3 { pool = set s3.pool f None }
+    → s4 ≡ record s0 { disk = D s0.disk; current = s4.current; touched = s4.touched }
+rest_given f D s0 s1 s3 s4 was taken kept gave =
+    let gives = given f D s0 s1 s3 s4 was taken kept gave in
+    gives ∙ (λ i. record (kept i) { pool = s0.pool })
+    ∙ (λ i. record (taken i) { disk = D (taken i).disk; current = s3.current; touched = s3.touched; pool = s0.pool })
+    ∙ (λ i. record s0 { disk = D s0.disk; current = ap (λ (t : StoreState). t.current) (sym gives) i; touched = ap (λ (t : StoreState). t.touched) (sym gives) i })
+
+pub stages_given : (h : FileHead) (limit f : ℕ) (D : DiskState → DiskState) (s0 s1 s3 s4 : StoreState) → WasFree s0.pool f → s1 ≡ with_frame f (frame_of s1.pool f) s0 → Kept f D s1 s3 → s4 ≡ record s3 { pool = set s3.pool f None }
+    → StagesIn h limit s1 (record s3 { pool = s1.pool }) → StagesIn h limit s0 s4
+stages_given h limit f D s0 s1 s3 s4 was taken kept gave stages =
+    subst (λ (t : StoreState). StagesIn h limit s0 t) (sym (given f D s0 s1 s3 s4 was taken kept gave))
+    (subst (λ (t : StoreState). StagesIn h limit t (record s3 { pool = s0.pool })) (λ i. record (taken i) { pool = s0.pool }) (stages_beside h limit s1 s3 s0.pool stages))

@@ -3,11 +3,11 @@ ghost use Rattle.std.specs.Prelude.{◌≡◌, ◌≤◌, ◌<◌, ◌+◌, ◌-
 ghost use Rattle.careful_write.specs.Down.{answered};
 ghost use Rattle.frame_pool.specs.Pool.{IsOut};
 ghost use Rattle.change_set.specs.Buckets.{frame_of, with_frame};
-ghost use Rattle.change_set.specs.Files.{IsPlaced, SameFile, StagesIn};
+ghost use Rattle.change_set.specs.Files.{IsPlaced, StagesIn};
 ghost use Rattle.index_blocks.specs.Laws.{grown_head};
 ghost use Rattle.index_blocks.specs.Levels.{height, HasRoot};
 ghost use Rattle.indexed_file.specs.Sets.{with_parts, touched_by};
-ghost use Rattle.indexed_tree.specs.Puts.{MayPart, PutsLeaf};
+ghost use Rattle.indexed_tree.specs.Puts.{MayPart, PutsLeaf, SameButIndex};
 
 use crate::leaves::entries_for;
 use block_disk::Disk;
@@ -150,7 +150,7 @@ pub fn put_leaf<D: Disk>(
     ensures sets { OnOk result (IfSome store.old.current (λ old. IsSomeAnd store.new.current (PutsLeaf head.old head.new key.now path.now n added low.now mid.now high.now old))) }
     ensures stages { OnOk result (StagesIn head.old ((2 * head.old.levels + 2) * head.old.bucket) store.old (record store.new { pool = store.old.pool })) }
     ensures form { OnOk result (HasRoot head.new) }
-    ensures file { OnOk result (SameFile head.old head.new) }
+    ensures file { OnOk result (SameButIndex head.old head.new) }
     ensures head { OnErr result (head.new ≡ head.old) }
     ensures rest { store.new ≡ with_frame frame.now (frame_of store.new.pool frame.now) (record store.old {
       disk = answered result store.old.disk;

@@ -1,4 +1,5 @@
 pub mod Pieces
+pub mod Few
 pub mod Fields
 pub mod Readings
 pub mod SlotLemmas

@@ -1,12 +1,12 @@
 -- The log of a node: its slots, what a content tells of them, and what a call stages.
-use Rattle.std.specs.Prelude.{◌≡◌, ℕ, ◌+◌, ◌<◌, Bool, true, false, List, [], ◌∷◌, length, take, if◌then◌else◌, Option, Some, None, option_map, slice_set, slice_index_or}
+use Rattle.std.specs.Prelude.{◌≡◌, ℕ, ◌+◌, ◌-◌, ◌<◌, ◌==◌, ◌&&◌, Bool, true, false, List, [], ◌∷◌, length, take, if◌then◌else◌, Option, Some, None, option_map, slice_set, slice_index_or}
 use Rattle.vms_model.specs.Ids.{Id}
 use Rattle.vms_base.specs.declared.protocol.LogRec.{LogRec}
 use Rattle.block_disk.specs.Blocks.{block_at, with_number}
 use Rattle.block_disk.specs.Disk.{MayLeave}
 use Rattle.careful_write.specs.State.{StoreState, IsReady, content}
 use Rattle.commit_protocol.specs.Messages.{LogRecord, same_id}
-use Rattle.log_laws.specs.Slots.{Slots, has_slot}
+use Rattle.log_laws.specs.Slots.{Slots, has_slot, is_prepared_record}
 use Rattle.tm_types.specs.Parts.{log_record_of}
 use Rattle.lmcp_log.specs.Slot.{slot_block, free_block, IsRecord}
 
@@ -82,3 +82,20 @@ abbrev pub record_with : Id → Slots → Option LogRecord
 record_with s [] = None
 record_with s (None ∷ ss) = record_with s ss
 record_with s (Some r ∷ ss) = if same_id r.serial s then Some r else record_with s ss
+
+-- a slot has a prepared record
+abbrev pub is_prepared : Option LogRecord → Bool
+is_prepared None = false
+is_prepared (Some r) = is_prepared_record r.kind
+
+-- what is left of a slot where so many prepared records may stand from it on, and how many may behind it
+abbrev pub passed : (most : ℕ) → Option LogRecord → Option LogRecord
+passed most o = if is_prepared o && (most == 0) then None else o
+
+abbrev pub fewer : (most : ℕ) → Option LogRecord → ℕ
+fewer most o = if is_prepared o then most - 1 else most
+
+-- the slots, of which those are free that have a prepared record behind so many of them
+abbrev pub with_few_prepared : (most : ℕ) → Slots → Slots
+with_few_prepared most [] = []
+with_few_prepared most (o ∷ ss) = passed most o ∷ with_few_prepared (fewer most o) ss

@@ -2,6 +2,7 @@
 #![tactic(auto)]
 
 mod law;
+mod listing;
 mod log;
 mod places;
 mod slot;

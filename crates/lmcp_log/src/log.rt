@@ -7,12 +7,13 @@ ghost use Rattle.commit_protocol.specs.Messages.{LogRecord};
 ghost use Rattle.commit_protocol.specs.Table.{record_serials};
 ghost use Rattle.commit_protocol.specs.World.{In};
 ghost use Rattle.commit_protocol.specs.Agreement.{Distinct};
-ghost use Rattle.log_laws.specs.Slots.{Slots, records_in, has_slot, has_free, put_in, forgotten};
+ghost use Rattle.log_laws.specs.Slots.{Slots, committed_of, prepared_of, records_in, has_slot, has_free, put_in, forgotten};
 ghost use Rattle.tm_types.specs.Parts.{log_record_of};
 ghost use Rattle.lmcp_log.specs.Slot.{slot_block, HasForm, IsRecord};
-ghost use Rattle.lmcp_log.specs.Log.{slot_of, slot_at, is_of, is_free, record_with, IsFirst, IsReading, StagesSlot, OnlyRead};
+ghost use Rattle.lmcp_log.specs.Log.{slot_of, slot_at, is_of, is_free, record_with, with_few_prepared, IsFirst, IsReading, StagesSlot, OnlyRead};
 ghost use Rattle.lmcp_log.specs.Keeping.{Keeps, AreApart};
 
+use crate::listing::{list_records, pass_over};
 use crate::slot::{read_slot, write_slot};
 use block_disk::Disk;
 use careful_write::{Down, Store};
@@ -239,6 +240,14 @@ impl Log {
         }
     }
 
+    /// How many slots it has.
+    pub fn slots(&self) -> usize
+        ensures { result ≡ length self.now }
+    {
+        let slots: &[Option<LogRec>] = &self.slots;
+        slots.len()
+    }
+
     /// How many records it has.
     pub fn live(&self) -> u32
         ensures { result ≡ length (records_in self.now) }
@@ -250,5 +259,31 @@ impl Log {
             }
         }
         live
+    }
+
+    /// The slots that have a prepared record behind so many of them are read as free. Nothing is staged.
+    pub fn pass_over(&mut self, most: usize)
+        ensures slots { self.new ≡ with_few_prepared most self.old }
+        ensures count { length self.new ≡ length self.old }
+        ensures few { length (prepared_of (records_in self.new)) ≤ most }
+        ensures records { (r : LogRecord) → In r (records_in self.new) → In r (records_in self.old) }
+        ensures distinct { Distinct (record_serials (records_in self.old)) → Distinct (record_serials (records_in self.new)) }
+        ensures same { length (prepared_of (records_in self.old)) ≤ most → self.new ≡ self.old }
+    {
+        pass_over(&mut self.slots, most);
+    }
+
+    /// Lists the prepared records and the committed ones, each in the order of the slots, in place of others.
+    pub fn list(&self, prepared: &mut Vec<LogRec>, committed: &mut Vec<LogRec>)
+        requires prepared { length (prepared_of (records_in self.now)) ≤ vec_capacity prepared.old }
+        requires committed { 512 ≤ vec_capacity committed.old }
+        ensures prepared { map log_record_of prepared.new.items ≡ prepared_of (records_in self.now) }
+        ensures committed { map log_record_of committed.new.items ≡ committed_of (records_in self.now) }
+        ensures prepared_room { vec_capacity prepared.old ≤ vec_capacity prepared.new }
+        ensures committed_room { vec_capacity committed.old ≤ vec_capacity committed.new }
+    {
+        prepared.clear();
+        committed.clear();
+        list_records(&self.slots, prepared, committed);
     }
 }

@@ -15,7 +15,7 @@ use Rattle.log_laws.specs.Slots.{Slots, records_in, is_prepared_record, prepared
 
 -- Records by kind.
 
-prepared_is : (rs : List LogRecord) (q : LogRecord) → In q (prepared_of rs) → In q rs × (q.kind ≡ PreparedRecord)
+pub prepared_is : (rs : List LogRecord) (q : LogRecord) → In q (prepared_of rs) → In q rs × (q.kind ≡ PreparedRecord)
 prepared_is [] q h = absurd h
 prepared_is (r ∷ rs) q h = go r.kind refl h (prepared_is rs q)
   where
@@ -23,7 +23,7 @@ prepared_is (r ∷ rs) q h = go r.kind refl h (prepared_is rs q)
     go PreparedRecord e j more = elim j [ inl s ↦ (inl s, ap (λ (x : LogRecord). x.kind) s ∙ e) | inr z ↦ (let m = more z in (inr m.0, m.1)) ]
     go CommittedRecord e j more = let m = more j in (inr m.0, m.1)
 
-is_prepared_one : (rs : List LogRecord) (q : LogRecord) → In q rs → q.kind ≡ PreparedRecord → In q (prepared_of rs)
+pub is_prepared_one : (rs : List LogRecord) (q : LogRecord) → In q rs → q.kind ≡ PreparedRecord → In q (prepared_of rs)
 is_prepared_one [] q h e = h
 is_prepared_one (r ∷ rs) q h e = go r.kind refl h (λ j. is_prepared_one rs q j e)
   where
@@ -31,7 +31,7 @@ is_prepared_one (r ∷ rs) q h e = go r.kind refl h (λ j. is_prepared_one rs q 
     go PreparedRecord f j more = elim j [ inl s ↦ inl s | inr z ↦ inr (more z) ]
     go CommittedRecord f j more = elim j [ inl s ↦ absurd (let z : CommittedRecord ≡ PreparedRecord = sym f ∙ (ap (λ (x : LogRecord). x.kind) (sym s) ∙ e) in cc) | inr z ↦ more z ]
 
-committed_is : (rs : List LogRecord) (q : LogRecord) → In q (committed_of rs) → In q rs × (q.kind ≡ CommittedRecord)
+pub committed_is : (rs : List LogRecord) (q : LogRecord) → In q (committed_of rs) → In q rs × (q.kind ≡ CommittedRecord)
 committed_is [] q h = absurd h
 committed_is (r ∷ rs) q h = go r.kind refl h (committed_is rs q)
   where
@@ -39,7 +39,7 @@ committed_is (r ∷ rs) q h = go r.kind refl h (committed_is rs q)
     go CommittedRecord e j more = elim j [ inl s ↦ (inl s, ap (λ (x : LogRecord). x.kind) s ∙ e) | inr z ↦ (let m = more z in (inr m.0, m.1)) ]
     go PreparedRecord e j more = let m = more j in (inr m.0, m.1)
 
-is_committed_one : (rs : List LogRecord) (q : LogRecord) → In q rs → q.kind ≡ CommittedRecord → In q (committed_of rs)
+pub is_committed_one : (rs : List LogRecord) (q : LogRecord) → In q rs → q.kind ≡ CommittedRecord → In q (committed_of rs)
 is_committed_one [] q h e = h
 is_committed_one (r ∷ rs) q h e = go r.kind refl h (λ j. is_committed_one rs q j e)
   where
@@ -47,7 +47,7 @@ is_committed_one (r ∷ rs) q h e = go r.kind refl h (λ j. is_committed_one rs 
     go CommittedRecord f j more = elim j [ inl s ↦ inl s | inr z ↦ inr (more z) ]
     go PreparedRecord f j more = elim j [ inl s ↦ absurd (let z : PreparedRecord ≡ CommittedRecord = sym f ∙ (ap (λ (x : LogRecord). x.kind) (sym s) ∙ e) in cc) | inr z ↦ more z ]
 
-prepared_keys : (rs : List LogRecord) → Distinct (record_serials rs) → DistinctKeys (prepared_of rs)
+pub prepared_keys : (rs : List LogRecord) → Distinct (record_serials rs) → DistinctKeys (prepared_of rs)
 prepared_keys [] d = tt
 prepared_keys (r ∷ rs) d = go r.kind (prepared_keys rs d.1)
   where
@@ -63,7 +63,7 @@ in_committed_serials (r ∷ rs) i h = go r.kind h (in_committed_serials rs i)
     go CommittedRecord j more = elim j [ inl e ↦ inl e | inr z ↦ inr (more z) ]
     go PreparedRecord j more = inr (more j)
 
-committed_distinct : (rs : List LogRecord) → Distinct (record_serials rs) → Distinct (record_serials (committed_of rs))
+pub committed_distinct : (rs : List LogRecord) → Distinct (record_serials rs) → Distinct (record_serials (committed_of rs))
 committed_distinct [] d = tt
 committed_distinct (r ∷ rs) d = go r.kind (committed_distinct rs d.1)
   where
@@ -150,7 +150,7 @@ permuted_by (p ∷ ps) qs d e there back =
     (r.0, r.1, r.2, permuted_by ps (r.0 ++ r.1) d.1 rest.0 to from)
 
 -- permuted lists have the same members
-permuted_to : (ps qs : List LogRecord) → IsPermuted ps qs → (r : LogRecord) → In r ps → In r qs
+pub permuted_to : (ps qs : List LogRecord) → IsPermuted ps qs → (r : LogRecord) → In r ps → In r qs
 permuted_to [] qs h r j = absurd j
 permuted_to (p ∷ ps) qs h r j =
     let P : List LogRecord → Type 0 = λ xs. In r xs in
@@ -163,7 +163,7 @@ permuted_to (p ∷ ps) qs h r j =
     middle [] = inl refl
     middle (x ∷ front) = inr (middle front)
 
-permuted_back : (ps qs : List LogRecord) → IsPermuted ps qs → (r : LogRecord) → In r qs → In r ps
+pub permuted_back : (ps qs : List LogRecord) → IsPermuted ps qs → (r : LogRecord) → In r qs → In r ps
 permuted_back [] qs h r j = let P : List LogRecord → Type 0 = λ xs. In r xs in subst P h j
 permuted_back (p ∷ ps) qs h r j =
     let P : List LogRecord → Type 0 = λ xs. In r xs in
@@ -188,7 +188,7 @@ read_records tm ss apart kinds l =
     )
 
 -- the records of the branches that a restart makes of these
-kept_again : (bs : List Branch) (ps : List LogRecord) → ((q : LogRecord) → In q ps → In q (prepared_records bs)) → prepared_records (branches_of ps) ≡ ps
+pub kept_again : (bs : List Branch) (ps : List LogRecord) → ((q : LogRecord) → In q ps → In q (prepared_records bs)) → prepared_records (branches_of ps) ≡ ps
 kept_again bs [] h = refl
 kept_again bs (p ∷ ps) h =
     let f = prepared_form bs p (h p (inl refl)) in
@@ -212,14 +212,14 @@ restart_tells n tm ss prepared committed a p l =
 unwaiting_again : (r : LogRecord) → r.kind ≡ PreparedRecord → r.waiting ≡ [] → prepared_record (branch_of r) ≡ r
 unwaiting_again r k w = λ i. record { kind = sym k i; tid = r.tid; serial = r.serial; waiting = sym w i; rms = held_again r.rms i }
 
-all_again : (ps : List LogRecord) → ((r : LogRecord) → In r ps → (r.kind ≡ PreparedRecord) × (r.waiting ≡ [])) → prepared_records (branches_of ps) ≡ ps
+pub all_again : (ps : List LogRecord) → ((r : LogRecord) → In r ps → (r.kind ≡ PreparedRecord) × (r.waiting ≡ [])) → prepared_records (branches_of ps) ≡ ps
 all_again [] h = refl
 all_again (p ∷ ps) h =
     let f = h p (inl refl) in
     let same : prepared_record (branch_of p) ≡ p = unwaiting_again p f.0 f.1 in
     λ i. same i ∷ all_again ps (λ q j. h q (inr j)) i
 
-kind_or : (k : RecordKind) → (k ≡ PreparedRecord) ⊎ (k ≡ CommittedRecord)
+pub kind_or : (k : RecordKind) → (k ≡ PreparedRecord) ⊎ (k ≡ CommittedRecord)
 kind_or PreparedRecord = inl refl
 kind_or CommittedRecord = inr refl
 

@@ -24,7 +24,7 @@ use Rattle.log_laws.proofs.Slotting.{TmApart, slot_of, state_first, state_rest, 
 -- Counts.
 
 -- distinct ids are no more than those that they are among
-among : (xs ys : List Id) → Distinct xs → ((i : Id) → In i xs → In i ys) → length xs ≤ length ys
+pub among : (xs ys : List Id) → Distinct xs → ((i : Id) → In i xs → In i ys) → length xs ≤ length ys
 among [] ys d h = omega arith
 among (x ∷ xs) ys d h =
     let i : In x ys = h x (inl refl) in
@@ -99,7 +99,7 @@ free_slot tm ss k o l fits e un = elim (cases_Bool (has_free ss)) [
 ]
 
 -- the record of a prepared branch is there, and so it has a slot
-prepared_in : (k : Key) (bs : List Branch) (o : Branch) → find k bs ≡ Some o → o.state ≡ Prepared → In (prepared_record o) (prepared_records bs)
+pub prepared_in : (k : Key) (bs : List Branch) (o : Branch) → find k bs ≡ Some o → o.state ≡ Prepared → In (prepared_record o) (prepared_records bs)
 prepared_in k [] o e p = absurd (let f : None ≡ Some o = e in cc)
 prepared_in k (b ∷ bs) o e p = elim (told_key b.key k) [
   | inl t ↦
@@ -123,10 +123,10 @@ is_or Active = inr refl
 is_or Ending = inr refl
 is_or Voting = inr refl
 
-finds_slot : (tm : Tm) (ss : Slots) (a : Act) → LogTells tm ss → size tm ≤ length ss → Stands tm.table a → HasSlot ss a
+pub finds_slot : (tm : Tm) (ss : Slots) (a : Act) → LogTells tm ss → size tm ≤ length ss → Stands tm.table a → HasSlot ss a
 finds_slot tm ss (Prepares b) l fits q = free_slot tm ss b.key q.branch l fits q.there q.unprepared
 finds_slot tm ss (Settles k o why (Some r)) l fits q = elim (is_or q.0.0.state) [
-  | inl p ↦ inl (ap (λ s. has_slot s ss) q.1 ∙ prepared_slot tm ss k q.0.0 l q.0.1 p)
+  | inl p ↦ inl (ap (λ s. has_slot s ss) q.1.serial ∙ prepared_slot tm ss k q.0.0 l q.0.1 p)
   | inr un ↦ inr (free_slot tm ss k q.0.0 l fits q.0.1 un)
 ]
 finds_slot tm ss (Settles k o why None) l fits q = tt
@@ -178,7 +178,7 @@ length_effects : (es : List Effect) (ss : Slots) → length (record_effects_in e
 length_effects [] ss = refl
 length_effects (e ∷ es) ss = length_effects es (record_effect_in e ss) ∙ length_effect e ss
 
-length_slots : (a : Act) (rs : List LogRecord) (ss : Slots) → length (slots_after a rs ss) ≡ length ss
+pub length_slots : (a : Act) (rs : List LogRecord) (ss : Slots) → length (slots_after a rs ss) ≡ length ss
 length_slots (Prepares b) rs ss = length_put_in (prepared_record b) ss
 length_slots (Settles k o why None) rs ss = length_forgotten k.serial ss
 length_slots (Settles k o why (Some r)) rs ss = length_put_in r ss
@@ -193,7 +193,7 @@ length_slots (Prints l) rs ss = refl
 
 -- Branches and committed records grow by no act that finds its branch.
 
-act_size : (tm : Tm) (a : Act) → Stands tm.table a → size (after_act a tm) ≤ size tm
+pub act_size : (tm : Tm) (a : Act) → Stands tm.table a → size (after_act a tm) ≤ size tm
 act_size tm (Notes b) q = let h = length_put_there b tm.table (q.old, q.there) in omega arith
 act_size tm (Accepts b c) q = let h = length_put_there (record b { accepted = b.accepted ++ c ∷ [] }) tm.table (q.old, q.there) in omega arith
 act_size tm (Prepares b) q = let h = length_put_there (record b { state = Prepared }) tm.table (q.branch, q.there) in omega arith
@@ -217,7 +217,7 @@ acts_size (a ∷ acts) tm q =
     omega arith
 
 -- the table after an act is apart again
-apart_after : (tm : Tm) (a : Act) → TmApart tm → Stands tm.table a → TmApart (after_act a tm)
+pub apart_after : (tm : Tm) (a : Act) → TmApart tm → Stands tm.table a → TmApart (after_act a tm)
 apart_after tm a h q =
     let x : Node = record { up = true; boot = 0; seq = 0; table = tm.table; records = tm.records; lost = []; last = None } in
     (act_apart x a h (keyed tm.table a q)).log
@@ -254,7 +254,7 @@ put_same b o (x ∷ xs) e un st = elim (told_key x.key b.key) [
     plain y Voting h = refl
     plain y Prepared h = absurd (let f : true ≡ false = h in cc)
 
-changed_tells : (tm : Tm) (ss : Slots) (o : Option Branch) → ((b : Branch) → o ≡ Some b → find b.key tm.table ≡ Some b) → LogTells tm ss → AllTell (note_row has_changed o) tm ss
+pub changed_tells : (tm : Tm) (ss : Slots) (o : Option Branch) → ((b : Branch) → o ≡ Some b → find b.key tm.table ≡ Some b) → LogTells tm ss → AllTell (note_row has_changed o) tm ss
 changed_tells tm ss None there l = tt
 changed_tells tm ss (Some b) there l = go b.state refl
   where

@@ -1,7 +1,8 @@
 -- A unit is aborted, as its branch is in the world.
-use Rattle.std.proofs.Common.{◌≡◌, ℕ, ◌+◌, ◌<◌, ◌≤◌, List, [], ◌∷◌, Bool, true, false, Option, Some, if◌then◌else◌, length, refl, sym, ◌∙◌, ap, subst, arith, inl, inr}
+use Rattle.std.proofs.Common.{◌≡◌, ℕ, ◌+◌, ◌≤◌, List, [], ◌∷◌, Bool, true, false, Some, None, if◌then◌else◌, length, refl, sym, ◌∙◌, ap, subst, inl, inr}
 use Rattle.std.specs.Option.{IfSome}
-use Rattle.vms_model.specs.Ids.{IsId}
+use Rattle.std.proofs.lemmas.Bool.{both_ways, false_from_ne_true}
+use Rattle.vms_model.specs.Ids.{Id, IsId}
 use Rattle.vms_model.specs.Transactions as model
 use Rattle.vms_base.specs.Ids.{serial_of, tid_of}
 use Rattle.vms_base.specs.Outcomes.{reason_of}
@@ -9,41 +10,55 @@ use Rattle.vms_base.specs.declared.ids.Serial.{Serial}
 use Rattle.vms_base.specs.declared.ids.Tid.{Tid}
 use Rattle.vms_base.specs.declared.outcomes.Reason.{Reason}
 use Rattle.volume.specs.declared.catalog.Catalog.{Catalog}
-use Rattle.volume.specs.Catalogs.{IsSound, TellsCatalog}
-use Rattle.volume.specs.State.{Holds, VolumeState}
+use Rattle.volume.specs.Catalogs.{IsSound}
+use Rattle.volume.specs.State.{VolumeState}
 use Rattle.volume_format.specs.declared.home.Ending.TheVariants as ending
-use Rattle.unit_aborts.specs.Aborting.{Aborts, BreaksOff, MakesAbort, has_changes}
 use Rattle.unit_laws.specs.JournalLaws.{is_unit}
-use Rattle.unit_table.specs.Places.{AreInOrder}
-use Rattle.unit_table.specs.Units.{OpenUnit, unit_at}
+use Rattle.unit_table.specs.Units.{OpenUnit}
+use Rattle.unit_aborts.specs.Aborting.{Aborts, BreaksOff, MakesAbort, has_changes}
 use Rattle.unit_undo.specs.Undoing.{GoesOn}
 use Rattle.unit_undo.specs.Way.{FailsOnTheWay, IsUndone, Undoes}
 use Rattle.unit_journal.specs.Entries.{settled_entry}
 use Rattle.unit_journal.specs.Settling.{MakesSettlement, entry_if, next_moment as moment_next}
-use Rattle.commit_protocol.specs.Table.{Branch}
-use Rattle.run_model.specs.World.{Node, Settlement, Settles, acted, fallen, find_branch, next_moment}
+use Rattle.commit_protocol.specs.Allowed.{is_prepared}
+use Rattle.commit_protocol.specs.Effects.{SettleEffect}
+use Rattle.commit_protocol.specs.Messages as message
+use Rattle.commit_protocol.specs.Messages.{LogRecord}
+use Rattle.commit_protocol.specs.Table as table
+use Rattle.commit_protocol.specs.Table.{Branch, Key, Settles, branch_serials, record_serials}
+use Rattle.commit_protocol.specs.World.{In}
+use Rattle.commit_protocol.proofs.Lists.{find-key}
+use Rattle.commit_protocol.proofs.Serials.{parts_apart}
+use Rattle.log_laws.specs.Slots.{Slots, forgotten, has_slot, records_in}
+use Rattle.lmcp_log.proofs.Apart.{same_ids}
+use Rattle.lmcp_log.proofs.SlotLemmas.{none_forgotten}
+use Rattle.run_model.specs.World.{IsPreparedUnit, Node, Settlement, Tables, acted, next_moment, settlement}
+use Rattle.world_laws.proofs.LogLemmas.{prepared_branch, told_log}
+use Rattle.world_laws.proofs.TableLemmas.{found_in, in_serials, one_branch}
+use Rattle.world_laws.proofs.UpLemmas.{differ}
 use Rattle.directory_model.specs.Files.{head_at}
 use Rattle.settlement_laws.specs.Settled.{Makes}
 use Rattle.undo_laws.specs.Aborted.{IsAborted, MayAbort}
 use Rattle.undo_laws.specs.Undoable.{entries_for, entered_at, positions_for}
+use Rattle.undo_laws.specs.Undone.{IsAbort, WaysKeepPrepared}
 use Rattle.undo_laws.proofs.AbortLemmas.{aborts_fail, aborts_settle}
+use Rattle.undo_laws.proofs.SettledLemmas.{fell_of}
 use Rattle.undo_laws.proofs.UndoableLemmas.{units_are_undoable}
-use Rattle.undo_laws.proofs.WayLemmas.{names_kept}
-use Rattle.restart_laws.proofs.FallLemmas.{falls_leave}
-use Rattle.volume_model.specs.Homes.{settlement_of}
+use Rattle.undo_laws.proofs.WayLemmas.{names_kept, ways_keep_others}
+use Rattle.volume_model.specs.Homes as homes
 use Rattle.volume_model.specs.Laws.{KeepsNames}
-use Rattle.volume_model.specs.Volumes.{HasDisk, HasVolume, LeavesVolume}
-use Rattle.rms_units.specs.Aborting.{AbortsNot, AbortsUnit}
+use Rattle.volume_model.specs.Volumes.{HasVolume, LeavesVolume}
+use Rattle.rms_units.specs.Aborting.{AbortsNot, AbortsUnit, abortion_of}
 use Rattle.rms_units.specs.Calls.{is_some_change}
 use Rattle.rms_units.specs.State as rms
-use Rattle.rms_units.proofs.SettledLemmas.{next_bound, next_later}
-use Rattle.recovery_units.specs.Calls.{SettlesErr, SettlesOk, settlement_with}
-use Rattle.recovery_units.specs.State.{IsKept, branch_of, positions_of}
+use Rattle.recovery_units.specs.Calls.{Broken, MayDo, SettlesErr, SettlesOk, SettlesTo}
+use Rattle.recovery_units.specs.State.{IsKept, UnitsState, committed, positions_of}
 use Rattle.recovery_units.specs.declared.settled.SettledUnit.{SettledUnit}
 use Rattle.node_units.specs.Seen.{seen}
-use Rattle.node_units.proofs.Alike.{next_alike, positions_alike}
-use Rattle.node_units.proofs.Committing.{ids_told, made_told, one_branch}
-use Rattle.node_units.proofs.Making.{changed, found, is_unit_of, left_seen, makes_it, settles}
+use Rattle.node_units.proofs.Acting.{settling}
+use Rattle.node_units.proofs.Alike.{positions_alike}
+use Rattle.node_units.proofs.Committing.{MaySettle, moment_bound, moment_later, moment_same, settled_content}
+use Rattle.node_units.proofs.Making.{Closes, Owns, changed, is_unit_of, left_seen, of_branch, makes_it, settles, tid_is}
 use Rattle.node_units.proofs.Settling.{kept_settled}
 
 none_changed : (ps : List ℕ) → is_some_change ps ≡ false → ps ≡ []
@@ -54,160 +69,241 @@ tests_alike : (ps : List ℕ) → has_changes ps ≡ is_some_change ps
 tests_alike [] = refl
 tests_alike (p ∷ ps) = refl
 
-module _ (place : ℕ) (u : OpenUnit) (clock : ℕ) (reason : Reason) (s t : rms.UnitsState) (v : VolumeState) (n : Node) (there : unit_at s.units.places place ≡ Some u) (at : AreInOrder s.units.places s.units.order) (order : rms.IsInOrder s v) (early : rms.IsEarly v)
-    (before : clock < 24000001000066) (spent : t ≡ rms.without_place place u.serial s) (kept : IsKept (seen s) v n) (same : n.clock ≡ clock) (moment : ℕ) (next : moment ≡ moment_next clock v.catalog.home) where
-  abbrev why : Option model.Reason
-  why = Some (reason_of reason)
+-- A branch that is not prepared has nothing in the log.
+
+record HasRecord (x : Id) (ss : Slots) : Type 0 where
+  it : LogRecord
+  there : In it (records_in ss)
+  own : it.serial ≡ x
+
+record_there : (x : Id) (ss : Slots) → has_slot x ss ≡ true → HasRecord x ss
+record_there x [] is = let never : ⊥ = cc in absurd never
+record_there x (None ∷ ss) is = let r = record_there x ss is in record { it = r.it; there = r.there; own = r.own }
+record_there x (Some q ∷ ss) is = go (message.same_id q.serial x) refl is (record_there x ss)
+  where
+    go : (t : Bool) → message.same_id q.serial x ≡ t → (if t then true else has_slot x ss) ≡ true → (has_slot x ss ≡ true → HasRecord x ss) → HasRecord x (Some q ∷ ss)
+    go true same is rest = record { it = q; there = inl refl; own = same_ids q.serial x same }
+    go false other is rest = let r = rest is in record { it = r.it; there = inr r.there; own = r.own }
+
+in_serial : (r : LogRecord) (rs : List LogRecord) → In r rs → In r.serial (record_serials rs)
+in_serial r [] i = i
+in_serial r (q ∷ rs) i = elim i [ inl e ↦ inl (ap (λ (y : LogRecord). y.serial) e) | inr more ↦ inr (in_serial r rs more) ]
+
+module _ (place : ℕ) (u : OpenUnit) (s : rms.UnitsState) (log : Slots) (v : VolumeState) (n : Node) (k : Key) (o : Owns place u s log v n k) (unprepared : is_prepared o.branch.state ≡ false) where
+  own_key : o.branch.key ≡ k
+  own_key = find-key k n.volatile.branches o.branch o.found
+
+  own_in : In o.branch n.volatile.branches
+  own_in = found_in k n.volatile.branches o.branch o.found
+
+  no_slot : has_slot k.serial n.durable.log ≡ false
+  no_slot = false_from_ne_true (has_slot k.serial n.durable.log) (λ is.
+      let r = record_there k.serial n.durable.log is in
+      elim (o.up.table.log.from r.it r.there) [
+        | inl p ↦
+            let b = prepared_branch n.volatile.branches r.it p in
+            let serial : b.branch.key.serial ≡ o.branch.key.serial = sym (ap (λ (q : LogRecord). q.serial) b.is) ∙ r.own ∙ ap (λ (y : Key). y.serial) (sym own_key) in
+            let same : b.branch ≡ o.branch = one_branch n.volatile.branches b.branch o.branch (differ n o.up.table) b.there own_in serial in
+            both_ways (is_prepared o.branch.state) unprepared (ap (λ (y : Branch). is_prepared y.state) (sym same) ∙ ap is_prepared b.state)
+        | inr c ↦
+            let among : In k.serial (record_serials n.volatile.records) = subst (λ (y : Id). In y (record_serials n.volatile.records)) r.own (in_serial r.it n.volatile.records c) in
+            let mine : In k.serial (branch_serials n.volatile.branches) = subst (λ (y : Key). In y.serial (branch_serials n.volatile.branches)) own_key (in_serials o.branch n.volatile.branches own_in) in
+            (parts_apart (branch_serials n.volatile.branches) (record_serials n.volatile.records) o.up.table.apart).apart k.serial mine among
+      ])
+
+  pub log_stays : forgotten k.serial log ≡ log
+  log_stays = subst (λ (ss : Slots). forgotten k.serial ss ≡ ss) o.kept.log (none_forgotten k.serial n.durable.log no_slot).0
+
+  -- nor is it prepared in the journal
+  pub no_prepared : IsPreparedUnit n.durable.units k.serial → ⊥
+  no_prepared p =
+      let b = o.up.table.branches k.serial p.0 p.1 in
+      let same : b.branch ≡ o.branch = one_branch n.volatile.branches b.branch o.branch (differ n o.up.table) b.there own_in (b.serial ∙ ap (λ (y : Key). y.serial) (sym own_key)) in
+      both_ways (is_prepared o.branch.state) unprepared (ap (λ (y : Branch). is_prepared y.state) (sym same) ∙ b.prepared ∙ p.2)
+
+-- The abort of a branch, whether it is prepared or not.
+module _ (place : ℕ) (u : OpenUnit) (s : rms.UnitsState) (log : Slots) (v : VolumeState) (n : Node) (k : Key) (reason : Reason) (moment : ℕ) (x : Closes place u s log v n k model.Abort (reason_of reason) None moment) (order : rms.IsInOrder s v) where
+  abbrev a : List (List ℕ)
+  a = x.owns.kept.content
+
+  abbrev act : table.Act
+  act = Settles k model.Abort (reason_of reason) None
+
+  abbrev m : Node
+  m = acted (Tables act moment) n
 
   abbrev c : Settlement
-  c = record { tid = u.tid; serial = u.serial; outcome = model.Abort; reason = why; moment = moment }
+  c = settlement k model.Abort (reason_of reason) moment
 
-  abbrev a : List (List ℕ)
-  a = kept.content
+  abbrev pub fell : LeavesVolume a v.catalog n
+  fell = fell_of a v.catalog n x.owns.kept.has
 
-  later : n.durable.greatest ≤ moment
-  later = let x = next_later clock v.catalog.home in let y = kept.has.home.greatest in omega (arith, x, y, next)
-
-  bound : moment ≤ 24000001000066
-  bound = let x = next_bound clock v.catalog.home early.moment before in omega (arith, x, next)
-
-  next_is : moment ≡ next_moment n
-  next_is = next ∙ next_alike clock v.catalog.home n kept.has.home same
-
-  one_is : (b : Branch) → find_branch u.serial n.volatile.branches ≡ Some b → branch_of u ≡ b
-  one_is b is = one_branch (branch_of u) b (sym (found place u s t v n model.Abort why moment there at kept spent later) ∙ is)
-
-  settlement_is : (b : Branch) → find_branch u.serial n.volatile.branches ≡ Some b → c ≡ settlement_with model.Abort why (next_moment n) b
-  settlement_is b is = λ i. settlement_with model.Abort why (next_is i) (one_is b is i)
-
-  abbrev fell : LeavesVolume a v.catalog n
-  fell = record {
-    home = kept.has.home;
-    journal = kept.has.journal;
-    units = kept.has.units;
-    order = kept.has.order;
-    active = kept.has.active;
-    files = falls_leave a v.catalog.heads n kept.has.files kept.has.units kept.has.restorable;
-  }
-
-  positions : positions_for n u.serial v.catalog kept.has.journal.entries ≡ u.positions
-  positions = go (is_unit u.serial n.durable.units) (changed place u s t v n model.Abort why moment there at kept spent later)
+  pub positions : positions_for n k.serial v.catalog x.owns.kept.has.journal.entries ≡ u.positions
+  positions = go (is_unit k.serial n.durable.units) (changed place u s log v n k x.owns)
     where
-      go : (b : Bool) → is_some_change u.positions ≡ b → (if b then entered_at u.serial v.catalog kept.has.journal.entries else []) ≡ u.positions
+      go : (b : Bool) → is_some_change u.positions ≡ b → (if b then entered_at k.serial v.catalog x.owns.kept.has.journal.entries else []) ≡ u.positions
       go true is =
-          positions_alike v.catalog.heads u.serial v.catalog.ru.first n.durable.units.entries kept.has.journal.entries kept.has.journal.alike kept.has.journal.is.each
-          ∙ ap (λ (p : ℕ). positions_of u.serial p n.durable.units.entries) kept.has.journal.first ∙ sym (is_unit_of place u s t v n model.Abort why moment there at kept spent later).positions
+          positions_alike v.catalog.heads k.serial v.catalog.ru.first n.durable.units.entries x.owns.kept.has.journal.entries x.owns.kept.has.journal.alike x.owns.kept.has.journal.is.each
+          ∙ ap (λ (p : ℕ). positions_of k.serial p n.durable.units.entries) x.owns.kept.has.journal.first
+          ∙ ap (λ (y : Id). positions_of y n.durable.units.first n.durable.units.entries) (sym x.owns.own)
+          ∙ sym (is_unit_of place u s log v n k x.owns).positions
       go false is = sym (none_changed u.positions is)
 
-  may : length a + 518 ≡ v.store.disk.size → MayAbort n c a v
-  may size = record {
-    told = kept.told;
-    holds = order.holds;
-    sound = subst (λ (x : List ℕ). IsSound x n.blocks v.catalog) (sym kept.name) (subst (λ (x : ℕ). IsSound v.catalog.home.node x v.catalog) (sym kept.blocks) order.sound);
-    long = order.heads;
-    size = size ∙ sym kept.blocks;
-    disk = sym kept.blocks;
-    abort = refl;
-    may = settles place u s t v n model.Abort why moment there at kept spent later;
-  }
+  pub is_abort : IsAbort n act moment c
+  is_abort = record { settles = refl; abort = refl; may = settles place u s log v n k model.Abort (reason_of reason) None moment x; told = told_log m x.after.table x.after.slots }
+
+  pub sound_now : IsSound n.name n.blocks v.catalog
+  sound_now = subst (λ (y : List ℕ). IsSound y n.blocks v.catalog) (sym x.owns.kept.name) (subst (λ (y : ℕ). IsSound v.catalog.home.node y v.catalog) (sym x.owns.kept.blocks) order.sound)
 
   module _ (mid : VolumeState) (goes : GoesOn v mid) (undoes : Undoes u.positions v mid) where
-    undoes_for : Undoes (positions_for n u.serial v.catalog kept.has.journal.entries) v mid
+    pub undoes_for : Undoes (positions_for n k.serial v.catalog x.owns.kept.has.journal.entries) v mid
     undoes_for = subst (λ (ps : List ℕ). Undoes ps v mid) (sym positions) undoes
 
-    undone : IsUndone u.serial a v.catalog.heads n.durable.directory mid
-    undone = undoes_for u.serial a n.durable.directory (entries_for n u.serial v.catalog kept.has.journal.entries) (units_are_undoable a v n u.serial fell kept.told order.holds)
+    pub undone : IsUndone k.serial a v.catalog.heads n.durable.directory mid
+    undone = undoes_for k.serial a n.durable.directory (entries_for n k.serial v.catalog x.owns.kept.has.journal.entries) (units_are_undoable a v n k.serial fell x.owns.kept.told order.holds)
 
-    size_is : length a + 518 ≡ v.store.disk.size
-    size_is = undone.way.size ∙ goes.quiet.size
-
-    names_mid : KeepsNames v.catalog.heads mid.catalog.heads
+    pub names_mid : KeepsNames v.catalog.heads mid.catalog.heads
     names_mid = names_kept a undone.way.now v.catalog.heads mid.catalog.heads n.durable.directory undone.way.grouped
 
-    module _ (tid : Tid) (serial : Serial) (tid_is : tid_of tid ≡ u.tid) (serial_is : serial_of serial ≡ u.serial) (ids : IsId u.tid × IsId u.serial) (made : VolumeState)
-        (makes : MakesAbort (record { positions = u.positions; tid = tid; serial = serial; reason = reason; moment = moment; left = t.units.places }) mid made) where
-      made_so : MakesSettlement tid serial (ending.Abort reason) moment (entry_if (is_some_change u.positions) (settled_entry u.tid u.serial model.Abort moment)) t.units.places mid made
-      made_so = subst (λ e. MakesSettlement tid serial (ending.Abort reason) moment e t.units.places mid made) (λ i. entry_if (tests_alike u.positions i) (settled_entry (tid_is i) (serial_is i) model.Abort moment)) makes
+    pub as_told : (tid : Tid) (serial : Serial) → tid_of tid ≡ u.tid → serial_of serial ≡ u.serial → c ≡ homes.settlement_of moment (record { tid = tid; serial = serial; ending = ending.Abort reason })
+    as_told tid serial tid_same serial_same =
+        let one = sym (tid_is place u s log v n k x.owns) ∙ sym tid_same in
+        let two = sym x.owns.own ∙ sym serial_same in
+        λ i. record { tid = one i; serial = two i; outcome = model.Abort; reason = Some (reason_of reason); moment = moment }
 
-      as_told : c ≡ settlement_of moment (record { tid = tid; serial = serial; ending = ending.Abort reason })
-      as_told = λ i. record { tid = sym tid_is i; serial = sym serial_is i; outcome = model.Abort; reason = why; moment = moment }
+    -- a settlement that is made of a volume with this home and journal
+    pub made_so : (t : rms.UnitsState) (tid : Tid) (serial : Serial) → tid_of tid ≡ u.tid → serial_of serial ≡ u.serial → (old made : VolumeState) →
+        MakesSettlement tid serial (ending.Abort reason) moment (entry_if (has_changes u.positions) (settled_entry (tid_of tid) (serial_of serial) model.Abort moment)) t.units.places old made →
+        MakesSettlement tid serial (ending.Abort reason) moment (entry_if (is_some_change u.positions) (settled_entry u.tid u.serial model.Abort moment)) t.units.places old made
+    made_so t tid serial tid_same serial_same old made makes =
+        subst (λ e. MakesSettlement tid serial (ending.Abort reason) moment e t.units.places old made) (λ i. entry_if (tests_alike u.positions i) (settled_entry (tid_same i) (serial_same i) model.Abort moment)) makes
 
-      is_made : Makes n c tid serial (ending.Abort reason) t.units.places mid made
-      is_made = makes_it place u s t v n model.Abort why moment there at kept spent later mid made tid serial (ending.Abort reason) order early ids bound (ap (λ (k : Catalog). k.home) goes.catalog) (ap (λ (k : Catalog). k.ru) goes.catalog) as_told made_so
+-- The abort of a branch that is not prepared.
+module _ (place : ℕ) (u : OpenUnit) (s t : rms.UnitsState) (log : Slots) (v : VolumeState) (n : Node) (k : Key) (reason : Reason) (moment : ℕ) (x : Closes place u s log v n k model.Abort (reason_of reason) None moment) (order : rms.IsInOrder s v)
+    (unprepared : is_prepared x.owns.branch.state ≡ false) (early : rms.IsEarly v) (ids : IsId u.tid × IsId u.serial) (bound : moment ≤ 24000001000066) (spent : t ≡ rms.without_place place u.serial s) where
+  abbrev now : List (List ℕ)
+  now = x.owns.kept.content
 
-      is_aborted : IsAborted n c tid serial (ending.Abort reason) t.units.places (positions_for n u.serial v.catalog kept.has.journal.entries) v mid made
-      is_aborted = record { goes = goes; undoes = undoes_for; makes = is_made }
+  abbrev does : table.Act
+  does = Settles k model.Abort (reason_of reason) None
 
-      volume : (b : List (List ℕ)) → made.store.current ≡ Some b → HasVolume b made.catalog (acted (Settles c) n)
-      volume b told = aborts_settle.has a b n c tid serial (ending.Abort reason) t.units.places v mid made kept.has (may size_is) is_aborted told
+  abbrev st : Settlement
+  st = settlement k model.Abort (reason_of reason) moment
 
-      names : KeepsNames v.catalog.heads made.catalog.heads
-      names f h is =
-          let k = names_mid f h is in
-          (k.0, ap (λ (x : Catalog). head_at x.heads f) made_so.catalog ∙ k.1, k.2)
+  pub ways : WaysKeepPrepared k.serial now v.catalog n
+  ways = ways_keep_others k.serial now v.catalog n (fell place u s log v n k reason moment x order) (no_prepared place u s log v n k x.owns unprepared)
 
-      kept_made : (b : List (List ℕ)) → made.store.current ≡ Some b → made.store.disk.size ≡ v.store.disk.size → IsKept (seen t) made (acted (Settles c) n)
-      kept_made b told size = subst (λ x. IsKept x made (acted (Settles c) n)) (sym (left_seen place u s t v n model.Abort why moment there at kept spent later))
-          (kept_settled (seen s) v n (branch_of u) c kept (found place u s t v n model.Abort why moment there at kept spent later) refl later made b told
-          (ap (λ (k : Catalog). k.home.node) made_so.catalog ∙ ap (λ (k : Catalog). k.home.node) goes.catalog) size names (volume b told))
+  pub may : length now + 518 ≡ v.store.disk.size → MayAbort n does moment st now v
+  may size = record {
+    told = x.owns.kept.told;
+    holds = order.holds;
+    sound = sound_now place u s log v n k reason moment x order;
+    long = order.heads;
+    size = size ∙ sym x.owns.kept.blocks;
+    disk = sym x.owns.kept.blocks;
+    is = is_abort place u s log v n k reason moment x order;
+    log = subst (λ (ss : Slots). forgotten k.serial ss ≡ ss) (sym x.owns.kept.log) (log_stays place u s log v n k x.owns unprepared);
+  }
 
--- A unit is aborted.
-pub aborts_ok : (place : ℕ) (u : OpenUnit) (told : SettledUnit) (clock : ℕ) (reason : Reason) (s t : rms.UnitsState) (v w : VolumeState) → unit_at s.units.places place ≡ Some u → AreInOrder s.units.places s.units.order → rms.IsInOrder s v → rms.IsEarly v → clock < 24000001000066 →
-    t ≡ rms.without_place place u.serial s → tid_of told.tid ≡ u.tid → serial_of told.serial ≡ u.serial → told.moment.0 ≡ moment_next clock v.catalog.home →
-    Aborts (record { positions = u.positions; tid = told.tid; serial = told.serial; reason = reason; moment = told.moment.0; left = t.units.places }) v w → Holds w → w.store.disk.size ≡ v.store.disk.size →
-    SettlesOk u.serial model.Abort (Some (reason_of reason)) clock told (seen s) v (seen t) w
-aborts_ok place u told clock reason s t v w there at order early before spent tid serial moment done holds size n b kept same is =
-    let un = undone place u clock reason s t v n there at order early before spent kept same told.moment.0 moment done.mid done.goes done.undoes in
-    let made = made_told told.tid told.serial (ending.Abort reason) told.moment.0 (entry_if (has_changes u.positions) (settled_entry (tid_of told.tid) (serial_of told.serial) model.Abort told.moment.0)) t.units.places done.mid w un.way.now done.makes un.way.told in
-    let tells : TellsCatalog w.catalog made.0 = subst (λ o. IfSome o (TellsCatalog w.catalog)) made.1 holds in
-    let ids = ids_told told.tid told.serial (ending.Abort reason) told.moment.0 done.mid.catalog.home w.catalog made.0 (ap (λ (k : Catalog). k.home) done.makes.catalog) tells in
-    let own : IsId u.tid × IsId u.serial = (subst IsId tid ids.0, subst IsId serial ids.1) in
-    let one = one_is place u clock reason s t v n there at order early before spent kept same told.moment.0 moment b is in
-    record {
-      tid = tid ∙ ap (λ (x : Branch). x.key.tid) one;
-      serial = serial ∙ ap (λ (x : Branch). x.key.serial) one;
-      moment = next_is place u clock reason s t v n there at order early before spent kept same told.moment.0 moment;
-      kept = subst (λ (c : Settlement). IsKept (seen t) w (acted (Settles c) n)) (settlement_is place u clock reason s t v n there at order early before spent kept same told.moment.0 moment b is)
-          (kept_made place u clock reason s t v n there at order early before spent kept same told.moment.0 moment done.mid done.goes done.undoes told.tid told.serial tid serial own w done.makes made.0 made.1 size);
-    }
+  module _ (mid : VolumeState) (goes : GoesOn v mid) (undoes : Undoes u.positions v mid) (tid : Tid) (serial : Serial) (tid_same : tid_of tid ≡ u.tid) (serial_same : serial_of serial ≡ u.serial) (made : VolumeState)
+      (makes : MakesAbort (abortion_of u tid serial reason moment t) mid made) where
+    un : IsUndone k.serial now v.catalog.heads n.durable.directory mid
+    un = undone place u s log v n k reason moment x order mid goes undoes
 
--- The disk went down in it. The unit's ids are ids, and the content is as large as the disk says.
-pub aborts_not : (place : ℕ) (u : OpenUnit) (tid : Tid) (serial : Serial) (clock : ℕ) (reason : Reason) (s t : rms.UnitsState) (v w : VolumeState) → unit_at s.units.places place ≡ Some u → AreInOrder s.units.places s.units.order → rms.IsInOrder s v → rms.IsEarly v → clock < 24000001000066 →
-    t ≡ rms.without_place place u.serial s → tid_of tid ≡ u.tid → serial_of serial ≡ u.serial → IsId u.tid × IsId u.serial → IfSome v.store.current (λ c. length c + 518 ≡ v.store.disk.size) →
-    BreaksOff (record { positions = u.positions; tid = tid; serial = serial; reason = reason; moment = moment_next clock v.catalog.home; left = t.units.places }) v w →
-    SettlesErr u.serial model.Abort (Some (reason_of reason)) clock (seen s) v w
-aborts_not place u tid serial clock reason s t v w there at order early before spent tid_is serial_is ids sized done n b kept same is =
-    subst (λ (x : Settlement). HasDisk (fallen (Some (Settles x)) n) w.store.disk) (settlement_is place u clock reason s t v n there at order early before spent kept same moment refl b is)
-    (elim done [
-      | inl fails ↦ aborts_fail.undo kept.content n c (Some (Settles c)) v w whole may_be (subst (λ (ps : List ℕ). FailsOnTheWay ps v w) (sym places) fails)
-      | inr last ↦ elim last.breaks [
-        | inl old ↦ aborts_fail.before kept.content n c (Some (Settles c)) v last.mid w whole may_be last.goes (subst (λ (ps : List ℕ). Undoes ps v last.mid) (sym places) last.undoes) old
-        | inr either ↦ aborts_fail.last kept.content n c tid serial (ending.Abort reason) t.units.places v last.mid either.made w whole may_be
-            (is_aborted place u clock reason s t v n there at order early before spent kept same moment refl last.mid last.goes last.undoes tid serial tid_is serial_is ids either.made either.is) either.either
-      ]
-    ])
-  where
-    moment : ℕ
-    moment = moment_next clock v.catalog.home
+    size_is : length now + 518 ≡ v.store.disk.size
+    size_is = un.way.size ∙ goes.quiet.size
 
-    c : Settlement
-    c = record { tid = u.tid; serial = u.serial; outcome = model.Abort; reason = Some (reason_of reason); moment = moment }
+    is_made : Makes n st tid serial (ending.Abort reason) t.units.places mid made
+    is_made = makes_it place u s log v n k model.Abort (reason_of reason) None moment x t spent mid made tid serial (ending.Abort reason) order early ids bound (ap (λ (y : Catalog). y.home) goes.catalog) (ap (λ (y : Catalog). y.ru) goes.catalog)
+        (as_told place u s log v n k reason moment x order mid goes undoes tid serial tid_same serial_same) (made_so place u s log v n k reason moment x order mid goes undoes t tid serial tid_same serial_same mid made makes)
 
-    whole : LeavesVolume kept.content v.catalog n
-    whole = fell place u clock reason s t v n there at order early before spent kept same moment refl
+    pub is_aborted : IsAborted n st tid serial (ending.Abort reason) t.units.places (positions_for n k.serial v.catalog x.owns.kept.has.journal.entries) v mid made
+    is_aborted = record { goes = goes; undoes = undoes_for place u s log v n k reason moment x order mid goes undoes; makes = is_made }
 
-    places : positions_for n u.serial v.catalog kept.has.journal.entries ≡ u.positions
-    places = positions place u clock reason s t v n there at order early before spent kept same moment refl
+    pub volume : (b : List (List ℕ)) → made.store.current ≡ Some b → HasVolume b made.catalog (acted (Tables does moment) n)
+    volume b told = aborts_settle.has now b n does moment st tid serial (ending.Abort reason) t.units.places v mid made x.owns.kept.has (may size_is) is_aborted told
 
-    may_be : MayAbort n c kept.content v
-    may_be = may place u clock reason s t v n there at order early before spent kept same moment refl (subst (λ o. IfSome o (λ x. length x + 518 ≡ v.store.disk.size)) kept.told sized)
+    names : KeepsNames v.catalog.heads made.catalog.heads
+    names f h is =
+        let y = names_mid place u s log v n k reason moment x order mid goes undoes f h is in
+        (y.0, ap (λ (z : Catalog). head_at z.heads f) makes.catalog ∙ y.1, y.2)
 
--- So it is as the calls on units say it.
-pub aborts_unit : (place : ℕ) (u : OpenUnit) (told : SettledUnit) (clock : ℕ) (reason : Reason) (s t : rms.UnitsState) (v w : VolumeState) → unit_at s.units.places place ≡ Some u → AreInOrder s.units.places s.units.order → rms.IsInOrder s v → rms.IsEarly v → clock < 24000001000066 →
-    AbortsUnit place u told.tid told.serial reason clock told.moment.0 s v t w → Holds w → w.store.disk.size ≡ v.store.disk.size → SettlesOk u.serial model.Abort (Some (reason_of reason)) clock told (seen s) v (seen t) w
-aborts_unit place u told clock reason s t v w there at order early before done holds size = aborts_ok place u told clock reason s t v w there at order early before done.spent done.tid done.serial done.moment done.aborts holds size
+    seen_then : seen t log ≡ committed k.serial None (seen s log)
+    seen_then =
+        let units = left_seen place u s log v n k model.Abort (reason_of reason) None moment x t spent in
+        let entries = sym (log_stays place u s log v n k x.owns unprepared) in
+        λ i. record (units i) { log = entries i }
 
-pub aborts_unit_not : (place : ℕ) (u : OpenUnit) (clock : ℕ) (reason : Reason) (s t : rms.UnitsState) (v w : VolumeState) → unit_at s.units.places place ≡ Some u → AreInOrder s.units.places s.units.order → rms.IsInOrder s v → rms.IsEarly v → clock < 24000001000066 →
-    IsId u.tid × IsId u.serial → IfSome v.store.current (λ c. length c + 518 ≡ v.store.disk.size) → AbortsNot place u reason clock s v t w → SettlesErr u.serial model.Abort (Some (reason_of reason)) clock (seen s) v w
-aborts_unit_not place u clock reason s t v w there at order early before ids sized done =
-    aborts_not place u done.tid done.serial clock reason s t v w there at order early before done.spent done.same_tid done.same_serial ids sized done.breaks
+    pub kept_made : (b : List (List ℕ)) → made.store.current ≡ Some b → made.store.disk.size ≡ v.store.disk.size → IsKept (seen t log) made (acted (Tables does moment) n)
+    kept_made b told size = subst (λ (y : UnitsState). IsKept y made (acted (Tables does moment) n)) (sym seen_then)
+        (kept_settled (seen s log) v n k model.Abort (reason_of reason) None moment x.owns.branch x.owns.kept x.owns.up x.owns.found x.later x.after made b told
+        (ap (λ (y : Catalog). y.home.node) makes.catalog ∙ ap (λ (y : Catalog). y.home.node) goes.catalog) size names (volume b told))
+
+-- The call.
+module _ (place : ℕ) (u : OpenUnit) (s t : rms.UnitsState) (log : Slots) (v w : VolumeState) (clock : ℕ) (may_be : MaySettle place u s log v None clock) (reason : Reason) (active : u.prepared ≡ false) where
+  closes : (n : Node) (k : Key) (kept : IsKept (seen s log) v n) → MayDo n (Settles k model.Abort (reason_of reason) None) (SettleEffect u.serial model.Abort (reason_of reason) None) → k.serial ≡ u.serial → n.clock ≡ clock →
+      Closes place u s log v n k model.Abort (reason_of reason) None (next_moment n)
+  closes n k kept does own same = record {
+    owns = record { there = may_be.there; at = may_be.at; kept = kept; up = does.up; branch = does.stands.0.0; found = does.stands.0.1; own = sym own };
+    after = does.after;
+    later = moment_later place u s log v None clock may_be n kept same;
+  }
+
+  unprepared : (n : Node) (k : Key) (o : Owns place u s log v n k) → is_prepared o.branch.state ≡ false
+  unprepared n k o = (of_branch place u s log v n k o).prepared ∙ active
+
+  module _ (told : SettledUnit) (done : AbortsUnit place u told.tid told.serial reason clock told.moment.0 s v t w) (size : w.store.disk.size ≡ v.store.disk.size) where
+    closed : (n : Node) (k : Key) → IsKept (seen s log) v n → MayDo n (Settles k model.Abort (reason_of reason) None) (SettleEffect u.serial model.Abort (reason_of reason) None) → k.serial ≡ u.serial → n.clock ≡ clock →
+        SettlesTo model.Abort (reason_of reason) told (seen t log) w n (Settles k model.Abort (reason_of reason) None)
+    closed n k kept does own same =
+        let x = closes n k kept does own same in
+        let plain = unprepared n k x.owns in
+        let at : told.moment.0 ≡ next_moment n = done.moment ∙ moment_same place u s log v None clock may_be n kept same in
+        let did = subst (λ (y : ℕ). Aborts (abortion_of u told.tid told.serial reason y t) v w) at done.aborts in
+        let bound = subst (λ (y : ℕ). y ≤ 24000001000066) (moment_same place u s log v None clock may_be n kept same) (moment_bound place u s log v None clock may_be) in
+        let order = may_be.has.order in
+        let un = undone place u s log v n k reason (next_moment n) x order did.mid did.goes did.undoes in
+        let b = settled_content told.tid told.serial (ending.Abort reason) (next_moment n) (entry_if (has_changes u.positions) (settled_entry (tid_of told.tid) (serial_of told.serial) model.Abort (next_moment n))) t.units.places did.mid w un.way.now did.makes un.way.told in
+        record {
+          settled = (
+              let one = sym (tid_is place u s log v n k x.owns) ∙ sym done.tid in
+              let two = sym x.owns.own ∙ sym done.serial in
+              λ i. Some (record { tid = one i; serial = two i; outcome = model.Abort; reason = Some (reason_of reason); moment = sym at i }));
+          done = kept_made place u s t log v n k reason (next_moment n) x order plain may_be.early may_be.ids bound done.spent did.mid did.goes did.undoes told.tid told.serial done.tid done.serial w did.makes b.0 b.1 size;
+        }
+
+    pub aborts_ok : SettlesOk u.serial model.Abort (reason_of reason) None clock told (seen s log) v (seen t log) w
+    aborts_ok n a kept does same =
+        let sg = settling a n.volatile.records u.serial model.Abort (reason_of reason) None does.gives in
+        subst (λ (y : table.Act). MayDo n y (SettleEffect u.serial model.Abort (reason_of reason) None) → SettlesTo model.Abort (reason_of reason) told (seen t log) w n y) (sym sg.is) (λ d. closed n sg.key kept d sg.serial same) does
+
+  -- The disk went down in it. The content is as large as the disk says.
+  module _ (done : AbortsNot place u reason clock s v t w) (sized : IfSome v.store.current (λ c. length c + 518 ≡ v.store.disk.size)) where
+    pub aborts_not : SettlesErr u.serial model.Abort (reason_of reason) None clock (seen s log) v w
+    unfolding closes
+    aborts_not n a kept does same =
+        let sg = settling a n.volatile.records u.serial model.Abort (reason_of reason) None does.gives in
+        subst (λ (y : table.Act). MayDo n y (SettleEffect u.serial model.Abort (reason_of reason) None) → Broken w n y) (sym sg.is) (λ d. cut sg.key d sg.serial) does
+      where
+        cut : (k : Key) → MayDo n (Settles k model.Abort (reason_of reason) None) (SettleEffect u.serial model.Abort (reason_of reason) None) → k.serial ≡ u.serial → Broken w n (Settles k model.Abort (reason_of reason) None)
+        cut k does own =
+            let x = closes n k kept does own same in
+            let plain = unprepared n k x.owns in
+            let at : moment_next clock v.catalog.home ≡ next_moment n = moment_same place u s log v None clock may_be n kept same in
+            let bound = subst (λ (y : ℕ). y ≤ 24000001000066) at (moment_bound place u s log v None clock may_be) in
+            let order = may_be.has.order in
+            let act = Settles k model.Abort (reason_of reason) None in
+            let st = settlement k model.Abort (reason_of reason) (next_moment n) in
+            let whole = fell place u s log v n k reason (next_moment n) x order in
+            let places = positions place u s log v n k reason (next_moment n) x order in
+            let keeps = ways place u s t log v n k reason (next_moment n) x order plain may_be.early may_be.ids bound done.spent in
+            let may = may place u s t log v n k reason (next_moment n) x order plain may_be.early may_be.ids bound done.spent (subst (λ y. IfSome y (λ z. length z + 518 ≡ v.store.disk.size)) kept.told sized) in
+            let breaks = subst (λ (y : ℕ). BreaksOff (abortion_of u done.tid done.serial reason y t) v w) at done.breaks in
+            elim breaks [
+              | inl fails ↦ aborts_fail.undo kept.content n act (next_moment n) st (Some (Tables act (next_moment n))) v w whole keeps may (subst (λ (ps : List ℕ). FailsOnTheWay ps v w) (sym places) fails)
+              | inr last ↦ elim last.breaks [
+                | inl old ↦ aborts_fail.before kept.content n act (next_moment n) st (Some (Tables act (next_moment n))) v last.mid w whole keeps may last.goes (subst (λ (ps : List ℕ). Undoes ps v last.mid) (sym places) last.undoes) old
+                | inr either ↦ aborts_fail.last kept.content n act (next_moment n) st done.tid done.serial (ending.Abort reason) t.units.places v last.mid either.made w whole keeps may
+                    (is_aborted place u s t log v n k reason (next_moment n) x order plain may_be.early may_be.ids bound done.spent last.mid last.goes last.undoes done.tid done.serial done.same_tid done.same_serial either.made either.is) either.either
+              ]
+            ]

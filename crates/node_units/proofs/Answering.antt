@@ -1,5 +1,5 @@
 -- What holds of an answer, by what holds where it is one thing or the other.
-use Rattle.std.proofs.Common.{◌≡◌, Option, Some, None, OnOk, OnErr, IfErr, IfOk, Result, Ok, Err}
+use Rattle.std.proofs.Common.{◌≡◌, None, OnOk, OnErr, IfErr, IfOk, Result, Ok, Err}
 use Rattle.careful_write.specs.declared.down.Down.{Down}
 use Rattle.record_operations.specs.Causes.{Cause, IfRefused, down_in}
 use Rattle.record_operations.specs.declared.errors.RecErr.{RecErr}
@@ -53,3 +53,11 @@ ok_both P Q R (Err e) f h k = h
 pub fail_as : {A E : Type 0} (P Q : Type 0) (r : Result A E) → (P → Q) → OnErr r P → OnErr r Q
 fail_as P Q (Ok x) f h = h
 fail_as P Q (Err e) f h = f h
+
+pub ok_and : {A E : Type 0} (P Q R : Type 0) (r : Result A E) → (P → Q → R) → OnOk r P → OnOk r Q → OnOk r R
+ok_and P Q R (Ok x) f h k = f h k
+ok_and P Q R (Err e) f h k = h
+
+pub ok_of : {A E : Type 0} (P : A → Type 0) (Q : Type 0) (r : Result A E) → ((x : A) → P x → Q) → IfOk r P → OnOk r Q
+ok_of P Q (Ok x) f h = f x h
+ok_of P Q (Err e) f h = h

@@ -20,6 +20,8 @@ use Rattle.recovery_units.specs.State.{IsKept}
 use Rattle.rms_units.specs.State as state
 use Rattle.rms_units.specs.State.{IsInOrder}
 use Rattle.unit_cuts.specs.Truncating.{IsBehind, IsTold}
+use Rattle.log_laws.specs.Slots.{Slots}
+use Rattle.volume_laws.proofs.ToldLemmas.{logs_follow}
 use Rattle.node_units.specs.Seen.{seen}
 
 abbrev Content : Type 0
@@ -28,7 +30,7 @@ Content = List (List ℕ)
 one_content : (x y : Content) → ◌≡◌ {A = Option Content} (Some x) (Some y) → x ≡ y
 one_content x y e = cc
 
-module _ (s : state.UnitsState) (v : VolumeState) (order : IsInOrder s v) (n : Node) (kept : IsKept (seen s) v n) (p : Content) (behind : IsBehind v.catalog.ru kept.content p) where
+module _ (s : state.UnitsState) (v : VolumeState) (order : IsInOrder s v) (n : Node) (log : Slots) (kept : IsKept (seen s log) v n) (p : Content) (behind : IsBehind v.catalog.ru kept.content p) where
   -- a block that is in no ring is as it was
   stands_at : (k : ℕ) → (k < v.catalog.ru.start - 518) ⊎ (v.catalog.ru.start - 518 + v.catalog.ru.blocks ≤ k) → block_at p k ≡ block_at kept.content k
   stands_at k out = behind.others.others k out
@@ -43,6 +45,7 @@ module _ (s : state.UnitsState) (v : VolumeState) (order : IsInOrder s v) (n : N
   pub behind_volume : HasVolume p v.catalog n
   behind_volume = record {
     home = kept.has.home;
+    log = logs_follow.stays kept.content p n n kept.has.log refl (λ i below. stands_at (66 + i) (inl (let slots = kept.has.home.slots in let start = order.sound.ru_start in omega (arith, below, slots, start))));
     journal = record {
       entries = kept.has.journal.entries;
       is = behind.journal kept.has.journal.entries kept.has.journal.is;
@@ -53,7 +56,7 @@ module _ (s : state.UnitsState) (v : VolumeState) (order : IsInOrder s v) (n : N
     };
     units = kept.has.units;
     order = kept.has.order;
-    active = kept.has.active;
+    told = kept.has.told;
     files = stands_on_extents kept.content p v.catalog.heads n.durable.directory behind_files kept.has.files;
     restorable = keeps_restorable.stands kept.content p v.catalog.heads n.durable.directory behind_files kept.has.files kept.has.restorable;
   }
@@ -78,8 +81,8 @@ module _ (s : state.UnitsState) (v : VolumeState) (order : IsInOrder s v) (n : N
   behind_left act = record { catalog = v.catalog; tells = behind_tells; sound = sound_of; leaves = λ whole. down p v.catalog n (fallen act n) (volume_falls p v.catalog n behind_volume) refl refl refl }
 
 -- an image that tells what was told
-pub told_left : (s : state.UnitsState) (v : VolumeState) → IsInOrder s v → (n : Node) (kept : IsKept (seen s) v n) (act : Option Act) (c : Content) → IsTold v.catalog.ru (content v.store) c → IsLeftBy c (fallen act n)
-told_left s v order n kept act c told = behind_left s v order n kept c (go (content v.store) (sym kept.told ∙ order.idle.current) told) act
+pub told_left : (s : state.UnitsState) (v : VolumeState) → IsInOrder s v → (n : Node) (log : Slots) (kept : IsKept (seen s log) v n) (act : Option Act) (c : Content) → IsTold v.catalog.ru (content v.store) c → IsLeftBy c (fallen act n)
+told_left s v order n log kept act c told = behind_left s v order n log kept c (go (content v.store) (sym kept.told ∙ order.idle.current) told) act
   where
     go : (o : Option Content) → Some kept.content ≡ o → IsTold v.catalog.ru o c → IsBehind v.catalog.ru kept.content c
     go None is t = let never : ⊥ = cc in absurd never

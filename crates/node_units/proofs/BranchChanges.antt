@@ -1,54 +1,50 @@
 -- A branch of a node makes changes of a file that nothing refuses: the node is in order after them.
-use Rattle.std.proofs.Common.{◌≡◌, ℕ, suc, ◌+◌, ◌*◌, ◌≤◌, List, [], ◌∷◌, ◌++◌, Bool, true, false, ◌||◌, Option, Some, None, if◌then◌else◌, length, refl, sym, ◌∙◌, ap, subst, arith, inl, inr}
+use Rattle.std.proofs.Common.{◌≡◌, ℕ, suc, List, [], ◌∷◌, Bool, true, false, ◌||◌, Option, Some, None, if◌then◌else◌, refl, sym, ◌∙◌, subst, arith, inl, inr}
+use Rattle.std.specs.Prelude.{is_some}
 use Rattle.std.specs.List.{AllByRecursion, list_any}
 use Rattle.commit_protocol.specs.Table.{Branch}
 use Rattle.vms_model.specs.Ids.{Id}
 use Rattle.vms_model.specs.Keys.{Key, End}
 use Rattle.records_model.specs.Records.{Change, Found}
-use Rattle.records_model.specs.History.{LiveChanges, changes_key, current, same_id}
+use Rattle.records_model.specs.History.{LiveChanges, changes_key, current}
 use Rattle.unit_laws.specs.Units.{SerialsDiffer, has_changes, is_free, moves_end}
-use Rattle.unit_laws.specs.Journal.{ChangeEntry, JournalEntry, RecoveryUnit, entries_for, entries_size, find_unit, is_settled_in, owed, serial_in, units_in, with_one_change}
-use Rattle.unit_laws.proofs.UnitLemmas.{units_follow}
-use Rattle.run_model.specs.Answers.{held_against, owed_first}
-use Rattle.run_model.specs.Operations.{first_of}
+use Rattle.unit_laws.specs.Journal.{RecoveryUnit, find_unit, is_settled_in, units_in}
+use Rattle.unit_laws.specs.JournalLaws.{is_unit}
+use Rattle.commit_protocol.specs.Allowed.{is_prepared}
+use Rattle.run_model.specs.Answers.{held_against}
 use Rattle.run_model.specs.Locks.{Lock, holder, is_lock_of, is_locked}
-use Rattle.run_model.specs.Ordered.{IsJournalInOrder, IsNoteOf, tid_in}
-use Rattle.run_model.specs.Promises.{In}
-use Rattle.run_model.specs.Restarts.{AreHeld, HasNoName, NamesDiffer}
-use Rattle.run_model.specs.Room.{HasRoom}
-use Rattle.run_model.specs.Running.{Distinct, Each, HasBranches, IsDrawn, IsHolding, IsRunning}
+use Rattle.world_laws.specs.Ordered.{IsJournalInOrder, IsNoteOf}
+use Rattle.commit_protocol.specs.World.{In}
+use Rattle.world_laws.specs.Restarts.{AreHeld, HasNoName, NamesDiffer}
+use Rattle.world_laws.specs.Room.{HasRoom}
+use Rattle.world_laws.specs.Nodes.{IsUp}
 use Rattle.run_model.specs.World as world
 use Rattle.run_model.specs.World.{AreUnitsOf, Changes, File, IsReached, Node, Organization, acted, find_file, serials_of}
-use Rattle.run_model.proofs.FindLemmas.{some_is}
-use Rattle.run_model.proofs.HeldLemmas.{IsFreeFor, free_for}
-use Rattle.run_model.proofs.HoldingLemmas.{HasLocks, end_is_free_for, entered_holding}
-use Rattle.run_model.proofs.IdLemmas.{each_at}
-use Rattle.run_model.proofs.LockLemmas.{unlocked_is_free}
-use Rattle.run_model.proofs.NodeLemmas.{serials_changed}
-use Rattle.run_model.proofs.OrderedLemmas.{changes_keep_order}
-use Rattle.run_model.proofs.RoomLemmas.{units_have_room}
-use Rattle.run_model.proofs.RunningLemmas.{entered_running}
-use Rattle.run_model.proofs.ServedLemmas.{held_of}
+use Rattle.world_laws.proofs.FindLemmas.{some_is}
+use Rattle.world_laws.proofs.HeldLemmas.{IsFreeFor}
+use Rattle.world_laws.proofs.IdLemmas.{in_map}
+use Rattle.world_laws.proofs.OperationLemmas.{held_of}
+use Rattle.world_laws.proofs.RunningLemmas.{end_is_free_for}
+use Rattle.world_laws.proofs.TableLemmas.{in_serials}
+use Rattle.world_laws.proofs.UpLemmas.{branch_drawn}
+use Rattle.world_laws.proofs.LockLemmas.{unlocked_is_free}
+use Rattle.world_laws.proofs.OrderedLemmas.{changes_keep_order}
+use Rattle.world_laws.proofs.RoomLemmas.{units_have_room}
 use Rattle.directory_model.specs.Files.{file_at}
 use Rattle.restart_laws.specs.Units.{EndIsFree, MayChange}
 use Rattle.restart_laws.proofs.ListLemmas.{all_as}
 use Rattle.restart_laws.proofs.UnitLemmas.{keeps_units}
 
 -- what a branch may make: nothing that is held, stands or is counted refuses it
-pub record MayMake (n : Node) (tid serial : Id) (name : List ℕ) (file : File) (cs : List Change) (keys : List Key) : Type 0 where
+pub record MayMake (n : Node) (b : Branch) (name : List ℕ) (file : File) (cs : List Change) : Type 0 where
   pub some : has_changes cs ≡ true
   pub found : find_file name n.durable.directory ≡ Some file
   pub marked : file.recovery_units ≡ true
-  pub free : AllByRecursion (λ (c : Change). held_against (Some serial) (holder n.volatile.locks name c.key) ≡ None) cs
-  pub held : AllByRecursion (λ (c : Change). In c.key keys) cs
+  pub free : AllByRecursion (λ (c : Change). held_against (Some b.key.serial) (holder n.volatile.locks name c.key) ≡ None) cs
   pub notes : Found cs (current file.history)
-  pub end : file.organization ≡ world.Sequential → moves_end cs ≡ true → In End keys × IsFreeFor n.volatile.locks name serial End
+  pub end : file.organization ≡ world.Sequential → moves_end cs ≡ true → IsFreeFor n.volatile.locks name b.key.serial End
   pub suit : AllByRecursion (λ (c : Change). IsNoteOf file c.key c.before) cs
-  pub branch : Branch
-  pub own_tid : branch.key.tid ≡ tid
-  pub own_serial : branch.key.serial ≡ serial
-  pub room : HasRoom n branch name cs
-  pub locks : HasLocks n name keys
+  pub room : HasRoom n b name cs
 
 -- Files have different names.
 
@@ -82,22 +78,28 @@ held_locked ls file (l ∷ live) key held is = go (changes_key key l.changes) re
     go true own e rest = locked_by ls file key l.serial (held.0 key own)
     go false own e rest = rest e
 
-module _ (n : Node) (units : AreUnitsOf n) (order : IsJournalInOrder n.durable) (holds : HasBranches n) (tid serial : Id) (name : List ℕ) (file : File) (cs : List Change) (keys : List Key) (f : ℕ) (at : file_at n.durable.directory f ≡ Some file)
-    (called : file.name ≡ name) (among : In serial (serials_of n.volatile.branches)) (transaction : AllByRecursion (λ (e : JournalEntry). same_id serial (serial_in e) ≡ true → tid ≡ tid_in e) n.durable.units.entries) (may : MayMake n tid serial name file cs keys) where
+module _ (n : Node) (units : AreUnitsOf n) (order : IsJournalInOrder n.durable) (up : IsUp n) (b : Branch) (name : List ℕ) (file : File) (cs : List Change) (keys : List Key) (f : ℕ) (at : file_at n.durable.directory f ≡ Some file)
+    (there : In b n.volatile.branches) (unprepared : is_prepared b.state ≡ false) (may : MayMake n b name file cs) where
+  abbrev serial : Id
+  serial = b.key.serial
+
   abbrev m : Node
-  m = acted (Changes tid serial name cs keys) n
+  m = acted (Changes b.key.tid serial name cs keys) n
+
+  among : In serial (serials_of n.volatile.branches)
+  among = in_map (λ (c : Branch). c.key.serial) b n.volatile.branches there
 
   unsettled : is_settled_in serial n.durable.units.entries ≡ false
-  unsettled = each_at (λ (x : Id). is_settled_in x n.durable.units.entries ≡ false) serial (serials_of n.volatile.branches) holds.running.unsettled among
+  unsettled = (up.table.entries b there).unsettled
 
   reached : IsReached n serial
-  reached = let d = each_at (IsDrawn n.name n.durable.boot n.volatile.drawn) serial (serials_of n.volatile.branches) holds.drawn among in (d.0, elim d.1 [ inl earlier ↦ omega arith | inr here ↦ omega arith ])
+  reached = let d = branch_drawn n up.table serial (in_serials b n.volatile.branches there) in (d.0, elim d.1 [ inl earlier ↦ omega arith | inr here ↦ omega arith ])
 
   differ : SerialsDiffer file.history.live
   differ = (units.tells f file at).notes.differ
 
   pub held_live : AreHeld n.volatile.locks name file.history.live
-  held_live = held_of n name file may.found holds.running.held differ
+  held_live = held_of n name file may.found up.running.held differ
 
   pub frees : AllByRecursion (λ (c : Change). is_free serial file.history.live c.key ≡ true) cs
   frees =
@@ -105,56 +107,31 @@ module _ (n : Node) (units : AreUnitsOf n) (order : IsJournalInOrder n.durable) 
       (λ c free. unlocked_is_free n.volatile.locks name file.history.live serial c.key held_live differ free) may.free
 
   ends : (w : Organization) → file.organization ≡ w → EndIsFree w serial cs file.history.live
-  ends world.Sequential is = λ moved. end_is_free_for n.volatile.locks name serial file differ is (holds.holding.files name file may.found).0 (may.end is moved).1
+  ends world.Sequential is = λ moved. end_is_free_for n.volatile.locks name serial file differ is (up.holding.files name file may.found).end (may.end is moved)
   ends (world.Relative greatest) is = tt
   ends (world.Indexed position size) is = tt
 
   pub may_change : MayChange serial file cs
-  may_change = record { some = may.some; keys = frees; found = may.notes; end = ends file.organization refl; marked = may.marked }
+  may_change = record { some = may.some; keys = frees; found = may.notes; end = ends file.organization refl }
 
   pub units_after : AreUnitsOf m
-  units_after = keeps_units.changes n name file tid serial cs keys units reached unsettled may.found may_change
+  units_after = keeps_units.changes n name file b.key.tid serial cs keys units reached unsettled may.found may_change (λ is. may.marked)
+
+  known : (x : Id) → is_unit x n.durable.units ≡ true → In x (serials_of n.volatile.branches)
+  known x some = go (find_unit x (units_in n.durable.units.entries)) refl some
+    where
+      go : (o : Option RecoveryUnit) → find_unit x (units_in n.durable.units.entries) ≡ o → is_some o ≡ true → In x (serials_of n.volatile.branches)
+      go (Some u) e k = let r = up.table.branches x u e in subst (λ (y : Id). In y (serials_of n.volatile.branches)) r.serial (in_map (λ (c : Branch). c.key.serial) r.branch n.volatile.branches r.there)
+      go None e k = let never : ⊥ = cc in absurd never
 
   pub order_after : IsJournalInOrder m.durable
-  order_after = changes_keep_order n.durable n.volatile.locks tid serial name cs keys order record {
+  order_after = changes_keep_order n.durable n.volatile b.key.tid serial name cs keys order record {
     some = may.some;
-    suit = λ g there. subst (λ (x : File). AllByRecursion (λ (c : Change). IsNoteOf x c.key c.before) cs) (some_is file g (sym may.found ∙ there)) may.suit;
+    suit = λ g found. subst (λ (x : File). AllByRecursion (λ (c : Change). IsNoteOf x c.key c.before) cs) (some_is file g (sym may.found ∙ found)) may.suit;
     unsettled = unsettled;
-    transaction = transaction;
-    changes = subst (λ (x : Id). world.changes_made x n.durable.units + length cs ≤ 1024) may.own_serial may.room.changes;
-    units = λ none. units_have_room n serial holds.running.known holds.holding.few_branches among none;
-    fits = subst2 tid serial may.own_tid may.own_serial;
-  }
-    where
-      Fits : Id → Id → Type 0
-      Fits t x = (entries_size n.durable.units.entries + owed (units_in n.durable.units.entries)) + (entries_size (entries_for t x name cs) + owed_first (find_unit x (units_in n.durable.units.entries))) ≤ 512 * n.durable.journal
-
-      subst2 : (t x : Id) → may.branch.key.tid ≡ t → may.branch.key.serial ≡ x → Fits t x
-      subst2 t x a b = subst (λ (y : Id). Fits y x) a (subst (λ (y : Id). Fits may.branch.key.tid y) b may.room.fits)
-
-  pub running_after : IsRunning m
-  running_after = entered_running tid serial name cs keys file n record {
-    some = may.some;
-    unsettled = unsettled;
-    names = names_differ n.durable.directory units.names;
-    free = λ g there. subst (λ (x : File). AllByRecursion (λ (c : Change). is_free serial x.history.live c.key ≡ true) cs) (some_is file g (sym may.found ∙ there)) frees;
-    found = λ g there. subst (λ (x : File). Found cs (current x.history)) (some_is file g (sym may.found ∙ there)) may.notes;
-  } among holds.drawn may.found (both cs may.held may.free) holds.running
-    where
-      both : (ds : List Change) → AllByRecursion (λ (c : Change). In c.key keys) ds → AllByRecursion (λ (c : Change). held_against (Some serial) (holder n.volatile.locks name c.key) ≡ None) ds →
-          AllByRecursion (λ (c : Change). In c.key keys × IsFreeFor n.volatile.locks name serial c.key) ds
-      both [] a b = tt
-      both (c ∷ ds) a b = ((a.0, (free_for n serial name (c.key ∷ []) (ap (λ o. first_of o None) b.0)).0), both ds a.1 b.1)
-
-  pub holding_after : IsHolding m
-  holding_after =
-      entered_holding tid serial name cs keys n among may.locks (λ g there. subst (λ (x : File). x.organization ≡ world.Sequential → moves_end cs ≡ true → In End keys × IsFreeFor n.volatile.locks name serial End) (some_is file g (sym may.found ∙ there)) may.end)
-      (λ g there. subst (λ (x : File). x.recovery_units ≡ true) (some_is file g (sym may.found ∙ there)) may.marked) holds.holding
-
-  pub holds_after : HasBranches m
-  holds_after = record {
-    running = running_after;
-    holding = holding_after;
-    drawn = subst (Each (IsDrawn n.name n.durable.boot n.volatile.drawn)) (sym (serials_changed serial n.volatile.branches)) holds.drawn;
-    different = subst Distinct (sym (serials_changed serial n.volatile.branches)) holds.different;
+    unprepared = (up.table.entries b there).unprepared unprepared;
+    transaction = (up.table.entries b there).transaction;
+    changes = may.room.changes;
+    units = λ none. units_have_room n serial known up.table.limits.table among none;
+    fits = may.room.fits;
   }

@@ -1,157 +1,261 @@
 -- A unit is committed, as its branch is in the world.
-use Rattle.std.proofs.Common.{◌≡◌, ℕ, ◌<◌, ◌≤◌, List, Option, Some, None, refl, sym, ◌∙◌, ap, subst, arith, inl, inr, ⊎_elim}
+use Rattle.std.proofs.Common.{◌≡◌, ℕ, ◌+◌, ◌<◌, ◌≤◌, List, Option, Some, None, refl, sym, ◌∙◌, ap, subst, arith, length}
 use Rattle.std.specs.Prelude.{option_map}
 use Rattle.std.specs.Option.{IfSome}
-use Rattle.careful_write.specs.State.{content}
+use Rattle.change_set.specs.Files.{AgreesOn}
 use Rattle.file_base.specs.declared.head.FileHead.{FileHead}
-use Rattle.vms_model.specs.Ids.{IsId}
-use Rattle.vms_model.specs.Transactions.{Commit}
+use Rattle.vms_model.specs.Ids.{Id, IsId}
+use Rattle.vms_model.specs.Transactions.{Commit, Reason}
 use Rattle.vms_base.specs.Ids.{serial_of, tid_of}
 use Rattle.vms_base.specs.declared.ids.Serial.{Serial}
 use Rattle.vms_base.specs.declared.ids.Tid.{Tid}
 use Rattle.volume.specs.declared.catalog.Catalog.{Catalog}
 use Rattle.volume.specs.Catalogs.{IsSound, TellsCatalog}
-use Rattle.volume.specs.State.{Holds, VolumeState}
-use Rattle.volume_format.specs.Home.{IsLast}
+use Rattle.volume.specs.State.{VolumeState}
 use Rattle.volume_format.specs.declared.home.Ending.{Ending}
 use Rattle.volume_format.specs.declared.home.Ending.TheVariants as ending
-use Rattle.volume_format.specs.declared.home.Home.{Home}
+use Rattle.journal_model.specs.Entries.{Entry}
 use Rattle.unit_table.specs.Places.{AreInOrder}
 use Rattle.unit_table.specs.Units.{OpenUnit, unit_at}
-use Rattle.unit_journal.specs.Entries.{settled_entry}
-use Rattle.unit_journal.specs.Groups.{LeavesEither}
-use Rattle.unit_journal.specs.Settling.{MakesSettlement, content_with, entry_if, from_earliest, next_moment as moment_next, settled_home, span_with, with_front}
-use Rattle.commit_protocol.specs.Table.{Branch}
-use Rattle.run_model.specs.World.{Node, Settlement, Settles, acted, fallen, find_branch, next_moment}
-use Rattle.directory_model.specs.Files.{head_at}
+use Rattle.unit_journal.specs.Settling.{MakesSettlement, content_with, from_earliest, next_moment as moment_next, settled_home, span_with, with_front}
+use Rattle.unit_votes.specs.Voting.{MakesLogged, Settlement as LoggedSettlement}
+use Rattle.commit_protocol.specs.Effects.{SettleEffect}
+use Rattle.commit_protocol.specs.Messages.{LogRecord}
+use Rattle.commit_protocol.specs.Table as table
+use Rattle.commit_protocol.specs.Table.{Key, Settles}
+use Rattle.log_laws.specs.Slots.{Slots, settled_in}
+use Rattle.log_laws.proofs.RowSlots.{length_slots}
+use Rattle.lmcp_log.specs.Keeping.{IsWhole, Keeps, SameSlots}
+use Rattle.lmcp_log.specs.Slot.{IsRecord}
+use Rattle.lmcp_log.proofs.Keepings.{keeps_beside}
+use Rattle.lmcp_log.proofs.Whole.{beside_whole}
+use Rattle.run_model.specs.World.{Node, Settlement, Tables, acted, fallen, next_moment, settlement}
+use Rattle.world_laws.proofs.LogLemmas.{told_log}
+use Rattle.world_laws.proofs.OrderedLemmas.{tables_keep_order}
+use Rattle.directory_model.specs.Files.{AreFiles, head_at}
+use Rattle.directory_model.specs.Restoring.{AreRestorable}
+use Rattle.directory_model.proofs.Acts.{keeps_files}
+use Rattle.directory_model.proofs.Standing.{stands_on_extents}
+use Rattle.restart_laws.proofs.StayLemmas.{keeps_restorable}
+use Rattle.restart_laws.proofs.UnitLemmas.{keeps_units}
 use Rattle.settlement_laws.specs.Settled.{IsSettled, Makes}
 use Rattle.settlement_laws.proofs.MadeLemmas.{settlements_are_made}
 use Rattle.volume_laws.proofs.FollowLemmas.{follow}
-use Rattle.volume_laws.proofs.WholeLemmas.{volume_falls}
-use Rattle.volume_model.specs.Homes.{settlement_of}
+use Rattle.volume_model.specs.Homes as homes
+use Rattle.volume_model.specs.Homes.{HasHome}
 use Rattle.volume_model.specs.Laws.{KeepsNames}
 use Rattle.volume_model.specs.Volumes.{HasDisk, HasJournal, HasVolume, IsLeftBy}
-use Rattle.rms_units.specs.Calls.{Commits, CommitsNot, is_some_change}
 use Rattle.rms_units.specs.State as rms
+use Rattle.rms_units.specs.Voting.{CommitsLogged, CommitsLoggedNot, commit_of}
 use Rattle.rms_units.proofs.SettledLemmas.{next_bound, next_later}
-use Rattle.recovery_units.specs.Calls.{SettlesErr, SettlesOk, settlement_with}
-use Rattle.recovery_units.specs.State.{IsKept, branch_of}
+use Rattle.recovery_units.specs.Calls.{MayDo, SettlesErr, SettlesOk, SettlesTo}
+use Rattle.recovery_units.specs.State.{IsKept, UnitsState, committed}
 use Rattle.recovery_units.specs.declared.settled.SettledUnit.{SettledUnit}
-use Rattle.unit_world.proofs.Leaving.{down}
 use Rattle.node_units.specs.Seen.{seen}
+use Rattle.node_units.proofs.Acting.{broken, left_after, settling}
 use Rattle.node_units.proofs.Alike.{next_alike}
-use Rattle.node_units.proofs.Falling.{disk_sound, leaves_kept, same_some}
-use Rattle.node_units.proofs.Making.{found, left_seen, makes_it, settles}
-use Rattle.node_units.proofs.Settling.{commits_volume, kept_settled}
+use Rattle.node_units.proofs.Logging.{IsRelogged, catalog_set, files_relogged, relogged, ring_relogged, slots_set, tells_relogged}
+use Rattle.node_units.proofs.Making.{Closes, left_seen, makes_it, settles, tid_is}
+use Rattle.node_units.proofs.Settling.{kept_settled}
 
--- The ids that a home tells are ids.
-pub ids_told : (tid : Tid) (serial : Serial) (ending : Ending) (moment : ℕ) (h : Home) (k : Catalog) (a : List (List ℕ)) → k.home ≡ settled_home tid serial ending moment h → TellsCatalog k a → IsId (tid_of tid) × IsId (serial_of serial)
-ids_told tid serial ending moment h k a is tells = subst IsLast (ap (λ (x : Home). x.last) is) tells.ranges.last
+-- the content of a volume that a settlement is made of
+pub settled_content : (tid : Tid) (serial : Serial) (ending : Ending) (moment : ℕ) (e : Option Entry) (left : List (Option OpenUnit)) (x made : VolumeState) (c : List (List ℕ)) → MakesSettlement tid serial ending moment e left x made → x.store.current ≡ Some c →
+    (b : List (List ℕ)) × (made.store.current ≡ Some b)
+settled_content tid serial ending moment e left x made c makes told =
+    let f : List (List ℕ) → List (List ℕ) = λ y. with_front (settled_home tid serial ending moment x.catalog.home) (from_earliest left (span_with e x.catalog.ru)) (content_with e x.catalog.ru y) in
+    (f c, makes.current ∙ ap (option_map f) told)
 
-pub one_branch : (x y : Branch) → ◌≡◌ {A = Option Branch} (Some x) (Some y) → x ≡ y
-one_branch x y e = cc
+pub made_told : (y : LoggedSettlement) (rec : Option LogRecord) (ss ts : Slots) (v made : VolumeState) (c : List (List ℕ)) (m : MakesLogged y rec ss ts v made) → m.logged.store.current ≡ Some c → (b : List (List ℕ)) × (made.store.current ≡ Some b)
+made_told y rec ss ts v made c m told = settled_content y.tid y.serial y.ending y.moment y.entry y.left m.logged made c m.makes told
 
--- What is made of a content.
-pub made_told : (tid : Tid) (serial : Serial) (ending : Ending) (moment : ℕ) (e : _) (left : List (Option OpenUnit)) (x made : VolumeState) (a : List (List ℕ)) → MakesSettlement tid serial ending moment e left x made → x.store.current ≡ Some a →
-    (c : List (List ℕ)) × (made.store.current ≡ Some c)
-made_told tid serial ending moment e left x made a makes told =
-    let f : List (List ℕ) → List (List ℕ) = λ c. with_front (settled_home tid serial ending moment x.catalog.home) (from_earliest left (span_with e x.catalog.ru)) (content_with e x.catalog.ru c) in
-    (f a, makes.current ∙ ap (option_map f) told)
+-- What is asked of a volume whose log a call changes.
+pub record HasLogged (s : rms.UnitsState) (log : Slots) (v : VolumeState) (rec : Option LogRecord) : Type 0 where
+  pub order : rms.IsInOrder s v
+  pub before : 584 + length log ≤ v.catalog.ru.start
+  pub parts : IfSome rec IsRecord
 
-module _ (place : ℕ) (u : OpenUnit) (clock : ℕ) (s t : rms.UnitsState) (v : VolumeState) (n : Node) (there : unit_at s.units.places place ≡ Some u) (at : AreInOrder s.units.places s.units.order) (order : rms.IsInOrder s v) (early : rms.IsEarly v)
-    (before : clock < 24000001000066) (spent : t ≡ rms.without_place place u.serial s) (kept : IsKept (seen s) v n) (same : n.clock ≡ clock) (moment : ℕ) (next : moment ≡ moment_next clock v.catalog.home) where
+-- The log is set in what a node's volume tells.
+module _ (s : rms.UnitsState) (log ts : Slots) (v : VolumeState) (rec : Option LogRecord) (is : HasLogged s log v rec) (n : Node) (kept : IsKept (seen s log) v n) where
+  pub keeps_now : Keeps log kept.content
+  keeps_now = subst (λ (us : Slots). Keeps us kept.content) kept.log kept.has.log.keeps
+
+  pub whole_now : IsWhole log kept.content
+  whole_now = subst (λ (us : Slots). IsWhole us kept.content) kept.log kept.has.log.whole
+
+  pub content_long : 66 + length log ≤ length kept.content
+  content_long = let within = kept.has.journal.is.ring.within in let before = is.before in omega (arith, within, before)
+
+  pub tells_now : TellsCatalog v.catalog kept.content
+  tells_now = subst (λ o. IfSome o (TellsCatalog v.catalog)) kept.told is.order.holds
+
+-- A unit is committed, of which the log has this then.
+module _ (place : ℕ) (u : OpenUnit) (s t : rms.UnitsState) (log ts : Slots) (v : VolumeState) (n : Node) (k : Key) (reason : Reason) (rec : Option LogRecord) (moment : ℕ) (x : Closes place u s log v n k Commit reason rec moment) (is : HasLogged s log v rec)
+    (early : rms.IsEarly v) (ids : IsId u.tid × IsId u.serial) (bound : moment ≤ 24000001000066) (spent : t ≡ rms.without_place place u.serial s) (tid : Tid) (serial : Serial) (tid_same : tid_of tid ≡ u.tid) (serial_same : serial_of serial ≡ u.serial)
+    (made : VolumeState) (makes : MakesLogged (commit_of u tid serial moment t) rec log ts v made) where
+  abbrev a : table.Act
+  a = Settles k Commit reason rec
+
+  abbrev m : Node
+  m = acted (Tables a moment) n
+
   abbrev c : Settlement
-  c = record { tid = u.tid; serial = u.serial; outcome = Commit; reason = None; moment = moment }
+  c = settlement k Commit reason moment
 
-  later : n.durable.greatest ≤ moment
-  later = let a = next_later clock v.catalog.home in let b = kept.has.home.greatest in omega (arith, a, b, next)
+  abbrev mid : VolumeState
+  mid = makes.logged
 
-  bound : moment ≤ 24000001000066
-  bound = let a = next_bound clock v.catalog.home early.moment before in omega (arith, a, next)
+  slots : ts ≡ settled_in u.serial rec log
+  slots = slots_set (serial_of serial) rec log ts v mid makes.log ∙ ap (λ (y : Id). settled_in y rec log) serial_same
 
-  next_is : moment ≡ next_moment n
-  next_is = next ∙ next_alike clock v.catalog.home n kept.has.home same
+  -- the content with the record
+  pub relog : (b : List (List ℕ)) × (mid.store.current ≡ Some b) × IsRelogged log ts x.owns.kept.content b
+  relog = relogged (serial_of serial) rec log ts v mid x.owns.kept.content makes.log is.parts x.owns.kept.told (keeps_now s log ts v rec is n x.owns.kept) (whole_now s log ts v rec is n x.owns.kept) x.owns.kept.has.journal.is.ring.whole (content_long s log ts v rec is n x.owns.kept)
 
-  holds : TellsCatalog v.catalog kept.content
-  holds = subst (λ o. IfSome o (TellsCatalog v.catalog)) kept.told order.holds
+  same : mid.catalog ≡ v.catalog
+  same = catalog_set (serial_of serial) rec log ts v mid makes.log
 
-  module _ (tid : Tid) (serial : Serial) (tid_is : tid_of tid ≡ u.tid) (serial_is : serial_of serial ≡ u.serial) (ids : IsId u.tid × IsId u.serial) (made : VolumeState)
-      (makes : MakesSettlement tid serial ending.Commit moment (entry_if (is_some_change u.positions) (settled_entry u.tid u.serial Commit moment)) t.units.places v made) (b : List (List ℕ)) (told : made.store.current ≡ Some b) where
-    as_told : c ≡ settlement_of moment (record { tid = tid; serial = serial; ending = ending.Commit })
-    as_told = λ i. record { tid = sym tid_is i; serial = sym serial_is i; outcome = Commit; reason = None; moment = moment }
+  names_mid : KeepsNames v.catalog.heads mid.catalog.heads
+  names_mid f h there = (h, ap (λ (y : Catalog). head_at y.heads f) same ∙ there, refl)
 
-    is_made : Makes n c tid serial ending.Commit t.units.places v made
-    is_made = makes_it place u s t v n Commit None moment there at kept spent later v made tid serial ending.Commit order early ids bound refl refl as_told makes
+  pub journal_mid : HasJournal relog.0 mid.catalog n
+  journal_mid = follow.stays x.owns.kept.content relog.0 v.catalog mid.catalog n n x.owns.kept.has.journal refl (ap (λ (y : Catalog). y.ru) same) names_mid (ring_relogged log ts x.owns.kept.content relog.0 relog.2 v.catalog is.before)
 
-    settled : IsSettled n c kept.has.journal.entries kept.content b v.catalog made.catalog × TellsCatalog made.catalog b × IsSound v.catalog.home.node v.store.disk.size made.catalog
-    settled = settlements_are_made kept.content b n c tid serial ending.Commit t.units.places v made v.catalog.home.node v.store.disk.size kept.told told holds order.sound order.heads kept.has.home kept.has.journal is_made
+  as_told : c ≡ homes.settlement_of moment (record { tid = tid; serial = serial; ending = ending.Commit })
+  as_told =
+      let one = sym (tid_is place u s log v n k x.owns) ∙ sym tid_same in
+      let two = sym x.owns.own ∙ sym serial_same in
+      λ i. record { tid = one i; serial = two i; outcome = Commit; reason = None; moment = moment }
 
-    names : KeepsNames v.catalog.heads made.catalog.heads
-    names f h is = (h, ap (λ (hs : List (Option FileHead)). head_at hs f) settled.0.heads ∙ is, refl)
+  makes_mid : Makes n c tid serial ending.Commit t.units.places mid made
+  makes_mid = makes_it place u s log v n k Commit reason rec moment x t spent mid made tid serial ending.Commit is.order early ids bound (ap (λ (y : Catalog). y.home) same) (ap (λ (y : Catalog). y.ru) same) as_told makes.makes
 
-    ring : HasJournal b made.catalog (acted (Settles c) n)
-    ring = follow.settles kept.content b v.catalog made.catalog n c kept.has.journal names settled.0.entered settled.0.first settled.0.end settled.0.low
+  module _ (b : List (List ℕ)) (told : made.store.current ≡ Some b) where
+    pub settled : IsSettled n c journal_mid.entries relog.0 b mid.catalog made.catalog × TellsCatalog made.catalog b × IsSound v.catalog.home.node v.store.disk.size made.catalog
+    settled = settlements_are_made relog.0 b n c tid serial ending.Commit t.units.places mid made v.catalog.home.node v.store.disk.size relog.1 told
+        (subst (λ (y : Catalog). TellsCatalog y relog.0) (sym same) (tells_relogged log ts x.owns.kept.content relog.0 relog.2 v.catalog is.before (tells_now s log ts v rec is n x.owns.kept)))
+        (subst (IsSound v.catalog.home.node v.store.disk.size) (sym same) is.order.sound) (ap (λ (y : Catalog). length y.heads) same ∙ is.order.heads)
+        (subst (λ (y : Catalog). HasHome y.home n) (sym same) x.owns.kept.has.home) journal_mid makes_mid
 
-    volume : HasVolume b made.catalog (acted (Settles c) n)
-    volume = commits_volume kept.content b v.catalog made.catalog n c kept.has (settles place u s t v n Commit None moment there at kept spent later) refl settled.0.heads settled.0.files settled.0.home ring
+    names_made : KeepsNames mid.catalog.heads made.catalog.heads
+    names_made f h there = (h, ap (λ (hs : List (Option FileHead)). head_at hs f) settled.0.heads ∙ there, refl)
 
-    kept_made : made.store.disk.size ≡ v.store.disk.size → IsKept (seen t) made (acted (Settles c) n)
-    kept_made size = subst (λ x. IsKept x made (acted (Settles c) n)) (sym (left_seen place u s t v n Commit None moment there at kept spent later))
-        (kept_settled (seen s) v n (branch_of u) c kept (found place u s t v n Commit None moment there at kept spent later) refl later made b told (ap (λ (k : Catalog). k.home.node) makes.catalog) size names volume)
+    heads_are : made.catalog.heads ≡ v.catalog.heads
+    heads_are = settled.0.heads ∙ ap (λ (y : Catalog). y.heads) same
 
-    -- an image that has it is left by the node after the settlement
-    left_made : IsLeftBy b (acted (Settles c) (fallen (Some (Settles c)) n))
-    left_made = record {
-      catalog = made.catalog;
-      tells = settled.1;
-      sound = subst (λ (x : List ℕ). IsSound x n.blocks made.catalog) (sym kept.name) (subst (λ (x : ℕ). IsSound v.catalog.home.node x made.catalog) (sym kept.blocks) settled.2);
-      leaves = λ whole. down b made.catalog (acted (Settles c) n) (acted (Settles c) (fallen (Some (Settles c)) n)) (volume_falls b made.catalog (acted (Settles c) n) volume) refl refl refl;
+    agree : (f : ℕ) (h : FileHead) → head_at v.catalog.heads f ≡ Some h → AgreesOn h x.owns.kept.content b
+    agree f h there i inside =
+        files_relogged log ts x.owns.kept.content relog.0 relog.2 v.catalog is.before v.catalog.home.node v.store.disk.size is.order.sound is.order.heads f h there i inside
+        ∙ settled.0.files f h (ap (λ (y : Catalog). head_at y.heads f) same ∙ there) i inside
+
+    files_now : AreFiles b v.catalog.heads n.durable.directory
+    files_now = stands_on_extents x.owns.kept.content b v.catalog.heads n.durable.directory agree x.owns.kept.has.files
+
+    slots_are : ts ≡ m.durable.log
+    slots_are = slots ∙ (λ i. settled_in (x.owns.own i) rec (sym x.owns.kept.log i))
+
+    same_slots : SameSlots (length ts) relog.0 b
+    same_slots i below = settled.0.log i (let long = relog.2.long in let logs = ap length x.owns.kept.log in omega (arith, below, long, logs))
+
+    pub volume : HasVolume b made.catalog m
+    volume = record {
+      home = record {
+        volume = settled.0.home.volume;
+        slots = length_slots a n.volatile.records n.durable.log ∙ settled.0.home.slots;
+        journal = settled.0.home.journal;
+        boot = settled.0.home.boot;
+        greatest = settled.0.home.greatest;
+        last = settled.0.home.last;
+      };
+      log = record {
+        keeps = subst (λ (us : Slots). Keeps us b) slots_are (keeps_beside ts relog.0 b relog.2.keeps same_slots);
+        whole = subst (λ (us : Slots). IsWhole us b) slots_are (beside_whole ts relog.0 b relog.2.slots same_slots);
+      };
+      journal = follow.settles relog.0 b mid.catalog made.catalog n a moment c journal_mid refl names_made settled.0.entered settled.0.first settled.0.end settled.0.low;
+      units = keeps_units.tables n a moment x.owns.kept.has.units;
+      order = tables_keep_order n.durable n.volatile a moment x.owns.kept.has.order
+          (let may = settles place u s log v n k Commit reason rec moment x in record { unsettled = may.unsettled; transaction = may.transaction; later = may.later });
+      told = told_log m x.after.table x.after.slots;
+      files = subst (λ (hs : List (Option FileHead)). AreFiles b hs m.durable.directory) (sym heads_are) (keeps_files.commits b v.catalog.heads n a moment c refl files_now x.owns.kept.has.units refl);
+      restorable = subst (λ (hs : List (Option FileHead)). AreRestorable b hs m.durable.directory) (sym heads_are)
+          (keeps_restorable.commits b v.catalog.heads n a moment c refl x.owns.kept.has.units (keeps_restorable.stands x.owns.kept.content b v.catalog.heads n.durable.directory agree x.owns.kept.has.files x.owns.kept.has.restorable));
     }
 
-  settlement_is : (b : Branch) → find_branch u.serial n.volatile.branches ≡ Some b → c ≡ settlement_with Commit None (next_moment n) b
-  settlement_is b is =
-      let one : branch_of u ≡ b = one_branch (branch_of u) b (sym (found place u s t v n Commit None moment there at kept spent later) ∙ is) in
-      λ i. settlement_with Commit None (next_is i) (one i)
+    seen_then : seen t ts ≡ committed k.serial rec (seen s log)
+    seen_then =
+        let units = left_seen place u s log v n k Commit reason rec moment x t spent in
+        let entries : ts ≡ settled_in k.serial rec log = slots ∙ ap (λ (y : Id). settled_in y rec log) x.owns.own in
+        λ i. record (units i) { log = entries i }
+
+    pub kept_made : made.store.disk.size ≡ v.store.disk.size → IsKept (seen t ts) made m
+    kept_made size = subst (λ (y : UnitsState). IsKept y made m) (sym seen_then)
+        (kept_settled (seen s log) v n k Commit reason rec moment x.owns.branch x.owns.kept x.owns.up x.owns.found x.later x.after made b told
+        (ap (λ (y : Catalog). y.home.node) makes.makes.catalog ∙ ap (λ (y : Catalog). y.home.node) same) size (λ f h there. (h, ap (λ (hs : List (Option FileHead)). head_at hs f) heads_are ∙ there, refl)) volume)
+
+    pub left_made : IsLeftBy b (acted (Tables a moment) (fallen (Some (Tables a moment)) n))
+    left_made = left_after (seen s log) v n a moment x.owns.kept b made.catalog volume settled.1 settled.2
+
+-- What is known of the unit that is settled at a clock.
+pub record MaySettle (place : ℕ) (u : OpenUnit) (s : rms.UnitsState) (log : Slots) (v : VolumeState) (rec : Option LogRecord) (clock : ℕ) : Type 0 where
+  pub there : unit_at s.units.places place ≡ Some u
+  pub at : AreInOrder s.units.places s.units.order
+  pub has : HasLogged s log v rec
+  pub early : rms.IsEarly v
+  pub clock_early : clock < 24000001000066
+  pub ids : IsId u.tid × IsId u.serial
+
+module _ (place : ℕ) (u : OpenUnit) (s : rms.UnitsState) (log : Slots) (v : VolumeState) (rec : Option LogRecord) (clock : ℕ) (may : MaySettle place u s log v rec clock) where
+  pub moment_bound : moment_next clock v.catalog.home ≤ 24000001000066
+  moment_bound = next_bound clock v.catalog.home may.early.moment may.clock_early
+
+  pub moment_same : (n : Node) → IsKept (seen s log) v n → n.clock ≡ clock → moment_next clock v.catalog.home ≡ next_moment n
+  moment_same n kept same = next_alike clock v.catalog.home n kept.has.home same
+
+  pub moment_later : (n : Node) (kept : IsKept (seen s log) v n) → n.clock ≡ clock → n.durable.greatest ≤ next_moment n
+  moment_later n kept same = let at = moment_same n kept same in let no_earlier = next_later clock v.catalog.home in let was = kept.has.home.greatest in omega (arith, at, no_earlier, was)
 
 -- A unit is committed.
-pub commits_ok : (place : ℕ) (u : OpenUnit) (told : SettledUnit) (clock : ℕ) (s t : rms.UnitsState) (v w : VolumeState) → unit_at s.units.places place ≡ Some u → AreInOrder s.units.places s.units.order → rms.IsInOrder s v → rms.IsEarly v → clock < 24000001000066 →
-    Commits place u told.tid told.serial clock told.moment.0 s v t w → Holds w → w.store.disk.size ≡ v.store.disk.size → SettlesOk u.serial Commit None clock told (seen s) v (seen t) w
-commits_ok place u told clock s t v w there at order early before done holds size n b kept same is =
-    let one : branch_of u ≡ b = one_branch (branch_of u) b (sym (found place u s t v n Commit None told.moment.0 there at kept done.spent (later place u clock s t v n there at order early before done.spent kept same told.moment.0 done.moment)) ∙ is) in
-    let next = next_is place u clock s t v n there at order early before done.spent kept same told.moment.0 done.moment in
-    let made = made_told told.tid told.serial ending.Commit told.moment.0 (entry_if (is_some_change u.positions) (settled_entry u.tid u.serial Commit told.moment.0)) t.units.places v w kept.content done.makes kept.told in
-    let tells : TellsCatalog w.catalog made.0 = subst (λ o. IfSome o (TellsCatalog w.catalog)) made.1 holds in
-    let ids = ids_told told.tid told.serial ending.Commit told.moment.0 v.catalog.home w.catalog made.0 (ap (λ (k : Catalog). k.home) done.makes.catalog) tells in
-    let own : IsId u.tid × IsId u.serial = (subst IsId done.tid ids.0, subst IsId done.serial ids.1) in
-    record {
-      tid = done.tid ∙ ap (λ (x : Branch). x.key.tid) one;
-      serial = done.serial ∙ ap (λ (x : Branch). x.key.serial) one;
-      moment = next;
-      kept = subst (λ (c : Settlement). IsKept (seen t) w (acted (Settles c) n)) (settlement_is place u clock s t v n there at order early before done.spent kept same told.moment.0 done.moment b is)
-          (kept_made place u clock s t v n there at order early before done.spent kept same told.moment.0 done.moment told.tid told.serial done.tid done.serial own w done.makes made.0 made.1 size);
-    }
+module _ (place : ℕ) (u : OpenUnit) (s t : rms.UnitsState) (log ts : Slots) (v w : VolumeState) (rec : Option LogRecord) (clock : ℕ) (may : MaySettle place u s log v rec clock) (reason : Reason) where
+  closes : (n : Node) (k : Key) (kept : IsKept (seen s log) v n) → MayDo n (Settles k Commit reason rec) (SettleEffect u.serial Commit reason rec) → k.serial ≡ u.serial → n.clock ≡ clock → Closes place u s log v n k Commit reason rec (next_moment n)
+  closes n k kept does own same = record {
+    owns = record { there = may.there; at = may.at; kept = kept; up = does.up; branch = does.stands.0.0; found = does.stands.0.1; own = sym own };
+    after = does.after;
+    later = moment_later place u s log v rec clock may n kept same;
+  }
 
--- The disk went down in it. The unit's ids are ids.
-pub commits_not : (place : ℕ) (u : OpenUnit) (clock : ℕ) (s t : rms.UnitsState) (v w : VolumeState) → unit_at s.units.places place ≡ Some u → AreInOrder s.units.places s.units.order → rms.IsInOrder s v → rms.IsEarly v → clock < 24000001000066 → IsId u.tid × IsId u.serial →
-    CommitsNot place u clock s v t w → SettlesErr u.serial Commit None clock (seen s) v w
-commits_not place u clock s t v w there at order early before ids done n b kept same is =
-    subst (λ (x : Settlement). HasDisk (fallen (Some (Settles x)) n) w.store.disk) (settlement_is place u clock s t v n there at order early before done.spent kept same moment refl b is)
-    (disk_sound (fallen (Some (Settles c)) n) w.store.disk kept.has.home.volume (λ image may. elim done.breaks [
-      | inl old ↦ let l = old image may in (l.0, inl (was _ l.1))
-      | inr either ↦ let l = either.either image may in (l.0, ⊎_elim (λ e. inl (was _ e)) (λ e. inr (Settles c, refl, now either _ e)) l.1)
-    ]))
-  where
-    moment : ℕ
-    moment = moment_next clock v.catalog.home
+  module _ (told : SettledUnit) (done : CommitsLogged place u told.tid told.serial rec clock told.moment.0 s log v t ts w) (size : w.store.disk.size ≡ v.store.disk.size) where
+    closed : (n : Node) (k : Key) → IsKept (seen s log) v n → MayDo n (Settles k Commit reason rec) (SettleEffect u.serial Commit reason rec) → k.serial ≡ u.serial → n.clock ≡ clock → SettlesTo Commit reason told (seen t ts) w n (Settles k Commit reason rec)
+    closed n k kept does own same =
+        let x = closes n k kept does own same in
+        let at : told.moment.0 ≡ next_moment n = done.moment ∙ moment_same place u s log v rec clock may n kept same in
+        let makes = subst (λ (y : ℕ). MakesLogged (commit_of u told.tid told.serial y t) rec log ts v w) at done.makes in
+        let bound = subst (λ (y : ℕ). y ≤ 24000001000066) (moment_same place u s log v rec clock may n kept same) (moment_bound place u s log v rec clock may) in
+        let mid = relog place u s t log ts v n k reason rec (next_moment n) x may.has may.early may.ids bound done.spent told.tid told.serial done.tid done.serial w makes in
+        let b = made_told (commit_of u told.tid told.serial (next_moment n) t) rec log ts v w mid.0 makes mid.1 in
+        record {
+          settled = (
+              let one = sym (tid_is place u s log v n k x.owns) ∙ sym done.tid in
+              let two = sym x.owns.own ∙ sym done.serial in
+              λ i. Some (record { tid = one i; serial = two i; outcome = Commit; reason = None; moment = sym at i }));
+          done = kept_made place u s t log ts v n k reason rec (next_moment n) x may.has may.early may.ids bound done.spent told.tid told.serial done.tid done.serial w makes b.0 b.1 size;
+        }
 
-    c : Settlement
-    c = record { tid = u.tid; serial = u.serial; outcome = Commit; reason = None; moment = moment }
+    pub commits_ok : SettlesOk u.serial Commit reason rec clock told (seen s log) v (seen t ts) w
+    commits_ok n a kept does same =
+        let sg = settling a n.volatile.records u.serial Commit reason rec does.gives in
+        subst (λ (y : table.Act). MayDo n y (SettleEffect u.serial Commit reason rec) → SettlesTo Commit reason told (seen t ts) w n y) (sym sg.is) (λ d. closed n sg.key kept d sg.serial same) does
 
-    Made : VolumeState → Type 0
-    Made made = MakesSettlement done.tid done.serial ending.Commit moment (entry_if (is_some_change u.positions) (settled_entry u.tid u.serial Commit moment)) t.units.places v made
-
-    was : (x : List (List ℕ)) → Some x ≡ content v.store → IsLeftBy x (fallen (Some (Settles c)) n)
-    was x e = subst (λ y. IsLeftBy y (fallen (Some (Settles c)) n)) (sym (same_some x kept.content (e ∙ sym order.idle.current ∙ kept.told))) (leaves_kept (seen s) v n (Some (Settles c)) order.sound order.holds kept)
-
-    now : (l : LeavesEither Made v w.store.disk) (x : List (List ℕ)) → Some x ≡ l.made.store.current → IsLeftBy x (acted (Settles c) (fallen (Some (Settles c)) n))
-    now l x e = left_made place u clock s t v n there at order early before done.spent kept same moment refl done.tid done.serial done.same_tid done.same_serial ids l.made l.is x (sym e)
+  -- The disk went down in it.
+  module _ (done : CommitsLoggedNot place u rec clock s log v t ts w) where
+    pub commits_not : SettlesErr u.serial Commit reason rec clock (seen s log) v w
+    commits_not n a kept does same =
+        let sg = settling a n.volatile.records u.serial Commit reason rec does.gives in
+        subst (λ (y : table.Act). MayDo n y (SettleEffect u.serial Commit reason rec) → HasDisk (fallen (Some (Tables y (next_moment n))) n) w.store.disk) (sym sg.is) (λ d. cut n sg.key kept d sg.serial same) does
+      where
+        cut : (n : Node) (k : Key) → IsKept (seen s log) v n → MayDo n (Settles k Commit reason rec) (SettleEffect u.serial Commit reason rec) → k.serial ≡ u.serial → n.clock ≡ clock → HasDisk (fallen (Some (Tables (Settles k Commit reason rec) (next_moment n))) n) w.store.disk
+        cut n k kept does own same =
+            let x = closes n k kept does own same in
+            let at : moment_next clock v.catalog.home ≡ next_moment n = moment_same place u s log v rec clock may n kept same in
+            let bound = subst (λ (y : ℕ). y ≤ 24000001000066) at (moment_bound place u s log v rec clock may) in
+            broken (seen s log) v n (Settles k Commit reason rec) (next_moment n) kept (MakesLogged (commit_of u done.tid done.serial (moment_next clock v.catalog.home) t) rec log ts v) w may.has.order.sound may.has.order.holds may.has.order.idle
+            (λ made b makes told. left_made place u s t log ts v n k reason rec (next_moment n) x may.has may.early may.ids bound done.spent done.tid done.serial done.same_tid done.same_serial made
+            (subst (λ (y : ℕ). MakesLogged (commit_of u done.tid done.serial y t) rec log ts v made) at makes) b told) done.breaks

@@ -1,22 +1,21 @@
 -- What is counted of branches in the journal, by where their changes begin.
-use Rattle.std.proofs.Common.{◌≡◌, ℕ, ◌+◌, List, [], ◌∷◌, Bool, true, false, ◌||◌, cond, map, Option, Some, None, if◌then◌else◌, length, refl, sym, ◌∙◌, ap, subst, arith, inl, inr}
+use Rattle.std.proofs.Common.{◌≡◌, ℕ, ◌+◌, List, [], ◌∷◌, Bool, true, false, ◌||◌, cond, Option, Some, None, if◌then◌else◌, length, refl, sym, ◌∙◌, ap, subst, arith, inl, inr}
 use Rattle.std.specs.Prelude.{is_some, option_map}
 use Rattle.std.specs.List.{AllByRecursion}
 use Rattle.std.proofs.lemmas.Bool.{or_parts}
 use Rattle.vms_model.specs.Ids.{Id}
 use Rattle.records_model.specs.History.{same_id}
-use Rattle.unit_laws.specs.Journal.{ChangeEntry, JournalEntry, PreparedEntry, RecoveryUnit, SettledEntry, entry_size, find_unit, is_settled_in, owed, units_in, units_onto, with_one_change, with_prepared, without_unit}
+use Rattle.unit_laws.specs.Journal.{ChangeEntry, JournalEntry, PreparedEntry, RecoveryUnit, SettledEntry, entry_size, find_unit, is_settled_in, owed, owed_to, units_in, units_onto, with_one_change, with_prepared, without_unit}
 use Rattle.unit_laws.specs.JournalLaws.{unit_or_new, with_more}
 use Rattle.unit_laws.proofs.TrimLemmas.{found_onto, had_onto}
 use Rattle.unit_laws.proofs.UnitLemmas.{found_changed, found_prepared, found_settled, is_prepared}
-use Rattle.run_model.specs.Promises.{In}
-use Rattle.run_model.specs.Running.{Apart, Distinct}
-use Rattle.run_model.specs.World.{AllActive}
-use Rattle.run_model.proofs.ActLemmas.{unit_serials}
-use Rattle.run_model.proofs.IdLemmas.{each_at, id_is, id_itself, id_other}
+use Rattle.commit_protocol.specs.World.{In}
+use Rattle.world_laws.proofs.UnitSets.{UnitsDiffer}
+use Rattle.world_laws.proofs.IdLemmas.{each_at, id_is, id_itself, id_other}
 use Rattle.unit_table.specs.Units.{OpenUnit, owed_for}
 use Rattle.recovery_units.specs.State as calls
 use Rattle.recovery_units.specs.State.{are_there, is_change_by, positions_of}
+use Rattle.node_units.proofs.Branches.{Apart, Distinct, serials}
 
 -- The changes of a branch.
 
@@ -102,62 +101,66 @@ sum_none : (xs : List Id) → sum (λ x. 0) xs ≡ 0
 sum_none [] = refl
 sum_none (x ∷ xs) = let rest = sum_none xs in omega (arith, rest)
 
--- one of some different ids counts more, the others do as they did
-abbrev or_more : Id → (Id → ℕ) → Id → ℕ
-or_more s g x = if same_id x s then 96 else g x
+-- one of some different ids counts so much, the others do as they did
+abbrev pub or_more : Id → ℕ → (Id → ℕ) → Id → ℕ
+or_more s k g x = if same_id x s then k else g x
 
-sum_apart : (g : Id → ℕ) (s : Id) (xs : List Id) → Apart s xs → sum (or_more s g) xs ≡ sum g xs
-sum_apart g s [] apart = refl
-sum_apart g s (x ∷ xs) apart = λ i. (if id_other s x apart.0 i then 96 else g x) + sum_apart g s xs apart.1 i
+sum_apart : (g : Id → ℕ) (s : Id) (k : ℕ) (xs : List Id) → Apart s xs → sum (or_more s k g) xs ≡ sum g xs
+sum_apart g s k [] apart = refl
+sum_apart g s k (x ∷ xs) apart = λ i. (if id_other s x apart.0 i then k else g x) + sum_apart g s k xs apart.1 i
 
-sum_more : (g : Id → ℕ) (s : Id) (xs : List Id) → Distinct xs → In s xs → g s ≡ 0 → sum (or_more s g) xs ≡ 96 + sum g xs
-sum_more g s [] d among zero = absurd among
-sum_more g s (x ∷ xs) d (inl same) zero =
-    let rest = sum_apart g s xs (subst (λ (y : Id). Apart y xs) (sym same) d.0) in
-    let first : or_more s g x ≡ 96 = ap (or_more s g) (sym same) ∙ ap (λ (t : Bool). if t then 96 else g s) (id_itself s) in
+sum_more : (g : Id → ℕ) (s : Id) (k : ℕ) (xs : List Id) → Distinct xs → In s xs → g s ≡ 0 → sum (or_more s k g) xs ≡ k + sum g xs
+sum_more g s k [] d among zero = absurd among
+sum_more g s k (x ∷ xs) d (inl same) zero =
+    let rest = sum_apart g s k xs (subst (λ (y : Id). Apart y xs) (sym same) d.0) in
+    let first : or_more s k g x ≡ k = ap (or_more s k g) (sym same) ∙ ap (λ (t : Bool). if t then k else g s) (id_itself s) in
     let none : g x ≡ 0 = ap g (sym same) ∙ zero in
     omega (arith, rest, first, none)
-sum_more g s (x ∷ xs) d (inr more) zero =
-    let rest = sum_more g s xs d.1 more zero in
-    let first : or_more s g x ≡ g x = ap (λ (t : Bool). if t then 96 else g x) (each_at (λ (y : Id). same_id x y ≡ false) s xs d.0 more) in
+sum_more g s k (x ∷ xs) d (inr more) zero =
+    let rest = sum_more g s k xs d.1 more zero in
+    let first : or_more s k g x ≡ g x = ap (λ (t : Bool). if t then k else g x) (each_at (λ (y : Id). same_id x y ≡ false) s xs d.0 more) in
     omega (arith, rest, first)
 
-abbrev owed_by : List RecoveryUnit → Id → ℕ
-owed_by us x = if is_some (find_unit x us) then 96 else 0
+abbrev pub owing : Option RecoveryUnit → ℕ
+owing None = 0
+owing (Some u) = owed_to u
 
-none_found : (x : Id) (us : List RecoveryUnit) → Apart x (unit_serials us) → find_unit x us ≡ None
-none_found x [] apart = refl
-none_found x (u ∷ us) apart = ap (λ (t : Bool). if t then Some u else find_unit x us) apart.0 ∙ none_found x us apart.1
+abbrev pub owed_by : List RecoveryUnit → Id → ℕ
+owed_by us x = owing (find_unit x us)
 
-owed_sum : (us : List RecoveryUnit) (xs : List Id) → Distinct (unit_serials us) → AllActive us → Distinct xs → ((x : Id) → is_some (find_unit x us) ≡ true → In x xs) → owed us ≡ sum (owed_by us) xs
-owed_sum [] xs d active differ known = sym (sum_none xs)
-owed_sum (u ∷ us) xs d active differ known =
-    let rest = owed_sum us xs d.1 active.1 differ (λ x k. known x (behind (same_id x u.serial) x k)) in
+owed_sum : (us : List RecoveryUnit) (xs : List Id) → UnitsDiffer us → Distinct xs → ((x : Id) → is_some (find_unit x us) ≡ true → In x xs) → owed us ≡ sum (owed_by us) xs
+owed_sum [] xs d differ known = sym (sum_none xs)
+owed_sum (u ∷ us) xs d differ known =
+    let rest = owed_sum us xs d.1 differ (λ x k. known x (behind (same_id x u.serial) x k)) in
     let own : In u.serial xs = known u.serial (ap (λ (t : Bool). is_some (if t then Some u else find_unit u.serial us)) (id_itself u.serial)) in
-    let none : owed_by us u.serial ≡ 0 = ap (λ (o : Option RecoveryUnit). if is_some o then 96 else 0) (none_found u.serial us d.0) in
-    let more = sum_more (owed_by us) u.serial xs differ own none in
-    let same = sum_same (owed_by (u ∷ us)) (or_more u.serial (owed_by us)) xs (λ x. either (same_id x u.serial) x) in
-    let one : ◌≡◌ {A = ℕ} (if u.prepared then 48 else 96) 96 = ap (λ (t : Bool). if t then 48 else 96) active.0 in
-    omega (arith, rest, more, same, one)
+    let none : owed_by us u.serial ≡ 0 = ap owing d.0 in
+    let more = sum_more (owed_by us) u.serial (owed_to u) xs differ own none in
+    let same = sum_same (owed_by (u ∷ us)) (or_more u.serial (owed_to u) (owed_by us)) xs (λ x. either (same_id x u.serial) x) in
+    omega (arith, rest, more, same)
   where
     behind : (t : Bool) (x : Id) → is_some (find_unit x us) ≡ true → is_some (if t then Some u else find_unit x us) ≡ true
     behind true x k = refl
     behind false x k = k
 
-    either : (t : Bool) (x : Id) → ◌≡◌ {A = ℕ} (if is_some (if t then Some u else find_unit x us) then 96 else 0) (if t then 96 else owed_by us x)
+    either : (t : Bool) (x : Id) → owing (if t then Some u else find_unit x us) ≡ (if t then owed_to u else owed_by us x)
     either true x = refl
     either false x = refl
 
--- what units are owed that are begun
-owed_each : (ps : List ℕ) → ◌≡◌ {A = ℕ} (owed_for false ps) (if are_there ps then 96 else 0)
-owed_each [] = refl
-owed_each (p ∷ ps) = refl
+-- A unit that is begun is one of these where it changed something, prepared where it is.
+pub record IsOwed (us : List RecoveryUnit) (u : OpenUnit) : Type 0 where
+  pub there : is_some (find_unit u.serial us) ≡ are_there u.positions
+  pub prepared : (w : RecoveryUnit) → find_unit u.serial us ≡ Some w → w.prepared ≡ u.prepared
 
-pub owed_begun : (us : List RecoveryUnit) (begun : List OpenUnit) → AllByRecursion (λ (u : OpenUnit). (is_some (find_unit u.serial us) ≡ are_there u.positions) × (u.prepared ≡ false)) begun → calls.owed begun ≡ sum (owed_by us) (map (λ (u : OpenUnit). u.serial) begun)
+owed_each : (ps : List ℕ) (p : Bool) (o : Option RecoveryUnit) → is_some o ≡ are_there ps → ((w : RecoveryUnit) → o ≡ Some w → w.prepared ≡ p) → owed_for p ps ≡ owing o
+owed_each [] p None e k = refl
+owed_each [] p (Some w) e k = let never : ⊥ = cc in absurd never
+owed_each (q ∷ ps) p None e k = let never : ⊥ = cc in absurd never
+owed_each (q ∷ ps) p (Some w) e k = ap (λ (t : Bool). if t then 48 else 96) (sym (k w refl))
+
+pub owed_begun : (us : List RecoveryUnit) (begun : List OpenUnit) → AllByRecursion (IsOwed us) begun → calls.owed begun ≡ sum (owed_by us) (serials begun)
 owed_begun us [] each = refl
-owed_begun us (u ∷ begun) each = λ i. (ap (λ (b : Bool). owed_for b u.positions) each.0.1 ∙ owed_each u.positions ∙ ap (λ (t : Bool). if t then 96 else 0) (sym each.0.0)) i + owed_begun us begun each.1 i
+owed_begun us (u ∷ begun) each = λ i. owed_each u.positions u.prepared (find_unit u.serial us) each.0.there each.0.prepared i + owed_begun us begun each.1 i
 
 -- the world owes what the units are owed, where each unit is one of these
-pub owed_alike : (us : List RecoveryUnit) (begun : List OpenUnit) → Distinct (unit_serials us) → AllActive us → Distinct (map (λ (u : OpenUnit). u.serial) begun) → ((x : Id) → is_some (find_unit x us) ≡ true → In x (map (λ (u : OpenUnit). u.serial) begun)) →
-    AllByRecursion (λ (u : OpenUnit). (is_some (find_unit u.serial us) ≡ are_there u.positions) × (u.prepared ≡ false)) begun → owed us ≡ calls.owed begun
-owed_alike us begun d active differ known each = owed_sum us (map (λ (u : OpenUnit). u.serial) begun) d active differ known ∙ sym (owed_begun us begun each)
+pub owed_alike : (us : List RecoveryUnit) (begun : List OpenUnit) → UnitsDiffer us → Distinct (serials begun) → ((x : Id) → is_some (find_unit x us) ≡ true → In x (serials begun)) → AllByRecursion (IsOwed us) begun → owed us ≡ calls.owed begun
+owed_alike us begun d differ known each = owed_sum us (serials begun) d differ known ∙ sym (owed_begun us begun each)

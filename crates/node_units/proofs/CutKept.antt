@@ -18,28 +18,31 @@ use Rattle.unit_laws.proofs.LiveLemmas.{by_changes, by_others}
 use Rattle.unit_table.specs.Places.{AreInOrder}
 use Rattle.unit_table.specs.Units.{OpenUnit, begun, has_changed, unit_at, units_of, with_position}
 use Rattle.unit_table.proofs.OrderLemmas.{at_below}
-use Rattle.run_model.specs.Ordered.{tid_in}
-use Rattle.run_model.specs.World.{Act, File, Node, acted, changed_file, fallen, find_branch, find_file, is_durable, with_changed}
+use Rattle.run_model.specs.World.{tid_in}
+use Rattle.run_model.specs.World.{Act, File, Node, acted, changed_file, fallen, find_branch, find_file, is_durable}
 use Rattle.run_model.specs.Locks.{is_locked}
 use Rattle.run_model.specs.Operations.{first_of, operation_answer}
-use Rattle.run_model.proofs.IdLemmas.{id_itself}
-use Rattle.run_model.proofs.NotedLemmas.{all_append}
+use Rattle.world_laws.proofs.IdLemmas.{id_itself}
+use Rattle.world_laws.proofs.EntryLemmas.{all_append}
 use Rattle.directory_model.specs.Files.{file_at, head_at}
 use Rattle.volume_model.specs.Volumes.{HasDisk, HasVolume, IsEitherOf, IsLeftBy}
 use Rattle.careful_write.specs.Content.{content_of}
 use Rattle.volume_laws.proofs.WholeLemmas.{volume_falls}
-use Rattle.recovery_units.specs.Calls.{IsBroken, IsDone, position_line, unit_act, unit_early, unit_late}
-use Rattle.recovery_units.specs.State.{AreLocks, IsKept, IsUnitOf, are_there, branch_of, changed_at, positions_of}
+use Rattle.recovery_units.specs.Calls.{IsBroken, IsDone, KeepsUp, position_line, unit_act, unit_early, unit_late}
+use Rattle.recovery_units.specs.State.{AreLocks, AreOfBranches, IsKept, IsUnitOf, are_there, changed_at, positions_of}
 use Rattle.unit_world.proofs.Leaving.{down}
 use Rattle.unit_world.proofs.Staying.{changed_set}
 use Rattle.rms_units.specs.Calls as rms
 use Rattle.rms_units.specs.State as state
 use Rattle.rms_units.specs.State.{IsEarly, IsInOrder}
+use Rattle.log_laws.specs.Slots.{Slots}
+use Rattle.commit_protocol.specs.Allowed.{is_prepared}
+use Rattle.world_laws.specs.Nodes.{IsUp}
 use Rattle.node_units.specs.Seen.{seen}
 use Rattle.node_units.proofs.Falling.{disk_sound}
 use Rattle.node_units.proofs.Locking.{locks_more}
 use Rattle.node_units.proofs.Seeing.{all_seen}
-use Rattle.node_units.proofs.UnitCounts.{differ, once_there, unit_is}
+use Rattle.node_units.proofs.UnitCounts.{different, once_there, unit_is}
 use Rattle.node_units.proofs.UnitsMore.{apart_at, changed_branches}
 use Rattle.journal_model.specs.Entries.{Entry, IsEntry, spelling}
 use Rattle.record_operations.specs.declared.ops.RecordOp.TheVariants as op
@@ -47,7 +50,7 @@ use Rattle.script_model.specs.Statements.{Truncate}
 use Rattle.unit_laws.specs.Journal.{entries_for, entry_size}
 use Rattle.unit_laws.specs.Journal as journal
 use Rattle.run_model.specs.Operations.{changes_of}
-use Rattle.run_model.proofs.NotedLemmas.{all_entered}
+use Rattle.world_laws.proofs.EntryLemmas.{all_entered}
 use Rattle.recovery_units.specs.State.{is_change_by}
 use Rattle.volume_model.specs.Entries.{entry_for}
 use Rattle.volume_model.specs.Entries as volume
@@ -73,10 +76,6 @@ one_unit : (u w : OpenUnit) → ◌≡◌ {A = Option OpenUnit} (Some u) (Some w
 one_unit u w e = cc
 
 -- What a unit knows of positions that are noted.
-
-same_branch : (ps : List ℕ) (file : ℕ) (u : OpenUnit) → (t : Bool) → record (branch_of (with_positions ps file u)) { changed = t } ≡ record (branch_of u) { changed = t }
-same_branch [] file u t = refl
-same_branch (p ∷ ps) file u t = same_branch ps file (with_position p file u) t
 
 same_serial : (ps : List ℕ) (file : ℕ) (u : OpenUnit) → (with_positions ps file u).serial ≡ u.serial
 same_serial [] file u = refl
@@ -165,10 +164,11 @@ each_own tid serial f name (c ∷ cs) all =
     let parts = split_all f (entries_for tid serial name cs) (ChangeEntry tid serial name c.key c.before) all in
     all_append (IsOwn serial f) (entries_for tid serial name cs) (ChangeEntry tid serial name c.key c.before ∷ []) (each_own tid serial f name cs parts.0) ((id_itself serial, own_sized tid serial f name c.key c.before parts.1), tt)
 
-module _ (s : state.UnitsState) (v : VolumeState) (order : IsInOrder s v) (at : AreInOrder s.units.places s.units.order) (place : ℕ) (u : OpenUnit) (at_place : unit_at s.units.places place ≡ Some u) (n : Node) (file : File) (b : Branch) (h : FileHead)
-    (kept : IsKept (seen s) v n) (f from : ℕ) (there : head_at v.catalog.heads f ≡ Some h) (found : find_file h.name n.durable.directory ≡ Some file) (found_b : find_branch u.serial n.volatile.branches ≡ Some b) (allowed : rms.change_early h (op.Truncate f from) [] ≡ None)
+module _ (s : state.UnitsState) (v : VolumeState) (order : IsInOrder s v) (at : AreInOrder s.units.places s.units.order) (place : ℕ) (u : OpenUnit) (at_place : unit_at s.units.places place ≡ Some u) (n : Node) (file : File) (b : Branch) (h : FileHead) (log : Slots) (up : IsUp n) (unprepared : is_prepared b.state ≡ false)
+    (kept : IsKept (seen s log) v n) (f from : ℕ) (there : head_at v.catalog.heads f ≡ Some h) (found : find_file h.name n.durable.directory ≡ Some file) (found_b : find_branch u.serial n.volatile.branches ≡ Some b) (allowed : rms.change_early h (op.Truncate f from) [] ≡ None)
     (low : IsEarly v)
-    (t : state.UnitsState) (w : VolumeState) (done : ChangesCut place u f h from s v t w) (size : w.store.disk.size ≡ v.store.disk.size) where
+    (t : state.UnitsState) (w : VolumeState) (done : ChangesCut place u f h from s v t w) (size : w.store.disk.size ≡ v.store.disk.size)
+    (keeps : KeepsUp (unit_early n b h.name file (Truncate from)) (unit_late n b h.name file (Truncate from)) (unit_act b h.name file (Truncate from)) n) where
   abbrev es : List Entry
   es = done.entries
 
@@ -179,7 +179,7 @@ module _ (s : state.UnitsState) (v : VolumeState) (order : IsInOrder s v) (at : 
   keys = cut_asked h from
 
   abbrev m : Node
-  m = made_by.m s v order at place u at_place n file b h kept f from there found found_b allowed low done.early w done.late done.entries done.made
+  m = made_by.m s v order at place u at_place n file b h log up unprepared kept f from there found found_b allowed low done.early w done.late done.entries done.made keeps
 
   abbrev ps : List ℕ
   ps = begins_at v.catalog.ru.end es
@@ -197,37 +197,36 @@ module _ (s : state.UnitsState) (v : VolumeState) (order : IsInOrder s v) (at : 
   fs = entries_for u.tid u.serial h.name cs
 
   some_cs : 1 ≤ length cs
-  some_cs = made_by.many s v order at place u at_place n file b h kept f from there found found_b allowed low done.early w done.late done.entries done.made
+  some_cs = made_by.many s v order at place u at_place n file b h log up unprepared kept f from there found found_b allowed low done.early w done.late done.entries done.made keeps
 
   some_ps : 1 ≤ length ps
-  some_ps = let many = begins_many v.catalog.ru.end es in let entries = made_by.es_many s v order at place u at_place n file b h kept f from there found found_b allowed low done.early w done.late done.entries done.made in omega (arith, many, entries)
+  some_ps = let many = begins_many v.catalog.ru.end es in let entries = made_by.es_many s v order at place u at_place n file b h log up unprepared kept f from there found found_b allowed low done.early w done.late done.entries done.made keeps in omega (arith, many, entries)
 
-  begun_is : (seen t).begun ≡ units_of places s.units.order
+  begun_is : (seen t log).begun ≡ units_of places s.units.order
   begun_is = ap begun done.units
 
   below : place < length s.units.places
   below = at_below s.units.places place (subst IsSome (sym at_place) refl)
 
-  changed_so : branch_of more ≡ record (branch_of u) { changed = true }
-  changed_so = ap (λ (x : Bool). record (branch_of more) { changed = x }) (ap are_there (cut_order.positions_of ps f u) ∙ are_some u.positions ps some_ps) ∙ same_branch ps f u true
+  changed_so : are_there more.positions ≡ true
+  changed_so = ap are_there (cut_order.positions_of ps f u) ∙ are_some u.positions ps some_ps
 
-  branches_are : m.volatile.branches ≡ map branch_of (seen t).begun
-  branches_are =
-      ap (with_changed u.serial) kept.branches
-      ∙ changed_branches place u more (same_serial ps f u) changed_so s.units.places s.units.order below at_place (once_there s v order at n kept place u at_place) (differ s v order at n kept)
-      ∙ ap (map branch_of) (sym begun_is)
+  branches_are : AreOfBranches (seen t log).begun m.volatile.branches
+  branches_are = subst (λ us. AreOfBranches us m.volatile.branches) (sym begun_is)
+      (changed_branches place u more (same_tid ps f u) (same_serial ps f u) (cut_order.prepared_still ps f u) changed_so s.units.places s.units.order below at_place (once_there s log v order at n up kept place u at_place)
+      (different s log v order at n up kept) n.volatile.branches kept.branches)
 
-  locks_are : AreLocks w.catalog.heads (seen t).locks m.volatile.locks
-  locks_are = subst (λ (c : Catalog). AreLocks c.heads (seen t).locks m.volatile.locks) (sym (made_by.catalog_is s v order at place u at_place n file b h kept f from there found found_b allowed low done.early w done.late done.entries done.made))
-      (subst (λ ls. AreLocks (made_by.W s v order at place u at_place n file b h kept f from there found found_b allowed low done.early w done.late done.entries done.made).heads ls m.volatile.locks) (sym done.locks)
-      (locks_renamed v.catalog.heads (made_by.W s v order at place u at_place n file b h kept f from there found found_b allowed low done.early w done.late done.entries done.made).heads (made_by.names_are s v order at place u at_place n file b h kept f from there found found_b allowed low done.early w done.late done.entries done.made) (table.with_locks u.serial f keys s.locks) m.volatile.locks
+  locks_are : AreLocks w.catalog.heads (seen t log).locks m.volatile.locks
+  locks_are = subst (λ (c : Catalog). AreLocks c.heads (seen t log).locks m.volatile.locks) (sym (made_by.catalog_is s v order at place u at_place n file b h log up unprepared kept f from there found found_b allowed low done.early w done.late done.entries done.made keeps))
+      (subst (λ ls. AreLocks (made_by.W s v order at place u at_place n file b h log up unprepared kept f from there found found_b allowed low done.early w done.late done.entries done.made keeps).heads ls m.volatile.locks) (sym done.locks)
+      (locks_renamed v.catalog.heads (made_by.W s v order at place u at_place n file b h log up unprepared kept f from there found found_b allowed low done.early w done.late done.entries done.made keeps).heads (made_by.names_are s v order at place u at_place n file b h log up unprepared kept f from there found found_b allowed low done.early w done.late done.entries done.made keeps) (table.with_locks u.serial f keys s.locks) m.volatile.locks
       (locks_more v.catalog.heads (once_of v.catalog.home.node v.store.disk.size v.catalog order.sound order.heads) f h there u.serial keys s.locks n.volatile.locks kept.locks)))
 
   abbrev new_file : File
   new_file = changed_file (is_locked n.volatile.locks h.name) u.serial cs file
 
   directory_is : m.durable.directory ≡ slice_set n.durable.directory f (Some new_file)
-  directory_is = made_by.directory_after s v order at place u at_place n file b h kept f from there found found_b allowed low done.early w done.late done.entries done.made
+  directory_is = made_by.directory_after s v order at place u at_place n file b h log up unprepared kept f from there found found_b allowed low done.early w done.late done.entries done.made keeps
 
   f_small : f < 64
   f_small = head_below v.catalog.heads f h order.heads there
@@ -239,15 +238,15 @@ module _ (s : state.UnitsState) (v : VolumeState) (order : IsInOrder s v) (at : 
   known = let long = done.files in let small = f_small in omega (arith, long, small)
 
   own_fs : AllByRecursion (IsOwn u.serial f) fs
-  own_fs = each_own u.tid u.serial f h.name cs (subst (AllByRecursion IsEntry) (made_by.es_are s v order at place u at_place n file b h kept f from there found found_b allowed low done.early w done.late done.entries done.made) (made_by.enters s v order at place u at_place n file b h kept f from there found found_b allowed low done.early w done.late done.entries done.made).each)
+  own_fs = each_own u.tid u.serial f h.name cs (subst (AllByRecursion IsEntry) (made_by.es_are s v order at place u at_place n file b h log up unprepared kept f from there found found_b allowed low done.early w done.late done.entries done.made keeps) (made_by.enters s v order at place u at_place n file b h log up unprepared kept f from there found found_b allowed low done.early w done.late done.entries done.made keeps).each)
 
   own_after : IsUnitOf m more
   own_after =
-      let is = unit_is s v order at n kept place u at_place in
+      let is = unit_is s log v order at n up kept place u at_place in
       let end : v.catalog.ru.end ≡ n.durable.units.first + entries_size js = kept.has.journal.end in
       record {
         positions = cut_order.positions_of ps f u
-            ∙ (λ i. is.positions i ++ (ap (begins_at v.catalog.ru.end) (made_by.es_are s v order at place u at_place n file b h kept f from there found found_b allowed low done.early w done.late done.entries done.made) ∙ own_positions u.serial f v.catalog.ru.end fs own_fs ∙ ap (λ (q : ℕ). positions_of u.serial q fs) end) i)
+            ∙ (λ i. is.positions i ++ (ap (begins_at v.catalog.ru.end) (made_by.es_are s v order at place u at_place n file b h log up unprepared kept f from there found found_b allowed low done.early w done.late done.entries done.made keeps) ∙ own_positions u.serial f v.catalog.ru.end fs own_fs ∙ ap (λ (q : ℕ). positions_of u.serial q fs) end) i)
             ∙ sym (positions_append u.serial n.durable.units.first js fs) ∙ ap (λ (x : Id). positions_of x n.durable.units.first (js ++ fs)) (sym (same_serial ps f u));
         files = λ g. ap (λ (x : Id). changed_at x (file_at m.durable.directory g)) (same_serial ps f u) ∙ elim (cases_eq g f) [
           | inl here ↦
@@ -262,7 +261,6 @@ module _ (s : state.UnitsState) (v : VolumeState) (order : IsInOrder s v) (at : 
             (subst (λ (y : Id). AllByRecursion (λ (e : JournalEntry). same_id u.serial (serial_in e) ≡ true → y ≡ tid_in e) (js ++ fs)) (sym (same_tid ps f u))
             (all_append (λ (e : JournalEntry). same_id u.serial (serial_in e) ≡ true → u.tid ≡ tid_in e) js fs is.transaction
             (all_entered (λ (e : JournalEntry). same_id u.serial (serial_in e) ≡ true → u.tid ≡ tid_in e) u.tid u.serial h.name cs (λ c same. refl))));
-        active = cut_order.prepared_still ps f u ∙ is.active;
       }
 
   other_after : (x : OpenUnit) → IsUnitOf n x → same_id x.serial u.serial ≡ false → IsUnitOf m x
@@ -272,78 +270,78 @@ module _ (s : state.UnitsState) (v : VolumeState) (order : IsInOrder s v) (at : 
         ∙ sym (positions_append x.serial n.durable.units.first js fs);
     files = λ g.
         ap (λ ds. changed_at x.serial (file_at ds g)) directory_is
-        ∙ changed_set n.durable.directory f new_file x.serial wide (still_changed x.serial u.serial cs file.history other ∙ ap (changed_at x.serial) (sym (made_by.at_f s v order at place u at_place n file b h kept f from there found found_b allowed low done.early w done.late done.entries done.made))) g ∙ is.files g;
+        ∙ changed_set n.durable.directory f new_file x.serial wide (still_changed x.serial u.serial cs file.history other ∙ ap (changed_at x.serial) (sym (made_by.at_f s v order at place u at_place n file b h log up unprepared kept f from there found found_b allowed low done.early w done.late done.entries done.made keeps))) g ∙ is.files g;
     transaction = all_append (λ (e : JournalEntry). same_id x.serial (serial_in e) ≡ true → x.tid ≡ tid_in e) js fs is.transaction
         (all_entered (λ (e : JournalEntry). same_id x.serial (serial_in e) ≡ true → x.tid ≡ tid_in e) u.tid u.serial h.name cs (λ c same. absurd (both_ways _ other same)));
-    active = is.active;
   }
 
-  each_after : AllByRecursion (IsUnitOf m) (seen t).begun
+  each_after : AllByRecursion (IsUnitOf m) (seen t log).begun
   each_after = subst (AllByRecursion (IsUnitOf m)) (sym begun_is)
       (all_seen (IsUnitOf m) places s.units.order (λ p x at_p. elim (cases_eq p place) [
         | inl here ↦ subst (IsUnitOf m) (one_unit more x (sym (get_or-set_same s.units.places place (Some more) None below) ∙ ap (unit_at places) (sym here) ∙ at_p)) own_after
         | inr apart ↦
             let old : unit_at s.units.places p ≡ Some x = sym (get_or-set_other s.units.places place p (Some more) None apart) ∙ at_p in
-            let own_once = once_there s v order at n kept place u at_place in
-            let its_once = once_there s v order at n kept p x old in
-            other_after x (unit_is s v order at n kept p x old)
-            (apart_at s.units.places s.units.order p place x u apart old at_place (omega (arith, its_once)) (omega (arith, own_once)) (differ s v order at n kept))
+            let own_once = once_there s log v order at n up kept place u at_place in
+            let its_once = once_there s log v order at n up kept p x old in
+            other_after x (unit_is s log v order at n up kept p x old)
+            (apart_at s.units.places s.units.order p place x u apart old at_place (omega (arith, its_once)) (omega (arith, own_once)) (different s log v order at n up kept))
       ]))
 
   now : (d : Content) × (w.store.current ≡ Some d)
-  now = made_by.told_after s v order at place u at_place n file b h kept f from there found found_b allowed low done.early w done.late done.entries done.made
+  now = made_by.told_after s v order at place u at_place n file b h log up unprepared kept f from there found found_b allowed low done.early w done.late done.entries done.made keeps
 
-  kept_then : IsKept (seen t) w m
+  kept_then : IsKept (seen t log) w m
   kept_then = record {
     content = now.0;
     told = now.1;
-    name = kept.name ∙ sym (made_by.node_after s v order at place u at_place n file b h kept f from there found found_b allowed low done.early w done.late done.entries done.made);
+    name = kept.name ∙ sym (made_by.node_after s v order at place u at_place n file b h log up unprepared kept f from there found found_b allowed low done.early w done.late done.entries done.made keeps);
     blocks = kept.blocks ∙ sym size;
-    has = subst (λ (c : Catalog). HasVolume now.0 c m) (sym (made_by.catalog_is s v order at place u at_place n file b h kept f from there found found_b allowed low done.early w done.late done.entries done.made)) (made_by.volume_after s v order at place u at_place n file b h kept f from there found found_b allowed low done.early w done.late done.entries done.made now.0 now.1);
+    has = subst (λ (c : Catalog). HasVolume now.0 c m) (sym (made_by.catalog_is s v order at place u at_place n file b h log up unprepared kept f from there found found_b allowed low done.early w done.late done.entries done.made keeps)) (made_by.volume_after s v order at place u at_place n file b h log up unprepared kept f from there found found_b allowed low done.early w done.late done.entries done.made keeps now.0 now.1);
+    log = kept.log;
     branches = branches_are;
     locks = locks_are;
-    holds = made_by.holds_then s v order at place u at_place n file b h kept f from there found found_b allowed low done.early w done.late done.entries done.made;
     each = each_after;
   }
 
-  pub cut_done : (told : ℕ) → told ≡ 0 → IsDone (unit_early n b h.name file (Truncate from)) (unit_late n b h.name file (Truncate from)) (unit_act b h.name file (Truncate from)) (operation_answer file (Truncate from)) (position_line told) n (seen t) w
+  pub cut_done : (told : ℕ) → told ≡ 0 → IsDone (unit_early n b h.name file (Truncate from)) (unit_late n b h.name file (Truncate from)) (unit_act b h.name file (Truncate from)) (operation_answer file (Truncate from)) (position_line told) n (seen t log) w
   cut_done told is = record {
-    allowed = (λ i. first_of (made_by.early_none s v order at place u at_place n file b h kept f from there found found_b allowed low done.early w done.late done.entries done.made i) (made_by.late_none s v order at place u at_place n file b h kept f from there found found_b allowed low done.early w done.late done.entries done.made i));
-    kept = subst (λ (act : Act). IsKept (seen t) w (acted act n)) (made_by.act_is s v order at place u at_place n file b h kept f from there found found_b allowed low done.early w done.late done.entries done.made) kept_then;
+    allowed = (λ i. first_of (made_by.early_none s v order at place u at_place n file b h log up unprepared kept f from there found found_b allowed low done.early w done.late done.entries done.made keeps i) (made_by.late_none s v order at place u at_place n file b h log up unprepared kept f from there found found_b allowed low done.early w done.late done.entries done.made keeps i));
+    kept = subst (λ (act : Act). IsKept (seen t log) w (acted act n)) (made_by.act_is s v order at place u at_place n file b h log up unprepared kept f from there found found_b allowed low done.early w done.late done.entries done.made keeps) kept_then;
     answers = ap position_line (sym is);
   }
 
 -- The disk went down.
-module _ (s : state.UnitsState) (v : VolumeState) (order : IsInOrder s v) (at : AreInOrder s.units.places s.units.order) (place : ℕ) (u : OpenUnit) (at_place : unit_at s.units.places place ≡ Some u) (n : Node) (file : File) (b : Branch) (h : FileHead)
-    (kept : IsKept (seen s) v n) (f from : ℕ) (there : head_at v.catalog.heads f ≡ Some h) (found : find_file h.name n.durable.directory ≡ Some file) (found_b : find_branch u.serial n.volatile.branches ≡ Some b) (allowed : rms.change_early h (op.Truncate f from) [] ≡ None)
+module _ (s : state.UnitsState) (v : VolumeState) (order : IsInOrder s v) (at : AreInOrder s.units.places s.units.order) (place : ℕ) (u : OpenUnit) (at_place : unit_at s.units.places place ≡ Some u) (n : Node) (file : File) (b : Branch) (h : FileHead) (log : Slots) (up : IsUp n) (unprepared : is_prepared b.state ≡ false)
+    (kept : IsKept (seen s log) v n) (f from : ℕ) (there : head_at v.catalog.heads f ≡ Some h) (found : find_file h.name n.durable.directory ≡ Some file) (found_b : find_branch u.serial n.volatile.branches ≡ Some b) (allowed : rms.change_early h (op.Truncate f from) [] ≡ None)
     (low : IsEarly v)
-    (w : VolumeState) (broke : CutBroke u f h from s v w) where
+    (w : VolumeState) (broke : CutBroke u f h from s v w)
+    (keeps : KeepsUp (unit_early n b h.name file (Truncate from)) (unit_late n b h.name file (Truncate from)) (unit_act b h.name file (Truncate from)) n) where
   abbrev act : Act
   act = unit_act b h.name file (Truncate from)
 
   module _ (new : VolumeState) (is : IsCut u f h from s v new) where
     left_after : (d : Content) → Some d ≡ new.store.current → IsLeftBy d (acted act (fallen (Some act) n))
-    left_after d told = subst (λ (x : Act). IsLeftBy d (acted x (fallen (Some act) n))) (made_by.act_is s v order at place u at_place n file b h kept f from there found found_b allowed low broke.early new is.late is.entries is.makes) record {
-      catalog = made_by.W s v order at place u at_place n file b h kept f from there found found_b allowed low broke.early new is.late is.entries is.makes;
-      tells = made_by.tells_after s v order at place u at_place n file b h kept f from there found found_b allowed low broke.early new is.late is.entries is.makes d (sym told);
-      sound = made_by.sound_after s v order at place u at_place n file b h kept f from there found found_b allowed low broke.early new is.late is.entries is.makes;
-      leaves = λ whole. down d (made_by.W s v order at place u at_place n file b h kept f from there found found_b allowed low broke.early new is.late is.entries is.makes) (made_by.m s v order at place u at_place n file b h kept f from there found found_b allowed low broke.early new is.late is.entries is.makes) (acted (made_by.deed s v order at place u at_place n file b h kept f from there found found_b allowed low broke.early new is.late is.entries is.makes) (fallen (Some act) n)) (volume_falls d (made_by.W s v order at place u at_place n file b h kept f from there found found_b allowed low broke.early new is.late is.entries is.makes) (made_by.m s v order at place u at_place n file b h kept f from there found found_b allowed low broke.early new is.late is.entries is.makes) (made_by.volume_after s v order at place u at_place n file b h kept f from there found found_b allowed low broke.early new is.late is.entries is.makes d (sym told))) refl refl refl;
+    left_after d told = subst (λ (x : Act). IsLeftBy d (acted x (fallen (Some act) n))) (made_by.act_is s v order at place u at_place n file b h log up unprepared kept f from there found found_b allowed low broke.early new is.late is.entries is.makes keeps) record {
+      catalog = made_by.W s v order at place u at_place n file b h log up unprepared kept f from there found found_b allowed low broke.early new is.late is.entries is.makes keeps;
+      tells = made_by.tells_after s v order at place u at_place n file b h log up unprepared kept f from there found found_b allowed low broke.early new is.late is.entries is.makes keeps d (sym told);
+      sound = made_by.sound_after s v order at place u at_place n file b h log up unprepared kept f from there found found_b allowed low broke.early new is.late is.entries is.makes keeps;
+      leaves = λ whole. down d (made_by.W s v order at place u at_place n file b h log up unprepared kept f from there found found_b allowed low broke.early new is.late is.entries is.makes keeps) (made_by.m s v order at place u at_place n file b h log up unprepared kept f from there found found_b allowed low broke.early new is.late is.entries is.makes keeps) (acted (made_by.deed s v order at place u at_place n file b h log up unprepared kept f from there found found_b allowed low broke.early new is.late is.entries is.makes keeps) (fallen (Some act) n)) (volume_falls d (made_by.W s v order at place u at_place n file b h log up unprepared kept f from there found found_b allowed low broke.early new is.late is.entries is.makes keeps) (made_by.m s v order at place u at_place n file b h log up unprepared kept f from there found found_b allowed low broke.early new is.late is.entries is.makes keeps) (made_by.volume_after s v order at place u at_place n file b h log up unprepared kept f from there found found_b allowed low broke.early new is.late is.entries is.makes keeps d (sym told))) refl refl refl;
     }
 
     either_left : (d : Content) → IsTold v.catalog.ru (content v.store) d ⊎ (Some d ≡ new.store.current) → IsEitherOf (fallen (Some act) n) d
-    either_left d (inl old) = inl (told_left s v order n kept (Some act) d old)
-    either_left d (inr now) = inr (act, refl, left_after d now)
+    either_left d (inl old) = inl (told_left s v order n log kept (Some act) d old)
+    either_left d (inr now) = inr (inl (act, refl, left_after d now))
 
     durable_act : is_durable act ≡ true
-    durable_act = ap is_durable (sym (made_by.act_is s v order at place u at_place n file b h kept f from there found found_b allowed low broke.early new is.late is.entries is.makes))
+    durable_act = ap is_durable (sym (made_by.act_is s v order at place u at_place n file b h log up unprepared kept f from there found found_b allowed low broke.early new is.late is.entries is.makes keeps))
 
     late_then : unit_late n b h.name file (Truncate from) ≡ None
-    late_then = made_by.late_none s v order at place u at_place n file b h kept f from there found found_b allowed low broke.early new is.late is.entries is.makes
+    late_then = made_by.late_none s v order at place u at_place n file b h log up unprepared kept f from there found found_b allowed low broke.early new is.late is.entries is.makes keeps
 
   pub cut_broken : IsBroken (unit_early n b h.name file (Truncate from)) (unit_late n b h.name file (Truncate from)) act n w.store.disk
-  cut_broken = record { begun = cut_begun s v order at place u at_place n file b h kept f from there found found_b allowed broke.early; disk = go broke.breaks }
+  cut_broken = record { begun = cut_begun s v order at place u at_place n file b h log up unprepared kept f from there found found_b allowed broke.early; disk = go broke.breaks }
     where
       go : BreaksCut (IsCut u f h from s v) v w →
           HasDisk (fallen None n) w.store.disk ⊎ ((unit_late n b h.name file (Truncate from) ≡ None) × (is_durable act ≡ true) × HasDisk (fallen (Some act) n) w.store.disk)
-      go (inl old) = inl (disk_sound (fallen None n) w.store.disk kept.has.home.volume (λ image may. let is = old image may in (is.0, inl (told_left s v order n kept None (content_of image) is.1))))
+      go (inl old) = inl (disk_sound (fallen None n) w.store.disk kept.has.home.volume (λ image may. let is = old image may in (is.0, inl (told_left s v order n log kept None (content_of image) is.1))))
       go (inr new) = inr (late_then new.made new.is, durable_act new.made new.is, disk_sound (fallen (Some act) n) w.store.disk kept.has.home.volume (λ image may. let is = new.either image may in (is.0, either_left new.made new.is (content_of image) is.1)))

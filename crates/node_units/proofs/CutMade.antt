@@ -1,8 +1,8 @@
 -- A unit truncated a file: the volume is that of the node after it.
-use Rattle.std.proofs.Common.{◌≡◌, ℕ, zero, suc, ◌+◌, ◌-◌, ◌<◌, ◌≤◌, List, [], ◌∷◌, ◌++◌, true, not, Option, Some, None, IfSome, length, map, drop, reverse, slice_set, refl, sym, ◌∙◌, ap, subst, arith, inl, inr, append-nil, append_assoc, get_or-set_same, length-append, length-set}
-use Rattle.std.specs.Prelude.{◌==◌, nat_lt, option_map}
+use Rattle.std.proofs.Common.{◌≡◌, ℕ, zero, suc, ◌+◌, ◌-◌, ◌<◌, ◌≤◌, List, [], ◌∷◌, ◌++◌, true, not, Option, Some, None, IfSome, length, map, drop, reverse, slice_set, refl, sym, ◌∙◌, ap, subst, arith, inl, inr, append-nil, get_or-set_same, length-append, length-set, false}
+use Rattle.std.specs.Prelude.{◌==◌, option_map}
 use Rattle.std.specs.List.{AllByRecursion, flat_map}
-use Rattle.std.proofs.lemmas.Bool.{cases_lt, ltb-false}
+use Rattle.std.proofs.lemmas.Bool.{cases_lt}
 use Rattle.std.proofs.lemmas.List.{reverse-append}
 use Rattle.block_disk.specs.Blocks.{block_at}
 use Rattle.commit_protocol.specs.Table.{Branch}
@@ -41,25 +41,27 @@ use Rattle.seq_file.specs.Records.{cut_from}
 use Rattle.seq_file.proofs.RecordLaws.{record_at_past}
 use Rattle.unit_journal.specs.Room as room
 use Rattle.unit_journal.specs.Entries as spelled
-use Rattle.unit_laws.specs.Journal.{ChangeEntry, JournalEntry, end_of, entries_for, units_in, with_entries as with_more}
+use Rattle.unit_laws.specs.Journal.{ChangeEntry, JournalEntry, end_of, entries_for, with_entries as with_more}
 use Rattle.unit_laws.specs.Units.{has_changes}
 use Rattle.unit_laws.proofs.TrimLemmas.{size_append}
 use Rattle.unit_table.specs.Places.{AreInOrder}
 use Rattle.unit_table.specs.Units.{OpenUnit, unit_at}
-use Rattle.run_model.specs.Answers.{found_refused, held_against, is_marked, journal_full, keys_refused, lock_limit, more_changes, more_locks, operation_act}
+use Rattle.run_model.specs.Answers.{found_refused, held_against, is_marked, journal_full, keys_refused, more_changes, more_locks, operation_act}
 use Rattle.run_model.specs.Locks.{is_locked, not_locked}
 use Rattle.run_model.specs.Locks as world
 use Rattle.run_model.specs.Operations.{changes_of, data_refused, file_full, first_of, form_refused, in_order, keys_asked, keys_held, removed}
-use Rattle.run_model.specs.Ordered.{IsImageOf, IsKeyOf, IsNoteOf}
-use Rattle.run_model.specs.Promises.{In}
-use Rattle.run_model.specs.Running.{HasBranches}
+use Rattle.world_laws.specs.Ordered.{IsImageOf, IsJournalInOrder, IsKeyOf, IsNoteOf}
+use Rattle.commit_protocol.specs.World.{In}
 use Rattle.run_model.specs.World as nodes
-use Rattle.run_model.specs.World.{Act, Changes, File, IsUnprepared, Node, acted, changed_file, find_branch, find_file, serials_of}
-use Rattle.run_model.proofs.AnswerLemmas.{neither, not_refused}
-use Rattle.run_model.proofs.FoundLemmas.{changes_asked, changes_found}
-use Rattle.run_model.proofs.HeldLemmas.{free_for}
-use Rattle.run_model.proofs.RoomLemmas.{changes_have_room}
-use Rattle.run_model.proofs.NotedLemmas.{all_append, all_entered}
+use Rattle.run_model.specs.World.{Act, Changes, File, AreUnitsOf, Node, acted, changed_file, find_branch, find_file}
+use Rattle.world_laws.proofs.AnswerLemmas.{neither, not_refused}
+use Rattle.world_laws.proofs.FoundLemmas.{changes_asked, changes_found}
+use Rattle.world_laws.proofs.HeldLemmas.{free_for}
+use Rattle.world_laws.proofs.RoomLemmas.{changes_have_room}
+use Rattle.world_laws.proofs.UndoLemmas.{kept_up}
+use Rattle.restart_laws.specs.Units.{MayChange}
+use Rattle.unit_laws.specs.Units.{is_free}
+use Rattle.volume_laws.proofs.ToldLemmas.{logs_follow}
 use Rattle.script_model.specs.Statements.{Operation, Truncate}
 use Rattle.directory_model.specs.Files.{AreFiles, IsFile, IsFoundAt, IsNamed, file_at, head_at}
 use Rattle.directory_model.specs.Laws.{IsChanged, SameBut}
@@ -78,8 +80,8 @@ use Rattle.volume_model.specs.Volumes.{HasJournal, HasVolume}
 use Rattle.volume_laws.specs.Journals.{SameRing}
 use Rattle.volume_laws.proofs.FollowLemmas.{follow}
 use Rattle.volume_laws.proofs.RingLemmas.{journal_stands}
-use Rattle.recovery_units.specs.Calls.{unit_act, unit_early, unit_late}
-use Rattle.recovery_units.specs.State.{IsKept, IsUnitOf, branch_of}
+use Rattle.recovery_units.specs.Calls.{KeepsUp, unit_act, unit_early, unit_late}
+use Rattle.recovery_units.specs.State.{IsKept, IsOfBranch}
 use Rattle.rms_units.specs.Calls as rms
 use Rattle.rms_units.specs.Changing as changing
 use Rattle.unit_cuts.specs.Records.{OfRecords}
@@ -88,10 +90,14 @@ use Rattle.rms_units.specs.State.{IsEarly, IsInOrder}
 use Rattle.rms_units.specs.Truncating.{MakesCut, cut_asked, cut_early, number_refused}
 use Rattle.unit_cuts.specs.Truncating.{EntersCut, IsBehind, cut_entries, entry_sizes, keys_cut, removed_from, span_behind, with_entries}
 use Rattle.unit_cuts.proofs.CutEntering.{entries_long, entries_more, journal_more}
+use Rattle.log_laws.specs.Slots.{Slots}
+use Rattle.commit_protocol.specs.Allowed.{is_prepared}
+use Rattle.world_laws.specs.Nodes.{IsUp}
 use Rattle.node_units.specs.Seen.{seen}
 use Rattle.node_units.proofs.AskedCut.{keys_alike, many_alike}
 use Rattle.node_units.proofs.BehindVolume.{behind_tells, behind_volume, sound_of}
-use Rattle.node_units.proofs.BranchChanges.{MayMake, frees, holds_after, may_change, order_after, units_after}
+use Rattle.node_units.proofs.BranchChanges.{MayMake, frees, may_change, order_after, units_after}
+use Rattle.node_units.proofs.Branches.{found_there}
 use Rattle.node_units.proofs.CutRefusals.{Entries, behind_end, cut_begun, cut_file, cut_kind, cut_late, cut_own, each_told, none_if, size_is, some_position}
 use Rattle.node_units.proofs.CuttingFile.{cut_changes}
 use Rattle.node_units.proofs.EnteredKey.{ru_long, ru_written}
@@ -100,7 +106,6 @@ use Rattle.node_units.proofs.KeyMade.{each_free, entry_is, is_true, same_file}
 use Rattle.node_units.proofs.KeyRefusals.{few_records}
 use Rattle.node_units.proofs.ReadLemmas.{asked_file, first_none}
 use Rattle.node_units.proofs.SettingFile.{IsOfNode, KeepsRest, keeps_rest, ring_same}
-use Rattle.node_units.proofs.UnitCounts.{in_branches, unit_is}
 use Rattle.unit_world.proofs.Blocks.{other_block, whole_set}
 
 abbrev Content : Type 0
@@ -165,9 +170,10 @@ some_changes : (cs : List Change) → 1 ≤ length cs → has_changes cs ≡ tru
 some_changes [] some = absurd (omega (arith, some))
 some_changes (c ∷ cs) some = refl
 
-module _ (s : state.UnitsState) (v : VolumeState) (order : IsInOrder s v) (at : AreInOrder s.units.places s.units.order) (place : ℕ) (u : OpenUnit) (at_place : unit_at s.units.places place ≡ Some u) (n : Node) (file : File) (b : Branch) (h : FileHead)
-    (kept : IsKept (seen s) v n) (f from : ℕ) (there : head_at v.catalog.heads f ≡ Some h) (found : find_file h.name n.durable.directory ≡ Some file) (found_b : find_branch u.serial n.volatile.branches ≡ Some b) (allowed : rms.change_early h (op.Truncate f from) [] ≡ None)
-    (low : IsEarly v) (early : cut_early u f h from s.locks ≡ None) (w : VolumeState) (late : OfRecords h v (λ m. room.journal_refused v.catalog.ru s.units.places u (entry_sizes m (keys_cut h from)) ≡ None)) (es : List Entry) (made : MakesCut u f h from es v w) where
+module _ (s : state.UnitsState) (v : VolumeState) (order : IsInOrder s v) (at : AreInOrder s.units.places s.units.order) (place : ℕ) (u : OpenUnit) (at_place : unit_at s.units.places place ≡ Some u) (n : Node) (file : File) (b : Branch) (h : FileHead) (log : Slots) (up : IsUp n) (unprepared : is_prepared b.state ≡ false)
+    (kept : IsKept (seen s log) v n) (f from : ℕ) (there : head_at v.catalog.heads f ≡ Some h) (found : find_file h.name n.durable.directory ≡ Some file) (found_b : find_branch u.serial n.volatile.branches ≡ Some b) (allowed : rms.change_early h (op.Truncate f from) [] ≡ None)
+    (low : IsEarly v) (early : cut_early u f h from s.locks ≡ None) (w : VolumeState) (late : OfRecords h v (λ m. room.journal_refused v.catalog.ru s.units.places u (entry_sizes m (keys_cut h from)) ≡ None)) (es : List Entry) (made : MakesCut u f h from es v w)
+    (keeps : KeepsUp (unit_early n b h.name file (Truncate from)) (unit_late n b h.name file (Truncate from)) (unit_act b h.name file (Truncate from)) n) where
   abbrev said : Operation
   said = Truncate from
 
@@ -187,13 +193,13 @@ module _ (s : state.UnitsState) (v : VolumeState) (order : IsInOrder s v) (at : 
   going = drop (from - 1) (in_order file)
 
   file_is : IsFile a h file
-  file_is = cut_file s v order at place u at_place n file b h kept f from there found found_b allowed
+  file_is = cut_file s v order at place u at_place n file b h log up unprepared kept f from there found found_b allowed
 
   kind : h.organization ≡ kept_by.Sequential
-  kind = cut_kind s v order at place u at_place n file b h kept f from there found found_b allowed
+  kind = cut_kind s v order at place u at_place n file b h log up unprepared kept f from there found found_b allowed
 
-  own_is : b ≡ branch_of u
-  own_is = cut_own s v order at place u at_place n file b h kept f from there found found_b allowed
+  own_is : IsOfBranch u b
+  own_is = cut_own s v order at place u at_place n file b h log up unprepared kept f from there found found_b allowed
 
   -- Nothing refuses it.
 
@@ -210,10 +216,10 @@ module _ (s : state.UnitsState) (v : VolumeState) (order : IsInOrder s v) (at : 
   room_none = late a kept.told file_is.head.form file_is.laid
 
   pub early_none : unit_early n b h.name file said ≡ None
-  early_none = cut_begun s v order at place u at_place n file b h kept f from there found found_b allowed early
+  early_none = cut_begun s v order at place u at_place n file b h log up unprepared kept f from there found found_b allowed early
 
   pub late_none : unit_late n b h.name file said ≡ None
-  late_none = sym (cut_late s v order at place u at_place n file b h kept f from there found found_b allowed)
+  late_none = sym (cut_late s v order at place u at_place n file b h log up unprepared kept f from there found found_b allowed)
       ∙ (λ i. option_map cause_line (first_cause (number_none i) (first_cause ((first_none (number_refused (length u.positions) (removed_from h.count from)) (changing.keys_refused f keys s.locks) behind_locks).1 i) (room_none i))))
 
   pub many : 1 ≤ length cs
@@ -229,9 +235,9 @@ module _ (s : state.UnitsState) (v : VolumeState) (order : IsInOrder s v) (at : 
   m = acted deed n
 
   pub act_is : deed ≡ unit_act b h.name file said
-  act_is = go cs many ∙ (λ i. operation_act (sym own_is i) h.name cs (sym keys_are i))
+  act_is = (λ i. Changes (sym own_is.tid i) (sym own_is.serial i) h.name cs keys) ∙ go cs many ∙ ap (operation_act b h.name cs) (sym keys_are)
     where
-      go : (ds : List Change) → 1 ≤ length ds → Changes u.tid u.serial h.name ds keys ≡ operation_act (branch_of u) h.name ds keys
+      go : (ds : List Change) → 1 ≤ length ds → Changes b.key.tid b.key.serial h.name ds keys ≡ operation_act b h.name ds keys
       go [] none = absurd (omega (arith, none))
       go (c ∷ ds) more = refl
 
@@ -247,11 +253,8 @@ module _ (s : state.UnitsState) (v : VolumeState) (order : IsInOrder s v) (at : 
   mark_none : file.recovery_units ≡ true
   mark_none = is_true file.recovery_units (not_refused (not file.recovery_units) line.NotMarked (neither (is_marked file) (keys_refused n (Some b.key.serial) h.name (keys_asked file said)) behind_form).0)
 
-  keys_none : keys_refused n (Some u.serial) h.name (keys_asked file said) ≡ None
-  keys_none = sym (λ i. keys_refused n (Some (own_is i).key.serial) h.name (keys_asked file said)) ∙ (neither (is_marked file) (keys_refused n (Some b.key.serial) h.name (keys_asked file said)) behind_form).1
-
-  locks_none : more_locks n h.name keys ≡ None
-  locks_none = ap (more_locks n h.name) (sym keys_are) ∙ (neither (more_locks n h.name (keys_held file said)) _ (neither (more_changes n cs b) _ behind_data).1).0
+  keys_none : keys_refused n (Some b.key.serial) h.name (keys_asked file said) ≡ None
+  keys_none = (neither (is_marked file) (keys_refused n (Some b.key.serial) h.name (keys_asked file said)) behind_form).1
 
   bytes_none : journal_full n h.name cs b ≡ None
   bytes_none = (neither (file_full file said) _ (neither (more_locks n h.name (keys_held file said)) _ (neither (more_changes n cs b) _ behind_data).1).1).1
@@ -260,7 +263,7 @@ module _ (s : state.UnitsState) (v : VolumeState) (order : IsInOrder s v) (at : 
   laid = subst (λ (q : Kept). LaidOutBy q h a) kind file_is.laid
 
   told : AllByRecursion (λ (e : Key × List ℕ). map_of h a e.0 ≡ Some e.1) going
-  told = each_told s v order at place u at_place n file b h kept f from there found found_b allowed
+  told = each_told s v order at place u at_place n file b h log up unprepared kept f from there found found_b allowed
 
   noted : AllByRecursion (λ (e : Key × List ℕ). NotedAt h e.0 e.1) going
   noted = each_noted h a going laid (few_records s v order f h there a file file_is kind) (subst (λ (q : Kept). AllByRecursion (λ (e : Key × List ℕ). map_by q h a e.0 ≡ Some e.1) going) kind told)
@@ -268,21 +271,16 @@ module _ (s : state.UnitsState) (v : VolumeState) (order : IsInOrder s v) (at : 
   file_kind : file.organization ≡ nodes.Sequential
   file_kind = file_is.head.organization ∙ ap (λ q. organized_by q h) kind
 
-  may : MayMake n u.tid u.serial h.name file cs keys
+  may : MayMake n b h.name file cs
   may = record {
     some = some_changes cs many;
     found = found;
     marked = mark_none;
-    free = changes_asked (λ k. held_against (Some u.serial) (world.holder n.volatile.locks h.name k) ≡ None) file said data_none (each_free n u.serial h.name (keys_asked file said) keys_none);
-    held = subst (λ ks. AllByRecursion (λ (c : Change). In c.key ks) cs) (keys_alike a h file file_is kind from) (changes_asked (λ k. In k (keys_asked file said)) file said data_none (all_in (keys_asked file said)));
+    free = changes_asked (λ k. held_against (Some b.key.serial) (world.holder n.volatile.locks h.name k) ≡ None) file said data_none (each_free n b.key.serial h.name (keys_asked file said) keys_none);
     notes = changes_found file said;
-    end = λ is moved. (inl refl, (free_for n u.serial h.name (keys_asked file said) keys_none).0);
+    end = λ is moved. (free_for n b.key.serial h.name (keys_asked file said) keys_none).0;
     suit = suit_each file h going file_kind file_is.head.record_size noted;
-    branch = b;
-    own_tid = ap (λ (x : Branch). x.key.tid) own_is;
-    own_serial = ap (λ (x : Branch). x.key.serial) own_is;
     room = changes_have_room n b h.name cs kept.has.order (some_changes cs many) (neither (more_changes n cs b) _ behind_data).0 bytes_none;
-    locks = ltb-false lock_limit (length n.volatile.locks + length (not_locked n.volatile.locks h.name keys)) (not_refused (nat_lt lock_limit (length n.volatile.locks + length (not_locked n.volatile.locks h.name keys))) (line.QuotaExceeded line.Locks lock_limit) locks_none);
   }
 
   -- What was written.
@@ -303,7 +301,7 @@ module _ (s : state.UnitsState) (v : VolumeState) (order : IsInOrder s v) (at : 
   }
 
   has_p : HasVolume p v.catalog n
-  has_p = behind_volume s v order n kept p is_behind
+  has_p = behind_volume s v order n log kept p is_behind
 
   told_p : enters.written.store.current ≡ Some p
   told_p = enters.entered ∙ ap (option_map (with_entries ru es)) kept.told
@@ -320,12 +318,13 @@ module _ (s : state.UnitsState) (v : VolumeState) (order : IsInOrder s v) (at : 
   of_node : IsOfNode n p enters.written
   of_node = record {
     told = told_p;
-    holds = subst (λ o. IfSome o (TellsCatalog enters.written.catalog)) (sym told_p) (subst (λ (k : Catalog). TellsCatalog k p) (sym enters.same) (behind_tells s v order n kept p is_behind));
-    sound = subst (λ (k : Catalog). IsSound n.name n.blocks k) (sym enters.same) (sound_of s v order n kept p is_behind);
+    holds = subst (λ o. IfSome o (TellsCatalog enters.written.catalog)) (sym told_p) (subst (λ (k : Catalog). TellsCatalog k p) (sym enters.same) (behind_tells s v order n log kept p is_behind));
+    sound = subst (λ (k : Catalog). IsSound n.name n.blocks k) (sym enters.same) (sound_of s v order n log kept p is_behind);
     long = ap (λ (k : Catalog). length k.heads) enters.same ∙ order.heads;
     size = enters.size ∙ sym kept.blocks;
     home = subst (λ (k : Catalog). HasHome k.home n) (sym enters.same) has_p.home;
     journal = subst (λ (k : Catalog). HasJournal p k n) (sym enters.same) has_p.journal;
+    log = has_p.log;
   }
 
   there_w : head_at enters.written.catalog.heads f ≡ Some h
@@ -361,11 +360,29 @@ module _ (s : state.UnitsState) (v : VolumeState) (order : IsInOrder s v) (at : 
   pub at_f : file_at n.durable.directory f ≡ Some file
   at_f = at_file.2.there ∙ ap Some (same_file at_file.0 file (sym at_file.2.found ∙ found))
 
-  unit_here : IsUnitOf n u
-  unit_here = unit_is s v order at n kept place u at_place
+  -- the branch is one of the table
+  there_b : In b n.volatile.branches
+  there_b = found_there u.serial n.volatile.branches b found_b
 
-  among_them : In u.serial (serials_of n.volatile.branches)
-  among_them = in_branches s v order at n kept place u at_place
+  -- what holds by the branch holds by its unit
+  by_own : (P : Id → Id → Type 0) → P b.key.tid b.key.serial → P u.tid u.serial
+  by_own P p = subst (λ y. P u.tid y) own_is.serial (subst (λ x. P x b.key.serial) own_is.tid p)
+
+  free_keys : AllByRecursion (λ (c : Change). is_free u.serial file.history.live c.key ≡ true) cs
+  free_keys = by_own (λ t x. AllByRecursion (λ (c : Change). is_free x file.history.live c.key ≡ true) cs) (frees n kept.has.units kept.has.order up b h.name file cs keys f at_f there_b unprepared may)
+
+  changing_may : MayChange u.serial file cs
+  changing_may = by_own (λ t x. MayChange x file cs) (may_change n kept.has.units kept.has.order up b h.name file cs keys f at_f there_b unprepared may)
+
+  units_then : AreUnitsOf m
+  units_then = by_own (λ t x. AreUnitsOf (acted (Changes t x h.name cs keys) n)) (units_after n kept.has.units kept.has.order up b h.name file cs keys f at_f there_b unprepared may)
+
+  order_then : IsJournalInOrder m.durable
+  order_then = by_own (λ t x. IsJournalInOrder (acted (Changes t x h.name cs keys) n).durable) (order_after n kept.has.units kept.has.order up b h.name file cs keys f at_f there_b unprepared may)
+
+  -- the node is up then
+  up_then : IsUp m
+  up_then = subst (λ (a : Act). IsUp (acted a n)) (sym act_is) (keeps (λ i. first_of (early_none i) (late_none i)))
 
   changed_is : IsChanged (is_locked n.volatile.locks h.name) cs p h c enters.head
   changed_is = cut_changes f 65 from h enters.head (is_locked n.volatile.locks h.name) file p c enters.written enters.cut file_p kind some.0 enters.stages cuts_p
@@ -381,14 +398,14 @@ module _ (s : state.UnitsState) (v : VolumeState) (order : IsInOrder s v) (at : 
 
   files_set : AreFiles c V.heads m.durable.directory
   files_set = subst (λ hs. AreFiles c hs m.durable.directory) (sym heads_are)
-      (keeps_files.changes p c v.catalog.heads n f h enters.head h.name file u.tid u.serial cs keys has_p.files kept.has.units named at_f (frees n kept.has.units kept.has.order kept.holds u.tid u.serial h.name file cs keys f at_f file_is.head.name among_them unit_here.transaction may) (reads_files.removed p h file from file_p kind some.0).0 changed_is others)
+      (keeps_files.changes p c v.catalog.heads n f h enters.head h.name file u.tid u.serial cs keys has_p.files kept.has.units named at_f free_keys (reads_files.removed p h file from file_p kind some.0).0 changed_is others)
 
   restorable_set : AreRestorable c V.heads m.durable.directory
   restorable_set = subst (λ hs. AreRestorable c hs m.durable.directory) (sym heads_are)
-      (changes_restorable.cuts p c v.catalog.heads n f from h enters.head h.name file u.tid u.serial keys has_p.files kept.has.units named at_f kind some.0 (may_change n kept.has.units kept.has.order kept.holds u.tid u.serial h.name file cs keys f at_f file_is.head.name among_them unit_here.transaction may) enters.stages.same cuts_p.form cuts_p.laid cuts_p.map others has_p.restorable)
+      (changes_restorable.cuts p c v.catalog.heads n f from h enters.head h.name file u.tid u.serial keys has_p.files kept.has.units named at_f kind some.0 changing_may enters.stages.same cuts_p.form cuts_p.laid cuts_p.map others has_p.restorable)
 
   pub es_are : es ≡ map (entry_for f) (entries_for u.tid u.serial h.name cs)
-  es_are = made.tells a kept.told file_is.head.form file_is.laid ∙ ap (cut_entries u.tid u.serial f (map_of h a)) (behind_end s v order at place u at_place n file b h kept f from there found found_b allowed some.0) ∙ entries_are u.tid u.serial f h.name (map_of h a) h going told noted
+  es_are = made.tells a kept.told file_is.head.form file_is.laid ∙ ap (cut_entries u.tid u.serial f (map_of h a)) (behind_end s v order at place u at_place n file b h log up unprepared kept f from there found found_b allowed some.0) ∙ entries_are u.tid u.serial f h.name (map_of h a) h going told noted
 
   pub es_many : 1 ≤ length es
   es_many = let same = ap length es_are in let long = length_mapped (entries_for u.tid u.serial h.name cs) in let world_long = entries_many u.tid u.serial h.name cs in let more = many in omega (arith, same, long, world_long, more)
@@ -446,16 +463,17 @@ module _ (s : state.UnitsState) (v : VolumeState) (order : IsInOrder s v) (at : 
             let told_es = made.tells a kept.told file_is.head.form file_is.laid in
             let long : length (flat_map spelling es) ≡ entry_sizes (map_of h a) (keys_cut h from) =
             ap (λ xs. length (flat_map spelling xs)) told_es ∙ entries_long u.tid u.serial f (map_of h a) (keys_cut h from) (subst (AllByRecursion IsEntry) told_es enters.each) in
-            let world_size = size_is s v order at place u at_place n file b h kept f from there found found_b allowed u.tid u.serial h.name some.0 in
+            let world_size = size_is s v order at place u at_place n file b h log up unprepared kept f from there found found_b allowed u.tid u.serial h.name some.0 in
             omega (arith, more, end, long, world_size)
 
     pub volume_after : HasVolume d W m
     volume_after = record {
       home = record { volume = rest.home.volume; slots = rest.home.slots; journal = rest.home.journal; boot = rest.home.boot; greatest = rest.home.greatest; last = rest.home.last };
+      log = logs_follow.stays c d n m rest.log refl (λ i below. stands_at (66 + i) (λ t. absurd (omega (arith, t))));
       journal = journal_set;
-      units = units_after n kept.has.units kept.has.order kept.holds u.tid u.serial h.name file cs keys f at_f file_is.head.name among_them unit_here.transaction may;
-      order = order_after n kept.has.units kept.has.order kept.holds u.tid u.serial h.name file cs keys f at_f file_is.head.name among_them unit_here.transaction may;
-      active = all_append IsUnprepared js (entries_for u.tid u.serial h.name cs) kept.has.active (all_entered IsUnprepared u.tid u.serial h.name cs (λ c. tt));
+      units = units_then;
+      order = order_then;
+      told = (kept_up m up_then).log;
       files = stands_on_extents c d V.heads m.durable.directory files_stand files_set;
       restorable = keeps_restorable.stands c d V.heads m.durable.directory files_stand files_set restorable_set;
     }
@@ -467,9 +485,6 @@ module _ (s : state.UnitsState) (v : VolumeState) (order : IsInOrder s v) (at : 
       heads = λ g below. subst (λ (x : List ℕ). TellsEntry x (head_at V.heads g)) (sym (stands_at (1 + g) (λ t. absurd (omega (arith, t, below))))) (rest.tells.heads g below);
       ru = subst (λ (x : List ℕ). home_format.HasRu x after) (sym (ap (λ (x : Content). block_at x 65) set_is ∙ get_or-set_same c 65 (ru_block_of after) [] (let within = ring_p.ring.within in let ring_some = ring_p.ring.some in let size = ring_c.size in let start = order.sound.ru_start in omega (arith, within, ring_some, size, start)))) (ru_written after);
     }
-
-  pub holds_then : HasBranches m
-  holds_then = holds_after n kept.has.units kept.has.order kept.holds u.tid u.serial h.name file cs keys f at_f file_is.head.name among_them unit_here.transaction may
 
   pub catalog_is : w.catalog ≡ W
   catalog_is = enters.catalog

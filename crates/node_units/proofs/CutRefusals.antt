@@ -29,12 +29,12 @@ use Rattle.unit_table.specs.Units.{OpenUnit, unit_at}
 use Rattle.run_model.specs.Answers as answers
 use Rattle.run_model.specs.Answers.{change_limit, found_refused, free_journal, is_marked, journal_full, journal_need, keys_refused, more_changes, more_locks}
 use Rattle.run_model.specs.Operations.{changes_of, data_refused, file_full, first_of, form_refused, free_buckets, in_order, keys_asked, keys_held, refused_if, removed}
-use Rattle.run_model.specs.World.{File, Node, find_branch, find_file}
-use Rattle.run_model.proofs.FoundLemmas.{all_got, dropped, sorted_in}
+use Rattle.run_model.specs.World.{File, Node, changes_made, find_branch, find_file}
+use Rattle.world_laws.proofs.FoundLemmas.{all_got, dropped, sorted_in}
 use Rattle.script_model.specs.Statements.{Operation, Truncate}
 use Rattle.directory_model.specs.Files.{IsFile, head_at}
 use Rattle.recovery_units.specs.Calls.{cause_line, unit_early, unit_late}
-use Rattle.recovery_units.specs.State.{IsKept, branch_of}
+use Rattle.recovery_units.specs.State.{IsKept, IsOfBranch}
 use Rattle.recovery_units.proofs.FormLemmas.{forms, line_if, lines_first}
 use Rattle.rms_units.specs.Calls as rms
 use Rattle.rms_units.specs.Changing as changing
@@ -42,6 +42,9 @@ use Rattle.rms_units.specs.State as state
 use Rattle.rms_units.specs.State.{IsInOrder}
 use Rattle.rms_units.specs.Truncating.{CutRefused, cut_asked, cut_early, number_refused}
 use Rattle.unit_cuts.specs.Truncating.{entry_sizes, keys_cut, removed_from}
+use Rattle.log_laws.specs.Slots.{Slots}
+use Rattle.commit_protocol.specs.Allowed.{is_prepared}
+use Rattle.world_laws.specs.Nodes.{IsUp}
 use Rattle.node_units.specs.Seen.{seen}
 use Rattle.node_units.proofs.AskedCut.{data_alike, keys_alike, many_alike}
 use Rattle.node_units.proofs.Holding.{once_of}
@@ -89,8 +92,8 @@ again : (a b c : Option Cause) → first_cause a (first_cause b c) ≡ first_cau
 again None b c = refl
 again (Some x) b c = refl
 
-module _ (s : state.UnitsState) (v : VolumeState) (order : IsInOrder s v) (at : AreInOrder s.units.places s.units.order) (place : ℕ) (u : OpenUnit) (at_place : unit_at s.units.places place ≡ Some u) (n : Node) (file : File) (b : Branch) (h : FileHead)
-    (kept : IsKept (seen s) v n) (f from : ℕ) (there : head_at v.catalog.heads f ≡ Some h) (found : find_file h.name n.durable.directory ≡ Some file) (found_b : find_branch u.serial n.volatile.branches ≡ Some b) (allowed : rms.change_early h (op.Truncate f from) [] ≡ None) where
+module _ (s : state.UnitsState) (v : VolumeState) (order : IsInOrder s v) (at : AreInOrder s.units.places s.units.order) (place : ℕ) (u : OpenUnit) (at_place : unit_at s.units.places place ≡ Some u) (n : Node) (file : File) (b : Branch) (h : FileHead) (log : Slots) (up : IsUp n) (unprepared : is_prepared b.state ≡ false)
+    (kept : IsKept (seen s log) v n) (f from : ℕ) (there : head_at v.catalog.heads f ≡ Some h) (found : find_file h.name n.durable.directory ≡ Some file) (found_b : find_branch u.serial n.volatile.branches ≡ Some b) (allowed : rms.change_early h (op.Truncate f from) [] ≡ None) where
   abbrev said : Operation
   said = Truncate from
 
@@ -106,8 +109,8 @@ module _ (s : state.UnitsState) (v : VolumeState) (order : IsInOrder s v) (at : 
   pub cut_file : IsFile kept.content h file
   cut_file = asked_file kept.content v.catalog.heads n f h file kept.has.files kept.has.units there found
 
-  pub cut_own : b ≡ branch_of u
-  cut_own = branch_is s v order at n kept place u at_place b found_b
+  pub cut_own : IsOfBranch u b
+  cut_own = branch_is s log v order at n up kept place u at_place b found_b
 
   parts : (form.truncate_refused h ≡ None) × (cause_if (not h.marks.ru) NotMarked ≡ None)
   parts = first_none (form.truncate_refused h) (cause_if (not h.marks.ru) NotMarked) allowed
@@ -132,7 +135,7 @@ module _ (s : state.UnitsState) (v : VolumeState) (order : IsInOrder s v) (at : 
   locks_are : option_map cause_line (changing.locks_refuse (Some u.serial) f keys s.locks) ≡ L
   locks_are =
       locks_alike v.catalog.heads once f h there n s.locks kept.locks (Some u.serial) keys
-      ∙ (λ i. keys_refused n (Some (sym cut_own i).key.serial) h.name (sym (keys_alike kept.content h file cut_file cut_kind from) i))
+      ∙ (λ i. keys_refused n (Some (sym cut_own.serial i)) h.name (sym (keys_alike kept.content h file cut_file cut_kind from) i))
 
   early_is : unit_early n b h.name file said ≡ L
   early_is = λ i. first_of (form_none i) (first_of (mark_none i) L)
@@ -160,8 +163,8 @@ module _ (s : state.UnitsState) (v : VolumeState) (order : IsInOrder s v) (at : 
   many_is : 1 ≤ from → option_map cause_line Many ≡ more_changes n cs b
   many_is one =
       line_if (nat_lt 1024 (length u.positions + count)) Changes
-      ∙ (λ i. refused_if (nat_lt change_limit (sym (counted s v order at n kept place u at_place) i + sym (many_alike kept.content h file cut_file cut_kind from one) i)) (line.QuotaExceeded line.Changes change_limit))
-      ∙ (λ i. more_changes n cs (sym cut_own i))
+      ∙ (λ i. refused_if (nat_lt change_limit (sym (counted s log v order at n up kept place u at_place) i + sym (many_alike kept.content h file cut_file cut_kind from one) i)) (line.QuotaExceeded line.Changes change_limit))
+      ∙ (λ i. refused_if (nat_lt change_limit (changes_made (sym cut_own.serial i) n.durable.units + length cs)) (line.QuotaExceeded line.Changes change_limit))
 
   held_is : option_map cause_line Held ≡ more_locks n h.name (keys_held file said)
   held_is = more_alike v.catalog.heads once f h there n s.locks kept.locks keys ∙ ap (more_locks n h.name) (sym (append-nil (keys_asked file said) ∙ keys_alike kept.content h file cut_file cut_kind from))
@@ -189,14 +192,14 @@ module _ (s : state.UnitsState) (v : VolumeState) (order : IsInOrder s v) (at : 
       go [] is = let many = sym (many_alike kept.content h file cut_file cut_kind from one) ∙ ap length is in absurd (omega (arith, many, some))
       go (c ∷ ds) is =
           let bytes = ap (λ xs. entries_size (entries_for b.key.tid b.key.serial h.name xs)) (sym is) ∙ size_is b.key.tid b.key.serial h.name one in
-          let owing = ap (λ (x : Branch). answers.owed_first (find_unit x.key.serial (units_in n.durable.units.entries))) cut_own ∙ owed_first_is (find_unit u.serial (units_in n.durable.units.entries)) u.positions (is_there s v order at n kept place u at_place) in
+          let owing = ap (λ (x : Id). answers.owed_first (find_unit x (units_in n.durable.units.entries))) cut_own.serial ∙ owed_first_is (find_unit u.serial (units_in n.durable.units.entries)) u.positions (is_there s log v order at n up kept place u at_place) in
           omega (arith, bytes, owing)
 
   room_is : 1 ≤ from → 1 ≤ count → option_map cause_line Room ≡ journal_full n h.name cs b
   room_is one some =
       let size = entry_sizes (map_of h kept.content) (keys_cut h from) in
       line_if (nat_lt (room.free_bytes v.catalog.ru s.units.places) (room.bytes_wanted u size)) (JournalFull (room.free_bytes v.catalog.ru s.units.places) (room.bytes_wanted u size))
-      ∙ (λ i. let free = sym (free_is s v order at n kept) i in let need = sym (need_is one some) i in refused_if (nat_lt free need) (line.JournalFull free need))
+      ∙ (λ i. let free = sym (free_is s log v order at n up kept) i in let need = sym (need_is one some) i in refused_if (nat_lt free need) (line.JournalFull free need))
 
   pub cut_late : option_map cause_line (first_cause (number_refused (length u.positions) count) (first_cause Held Room)) ≡ unit_late n b h.name file said
   cut_late = go (count == 0) refl
@@ -232,10 +235,10 @@ module _ (s : state.UnitsState) (v : VolumeState) (order : IsInOrder s v) (at : 
       ∙ ap (option_map cause_line) (again (number_refused (length u.positions) count) Held Room ∙ ap (λ x. first_cause x Room) parts_of.1 ∙ late.1 kept.content kept.told cut_file.head.form cut_file.laid)
 
 -- a truncation is refused by its form, by the file's mark, or late
-pub cut_cause : (s : state.UnitsState) (v : VolumeState) → (order : IsInOrder s v) → AreInOrder s.units.places s.units.order → (place : ℕ) (u : OpenUnit) → unit_at s.units.places place ≡ Some u → (n : Node) (file : File) (b : Branch) (h : FileHead) → IsKept (seen s) v n →
+pub cut_cause : (s : state.UnitsState) (v : VolumeState) → (order : IsInOrder s v) → AreInOrder s.units.places s.units.order → (place : ℕ) (u : OpenUnit) → unit_at s.units.places place ≡ Some u → (n : Node) (file : File) (b : Branch) (h : FileHead) (log : Slots) → IsUp n → is_prepared b.state ≡ false → IsKept (seen s log) v n →
     (f from : ℕ) → head_at v.catalog.heads f ≡ Some h → find_file h.name n.durable.directory ≡ Some file → find_branch u.serial n.volatile.branches ≡ Some b → (c : Cause) → rms.ChangeRefused u h (op.Truncate f from) [] c s v →
     first_of (unit_early n b h.name file (Truncate from)) (unit_late n b h.name file (Truncate from)) ≡ Some (cause_line c)
-cut_cause s v order at place u at_place n file b h kept f from there found found_b c (inl early) =
+cut_cause s v order at place u at_place n file b h log up unprepared kept f from there found found_b c (inl early) =
     let is = asked_file kept.content v.catalog.heads n f h file kept.has.files kept.has.units there found in
     let form_is = forms.changes h file (op.Truncate f from) [] is.head tt in
     let mark_is = marked_alike h file is.head in
@@ -244,4 +247,4 @@ cut_cause s v order at place u at_place n file b h kept f from there found found
     let rest = keys_refused n (Some b.key.serial) h.name (keys_asked file (Truncate from)) in
     first_some (unit_early n b h.name file (Truncate from)) (unit_late n b h.name file (Truncate from)) (cause_line c)
     (first_again (form_refused file (Truncate from)) (is_marked file) rest ∙ first_some (first_of (form_refused file (Truncate from)) (is_marked file)) rest (cause_line c) k)
-cut_cause s v order at place u at_place n file b h kept f from there found found_b c (inr late) = cut_refused s v order at place u at_place n file b h kept f from there found found_b late.allowed c (late.cut f from refl)
+cut_cause s v order at place u at_place n file b h log up unprepared kept f from there found found_b c (inr late) = cut_refused s v order at place u at_place n file b h log up unprepared kept f from there found found_b late.allowed c (late.cut f from refl)

@@ -3,13 +3,12 @@ use Rattle.std.proofs.Common.{◌≡◌, ℕ, ◌-◌, ◌*◌, ◌≤◌, List,
 use Rattle.file_base.specs.declared.head.FileHead.{FileHead}
 use Rattle.file_base.specs.declared.head.Organization.{Organization}
 use Rattle.file_base.specs.declared.head.Organization.TheVariants.{Sequential}
-use Rattle.record_files.specs.Any.{chain_by, chain_of, map_of}
+use Rattle.record_files.specs.Any.{chain_by, chain_of}
 use Rattle.vms_model.specs.Keys.{Key, Number, Text, End}
 use Rattle.volume.specs.State.{VolumeState}
 use Rattle.volume_files.specs.Staging.{CutsFile, StagesFile}
 use Rattle.records_model.specs.Chain.{chain_changed, chain_set}
 use Rattle.records_model.specs.Records.{Change}
-use Rattle.records_model.specs.Slots.{Slot}
 use Rattle.run_model.specs.Operations.{in_order, removed}
 use Rattle.run_model.specs.World.{File}
 use Rattle.directory_model.specs.Files.{IsFile, laid_in}

@@ -1,6 +1,6 @@
 -- Changes that are committed at once are made of a node's volume.
-use Rattle.std.proofs.Common.{◌≡◌, ℕ, ◌+◌, ◌≤◌, ◌^◌, List, [], ◌∷◌, ◌++◌, Bool, true, false, Option, Some, None, map, nat_le, refl, sym, ◌∙◌, ap, subst, arith, append-nil, if◌then◌else◌}
-use Rattle.std.specs.Prelude.{is_some, option_map, unwrap_or}
+use Rattle.std.proofs.Common.{◌≡◌, ℕ, ◌+◌, ◌≤◌, ◌^◌, List, [], ◌∷◌, ◌++◌, Bool, true, false, Option, Some, None, nat_le, refl, sym, ◌∙◌, ap, subst, arith, append-nil, if◌then◌else◌, inl, inr}
+use Rattle.std.specs.Prelude.{is_some, option_map, unwrap_or, slice_set}
 use Rattle.std.specs.List.{AllByRecursion}
 use Rattle.std.proofs.lemmas.Bool.{both_ways, leb-false}
 use Rattle.careful_write.specs.State.{EachWhole}
@@ -28,26 +28,21 @@ use Rattle.unit_journal.specs.Settling as settling
 use Rattle.unit_journal.specs.Entries.{settled_entry}
 use Rattle.run_model.specs.Answers.{commit_settlement}
 use Rattle.run_model.specs.Locks.{is_locked}
-use Rattle.run_model.specs.Ordered.{tid_in}
-use Rattle.run_model.specs.Restarts.{AllNoted}
-use Rattle.run_model.specs.Running.{Each, HasBranches, IsDrawn}
+use Rattle.run_model.specs.World.{tid_in}
+use Rattle.world_laws.specs.Nodes.{IsUp}
+use Rattle.commit_protocol.specs.World.{In}
 use Rattle.commit_protocol.specs.Table.{Branch}
-use Rattle.run_model.specs.World.{Act, AreUnitsOf, IsUnprepared, Directs, File, Node, Settlement, acted, directly_changed, fallen, next_id, next_moment, serials_of}
-use Rattle.run_model.proofs.HeldLemmas.{noted_at}
-use Rattle.run_model.proofs.DirectLemmas.{live_same, none_of}
-use Rattle.run_model.proofs.HoldingLemmas.{directed_holding}
-use Rattle.run_model.proofs.IdLemmas.{each_as}
-use Rattle.run_model.proofs.KeptLemmas.{all_noted}
-use Rattle.run_model.proofs.NodeLemmas.{drawn_next, drawn_other}
-use Rattle.run_model.proofs.NotedLemmas.{all_trimmed}
-use Rattle.run_model.proofs.OrderedLemmas.{directs_keep_order}
-use Rattle.run_model.proofs.RunningLemmas.{directed_running}
+use Rattle.run_model.specs.World.{Act, AreUnitsOf, Changes, Directs, File, Node, Settlement, acted, directly_changed, fallen, next_id, next_moment}
+use Rattle.world_laws.proofs.DirectLemmas.{live_same}
+use Rattle.world_laws.proofs.EntryLemmas.{all_trimmed}
+use Rattle.world_laws.proofs.OrderedLemmas.{directs_keep_order}
+use Rattle.world_laws.proofs.LogLemmas.{told_log}
 use Rattle.directory_model.specs.Files.{AreFiles, IsFoundAt, IsNamed, file_at, head_at}
 use Rattle.directory_model.specs.Laws.{IsChanged}
 use Rattle.directory_model.specs.Restoring.{AreRestorable}
-use Rattle.directory_model.proofs.Acts.{keeps_files}
 use Rattle.directory_model.proofs.Places.{within_list}
 use Rattle.directory_model.proofs.Standing.{stands_on_extents}
+use Rattle.restart_laws.specs.Units.{MayChange}
 use Rattle.restart_laws.proofs.ListLemmas.{both_as}
 use Rattle.restart_laws.proofs.StayLemmas.{keeps_restorable}
 use Rattle.restart_laws.proofs.UnitLemmas.{keeps_units}
@@ -57,17 +52,17 @@ use Rattle.volume_model.specs.Laws.{KeepsNames}
 use Rattle.volume_model.specs.Volumes.{HasVolume, IsLeftBy}
 use Rattle.volume_laws.specs.Journals.{settled_entries}
 use Rattle.volume_laws.proofs.FollowLemmas.{follow}
+use Rattle.volume_laws.proofs.ToldLemmas.{logs_follow}
 use Rattle.volume_laws.proofs.WholeLemmas.{volume_falls}
 use Rattle.settlement_laws.specs.Settled.{IsSettled, Makes}
 use Rattle.settlement_laws.proofs.MadeLemmas.{settlements_are_made}
-use Rattle.recovery_units.specs.State.{IsKept, IsUnitOf, UnitsState, branch_of, changed_at}
-use Rattle.unit_world.proofs.Found.{not_unit}
+use Rattle.recovery_units.specs.State.{AreOfBranches, IsKept, IsUnitOf, UnitsState, changed_at}
 use Rattle.unit_world.proofs.Leaving.{down}
 use Rattle.unit_world.proofs.Staying.{changed_set, locks_stay}
 use Rattle.unit_table.proofs.BegunLemmas.{earliest_in}
+use Rattle.node_units.proofs.Directly.{files_directed, fresh, none_live}
 use Rattle.node_units.proofs.Earliest.{first_is}
 use Rattle.node_units.proofs.Positions.{positions_trimmed}
-use Rattle.node_units.proofs.Settling.{each_units}
 use Rattle.node_units.proofs.SettingFile.{IsOfNode, KeepsRest, keeps_rest}
 
 -- A branch that is no unit has no entry, and the journal is trimmed alone.
@@ -103,16 +98,17 @@ moment_of n clock h ticks greatest = λ i. if nat_le (ticks i) (greatest i + 1) 
 abbrev pub own_settlement : Node → Settlement
 own_settlement n = commit_settlement n (next_id n) (next_id n)
 
--- A file that no unsettled branch changed is changed in what is staged of a node's volume, and that is committed at this clock as the branch that is drawn next; the
--- journal begins with the earliest change of a unit.
+-- A file is changed in what is staged of a node's volume, at keys that no unsettled branch changed, and that is committed at this clock as the branch that is drawn
+-- next; the journal begins with the earliest change of a unit. What unsettled branches changed can be restored beside it.
 pub record DirectsFile (n : Node) (f : ℕ) (h : FileHead) (name : List ℕ) (file : File) (tid : Tid) (clock : ℕ) (cs : List Change) (left : List (Option OpenUnit)) (a b : List (List ℕ)) (v mid made : VolumeState) (new : FileHead) : Type 0 where
   pub named : IsNamed v.catalog.heads f h name
   pub at : IsFoundAt name n.durable.directory f file
-  pub live : file.history.live ≡ []
+  pub may : MayChange (next_id n) file cs
   pub stages : StagesFile f h 65 v mid new
   pub now : mid.store.current ≡ Some b
   pub whole : EachWhole b
   pub changed : IsChanged (is_locked n.volatile.locks name) cs a h b new
+  pub restorable : AreRestorable b (slice_set v.catalog.heads f (Some new)) (acted (Changes (next_id n) (next_id n) name cs []) n).durable.directory
   pub makes : MakesSettlement tid (record { 0 = tid.0 }) ending.Commit (settling.next_moment clock v.catalog.home) None left mid made
   pub own : tid_of tid ≡ next_id n
   pub is_id : IsId (tid_of tid)
@@ -121,32 +117,25 @@ pub record DirectsFile (n : Node) (f : ℕ) (h : FileHead) (name : List ℕ) (fi
   pub begins : unwrap_or (earliest left) v.catalog.ru.end ≡ (trimmed n.durable.units).first
 
 -- What the changes make of the node's branches: nothing of those that it has.
-module _ (n : Node) (f : ℕ) (name : List ℕ) (file : File) (c : Change) (more : List Change) (are : AreUnitsOf n) (holds : HasBranches n) (at : IsFoundAt name n.durable.directory f file) where
+
+each_unsettled : (us : List OpenUnit) (bs : List Branch) (es : List JournalEntry) → AreOfBranches us bs → ((b : Branch) → In b bs → is_settled_in b.key.serial es ≡ false) → AllByRecursion (λ (u : OpenUnit). is_settled_in u.serial es ≡ false) us
+each_unsettled [] [] es are all = tt
+each_unsettled [] (b ∷ bs) es are all = absurd are
+each_unsettled (u ∷ us) [] es are all = absurd are
+each_unsettled (u ∷ us) (b ∷ bs) es are all = (subst (λ (x : Id). is_settled_in x es ≡ false) are.0.serial (all b (inl refl)), each_unsettled us bs es are.1 (λ c i. all c (inr i)))
+
+module _ (n : Node) (f : ℕ) (name : List ℕ) (file : File) (c : Change) (more : List Change) (are : AreUnitsOf n) (up : IsUp n) (at : IsFoundAt name n.durable.directory f file) (comes : IsUp (acted (Directs name (c ∷ more) (own_settlement n)) n)) where
   abbrev own_st : Settlement
   own_st = own_settlement n
 
   abbrev own_node : Node
   own_node = acted (Directs name (c ∷ more) own_st) n
 
-  pub fresh : is_unit (next_id n) n.durable.units ≡ false
-  fresh = not_unit n (next_id n) holds (each_as (IsDrawn n.name n.durable.boot n.volatile.drawn) (λ (y : Id). same_id y (next_id n) ≡ false) (serials_of n.volatile.branches) (λ y k. drawn_other n y k) holds.drawn)
-
-  noted : AllNoted n.durable.units n.durable.directory
-  noted = all_noted n.durable.units n.durable.directory (λ place g there. (are.tells place g there).notes)
-
-  pub branches_made : HasBranches own_node
-  branches_made = record {
-    running = directed_running name c more own_st n fresh refl noted holds.running;
-    holding = directed_holding name c more own_st n fresh refl noted holds.holding;
-    drawn = each_as (IsDrawn n.name n.durable.boot n.volatile.drawn) (IsDrawn n.name n.durable.boot (n.volatile.drawn + 1)) (serials_of n.volatile.branches) (λ y k. drawn_next n.name n.durable.boot n.volatile.drawn y k) holds.drawn;
-    different = holds.different;
-  }
-
   -- no unsettled branch changed more
   changed_still : (x : Id) (g : ℕ) → changed_at x (file_at own_node.durable.directory g) ≡ changed_at x (file_at n.durable.directory g)
   changed_still x g =
       let change = directly_changed (is_locked n.volatile.locks name) own_st (c ∷ more) in
-      let same = live_same own_st.serial c more own_st.moment file.history (none_of n.durable.units own_st.serial file.history.live fresh (noted_at n.durable.units name n.durable.directory file noted at.found).units) in
+      let same = live_same own_st.serial c more own_st.moment file.history (none_live n are up name f file at) in
       ap (λ (fs : List (Option File)). changed_at x (file_at fs g)) (at.changed change)
       ∙ changed_set n.durable.directory f (change file) x (within_list n.durable.directory f file at.there) (ap (λ (ls : List LiveChanges). elim (changes_by x ls) [ [] ↦ false | e ∷ es ↦ true ]) same ∙ sym (ap (changed_at x) at.there)) g
 
@@ -155,21 +144,21 @@ module _ (n : Node) (f : ℕ) (name : List ℕ) (file : File) (c : Change) (more
     positions = k.positions ∙ sym (positions_trimmed u.serial n.durable.units open_still);
     files = λ g. changed_still u.serial g ∙ k.files g;
     transaction = all_trimmed (λ (e : JournalEntry). same_id u.serial (serial_in e) ≡ true → u.tid ≡ tid_in e) n.durable.units k.transaction;
-    active = k.active;
   }
 
-  pub units_made : (us : List OpenUnit) → n.volatile.branches ≡ map branch_of us → AllByRecursion (IsUnitOf n) us → AllByRecursion (IsUnitOf own_node) us
+  pub units_made : (us : List OpenUnit) → AreOfBranches us n.volatile.branches → AllByRecursion (IsUnitOf n) us → AllByRecursion (IsUnitOf own_node) us
   units_made us branches each = both_as (IsUnitOf n) (λ (u : OpenUnit). is_settled_in u.serial n.durable.units.entries ≡ false) (IsUnitOf own_node) us unit_still each
-      (each_units (λ (x : Id). is_settled_in x n.durable.units.entries ≡ false) us (subst (λ (bs : List Branch). Each (λ (x : Id). is_settled_in x n.durable.units.entries ≡ false) (serials_of bs)) branches holds.running.unsettled))
+      (each_unsettled us n.volatile.branches n.durable.units.entries branches (λ b i. (up.table.entries b i).unsettled))
 
   -- the journal begins with the earliest change of the units
-  pub begins_made : (us : List OpenUnit) → n.volatile.branches ≡ map branch_of us → AllByRecursion (IsUnitOf n) us → unwrap_or (earliest_in us) (end_of n.durable.units) ≡ (trimmed n.durable.units).first
+  pub begins_made : (us : List OpenUnit) → AreOfBranches us n.volatile.branches → AllByRecursion (IsUnitOf n) us → unwrap_or (earliest_in us) (end_of n.durable.units) ≡ (trimmed n.durable.units).first
   begins_made us branches each =
       ap (unwrap_or (earliest_in us)) (sym (trim_keeps_units n.durable.units).end)
-      ∙ first_is own_node us branches branches_made.running (units_made us branches each) (trimmed_begins (units_in n.durable.units.entries) n.durable.units.entries refl)
+      ∙ first_is own_node us branches comes (units_made us branches each) (trimmed_begins (units_in n.durable.units.entries) n.durable.units.entries refl)
 
 module _ (n : Node) (f : ℕ) (h : FileHead) (name : List ℕ) (file : File) (tid : Tid) (clock : ℕ) (c : Change) (more : List Change) (left : List (Option OpenUnit)) (a b : List (List ℕ)) (v mid made : VolumeState) (new : FileHead) (has : HasVolume a v.catalog n)
-    (holds : HasBranches n) (is : IsOfNode n a v) (d : DirectsFile n f h name file tid clock (c ∷ more) left a b v mid made new) (content : List (List ℕ)) (told : made.store.current ≡ Some content) where
+    (up : IsUp n) (is : IsOfNode n a v) (d : DirectsFile n f h name file tid clock (c ∷ more) left a b v mid made new)
+    (comes : IsUp (acted (Directs name (c ∷ more) (own_settlement n)) n)) (content : List (List ℕ)) (told : made.store.current ≡ Some content) where
   abbrev st : Settlement
   st = own_settlement n
 
@@ -180,7 +169,7 @@ module _ (n : Node) (f : ℕ) (h : FileHead) (name : List ℕ) (file : File) (ti
   m = acted (Directs name cs st) n
 
   fresh_here : is_unit (next_id n) n.durable.units ≡ false
-  fresh_here = fresh n f name file c more has.units holds d.at
+  fresh_here = fresh n has.units up name f file d.at
 
   rest : KeepsRest n f new a b v mid
   rest = keeps_rest n f 65 h new a b v mid is d.named.there d.stages d.now d.whole
@@ -234,19 +223,20 @@ module _ (n : Node) (f : ℕ) (h : FileHead) (name : List ℕ) (file : File) (ti
 
   files_mid : AreFiles b mid.catalog.heads m.durable.directory
   files_mid = subst (λ (hs : List (Option FileHead)). AreFiles b hs m.durable.directory) (sym rest.heads)
-      (keeps_files.directs a b v.catalog.heads n f h new name file cs st has.files refl d.named d.at.there d.live d.changed rest.others)
+      (files_directed a b v.catalog.heads n f h new name file cs st has.files has.units refl d.named d.at.there d.may.keys d.may.found d.changed rest.others)
 
   restorable_mid : AreRestorable b mid.catalog.heads m.durable.directory
   restorable_mid = subst (λ (hs : List (Option FileHead)). AreRestorable b hs m.durable.directory) (sym rest.heads)
-      (keeps_restorable.directs a b v.catalog.heads n f h new name file cs st has.files refl d.named d.at.there d.live rest.others has.restorable)
+      (keeps_restorable.directs b (slice_set v.catalog.heads f (Some new)) n f name file (next_id n) [] c more st refl d.at (none_live n has.units up name f file d.at) d.restorable)
 
   pub volume_made : HasVolume content made.catalog m
   volume_made = record {
     home = record { volume = settled.0.home.volume; slots = settled.0.home.slots; journal = settled.0.home.journal; boot = settled.0.home.boot; greatest = settled.0.home.greatest; last = settled.0.home.last };
+    log = logs_follow.stays b content n m rest.log refl settled.0.log;
     journal = follow.directs b content mid.catalog made.catalog n name cs st rest.journal names_then entered first_made end_same;
-    units = keeps_units.directs n name file cs st has.units refl d.at.found d.live;
-    order = directs_keep_order n.durable n.volatile.locks name cs st has.order (moment_later n.clock n.durable.greatest);
-    active = all_trimmed IsUnprepared n.durable.units has.active;
+    units = keeps_units.directs n name file c more st has.units refl d.at.found fresh_here d.may.keys d.may.found;
+    order = directs_keep_order n.durable n.volatile name cs st has.order (moment_later n.clock n.durable.greatest);
+    told = told_log m comes.table comes.slots;
     files = subst (λ (hs : List (Option FileHead)). AreFiles content hs m.durable.directory) (sym settled.0.heads) (stands_on_extents b content mid.catalog.heads m.durable.directory settled.0.files files_mid);
     restorable = subst (λ (hs : List (Option FileHead)). AreRestorable content hs m.durable.directory) (sym settled.0.heads)
         (keeps_restorable.stands b content mid.catalog.heads m.durable.directory settled.0.files files_mid restorable_mid);
@@ -254,30 +244,30 @@ module _ (n : Node) (f : ℕ) (h : FileHead) (name : List ℕ) (file : File) (ti
 
 -- The node is kept.
 pub direct_kept : (s : UnitsState) (v : VolumeState) (n : Node) (f : ℕ) (h : FileHead) (name : List ℕ) (file : File) (tid : Tid) (clock : ℕ) (c : Change) (more : List Change) (left : List (Option OpenUnit)) (b : List (List ℕ)) (mid w : VolumeState) (new : FileHead)
-    (content : List (List ℕ)) (kept : IsKept s v n) → IsOfNode n kept.content v → DirectsFile n f h name file tid clock (c ∷ more) left kept.content b v mid w new → w.store.current ≡ Some content → w.store.disk.size ≡ v.store.disk.size →
-    IsKept s w (acted (Directs name (c ∷ more) (own_settlement n)) n)
-direct_kept s v n f h name file tid clock c more left b mid w new content kept is d told size = record {
+    (content : List (List ℕ)) (kept : IsKept s v n) → IsUp n → IsOfNode n kept.content v → DirectsFile n f h name file tid clock (c ∷ more) left kept.content b v mid w new → IsUp (acted (Directs name (c ∷ more) (own_settlement n)) n) → w.store.current ≡ Some content →
+    w.store.disk.size ≡ v.store.disk.size → IsKept s w (acted (Directs name (c ∷ more) (own_settlement n)) n)
+direct_kept s v n f h name file tid clock c more left b mid w new content kept up is d comes told size = record {
   content = content;
   told = told;
   name = kept.name ∙ ap (λ (k : Catalog). k.home.node) (sym d.stages.catalog) ∙ ap (λ (k : Catalog). k.home.node) (sym d.makes.catalog);
   blocks = kept.blocks ∙ sym size;
-  has = volume_made n f h name file tid clock c more left kept.content b v mid w new kept.has kept.holds is d content told;
+  has = volume_made n f h name file tid clock c more left kept.content b v mid w new kept.has up is d comes content told;
+  log = kept.log;
   branches = kept.branches;
-  locks = locks_stay v.catalog.heads w.catalog.heads s.locks n.volatile.locks (names_made n f h name file tid clock c more left kept.content b v mid w new kept.has kept.holds is d content told) kept.locks;
-  holds = branches_made n f name file c more kept.has.units kept.holds d.at;
-  each = units_made n f name file c more kept.has.units kept.holds d.at s.begun kept.branches kept.each;
+  locks = locks_stay v.catalog.heads w.catalog.heads s.locks n.volatile.locks (names_made n f h name file tid clock c more left kept.content b v mid w new kept.has up is d comes content told) kept.locks;
+  each = units_made n f name file c more kept.has.units up d.at comes s.begun kept.branches kept.each;
 }
 
 -- what the node leaves that fell meanwhile
-pub direct_left : (n : Node) (f : ℕ) (h : FileHead) (name : List ℕ) (file : File) (tid : Tid) (clock : ℕ) (c : Change) (more : List Change) (left : List (Option OpenUnit)) (a b : List (List ℕ)) (v mid made : VolumeState) (new : FileHead) → HasVolume a v.catalog n → HasBranches n →
-    IsOfNode n a v → DirectsFile n f h name file tid clock (c ∷ more) left a b v mid made new → (content : List (List ℕ)) → made.store.current ≡ Some content → (act : Option Act) →
+pub direct_left : (n : Node) (f : ℕ) (h : FileHead) (name : List ℕ) (file : File) (tid : Tid) (clock : ℕ) (c : Change) (more : List Change) (left : List (Option OpenUnit)) (a b : List (List ℕ)) (v mid made : VolumeState) (new : FileHead) → HasVolume a v.catalog n → IsUp n →
+    IsOfNode n a v → DirectsFile n f h name file tid clock (c ∷ more) left a b v mid made new → IsUp (acted (Directs name (c ∷ more) (own_settlement n)) n) → (content : List (List ℕ)) → made.store.current ≡ Some content → (act : Option Act) →
     IsLeftBy content (acted (Directs name (c ∷ more) (own_settlement n)) (fallen act n))
-direct_left n f h name file tid clock c more left a b v mid made new has holds is d content told act = record {
+direct_left n f h name file tid clock c more left a b v mid made new has up is d comes content told act = record {
   catalog = made.catalog;
-  tells = tells_made n f h name file tid clock c more left a b v mid made new has holds is d content told;
-  sound = sound_made n f h name file tid clock c more left a b v mid made new has holds is d content told;
+  tells = tells_made n f h name file tid clock c more left a b v mid made new has up is d comes content told;
+  sound = sound_made n f h name file tid clock c more left a b v mid made new has up is d comes content told;
   leaves = λ whole. down content made.catalog (acted (Directs name (c ∷ more) (own_settlement n)) n) (acted (Directs name (c ∷ more) (own_settlement n)) (fallen act n))
-      (volume_falls content made.catalog (acted (Directs name (c ∷ more) (own_settlement n)) n) (volume_made n f h name file tid clock c more left a b v mid made new has holds is d content told)) refl refl refl;
+      (volume_falls content made.catalog (acted (Directs name (c ∷ more) (own_settlement n)) n) (volume_made n f h name file tid clock c more left a b v mid made new has up is d comes content told)) refl refl refl;
 }
 
 -- what the volume tells that is made

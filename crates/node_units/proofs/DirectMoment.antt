@@ -1,5 +1,5 @@
 -- The moment of a change without a branch.
-use Rattle.std.proofs.Common.{◌≡◌, ◌∙◌, ℕ, List, ap, sym, refl}
+use Rattle.std.proofs.Common.{◌≡◌, ◌∙◌, ℕ, List, ap, refl}
 use Rattle.file_base.specs.declared.head.FileHead.{FileHead}
 use Rattle.record_operations.specs.declared.ops.RecordOp.{RecordOp}
 use Rattle.record_operations.specs.declared.ops.RecordOp.TheVariants as op
@@ -16,3 +16,10 @@ direct_moment tid clock h (op.Put file key) bytes told s v w ok = ap (λ (k : Ca
 direct_moment tid clock h (op.Update file key) bytes told s v w ok = ap (λ (k : Catalog). k.home.greatest_moment.0) (ok.changes refl).made.commits.settles.catalog
 direct_moment tid clock h (op.Delete file key) bytes told s v w ok = ap (λ (k : Catalog). k.home.greatest_moment.0) (ok.changes refl).made.commits.settles.catalog
 direct_moment tid clock h (op.Truncate file from) bytes told s v w ok = ap (λ (k : Catalog). k.home.greatest_moment.0) (ok.cuts file from refl).made.settles.catalog
+
+-- the journal begins in the same block
+pub direct_start : (tid : Tid) (clock : ℕ) (h : FileHead) (o : RecordOp) (bytes : List ℕ) (told : ℕ) (s : UnitsState) (v w : VolumeState) → DirectsOk tid clock h o bytes told s v w → w.catalog.ru.start ≡ v.catalog.ru.start
+direct_start tid clock h (op.Put file key) bytes told s v w ok = let k = (ok.changes refl).made.commits in ap (λ (x : Catalog). x.ru.start) k.settles.catalog ∙ ap (λ (x : Catalog). x.ru.start) k.stages.catalog
+direct_start tid clock h (op.Update file key) bytes told s v w ok = let k = (ok.changes refl).made.commits in ap (λ (x : Catalog). x.ru.start) k.settles.catalog ∙ ap (λ (x : Catalog). x.ru.start) k.stages.catalog
+direct_start tid clock h (op.Delete file key) bytes told s v w ok = let k = (ok.changes refl).made.commits in ap (λ (x : Catalog). x.ru.start) k.settles.catalog ∙ ap (λ (x : Catalog). x.ru.start) k.stages.catalog
+direct_start tid clock h (op.Truncate file from) bytes told s v w ok = let k = (ok.cuts file from refl).made in ap (λ (x : Catalog). x.ru.start) k.settles.catalog ∙ ap (λ (x : Catalog). x.ru.start) k.stages.catalog

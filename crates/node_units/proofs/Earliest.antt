@@ -1,24 +1,24 @@
 -- The journal of a node begins with the earliest change of its units.
-use Rattle.std.proofs.Common.{◌≡◌, ℕ, zero, suc, ◌+◌, ◌≤◌, List, [], ◌∷◌, Bool, true, false, ◌||◌, Option, Some, None, if◌then◌else◌, map, slice_set, refl, sym, ◌∙◌, ap, subst, arith, inl, inr, get_or-set_same, get_or-set_other}
-use Rattle.std.specs.Prelude.{unwrap_or, IsSome}
+use Rattle.std.proofs.Common.{◌≡◌, ℕ, ◌+◌, ◌≤◌, List, [], ◌∷◌, Bool, true, false, ◌||◌, Option, Some, None, if◌then◌else◌, refl, sym, ◌∙◌, ap, subst, arith, inl, inr}
+use Rattle.std.specs.Prelude.{unwrap_or, is_some}
 use Rattle.std.specs.List.{AllByRecursion}
-use Rattle.std.proofs.lemmas.Bool.{cases_eq}
 use Rattle.vms_model.specs.Ids.{Id}
 use Rattle.vms_model.specs.Keys.{Key}
 use Rattle.records_model.specs.History.{same_id}
-use Rattle.unit_laws.specs.Journal.{ChangeEntry, Journal, JournalEntry, PreparedEntry, SettledEntry, end_of, entries_size, entry_size, is_of_units, is_settled_in, units_in}
+use Rattle.unit_laws.specs.Journal.{ChangeEntry, Journal, JournalEntry, PreparedEntry, RecoveryUnit, SettledEntry, end_of, entries_size, entry_size, find_unit, is_of_units, is_settled_in, units_in}
 use Rattle.unit_laws.specs.JournalLaws.{BeginsUnsettled, is_unit}
 use Rattle.unit_laws.proofs.Tests.{or_either, or_one, or_other}
-use Rattle.unit_table.specs.Places.{AreInOrder, count_at, occurrences}
-use Rattle.unit_table.specs.Units.{OpenUnit, earlier, earliest, first_of, unit_at, units_of}
+use Rattle.unit_table.specs.Units.{OpenUnit, earlier, first_of}
 use Rattle.unit_table.proofs.BegunLemmas.{earlier_either, earliest_in}
 use Rattle.commit_protocol.specs.Table.{Branch}
-use Rattle.run_model.specs.Promises.{In}
-use Rattle.run_model.specs.Running.{Each, IsRunning}
-use Rattle.run_model.specs.World.{Node, serials_of}
-use Rattle.run_model.proofs.IdLemmas.{id_itself}
+use Rattle.commit_protocol.specs.World.{In}
+use Rattle.world_laws.specs.Nodes.{IsUp}
+use Rattle.world_laws.specs.Running.{Each}
+use Rattle.run_model.specs.World.{Node}
+use Rattle.world_laws.proofs.IdLemmas.{id_itself, in_map}
 use Rattle.restart_laws.proofs.ListLemmas.{all_as, all_of, both_as}
-use Rattle.recovery_units.specs.State.{IsUnitOf, branch_of, is_change_by, positions_of}
+use Rattle.recovery_units.specs.State.{AreOfBranches, IsUnitOf, is_change_by, positions_of}
+use Rattle.node_units.proofs.Branches.{serials, serials_are}
 use Rattle.node_units.proofs.Positions.{changes_of_units}
 
 -- Where the first entry of a kind begins.
@@ -80,11 +80,11 @@ abbrev pub is_change_in : List Id → JournalEntry → Bool
 is_change_in [] e = false
 is_change_in (x ∷ xs) e = is_change_by x e || is_change_in xs e
 
-earliest_changes : (us : List OpenUnit) (p : ℕ) (es : List JournalEntry) → AllByRecursion (λ (u : OpenUnit). u.positions ≡ positions_of u.serial p es) us → earliest_in us ≡ first_by (is_change_in (serials_of (map branch_of us))) p es
+earliest_changes : (us : List OpenUnit) (p : ℕ) (es : List JournalEntry) → AllByRecursion (λ (u : OpenUnit). u.positions ≡ positions_of u.serial p es) us → earliest_in us ≡ first_by (is_change_in (serials us)) p es
 earliest_changes [] p es are = sym (first_never p es)
 earliest_changes (u ∷ us) p es are =
     (λ i. earlier ((ap first_of are.0 ∙ first_change u.serial p es) i) (earliest_changes us p es are.1 i))
-    ∙ sym (first_either (is_change_by u.serial) (is_change_in (serials_of (map branch_of us))) p es)
+    ∙ sym (first_either (is_change_by u.serial) (is_change_in (serials us)) p es)
 
 -- A journal that begins with a change of a unit begins with the earliest of them.
 
@@ -129,12 +129,27 @@ module _ (j : Journal) (xs : List Id) (known : (x : Id) → is_unit x j ≡ true
   pub first_of_these : unwrap_or (first_by (is_change_in xs) j.first es) (end_of j) ≡ j.first
   first_of_these = ap (λ (o : Option ℕ). unwrap_or o (end_of j)) (first_alike (is_change_in xs) (is_of_units (units_in es)) j.first es alike) ∙ begins_so es j.first begins
 
+-- Each unit of a node that is up is among those that are begun, and none of these is settled.
+pub up_known : (m : Node) (us : List OpenUnit) → AreOfBranches us m.volatile.branches → IsUp m → (x : Id) → is_unit x m.durable.units ≡ true → In x (serials us)
+up_known m us are up x some = go (find_unit x (units_in m.durable.units.entries)) refl some
+  where
+    go : (o : Option RecoveryUnit) → find_unit x (units_in m.durable.units.entries) ≡ o → is_some o ≡ true → In x (serials us)
+    go (Some u) e k =
+        let r = up.table.branches x u e in
+        subst (λ (y : Id). In y (serials us)) r.serial (subst (In r.branch.key.serial) (serials_are us m.volatile.branches are) (in_map (λ (b : Branch). b.key.serial) r.branch m.volatile.branches r.there))
+    go None e k = let never : ⊥ = cc in absurd never
+
+pub none_settled : (us : List OpenUnit) (bs : List Branch) (es : List JournalEntry) → AreOfBranches us bs → ((b : Branch) → In b bs → is_settled_in b.key.serial es ≡ false) → Each (λ (x : Id). is_settled_in x es ≡ false) (serials us)
+none_settled [] [] es are all = tt
+none_settled [] (b ∷ bs) es are all = absurd are
+none_settled (u ∷ us) [] es are all = absurd are
+none_settled (u ∷ us) (b ∷ bs) es are all = (subst (λ (x : Id). is_settled_in x es ≡ false) are.0.serial (all b (inl refl)), none_settled us bs es are.1 (λ c i. all c (inr i)))
+
 -- so that of a node that has these units
-pub first_is : (m : Node) (us : List OpenUnit) → m.volatile.branches ≡ map branch_of us → IsRunning m → AllByRecursion (IsUnitOf m) us → BeginsUnsettled m.durable.units.entries → unwrap_or (earliest_in us) (end_of m.durable.units) ≡ m.durable.units.first
-first_is m us branches runs each begins =
+pub first_is : (m : Node) (us : List OpenUnit) → AreOfBranches us m.volatile.branches → IsUp m → AllByRecursion (IsUnitOf m) us → BeginsUnsettled m.durable.units.entries → unwrap_or (earliest_in us) (end_of m.durable.units) ≡ m.durable.units.first
+first_is m us are up each begins =
     ap (λ (o : Option ℕ). unwrap_or o (end_of m.durable.units)) (earliest_changes us m.durable.units.first m.durable.units.entries (places us each))
-    ∙ first_of_these m.durable.units (serials_of (map branch_of us)) (λ x is. subst (λ (bs : List Branch). In x (serials_of bs)) branches (runs.known x is))
-    (subst (λ (bs : List Branch). Each (λ (x : Id). is_settled_in x m.durable.units.entries ≡ false) (serials_of bs)) branches runs.unsettled) begins
+    ∙ first_of_these m.durable.units (serials us) (up_known m us are up) (none_settled us m.volatile.branches m.durable.units.entries are (λ b i. (up.table.entries b i).unsettled)) begins
   where
     places : (vs : List OpenUnit) → AllByRecursion (IsUnitOf m) vs → AllByRecursion (λ (u : OpenUnit). u.positions ≡ positions_of u.serial m.durable.units.first m.durable.units.entries) vs
     places [] h = tt

@@ -11,6 +11,7 @@ use Rattle.journal_model.specs.Entries.{Entry, IsEntry, spelling}
 use Rattle.journal_model.specs.Ring.{IsJournal, KeepsOthers, put_stream, ring_size}
 use Rattle.journal_store.proofs.Journals.{appended, keeps_others}
 use Rattle.unit_journal.specs.Spans.{entered, longer}
+use Rattle.lmcp_log.specs.Keeping.{SameSlots}
 use Rattle.volume.specs.declared.catalog.Catalog.{Catalog}
 use Rattle.volume.specs.Catalogs.{IsSound, TellsCatalog, TellsEntry}
 use Rattle.volume_format.specs.Home.{HasHome, HasRu, ru_block_of, ru_rows}
@@ -74,6 +75,10 @@ module _ (node : List ℕ) (size : ℕ) (v : Catalog) (sound : IsSound node size
       let start = sound.ru_start in
       let blocks = sound.ru_blocks in
       sym (stands_at k (λ t. absurd (omega (arith, t, past, start, blocks))) (inr (omega (arith, past, start, blocks))))
+
+  -- and the log
+  pub entered_slots : (n : ℕ) → 584 + n ≤ ru.start → SameSlots n b c
+  entered_slots n before i below = stands_at (66 + i) (λ t. absurd (omega (arith, t))) (inl (omega (arith, before, below)))
 
   -- and so does what the front tells, but for the span
   pub entered_tells : TellsCatalog v b → TellsCatalog (record v { ru = after }) c

@@ -1,8 +1,8 @@
 -- What the disk of a node has that goes down in a call that wrote nothing.
-use Rattle.std.proofs.Common.{◌≡◌, ℕ, List, [], Bool, true, false, Option, Some, None, refl, sym, ◌∙◌, ap, subst, inl, inr}
-use Rattle.block_disk.specs.Disk.{DiskState, MayLeave}
+use Rattle.std.proofs.Common.{◌≡◌, ℕ, List, Option, Some, None, refl, sym, ◌∙◌, subst, inl}
+use Rattle.block_disk.specs.Disk.{DiskState}
 use Rattle.careful_write.specs.Content.{content_of}
-use Rattle.careful_write.specs.State.{IsIdle, Leaves, content}
+use Rattle.careful_write.specs.State.{IsIdle, Leaves}
 use Rattle.careful_write.specs.declared.down.Down.{Down}
 use Rattle.careful_write.proofs.GroupParts.{stop_closed}
 use Rattle.change_set.specs.Files as files
@@ -10,8 +10,8 @@ use Rattle.std.specs.Prelude.{Result, Err}
 use Rattle.volume.specs.Catalogs.{IsSound, TellsCatalog}
 use Rattle.volume.specs.State.{Holds, VolumeState}
 use Rattle.std.specs.Option.{IfSome}
-use Rattle.run_model.specs.World.{Act, Faulty, Node, Sound, Unknown, Volume, fallen}
-use Rattle.volume_model.specs.Volumes.{FailsFirst, HasDisk, IsEitherOf, IsLeftBy}
+use Rattle.run_model.specs.World.{Act, Barred, Faulty, Node, Sound, Unknown, Volume, fallen}
+use Rattle.volume_model.specs.Volumes.{BarsBoots, FailsFirst, HasDisk, IsEitherOf, IsLeftBy}
 use Rattle.volume_laws.proofs.WholeLemmas.{volume_falls}
 use Rattle.unit_journal.specs.Leaving.{FellIn}
 use Rattle.recovery_units.specs.State.{IsKept, UnitsState}
@@ -24,7 +24,7 @@ pub same_some : (x y : Content) → ◌≡◌ {A = Option Content} (Some x) (Som
 same_some x y e = cc
 
 abbrev DiskBy : Node → DiskState → Volume → Type 0
-DiskBy n d v = elim v [ Sound ↦ Leaves (IsEitherOf n) d | Faulty condition block ↦ FailsFirst n.name condition block d × (n.under_way ≡ None) | Unknown ↦ Unit {0} ]
+DiskBy n d v = elim v [ Sound ↦ Leaves (IsEitherOf n) d | Faulty condition block ↦ FailsFirst n.name condition block d × (n.under_way ≡ None) | Barred bar ↦ BarsBoots n.name n.blocks bar d × (n.under_way ≡ None) | Unknown ↦ Unit {0} ]
 
 pub disk_sound : (n : Node) (d : DiskState) → n.durable.volume ≡ Sound → Leaves (IsEitherOf n) d → HasDisk n d
 disk_sound n d is leaves = subst (DiskBy n d) (sym is) leaves

@@ -1,10 +1,7 @@
 -- What a read finds, as the world says it.
-use Rattle.std.proofs.Common.{◌≡◌, ◌⊎◌, ℕ, ◌+◌, ◌-◌, ◌<◌, ◌≤◌, List, [], ◌∷◌, Bool, true, false, not, Option, Some, None, length, nat_lt, refl, sym, ◌∙◌, ap, subst, arith, inl, inr}
+use Rattle.std.proofs.Common.{◌≡◌, ℕ, List, [], ◌∷◌, Option, Some, None, refl, sym, ◌∙◌, ap}
 use Rattle.std.specs.Prelude.{option_map}
-use Rattle.std.specs.FinMap.{get}
 use Rattle.file_base.specs.declared.head.FileHead.{FileHead}
-use Rattle.transcript_model.specs.Lines as line
-use Rattle.transcript_model.specs.Lines.{Line}
 use Rattle.vms_model.specs.Ids.{Id}
 use Rattle.vms_model.specs.Keys.{Key}
 use Rattle.vms_base.specs.Keys.{key_of}
@@ -13,9 +10,8 @@ use Rattle.record_operations.specs.Asking.{read_file_in}
 use Rattle.record_operations.specs.declared.ops.ReadOp.{ReadOp}
 use Rattle.record_operations.specs.declared.ops.ReadOp.TheVariants as read
 use Rattle.record_files.specs.Any.{map_of}
-use Rattle.change_set.specs.Maps.{Map}
-use Rattle.run_model.specs.Answers.{found_refused, held_against, keys_refused}
-use Rattle.run_model.specs.Operations.{at_end, data_refused, first_of, found_answer, in_order, key_found, keys_asked, keys_found, keys_held, missing, next_answer, operation_answer, record_in}
+use Rattle.run_model.specs.Answers.{found_refused, keys_refused}
+use Rattle.run_model.specs.Operations.{at_end, first_of, found_answer, key_found, keys_asked, keys_held, missing, next_answer, operation_answer, record_in}
 use Rattle.run_model.specs.World.{File, Node}
 use Rattle.directory_model.specs.Files.{IsFile, head_at}
 use Rattle.directory_model.proofs.Reading.{reads_files}

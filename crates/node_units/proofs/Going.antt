@@ -1,21 +1,19 @@
 -- A unit is none of a node's any more, at its place and in the order.
-use Rattle.std.proofs.Common.{◌≡◌, ℕ, ◌≤◌, ◌==◌, List, [], ◌∷◌, Bool, true, false, not, Option, Some, None, if◌then◌else◌, map, slice_set, refl, sym, ◌∙◌, ap, subst, arith, inl, inr, get_or-set_other}
+use Rattle.std.proofs.Common.{◌≡◌, ℕ, ◌≤◌, ◌==◌, List, [], ◌∷◌, Bool, true, false, not, Option, Some, None, if◌then◌else◌, slice_set, refl, sym, ◌∙◌, ap, subst, arith, inl, inr, get_or-set_other}
 use Rattle.std.specs.List.{filter}
 use Rattle.std.proofs.lemmas.Bool.{cases_eq, eq-eqb, eqb-true, false_from_ne_true}
-use Rattle.vms_model.specs.Ids.{Id}
 use Rattle.records_model.specs.History.{same_id}
 use Rattle.unit_laws.proofs.Tests.{passed, picked}
 use Rattle.unit_table.specs.Places.{AreInOrder, count_at, occurrences}
 use Rattle.unit_table.specs.Units.{OpenUnit, unit_at, units_of}
 use Rattle.unit_table.proofs.OrderLemmas.{more_here, more_there}
-use Rattle.run_model.specs.Promises.{In}
-use Rattle.run_model.specs.Running.{Apart, Distinct}
-use Rattle.run_model.specs.World.{find_branch, serials_of}
-use Rattle.run_model.proofs.IdLemmas.{each_at, id_itself, id_other, in_map}
-use Rattle.commit_protocol.specs.Table.{Branch}
+use Rattle.commit_protocol.specs.World.{In}
+use Rattle.world_laws.proofs.IdLemmas.{id_itself, id_other}
+use Rattle.log_laws.specs.Slots.{Slots}
 use Rattle.rms_units.specs.State as rms
-use Rattle.recovery_units.specs.State.{branch_of, without_begun, without_unit}
+use Rattle.recovery_units.specs.State.{without_begun, without_unit}
 use Rattle.node_units.specs.Seen.{seen}
+use Rattle.node_units.proofs.Branches.{Distinct, apart_at, serials}
 use Rattle.unit_table.proofs.BegunLemmas.{units_other}
 
 -- The unit at a place is one of those that were begun.
@@ -41,20 +39,8 @@ in_order places (q ∷ qs) p u there some = elim (cases_eq q p) [
 occurs_once : (s : rms.UnitsState) (p : ℕ) (u : OpenUnit) → AreInOrder s.units.places s.units.order → unit_at s.units.places p ≡ Some u → occurrences p s.units.order ≡ 1
 occurs_once s p u at there = at.each p ∙ ap count_at there
 
-pub unit_seen : (s : rms.UnitsState) (p : ℕ) (u : OpenUnit) → AreInOrder s.units.places s.units.order → unit_at s.units.places p ≡ Some u → In u (seen s).begun
-unit_seen s p u at there = in_order s.units.places s.units.order p u there (let one = occurs_once s p u at there in omega (arith, one))
-
--- Its branch is found by its serial, where all have different ones.
-
-apart_at : (x : Id) (us : List OpenUnit) (u : OpenUnit) → Apart x (serials_of (map branch_of us)) → In u us → same_id x u.serial ≡ false
-apart_at x us u apart i = each_at (λ (y : Id). same_id x y ≡ false) u.serial (serials_of (map branch_of us)) apart (in_map (λ (b : Branch). b.key.serial) (branch_of u) (map branch_of us) (in_map branch_of u us i))
-
-pub found_unit : (us : List OpenUnit) (u : OpenUnit) → In u us → Distinct (serials_of (map branch_of us)) → find_branch u.serial (map branch_of us) ≡ Some (branch_of u)
-found_unit [] u i d = absurd i
-found_unit (w ∷ ws) u i d = elim i [
-  | inl same ↦ picked (same_id u.serial w.serial) (Some (branch_of w)) (find_branch u.serial (map branch_of ws)) (subst (λ (x : OpenUnit). same_id u.serial x.serial ≡ true) same (id_itself u.serial)) ∙ ap (λ (x : OpenUnit). Some (branch_of x)) (sym same)
-  | inr more ↦ passed (same_id u.serial w.serial) (Some (branch_of w)) (find_branch u.serial (map branch_of ws)) (id_other w.serial u.serial (apart_at w.serial ws u d.0 more)) ∙ found_unit ws u more d.1
-]
+pub unit_seen : (s : rms.UnitsState) (log : Slots) (p : ℕ) (u : OpenUnit) → AreInOrder s.units.places s.units.order → unit_at s.units.places p ≡ Some u → In u (seen s log).begun
+unit_seen s log p u at there = in_order s.units.places s.units.order p u there (let one = occurs_once s p u at there in omega (arith, one))
 
 -- Without it.
 
@@ -68,7 +54,7 @@ but_none p (q ∷ qs) none = elim (cases_eq q p) [
   | inr apart ↦ (λ i. if not (false_from_ne_true (q == p) (λ e. apart (eqb-true q p e)) i) then q ∷ but_none p qs (sym (more_there p q qs apart) ∙ none) i else but_none p qs (sym (more_there p q qs apart) ∙ none) i)
 ]
 
-units_without : (places : List (Option OpenUnit)) (p : ℕ) (u : OpenUnit) → unit_at places p ≡ Some u → (order : List ℕ) → occurrences p order ≡ 1 → Distinct (serials_of (map branch_of (units_of places order))) →
+units_without : (places : List (Option OpenUnit)) (p : ℕ) (u : OpenUnit) → unit_at places p ≡ Some u → (order : List ℕ) → occurrences p order ≡ 1 → Distinct (serials (units_of places order)) →
     units_of (slice_set places p None) (but p order) ≡ without_unit u.serial (units_of places order)
 units_without places p u there [] once d = absurd (omega (arith, once))
 units_without places p u there (q ∷ qs) once d = elim (cases_eq q p) [
@@ -100,20 +86,20 @@ units_without places p u there (q ∷ qs) once d = elim (cases_eq q p) [
         one e = cc
 
     there_too : (o : Option OpenUnit) → unit_at places q ≡ o → unit_at (slice_set places p None) q ≡ unit_at places q → occurrences p qs ≡ 1 →
-        (Distinct (serials_of (map branch_of (units_of places qs))) → units_of (slice_set places p None) (but p qs) ≡ without_unit u.serial (units_of places qs)) →
+        (Distinct (serials (units_of places qs)) → units_of (slice_set places p None) (but p qs) ≡ without_unit u.serial (units_of places qs)) →
         units_of (slice_set places p None) (q ∷ but p qs) ≡ without_unit u.serial (units_of places (q ∷ qs))
     there_too None at stays rest more =
         (λ i. elim ((stays ∙ at) i) [ Some w ↦ w ∷ units_of (slice_set places p None) (but p qs) | None ↦ units_of (slice_set places p None) (but p qs) ])
-        ∙ more (subst (λ (o : Option OpenUnit). Distinct (serials_of (map branch_of (elim o as (λ _. List OpenUnit) [ Some w ↦ w ∷ units_of places qs | None ↦ units_of places qs ])))) at d)
+        ∙ more (subst (λ (o : Option OpenUnit). Distinct (serials (elim o as (λ _. List OpenUnit) [ Some w ↦ w ∷ units_of places qs | None ↦ units_of places qs ]))) at d)
         ∙ (λ i. without_unit u.serial (elim (sym at i) [ Some w ↦ w ∷ units_of places qs | None ↦ units_of places qs ]))
     there_too (Some w) at stays rest more =
-        let e = subst (λ (o : Option OpenUnit). Distinct (serials_of (map branch_of (elim o as (λ _. List OpenUnit) [ Some w ↦ w ∷ units_of places qs | None ↦ units_of places qs ])))) at d in
+        let e = subst (λ (o : Option OpenUnit). Distinct (serials (elim o as (λ _. List OpenUnit) [ Some w ↦ w ∷ units_of places qs | None ↦ units_of places qs ]))) at d in
         let other : same_id u.serial w.serial ≡ false = id_other w.serial u.serial (apart_at w.serial (units_of places qs) u e.0 (in_order places qs p u there (omega (arith, rest)))) in
         (λ i. elim ((stays ∙ at) i) [ Some w ↦ w ∷ units_of (slice_set places p None) (but p qs) | None ↦ units_of (slice_set places p None) (but p qs) ])
         ∙ ap (λ (ws : List OpenUnit). w ∷ ws) (more e.1)
         ∙ sym (passed (same_id u.serial w.serial) (units_of places qs) (w ∷ without_unit u.serial (units_of places qs)) other)
         ∙ (λ i. without_unit u.serial (elim (sym at i) [ Some w ↦ w ∷ units_of places qs | None ↦ units_of places qs ]))
 
-pub begun_without : (s : rms.UnitsState) (p : ℕ) (u : OpenUnit) → AreInOrder s.units.places s.units.order → unit_at s.units.places p ≡ Some u → Distinct (serials_of (map branch_of (seen s).begun)) →
-    seen (rms.without_place p u.serial s) ≡ without_begun u.serial (seen s)
-begun_without s p u at there d = λ i. record { begun = units_without s.units.places p u there s.units.order (occurs_once s p u at there) d i; locks = (without_begun u.serial (seen s)).locks }
+pub begun_without : (s : rms.UnitsState) (log : Slots) (p : ℕ) (u : OpenUnit) → AreInOrder s.units.places s.units.order → unit_at s.units.places p ≡ Some u → Distinct (serials (seen s log).begun) →
+    seen (rms.without_place p u.serial s) log ≡ without_begun u.serial (seen s log)
+begun_without s log p u at there d = λ i. record { begun = units_without s.units.places p u there s.units.order (occurs_once s p u at there) d i; locks = (without_begun u.serial (seen s log)).locks; log = log }

@@ -1,5 +1,5 @@
 -- A unit changed a key: the node is kept, and the call is one of the world.
-use Rattle.std.proofs.Common.{◌≡◌, ℕ, ◌+◌, ◌<◌, List, [], ◌∷◌, ◌++◌, Bool, true, false, Option, Some, None, length, map, slice_set, refl, sym, ◌∙◌, ap, subst, arith, inl, inr, append-nil, get_or-set_same, get_or-set_other}
+use Rattle.std.proofs.Common.{◌≡◌, ℕ, ◌+◌, ◌<◌, List, [], ◌∷◌, ◌++◌, true, false, Option, Some, None, length, slice_set, refl, sym, ◌∙◌, ap, subst, arith, inl, inr, append-nil, get_or-set_same, get_or-set_other}
 use Rattle.std.specs.Prelude.{◌⊎◌, IsSome}
 use Rattle.std.specs.List.{AllByRecursion}
 use Rattle.std.proofs.lemmas.Bool.{both_ways, cases_eq}
@@ -22,20 +22,20 @@ use Rattle.unit_laws.proofs.LiveLemmas.{by_changes, by_others}
 use Rattle.unit_table.specs.Places.{AreInOrder}
 use Rattle.unit_table.specs.Units.{OpenUnit, begun, has_changed, unit_at, units_of, with_position}
 use Rattle.unit_table.proofs.OrderLemmas.{at_below}
-use Rattle.run_model.specs.Ordered.{tid_in}
-use Rattle.run_model.specs.World.{Act, Changes, File, Node, acted, changed_file, fallen, find_branch, find_file, is_durable, with_changed}
+use Rattle.run_model.specs.World.{tid_in}
+use Rattle.run_model.specs.World.{Act, Changes, File, Node, acted, changed_file, fallen, find_branch, find_file, is_durable}
 use Rattle.run_model.specs.Locks.{is_locked}
 use Rattle.run_model.specs.Operations.{first_of, operation_answer}
-use Rattle.run_model.proofs.IdLemmas.{id_itself}
-use Rattle.run_model.proofs.NotedLemmas.{all_append}
+use Rattle.world_laws.proofs.IdLemmas.{id_itself}
+use Rattle.world_laws.proofs.EntryLemmas.{all_append}
 use Rattle.directory_model.specs.Files.{file_at, head_at}
 use Rattle.directory_model.proofs.Places.{within_list}
 use Rattle.volume_model.specs.Volumes.{HasDisk, HasVolume, IsEitherOf, IsLeftBy}
 use Rattle.careful_write.specs.Content.{content_of}
 use Rattle.script_model.specs.Statements.{Operation}
 use Rattle.volume_laws.proofs.WholeLemmas.{volume_falls}
-use Rattle.recovery_units.specs.Calls.{IsBroken, IsDone, IsNumbered, change_said, position_line, unit_act, unit_early, unit_late}
-use Rattle.recovery_units.specs.State.{AreLocks, IsKept, IsUnitOf, branch_of, changed_at, positions_of}
+use Rattle.recovery_units.specs.Calls.{IsBroken, IsDone, IsNumbered, KeepsUp, change_said, position_line, unit_act, unit_early, unit_late}
+use Rattle.recovery_units.specs.State.{AreLocks, AreOfBranches, IsKept, IsUnitOf, changed_at, positions_of}
 use Rattle.unit_world.proofs.Leaving.{down}
 use Rattle.unit_world.proofs.Staying.{changed_set}
 use Rattle.rms_units.specs.Calls as rms
@@ -43,6 +43,9 @@ use Rattle.rms_units.specs.Changing as changing
 use Rattle.rms_units.specs.Keys.{change_in, key_in, position_by}
 use Rattle.rms_units.specs.State as state
 use Rattle.rms_units.specs.State.{IsEarly, IsInOrder}
+use Rattle.log_laws.specs.Slots.{Slots}
+use Rattle.commit_protocol.specs.Allowed.{is_prepared}
+use Rattle.world_laws.specs.Nodes.{IsUp}
 use Rattle.node_units.specs.Seen.{seen}
 use Rattle.node_units.proofs.Falling.{disk_sound, leaves_kept}
 use Rattle.node_units.proofs.KeyMade as made_by
@@ -50,7 +53,7 @@ use Rattle.node_units.proofs.KeyRefusals.{early_none}
 use Rattle.node_units.proofs.Locking.{locks_more}
 use Rattle.node_units.proofs.Seeing.{all_seen}
 use Rattle.node_units.proofs.SettingFile.{set_change}
-use Rattle.node_units.proofs.UnitCounts.{differ, once_there, unit_is}
+use Rattle.node_units.proofs.UnitCounts.{different, once_there, unit_is}
 use Rattle.node_units.proofs.UnitsMore.{apart_at, are_more, changed_branches, positions_entered}
 
 abbrev Content : Type 0
@@ -69,10 +72,11 @@ now_changed x c h = ap (λ (ds : List Change). elim ds [ [] ↦ false | d ∷ es
 still_changed : (x y : Id) (c : Change) (h : History) → same_id x y ≡ false → changed_it (changed_with y (c ∷ []) h) x ≡ changed_it h x
 still_changed x y c h other = ap (λ (ds : List Change). elim ds [ [] ↦ false | d ∷ es ↦ true ]) (by_others x y (c ∷ []) h.live other)
 
-module _ (s : state.UnitsState) (v : VolumeState) (order : IsInOrder s v) (at : AreInOrder s.units.places s.units.order) (place : ℕ) (u : OpenUnit) (at_place : unit_at s.units.places place ≡ Some u) (n : Node) (file : File) (b : Branch) (h : FileHead)
-    (kept : IsKept (seen s) v n) (o : RecordOp) (bytes : List ℕ) (there : head_at v.catalog.heads (file_in o) ≡ Some h) (found : find_file h.name n.durable.directory ≡ Some file) (found_b : find_branch u.serial n.volatile.branches ≡ Some b)
+module _ (s : state.UnitsState) (v : VolumeState) (order : IsInOrder s v) (at : AreInOrder s.units.places s.units.order) (place : ℕ) (u : OpenUnit) (at_place : unit_at s.units.places place ≡ Some u) (n : Node) (file : File) (b : Branch) (h : FileHead) (log : Slots) (up : IsUp n) (unprepared : is_prepared b.state ≡ false)
+    (kept : IsKept (seen s log) v n) (o : RecordOp) (bytes : List ℕ) (there : head_at v.catalog.heads (file_in o) ≡ Some h) (found : find_file h.name n.durable.directory ≡ Some file) (found_b : find_branch u.serial n.volatile.branches ≡ Some b)
     (one : is_of_key o ≡ true) (number : IsNumbered o) (low : IsEarly v) (allowed : rms.change_early h o (written o bytes) ≡ None)
-    (t : state.UnitsState) (w : VolumeState) (done : rms.ChangesKey place u (file_in o) h (change_in o) (key_in h o (written o bytes)) (written o bytes) s v t w) (d : Content) (now : w.store.current ≡ Some d) (size : w.store.disk.size ≡ v.store.disk.size) where
+    (t : state.UnitsState) (w : VolumeState) (done : rms.ChangesKey place u (file_in o) h (change_in o) (key_in h o (written o bytes)) (written o bytes) s v t w) (d : Content) (now : w.store.current ≡ Some d) (size : w.store.disk.size ≡ v.store.disk.size)
+    (keeps : KeepsUp (unit_early n b h.name file (change_said o bytes)) (unit_late n b h.name file (change_said o bytes)) (unit_act b h.name file (change_said o bytes)) n) where
   abbrev f : ℕ
   f = file_in o
 
@@ -106,23 +110,21 @@ module _ (s : state.UnitsState) (v : VolumeState) (order : IsInOrder s v) (at : 
   abbrev places : List (Option OpenUnit)
   places = slice_set s.units.places place (Some more)
 
-  begun_is : (seen t).begun ≡ units_of places s.units.order
+  begun_is : (seen t log).begun ≡ units_of places s.units.order
   begun_is = ap begun done.units
 
   below : place < length s.units.places
   below = at_below s.units.places place (subst IsSome (sym at_place) refl)
 
-  branches_are : m.volatile.branches ≡ map branch_of (seen t).begun
-  branches_are =
-      ap (with_changed u.serial) kept.branches
-      ∙ changed_branches place u more refl (ap (λ (x : Bool). record (branch_of u) { changed = x }) (are_more u.positions v.catalog.ru.end)) s.units.places s.units.order below at_place (once_there s v order at n kept place u at_place) (differ s v order at n kept)
-      ∙ ap (map branch_of) (sym begun_is)
+  branches_are : AreOfBranches (seen t log).begun m.volatile.branches
+  branches_are = subst (λ us. AreOfBranches us m.volatile.branches) (sym begun_is)
+      (changed_branches place u more refl refl refl (are_more u.positions v.catalog.ru.end) s.units.places s.units.order below at_place (once_there s log v order at n up kept place u at_place) (different s log v order at n up kept) n.volatile.branches kept.branches)
 
-  locks_are : AreLocks w.catalog.heads (seen t).locks m.volatile.locks
-  locks_are = subst (λ (c : Catalog). AreLocks c.heads (seen t).locks m.volatile.locks) (sym (made_by.catalog_is s v order at place u at_place n file b h kept o bytes there found found_b one number low allowed locks w made))
-      (subst (λ ls. AreLocks (made_by.mid s v order at place u at_place n file b h kept o bytes there found found_b one number low allowed locks w made).catalog.heads ls m.volatile.locks) (sym done.locks)
-      (made_by.locks_renamed v.catalog.heads (made_by.mid s v order at place u at_place n file b h kept o bytes there found found_b one number low allowed locks w made).catalog.heads (made_by.names_are s v order at place u at_place n file b h kept o bytes there found found_b one number low allowed locks w made) (table.with_locks u.serial f keys s.locks) m.volatile.locks
-      (locks_more v.catalog.heads (made_by.once s v order at place u at_place n file b h kept o bytes there found found_b one number low allowed locks w made) f h there u.serial keys s.locks n.volatile.locks kept.locks)))
+  locks_are : AreLocks w.catalog.heads (seen t log).locks m.volatile.locks
+  locks_are = subst (λ (c : Catalog). AreLocks c.heads (seen t log).locks m.volatile.locks) (sym (made_by.catalog_is s v order at place u at_place n file b h log up unprepared kept o bytes there found found_b one number low allowed locks w made keeps))
+      (subst (λ ls. AreLocks (made_by.mid s v order at place u at_place n file b h log up unprepared kept o bytes there found found_b one number low allowed locks w made keeps).catalog.heads ls m.volatile.locks) (sym done.locks)
+      (made_by.locks_renamed v.catalog.heads (made_by.mid s v order at place u at_place n file b h log up unprepared kept o bytes there found found_b one number low allowed locks w made keeps).catalog.heads (made_by.names_are s v order at place u at_place n file b h log up unprepared kept o bytes there found found_b one number low allowed locks w made keeps) (table.with_locks u.serial f keys s.locks) m.volatile.locks
+      (locks_more v.catalog.heads (made_by.once s v order at place u at_place n file b h log up unprepared kept o bytes there found found_b one number low allowed locks w made keeps) f h there u.serial keys s.locks n.volatile.locks kept.locks)))
 
   abbrev E : JournalEntry
   E = ChangeEntry u.tid u.serial h.name key before
@@ -134,17 +136,17 @@ module _ (s : state.UnitsState) (v : VolumeState) (order : IsInOrder s v) (at : 
   new_file = changed_file (is_locked n.volatile.locks h.name) u.serial cs file
 
   directory_is : m.durable.directory ≡ slice_set n.durable.directory f (Some new_file)
-  directory_is = made_by.directory_after s v order at place u at_place n file b h kept o bytes there found found_b one number low allowed locks w made
+  directory_is = made_by.directory_after s v order at place u at_place n file b h log up unprepared kept o bytes there found found_b one number low allowed locks w made keeps
 
   wide : f < length n.durable.directory
   wide = let long = kept.has.files.directory_long in let heads = order.heads in let inside = within_list v.catalog.heads f h there in omega (arith, long, heads, inside)
 
   file_before : file_at n.durable.directory f ≡ Some file
-  file_before = made_by.at_f s v order at place u at_place n file b h kept o bytes there found found_b one number low allowed locks w made
+  file_before = made_by.at_f s v order at place u at_place n file b h log up unprepared kept o bytes there found found_b one number low allowed locks w made keeps
 
   own_after : IsUnitOf m more
   own_after =
-      let is = unit_is s v order at n kept place u at_place in
+      let is = unit_is s log v order at n up kept place u at_place in
       let end : v.catalog.ru.end ≡ n.durable.units.first + entries_size es = kept.has.journal.end in
       record {
         positions = (λ i. is.positions i ++ end i ∷ []) ∙ sym (positions_entered u.serial u.tid u.serial h.name key before n.durable.units.first es true (id_itself u.serial));
@@ -158,7 +160,6 @@ module _ (s : state.UnitsState) (v : VolumeState) (order : IsInOrder s v) (at : 
               ∙ is.files g ∙ sym (get_or-set_other u.files f g true false apart)
         ];
         transaction = all_append (λ (e : JournalEntry). same_id u.serial (serial_in e) ≡ true → u.tid ≡ tid_in e) es (E ∷ []) is.transaction ((λ same. refl), tt);
-        active = is.active;
       }
 
   other_after : (x : OpenUnit) → IsUnitOf n x → same_id x.serial u.serial ≡ false → IsUnitOf m x
@@ -168,51 +169,51 @@ module _ (s : state.UnitsState) (v : VolumeState) (order : IsInOrder s v) (at : 
         ap (λ ds. changed_at x.serial (file_at ds g)) directory_is
         ∙ changed_set n.durable.directory f new_file x.serial wide (still_changed x.serial u.serial (set_change key before after) file.history other ∙ ap (changed_at x.serial) (sym file_before)) g ∙ is.files g;
     transaction = all_append (λ (e : JournalEntry). same_id x.serial (serial_in e) ≡ true → x.tid ≡ tid_in e) es (E ∷ []) is.transaction ((λ same. absurd (both_ways _ other same)), tt);
-    active = is.active;
   }
 
-  each_after : AllByRecursion (IsUnitOf m) (seen t).begun
+  each_after : AllByRecursion (IsUnitOf m) (seen t log).begun
   each_after = subst (AllByRecursion (IsUnitOf m)) (sym begun_is)
       (all_seen (IsUnitOf m) places s.units.order (λ p x at_p. elim (cases_eq p place) [
         | inl here ↦ subst (IsUnitOf m) (one_unit more x (sym (get_or-set_same s.units.places place (Some more) None below) ∙ ap (unit_at places) (sym here) ∙ at_p)) own_after
         | inr apart ↦
             let old : unit_at s.units.places p ≡ Some x = sym (get_or-set_other s.units.places place p (Some more) None apart) ∙ at_p in
-            let own_once = once_there s v order at n kept place u at_place in
-            let its_once = once_there s v order at n kept p x old in
-            other_after x (unit_is s v order at n kept p x old)
-            (apart_at s.units.places s.units.order p place x u apart old at_place (omega (arith, its_once)) (omega (arith, own_once)) (differ s v order at n kept))
+            let own_once = once_there s log v order at n up kept place u at_place in
+            let its_once = once_there s log v order at n up kept p x old in
+            other_after x (unit_is s log v order at n up kept p x old)
+            (apart_at s.units.places s.units.order p place x u apart old at_place (omega (arith, its_once)) (omega (arith, own_once)) (different s log v order at n up kept))
       ]))
 
-  kept_then : IsKept (seen t) w m
+  kept_then : IsKept (seen t log) w m
   kept_then = record {
     content = d;
     told = now;
-    name = kept.name ∙ sym (made_by.node_after s v order at place u at_place n file b h kept o bytes there found found_b one number low allowed locks w made);
+    name = kept.name ∙ sym (made_by.node_after s v order at place u at_place n file b h log up unprepared kept o bytes there found found_b one number low allowed locks w made keeps);
     blocks = kept.blocks ∙ sym size;
-    has = subst (λ (c : Catalog). HasVolume d c m) (sym (made_by.catalog_is s v order at place u at_place n file b h kept o bytes there found found_b one number low allowed locks w made)) (made_by.volume_after s v order at place u at_place n file b h kept o bytes there found found_b one number low allowed locks w made d now);
+    has = subst (λ (c : Catalog). HasVolume d c m) (sym (made_by.catalog_is s v order at place u at_place n file b h log up unprepared kept o bytes there found found_b one number low allowed locks w made keeps)) (made_by.volume_after s v order at place u at_place n file b h log up unprepared kept o bytes there found found_b one number low allowed locks w made keeps d now);
+    log = kept.log;
     branches = branches_are;
     locks = locks_are;
-    holds = made_by.holds_then s v order at place u at_place n file b h kept o bytes there found found_b one number low allowed locks w made;
     each = each_after;
   }
 
-  pub kept_after : IsKept (seen t) w (acted (unit_act b h.name file (change_said o bytes)) n)
-  kept_after = subst (λ (act : Act). IsKept (seen t) w (acted act n)) (made_by.act_is s v order at place u at_place n file b h kept o bytes there found found_b one number low allowed locks w made) kept_then
+  pub kept_after : IsKept (seen t log) w (acted (unit_act b h.name file (change_said o bytes)) n)
+  kept_after = subst (λ (act : Act). IsKept (seen t log) w (acted act n)) (made_by.act_is s v order at place u at_place n file b h log up unprepared kept o bytes there found found_b one number low allowed locks w made keeps) kept_then
 
   -- the call is the world's
   pub key_done : (told : ℕ) → told ≡ position_by h.organization (change_in o) key → IsDone (unit_early n b h.name file (change_said o bytes)) (unit_late n b h.name file (change_said o bytes)) (unit_act b h.name file (change_said o bytes))
-      (operation_answer file (change_said o bytes)) (position_line told) n (seen t) w
+      (operation_answer file (change_said o bytes)) (position_line told) n (seen t log) w
   key_done told is = record {
-    allowed = (λ i. first_of (made_by.early_is_none s v order at place u at_place n file b h kept o bytes there found found_b one number low allowed locks w made i) (made_by.late_is_none s v order at place u at_place n file b h kept o bytes there found found_b one number low allowed locks w made i));
+    allowed = (λ i. first_of (made_by.early_is_none s v order at place u at_place n file b h log up unprepared kept o bytes there found found_b one number low allowed locks w made keeps i) (made_by.late_is_none s v order at place u at_place n file b h log up unprepared kept o bytes there found found_b one number low allowed locks w made keeps i));
     kept = kept_after;
-    answers = (made_by.asking s v order at place u at_place n file b h kept o bytes there found found_b one number low allowed locks w made).answer ∙ ap position_line (sym is);
+    answers = (made_by.asking s v order at place u at_place n file b h log up unprepared kept o bytes there found found_b one number low allowed locks w made keeps).answer ∙ ap position_line (sym is);
   }
 
 -- The disk went down.
-module _ (s : state.UnitsState) (v : VolumeState) (order : IsInOrder s v) (at : AreInOrder s.units.places s.units.order) (place : ℕ) (u : OpenUnit) (at_place : unit_at s.units.places place ≡ Some u) (n : Node) (file : File) (b : Branch) (h : FileHead)
-    (kept : IsKept (seen s) v n) (o : RecordOp) (bytes : List ℕ) (there : head_at v.catalog.heads (file_in o) ≡ Some h) (found : find_file h.name n.durable.directory ≡ Some file) (found_b : find_branch u.serial n.volatile.branches ≡ Some b)
+module _ (s : state.UnitsState) (v : VolumeState) (order : IsInOrder s v) (at : AreInOrder s.units.places s.units.order) (place : ℕ) (u : OpenUnit) (at_place : unit_at s.units.places place ≡ Some u) (n : Node) (file : File) (b : Branch) (h : FileHead) (log : Slots) (up : IsUp n) (unprepared : is_prepared b.state ≡ false)
+    (kept : IsKept (seen s log) v n) (o : RecordOp) (bytes : List ℕ) (there : head_at v.catalog.heads (file_in o) ≡ Some h) (found : find_file h.name n.durable.directory ≡ Some file) (found_b : find_branch u.serial n.volatile.branches ≡ Some b)
     (one : is_of_key o ≡ true) (number : IsNumbered o) (low : IsEarly v) (allowed : rms.change_early h o (written o bytes) ≡ None)
-    (w : VolumeState) (broke : rms.KeyBroke u (file_in o) h (change_in o) (key_in h o (written o bytes)) (written o bytes) s v w) where
+    (w : VolumeState) (broke : rms.KeyBroke u (file_in o) h (change_in o) (key_in h o (written o bytes)) (written o bytes) s v w)
+    (keeps : KeepsUp (unit_early n b h.name file (change_said o bytes)) (unit_late n b h.name file (change_said o bytes)) (unit_act b h.name file (change_said o bytes)) n) where
   abbrev said : Operation
   said = change_said o bytes
 
@@ -220,32 +221,32 @@ module _ (s : state.UnitsState) (v : VolumeState) (order : IsInOrder s v) (at : 
   act = unit_act b h.name file said
 
   old_left : (c : Content) → Some c ≡ content v.store → (x : Option Act) → IsLeftBy c (fallen x n)
-  old_left c is x = subst (λ (y : Content). IsLeftBy y (fallen x n)) (one_content kept.content c (sym kept.told ∙ order.idle.current ∙ sym is)) (leaves_kept (seen s) v n x order.sound order.holds kept)
+  old_left c is x = subst (λ (y : Content). IsLeftBy y (fallen x n)) (one_content kept.content c (sym kept.told ∙ order.idle.current ∙ sym is)) (leaves_kept (seen s log) v n x order.sound order.holds kept)
 
   module _ (new : VolumeState) (made : rms.MakesKey u (file_in o) h (change_in o) (key_in h o (written o bytes)) (written o bytes) s v new) where
     abbrev none_held : changing.locks_refuse (Some u.serial) (file_in o) (changing.keys_asked h (change_in o) (key_in h o (written o bytes))) s.locks ≡ None
     none_held = broke.early
 
     left_after : (d : Content) → Some d ≡ new.store.current → IsLeftBy d (acted act (fallen (Some act) n))
-    left_after d is = subst (λ (x : Act). IsLeftBy d (acted x (fallen (Some act) n))) (made_by.act_is s v order at place u at_place n file b h kept o bytes there found found_b one number low allowed none_held new made) record {
-      catalog = made_by.W s v order at place u at_place n file b h kept o bytes there found found_b one number low allowed none_held new made;
-      tells = made_by.tells_after s v order at place u at_place n file b h kept o bytes there found found_b one number low allowed none_held new made d (sym is);
-      sound = made_by.sound_after s v order at place u at_place n file b h kept o bytes there found found_b one number low allowed none_held new made;
-      leaves = λ whole. down d (made_by.W s v order at place u at_place n file b h kept o bytes there found found_b one number low allowed none_held new made) (made_by.m s v order at place u at_place n file b h kept o bytes there found found_b one number low allowed none_held new made) (acted (made_by.deed s v order at place u at_place n file b h kept o bytes there found found_b one number low allowed none_held new made) (fallen (Some act) n)) (volume_falls d (made_by.W s v order at place u at_place n file b h kept o bytes there found found_b one number low allowed none_held new made) (made_by.m s v order at place u at_place n file b h kept o bytes there found found_b one number low allowed none_held new made) (made_by.volume_after s v order at place u at_place n file b h kept o bytes there found found_b one number low allowed none_held new made d (sym is))) refl refl refl;
+    left_after d is = subst (λ (x : Act). IsLeftBy d (acted x (fallen (Some act) n))) (made_by.act_is s v order at place u at_place n file b h log up unprepared kept o bytes there found found_b one number low allowed none_held new made keeps) record {
+      catalog = made_by.W s v order at place u at_place n file b h log up unprepared kept o bytes there found found_b one number low allowed none_held new made keeps;
+      tells = made_by.tells_after s v order at place u at_place n file b h log up unprepared kept o bytes there found found_b one number low allowed none_held new made keeps d (sym is);
+      sound = made_by.sound_after s v order at place u at_place n file b h log up unprepared kept o bytes there found found_b one number low allowed none_held new made keeps;
+      leaves = λ whole. down d (made_by.W s v order at place u at_place n file b h log up unprepared kept o bytes there found found_b one number low allowed none_held new made keeps) (made_by.m s v order at place u at_place n file b h log up unprepared kept o bytes there found found_b one number low allowed none_held new made keeps) (acted (made_by.deed s v order at place u at_place n file b h log up unprepared kept o bytes there found found_b one number low allowed none_held new made keeps) (fallen (Some act) n)) (volume_falls d (made_by.W s v order at place u at_place n file b h log up unprepared kept o bytes there found found_b one number low allowed none_held new made keeps) (made_by.m s v order at place u at_place n file b h log up unprepared kept o bytes there found found_b one number low allowed none_held new made keeps) (made_by.volume_after s v order at place u at_place n file b h log up unprepared kept o bytes there found found_b one number low allowed none_held new made keeps d (sym is))) refl refl refl;
     }
 
     either_left : (d : Content) → IsEither (content v.store) new.store.current d → IsEitherOf (fallen (Some act) n) d
     either_left d (inl old) = inl (old_left d old (Some act))
-    either_left d (inr now) = inr (act, refl, left_after d now)
+    either_left d (inr now) = inr (inl (act, refl, left_after d now))
 
     durable_act : is_durable act ≡ true
-    durable_act = ap is_durable (sym (made_by.act_is s v order at place u at_place n file b h kept o bytes there found found_b one number low allowed none_held new made))
+    durable_act = ap is_durable (sym (made_by.act_is s v order at place u at_place n file b h log up unprepared kept o bytes there found found_b one number low allowed none_held new made keeps))
 
     late_then : unit_late n b h.name file said ≡ None
-    late_then = made_by.late_is_none s v order at place u at_place n file b h kept o bytes there found found_b one number low allowed none_held new made
+    late_then = made_by.late_is_none s v order at place u at_place n file b h log up unprepared kept o bytes there found found_b one number low allowed none_held new made keeps
 
   pub key_broken : IsBroken (unit_early n b h.name file said) (unit_late n b h.name file said) act n w.store.disk
-  key_broken = record { begun = early_none s v order at place u at_place n file b h kept o bytes there found found_b one number allowed broke.early; disk = go broke.breaks }
+  key_broken = record { begun = early_none s v order at place u at_place n file b h log up unprepared kept o bytes there found found_b one number allowed broke.early; disk = go broke.breaks }
     where
       go : Breaks (rms.MakesKey u (file_in o) h (change_in o) (key_in h o (written o bytes)) (written o bytes) s v) v w →
           HasDisk (fallen None n) w.store.disk ⊎ ((unit_late n b h.name file said ≡ None) × (is_durable act ≡ true) × HasDisk (fallen (Some act) n) w.store.disk)

@@ -1,8 +1,7 @@
 -- A unit changed a key: the volume is that of the node after the change, and so are the units.
 use Rattle.std.proofs.Common.{◌≡◌, ℕ, suc, ◌+◌, ◌-◌, ◌<◌, ◌≤◌, ◌^◌, List, [], ◌∷◌, ◌++◌, Bool, true, false, not, ◌||◌, Option, Some, None, IfSome, if◌then◌else◌, length, slice_set, refl, sym, ◌∙◌, ap, subst, arith, inl, inr, get_or-set_same}
-use Rattle.std.specs.Prelude.{is_some, is_none, nat_le, nat_lt, option_map, unwrap_or}
+use Rattle.std.specs.Prelude.{is_some, is_none, nat_le, option_map, unwrap_or}
 use Rattle.std.specs.List.{AllByRecursion}
-use Rattle.std.proofs.lemmas.Bool.{ltb-false}
 use Rattle.std.proofs.lemmas.Bool.Decides.{nat_tests}
 use Rattle.commit_protocol.specs.Table.{Branch}
 use Rattle.file_base.specs.declared.head.FileHead.{FileHead}
@@ -42,19 +41,23 @@ use Rattle.unit_laws.specs.Journal.{ChangeEntry, JournalEntry, end_of, entries_f
 use Rattle.unit_laws.proofs.TrimLemmas.{size_append}
 use Rattle.unit_table.specs.Places.{AreInOrder}
 use Rattle.unit_table.specs.Units.{OpenUnit, unit_at}
-use Rattle.run_model.specs.Answers.{found_refused, held_against, is_marked, journal_full, keys_refused, lock_limit, more_changes, more_locks, operation_act}
-use Rattle.run_model.specs.Locks.{is_locked, not_locked}
+use Rattle.run_model.specs.Answers.{found_refused, held_against, is_marked, journal_full, keys_refused, more_changes, more_locks, operation_act}
+use Rattle.run_model.specs.Locks.{is_locked}
 use Rattle.run_model.specs.Locks as world
 use Rattle.run_model.specs.Operations.{changes_of, file_full, first_of, form_refused, keys_asked, keys_held}
-use Rattle.run_model.specs.Ordered.{IsImageOf, IsKeyOf, IsNoteOf}
-use Rattle.run_model.specs.Promises.{In}
-use Rattle.run_model.specs.Running.{HasBranches}
+use Rattle.world_laws.specs.Ordered.{IsImageOf, IsJournalInOrder, IsKeyOf, IsNoteOf}
+use Rattle.commit_protocol.specs.World.{In}
 use Rattle.run_model.specs.World as nodes
-use Rattle.run_model.specs.World.{Act, Changes, File, Node, acted, changed_file, find_branch, find_file, serials_of, IsUnprepared}
-use Rattle.run_model.proofs.AnswerLemmas.{neither, not_refused}
-use Rattle.run_model.proofs.HeldLemmas.{IsFreeFor, free_for}
-use Rattle.run_model.proofs.RoomLemmas.{changes_have_room}
-use Rattle.run_model.proofs.NotedLemmas.{all_append}
+use Rattle.run_model.specs.World.{Act, Changes, File, Node, acted, changed_file, find_branch, find_file, AreUnitsOf}
+use Rattle.world_laws.proofs.AnswerLemmas.{neither, not_refused}
+use Rattle.world_laws.proofs.HeldLemmas.{IsFreeFor, free_for}
+use Rattle.world_laws.proofs.RoomLemmas.{changes_have_room}
+use Rattle.world_laws.proofs.UndoLemmas.{kept_up}
+use Rattle.world_laws.specs.Restarts.{AreHeld}
+use Rattle.restart_laws.specs.Units.{MayChange}
+use Rattle.unit_laws.specs.Units.{is_free}
+use Rattle.lmcp_log.specs.Keeping.{SameSlots}
+use Rattle.volume_laws.proofs.ToldLemmas.{logs_follow}
 use Rattle.directory_model.specs.Files.{AreFiles, IsFile, IsFoundAt, IsNamed, IsWithin, file_at, head_at, organized_by}
 use Rattle.directory_model.specs.Laws.{IsChanged}
 use Rattle.directory_model.specs.Restoring.{AreRestorable}
@@ -69,8 +72,8 @@ use Rattle.volume_model.specs.Entries.{entry_for}
 use Rattle.volume_model.specs.Laws.{KeepsNames}
 use Rattle.volume_model.specs.Volumes.{HasJournal, HasVolume}
 use Rattle.volume_laws.proofs.FollowLemmas.{follow}
-use Rattle.recovery_units.specs.Calls.{IsNumbered, change_said, unit_act, unit_early, unit_late}
-use Rattle.recovery_units.specs.State.{AreLocks, IsKept, IsUnitOf, branch_of}
+use Rattle.recovery_units.specs.Calls.{IsNumbered, KeepsUp, change_said, unit_act, unit_early, unit_late}
+use Rattle.recovery_units.specs.State.{AreLocks, IsKept, IsOfBranch}
 use Rattle.unit_world.proofs.Blocks.{same_names}
 use Rattle.rms_units.specs.Calls as rms
 use Rattle.rms_units.specs.Changing as changing
@@ -84,10 +87,14 @@ use Rattle.rms_units.specs.State.{IsEarly, IsInOrder}
 use Rattle.rms_units.proofs.OrderLemmas.{sound_longer}
 use Rattle.rms_units.proofs.RoomLemmas.{room_for}
 use Rattle.unit_cuts.proofs.EntrySizes.{spelled_size}
+use Rattle.log_laws.specs.Slots.{Slots}
+use Rattle.commit_protocol.specs.Allowed.{is_prepared}
+use Rattle.world_laws.specs.Nodes.{IsUp}
 use Rattle.node_units.specs.Seen.{seen}
 use Rattle.node_units.proofs.AskedKey.{AsksKey}
-use Rattle.node_units.proofs.BranchChanges.{MayMake, frees, held_live, held_locked, holds_after, may_change, order_after, units_after}
-use Rattle.node_units.proofs.EnteredKey.{entered_files, entered_journal, entered_tells}
+use Rattle.node_units.proofs.BranchChanges.{MayMake, frees, held_live, held_locked, may_change, order_after, units_after}
+use Rattle.node_units.proofs.Branches.{found_there}
+use Rattle.node_units.proofs.EnteredKey.{entered_files, entered_journal, entered_slots, entered_tells}
 use Rattle.node_units.proofs.Holding.{once_of}
 use Rattle.node_units.proofs.KeyRefusals.{asks, early_none, entry_sized, few, found_before, is_file, late_none, own}
 use Rattle.node_units.proofs.Locking.{AreOnce}
@@ -95,7 +102,6 @@ use Rattle.node_units.proofs.NotedKey.{Noted, noted_by}
 use Rattle.node_units.proofs.ReadLemmas.{first_none}
 use Rattle.node_units.proofs.SettingFile.{IsOfNode, KeepsRest, held_alike, keeps_rest, set_change, set_changes}
 use Rattle.node_units.proofs.SuitsKey.{may_set}
-use Rattle.node_units.proofs.UnitCounts.{in_branches, unit_is}
 
 abbrev Content : Type 0
 Content = List (List ℕ)
@@ -191,11 +197,12 @@ sequential_by kept_by.Indexed h e = let never : ⊥ = cc in absurd never
 pub same_file : (x y : File) → ◌≡◌ {A = Option File} (Some x) (Some y) → x ≡ y
 same_file x y e = cc
 
-module _ (s : state.UnitsState) (v : VolumeState) (order : IsInOrder s v) (at : AreInOrder s.units.places s.units.order) (place : ℕ) (u : OpenUnit) (at_place : unit_at s.units.places place ≡ Some u) (n : Node) (file : File) (b : Branch) (h : FileHead)
-    (kept : IsKept (seen s) v n) (o : RecordOp) (bytes : List ℕ) (there : head_at v.catalog.heads (file_in o) ≡ Some h) (found : find_file h.name n.durable.directory ≡ Some file) (found_b : find_branch u.serial n.volatile.branches ≡ Some b)
+module _ (s : state.UnitsState) (v : VolumeState) (order : IsInOrder s v) (at : AreInOrder s.units.places s.units.order) (place : ℕ) (u : OpenUnit) (at_place : unit_at s.units.places place ≡ Some u) (n : Node) (file : File) (b : Branch) (h : FileHead) (log : Slots) (up : IsUp n) (unprepared : is_prepared b.state ≡ false)
+    (kept : IsKept (seen s log) v n) (o : RecordOp) (bytes : List ℕ) (there : head_at v.catalog.heads (file_in o) ≡ Some h) (found : find_file h.name n.durable.directory ≡ Some file) (found_b : find_branch u.serial n.volatile.branches ≡ Some b)
     (one : is_of_key o ≡ true) (number : IsNumbered o) (low : IsEarly v) (allowed : rms.change_early h o (written o bytes) ≡ None)
     (locks : changing.locks_refuse (Some u.serial) (file_in o) (changing.keys_asked h (change_in o) (key_in h o (written o bytes))) s.locks ≡ None) (w : VolumeState)
-    (made : rms.MakesKey u (file_in o) h (change_in o) (key_in h o (written o bytes)) (written o bytes) s v w) where
+    (made : rms.MakesKey u (file_in o) h (change_in o) (key_in h o (written o bytes)) (written o bytes) s v w)
+    (keeps : KeepsUp (unit_early n b h.name file (change_said o bytes)) (unit_late n b h.name file (change_said o bytes)) (unit_act b h.name file (change_said o bytes)) n) where
   abbrev f : ℕ
   f = file_in o
 
@@ -221,22 +228,22 @@ module _ (s : state.UnitsState) (v : VolumeState) (order : IsInOrder s v) (at : 
   es = n.durable.units.entries
 
   file_is : IsFile a h file
-  file_is = is_file s v order at place u at_place n file b h kept o bytes there found found_b one number
+  file_is = is_file s v order at place u at_place n file b h log up unprepared kept o bytes there found found_b one number
 
-  own_is : b ≡ branch_of u
-  own_is = own s v order at place u at_place n file b h kept o bytes there found found_b one number
+  own_is : IsOfBranch u b
+  own_is = own s v order at place u at_place n file b h log up unprepared kept o bytes there found found_b one number
 
   pub asking : AsksKey a h file o bytes
-  asking = asks s v order at place u at_place n file b h kept o bytes there found found_b one number allowed
+  asking = asks s v order at place u at_place n file b h log up unprepared kept o bytes there found found_b one number allowed
 
   late : rms.change_late u f h (change_in o) key value s v a ≡ None
   late = made.late a kept.told file_is.head.form file_is.laid
 
   pub early_is_none : unit_early n b h.name file said ≡ None
-  early_is_none = early_none s v order at place u at_place n file b h kept o bytes there found found_b one number allowed locks
+  early_is_none = early_none s v order at place u at_place n file b h log up unprepared kept o bytes there found found_b one number allowed locks
 
   pub late_is_none : unit_late n b h.name file said ≡ None
-  late_is_none = late_none s v order at place u at_place n file b h kept o bytes there found found_b one number allowed late
+  late_is_none = late_none s v order at place u at_place n file b h log up unprepared kept o bytes there found found_b one number allowed late
 
   form_none : form.form_refused h o (length value) ≡ None
   form_none = (first_none (form.form_refused h o (length value)) _ allowed).0
@@ -254,7 +261,7 @@ module _ (s : state.UnitsState) (v : VolumeState) (order : IsInOrder s v) (at : 
   full_none = (first_none (changing.file_refused h (need_of h a (change_in o) (length value))) _ behind_quotas).0
 
   fits : Suits h key after × Takes h a key after
-  fits = may_set h a file_is.head.form (few s v order at place u at_place n file b h kept o bytes there found found_b one number) o bytes one number form_none had_none full_none
+  fits = may_set h a file_is.head.form (few s v order at place u at_place n file b h log up unprepared kept o bytes there found found_b one number) o bytes one number form_none had_none full_none
 
   -- what was set
   abbrev enters : EntersKey f h (λ k. is_some (table.holder s.locks f k)) key after (spelled.change_entry u.tid u.serial f key (before_change (change_in o) made.found)) v w
@@ -278,6 +285,7 @@ module _ (s : state.UnitsState) (v : VolumeState) (order : IsInOrder s v) (at : 
     size = sym kept.blocks;
     home = kept.has.home;
     journal = kept.has.journal;
+    log = kept.has.log;
   }
 
   rest : KeepsRest n f enters.head a c v mid
@@ -292,7 +300,7 @@ module _ (s : state.UnitsState) (v : VolumeState) (order : IsInOrder s v) (at : 
       (subst (λ x. head_format.IsEntry (entry_of x)) there (tells.heads f (head_below v.catalog.heads f h order.heads there)).ranges).form.mrn
 
   noted : Noted h.organization h key (map_of h a key)
-  noted = noted_by h.organization h a key after file_is.head.form file_is.laid within (few s v order at place u at_place n file b h kept o bytes there found found_b one number) mrn_small fits.0 fits.1
+  noted = noted_by h.organization h a key after file_is.head.form file_is.laid within (few s v order at place u at_place n file b h log up unprepared kept o bytes there found found_b one number) mrn_small fits.0 fits.1
 
   abbrev before : Option (List ℕ)
   before = map_of h a key
@@ -318,7 +326,7 @@ module _ (s : state.UnitsState) (v : VolumeState) (order : IsInOrder s v) (at : 
   -- the act is that of the operation
   pub act_is : Changes u.tid u.serial h.name cs keys ≡ unit_act b h.name file said
   act_is =
-      (λ i. Changes (sym own_is i).key.tid (sym own_is i).key.serial h.name (set_change key (sym (file_is.records key) i) after ∷ []) (sym asking.held i))
+      (λ i. Changes (sym own_is.tid i) (sym own_is.serial i) h.name (set_change key (sym (file_is.records key) i) after ∷ []) (sym asking.held i))
       ∙ ap (λ ds. operation_act b h.name ds (keys_held file said)) (sym asking.changes)
 
   -- The node after it.
@@ -341,8 +349,8 @@ module _ (s : state.UnitsState) (v : VolumeState) (order : IsInOrder s v) (at : 
   mark_none : file.recovery_units ≡ true
   mark_none = is_true file.recovery_units (not_refused (not file.recovery_units) line.NotMarked (neither (is_marked file) (keys_refused n (Some b.key.serial) h.name (keys_asked file said)) (neither (form_refused file said) _ early_is_none).1).0)
 
-  keys_none : keys_refused n (Some u.serial) h.name keys ≡ None
-  keys_none = sym (λ i. keys_refused n (Some (own_is i).key.serial) h.name (asking.asked i)) ∙ (neither (is_marked file) _ (neither (form_refused file said) _ early_is_none).1).1
+  keys_none : keys_refused n (Some b.key.serial) h.name keys ≡ None
+  keys_none = sym (ap (keys_refused n (Some b.key.serial) h.name) asking.asked) ∙ (neither (is_marked file) _ (neither (form_refused file said) _ early_is_none).1).1
 
   behind_data : first_of (more_changes n (changes_of file said) b) (first_of (more_locks n h.name (keys_held file said)) (first_of (file_full file said) (journal_full n h.name (changes_of file said) b))) ≡ None
   behind_data = (neither (found_refused n (Some b.key.serial) h.name said file) _ late_is_none).1
@@ -353,9 +361,6 @@ module _ (s : state.UnitsState) (v : VolumeState) (order : IsInOrder s v) (at : 
   more_none : more_changes n cs b ≡ None
   more_none = ap (λ ds. more_changes n ds b) (sym changes_are) ∙ (neither (more_changes n (changes_of file said) b) _ behind_data).0
 
-  locks_none : more_locks n h.name keys ≡ None
-  locks_none = ap (more_locks n h.name) (sym asking.held) ∙ (neither (more_locks n h.name (keys_held file said)) _ (neither (more_changes n (changes_of file said) b) _ behind_data).1).0
-
   bytes_none : journal_full n h.name cs b ≡ None
   bytes_none =
       ap (λ ds. journal_full n h.name ds b) (sym changes_are)
@@ -364,27 +369,22 @@ module _ (s : state.UnitsState) (v : VolumeState) (order : IsInOrder s v) (at : 
   key_in_keys : In key keys
   key_in_keys = last_asked h.organization (change_in o) key
 
-  keys_free : AllByRecursion (λ k. held_against (Some u.serial) (world.holder n.volatile.locks h.name k) ≡ None) keys
-  keys_free = each_free n u.serial h.name keys keys_none
+  keys_free : AllByRecursion (λ k. held_against (Some b.key.serial) (world.holder n.volatile.locks h.name k) ≡ None) keys
+  keys_free = each_free n b.key.serial h.name keys keys_none
 
-  may : MayMake n u.tid u.serial h.name file cs keys
+  may : MayMake n b h.name file cs
   may = record {
     some = refl;
     found = found;
     marked = mark_none;
-    free = (at_in (λ k. held_against (Some u.serial) (world.holder n.volatile.locks h.name k) ≡ None) key keys keys_free key_in_keys, tt);
-    held = (key_in_keys, tt);
+    free = (at_in (λ k. held_against (Some b.key.serial) (world.holder n.volatile.locks h.name k) ≡ None) key keys keys_free key_in_keys, tt);
     notes = (sym (file_is.records key), tt);
     end = λ is moved.
         let kind : h.organization ≡ kept_by.Sequential = sequential_by h.organization h (sym file_is.head.organization ∙ is) in
         let asked = end_asked h.organization (change_in o) key before value h kind (not_deleted h o (length value) kind one form_none) had_none (moved_one before after moved) in
-        (asked, at_in (IsFreeFor n.volatile.locks h.name u.serial) End keys (free_for n u.serial h.name keys keys_none) asked);
+        at_in (IsFreeFor n.volatile.locks h.name b.key.serial) End keys (free_for n b.key.serial h.name keys keys_none) asked;
     suit = (suit_is, tt);
-    branch = b;
-    own_tid = ap (λ (x : Branch). x.key.tid) own_is;
-    own_serial = ap (λ (x : Branch). x.key.serial) own_is;
     room = changes_have_room n b h.name cs kept.has.order refl more_none bytes_none;
-    locks = ltb-false lock_limit (length n.volatile.locks + length (not_locked n.volatile.locks h.name keys)) (not_refused (nat_lt lock_limit (length n.volatile.locks + length (not_locked n.volatile.locks h.name keys))) (line.QuotaExceeded line.Locks lock_limit) locks_none);
   }
     where
       suit_is : IsNoteOf file key before
@@ -393,11 +393,32 @@ module _ (s : state.UnitsState) (v : VolumeState) (order : IsInOrder s v) (at : 
         subst (λ x. IsImageOf file.organization x key before) (sym file_is.head.record_size) (subst (λ x. IsImageOf x h.mrs key before) (sym file_is.head.organization) noted.image),
       )
 
-  unit_here : IsUnitOf n u
-  unit_here = unit_is s v order at n kept place u at_place
+  -- the branch is one of the table
+  there_b : In b n.volatile.branches
+  there_b = found_there u.serial n.volatile.branches b found_b
 
-  among_them : In u.serial (serials_of n.volatile.branches)
-  among_them = in_branches s v order at n kept place u at_place
+  -- what holds by the branch holds by its unit
+  by_own : (P : Id → Id → Type 0) → P b.key.tid b.key.serial → P u.tid u.serial
+  by_own P p = subst (λ y. P u.tid y) own_is.serial (subst (λ x. P x b.key.serial) own_is.tid p)
+
+  live : AreHeld n.volatile.locks h.name file.history.live
+  live = held_live n kept.has.units kept.has.order up b h.name file cs keys f at_f there_b unprepared may
+
+  free_keys : AllByRecursion (λ (c : Change). is_free u.serial file.history.live c.key ≡ true) cs
+  free_keys = by_own (λ t x. AllByRecursion (λ (c : Change). is_free x file.history.live c.key ≡ true) cs) (frees n kept.has.units kept.has.order up b h.name file cs keys f at_f there_b unprepared may)
+
+  changing_may : MayChange u.serial file cs
+  changing_may = by_own (λ t x. MayChange x file cs) (may_change n kept.has.units kept.has.order up b h.name file cs keys f at_f there_b unprepared may)
+
+  units_then : AreUnitsOf m
+  units_then = by_own (λ t x. AreUnitsOf (acted (Changes t x h.name cs keys) n)) (units_after n kept.has.units kept.has.order up b h.name file cs keys f at_f there_b unprepared may)
+
+  order_then : IsJournalInOrder m.durable
+  order_then = by_own (λ t x. IsJournalInOrder (acted (Changes t x h.name cs keys) n).durable) (order_after n kept.has.units kept.has.order up b h.name file cs keys f at_f there_b unprepared may)
+
+  -- the node is up then
+  up_then : IsUp m
+  up_then = subst (λ (a : Act). IsUp (acted a n)) (sym act_is) (keeps (λ i. first_of (early_is_none i) (late_is_none i)))
 
   -- The volume after it.
 
@@ -437,15 +458,15 @@ module _ (s : state.UnitsState) (v : VolumeState) (order : IsInOrder s v) (at : 
 
     files_set : AreFiles c V.heads m.durable.directory
     files_set = subst (λ hs. AreFiles c hs m.durable.directory) (sym rest.heads)
-        (keeps_files.changes a c v.catalog.heads n f h enters.head h.name file u.tid u.serial cs keys kept.has.files kept.has.units named at_f (frees n kept.has.units kept.has.order kept.holds u.tid u.serial h.name file cs keys f at_f file_is.head.name among_them unit_here.transaction may) (refl, tt) changed_is rest.others)
+        (keeps_files.changes a c v.catalog.heads n f h enters.head h.name file u.tid u.serial cs keys kept.has.files kept.has.units named at_f free_keys (refl, tt) changed_is rest.others)
 
     rooms : (other : Key) → is_held file.history other ≡ true → room_at h a other ≤ room_at enters.head c other
-    rooms other is = set_is.2.rooms other ((λ i. held_world i other) ∙ held_locked n.volatile.locks h.name file.history.live other (held_live n kept.has.units kept.has.order kept.holds u.tid u.serial h.name file cs keys f at_f file_is.head.name among_them unit_here.transaction may) is)
+    rooms other is = set_is.2.rooms other ((λ i. held_world i other) ∙ held_locked n.volatile.locks h.name file.history.live other live is)
 
     restorable_set : AreRestorable c V.heads m.durable.directory
     restorable_set = subst (λ hs. AreRestorable c hs m.durable.directory) (sym rest.heads)
         (changes_restorable.sets a c v.catalog.heads n f h enters.head h.name file u.tid u.serial key after keys kept.has.files kept.has.units named at_f
-        (may_change n kept.has.units kept.has.order kept.holds u.tid u.serial h.name file cs keys f at_f file_is.head.name among_them unit_here.transaction may)
+        changing_may
         within fits.0 enters.stages.same set_is.2.form set_is.2.laid set_is.2.map set_is.2.back rooms rest.others kept.has.restorable)
 
     head_there : head_at V.heads f ≡ Some enters.head
@@ -472,13 +493,18 @@ module _ (s : state.UnitsState) (v : VolumeState) (order : IsInOrder s v) (at : 
             let world = entry_sized u.tid u.serial enters.head.name key before in
             omega (arith, more, end, size, world)
 
+    slots_set : SameSlots (length n.durable.log) c d
+    slots_set = entered_slots n.name n.blocks V rest.sound rest.long c d e entered_is rest.journal.entries rest.journal.is enters.entry room_is (length n.durable.log)
+        (let slots = rest.home.slots in let start = rest.sound.ru_start in omega (arith, slots, start))
+
     pub volume_after : HasVolume d W m
     volume_after = record {
       home = record { volume = rest.home.volume; slots = rest.home.slots; journal = rest.home.journal; boot = rest.home.boot; greatest = rest.home.greatest; last = rest.home.last };
+      log = logs_follow.stays c d n m rest.log refl slots_set;
       journal = journal_set;
-      units = units_after n kept.has.units kept.has.order kept.holds u.tid u.serial h.name file cs keys f at_f file_is.head.name among_them unit_here.transaction may;
-      order = order_after n kept.has.units kept.has.order kept.holds u.tid u.serial h.name file cs keys f at_f file_is.head.name among_them unit_here.transaction may;
-      active = all_append IsUnprepared es (ChangeEntry u.tid u.serial h.name key before ∷ []) kept.has.active (tt, tt);
+      units = units_then;
+      order = order_then;
+      told = (kept_up m up_then).log;
       files = stands_on_extents c d V.heads m.durable.directory files_stand files_set;
       restorable = keeps_restorable.stands c d V.heads m.durable.directory files_stand files_set restorable_set;
     }
@@ -491,9 +517,6 @@ module _ (s : state.UnitsState) (v : VolumeState) (order : IsInOrder s v) (at : 
 
   pub node_after : w.catalog.home.node ≡ v.catalog.home.node
   node_after = ap (λ (k : Catalog). k.home.node) catalog_is ∙ ap (λ (k : Catalog). k.home.node) enters.stages.catalog
-
-  pub holds_then : HasBranches m
-  holds_then = holds_after n kept.has.units kept.has.order kept.holds u.tid u.serial h.name file cs keys f at_f file_is.head.name among_them unit_here.transaction may
 
   pub directory_after : m.durable.directory ≡ slice_set n.durable.directory f (Some (changed_file (is_locked n.volatile.locks h.name) u.serial cs file))
   directory_after = at_file.2.changed (changed_file (is_locked n.volatile.locks h.name) u.serial cs) ∙ ap (λ x. slice_set n.durable.directory f (Some (changed_file (is_locked n.volatile.locks h.name) u.serial cs x))) found_is

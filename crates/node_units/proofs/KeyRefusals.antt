@@ -1,5 +1,5 @@
 -- What refuses the change of one key for a unit, and for the branch that the unit is.
-use Rattle.std.proofs.Common.{◌≡◌, ℕ, ◌+◌, ◌*◌, ◌<◌, ◌≤◌, List, [], ◌∷◌, true, not, Option, Some, None, length, refl, sym, ◌∙◌, ap, arith, inl, inr}
+use Rattle.std.proofs.Common.{◌≡◌, ℕ, ◌+◌, ◌*◌, ◌<◌, ◌≤◌, List, [], ◌∷◌, true, not, Option, Some, None, length, refl, sym, ◌∙◌, ap, arith, inl, inr, false}
 use Rattle.std.proofs.lemmas.Nat.{mul-le}
 use Rattle.std.specs.Prelude.{option_map, is_some, nat_lt, unwrap_or}
 use Rattle.file_base.specs.declared.head.FileHead.{FileHead}
@@ -26,7 +26,7 @@ use Rattle.unit_table.specs.Units.{OpenUnit, unit_at}
 use Rattle.run_model.specs.Answers as answers
 use Rattle.run_model.specs.Answers.{change_limit, found_refused, free_journal, is_marked, journal_full, journal_need, keys_refused, more_changes, more_locks}
 use Rattle.run_model.specs.Operations.{changes_of, data_refused, file_full, first_of, form_refused, keys_asked, keys_held, refused_if, set_in}
-use Rattle.run_model.specs.World.{File, Node, find_branch, find_file}
+use Rattle.run_model.specs.World.{File, Node, changes_made, find_branch, find_file}
 use Rattle.directory_model.specs.Files.{IsFile, head_at}
 use Rattle.directory_model.proofs.Reading.{reads_files}
 use Rattle.script_model.specs.Statements.{Operation}
@@ -36,7 +36,7 @@ use Rattle.node_units.proofs.Looking.{first_again, first_some}
 use Rattle.node_units.proofs.ReadLemmas.{asked_file, first_none, line_none}
 use Rattle.node_units.proofs.UnitCounts.{branch_is, counted, free_is, is_there}
 use Rattle.recovery_units.specs.Calls.{IsNumbered, cause_line, change_said, unit_early, unit_late}
-use Rattle.recovery_units.specs.State.{IsKept, are_there, branch_of}
+use Rattle.recovery_units.specs.State.{IsKept, IsOfBranch, are_there}
 use Rattle.recovery_units.proofs.FormLemmas.{forms, line_if, lines_first}
 use Rattle.rms_units.specs.Calls as rms
 use Rattle.rms_units.specs.Changing as changing
@@ -47,6 +47,9 @@ use Rattle.rms_units.specs.State as state
 use Rattle.rms_units.specs.State.{IsInOrder}
 use Rattle.rms_units.specs.declared.asked.KeyChange.{KeyChange}
 use Rattle.rms_units.specs.declared.asked.KeyChange.TheVariants as how
+use Rattle.log_laws.specs.Slots.{Slots}
+use Rattle.commit_protocol.specs.Allowed.{is_prepared}
+use Rattle.world_laws.specs.Nodes.{IsUp}
 use Rattle.node_units.specs.Seen.{seen}
 use Rattle.node_units.proofs.AskedKey.{AsksKey, asks_key}
 use Rattle.node_units.proofs.Holding.{once_of}
@@ -98,8 +101,8 @@ few_records s v order f h there content file is e =
     let most = lies.fits in
     reads_files.below content h file is e lies.blocks (omega (arith, wide, used, to, most))
 
-module _ (s : state.UnitsState) (v : VolumeState) (order : IsInOrder s v) (at : AreInOrder s.units.places s.units.order) (place : ℕ) (u : OpenUnit) (at_place : unit_at s.units.places place ≡ Some u) (n : Node) (file : File) (b : Branch) (h : FileHead)
-    (kept : IsKept (seen s) v n) (o : RecordOp) (bytes : List ℕ) (there : head_at v.catalog.heads (file_in o) ≡ Some h) (found : find_file h.name n.durable.directory ≡ Some file) (found_b : find_branch u.serial n.volatile.branches ≡ Some b)
+module _ (s : state.UnitsState) (v : VolumeState) (order : IsInOrder s v) (at : AreInOrder s.units.places s.units.order) (place : ℕ) (u : OpenUnit) (at_place : unit_at s.units.places place ≡ Some u) (n : Node) (file : File) (b : Branch) (h : FileHead) (log : Slots) (up : IsUp n) (unprepared : is_prepared b.state ≡ false)
+    (kept : IsKept (seen s log) v n) (o : RecordOp) (bytes : List ℕ) (there : head_at v.catalog.heads (file_in o) ≡ Some h) (found : find_file h.name n.durable.directory ≡ Some file) (found_b : find_branch u.serial n.volatile.branches ≡ Some b)
     (one : is_of_key o ≡ true) (number : IsNumbered o) where
   abbrev f : ℕ
   f = file_in o
@@ -122,8 +125,8 @@ module _ (s : state.UnitsState) (v : VolumeState) (order : IsInOrder s v) (at : 
   pub is_file : IsFile kept.content h file
   is_file = asked_file kept.content v.catalog.heads n f h file kept.has.files kept.has.units there found
 
-  pub own : b ≡ branch_of u
-  own = branch_is s v order at n kept place u at_place b found_b
+  pub own : IsOfBranch u b
+  own = branch_is s log v order at n up kept place u at_place b found_b
 
   pub few : h.organization ≡ kept_by.Sequential → h.count < 4294967295
   few e = few_records s v order f h there kept.content file is_file e
@@ -149,7 +152,7 @@ module _ (s : state.UnitsState) (v : VolumeState) (order : IsInOrder s v) (at : 
     locks_are : option_map cause_line (changing.locks_refuse (Some u.serial) f keys s.locks) ≡ L
     locks_are =
         locks_alike v.catalog.heads once f h there n s.locks kept.locks (Some u.serial) keys
-        ∙ (λ i. keys_refused n (Some (sym own i).key.serial) h.name (sym asks.asked i))
+        ∙ (λ i. keys_refused n (Some (sym own.serial i)) h.name (sym asks.asked i))
 
     -- before records are looked at
     early_is : unit_early n b h.name file op ≡ L
@@ -176,8 +179,8 @@ module _ (s : state.UnitsState) (v : VolumeState) (order : IsInOrder s v) (at : 
     B : option_map cause_line (changing.changes_refused 1 u) ≡ more_changes n (changes_of file op) b
     B =
         line_if (nat_lt 1024 (length u.positions + 1)) Changes
-        ∙ (λ i. refused_if (nat_lt change_limit (sym (counted s v order at n kept place u at_place) i + 1)) (line.QuotaExceeded line.Changes change_limit))
-        ∙ (λ i. more_changes n (sym asks.changes i) (sym own i))
+        ∙ (λ i. refused_if (nat_lt change_limit (sym (counted s log v order at n up kept place u at_place) i + 1)) (line.QuotaExceeded line.Changes change_limit))
+        ∙ (λ i. refused_if (nat_lt change_limit (changes_made (sym own.serial i) n.durable.units + length (sym asks.changes i))) (line.QuotaExceeded line.Changes change_limit))
 
     C : option_map cause_line (changing.keys_refused f keys s.locks) ≡ more_locks n h.name (keys_held file op)
     C = more_alike v.catalog.heads once f h there n s.locks kept.locks keys ∙ ap (more_locks n h.name) (sym asks.held)
@@ -187,13 +190,13 @@ module _ (s : state.UnitsState) (v : VolumeState) (order : IsInOrder s v) (at : 
         let before : before_change (change_in o) (unwrap_or had []) ≡ change.before = found_before h (change_in o) key had value none ∙ sym (is_file.records key) in
         let bytes_are : journal.entry_size (journal.ChangeEntry b.key.tid b.key.serial h.name key change.before) ≡ size = entry_sized b.key.tid b.key.serial h.name key change.before ∙ ap (room.entry_size key) (sym before) in
         let owing : answers.owed_first (find_unit b.key.serial (units_in n.durable.units.entries)) ≡ room.owed_first u.positions =
-        ap (λ (x : Branch). answers.owed_first (find_unit x.key.serial (units_in n.durable.units.entries))) own ∙ owed_first_is (find_unit u.serial (units_in n.durable.units.entries)) u.positions (is_there s v order at n kept place u at_place) in
+        ap (λ (x : Id). answers.owed_first (find_unit x (units_in n.durable.units.entries))) own.serial ∙ owed_first_is (find_unit u.serial (units_in n.durable.units.entries)) u.positions (is_there s log v order at n up kept place u at_place) in
         omega (arith, bytes_are, owing)
 
     E : why ≡ None → option_map cause_line (room.journal_refused v.catalog.ru s.units.places u size) ≡ journal_full n h.name (changes_of file op) b
     E none =
         line_if (nat_lt (room.free_bytes v.catalog.ru s.units.places) (room.bytes_wanted u size)) (JournalFull (room.free_bytes v.catalog.ru s.units.places) (room.bytes_wanted u size))
-        ∙ (λ i. let free = sym (free_is s v order at n kept) i in let need = sym (need_is none) i in refused_if (nat_lt free need) (line.JournalFull free need))
+        ∙ (λ i. let free = sym (free_is s log v order at n up kept) i in let need = sym (need_is none) i in refused_if (nat_lt free need) (line.JournalFull free need))
         ∙ ap (λ cs. journal_full n h.name cs b) (sym asks.changes)
 
     abbrev bytes_refused : Option Cause

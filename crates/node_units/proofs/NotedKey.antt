@@ -14,7 +14,7 @@ use Rattle.seq_file.specs.Records.{record_at}
 use Rattle.seq_file.proofs.RecordLaws.{record_at_past}
 use Rattle.relative_file.specs.Cells as relative
 use Rattle.indexed_file.specs.Chain as indexed
-use Rattle.run_model.specs.Ordered.{IsImageOf, IsKeyOf}
+use Rattle.world_laws.specs.Ordered.{IsImageOf, IsKeyOf}
 use Rattle.directory_model.specs.Files.{IsWithin, organized_by}
 use Rattle.restart_laws.proofs.FoundLemmas.{Keeps, cell_suits, record_is, slot_suits}
 

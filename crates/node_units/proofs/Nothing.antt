@@ -1,14 +1,15 @@
 -- No unit is begun.
-use Rattle.std.proofs.Common.{◌≡◌, ◌∙◌, ℕ, ◌-◌, ◌<◌, ◌≤◌, List, [], ◌∷◌, Option, Some, None, length, map, get_or, take, drop, refl, sym, ap, arith}
+use Rattle.std.proofs.Common.{◌≡◌, ◌∙◌, ℕ, ◌-◌, ◌≤◌, List, [], ◌∷◌, Option, Some, None, length, map, get_or, take, drop, refl, sym, ap, arith}
 use Rattle.std.proofs.Math.Seq.{take-length}
 use Rattle.std.specs.List.{AllByRecursion}
 use Rattle.unit_aborts.specs.Growing.{AreTold}
 use Rattle.unit_aborts.specs.declared.reopening.AbortedUnit.{AbortedUnit}
 use Rattle.unit_table.specs.Places.{AreInOrder, count_at, occurrences}
-use Rattle.unit_table.specs.Units.{OpenUnit, Units, begun, no_units, unit_at}
+use Rattle.unit_table.specs.Units.{OpenUnit, begun, no_units, unit_at}
 use Rattle.unit_table.proofs.OrderLemmas.{all_none, taken_is, units_many}
 use Rattle.recovery_units.specs.declared.settled.SettledUnit.{SettledUnit}
-use Rattle.recovery_units.specs.State.{UnitsState, nothing_begun}
+use Rattle.log_laws.specs.Slots.{Slots}
+use Rattle.recovery_units.specs.State.{HasNoUnit}
 use Rattle.rms_units.specs.State as rms
 use Rattle.volume.specs.State.{VolumeState}
 use Rattle.node_units.specs.Seen.{seen}
@@ -23,13 +24,13 @@ unseen None e = refl
 unseen (Some u) e = absurd (omega (arith, e))
 
 -- so no place has one
-pub nothing_unseen : (s : rms.UnitsState) → AreInOrder s.units.places s.units.order → seen s ≡ nothing_begun → s ≡ rms.nothing_begun
-nothing_unseen s at none = λ i. record { units = record { places = places i; order = order i }; locks = ap (λ (z : UnitsState). z.locks) none i }
+pub nothing_unseen : (s : rms.UnitsState) (log : Slots) → AreInOrder s.units.places s.units.order → HasNoUnit (seen s log) → s ≡ rms.nothing_begun
+nothing_unseen s log at none = λ i. record { units = record { places = places i; order = order i }; locks = none.locks i }
   where
     order : s.units.order ≡ []
     order =
         let many = units_many s.units.places s.units.order (λ p some. taken_is (unit_at s.units.places p) (occurrences p s.units.order) (at.each p) some) in
-        let few : length (begun s.units) ≡ 0 = ap (λ (z : UnitsState). length z.begun) none in
+        let few : length (begun s.units) ≡ 0 = ap (λ (us : List OpenUnit). length us) none.begun in
         empty s.units.order (omega (arith, many, few))
 
     places : s.units.places ≡ no_units.places

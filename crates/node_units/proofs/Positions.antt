@@ -9,7 +9,7 @@ use Rattle.vms_model.specs.Transactions.{Outcome}
 use Rattle.records_model.specs.History.{same_id}
 use Rattle.unit_laws.specs.Journal.{ChangeEntry, Journal, JournalEntry, PreparedEntry, RecoveryUnit, SettledEntry, entries_from, entries_size, entry_size, find_unit, is_of_units, is_settled_in, is_settling, trimmed, units_in, with_entries, with_settled}
 use Rattle.unit_laws.proofs.TrimLemmas.{found_onto, had_after, had_onto, trimmed_size}
-use Rattle.run_model.proofs.IdLemmas.{id_is}
+use Rattle.world_laws.proofs.IdLemmas.{id_is}
 use Rattle.restart_laws.proofs.ListLemmas.{all_as}
 use Rattle.recovery_units.specs.State.{is_change_by, positions_of}
 
@@ -68,7 +68,7 @@ pub positions_trimmed : (x : Id) (j : Journal) → is_settled_in x j.entries ≡
 positions_trimmed x j off = positions_from x (units_in j.entries) j.entries j.first (changes_of_units x j.entries off)
 
 -- an entry more that is no change of the branch
-positions_more : (x : Id) (es : List JournalEntry) (e : JournalEntry) (p : ℕ) → is_change_by x e ≡ false → positions_of x p (es ++ e ∷ []) ≡ positions_of x p es
+pub positions_more : (x : Id) (es : List JournalEntry) (e : JournalEntry) (p : ℕ) → is_change_by x e ≡ false → positions_of x p (es ++ e ∷ []) ≡ positions_of x p es
 positions_more x [] e p off = ap (λ (t : Bool). if t then p ∷ [] else []) off
 positions_more x (d ∷ es) e p off = ap (λ (ps : List ℕ). if is_change_by x d then p ∷ ps else ps) (positions_more x es e (p + entry_size d) off)
 

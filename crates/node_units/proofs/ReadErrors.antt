@@ -1,5 +1,5 @@
 -- A read of the units that was not done is one of the world that was not done.
-use Rattle.std.proofs.Common.{◌≡◌, ◌⊎◌, ℕ, List, [], ◌∷◌, Bool, true, false, not, Option, Some, None, length, nat_lt, refl, sym, ◌∙◌, ap, subst, inl, inr}
+use Rattle.std.proofs.Common.{◌≡◌, ℕ, List, [], ◌∷◌, not, Option, Some, None, length, nat_lt, refl, sym, ◌∙◌, ap, subst, inl, inr}
 use Rattle.std.specs.Prelude.{option_map}
 use Rattle.block_disk.specs.Disk.{DiskState}
 use Rattle.careful_write.specs.declared.down.Down.{Down}
@@ -8,12 +8,11 @@ use Rattle.transcript_model.specs.Lines as line
 use Rattle.transcript_model.specs.Lines.{Line}
 use Rattle.commit_protocol.specs.Table.{Branch}
 use Rattle.vms_model.specs.Ids.{Id}
-use Rattle.vms_model.specs.Keys.{Key}
-use Rattle.vms_base.specs.Keys.{key_of}
 use Rattle.volume.specs.State.{VolumeState}
+use Rattle.log_laws.specs.Slots.{Slots}
 use Rattle.unit_table.specs.Units.{OpenUnit}
 use Rattle.record_operations.specs.Asking.{read_file_in}
-use Rattle.record_operations.specs.Causes.{Cause, IfRefused, NotMarked, cause_if, cause_of}
+use Rattle.record_operations.specs.Causes.{Cause, IfRefused, NotMarked, cause_if}
 use Rattle.record_operations.specs.Forms as form
 use Rattle.record_operations.specs.declared.errors.RecErr.{RecErr}
 use Rattle.record_operations.specs.declared.ops.ReadOp.{ReadOp}
@@ -22,7 +21,7 @@ use Rattle.record_files.specs.Any.{map_of}
 use Rattle.run_model.specs.Answers.{change_limit, found_refused, is_marked, journal_full, keys_refused, more_changes, more_locks}
 use Rattle.run_model.specs.Operations.{changes_of, file_full, first_of, form_refused, keys_asked, keys_held, refused_if}
 use Rattle.run_model.specs.World.{Act, File, Node, find_file}
-use Rattle.run_model.proofs.FindLemmas.{found_serial}
+use Rattle.world_laws.proofs.FindLemmas.{found_serial}
 use Rattle.directory_model.specs.Files.{IsFile, head_at}
 use Rattle.recovery_units.specs.Calls as calls
 use Rattle.recovery_units.specs.Calls.{IsAsked, IsBroken, IsNotDone, alone_early, alone_late, cause_line, read_said, unit_act, unit_early, unit_late}
@@ -30,7 +29,7 @@ use Rattle.recovery_units.specs.State.{IsKept}
 use Rattle.recovery_units.proofs.FormLemmas.{forms, lines_first}
 use Rattle.volume_model.specs.Volumes.{HasDisk}
 use Rattle.run_model.specs.World.{fallen}
-use Rattle.run_model.proofs.FewLemmas.{few_in}
+use Rattle.world_laws.proofs.FewLemmas.{few_in}
 use Rattle.unit_journal.specs.Leaving.{FellIn}
 use Rattle.rms_units.specs.Calls as rms
 use Rattle.rms_units.specs.Calls.{MayLook, MayRead}
@@ -44,7 +43,7 @@ use Rattle.node_units.proofs.Finding.{ReadsIn, reads_in}
 use Rattle.node_units.proofs.Holding.{once_of}
 use Rattle.node_units.proofs.Locking.{AreOnce}
 use Rattle.node_units.proofs.Looking.{finds_none, first_again, first_some, refused_cases}
-use Rattle.node_units.proofs.ReadLemmas.{alone_may, asked_file, changes_few, changes_none, first_none, full_none, journal_none, line_none}
+use Rattle.node_units.proofs.ReadLemmas.{alone_may, asked_file, changes_few, changes_none, first_none, line_none}
 use Rattle.node_units.proofs.Refusing.{locks_alike, marked_alike, more_alike}
 
 keys_are : (file : File) (op : ReadOp) → keys_asked file (read_said op) ≡ read_keys op
@@ -62,7 +61,7 @@ not_done e early late act n d P Q r refused broken = elim (refused_cases e P Q r
   | inr x ↦ subst (NotDoneBy early late act n d) (sym (ap (option_map cause_line) x.1)) (broken x.0 x.2)
 ]
 
-module _ (u : OpenUnit) (op : ReadOp) (e : RecErr) (s : state.UnitsState) (v w : VolumeState) (order : IsInOrder s v) (n : Node) (file : File) (b : Branch) (h : FileHead) (kept : IsKept (seen s) v n)
+module _ (u : OpenUnit) (op : ReadOp) (e : RecErr) (s : state.UnitsState) (v w : VolumeState) (log : Slots) (order : IsInOrder s v) (n : Node) (file : File) (b : Branch) (h : FileHead) (kept : IsKept (seen s log) v n)
     (there : head_at v.catalog.heads (read_file_in op) ≡ Some h) (found : find_file h.name n.durable.directory ≡ Some file) (own : u.serial ≡ b.key.serial) where
   once : AreOnce v.catalog.heads
   once = once_of v.catalog.home.node v.store.disk.size v.catalog order.sound order.heads
@@ -119,7 +118,7 @@ module _ (u : OpenUnit) (op : ReadOp) (e : RecErr) (s : state.UnitsState) (v w :
       let locks = ap (keys_refused n (Some b.key.serial) h.name) (keys_are file op)
       ∙ line_none (locks_refuse (Some b.key.serial) (read_file_in op) (read_keys op) s.locks) (keys_refused n (Some b.key.serial) h.name (read_keys op))
       (locks_alike v.catalog.heads once (read_file_in op) h there n s.locks kept.locks (Some b.key.serial) (read_keys op)) (subst (λ (x : Id). locks_refuse (Some x) (read_file_in op) (read_keys op) s.locks ≡ None) own fell.0.1) in
-      record { begun = (λ i. first_of (p.0 i) (first_of (p.1 i) (locks i))); disk = inl (fell_kept (seen s) v w n down kept order.sound order.holds order.idle fell.1) }
+      record { begun = (λ i. first_of (p.0 i) (first_of (p.1 i) (locks i))); disk = inl (fell_kept (seen s log) v w n down kept order.sound order.holds order.idle fell.1) }
 
   pub read_not_done : IfRefused e (λ c. rms.ReadRefused u h op c s v × (w ≡ v)) (λ down. MayRead u h op s × FellIn down v w) →
       IsNotDone e (unit_early n b h.name file (read_said op)) (unit_late n b h.name file (read_said op)) (unit_act b h.name file (read_said op)) n w.store.disk
@@ -127,20 +126,20 @@ module _ (u : OpenUnit) (op : ReadOp) (e : RecErr) (s : state.UnitsState) (v w :
       not_done e (unit_early n b h.name file (read_said op)) (unit_late n b h.name file (read_said op)) (unit_act b h.name file (read_said op)) n w.store.disk (λ c. rms.ReadRefused u h op c s v × (w ≡ v)) (λ down. MayRead u h op s × FellIn down v w) r
       (λ c k. refused c k.0) broken
 
-pub reads_err : (u : OpenUnit) (op : ReadOp) (e : RecErr) (s : state.UnitsState) (v w : VolumeState) → IsInOrder s v →
-    ((h : FileHead) → head_at v.catalog.heads (read_file_in op) ≡ Some h → IfRefused e (λ c. rms.ReadRefused u h op c s v × (w ≡ v)) (λ down. MayRead u h op s × FellIn down v w)) → calls.ReadsErr u.serial op e (seen s) v w
-reads_err u op e s v w order r n name file b asked =
+pub reads_err : (u : OpenUnit) (op : ReadOp) (e : RecErr) (s : state.UnitsState) (v w : VolumeState) (log : Slots) → IsInOrder s v →
+    ((h : FileHead) → head_at v.catalog.heads (read_file_in op) ≡ Some h → IfRefused e (λ c. rms.ReadRefused u h op c s v × (w ≡ v)) (λ down. MayRead u h op s × FellIn down v w)) → calls.ReadsErr u.serial op e (seen s log) v w
+reads_err u op e s v w log order r n name file b asked =
     subst (λ (x : List ℕ). IsNotDone e (unit_early n b x file (read_said op)) (unit_late n b x file (read_said op)) (unit_act b x file (read_said op)) n w.store.disk) asked.named.called
-    (read_not_done u op e s v w order n file b asked.head asked.kept asked.named.there (ap (λ x. find_file x n.durable.directory) asked.named.called ∙ asked.found) (found_serial u.serial n.volatile.branches b asked.branch)
+    (read_not_done u op e s v w log order n file b asked.head asked.kept asked.named.there (ap (λ x. find_file x n.durable.directory) asked.named.called ∙ asked.found) (found_serial u.serial n.volatile.branches b asked.branch)
     (r asked.head asked.named.there))
 
 -- A look that was not done.
 abbrev LookBy : (early late : Option Line) → Type 0 → Option Line → Type 0
 LookBy early late broken o = elim o [ Some l ↦ first_of early late ≡ Some l | None ↦ broken ]
 
-pub looks_err : (op : ReadOp) (e : RecErr) (s : state.UnitsState) (v w : VolumeState) → IsInOrder s v →
-    ((h : FileHead) → head_at v.catalog.heads (read_file_in op) ≡ Some h → IfRefused e (λ c. rms.LookRefused h op c s v × (w ≡ v)) (λ down. MayLook h op s × FellIn down v w)) → calls.LooksErr op e (seen s) v w
-looks_err op e s v w order r n name file asked =
+pub looks_err : (op : ReadOp) (e : RecErr) (s : state.UnitsState) (v w : VolumeState) (log : Slots) → IsInOrder s v →
+    ((h : FileHead) → head_at v.catalog.heads (read_file_in op) ≡ Some h → IfRefused e (λ c. rms.LookRefused h op c s v × (w ≡ v)) (λ down. MayLook h op s × FellIn down v w)) → calls.LooksErr op e (seen s log) v w
+looks_err op e s v w log order r n name file asked =
     subst (λ (x : List ℕ). LookBy (alone_early n x file (read_said op)) (alone_late n x file (read_said op)) ((alone_early n x file (read_said op) ≡ None) × HasDisk (fallen None n) w.store.disk) (calls.refusal_of e)) asked.named.called here
   where
     h : FileHead
@@ -179,7 +178,7 @@ looks_err op e s v w order r n name file asked =
         let one = line_none (form.read_form_refused h op) (form_refused file (read_said op)) form_is fell.0.0 in
         let locks = ap (keys_refused n None h.name) (keys_are file op)
         ∙ line_none (locks_refuse None (read_file_in op) (read_keys op) s.locks) (keys_refused n None h.name (read_keys op)) (locks_alike v.catalog.heads once (read_file_in op) h asked.named.there n s.locks asked.kept.locks None (read_keys op)) fell.0.1 in
-        ((λ i. first_of (one i) (first_of (alone_may file op i) (locks i))), fell_kept (seen s) v w n down asked.kept order.sound order.holds order.idle fell.1)
+        ((λ i. first_of (one i) (first_of (alone_may file op i) (locks i))), fell_kept (seen s log) v w n down asked.kept order.sound order.holds order.idle fell.1)
 
     here : LookBy early (first_of F rest) ((early ≡ None) × HasDisk (fallen None n) w.store.disk) (calls.refusal_of e)
     here = elim (refused_cases e (λ c. rms.LookRefused h op c s v × (w ≡ v)) (λ down. MayLook h op s × FellIn down v w) (r h asked.named.there)) [

@@ -1,6 +1,5 @@
 -- A read of the units is one of the world.
-use Rattle.std.proofs.Common.{◌≡◌, ℕ, ◌+◌, ◌-◌, ◌<◌, ◌≤◌, List, [], ◌∷◌, Bool, true, false, not, Option, Some, None, length, nat_lt, refl, sym, ◌∙◌, ap, subst, arith, inl, inr}
-use Rattle.std.proofs.lemmas.Bool.{ltb-false}
+use Rattle.std.proofs.Common.{◌≡◌, ℕ, ◌+◌, ◌≤◌, List, [], ◌∷◌, Bool, false, not, Option, Some, None, length, nat_lt, refl, sym, ◌∙◌, ap, subst, arith}
 use Rattle.std.proofs.lemmas.Bool.Decides.{nat_tests}
 use Rattle.std.specs.Prelude.{option_map}
 use Rattle.file_base.specs.declared.head.FileHead.{FileHead}
@@ -11,22 +10,19 @@ use Rattle.vms_model.specs.Ids.{Id}
 use Rattle.vms_model.specs.Keys.{Key}
 use Rattle.volume.specs.State.{VolumeState}
 use Rattle.unit_laws.specs.Journal.{RecoveryUnit, find_unit, units_in}
-use Rattle.unit_table.specs.Units.{OpenUnit, unit_at}
+use Rattle.unit_table.specs.Units.{OpenUnit}
+use Rattle.log_laws.specs.Slots.{Slots}
 use Rattle.record_locks.specs.Locks as table
 use Rattle.record_operations.specs.Asking.{read_file_in}
 use Rattle.record_operations.specs.Causes.{Cause, cause_if, first_cause, NotMarked}
 use Rattle.record_operations.specs.Forms as form
 use Rattle.record_operations.specs.declared.ops.ReadOp.{ReadOp}
 use Rattle.record_operations.specs.declared.ops.ReadOp.TheVariants as read
-use Rattle.run_model.specs.Answers.{change_limit, free_journal, is_marked, journal_full, keys_refused, lock_limit, more_changes, more_locks, needs_unit}
-use Rattle.run_model.specs.Locks.{not_locked}
-use Rattle.run_model.specs.Operations.{changes_of, file_full, first_of, form_refused, free_buckets, keys_asked, keys_held, need_of, operation_answer, refused_if}
-use Rattle.run_model.specs.World.{Act, AreUnitsOf, File, Holds, Node, acted, changes_made, find_file, serials_of}
-use Rattle.run_model.specs.Promises.{In}
-use Rattle.run_model.proofs.AnswerLemmas.{not_refused}
-use Rattle.run_model.proofs.FindLemmas.{found_serial}
-use Rattle.run_model.proofs.HoldingLemmas.{HasLocks}
-use Rattle.run_model.proofs.FewLemmas.{few_in}
+use Rattle.run_model.specs.Answers.{change_limit, free_journal, is_marked, journal_full, more_changes, more_locks, needs_unit}
+use Rattle.run_model.specs.Operations.{changes_of, file_full, first_of, form_refused, free_buckets, keys_held, need_of, operation_answer, refused_if}
+use Rattle.run_model.specs.World.{Act, AreUnitsOf, File, Holds, Node, acted, changes_made, find_file}
+use Rattle.world_laws.proofs.FindLemmas.{found_serial}
+use Rattle.world_laws.proofs.FewLemmas.{few_in}
 use Rattle.directory_model.specs.Files.{AreFiles, IsFile, head_at}
 use Rattle.directory_model.proofs.Places.{file_there}
 use Rattle.recovery_units.specs.Calls as calls
@@ -39,7 +35,7 @@ use Rattle.rms_units.specs.State as state
 use Rattle.rms_units.specs.State.{IsInOrder}
 use Rattle.node_units.specs.Seen.{seen}
 use Rattle.node_units.proofs.Finding.{ReadsIn, reads_in}
-use Rattle.node_units.proofs.Holding.{found_among, kept_holds, once_of}
+use Rattle.node_units.proofs.Holding.{kept_holds, once_of}
 use Rattle.node_units.proofs.Locking.{AreOnce}
 use Rattle.node_units.proofs.Refusing.{marked_alike, more_alike}
 
@@ -105,9 +101,8 @@ asked_file content heads n f h file files units there found =
         some k = cc
 
 -- A read that was done.
-module _ (place : ℕ) (u : OpenUnit) (op : ReadOp) (key : Key) (bytes : List ℕ) (s : state.UnitsState) (v : VolumeState) (t : state.UnitsState) (w : VolumeState) (order : IsInOrder s v) (n : Node) (file : File) (b : Branch) (h : FileHead)
-    (r : rms.ReadsOk u h op key bytes s v t w) (kept : IsKept (seen s) v n) (there : head_at v.catalog.heads (read_file_in op) ≡ Some h) (found : find_file h.name n.durable.directory ≡ Some file) (own : u.serial ≡ b.key.serial)
-    (among : In b.key.serial (serials_of n.volatile.branches)) where
+module _ (place : ℕ) (u : OpenUnit) (op : ReadOp) (key : Key) (bytes : List ℕ) (s : state.UnitsState) (v : VolumeState) (t : state.UnitsState) (w : VolumeState) (log : Slots) (order : IsInOrder s v) (n : Node) (file : File) (b : Branch) (h : FileHead)
+    (r : rms.ReadsOk u h op key bytes s v t w) (kept : IsKept (seen s log) v n) (there : head_at v.catalog.heads (read_file_in op) ≡ Some h) (found : find_file h.name n.durable.directory ≡ Some file) (own : u.serial ≡ b.key.serial) where
   once : AreOnce v.catalog.heads
   once = once_of v.catalog.home.node v.store.disk.size v.catalog order.sound order.heads
 
@@ -136,33 +131,30 @@ module _ (place : ℕ) (u : OpenUnit) (op : ReadOp) (key : Key) (bytes : List �
       let five = ap (λ cs. journal_full n h.name cs b) none ∙ journal_none n h.name b in
       λ i. first_of (reads.found i) (first_of (two i) (first_of (three i) (first_of (full_none file op i) (five i))))
 
-  room : HasLocks n h.name (key ∷ [])
-  room = ltb-false lock_limit (length n.volatile.locks + length (not_locked n.volatile.locks h.name (key ∷ []))) (not_refused (nat_lt lock_limit (length n.volatile.locks + length (not_locked n.volatile.locks h.name (key ∷ [])))) (line.QuotaExceeded line.Locks lock_limit) few)
-
-  held : IsKept (seen t) w (acted (unit_act b h.name file (read_said op)) n)
+  held : IsKept (seen t log) w (acted (unit_act b h.name file (read_said op)) n)
   held =
-      let after = kept_holds (seen s) v n (read_file_in op) h b.key.serial (key ∷ []) kept once there among room in
+      let after = kept_holds (seen s log) v n (read_file_in op) h b.key.serial (key ∷ []) kept once there in
       let act : Holds b.key.serial h.name (key ∷ []) ≡ unit_act b h.name file (read_said op) = ap (Holds b.key.serial h.name) (sym reads.held) ∙ sym (act_is b h.name file op) in
-      let units : record (seen s) { locks = table.with_locks b.key.serial (read_file_in op) (key ∷ []) s.locks } ≡ seen t =
-      ap (λ (x : Id). seen (rms.holding x (read_file_in op) (key ∷ []) s)) (sym own) ∙ ap seen (sym r.held) in
-      subst (λ (x : VolumeState). IsKept (seen t) x (acted (unit_act b h.name file (read_said op)) n)) (sym r.same)
+      let units : record (seen s log) { locks = table.with_locks b.key.serial (read_file_in op) (key ∷ []) s.locks } ≡ seen t log =
+      ap (λ (x : Id). seen (rms.holding x (read_file_in op) (key ∷ []) s) log) (sym own) ∙ ap (λ (x : state.UnitsState). seen x log) (sym r.held) in
+      subst (λ (x : VolumeState). IsKept (seen t log) x (acted (unit_act b h.name file (read_said op)) n)) (sym r.same)
       (subst (λ (x : UnitsState). IsKept x v (acted (unit_act b h.name file (read_said op)) n)) units
-      (subst (λ (a : Act). IsKept (record (seen s) { locks = table.with_locks b.key.serial (read_file_in op) (key ∷ []) s.locks }) v (acted a n)) act after))
+      (subst (λ (a : Act). IsKept (record (seen s log) { locks = table.with_locks b.key.serial (read_file_in op) (key ∷ []) s.locks }) v (acted a n)) act after))
 
-  pub read_done : IsDone (unit_early n b h.name file (read_said op)) (unit_late n b h.name file (read_said op)) (unit_act b h.name file (read_said op)) (operation_answer file (read_said op)) (record_line op key bytes) n (seen t) w
+  pub read_done : IsDone (unit_early n b h.name file (read_said op)) (unit_late n b h.name file (read_said op)) (unit_act b h.name file (read_said op)) (operation_answer file (read_said op)) (record_line op key bytes) n (seen t log) w
   read_done = record { allowed = (λ i. first_of (early i) (late i)); kept = held; answers = reads.answers }
 
-pub reads_ok : (place : ℕ) (u : OpenUnit) (op : ReadOp) (key : Key) (bytes : List ℕ) (s : state.UnitsState) (v : VolumeState) (t : state.UnitsState) (w : VolumeState) → IsInOrder s v →
-    ((h : FileHead) → head_at v.catalog.heads (read_file_in op) ≡ Some h → rms.ReadsOk u h op key bytes s v t w) → calls.ReadsOk u.serial op key bytes (seen s) v (seen t) w
-reads_ok place u op key bytes s v t w order r n name file b asked =
-    subst (λ (x : List ℕ). IsDone (unit_early n b x file (read_said op)) (unit_late n b x file (read_said op)) (unit_act b x file (read_said op)) (operation_answer file (read_said op)) (record_line op key bytes) n (seen t) w) asked.named.called
-    (read_done place u op key bytes s v t w order n file b asked.head (r asked.head asked.named.there) asked.kept asked.named.there (ap (λ x. find_file x n.durable.directory) asked.named.called ∙ asked.found)
-    (found_serial u.serial n.volatile.branches b asked.branch) (found_among n u.serial b asked.branch))
+pub reads_ok : (place : ℕ) (u : OpenUnit) (op : ReadOp) (key : Key) (bytes : List ℕ) (s : state.UnitsState) (v : VolumeState) (t : state.UnitsState) (w : VolumeState) (log : Slots) → IsInOrder s v →
+    ((h : FileHead) → head_at v.catalog.heads (read_file_in op) ≡ Some h → rms.ReadsOk u h op key bytes s v t w) → calls.ReadsOk u.serial op key bytes (seen s log) v (seen t log) w
+reads_ok place u op key bytes s v t w log order r n name file b asked =
+    subst (λ (x : List ℕ). IsDone (unit_early n b x file (read_said op)) (unit_late n b x file (read_said op)) (unit_act b x file (read_said op)) (operation_answer file (read_said op)) (record_line op key bytes) n (seen t log) w) asked.named.called
+    (read_done place u op key bytes s v t w log order n file b asked.head (r asked.head asked.named.there) asked.kept asked.named.there (ap (λ x. find_file x n.durable.directory) asked.named.called ∙ asked.found)
+    (found_serial u.serial n.volatile.branches b asked.branch))
 
 -- A record was looked at.
-pub looks_ok : (op : ReadOp) (key : Key) (bytes : List ℕ) (s : state.UnitsState) (v w : VolumeState) → IsInOrder s v → ((h : FileHead) → head_at v.catalog.heads (read_file_in op) ≡ Some h → rms.LooksOk h op key bytes s v w) →
-    calls.LooksOk op key bytes (seen s) v
-looks_ok op key bytes s v w order r n name file asked =
+pub looks_ok : (op : ReadOp) (key : Key) (bytes : List ℕ) (s : state.UnitsState) (v w : VolumeState) (log : Slots) → IsInOrder s v → ((h : FileHead) → head_at v.catalog.heads (read_file_in op) ≡ Some h → rms.LooksOk h op key bytes s v w) →
+    calls.LooksOk op key bytes (seen s log) v
+looks_ok op key bytes s v w log order r n name file asked =
     subst (λ (x : List ℕ). IsSeen (alone_early n x file (read_said op)) (alone_late n x file (read_said op)) (operation_answer file (read_said op)) (record_line op key bytes)) asked.named.called here
   where
     h : FileHead

@@ -1,5 +1,5 @@
 -- Refusals by causes, and as the world says them.
-use Rattle.std.proofs.Common.{◌≡◌, ℕ, ◌+◌, ◌<◌, List, [], ◌∷◌, Bool, true, false, not, Option, Some, None, length, nat_lt, refl, sym, ◌∙◌, ap, subst, if◌then◌else◌}
+use Rattle.std.proofs.Common.{◌≡◌, ℕ, ◌+◌, List, [], ◌∷◌, Bool, true, false, not, Option, Some, None, length, nat_lt, refl, sym, ◌∙◌, ap, if◌then◌else◌}
 use Rattle.std.specs.Prelude.{option_map}
 use Rattle.file_base.specs.declared.head.FileHead.{FileHead}
 use Rattle.transcript_model.specs.Lines as line
@@ -8,7 +8,7 @@ use Rattle.vms_model.specs.Ids.{Id}
 use Rattle.vms_model.specs.Keys.{Key}
 use Rattle.records_model.specs.History.{same_id}
 use Rattle.record_locks.specs.Locks as table
-use Rattle.record_operations.specs.Causes.{Cause, Locked, Locks, NotMarked, cause_if}
+use Rattle.record_operations.specs.Causes.{Locked, Locks, NotMarked, cause_if}
 use Rattle.run_model.specs.Answers.{held_against, is_marked, keys_refused, lock_limit, more_locks}
 use Rattle.run_model.specs.Operations.{first_of, refused_if}
 use Rattle.run_model.specs.Locks.{holder}

@@ -1,10 +1,11 @@
 -- Units at their places, and in the order of their beginning.
-use Rattle.std.proofs.Common.{◌≡◌, ℕ, zero, suc, ◌+◌, ◌-◌, ◌<◌, ◌≤◌, List, [], ◌∷◌, Option, Some, None, slice_set, refl, sym, ◌∙◌, ap, subst, arith, inl, inr, get_or-set_same, get_or-set_other}
+use Rattle.std.proofs.Common.{◌≡◌, ℕ, zero, suc, ◌+◌, ◌-◌, ◌<◌, ◌≤◌, List, [], ◌∷◌, Option, Some, None, length, slice_set, refl, sym, ◌∙◌, ap, subst, arith, inl, inr, get_or-set_same, get_or-set_other}
 use Rattle.std.specs.Prelude.{IsSome}
 use Rattle.std.specs.List.{All, AllByRecursion}
 use Rattle.std.proofs.lemmas.Bool.{cases_eq}
 use Rattle.std.proofs.lemmas.List.Elements.{All-cons, All-nil}
 use Rattle.volume.specs.State.{VolumeState}
+use Rattle.log_laws.specs.Slots.{Slots}
 use Rattle.journal_model.specs.Ring.{ring_size}
 use Rattle.unit_table.specs.Places.{AreInOrder, count_at, occurrences}
 use Rattle.unit_table.specs.Units as table
@@ -45,8 +46,8 @@ owed_order (q ∷ qs) us each = go (unit_at us q) refl (owed_order qs (slice_set
         ] in
         owed_step us q u there ∙ ap (λ k. owed_for u.prepared u.positions + k) (rest later ∙ ap calls.owed (units_other us q None qs none))
 
-pub owed_seen : (s : rms.UnitsState) → AreInOrder s.units.places s.units.order → table.owed s.units.places ≡ calls.owed (seen s).begun
-owed_seen s order = owed_order s.units.order s.units.places order.each
+pub owed_seen : (s : rms.UnitsState) (log : Slots) → AreInOrder s.units.places s.units.order → table.owed s.units.places ≡ calls.owed (seen s log).begun
+owed_seen s log order = owed_order s.units.order s.units.places order.each
 
 -- What holds of all of them.
 
@@ -86,8 +87,8 @@ ascend_within least from end [] less h = All-nil _
 ascend_within least from end (p ∷ ps) less h = let rest = ascend_end (p + 1) end ps h.1 in let one = h.0 in All-cons (λ q. (least ≤ q) × (q < end)) p ps (omega (arith, less, one), omega (arith, rest)) (ascend_within least (p + 1) end ps (omega (arith, less, one)) h.1)
 
 -- Units and volume are in order as the units say it, and as those above them do.
-pub order_seen : (s : rms.UnitsState) (v : VolumeState) → AreInOrder s.units.places s.units.order → rms.IsInOrder s v → calls.IsInOrder (seen s) v
-order_seen s v at order = record {
+pub order_seen : (s : rms.UnitsState) (log : Slots) (v : VolumeState) → AreInOrder s.units.places s.units.order → 584 + length log ≤ v.catalog.ru.start → rms.IsInOrder s v → calls.IsInOrder (seen s log) v
+order_seen s log v at slots order = record {
   idle = order.idle;
   frames = order.frames;
   heads = order.heads;
@@ -96,13 +97,14 @@ order_seen s v at order = record {
   least = order.least;
   most = order.most;
   ascends = order.ascends;
-  room = subst (λ k. v.catalog.ru.end - v.catalog.ru.first + k ≤ ring_size v.catalog.ru) (owed_seen s at) order.room;
+  room = subst (λ k. v.catalog.ru.end - v.catalog.ru.first + k ≤ ring_size v.catalog.ru) (owed_seen s log at) order.room;
   within = all_seen (λ (u : OpenUnit). table.Ascend v.catalog.ru.first v.catalog.ru.end u.positions) s.units.places s.units.order (λ p u there. ascend_seen v.catalog.ru.first v.catalog.ru.end u.positions (order.ascending p u there));
   few = (let many = units_many s.units.places s.units.order (λ p some. taken_is (unit_at s.units.places p) (occurrences p s.units.order) (at.each p) some) in let few = taken_few s.units.places in let long = at.whole in let taken = at.many in omega (arith, many, few, long, taken));
+  slots = slots;
 }
 
-pub order_unseen : (s : rms.UnitsState) (v : VolumeState) → AreInOrder s.units.places s.units.order → calls.IsInOrder (seen s) v → rms.IsInOrder s v
-order_unseen s v at order = record {
+pub order_unseen : (s : rms.UnitsState) (log : Slots) (v : VolumeState) → AreInOrder s.units.places s.units.order → calls.IsInOrder (seen s log) v → rms.IsInOrder s v
+order_unseen s log v at order = record {
   idle = order.idle;
   frames = order.frames;
   heads = order.heads;
@@ -111,7 +113,7 @@ order_unseen s v at order = record {
   least = order.least;
   most = order.most;
   ascends = order.ascends;
-  room = subst (λ k. v.catalog.ru.end - v.catalog.ru.first + k ≤ ring_size v.catalog.ru) (sym (owed_seen s at)) order.room;
+  room = subst (λ k. v.catalog.ru.end - v.catalog.ru.first + k ≤ ring_size v.catalog.ru) (sym (owed_seen s log at)) order.room;
   within = λ p u there. ascend_within v.catalog.ru.first v.catalog.ru.first v.catalog.ru.end u.positions (omega arith) (ascends p u there);
   ascending = λ p u there. ascend_unseen v.catalog.ru.first v.catalog.ru.end u.positions (ascends p u there);
 }

@@ -1,5 +1,5 @@
 -- A file of a node's volume is changed by what is staged: all else stays as it was. A key of it is set.
-use Rattle.std.proofs.Common.{◌≡◌, ℕ, List, [], ◌∷◌, length, Bool, Option, Some, None, slice_set, refl, sym, ◌∙◌, ap, subst, arith, length-set}
+use Rattle.std.proofs.Common.{◌≡◌, ◌+◌, ℕ, List, [], ◌∷◌, length, Bool, Option, Some, None, slice_set, refl, sym, ◌∙◌, ap, subst, arith, length-set}
 use Rattle.std.specs.Prelude.{is_some, MatchOption, IsSomeAnd}
 use Rattle.std.specs.Option.{IfSome}
 use Rattle.careful_write.specs.State.{EachWhole}
@@ -19,7 +19,9 @@ use Rattle.directory_model.specs.Files.{head_at, laid_in}
 use Rattle.directory_model.specs.Laws.{IsChanged, SameBut}
 use Rattle.volume_model.specs.Homes.{HasHome}
 use Rattle.volume_model.specs.Laws.{KeepsNames}
-use Rattle.volume_model.specs.Volumes.{HasJournal}
+use Rattle.volume_model.specs.Volumes.{HasJournal, HasLog}
+use Rattle.lmcp_log.specs.Keeping.{SameSlots}
+use Rattle.volume_laws.proofs.ToldLemmas.{logs_follow}
 use Rattle.volume_laws.specs.Journals.{SameRing}
 use Rattle.volume_laws.proofs.FollowLemmas.{follow}
 use Rattle.unit_undo.proofs.ApartLemmas.{journal_off, others_keep}
@@ -37,6 +39,7 @@ pub record KeepsRest (n : Node) (f : ℕ) (new : FileHead) (a b : List (List ℕ
   pub sound : IsSound n.name n.blocks mid.catalog
   pub home : HasHome mid.catalog.home n
   pub journal : HasJournal b mid.catalog n
+  pub log : HasLog b n
   pub ring : mid.catalog.ru ≡ v.catalog.ru
 
 -- What is asked of a volume in which a file is changed: it tells this content, and is the node's.
@@ -48,6 +51,7 @@ pub record IsOfNode (n : Node) (a : List (List ℕ)) (v : VolumeState) : Type 0 
   pub size : v.store.disk.size ≡ n.blocks
   pub home : HasHome v.catalog.home n
   pub journal : HasJournal a v.catalog n
+  pub log : HasLog a n
 
 -- a change of a key from what it had
 abbrev pub set_change : Key → (before after : Option (List ℕ)) → Change
@@ -72,6 +76,9 @@ module _ (n : Node) (f limit : ℕ) (h new : FileHead) (a b : List (List ℕ)) (
     blocks = λ k from to. agrees.others k (journal_off n.name n.blocks v.catalog is.long is.sound f h there k (let start = is.sound.ru_start in omega (arith, start, from)) to);
   }
 
+  slots_same : SameSlots (length n.durable.log) a b
+  slots_same i below = agrees.others (66 + i) (journal_off n.name n.blocks v.catalog is.long is.sound f h there (66 + i) (omega arith) (let slots = is.home.slots in let start = is.sound.ru_start in omega (arith, below, slots, start)))
+
   pub keeps_rest : EachWhole b → KeepsRest n f new a b v mid
   keeps_rest whole =
       let names : KeepsNames v.catalog.heads mid.catalog.heads = subst (KeepsNames v.catalog.heads) (sym heads_are) (names_set v.catalog.heads f h new there called) in
@@ -84,6 +91,7 @@ module _ (n : Node) (f limit : ℕ) (h new : FileHead) (a b : List (List ℕ)) (
         sound = subst (λ (x : ℕ). IsSound n.name x mid.catalog) is.size (s.sound n.name (subst (λ (x : ℕ). IsSound n.name x v.catalog) (sym is.size) is.sound));
         home = subst (λ (k : Catalog). HasHome k.home n) (sym s.catalog) is.home;
         journal = follow.stays a b v.catalog mid.catalog n n is.journal refl (ap (λ (k : Catalog). k.ru) s.catalog) names (ring_same whole);
+        log = logs_follow.stays a b n n is.log refl slots_same;
         ring = ap (λ (k : Catalog). k.ru) s.catalog;
       }
 

@@ -15,8 +15,7 @@ use Rattle.unit_entries.specs.Reading.{AreInOrder, placed}
 use Rattle.unit_laws.specs.Journal as journal
 use Rattle.unit_laws.specs.Journal.{ChangeEntry, JournalEntry, PreparedEntry, RecoveryUnit, SettledEntry, entry_size, units_after, units_in, units_onto, with_one_change}
 use Rattle.unit_laws.proofs.Tests.{or_first, passed}
-use Rattle.run_model.proofs.IdLemmas.{id_is, id_itself, id_other}
-use Rattle.run_model.specs.World.{IsUnprepared}
+use Rattle.world_laws.proofs.IdLemmas.{id_is, id_itself, id_other}
 use Rattle.volume_model.specs.Entries.{AreEntries, entry_for}
 use Rattle.recovery_units.specs.State.{is_change_by}
 use Rattle.node_units.proofs.Alike.{entry_long}
@@ -37,7 +36,6 @@ first_after f p e x = elim (f x) [ Some q ↦ Some q | None ↦ if is_change_by 
 
 -- A unit that is told: its first change begins there, and its ids are ids.
 pub record IsTold (f : Id → Option ℕ) (u : UnitTold) : Type 0 where
-  pub active : u.prepared ≡ false
   pub some : 1 ≤ u.changes
   pub first : f u.serial ≡ Some u.first
   pub tid : IsId u.tid
@@ -56,7 +54,7 @@ pub none_found : (b : Bool) (u : UnitTold) (o : Option UnitTold) → (if b then 
 none_found true u o is = let never : ⊥ = cc in absurd never
 none_found false u o is = (refl, is)
 
-none_from : (b : Bool) (u : UnitTold) (o : Option UnitTold) → b ≡ false → o ≡ None → (if b then Some u else o) ≡ None
+pub none_from : (b : Bool) (u : UnitTold) (o : Option UnitTold) → b ≡ false → o ≡ None → (if b then Some u else o) ≡ None
 none_from true u o is none = let never : ⊥ = cc in absurd never
 none_from false u o is none = none
 
@@ -94,6 +92,15 @@ all_with P by g (u ∷ us) keeps all = go (same_id by u.serial) (all_with P by g
     go : (b : Bool) → AllByRecursion P (with_unit by g us) → AllByRecursion P (if b then g u ∷ us else u ∷ with_unit by g us)
     go true rest = (keeps u all.0, all.1)
     go false rest = (all.0, rest)
+
+-- the unit that it is done to is of the branch
+pub all_own : (P : UnitTold → Type 0) (by : Id) (g : UnitTold → UnitTold) (us : List UnitTold) → ((u : UnitTold) → same_id by u.serial ≡ true → P u → P (g u)) → AllByRecursion P us → AllByRecursion P (with_unit by g us)
+all_own P by g [] keeps all = tt
+all_own P by g (u ∷ us) keeps all = go (same_id by u.serial) refl (all_own P by g us keeps all.1)
+  where
+    go : (b : Bool) → same_id by u.serial ≡ b → AllByRecursion P (with_unit by g us) → AllByRecursion P (if b then g u ∷ us else u ∷ with_unit by g us)
+    go true own rest = (keeps u own all.0, all.1)
+    go false own rest = (all.0, rest)
 
 pub all_told : (P Q : UnitTold → Type 0) (us : List UnitTold) → ((u : UnitTold) → P u → Q u) → AllByRecursion P us → AllByRecursion Q us
 all_told P Q [] f all = tt
@@ -137,6 +144,24 @@ shown_more tid by g (u ∷ us) is there = go (same_id by u.serial) there (shown_
         map unit_shown (if b then g u ∷ us else u ∷ with_unit by g us) ≡ (if b then record (unit_shown u) { changes = u.changes + 1 } ∷ map unit_shown us else unit_shown u ∷ with_one_change tid by (map unit_shown us))
     go true there rest = ap (λ (x : RecoveryUnit). x ∷ map unit_shown us) (is u)
     go false there rest = ap (λ (xs : List RecoveryUnit). unit_shown u ∷ xs) (rest there)
+
+-- One that is prepared.
+
+shown_prepared : (by : Id) (g : UnitTold → UnitTold) (us : List UnitTold) → ((u : UnitTold) → unit_shown (g u) ≡ record (unit_shown u) { prepared = true }) → map unit_shown (with_unit by g us) ≡ journal.with_prepared by (map unit_shown us)
+shown_prepared by g [] is = refl
+shown_prepared by g (u ∷ us) is = go (same_id by u.serial) (shown_prepared by g us is)
+  where
+    go : (b : Bool) → map unit_shown (with_unit by g us) ≡ journal.with_prepared by (map unit_shown us) →
+        map unit_shown (if b then g u ∷ us else u ∷ with_unit by g us) ≡ (if b then record (unit_shown u) { prepared = true } ∷ map unit_shown us else unit_shown u ∷ journal.with_prepared by (map unit_shown us))
+    go true rest = ap (λ (x : RecoveryUnit). x ∷ map unit_shown us) (is u)
+    go false rest = ap (λ (xs : List RecoveryUnit). unit_shown u ∷ xs) rest
+
+none_prepared : (by : Id) (us : List UnitTold) → find_unit by us ≡ None → journal.with_prepared by (map unit_shown us) ≡ map unit_shown us
+none_prepared by [] none = refl
+none_prepared by (u ∷ us) none =
+    let parts = none_found (same_id by u.serial) u (find_unit by us) none in
+    passed (same_id by u.serial) (record (unit_shown u) { prepared = true } ∷ map unit_shown us) (unit_shown u ∷ journal.with_prepared by (map unit_shown us)) parts.0
+    ∙ ap (λ (xs : List RecoveryUnit). unit_shown u ∷ xs) (none_prepared by us parts.1)
 
 -- One fewer.
 
@@ -197,7 +222,7 @@ first_none : (f : Id → Option ℕ) (p : ℕ) (e : JournalEntry) (x : Id) → f
 first_none f p e x none other = (λ i. elim (none i) as (λ _. Option ℕ) [ Some r ↦ Some r | None ↦ if is_change_by x e then Some p else None ]) ∙ (λ i. if other i then Some p else None)
 
 told_stays : (f : Id → Option ℕ) (p : ℕ) (e : JournalEntry) (u : UnitTold) → IsTold f u → IsTold (first_after f p e) u
-told_stays f p e u is = record { active = is.active; some = is.some; first = first_stays f p e u.serial u.first is.first; tid = is.tid; serial = is.serial }
+told_stays f p e u is = record { some = is.some; first = first_stays f p e u.serial u.first is.first; tid = is.tid; serial = is.serial }
 
 module _ (f : Id → Option ℕ) (t : Told) (us : List RecoveryUnit) (is : Tells f t us) (p : ℕ) where
   changed : (g : ℕ) (tid by : Id) (file : List ℕ) (key : Key) (before : Option (List ℕ)) → IsEntry (entry_for g (ChangeEntry tid by file key before)) → is_out_of_order (entry_for g (ChangeEntry tid by file key before)) t ≡ false →
@@ -220,7 +245,7 @@ module _ (f : Id → Option ℕ) (t : Told) (us : List RecoveryUnit) (is : Tells
       joined there = record {
         units = shown_more tid by (more_told d) t.units (λ u. refl) there ∙ ap (with_one_change tid by) is.units;
         differ = differ_with (more_told d) by (λ u. refl) t.units is.differ;
-        each = all_with (IsTold (first_after f p e)) by (more_told d) t.units (λ u k. record { active = k.active; some = (let was = k.some in omega (arith, was)); first = k.first; tid = k.tid; serial = k.serial })
+        each = all_with (IsTold (first_after f p e)) by (more_told d) t.units (λ u k. record { some = (let was = k.some in omega (arith, was)); first = k.first; tid = k.tid; serial = k.serial })
             (all_told (IsTold f) (IsTold (first_after f p e)) t.units (told_stays f p e) is.each);
         fresh = λ x none off.
             let was = none_before (more_told d) by (λ u. refl) x t.units none in
@@ -235,7 +260,6 @@ module _ (f : Id → Option ℕ) (t : Told) (us : List RecoveryUnit) (is : Tells
         units = shown_push tid by t.units (first_told p d) none refl ∙ ap (with_one_change tid by) is.units;
         differ = differ_push t.units (first_told p d) is.differ none;
         each = all_push (IsTold (first_after f p e)) t.units (first_told p d) (all_told (IsTold f) (IsTold (first_after f p e)) t.units (told_stays f p e) is.each) (record {
-          active = refl;
           some = omega arith;
           first = (λ i. elim (is.fresh by none unsettled i) as (λ _. Option ℕ) [ Some r ↦ Some r | None ↦ if same_id by by then Some p else None ]) ∙ (λ i. if id_itself by i then Some p else None);
           tid = entry.tid;
@@ -262,10 +286,43 @@ module _ (f : Id → Option ℕ) (t : Told) (us : List RecoveryUnit) (is : Tells
       e : JournalEntry
       e = SettledEntry tid by outcome moment
 
-  pub tells_next : (g : ℕ) (e : JournalEntry) → IsUnprepared e → IsEntry (entry_for g e) → is_out_of_order (entry_for g e) t ≡ false → Tells (first_after f p e) (after p (entry_for g e) t) (units_after e us)
-  tells_next g (ChangeEntry tid by file key before) un entry ordered = changed g tid by file key before entry ordered
-  tells_next g (PreparedEntry tid by) un entry ordered = absurd un
-  tells_next g (SettledEntry tid by outcome moment) un entry ordered = settled g tid by outcome moment
+  prepared : (g : ℕ) (tid by : Id) → Tells (first_after f p (PreparedEntry tid by)) (after p (entry_for g (PreparedEntry tid by)) t) (journal.with_prepared by us)
+  prepared g tid by = go (find_unit by t.units) refl
+    where
+      e : JournalEntry
+      e = PreparedEntry tid by
+
+      d : Entry
+      d = entry_for g e
+
+      Then : Bool → Type 0
+      Then b = Tells (first_after f p e) (record { entries = t.entries + 1; units = (if b then with_unit by (more_told d) t.units else t.units); settled = t.settled }) (journal.with_prepared by us)
+
+      there : Then true
+      there = record {
+        units = shown_prepared by (more_told d) t.units (λ u. refl) ∙ ap (journal.with_prepared by) is.units;
+        differ = differ_with (more_told d) by (λ u. refl) t.units is.differ;
+        each = all_with (IsTold (first_after f p e)) by (more_told d) t.units (λ u k. record { some = k.some; first = k.first; tid = k.tid; serial = k.serial })
+            (all_told (IsTold f) (IsTold (first_after f p e)) t.units (told_stays f p e) is.each);
+        fresh = λ x none off. first_none f p e x (is.fresh x (none_before (more_told d) by (λ u. refl) x t.units none) off) refl;
+      }
+
+      absent : find_unit by t.units ≡ None → Then false
+      absent none = record {
+        units = sym (none_prepared by t.units none) ∙ ap (journal.with_prepared by) is.units;
+        differ = is.differ;
+        each = all_told (IsTold f) (IsTold (first_after f p e)) t.units (told_stays f p e) is.each;
+        fresh = λ x gone off. first_none f p e x (is.fresh x gone off) refl;
+      }
+
+      go : (o : Option UnitTold) → find_unit by t.units ≡ o → Then (is_some (find_unit by t.units))
+      go (Some u) at = subst Then (sym (ap is_some at)) there
+      go None at = subst Then (sym (ap is_some at)) (absent at)
+
+  pub tells_next : (g : ℕ) (e : JournalEntry) → IsEntry (entry_for g e) → is_out_of_order (entry_for g e) t ≡ false → Tells (first_after f p e) (after p (entry_for g e) t) (units_after e us)
+  tells_next g (ChangeEntry tid by file key before) entry ordered = changed g tid by file key before entry ordered
+  tells_next g (PreparedEntry tid by) entry ordered = prepared g tid by
+  tells_next g (SettledEntry tid by outcome moment) entry ordered = settled g tid by outcome moment
 
 -- All entries.
 
@@ -288,16 +345,16 @@ first_onto_is f p (e ∷ es) x none = go (is_change_by x e) refl (first_onto_is 
     go true is more = found (first_after f p e) (p + entry_size e) p es (now true is) ∙ sym (λ i. if is i then Some p else first_by (is_change_by x) (p + entry_size e) es)
     go false is more = more (now false is) ∙ sym (λ i. if is i then Some p else first_by (is_change_by x) (p + entry_size e) es)
 
-tells_onto : (heads : List (Option FileHead)) (es : List JournalEntry) (ds : List Entry) (f : Id → Option ℕ) (p : ℕ) (t : Told) (us : List RecoveryUnit) → AreEntries heads es ds → AllByRecursion IsEntry ds → AllByRecursion IsUnprepared es → AreInOrder t (placed p ds) →
+tells_onto : (heads : List (Option FileHead)) (es : List JournalEntry) (ds : List Entry) (f : Id → Option ℕ) (p : ℕ) (t : Told) (us : List RecoveryUnit) → AreEntries heads es ds → AllByRecursion IsEntry ds → AreInOrder t (placed p ds) →
     Tells f t us → Tells (first_onto f p es) (told_onto t (placed p ds)) (units_onto us es)
-tells_onto heads [] [] f p t us are all none order is = is
-tells_onto heads [] (d ∷ ds) f p t us are all none order is = absurd are
-tells_onto heads (e ∷ es) [] f p t us are all none order is = absurd are
-tells_onto heads (e ∷ es) (d ∷ ds) f p t us are all none order is =
+tells_onto heads [] [] f p t us are all order is = is
+tells_onto heads [] (d ∷ ds) f p t us are all order is = absurd are
+tells_onto heads (e ∷ es) [] f p t us are all order is = absurd are
+tells_onto heads (e ∷ es) (d ∷ ds) f p t us are all order is =
     let long = entry_long heads e d are.0 are.1 are.2 all.0 in
     subst (λ (q : ℕ). Tells (first_onto (first_after f p e) (p + entry_size e) es) (told_onto (after p d t) (placed (p + q) ds)) (units_onto (units_after e us) es)) (sym long)
-    (tells_onto heads es ds (first_after f p e) (p + entry_size e) (after p d t) (units_after e us) are.3 all.1 none.1 (subst (λ (q : ℕ). AreInOrder (after p d t) (placed (p + q) ds)) long order.2)
-    (subst (λ (x : Entry). Tells (first_after f p e) (after p x t) (units_after e us)) (sym are.2) (tells_next f t us is p are.0 e none.0 (subst IsEntry are.2 all.0) (subst (λ (x : Entry). is_out_of_order x t ≡ false) are.2 order.0))))
+    (tells_onto heads es ds (first_after f p e) (p + entry_size e) (after p d t) (units_after e us) are.3 all.1 (subst (λ (q : ℕ). AreInOrder (after p d t) (placed (p + q) ds)) long order.2)
+    (subst (λ (x : Entry). Tells (first_after f p e) (after p x t) (units_after e us)) (sym are.2) (tells_next f t us is p are.0 e (subst IsEntry are.2 all.0) (subst (λ (x : Entry). is_out_of_order x t ≡ false) are.2 order.0))))
 
 -- The units of a journal: their first changes begin there.
 pub record AreTold (p : ℕ) (es : List JournalEntry) (us : List UnitTold) : Type 0 where
@@ -305,13 +362,13 @@ pub record AreTold (p : ℕ) (es : List JournalEntry) (us : List UnitTold) : Typ
   pub differ : Differ us
   pub each : AllByRecursion (IsTold (λ (x : Id). first_by (is_change_by x) p es)) us
 
-pub units_told : (heads : List (Option FileHead)) (p : ℕ) (es : List JournalEntry) (ds : List Entry) → AreEntries heads es ds → AllByRecursion IsEntry ds → AllByRecursion IsUnprepared es → AreInOrder nothing_told (placed p ds) → AreTold p es (told_by (placed p ds)).units
-units_told heads p es ds are all none order =
+pub units_told : (heads : List (Option FileHead)) (p : ℕ) (es : List JournalEntry) (ds : List Entry) → AreEntries heads es ds → AllByRecursion IsEntry ds → AreInOrder nothing_told (placed p ds) → AreTold p es (told_by (placed p ds)).units
+units_told heads p es ds are all order =
     let none_yet : Id → Option ℕ = λ x. None in
-    let tells = tells_onto heads es ds none_yet p nothing_told [] are all none order (record { units = refl; differ = tt; each = tt; fresh = λ x gone off. refl }) in
+    let tells = tells_onto heads es ds none_yet p nothing_told [] are all order (record { units = refl; differ = tt; each = tt; fresh = λ x gone off. refl }) in
     record {
       units = tells.units;
       differ = tells.differ;
       each = all_told (IsTold (first_onto none_yet p es)) (IsTold (λ (x : Id). first_by (is_change_by x) p es)) (told_by (placed p ds)).units
-          (λ u k. record { active = k.active; some = k.some; first = sym (first_onto_is none_yet p es u.serial refl) ∙ k.first; tid = k.tid; serial = k.serial }) tells.each;
+          (λ u k. record { some = k.some; first = sym (first_onto_is none_yet p es u.serial refl) ∙ k.first; tid = k.tid; serial = k.serial }) tells.each;
     }

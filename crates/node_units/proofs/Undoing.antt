@@ -1,9 +1,9 @@
 -- One unit of a journal is undone by a restart.
-use Rattle.std.proofs.Common.{◌≡◌, ℕ, ◌+◌, ◌-◌, ◌*◌, ◌^◌, ◌<◌, ◌≤◌, List, [], ◌∷◌, Bool, true, false, Option, Some, None, if◌then◌else◌, length, map, refl, sym, ◌∙◌, ap, subst, arith, inl, inr, length-set}
+use Rattle.std.proofs.Common.{◌≡◌, ℕ, suc, ◌+◌, ◌-◌, ◌*◌, ◌^◌, ◌<◌, ◌≤◌, List, [], ◌∷◌, Bool, true, false, Option, Some, None, if◌then◌else◌, length, map, refl, sym, ◌∙◌, ap, subst, arith, inl, inr, length-set}
 use Rattle.std.specs.Prelude.{is_some, nat_le, option_map, unwrap_or}
 use Rattle.std.specs.Option.{IfSome}
 use Rattle.std.specs.List.{AllByRecursion}
-use Rattle.std.proofs.lemmas.Bool.{both_ways, leb-false}
+use Rattle.std.proofs.lemmas.Bool.{both_ways, false_from_ne_true, leb-false}
 use Rattle.careful_write.specs.State.{IsEither, IsIdle, Leaves, content}
 use Rattle.file_base.specs.declared.head.Span.{Span}
 use Rattle.vms_model.specs.Ids.{Id}
@@ -24,8 +24,8 @@ use Rattle.volume.specs.State.{Holds, VolumeState}
 use Rattle.volume_format.specs.declared.home.Ending.TheVariants as ending
 use Rattle.volume_format.specs.declared.home.Home.{Home}
 use Rattle.unit_aborts.specs.Aborting.{MakesAbort, has_changes}
-use Rattle.unit_aborts.specs.Reopening.{failed_at}
-use Rattle.unit_laws.specs.Journal.{ChangeEntry, Journal, JournalEntry, PreparedEntry, RecoveryUnit, SettledEntry, end_of, entry_size, find_unit, is_settled_in, owed, serial_in, trimmed, units_after, units_in, units_onto, with_entries, with_settled, without_unit}
+use Rattle.unit_aborts.specs.Reopening.{but_next, failed_at, next_of}
+use Rattle.unit_laws.specs.Journal.{ChangeEntry, Journal, JournalEntry, PreparedEntry, RecoveryUnit, SettledEntry, active_units, end_of, find_unit, is_settled_in, owed, serial_in, trimmed, units_after, units_in, units_onto, with_entries, with_settled, without_unit}
 use Rattle.unit_laws.specs.JournalLaws.{is_unit, unit_or_new, with_more}
 use Rattle.unit_laws.proofs.Tests.{passed, picked}
 use Rattle.unit_laws.proofs.TrimLemmas.{settles_unit, trim_keeps_units}
@@ -38,31 +38,41 @@ use Rattle.unit_journal.specs.Settling.{MakesSettlement, content_with, entry_if,
 use Rattle.unit_journal.proofs.EntryLemmas.{settled_is}
 use Rattle.unit_undo.specs.Undoing.{GoesOn}
 use Rattle.unit_undo.specs.Way.{FailsOnTheWay, IsUndone, Undoes}
-use Rattle.run_model.specs.Answers.{abort_settlement}
-use Rattle.run_model.specs.Ordered.{AreInOrder, IsJournalInOrder, MayFollow, tid_in}
-use Rattle.run_model.specs.Promises.{In}
-use Rattle.run_model.specs.Running.{Each, IsDrawn}
-use Rattle.run_model.specs.Locks.{released}
-use Rattle.run_model.specs.World.{Act, Node, Settlement, Settles, acted, fallen, next_moment, without_branch}
-use Rattle.run_model.proofs.IdLemmas.{id_is, id_itself, id_other}
-use Rattle.run_model.proofs.NotedLemmas.{all_settled}
-use Rattle.run_model.proofs.OrderedLemmas.{settles_keep_order}
-use Rattle.run_model.proofs.UnsettledLemmas.{units_are_unsettled}
+use Rattle.run_model.specs.Answers.{table_rows, unit_key}
+use Rattle.world_laws.specs.Ordered.{AreInOrder, IsJournalInOrder, MayFollow}
+use Rattle.run_model.specs.World.{tid_in}
+use Rattle.commit_protocol.specs.World.{In, undo_all}
+use Rattle.commit_protocol.specs.Messages.{LogRecord}
+use Rattle.commit_protocol.specs.Table as table
+use Rattle.commit_protocol.specs.Table.{Branch, Undoes as UndoesUnit, cut}
+use Rattle.commit_protocol.proofs.Lists.{told_key}
+use Rattle.log_laws.specs.Slots.{prepared_of, records_in}
+use Rattle.world_laws.specs.Nodes.{AreKept, IsKeptDisk}
+use Rattle.world_laws.specs.Running.{Each}
+use Rattle.run_model.specs.Locks.{Lock, released}
+use Rattle.run_model.specs.Answers.{Row}
+use Rattle.world_laws.proofs.UndoLemmas.{each_in}
+use Rattle.run_model.specs.World.{Act, IsLogInOrder, IsReached, Node, Settlement, Shared, Tables, Volatile, acted, fallen, next_moment, relocked, relocked_by, settlement}
+use Rattle.world_laws.proofs.IdLemmas.{id_is, id_itself, id_other}
+use Rattle.world_laws.proofs.OrderedLemmas.{tables_keep_order}
+use Rattle.world_laws.proofs.UnsettledLemmas.{units_are_unsettled}
 use Rattle.settlement_laws.specs.Settled.{IsSettled, Makes, MaySettle}
 use Rattle.settlement_laws.proofs.MadeLemmas.{settlements_are_made}
 use Rattle.undo_laws.specs.Aborted.{IsAborted, MayAbort}
 use Rattle.undo_laws.specs.Undoable.{entries_for, entered_at, positions_for}
+use Rattle.undo_laws.specs.Undone.{WaysKeepPrepared}
 use Rattle.undo_laws.proofs.AbortLemmas.{aborts_fail, aborts_settle}
 use Rattle.undo_laws.proofs.FallenLemmas.{undos_fail}
 use Rattle.undo_laws.proofs.UndoableLemmas.{units_are_undoable}
-use Rattle.undo_laws.proofs.WayLemmas.{far_off, undos_keep_journal}
+use Rattle.undo_laws.proofs.WayLemmas.{far_off, undos_keep_journal, ways_keep_others}
 use Rattle.volume_model.specs.Homes.{HasHome}
 use Rattle.volume_model.specs.Volumes.{HasDisk, HasJournal, LeavesVolume}
 use Rattle.recovery_units.specs.State.{is_change_by, positions_of}
 use Rattle.node_units.proofs.Alike.{next_alike, positions_alike}
 use Rattle.node_units.proofs.Earliest.{first_by, first_change, first_either, first_never, first_of_these, is_change_in}
 use Rattle.node_units.proofs.Positions.{positions_settled}
-use Rattle.node_units.proofs.Telling.{AreTold, Differ, IsTold, none_found, shown_absent, unit_shown}
+use Rattle.node_units.proofs.Relocking.{entries_settled, relocked_undone}
+use Rattle.node_units.proofs.Telling.{AreTold, Differ, IsTold, none_found, none_from, shown_absent, unit_shown}
 
 -- The entries of a unit are of its transaction.
 
@@ -130,21 +140,6 @@ own_entries x r (e ∷ es) us order none at = go (same_id x (serial_in e)) refl 
         let is : tid_in e ≡ r.tid = has_onto x (tid_in e) (e ∷ es) us (λ own. refl, later) (none_has x (tid_in e) us none) r at in
         (λ own. sym is, mine_as x (tid_in e) r.tid es is later)
     go false other more = (λ own. absurd (both_ways _ other own), more (other_after x e us other ∙ none))
-
--- What a branch has that has a change among entries.
-
-by_change : (P : Id → Type 0) (x : Id) (p q : ℕ) (es : List JournalEntry) → AllByRecursion (λ (e : JournalEntry). P (serial_in e)) es → first_by (is_change_by x) p es ≡ Some q → P x
-by_change P x p q [] all is = let never : ⊥ = cc in absurd never
-by_change P x p q (e ∷ es) all is = go (is_change_by x e) refl is (by_change P x (p + entry_size e) q es all.1)
-  where
-    mine : (e : JournalEntry) → P (serial_in e) → is_change_by x e ≡ true → P x
-    mine (ChangeEntry tid by file key before) k same = subst P (sym (id_is x by same)) k
-    mine (PreparedEntry tid by) k same = let never : ⊥ = cc in absurd never
-    mine (SettledEntry tid by outcome moment) k same = let never : ⊥ = cc in absurd never
-
-    go : (b : Bool) → is_change_by x e ≡ b → (if b then Some p else first_by (is_change_by x) (p + entry_size e) es) ≡ Some q → (first_by (is_change_by x) (p + entry_size e) es ≡ Some q → P x) → P x
-    go true same is more = mine e all.0 same
-    go false other is more = more is
 
 -- The units that are left once one is settled.
 
@@ -216,8 +211,191 @@ moment_after m most clock same late before = go (nat_le m.clock (m.durable.great
     go true is = (omega arith, omega (arith, before))
     go false is = let far = leb-false m.clock (m.durable.greatest + 1) is in (omega (arith, far), omega (arith, same, late))
 
--- A volume is what a node left of it whose first units were undone. These are left; no moment is later than this one.
-pub record Stage (clock most disk : ℕ) (us : List UnitTold) (v : VolumeState) (m : Node) : Type 0 where
+-- The next of the units.
+
+one_told : (u w : UnitTold) → ◌≡◌ {A = Option UnitTold} (Some u) (Some w) → u ≡ w
+one_told u w e = cc
+
+never_told : (u : UnitTold) → ◌≡◌ {A = Option UnitTold} None (Some u) → ⊥
+never_told u e = let never : ⊥ = cc in never
+
+-- It is one of them,
+pub next_holds : (P : UnitTold → Type 0) (us : List UnitTold) (u : UnitTold) → next_of us ≡ Some u → AllByRecursion P us → P u
+next_holds P [] u at all = absurd (never_told u at)
+next_holds P (w ∷ us) u at all = go w.prepared at (next_holds P us u)
+  where
+    go : (b : Bool) → (if b then next_of us else Some w) ≡ Some u → (next_of us ≡ Some u → AllByRecursion P us → P u) → P u
+    go true is rest = rest is all.1
+    go false is rest = subst P (one_told w u is) all.0
+
+pub next_active : (us : List UnitTold) (u : UnitTold) → next_of us ≡ Some u → u.prepared ≡ false
+next_active [] u at = absurd (never_told u at)
+next_active (w ∷ us) u at = go w.prepared refl at (next_active us u)
+  where
+    go : (b : Bool) → w.prepared ≡ b → (if b then next_of us else Some w) ≡ Some u → (next_of us ≡ Some u → u.prepared ≡ false) → u.prepared ≡ false
+    go true is at rest = rest at
+    go false is at rest = ap (λ (x : UnitTold). x.prepared) (sym (one_told w u at)) ∙ is
+
+-- and the others stay.
+pub all_next : (P : UnitTold → Type 0) (us : List UnitTold) → AllByRecursion P us → AllByRecursion P (but_next us)
+all_next P [] all = tt
+all_next P (w ∷ us) all = go w.prepared (all_next P us all.1)
+  where
+    go : (b : Bool) → AllByRecursion P (but_next us) → AllByRecursion P (if b then w ∷ but_next us else us)
+    go true rest = (all.0, rest)
+    go false rest = all.1
+
+pub long_next : (us : List UnitTold) (u : UnitTold) → next_of us ≡ Some u → length us ≡ suc (length (but_next us))
+long_next [] u at = absurd (never_told u at)
+long_next (w ∷ us) u at = go w.prepared at (long_next us u)
+  where
+    go : (b : Bool) → (if b then next_of us else Some w) ≡ Some u → (next_of us ≡ Some u → length us ≡ suc (length (but_next us))) → suc (length us) ≡ suc (length (if b then w ∷ but_next us else us))
+    go true at rest = ap suc (rest at)
+    go false at rest = refl
+
+next_apart : (us : List UnitTold) (u : UnitTold) (x : Id) → next_of us ≡ Some u → find_told x us ≡ None → same_id x u.serial ≡ false
+next_apart [] u x at none = absurd (never_told u at)
+next_apart (w ∷ us) u x at none = let parts = none_found (same_id x w.serial) w (find_told x us) none in go w.prepared at (λ later. next_apart us u x later parts.1) parts.0
+  where
+    go : (b : Bool) → (if b then next_of us else Some w) ≡ Some u → (next_of us ≡ Some u → same_id x u.serial ≡ false) → same_id x w.serial ≡ false → same_id x u.serial ≡ false
+    go true at rest other = rest at
+    go false at rest other = ap (λ (y : UnitTold). same_id x y.serial) (sym (one_told w u at)) ∙ other
+
+none_next : (us : List UnitTold) (x : Id) → find_told x us ≡ None → find_told x (but_next us) ≡ None
+none_next [] x none = refl
+none_next (w ∷ us) x none = let parts = none_found (same_id x w.serial) w (find_told x us) none in go w.prepared (none_next us x parts.1) parts.0 parts.1
+  where
+    go : (b : Bool) → find_told x (but_next us) ≡ None → same_id x w.serial ≡ false → find_told x us ≡ None → find_told x (if b then w ∷ but_next us else us) ≡ None
+    go true rest other none = none_from (same_id x w.serial) w (find_told x (but_next us)) other rest
+    go false rest other none = none
+
+differ_next : (us : List UnitTold) → Differ us → Differ (but_next us)
+differ_next [] d = tt
+differ_next (w ∷ us) d = go w.prepared (differ_next us d.1)
+  where
+    go : (b : Bool) → Differ (but_next us) → Differ (if b then w ∷ but_next us else us)
+    go true rest = (none_next us w.serial d.0, rest)
+    go false rest = d.1
+
+absent_next : (us : List UnitTold) (u : UnitTold) → Differ us → next_of us ≡ Some u → find_told u.serial (but_next us) ≡ None
+absent_next [] u d at = absurd (never_told u at)
+absent_next (w ∷ us) u d at = go w.prepared at (λ later. absent_next us u d.1 later)
+  where
+    go : (b : Bool) → (if b then next_of us else Some w) ≡ Some u → (next_of us ≡ Some u → find_told u.serial (but_next us) ≡ None) → find_told u.serial (if b then w ∷ but_next us else us) ≡ None
+    go true at rest = none_from (same_id u.serial w.serial) w (find_told u.serial (but_next us)) (id_other w.serial u.serial (next_apart us u w.serial at d.0)) (rest at)
+    go false at rest = subst (λ (y : UnitTold). find_told y.serial us ≡ None) (one_told w u at) d.0
+
+found_next : (us : List UnitTold) (u : UnitTold) → Differ us → next_of us ≡ Some u → find_unit u.serial (map unit_shown us) ≡ Some (unit_shown u)
+found_next [] u d at = absurd (never_told u at)
+found_next (w ∷ us) u d at = go w.prepared at (λ later. found_next us u d.1 later)
+  where
+    go : (b : Bool) → (if b then next_of us else Some w) ≡ Some u → (next_of us ≡ Some u → find_unit u.serial (map unit_shown us) ≡ Some (unit_shown u)) → find_unit u.serial (map unit_shown (w ∷ us)) ≡ Some (unit_shown u)
+    go true at rest = passed (same_id u.serial w.serial) (Some (unit_shown w)) (find_unit u.serial (map unit_shown us)) (id_other w.serial u.serial (next_apart us u w.serial at d.0)) ∙ rest at
+    go false at rest =
+        let is = one_told w u at in
+        picked (same_id u.serial w.serial) (Some (unit_shown w)) (find_unit u.serial (map unit_shown us)) (subst (λ (y : UnitTold). same_id y.serial w.serial ≡ true) is (id_itself w.serial)) ∙ ap (λ (y : UnitTold). Some (unit_shown y)) is
+
+shown_next : (us : List UnitTold) (u : UnitTold) → Differ us → next_of us ≡ Some u → map unit_shown (but_next us) ≡ without_unit u.serial (map unit_shown us)
+shown_next [] u d at = absurd (never_told u at)
+shown_next (w ∷ us) u d at = go w.prepared at (λ later. shown_next us u d.1 later)
+  where
+    go : (b : Bool) → (if b then next_of us else Some w) ≡ Some u → (next_of us ≡ Some u → map unit_shown (but_next us) ≡ without_unit u.serial (map unit_shown us)) →
+        map unit_shown (if b then w ∷ but_next us else us) ≡ without_unit u.serial (map unit_shown (w ∷ us))
+    go true at rest =
+        ap (λ (rs : List RecoveryUnit). unit_shown w ∷ rs) (rest at)
+        ∙ sym (passed (same_id u.serial w.serial) (without_unit u.serial (map unit_shown us)) (unit_shown w ∷ without_unit u.serial (map unit_shown us)) (id_other w.serial u.serial (next_apart us u w.serial at d.0)))
+    go false at rest =
+        let is = one_told w u at in
+        sym (shown_absent u.serial us (subst (λ (y : UnitTold). find_told y.serial us ≡ None) is d.0))
+        ∙ sym (picked (same_id u.serial w.serial) (without_unit u.serial (map unit_shown us)) (unit_shown w ∷ without_unit u.serial (map unit_shown us)) (subst (λ (y : UnitTold). same_id y.serial w.serial ≡ true) is (id_itself w.serial)))
+
+-- the units that a restart undoes, from it on
+pub active_next : (us : List UnitTold) (u : UnitTold) → next_of us ≡ Some u → active_units (map unit_shown us) ≡ unit_shown u ∷ active_units (map unit_shown (but_next us))
+active_next [] u at = absurd (never_told u at)
+active_next (w ∷ us) u at = go w.prepared refl at (λ later. active_next us u later)
+  where
+    go : (b : Bool) → w.prepared ≡ b → (if b then next_of us else Some w) ≡ Some u → (next_of us ≡ Some u → active_units (map unit_shown us) ≡ unit_shown u ∷ active_units (map unit_shown (but_next us))) →
+        (if b then active_units (map unit_shown us) else unit_shown w ∷ active_units (map unit_shown us)) ≡ unit_shown u ∷ active_units (map unit_shown (if b then w ∷ but_next us else us))
+    go true is at rest = rest at ∙ ap (λ (rs : List RecoveryUnit). unit_shown u ∷ rs) (sym (ap (λ (b : Bool). if b then active_units (map unit_shown (but_next us)) else unit_shown w ∷ active_units (map unit_shown (but_next us))) is))
+    go false is at rest = ap (λ (y : UnitTold). unit_shown y ∷ active_units (map unit_shown us)) (one_told w u at)
+
+pub active_none : (us : List UnitTold) → next_of us ≡ None → (active_units (map unit_shown us) ≡ []) × AllByRecursion (λ (u : UnitTold). u.prepared ≡ true) us
+active_none [] none = (refl, tt)
+active_none (w ∷ us) none = go w.prepared refl none (active_none us)
+  where
+    go : (b : Bool) → w.prepared ≡ b → (if b then next_of us else Some w) ≡ None → (next_of us ≡ None → (active_units (map unit_shown us) ≡ []) × AllByRecursion (λ (u : UnitTold). u.prepared ≡ true) us) →
+        ((if b then active_units (map unit_shown us) else unit_shown w ∷ active_units (map unit_shown us)) ≡ []) × ((w.prepared ≡ true) × AllByRecursion (λ (u : UnitTold). u.prepared ≡ true) us)
+    go true is none rest = let r = rest none in (r.0, (is, r.1))
+    go false is none rest = let never : ⊥ = cc in absurd never
+
+each_next : (P : Id → Type 0) (us : List UnitTold) → Each P (serials_told us) → Each P (serials_told (but_next us))
+each_next P [] all = tt
+each_next P (w ∷ us) all = go w.prepared (each_next P us all.1)
+  where
+    go : (b : Bool) → Each P (serials_told (but_next us)) → Each P (serials_told (if b then w ∷ but_next us else us))
+    go true rest = (all.0, rest)
+    go false rest = all.1
+
+owed_some : (us : List UnitTold) (u : UnitTold) → next_of us ≡ Some u → 48 ≤ owed (map unit_shown us)
+owed_some [] u at = absurd (never_told u at)
+owed_some (w ∷ us) u at = go w.prepared
+  where
+    go : (b : Bool) → 48 ≤ (if b then 48 else 96) + owed (map unit_shown us)
+    go true = omega arith
+    go false = omega arith
+
+-- What a restart takes up.
+
+-- what a node has while it is up is that of branches with prepared records
+pub record IsOfPrepared (n : Node) : Type 0 where
+  pub branches : (b : Branch) → In b n.volatile.branches → (r : LogRecord) × In r (prepared_of (records_in n.durable.log)) × (b.key.serial ≡ r.serial)
+  pub locks : AllByRecursion (λ (l : Lock). (r : LogRecord) × In r (prepared_of (records_in n.durable.log)) × (l.by ≡ r.serial)) n.volatile.locks
+
+cut_nothing : (k : table.Key) (bs : List Branch) → ((b : Branch) → In b bs → same_id b.key.serial k.serial ≡ false) → cut k bs ≡ bs
+cut_nothing k [] f = refl
+cut_nothing k (b ∷ bs) f = elim (told_key b.key k) [
+  | inl q ↦ absurd (both_ways _ (f b (inl refl)) (subst (λ (j : table.Key). same_id b.key.serial j.serial ≡ true) q.1 (id_itself b.key.serial)))
+  | inr q ↦ rw (q.0) (ap (λ xs. b ∷ xs) (cut_nothing k bs (λ c i. f c (inr i))))
+]
+
+released_nothing : (x : Id) (ls : List Lock) → AllByRecursion (λ (l : Lock). same_id x l.by ≡ false) ls → released x ls ≡ ls
+released_nothing x [] h = refl
+released_nothing x (l ∷ ls) h = rw h.0 (ap (λ xs. l ∷ xs) (released_nothing x ls h.1))
+
+all_locks : (P Q : Lock → Type 0) (ls : List Lock) → ((l : Lock) → P l → Q l) → AllByRecursion P ls → AllByRecursion Q ls
+all_locks P Q [] f all = tt
+all_locks P Q (l ∷ ls) f all = (f l all.0, all_locks P Q ls f all.1)
+
+-- the node with its boot counted once more: the laws of a boot tell of it
+abbrev pub counted : Node → Node
+counted m = record m { durable = record m.durable { boot = m.durable.boot + 1 } }
+
+abbrev pub nobody : Shared
+nobody = record { labels = []; in_use = false; wire = []; accepted = []; read_only = [] }
+
+abbrev pub rows_for : List RecoveryUnit → Node → List Row
+rows_for us m = table_rows (undo_all (map unit_key us)) nobody m
+
+first_kept : (rs : List Row) (m : Node) → AreKept rs m → IsKeptDisk m
+first_kept [] m k = k
+first_kept (r ∷ rs) m k = k.0
+
+log_back : (m : Node) → IsLogInOrder (counted m) → AllByRecursion (λ (r : LogRecord). IsReached m r.serial) (records_in m.durable.log) → IsLogInOrder m
+log_back m l reached = record {
+  distinct = l.distinct;
+  reached = reached;
+  prepared_within = l.prepared_within;
+  committed_within = l.committed_within;
+  prepared = l.prepared;
+  active = l.active;
+  transactions = l.transactions;
+  unsettled = l.unsettled;
+  few = l.few;
+  slots = l.slots;
+}
+
+-- A volume is what a node left of it, the first units of which that are not prepared were undone. These are left; no moment is later than this one.
+pub record Stage (clock most disk : ℕ) (n : Node) (us : List UnitTold) (v : VolumeState) (m : Node) : Type 0 where
   pub content : List (List ℕ)
   pub idle : IsIdle v.store
   pub told : v.store.current ≡ Some content
@@ -228,23 +406,29 @@ pub record Stage (clock most disk : ℕ) (us : List UnitTold) (v : VolumeState) 
   pub blocks : m.blocks ≡ disk
   pub leaves : LeavesVolume content v.catalog m
   pub same : m.clock ≡ clock
-  pub branches : m.volatile.branches ≡ []
-  pub locks : m.volatile.locks ≡ []
+  pub volatile : m.volatile ≡ n.volatile
+  pub log : m.durable.log ≡ n.durable.log
   pub units : AreTold m.durable.units.first m.durable.units.entries us
   pub moment : v.catalog.home.greatest_moment.0 ≤ most
   pub low : v.catalog.ru.end + 48 * length us ≤ 2 ^ 62
-  pub drawn : AllByRecursion (λ (e : JournalEntry). IsDrawn m.name m.durable.boot m.volatile.drawn (serial_in e)) m.durable.units.entries
+  pub rows : AreKept (rows_for (active_units (map unit_shown us)) (counted m)) (counted m)
 
 -- the changes of these branches begin here in the journal of a node
 abbrev pub AreWhere : (Id → List ℕ) → Node → List UnitTold → Type 0
 AreWhere f m us = AllByRecursion (λ (u : UnitTold). f u.serial ≡ positions_of u.serial m.durable.units.first m.durable.units.entries) us
 
-module _ (clock most size : ℕ) (u : UnitTold) (us : List UnitTold) (v : VolumeState) (m : Node) (is : Stage clock most size (u ∷ us) v m) (late : clock ≤ most) (far : most < 24113056319999) where
+module _ (clock most size : ℕ) (n : Node) (us : List UnitTold) (u : UnitTold) (v : VolumeState) (m : Node) (is : Stage clock most size n us v m) (at : next_of us ≡ Some u) (late : clock ≤ most) (far : most < 24113056319999) (prepared : IsOfPrepared n) where
+  abbrev k : table.Key
+  k = unit_key (unit_shown u)
+
+  abbrev act : table.Act
+  act = UndoesUnit k
+
   abbrev c : Settlement
-  c = abort_settlement model.SegFail m u.tid u.serial
+  c = settlement k model.Abort model.SegFail (next_moment m)
 
   abbrev next : Node
-  next = acted (Settles c) m
+  next = acted (Tables act (next_moment m)) m
 
   abbrev a : List (List ℕ)
   a = is.content
@@ -252,11 +436,17 @@ module _ (clock most size : ℕ) (u : UnitTold) (us : List UnitTold) (v : Volume
   abbrev es : List Entry
   es = is.leaves.journal.entries
 
+  abbrev rest : List UnitTold
+  rest = but_next us
+
   holds : Holds v
   holds = subst (λ o. IfSome o (TellsCatalog v.catalog)) (sym is.told) is.tells
 
+  told : IsTold (λ (x : Id). first_by (is_change_by x) m.durable.units.first m.durable.units.entries) u
+  told = next_holds (IsTold (λ (x : Id). first_by (is_change_by x) m.durable.units.first m.durable.units.entries)) us u at is.units.each
+
   pub found : find_unit u.serial (units_in m.durable.units.entries) ≡ Some (unit_shown u)
-  found = ap (find_unit u.serial) (sym is.units.units) ∙ picked (same_id u.serial u.serial) (Some (unit_shown u)) (find_unit u.serial (map unit_shown us)) (id_itself u.serial)
+  found = ap (find_unit u.serial) (sym is.units.units) ∙ found_next us u is.units.differ at
 
   unit : is_unit u.serial m.durable.units ≡ true
   unit = ap is_some found
@@ -270,6 +460,44 @@ module _ (clock most size : ℕ) (u : UnitTold) (us : List UnitTold) (v : Volume
   may_settle : MaySettle m c
   may_settle = record { unsettled = unsettled; transaction = own_entries u.serial (unit_shown u) m.durable.units.entries [] is.leaves.order.order refl found; later = moments.0 }
 
+  -- It is none of those that are prepared.
+
+  active : u.prepared ≡ false
+  active = next_active us u at
+
+  apart : (r : LogRecord) → In r (prepared_of (records_in n.durable.log)) → same_id r.serial u.serial ≡ false
+  apart r i = false_from_ne_true (same_id r.serial u.serial) (λ same. both_ways _ active
+      (is.leaves.told.active r (unit_shown u) (subst (λ ss. In r (prepared_of (records_in ss))) (sym is.log) i) (ap (λ (x : Id). find_unit x (units_in m.durable.units.entries)) (id_is r.serial u.serial same) ∙ found)).0)
+
+  volatile_next : next.volatile ≡ n.volatile
+  volatile_next =
+      let bs : cut k m.volatile.branches ≡ m.volatile.branches = subst (λ (x : Volatile). cut k x.branches ≡ x.branches) (sym is.volatile)
+      (cut_nothing k n.volatile.branches (λ b i. let r = prepared.branches b i in subst (λ (x : Id). same_id x u.serial ≡ false) (sym r.2) (apart r.0 r.1))) in
+      let ls : released u.serial m.volatile.locks ≡ m.volatile.locks = subst (λ (x : Volatile). released u.serial x.locks ≡ x.locks) (sym is.volatile)
+      (released_nothing u.serial n.volatile.locks (all_locks (λ (l : Lock). (r : LogRecord) × In r (prepared_of (records_in n.durable.log)) × (l.by ≡ r.serial)) (λ (l : Lock). same_id u.serial l.by ≡ false) n.volatile.locks
+      (λ l r. id_other l.by u.serial (subst (λ (x : Id). same_id x u.serial ≡ false) (sym r.2) (apart r.0 r.1))) prepared.locks)) in
+      (λ i. record m.volatile { branches = bs i; locks = ls i }) ∙ is.volatile
+
+  ways : WaysKeepPrepared u.serial a v.catalog m
+  ways = ways_keep_others u.serial a v.catalog m is.leaves (λ p. both_ways _ active (ap (λ (q : RecoveryUnit). q.prepared) (one_unit (unit_shown u) p.0 (sym found ∙ p.1)) ∙ p.2))
+
+  rows_next : AreKept (rows_for (active_units (map unit_shown rest)) (counted next)) (counted next)
+  rows_next = (subst (λ (rs : List RecoveryUnit). AreKept (rows_for rs (counted m)) (counted m)) (active_next us u at) is.rows).1
+
+  log_next : IsLogInOrder next
+  log_next = log_back next (first_kept (rows_for (active_units (map unit_shown rest)) (counted next)) (counted next) rows_next).log is.leaves.told.reached
+
+  unsettled_record : (r : LogRecord) → In r (prepared_of (records_in n.durable.log)) → is_settled_in r.serial m.durable.units.entries ≡ false
+  unsettled_record r i = each_in (λ (q : LogRecord). is_settled_in q.serial m.durable.units.entries ≡ false) (prepared_of (records_in m.durable.log)) is.leaves.told.unsettled r (subst (λ ss. In r (prepared_of (records_in ss))) (sym is.log) i)
+
+  -- what the prepared branches hold stays
+  pub relocked_next : (rs : List LogRecord) → ((r : LogRecord) → In r rs → In r (prepared_of (records_in n.durable.log))) → (ls : List Lock) → relocked rs next.durable ls ≡ relocked rs m.durable ls
+  relocked_next [] there ls = refl
+  relocked_next (r ∷ rs) there ls =
+      relocked_next rs (λ q i. there q (inr i)) (relocked_by r.serial next.durable.directory next.durable.units.entries ls)
+      ∙ ap (relocked rs m.durable) (relocked_undone m.durable (first_kept (rows_for (active_units (map unit_shown us)) (counted m)) (counted m) is.rows).filed.can r.serial (unsettled_record r (there r (inl refl))) c refl (apart r (there r (inl refl))) next.durable.units ls
+      (entries_settled r.serial u.tid u.serial model.Abort c.moment m.durable.units (unsettled_record r (there r (inl refl))) (apart r (there r (inl refl)))))
+
   -- The changes of the unit.
 
   pub entered : entered_at u.serial v.catalog es ≡ positions_of u.serial m.durable.units.first m.durable.units.entries
@@ -281,26 +509,22 @@ module _ (clock most size : ℕ) (u : UnitTold) (us : List UnitTold) (v : Volume
   positions = picked (is_unit u.serial m.durable.units) (entered_at u.serial v.catalog es) [] unit
 
   changes : has_changes (entered_at u.serial v.catalog es) ≡ true
-  changes = some_first (entered_at u.serial v.catalog es) u.first (ap first_of entered ∙ first_change u.serial m.durable.units.first m.durable.units.entries ∙ is.units.each.0.first)
+  changes = some_first (entered_at u.serial v.catalog es) u.first (ap first_of entered ∙ first_change u.serial m.durable.units.first m.durable.units.entries ∙ told.first)
 
   -- The units that are left.
 
-  differ : find_told u.serial us ≡ None
-  differ = is.units.differ.0
+  absent : find_told u.serial rest ≡ None
+  absent = absent_next us u is.units.differ at
 
-  left_in : map unit_shown us ≡ units_in next.durable.units.entries
-  left_in =
-      sym (shown_absent u.serial us differ)
-      ∙ sym (picked (same_id u.serial u.serial) (without_unit u.serial (map unit_shown us)) (unit_shown u ∷ without_unit u.serial (map unit_shown us)) (id_itself u.serial))
-      ∙ ap (without_unit u.serial) is.units.units ∙ sym (units_settled u.tid u.serial model.Abort c.moment m.durable.units unit)
+  left_in : map unit_shown rest ≡ units_in next.durable.units.entries
+  left_in = shown_next us u is.units.differ at ∙ ap (without_unit u.serial) is.units.units ∙ sym (units_settled u.tid u.serial model.Abort c.moment m.durable.units unit)
 
   order_next : IsJournalInOrder next.durable
-  order_next = settles_keep_order m.durable m.volatile.locks c is.leaves.order may_settle.unsettled may_settle.transaction may_settle.later
+  order_next = tables_keep_order m.durable m.volatile act (next_moment m) is.leaves.order may_settle
 
   stays : (w : UnitTold) → IsTold (λ (x : Id). first_by (is_change_by x) m.durable.units.first m.durable.units.entries) w → same_id w.serial u.serial ≡ false → is_settled_in w.serial m.durable.units.entries ≡ false →
       IsTold (λ (x : Id). first_by (is_change_by x) next.durable.units.first next.durable.units.entries) w
   stays w k other off = record {
-    active = k.active;
     some = k.some;
     first =
         sym (first_change w.serial next.durable.units.first next.durable.units.entries)
@@ -317,9 +541,9 @@ module _ (clock most size : ℕ) (u : UnitTold) (us : List UnitTold) (v : Volume
       let parts = none_found (same_id u.serial w.serial) w (find_told u.serial ws) none in
       (stays w all.0 (id_other u.serial w.serial parts.0) off.0, others ws parts.1 all.1 off.1)
 
-  open_now : Each (λ (x : Id). is_settled_in x m.durable.units.entries ≡ false) (serials_told (u ∷ us))
-  open_now = each_found (u ∷ us) is.units.differ (λ (x : Id). is_settled_in x m.durable.units.entries ≡ false)
-      (λ x k. units_are_unsettled m.durable.units.entries x is.leaves.order.order (ap (λ (rs : List RecoveryUnit). is_some (find_unit x rs)) (sym is.units.units) ∙ k))
+  open_now : Each (λ (x : Id). is_settled_in x m.durable.units.entries ≡ false) (serials_told rest)
+  open_now = each_next (λ (x : Id). is_settled_in x m.durable.units.entries ≡ false) us (each_found us is.units.differ (λ (x : Id). is_settled_in x m.durable.units.entries ≡ false)
+      (λ x k. units_are_unsettled m.durable.units.entries x is.leaves.order.order (ap (λ (rs : List RecoveryUnit). is_some (find_unit x rs)) (sym is.units.units) ∙ k)))
 
   -- and where their changes begin
   stay : (ws : List UnitTold) → find_told u.serial ws ≡ None → Each (λ (x : Id). is_settled_in x m.durable.units.entries ≡ false) (serials_told ws) → AreWhere (λ (x : Id). positions_of x m.durable.units.first m.durable.units.entries) next ws
@@ -328,31 +552,37 @@ module _ (clock most size : ℕ) (u : UnitTold) (us : List UnitTold) (v : Volume
       let parts = none_found (same_id u.serial w.serial) w (find_told u.serial ws) none in
       (sym (positions_settled w.serial u.tid u.serial model.Abort c.moment m.durable.units off.0 (id_other u.serial w.serial parts.0)), stay ws parts.1 off.1)
 
-  pub stay_next : AreWhere (λ (x : Id). positions_of x m.durable.units.first m.durable.units.entries) next us
-  stay_next = stay us differ open_now.1
+  pub stay_next : AreWhere (λ (x : Id). positions_of x m.durable.units.first m.durable.units.entries) next rest
+  stay_next = stay rest absent open_now
 
-  units_next : AreTold next.durable.units.first next.durable.units.entries us
-  units_next = record { units = left_in; differ = is.units.differ.1; each = others us differ is.units.each.1 open_now.1 }
+  each_left : AllByRecursion (IsTold (λ (x : Id). first_by (is_change_by x) m.durable.units.first m.durable.units.entries)) rest
+  each_left = all_next (IsTold (λ (x : Id). first_by (is_change_by x) m.durable.units.first m.durable.units.entries)) us is.units.each
 
-  first_next : unwrap_or (earliest_told us) (end_of next.durable.units) ≡ next.durable.units.first
+  units_next : AreTold next.durable.units.first next.durable.units.entries rest
+  units_next = record { units = left_in; differ = differ_next us is.units.differ; each = others rest absent each_left open_now }
+
+  first_next : unwrap_or (earliest_told rest) (end_of next.durable.units) ≡ next.durable.units.first
   first_next =
-      ap (λ (o : Option ℕ). unwrap_or o (end_of next.durable.units)) (earliest_is us next.durable.units.first next.durable.units.entries units_next.each)
-      ∙ first_of_these next.durable.units (serials_told us) (λ x k. in_told x us (ap (λ (rs : List RecoveryUnit). is_some (find_unit x rs)) left_in ∙ k))
-      (each_found us is.units.differ.1 (λ (x : Id). is_settled_in x next.durable.units.entries ≡ false)
+      ap (λ (o : Option ℕ). unwrap_or o (end_of next.durable.units)) (earliest_is rest next.durable.units.first next.durable.units.entries units_next.each)
+      ∙ first_of_these next.durable.units (serials_told rest) (λ x k. in_told x rest (ap (λ (rs : List RecoveryUnit). is_some (find_unit x rs)) left_in ∙ k))
+      (each_found rest (differ_next us is.units.differ) (λ (x : Id). is_settled_in x next.durable.units.entries ≡ false)
       (λ x k. units_are_unsettled next.durable.units.entries x order_next.order (ap (λ (rs : List RecoveryUnit). is_some (find_unit x rs)) (sym left_in) ∙ k)))
       (settles_unit u.tid u.serial model.Abort c.moment m.durable.units).begins
 
+  may_at : v.store.disk.size ≡ m.blocks → MayAbort m act (next_moment m) c a v
+  may_at disk = record { told = is.told; holds = holds; sound = is.sound; long = is.long; size = is.size; disk = disk; is = record { settles = refl; abort = refl; may = may_settle; told = log_next }; log = refl }
+
   -- where the disk goes down on the way of the undo
-  pub fails_on_the_way : (ps : List ℕ) → ps ≡ entered_at u.serial v.catalog es → (act : Option Act) (w : VolumeState) → FailsOnTheWay ps v w → HasDisk (fallen act m) w.store.disk
-  fails_on_the_way ps at act w fails = undos_fail a v.catalog m act is.leaves is.sound is.size w.store.disk
-      (subst (λ (qs : List ℕ). FailsOnTheWay qs v w) (at ∙ sym positions) fails u.serial a m.durable.directory (entries_for m u.serial v.catalog es) (units_are_undoable a v m u.serial is.leaves is.told holds))
+  pub fails_on_the_way : (ps : List ℕ) → ps ≡ entered_at u.serial v.catalog es → (way : Option Act) (w : VolumeState) → FailsOnTheWay ps v w → HasDisk (fallen way m) w.store.disk
+  fails_on_the_way ps is_at way w fails = undos_fail u.serial a v.catalog m way is.leaves ways is.sound is.size w.store.disk
+      (subst (λ (qs : List ℕ). FailsOnTheWay qs v w) (is_at ∙ sym positions) fails u.serial a m.durable.directory (entries_for m u.serial v.catalog es) (units_are_undoable a v m u.serial is.leaves is.told holds))
 
   -- The settlement that was made.
 
-  module _ (ps : List ℕ) (at : ps ≡ entered_at u.serial v.catalog es) (tid : Tid) (serial : Serial) (tid_is : tid_of tid ≡ u.tid) (serial_is : serial_of serial ≡ u.serial) (moment : ℕ) (moment_is : moment ≡ settling.next_moment clock v.catalog.home)
-      (left : List (Option OpenUnit)) (earliest_is_left : earliest left ≡ earliest_told us) (mid : VolumeState) (goes : GoesOn v mid) (undoes : Undoes ps v mid) where
+  module _ (ps : List ℕ) (is_at : ps ≡ entered_at u.serial v.catalog es) (tid : Tid) (serial : Serial) (tid_is : tid_of tid ≡ u.tid) (serial_is : serial_of serial ≡ u.serial) (moment : ℕ) (moment_is : moment ≡ settling.next_moment clock v.catalog.home)
+      (left : List (Option OpenUnit)) (earliest_is_left : earliest left ≡ earliest_told rest) (mid : VolumeState) (goes : GoesOn v mid) (undoes : Undoes ps v mid) where
     undoes_for : Undoes (positions_for m u.serial v.catalog es) v mid
-    undoes_for = subst (λ (qs : List ℕ). Undoes qs v mid) (at ∙ sym positions) undoes
+    undoes_for = subst (λ (qs : List ℕ). Undoes qs v mid) (is_at ∙ sym positions) undoes
 
     undone : IsUndone u.serial a v.catalog.heads m.durable.directory mid
     undone = undoes_for u.serial a m.durable.directory (entries_for m u.serial v.catalog es) (units_are_undoable a v m u.serial is.leaves is.told holds)
@@ -360,12 +590,12 @@ module _ (clock most size : ℕ) (u : UnitTold) (us : List UnitTold) (v : Volume
     disk_is : v.store.disk.size ≡ m.blocks
     disk_is = sym goes.quiet.size ∙ sym undone.way.size ∙ is.size
 
-    may : MayAbort m c a v
-    may = record { told = is.told; holds = holds; sound = is.sound; long = is.long; size = is.size; disk = disk_is; abort = refl; may = may_settle }
+    may : MayAbort m act (next_moment m) c a v
+    may = may_at disk_is
 
     -- where it goes down before the last group
-    pub fails_before : (act : Option Act) (w : VolumeState) → LeavesOld mid w.store.disk → HasDisk (fallen act m) w.store.disk
-    fails_before act w old = aborts_fail.before a m c act v mid w is.leaves may goes undoes_for old
+    pub fails_before : (way : Option Act) (w : VolumeState) → LeavesOld mid w.store.disk → HasDisk (fallen way m) w.store.disk
+    fails_before way w old = aborts_fail.before a m act (next_moment m) c way v mid w is.leaves ways may goes undoes_for old
 
     ru : mid.catalog.ru ≡ v.catalog.ru
     ru = ap (λ (k : Catalog). k.ru) goes.catalog
@@ -381,7 +611,7 @@ module _ (clock most size : ℕ) (u : UnitTold) (us : List UnitTold) (v : Volume
       entry = settled_entry u.tid u.serial model.Abort c.moment
 
       flag : has_changes ps ≡ is_unit u.serial m.durable.units
-      flag = ap has_changes at ∙ changes ∙ sym unit
+      flag = ap has_changes is_at ∙ changes ∙ sym unit
 
       made_at : MakesSettlement tid serial (ending.Abort reason.SegFail) c.moment (entry_if (has_changes ps) (settled_entry (tid_of tid) (serial_of serial) model.Abort c.moment)) left mid made
       made_at = subst (λ (k : ℕ). MakesSettlement tid serial (ending.Abort reason.SegFail) k (entry_if (has_changes ps) (settled_entry (tid_of tid) (serial_of serial) model.Abort k)) left mid made) next_is makes
@@ -390,7 +620,7 @@ module _ (clock most size : ℕ) (u : UnitTold) (us : List UnitTold) (v : Volume
       made_so = subst (λ e. MakesSettlement tid serial (ending.Abort reason.SegFail) c.moment e left mid made) (λ i. entry_if (flag i) (settled_entry (tid_is i) (serial_is i) model.Abort c.moment)) made_at
 
       entry_long : length (spelling entry) ≡ 48
-      entry_long = total_is entry (settled_is u.tid u.serial model.Abort c.moment is.units.each.0.tid is.units.each.0.serial (let m = moments.1 in omega (arith, m, far)))
+      entry_long = total_is entry (settled_is u.tid u.serial model.Abort c.moment told.tid told.serial (let m = moments.1 in omega (arith, m, far)))
 
       span_end : (b : Bool) → b ≡ true → (r : Span) → (span_with (entry_if b entry) r).end ≡ r.end + 48
       span_end true k r = ap (λ (n : ℕ). r.end + n) entry_long
@@ -417,30 +647,31 @@ module _ (clock most size : ℕ) (u : UnitTold) (us : List UnitTold) (v : Volume
           let first = is.leaves.journal.first in
           let end = is.leaves.journal.end in
           let fits = is.leaves.order.fits in
-          let owes : owed (units_in m.durable.units.entries) ≡ 96 + owed (map unit_shown us) = ap owed (sym is.units.units) ∙ ap (λ (b : Bool). (if b then 48 else 96) + owed (map unit_shown us)) is.units.each.0.active in
+          let owes = owed_some us u at in
+          let same = ap owed is.units.units in
           let blocks = is.sound.ru_blocks in
           let journal = is.leaves.home.journal in
-          omega (arith, first, end, fits, owes, blocks, journal)
+          omega (arith, first, end, fits, owes, same, blocks, journal)
 
       is_made : Makes m c tid serial (ending.Abort reason.SegFail) left mid made
       is_made = record {
         settlement = λ i. record { tid = sym tid_is i; serial = sym serial_is i; outcome = model.Abort; reason = Some model.SegFail; moment = c.moment };
         makes = made_so;
-        is_tid = is.units.each.0.tid;
-        is_serial = is.units.each.0.serial;
+        is_tid = told.tid;
+        is_serial = told.serial;
         later = let same : mid.catalog.home.greatest_moment.0 ≡ v.catalog.home.greatest_moment.0 = ap (λ (h : Home). h.greatest_moment.0) home in let was = is.leaves.home.greatest in let m = moments.0 in omega (arith, same, was, m);
         early = let m = moments.1 in omega (arith, m, far);
         room = λ k. subst (λ (r : Span). r.end - r.first + 48 ≤ ring_size r) (sym ru) room;
         first = begins;
-        low = let low = is.low in omega (arith, longer_end, low);
+        low = let low = is.low in let long = long_next us u at in omega (arith, longer_end, low, long);
       }
 
       pub is_aborted : IsAborted m c tid serial (ending.Abort reason.SegFail) left (positions_for m u.serial v.catalog es) v mid made
       is_aborted = record { goes = goes; undoes = undoes_for; makes = is_made }
 
       -- where it goes down in the last group
-      pub fails_last : (w : VolumeState) → Leaves (IsEither (content mid.store) made.store.current) w.store.disk → HasDisk (fallen (Some (Settles c)) m) w.store.disk
-      fails_last w either = aborts_fail.last a m c tid serial (ending.Abort reason.SegFail) left v mid made w is.leaves may is_aborted either
+      pub fails_last : (w : VolumeState) → Leaves (IsEither (content mid.store) made.store.current) w.store.disk → HasDisk (fallen (Some (Tables act (next_moment m))) m) w.store.disk
+      fails_last w either = aborts_fail.last a m act (next_moment m) c tid serial (ending.Abort reason.SegFail) left v mid made w is.leaves ways may is_aborted either
 
       abbrev b : List (List ℕ)
       b = with_front (settling.settled_home tid serial (ending.Abort reason.SegFail) c.moment mid.catalog.home) (from_earliest left (span_with (entry_if (is_unit u.serial m.durable.units) entry) mid.catalog.ru))
@@ -460,7 +691,7 @@ module _ (clock most size : ℕ) (u : UnitTold) (us : List UnitTold) (v : Volume
       settled = settlements_are_made undone.way.now b m c tid serial (ending.Abort reason.SegFail) left mid made m.name m.blocks undone.way.told now undone.way.tells sound_mid (goes.long ∙ is.long)
           (subst (λ (k : Catalog). HasHome k.home m) (sym goes.catalog) is.leaves.home) journal_mid.0 is_made
 
-      pub next_stage : IsIdle made.store → Stage clock (most + 1) size us made next
+      pub next_stage : IsIdle made.store → Stage clock (most + 1) size n rest made next
       next_stage idle = record {
         content = b;
         idle = idle;
@@ -472,13 +703,12 @@ module _ (clock most size : ℕ) (u : UnitTold) (us : List UnitTold) (v : Volume
             (length_made (settling.settled_home tid serial (ending.Abort reason.SegFail) c.moment mid.catalog.home) (from_earliest left (span_with (entry_if (is_unit u.serial m.durable.units) entry) mid.catalog.ru))
             (entry_if (is_unit u.serial m.durable.units) entry) mid.catalog.ru undone.way.now journal_mid.0.is.ring.some ∙ undone.way.journal.size) ∙ is.size;
         blocks = is.blocks;
-        leaves = aborts_settle.leaves a b m c tid serial (ending.Abort reason.SegFail) left v mid made is.leaves may is_aborted now;
+        leaves = aborts_settle.leaves a b m act (next_moment m) c tid serial (ending.Abort reason.SegFail) left v mid made is.leaves may is_aborted now;
         same = is.same;
-        branches = ap (without_branch u.serial) is.branches;
-        locks = ap (released u.serial) is.locks;
+        volatile = volatile_next;
+        log = is.log;
         units = units_next;
         moment = let greatest = ap (λ (k : Catalog). k.home.greatest_moment.0) made_so.catalog in let m = moments.1 in omega (arith, greatest, m);
-        low = let low = is.low in omega (arith, longer_end, low);
-        drawn = all_settled (λ (e : JournalEntry). IsDrawn m.name m.durable.boot m.volatile.drawn (serial_in e)) u.tid u.serial model.Abort c.moment m.durable.units is.drawn
-            (by_change (IsDrawn m.name m.durable.boot m.volatile.drawn) u.serial m.durable.units.first u.first m.durable.units.entries is.drawn is.units.each.0.first);
+        low = let low = is.low in let long = long_next us u at in omega (arith, longer_end, low, long);
+        rows = rows_next;
       }

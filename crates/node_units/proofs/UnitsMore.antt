@@ -1,5 +1,5 @@
 -- A unit at its place has changed more, among the units in the order of their beginning.
-use Rattle.std.proofs.Common.{◌≡◌, ℕ, ◌+◌, ◌≤◌, ◌<◌, List, [], ◌∷◌, ◌++◌, Bool, true, false, Option, Some, None, if◌then◌else◌, map, length, slice_set, refl, sym, ◌∙◌, ap, subst, arith, inl, inr, get_or-set_same, get_or-set_other}
+use Rattle.std.proofs.Common.{◌≡◌, ℕ, ◌+◌, ◌≤◌, ◌<◌, List, [], ◌∷◌, ◌++◌, Bool, true, false, Option, Some, None, if◌then◌else◌, length, slice_set, refl, sym, ◌∙◌, ap, subst, arith, inl, inr, get_or-set_same, get_or-set_other}
 use Rattle.std.proofs.lemmas.Bool.{cases_eq}
 use Rattle.vms_model.specs.Ids.{Id}
 use Rattle.vms_model.specs.Keys.{Key}
@@ -8,15 +8,13 @@ use Rattle.unit_laws.specs.Journal.{ChangeEntry, JournalEntry, entries_size, ent
 use Rattle.unit_table.specs.Places.{occurrences}
 use Rattle.unit_table.specs.Units.{OpenUnit, unit_at, units_of}
 use Rattle.unit_table.proofs.OrderLemmas.{more_here, more_there}
-use Rattle.run_model.specs.Promises.{In}
-use Rattle.run_model.specs.Running.{Distinct}
+use Rattle.commit_protocol.specs.World.{In}
+use Rattle.commit_protocol.specs.Table.{Branch}
 use Rattle.run_model.specs.World.{with_changed}
-use Rattle.run_model.proofs.IdLemmas.{each_at, id_itself, id_other}
-use Rattle.recovery_units.specs.State.{are_there, branch_of, is_change_by, positions_of}
-use Rattle.unit_table.proofs.BegunLemmas.{one_unit, units_other}
-
-abbrev serials : List OpenUnit → List Id
-serials us = map (λ (u : OpenUnit). u.serial) us
+use Rattle.world_laws.proofs.IdLemmas.{each_at, id_itself, id_other}
+use Rattle.recovery_units.specs.State.{AreOfBranches, IsOfBranch, are_there, is_change_by, positions_of}
+use Rattle.node_units.proofs.Branches.{Distinct, serial_among, serials}
+use Rattle.unit_table.proofs.BegunLemmas.{units_other}
 
 -- a unit at a place that is in the order is one of them
 pub among : (us : List (Option OpenUnit)) (order : List ℕ) (p : ℕ) (u : OpenUnit) → unit_at us p ≡ Some u → 1 ≤ occurrences p order → In u (units_of us order)
@@ -29,10 +27,6 @@ among us (q ∷ qs) p u there some = elim (cases_eq q p) [
     behind : (o : Option OpenUnit) → In u (units_of us qs) → In u (elim o [ Some w ↦ w ∷ units_of us qs | None ↦ units_of us qs ])
     behind (Some w) i = inr i
     behind None i = i
-
-pub serial_among : (u : OpenUnit) (us : List OpenUnit) → In u us → In u.serial (serials us)
-serial_among u [] i = absurd i
-serial_among u (w ∷ us) i = elim i [ inl same ↦ inl (ap (λ (x : OpenUnit). x.serial) same) | inr more ↦ inr (serial_among u us more) ]
 
 -- units at two places are of different branches
 pub apart_at : (us : List (Option OpenUnit)) (order : List ℕ) (p q : ℕ) (u w : OpenUnit) → (p ≡ q → ⊥) → unit_at us p ≡ Some u → unit_at us q ≡ Some w → 1 ≤ occurrences p order → 1 ≤ occurrences q order → Distinct (serials (units_of us order)) → same_id u.serial w.serial ≡ false
@@ -59,34 +53,49 @@ apart_at us (r ∷ rs) p q u w other at_p at_q some_p some_q d = elim (cases_eq 
     behind None k = k
 
 -- The branches, of which one has changed something.
-module _ (place : ℕ) (u more : OpenUnit) (same : more.serial ≡ u.serial) (changed : branch_of more ≡ record (branch_of u) { changed = true }) where
-  pub changed_branches : (us : List (Option OpenUnit)) (order : List ℕ) → place < length us → unit_at us place ≡ Some u → occurrences place order ≡ 1 → Distinct (serials (units_of us order)) →
-      with_changed u.serial (map branch_of (units_of us order)) ≡ map branch_of (units_of (slice_set us place (Some more)) order)
-  changed_branches us [] below there one d = absurd (omega (arith, one))
-  changed_branches us (q ∷ qs) below there one d = elim (cases_eq q place) [
+module _ (place : ℕ) (u more : OpenUnit) (tid : more.tid ≡ u.tid) (serial : more.serial ≡ u.serial) (prepared : more.prepared ≡ u.prepared) (changed : are_there more.positions ≡ true) where
+  of_more : (b : Branch) → IsOfBranch u b → IsOfBranch more (record b { changed = true })
+  of_more b is = record { tid = is.tid ∙ sym tid; serial = is.serial ∙ sym serial; prepared = is.prepared ∙ sym prepared; changed = λ e. sym changed }
+
+  own_changed : (us : List OpenUnit) (bs : List Branch) → AreOfBranches (u ∷ us) bs → AreOfBranches (more ∷ us) (with_changed u.serial bs)
+  own_changed us [] h = absurd h
+  own_changed us (b ∷ bs) h =
+      let own : same_id u.serial b.key.serial ≡ true = subst (λ (x : Id). same_id u.serial x ≡ true) (sym h.0.serial) (id_itself u.serial) in
+      subst (λ (t : Bool). AreOfBranches (more ∷ us) (if t then record b { changed = true } ∷ bs else b ∷ with_changed u.serial bs)) (sym own) (of_more b h.0, h.1)
+
+  other_changed : (w : OpenUnit) (us vs : List OpenUnit) (bs : List Branch) → same_id u.serial w.serial ≡ false → ((cs : List Branch) → AreOfBranches us cs → AreOfBranches vs (with_changed u.serial cs)) → AreOfBranches (w ∷ us) bs →
+      AreOfBranches (w ∷ vs) (with_changed u.serial bs)
+  other_changed w us vs [] other rest h = absurd h
+  other_changed w us vs (b ∷ bs) other rest h =
+      let apart : same_id u.serial b.key.serial ≡ false = subst (λ (x : Id). same_id u.serial x ≡ false) (sym h.0.serial) other in
+      subst (λ (t : Bool). AreOfBranches (w ∷ vs) (if t then record b { changed = true } ∷ bs else b ∷ with_changed u.serial bs)) (sym apart) (h.0, rest bs h.1)
+
+  pub changed_branches : (us : List (Option OpenUnit)) (order : List ℕ) → place < length us → unit_at us place ≡ Some u → occurrences place order ≡ 1 → Distinct (serials (units_of us order)) → (bs : List Branch) →
+      AreOfBranches (units_of us order) bs → AreOfBranches (units_of (slice_set us place (Some more)) order) (with_changed u.serial bs)
+  changed_branches us [] below there one d bs h = absurd (omega (arith, one))
+  changed_branches us (q ∷ qs) below there one d bs h = elim (cases_eq q place) [
     | inl first ↦
         let none : occurrences place qs ≡ 0 = (let here = more_here place qs in let e = ap (λ k. occurrences place (k ∷ qs)) first in omega (arith, here, one, e)) in
         let old : unit_at us q ≡ Some u = ap (unit_at us) first ∙ there in
         let new : unit_at (slice_set us place (Some more)) q ≡ Some more = ap (unit_at (slice_set us place (Some more))) first ∙ get_or-set_same us place (Some more) None below in
-        ap (λ (o : Option OpenUnit). with_changed u.serial (map branch_of (elim o [ Some w ↦ w ∷ units_of us qs | None ↦ units_of us qs ]))) old
-        ∙ ap (λ (t : Bool). if t then record (branch_of u) { changed = true } ∷ map branch_of (units_of us qs) else branch_of u ∷ with_changed u.serial (map branch_of (units_of us qs))) (id_itself u.serial)
-        ∙ (λ i. sym changed i ∷ map branch_of (sym (units_other us place (Some more) qs none) i))
-        ∙ sym (ap (λ (o : Option OpenUnit). map branch_of (elim o [ Some w ↦ w ∷ units_of (slice_set us place (Some more)) qs | None ↦ units_of (slice_set us place (Some more)) qs ])) new)
+        subst (λ (o : Option OpenUnit). AreOfBranches (elim o [ Some w ↦ w ∷ units_of (slice_set us place (Some more)) qs | None ↦ units_of (slice_set us place (Some more)) qs ]) (with_changed u.serial bs)) (sym new)
+        (subst (λ (ws : List OpenUnit). AreOfBranches (more ∷ ws) (with_changed u.serial bs)) (sym (units_other us place (Some more) qs none))
+        (own_changed (units_of us qs) bs (subst (λ (o : Option OpenUnit). AreOfBranches (elim o [ Some w ↦ w ∷ units_of us qs | None ↦ units_of us qs ]) bs) old h)))
     | inr apart ↦
         let less = more_there place q qs apart in
         let one_behind : occurrences place qs ≡ 1 = omega (arith, less, one) in
         let stays : unit_at (slice_set us place (Some more)) q ≡ unit_at us q = get_or-set_other us place q (Some more) None apart in
-        go (unit_at us q) d (among us qs place u there (omega (arith, one_behind))) (changed_branches us qs below there one_behind)
-        ∙ sym (ap (λ (o : Option OpenUnit). map branch_of (elim o [ Some w ↦ w ∷ units_of (slice_set us place (Some more)) qs | None ↦ units_of (slice_set us place (Some more)) qs ])) stays)
+        subst (λ (o : Option OpenUnit). AreOfBranches (elim o [ Some w ↦ w ∷ units_of (slice_set us place (Some more)) qs | None ↦ units_of (slice_set us place (Some more)) qs ]) (with_changed u.serial bs)) (sym stays)
+        (go (unit_at us q) d h (among us qs place u there (omega (arith, one_behind))) (changed_branches us qs below there one_behind))
   ]
     where
-      go : (o : Option OpenUnit) → Distinct (serials (elim o [ Some x ↦ x ∷ units_of us qs | None ↦ units_of us qs ])) → In u (units_of us qs) →
-          (Distinct (serials (units_of us qs)) → with_changed u.serial (map branch_of (units_of us qs)) ≡ map branch_of (units_of (slice_set us place (Some more)) qs)) →
-          with_changed u.serial (map branch_of (elim o [ Some w ↦ w ∷ units_of us qs | None ↦ units_of us qs ])) ≡ map branch_of (elim o [ Some w ↦ w ∷ units_of (slice_set us place (Some more)) qs | None ↦ units_of (slice_set us place (Some more)) qs ])
-      go None k i rest = rest k
-      go (Some w) k i rest =
+      go : (o : Option OpenUnit) → Distinct (serials (elim o [ Some x ↦ x ∷ units_of us qs | None ↦ units_of us qs ])) → AreOfBranches (elim o [ Some x ↦ x ∷ units_of us qs | None ↦ units_of us qs ]) bs → In u (units_of us qs) →
+          (Distinct (serials (units_of us qs)) → (cs : List Branch) → AreOfBranches (units_of us qs) cs → AreOfBranches (units_of (slice_set us place (Some more)) qs) (with_changed u.serial cs)) →
+          AreOfBranches (elim o [ Some w ↦ w ∷ units_of (slice_set us place (Some more)) qs | None ↦ units_of (slice_set us place (Some more)) qs ]) (with_changed u.serial bs)
+      go None k h i rest = rest k bs h
+      go (Some w) k h i rest =
           let other = id_other w.serial u.serial (each_at (λ (y : Id). same_id w.serial y ≡ false) u.serial (serials (units_of us qs)) k.0 (serial_among u (units_of us qs) i)) in
-          ap (λ (t : Bool). if t then record (branch_of w) { changed = true } ∷ map branch_of (units_of us qs) else branch_of w ∷ with_changed u.serial (map branch_of (units_of us qs))) other ∙ ap (λ bs. branch_of w ∷ bs) (rest k.1)
+          other_changed w (units_of us qs) (units_of (slice_set us place (Some more)) qs) bs other (λ cs. rest k.1 cs) h
 
 -- Where the changes of a branch begin, once one more is entered.
 

@@ -2,6 +2,8 @@
 #![tactic(auto)]
 
 mod begun;
+mod held;
+mod logged;
 mod settled;
 mod units;
 

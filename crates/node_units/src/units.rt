@@ -1,30 +1,36 @@
-// The recovery units of a node.
+// The recovery units of a node, and its log.
 ghost use Rattle.std.specs.Prelude.{◌≡◌};
 
-use crate::begun::{BegunUnit, begin_unit, has_id, place_of};
-use crate::settled::{tell_undone, told_above};
+use crate::begun::{BegunUnit, Token, begin_unit, have_ids, hold_prepared, place_of};
+use crate::held::{abort_held, change_held, commit_held, has_changes_held, read_held};
+use crate::logged::{have_logged, have_parts, have_vote};
+use crate::settled::{tell_committed, tell_prepared, tell_undone, told_above};
 use block_disk::Disk;
 use careful_write::Down;
+use lmcp_log::Log;
 use record_operations::{ReadOp, RecErr, RecordOp};
 use recovery_units::{RecoveryUnits, Reopened, SettledUnit};
-use rms_units::{AbortedUnit, Units};
+use rms_units::{Restarted, Units, Vote};
 use std::alloc::{AllocError, Global};
 use std::marker::Model;
-use vms_base::{Key, Moment, Reason, Record, Serial, Tid};
+use std::mem::replace;
+use unit_votes::write_record;
+use vms_base::{Key, LogRec, Moment, Reason, Record, RmList, Serial, Tid};
 use volume::Volume;
 use volume_files::blocks_are_whole;
 
 /// How many units may be unsettled.
 const MOST_UNITS: usize = 64;
 
-/// The recovery units of a node, by the serials of their branches. The memory that they take is taken once.
+/// The recovery units of a node, by the serials of their branches, and its log. The memory that they take is taken once.
 #[derive(Drop)]
 pub struct NodeUnits {
     units: Units,
+    log: Log,
     // The units that are not settled, in the order in which they were begun.
     begun: Vec<BegunUnit>,
-    // The units that a restart undid.
-    undone: Vec<AbortedUnit>,
+    // What the last restart told.
+    restarted: Restarted,
 }
 
 impl Model for NodeUnits {
@@ -36,9 +42,9 @@ impl Model for NodeUnits {
     ghost use Rattle.node_units.specs.Seen.{seen};
     ghost use Rattle.node_units.specs.Tokens.{StandFor};
 
-    ghost view = { λ u. seen u.units };
+    ghost view = { λ u. seen u.units u.log };
 
-    ghost invariant = { λ u. StandFor u.begun.items u.units × (64 ≤ vec_capacity u.begun) × (64 ≤ vec_capacity u.undone) };
+    ghost invariant = { λ u. StandFor u.begun.items u.units × (64 ≤ vec_capacity u.begun) };
 }
 
 impl RecoveryUnits for NodeUnits {
@@ -49,8 +55,9 @@ impl RecoveryUnits for NodeUnits {
     fn reserve(alloc: Global) -> Result<NodeUnits, AllocError> {
         Ok(NodeUnits {
             units: Units::reserve(alloc)?,
+            log: Log::reserve(alloc)?,
             begun: Vec::with_capacity(alloc, MOST_UNITS)?,
-            undone: Vec::with_capacity(alloc, MOST_UNITS)?,
+            restarted: Restarted::reserve(alloc)?,
         })
     }
 
@@ -62,10 +69,24 @@ impl RecoveryUnits for NodeUnits {
         self.begun.len() >= MOST_UNITS
     }
 
+    fn slots(&self) -> usize {
+        self.log.slots()
+    }
+
+    fn has_changes(&self, serial: &Serial) -> bool {
+        match place_of(&self.begun, serial) {
+            None => false,
+            Some(place) => {
+                self.units.stand_in_order();
+                has_changes_held(&self.units, &self.begun[place].token)
+            }
+        }
+    }
+
     fn begin(&mut self, tid: Tid, serial: Serial) {
         self.units.stand_in_order();
-        let unit = begin_unit(&mut self.units, tid, &serial);
-        self.begun.push_reserved(BegunUnit { serial, unit });
+        let token = begin_unit(&mut self.units, &tid, &serial);
+        self.begun.push_reserved(BegunUnit { tid, serial, token });
     }
 
     fn change<D: Disk>(
@@ -80,7 +101,7 @@ impl RecoveryUnits for NodeUnits {
         };
         self.units.stand_in_order();
         let begun = &mut self.begun[place];
-        let done = self.units.change(&mut begun.unit, volume, op, bytes);
+        let done = change_held(&mut self.units, &mut begun.token, volume, op, bytes);
         self.units.stand_in_order();
         done
     }
@@ -98,7 +119,7 @@ impl RecoveryUnits for NodeUnits {
         };
         self.units.stand_in_order();
         let begun = &mut self.begun[place];
-        let done = self.units.read(&mut begun.unit, volume, op, found, out);
+        let done = read_held(&mut self.units, &mut begun.token, volume, op, found, out);
         self.units.stand_in_order();
         done
     }
@@ -123,24 +144,77 @@ impl RecoveryUnits for NodeUnits {
         bytes: &[u8],
     ) -> Result<(u32, Moment), RecErr> {
         self.units.stand_in_order();
-        has_id(&tid);
+        have_ids(&tid, &Serial(tid.0));
         self.units.direct(volume, tid, clock, op, bytes)
     }
 
-    fn one_phase<D: Disk>(
+    fn prepare<D: Disk>(
         &mut self,
         serial: &Serial,
         volume: &mut Volume<D>,
+        rms: &RmList,
+    ) -> Result<Tid, Down> {
+        let Some(place) = place_of(&self.begun, serial) else {
+            unreachable!()
+        };
+        self.units.stand_in_order();
+        let tid = self.begun[place].tid;
+        have_vote(&tid, serial, rms);
+        let Token::Active(unit) = replace(&mut self.begun[place].token, Token::Spent) else {
+            unreachable!()
+        };
+        match self.units.prepare(unit, volume, &mut self.log, rms) {
+            Err(down) => {
+                self.begun.remove(place);
+                Err(down)
+            }
+            Ok(Vote::Yes(unit)) => {
+                self.units.stand_in_order();
+                self.begun[place].token = Token::Prepared(unit);
+                Ok(tid)
+            }
+            Ok(Vote::ReadOnly) => unreachable!(),
+        }
+    }
+
+    fn leave(&mut self, serial: &Serial) -> Tid {
+        let Some(place) = place_of(&self.begun, serial) else {
+            unreachable!()
+        };
+        self.units.stand_in_order();
+        let BegunUnit {
+            tid,
+            serial: _,
+            token,
+        } = self.begun.remove(place);
+        let Token::Active(unit) = token else {
+            unreachable!()
+        };
+        self.units.lose_active(unit);
+        self.units.stand_in_order();
+        tid
+    }
+
+    fn commit<D: Disk>(
+        &mut self,
+        serial: &Serial,
+        volume: &mut Volume<D>,
+        logged: Option<&LogRec>,
         clock: Moment,
     ) -> Result<SettledUnit, Down> {
         let Some(place) = place_of(&self.begun, serial) else {
             unreachable!()
         };
         self.units.stand_in_order();
-        let BegunUnit { serial: _, unit } = self.begun.remove(place);
-        self.units.has_ids(&unit);
-        match self.units.one_phase(unit, volume, clock) {
-            Err(down) => return Err(down),
+        let BegunUnit {
+            tid,
+            serial: _,
+            token,
+        } = self.begun.remove(place);
+        have_ids(&tid, serial);
+        have_logged(logged);
+        match commit_held(&mut self.units, token, volume, &mut self.log, logged, clock) {
+            Err(down) => Err(down),
             Ok(settled) => {
                 self.units.stand_in_order();
                 Ok(told_above(&mut self.units, settled))
@@ -159,15 +233,45 @@ impl RecoveryUnits for NodeUnits {
             unreachable!()
         };
         self.units.stand_in_order();
-        let BegunUnit { serial: _, unit } = self.begun.remove(place);
-        self.units.has_ids(&unit);
+        let BegunUnit {
+            tid,
+            serial: _,
+            token,
+        } = self.begun.remove(place);
+        have_ids(&tid, serial);
         blocks_are_whole(volume);
-        match self.units.abort(unit, volume, reason, clock) {
-            Err(down) => return Err(down),
+        match abort_held(&mut self.units, token, volume, &mut self.log, reason, clock) {
+            Err(down) => Err(down),
             Ok(settled) => {
                 self.units.stand_in_order();
                 Ok(told_above(&mut self.units, settled))
             }
+        }
+    }
+
+    fn keep_record<D: Disk>(
+        &mut self,
+        volume: &mut Volume<D>,
+        logged: &LogRec,
+    ) -> Result<(), Down> {
+        self.units.stand_in_order();
+        have_parts(logged);
+        write_record(volume, &mut self.log, logged.serial, Some(logged))
+    }
+
+    fn forget_record<D: Disk>(
+        &mut self,
+        volume: &mut Volume<D>,
+        serial: &Serial,
+    ) -> Result<Tid, Down> {
+        self.units.stand_in_order();
+        let Some(logged) = self.log.find(*serial) else {
+            unreachable!()
+        };
+        let tid = logged.tid;
+        match write_record(volume, &mut self.log, *serial, None) {
+            Err(down) => Err(down),
+            Ok(()) => Ok(tid),
         }
     }
 
@@ -188,9 +292,22 @@ impl RecoveryUnits for NodeUnits {
     ) -> Result<(), Down> {
         self.units.stand_in_order();
         blocks_are_whole(volume);
-        self.undone.clear();
-        let done = self.units.reopen(volume, clock, &mut self.undone);
-        tell_undone(&self.undone, out);
-        done
+        match Log::load(volume, &mut self.log) {
+            Err(down) => return Err(down),
+            Ok(()) => {}
+        }
+        let done = self
+            .units
+            .reopen(volume, &mut self.log, clock, &mut self.restarted);
+        tell_undone(self.restarted.undone(), out);
+        match done {
+            Err(down) => return Err(down),
+            Ok(()) => {}
+        }
+        self.units.stand_in_order();
+        tell_prepared(self.restarted.prepared(), out);
+        tell_committed(self.restarted.committed(), out);
+        hold_prepared(out.prepared(), &mut self.restarted, &mut self.begun);
+        Ok(())
     }
 }

@@ -1,5 +1,5 @@
 -- What the calls promise, in the words of the world: each is an act of its node, or one of the refusals of the world.
-use Rattle.std.specs.Prelude.{◌≡◌, ◌<◌, ◌⊎◌, ℕ, zero, suc, List, [], ◌∷◌, true, length, map, nat_lt, Option, Some, None, option_map}
+use Rattle.std.specs.Prelude.{◌≡◌, ◌⊎◌, ℕ, zero, suc, List, [], ◌∷◌, ◌++◌, true, false, length, map, nat_lt, Option, Some, None, option_map}
 use Rattle.block_disk.specs.Disk.{DiskState}
 use Rattle.file_base.specs.declared.head.FileHead.{FileHead}
 use Rattle.transcript_model.specs.Lines as line
@@ -7,16 +7,24 @@ use Rattle.transcript_model.specs.Lines.{Line}
 use Rattle.script_model.specs.Statements.{Operation, Put, Update, Delete, Truncate, Get, Next}
 use Rattle.vms_model.specs.Ids.{Id}
 use Rattle.vms_model.specs.Keys.{Key, Number, Text, End}
+use Rattle.tm_types.specs.Parts.{log_record_of}
 use Rattle.vms_model.specs.Transactions.{Outcome, Abort, Reason, SegFail}
 use Rattle.vms_base.specs.Ids.{serial_of, tid_of}
 use Rattle.vms_base.specs.Keys.{key_of}
-use Rattle.commit_protocol.specs.Table.{Branch}
+use Rattle.commit_protocol.specs.Agreement.{Distinct}
+use Rattle.commit_protocol.specs.Allowed.{is_prepared}
+use Rattle.commit_protocol.specs.Effects.{Effect, ForgetEffect, KeepEffect, PrepareEffect, ReadOnlyEffect, SettleEffect, act_effects}
+use Rattle.commit_protocol.specs.Messages.{LogRecord, Name}
+use Rattle.commit_protocol.specs.Standing.{Stands}
+use Rattle.commit_protocol.specs.Table as table
+use Rattle.commit_protocol.specs.Table.{Branch, Undoes, record_serials, restarted}
+use Rattle.commit_protocol.specs.Limits.{LogWithin}
+use Rattle.log_laws.specs.Slots.{LogTells, Slots, committed_of, records_in}
 use Rattle.volume.specs.State.{VolumeState}
-use Rattle.std.specs.List.{AllByRecursion}
-use Rattle.unit_laws.specs.Journal.{JournalEntry, RecoveryUnit, serial_in}
-use Rattle.run_model.specs.World.{Node, File, Act, Settlement, Settles, Directs, is_durable, acted, fallen, find_file, find_branch, next_id, next_moment}
+use Rattle.unit_laws.specs.Journal.{RecoveryUnit}
+use Rattle.run_model.specs.World.{Node, File, Act, Settlement, Tables, Directs, acted, booted, fallen, find_branch, find_file, is_durable, next_id, next_moment, prepared_left, reason_of, settlement, settlement_of}
 use Rattle.run_model.specs.Operations.{first_of, refused_if, form_refused, file_full, keys_asked, keys_held, changes_of, operation_answer}
-use Rattle.run_model.specs.Answers.{is_marked, needs_unit, keys_refused, found_refused, more_changes, more_locks, journal_full, operation_act, change_limit, lock_limit, abort_settlement, commit_settlement, left_active}
+use Rattle.run_model.specs.Answers.{is_marked, needs_unit, keys_refused, found_refused, more_changes, more_locks, journal_full, operation_act, change_limit, lock_limit, commit_settlement, left_active, unit_key}
 use Rattle.directory_model.specs.Files.{IsNamed}
 use Rattle.volume_model.specs.Volumes.{HasDisk, LeavesVolume}
 use Rattle.record_operations.specs.declared.ops.RecordOp.{RecordOp}
@@ -27,7 +35,9 @@ use Rattle.record_operations.specs.declared.errors.RecErr.{RecErr}
 use Rattle.record_operations.specs.Asking.{file_in, read_file_in}
 use Rattle.record_operations.specs.Causes as cause
 use Rattle.record_operations.specs.Causes.{Cause, cause_of}
+use Rattle.world_laws.specs.Nodes.{IsKeptDisk, IsUp}
 use Rattle.recovery_units.specs.declared.settled.SettledUnit.{SettledUnit}
+use Rattle.recovery_units.specs.Told.{ReopenedTold}
 use Rattle.recovery_units.specs.State.{UnitsState, IsKept}
 
 -- The file and the operation of the world that are asked for.
@@ -96,13 +106,19 @@ abbrev pub unit_late : Node → Branch → (name : List ℕ) → File → Operat
 unit_late n b name f op = first_of (found_refused n (Some b.key.serial) name op f) (first_of (more_changes n (changes_of f op) b)
     (first_of (more_locks n name (keys_held f op)) (first_of (file_full f op) (journal_full n name (changes_of f op) b))))
 
--- What is asked of a node that stands on the volume, of the branch of this serial and the file of this number.
+-- What is asked of a node that stands on the volume and is up, of the branch of this serial, which is not prepared, and the file of this number.
 pub record IsAsked (serial : Id) (f : ℕ) (s : UnitsState) (v : VolumeState) (n : Node) (name : List ℕ) (file : File) (b : Branch) : Type 0 where
   pub kept : IsKept s v n
+  pub up : IsUp n
   pub branch : find_branch serial n.volatile.branches ≡ Some b
+  pub unprepared : is_prepared b.state ≡ false
   pub head : FileHead
   pub named : IsNamed v.catalog.heads f head name
   pub found : find_file name n.durable.directory ≡ Some file
+
+-- where nothing refuses it the node is up behind its act too
+abbrev pub KeepsUp : (early late : Option Line) → Act → Node → Type 0
+KeepsUp early late act n = first_of early late ≡ None → IsUp (acted act n)
 
 -- It was done: the world does not refuse it, units and volume are those of the node after its act, and its answer is this line.
 pub record IsDone (early late : Option Line) (act : Act) (answer told : Line) (n : Node) (s : UnitsState) (v : VolumeState) : Type 0 where
@@ -135,10 +151,12 @@ unit_act b name f op = operation_act b name (changes_of f op) (keys_held f op)
 
 abbrev pub ChangesOk : (serial : Id) → RecordOp → (bytes : List ℕ) → (position : ℕ) → UnitsState → VolumeState → UnitsState → VolumeState → Type 0
 ChangesOk serial op bytes position s v t w = (n : Node) (name : List ℕ) (file : File) (b : Branch) → IsAsked serial (file_in op) s v n name file b →
+    KeepsUp (unit_early n b name file (change_said op bytes)) (unit_late n b name file (change_said op bytes)) (unit_act b name file (change_said op bytes)) n →
     IsDone (unit_early n b name file (change_said op bytes)) (unit_late n b name file (change_said op bytes)) (unit_act b name file (change_said op bytes)) (operation_answer file (change_said op bytes)) (position_line position) n t w
 
 abbrev pub ChangesErr : (serial : Id) → RecordOp → (bytes : List ℕ) → RecErr → UnitsState → VolumeState → VolumeState → Type 0
 ChangesErr serial op bytes e s v w = (n : Node) (name : List ℕ) (file : File) (b : Branch) → IsAsked serial (file_in op) s v n name file b →
+    KeepsUp (unit_early n b name file (change_said op bytes)) (unit_late n b name file (change_said op bytes)) (unit_act b name file (change_said op bytes)) n →
     IsNotDone e (unit_early n b name file (change_said op bytes)) (unit_late n b name file (change_said op bytes)) (unit_act b name file (change_said op bytes)) n w.store.disk
 
 -- what is read is held from then on
@@ -160,6 +178,7 @@ alone_late n name f op = first_of (found_refused n None name op f) (first_of (re
 
 pub record IsAskedAlone (f : ℕ) (s : UnitsState) (v : VolumeState) (n : Node) (name : List ℕ) (file : File) : Type 0 where
   pub kept : IsKept s v n
+  pub up : IsUp n
   pub head : FileHead
   pub named : IsNamed v.catalog.heads f head name
   pub found : find_file name n.durable.directory ≡ Some file
@@ -186,51 +205,90 @@ direct_act n name f op = Directs name (changes_of f op) (commit_settlement n (ne
 
 abbrev pub DirectsOk : (tid : Id) → (clock : ℕ) → RecordOp → (bytes : List ℕ) → (position moment : ℕ) → UnitsState → VolumeState → VolumeState → Type 0
 DirectsOk tid clock op bytes position moment s v w = (n : Node) (name : List ℕ) (file : File) → IsAskedAlone (file_in op) s v n name file → next_id n ≡ tid → n.clock ≡ clock →
+    KeepsUp (alone_early n name file (change_said op bytes)) (alone_late n name file (change_said op bytes)) (direct_act n name file (change_said op bytes)) n →
     IsDone (alone_early n name file (change_said op bytes)) (alone_late n name file (change_said op bytes)) (direct_act n name file (change_said op bytes)) (operation_answer file (change_said op bytes)) (position_line position) n s w × (moment ≡ next_moment n)
 
 abbrev pub DirectsErr : (tid : Id) → (clock : ℕ) → RecordOp → (bytes : List ℕ) → RecErr → UnitsState → VolumeState → VolumeState → Type 0
 DirectsErr tid clock op bytes e s v w = (n : Node) (name : List ℕ) (file : File) → IsAskedAlone (file_in op) s v n name file → next_id n ≡ tid → n.clock ≡ clock →
+    KeepsUp (alone_early n name file (change_said op bytes)) (alone_late n name file (change_said op bytes)) (direct_act n name file (change_said op bytes)) n →
     IsNotDone e (alone_early n name file (change_said op bytes)) (alone_late n name file (change_said op bytes)) (direct_act n name file (change_said op bytes)) n w.store.disk
 
--- Settlements. Nothing refuses one.
+-- Acts of the table. Nothing refuses one.
 
--- the settlement of a branch
-abbrev pub settlement_with : Outcome → Option Reason → (moment : ℕ) → Branch → Settlement
-settlement_with outcome reason moment b = record { tid = b.key.tid; serial = b.key.serial; outcome = outcome; reason = reason; moment = moment }
+-- The node may do this act of its table next, which has this effect: what it speaks of stands there, and the node is up before it and behind it.
+pub record MayDo (n : Node) (a : table.Act) (e : Effect) : Type 0 where
+  pub up : IsUp n
+  pub gives : act_effects a n.volatile.records ≡ e ∷ []
+  pub stands : Stands n.volatile.branches a
+  pub after : IsUp (acted (Tables a (next_moment n)) n)
 
--- the node is that after the settlement, of which the transaction and the moment are told
-pub record SettlesTo (outcome : Outcome) (reason : Option Reason) (told : SettledUnit) (n : Node) (b : Branch) (t : UnitsState) (w : VolumeState) : Type 0 where
-  pub tid : tid_of told.tid ≡ b.key.tid
-  pub serial : serial_of told.serial ≡ b.key.serial
-  pub moment : told.moment.0 ≡ next_moment n
-  pub kept : IsKept t w (acted (Settles (settlement_with outcome reason (next_moment n) b)) n)
+-- for each node that the units and the volume are, and each act of its table with this effect
+abbrev pub ForActs : Effect → UnitsState → VolumeState → (Node → table.Act → Type 0) → Type 0
+ForActs e s v P = (n : Node) (a : table.Act) → IsKept s v n → MayDo n a e → P n a
 
-abbrev pub SettlesOk : (serial : Id) → Outcome → Option Reason → (clock : ℕ) → SettledUnit → UnitsState → VolumeState → UnitsState → VolumeState → Type 0
-SettlesOk serial outcome reason clock told s v t w = (n : Node) (b : Branch) → IsKept s v n → n.clock ≡ clock → find_branch serial n.volatile.branches ≡ Some b → SettlesTo outcome reason told n b t w
+-- It was done: units and volume are those of the node after the act.
+abbrev pub Done : UnitsState → VolumeState → Node → table.Act → Type 0
+Done t w n a = IsKept t w (acted (Tables a (next_moment n)) n)
 
--- The disk went down: each image that a power loss may leave has the node as it was, of whose branch any part may be undone where it was to be aborted, or as it is
--- after the settlement.
-abbrev pub SettlesErr : (serial : Id) → Outcome → Option Reason → (clock : ℕ) → UnitsState → VolumeState → VolumeState → Type 0
-SettlesErr serial outcome reason clock s v w = (n : Node) (b : Branch) → IsKept s v n → n.clock ≡ clock → find_branch serial n.volatile.branches ≡ Some b →
-    HasDisk (fallen (Some (Settles (settlement_with outcome reason (next_moment n) b))) n) w.store.disk
+-- The disk went down: each image that a power loss may leave has the node as it was, or as it is after the act, or, where that aborts a prepared branch, any part of
+-- it.
+abbrev pub Broken : VolumeState → Node → table.Act → Type 0
+Broken w n a = HasDisk (fallen (Some (Tables a (next_moment n))) n) w.store.disk
+
+-- a unit votes yes, or leaves
+abbrev pub VotesOk : (serial : Id) → List Name → UnitsState → VolumeState → UnitsState → VolumeState → Type 0
+VotesOk serial rms s v t w = ForActs (PrepareEffect serial rms) s v (Done t w)
+
+abbrev pub VotesErr : (serial : Id) → List Name → UnitsState → VolumeState → VolumeState → Type 0
+VotesErr serial rms s v w = ForActs (PrepareEffect serial rms) s v (Broken w)
+
+abbrev pub Leaves : (serial : Id) → UnitsState → VolumeState → UnitsState → Type 0
+Leaves serial s v t = ForActs (ReadOnlyEffect serial) s v (Done t v)
+
+-- a settlement as it is told
+abbrev pub told_settlement : Outcome → Reason → SettledUnit → Settlement
+told_settlement outcome reason u = record { tid = tid_of u.tid; serial = serial_of u.serial; outcome = outcome; reason = reason_of outcome reason; moment = u.moment.0 }
+
+-- The node is that after the settlement, which is told. The reason counts for aborts alone.
+pub record SettlesTo (outcome : Outcome) (reason : Reason) (told : SettledUnit) (t : UnitsState) (w : VolumeState) (n : Node) (a : table.Act) : Type 0 where
+  pub settled : settlement_of a (next_moment n) ≡ Some (told_settlement outcome reason told)
+  pub done : Done t w n a
+
+abbrev pub SettlesOk : (serial : Id) → Outcome → Reason → Option LogRecord → (clock : ℕ) → SettledUnit → UnitsState → VolumeState → UnitsState → VolumeState → Type 0
+SettlesOk serial outcome reason r clock told s v t w = ForActs (SettleEffect serial outcome reason r) s v (λ n a. n.clock ≡ clock → SettlesTo outcome reason told t w n a)
+
+abbrev pub SettlesErr : (serial : Id) → Outcome → Reason → Option LogRecord → (clock : ℕ) → UnitsState → VolumeState → VolumeState → Type 0
+SettlesErr serial outcome reason r clock s v w = ForActs (SettleEffect serial outcome reason r) s v (λ n a. n.clock ≡ clock → Broken w n a)
+
+-- a committed record has less to wait for, or is forgotten
+abbrev pub KeepsRecord : LogRecord → UnitsState → VolumeState → UnitsState → VolumeState → Type 0
+KeepsRecord r s v t w = ForActs (KeepEffect r) s v (Done t w)
+
+abbrev pub KeepsRecordNot : LogRecord → UnitsState → VolumeState → VolumeState → Type 0
+KeepsRecordNot r s v w = ForActs (KeepEffect r) s v (Broken w)
+
+abbrev pub ForgetsRecord : (serial : Id) → UnitsState → VolumeState → UnitsState → VolumeState → Type 0
+ForgetsRecord serial s v t w = ForActs (ForgetEffect serial) s v (Done t w)
+
+abbrev pub ForgetsRecordNot : (serial : Id) → UnitsState → VolumeState → VolumeState → Type 0
+ForgetsRecordNot serial s v w = ForActs (ForgetEffect serial) s v (Broken w)
 
 -- A restart.
 
--- The node of the world whose boot count was just raised: its branches and locks are gone, what its volume has is what a fall left, and the entries of its journal
--- are of branches of earlier boots.
+-- The node of the world whose boot count was just raised: what its volume has is what a fall left, and its table has the branches that are prepared, and the committed
+-- records.
 pub record IsRestarting (v : VolumeState) (n : Node) : Type 0 where
   pub content : List (List ℕ)
   pub told : v.store.current ≡ Some content
   pub name : n.name ≡ v.catalog.home.node
   pub blocks : n.blocks ≡ v.store.disk.size
   pub leaves : LeavesVolume content v.catalog n
-  pub branches : n.volatile.branches ≡ []
-  pub locks : n.volatile.locks ≡ []
-  pub earlier : AllByRecursion (λ (e : JournalEntry). (serial_in e).boot < n.durable.boot) n.durable.units.entries
+  pub disk : IsKeptDisk n
+  pub booted : n.volatile ≡ booted n.durable
 
 -- the act by which a unit is undone, and the node after so many of them
 abbrev pub undone_act : Node → RecoveryUnit → Act
-undone_act n u = Settles (abort_settlement SegFail n u.tid u.serial)
+undone_act n u = Tables (Undoes (unit_key u)) (next_moment n)
 
 abbrev pub after_undone : ℕ → Node → List RecoveryUnit → Node
 after_undone zero n us = n
@@ -248,27 +306,34 @@ undone_next (suc k) n (u ∷ us) = undone_next k (acted (undone_act n u) n) us
 abbrev pub settlements_of : ℕ → Node → List RecoveryUnit → List Settlement
 settlements_of zero n us = []
 settlements_of (suc k) n [] = []
-settlements_of (suc k) n (u ∷ us) = abort_settlement SegFail n u.tid u.serial ∷ settlements_of k (acted (undone_act n u) n) us
+settlements_of (suc k) n (u ∷ us) = settlement (unit_key u) Abort SegFail (next_moment n) ∷ settlements_of k (acted (undone_act n u) n) us
 
 -- and as they are told
-abbrev pub told_settlement : SettledUnit → Settlement
-told_settlement u = record { tid = tid_of u.tid; serial = serial_of u.serial; outcome = Abort; reason = Some SegFail; moment = u.moment.0 }
-
 abbrev pub told_in : List SettledUnit → List Settlement
-told_in us = map told_settlement us
+told_in us = map (told_settlement Abort SegFail) us
 
--- all are undone, and nothing is unsettled
-pub record ReopensTo (told : List SettledUnit) (n : Node) (t : UnitsState) (w : VolumeState) : Type 0 where
-  pub settled : told_in told ≡ settlements_of (length (left_active n)) n (left_active n)
+-- All that are not prepared are undone, and told. The others are units again, with what they changed, which they hold; their records are told in the order of the
+-- branches.
+pub record ReopensTo (told : ReopenedTold) (n : Node) (t : UnitsState) (w : VolumeState) : Type 0 where
+  pub settled : told_in told.settled ≡ settlements_of (length (left_active n)) n (left_active n)
+  pub prepared : map log_record_of told.prepared ≡ prepared_left n.durable
   pub kept : IsKept t w (after_undone (length (left_active n)) n (left_active n))
 
-abbrev pub ReopensOk : (clock : ℕ) → List SettledUnit → VolumeState → UnitsState → VolumeState → Type 0
+abbrev pub ReopensOk : (clock : ℕ) → ReopenedTold → VolumeState → UnitsState → VolumeState → Type 0
 ReopensOk clock told v t w = (n : Node) → IsRestarting v n → n.clock ≡ clock → ReopensTo told n t w
 
 -- so many were undone, which are told, and then the disk went down: the next one may be undone in any part, or whole
-pub record BreaksAfter (told : List SettledUnit) (n : Node) (d : DiskState) : Type 0 where
-  pub settled : told_in told ≡ settlements_of (length told) n (left_active n)
-  pub disk : HasDisk (fallen (undone_next (length told) n (left_active n)) (after_undone (length told) n (left_active n))) d
+pub record BreaksAfter (told : ReopenedTold) (n : Node) (d : DiskState) : Type 0 where
+  pub settled : told_in told.settled ≡ settlements_of (length told.settled) n (left_active n)
+  pub disk : HasDisk (fallen (undone_next (length told.settled) n (left_active n)) (after_undone (length told.settled) n (left_active n))) d
 
-abbrev pub ReopensErr : (clock : ℕ) → List SettledUnit → VolumeState → VolumeState → Type 0
+abbrev pub ReopensErr : (clock : ℕ) → ReopenedTold → VolumeState → VolumeState → Type 0
 ReopensErr clock told v w = (n : Node) → IsRestarting v n → n.clock ≡ clock → BreaksAfter told n w.store.disk
+
+-- What a restart tells is what a table may begin with, on any disk: the log tells a table with these prepared and all its committed records, which are within what a
+-- log may hold; and no serial stands twice among them.
+pub record MayBegin (told : ReopenedTold) (ss : Slots) : Type 0 where
+  pub committed : map log_record_of told.committed ≡ committed_of (records_in ss)
+  pub within : LogWithin (map log_record_of told.prepared) (map log_record_of told.committed)
+  pub tells : (name : Name) → LogTells (restarted name (map log_record_of told.prepared) (map log_record_of told.committed)) ss
+  pub apart : Distinct (record_serials (map log_record_of told.prepared) ++ record_serials (map log_record_of told.committed))

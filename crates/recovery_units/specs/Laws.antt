@@ -4,16 +4,20 @@ use Rattle.file_base.specs.declared.head.FileHead.{FileHead}
 use Rattle.careful_write.specs.State.{EachWhole}
 use Rattle.change_set.specs.Files.{AgreesOut, in_extent}
 use Rattle.std.specs.List.{AllByRecursion}
-use Rattle.commit_protocol.specs.Table.{Active}
-use Rattle.commit_protocol.specs.Rows.{blank}
+use Rattle.commit_protocol.specs.Standing.{IsNew as IsNewBranch, Stands, writes}
+use Rattle.commit_protocol.specs.Table as table
+use Rattle.commit_protocol.specs.Table.{Branch, Leaves, Notes}
+use Rattle.log_laws.specs.Slots.{Slots, forgotten, has_slot}
+use Rattle.world_laws.specs.Nodes.{IsUp}
 use Rattle.extents.specs.Extents.{IsFreeRun, all_extents}
 use Rattle.volume.specs.declared.catalog.Catalog.{Catalog}
 use Rattle.volume.specs.Catalogs.{IsSound}
 use Rattle.volume.specs.State.{VolumeState}
 use Rattle.volume.specs.Limits.{data_area}
 use Rattle.volume_format.specs.Home.{sizes_of}
+use Rattle.volume.specs.Empty.{IsEmptyVolume}
 use Rattle.vms_model.specs.Ids.{Id}
-use Rattle.run_model.specs.World.{Node, File, Label, Boots, Begins, ComesUp, Creates, Formats, Marks, acted, next_id}
+use Rattle.run_model.specs.World.{Node, File, Boots, ComesUp, Creates, Formats, Marks, Tables, acted}
 use Rattle.directory_model.specs.Files.{IsFile, IsHeadOf, IsNamed, NoneNamed, head_at}
 use Rattle.directory_model.specs.Laws.{marked}
 use Rattle.volume_model.specs.Volumes.{HasVolume, LeavesVolume}
@@ -23,12 +27,13 @@ use Rattle.record_operations.specs.Forms as form
 use Rattle.record_operations.specs.declared.ops.RecordOp.{RecordOp}
 use Rattle.record_operations.specs.declared.ops.ReadOp.{ReadOp}
 use Rattle.run_model.specs.Operations.{form_refused}
-use Rattle.recovery_units.specs.State.{UnitsState, IsKept, IsNew, IsInOrder, IsShowable, nothing_begun, with_begun}
+use Rattle.recovery_units.specs.State.{UnitsState, IsKept, IsInOrder, IsShowable, with_begun}
 use Rattle.recovery_units.specs.Calls.{IsNumbered, cause_line, change_said, read_said}
 
 -- A volume that was just made, with so many log slots and blocks of a journal: it has no file, its journal no entry, and its home tells no boot and no settlement.
 pub record IsMade (content : List (List ℕ)) (v : Catalog) (slots journal : ℕ) : Type 0 where
   pub slots_are : v.home.slots ≡ slots
+  pub few : slots ≤ 512
   pub journal_is : v.home.ru_blocks ≡ journal
   pub boot : v.home.boot ≡ 0
   pub greatest : v.home.greatest_moment.0 ≡ 0
@@ -38,6 +43,7 @@ pub record IsMade (content : List (List ℕ)) (v : Catalog) (slots journal : ℕ
   pub end : v.ru.end ≡ 0
   pub some : 0 < v.ru.blocks
   pub within : v.ru.start - 518 + v.ru.blocks ≤ length content
+  pub log : IsEmptyVolume v.home content
 
 -- the block of a file's number is written, which has this head from then on
 abbrev pub HeadWritten : (f : ℕ) → FileHead → VolumeState → VolumeState → Type 0
@@ -51,12 +57,16 @@ pub record KeepsNodes : Type 0 where
   pub down : (content : List (List ℕ)) (v : Catalog) (n m : Node) → LeavesVolume content v n → m.name ≡ n.name → m.durable ≡ n.durable → m.up ≡ false → LeavesVolume content v m
   -- its entries can be shown
   pub shows : (s : UnitsState) (v : VolumeState) (n : Node) → IsKept s v n → AllByRecursion (IsShowable v.catalog.heads v.catalog.home.greatest_moment.0) n.durable.units.entries
-  -- a node that has no branch comes up
-  pub comes : (v : VolumeState) (n : Node) → IsKept nothing_begun v n → IsKept nothing_begun v (acted ComesUp n)
-  -- a branch begins, whose id is drawn
-  pub begins : (s : UnitsState) (v : VolumeState) (n : Node) (label : Label) (serial : Id) → IsKept s v n → IsNew serial s → serial ≡ next_id n → length s.begun < 64 → IsKept (with_begun serial serial s) v (acted (Begins label (blank serial serial None Active None)) n)
+  -- an act that leaves disk, branches and locks: an id is drawn, a label is made or numbered, the clock is set, the disk is armed
+  pub stays : (s : UnitsState) (v : VolumeState) (n m : Node) → IsKept s v n → m.name ≡ n.name → m.blocks ≡ n.blocks → m.durable ≡ n.durable → m.up ≡ n.up → m.volatile.branches ≡ n.volatile.branches → m.volatile.locks ≡ n.volatile.locks → IsKept s v m
+  -- a node comes up
+  pub comes : (s : UnitsState) (v : VolumeState) (n : Node) → IsKept s v n → IsUp (acted ComesUp n) → IsKept s v (acted ComesUp n)
+  -- a branch begins
+  pub begins : (s : UnitsState) (v : VolumeState) (n : Node) (b : Branch) (moment : ℕ) → IsKept s v n → IsNewBranch n.volatile.branches b → IsUp (acted (Tables (Notes b) moment) n) → IsKept (with_begun b.key.tid b.key.serial s) v (acted (Tables (Notes b) moment) n)
+  -- the table does what nothing is written for, and by which no branch begins or leaves
+  pub tables : (s : UnitsState) (v : VolumeState) (n : Node) (a : table.Act) (moment : ℕ) → IsKept s v n → writes a ≡ false → ((k : table.Key) → a ≡ Leaves k → ⊥) → Stands n.volatile.branches a → IsKept s v (acted (Tables a moment) n)
   -- a file that no unsettled branch changed is marked, or no more
-  pub marks : (s : UnitsState) (v w : VolumeState) (n : Node) (f : ℕ) (h : FileHead) (name : List ℕ) (units : Bool) (content : List (List ℕ)) → IsKept s v n → IsInOrder s v → IsNamed v.catalog.heads f h name → first_to_change f s.begun ≡ None →
+  pub marks : (s : UnitsState) (v w : VolumeState) (n : Node) (f : ℕ) (h : FileHead) (name : List ℕ) (units : Bool) (content : List (List ℕ)) → IsKept s v n → IsUp n → IsInOrder s v → IsNamed v.catalog.heads f h name → first_to_change f s.begun ≡ None →
       HeadWritten f (marked units h) v w → w.store.current ≡ Some content → EachWhole content → IsKept s w (acted (Marks name units) n)
   -- blocks of a free run are written
   pub free : (s : UnitsState) (v w : VolumeState) (n : Node) (h : FileHead) (content : List (List ℕ)) → IsKept s v n → IsInOrder s v → IsFreeRun (data_area (sizes_of v.catalog.home)) (all_extents v.catalog.heads) h.start (h.alloc * h.bucket) →
@@ -65,6 +75,8 @@ pub record KeepsNodes : Type 0 where
   pub creates : (s : UnitsState) (v w : VolumeState) (n : Node) (f : ℕ) (h : FileHead) (file : File) (content new : List (List ℕ)) → IsKept s v n → IsInOrder s v → f < 64 → head_at v.catalog.heads f ≡ None →
       ((g : ℕ) → g < f → head_at v.catalog.heads g ≡ None → ⊥) → NoneNamed v.catalog.heads 64 h.name → IsFreeRun (data_area (sizes_of v.catalog.home)) (all_extents v.catalog.heads) h.start (h.alloc * h.bucket) → file.history.live ≡ [] → v.store.current ≡ Some content → IsFile content h file → HeadWritten f h v w → w.store.current ≡ Some new → EachWhole new →
       IsKept s w (acted (Creates f file) n)
+  -- where no slot of the log has a serial, none is freed for it
+  pub unlogged : (serial : Id) (ss : Slots) → has_slot serial ss ≡ false → forgotten serial ss ≡ ss
   -- the boot count is raised
   pub boots : (content : List (List ℕ)) (bytes : List ℕ) (v : Catalog) (n : Node) → LeavesVolume content v n → IsSound n.name n.blocks v → length bytes ≡ 512 → LeavesVolume (slice_set content 0 bytes) (record v { home = record v.home { boot = v.home.boot + 1 } }) (acted Boots n)
   -- a volume is made

@@ -1,4 +1,5 @@
 pub mod State
+pub mod Told
 pub mod Uses
 pub mod Calls
 pub mod Laws

@@ -57,8 +57,14 @@ fn place_refused(organization: Organization, number: Option<u32>) -> Option<Line
             Some(n) => key_refused(organization, KeyRef::Number(u64::from(n))),
             None => Some(Line::BadParameter),
         },
-        Organization::Sequential => refused_if(number.is_some(), Line::BadParameter),
-        Organization::Indexed { .. } => refused_if(number.is_some(), Line::BadParameter),
+        Organization::Sequential => match number {
+            Some(_) => Some(Line::BadParameter),
+            None => None,
+        },
+        Organization::Indexed { .. } => match number {
+            Some(_) => Some(Line::BadParameter),
+            None => None,
+        },
     }
 }
 

@@ -1,4 +1,2 @@
-pub mod Whole
 pub mod Served
-pub mod Rows
 pub mod Scripts

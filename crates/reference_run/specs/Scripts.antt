@@ -7,7 +7,7 @@ use Rattle.reference_run.specs.declared.script.Reading.{Reading}
 use Rattle.reference_run.specs.declared.script.Ending.{Ending}
 use Rattle.reference_run.specs.declared.script.Ending.TheVariants as ending
 use Rattle.reference_run.specs.Served.{world_of}
-use Rattle.reference_run.specs.Whole.{run_from, entry}
+use Rattle.reference_law.specs.Whole.{run_from, entry}
 
 -- bytes without a line feed are one line, unless there are none
 abbrev pub unended : List ℕ → List ScriptLine
@@ -29,12 +29,12 @@ pub record Stands (r : Reading) (es : List Entry) : Type 0 where
 pub record GoesOn (old : Reading) (es : List Entry) (source : ScriptLine) (more : List ScriptLine) (new : Reading) : Type 0 where
   pub lines : List model.Line
   pub stands : Stands new (entry source lines ∷ es)
-  pub runs : run_from (world_of old.running) es (source ∷ more) ≡ run_from (world_of new.running) (entry source lines ∷ es) more
+  pub runs : run_from (world_of old.rack) es (source ∷ more) ≡ run_from (world_of new.rack) (entry source lines ∷ es) more
 
 -- a line was served, and the script goes on behind it or ends with it
 abbrev pub Turns : Reading → List Entry → ScriptLine → List ScriptLine → Bool → Reading → Type 0
 Turns old es source more true new = GoesOn old es source more new
-Turns old es source more false new = run_from (world_of old.running) es (source ∷ more) ≡ record { exit = BadLine; text = new.text.items }
+Turns old es source more false new = run_from (world_of old.rack) es (source ∷ more) ≡ record { exit = BadLine; text = new.text.items }
 
 abbrev pub exit_of : Ending → Exit
 exit_of ending.Done = Done
@@ -43,7 +43,7 @@ exit_of ending.TooLong = TooLong
 
 -- these lines of a script led to this end
 pub record RunsTo (old : Reading) (es : List Entry) (lines : List ScriptLine) (ending : Ending) (new : Reading) : Type 0 where
-  pub ended : record { exit = exit_of ending; text = new.text.items } ≡ run_from (world_of old.running) es lines
+  pub ended : record { exit = exit_of ending; text = new.text.items } ≡ run_from (world_of old.rack) es lines
 
 -- a line that may be past the limits was served, and the script goes on behind it or ends with it
 abbrev pub Steps : Reading → List Entry → ScriptLine → List ScriptLine → Option Ending → Reading → Type 0

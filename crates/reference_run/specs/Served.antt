@@ -1,142 +1,156 @@
--- What serving a statement does.
-use Rattle.std.specs.Prelude.{◌≡◌, ◌≤◌, ◌+◌, ◌*◌, ℕ, List, [], ◌∷◌, ◌++◌, false, Option, Some, None, map, option_map}
-use Rattle.script_model.specs.Statements.{Request, Statement}
-use Rattle.script_lang.specs.declared.statement.Request.{Request as Asking}
-use Rattle.script_lang.specs.declared.statement.Request.TheVariants as asking
-use Rattle.unit_laws.specs.Journal.{JournalEntry, end_of, entries_size, owed, units_in}
-use Rattle.run_model.specs.World as world
-use Rattle.run_model.specs.World.{World, Shared}
-use Rattle.run_model.specs.Answers.{rows_at, closing_of, answer_at, last_line}
-use Rattle.run_model.specs.Steps.{TaskEffect, Whole, request_effect, node_after, node_after_rows, shared_then, shared_after_rows, lines_of_rows}
+-- The rack that the code's values stand for, whose disks never failed, and what statements do there.
+use Rattle.std.specs.Prelude.{◌≡◌, ℕ, ◌-◌, ◌*◌, List, [], ◌∷◌, ◌++◌, Bool, true, false, Option, Some, None, if◌then◌else◌, map}
+use Rattle.std.specs.List.{AllByRecursion}
+use Rattle.std.specs.Str.{bytes_eq}
+use Rattle.vms_model.specs.Ids.{Id}
+use Rattle.script_model.specs.Statements as said
+use Rattle.script_model.specs.Statements.{Statement}
 use Rattle.transcript_model.specs.Lines as model
+use Rattle.commit_protocol.specs.Messages.{Message}
+use Rattle.commit_protocol.specs.Table.{Key}
+use Rattle.run_model.specs.Answers as answers
+use Rattle.run_model.specs.Answers.{Service}
+use Rattle.run_model.specs.Steps.{Whole}
+use Rattle.run_model.specs.Statements as statements
+use Rattle.run_model.specs.Statements.{answer_of, part_effect}
+use Rattle.run_model.specs.World as world
+use Rattle.run_model.specs.World.{World, Lost, find_node, with_node}
+use Rattle.vms_base.specs.Ids.{id_of}
+use Rattle.script_lang.specs.declared.statement.Request.{Request}
+use Rattle.script_lang.specs.declared.statement.Request.TheVariants as request
+use Rattle.statement_steps.specs.Doing.{AllKept}
 use Rattle.reference_world.specs.declared.line.Line.{Line}
-use Rattle.reference_run.specs.declared.running.Running.{Running}
-use Rattle.reference_world.specs.Standing.{own_name, branch_of, label_of, locks_of, settlement_of, volume_of, is_unmade, call_of, directory_of, line_of}
-use Rattle.reference_units.specs.Entries.{journal_of}
-use Rattle.reference_run.specs.Whole.{shown_whole}
+use Rattle.reference_world.specs.Standing.{line_of}
+use Rattle.reference_law.specs.Whole.{PlaceSaid, StatementShown, parts_shown, phases_shown, shown_whole}
+use Rattle.reference_node.specs.Nodes.{node_of}
+use Rattle.reference_branches.specs.Branches.{shared_of}
+use Rattle.reference_node.specs.Tasks.{Performs}
+use Rattle.reference_node.specs.Telling.{HasUnits, IsSetEarly, Serves}
+use Rattle.reference_node.specs.declared.tasks.TaskShown.{TaskShown}
+use Rattle.reference_run.specs.declared.rack.Rack.{Rack}
+use Rattle.reference_run.specs.declared.rack.Part.{Part}
+use Rattle.reference_run.specs.declared.rack.Part.TheVariants as part
+use Rattle.reference_run.specs.declared.rack.Place.{Place}
 
--- the request is none of records
-abbrev pub IsPlain : Asking → Type 0
-IsPlain (asking.Records label file operation) = ⊥
-IsPlain (asking.Direct file operation) = ⊥
-IsPlain (asking.Init slots blocks) = Unit {0}
-IsPlain asking.Boot = Unit {0}
-IsPlain (asking.Create file bucket size form) = Unit {0}
-IsPlain (asking.SetFile file setting) = Unit {0}
-IsPlain (asking.StartTrans label) = Unit {0}
-IsPlain (asking.EndTrans label) = Unit {0}
-IsPlain (asking.AbortTrans label) = Unit {0}
-IsPlain (asking.Dump file) = Unit {0}
-IsPlain asking.DumpJournal = Unit {0}
-IsPlain (asking.Fuse writes choice) = Unit {0}
-IsPlain asking.Crash = Unit {0}
+-- disks of these nodes that never failed
+abbrev pub no_counts : List world.Node → List world.DiskCounts
+no_counts ns = map (λ (n : world.Node). record { faults = 0; stops = 0 }) ns
 
--- a request that makes a volume makes no longer a journal than a volume may have
-abbrev pub IsSmall : Asking → Type 0
-IsSmall (asking.Init slots blocks) = blocks ≤ 8192
-IsSmall request = Unit {0}
+-- a world with these nodes and this that they share
+abbrev pub moved : List world.Node → world.Shared → World
+moved ns s = record { nodes = ns; disks = no_counts ns; shared = s }
 
--- the bytes that these entries of a branch want, and what the branch is owed with the first of them
-abbrev pub need_of : List JournalEntry → (owed : ℕ) → ℕ
-need_of [] owed = 0
-need_of (e ∷ es) owed = entries_size (e ∷ es) + owed
+-- their world
+abbrev pub world_of : Rack → World
+world_of r = record { nodes = map node_of r.nodes.items; disks = no_counts (map node_of r.nodes.items); shared = shared_of r.shared }
 
--- what the disk of the node has, and what the node has while it is up
-abbrev pub durable_of : Running → world.Durable
-durable_of r = record {
-  volume = volume_of r.volume;
-  slots = r.slots;
-  journal = r.journal;
-  boot = r.boot;
-  greatest = r.greatest;
-  last = option_map settlement_of r.last;
-  units = journal_of r.units;
-  directory = directory_of r.directory.items;
-}
+abbrev pub place_of : Place → PlaceSaid
+place_of p = record { name = p.name; blocks = p.blocks }
 
-abbrev pub volatile_of : Running → world.Volatile
-volatile_of r = record { drawn = r.drawn; branches = map branch_of r.branches.items; locks = locks_of r.locks.items }
+abbrev pub part_of : Part → statements.Part
+part_of (part.Restarts node) = statements.Does node answers.Restarts
+part_of (part.RunsDown node) = statements.Does node answers.RunsDown
+part_of (part.Asks node serial) = statements.Asks node (id_of serial)
 
--- the node that is kept
-abbrev pub node_of : Running → world.Node
-node_of r = record {
-  name = own_name;
-  blocks = r.blocks;
-  durable = durable_of r;
-  volatile = volatile_of r;
-  unmade = is_unmade r.volume;
-  up = r.up;
-  was_up = r.was_up;
-  clock = 0;
-  settled = map settlement_of r.settled.items;
-  calls = map call_of r.calls.items;
-  under_way = None;
-}
+-- Each node has so many units to spare.
+abbrev pub AllHave : ℕ → List world.Node → Type 0
+AllHave units ns = AllByRecursion (HasUnits units) ns
 
--- what nodes share
-abbrev pub shared_of : Running → Shared
-shared_of r = record { labels = map label_of r.labels.items; in_use = r.in_use }
+-- So each node of a world has, and it is as nodes are in the worlds of runs.
+pub record IsFit (count : ℕ) (w : World) : Type 0 where
+  pub kept : AllKept w.shared w.nodes
+  pub units : AllHave count w.nodes
+  pub disks : w.disks ≡ no_counts w.nodes
 
--- the world of that node alone, whose disk never failed
-abbrev pub world_of : Running → World
-world_of r = record { nodes = node_of r ∷ []; disks = record { faults = 0; stops = 0 } ∷ []; shared = shared_of r }
+-- where a statement sets a clock, it is set early enough for so many units
+abbrev pub AreTimely : ℕ → Statement → Type 0
+AreTimely units (said.At node request) = IsSetEarly units request
+AreTimely units (said.Deliver number) = Unit {0}
+AreTimely units (said.LinkDown a b) = Unit {0}
+AreTimely units said.Settle = Unit {0}
 
--- how the last settlement is told, where there is one
-abbrev pub last_lines_of : Option world.Settlement → List model.Line
-last_lines_of last = elim last [ Some s ↦ last_line s | None ↦ [] ]
+-- what the lines may take that are left behind so many
+abbrev pub units_left : ℕ → ℕ
+units_left number = 1024 * (1000001 - number)
 
--- After so many lines: how often the node was booted and how many ids it drew, at the most; and how late its greatest moment and how far its journal may be, as
--- a restart settles no more units than a journal tells of, and a line adds no more bytes than a journal has.
-pub record AreFew (n : ℕ) (r : Running) : Type 0 where
-  pub boot : r.boot ≤ n
-  pub drawn : r.drawn ≤ n
-  pub greatest : r.greatest ≤ n * 65536
-  pub end : end_of (journal_of r.units) ≤ n * 8388608
+-- whether a request sets a clock
+abbrev pub sets_clock : Request → Bool
+sets_clock (request.Clock now) = true
+sets_clock _ = false
 
--- The bytes of the journal's entries and those that its units are owed are no more than its blocks have, which are no more than a volume may have.
-pub record HasRoom (r : Running) : Type 0 where
-  pub journal : r.journal ≤ 8192
-  pub bytes : entries_size (journal_of r.units).entries + owed (units_in (journal_of r.units).entries) ≤ 512 * r.journal
+-- the phases of a request to a node, which sets its clock or not
+abbrev pub phases_by : Bool → List ℕ → said.Request → List statements.Phase
+phases_by true node request = (λ w. statements.Does node (answers.Serves request) ∷ []) ∷ statements.where_up node answers.Ticks ∷ []
+phases_by false node request = (λ w. statements.Does node (answers.Serves request) ∷ []) ∷ []
 
--- none of these rose by more than with one line
-pub record RoseByOne (old new : Running) : Type 0 where
-  pub boot : new.boot ≤ old.boot + 1
-  pub drawn : new.drawn ≤ old.drawn + 1
-  pub greatest : new.greatest ≤ old.greatest + 65536
-  pub end : end_of (journal_of new.units) ≤ end_of (journal_of old.units) + 8388608
+-- whether a node of this name is there
+abbrev pub node_there : List ℕ → List world.Node → Bool
+node_there name [] = false
+node_there name (n ∷ ns) = if bytes_eq name n.name then true else node_there name ns
 
--- none of these changed but the journal
-pub record SameButUnits (old new : Running) : Type 0 where
-  pub boot : new.boot ≡ old.boot
-  pub drawn : new.drawn ≡ old.drawn
-  pub greatest : new.greatest ≡ old.greatest
-  pub journal : new.journal ≡ old.journal
+-- whether it is up
+abbrev pub node_up : List ℕ → List world.Node → Bool
+node_up name [] = false
+node_up name (n ∷ ns) = if bytes_eq name n.name then n.up else node_up name ns
 
--- none of these changed
-pub record SameCounts (old new : Running) : Type 0 where
-  pub boot : new.boot ≡ old.boot
-  pub drawn : new.drawn ≡ old.drawn
-  pub greatest : new.greatest ≡ old.greatest
-  pub journal : new.journal ≡ old.journal
-  pub units : new.units ≡ old.units
+-- A task was done at the node of this name, where there is one: this one or none.
+abbrev pub IsDoneBy : Option world.Node → List ℕ → Service → world.Shared → List world.Node → Option TaskShown → List world.Node → world.Shared → Type 0
+IsDoneBy (Some n) name e s ns shown ms t = (x : TaskShown) × (m : world.Node) × (shown ≡ Some x) × Performs s n e x m t × (ms ≡ with_node name (λ k. m) ns)
+IsDoneBy None name e s ns shown ms t = (shown ≡ None) × (ms ≡ ns) × (t ≡ s)
 
--- a request that nothing refuses was done: these lines were shown, and the node and what nodes share are those after it
-pub record Does (old : Running) (request : Request) (lines : List Line) (new : Running) : Type 0 where
-  pub shows : map line_of lines ≡ lines_of_rows (rows_at (shared_of old) (node_of old) request) ++ answer_at (node_of old) request ∷ []
-  pub node : node_of new ≡ node_after (closing_of request) (node_after_rows (rows_at (shared_of old) (node_of old) request) (node_of old))
-  pub shared : shared_of new ≡ shared_then (closing_of request) (shared_after_rows (rows_at (shared_of old) (node_of old) request) (shared_of old))
+abbrev pub IsDone : List ℕ → Service → world.Shared → List world.Node → Option TaskShown → List world.Node → world.Shared → Type 0
+IsDone name e s ns shown ms t = IsDoneBy (find_node name ns) name e s ns shown ms t
 
--- what a request shows and makes that is done whole, where no act was under way and the disk was never stopped
-abbrev pub whole_of : Running → Request → TaskEffect
-whole_of r request = request_effect (shared_of r) 0 (node_of r) request (Whole false)
+-- Likewise a request.
+abbrev pub IsServedBy : Option world.Node → List ℕ → Service → world.Shared → List world.Node → Option (List Line) → List world.Node → world.Shared → Type 0
+IsServedBy (Some n) name e s ns shown ms t = (xs : List Line) × (m : world.Node) × (shown ≡ Some xs) × Serves s n e xs m t × (ms ≡ with_node name (λ k. m) ns)
+IsServedBy None name e s ns shown ms t = (shown ≡ None) × (ms ≡ ns) × (t ≡ s)
 
--- the request was served whole: these lines were shown, and the node and what nodes share are those after it
-pub record ServesRequest (old : Running) (request : Request) (lines : List Line) (new : Running) : Type 0 where
-  pub shows : map line_of lines ≡ (whole_of old request).lines ++ (whole_of old request).answer ∷ []
-  pub node : node_of new ≡ (whole_of old request).node
-  pub shared : shared_of new ≡ (whole_of old request).shared
+abbrev pub IsServedAt : List ℕ → Service → world.Shared → List world.Node → Option (List Line) → List world.Node → world.Shared → Type 0
+IsServedAt name e s ns shown ms t = IsServedBy (find_node name ns) name e s ns shown ms t
 
--- the statement was served whole: these lines were shown, and the node stands for the world after it
-pub record Serves (old : Running) (s : Statement) (lines : List Line) (new : Running) : Type 0 where
-  pub shows : map line_of lines ≡ (shown_whole (world_of old) s).lines
-  pub goes : world_of new ≡ (shown_whole (world_of old) s).world
+-- what the node of this name answers the question of a branch, where there is one
+abbrev pub answer_there : List ℕ → Key → List world.Node → Option (Option Message)
+answer_there name k [] = None
+answer_there name k (n ∷ ns) = if bytes_eq name n.name then Some (answer_of n k) else answer_there name k ns
+
+-- questions of these serials at a node, and then others
+abbrev pub questions_then : List ℕ → List Id → List statements.Part → List statements.Part
+questions_then node [] others = others
+questions_then node (serial ∷ serials) others = statements.Asks node serial ∷ questions_then node serials others
+
+-- A part was done whole, where no act was under way: so it showed its lines, so it was answered, and it led to that world.
+pub record IsPart (p : statements.Part) (w : World) (shown : TaskShown) (v : World) : Type 0 where
+  pub lines : map line_of shown.lines.items ≡ (part_effect w p (Whole Lost)).lines
+  pub answer : line_of shown.answer ≡ (part_effect w p (Whole Lost)).answer
+  pub ends : shown.ends ≡ (part_effect w p (Whole Lost)).ends
+  pub world : v ≡ (part_effect w p (Whole Lost)).world
+
+-- An answer at once to a question was heard; or there was none, and nothing was done.
+abbrev pub IsHeard : Option Message → World → TaskShown → World → Type 0
+IsHeard (Some m) w shown v = IsPart (statements.Does m.to (answers.Hears m)) w shown v
+IsHeard None w shown v = (shown.lines.items ≡ []) × (line_of shown.answer ≡ model.Normal) × (shown.ends ≡ false) × (v ≡ w)
+
+-- The same of a part with which its statement ends, its answer last.
+pub record ServesPart (p : statements.Part) (w : World) (shown : List Line) (v : World) : Type 0 where
+  pub lines : map line_of shown ≡ (part_effect w p (Whole Lost)).lines ++ (part_effect w p (Whole Lost)).answer ∷ []
+  pub world : v ≡ (part_effect w p (Whole Lost)).world
+
+-- what was shown, and what is behind it unless the statement ended
+abbrev pub followed : TaskShown → World → (World → model.Line → StatementShown) → StatementShown
+followed x v behind = if x.ends
+    then record { lines = map line_of x.lines.items ++ line_of x.answer ∷ []; world = v }
+    else record { lines = map line_of x.lines.items ++ (behind v (line_of x.answer)).lines; world = (behind v (line_of x.answer)).world }
+
+-- These parts were done one after another, up to the first with which the statement ended.
+abbrev pub Runs : List statements.Part → World → model.Line → TaskShown → World → Type 0
+Runs ps w given x v = (behind : World → model.Line → StatementShown) → parts_shown ps behind w given ≡ followed x v behind
+
+-- These phases were done likewise, each read in the world in which it began.
+abbrev pub RunsPhases : List statements.Phase → World → model.Line → TaskShown → World → Type 0
+RunsPhases ps w given x v = phases_shown ps w given ≡ followed x v (phases_shown [])
+
+-- A statement was served whole: these lines were shown, and it led to that world.
+pub record IsShown (s : Statement) (w : World) (shown : List Line) (v : World) : Type 0 where
+  pub lines : map line_of shown ≡ (shown_whole w s).lines
+  pub world : v ≡ (shown_whole w s).world

@@ -1,20 +1,13 @@
-//! A plain, slow program that computes what a script shows where no disk fails, and its definition.
+//! A plain, slow program that computes what a script shows where no disk fails.
 #![tactic(auto)]
 
-mod acts;
-mod law;
-mod refusals;
-mod rows;
-mod running;
+mod rack;
 mod script;
 
-pub use law::reference_transcripts_are_runs;
-pub use rows::{
-    aborted_record_is_gone, boot_behind_crash_tells_last, committed_record_is_shown,
-    empty_script_shows_nothing, file_is_full, indexed_file_is_restored, open_quote_is_bad,
-    sequential_file_is_truncated, unsettled_record_stands, zeros_are_no_volume,
-};
-pub use script::{Ending, Shown, reference_transcript};
+pub use rack::Place;
+pub use script::{Ending, Shown, reference_transcript, reference_transcript_of};
 
+#[cfg(test)]
+mod rack_tests;
 #[cfg(test)]
 mod tests;

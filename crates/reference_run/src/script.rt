@@ -1,18 +1,19 @@
 // A whole script, line after line.
-ghost use Rattle.std.specs.Prelude.{true, None, ◌≡◌, ◌+◌, ◌<◌, ◌≤◌, ℕ, List, [], ◌∷◌, length, take, drop, if◌then◌else◌, IfOk};
+ghost use Rattle.std.specs.Prelude.{true, None, ◌≡◌, ◌+◌, ◌*◌, ◌<◌, ◌≤◌, ℕ, List, [], ◌∷◌, length, take, drop, map, codes, if◌then◌else◌, OnOk, IfOk};
 ghost use Rattle.transcript_model.specs.Script.{ScriptLine, lines_of};
 ghost use Rattle.run_model.specs.Transcript.{Entry};
 ghost use Rattle.script_lang.specs.declared.literals.Literals.{Literals as LiteralsSaid};
-ghost use Rattle.reference_run.specs.Whole.{is_in_limits, opening, run_of};
-ghost use Rattle.reference_run.specs.Served.{world_of, AreFew, HasRoom};
+ghost use Rattle.reference_law.specs.Whole.{is_in_limits, opening, run_of};
+ghost use Rattle.reference_run.specs.Served.{IsFit, place_of, units_left, world_of};
 ghost use Rattle.reference_run.specs.Scripts.{Feeds, Stands, Turns, Steps, RunsTo, exit_of};
 
-use crate::running::Running;
+use crate::rack::{Place, Rack};
 use reference_text::put_lines;
 use reference_world::{Line, one};
 use script_lang::{Literals, read_statement};
 use std::alloc::{AllocError, Global};
 use std::mem::replace;
+use vms_base::NodeName;
 
 /// How a script ended.
 #[derive(Clone, Copy, Debug, PartialEq, Eq, Drop)]
@@ -34,7 +35,7 @@ pub struct Shown {
 pub struct Reading {
     pub number: u64,
     pub size: usize,
-    pub running: Running,
+    pub rack: Rack,
     pub literals: Literals,
     pub text: Vec<u8>,
 }
@@ -59,16 +60,16 @@ fn feed_at(bytes: &[u8]) -> Option<usize>
 
 impl Reading {
     /// Before the first line.
-    fn new(alloc: Global, blocks: u32) -> Result<Reading, AllocError>
+    fn new(alloc: Global, places: &[Place]) -> Result<Reading, AllocError>
+        requires { length places.now ≤ 8 }
         ensures stands { IfOk result (λ r. Stands r []) }
-        ensures opening { IfOk result (λ r. world_of r.running ≡ opening blocks) }
-        ensures few { IfOk result (λ r. AreFew r.number r.running) }
-        ensures room { IfOk result (λ r. HasRoom r.running) }
+        ensures opening { IfOk result (λ r. world_of r.rack ≡ opening (map place_of places.now)) }
+        ensures fit { IfOk result (λ r. IsFit (1024 * 1000000) (world_of r.rack)) }
     {
         Ok(Reading {
             number: 1,
             size: 0,
-            running: Running::new(alloc, blocks),
+            rack: Rack::new(alloc, places)?,
             literals: Literals::reserve(alloc)?,
             text: Vec::new(alloc),
         })
@@ -96,7 +97,7 @@ impl Reading {
         ensures number { self.new.number ≡ self.old.number + 1 }
         ensures size { self.new.size ≡ self.old.size + (length line.now + (if ended then 1 else 0)) }
         ensures text { self.new.text ≡ self.old.text }
-        ensures running { self.new.running ≡ self.old.running }
+        ensures rack { self.new.rack ≡ self.old.rack }
     {
         self.number += 1;
         self.size += line.len() + usize::from(ended);
@@ -107,12 +108,12 @@ impl Reading {
         requires line { length line.now ≤ 20000 }
         requires number { self.old.number ≤ 1000000 }
         requires size { self.old.size ≤ 67108864 }
-        requires few { AreFew self.old.number self.old.running }
-        requires room { HasRoom self.old.running }
+        requires fit { IsFit (units_left self.old.number) (world_of self.old.rack) }
+        requires few { length (world_of self.old.rack).nodes ≤ 8 }
         ensures turns { (es : List Entry) (more : List ScriptLine) → Stands self.old es → is_in_limits es (record { text = line.now; ended = ended }) ≡ true →
             IfOk result (λ on. Turns self.old es (record { text = line.now; ended = ended }) more on self.new) }
-        ensures few { IfOk result (λ on. on ≡ true → AreFew self.new.number self.new.running) }
-        ensures room { IfOk result (λ on. on ≡ true → HasRoom self.new.running) }
+        ensures fit { IfOk result (λ on. on ≡ true → IsFit (units_left self.new.number) (world_of self.new.rack)) }
+        ensures few { OnOk result (length (world_of self.new.rack).nodes ≤ 8) }
     {
         match read_statement(line, &mut self.literals) {
             Ok(None) => {
@@ -120,7 +121,7 @@ impl Reading {
                 Ok(true)
             }
             Ok(Some(statement)) => {
-                let lines = self.running.serve(alloc, &statement, &self.literals)?;
+                let lines = self.rack.serve(alloc, &statement, &self.literals)?;
                 put_lines(&mut self.text, self.number, lines.as_slice())?;
                 self.pass(line, ended);
                 Ok(true)
@@ -140,11 +141,11 @@ impl Reading {
         line: &[u8],
         ended: bool,
     ) -> Result<Option<Ending>, AllocError>
-        requires few { AreFew self.old.number self.old.running }
-        requires room { HasRoom self.old.running }
+        requires fit { IsFit (units_left self.old.number) (world_of self.old.rack) }
+        requires few { length (world_of self.old.rack).nodes ≤ 8 }
         ensures steps { (es : List Entry) (more : List ScriptLine) → Stands self.old es → IfOk result (λ ending. Steps self.old es (record { text = line.now; ended = ended }) more ending self.new) }
-        ensures few { IfOk result (λ ending. ending ≡ None → AreFew self.new.number self.new.running) }
-        ensures room { IfOk result (λ ending. ending ≡ None → HasRoom self.new.running) }
+        ensures fit { IfOk result (λ ending. ending ≡ None → IsFit (units_left self.new.number) (world_of self.new.rack)) }
+        ensures few { OnOk result (length (world_of self.new.rack).nodes ≤ 8) }
     {
         if self.is_in_limits(line, ended) {
             if self.turn(alloc, line, ended)? {
@@ -162,8 +163,8 @@ impl Reading {
 
 // Serves the lines that are left, and tells how the script ended.
 fn run_on(alloc: Global, reading: &mut Reading, rest: &[u8]) -> Result<Ending, AllocError>
-    requires few { AreFew reading.old.number reading.old.running }
-    requires room { HasRoom reading.old.running }
+    requires fit { IsFit (units_left reading.old.number) (world_of reading.old.rack) }
+    requires few { length (world_of reading.old.rack).nodes ≤ 8 }
     ensures { (es : List Entry) → Stands reading.old es → IfOk result (λ ending. RunsTo reading.old es (lines_of rest.now) ending reading.new) }
 {
     if rest.is_empty() {
@@ -183,18 +184,34 @@ fn run_on(alloc: Global, reading: &mut Reading, rest: &[u8]) -> Result<Ending, A
     }
 }
 
-/// What a script shows where no disk fails, from its first line on, and how it ends. There is the node A, whose disk has so many blocks, all of zeros.
+/// What a script shows where no disk fails, from its first line on, and how it ends. The nodes of these places, of which a rack has at most eight, are down, and
+/// their disks are all of zeros.
 ///
 /// An error comes only where there is no memory: the limits of a script keep each number within its type, and each moment within the year 9999.
-pub fn reference_transcript(alloc: Global, blocks: u32, script: &[u8]) -> Result<Shown, AllocError>
-    ensures { IfOk result (λ shown. record { exit = exit_of shown.ending; text = shown.text.items } ≡ run_of blocks script.now) }
+pub fn reference_transcript_of(
+    alloc: Global,
+    places: &[Place],
+    script: &[u8],
+) -> Result<Shown, AllocError>
+    requires { length places.now ≤ 8 }
+    ensures { IfOk result (λ shown. record { exit = exit_of shown.ending; text = shown.text.items } ≡ run_of (map place_of places.now) script.now) }
 {
-    let mut reading = Reading::new(alloc, blocks)?;
+    let mut reading = Reading::new(alloc, places)?;
     match run_on(alloc, &mut reading, script) {
         Ok(ending) => Ok(Shown {
             ending,
             text: replace(&mut reading.text, Vec::new(alloc)),
         }),
         Err(e) => Err(e),
+    }
+}
+
+/// The same of the node A alone, whose disk has so many blocks.
+pub fn reference_transcript(alloc: Global, blocks: u32, script: &[u8]) -> Result<Shown, AllocError>
+    ensures { IfOk result (λ shown. record { exit = exit_of shown.ending; text = shown.text.items } ≡ run_of (record { name = codes "A"; blocks = blocks } ∷ []) script.now) }
+{
+    match NodeName::new(b"A") {
+        Some(name) => reference_transcript_of(alloc, &[Place { name, blocks }], script),
+        None => unreachable!(),
     }
 }

@@ -247,3 +247,28 @@ fn a_third_long_record_takes_a_bucket(rt: HostRuntime) -> Result<(), Fail> {
     assert_eq!(rt; got.text.as_slice(), wanted.as_slice());
     Ok(())
 }
+
+// The bytes of a record of so many capital letters A, behind other words.
+fn put_capitals(script: &mut Vec<u8>, begin: &[u8], count: usize) -> Result<(), Fail> {
+    script.extend_from_slice(begin)?;
+    script.extend_from_slice(b" \"")?;
+    for _ in 0..count {
+        script.push(b'A')?;
+    }
+    script.extend_from_slice(b"\"\n")?;
+    Ok(())
+}
+
+#[test]
+fn longest_record_fills_a_bucket(rt: HostRuntime) -> Result<(), Fail> {
+    let mut script = b"A: CREATE G REL 16 8160 4\n".to_vec(rt.alloc())?;
+    put_capitals(&mut script, b"A: PUT - G 4", 8_160)?;
+    put_capitals(&mut script, b"A: PUT - G 4", 8_161)?;
+    script.extend_from_slice(b"A: START_TRANS T\nA: GET T G 4\nA: PUT - F 1 \"a\"\n")?;
+    shows(
+        rt.alloc(),
+        &rt,
+        script.as_slice(),
+        b"5 SS$_NORMAL\n6 COMMIT A.1.1 A.1.1 \"17-NOV-1858 00:00:00.01\"\n6 RMS$_NORMAL\n7 RMS$_RSZ\n8 SS$_NORMAL A.1.2\n9 NOTRU\n10 RMS$_NRU\n",
+    )
+}

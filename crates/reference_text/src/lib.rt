@@ -1,21 +1,23 @@
 //! The text of the lines that a plain, slow program shows.
 #![tactic(auto)]
 
-ghost use Rattle.std.specs.Prelude.{◌≡◌, ◌<◌, ℕ, ◌++◌, List, [], ◌∷◌, map, flat_map, decimal, OnOk};
+ghost use Rattle.std.specs.Prelude.{◌≡◌, ◌<◌, ℕ, ◌++◌, List, [], ◌∷◌, map, option_map, flat_map, decimal, OnOk};
 ghost use Rattle.std.specs.List.{list_all};
-ghost use Rattle.vms_model.specs.Ids.{Id};
 ghost use Rattle.vms_model.specs.Texts.{id_text, is_plain as is_plain_byte, hex_digit as hex_digit_of, hex_byte, bytes_text};
 ghost use Rattle.vms_model.specs.Keys.{key_text};
 ghost use Rattle.vms_model.specs.Transactions.{reason_text};
 ghost use Rattle.vms_base.specs.Outcomes.{outcome_of, reason_of};
 ghost use Rattle.transcript_model.specs.Lines as model;
-ghost use Rattle.transcript_model.specs.Lines.{quoted_time, quota_text, image_text, outcome_text, line_words, line_text, lines_text};
-ghost use Rattle.reference_world.specs.Standing.{own_name, id_of, key_of, value_of, line_of, quota_of};
+ghost use Rattle.net_wire.specs.Messages.{kind_of, message_of};
+ghost use Rattle.transcript_model.specs.Lines.{branch_text, message_text, kind_text, bid_text, ids_text, quoted_time, quota_text, image_text, outcome_text, line_words, line_text, lines_text};
+ghost use Rattle.vms_base.specs.Ids.{id_of};
+ghost use Rattle.reference_world.specs.Standing.{key_of, value_of, line_of, quota_of};
 
 use itoa::Buffer;
-use reference_world::{Key, Line, OwnId, Quota, WrittenMoment};
+use net_wire::Message;
+use reference_world::{BranchKey, Key, Line, Quota, WrittenMoment};
 use std::alloc::AllocError;
-use vms_base::{FileName, Moment, Outcome, Reason, write_time};
+use vms_base::{FileName, Id, Kind, Moment, NodeName, Outcome, Reason, write_time};
 
 fn put(out: &mut Vec<u8>, bytes: &[u8]) -> Result<(), AllocError>
     ensures { OnOk result (out.new.items ≡ out.old.items ++ bytes.now) }
@@ -31,10 +33,11 @@ fn put_number(out: &mut Vec<u8>, n: u64) -> Result<(), AllocError>
     put(out, buffer.format(n).as_bytes())
 }
 
-fn put_id(out: &mut Vec<u8>, id: OwnId) -> Result<(), AllocError>
+fn put_id(out: &mut Vec<u8>, id: Id) -> Result<(), AllocError>
     ensures { OnOk result (out.new.items ≡ out.old.items ++ id_text (id_of id)) }
 {
-    put(out, b"A.")?;
+    put(out, id.node.bytes())?;
+    put(out, b".")?;
     put_number(out, u64::from(id.boot))?;
     put(out, b".")?;
     put_number(out, u64::from(id.seq))
@@ -94,23 +97,23 @@ fn put_time(out: &mut Vec<u8>, moment: WrittenMoment) -> Result<(), AllocError>
 }
 
 // Words, and a transaction with its branch behind them.
-fn put_branch(out: &mut Vec<u8>, words: &[u8], id: OwnId) -> Result<(), AllocError>
-    ensures { OnOk result (out.new.items ≡ out.old.items ++ (words.now ++ (id_text (id_of id) ++ (32 ∷ id_text (id_of id))))) }
+fn put_branch(out: &mut Vec<u8>, words: &[u8], id: BranchKey) -> Result<(), AllocError>
+    ensures { OnOk result (out.new.items ≡ out.old.items ++ (words.now ++ (id_text (id_of id.tid) ++ (32 ∷ id_text (id_of id.serial))))) }
 {
     put(out, words)?;
-    put_id(out, id)?;
+    put_id(out, id.tid)?;
     put(out, b" ")?;
-    put_id(out, id)
+    put_id(out, id.serial)
 }
 
 // A settlement: these words, the transaction and its branch, and the moment.
 fn put_settled(
     out: &mut Vec<u8>,
     words: &[u8],
-    id: OwnId,
+    id: BranchKey,
     moment: WrittenMoment,
 ) -> Result<(), AllocError>
-    ensures { OnOk result (out.new.items ≡ out.old.items ++ (words.now ++ (id_text (id_of id) ++ (32 ∷ (id_text (id_of id) ++ (32 ∷ quoted_time moment.hundredths)))))) }
+    ensures { OnOk result (out.new.items ≡ out.old.items ++ (words.now ++ (id_text (id_of id.tid) ++ (32 ∷ (id_text (id_of id.serial) ++ (32 ∷ quoted_time moment.hundredths)))))) }
 {
     put_branch(out, words, id)?;
     put(out, b" ")?;
@@ -121,11 +124,11 @@ fn put_settled(
 fn put_settled_so(
     out: &mut Vec<u8>,
     words: &[u8],
-    id: OwnId,
+    id: BranchKey,
     how: &[u8],
     moment: WrittenMoment,
 ) -> Result<(), AllocError>
-    ensures { OnOk result (out.new.items ≡ out.old.items ++ (words.now ++ (id_text (id_of id) ++ (32 ∷ (id_text (id_of id) ++ (32 ∷ (how.now ++ (32 ∷ quoted_time moment.hundredths)))))))) }
+    ensures { OnOk result (out.new.items ≡ out.old.items ++ (words.now ++ (id_text (id_of id.tid) ++ (32 ∷ (id_text (id_of id.serial) ++ (32 ∷ (how.now ++ (32 ∷ quoted_time moment.hundredths)))))))) }
 {
     put_branch(out, words, id)?;
     put(out, b" ")?;
@@ -137,11 +140,11 @@ fn put_settled_so(
 fn put_aborted(
     out: &mut Vec<u8>,
     words: &[u8],
-    id: OwnId,
+    id: BranchKey,
     reason: Reason,
     moment: WrittenMoment,
 ) -> Result<(), AllocError>
-    ensures { OnOk result (out.new.items ≡ out.old.items ++ (words.now ++ (id_text (id_of id) ++ (32 ∷ (id_text (id_of id) ++ (32 ∷ (reason_text (reason_of reason) ++ (32 ∷ quoted_time moment.hundredths)))))))) }
+    ensures { OnOk result (out.new.items ≡ out.old.items ++ (words.now ++ (id_text (id_of id.tid) ++ (32 ∷ (id_text (id_of id.serial) ++ (32 ∷ (reason_text (reason_of reason) ++ (32 ∷ quoted_time moment.hundredths)))))))) }
 {
     put_settled_so(out, words, id, reason.text(), moment)
 }
@@ -200,7 +203,7 @@ fn put_with_numbers(
     put_number(out, second)
 }
 
-fn put_with_id(out: &mut Vec<u8>, words: &[u8], id: OwnId) -> Result<(), AllocError>
+fn put_with_id(out: &mut Vec<u8>, words: &[u8], id: Id) -> Result<(), AllocError>
     ensures { OnOk result (out.new.items ≡ out.old.items ++ (words.now ++ id_text (id_of id))) }
 {
     put(out, words)?;
@@ -218,6 +221,8 @@ fn quota_words(quota: Quota) -> &'static [u8]
         Quota::Moments => b"MOMENTS",
         Quota::Locks => b"LOCKS",
         Quota::Positions => b"POSITIONS",
+        Quota::Slots => b"SLOTS",
+        Quota::Bids => b"BIDS",
     }
 }
 
@@ -268,12 +273,12 @@ fn put_change(
     words: &[u8],
     position: u64,
     kind: &[u8],
-    id: OwnId,
+    id: BranchKey,
     file: &FileName,
     key: &Key,
     image: &Option<Vec<u8>>,
 ) -> Result<(), AllocError>
-    ensures { OnOk result (out.new.items ≡ out.old.items ++ (words.now ++ (decimal position ++ (kind.now ++ (id_text (id_of id) ++ (32 ∷ (id_text (id_of id) ++ (32 ∷ (file.now ++ (32 ∷ (key_text (key_of key.now) ++ (32 ∷ image_text (value_of image.now))))))))))))) }
+    ensures { OnOk result (out.new.items ≡ out.old.items ++ (words.now ++ (decimal position ++ (kind.now ++ (id_text (id_of id.tid) ++ (32 ∷ (id_text (id_of id.serial) ++ (32 ∷ (file.now ++ (32 ∷ (key_text (key_of key.now) ++ (32 ∷ image_text (value_of image.now))))))))))))) }
 {
     put_with_number(out, words, position)?;
     put_branch(out, kind, id)?;
@@ -283,12 +288,12 @@ fn put_change(
 fn put_change_entry(
     out: &mut Vec<u8>,
     position: u64,
-    id: OwnId,
+    id: BranchKey,
     file: &FileName,
     key: &Key,
     image: &Option<Vec<u8>>,
 ) -> Result<(), AllocError>
-    ensures { OnOk result (out.new.items ≡ out.old.items ++ line_words (model.ChangeEntry position (id_of id) (id_of id) file.now (key_of key.now) (value_of image.now))) }
+    ensures { OnOk result (out.new.items ≡ out.old.items ++ line_words (model.ChangeEntry position (id_of id.tid) (id_of id.serial) file.now (key_of key.now) (value_of image.now))) }
 {
     put_change(out, b"ENTRY ", position, b" CHANGE ", id, file, key, image)
 }
@@ -308,11 +313,11 @@ fn put_settled_at(
     words: &[u8],
     position: u64,
     kind: &[u8],
-    id: OwnId,
+    id: BranchKey,
     how: &[u8],
     moment: WrittenMoment,
 ) -> Result<(), AllocError>
-    ensures { OnOk result (out.new.items ≡ out.old.items ++ (words.now ++ (decimal position ++ (kind.now ++ (id_text (id_of id) ++ (32 ∷ (id_text (id_of id) ++ (32 ∷ (how.now ++ (32 ∷ quoted_time moment.hundredths)))))))))) }
+    ensures { OnOk result (out.new.items ≡ out.old.items ++ (words.now ++ (decimal position ++ (kind.now ++ (id_text (id_of id.tid) ++ (32 ∷ (id_text (id_of id.serial) ++ (32 ∷ (how.now ++ (32 ∷ quoted_time moment.hundredths)))))))))) }
 {
     put_with_number(out, words, position)?;
     put_settled_so(out, kind, id, how, moment)
@@ -321,11 +326,11 @@ fn put_settled_at(
 fn put_settled_entry(
     out: &mut Vec<u8>,
     position: u64,
-    id: OwnId,
+    id: BranchKey,
     outcome: Outcome,
     moment: WrittenMoment,
 ) -> Result<(), AllocError>
-    ensures { OnOk result (out.new.items ≡ out.old.items ++ line_words (model.SettledEntry position (id_of id) (id_of id) (outcome_of outcome) moment.hundredths)) }
+    ensures { OnOk result (out.new.items ≡ out.old.items ++ line_words (model.SettledEntry position (id_of id.tid) (id_of id.serial) (outcome_of outcome) moment.hundredths)) }
 {
     put_settled_at(
         out,
@@ -347,16 +352,174 @@ fn put_journal_full(out: &mut Vec<u8>, free: u64, need: u128) -> Result<(), Allo
     put(out, buffer.format(need).as_bytes())
 }
 
-fn put_no_volume(out: &mut Vec<u8>, condition: u32, block: u64) -> Result<(), AllocError>
-    ensures { OnOk result (out.new.items ≡ out.old.items ++ line_words (model.NoVolume own_name condition block)) }
+fn put_no_volume(
+    out: &mut Vec<u8>,
+    node: NodeName,
+    condition: u32,
+    block: u64,
+) -> Result<(), AllocError>
+    ensures { OnOk result (out.new.items ≡ out.old.items ++ line_words (model.NoVolume node condition block)) }
 {
-    put_with_numbers(out, b"VOLUME A ", u64::from(condition), block)
+    put(out, b"VOLUME ")?;
+    put(out, node.bytes())?;
+    put_with_numbers(out, b" ", u64::from(condition), block)
+}
+
+fn kind_words(kind: Kind) -> &'static [u8]
+    ensures { result.now ≡ kind_text (kind_of kind) }
+{
+    match kind {
+        Kind::Join => b"JOIN",
+        Kind::JoinOk => b"JOINOK",
+        Kind::JoinNo => b"JOINNO",
+        Kind::Prepare => b"PREPARE",
+        Kind::Yes => b"YES",
+        Kind::ReadOnly => b"READONLY",
+        Kind::No => b"NO",
+        Kind::Commit => b"COMMIT",
+        Kind::Abort => b"ABORT",
+        Kind::Ack => b"ACK",
+        Kind::Inquire => b"INQUIRE",
+    }
+}
+
+// A message behind other words: its sender, its receiver, its kind, its branch, and the branch's identifier where it has one.
+fn put_message(out: &mut Vec<u8>, m: &Message) -> Result<(), AllocError>
+    ensures { OnOk result (out.new.items ≡ out.old.items ++ message_text (message_of m.now)) }
+{
+    put(out, m.from.bytes())?;
+    put(out, b" ")?;
+    put(out, m.to.bytes())?;
+    put(out, b" ")?;
+    put(out, kind_words(m.kind))?;
+    let branch = BranchKey {
+        tid: m.tid.0,
+        serial: m.serial.0,
+    };
+    put_branch(out, b" ", branch)?;
+    match m.bid {
+        Some(bid) => put_with_id(out, b" ", bid.0),
+        None => Ok(()),
+    }
+}
+
+fn put_sent(out: &mut Vec<u8>, number: u64, m: &Message) -> Result<(), AllocError>
+    ensures { OnOk result (out.new.items ≡ out.old.items ++ line_words (model.Sent number (message_of m.now))) }
+{
+    put_with_number(out, b"SENT ", number)?;
+    put(out, b" ")?;
+    put_message(out, m)
+}
+
+fn put_unsent(out: &mut Vec<u8>, m: &Message) -> Result<(), AllocError>
+    ensures { OnOk result (out.new.items ≡ out.old.items ++ line_words (model.Unsent (message_of m.now))) }
+{
+    put(out, b"UNSENT ")?;
+    put_message(out, m)
+}
+
+fn put_ended(out: &mut Vec<u8>, tid: Id, reason: Option<Reason>) -> Result<(), AllocError>
+    ensures { OnOk result (out.new.items ≡ out.old.items ++ line_words (model.Ended (id_of tid) (option_map reason_of reason))) }
+{
+    put_with_id(out, b"ENDED ", tid)?;
+    match reason {
+        None => put(out, b" SS$_NORMAL"),
+        Some(reason) => {
+            put(out, b" SS$_ABORT ")?;
+            put(out, reason.text())
+        }
+    }
+}
+
+fn put_ending(out: &mut Vec<u8>, reason: Reason) -> Result<(), AllocError>
+    ensures { OnOk result (out.new.items ≡ out.old.items ++ line_words (model.TransactionAborted (reason_of reason))) }
+{
+    put(out, b"SS$_ABORT ")?;
+    put(out, reason.text())
+}
+
+fn put_asked(out: &mut Vec<u8>, branch: BranchKey, outcome: Outcome) -> Result<(), AllocError>
+    ensures { OnOk result (out.new.items ≡ out.old.items ++ line_words (model.Asked (id_of branch.tid) (id_of branch.serial) (outcome_of outcome))) }
+{
+    put_branch(out, b"ASKED ", branch)?;
+    put(out, b" ")?;
+    put(out, outcome_words(outcome))
+}
+
+fn put_with_name(out: &mut Vec<u8>, words: &[u8], node: NodeName) -> Result<(), AllocError>
+    ensures { OnOk result (out.new.items ≡ out.old.items ++ (words.now ++ node)) }
+{
+    put(out, words)?;
+    put(out, node.bytes())
+}
+
+fn put_booted(out: &mut Vec<u8>, node: NodeName, boot: u32) -> Result<(), AllocError>
+    ensures { OnOk result (out.new.items ≡ out.old.items ++ line_words (model.Booted node boot)) }
+{
+    put_with_name(out, b"BOOTED ", node)?;
+    put_with_number(out, b" ", u64::from(boot))
+}
+
+fn put_crashed(out: &mut Vec<u8>, node: NodeName) -> Result<(), AllocError>
+    ensures { OnOk result (out.new.items ≡ out.old.items ++ line_words (model.Crashed node)) }
+{
+    put_with_name(out, b"DOWN ", node)?;
+    put(out, b" CRASH")
+}
+
+fn put_in_doubt(out: &mut Vec<u8>, serial: Id, node: NodeName) -> Result<(), AllocError>
+    ensures { OnOk result (out.new.items ≡ out.old.items ++ line_words (model.InDoubt (id_of serial) node)) }
+{
+    put_with_id(out, b"INDOUBT ", serial)?;
+    put_with_name(out, b" ", node)
+}
+
+// Ids, with commas between them.
+fn put_ids_behind(out: &mut Vec<u8>, ids: &[Id]) -> Result<(), AllocError>
+    ensures { OnOk result (out.new.items ≡ out.old.items ++ flat_map (λ j. 44 ∷ id_text j) (map id_of ids.now)) }
+{
+    match ids {
+        [] => Ok(()),
+        [id, rest @ ..] => {
+            put_with_id(out, b",", *id)?;
+            put_ids_behind(out, rest)
+        }
+    }
+}
+
+fn put_pending(out: &mut Vec<u8>, ids: &[Id]) -> Result<(), AllocError>
+    ensures { OnOk result (out.new.items ≡ out.old.items ++ line_words (model.Pending (map id_of ids.now))) }
+{
+    match ids {
+        [] => put(out, b"PENDING -"),
+        [id, rest @ ..] => {
+            put_with_id(out, b"PENDING ", *id)?;
+            put_ids_behind(out, rest)
+        }
+    }
+}
+
+fn put_prepared_entry(out: &mut Vec<u8>, position: u64, id: BranchKey) -> Result<(), AllocError>
+    ensures { OnOk result (out.new.items ≡ out.old.items ++ line_words (model.PreparedEntry position (id_of id.tid) (id_of id.serial))) }
+{
+    put_with_number(out, b"ENTRY ", position)?;
+    put_branch(out, b" PREPARED ", id)
 }
 
 fn put_words(out: &mut Vec<u8>, line: &Line) -> Result<(), AllocError>
     ensures { OnOk result (out.new.items ≡ out.old.items ++ line_words (line_of line.now)) }
 {
     match line {
+        Line::Sent(number, m) => put_sent(out, *number, m),
+        Line::Unsent(m) => put_unsent(out, m),
+        Line::Joined(id) => put_branch(out, b"JOINED ", *id),
+        Line::Started(id) => put_branch(out, b"STARTED ", *id),
+        Line::Prepared(id) => put_branch(out, b"PREPARED ", *id),
+        Line::ReadOnly(id) => put_branch(out, b"READONLY ", *id),
+        Line::Ended(tid, reason) => put_ended(out, *tid, *reason),
+        Line::Forgot(id) => put_branch(out, b"FORGOT ", *id),
+        Line::Asked(id, outcome) => put_asked(out, *id, *outcome),
+        Line::Booted(node, boot) => put_booted(out, *node, *boot),
         Line::Record(key, bytes) => put_record(out, b"RECORD ", key, bytes.as_slice()),
         Line::Committed(id, moment) => put_settled(out, b"COMMIT ", *id, *moment),
         Line::Aborted(id, reason, moment) => put_aborted(out, b"ABORT ", *id, *reason, *moment),
@@ -370,7 +533,15 @@ fn put_words(out: &mut Vec<u8>, line: &Line) -> Result<(), AllocError>
         Line::SettledEntry(position, id, outcome, moment) => {
             put_settled_entry(out, *position, *id, *outcome, *moment)
         }
-        Line::Crashed => put(out, b"DOWN A CRASH"),
+        Line::PreparedEntry(position, id) => put_prepared_entry(out, *position, *id),
+        Line::Crashed(node) => put_crashed(out, *node),
+        Line::Pending(serials) => put_pending(out, serials.as_slice()),
+        Line::TransactionAborted(reason) => put_ending(out, *reason),
+        Line::NotInitializedAt(node) => put_with_name(out, b"NOINIT ", *node),
+        Line::NoSuchMessage => put(out, b"NOSUCHMSG"),
+        Line::NoSuchBranchId => put(out, b"SS$_NOSUCHBID"),
+        Line::WrongState => put(out, b"SS$_WRONGSTATE"),
+        Line::InDoubt(serial, node) => put_in_doubt(out, *serial, *node),
         Line::Normal => put(out, b"SS$_NORMAL"),
         Line::NormalCount(n) => put_with_number(out, b"SS$_NORMAL ", *n),
         Line::NormalId(id) => put_with_id(out, b"SS$_NORMAL ", *id),
@@ -396,7 +567,7 @@ fn put_words(out: &mut Vec<u8>, line: &Line) -> Result<(), AllocError>
         Line::NeedsUnit => put(out, b"RMS$_NRU"),
         Line::RecordLocked(id) => put_with_id(out, b"RMS$_RLK ", *id),
         Line::FileLocked(id) => put_with_id(out, b"RMS$_FLK ", *id),
-        Line::NoVolume(condition, block) => put_no_volume(out, *condition, *block),
+        Line::NoVolume(node, condition, block) => put_no_volume(out, *node, *condition, *block),
         Line::RecordExists => put(out, b"RMS$_REX"),
         Line::KeyExists => put(out, b"RMS$_DUP"),
         Line::RecordNotFound => put(out, b"RMS$_RNF"),

@@ -6,9 +6,9 @@ use Rattle.unit_laws.specs.Journal.{Journal, RecoveryUnit, SettledEntry, end_of,
 use Rattle.unit_laws.proofs.TrimLemmas.{size_append}
 use Rattle.reference_units.specs.Entries.{entered}
 
-pub entered_end : (serial : Id) (outcome : Outcome) (moment : ℕ) (j : Journal) → end_of (entered serial outcome moment j) ≤ end_of j + 48
-entered_end serial outcome moment j = go (find_unit serial (units_in j.entries))
+pub entered_end : (tid serial : Id) (outcome : Outcome) (moment : ℕ) (j : Journal) → end_of (entered tid serial outcome moment j) ≤ end_of j + 48
+entered_end tid serial outcome moment j = go (find_unit serial (units_in j.entries))
   where
-    go : (u : Option RecoveryUnit) → end_of (elim u as (λ _. Journal) [ Some v ↦ with_entries (SettledEntry serial serial outcome moment ∷ []) j | None ↦ j ]) ≤ end_of j + 48
+    go : (u : Option RecoveryUnit) → end_of (elim u as (λ _. Journal) [ Some v ↦ with_entries (SettledEntry tid serial outcome moment ∷ []) j | None ↦ j ]) ≤ end_of j + 48
     go None = omega arith
-    go (Some v) = let size = size_append j.entries (SettledEntry serial serial outcome moment ∷ []) in omega (arith, size)
+    go (Some v) = let size = size_append j.entries (SettledEntry tid serial outcome moment ∷ []) in omega (arith, size)

@@ -8,9 +8,10 @@ mod sizes;
 mod units;
 
 pub use journal::{
-    Journal, JournalEntry, empty_journal, entries_for, with_changes, with_settled, without_settled,
+    Journal, JournalEntry, empty_journal, entries_for, with_changes, with_prepared, with_settled,
+    without_settled,
 };
 pub use locks::{holder, new_locks, released, with_locks};
 pub use shown::journal_shown;
 pub use sizes::{end_of, entries_size, free_bytes, owed_first};
-pub use units::{Unit, changes_made, find_unit, units_in};
+pub use units::{Unit, active_units, changes_made, find_unit, units_in};

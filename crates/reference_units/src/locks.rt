@@ -1,16 +1,17 @@
 // The keys that unsettled branches hold.
 ghost use Rattle.std.specs.Prelude.{◌≡◌, ◌≤◌, List, map, length, option_map, IfOk};
 ghost use Rattle.run_model.specs.Locks as locks;
-ghost use Rattle.reference_world.specs.Standing.{id_of, key_of, lent_key, lock_of as lock_said, locks_of};
+ghost use Rattle.vms_base.specs.Ids.{id_of};
+ghost use Rattle.reference_world.specs.Standing.{key_of, lent_key, lock_of as lock_said, locks_of};
 
 use reference_world::{
-    Key, KeyRef, Lock, OwnId, append, is_lock_of, is_locked, push_front, same_id, take_first,
+    Key, KeyRef, Lock, append, is_lock_of, is_locked, push_front, same_id, take_first,
 };
 use std::alloc::{AllocError, Global};
-use vms_base::FileName;
+use vms_base::{FileName, Id};
 
 /// The branch that holds a key.
-pub fn holder(all: &[Lock], file: &FileName, key: KeyRef<'_>) -> Option<OwnId>
+pub fn holder(all: &[Lock], file: &FileName, key: KeyRef<'_>) -> Option<Id>
     ensures { option_map id_of result ≡ locks.holder (locks_of all.now) file.now (lent_key key.entry) }
 {
     match all {
@@ -44,13 +45,13 @@ pub fn new_locks(all: &[Lock], file: &FileName, keys: &[Key]) -> usize
 }
 
 // The lock of a key.
-fn lock_of(alloc: Global, serial: OwnId, file: &FileName, key: &Key) -> Result<Lock, AllocError>
-    ensures { IfOk result (λ l. lock_said l ≡ record { file = file.now; key = key_of key.now; by = id_of serial }) }
+fn lock_of(alloc: Global, serial: &Id, file: &FileName, key: &Key) -> Result<Lock, AllocError>
+    ensures { IfOk result (λ l. lock_said l ≡ record { file = file.now; key = key_of key.now; by = id_of serial.now }) }
 {
     Ok(Lock {
         file: *file,
         key: key.lend().own(alloc)?,
-        by: serial,
+        by: *serial,
     })
 }
 
@@ -58,11 +59,11 @@ fn lock_of(alloc: Global, serial: OwnId, file: &FileName, key: &Key) -> Result<L
 fn locks_for(
     alloc: Global,
     all: &[Lock],
-    serial: OwnId,
+    serial: &Id,
     file: &FileName,
     keys: &[Key],
 ) -> Result<Vec<Lock>, AllocError>
-    ensures { IfOk result (λ v. locks_of v.items ≡ map (λ k. record { file = file.now; key = k; by = id_of serial }) (locks.not_locked (locks_of all.now) file.now (map key_of keys.now))) }
+    ensures { IfOk result (λ v. locks_of v.items ≡ map (λ k. record { file = file.now; key = k; by = id_of serial.now }) (locks.not_locked (locks_of all.now) file.now (map key_of keys.now))) }
 {
     match keys {
         [] => Ok(Vec::new(alloc)),
@@ -82,11 +83,11 @@ fn locks_for(
 pub fn with_locks(
     alloc: Global,
     all: Vec<Lock>,
-    serial: OwnId,
+    serial: &Id,
     file: &FileName,
     keys: &[Key],
 ) -> Result<Vec<Lock>, AllocError>
-    ensures { IfOk result (λ v. locks_of v.items ≡ locks.with_locks (id_of serial) file.now (map key_of keys.now) (locks_of all.items)) }
+    ensures { IfOk result (λ v. locks_of v.items ≡ locks.with_locks (id_of serial.now) file.now (map key_of keys.now) (locks_of all.items)) }
 {
     let more = locks_for(alloc, all.as_slice(), serial, file, keys)?;
     let both = append(more, all)?;
@@ -94,8 +95,8 @@ pub fn with_locks(
 }
 
 /// The locks but for those of one branch.
-pub fn released(alloc: Global, all: Vec<Lock>, serial: OwnId) -> Result<Vec<Lock>, AllocError>
-    ensures { IfOk result (λ v. locks_of v.items ≡ locks.released (id_of serial) (locks_of all.items)) }
+pub fn released(alloc: Global, all: Vec<Lock>, serial: &Id) -> Result<Vec<Lock>, AllocError>
+    ensures { IfOk result (λ v. locks_of v.items ≡ locks.released (id_of serial.now) (locks_of all.items)) }
 {
     let mut rest = all;
     match take_first(&mut rest) {
@@ -103,7 +104,7 @@ pub fn released(alloc: Global, all: Vec<Lock>, serial: OwnId) -> Result<Vec<Lock
         Some(first) => {
             let by = first.by;
             let mut others = released(alloc, rest, serial)?;
-            if !same_id(serial, by) {
+            if !same_id(serial, &by) {
                 push_front(&mut others, first)?;
             }
             Ok(others)

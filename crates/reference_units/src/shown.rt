@@ -16,15 +16,16 @@ fn entry_line(alloc: Global, position: u64, entry: &JournalEntry) -> Result<Line
     ensures { IfOk result (λ line. line_of line ≡ answers.entry_line position (entry_of entry.now)) }
 {
     match entry {
-        JournalEntry::Changed(serial, file, key, before) => Ok(Line::ChangeEntry(
+        JournalEntry::Changed(branch, file, key, before) => Ok(Line::ChangeEntry(
             position,
-            *serial,
+            *branch,
             *file,
             key.lend().own(alloc)?,
             own_value(alloc, lend_value(before))?,
         )),
-        JournalEntry::Settled(serial, outcome, moment) => {
-            Ok(Line::SettledEntry(position, *serial, *outcome, *moment))
+        JournalEntry::Prepared(branch) => Ok(Line::PreparedEntry(position, *branch)),
+        JournalEntry::Settled(branch, outcome, moment) => {
+            Ok(Line::SettledEntry(position, *branch, *outcome, *moment))
         }
     }
 }

@@ -3,12 +3,14 @@ ghost use Rattle.std.specs.Prelude.{◌≡◌, ◌+◌, ◌-◌, ◌*◌, ◌^�
 ghost use Rattle.records_model.specs.Slots.{size_of};
 ghost use Rattle.unit_laws.specs.Journal as model;
 ghost use Rattle.run_model.specs.Answers as answers;
-ghost use Rattle.reference_world.specs.Standing.{id_of, key_of, value_of};
-ghost use Rattle.reference_units.specs.Entries.{entry_of, entries_of, journal_of, units_of};
+ghost use Rattle.vms_base.specs.Ids.{id_of};
+ghost use Rattle.reference_world.specs.Standing.{key_of, value_of};
+ghost use Rattle.reference_units.specs.Entries.{entry_of, entries_of, journal_of, unit_of, units_of};
 
 use crate::journal::{Journal, JournalEntry};
 use crate::units::{Unit, find_unit};
-use reference_world::{Key, OwnId};
+use reference_world::Key;
+use vms_base::Id;
 
 fn key_size(key: &Key) -> u64
     ensures size { result ≡ model.key_size (key_of key.now) }
@@ -40,6 +42,7 @@ pub fn entry_size(entry: &JournalEntry) -> u128
         JournalEntry::Changed(_, _, key, before) => {
             48 + u128::from(key_size(key)) + u128::from(value_size(before))
         }
+        JournalEntry::Prepared(_) => 48,
         JournalEntry::Settled(_, _, _) => 48,
     }
 }
@@ -63,6 +66,14 @@ pub fn end_of(journal: &Journal) -> u64
     journal.first + entries_size(journal.entries.as_slice()) as u64
 }
 
+// How many bytes a unit is owed.
+fn owed_to(unit: &Unit) -> u128
+    ensures owed { result ≡ model.owed_to (unit_of unit.now) }
+    ensures few { result ≤ 96 }
+{
+    if unit.prepared { 48 } else { 96 }
+}
+
 // How many bytes these units are owed.
 fn owed(units: &[Unit]) -> u128
     ensures owed { result ≡ model.owed (units_of units.now) }
@@ -70,13 +81,13 @@ fn owed(units: &[Unit]) -> u128
 {
     match units {
         [] => 0,
-        [_, rest @ ..] => 96 + owed(rest),
+        [u, rest @ ..] => owed_to(u) + owed(rest),
     }
 }
 
 /// What a branch is owed with its first change: nothing where it is one of these units already.
-pub fn owed_first(units: &[Unit], serial: OwnId) -> u64
-    ensures owed { result ≡ answers.owed_first (model.find_unit (id_of serial) (units_of units.now)) }
+pub fn owed_first(units: &[Unit], serial: &Id) -> u64
+    ensures owed { result ≡ answers.owed_first (model.find_unit (id_of serial.now) (units_of units.now)) }
     ensures few { result ≤ 96 }
 {
     match find_unit(units, serial) {

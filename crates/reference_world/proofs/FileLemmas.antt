@@ -1,11 +1,12 @@
 -- A file after changes.
-use Rattle.std.proofs.Common.{◌≡◌, List, [], ◌∷◌, Bool, true, false, refl, sym, ap, ◌∙◌}
-use Rattle.std.specs.Prelude.{map, Vec, ◌*◌, ◌-◌}
+use Rattle.std.proofs.Common.{◌≡◌, ◌≤◌, ℕ, List, [], ◌∷◌, Bool, true, false, Some, refl, sym, ap, ◌∙◌, length, get_or}
+use Rattle.std.specs.Prelude.{map, Vec, ◌*◌, ◌-◌, cond}
 use Rattle.std.specs.declared.alloc.Global.{Global}
 use Rattle.vms_model.specs.Ids.{Id}
 use Rattle.vms_model.specs.Keys.{Key}
 use Rattle.records_model.specs.Records.{Change}
-use Rattle.records_model.specs.History.{with_changes, changes_by, changed_it, settled_with}
+use Rattle.vms_base.specs.Ids.{id_of}
+use Rattle.records_model.specs.History.{History, SettledChanges, LiveChanges as ModelChanges, with_changes, changes_by, changed_it, first_to_change, settled_with, without}
 use Rattle.records_model.specs.Chain.{chain_changed}
 use Rattle.records_model.specs.Slots.{Slot}
 use Rattle.unit_laws.specs.Layouts.{slot_restored, chain_restored}
@@ -16,7 +17,9 @@ use Rattle.run_model.specs.World.{settled_layout}
 use Rattle.reference_world.specs.declared.world.File.{File}
 use Rattle.reference_world.specs.declared.world.LiveChanges.{LiveChanges}
 use Rattle.reference_world.specs.declared.world.Bucket.{Bucket}
-use Rattle.reference_world.specs.Standing.{live_of, chain_of, history_of, file_of}
+use Rattle.reference_world.specs.declared.world.BranchKey.{BranchKey}
+use Rattle.reference_world.specs.Standing.{live_of, chain_of, history_of, file_of, serials_of}
+use Rattle.reference_world.proofs.ChangeLemmas.{behind_first, parts}
 
 pub set_is : (f : File) (held : Key → Bool) (serial : Id) (cs : List Change) (live : Vec LiveChanges Global) (chain : Vec Bucket Global) →
     map live_of live.items ≡ with_changes serial cs (map live_of f.live.items) →
@@ -53,3 +56,32 @@ pub not_changed : (f : File) (s : world.Settlement) → changed_it (history_of f
 not_changed f s e =
     let none = no_changes (changes_by s.serial (history_of f).live) e in
     ap (λ (l : Layout). record (file_of f) { layout = l }) (sym (layout_stays s.outcome (file_of f).layout)) ∙ ap (settled_by (file_of f) s) (sym none)
+
+-- And one that changed something of it joins the settled ones.
+
+behind : (h : History) (b : BranchKey) (bs : List BranchKey) → changed_it h (id_of b.serial) ≡ false → first_to_change h (serials_of bs) ≡ first_to_change h (serials_of (b ∷ bs))
+behind h b bs e = sym (ap (λ changed. cond changed (Some (id_of b.serial)) (first_to_change h (serials_of bs))) e)
+
+-- where the first of these branches changed nothing, the first to change the file is behind it
+pub first_behind : (h : History) (bs : List BranchKey) (b : BranchKey) → 1 ≤ length bs → b ≡ get_or bs 0 b → changed_it h (id_of b.serial) ≡ false →
+    first_to_change h (serials_of (behind_first bs)) ≡ first_to_change h (serials_of bs)
+first_behind h bs b some is e = behind h b (behind_first bs) e ∙ ap (λ xs. first_to_change h (serials_of xs)) (sym (parts bs b some is))
+
+-- a history with a settled branch more
+abbrev pub joined_by : SettledChanges → List ModelChanges → History → History
+joined_by s live h = record h { settled = s ∷ h.settled; live = live }
+
+joins : (serial : Id) (outcome : Outcome) (moment : ℕ) (cs : List Change) (h : History) → (elim cs as (λ _. Bool) [ [] ↦ false | c ∷ more ↦ true ]) ≡ true →
+    joined_by (record { serial = serial; outcome = outcome; moment = moment; changes = cs }) (without serial h.live) h ≡ settled_with serial outcome moment cs h
+joins serial outcome moment [] h e = let none : ⊥ = cc in absurd none
+joins serial outcome moment (c ∷ cs) h e = refl
+
+pub now_settled : (f : File) (s : world.Settlement) (outcome : Outcome) (cs : List Change) (live : List ModelChanges) (layout : Layout) → changed_it (history_of f) s.serial ≡ true →
+    outcome ≡ s.outcome → cs ≡ changes_by s.serial (history_of f).live → live ≡ without s.serial (history_of f).live → layout ≡ settled_layout outcome cs (file_of f).layout →
+    record (file_of f) { history = joined_by (record { serial = s.serial; outcome = outcome; moment = s.moment; changes = cs }) live (history_of f); layout = layout } ≡ world.settled_file s (file_of f)
+now_settled f s outcome cs live layout changed o e w l =
+    let h = history_of f in
+    let made = joins s.serial s.outcome s.moment (changes_by s.serial h.live) h changed in
+    let laid : layout ≡ settled_layout s.outcome (changes_by s.serial h.live) (file_of f).layout = l ∙ (λ i. settled_layout (o i) (e i) (file_of f).layout) in
+    (λ i. record (file_of f) { history = joined_by (record { serial = s.serial; outcome = o i; moment = s.moment; changes = e i }) (w i) h; layout = laid i })
+    ∙ (λ i. record (file_of f) { history = made i; layout = settled_layout s.outcome (changes_by s.serial h.live) (file_of f).layout })

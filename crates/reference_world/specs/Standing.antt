@@ -1,11 +1,12 @@
--- The world that the code's values stand for: there is the node A.
-use Rattle.std.specs.Prelude.{ℕ, Bool, true, false, List, [], ◌∷◌, Option, Some, None, map, option_map, Vec}
+-- What the code's values stand for.
+use Rattle.std.specs.Prelude.{ℕ, Bool, true, false, List, Option, Some, None, map, option_map, Vec}
 use Rattle.std.specs.Borrow.{Bor}
 use Rattle.std.specs.declared.alloc.Global.{Global}
 use Rattle.std.specs.FinMap.{empty}
 use Rattle.vms_model.specs.Ids.{Id}
 use Rattle.vms_model.specs.Keys as key
 use Rattle.vms_model.specs.Transactions as settled
+use Rattle.vms_base.specs.Ids.{id_of}
 use Rattle.vms_base.specs.Outcomes.{outcome_of, reason_of}
 use Rattle.vms_base.specs.declared.outcomes.Reason.{Reason}
 use Rattle.records_model.specs.Records as records
@@ -16,8 +17,8 @@ use Rattle.transcript_model.specs.Lines as model
 use Rattle.run_model.specs.World as world
 use Rattle.run_model.specs.Locks as locks
 use Rattle.commit_protocol.specs.Table as table
-use Rattle.commit_protocol.specs.Rows.{blank}
-use Rattle.reference_world.specs.declared.world.OwnId.{OwnId}
+use Rattle.net_wire.specs.Messages.{message_of}
+use Rattle.reference_world.specs.declared.world.BranchKey.{BranchKey}
 use Rattle.reference_world.specs.declared.keys.Key.{Key}
 use Rattle.reference_world.specs.declared.keys.Key.TheVariants as owned
 use Rattle.reference_world.specs.declared.keys.KeyRef.{KeyRef}
@@ -31,7 +32,6 @@ use Rattle.reference_world.specs.declared.world.LiveChanges.{LiveChanges}
 use Rattle.reference_world.specs.declared.world.SettledChanges.{SettledChanges}
 use Rattle.reference_world.specs.declared.world.Lock.{Lock}
 use Rattle.reference_world.specs.declared.world.File.{File}
-use Rattle.reference_world.specs.declared.world.Branch.{Branch}
 use Rattle.reference_world.specs.declared.world.LabelEntry.{LabelEntry}
 use Rattle.reference_world.specs.declared.world.Settlement.{Settlement}
 use Rattle.reference_world.specs.declared.world.Volume.{Volume}
@@ -44,13 +44,12 @@ use Rattle.reference_world.specs.declared.line.Quota.TheVariants as quota
 use Rattle.reference_world.specs.declared.line.Line.{Line}
 use Rattle.reference_world.specs.declared.line.Line.TheVariants as line
 
--- the node's name
-abbrev pub own_name : List ℕ
-own_name = 65 ∷ []
+abbrev pub branch_key_of : BranchKey → table.Key
+branch_key_of k = record { tid = id_of k.tid; serial = id_of k.serial }
 
--- an id that the node drew
-abbrev pub id_of : OwnId → Id
-id_of i = record { node = own_name; boot = i.boot; seq = i.seq }
+-- the serials of branches
+abbrev pub serials_of : List BranchKey → List Id
+serials_of ks = map (λ (k : BranchKey). id_of k.serial) ks
 
 -- the bytes of a record, where there is one
 abbrev pub value_of : Option (Vec ℕ Global) → Option (List ℕ)
@@ -132,13 +131,8 @@ file_of f = record {
 abbrev pub directory_of : List (Option File) → List (Option world.File)
 directory_of fs = map (option_map file_of) fs
 
--- each branch is the first of its transaction
-abbrev pub branch_of : Branch → table.Branch
-branch_of b = record (blank (id_of b.serial) (id_of b.serial) None table.Active None) { changed = b.changed }
-
--- so each label names its transaction's first branch
 abbrev pub label_of : LabelEntry → world.Label
-label_of l = record { name = l.name; node = own_name; tid = id_of l.serial; bid = None; serial = Some (id_of l.serial) }
+label_of l = record { name = l.name; node = l.node; tid = id_of l.tid; bid = option_map id_of l.bid; serial = option_map id_of l.serial }
 
 -- a branch that was aborted for no reason was committed
 abbrev pub outcome_by : Option Reason → settled.Outcome
@@ -146,7 +140,7 @@ outcome_by None = settled.Commit
 outcome_by (Some reason) = settled.Abort
 
 abbrev pub settlement_of : Settlement → world.Settlement
-settlement_of s = record { tid = id_of s.serial; serial = id_of s.serial; outcome = outcome_by s.reason; reason = option_map reason_of s.reason; moment = s.moment.hundredths }
+settlement_of s = record { tid = id_of s.tid; serial = id_of s.serial; outcome = outcome_by s.reason; reason = option_map reason_of s.reason; moment = s.moment.hundredths }
 
 abbrev pub volume_of : Volume → world.Volume
 volume_of volume.Sound = world.Sound
@@ -176,21 +170,36 @@ quota_of quota.Boots = model.Boots
 quota_of quota.Moments = model.Moments
 quota_of quota.Locks = model.Locks
 quota_of quota.Positions = model.Positions
+quota_of quota.Slots = model.Slots
+quota_of quota.Bids = model.Bids
 
 -- what the line shows
 abbrev pub line_of : Line → model.Line
+line_of (line.Sent number m) = model.Sent number (message_of m)
+line_of (line.Unsent m) = model.Unsent (message_of m)
+line_of (line.Joined k) = model.Joined (id_of k.tid) (id_of k.serial)
+line_of (line.Started k) = model.Started (id_of k.tid) (id_of k.serial)
+line_of (line.Prepared k) = model.Prepared (id_of k.tid) (id_of k.serial)
+line_of (line.ReadOnly k) = model.ReadOnly (id_of k.tid) (id_of k.serial)
+line_of (line.Ended tid reason) = model.Ended (id_of tid) (option_map reason_of reason)
+line_of (line.Forgot k) = model.Forgot (id_of k.tid) (id_of k.serial)
+line_of (line.Asked k outcome) = model.Asked (id_of k.tid) (id_of k.serial) (outcome_of outcome)
+line_of (line.Booted node boot) = model.Booted node boot
 line_of (line.Record k bytes) = model.Record (key_of k) bytes.items
-line_of (line.Committed i moment) = model.Committed (id_of i) (id_of i) moment.hundredths
-line_of (line.Aborted i reason moment) = model.Aborted (id_of i) (id_of i) (reason_of reason) moment.hundredths
-line_of (line.LastCommitted i moment) = model.LastCommitted (id_of i) (id_of i) moment.hundredths
-line_of (line.LastAborted i reason moment) = model.LastAborted (id_of i) (id_of i) (reason_of reason) moment.hundredths
-line_of (line.ChangeEntry position i file k image) = model.ChangeEntry position (id_of i) (id_of i) file (key_of k) (value_of image)
-line_of (line.SettledEntry position i outcome moment) = model.SettledEntry position (id_of i) (id_of i) (outcome_of outcome) moment.hundredths
-line_of line.Crashed = model.Crashed own_name
+line_of (line.Committed i moment) = model.Committed (id_of i.tid) (id_of i.serial) moment.hundredths
+line_of (line.Aborted i reason moment) = model.Aborted (id_of i.tid) (id_of i.serial) (reason_of reason) moment.hundredths
+line_of (line.LastCommitted i moment) = model.LastCommitted (id_of i.tid) (id_of i.serial) moment.hundredths
+line_of (line.LastAborted i reason moment) = model.LastAborted (id_of i.tid) (id_of i.serial) (reason_of reason) moment.hundredths
+line_of (line.ChangeEntry position i file k image) = model.ChangeEntry position (id_of i.tid) (id_of i.serial) file (key_of k) (value_of image)
+line_of (line.SettledEntry position i outcome moment) = model.SettledEntry position (id_of i.tid) (id_of i.serial) (outcome_of outcome) moment.hundredths
+line_of (line.PreparedEntry position i) = model.PreparedEntry position (id_of i.tid) (id_of i.serial)
+line_of (line.Crashed node) = model.Crashed node
 line_of line.Normal = model.Normal
 line_of (line.NormalCount n) = model.NormalCount n
 line_of (line.NormalId i) = model.NormalId (id_of i)
 line_of (line.NormalSpan first end) = model.NormalSpan first end
+line_of (line.Pending serials) = model.Pending (map id_of serials.items)
+line_of (line.TransactionAborted reason) = model.TransactionAborted (reason_of reason)
 line_of line.RecordNormal = model.RecordNormal
 line_of (line.RecordPosition n) = model.RecordPosition n
 line_of (line.RecordFound bytes) = model.RecordFound bytes.items
@@ -200,6 +209,8 @@ line_of line.NodeDown = model.NodeDown
 line_of line.NodeUp = model.NodeUp
 line_of line.VolumeInUse = model.VolumeInUse
 line_of line.NotInitialized = model.NotInitialized
+line_of (line.NotInitializedAt node) = model.NotInitializedAt node
+line_of line.NoSuchMessage = model.NoSuchMessage
 line_of line.BadLabel = model.BadLabel
 line_of line.FileNotFound = model.FileNotFound
 line_of line.FileExists = model.FileExists
@@ -208,11 +219,14 @@ line_of line.BadOperation = model.BadOperation
 line_of line.BadRecordNumber = model.BadRecordNumber
 line_of line.BadRecordSize = model.BadRecordSize
 line_of line.NoSuchTransaction = model.NoSuchTransaction
+line_of line.NoSuchBranchId = model.NoSuchBranchId
+line_of line.WrongState = model.WrongState
+line_of (line.InDoubt serial node) = model.InDoubt (id_of serial) node
 line_of line.NotMarked = model.NotMarked
 line_of line.NeedsUnit = model.NeedsUnit
 line_of (line.RecordLocked i) = model.RecordLocked (id_of i)
 line_of (line.FileLocked i) = model.FileLocked (id_of i)
-line_of (line.NoVolume condition block) = model.NoVolume own_name condition block
+line_of (line.NoVolume node condition block) = model.NoVolume node condition block
 line_of line.RecordExists = model.RecordExists
 line_of line.KeyExists = model.KeyExists
 line_of line.RecordNotFound = model.RecordNotFound

@@ -4,18 +4,19 @@ ghost use Rattle.run_model.specs.World as world;
 ghost use Rattle.run_model.specs.World.{extents_of};
 ghost use Rattle.run_model.specs.Extents as extents;
 ghost use Rattle.run_model.specs.Locks.{is_locked};
-ghost use Rattle.reference_world.specs.Standing.{id_of, changes_of, file_of, directory_of, settlement_of, locks_of};
+ghost use Rattle.vms_base.specs.Ids.{id_of};
+ghost use Rattle.reference_world.specs.Standing.{changes_of, file_of, directory_of, settlement_of, locks_of};
 ghost use Rattle.reference_world.specs.Directories.{file_change_of, IsRuns};
 
 use crate::chain::chain_changed;
 use crate::history::{settled_file, with_changes};
 use crate::lists::{push_front, take_first};
 use crate::moment::WrittenMoment;
-use crate::world::{Change, File, Lock, OwnId, Settlement};
+use crate::world::{BranchKey, Change, File, Lock, Settlement};
 use std::alloc::{AllocError, Global};
 use std::cmp::max;
 use std::mem::replace;
-use vms_base::FileName;
+use vms_base::{FileName, Id};
 
 /// So many places without files.
 pub fn empty_places(alloc: Global, n: usize) -> Result<Vec<Option<File>>, AllocError>
@@ -133,9 +134,9 @@ pub enum FileChange {
     /// It is marked for recovery units, or is no more.
     Mark(bool),
     /// A branch makes changes, which stand newest first.
-    Set(OwnId, Vec<Change>),
+    Set(Id, Vec<Change>),
     /// A branch makes changes, and is committed at once at this moment.
-    Direct(OwnId, WrittenMoment, Vec<Change>),
+    Direct(BranchKey, WrittenMoment, Vec<Change>),
 }
 
 /// How many bytes a bucket of so many blocks has for records.
@@ -151,10 +152,10 @@ fn set_file(
     file: File,
     locks: &[Lock],
     name: &FileName,
-    serial: OwnId,
+    serial: &Id,
     changes: Vec<Change>,
 ) -> Result<File, AllocError>
-    ensures { IfOk result (λ f. file_of f ≡ world.changed_file (is_locked (locks_of locks.now) name.now) (id_of serial) (changes_of changes.items) (file_of file)) }
+    ensures { IfOk result (λ f. file_of f ≡ world.changed_file (is_locked (locks_of locks.now) name.now) (id_of serial.now) (changes_of changes.items) (file_of file)) }
 {
     let mut f = file;
     let cap = capacity(f.bucket);
@@ -177,7 +178,7 @@ fn set_directly(
     requires { s.reason ≡ None }
     ensures { IfOk result (λ f. file_of f ≡ world.directly_changed (is_locked (locks_of locks.now) name.now) (settlement_of s) (changes_of changes.items) (file_of file)) }
 {
-    let changed = set_file(alloc, file, locks, name, s.serial, changes)?;
+    let changed = set_file(alloc, file, locks, name, &s.serial, changes)?;
     settled_file(alloc, changed, s)
 }
 
@@ -197,10 +198,11 @@ fn changed_file(
             f.recovery_units = units;
             Ok(f)
         }
-        FileChange::Set(serial, changes) => set_file(alloc, f, locks, name, serial, changes),
-        FileChange::Direct(serial, moment, changes) => {
+        FileChange::Set(serial, changes) => set_file(alloc, f, locks, name, &serial, changes),
+        FileChange::Direct(branch, moment, changes) => {
             let s = Settlement {
-                serial,
+                tid: branch.tid,
+                serial: branch.serial,
                 reason: None,
                 moment,
             };

@@ -3,24 +3,24 @@ ghost use Rattle.std.specs.Prelude.{◌≡◌, true, ℕ, List, [], ◌∷◌, m
 ghost use Rattle.vms_base.specs.Outcomes.{outcome_of};
 ghost use Rattle.records_model.specs.History as history;
 ghost use Rattle.run_model.specs.World as world;
-ghost use Rattle.run_model.specs.World.{serials_of};
-ghost use Rattle.reference_world.specs.Standing.{id_of, lent_key, change_of, changes_of, live_of, history_of, layout_of, file_of, branch_of, settlement_of};
+ghost use Rattle.vms_base.specs.Ids.{id_of};
+ghost use Rattle.reference_world.specs.Standing.{lent_key, change_of, changes_of, live_of, history_of, layout_of, file_of, serials_of, settlement_of};
 ghost use Rattle.reference_world.specs.Histories.{only_live};
 
 use crate::chain::chain_restored;
 use crate::keys::KeyRef;
 use crate::lists::{push_front, take_first};
-use crate::world::{Branch, Bucket, Change, File, LiveChanges, OwnId, SettledChanges, Settlement};
+use crate::world::{BranchKey, Bucket, Change, File, LiveChanges, SettledChanges, Settlement};
 use std::alloc::{AllocError, Global};
 use std::mem::replace;
-use vms_base::Outcome;
+use vms_base::{Id, Outcome};
 
 /// Whether two ids are one.
-pub fn same_id(a: OwnId, b: OwnId) -> bool
-    ensures same { result ≡ history.same_id (id_of a) (id_of b) }
-    ensures one { result ≡ true → a ≡ b }
+pub fn same_id(a: &Id, b: &Id) -> bool
+    ensures same { result ≡ history.same_id (id_of a.now) (id_of b.now) }
+    ensures one { result ≡ true → a.now ≡ b.now }
 {
-    a.boot == b.boot && a.seq == b.seq
+    a.node.bytes() == b.node.bytes() && a.boot == b.boot && a.seq == b.seq
 }
 
 /// Whether one of these changes is of this key.
@@ -34,13 +34,13 @@ pub fn changes_key(changes: &[Change], key: KeyRef<'_>) -> bool
 }
 
 // Whether an unsettled branch made changes.
-fn has_changes(live: &[LiveChanges], serial: OwnId) -> bool
-    ensures { result ≡ history.changed_it (only_live (map live_of live.now)) (id_of serial) }
+fn has_changes(live: &[LiveChanges], serial: &Id) -> bool
+    ensures { result ≡ history.changed_it (only_live (map live_of live.now)) (id_of serial.now) }
 {
     match live {
         [] => false,
         [l, rest @ ..] => {
-            if same_id(serial, l.serial) {
+            if same_id(serial, &l.serial) {
                 !l.changes.is_empty()
             } else {
                 has_changes(rest, serial)
@@ -50,13 +50,13 @@ fn has_changes(live: &[LiveChanges], serial: OwnId) -> bool
 }
 
 /// The first of these branches that made changes of a file.
-pub fn first_to_change(file: &File, branches: &[Branch]) -> Option<OwnId>
-    ensures { option_map id_of result ≡ history.first_to_change (history_of file.now) (serials_of (map branch_of branches.now)) }
+pub fn first_to_change(file: &File, branches: &[BranchKey]) -> Option<Id>
+    ensures { option_map id_of result ≡ history.first_to_change (history_of file.now) (serials_of branches.now) }
 {
     match branches {
         [] => None,
         [b, rest @ ..] => {
-            if has_changes(file.live.as_slice(), b.serial) {
+            if has_changes(file.live.as_slice(), &b.serial) {
                 Some(b.serial)
             } else {
                 first_to_change(file, rest)
@@ -69,10 +69,10 @@ pub fn first_to_change(file: &File, branches: &[Branch]) -> Option<OwnId>
 fn with_change(
     alloc: Global,
     live: Vec<LiveChanges>,
-    serial: OwnId,
+    serial: &Id,
     change: Change,
 ) -> Result<Vec<LiveChanges>, AllocError>
-    ensures { IfOk result (λ v. map live_of v.items ≡ history.with_change (id_of serial) (change_of change) (map live_of live.items)) }
+    ensures { IfOk result (λ v. map live_of v.items ≡ history.with_change (id_of serial.now) (change_of change) (map live_of live.items)) }
 {
     let mut rest = live;
     match take_first(&mut rest) {
@@ -80,11 +80,17 @@ fn with_change(
             let mut changes = Vec::new(alloc);
             push_front(&mut changes, change)?;
             let mut all = Vec::new(alloc);
-            push_front(&mut all, LiveChanges { serial, changes })?;
+            push_front(
+                &mut all,
+                LiveChanges {
+                    serial: *serial,
+                    changes,
+                },
+            )?;
             Ok(all)
         }
         Some(mut first) => {
-            if same_id(serial, first.serial) {
+            if same_id(serial, &first.serial) {
                 push_front(&mut first.changes, change)?;
                 push_front(&mut rest, first)?;
                 Ok(rest)
@@ -101,10 +107,10 @@ fn with_change(
 pub fn with_changes(
     alloc: Global,
     live: Vec<LiveChanges>,
-    serial: OwnId,
+    serial: &Id,
     changes: Vec<Change>,
 ) -> Result<Vec<LiveChanges>, AllocError>
-    ensures { IfOk result (λ v. map live_of v.items ≡ history.with_changes (id_of serial) (changes_of changes.items) (map live_of live.items)) }
+    ensures { IfOk result (λ v. map live_of v.items ≡ history.with_changes (id_of serial.now) (changes_of changes.items) (map live_of live.items)) }
 {
     let mut rest = changes;
     match take_first(&mut rest) {
@@ -124,9 +130,9 @@ pub struct Parted {
 }
 
 // Takes the changes of a branch out of those of all.
-fn part(alloc: Global, live: Vec<LiveChanges>, serial: OwnId) -> Result<Parted, AllocError>
-    ensures changes { IfOk result (λ p. changes_of p.changes.items ≡ history.changes_by (id_of serial) (map live_of live.items)) }
-    ensures others { IfOk result (λ p. map live_of p.others.items ≡ history.without (id_of serial) (map live_of live.items)) }
+fn part(alloc: Global, live: Vec<LiveChanges>, serial: &Id) -> Result<Parted, AllocError>
+    ensures changes { IfOk result (λ p. changes_of p.changes.items ≡ history.changes_by (id_of serial.now) (map live_of live.items)) }
+    ensures others { IfOk result (λ p. map live_of p.others.items ≡ history.without (id_of serial.now) (map live_of live.items)) }
 {
     let mut rest = live;
     match take_first(&mut rest) {
@@ -135,7 +141,7 @@ fn part(alloc: Global, live: Vec<LiveChanges>, serial: OwnId) -> Result<Parted, 
             others: Vec::new(alloc),
         }),
         Some(first) => {
-            if same_id(serial, first.serial) {
+            if same_id(serial, &first.serial) {
                 Ok(Parted {
                     changes: first.changes,
                     others: rest,
@@ -164,30 +170,36 @@ fn settled_chain(
     }
 }
 
-/// A file after a branch was settled.
-pub fn settled_file(alloc: Global, file: File, s: Settlement) -> Result<File, AllocError>
+// A file after a branch was settled that changed something of it.
+fn with_settlement(alloc: Global, file: File, s: Settlement) -> Result<File, AllocError>
+    requires { history.changed_it (only_live (map live_of file.live.items)) (id_of s.serial) ≡ true }
     ensures { IfOk result (λ f. file_of f ≡ world.settled_file (settlement_of s) (file_of file)) }
 {
-    if !has_changes(file.live.as_slice(), s.serial) {
-        return Ok(file);
-    }
     let mut settled_one = file;
-    let parted = part(
-        alloc,
-        replace(&mut settled_one.live, Vec::new(alloc)),
-        s.serial,
-    )?;
+    let outcome = s.outcome();
+    let live = replace(&mut settled_one.live, Vec::new(alloc));
+    let parted = part(alloc, live, &s.serial)?;
     settled_one.live = parted.others;
     let chain = replace(&mut settled_one.chain, Vec::new(alloc));
-    settled_one.chain = settled_chain(alloc, s.outcome(), parted.changes.as_slice(), chain)?;
+    settled_one.chain = settled_chain(alloc, outcome, parted.changes.as_slice(), chain)?;
     push_front(
         &mut settled_one.settled,
         SettledChanges {
             serial: s.serial,
-            outcome: s.outcome(),
+            outcome,
             moment: s.moment.hundredths,
             changes: parted.changes,
         },
     )?;
     Ok(settled_one)
+}
+
+/// A file after a branch was settled.
+pub fn settled_file(alloc: Global, file: File, s: Settlement) -> Result<File, AllocError>
+    ensures { IfOk result (λ f. file_of f ≡ world.settled_file (settlement_of s) (file_of file)) }
+{
+    if !has_changes(file.live.as_slice(), &s.serial) {
+        return Ok(file);
+    }
+    with_settlement(alloc, file, s)
 }

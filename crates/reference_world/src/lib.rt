@@ -27,6 +27,6 @@ pub use locks::{is_lock_of, is_locked};
 pub use moment::WrittenMoment;
 pub use slots::{lend_value, own_value};
 pub use world::{
-    Branch, Bucket, Change, DiskCall, File, LabelEntry, Lock, Organization, OwnId, Row, Settlement,
+    BranchKey, Bucket, Change, DiskCall, File, LabelEntry, Lock, Organization, Row, Settlement,
     Slot, Volume,
 };

@@ -4,9 +4,10 @@ ghost use Rattle.reference_world.specs.Standing.{line_of};
 
 use crate::keys::Key;
 use crate::moment::WrittenMoment;
-use crate::world::OwnId;
+use crate::world::BranchKey;
+use net_wire::Message;
 use std::alloc::{AllocError, Global};
-use vms_base::{FileName, Outcome, Reason};
+use vms_base::{FileName, Id, NodeName, Outcome, Reason};
 
 /// What the node has only so many of.
 #[derive(Clone, Copy, Drop)]
@@ -18,23 +19,38 @@ pub enum Quota {
     Moments,
     Locks,
     Positions,
+    Slots,
+    Bids,
 }
 
 /// What a line shows.
 #[derive(Drop)]
 pub enum Line {
+    Sent(u64, Message),
+    Unsent(Message),
+    Joined(BranchKey),
+    Started(BranchKey),
+    Prepared(BranchKey),
+    ReadOnly(BranchKey),
+    Ended(Id, Option<Reason>),
+    Forgot(BranchKey),
+    Asked(BranchKey, Outcome),
+    Booted(NodeName, u32),
     Record(Key, Vec<u8>),
-    Committed(OwnId, WrittenMoment),
-    Aborted(OwnId, Reason, WrittenMoment),
-    LastCommitted(OwnId, WrittenMoment),
-    LastAborted(OwnId, Reason, WrittenMoment),
-    ChangeEntry(u64, OwnId, FileName, Key, Option<Vec<u8>>),
-    SettledEntry(u64, OwnId, Outcome, WrittenMoment),
-    Crashed,
+    Committed(BranchKey, WrittenMoment),
+    Aborted(BranchKey, Reason, WrittenMoment),
+    LastCommitted(BranchKey, WrittenMoment),
+    LastAborted(BranchKey, Reason, WrittenMoment),
+    ChangeEntry(u64, BranchKey, FileName, Key, Option<Vec<u8>>),
+    PreparedEntry(u64, BranchKey),
+    SettledEntry(u64, BranchKey, Outcome, WrittenMoment),
+    Crashed(NodeName),
     Normal,
     NormalCount(u64),
-    NormalId(OwnId),
+    NormalId(Id),
     NormalSpan(u64, u64),
+    Pending(Vec<Id>),
+    TransactionAborted(Reason),
     RecordNormal,
     RecordPosition(u64),
     RecordFound(Vec<u8>),
@@ -44,6 +60,8 @@ pub enum Line {
     NodeUp,
     VolumeInUse,
     NotInitialized,
+    NotInitializedAt(NodeName),
+    NoSuchMessage,
     BadLabel,
     FileNotFound,
     FileExists,
@@ -52,11 +70,14 @@ pub enum Line {
     BadRecordNumber,
     BadRecordSize,
     NoSuchTransaction,
+    NoSuchBranchId,
+    WrongState,
+    InDoubt(Id, NodeName),
     NotMarked,
     NeedsUnit,
-    RecordLocked(OwnId),
-    FileLocked(OwnId),
-    NoVolume(u32, u64),
+    RecordLocked(Id),
+    FileLocked(Id),
+    NoVolume(NodeName, u32, u64),
     RecordExists,
     KeyExists,
     RecordNotFound,

@@ -5,13 +5,13 @@ ghost use Rattle.reference_world.specs.Standing.{outcome_by};
 
 use crate::keys::{Key, KeyRef};
 use crate::moment::WrittenMoment;
-use vms_base::{FileName, Label, Outcome, Reason};
+use vms_base::{FileName, Id, Label, NodeName, Outcome, Reason};
 
-/// An id that the node drew: in which boot, and at which place there.
+/// A branch: its transaction, and its serial.
 #[derive(Clone, Copy, Drop)]
-pub struct OwnId {
-    pub boot: u32,
-    pub seq: u32,
+pub struct BranchKey {
+    pub tid: Id,
+    pub serial: Id,
 }
 
 /// A key that was set from one record to another; None is no record.
@@ -25,14 +25,14 @@ pub struct Change {
 /// What an unsettled branch changed of a file, the newest first.
 #[derive(Drop)]
 pub struct LiveChanges {
-    pub serial: OwnId,
+    pub serial: Id,
     pub changes: Vec<Change>,
 }
 
 /// What a settled branch changed of a file, the newest first.
 #[derive(Drop)]
 pub struct SettledChanges {
-    pub serial: OwnId,
+    pub serial: Id,
     pub outcome: Outcome,
     pub moment: u64,
     pub changes: Vec<Change>,
@@ -66,7 +66,7 @@ pub struct Bucket {
 pub struct Lock {
     pub file: FileName,
     pub key: Key,
-    pub by: OwnId,
+    pub by: Id,
 }
 
 /// A file. Settled branches stand newest first, unsettled ones oldest first. The chain is the used buckets of an indexed file.
@@ -85,24 +85,22 @@ pub struct File {
     pub chain: Vec<Bucket>,
 }
 
-/// An unsettled branch, and whether it changed something.
-#[derive(Clone, Copy, Drop)]
-pub struct Branch {
-    pub serial: OwnId,
-    pub changed: bool,
-}
-
-/// A label and the branch that it names.
+/// A label: the node that it was made for, and its transaction. It names the first branch, or one that was authorised by this identifier, and the branch's
+/// latest serial once there is one.
 #[derive(Clone, Copy, Drop)]
 pub struct LabelEntry {
     pub name: Label,
-    pub serial: OwnId,
+    pub node: NodeName,
+    pub tid: Id,
+    pub bid: Option<Id>,
+    pub serial: Option<Id>,
 }
 
 /// A branch's end: why it was aborted, or None where it was committed.
 #[derive(Clone, Copy, Drop)]
 pub struct Settlement {
-    pub serial: OwnId,
+    pub tid: Id,
+    pub serial: Id,
     pub reason: Option<Reason>,
     pub moment: WrittenMoment,
 }

@@ -23,7 +23,7 @@ use Rattle.vms_model.specs.Ids.{Id}
 use Rattle.vms_model.specs.Keys.{Key, Number, Text, End}
 use Rattle.records_model.specs.Records.{Change}
 use Rattle.records_model.specs.History.{LiveChanges, is_held, records, with_change, with_changes}
-use Rattle.unit_laws.specs.Units.{Represents, SerialsDiffer, has_changes, is_changed, map_in, is_free, moves_end, end_is_free}
+use Rattle.unit_laws.specs.Units.{HasLatest, Represents, SerialsDiffer, has_changes, is_changed, map_in, is_free, moves_end, end_is_free}
 use Rattle.unit_laws.specs.Journal.{Journal}
 use Rattle.unit_laws.proofs.Tests.{picked, passed}
 use Rattle.sequence_laws.specs.Undoing.{GoesBack}
@@ -137,21 +137,26 @@ goes_in : (h new : FileHead) (b next : List (List ℕ)) (ls : List LiveChanges) 
 goes_in h new b next ls same is goes = all_as (λ (l : LiveChanges). Goes h next l.changes) (λ (l : LiveChanges). CanRestoreBy Sequential new b l.changes) ls
     (λ l g. (g.0, goes_same h new l.changes (records_in new b) g.0 same (subst (λ (x : List (List ℕ)). GoesBack h l.changes x g.0) is g.1))) goes
 
-holds_file : (h : FileHead) (a : List (List ℕ)) (ls : List LiveChanges) (committed : Map) → sequential.IsSequential h → sequential.IsLaidOut h a → Represents ls (sequential.map_of h a) committed → SerialsDiffer ls → AllByRecursion (λ (l : LiveChanges). CanRestoreBy Sequential h a l.changes) ls →
-    Holds h ls (records_in h a) committed
-holds_file h a ls committed form laid represents differ can = record {
+-- what each branch left stands
+abbrev AllLatest : Map → List LiveChanges → Type 0
+AllLatest m ls = AllByRecursion (λ (l : LiveChanges). HasLatest m l.changes) ls
+
+holds_file : (h : FileHead) (a : List (List ℕ)) (ls : List LiveChanges) (committed : Map) → sequential.IsSequential h → sequential.IsLaidOut h a → Represents ls (sequential.map_of h a) committed → AllLatest (sequential.map_of h a) ls → SerialsDiffer ls →
+    AllByRecursion (λ (l : LiveChanges). CanRestoreBy Sequential h a l.changes) ls → Holds h ls (records_in h a) committed
+holds_file h a ls committed form laid represents latest differ can = record {
   represents = represents;
   goes = can;
+  latest = latest;
   differ = differ;
   records = laid.records;
   fits = let placed = used_is h a form.one laid in omega (arith, placed, form.used);
 }
 
 positions_set : (h new : FileHead) (a b : List (List ℕ)) (s : Id) (key : Key) (value : Option (List ℕ)) (ls : List LiveChanges) (committed : Map) → sequential.IsSequential h → sequential.IsLaidOut h a → sequential.Suits h key value → SameFile h new → sequential.IsSequential new →
-    sequential.IsLaidOut new b → sequential.map_of new b ≡ set_key key value (sequential.map_of h a) → sequential.Takes new b key (sequential.map_of h a key) → Represents ls (sequential.map_of h a) committed → SerialsDiffer ls → is_free s ls key ≡ true →
+    sequential.IsLaidOut new b → sequential.map_of new b ≡ set_key key value (sequential.map_of h a) → sequential.Takes new b key (sequential.map_of h a key) → Represents ls (sequential.map_of h a) committed → AllLatest (sequential.map_of h a) ls → SerialsDiffer ls → is_free s ls key ≡ true →
     (moves_end (record { key = key; before = sequential.map_of h a key; after = value } ∷ []) ≡ true → end_is_free s ls ≡ true) → AllByRecursion (λ (l : LiveChanges). CanRestoreBy Sequential h a l.changes) ls →
     AllByRecursion (λ (l : LiveChanges). CanRestoreBy Sequential new b l.changes) (with_change s (record { key = key; before = sequential.map_of h a key; after = value }) ls)
-positions_set h new a b s key value ls committed form laid suits same form_new laid_new sets restores represents differ free ends can =
+positions_set h new a b s key value ls committed form laid suits same form_new laid_new sets restores represents latest differ free ends can =
     let at = number_of h key value suits in
     let n = at.0 in
     let now = records_in h a in
@@ -169,7 +174,7 @@ positions_set h new a b s key value ls committed form laid suits same form_new l
     let placed : buckets_for (capacity new) (slot_sizes next) ≤ new.alloc = (let used = used_is new b form_new.one laid_new in omega (arith, used, form_new.used)) in
     let fits : buckets_for (capacity h) (slot_sizes (list_set n value now)) ≤ h.alloc = subst (λ (x : List (List ℕ)). buckets_for (capacity h) (slot_sizes x) ≤ h.alloc) (sym is)
     (subst (λ (m : ℕ). buckets_for m (slot_sizes next) ≤ h.alloc) bucket (subst (λ (m : ℕ). buckets_for (capacity new) (slot_sizes next) ≤ m) alloc placed)) in
-    let after = one_set h s c n ls now committed (holds_file h a ls committed form laid represents differ can)
+    let after = one_set h s c n ls now committed (holds_file h a ls committed form laid represents latest differ can)
     (record { key = at.1; found = found; may = allowed.0; long = λ old new_one was later. allowed.1 old new_one (sym found ∙ was) later }) free ends records fits in
     goes_in h new b (list_set n value now) (with_change s c ls) same is after.goes
 
@@ -182,16 +187,19 @@ end_told Relative h w s cs ls is ends e = let bad : ⊥ = cc in absurd bad
 end_told Indexed h w s cs ls is ends e = let bad : ⊥ = cc in absurd bad
 
 set_by : (o : Kept) (h new : FileHead) (a b : List (List ℕ)) (s : Id) (key : Key) (value : Option (List ℕ)) (ls : List LiveChanges) (committed : Map) → FormBy o h → LaidOutBy o h a → IsWithin a h → SuitsBy o h key value → SameFile h new → FormBy o new → LaidOutBy o new b →
-    map_by o new b ≡ set_key key value (map_by o h a) → RestoresBy o new b key (map_by o h a key) → ((other : Key) → is_changed ls other ≡ true → room_by o h a other ≤ room_by o new b other) → Represents ls (map_by o h a) committed → SerialsDiffer ls → is_free s ls key ≡ true →
+    map_by o new b ≡ set_key key value (map_by o h a) → RestoresBy o new b key (map_by o h a key) → ((other : Key) → is_changed ls other ≡ true → room_by o h a other ≤ room_by o new b other) → Represents ls (map_by o h a) committed → AllLatest (map_by o h a) ls → SerialsDiffer ls → is_free s ls key ≡ true →
     (o ≡ Sequential → moves_end (record { key = key; before = map_by o h a key; after = value } ∷ []) ≡ true → end_is_free s ls ≡ true) → AllByRecursion (λ (l : LiveChanges). CanRestoreBy o h a l.changes) ls →
     AllByRecursion (λ (l : LiveChanges). CanRestoreBy o new b l.changes) (with_change s (record { key = key; before = map_by o h a key; after = value }) ls)
-set_by Sequential h new a b s key value ls committed form laid within suits same form_new laid_new sets restores rooms represents differ free ends can =
-    positions_set h new a b s key value ls committed form laid suits same form_new laid_new sets restores represents differ free (ends refl) can
-set_by Relative h new a b s key value ls committed form laid within suits same form_new laid_new sets restores rooms represents differ free ends can = cells_set h new a b s key value ls form within suits same differ can
-set_by Indexed h new a b s key value ls committed form laid within suits same form_new laid_new sets restores rooms represents differ free ends can = slots_set h new a b s key value ls form laid suits same differ restores rooms can
+set_by Sequential h new a b s key value ls committed form laid within suits same form_new laid_new sets restores rooms represents latest differ free ends can =
+    positions_set h new a b s key value ls committed form laid suits same form_new laid_new sets restores represents latest differ free (ends refl) can
+set_by Relative h new a b s key value ls committed form laid within suits same form_new laid_new sets restores rooms represents latest differ free ends can = cells_set h new a b s key value ls form within suits same differ can
+set_by Indexed h new a b s key value ls committed form laid within suits same form_new laid_new sets restores rooms represents latest differ free ends can = slots_set h new a b s key value ls form laid suits same differ restores rooms can
 
 represents_file : (a : List (List ℕ)) (h : FileHead) (file : File) (j : Journal) → TellsUnits j file → IsFile a h file → Represents file.history.live (map_of h a) (map_in (records file.history))
 represents_file a h file j units is = subst (λ (m : Map). Represents file.history.live m (map_in (records file.history))) (λ i key. is.records key i) units.notes.orderly.represents
+
+latest_file : (a : List (List ℕ)) (h : FileHead) (file : File) (j : Journal) → TellsUnits j file → IsFile a h file → AllLatest (map_of h a) file.history.live
+latest_file a h file j units is = subst (λ (m : Map). AllLatest m file.history.live) (λ i key. is.records key i) units.notes.orderly.latest
 
 sets : (a b : List (List ℕ)) (heads : List (Option FileHead)) (n : Node) (f : ℕ) (h new : FileHead) (name : List ℕ) (file : File) (tid serial : Id) (key : Key) (value : Option (List ℕ)) (keys : List Key) → AreFiles a heads n.durable.directory → AreUnitsOf n →
     IsNamed heads f h name → file_at n.durable.directory f ≡ Some file → MayChange serial file (record { key = key; before = map_of h a key; after = value } ∷ []) → IsWithin a h → Suits h key value →
@@ -212,7 +220,7 @@ sets a b heads n f h new name file tid serial key value keys are units named at_
     (subst (λ (o : Kept). AllByRecursion (λ (l : LiveChanges). CanRestoreBy o new b l.changes) (changed_file held serial cs file).history.live) (sym is)
     (set_by h.organization h new a b serial key value file.history.live (map_in (records file.history)) mine.head.form mine.laid within suits same (subst (λ (o : Kept). FormBy o new) is form) (subst (λ (o : Kept). LaidOutBy o new b) is laid)
     (ap (λ o. map_by o new b) (sym is) ∙ now) (subst (λ (o : Kept). RestoresBy o new b key (map_of h a key)) is restores) (λ other there. subst (λ (o : Kept). room_at h a other ≤ room_by o new b other) is (rooms other there))
-    (represents_file a h file n.durable.units tells mine) tells.notes.differ may.keys.0 (end_told h.organization h file.organization serial cs file.history.live mine.head.organization may.end) (restorable_at a heads directory f h file named.there at_f can)))
+    (represents_file a h file n.durable.units tells mine) (latest_file a h file n.durable.units tells mine) tells.notes.differ may.keys.0 (end_told h.organization h file.organization serial cs file.history.live mine.head.organization may.end) (restorable_at a heads directory f h file named.there at_f can)))
     (λ g other. others_stand a b heads directory f g are others can other))
 
 -- A sequential file is cut.
@@ -222,16 +230,16 @@ some_gone n [] some = absurd cc
 some_gone n (r ∷ rs) some = refl
 
 positions_cut : (h new : FileHead) (a b : List (List ℕ)) (s : Id) (from : ℕ) (ls : List LiveChanges) (committed : Map) → sequential.IsSequential h → sequential.IsLaidOut h a → 1 ≤ from → SameFile h new → sequential.map_of new b ≡ cut_from from (sequential.map_of h a) →
-    Represents ls (sequential.map_of h a) committed → SerialsDiffer ls → has_changes (map removed (numbered from (drop (from - 1) (records_in h a)))) ≡ true →
+    Represents ls (sequential.map_of h a) committed → AllLatest (sequential.map_of h a) ls → SerialsDiffer ls → has_changes (map removed (numbered from (drop (from - 1) (records_in h a)))) ≡ true →
     AllByRecursion (λ (c : Change). is_free s ls c.key ≡ true) (map removed (numbered from (drop (from - 1) (records_in h a)))) → end_is_free s ls ≡ true → AllByRecursion (λ (l : LiveChanges). CanRestoreBy Sequential h a l.changes) ls →
     AllByRecursion (λ (l : LiveChanges). CanRestoreBy Sequential new b l.changes) (with_changes s (map removed (numbered from (drop (from - 1) (records_in h a)))) ls)
-positions_cut h new a b s from ls committed form laid one same now represents differ some free ends can =
+positions_cut h new a b s from ls committed form laid one same now represents latest differ some free ends can =
     let rs = records_in h a in
     let few : from - 1 ≤ length rs = ⊎_elim (λ past. absurd (none_gone rs some past)) (λ within. within) (cases_lt (length rs) (from - 1)) in
     let left : take (from - 1) rs ≡ records_in new b = sym (same_records (records_in new b) (take (from - 1) rs) (now ∙ sym (map_cut from rs one))) in
     let whole : rs ≡ take (from - 1) rs ++ drop (from - 1) rs = sym (take-append-drop (from - 1) rs) in
     let size = length-take-le (from - 1) rs few in
-    let after = all_cut h s ls (take (from - 1) rs) (drop (from - 1) rs) from committed (omega (arith, size, one)) (subst (λ (x : List (List ℕ)). Holds h ls x committed) whole (holds_file h a ls committed form laid represents differ can)) free ends in
+    let after = all_cut h s ls (take (from - 1) rs) (drop (from - 1) rs) from committed (omega (arith, size, one)) (subst (λ (x : List (List ℕ)). Holds h ls x committed) whole (holds_file h a ls committed form laid represents latest differ can)) free ends in
     goes_in h new b (take (from - 1) rs) (with_changes s (map removed (numbered from (drop (from - 1) rs))) ls) same left after.goes
   where
     none_gone : (rs : List (List ℕ)) → has_changes (map removed (numbered from (drop (from - 1) rs))) ≡ true → length rs < from - 1 → ⊥
@@ -263,7 +271,8 @@ cuts a b heads n f from h new name file tid serial keys are units named at_f seq
     (restorable_set b heads directory f new (changed_file held serial gone file) below (omega arith)
     (subst (λ (o : Kept). AllByRecursion (λ (l : LiveChanges). CanRestoreBy o new b l.changes) (changed_file held serial gone file).history.live) (sym is)
     (positions_cut h new a b serial from file.history.live (map_in (records file.history)) (subst (λ (o : Kept). FormBy o h) seq mine.head.form) (subst (λ (o : Kept). LaidOutBy o h a) seq mine.laid) one same
-    (ap (λ o. map_by o new b) (sym is) ∙ now ∙ ap (λ o. cut_from from (map_by o h a)) seq) (subst (λ (o : Kept). Represents file.history.live (map_by o h a) (map_in (records file.history))) seq (represents_file a h file n.durable.units tells mine)) tells.notes.differ may_cut.some may_cut.keys
+    (ap (λ o. map_by o new b) (sym is) ∙ now ∙ ap (λ o. cut_from from (map_by o h a)) seq) (subst (λ (o : Kept). Represents file.history.live (map_by o h a) (map_in (records file.history))) seq (represents_file a h file n.durable.units tells mine))
+    (subst (λ (o : Kept). AllLatest (map_by o h a) file.history.live) seq (latest_file a h file n.durable.units tells mine)) tells.notes.differ may_cut.some may_cut.keys
     (end_told h.organization h file.organization serial gone file.history.live mine.head.organization may_cut.end seq moved)
     (subst (λ (o : Kept). AllByRecursion (λ (l : LiveChanges). CanRestoreBy o h a l.changes) file.history.live) seq (restorable_at a heads directory f h file named.there at_f can))))
     (λ g other. others_stand a b heads directory f g are others can other)))

@@ -3,6 +3,8 @@ pub mod FallLemmas
 pub mod RestLemmas
 pub mod UndoLemmas
 pub mod RestorableLemmas
+pub mod PreparedLemmas
+pub mod HalfLemmas
 pub mod UnitLemmas
 pub mod FoundLemmas
 pub mod StayLemmas

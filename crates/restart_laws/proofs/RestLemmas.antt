@@ -1,5 +1,5 @@
--- Files once no unit is left, and once one was undone.
-use Rattle.std.proofs.Common.{◌≡◌, ℕ, false, true, List, [], ◌∷◌, ◌++◌, map, Option, Some, None, refl, sym, ◌∙◌, ap, subst, inl, inr}
+-- Files once no unit is left but those that are prepared.
+use Rattle.std.proofs.Common.{◌≡◌, ℕ, Bool, false, true, cond, List, [], ◌∷◌, ◌++◌, map, Option, Some, None, refl, sym, ◌∙◌, ap, subst, inl, inr}
 use Rattle.std.specs.Prelude.{is_some}
 use Rattle.std.proofs.lemmas.List.{map-append}
 use Rattle.std.specs.List.{AllByRecursion}
@@ -13,16 +13,18 @@ use Rattle.indexed_file.specs.Chain as indexed
 use Rattle.vms_model.specs.Keys.{Key, Text}
 use Rattle.records_model.specs.Slots.{Slot, same_bytes, slot_at, value_in, lookup, IsOrdered}
 use Rattle.records_model.specs.Parts.{all_slots}
-use Rattle.records_model.specs.History.{LiveChanges, records, current, on_top}
+use Rattle.records_model.specs.History.{LiveChanges, changes_key, current}
 use Rattle.records_model.proofs.SlotLaws.{same_self, same_bytes_are, behind_absent, if_true, if_false}
-use Rattle.unit_laws.specs.Units.{restored}
+use Rattle.unit_laws.specs.Units.{Map, HasLatest, IsOrderly, earliest_before, map_in, restored}
 use Rattle.unit_laws.specs.Journal.{Journal, RecoveryUnit, find_unit, units_in}
 use Rattle.unit_laws.specs.JournalLaws.{is_unit}
 use Rattle.unit_laws.proofs.Tests.{both_ways}
-use Rattle.run_model.specs.World.{File}
+use Rattle.vms_model.specs.Ids.{Id}
+use Rattle.run_model.specs.World.{File, IsPreparedUnit}
 use Rattle.directory_model.specs.Files.{IsFile, IsPlace, head_at, file_at, laid_in}
-use Rattle.directory_model.specs.Restoring.{AlikeBare, bare, IsLeft, IsPlaceLeft, IsLayoutOf}
-use Rattle.restart_laws.specs.Falls.{RestsAsFiles}
+use Rattle.directory_model.specs.Restoring.{AlikeBare, bare, IsLeft, IsPlaceLeft, IsPlacePrepared, IsLayoutOf}
+use Rattle.restart_laws.specs.Falls.{AllPrepared, RestsAsFiles}
+use Rattle.restart_laws.proofs.ListLemmas.{both_as}
 use Rattle.restart_laws.proofs.FallLemmas.{slots_of_chain}
 
 -- Slots that are alike but for their records, and that have the same records at each key, are the same.
@@ -99,8 +101,8 @@ nothing_bare : (a : List (List Slot)) → map (map bare) a ≡ [] → a ≡ []
 nothing_bare [] e = refl
 nothing_bare (x ∷ xs) e = let none : ⊥ = cc in absurd none
 
--- A file without unsettled changes.
-layout_rests : (o : Kept) (h : FileHead) (content : List (List ℕ)) (file : File) → any.LaidOutBy o h content → ((key : Key) → get (current file.history) key ≡ any.map_by o h content key) → AlikeBare (laid_in (any.chain_by o h content)) file.layout →
+-- The layout of a file that has the world's records.
+pub layout_rests : (o : Kept) (h : FileHead) (content : List (List ℕ)) (file : File) → any.LaidOutBy o h content → ((key : Key) → get (current file.history) key ≡ any.map_by o h content key) → AlikeBare (laid_in (any.chain_by o h content)) file.layout →
     IsLayoutOf o file → file.layout ≡ laid_in (any.chain_by o h content)
 layout_rests Sequential h content file laid records alike own = own
 layout_rests Relative h content file laid records alike own = own
@@ -108,25 +110,42 @@ layout_rests Indexed h content file laid records alike own = ap laid_in (sym (ch
     (subst IsOrdered (sym (slots_of_chain h content (indexed.leaves_of h content))) laid.ordered) own.ordered
     (λ k. ap (λ (ss : List Slot). lookup ss k) (slots_of_chain h content (indexed.leaves_of h content)) ∙ sym (records (Text k)) ∙ sym (own.tells k))))
 
-file_rests : (content : List (List ℕ)) (h : FileHead) (file : File) → IsLeft content h file → file.history.live ≡ [] → IsFile content h file
-file_rests content h file left none = record { head = left.head; laid = left.laid; records = at; layout = layout_rests h.organization h content file left.laid at left.layout left.own }
+-- what two maps restore alike is the same in both, where both have what the branches left
+pub same_now : (ls : List LiveChanges) (m n : Map) (key : Key) → AllByRecursion (λ (l : LiveChanges). HasLatest m l.changes) ls → AllByRecursion (λ (l : LiveChanges). HasLatest n l.changes) ls → restored ls key (m key) ≡ restored ls key (n key) → m key ≡ n key
+same_now [] m n key p q e = e
+same_now (l ∷ ls) m n key p q e = go (changes_key key l.changes) refl e (same_now ls m n key p.1 q.1)
+  where
+    go : (b : Bool) → changes_key key l.changes ≡ b → cond b (earliest_before l.changes key) (restored ls key (m key)) ≡ cond b (earliest_before l.changes key) (restored ls key (n key)) → (restored ls key (m key) ≡ restored ls key (n key) → m key ≡ n key) → m key ≡ n key
+    go true is e later = p.0 key is ∙ sym (q.0 key is)
+    go false is e later = later e
+
+-- A file in which all that branches changed stands as they left it.
+file_rests : (content : List (List ℕ)) (h : FileHead) (file : File) → IsLeft content h file → IsOrderly file.history → AllByRecursion (λ (l : LiveChanges). HasLatest (map_of h content) l.changes) file.history.live → IsFile content h file
+file_rests content h file left orderly latest = record { head = left.head; laid = left.laid; records = at; layout = layout_rests h.organization h content file left.laid at left.layout left.own }
   where
     at : (key : Key) → get (current file.history) key ≡ map_of h content key
-    at key = ap (λ (ls : List LiveChanges). get (on_top ls (records file.history)) key) none ∙ sym (left.represents.restores key) ∙ ap (λ (ls : List LiveChanges). restored ls key (map_of h content key)) none
+    at key = same_now file.history.live (map_in (current file.history)) (map_of h content) key orderly.latest latest (orderly.represents.restores key ∙ sym (left.represents.restores key))
 
-pub no_units : (j : Journal) (ls : List LiveChanges) → units_in j.entries ≡ [] → AllByRecursion (λ (l : LiveChanges). is_unit l.serial j ≡ true) ls → ls ≡ []
-no_units j [] none own = refl
-no_units j (l ∷ ls) none own = let bad : false ≡ true = sym (ap (λ (us : List RecoveryUnit). is_some (find_unit l.serial us)) none) ∙ own.0 in let never : ⊥ = cc in absurd never
+-- a branch that is a unit is prepared, where all are
+pub unit_prepared : (j : Journal) (x : Id) → AllPrepared j → is_unit x j ≡ true → IsPreparedUnit j x
+unit_prepared j x all is = go (find_unit x (units_in j.entries)) refl is
+  where
+    go : (o : Option RecoveryUnit) → find_unit x (units_in j.entries) ≡ o → is_some o ≡ true → IsPreparedUnit j x
+    go (Some u) e k = (u, e, all x u e)
+    go None e k = let none : ⊥ = cc in absurd none
 
-place_rests : (content : List (List ℕ)) (o : Option FileHead) (p : Option File) → IsPlaceLeft content o p → ((file : File) → p ≡ Some file → file.history.live ≡ []) → IsPlace content o p
-place_rests content None None left none = tt
-place_rests content None (Some file) left none = absurd left
-place_rests content (Some h) None left none = absurd left
-place_rests content (Some h) (Some file) left none = file_rests content h file left (none file refl)
+place_rests : (units : Journal) (content : List (List ℕ)) (o : Option FileHead) (p : Option File) → AllPrepared units → IsPlaceLeft content o p → IsPlacePrepared units content o p →
+    ((file : File) → p ≡ Some file → IsOrderly file.history × AllByRecursion (λ (l : LiveChanges). is_unit l.serial units ≡ true) file.history.live) → IsPlace content o p
+place_rests units content None None all left stands tells = tt
+place_rests units content None (Some file) all left stands tells = absurd left
+place_rests units content (Some h) None all left stands tells = absurd left
+place_rests units content (Some h) (Some file) all left stands tells = let t = tells file refl in file_rests content h file left t.0
+    (both_as (λ (l : LiveChanges). is_unit l.serial units ≡ true) (λ (l : LiveChanges). IsPreparedUnit units l.serial → HasLatest (map_of h content) l.changes) (λ (l : LiveChanges). HasLatest (map_of h content) l.changes) file.history.live
+    (λ l unit so. so (unit_prepared units l.serial all unit)) t.1 stands)
 
 pub rests_as_files : RestsAsFiles
-rests_as_files content heads n left units none = record {
+rests_as_files content heads n left stands units all = record {
   heads_long = left.heads_long;
   directory_long = left.directory_long;
-  each = λ f. place_rests content (head_at heads f) (file_at n.durable.directory f) (left.each f) (λ file there. no_units n.durable.units file.history.live none (units.tells f file there).notes.units);
+  each = λ f. place_rests n.durable.units content (head_at heads f) (file_at n.durable.directory f) all (left.each f) (stands f) (λ file there. let t = units.tells f file there in (t.notes.orderly, t.notes.units));
 }

@@ -32,6 +32,7 @@ use Rattle.sequence_laws.proofs.ChangeLemmas.{nothing_goes_back}
 use Rattle.run_model.specs.World.{File, Organization, Settlement, settled_file, OneMovesEndOf}
 use Rattle.directory_model.specs.Files.{organized_by, head_at, file_at}
 use Rattle.directory_model.specs.Restoring.{CanRestore, CanRestoreBy, IsLeft, IsPlaceLeft, IsRestored, IsPlaceRestored, IsPlaceRestorable}
+use Rattle.directory_model.proofs.Acts.{settled_directory}
 use Rattle.directory_model.proofs.Moving.{same_organization}
 use Rattle.directory_model.proofs.Places.{file_mapped}
 use Rattle.restart_laws.specs.Falls.{OthersStayRestorable, UndoesLeave}
@@ -47,7 +48,7 @@ live_settled file s some = go (changes_by s.serial file.history.live) refl
     go (c ∷ cs) is = refl
 
 -- The keys of one of the branches are none of the others'.
-keys_of : (s : Id) (ls : List LiveChanges) → Apart ls → AllByRecursion (λ (l : LiveChanges). (key : Key) → changes_key key (changes_by s ls) ≡ true → changes_key key l.changes ≡ false) (without s ls)
+pub keys_of : (s : Id) (ls : List LiveChanges) → Apart ls → AllByRecursion (λ (l : LiveChanges). (key : Key) → changes_key key (changes_by s ls) ≡ true → changes_key key l.changes ≡ false) (without s ls)
 keys_of s [] apart = tt
 keys_of s (l ∷ ls) apart = step (same_id s l.serial) (keys_of s ls apart.1)
   where
@@ -84,7 +85,7 @@ ends_of s (l ∷ ls) one = step (same_id s l.serial) (ends_of s ls one.1)
     step false later = ((λ e. false_from_ne_true _ (λ (mine : moves_end l.changes ≡ true). clash (moves_end (changes_by s ls)) e (found ls (one.0 mine)))), later)
 
 -- what holds of all branches, and of no changes, holds of the changes of one
-of_one : (P : List Change → Type 0) (s : Id) (ls : List LiveChanges) → P [] → AllByRecursion (λ (l : LiveChanges). P l.changes) ls → P (changes_by s ls)
+pub of_one : (P : List Change → Type 0) (s : Id) (ls : List LiveChanges) → P [] → AllByRecursion (λ (l : LiveChanges). P l.changes) ls → P (changes_by s ls)
 of_one P s [] none all = none
 of_one P s (l ∷ ls) none all = pick (same_id s l.serial) (of_one P s ls none all.1)
   where
@@ -120,7 +121,7 @@ room_after h new a b cs End chain = omega arith
 
 -- The same file's head takes the same.
 pub goes_same : (h new : FileHead) (cs : List Change) (now back : List (List ℕ)) → SameFile h new → GoesBack h cs now back → GoesBack new cs now back
-goes_same h new cs now back same g = subst (λ (x : FileHead). GoesBack x cs now back) (sym same.is) (record { restored = g.restored; own = g.own; absent = g.absent; same = g.same; records = g.records; fits = g.fits })
+goes_same h new cs now back same g = subst (λ (x : FileHead). GoesBack x cs now back) (sym same.is) (record { restored = g.restored; own = g.own; whole = g.whole; same = g.same; records = g.records; fits = g.fits })
 
 -- nothing has to go back where nothing was changed
 pub goes_nowhere : (h : FileHead) (a : List (List ℕ)) → sequential.IsSequential h → sequential.IsLaidOut h a → GoesBack h [] (sequential.records_in h a) (sequential.records_in h a)
@@ -220,7 +221,7 @@ can_nothing Sequential h a form laid = (sequential.records_in h a, goes_nowhere 
 can_nothing Relative h a form laid = tt
 can_nothing Indexed h a form laid = tt
 
-none_images : (m : Map) → HasImages m []
+pub none_images : (m : Map) → HasImages m []
 none_images m key ck = let never : ⊥ = cc in absurd never
 
 restored_can : (a b : List (List ℕ)) (h new : FileHead) (file : File) (s : Settlement) → IsLeft a h file → OneMovesEndOf file.organization file.history.live → AllByRecursion (λ (l : LiveChanges). has_changes l.changes ≡ true) file.history.live → IsRestored a h (changes_by s.serial file.history.live) b new → CanRestore new b (settled_file s file).history.live
@@ -246,9 +247,9 @@ place_can a b (Some h) None (Some file) s tells left back = absurd back
 place_can a b (Some h) (Some new) (Some file) s tells left back = let t = tells file refl in restored_can a b h new file s left t.0 t.1 back
 
 pub others_stay_restorable : OthersStayRestorable
-others_stay_restorable a b heads new n s left units abort back = λ f.
-    subst (λ (p : Option File). IsPlaceRestorable b (head_at new f) p) (sym (file_mapped (settled_file s) n.durable.directory f))
-    (place_can a b (head_at heads f) (head_at new f) (file_at n.durable.directory f) s (λ file there. ((units.tells f file there).end, (units.tells f file there).notes.some)) (left.each f) (back.each f))
+others_stay_restorable b c heads new n a moment s settles left units abort back = λ f.
+    subst (λ (p : Option File). IsPlaceRestorable c (head_at new f) p) (sym (ap (λ (d : List (Option File)). file_at d f) (settled_directory n a moment s settles) ∙ file_mapped (settled_file s) n.durable.directory f))
+    (place_can b c (head_at heads f) (head_at new f) (file_at n.durable.directory f) s (λ file there. ((units.tells f file there).end, (units.tells f file there).notes.some)) (left.each f) (back.each f))
 
 pub undoes_leave : UndoesLeave
-undoes_leave a b heads new n s left units abort back = undone_leaves a b heads new n s left units abort back (others_stay_restorable a b heads new n s left units abort back)
+undoes_leave b c heads new n a moment s settles left units abort back = undone_leaves b c heads new n a moment s settles left units abort back (others_stay_restorable b c heads new n a moment s settles left units abort back)

@@ -15,9 +15,9 @@ use Rattle.seq_file.specs.Placing.{buckets_for}
 use Rattle.seq_file.specs.Records.{map_of_list, list_set, slot_sizes}
 use Rattle.seq_file.proofs.MapLaws.{map_set}
 use Rattle.seq_file.proofs.RecordLaws.{record_at_push, list_set_none}
-use Rattle.unit_laws.specs.Units.{Map, Represents, HasImages, SerialsDiffer, is_changed, is_free, moves_end, end_is_free, with_key}
+use Rattle.unit_laws.specs.Units.{Map, Represents, HasImages, HasLatest, SerialsDiffer, is_changed, is_of, latest_after, is_free, moves_end, end_is_free, with_key}
 use Rattle.unit_laws.proofs.Tests.{and_first, and_second, not_true, or_first, or_second}
-use Rattle.unit_laws.proofs.LiveLemmas.{id_itself, free_changes, once_change}
+use Rattle.unit_laws.proofs.LiveLemmas.{clash, id_itself, free_changes, once_change}
 use Rattle.unit_laws.proofs.RepresentLemmas.{change_keeps}
 use Rattle.sequence_laws.specs.Undoing.{GoesBack}
 use Rattle.sequence_laws.specs.Laws.{IsChangeOf}
@@ -31,10 +31,11 @@ use Rattle.restart_laws.proofs.ListLemmas.{all_as, both_as, change_all}
 abbrev pub Goes : FileHead → List (List ℕ) → List Change → Type 0
 Goes h now cs = (back : List (List ℕ)) × GoesBack h cs now back
 
--- Records of a sequential file that represent the committed ones, while these branches are unsettled, which all can go back.
+-- Records of a sequential file that represent the committed ones, while these branches are unsettled, of which nothing is undone, and which all can go back.
 pub record Holds (h : FileHead) (ls : List LiveChanges) (now : List (List ℕ)) (committed : Map) : Type 0 where
   pub represents : Represents ls (map_of_list now) committed
   pub goes : AllByRecursion (λ (l : LiveChanges). Goes h now l.changes) ls
+  pub latest : AllByRecursion (λ (l : LiveChanges). HasLatest (map_of_list now) l.changes) ls
   pub differ : SerialsDiffer ls
   pub records : All (IsRecord h.mrs) now
   pub fits : buckets_for (capacity h) (slot_sizes now) ≤ h.alloc
@@ -77,9 +78,24 @@ others_of s c ls free ends = go (moves_end (c ∷ [])) refl
     go false is = all_as (λ (l : LiveChanges). same_id s l.serial ≡ false → changes_key c.key l.changes ≡ false) (Other s c) ls
         (λ l key other. (key other, λ e. let never : ⊥ = (let wrong : true ≡ false = sym e ∙ is in cc) in absurd never)) (free_of s c.key ls free)
 
--- a branch has records to go back to, and each key that it changed has one of its images
+-- a branch has records to go back to, and each key that it changed has one of its images: the latest one
 abbrev Fit : FileHead → List (List ℕ) → List Change → Type 0
-Fit h now cs = Goes h now cs × HasImages (map_of_list now) cs
+Fit h now cs = Goes h now cs × HasImages (map_of_list now) cs × HasLatest (map_of_list now) cs
+
+-- what a branch left stands once it, or another branch, changed more
+own_latest : (c : Change) (cs : List Change) (m : Map) → HasLatest m cs → HasLatest (with_key m c.key c.after) (c ∷ cs)
+own_latest c cs m latest key changed = go (is_of key c) changed
+  where
+    go : (x : Bool) → (x || changes_key key cs) ≡ true → cond x c.after (m key) ≡ cond x c.after (latest_after cs key)
+    go true e = refl
+    go false e = latest key e
+
+other_latest : (c : Change) (cs : List Change) (m : Map) → changes_key c.key cs ≡ false → HasLatest m cs → HasLatest (with_key m c.key c.after) cs
+other_latest c cs m free latest key changed = go (is_of key c) refl
+  where
+    go : (x : Bool) → is_of key c ≡ x → cond x c.after (m key) ≡ latest_after cs key
+    go true at = clash (changes_key key cs) changed (ap (λ (k : Key). changes_key k cs) (same_key key c.key at) ∙ free)
+    go false at = latest key changed
 
 -- One position more is set.
 pub one_set : (h : FileHead) (s : Id) (c : Change) (n : ℕ) (ls : List LiveChanges) (now : List (List ℕ)) (committed : Map) → Holds h ls now committed → IsChangeOf c n now → is_free s ls c.key ≡ true → (moves_end (c ∷ []) ≡ true → end_is_free s ls ≡ true) →
@@ -87,7 +103,9 @@ pub one_set : (h : FileHead) (s : Id) (c : Change) (n : ℕ) (ls : List LiveChan
 one_set h s c n ls now committed holds next free ends records fits = record {
   represents = subst (λ (m : Map). Represents (with_change s c ls) m committed) (sym mapped)
       (change_keeps s c ls (map_of_list now) committed holds.represents (λ k at. subst (λ (q : Key). is_free s ls q ≡ true) (sym (same_key k c.key at)) free) (λ k at. found ∙ ap (map_of_list now) (sym (same_key k c.key at))));
-  goes = change_all (Fit h now) (Goes h (list_set n c.after now)) s c ls holds.differ none (λ cs p. (p.0.0, change_goes_back h cs now p.0.0 c n p.0.1 p.1 next)) all others;
+  goes = change_all (Fit h now) (Goes h (list_set n c.after now)) s c ls holds.differ none (λ cs p. (p.0.0, change_goes_back h cs now p.0.0 c n p.0.1 p.2 next)) all others;
+  latest = subst (λ (m : Map). AllByRecursion (λ (l : LiveChanges). HasLatest m l.changes) (with_change s c ls)) (sym mapped)
+      (change_all (HasLatest (map_of_list now)) (HasLatest (with_key (map_of_list now) c.key c.after)) s c ls holds.differ none.2 (λ cs latest. own_latest c cs (map_of_list now) latest) holds.latest others_latest);
   differ = once_change s c ls holds.differ;
   records = records;
   fits = fits;
@@ -103,14 +121,20 @@ one_set h s c n ls now committed holds next free ends records fits = record {
         at key = ap (λ (k : Key). cond (eq_by_cmp key_cmp key k) c.after (map_of_list now key)) (sym next.key)
 
     none : Fit h now []
-    none = ((now, nothing_goes_back h now holds.records holds.fits), λ key changed. let never : ⊥ = cc in absurd never)
+    none = ((now, nothing_goes_back h now holds.records holds.fits), (λ key changed. let never : ⊥ = cc in absurd never), (λ key changed. let never : ⊥ = cc in absurd never))
 
     all : AllByRecursion (λ (l : LiveChanges). Fit h now l.changes) ls
-    all = both_as (λ (l : LiveChanges). Goes h now l.changes) (λ (l : LiveChanges). HasImages (map_of_list now) l.changes) (λ (l : LiveChanges). Fit h now l.changes) ls (λ l goes images. (goes, images)) holds.goes holds.represents.images
+    all = both_as (λ (l : LiveChanges). Goes h now l.changes) (λ (l : LiveChanges). HasImages (map_of_list now) l.changes × HasLatest (map_of_list now) l.changes) (λ (l : LiveChanges). Fit h now l.changes) ls (λ l goes both. (goes, both.0, both.1)) holds.goes
+        (both_as (λ (l : LiveChanges). HasImages (map_of_list now) l.changes) (λ (l : LiveChanges). HasLatest (map_of_list now) l.changes) (λ (l : LiveChanges). HasImages (map_of_list now) l.changes × HasLatest (map_of_list now) l.changes) ls
+        (λ l images latest. (images, latest)) holds.represents.images holds.latest)
 
     others : AllByRecursion (λ (l : LiveChanges). same_id s l.serial ≡ false → Goes h (list_set n c.after now) l.changes) ls
     others = both_as (λ (l : LiveChanges). Fit h now l.changes) (Other s c) (λ (l : LiveChanges). same_id s l.serial ≡ false → Goes h (list_set n c.after now) l.changes) ls
         (λ l p wanted other. change_beside_goes_back h l.changes now p.0.0 c n p.0.1 p.1 next (subst (λ (k : Key). changes_key k l.changes ≡ false) next.key (wanted other).0) (wanted other).1 records fits) all (others_of s c ls free ends)
+
+    others_latest : AllByRecursion (λ (l : LiveChanges). same_id s l.serial ≡ false → HasLatest (with_key (map_of_list now) c.key c.after) l.changes) ls
+    others_latest = both_as (λ (l : LiveChanges). HasLatest (map_of_list now) l.changes) (Other s c) (λ (l : LiveChanges). same_id s l.serial ≡ false → HasLatest (with_key (map_of_list now) c.key c.after) l.changes) ls
+        (λ l latest wanted other. other_latest c l.changes (map_of_list now) (wanted other).0 latest) holds.latest (others_of s c ls free ends)
 
 -- A file is cut: its last position goes, again and again.
 

@@ -9,13 +9,14 @@ use Rattle.record_files.specs.Any.{map_of, chain_of, IsLaidOut}
 use Rattle.records_model.specs.Slots.{Slot}
 use Rattle.records_model.specs.Layout.{Layout}
 use Rattle.records_model.specs.History.{LiveChanges, records}
-use Rattle.unit_laws.specs.Units.{map_in, HasImages, Represents}
+use Rattle.unit_laws.specs.Units.{map_in, HasImages, HasLatest, Represents}
+use Rattle.unit_laws.specs.Journal.{Journal}
 use Rattle.unit_laws.specs.Layouts.{slot_restored}
-use Rattle.run_model.specs.World.{File}
+use Rattle.run_model.specs.World.{File, IsPreparedUnit}
 use Rattle.directory_model.specs.Files.{head_at, file_at, laid_in, layout_of}
-use Rattle.directory_model.specs.Restoring.{AlikeBare, bare, IsLeft, IsPlaceLeft, IsGrouped, IsRestored}
+use Rattle.directory_model.specs.Restoring.{AlikeBare, bare, IsLeft, IsPlaceLeft, IsPlacePrepared, IsGrouped, IsRestored}
 use Rattle.directory_model.proofs.Standing.{map_stands, laid_stands, chain_stands}
-use Rattle.restart_laws.specs.Falls.{LeftStands, StaysUndone}
+use Rattle.restart_laws.specs.Falls.{LeftStands, PreparedStays, StaysUndone}
 use Rattle.restart_laws.proofs.StayLemmas.{can_stand}
 
 map_same : (a b : List (List ℕ)) (h : FileHead) → any.IsFile h → AgreesOn h a b → map_of h a ≡ map_of h b
@@ -46,6 +47,14 @@ left_stands a b heads directory agree left = record {
   directory_long = left.directory_long;
   each = λ f. place_left_stands a b (head_at heads f) (file_at directory f) (agree f) (left.each f);
 }
+
+prepared_place : (units : Journal) (a b : List (List ℕ)) (o : Option FileHead) (p : Option File) → ((h : FileHead) → o ≡ Some h → AgreesOn h a b) → IsPlaceLeft a o p → IsPlacePrepared units a o p → IsPlacePrepared units b o p
+prepared_place units a b None p agree left stands = tt
+prepared_place units a b (Some h) None agree left stands = tt
+prepared_place units a b (Some h) (Some file) agree left stands = subst (λ (m : Map). AllByRecursion (λ (l : LiveChanges). IsPreparedUnit units l.serial → HasLatest m l.changes) file.history.live) (map_same a b h left.head.form (agree h refl)) stands
+
+pub prepared_stays : PreparedStays
+prepared_stays units a b heads directory agree left stands f = prepared_place units a b (head_at heads f) (file_at directory f) (agree f) (left.each f) (stands f)
 
 -- A file that is not touched.
 

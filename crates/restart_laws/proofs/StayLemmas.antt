@@ -1,5 +1,5 @@
 -- What unsettled branches changed can be restored in contents that agree on the files, beside other files, and once a branch is settled.
-use Rattle.std.proofs.Common.{◌≡◌, ℕ, suc, ◌<◌, ◌≤◌, List, [], ◌∷◌, length, Bool, Option, Some, None, replicate, slice_set, refl, sym, ap, subst, ◌∙◌, inl, inr, arith}
+use Rattle.std.proofs.Common.{◌≡◌, ℕ, suc, ◌<◌, ◌≤◌, List, [], ◌∷◌, length, Bool, false, Option, Some, None, replicate, slice_set, refl, sym, ap, subst, ◌∙◌, inl, inr, arith}
 use Rattle.std.specs.Option.{option_map}
 use Rattle.std.specs.List.{AllByRecursion}
 use Rattle.std.proofs.lemmas.Bool.{cases_eq}
@@ -15,23 +15,24 @@ use Rattle.relative_file.specs.Cells as relative
 use Rattle.indexed_file.specs.Chain as indexed
 use Rattle.indexed_file.specs.Local as local
 use Rattle.record_files.specs.Any.{FormBy}
+use Rattle.vms_model.specs.Ids.{Id}
 use Rattle.vms_model.specs.Keys.{Key, Number, Text, End}
 use Rattle.vms_model.specs.Transactions.{Outcome, Commit}
 use Rattle.records_model.specs.Records.{Change}
 use Rattle.records_model.specs.Slots.{size_of}
-use Rattle.records_model.specs.History.{LiveChanges, changed_with, settled_at, without}
+use Rattle.records_model.specs.History.{History, LiveChanges, changed_with, same_id, settled_at, settled_with, with_changes, without}
 use Rattle.unit_laws.specs.Units.{earliest_before}
-use Rattle.unit_laws.proofs.LiveLemmas.{left_so}
+use Rattle.unit_laws.proofs.LiveLemmas.{by_changes, left_so}
 use Rattle.sequence_laws.specs.Undoing.{GoesBack}
 use Rattle.sequence_laws.proofs.SequenceLemmas.{same_records}
 use Rattle.run_model.specs.Locks.{is_locked}
 use Rattle.run_model.specs.World as world
-use Rattle.run_model.specs.World.{Node, File, Settlement, acted, directly_changed, settled_file}
-use Rattle.directory_model.specs.Files.{AreFiles, IsNamed, IsPlace, head_at, file_at}
+use Rattle.run_model.specs.World.{Node, File, Settlement, acted, changed_file, directly_changed, settled_file}
+use Rattle.world_laws.proofs.DirectLemmas.{live_same}
+use Rattle.directory_model.specs.Files.{AreFiles, IsFoundAt, IsNamed, IsPlace, head_at, file_at}
 use Rattle.directory_model.specs.Restoring.{AreRestorable, CanRestore, CanRestoreBy, IsPlaceRestorable}
 use Rattle.directory_model.specs.Laws.{SameBut, marked}
-use Rattle.directory_model.proofs.Acts.{none_at, same_there}
-use Rattle.directory_model.proofs.Directly.{live_directly}
+use Rattle.directory_model.proofs.Acts.{none_at, quiet_directory, settled_directory}
 use Rattle.directory_model.proofs.Finding.{finds_files}
 use Rattle.directory_model.proofs.Places.{file_mapped, within_list}
 use Rattle.restart_laws.specs.Restorable.{KeepsRestorable}
@@ -92,7 +93,7 @@ creates content heads n f h file are within none can =
 
 -- SET_FILE
 goes_marked : (units : Bool) (h : FileHead) (cs : List Change) (now back : List (List ℕ)) → GoesBack h cs now back → GoesBack (marked units h) cs now back
-goes_marked units h cs now back g = record { restored = g.restored; own = g.own; absent = g.absent; same = g.same; records = g.records; fits = g.fits }
+goes_marked units h cs now back g = record { restored = g.restored; own = g.own; whole = g.whole; same = g.same; records = g.records; fits = g.fits }
 
 suits_marked : (units : Bool) (h : FileHead) (key : Key) (v : Option (List ℕ)) → relative.Suits h key v → relative.Suits (marked units h) key v
 suits_marked units h (Number n) v suits = suits
@@ -122,18 +123,40 @@ marks content heads n f h name units are named can =
     (restorable_at content heads directory f h found.0 named.there found.2.there can)) (λ g other. can g))
 
 -- PUT, UPDATE, DELETE, TRUNCATE without a label
-directs : (a b : List (List ℕ)) (heads : List (Option FileHead)) (n : Node) (f : ℕ) (h new : FileHead) (name : List ℕ) (file : File) (cs : List Change) (s : Settlement) → AreFiles a heads n.durable.directory → s.outcome ≡ Commit →
-    IsNamed heads f h name → file_at n.durable.directory f ≡ Some file → file.history.live ≡ [] → SameBut f heads a b → AreRestorable a heads n.durable.directory →
-    AreRestorable b (slice_set heads f (Some new)) (acted (world.Directs name cs s) n).durable.directory
-directs a b heads n f h new name file cs s are commit named there none same can =
+
+-- the changes of other branches, once those of one are gone again
+without_changed : (serial : Id) (c : Change) (cs : List Change) (h : History) → AllByRecursion (λ (l : LiveChanges). same_id serial l.serial ≡ false) h.live → without serial (with_changes serial (c ∷ cs) h.live) ≡ h.live
+without_changed serial c cs h none =
+    sym (ap (λ (ds : List Change). (settled_with serial Commit 0 ds (changed_with serial (c ∷ cs) h)).live) (by_changes serial (c ∷ cs) h.live)) ∙ live_same serial c cs 0 h none
+
+place_direct : (b : List (List ℕ)) (o : Option FileHead) (held : Key → Bool) (s : Settlement) (c : Change) (cs : List Change) (file : File) → s.outcome ≡ Commit → AllByRecursion (λ (l : LiveChanges). same_id s.serial l.serial ≡ false) file.history.live →
+    IsPlaceRestorable b o (Some (changed_file held s.serial (c ∷ cs) file)) → IsPlaceRestorable b o (Some (directly_changed held s (c ∷ cs) file))
+place_direct b None held s c cs file commit none can = tt
+place_direct b (Some h) held s c cs file commit none can =
+    let P : LiveChanges → Type 0 = λ l. CanRestoreBy h.organization h b l.changes in
+    let stays : (directly_changed held s (c ∷ cs) file).history.live ≡ file.history.live =
+    ap (λ (o : Outcome). (settled_at s.serial o s.moment (changed_with s.serial (c ∷ cs) file.history)).live) commit ∙ live_same s.serial c cs s.moment file.history none in
+    subst (AllByRecursion P) (sym stays) (subst (AllByRecursion P) (without_changed s.serial c cs file.history none) (left_so P s.serial (with_changes s.serial (c ∷ cs) file.history.live) can))
+
+directs : (b : List (List ℕ)) (heads : List (Option FileHead)) (n : Node) (f : ℕ) (name : List ℕ) (file : File) (tid : Id) (keys : List Key) (c : Change) (cs : List Change) (s : Settlement) → s.outcome ≡ Commit → IsFoundAt name n.durable.directory f file →
+    AllByRecursion (λ (l : LiveChanges). same_id s.serial l.serial ≡ false) file.history.live → AreRestorable b heads (acted (world.Changes tid s.serial name (c ∷ cs) keys) n).durable.directory → AreRestorable b heads (acted (world.Directs name (c ∷ cs) s) n).durable.directory
+directs b heads n f name file tid keys c cs s commit at none can g =
     let directory = n.durable.directory in
     let held = is_locked n.volatile.locks name in
-    let at = finds_files.found a heads directory f h name are named in
-    let one : at.0 ≡ file = same_there directory f at.0 file at.2.there there in
-    let below = within_list heads f h named.there in let long = are.heads_long in let long_too = are.directory_long in
-    let live : (directly_changed held s cs file).history.live ≡ [] = ap (λ (o : Outcome). (settled_at s.serial o s.moment (changed_with s.serial cs file.history)).live) commit ∙ live_directly s.serial s.moment cs file.history none in
-    subst (AreRestorable b (slice_set heads f (Some new))) (sym (at.2.changed (directly_changed held s cs) ∙ ap (λ (x : File). slice_set directory f (Some (directly_changed held s cs x))) one))
-    (restorable_set b heads directory f new (directly_changed held s cs file) below (omega arith) (subst (CanRestore new b) (sym live) tt) (λ g other. others_stand a b heads directory f g are same can other))
+    let before = at.changed (changed_file held s.serial (c ∷ cs)) in
+    let now = at.changed (directly_changed held s (c ∷ cs)) in
+    let wide = within_list directory f file at.there in
+    elim (cases_eq g f) [
+      | inl here ↦
+          let was = ap (λ ds. file_at ds f) before ∙ get_or-set_same directory f (Some (changed_file held s.serial (c ∷ cs) file)) None wide in
+          let is = ap (λ ds. file_at ds f) now ∙ get_or-set_same directory f (Some (directly_changed held s (c ∷ cs) file)) None wide in
+          subst (λ x. IsPlaceRestorable b (head_at heads x) (file_at (acted (world.Directs name (c ∷ cs) s) n).durable.directory x)) (sym here)
+          (subst (IsPlaceRestorable b (head_at heads f)) (sym is) (place_direct b (head_at heads f) held s c cs file commit none (subst (IsPlaceRestorable b (head_at heads f)) was (can f))))
+      | inr other ↦
+          let same = ap (λ ds. file_at ds g) before ∙ get_or-set_other directory f g (Some (changed_file held s.serial (c ∷ cs) file)) None other
+          ∙ sym (ap (λ ds. file_at ds g) now ∙ get_or-set_other directory f g (Some (directly_changed held s (c ∷ cs) file)) None other) in
+          subst (IsPlaceRestorable b (head_at heads g)) same (can g)
+    ]
 
 -- END_TRANS
 place_settled : (content : List (List ℕ)) (o : Option FileHead) (p : Option File) (s : Settlement) → ((file : File) → p ≡ Some file → (settled_file s file).history.live ≡ without s.serial file.history.live) → IsPlaceRestorable content o p →
@@ -150,7 +173,8 @@ keeps_restorable = record {
   creates = creates;
   marks = marks;
   directs = directs;
-  commits = λ content heads n s units can f. subst (IsPlaceRestorable content (head_at heads f)) (sym (file_mapped (settled_file s) n.durable.directory f))
+  tables = λ content heads n a moment none can. subst (AreRestorable content heads) (sym (quiet_directory n a moment none)) can;
+  commits = λ content heads n a moment s settles units can f. subst (IsPlaceRestorable content (head_at heads f)) (sym (ap (λ (d : List (Option File)). file_at d f) (settled_directory n a moment s settles) ∙ file_mapped (settled_file s) n.durable.directory f))
       (place_settled content (head_at heads f) (file_at n.durable.directory f) s (λ file there. live_settled file s (units.tells f file there).notes.some) (can f));
-  aborts = λ a b heads new n s are units abort back can. others_stay_restorable a b heads new n s (falls_leave a heads n are units can) units abort back;
+  aborts = λ b c heads new n a moment s settles are units abort back can. others_stay_restorable b c heads new n a moment s settles (falls_leave b heads n are units can) units abort back;
 }

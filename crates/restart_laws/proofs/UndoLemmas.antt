@@ -23,9 +23,11 @@ use Rattle.unit_laws.specs.Units.{Map, map_in, is_of, earliest_before, Represent
 use Rattle.unit_laws.specs.Layouts.{slot_restored, chain_restored, layout_restored}
 use Rattle.unit_laws.proofs.Tests.{both_ways}
 use Rattle.unit_laws.proofs.HistoryLaws.{aborts_one, undoes_one}
-use Rattle.run_model.specs.World.{Node, File, Settlement, AreUnitsOf, Settles, acted, settled_file, settled_layout}
+use Rattle.commit_protocol.specs.Table as table
+use Rattle.run_model.specs.World.{Node, File, Settlement, AreUnitsOf, Tables, acted, settled_file, settled_layout, settlement_of}
 use Rattle.directory_model.specs.Files.{head_at, file_at, laid_in, layout_of}
 use Rattle.directory_model.specs.Restoring.{AlikeBare, bare, IsLeft, IsPlaceLeft, AreLeft, IsRestored, IsPlaceRestored, AreRestored, IsPlaceRestorable, AreRestorable, CanRestore, CanRestoreBy, IsLayoutOf}
+use Rattle.directory_model.proofs.Acts.{settled_directory}
 use Rattle.directory_model.proofs.Moving.{head_again, head_moved, same_organization}
 use Rattle.directory_model.proofs.Places.{file_mapped}
 use Rattle.restart_laws.proofs.FallLemmas.{slots_of_chain, restores_alike}
@@ -47,12 +49,12 @@ behind_restored : (cs : List Change) (k : List ℕ) (ss : List Slot) → AllBehi
 behind_restored cs k [] h = tt
 behind_restored cs k (s ∷ ss) h = (subst (λ (x : List ℕ). bytes_before k x ≡ true) (sym (key_kept cs s)) h.0, behind_restored cs k ss h.1)
 
-ordered_restored : (cs : List Change) (ss : List Slot) → IsOrdered ss → IsOrdered (map (slot_restored cs) ss)
+pub ordered_restored : (cs : List Change) (ss : List Slot) → IsOrdered ss → IsOrdered (map (slot_restored cs) ss)
 ordered_restored cs [] h = tt
 ordered_restored cs (s ∷ ss) h = (subst (λ (x : List ℕ). AllBehind x (map (slot_restored cs) ss)) (sym (key_kept cs s)) (behind_restored cs s.key ss h.0), ordered_restored cs ss h.1)
 
 -- what a key has once its slot is restored
-lookup_restored : (cs : List Change) (ss : List Slot) (k : List ℕ) → (slot_at k ss ≡ None → changes_key (Text k) cs ≡ true → earliest_before cs (Text k) ≡ None) → lookup (map (slot_restored cs) ss) k ≡ cond (changes_key (Text k) cs) (earliest_before cs (Text k)) (lookup ss k)
+pub lookup_restored : (cs : List Change) (ss : List Slot) (k : List ℕ) → (slot_at k ss ≡ None → changes_key (Text k) cs ≡ true → earliest_before cs (Text k) ≡ None) → lookup (map (slot_restored cs) ss) k ≡ cond (changes_key (Text k) cs) (earliest_before cs (Text k)) (lookup ss k)
 lookup_restored cs [] k none = step (changes_key (Text k) cs) (none refl)
   where
     step : (x : Bool) → (x ≡ true → earliest_before cs (Text k) ≡ None) → None ≡ cond x (earliest_before cs (Text k)) None
@@ -75,7 +77,7 @@ lookup_restored cs (s ∷ ss) k none = elim (both_ways (same_bytes k s.key)) [
     value false = refl
 
 -- A key that has no slot had no record.
-slot_bare : (a b : List Slot) (k : List ℕ) → map bare a ≡ map bare b → slot_at k b ≡ None → slot_at k a ≡ None
+pub slot_bare : (a b : List Slot) (k : List ℕ) → map bare a ≡ map bare b → slot_at k b ≡ None → slot_at k a ≡ None
 slot_bare a b k e none = bare_none a (ap (slot_at k) e ∙ of_bare b none)
   where
     of_bare : (ss : List Slot) → slot_at k ss ≡ None → slot_at k (map bare ss) ≡ None
@@ -188,11 +190,12 @@ place_settled a b (Some h) o' None s abort orderly left back can = absurd left
 place_settled a b (Some h) None (Some file) s abort orderly left back can = absurd back
 place_settled a b (Some h) (Some new) (Some file) s abort orderly left back can = file_settled a b h new file s abort left (orderly file refl) back can
 
-pub undone_leaves : (a b : List (List ℕ)) (heads new : List (Option FileHead)) (n : Node) (s : Settlement) → AreLeft a heads n.durable.directory → AreUnitsOf n → s.outcome ≡ Abort → AreRestored s.serial a heads n.durable.directory b new → AreRestorable b new (acted (Settles s) n).durable.directory → AreLeft b new (acted (Settles s) n).durable.directory
-undone_leaves a b heads new n s left units abort back can = record {
+pub undone_leaves : (b c : List (List ℕ)) (heads new : List (Option FileHead)) (n : Node) (a : table.Act) (moment : ℕ) (s : Settlement) → settlement_of a moment ≡ Some s → AreLeft b heads n.durable.directory → AreUnitsOf n → s.outcome ≡ Abort →
+    AreRestored s.serial b heads n.durable.directory c new → AreRestorable c new (acted (Tables a moment) n).durable.directory → AreLeft c new (acted (Tables a moment) n).durable.directory
+undone_leaves b c heads new n a moment s settles left units abort back can = subst (AreLeft c new) (sym (settled_directory n a moment s settles)) (record {
   heads_long = back.long ∙ left.heads_long;
   directory_long = length-map n.durable.directory (option_map (settled_file s)) ∙ left.directory_long;
-  each = λ f. subst (λ (p : Option File). IsPlaceLeft b (head_at new f) p) (sym (file_mapped (settled_file s) n.durable.directory f))
-      (place_settled a b (head_at heads f) (head_at new f) (file_at n.durable.directory f) s abort (λ file there. (units.tells f file there).notes.orderly) (left.each f) (back.each f)
-      (subst (λ (p : Option File). IsPlaceRestorable b (head_at new f) p) (file_mapped (settled_file s) n.durable.directory f) (can f)));
-}
+  each = λ f. subst (λ (p : Option File). IsPlaceLeft c (head_at new f) p) (sym (file_mapped (settled_file s) n.durable.directory f))
+      (place_settled b c (head_at heads f) (head_at new f) (file_at n.durable.directory f) s abort (λ file there. (units.tells f file there).notes.orderly) (left.each f) (back.each f)
+      (subst (λ (p : Option File). IsPlaceRestorable c (head_at new f) p) (ap (λ (d : List (Option File)). file_at d f) (settled_directory n a moment s settles) ∙ file_mapped (settled_file s) n.durable.directory f) (can f)));
+})

@@ -9,26 +9,30 @@ use Rattle.std.proofs.lemmas.Slice.Eq.{bytes_eq-Decides}
 use Rattle.std.proofs.lemmas.List.{get_or-set_same, get_or-set_other}
 use Rattle.vms_model.specs.Ids.{Id}
 use Rattle.vms_model.specs.Keys.{Key}
-use Rattle.vms_model.specs.Transactions.{Outcome, Commit}
-use Rattle.records_model.specs.Records.{Change}
-use Rattle.records_model.specs.History.{History, LiveChanges, same_id, records, on_top, changes_by, changed_with, settled_at, with_changes, without}
+use Rattle.vms_model.specs.Transactions.{Outcome, Commit, Abort, SegFail}
+use Rattle.records_model.specs.Records.{Change, Found}
+use Rattle.records_model.specs.History.{History, LiveChanges, same_id, records, on_top, changes_by, changed_with, current, settled_at, with_changes, without}
 use Rattle.unit_laws.specs.Units.{SerialsDiffer, Represents, IsOrderly, HasLatest, map_in, has_changes}
 use Rattle.unit_laws.specs.Journal.{Journal, JournalEntry, ChangeEntry, PreparedEntry, SettledEntry, RecoveryUnit, entries_for, entries_from, find_unit, is_of_file, is_of_units, is_settled_in, note_of, serial_in, trimmed, units_in, with_entries, with_settled}
 use Rattle.unit_laws.specs.JournalLaws.{HasNotes, is_unit}
 use Rattle.unit_laws.proofs.EndLemmas.{changes_keep_end, settles_keep_end}
+use Rattle.unit_laws.proofs.HistoryLaws.{changes_more, commits_one}
 use Rattle.unit_laws.proofs.LiveLemmas.{id_is}
-use Rattle.unit_laws.proofs.NoteLemmas.{changes_keep_notes, changes_elsewhere_keep_notes, settles_keep_notes, unchanged_has_notes}
+use Rattle.unit_laws.proofs.NoteLemmas.{changes_keep_notes, changes_elsewhere_keep_notes, prepares_keep_notes, settles_keep_notes, unchanged_has_notes}
 use Rattle.unit_laws.proofs.TrimLemmas.{found_onto, had_onto, trim_keeps_units}
 use Rattle.run_model.specs.Locks.{is_locked}
 use Rattle.run_model.specs.World as world
-use Rattle.run_model.specs.World.{Node, File, Organization, Settlement, TellsUnits, AreUnitsOf, IsReached, OneMovesEndOf, acted, changed_file, directly_changed, settled_file, find_file}
+use Rattle.run_model.specs.World.{Node, File, Organization, Settlement, TellsUnits, AreUnitsOf, IsPreparedUnit, IsReached, OneMovesEndOf, acted, changed_file, directly_changed, settled_file, settlement, find_file}
+use Rattle.commit_protocol.specs.Table as table
+use Rattle.world_laws.proofs.DirectLemmas.{live_same, none_of}
 use Rattle.restart_laws.proofs.ListLemmas.{all_as}
 use Rattle.directory_model.specs.Files.{IsFoundAt, file_at}
 use Rattle.directory_model.proofs.Acts.{none_at}
-use Rattle.directory_model.proofs.Directly.{live_directly}
+use Rattle.directory_model.specs.Laws.{AreFree}
 use Rattle.directory_model.proofs.Finding.{NoneCalled, found_at}
 use Rattle.directory_model.proofs.Places.{file_mapped, within_list}
 use Rattle.restart_laws.specs.Units.{EndIsFree, KeepsUnits, MayChange}
+use Rattle.restart_laws.proofs.PreparedLemmas.{prepared_again, prepared_entered, prepared_settled, prepared_trimmed}
 use Rattle.restart_laws.proofs.RestorableLemmas.{live_settled}
 
 -- Entries of branches of this boot or an earlier one.
@@ -50,6 +54,11 @@ reached_from n us (e ∷ es) a = step (is_of_units us e) (reached_from n us es a
 reached_for : (n : Node) (tid serial : Id) (name : List ℕ) (cs : List Change) → IsReached n serial → AllReached n (entries_for tid serial name cs)
 reached_for n tid serial name [] p = tt
 reached_for n tid serial name (c ∷ cs) p = reached_append n (entries_for tid serial name cs) (ChangeEntry tid serial name c.key c.before ∷ []) (reached_for n tid serial name cs p) (p, tt)
+
+-- those of a node of the same name and boots
+reached_at : (n m : Node) → m.name ≡ n.name → m.durable.boot ≡ n.durable.boot → (es : List JournalEntry) → AllReached n es → AllReached m es
+reached_at n m name same [] a = tt
+reached_at n m name same (e ∷ es) a = ((a.0.0 ∙ sym name, let below = a.0.1 in omega (arith, same, below)), reached_at n m name same es a.1)
 
 -- that of a unit is one of them
 reached_unit : (n : Node) (s : Id) (es : List JournalEntry) (b : Bool) → had_onto s b es ≡ true → (b ≡ true → IsReached n s) → AllReached n es → IsReached n s
@@ -108,6 +117,13 @@ none_there name (Some first ∷ fs) p g none at called = step (bytes_eq name fir
         absurd cc
     step false is none (suc p) at later = later p none at
 
+-- each branch that changed a file is prepared
+abbrev AllPreparedIn : Journal → File → Type 0
+AllPreparedIn units f = AllByRecursion (λ (l : LiveChanges). IsPreparedUnit units l.serial) f.history.live
+
+none_changed : (units : Journal) (f : File) → f.history.live ≡ [] → AllPreparedIn units f
+none_changed units f none = subst (AllByRecursion (λ (l : LiveChanges). IsPreparedUnit units l.serial)) (sym none) tt
+
 -- A directory in which one file is another.
 set_at : (d : List (Option File)) (q p : ℕ) (x g : File) → q < length d → file_at (slice_set d q (Some x)) p ≡ Some g → ((p ≡ q) × (g ≡ x)) ⊎ ((p ≡ q → ⊥) × (file_at d p ≡ Some g))
 set_at d q p x g within is = elim (cases_eq p q) [
@@ -121,15 +137,15 @@ set_at d q p x g within is = elim (cases_eq p q) [
 -- the file there before has the new one's name
 kept_set : (n m : Node) (q : ℕ) (x file : File) → AreUnitsOf n → file_at n.durable.directory q ≡ Some file → m.durable.directory ≡ slice_set n.durable.directory q (Some x) → x.name ≡ file.name → TellsUnits m.durable.units x →
     ((p : ℕ) (g : File) → (p ≡ q → ⊥) → file_at n.durable.directory p ≡ Some g → TellsUnits m.durable.units g) → AllReached m m.durable.units.entries → (m.up ≡ true → n.up ≡ true) →
-    (m.up ≡ true → x.recovery_units ≡ false → x.history.live ≡ []) → AreUnitsOf m
-kept_set n m q x file units there is called told others reached up unmarked = record {
+    (m.up ≡ true → x.recovery_units ≡ false → AllPreparedIn m.durable.units x) → ((y : Id) → IsPreparedUnit n.durable.units y → IsPreparedUnit m.durable.units y) → AreUnitsOf m
+kept_set n m q x file units there is called told others reached up unmarked still = record {
   tells = λ p g at. elim (after p g at) [
     | inl same ↦ subst (λ (y : File). TellsUnits m.durable.units y) (sym same.1) told
     | inr other ↦ others p g other.0 other.1
   ];
   marked = λ is_up p g at off. elim (after p g at) [
-    | inl same ↦ subst (λ (y : File). y.history.live ≡ []) (sym same.1) (unmarked is_up (subst (λ (y : File). y.recovery_units ≡ false) same.1 off))
-    | inr other ↦ units.marked (up is_up) p g other.1 off
+    | inl same ↦ subst (AllPreparedIn m.durable.units) (sym same.1) (unmarked is_up (subst (λ (y : File). y.recovery_units ≡ false) same.1 off))
+    | inr other ↦ all_as (λ (l : LiveChanges). IsPreparedUnit n.durable.units l.serial) (λ (l : LiveChanges). IsPreparedUnit m.durable.units l.serial) g.history.live (λ l so. still l.serial so) (units.marked (up is_up) p g other.1 off)
   ];
   reached = reached;
   names = λ p r f g at other same. let a = was p f at in let b = was r g other in units.names p r a.0 b.0 a.1 b.1 (a.2 ∙ same ∙ sym b.2);
@@ -191,7 +207,7 @@ creates n f file units within live none new = record {
     | inr other ↦ units.tells p g other.1
   ];
   marked = λ up p g at off. elim (set_at n.durable.directory f p file g within at) [
-    | inl same ↦ subst (λ (y : File). y.history.live ≡ []) (sym same.1) live
+    | inl same ↦ subst (AllPreparedIn n.durable.units) (sym same.1) (none_changed n.durable.units file live)
     | inr other ↦ units.marked up p g other.1 off
   ];
   reached = units.reached;
@@ -210,7 +226,7 @@ marks n name file units are there none =
     let at = found_there name n.durable.directory file there in
     let tells = are.tells at.0 file at.1.there in
     kept_set n (acted (world.Marks name units) n) at.0 (record file { recovery_units = units }) file are at.1.there (at.1.changed (λ f. record f { recovery_units = units })) refl
-    (record { notes = tells.notes; end = tells.end }) (λ p g other g_at. are.tells p g g_at) are.reached (λ up. up) (λ up off. none)
+    (record { notes = tells.notes; end = tells.end }) (λ p g other g_at. are.tells p g g_at) are.reached (λ up. up) (λ up off. none_changed n.durable.units (record file { recovery_units = units }) none) (λ y so. so)
 
 -- PUT, UPDATE, DELETE, TRUNCATE
 end_changed : (o : Organization) (ls : List LiveChanges) (serial : Id) (cs : List Change) → SerialsDiffer ls → EndIsFree o serial cs ls → OneMovesEndOf o ls → OneMovesEndOf o (with_changes serial cs ls)
@@ -232,8 +248,8 @@ tells_elsewhere units f tid serial name cs tells other unsettled = record {
 }
 
 changes : (n : Node) (name : List ℕ) (file : File) (tid serial : Id) (cs : List Change) (keys : List Key) → AreUnitsOf n → IsReached n serial → is_settled_in serial n.durable.units.entries ≡ false → find_file name n.durable.directory ≡ Some file →
-    MayChange serial file cs → AreUnitsOf (acted (world.Changes tid serial name cs keys) n)
-changes n name file tid serial cs keys are own unsettled there may =
+    MayChange serial file cs → (n.up ≡ true → file.recovery_units ≡ true) → AreUnitsOf (acted (world.Changes tid serial name cs keys) n)
+changes n name file tid serial cs keys are own unsettled there may marked =
     let at = found_there name n.durable.directory file there in
     let held = is_locked n.volatile.locks name in
     kept_set n (acted (world.Changes tid serial name cs keys) n) at.0 (changed_file held serial cs file) file are at.1.there (at.1.changed (changed_file held serial cs)) refl
@@ -241,7 +257,7 @@ changes n name file tid serial cs keys are own unsettled there may =
     (tells_changed n.durable.units file held tid serial cs (are.tells at.0 file at.1.there) unsettled may))
     (λ p g other g_at. tells_elsewhere n.durable.units g tid serial name cs (are.tells p g g_at) (not_named n at.0 p file g name are at.1.there at.2 other g_at) unsettled)
     (reached_append n n.durable.units.entries (entries_for tid serial name cs) are.reached (reached_for n tid serial name cs own)) (λ up. up)
-    (λ up off. let never : ⊥ = (let wrong : true ≡ false = sym may.marked ∙ off in cc) in absurd never)
+    (λ up off. let never : ⊥ = (let wrong : true ≡ false = sym (marked up) ∙ off in cc) in absurd never) (λ y so. prepared_entered n.durable.units tid serial name cs y may.some so)
 
 -- changes without a label
 trim_noted : (j : Journal) (name : List ℕ) (h : History) → HasNotes j name h → HasNotes (trimmed j) name h
@@ -259,32 +275,40 @@ trim_noted j name h notes =
 tells_trimmed : (units : Journal) (f : File) → TellsUnits units f → TellsUnits (trimmed units) f
 tells_trimmed units f tells = record { notes = trim_noted units f.name f.history tells.notes; end = tells.end }
 
--- the file has no unsettled changes before and after them
-settled_alone : (held : Key → Bool) (s : Settlement) (cs : List Change) (f : File) → s.outcome ≡ Commit → f.history.live ≡ [] → (directly_changed held s cs f).history.live ≡ []
-settled_alone held s cs f commit none = ap (λ (o : Outcome). (settled_at s.serial o s.moment (changed_with s.serial cs f.history)).live) commit ∙ live_directly s.serial s.moment cs f.history none
+-- the unsettled changes of the file are the same before and after them
+live_stays : (units : Journal) (held : Key → Bool) (s : Settlement) (c : Change) (cs : List Change) (f : File) → s.outcome ≡ Commit → is_unit s.serial units ≡ false → HasNotes units f.name f.history → (directly_changed held s (c ∷ cs) f).history.live ≡ f.history.live
+live_stays units held s c cs f commit fresh notes =
+    ap (λ (o : Outcome). (settled_at s.serial o s.moment (changed_with s.serial (c ∷ cs) f.history)).live) commit ∙ live_same s.serial c cs s.moment f.history (none_of units s.serial f.history.live fresh notes.units)
 
-tells_alone : (units : Journal) (f : File) (held : Key → Bool) (s : Settlement) (cs : List Change) → s.outcome ≡ Commit → f.history.live ≡ [] → TellsUnits units f → TellsUnits (trimmed units) (directly_changed held s cs f)
-tells_alone units f held s cs commit none tells =
+tells_direct : (units : Journal) (f : File) (held : Key → Bool) (s : Settlement) (c : Change) (cs : List Change) → s.outcome ≡ Commit → is_unit s.serial units ≡ false → AreFree s.serial f (c ∷ cs) → Found (c ∷ cs) (current f.history) → TellsUnits units f →
+    TellsUnits (trimmed units) (directly_changed held s (c ∷ cs) f)
+tells_direct units f held s c cs commit fresh free found tells =
     let kept = trim_noted units f.name f.history tells.notes in
-    let after = settled_alone held s cs f commit none in
+    let after = live_stays units held s c cs f commit fresh tells.notes in
     record {
       notes = record {
-        notes = λ x u. kept.notes x u ∙ ap (λ (ls : List LiveChanges). map note_of (changes_by x ls)) (none ∙ sym after);
-        units = subst (AllByRecursion (λ (l : LiveChanges). is_unit l.serial (trimmed units) ≡ true)) (sym after) tt;
-        some = subst (AllByRecursion (λ (l : LiveChanges). has_changes l.changes ≡ true)) (sym after) tt;
-        differ = subst SerialsDiffer (sym after) tt;
-        orderly = orderly_alone (directly_changed held s cs f).history after;
+        notes = λ x u. kept.notes x u ∙ ap (λ (ls : List LiveChanges). map note_of (changes_by x ls)) (sym after);
+        units = subst (AllByRecursion (λ (l : LiveChanges). is_unit l.serial (trimmed units) ≡ true)) (sym after) kept.units;
+        some = subst (AllByRecursion (λ (l : LiveChanges). has_changes l.changes ≡ true)) (sym after) kept.some;
+        differ = subst SerialsDiffer (sym after) kept.differ;
+        orderly = subst (λ (o : Outcome). IsOrderly (settled_at s.serial o s.moment (changed_with s.serial (c ∷ cs) f.history))) (sym commit)
+            (commits_one (changed_with s.serial (c ∷ cs) f.history) s.serial s.moment (changes_more f.history s.serial (c ∷ cs) tells.notes.orderly free found).orderly).orderly;
       };
-      end = subst (OneMovesEndOf f.organization) (sym after) (end_none f.organization);
+      end = subst (OneMovesEndOf f.organization) (sym after) tells.end;
     }
 
-directs : (n : Node) (name : List ℕ) (file : File) (cs : List Change) (s : Settlement) → AreUnitsOf n → s.outcome ≡ Commit → find_file name n.durable.directory ≡ Some file → file.history.live ≡ [] → AreUnitsOf (acted (world.Directs name cs s) n)
-directs n name file cs s are commit there none =
+directs : (n : Node) (name : List ℕ) (file : File) (c : Change) (cs : List Change) (s : Settlement) → AreUnitsOf n → s.outcome ≡ Commit → find_file name n.durable.directory ≡ Some file → is_unit s.serial n.durable.units ≡ false →
+    AreFree s.serial file (c ∷ cs) → Found (c ∷ cs) (current file.history) → AreUnitsOf (acted (world.Directs name (c ∷ cs) s) n)
+directs n name file c cs s are commit there fresh free found =
     let at = found_there name n.durable.directory file there in
     let held = is_locked n.volatile.locks name in
-    kept_set n (acted (world.Directs name cs s) n) at.0 (directly_changed held s cs file) file are at.1.there (at.1.changed (directly_changed held s cs)) refl
-    (tells_alone n.durable.units file held s cs commit none (are.tells at.0 file at.1.there))
-    (λ p g other g_at. tells_trimmed n.durable.units g (are.tells p g g_at)) (reached_from n (units_in n.durable.units.entries) n.durable.units.entries are.reached) (λ up. up) (λ up off. settled_alone held s cs file commit none)
+    let tells = are.tells at.0 file at.1.there in
+    kept_set n (acted (world.Directs name (c ∷ cs) s) n) at.0 (directly_changed held s (c ∷ cs) file) file are at.1.there (at.1.changed (directly_changed held s (c ∷ cs))) refl
+    (tells_direct n.durable.units file held s c cs commit fresh free found tells)
+    (λ p g other g_at. tells_trimmed n.durable.units g (are.tells p g g_at)) (reached_from n (units_in n.durable.units.entries) n.durable.units.entries are.reached) (λ up. up)
+    (λ up off. subst (AllByRecursion (λ (l : LiveChanges). IsPreparedUnit (trimmed n.durable.units) l.serial)) (sym (live_stays n.durable.units held s c cs file commit fresh tells.notes))
+    (all_as (λ (l : LiveChanges). IsPreparedUnit n.durable.units l.serial) (λ (l : LiveChanges). IsPreparedUnit (trimmed n.durable.units) l.serial) file.history.live (λ l so. prepared_trimmed n.durable.units l.serial so) (are.marked up at.0 file at.1.there off)))
+    (λ y so. prepared_trimmed n.durable.units y so)
 
 -- END_TRANS, ABORT
 mapped : (s : Settlement) (o : Option File) (g : File) → option_map (settled_file s) o ≡ Some g → (f : File) × (o ≡ Some f) × (settled_file s f ≡ g)
@@ -310,35 +334,63 @@ tells_settled units f s tells =
 abbrev entry_of : Settlement → JournalEntry
 entry_of s = SettledEntry s.tid s.serial s.outcome s.moment
 
-settles : (n : Node) (s : Settlement) → AreUnitsOf n → AreUnitsOf (acted (world.Settles s) n)
-settles n s are = record {
-  tells = λ p g at. let f = was p g at in subst (λ (y : File). TellsUnits (acted (world.Settles s) n).durable.units y) f.2 (tells_settled n.durable.units f.0 s (are.tells p f.0 f.1));
-  marked = λ up p g at off.
-      let f = was p g at in
-      let unmarked = ap (λ (y : File). y.recovery_units) f.2 ∙ off in
-      let live = are.marked up p f.0 f.1 unmarked in
-      sym (ap (λ (y : File). y.history.live) f.2) ∙ live_settled f.0 s (are.tells p f.0 f.1).notes.some ∙ ap (without s.serial) live;
-  reached = reached (find_unit s.serial (units_in n.durable.units.entries)) refl;
-  names = λ p q a b at there same. let f = was p a at in let g = was q b there in are.names p q f.0 g.0 f.1 g.1 (ap (λ (y : File). y.name) f.2 ∙ same ∙ sym (ap (λ (y : File). y.name) g.2));
-}
-  where
-    was : (p : ℕ) (g : File) → file_at (map (option_map (settled_file s)) n.durable.directory) p ≡ Some g → (f : File) × (file_at n.durable.directory p ≡ Some f) × (settled_file s f ≡ g)
-    was p g at = mapped s (file_at n.durable.directory p) g (sym (file_mapped (settled_file s) n.durable.directory p) ∙ at)
+-- a node whose files noted a settlement, in their histories and in the journal
+module _ (n m : Node) (s : Settlement) (are : AreUnitsOf n) (boot : m.durable.boot ≡ n.durable.boot) (name : m.name ≡ n.name) (up : m.up ≡ n.up) (directory : m.durable.directory ≡ map (option_map (settled_file s)) n.durable.directory)
+    (units : m.durable.units ≡ with_settled s.tid s.serial s.outcome s.moment n.durable.units) where
+  was : (p : ℕ) (g : File) → file_at m.durable.directory p ≡ Some g → (f : File) × (file_at n.durable.directory p ≡ Some f) × (settled_file s f ≡ g)
+  was p g at = mapped s (file_at n.durable.directory p) g (sym (file_mapped (settled_file s) n.durable.directory p) ∙ sym (ap (λ (d : List (Option File)). file_at d p) directory) ∙ at)
 
-    reached : (o : Option RecoveryUnit) → find_unit s.serial (units_in n.durable.units.entries) ≡ o → AllReached n (trimmed (elim o [ Some u ↦ with_entries (entry_of s ∷ []) n.durable.units | None ↦ n.durable.units ])).entries
-    reached (Some u) is = reached_from n (units_in (n.durable.units.entries ++ entry_of s ∷ [])) (n.durable.units.entries ++ entry_of s ∷ [])
-        (reached_append n n.durable.units.entries (entry_of s ∷ []) are.reached (reached_unit n s.serial n.durable.units.entries false (sym (found_onto s.serial n.durable.units.entries []) ∙ ap is_some is) (λ wrong. absurd cc) are.reached, tt))
-    reached None is = reached_from n (units_in n.durable.units.entries) n.durable.units.entries are.reached
+  reached_settled : (o : Option RecoveryUnit) → find_unit s.serial (units_in n.durable.units.entries) ≡ o → AllReached n (trimmed (elim o [ Some u ↦ with_entries (entry_of s ∷ []) n.durable.units | None ↦ n.durable.units ])).entries
+  reached_settled (Some u) is = reached_from n (units_in (n.durable.units.entries ++ entry_of s ∷ [])) (n.durable.units.entries ++ entry_of s ∷ [])
+      (reached_append n n.durable.units.entries (entry_of s ∷ []) are.reached (reached_unit n s.serial n.durable.units.entries false (sym (found_onto s.serial n.durable.units.entries []) ∙ ap is_some is) (λ wrong. absurd cc) are.reached, tt))
+  reached_settled None is = reached_from n (units_in n.durable.units.entries) n.durable.units.entries are.reached
+
+  pub settled_units : AreUnitsOf m
+  settled_units = record {
+    tells = λ p g at. let f = was p g at in subst (λ (j : Journal). TellsUnits j g) (sym units) (subst (TellsUnits (with_settled s.tid s.serial s.outcome s.moment n.durable.units)) f.2 (tells_settled n.durable.units f.0 s (are.tells p f.0 f.1)));
+    marked = λ is_up p g at off.
+        let f = was p g at in
+        subst (λ (j : Journal). AllPreparedIn j g) (sym units) (subst (AllPreparedIn (with_settled s.tid s.serial s.outcome s.moment n.durable.units)) f.2
+        (prepared_settled n.durable.units f.0 s (are.tells p f.0 f.1).notes.some (are.tells p f.0 f.1).notes.differ (are.marked (sym up ∙ is_up) p f.0 f.1 (ap (λ (y : File). y.recovery_units) f.2 ∙ off))));
+    reached = reached_at n m name boot m.durable.units.entries (subst (λ (j : Journal). AllReached n j.entries) (sym units) (reached_settled (find_unit s.serial (units_in n.durable.units.entries)) refl));
+    names = λ p q a b at there same. let f = was p a at in let g = was q b there in are.names p q f.0 g.0 f.1 g.1 (ap (λ (y : File). y.name) f.2 ∙ same ∙ sym (ap (λ (y : File). y.name) g.2));
+  }
+
+-- PREPARE
+prepares : (n : Node) (b : table.Branch) (moment : ℕ) → AreUnitsOf n → AreUnitsOf (acted (world.Tables (table.Prepares b) moment) n)
+prepares n b moment are = go (find_unit b.key.serial (units_in n.durable.units.entries)) refl
+  where
+    -- the node with this journal
+    after : Journal → Node
+    after j = record (acted (world.Tables (table.Prepares b) moment) n) { durable = record (acted (world.Tables (table.Prepares b) moment) n).durable { units = j } }
+
+    go : (o : Option RecoveryUnit) → find_unit b.key.serial (units_in n.durable.units.entries) ≡ o → AreUnitsOf (after (elim o [ Some u ↦ with_entries (PreparedEntry b.key.tid b.key.serial ∷ []) n.durable.units | None ↦ n.durable.units ]))
+    go None is = record { tells = are.tells; marked = are.marked; reached = are.reached; names = are.names }
+    go (Some u) is = record {
+      tells = λ p f at. record { notes = prepares_keep_notes n.durable.units f.name f.history b.key.tid b.key.serial (are.tells p f at).notes; end = (are.tells p f at).end };
+      marked = λ up p f at off. all_as (λ (l : LiveChanges). IsPreparedUnit n.durable.units l.serial) (λ (l : LiveChanges). IsPreparedUnit (with_entries (PreparedEntry b.key.tid b.key.serial ∷ []) n.durable.units) l.serial) f.history.live
+          (λ l so. prepared_again n.durable.units b.key.tid b.key.serial u l.serial is so) (are.marked up p f at off);
+      reached = reached_append n n.durable.units.entries (PreparedEntry b.key.tid b.key.serial ∷ []) are.reached
+          (reached_unit n b.key.serial n.durable.units.entries false (sym (found_onto b.key.serial n.durable.units.entries []) ∙ ap is_some is) (λ wrong. absurd cc) are.reached, tt);
+      names = are.names;
+    }
+
+tables : (n : Node) (a : table.Act) (moment : ℕ) → AreUnitsOf n → AreUnitsOf (acted (world.Tables a moment) n)
+tables n (table.Prepares b) moment are = prepares n b moment are
+tables n (table.Settles k outcome reason r) moment are = settled_units n (acted (world.Tables (table.Settles k outcome reason r) moment) n) (settlement k outcome reason moment) are refl refl refl refl refl
+tables n (table.Undoes k) moment are = settled_units n (acted (world.Tables (table.Undoes k) moment) n) (settlement k Abort SegFail moment) are refl refl refl refl refl
+tables n _ moment are = record { tells = are.tells; marked = are.marked; reached = are.reached; names = are.names }
 
 pub keeps_units : KeepsUnits
 keeps_units = record {
   formats = formats;
   boots = boots;
-  begins = λ n label b are. record { tells = are.tells; marked = are.marked; reached = are.reached; names = are.names };
+  draws = λ n are. record { tells = are.tells; marked = are.marked; reached = are.reached; names = are.names };
+  clocks = λ n now are. record { tells = are.tells; marked = are.marked; reached = are.reached; names = are.names };
   holds = λ n serial name keys are. record { tells = are.tells; marked = are.marked; reached = are.reached; names = are.names };
   creates = creates;
   marks = marks;
   changes = changes;
   directs = directs;
-  settles = settles;
+  tables = tables;
 }

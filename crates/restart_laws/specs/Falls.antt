@@ -1,22 +1,35 @@
 -- What a fall leaves of the files of a node that was up, and what undoing leaves of that.
-use Rattle.std.specs.Prelude.{◌≡◌, ℕ, List, [], Option, Some}
+use Rattle.std.specs.Prelude.{◌≡◌, ℕ, List, [], true, Option, Some}
+use Rattle.vms_model.specs.Ids.{Id}
 use Rattle.file_base.specs.declared.head.FileHead.{FileHead}
 use Rattle.change_set.specs.Files.{AgreesOn}
 use Rattle.record_files.specs.Any as any
 use Rattle.record_files.specs.Any.{IsLaidOut}
 use Rattle.vms_model.specs.Transactions.{Abort}
-use Rattle.unit_laws.specs.Journal.{units_in}
-use Rattle.run_model.specs.World.{Node, File, Settlement, AreUnitsOf, Settles, acted}
+use Rattle.unit_laws.specs.Journal.{Journal, RecoveryUnit, find_unit, units_in}
+use Rattle.commit_protocol.specs.Table as table
+use Rattle.run_model.specs.World.{Node, File, Settlement, AreUnitsOf, Tables, acted, settlement_of}
 use Rattle.directory_model.specs.Files.{AreFiles, head_at}
-use Rattle.directory_model.specs.Restoring.{AreRestorable, AreLeft, AreGrouped, AreRestored, IsLeft, IsGrouped, IsRestored}
+use Rattle.directory_model.specs.Restoring.{AreRestorable, AreLeft, AreGrouped, AreRestored, IsLeft, IsGrouped, IsRestored, StandPrepared}
 
--- what an up node has is what a fall leaves
+-- each unit of a journal is prepared
+abbrev pub AllPrepared : Journal → Type 0
+AllPrepared units = (x : Id) (u : RecoveryUnit) → find_unit x (units_in units.entries) ≡ Some u → u.prepared ≡ true
+
+-- what an up node has is what a fall leaves, and what prepared branches changed stands there
 abbrev pub FallsLeave : Type 0
 FallsLeave = (content : List (List ℕ)) (heads : List (Option FileHead)) (n : Node) → AreFiles content heads n.durable.directory → AreUnitsOf n → AreRestorable content heads n.durable.directory → AreLeft content heads n.durable.directory
+
+abbrev pub PreparedStand : Type 0
+PreparedStand = (content : List (List ℕ)) (heads : List (Option FileHead)) (n : Node) → AreFiles content heads n.durable.directory → AreUnitsOf n → StandPrepared n.durable.units content heads n.durable.directory
 
 -- contents that agree on each file's extent have the same left of the files
 abbrev pub LeftStands : Type 0
 LeftStands = (a b : List (List ℕ)) (heads : List (Option FileHead)) (directory : List (Option File)) → ((f : ℕ) (h : FileHead) → head_at heads f ≡ Some h → AgreesOn h a b) → AreLeft a heads directory → AreLeft b heads directory
+
+abbrev pub PreparedStays : Type 0
+PreparedStays = (units : Journal) (a b : List (List ℕ)) (heads : List (Option FileHead)) (directory : List (Option File)) → ((f : ℕ) (h : FileHead) → head_at heads f ≡ Some h → AgreesOn h a b) → AreLeft a heads directory →
+    StandPrepared units a heads directory → StandPrepared units b heads directory
 
 -- a group of an undo leaves what can be undone further
 abbrev pub GroupsLeave : Type 0
@@ -27,16 +40,22 @@ pub record StaysUndone : Type 0 where
   pub group : (a b : List (List ℕ)) (h : FileHead) (file : File) → IsLeft a h file → AgreesOn h a b → IsGrouped a h file.history.live b h
   pub restored : (a b : List (List ℕ)) (h : FileHead) → any.IsFile h → IsLaidOut h a → AgreesOn h a b → IsRestored a h [] b h
 
--- a unit was undone whole: what is left is that of the node once the unit is settled
+-- a unit was undone whole: what is left is that of the node once the unit is settled, and what prepared branches changed stands there still
 abbrev pub UndoesLeave : Type 0
-UndoesLeave = (a b : List (List ℕ)) (heads new : List (Option FileHead)) (n : Node) (s : Settlement) → AreLeft a heads n.durable.directory → AreUnitsOf n → s.outcome ≡ Abort → AreRestored s.serial a heads n.durable.directory b new →
-    AreLeft b new (acted (Settles s) n).durable.directory
+UndoesLeave = (b c : List (List ℕ)) (heads new : List (Option FileHead)) (n : Node) (a : table.Act) (moment : ℕ) (s : Settlement) → settlement_of a moment ≡ Some s → AreLeft b heads n.durable.directory → AreUnitsOf n → s.outcome ≡ Abort →
+    AreRestored s.serial b heads n.durable.directory c new → AreLeft c new (acted (Tables a moment) n).durable.directory
+
+abbrev pub UndoesKeepPrepared : Type 0
+UndoesKeepPrepared = (b c : List (List ℕ)) (heads new : List (Option FileHead)) (n : Node) (a : table.Act) (moment : ℕ) (s : Settlement) → settlement_of a moment ≡ Some s → AreLeft b heads n.durable.directory → AreUnitsOf n → s.outcome ≡ Abort →
+    AreRestored s.serial b heads n.durable.directory c new → StandPrepared n.durable.units b heads n.durable.directory →
+    StandPrepared (acted (Tables a moment) n).durable.units c new (acted (Tables a moment) n).durable.directory
 
 -- and what the other branches changed can be restored from there, whatever part of it is undone
 abbrev pub OthersStayRestorable : Type 0
-OthersStayRestorable = (a b : List (List ℕ)) (heads new : List (Option FileHead)) (n : Node) (s : Settlement) → AreLeft a heads n.durable.directory → AreUnitsOf n → s.outcome ≡ Abort → AreRestored s.serial a heads n.durable.directory b new →
-    AreRestorable b new (acted (Settles s) n).durable.directory
+OthersStayRestorable = (b c : List (List ℕ)) (heads new : List (Option FileHead)) (n : Node) (a : table.Act) (moment : ℕ) (s : Settlement) → settlement_of a moment ≡ Some s → AreLeft b heads n.durable.directory → AreUnitsOf n → s.outcome ≡ Abort →
+    AreRestored s.serial b heads n.durable.directory c new → AreRestorable c new (acted (Tables a moment) n).durable.directory
 
--- where the journal has no units any more, the files are those of the world
+-- where each unit of the journal is prepared, the files are those of the world
 abbrev pub RestsAsFiles : Type 0
-RestsAsFiles = (content : List (List ℕ)) (heads : List (Option FileHead)) (n : Node) → AreLeft content heads n.durable.directory → AreUnitsOf n → units_in n.durable.units.entries ≡ [] → AreFiles content heads n.durable.directory
+RestsAsFiles = (content : List (List ℕ)) (heads : List (Option FileHead)) (n : Node) → AreLeft content heads n.durable.directory → StandPrepared n.durable.units content heads n.durable.directory → AreUnitsOf n → AllPrepared n.durable.units →
+    AreFiles content heads n.durable.directory

@@ -1,3 +1,4 @@
 pub mod Falls
 pub mod Units
 pub mod Restorable
+pub mod Halves

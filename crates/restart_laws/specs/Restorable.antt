@@ -1,5 +1,6 @@
 -- What unsettled branches changed can be restored, over each act of a node that is up.
-use Rattle.std.specs.Prelude.{◌≡◌, ℕ, ◌-◌, ◌<◌, ◌≤◌, List, [], ◌∷◌, Bool, true, Option, Some, None, map, replicate, slice_set, drop}
+use Rattle.std.specs.Prelude.{◌≡◌, ℕ, ◌-◌, ◌<◌, ◌≤◌, List, [], ◌∷◌, Bool, true, false, Option, Some, None, map, replicate, slice_set, drop}
+use Rattle.std.specs.List.{AllByRecursion}
 use Rattle.file_base.specs.declared.head.FileHead.{FileHead}
 use Rattle.file_base.specs.declared.head.Organization.TheVariants.{Sequential}
 use Rattle.change_set.specs.Files.{AgreesOn, SameFile}
@@ -11,16 +12,17 @@ use Rattle.vms_model.specs.Ids.{Id}
 use Rattle.vms_model.specs.Keys.{Key}
 use Rattle.vms_model.specs.Transactions.{Commit, Abort}
 use Rattle.records_model.specs.Records.{Change}
-use Rattle.records_model.specs.History.{is_held}
+use Rattle.records_model.specs.History.{LiveChanges, is_held, same_id}
 use Rattle.run_model.specs.Operations.{in_order, removed}
-use Rattle.run_model.specs.World.{Node, File, Settlement, AreUnitsOf, Formats, Creates, Marks, Changes, Directs, Settles, acted}
-use Rattle.directory_model.specs.Files.{AreFiles, IsNamed, IsWithin, head_at, file_at}
+use Rattle.run_model.specs.World.{Node, File, Settlement, AreUnitsOf, Formats, Creates, Marks, Tables, Changes, Directs, acted, settlement_of}
+use Rattle.commit_protocol.specs.Table as table
+use Rattle.directory_model.specs.Files.{AreFiles, IsFoundAt, IsNamed, IsWithin, head_at, file_at}
 use Rattle.directory_model.specs.Restoring.{AreRestorable, AreRestored}
 use Rattle.directory_model.specs.Laws.{SameBut, marked}
 use Rattle.restart_laws.specs.Units.{MayChange}
 
--- What unsettled branches changed can be restored in contents that agree on the files, on a new volume, beside a new file or a marked one, after changes of a file that no
--- unsettled branch changed, and once one of the branches is settled.
+-- What unsettled branches changed can be restored in contents that agree on the files, on a new volume, beside a new file or a marked one, after changes that are committed
+-- at once, and once one of the branches is settled.
 pub record KeepsRestorable : Type 0 where
   pub stands : (a b : List (List ℕ)) (heads : List (Option FileHead)) (directory : List (Option File)) → ((f : ℕ) (h : FileHead) → head_at heads f ≡ Some h → AgreesOn h a b) → AreFiles a heads directory →
       AreRestorable a heads directory → AreRestorable b heads directory
@@ -29,12 +31,15 @@ pub record KeepsRestorable : Type 0 where
       AreRestorable content heads n.durable.directory → AreRestorable content (slice_set heads f (Some h)) (acted (Creates f file) n).durable.directory
   pub marks : (content : List (List ℕ)) (heads : List (Option FileHead)) (n : Node) (f : ℕ) (h : FileHead) (name : List ℕ) (units : Bool) → AreFiles content heads n.durable.directory → IsNamed heads f h name →
       AreRestorable content heads n.durable.directory → AreRestorable content (slice_set heads f (Some (marked units h))) (acted (Marks name units) n).durable.directory
-  pub directs : (a b : List (List ℕ)) (heads : List (Option FileHead)) (n : Node) (f : ℕ) (h new : FileHead) (name : List ℕ) (file : File) (cs : List Change) (s : Settlement) → AreFiles a heads n.durable.directory → s.outcome ≡ Commit →
-      IsNamed heads f h name → file_at n.durable.directory f ≡ Some file → file.history.live ≡ [] → SameBut f heads a b → AreRestorable a heads n.durable.directory →
-      AreRestorable b (slice_set heads f (Some new)) (acted (Directs name cs s) n).durable.directory
-  pub commits : (content : List (List ℕ)) (heads : List (Option FileHead)) (n : Node) (s : Settlement) → AreUnitsOf n → AreRestorable content heads n.durable.directory → AreRestorable content heads (acted (Settles s) n).durable.directory
-  pub aborts : (a b : List (List ℕ)) (heads new : List (Option FileHead)) (n : Node) (s : Settlement) → AreFiles a heads n.durable.directory → AreUnitsOf n → s.outcome ≡ Abort → AreRestored s.serial a heads n.durable.directory b new →
-      AreRestorable a heads n.durable.directory → AreRestorable b new (acted (Settles s) n).durable.directory
+  -- where they can once a branch that was none of them made the same changes
+  pub directs : (b : List (List ℕ)) (heads : List (Option FileHead)) (n : Node) (f : ℕ) (name : List ℕ) (file : File) (tid : Id) (keys : List Key) (c : Change) (cs : List Change) (s : Settlement) → s.outcome ≡ Commit → IsFoundAt name n.durable.directory f file →
+      AllByRecursion (λ (l : LiveChanges). same_id s.serial l.serial ≡ false) file.history.live → AreRestorable b heads (acted (Changes tid s.serial name (c ∷ cs) keys) n).durable.directory → AreRestorable b heads (acted (Directs name (c ∷ cs) s) n).durable.directory
+  pub tables : (content : List (List ℕ)) (heads : List (Option FileHead)) (n : Node) (a : table.Act) (moment : ℕ) → settlement_of a moment ≡ None → AreRestorable content heads n.durable.directory →
+      AreRestorable content heads (acted (Tables a moment) n).durable.directory
+  pub commits : (content : List (List ℕ)) (heads : List (Option FileHead)) (n : Node) (a : table.Act) (moment : ℕ) (s : Settlement) → settlement_of a moment ≡ Some s → AreUnitsOf n → AreRestorable content heads n.durable.directory →
+      AreRestorable content heads (acted (Tables a moment) n).durable.directory
+  pub aborts : (b c : List (List ℕ)) (heads new : List (Option FileHead)) (n : Node) (a : table.Act) (moment : ℕ) (s : Settlement) → settlement_of a moment ≡ Some s → AreFiles b heads n.durable.directory → AreUnitsOf n → s.outcome ≡ Abort →
+      AreRestored s.serial b heads n.durable.directory c new → AreRestorable b heads n.durable.directory → AreRestorable c new (acted (Tables a moment) n).durable.directory
 
 -- So it can once one of them has set one key more, or cut a sequential file.
 pub record ChangesRestorable : Type 0 where

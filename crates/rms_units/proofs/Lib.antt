@@ -11,6 +11,7 @@ pub mod OrderLemmas
 pub mod PositionLemmas
 pub mod ReadLemmas
 pub mod Refusing
+pub mod RestartLemmas
 pub mod RoomLemmas
 pub mod SettledLemmas
 pub mod VoteLemmas

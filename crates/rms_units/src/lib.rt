@@ -17,6 +17,6 @@ mod voting;
 pub use asked::KeyChange;
 pub use locking::is_same;
 pub use record_operations::{ReadOp, RecErr, RecordOp, form_refusal, read_refusal};
-pub use tokens::{ActiveUnit, BeginErr, PreparedUnit, SettledUnit, Vote};
-pub use unit_aborts::AbortedUnit;
+pub use tokens::{ActiveUnit, BeginErr, PreparedUnit, SettledUnit, Vote, next_prepared};
+pub use unit_restarts::{AbortedUnit, Restarted};
 pub use units::Units;

@@ -1,6 +1,9 @@
 //! Units as their holders have them.
+ghost use Rattle.std.specs.Prelude.{◌≡◌, ◌∷◌, [], IfNone, IfSome};
+
 use std::marker::Model;
 use thiserror::Error;
+use unit_restarts::Restarted;
 use vms_base::{Moment, Outcome, Serial, Tid};
 
 /// Why no unit was begun.
@@ -58,4 +61,15 @@ pub struct SettledUnit {
     pub(crate) serial: Serial,
     pub(crate) outcome: Outcome,
     pub(crate) moment: Moment,
+}
+
+/// The next of the prepared branches' units that a restart found, in the order of their records.
+pub fn next_prepared(restarted: &mut Restarted) -> Option<PreparedUnit>
+    ensures next { IfSome result (λ place. restarted.old ≡ record restarted.new { units = place ∷ restarted.new.units }) }
+    ensures none { IfNone result ((restarted.old.units ≡ []) × (restarted.new ≡ restarted.old)) }
+{
+    match restarted.next_place() {
+        Some(place) => Some(PreparedUnit { place }),
+        None => None,
+    }
 }

@@ -1,9 +1,9 @@
 //! The recovery units of one volume.
-ghost use Rattle.std.specs.Prelude.{◌≡◌, ◌≤◌, ◌<◌, ◌+◌, ◌⊎◌, ◌∷◌, [], ℕ, true, false, List, None, Some, IfOk, IfErr, IfSome, OnOk, OnErr, IsErr, IsSome, length, option_copied, option_map, vec_capacity};
+ghost use Rattle.std.specs.Prelude.{◌≡◌, ◌≤◌, ◌<◌, ◌+◌, ◌-◌, ◌==◌, ◌⊎◌, ◌∷◌, [], ℕ, true, false, not, List, None, Some, IfOk, IfErr, IfSome, OnOk, OnErr, IsErr, IsSome, length, max, option_copied, option_map};
 ghost use Rattle.std.specs.Option.{option_and_then};
 ghost use Rattle.file_base.specs.declared.head.FileHead.{FileHead as HeadSaid};
 ghost use Rattle.careful_write.specs.Down.{Counts};
-ghost use Rattle.lmcp_log.specs.Log.{slot_of};
+ghost use Rattle.lmcp_log.specs.Log.{slot_of, with_few_prepared};
 ghost use Rattle.log_laws.specs.Slots.{has_free, has_slot};
 ghost use Rattle.unit_table.specs.Places.{AreInOrder};
 ghost use Rattle.unit_votes.specs.Logging.{HasLog, MayHave};
@@ -15,7 +15,6 @@ ghost use Rattle.vms_base.specs.declared.outcomes.Outcome.TheVariants as outcome
 ghost use Rattle.volume.specs.Catalogs.{head_at};
 ghost use Rattle.record_operations.specs.Asking.{file_in, read_file_in};
 ghost use Rattle.unit_aborts.specs.Growing.{AreTold};
-ghost use Rattle.unit_aborts.specs.Reopening.{Reopens, ReopensNot};
 ghost use Rattle.rms_units.specs.Aborting.{AbortsNot, AbortsUnit};
 ghost use Rattle.rms_units.specs.Calls.{ChangesErr, ChangesKey, ChangesKeyErr, ChangesOk, Commits, CommitsNot, DirectsErr, DirectsKey, DirectsKeyErr, DirectsOk, LooksErr, LooksOk, ReadsErr, ReadsOk};
 ghost use Rattle.rms_units.specs.Keys.{position_by};
@@ -25,10 +24,11 @@ ghost use Rattle.unit_journal.specs.Groups.{Caused, Goes, Grows};
 ghost use Rattle.unit_journal.specs.Settling.{next_moment as next_said};
 ghost use Rattle.rms_units.specs.Truncating.{ChangesCut, ChangesCutErr, DirectsCut, DirectsCutErr};
 ghost use Rattle.file_base.specs.declared.head.Organization.TheVariants as organization;
+ghost use Rattle.unit_restarts.specs.Restarting.{Restarts, RestartsNot};
 ghost use Rattle.rms_units.specs.State.{IsEarly, IsInOrder, nothing_begun, unit_of, with_begun, without_place};
 ghost use Rattle.rms_units.specs.Voting.{AbortsPrepared, AbortsPreparedNot, CommitsLogged, CommitsLoggedNot, IfYes, Votes, VotesNot, is_yes, votes_yes};
 
-use crate::aborting::{AbortRoom, abort_branch, reopen_journal};
+use crate::aborting::abort_branch;
 use crate::asked::Asked;
 use crate::changing::asked_by;
 use crate::directly::{make_directly, refuse_directly};
@@ -47,9 +47,10 @@ use record_locks::Locks;
 use record_operations::{ReadOp, RecErr, RecordOp, form_refusal, read_refusal};
 use std::alloc::{AllocError, Global};
 use std::marker::Model;
-use unit_aborts::AbortedUnit;
 use unit_cuts::{Cut, CutRoom, commit_cut};
+use unit_entries::ChangedKeys;
 use unit_journal::{next_moment, settle};
+use unit_restarts::{RestartRoom, Restarted, restart};
 use unit_table::{Branch, UnitTable};
 use vms_base::{Key, LogRec, Moment, Outcome, Reason, Record, RmList, Serial, Tid, put_id};
 use volume::Volume;
@@ -65,7 +66,9 @@ pub struct Units {
     found: Record,
     value: Record,
     cut: CutRoom,
-    abort: AbortRoom,
+    // The keys that a unit changed, where it is aborted.
+    keys: ChangedKeys,
+    restart: RestartRoom,
 }
 
 impl Model for Units {
@@ -113,7 +116,8 @@ impl Units {
             found: Record::reserve(alloc)?,
             value: Record::reserve(alloc)?,
             cut: CutRoom::reserve(alloc)?,
-            abort: AbortRoom::reserve(alloc)?,
+            keys: ChangedKeys::reserve(alloc)?,
+            restart: RestartRoom::reserve(alloc)?,
         })
     }
 
@@ -165,6 +169,22 @@ impl Units {
         let mut bytes = [0; 16];
         put_id(&branch.tid.0, &mut bytes);
         put_id(&branch.serial.0, &mut bytes);
+    }
+
+    /// Whether a unit has changed something.
+    pub fn has_changes(&self, unit: &ActiveUnit) -> bool
+        requires { IsSome (unit_of unit.now self.now) }
+        ensures { IfSome (unit_of unit.now self.now) (λ u. result ≡ not (length u.positions == 0)) }
+    {
+        !self.table.positions(unit.place).is_empty()
+    }
+
+    /// Whether a prepared unit changed something.
+    pub fn had_changes(&self, unit: &PreparedUnit) -> bool
+        requires { IsSome (unit_of unit.now self.now) }
+        ensures { IfSome (unit_of unit.now self.now) (λ u. result ≡ not (length u.positions == 0)) }
+    {
+        !self.table.positions(unit.place).is_empty()
     }
 
     /// How a unit was settled.
@@ -617,7 +637,7 @@ impl Units {
             &branch,
             reason,
             clock,
-            &mut self.abort,
+            &mut self.keys,
             &mut self.found,
             &mut self.entry,
         ) {
@@ -646,9 +666,9 @@ impl Units {
         requires slot { IfSome (unit_of unit self.old) (λ u. votes_yes u.positions rms.now ≡ true → (has_slot u.serial log.old ≡ true) ⊎ (has_free log.old ≡ true)) }
         requires order { IsInOrder self.old volume.old }
         requires early { IsEarly volume.old }
-        requires log { HasLog log.old volume.old }
+        requires before { 584 + length log.old ≤ volume.old.catalog.ru.start }
         ensures order { OnOk result (IsInOrder self.new volume.new) }
-        ensures log { OnOk result (HasLog log.new volume.new) }
+        ensures log { OnOk result (HasLog log.old volume.old → HasLog log.new volume.new) }
         ensures place { IfOk result (λ vote. IfYes vote (λ place. place ≡ unit)) }
         ensures votes { IfOk result (λ vote. (u : OpenUnit) → unit_of unit self.old ≡ Some u → Votes (is_yes vote) unit u rms.now self.old log.old volume.old self.new log.new volume.new) }
         ensures err { OnErr result ((u : OpenUnit) → unit_of unit self.old ≡ Some u → VotesNot unit u rms.now self.old log.old volume.old self.new log.new volume.new) }
@@ -689,9 +709,9 @@ impl Units {
         requires order { IsInOrder self.old volume.old }
         requires early { IsEarly volume.old }
         requires clock { clock.0 < 24000001000066 }
-        requires log { HasLog log.old volume.old }
+        requires before { 584 + length log.old ≤ volume.old.catalog.ru.start }
         ensures order { OnOk result (IsInOrder self.new volume.new) }
-        ensures log { OnOk result (HasLog log.new volume.new) }
+        ensures log { OnOk result (HasLog log.old volume.old → HasLog log.new volume.new) }
         ensures done { IfOk result (λ told. (u : OpenUnit) → unit_of unit self.old ≡ Some u → CommitsLogged unit u told.tid told.serial (slot_of (option_copied logged.entry)) clock.0 told.moment.0 self.old log.old volume.old self.new log.new volume.new) }
         ensures commits { IfOk result (λ told. told.outcome ≡ outcome.Commit) }
         ensures err { OnErr result ((u : OpenUnit) → unit_of unit self.old ≡ Some u → CommitsLoggedNot unit u (slot_of (option_copied logged.entry)) clock.0 self.old log.old volume.old self.new log.new volume.new) }
@@ -719,9 +739,9 @@ impl Units {
         requires order { IsInOrder self.old volume.old }
         requires early { IsEarly volume.old }
         requires clock { clock.0 < 24000001000066 }
-        requires log { HasLog log.old volume.old }
+        requires before { 584 + length log.old ≤ volume.old.catalog.ru.start }
         ensures order { OnOk result (IsInOrder self.new volume.new) }
-        ensures log { OnOk result (HasLog log.new volume.new) }
+        ensures log { OnOk result (HasLog log.old volume.old → HasLog log.new volume.new) }
         ensures done { IfOk result (λ told. (u : OpenUnit) → unit_of place self.old ≡ Some u → CommitsLogged place u told.tid told.serial (slot_of (option_copied logged.entry)) clock.0 told.moment.0 self.old log.old volume.old self.new log.new volume.new) }
         ensures commits { IfOk result (λ told. told.outcome ≡ outcome.Commit) }
         ensures err { OnErr result ((u : OpenUnit) → unit_of place self.old ≡ Some u → CommitsLoggedNot place u (slot_of (option_copied logged.entry)) clock.0 self.old log.old volume.old self.new log.new volume.new) }
@@ -767,9 +787,9 @@ impl Units {
         requires order { IsInOrder self.old volume.old }
         requires early { IsEarly volume.old }
         requires clock { clock.0 < 24000001000066 }
-        requires log { HasLog log.old volume.old }
+        requires before { 584 + length log.old ≤ volume.old.catalog.ru.start }
         ensures order { OnOk result (IsInOrder self.new volume.new) }
-        ensures log { OnOk result (HasLog log.new volume.new) }
+        ensures log { OnOk result (HasLog log.old volume.old → HasLog log.new volume.new) }
         ensures done { IfOk result (λ told. (u : OpenUnit) → unit_of unit self.old ≡ Some u → CommitsLogged unit u told.tid told.serial (slot_of (option_copied logged.entry)) clock.0 told.moment.0 self.old log.old volume.old self.new log.new volume.new) }
         ensures commits { IfOk result (λ told. told.outcome ≡ outcome.Commit) }
         ensures err { OnErr result ((u : OpenUnit) → unit_of unit self.old ≡ Some u → CommitsLoggedNot unit u (slot_of (option_copied logged.entry)) clock.0 self.old log.old volume.old self.new log.new volume.new) }
@@ -796,7 +816,7 @@ impl Units {
         requires order { IsInOrder self.old volume.old }
         requires early { IsEarly volume.old }
         requires clock { clock.0 < 24000001000066 }
-        requires log { HasLog log.old volume.old }
+        requires before { 584 + length log.old ≤ volume.old.catalog.ru.start }
         ensures order { OnOk result (IsInOrder self.new volume.new) }
         ensures done { IfOk result (λ told. (u : OpenUnit) → unit_of unit self.old ≡ Some u → AbortsPrepared unit u told.tid told.serial reason clock.0 told.moment.0 self.old log.old volume.old self.new log.new volume.new) }
         ensures aborts { IfOk result (λ told. told.outcome ≡ outcome.Abort) }
@@ -817,7 +837,7 @@ impl Units {
             &branch,
             reason,
             clock,
-            &mut self.abort,
+            &mut self.keys,
             &mut self.found,
             &mut self.entry,
         ) {
@@ -843,44 +863,55 @@ impl Units {
         self.locks.release_all(branch.serial);
     }
 
-    /// Aborts the units that a fall left in the journal, in the order of their first entries, and tells their settlements, also after Down. Nothing is done where
-    /// the journal is not in order, or has not the room that the settlements take. Prepared units stay.
+    /// Takes up what a fall left. The units of the journal that are not prepared are aborted, in the order of their first entries, and their settlements are told, also
+    /// after Down. Nothing is aborted where the journal is not in order, or has not the room that the settlements take. The branches of the log's prepared records are
+    /// units again, in the order in which they were prepared, with their changes, and hold the keys that these changed; their records and the committed ones are told.
+    /// Units that are aborted and units that are taken up are no more than 64 together: of more, the prepared records of the last slots are read as free.
     pub fn reopen<D: Disk>(
         &mut self,
         volume: &mut Volume<D>,
+        log: &mut Log,
         clock: Moment,
-        out: &mut Vec<AbortedUnit>,
+        out: &mut Restarted,
     ) -> Result<(), Down>
         requires none { self.old ≡ nothing_begun }
         requires order { IsInOrder self.old volume.old }
         requires early { IsEarly volume.old }
         requires moment { volume.old.catalog.home.greatest_moment.0 + 64 ≤ 24000001000066 }
         requires clock { clock.0 + 64 ≤ 24000001000066 }
-        requires places { 64 ≤ vec_capacity out.old }
-        ensures same { self.new ≡ nothing_begun }
+        ensures log { log.new ≡ with_few_prepared (64 - length out.new.undone) log.old }
+        ensures down { OnErr result (self.new ≡ nothing_begun) }
         ensures order { OnOk result (IsInOrder self.new volume.new) }
-        ensures done { OnOk result (Reopens clock.0 volume.old volume.new out.new.items) }
-        ensures err { OnErr result (ReopensNot clock.0 volume.old volume.new out.new.items) }
+        ensures done { OnOk result (Restarts clock.0 volume.old log.old log.new self.new.units self.new.locks volume.new out.new) }
+        ensures err { OnErr result (RestartsNot clock.0 volume.old volume.new out.new.undone) }
         ensures grows { Grows 64 (clock.0 + 64) volume.old volume.new }
-        ensures moments { AreTold volume.new out.new.items }
-        ensures places { 64 ≤ vec_capacity out.new }
-        ensures few { length out.new.items ≤ 64 }
+        ensures room { OnOk result (volume.new.catalog.home.greatest_moment.0 + length (begun self.new.units) ≤ max volume.old.catalog.home.greatest_moment.0 clock.0 + 64) }
+        ensures moments { AreTold volume.new out.new.undone }
+        ensures few { length out.new.undone ≤ 64 }
         ensures goes { Goes volume.old.store.disk volume.new.store.disk }
         ensures cause { IfErr result (λ down. Caused (Some down) volume.old.store.disk volume.new.store.disk) }
         ensures pool { volume.new.store.pool ≡ volume.old.store.pool }
     {
-        match reopen_journal(
+        match restart(
             volume,
+            log,
             clock,
             &mut self.table,
-            &mut self.abort,
+            &mut self.locks,
+            &mut self.restart,
+            &mut self.keys,
             &mut self.found,
             &mut self.entry,
             out,
         ) {
-            Err(down) => return Err(down),
+            Err(down) => {
+                self.table.clear();
+                self.locks.clear();
+                return Err(down);
+            }
             Ok(()) => {}
         }
+        self.table.stand_in_order();
         Ok(())
     }
 }

@@ -11,13 +11,13 @@ ghost use Rattle.vms_base.specs.Ids.{serial_of, tid_of};
 ghost use Rattle.rms_units.specs.State.{IsEarly, IsInOrder};
 ghost use Rattle.rms_units.specs.Voting.{AbortsPrepared, AbortsPreparedNot, CommitsLogged, CommitsLoggedNot, IfYes, Votes, VotesNot, is_yes, votes_yes};
 
-use crate::aborting::AbortRoom;
 use crate::tokens::{PreparedUnit, Vote};
 use block_disk::Disk;
 use careful_write::Down;
 use journal_format::EntryBuf;
 use lmcp_log::Log;
 use record_locks::Locks;
+use unit_entries::ChangedKeys;
 use unit_journal::next_moment;
 use unit_table::{Branch, UnitTable};
 use unit_votes::{abort_logged, commit_logged, enter_vote};
@@ -62,9 +62,9 @@ pub(crate) fn vote<D: Disk>(
     requires slot { IfSome (unit_at table.old.places place) (λ u. votes_yes u.positions rms.now ≡ true → (has_slot u.serial log.old ≡ true) ⊎ (has_free log.old ≡ true)) }
     requires order { IsInOrder (record { units = table.old; locks = locks.old.locks }) volume.old }
     requires early { IsEarly volume.old }
-    requires log { HasLog log.old volume.old }
+    requires before { 584 + length log.old ≤ volume.old.catalog.ru.start }
     ensures order { OnOk result (IsInOrder (record { units = table.new; locks = locks.new.locks }) volume.new) }
-    ensures log { OnOk result (HasLog log.new volume.new) }
+    ensures log { OnOk result (HasLog log.old volume.old → HasLog log.new volume.new) }
     ensures votes { IfOk result (λ yes. (u : OpenUnit) → unit_at table.old.places place ≡ Some u →
         Votes yes place u rms.now (record { units = table.old; locks = locks.old.locks }) log.old volume.old (record { units = table.new; locks = locks.new.locks }) log.new volume.new) }
     ensures breaks { OnErr result ((u : OpenUnit) → unit_at table.old.places place ≡ Some u →
@@ -111,11 +111,11 @@ pub(crate) fn commit<D: Disk>(
     requires order { IsInOrder (record { units = table.old; locks = locks.old.locks }) volume.old }
     requires early { IsEarly volume.old }
     requires clock { clock.0 < 24000001000066 }
-    requires log { HasLog log.old volume.old }
+    requires before { 584 + length log.old ≤ volume.old.catalog.ru.start }
     requires may { MayHave (serial_of branch.now.serial) (slot_of (option_copied logged)) log.old }
     ensures locks { locks.new ≡ record locks.old { locks = released (serial_of branch.now.serial) locks.old.locks } }
     ensures order { OnOk result (IsInOrder (record { units = table.new; locks = locks.new.locks }) volume.new) }
-    ensures log { OnOk result (HasLog log.new volume.new) }
+    ensures log { OnOk result (HasLog log.old volume.old → HasLog log.new volume.new) }
     ensures commits { IfOk result (λ moment. (u : OpenUnit) → unit_at table.old.places place ≡ Some u →
         CommitsLogged place u branch.now.tid branch.now.serial (slot_of (option_copied logged.entry)) clock.0 moment.0 (record { units = table.old; locks = locks.old.locks }) log.old volume.old (record { units = table.new; locks = locks.new.locks }) log.new volume.new) }
     ensures breaks { OnErr result ((u : OpenUnit) → unit_at table.old.places place ≡ Some u →
@@ -155,7 +155,7 @@ pub(crate) fn abort_prepared<D: Disk>(
     branch: &Branch,
     reason: Reason,
     clock: Moment,
-    room: &mut AbortRoom,
+    keys: &mut ChangedKeys,
     image: &mut Record,
     entry: &mut EntryBuf,
 ) -> Result<Moment, Down>
@@ -165,7 +165,7 @@ pub(crate) fn abort_prepared<D: Disk>(
     requires order { IsInOrder (record { units = table.old; locks = locks.old.locks }) volume.old }
     requires early { IsEarly volume.old }
     requires clock { clock.0 < 24000001000066 }
-    requires log { HasLog log.old volume.old }
+    requires before { 584 + length log.old ≤ volume.old.catalog.ru.start }
     ensures locks { locks.new ≡ record locks.old { locks = released (serial_of branch.now.serial) locks.old.locks } }
     ensures order { OnOk result (IsInOrder (record { units = table.new; locks = locks.new.locks }) volume.new) }
     ensures aborts { IfOk result (λ moment. (u : OpenUnit) → unit_at table.old.places place ≡ Some u →
@@ -179,16 +179,7 @@ pub(crate) fn abort_prepared<D: Disk>(
     locks.release_all(branch.serial);
     let moment = next_moment(clock, volume.home());
     match abort_logged(
-        volume,
-        log,
-        table,
-        place,
-        branch,
-        reason,
-        moment,
-        &mut room.keys,
-        image,
-        entry,
+        volume, log, table, place, branch, reason, moment, keys, image, entry,
     ) {
         Err(down) => return Err(down),
         Ok(()) => {}

@@ -1,7 +1,7 @@
 -- The first unit of a branch, and what becomes of the units with one entry more.
-use Rattle.std.proofs.Common.{◌≡◌, ℕ, zero, suc, ◌+◌, ◌≤◌, ◌<◌, Bool, true, false, List, [], ◌∷◌, ◌++◌, ◌||◌, ◌==◌, length, map, take, set, get_or, Option, Some, None, Result, Ok, Err, IsOk, IfOk, is_some, slice_get, if◌then◌else◌, refl, sym, ap, subst, ◌∙◌, arith}
+use Rattle.std.proofs.Common.{◌≡◌, ℕ, zero, suc, ◌+◌, ◌<◌, Bool, true, false, List, [], ◌∷◌, ◌++◌, ◌||◌, ◌==◌, length, map, take, set, get_or, Option, Some, None, Result, Ok, Err, IsOk, IfOk, is_some, slice_get, if◌then◌else◌, refl, sym, ap, subst, ◌∙◌, arith}
 use Rattle.std.proofs.lemmas.Bool.{false≢true}
-use Rattle.std.proofs.lemmas.List.{length-append, length-map}
+use Rattle.std.proofs.lemmas.List.{length-append}
 use Rattle.std.specs.List.{AllByRecursion, list_any, remove}
 use Rattle.indexmap.specs.IndexSet.{insert_key}
 use Rattle.vms_model.specs.Ids.{Id}
@@ -132,9 +132,9 @@ noted_longer ks new k none is = ap length (is ∙ put_key ks k none) ∙ length-
 -- the units after one entry more, by what it is and whether its branch has a unit
 pub settled_after : (position : ℕ) (e : Entry) (us : List UnitTold) → (e.kind == 3) ≡ true → units_after position e us ≡ without_unit e.serial us
 settled_after position e us is =
-    ap (λ (b : Bool). if b then without_unit e.serial us else (if is_some (find_unit e.serial us) then with_unit e.serial (more_told e) us else us ++ first_told position e ∷ [])) is
+    ap (λ (b : Bool). if b then without_unit e.serial us else (if is_some (find_unit e.serial us) then with_unit e.serial (more_told e) us else (if e.kind == 1 then us ++ first_told position e ∷ [] else us))) is
 
 pub more_after : (position : ℕ) (e : Entry) (us : List UnitTold) (u : UnitTold) → (e.kind == 3) ≡ false → find_unit e.serial us ≡ Some u → units_after position e us ≡ with_unit e.serial (more_told e) us
 more_after position e us u other found =
-    ap (λ (b : Bool). if b then without_unit e.serial us else (if is_some (find_unit e.serial us) then with_unit e.serial (more_told e) us else us ++ first_told position e ∷ [])) other
-    ∙ ap (λ (o : Option UnitTold). if is_some o then with_unit e.serial (more_told e) us else us ++ first_told position e ∷ []) found
+    ap (λ (b : Bool). if b then without_unit e.serial us else (if is_some (find_unit e.serial us) then with_unit e.serial (more_told e) us else (if e.kind == 1 then us ++ first_told position e ∷ [] else us))) other
+    ∙ ap (λ (o : Option UnitTold). if is_some o then with_unit e.serial (more_told e) us else (if e.kind == 1 then us ++ first_told position e ∷ [] else us)) found

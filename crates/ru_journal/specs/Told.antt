@@ -5,8 +5,8 @@ use Rattle.vms_model.specs.Ids.{Id}
 use Rattle.records_model.specs.History.{same_id}
 use Rattle.journal_model.specs.Entries.{Entry}
 
--- A branch that has entries in the journal, none of which settles it: where its first entry begins, how many changes it made, in which files (the bit of
--- each file's number), and whether it is prepared.
+-- A branch that has changes in the journal and is not settled there: where its first change begins, how many it made, in which files (the bit of each file's
+-- number), and whether it is prepared.
 pub record UnitTold : Type 0 where
   pub tid : Id
   pub serial : Id
@@ -15,7 +15,7 @@ pub record UnitTold : Type 0 where
   pub files : ℕ
   pub prepared : Bool
 
--- How many entries there were, the units in the order of their first entries, and the branches that were settled, in the order of their settlements.
+-- How many entries there were, the units in the order of their first changes, and the branches that were settled, in the order of their settlements.
 pub record Told : Type 0 where
   pub entries : ℕ
   pub units : List UnitTold
@@ -41,26 +41,19 @@ without_unit serial (u ∷ us) = if same_id serial u.serial then us else u ∷ w
 abbrev pub file_bit : ℕ → ℕ
 file_bit file = 2 ^ file
 
--- the unit that the first entry of a branch begins
+-- the unit that the first Change of a branch begins
 abbrev pub first_told : (position : ℕ) → Entry → UnitTold
-first_told position e = record {
-  tid = e.tid;
-  serial = e.serial;
-  first = position;
-  changes = if e.kind == 1 then 1 else 0;
-  files = if e.kind == 1 then file_bit e.file else 0;
-  prepared = e.kind == 2;
-}
+first_told position e = record { tid = e.tid; serial = e.serial; first = position; changes = 1; files = file_bit e.file; prepared = false }
 
 -- a unit after one entry more of its branch, a Change or a Prepared
 abbrev pub more_told : Entry → UnitTold → UnitTold
 more_told e u = if e.kind == 1 then record u { changes = u.changes + 1; files = bit_or u.files (file_bit e.file) } else record u { prepared = true }
 
--- the units after one entry more that begins at this position
+-- the units after one entry more that begins at this position. The changes of a branch may be gone from the journal before its Prepared entry; that begins no unit.
 abbrev pub units_after : (position : ℕ) → Entry → List UnitTold → List UnitTold
 units_after position e us =
     if e.kind == 3 then without_unit e.serial us
-    else (if is_some (find_unit e.serial us) then with_unit e.serial (more_told e) us else us ++ first_told position e ∷ [])
+    else (if is_some (find_unit e.serial us) then with_unit e.serial (more_told e) us else (if e.kind == 1 then us ++ first_told position e ∷ [] else us))
 
 abbrev pub after : (position : ℕ) → Entry → Told → Told
 after position e t = record {
@@ -78,10 +71,10 @@ told_onto t (e ∷ es) = told_onto (after e.0 e.1 t) es
 abbrev pub told_by : List (ℕ × Entry) → Told
 told_by es = told_onto nothing_told es
 
--- An entry that may not stand behind the others. Its branch is settled. Or it names another transaction than the branch's other entries. Or it is a Change or
--- a Prepared of a branch that is prepared, or the branch's 1,025th Change. Or there would be more than 64 units.
+-- An entry that may not stand behind the others. Its branch is settled. Or it names another transaction than the branch's unit. Or it is a Change or
+-- a Prepared of a unit that is prepared, or the unit's 1,025th Change. Or there would be more than 64 units.
 abbrev pub unit_refuses : Entry → (units : ℕ) → Option UnitTold → Bool
-unit_refuses e units None = not (e.kind == 3) && nat_le 64 units
+unit_refuses e units None = (e.kind == 1) && nat_le 64 units
 unit_refuses e units (Some u) = not (same_id e.tid u.tid) || (not (e.kind == 3) && u.prepared) || ((e.kind == 1) && nat_le 1024 u.changes)
 
 abbrev pub is_out_of_order : Entry → Told → Bool

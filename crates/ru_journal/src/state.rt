@@ -31,7 +31,7 @@ pub enum RuErr {
     Order,
 }
 
-/// What the entries of a recovery unit journal tell: the units that are not settled, in the order of their first entries.
+/// What the entries of a recovery unit journal tell: the units that are not settled, in the order of their first changes.
 #[derive(Drop)]
 pub struct RuState {
     units: Vec<UnitInfo>,
@@ -74,13 +74,23 @@ fn settles(e: &EntryHead) -> bool
     }
 }
 
+// Whether an entry tells of a change.
+fn changes(e: &EntryHead) -> bool
+    ensures { result ≡ (kind_code e.now.kind == 1) }
+{
+    match e.kind {
+        EntryKind::Change => true,
+        _ => false,
+    }
+}
+
 // Whether an entry may not follow those that told these units.
 fn is_refused(units: &[UnitInfo], e: &EntryHead) -> bool
     ensures { result ≡ unit_refuses (entry_of e.now []) (length units.now) (find_unit (serial_of e.now.serial) (map unit_of units.now)) }
 {
     match place_of(units, &e.serial) {
         Some(i) => units[i].refuses(e),
-        None => !settles(e) && units.len() >= MOST_UNITS,
+        None => changes(e) && units.len() >= MOST_UNITS,
     }
 }
 
@@ -109,8 +119,10 @@ fn put_entry(units: &mut Vec<UnitInfo>, position: u64, e: &EntryHead)
             units[i] = unit;
         }
         None => {
-            let unit = UnitInfo::begin(position, e);
-            units.push_reserved(unit);
+            if changes(e) {
+                let unit = UnitInfo::begin(position, e);
+                units.push_reserved(unit);
+            }
         }
     }
 }

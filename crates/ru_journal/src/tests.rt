@@ -42,18 +42,19 @@ fn takes(state: &mut RuState, at: u64, e: Option<EntryHead>) -> bool {
 
 // Entries, one a row, each with whether it is taken, and what is told after it: how many units there are, how many bytes are owed and where the
 // earliest Change begins.
-const ROWS: [(u8, u8, u32, u32, bool, usize, u32, Option<u64>); 14] = [
+const ROWS: [(u8, u8, u32, u32, bool, usize, u32, Option<u64>); 15] = [
     (b'S', 0, 9, 9, true, 0, 0, None),
     (b'C', 0, 9, 9, false, 0, 0, None),
-    (b'P', 0, 1, 1, true, 1, 0, None),
-    (b'P', 0, 1, 1, false, 1, 0, None),
-    (b'C', 0, 1, 1, false, 1, 0, None),
-    (b'C', 3, 2, 2, true, 2, 96, Some(5)),
-    (b'C', 5, 2, 2, true, 2, 96, Some(5)),
-    (b'C', 5, 3, 2, false, 2, 96, Some(5)),
-    (b'C', 0, 2, 3, true, 3, 192, Some(5)),
-    (b'S', 0, 1, 1, true, 2, 192, Some(5)),
+    (b'P', 0, 1, 1, true, 0, 0, None),
+    (b'S', 0, 1, 1, true, 0, 0, None),
+    (b'C', 0, 1, 1, false, 0, 0, None),
+    (b'C', 3, 2, 2, true, 1, 96, Some(5)),
+    (b'C', 5, 2, 2, true, 1, 96, Some(5)),
+    (b'C', 5, 3, 2, false, 1, 96, Some(5)),
+    (b'C', 0, 2, 3, true, 2, 192, Some(5)),
     (b'P', 0, 2, 2, true, 2, 144, Some(5)),
+    (b'P', 0, 2, 2, false, 2, 144, Some(5)),
+    (b'C', 0, 2, 2, false, 2, 144, Some(5)),
     (b'S', 0, 3, 2, false, 2, 144, Some(5)),
     (b'S', 0, 2, 2, true, 1, 96, Some(8)),
     (b'S', 0, 2, 2, false, 1, 96, Some(8)),
@@ -92,6 +93,7 @@ fn limits_are_kept(rt: HostRuntime) -> Result<(), Fail> {
         assert!(rt; takes(&mut state, 0, entry(b'C', 0, n, n)), "{n}");
     }
     assert!(rt; !takes(&mut state, 0, entry(b'C', 0, 65, 65)));
+    assert!(rt; takes(&mut state, 0, entry(b'P', 0, 65, 65)));
     assert!(rt; takes(&mut state, 0, entry(b'S', 0, 65, 65)));
     for n in 2..1_025 {
         assert!(rt; takes(&mut state, 0, entry(b'C', 0, 1, 1)), "{n}");

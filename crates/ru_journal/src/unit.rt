@@ -10,12 +10,12 @@ use vms_base::{Id, Serial, Tid};
 /// How many changes a unit may have.
 pub const MOST_CHANGES: u32 = 1_024;
 
-/// A branch that has entries in a journal and is not settled there.
+/// A branch that has changes in a journal and is not settled there.
 #[derive(Clone, Copy, Debug, Drop)]
 pub struct UnitInfo {
     pub tid: Tid,
     pub serial: Serial,
-    /// Where its first entry begins.
+    /// Where its first change begins.
     pub first: u64,
     /// How many changes it made.
     pub changes: u32,
@@ -36,27 +36,19 @@ impl UnitInfo {
     ghost use Rattle.ru_journal.specs.Told.{first_told, more_told, unit_refuses, owed_to};
     ghost use Rattle.ru_journal.specs.Units.{unit_of};
 
-    // The unit that a Change or a Prepared begins.
+    // The unit that a Change begins.
     pub(crate) fn begin(position: u64, e: &EntryHead) -> UnitInfo
         requires file { e.now.file < 64 }
         ensures unit { unit_of result ≡ first_told position (entry_of e.now []) }
         ensures few { result.changes ≤ 1 }
     {
-        let is_change = match e.kind {
-            EntryKind::Change => true,
-            _ => false,
-        };
-        let is_prepared = match e.kind {
-            EntryKind::Prepared => true,
-            _ => false,
-        };
         UnitInfo {
             tid: e.tid,
             serial: e.serial,
             first: position,
-            changes: if is_change { 1 } else { 0 },
-            files: if is_change { 1 << e.file } else { 0 },
-            prepared: is_prepared,
+            changes: 1,
+            files: 1 << e.file,
+            prepared: false,
         }
     }
 

@@ -1,245 +1,428 @@
--- Which statements show the lines of settlements, and where.
-use Rattle.std.proofs.Common.{◌≡◌, ℕ, ◌+◌, zero, suc, ◌⊎◌, List, [], ◌∷◌, ◌++◌, map, Bool, true, false, Option, Some, None, refl, sym, ◌∙◌, ap, subst, inl, inr}
-use Rattle.vms_model.specs.Transactions.{Outcome, Commit, Abort, Reason}
+-- What refuses a task, and how a success is answered: what holds of each task.
+use Rattle.std.proofs.Common.{◌≡◌, ℕ, ◌==◌, List, [], ◌∷◌, Bool, true, false, not, ◌&&◌, Option, Some, None, refl, subst, sym}
+use Rattle.std.specs.Prelude.{nat_lt}
+use Rattle.std.specs.Option.{option_and_then}
+use Rattle.vms_model.specs.Ids.{Id}
+use Rattle.vms_model.specs.Keys.{Key, Number, Text}
+use Rattle.vms_model.specs.Transactions.{Commit, Abort}
 use Rattle.transcript_model.specs.Lines as line
 use Rattle.transcript_model.specs.Lines.{Line, Cause}
-use Rattle.script_model.specs.Statements.{At, Request, Init, Boot, Create, SetFile, StartTrans, Records, Direct, EndTrans, AbortTrans, Dump, DumpJournal, Fuse, Crash}
-use Rattle.unit_laws.specs.Journal as journal
-use Rattle.unit_laws.specs.Journal.{JournalEntry, entry_size}
-use Rattle.run_model.specs.World.{World, Shared, Node, Settlement, Act, Boots, ComesUp, find_node, fallen, acted}
-use Rattle.run_model.specs.Answers.{Row, refused_before_reading, refused_after_reading, rows_at, closing_of, answer_at, powers, operated, last_line, last_lines, left_active, records_of, entry_line, entry_lines, shown_line, silent, undoes}
-use Rattle.run_model.specs.Steps as task
-use Rattle.run_model.specs.Steps.{Serves, Choice, Whole, WithoutMemory, Unpowered, Cut, TaskEffect, RequestAllowed, task_effect, lines_of_rows, node_after, node_after_rows, rows_if, ready_node, act_begun}
-use Rattle.run_model.specs.Statements.{Step, stops_at, RoseAt}
-use Rattle.run_model.specs.Laws.{is_refusal}
-use Rattle.run_model.specs.Promises.{In}
-use Rattle.run_model.specs.Running.{Each}
-use Rattle.run_model.proofs.IdLemmas.{each_push}
-use Rattle.run_model.proofs.FindLemmas.{found_name}
-use Rattle.run_model.proofs.AnswerLemmas.{refuses_before_reading, refuses_after_reading, rows_found, answer_found, operation_told_is}
-use Rattle.run_model.proofs.Ways.{done_at, readied}
-use Rattle.run_model.proofs.WorldLemmas.{is_ready}
-use Rattle.run_model.proofs.RowKinds.{each_branch, each_created, each_shown, each_undone}
-use Rattle.run_model.proofs.WayLemmas.{step_lines}
-use Rattle.run_model.proofs.NodeTurns.{NodeTurn}
+use Rattle.script_model.specs.Statements.{Request, Init, Boot, Create, SetFile, StartTrans, AddBranch, StartBranch, Records, Direct, EndBranch, EndTrans, AbortTrans, Inquire, Dump, Named, ByLabel, BySerial, Operation, Put, Update, Delete, Truncate, Get, Next}
+use Rattle.records_model.specs.Records.{Records as TheRecords}
+use Rattle.records_model.specs.History.{first_to_change}
+use Rattle.commit_protocol.specs.Table as table
+use Rattle.commit_protocol.specs.Table.{Branch, Notes, Settles}
+use Rattle.commit_protocol.specs.Rows.{row}
+use Rattle.commit_protocol.specs.Rows as rows
+use Rattle.commit_protocol.specs.Allowed.{is_working, may_end}
+use Rattle.run_model.specs.World.{Shared, Node, File, Organization, Sequential, Relative, Indexed, Volume, Sound, Faulty, Barred, Unknown, NoRing, AllBoots, LateMoment, FarPosition, Label, find_file, find_label, labelled, serial_labelled, serials_of, tm_of}
+use Rattle.run_model.specs.Locks.{holder}
+use Rattle.run_model.specs.Operations.{first_of, refused_if, first_behind, in_order, record_in, standing_of, count_of, key_refused, place_refused, delete_refused, truncate_refused, after_refused, form_refused, keys_asked, keys_found, put_refused, other_refused, update_refused, missing, at_end, data_refused, put_answer, found_answer, next_answer, operation_answer}
+use Rattle.run_model.specs.Answers.{bar_line, Task, Serves, Restarts, service, task_service, authorised, boot_limit, bootable, branch_labelled, branch_named, changes_at, end_answer, found_refused, held_against, in_state, is_file_form, is_first_active, is_in_doubt, is_marked, is_open, is_volume_form, journal_full, keys_refused, last_position, made_label, made_name, moment_limit, more_bids, more_branches, more_changes, needs_unit, new_file, new_label, of_file, of_label, operation_told, position_limit, refused_before_reading, seconds_refused, there_is_file, unchanged_file, unsettled, unsettled_label}
+use Rattle.run_model.specs.StepLaws.{is_refusal}
 
--- whether a line is that of a settlement, and whether it is that of a commitment
-abbrev pub is_settling : Line → Bool
-is_settling (line.Committed tid serial moment) = true
-is_settling (line.Aborted tid serial reason moment) = true
-is_settling other = false
+-- a line that may stand here passes this test
+pub record Says (test : Line → Bool) (cause : Option Line) : Type 0 where
+  pub says : (refusal : Line) → cause ≡ Some refusal → test refusal ≡ true
 
-abbrev pub is_committing : Line → Bool
-is_committing (line.Committed tid serial moment) = true
-is_committing other = false
+module _ (test : Line → Bool) where
+  pub says_none : Says test None
+  says_none = record { says = λ refusal e. let none : ⊥ = cc in absurd none }
 
-abbrev pub IsPlain : Line → Type 0
-IsPlain l = is_settling l ≡ false
+  pub says_some : (refusal : Line) → test refusal ≡ true → Says test (Some refusal)
+  says_some refusal h = record { says = λ other e. let same : refusal ≡ other = cc in rw (← same) h }
 
-abbrev pub CommitsNone : Line → Type 0
-CommitsNone l = is_committing l ≡ false
+  pub says_if : (b : Bool) (refusal : Line) → test refusal ≡ true → Says test (refused_if b refusal)
+  says_if true refusal h = says_some refusal h
+  says_if false refusal h = says_none
 
--- whether a request may settle branches
-abbrev pub settles : Request → Bool
-settles Boot = true
-settles (Direct file op) = true
-settles (EndTrans label) = true
-settles (AbortTrans label) = true
-settles request = false
+  pub says_first : (a b : Option Line) → Says test a → Says test b → Says test (first_of a b)
+  says_first (Some refusal) b h k = h
+  says_first None b h k = k
 
-pub refusal_plain : (refusal : Line) → is_refusal refusal ≡ true → IsPlain refusal
-refusal_plain (line.Committed tid serial moment) h = let none : ⊥ = cc in absurd none
-refusal_plain (line.Aborted tid serial reason moment) h = let none : ⊥ = cc in absurd none
-refusal_plain _ h = refl
+  pub says_case : {A : Type 0} (o : Option A) (says : A → Option Line) (other : Option Line) → ((a : A) → Says test (says a)) → Says test other → Says test (elim o [ Some a ↦ says a | None ↦ other ])
+  says_case (Some a) says other h k = h a
+  says_case None says other h k = k
 
-plain_commits_none : (l : Line) → IsPlain l → CommitsNone l
-plain_commits_none (line.Committed tid serial moment) h = let none : ⊥ = cc in absurd none
-plain_commits_none _ h = refl
+  pub says_bootable : (n : Node) → test (line.QuotaExceeded line.Boots boot_limit) ≡ true → test (line.QuotaExceeded line.Moments moment_limit) ≡ true → test (line.QuotaExceeded line.Positions position_limit) ≡ true → ((condition block : ℕ) → test (line.NoVolume n.name condition block) ≡ true) → Says test (bootable n)
+  says_bootable n h k p f = go n.durable.volume
+    where
+      go : (v : Volume) → Says test (elim v [
+        | Sound ↦ first_of (refused_if (n.durable.boot == boot_limit) (line.QuotaExceeded line.Boots boot_limit))
+            (first_of (refused_if (nat_lt moment_limit n.durable.greatest) (line.QuotaExceeded line.Moments moment_limit)) (refused_if (nat_lt position_limit (last_position n)) (line.QuotaExceeded line.Positions position_limit)))
+        | Faulty condition block ↦ Some (line.NoVolume n.name condition block)
+        | Barred bar ↦ Some (bar_line n.name bar)
+        | Unknown ↦ None
+      ])
+      go Sound = says_first _ _ (says_if _ _ h) (says_first _ _ (says_if _ _ k) (says_if _ _ p))
+      go (Faulty condition block) = says_some _ (f condition block)
+      go (Barred NoRing) = says_some _ (f 6 583)
+      go (Barred AllBoots) = says_some _ h
+      go (Barred LateMoment) = says_some _ k
+      go (Barred FarPosition) = says_some _ p
+      go Unknown = says_none
 
-pub answer_plain : (n : Node) (request : Request) → IsPlain (answer_at n request)
-answer_plain n Boot = refl
-answer_plain n (Records label file op) = operation_told_is IsPlain refl (λ position. refl) (λ bytes. refl) (λ key bytes. refl) n file op
-answer_plain n (Direct file op) = operation_told_is IsPlain refl (λ position. refl) (λ bytes. refl) (λ key bytes. refl) n file op
-answer_plain n _ = refl
+-- a line that may stand here is a refusal
+abbrev pub Refuses : Option Line → Type 0
+Refuses cause = Says is_refusal cause
 
-entry_plain : (position : ℕ) (e : JournalEntry) → IsPlain (entry_line position e)
-entry_plain position (journal.ChangeEntry tid serial file key before) = refl
-entry_plain position (journal.PreparedEntry tid serial) = refl
-entry_plain position (journal.SettledEntry tid serial outcome moment) = refl
+-- a refusal that follows from the lines of a run alone
+abbrev pub follows_from_lines : Line → Bool
+follows_from_lines line.NoSuchNode = true
+follows_from_lines line.NodeDown = true
+follows_from_lines line.NodeUp = true
+follows_from_lines line.VolumeInUse = true
+follows_from_lines line.NotInitialized = true
+follows_from_lines line.NoSuchMessage = true
+follows_from_lines line.BadLabel = true
+follows_from_lines _ = false
 
-entries_plain : (position : ℕ) (es : List JournalEntry) → Each (λ (r : Row). Each IsPlain r.lines) (map shown_line (entry_lines position es))
-entries_plain position [] = tt
-entries_plain position (e ∷ es) = ((entry_plain position e, tt), entries_plain (position + entry_size e) es)
+-- and one that does not
+abbrev pub is_by_more : Line → Bool
+is_by_more refusal = is_refusal refusal && not (follows_from_lines refusal)
 
-rows_plain : (w : World) (n : Node) (request : Request) → settles request ≡ false → Each (λ r. Each IsPlain r.lines) (done_at w.shared n request)
-rows_plain w n (Init slots journal) h = (tt, tt)
-rows_plain w n Boot h = let none : ⊥ = cc in absurd none
-rows_plain w n (Create file bucket size form) h = each_created (λ r. Each IsPlain r.lines) n file bucket size form (λ place f. tt)
-rows_plain w n (SetFile file setting) h = (tt, tt)
-rows_plain w n (StartTrans label) h = (tt, tt)
-rows_plain w n (Records label file op) h = each_branch (λ r. Each IsPlain r.lines) w n label (operated n file op) (λ b. tt)
-rows_plain w n (Direct file op) h = let none : ⊥ = cc in absurd none
-rows_plain w n (EndTrans label) h = let none : ⊥ = cc in absurd none
-rows_plain w n (AbortTrans label) h = let none : ⊥ = cc in absurd none
-rows_plain w n (Dump file) h = each_shown (λ r. Each IsPlain r.lines) (records_of n file) (λ e. (refl, tt))
-rows_plain w n DumpJournal h = entries_plain n.durable.units.first n.durable.units.entries
-rows_plain w n (Fuse writes choice) h = (tt, tt)
-rows_plain w n Crash h = ((refl, tt), tt)
+-- a line that may stand here is such a refusal
+abbrev pub RefusesByMore : Option Line → Type 0
+RefusesByMore cause = Says is_by_more cause
 
--- no other statement shows one
-pub step_plain : (w v : World) (node : List ℕ) (request : Request) (lines : List Line) → settles request ≡ false → Step w (At node request) lines v → Each IsPlain lines
-step_plain w v node request lines h step =
-    let s = At node request in
-    step_lines IsPlain w node request refusal_plain (λ cause. (refl, (refl, tt)))
-    (λ taken e. let m = is_ready taken w node request e in let n = ready_node taken (stops_at node w) request m.n in
-    subst (Each (λ r. Each IsPlain r.lines)) (sym (rows_found (readied taken w s) node request n m.ready)) (rows_plain (readied taken w s) n request h))
-    (λ taken e. let m = is_ready taken w node request e in let n = ready_node taken (stops_at node w) request m.n in
-    subst IsPlain (sym (answer_found (readied taken w s) node request n m.ready)) (answer_plain n request)) v lines step
+both_true : (a b : Bool) → (a && b) ≡ true → a ≡ true
+both_true true b e = refl
+both_true false b e = e
 
-last_commits_none : (n : Node) → Each CommitsNone (last_lines n)
-last_commits_none n = go n.durable.last
+pub weaker : (cause : Option Line) → RefusesByMore cause → Refuses cause
+weaker cause h = record { says = λ refusal e. both_true (is_refusal refusal) (not (follows_from_lines refusal)) (h.says refusal e) }
+
+refuses_file : (n : Node) (file : List ℕ) → RefusesByMore (there_is_file n file)
+refuses_file n file = says_case is_by_more (find_file file n.durable.directory) (λ f. None) _ (λ f. says_none is_by_more) (says_some is_by_more _ refl)
+
+refuses_of_file : (n : Node) (file : List ℕ) (says : File → Option Line) → ((f : File) → RefusesByMore (says f)) → RefusesByMore (of_file n file says)
+refuses_of_file n file says h = says_case is_by_more (find_file file n.durable.directory) says _ h (says_none is_by_more)
+
+refuses_unsettled : (o : Option Branch) → RefusesByMore (unsettled o)
+refuses_unsettled o = says_case is_by_more o (λ b. None) _ (λ b. says_none is_by_more) (says_some is_by_more _ refl)
+
+refuses_state : (holds : Branch → Bool) (o : Option Branch) → RefusesByMore (in_state holds o)
+refuses_state holds o = says_case is_by_more o (λ b. refused_if (not (holds b)) line.WrongState) _ (λ b. says_if is_by_more _ _ refl) (says_none is_by_more)
+
+refuses_unchanged : (n : Node) (f : File) → RefusesByMore (unchanged_file n f)
+refuses_unchanged n f = says_case is_by_more (first_to_change f.history (serials_of n.volatile.branches)) (λ serial. Some (line.FileLocked serial)) _ (λ serial. says_some is_by_more _ refl) (says_none is_by_more)
+
+refuses_free : (n : Node) (file : List ℕ) → RefusesByMore (first_of (there_is_file n file) (of_file n file (unchanged_file n)))
+refuses_free n file = says_first is_by_more _ _ (refuses_file n file) (refuses_of_file n file _ (refuses_unchanged n))
+
+-- What refuses keys that are asked for.
+
+refuses_held : (asking holding : Option Id) → RefusesByMore (held_against asking holding)
+refuses_held asking None = says_none is_by_more
+refuses_held None (Some by) = says_some is_by_more _ refl
+refuses_held (Some serial) (Some by) = says_if is_by_more _ _ refl
+
+refuses_keys : (n : Node) (asking : Option Id) (file : List ℕ) (ks : List Key) → RefusesByMore (keys_refused n asking file ks)
+refuses_keys n asking file [] = says_none is_by_more
+refuses_keys n asking file (k ∷ ks) = says_first is_by_more _ _ (refuses_held asking (holder n.volatile.locks file k)) (refuses_keys n asking file ks)
+
+-- What refuses an operation on records.
+
+refuses_key : (o : Organization) (key : Key) → RefusesByMore (key_refused o key)
+refuses_key Sequential (Number n) = says_none is_by_more
+refuses_key (Relative greatest) (Number n) = says_if is_by_more _ _ refl
+refuses_key (Indexed position size) (Text bytes) = says_if is_by_more _ _ refl
+refuses_key _ _ = says_some is_by_more _ refl
+
+refuses_place : (o : Organization) (number : Option ℕ) → RefusesByMore (place_refused o number)
+refuses_place Sequential None = says_none is_by_more
+refuses_place (Relative greatest) (Some n) = refuses_key (Relative greatest) (Number n)
+refuses_place (Indexed position size) None = says_none is_by_more
+refuses_place Sequential (Some n) = says_some is_by_more _ refl
+refuses_place (Relative greatest) None = says_some is_by_more _ refl
+refuses_place (Indexed position size) (Some n) = says_some is_by_more _ refl
+
+refuses_delete : (o : Organization) → RefusesByMore (delete_refused o)
+refuses_delete Sequential = says_some is_by_more _ refl
+refuses_delete _ = says_none is_by_more
+
+refuses_truncate : (o : Organization) → RefusesByMore (truncate_refused o)
+refuses_truncate Sequential = says_none is_by_more
+refuses_truncate _ = says_some is_by_more _ refl
+
+refuses_after : (o : Organization) (after : Option Key) → RefusesByMore (after_refused o after)
+refuses_after o None = says_none is_by_more
+refuses_after o (Some key) = refuses_key o key
+
+refuses_form : (f : File) (op : Operation) → RefusesByMore (form_refused f op)
+refuses_form f (Put number bytes) = says_first is_by_more _ _ (refuses_place f.organization number) (says_if is_by_more _ _ refl)
+refuses_form f (Update key bytes) = says_first is_by_more _ _ (refuses_key f.organization key) (says_if is_by_more _ _ refl)
+refuses_form f (Delete key) = says_first is_by_more _ _ (refuses_key f.organization key) (refuses_delete f.organization)
+refuses_form f (Truncate number) = refuses_truncate f.organization
+refuses_form f (Get key) = refuses_key f.organization key
+refuses_form f (Next after) = refuses_after f.organization after
+
+refuses_put : (o : Organization) (m : TheRecords) (number : Option ℕ) (bytes : List ℕ) → RefusesByMore (put_refused o m number bytes)
+refuses_put o m (Some number) bytes = says_if is_by_more _ _ refl
+refuses_put Sequential m None bytes = says_none is_by_more
+refuses_put (Relative greatest) m None bytes = says_none is_by_more
+refuses_put (Indexed position size) m None bytes = says_if is_by_more _ _ refl
+
+refuses_other : (o : Organization) (key : Key) (old new : List ℕ) → RefusesByMore (other_refused o key old new)
+refuses_other Sequential key old new = says_if is_by_more _ _ refl
+refuses_other (Relative greatest) key old new = says_none is_by_more
+refuses_other (Indexed position size) key old new = says_if is_by_more _ _ refl
+
+refuses_update : (o : Organization) (key : Key) (old : Option (List ℕ)) (new : List ℕ) → RefusesByMore (update_refused o key old new)
+refuses_update o key None new = says_some is_by_more _ refl
+refuses_update o key (Some old) new = refuses_other o key old new
+
+refuses_missing : (o : Option (List ℕ)) → RefusesByMore (missing o)
+refuses_missing None = says_some is_by_more _ refl
+refuses_missing (Some bytes) = says_none is_by_more
+
+refuses_end : (o : Option (Key × List ℕ)) → RefusesByMore (at_end o)
+refuses_end None = says_some is_by_more _ refl
+refuses_end (Some e) = says_none is_by_more
+
+refuses_data : (f : File) (op : Operation) → RefusesByMore (data_refused f op)
+refuses_data f (Put number bytes) = refuses_put f.organization (standing_of f) number bytes
+refuses_data f (Update key bytes) = refuses_update f.organization key (record_in f key) bytes
+refuses_data f (Delete key) = refuses_missing (record_in f key)
+refuses_data f (Truncate number) = says_if is_by_more _ _ refl
+refuses_data f (Get key) = refuses_missing (record_in f key)
+refuses_data f (Next after) = refuses_end (first_behind after (in_order f))
+
+-- What refuses a request before the disk is read: what the lines of a run tell alone, and what they do not.
+
+abbrev pub by_lines : Shared → Node → Request → Option Line
+by_lines s n (Init slots journal) = refused_if s.in_use line.VolumeInUse
+by_lines s n Boot = first_of (refused_if n.up line.NodeUp) (refused_if n.unmade line.NotInitialized)
+by_lines s n (StartTrans label seconds) = new_label s label
+by_lines s n (AddBranch label other new) = first_of (made_label s n label) (new_label s new)
+by_lines s n (StartBranch label) = made_label s n label
+by_lines s n (Records label file op) = made_label s n label
+by_lines s n (EndBranch label) = made_label s n label
+by_lines s n (EndTrans label) = made_label s n label
+by_lines s n (AbortTrans label) = made_label s n label
+by_lines s n (Inquire who) = made_name s n who
+by_lines s n _ = None
+
+abbrev pub by_more : Shared → Node → Request → Option Line
+by_more s n (Init slots journal) = refused_if (not (is_volume_form slots journal n)) line.BadParameter
+by_more s n (Create file bucket size form) = first_of (new_file n file) (refused_if (not (is_file_form bucket size form)) line.BadParameter)
+by_more s n (SetFile file setting) = first_of (there_is_file n file) (of_file n file (unchanged_file n))
+by_more s n (StartTrans label seconds) = seconds_refused seconds
+by_more s n (AddBranch label other new) = first_of (unsettled_label s n label) (in_state is_first_active (branch_labelled s n label))
+by_more s n (StartBranch label) = first_of (of_label s n label authorised) (in_state (λ b. false) (branch_labelled s n label))
+by_more s n (Records label file op) = first_of (there_is_file n file) (first_of (of_file n file (λ f. form_refused f op)) (first_of (unsettled_label s n label)
+    (first_of (in_state is_working (branch_labelled s n label))
+    (first_of (of_file n file is_marked) (of_file n file (λ f. keys_refused n (serial_labelled n.name label s.labels) file (keys_asked f op)))))))
+by_more s n (Direct file op) = first_of (there_is_file n file) (first_of (of_file n file (λ f. form_refused f op)) (first_of (of_file n file (needs_unit op)) (of_file n file (λ f. keys_refused n None file (keys_asked f op)))))
+by_more s n (EndBranch label) = first_of (unsettled_label s n label) (in_state may_end (branch_labelled s n label))
+by_more s n (EndTrans label) = first_of (unsettled_label s n label) (in_state is_first_active (branch_labelled s n label))
+by_more s n (AbortTrans label) = first_of (unsettled_label s n label) (in_state is_open (branch_labelled s n label))
+by_more s n (Inquire who) = first_of (unsettled (branch_named s n who)) (in_state is_in_doubt (branch_named s n who))
+by_more s n (Dump file) = first_of (there_is_file n file) (of_file n file (unchanged_file n))
+by_more s n _ = None
+
+pub first_none : (o : Option Line) → first_of o None ≡ o
+first_none (Some refusal) = refl
+first_none None = refl
+
+pub first_again : (a b c : Option Line) → first_of (first_of a b) c ≡ first_of a (first_of b c)
+first_again (Some refusal) b c = refl
+first_again None b c = refl
+
+-- the one stands before the other
+pub parted : (s : Shared) (n : Node) (request : Request) → (service request).refused_before_reading s n ≡ first_of (by_lines s n request) (by_more s n request)
+parted s n Boot = sym (first_none _)
+parted s n (AddBranch label other new) = sym (first_again (made_label s n label) (new_label s new) _)
+parted s n _ = refl
+
+refuses_label : (s : Shared) (n : Node) (label : List ℕ) (holds : Branch → Bool) → RefusesByMore (first_of (unsettled_label s n label) (in_state holds (branch_labelled s n label)))
+refuses_label s n label holds = says_first is_by_more _ _ (refuses_unsettled (branch_labelled s n label)) (refuses_state holds (branch_labelled s n label))
+
+refuses_seconds : (seconds : Option ℕ) → RefusesByMore (seconds_refused seconds)
+refuses_seconds None = says_none is_by_more
+refuses_seconds (Some seconds) = says_if is_by_more _ _ refl
+
+refuses_authorised : (l : Label) → RefusesByMore (authorised l)
+refuses_authorised l = says_case is_by_more l.bid (λ bid. None) _ (λ bid. says_none is_by_more) (says_some is_by_more _ refl)
+
+pub more_refuses : (s : Shared) (n : Node) (request : Request) → RefusesByMore (by_more s n request)
+more_refuses s n (Init slots journal) = says_if is_by_more _ _ refl
+more_refuses s n (Create file bucket size form) =
+    says_first is_by_more _ _ (says_case is_by_more (find_file file n.durable.directory) (λ f. Some line.FileExists) _ (λ f. says_some is_by_more _ refl) (says_none is_by_more)) (says_if is_by_more _ _ refl)
+more_refuses s n (SetFile file setting) = refuses_free n file
+more_refuses s n (StartTrans label seconds) = refuses_seconds seconds
+more_refuses s n (AddBranch label other new) = refuses_label s n label is_first_active
+more_refuses s n (StartBranch label) =
+    says_first is_by_more _ _ (says_case is_by_more (labelled n.name label s.labels) authorised _ refuses_authorised (says_none is_by_more)) (refuses_state (λ b. false) (branch_labelled s n label))
+more_refuses s n (Records label file op) =
+    says_first is_by_more _ _ (refuses_file n file) (says_first is_by_more _ _ (refuses_of_file n file _ (λ f. refuses_form f op))
+    (says_first is_by_more _ _ (refuses_unsettled (branch_labelled s n label)) (says_first is_by_more _ _ (refuses_state is_working (branch_labelled s n label))
+    (says_first is_by_more _ _ (refuses_of_file n file _ (λ f. says_if is_by_more _ _ refl)) (refuses_of_file n file _ (λ f. refuses_keys n _ file (keys_asked f op)))))))
+more_refuses s n (Direct file op) =
+    says_first is_by_more _ _ (refuses_file n file) (says_first is_by_more _ _ (refuses_of_file n file _ (λ f. refuses_form f op))
+    (says_first is_by_more _ _ (refuses_of_file n file _ (λ f. says_if is_by_more _ _ refl)) (refuses_of_file n file _ (λ f. refuses_keys n None file (keys_asked f op)))))
+more_refuses s n (EndBranch label) = refuses_label s n label may_end
+more_refuses s n (EndTrans label) = refuses_label s n label is_first_active
+more_refuses s n (AbortTrans label) = refuses_label s n label is_open
+more_refuses s n (Inquire who) = says_first is_by_more _ _ (refuses_unsettled (branch_named s n who)) (refuses_state is_in_doubt (branch_named s n who))
+more_refuses s n (Dump file) = refuses_free n file
+more_refuses s n _ = says_none is_by_more
+
+refuses_made : (s : Shared) (n : Node) (label : List ℕ) → Refuses (made_label s n label)
+refuses_made s n label = says_case is_refusal (labelled n.name label s.labels) (λ serial. None) _ (λ serial. says_none is_refusal) (says_some is_refusal _ refl)
+
+refuses_new : (s : Shared) (label : List ℕ) → Refuses (new_label s label)
+refuses_new s label = says_case is_refusal (find_label label s.labels) (λ l. Some line.BadLabel) _ (λ l. says_some is_refusal _ refl) (says_if is_refusal _ _ refl)
+
+refuses_name : (s : Shared) (n : Node) (who : Named) → Refuses (made_name s n who)
+refuses_name s n (ByLabel label) = refuses_made s n label
+refuses_name s n (BySerial serial) = says_none is_refusal
+
+lines_refuse : (s : Shared) (n : Node) (request : Request) → Refuses (by_lines s n request)
+lines_refuse s n (Init slots journal) = says_if is_refusal _ _ refl
+lines_refuse s n Boot = says_first is_refusal _ _ (says_if is_refusal _ _ refl) (says_if is_refusal _ _ refl)
+lines_refuse s n (StartTrans label seconds) = refuses_new s label
+lines_refuse s n (AddBranch label other new) = says_first is_refusal _ _ (refuses_made s n label) (refuses_new s new)
+lines_refuse s n (StartBranch label) = refuses_made s n label
+lines_refuse s n (Records label file op) = refuses_made s n label
+lines_refuse s n (EndBranch label) = refuses_made s n label
+lines_refuse s n (EndTrans label) = refuses_made s n label
+lines_refuse s n (AbortTrans label) = refuses_made s n label
+lines_refuse s n (Inquire who) = refuses_name s n who
+lines_refuse s n _ = says_none is_refusal
+
+request_refuses : (s : Shared) (n : Node) (request : Request) → Refuses ((service request).refused_before_reading s n)
+request_refuses s n request = subst Refuses (sym (parted s n request)) (says_first is_refusal _ _ (lines_refuse s n request) (weaker _ (more_refuses s n request)))
+
+task_refuses : (s : Shared) (n : Node) (t : Task) → Refuses ((task_service t).refused_before_reading s n)
+task_refuses s n (Serves request) = request_refuses s n request
+task_refuses s n Restarts = says_first is_refusal _ _ (says_if is_refusal _ _ refl) (says_if is_refusal _ _ refl)
+task_refuses s n _ = says_none is_refusal
+
+-- what refuses a task before the disk is read is a refusal
+pub refuses_first : (s : Shared) (n : Node) (t : Task) → Refuses (refused_before_reading s n (task_service t))
+refuses_first s n t = says_first is_refusal _ _ (says_if is_refusal _ _ refl) (task_refuses s n t)
+
+-- What refuses it by what the disk has or by a quota.
+
+refuses_found : (n : Node) (asking : Option Id) (file : List ℕ) (op : Operation) (f : File) → RefusesByMore (found_refused n asking file op f)
+refuses_found n asking file op f = says_first is_by_more _ _ (refuses_data f op) (refuses_keys n asking file (keys_found f op))
+
+refuses_bootable : (n : Node) → RefusesByMore (bootable n)
+refuses_bootable n = says_bootable is_by_more n refl refl refl (λ condition block. refl)
+
+refuses_branches : (n : Node) → RefusesByMore (more_branches n)
+refuses_branches n = says_first is_by_more _ _ (says_if is_by_more _ _ refl) (says_if is_by_more _ _ refl)
+
+refuses_of_branch : (says : Branch → Option Line) (o : Option Branch) → ((b : Branch) → RefusesByMore (says b)) → RefusesByMore (option_and_then says o)
+refuses_of_branch says (Some b) h = h b
+refuses_of_branch says None h = says_none is_by_more
+
+late_refuses : (s : Shared) (n : Node) (request : Request) → RefusesByMore ((service request).refused_after_reading s n)
+late_refuses s n Boot = refuses_bootable n
+late_refuses s n (Create file bucket size form) = says_first is_by_more _ _ (says_if is_by_more _ _ refl) (says_if is_by_more _ _ refl)
+late_refuses s n (StartTrans label seconds) = refuses_branches n
+late_refuses s n (AddBranch label other new) = refuses_of_branch more_bids (branch_labelled s n label) (λ b. says_if is_by_more _ _ refl)
+late_refuses s n (StartBranch label) = refuses_branches n
+late_refuses s n (Records label file op) =
+    says_first is_by_more _ _ (refuses_of_file n file _ (refuses_found n _ file op)) (says_first is_by_more _ _ (refuses_of_branch (more_changes n (changes_at n file op)) (branch_labelled s n label) (λ b. says_if is_by_more _ _ refl))
+    (says_first is_by_more _ _ (refuses_of_file n file _ (λ f. says_if is_by_more _ _ refl))
+    (says_first is_by_more _ _ (refuses_of_file n file _ (λ f. says_if is_by_more _ _ refl)) (refuses_of_branch (journal_full n file (changes_at n file op)) (branch_labelled s n label) (λ b. says_if is_by_more _ _ refl)))))
+late_refuses s n (Direct file op) =
+    says_first is_by_more _ _ (refuses_of_file n file _ (refuses_found n None file op)) (says_first is_by_more _ _ (says_if is_by_more _ _ refl) (refuses_of_file n file _ (λ f. says_if is_by_more _ _ refl)))
+late_refuses s n _ = says_none is_by_more
+
+pub then_by_more : (s : Shared) (n : Node) (t : Task) → RefusesByMore ((task_service t).refused_after_reading s n)
+then_by_more s n (Serves request) = late_refuses s n request
+then_by_more s n Restarts = refuses_bootable n
+then_by_more s n _ = says_none is_by_more
+
+pub refuses_then : (s : Shared) (n : Node) (t : Task) → Refuses ((task_service t).refused_after_reading s n)
+refuses_then s n t = weaker _ (then_by_more s n t)
+
+-- Answers of successes.
+
+-- an answer of a success
+abbrev pub is_success : Line → Bool
+is_success line.Normal = true
+is_success (line.NormalCount n) = true
+is_success (line.NormalId id) = true
+is_success (line.NormalSpan first end) = true
+is_success (line.Pending serials) = true
+is_success (line.TransactionAborted reason) = true
+is_success line.RecordNormal = true
+is_success (line.RecordPosition position) = true
+is_success (line.RecordFound bytes) = true
+is_success (line.NextFound key bytes) = true
+is_success _ = false
+
+-- a failure of a disk
+abbrev pub is_failure : Line → Bool
+is_failure (line.Broken cause) = true
+is_failure _ = false
+
+operation_succeeds : (n : Node) (file : List ℕ) (op : Operation) → is_success (operation_told n file op) ≡ true
+operation_succeeds n file op = go (find_file file n.durable.directory)
   where
-    lasts : (s : Settlement) (o : Outcome) (r : Option Reason) → Each CommitsNone (elim o [ Commit ↦ line.LastCommitted s.tid s.serial s.moment ∷ [] | Abort ↦ elim r [ Some reason ↦ line.LastAborted s.tid s.serial reason s.moment ∷ [] | None ↦ [] ] ])
-    lasts s Commit r = (refl, tt)
-    lasts s Abort (Some reason) = (refl, tt)
-    lasts s Abort None = tt
+    put_is : (o : Organization) (count : ℕ) → is_success (put_answer o count) ≡ true
+    put_is Sequential count = refl
+    put_is (Relative greatest) count = refl
+    put_is (Indexed at size) count = refl
 
-    go : (o : Option Settlement) → Each CommitsNone (elim o [ Some s ↦ last_line s | None ↦ [] ])
-    go (Some s) = lasts s s.outcome s.reason
-    go None = tt
+    found_is : (o : Option (List ℕ)) → is_success (found_answer o) ≡ true
+    found_is (Some bytes) = refl
+    found_is None = refl
 
--- a restart shows no commitment but the last of its disk
-pub boot_commits_none : (w v : World) (node : List ℕ) (lines : List Line) → Step w (At node Boot) lines v → Each CommitsNone lines
-boot_commits_none w v node lines step =
-    let s = At node Boot in
-    step_lines CommitsNone w node Boot (λ refusal is. plain_commits_none refusal (refusal_plain refusal is)) (λ cause. (refl, (refl, tt)))
-    (λ taken e. let m = is_ready taken w node Boot e in let n = ready_node taken (stops_at node w) Boot m.n in
-    subst (Each (λ r. Each CommitsNone r.lines)) (sym (rows_found (readied taken w s) node Boot n m.ready)) (boot_rows n))
-    (λ taken e. let m = is_ready taken w node Boot e in let n = ready_node taken (stops_at node w) Boot m.n in
-    subst CommitsNone (sym (answer_found (readied taken w s) node Boot n m.ready)) refl) v lines step
+    next_is : (o : Option (Key × List ℕ)) → is_success (next_answer o) ≡ true
+    next_is (Some e) = refl
+    next_is None = refl
+
+    answer_is : (f : File) (op : Operation) → is_success (operation_answer f op) ≡ true
+    answer_is f (Put number bytes) = put_is f.organization (count_of f)
+    answer_is f (Update key bytes) = refl
+    answer_is f (Delete key) = refl
+    answer_is f (Truncate number) = refl
+    answer_is f (Get key) = found_is (record_in f key)
+    answer_is f (Next after) = next_is (first_behind after (in_order f))
+
+    go : (o : Option File) → is_success (elim o [ Some f ↦ operation_answer f op | None ↦ line.RecordNormal ]) ≡ true
+    go (Some f) = answer_is f op
+    go None = refl
+
+end_succeeds : (todo : List table.Act) (before : Line) → is_success before ≡ true → is_success (end_answer todo before) ≡ true
+end_succeeds [] before h = h
+end_succeeds (Notes b ∷ todo) before h = end_succeeds todo _ refl
+end_succeeds (Settles k Commit reason r ∷ todo) before h = refl
+end_succeeds (Settles k Abort reason r ∷ todo) before h = refl
+end_succeeds (_ ∷ todo) before h = end_succeeds todo before h
+
+request_succeeds : (s : Shared) (n : Node) (request : Request) → is_success ((service request).answer s n) ≡ true
+request_succeeds s n (Records label file op) = operation_succeeds n file op
+request_succeeds s n (Direct file op) = operation_succeeds n file op
+request_succeeds s n (EndTrans label) = go (branch_labelled s n label)
   where
-    boot_rows : (n : Node) → Each (λ (r : Row). Each CommitsNone r.lines) (done_at w.shared n Boot)
-    boot_rows n = (
-      last_commits_none n,
-      each_push (λ (r : Row). Each CommitsNone r.lines) (silent ComesUp) (undoes (acted Boots n) (left_active n))
-          (each_undone (λ (r : Row). Each CommitsNone r.lines) (acted Boots n) (left_active n) (λ m u. (refl, tt))) tt,
-    )
+    go : (o : Option Branch) → is_success (elim o [ Some b ↦ end_answer (row (tm_of n) (rows.EndTrans b.key.tid)) line.Normal | None ↦ line.Normal ]) ≡ true
+    go (Some b) = end_succeeds (row (tm_of n) (rows.EndTrans b.key.tid)) line.Normal refl
+    go None = refl
+request_succeeds s n _ = refl
 
--- among lines none of which is one, there is none
-pub none_among : (test : Line → Bool) (this : Line) (front behind : List Line) → test this ≡ true → Each (λ l. test l ≡ false) (front ++ this ∷ behind) → ⊥
-none_among test this [] behind is h = let same : true ≡ false = sym is ∙ h.0 in let none : ⊥ = cc in none
-none_among test this (x ∷ front) behind is h = none_among test this front behind is h.1
+pub task_succeeds : (s : Shared) (n : Node) (t : Task) → is_success ((task_service t).answer s n) ≡ true
+task_succeeds s n (Serves request) = request_succeeds s n request
+task_succeeds s n _ = refl
 
--- where only the first may be one, it is that
-pub first_alone : (x this : Line) (rest front behind : List Line) → Each IsPlain rest → is_settling this ≡ true → x ∷ rest ≡ front ++ this ∷ behind → (front ≡ []) × (x ≡ this) × (rest ≡ behind)
-first_alone x this rest [] behind h is e = let heads : x ≡ this = cc in let tails : rest ≡ behind = cc in (refl, heads, tails)
-first_alone x this rest (y ∷ front) behind h is e = let tails : rest ≡ front ++ this ∷ behind = cc in absurd (none_among is_settling this front behind is (subst (Each IsPlain) tails h))
+-- which is neither a refusal nor a failure
+pub success_no_refusal : (answer : Line) → is_success answer ≡ true → is_refusal answer ≡ false
+success_no_refusal line.Normal h = refl
+success_no_refusal (line.NormalCount n) h = refl
+success_no_refusal (line.NormalId id) h = refl
+success_no_refusal (line.NormalSpan first end) h = refl
+success_no_refusal (line.Pending serials) h = refl
+success_no_refusal (line.TransactionAborted reason) h = refl
+success_no_refusal line.RecordNormal h = refl
+success_no_refusal (line.RecordPosition position) h = refl
+success_no_refusal (line.RecordFound bytes) h = refl
+success_no_refusal (line.NextFound key bytes) h = refl
+success_no_refusal _ h = let none : ⊥ = cc in absurd none
 
--- Statements whose one row settles a branch.
-
--- the one row of a request settles a branch, and its line is shown first
-pub record OneRow (s : Shared) (n : Node) (request : Request) (Fits : Settlement → Line → Type 0) : Type 0 where
-  pub settlement : Settlement
-  pub said : Line
-  pub act : Act
-  pub are : rows_at s n request ≡ record { act = Some act; lines = said ∷ [] } ∷ []
-  pub in_settled : In settlement (acted act n).settled
-  pub fits : Fits settlement said
-
--- what stands behind that line: the answer, or that the node went down
-abbrev pub EndsWith : List ℕ → Line → List Line → Type 0
-EndsWith node answer rest = (rest ≡ answer ∷ []) ⊎ ((cause : Cause) × (rest ≡ line.Down node cause ∷ line.Broken cause ∷ []))
-
--- so was a branch settled, and that was shown first
-pub record SettlesIt (v : World) (node : List ℕ) (answer : Line) (Fits : Settlement → Line → Type 0) (lines : List Line) : Type 0 where
-  pub settlement : Settlement
-  pub said : Line
-  pub rest : List Line
-  pub shows : lines ≡ said ∷ rest
-  pub ends : EndsWith node answer rest
-  pub plain : Each IsPlain rest
-  pub now : Node
-  pub found : find_node node v.nodes ≡ Some now
-  pub in_settled : In settlement now.settled
-  pub fits : Fits settlement said
-
-module _ (w v : World) (node : List ℕ) (request : Request) (n : Node) (found : find_node node w.nodes ≡ Some n) (Fits : Settlement → Line → Type 0)
-    (still : (taken : Bool) → ready_node taken (stops_at node w) request n ≡ n) (no_closing : closing_of request ≡ None) (no_power : powers request ≡ false) where
-  abbrev effect : Choice → TaskEffect
-  effect c = task_effect w.shared (stops_at node w) n (Serves request) c
-
-  abbrev Told : List Line → Type 0
-  Told lines = Each IsPlain lines ⊎ SettlesIt v node (answer_at n request) Fits lines
-
-  -- its rows: none, or one
-  abbrev Rows : Type 0
-  Rows = (rows_at w.shared n request ≡ []) ⊎ OneRow w.shared n request Fits
-
-  abbrev Shown : List Line → TaskEffect → Type 0
-  Shown lines e = (lines ≡ e.lines ++ e.answer ∷ []) × (find_node node v.nodes ≡ Some e.node)
-
-  refusal_told : (lines : List Line) (refusal : Line) → is_refusal refusal ≡ true → lines ≡ refusal ∷ [] → Told lines
-  refusal_told lines refusal is shows = inl (subst (Each IsPlain) (sym shows) (refusal_plain refusal is, tt))
-
-  done_told : (lines : List Line) → Rows → Shown lines (task.succeeded w.shared n request) → Told lines
-  done_told lines (inl none) h = inl (subst (Each IsPlain) (sym (h.0 ∙ ap (λ rs. lines_of_rows rs ++ answer_at n request ∷ []) none)) (answer_plain n request, tt))
-  done_told lines (inr one) h = inr (record {
-    settlement = one.settlement;
-    said = one.said;
-    rest = answer_at n request ∷ [];
-    shows = h.0 ∙ ap (λ rs. lines_of_rows rs ++ answer_at n request ∷ []) one.are;
-    ends = inl refl;
-    plain = (answer_plain n request, tt);
-    now = acted one.act n;
-    found = h.1 ∙ ap Some (λ i. node_after (no_closing i) (node_after_rows (one.are i) n));
-    in_settled = one.in_settled;
-    fits = one.fits;
-  })
-
-  begun_told : (lines : List Line) (o : Option Line) → refused_after_reading w.shared n request ≡ o → Rows → Shown lines (task.begun w.shared n request o) → Told lines
-  begun_told lines (Some refusal) l rs h = refusal_told lines refusal ((refuses_after_reading w n request).says refusal l) h.0
-  begun_told lines None l rs h = done_told lines rs h
-
-  whole_told : (lines : List Line) (o : Option Line) → refused_before_reading w.shared n request ≡ o → (refused_before_reading w.shared n request ≡ None → Rows) → Shown lines (task.whole w.shared n n request o) → Told lines
-  whole_told lines (Some refusal) e rs h = refusal_told lines refusal ((refuses_before_reading w n request).says refusal e) h.0
-  whole_told lines None e rs h = begun_told lines (refused_after_reading w.shared n request) refl (rs e) h
-
-  cut_none : (k : ℕ) (begun : Bool) (cause : Cause) (lines : List Line) → Shown lines (task.cut w.shared n request [] k begun cause) → Told lines
-  cut_none zero begun cause lines h = inl (subst (Each IsPlain) (sym h.0) (refl, (refl, tt)))
-  cut_none (suc k) begun cause lines h = inl (subst (Each IsPlain) (sym h.0) (refl, (refl, tt)))
-
-  cut_done : (begun : Bool) (cause : Cause) (lines : List Line) (one : OneRow w.shared n request Fits) → lines ≡ one.said ∷ line.Down n.name cause ∷ line.Broken cause ∷ [] → find_node node v.nodes ≡ Some (fallen (act_begun begun []) (acted one.act n)) → Told lines
-  cut_done begun cause lines one shows now = inr (record {
-    settlement = one.settlement;
-    said = one.said;
-    rest = line.Down node cause ∷ line.Broken cause ∷ [];
-    shows = shows ∙ ap (λ name. one.said ∷ line.Down name cause ∷ line.Broken cause ∷ []) (found_name node w.nodes n found);
-    ends = inr (cause, refl);
-    plain = (refl, (refl, tt));
-    now = fallen (act_begun begun []) (acted one.act n);
-    found = now;
-    in_settled = one.in_settled;
-    fits = one.fits;
-  })
-
-  cut_one : (k : ℕ) (begun : Bool) (cause : Cause) (lines : List Line) (one : OneRow w.shared n request Fits) → Shown lines (task.cut w.shared n request (record { act = Some one.act; lines = one.said ∷ [] } ∷ []) k begun cause) → Told lines
-  cut_one zero begun cause lines one h = inl (subst (Each IsPlain) (sym h.0) (refl, (refl, tt)))
-  cut_one (suc zero) begun cause lines one h = cut_done begun cause lines one h.0 h.1
-  cut_one (suc (suc k)) begun cause lines one h = cut_done begun cause lines one h.0 h.1
-
-  cut_told : (k : ℕ) (begun : Bool) (cause : Cause) (lines : List Line) (o : Option Line) → Rows → Shown lines (task.cut w.shared n request (rows_if o (rows_at w.shared n request)) k begun cause) → Told lines
-  cut_told k begun cause lines (Some refusal) rs h = cut_none k begun cause lines h
-  cut_told k begun cause lines None (inl none) h = cut_none k begun cause lines (subst (λ rs. Shown lines (task.cut w.shared n request rs k begun cause)) none h)
-  cut_told k begun cause lines None (inr one) h = cut_one k begun cause lines one (subst (λ rs. Shown lines (task.cut w.shared n request rs k begun cause)) one.are h)
-
-  choice_told : (c : Choice) (lines : List Line) → (refused_before_reading w.shared n request ≡ None → Rows) → RequestAllowed w.shared (stops_at node w) n request (λ cause. RoseAt w node cause v.disks) c → Shown lines (effect c) → Told lines
-  choice_told (Whole taken) lines rs allowed h =
-      whole_told lines (refused_before_reading w.shared n request) refl rs (subst (λ m. Shown lines (task.whole w.shared n m request (refused_before_reading w.shared n request))) (still taken) h)
-  choice_told WithoutMemory lines rs allowed h = refusal_told lines line.NoMemory refl h.0
-  choice_told Unpowered lines rs allowed h = let none : true ≡ false = sym allowed.1 ∙ no_power in let nothing : ⊥ = cc in absurd nothing
-  choice_told (Cut taken k begun cause) lines rs allowed h =
-      cut_told k begun cause lines (refused_after_reading w.shared n request) (rs allowed.0)
-      (subst (λ m. Shown lines (task.cut w.shared m request (rows_if (refused_after_reading w.shared m request) (rows_at w.shared m request)) k begun cause)) (still taken) h)
-
-  pub turn_told : (lines : List Line) → (refused_before_reading w.shared n request ≡ None → Rows) → NodeTurn w node request n lines v → Told lines
-  turn_told lines rs t = choice_told t.choice lines rs t.allowed (t.shows, t.now)
+pub success_no_failure : (cause : Cause) → is_success (line.Broken cause) ≡ true → ⊥
+success_no_failure cause h = let none : ⊥ = cc in none

@@ -1,48 +1,103 @@
--- The ways of a task at a node, whatever is asked.
-use Rattle.std.proofs.Common.{◌≡◌, ℕ, ◌≤◌, [], ◌∷◌, ◌++◌, Bool, true, false, None, Some, length, take, drop, refl, arith}
-use Rattle.transcript_model.specs.Outside.{Rose}
+-- What a task may show and make at its node, by its choice.
+use Rattle.std.proofs.Common.{◌≡◌, ℕ, List, [], ◌∷◌, ◌++◌, take, Bool, true, false, not, Option, Some, None, if◌then◌else◌, refl, ◌∙◌, ap}
 use Rattle.transcript_model.specs.Lines as line
 use Rattle.transcript_model.specs.Lines.{Line, Cause, Failed}
-use Rattle.script_model.specs.Statements.{Request}
-use Rattle.run_model.specs.World.{Shared, Node, DiskCounts, fallen, unpowered}
-use Rattle.run_model.specs.Answers.{refused_before_reading, refused_after_reading, rows_at, closing_of, answer_at, powers, spoils, touches, takes_memory}
-use Rattle.run_model.specs.Steps.{NodeStep, Serves, Whole, WithoutMemory, Unpowered, Cut, count_of, lines_of_rows, node_after, node_after_rows, shared_then, shared_after_rows, act_begun, ready_node, spoilt, occupied}
+use Rattle.run_model.specs.World.{Shared, Node, Act, Outturn, Lost, Taken, Half, MayTurnOut, Boots, acted, powered, unpowered}
+use Rattle.run_model.specs.Answers.{Row, Service, Task, task_service, refused_before_reading, powers, spoils}
+use Rattle.run_model.specs.Steps.{Choice, Whole, WithoutMemory, Unpowered, Cut, TaskEffect, TaskAllowed, task_effect, ready_node, node_after, node_after_rows, succeeded, lines_of_rows, rows_to_cut, spoilt, whole, begun, refused}
 
-module _ (s : Shared) (n : Node) (request : Request) (old new : DiskCounts) (faults : old.faults ≤ new.faults) (stops : old.stops ≤ new.stops) where
-  -- refused by what is known before the disk is read
-  pub task_refused_first : (refusal : Line) → refused_before_reading s n request ≡ Some refusal → NodeStep s n old (Serves request) [] refusal n s new
-  task_refused_first refusal e = record { choice = Whole false; allowed = tt; faults = faults; stops = stops; shows = rw e refl; answers = rw e refl; node = rw e refl; shared = rw e refl }
+-- The name of a node stays.
 
-  -- refused by what the disk has, once it runs again where it is made to
-  pub task_refused_then : (taken : Bool) (refusal : Line) → refused_before_reading s n request ≡ None → refused_after_reading s (ready_node taken old.stops request n) request ≡ Some refusal →
-      NodeStep s n old (Serves request) [] refusal (ready_node taken old.stops request n) s new
-  task_refused_then taken refusal e l = record { choice = Whole taken; allowed = tt; faults = faults; stops = stops; shows = rw (e, l) refl; answers = rw (e, l) refl; node = rw (e, l) refl; shared = rw (e, l) refl }
+pub acted_name : (act : Act) (n : Node) → (acted act n).name ≡ n.name
+acted_name Boots n = refl
+acted_name _ n = refl
 
-  -- done whole, once the disk runs again where it is made to
-  pub task_whole : (taken : Bool) → refused_before_reading s n request ≡ None → refused_after_reading s (ready_node taken old.stops request n) request ≡ None →
-      (let m = ready_node taken old.stops request n in
-      NodeStep s n old (Serves request) (lines_of_rows (rows_at s m request)) (answer_at m request) (node_after (closing_of request) (node_after_rows (rows_at s m request) m))
-      (occupied request (shared_then (closing_of request) (shared_after_rows (rows_at s m request) s))) new)
-  task_whole taken e l = record { choice = Whole taken; allowed = tt; faults = faults; stops = stops; shows = rw (e, l) refl; answers = rw (e, l) refl; node = rw (e, l) refl; shared = rw (e, l) refl }
+after_name : (o : Option Act) (n : Node) → (node_after o n).name ≡ n.name
+after_name None n = refl
+after_name (Some act) n = acted_name act n
 
-  -- refused for want of memory
-  pub task_without_memory : refused_before_reading s n request ≡ None → takes_memory n request ≡ true → NodeStep s n old (Serves request) [] line.NoMemory n s new
-  task_without_memory e may = record { choice = WithoutMemory; allowed = (e, may); faults = faults; stops = stops; shows = refl; answers = refl; node = refl; shared = refl }
+pub rows_name : (rs : List Row) (n : Node) → (node_after_rows rs n).name ≡ n.name
+rows_name [] n = refl
+rows_name (r ∷ rs) n = rows_name rs (node_after r.act n) ∙ after_name r.act n
 
-  -- the disk does not run again
-  pub task_unpowered : refused_before_reading s n request ≡ None → powers request ≡ true → Rose old.faults new.faults →
-      NodeStep s n old (Serves request) (line.Down n.name Failed ∷ []) (line.Broken Failed) (spoilt (spoils request) (unpowered old.stops n)) (occupied request s) new
-  task_unpowered e p rose = record { choice = Unpowered; allowed = (e, p, rose); faults = faults; stops = stops; shows = refl; answers = refl; node = refl; shared = refl }
+pub powered_name : (outturn : Outturn) (stops : ℕ) (n : Node) → (powered outturn stops n).name ≡ n.name
+powered_name outturn stops n = go outturn n.under_way
+  where
+    go : (o : Outturn) (act : Option Act) → (powered o stops (record n { under_way = act })).name ≡ n.name
+    go Taken (Some act) = acted_name act (record n { under_way = Some act })
+    go Taken None = refl
+    go Lost act = refl
+    go (Half standing) act = refl
 
-  -- a failure before any part was done, also where what is on the disk would refuse the request
-  pub task_cut_at_first : (taken : Bool) (cause : Cause) → refused_before_reading s n request ≡ None → touches request ≡ true → Rose (count_of cause old) (count_of cause new) →
-      NodeStep s n old (Serves request) (line.Down (ready_node taken old.stops request n).name cause ∷ []) (line.Broken cause) (fallen None (ready_node taken old.stops request n)) (occupied request s) new
-  task_cut_at_first taken cause e t rose = record { choice = Cut taken 0 false cause; allowed = (e, t, omega arith, rose); faults = faults; stops = stops; shows = refl; answers = refl; node = refl; shared = refl }
+spoilt_name : (b : Bool) (n : Node) → (spoilt b n).name ≡ n.name
+spoilt_name true n = refl
+spoilt_name false n = refl
 
-  -- a failure after so many parts, and where begun holds with the act of the next under way
-  pub task_cut : (taken : Bool) (done : ℕ) (begun : Bool) (cause : Cause) → refused_before_reading s n request ≡ None → refused_after_reading s (ready_node taken old.stops request n) request ≡ None → touches request ≡ true →
-      done ≤ length (rows_at s (ready_node taken old.stops request n) request) → Rose (count_of cause old) (count_of cause new) →
-      (let m = ready_node taken old.stops request n in
-      let rs = rows_at s m request in
-      NodeStep s n old (Serves request) (lines_of_rows (take done rs) ++ line.Down m.name cause ∷ []) (line.Broken cause) (fallen (act_begun begun (drop done rs)) (node_after_rows (take done rs) m)) (occupied request (shared_after_rows (take done rs) s)) new)
-  task_cut taken done begun cause e l t few rose = record { choice = Cut taken done begun cause; allowed = (e, t, rw l few, rose); faults = faults; stops = stops; shows = rw l refl; answers = refl; node = rw l refl; shared = rw l refl }
+pub ready_name : (outturn : Outturn) (stops : ℕ) (e : Service) (n : Node) → (ready_node outturn stops e n).name ≡ n.name
+ready_name outturn stops e n = go (powers e)
+  where
+    go : (b : Bool) → (if b then spoilt (spoils e) (powered outturn stops n) else n).name ≡ n.name
+    go true = spoilt_name (spoils e) (powered outturn stops n) ∙ powered_name outturn stops n
+    go false = refl
+
+pub effect_name : (s : Shared) (stops : ℕ) (n : Node) (t : Task) (c : Choice) → (task_effect s stops n t c).node.name ≡ n.name
+effect_name s stops n t (Whole outturn) = go (refused_before_reading s n e)
+  where
+    e : Service
+    e = task_service t
+
+    ready : Node
+    ready = ready_node outturn stops e n
+
+    late : (o : Option Line) → (begun s ready e o).node.name ≡ n.name
+    late (Some refusal) = ready_name outturn stops e n
+    late None = after_name e.closing (node_after_rows (e.rows s ready) ready) ∙ rows_name (e.rows s ready) ready ∙ ready_name outturn stops e n
+
+    go : (o : Option Line) → (whole s n ready e o).node.name ≡ n.name
+    go (Some refusal) = refl
+    go None = late (e.refused_after_reading s ready)
+effect_name s stops n t WithoutMemory = refl
+effect_name s stops n t Unpowered = spoilt_name (spoils (task_service t)) (unpowered stops n)
+effect_name s stops n t (Cut outturn done begun cause) =
+    let e = task_service t in
+    let ready = ready_node outturn stops e n in
+    rows_name (take done (rows_to_cut s ready e)) ready ∙ ready_name outturn stops e n
+
+-- How a task may end: it was refused before its disk was read, or then; it succeeded; memory was missing; or its disk failed, and its node is down.
+pub data Outcome (s : Shared) (stops : ℕ) (n : Node) (t : Task) (rises : Cause → Type 0) (e : TaskEffect) : Type 0 where
+  First : (refusal : Line) → refused_before_reading s n (task_service t) ≡ Some refusal → e ≡ refused s n refusal → Outcome s stops n t rises e
+  Late : (outturn : Outturn) (refusal : Line) → MayTurnOut n outturn → refused_before_reading s n (task_service t) ≡ None → (task_service t).refused_after_reading s (ready_node outturn stops (task_service t) n) ≡ Some refusal →
+      e ≡ refused s (ready_node outturn stops (task_service t) n) refusal → Outcome s stops n t rises e
+  Success : (outturn : Outturn) → MayTurnOut n outturn → refused_before_reading s n (task_service t) ≡ None → (task_service t).refused_after_reading s (ready_node outturn stops (task_service t) n) ≡ None →
+      e ≡ succeeded s (ready_node outturn stops (task_service t) n) (task_service t) → Outcome s stops n t rises e
+  Lacking : refused_before_reading s n (task_service t) ≡ None → (task_service t).takes_memory n ≡ true → e ≡ refused s n line.NoMemory → Outcome s stops n t rises e
+  Failing : (cause : Cause) (shown : List Line) (goes_on : Bool) → refused_before_reading s n (task_service t) ≡ None → rises cause → e.lines ≡ shown ++ line.Down n.name cause ∷ [] → e.node.up ≡ false →
+      e.answer ≡ (if goes_on then line.Normal else line.Broken cause) → e.ends ≡ not goes_on → Outcome s stops n t rises e
+
+unpowered_down : (b : Bool) (stops : ℕ) (n : Node) → (spoilt b (unpowered stops n)).up ≡ false
+unpowered_down true stops n = refl
+unpowered_down false stops n = refl
+
+pub outcome : (s : Shared) (stops : ℕ) (n : Node) (t : Task) (rises : Cause → Type 0) (c : Choice) → TaskAllowed s stops n t rises c → Outcome s stops n t rises (task_effect s stops n t c)
+outcome s stops n t rises (Whole outturn) may = go (refused_before_reading s n e) refl
+  where
+    e : Service
+    e = task_service t
+
+    ready : Node
+    ready = ready_node outturn stops e n
+
+    late : refused_before_reading s n e ≡ None → (o : Option Line) → e.refused_after_reading s ready ≡ o → Outcome s stops n t rises (begun s ready e o)
+    late f (Some refusal) is = Late outturn refusal may f is refl
+    late f None is = Success outturn may f is refl
+
+    go : (o : Option Line) → refused_before_reading s n e ≡ o → Outcome s stops n t rises (whole s n ready e o)
+    go (Some refusal) is = First refusal is refl
+    go None is = late is (e.refused_after_reading s ready) refl
+outcome s stops n t rises WithoutMemory may = Lacking may.0 may.1 refl
+outcome s stops n t rises Unpowered may = Failing Failed [] false may.0 may.2 refl (unpowered_down (spoils (task_service t)) stops n) refl refl
+outcome s stops n t rises (Cut outturn done begun cause) may =
+    let e = task_service t in
+    let ready = ready_node outturn stops e n in
+    let front = lines_of_rows (take done (rows_to_cut s ready e)) in
+    Failing cause front e.goes_on may.0 may.4 (ap (λ name. front ++ line.Down name cause ∷ []) (ready_name outturn stops e n)) refl refl refl

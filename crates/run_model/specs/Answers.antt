@@ -1,23 +1,31 @@
--- What each request is answered and does at its node. Of what makes the world, this alone tells requests apart; Said and Promises do too, which read lines.
-use Rattle.std.specs.Prelude.{ℕ, ◌+◌, ◌-◌, ◌*◌, ◌/◌, List, [], ◌∷◌, Bool, true, false, not, ◌&&◌, ◌||◌, ◌==◌, Option, Some, None, min, max, nat_le, nat_lt, map, length}
+-- What each task of a node is answered and does there. Of what makes the world, this tells tasks and requests apart, and Statements, which has the tasks of each
+-- statement.
+use Rattle.std.specs.Prelude.{ℕ, ◌+◌, ◌-◌, ◌*◌, ◌/◌, List, [], ◌∷◌, ◌++◌, Bool, true, false, not, ◌&&◌, ◌||◌, ◌==◌, if◌then◌else◌, Option, Some, None, option_map, min, max, nat_le, nat_lt, map, length}
 use Rattle.std.specs.Option.{option_and_then}
 use Rattle.std.specs.FinMap.{empty}
 use Rattle.vms_model.specs.Keys.{Key}
 use Rattle.vms_model.specs.Ids.{Id}
-use Rattle.vms_model.specs.Transactions.{Commit, Abort, Reason, Aborted, SegFail}
+use Rattle.vms_model.specs.Transactions.{Outcome, Commit, Abort, Reason, Aborted, SegFail}
 use Rattle.transcript_model.specs.Lines as line
 use Rattle.transcript_model.specs.Lines.{Line}
-use Rattle.script_model.specs.Statements.{Request, Init, Boot, Create, SetFile, StartTrans, Records, Direct, EndTrans, AbortTrans, Dump, DumpJournal, Fuse, Crash, Form, Sequential, Relative, Indexed, Setting, Operation, RecoveryUnits, NoRecoveryUnits}
+use Rattle.script_model.specs.Statements.{Request, Init, Boot, Create, SetFile, StartTrans, AddBranch, StartBranch, Records, Direct, EndBranch, EndTrans, AbortTrans, Inquire, Dump, DumpJournal, Fuse, Crash, Clock, Named, ByLabel, BySerial, Form, Sequential, Relative, Indexed, Setting, Operation, RecoveryUnits, NoRecoveryUnits}
 use Rattle.records_model.specs.Records.{Change}
 use Rattle.records_model.specs.Layout.{Layout, no_layout, first_layout as one_bucket}
 use Rattle.records_model.specs.History.{first_to_change, same_id}
 use Rattle.unit_laws.specs.Journal as journal
 use Rattle.unit_laws.specs.Journal.{JournalEntry, RecoveryUnit, entry_size, entries_size, entries_for, end_of, owed, units_in, find_unit, active_units}
-use Rattle.commit_protocol.specs.Table.{Branch, Active}
-use Rattle.commit_protocol.specs.Rows.{blank}
+use Rattle.commit_protocol.specs.Messages as message
+use Rattle.commit_protocol.specs.Messages.{Message, LogRecord}
+use Rattle.commit_protocol.specs.Table as table
+use Rattle.commit_protocol.specs.Table.{Branch, Child, Active, Key as BranchKey, Notes, Accepts, Prepares, Settles, Leaves, Acknowledges, Undoes, Sends, Prints, Releases, child, is_first, waits_for, acknowledged, holds, nothing_left}
+use Rattle.commit_protocol.specs.Table.{released as record_released}
+use Rattle.commit_protocol.specs.Rows as rows
+use Rattle.commit_protocol.specs.Rows.{Event, row, is_noted}
+use Rattle.commit_protocol.specs.Allowed.{is_active, is_prepared, is_working, may_end}
+use Rattle.commit_protocol.specs.World.{undo_all}
 use Rattle.run_model.specs.Locks.{holder, not_locked}
 use Rattle.run_model.specs.World as world
-use Rattle.run_model.specs.World.{Shared, Node, File, Organization, Label, Settlement, Volume, Sound, Faulty, Unknown, Act, Formats, Boots, ComesUp, Creates, Marks, Begins, Changes, Holds, Directs, Settles, Arms, Falls, acted, nothing_carried, find_file, free_place, find_label, labelled, serial_labelled, find_branch, changes_made, serials_of, longest_free, lowest_free, next_id, next_moment}
+use Rattle.run_model.specs.World.{Shared, Node, File, Organization, Label, Settlement, Volume, Sound, Faulty, Barred, Unknown, Bar, NoRing, AllBoots, LateMoment, FarPosition, Act, Formats, Boots, ComesUp, Creates, Marks, Draws, Labels, Numbers, Tables, Changes, Holds, Directs, Arms, Clocks, Falls, acted, shared_after, tm_of, booted, message_limit, nothing_carried, find_file, free_place, find_label, labelled, serial_labelled, find_branch, changes_made, serials_of, longest_free, lowest_free, next_id, next_moment}
 use Rattle.run_model.specs.Operations.{first_of, refused_if, in_order, form_refused, data_refused, changes_of, file_full, operation_answer, is_change, keys_asked, keys_found, keys_held}
 
 -- how many labels a run makes, at the most
@@ -44,6 +52,13 @@ moment_limit = 24000000000000
 abbrev pub position_limit : ℕ
 position_limit = 2305843009213693952
 
+-- how many branches are authorised for a transaction, and how many seconds it may be given, at the most
+abbrev pub bid_limit : ℕ
+bid_limit = 15
+
+abbrev pub second_limit : ℕ
+second_limit = 1000000
+
 -- a part of a statement: perhaps an act, and then lines
 pub record Row : Type 0 where
   pub act : Option Act
@@ -63,9 +78,60 @@ made_label s n name = elim (labelled n.name name s.labels) [ Some label ↦ None
 abbrev pub branch_labelled : Shared → Node → List ℕ → Option Branch
 branch_labelled s n name = option_and_then (λ serial. find_branch serial n.volatile.branches) (serial_labelled n.name name s.labels)
 
--- a label that is used: its branch is settled
+-- a branch that is used: it is not unsettled at this node
+abbrev pub unsettled : Option Branch → Option Line
+unsettled found = elim found [ Some b ↦ None | None ↦ Some line.NoSuchTransaction ]
+
+-- a label that is used: its branch is not unsettled at this node
 abbrev pub unsettled_label : Shared → Node → List ℕ → Option Line
-unsettled_label s n name = elim (branch_labelled s n name) [ Some b ↦ None | None ↦ Some line.NoSuchTransaction ]
+unsettled_label s n name = unsettled (branch_labelled s n name)
+
+-- a branch that is used: it is not in such a state
+abbrev pub in_state : (Branch → Bool) → Option Branch → Option Line
+in_state holds found = elim found [ Some b ↦ refused_if (not (holds b)) line.WrongState | None ↦ None ]
+
+-- the first branch of a transaction of which END_TRANS was not called
+abbrev pub is_first_active : Branch → Bool
+is_first_active b = is_first b && is_active b.state
+
+-- a branch that is not prepared, and one that is
+abbrev pub is_open : Branch → Bool
+is_open b = not (is_prepared b.state)
+
+abbrev pub is_in_doubt : Branch → Bool
+is_in_doubt b = is_prepared b.state
+
+-- a label or a serial: the label was not made, or for another node
+abbrev pub made_name : Shared → Node → Named → Option Line
+made_name s n (ByLabel label) = made_label s n label
+made_name s n (BySerial serial) = None
+
+-- the unsettled branch that it names
+abbrev pub branch_named : Shared → Node → Named → Option Branch
+branch_named s n (ByLabel label) = branch_labelled s n label
+branch_named s n (BySerial serial) = find_branch serial n.volatile.branches
+
+-- a branch that is to begin: there are as many unsettled ones as may be, or as many of these and of committed records together as the log has slots
+abbrev pub more_branches : Node → Option Line
+more_branches n = first_of (refused_if (nat_le branch_limit (length n.volatile.branches)) (line.QuotaExceeded line.Branches branch_limit))
+    (refused_if (nat_le (length n.durable.log) (length n.volatile.branches + length n.volatile.records)) (line.QuotaExceeded line.Slots (length n.durable.log)))
+
+-- seconds that a transaction is given: there are none, or too many
+abbrev pub seconds_refused : Option ℕ → Option Line
+seconds_refused None = None
+seconds_refused (Some seconds) = refused_if (not (nat_le 1 seconds && nat_le seconds second_limit)) line.BadParameter
+
+-- a branch that is to be authorised: as many are as may be
+abbrev pub more_bids : Branch → Option Line
+more_bids b = refused_if (nat_le bid_limit (length b.bids)) (line.QuotaExceeded line.Bids bid_limit)
+
+-- a label by which a branch is to begin: it is that of a transaction, and names no identifier of a branch
+abbrev pub authorised : Label → Option Line
+authorised l = elim l.bid [ Some bid ↦ None | None ↦ Some line.NoSuchBranchId ]
+
+-- what a label says of it, where it was made for this node
+abbrev pub of_label : Shared → Node → List ℕ → (Label → Option Line) → Option Line
+of_label s n name says = elim (labelled n.name name s.labels) [ Some l ↦ says l | None ↦ None ]
 
 -- a file that is used: the node has none of this name
 abbrev pub there_is_file : Node → List ℕ → Option Line
@@ -202,6 +268,13 @@ images_end (Some f ∷ fs) = max (max f.carried.after.end f.carried.before.end) 
 abbrev pub last_position : Node → ℕ
 last_position n = max (end_of n.durable.units) (images_end n.durable.directory)
 
+-- what is answered where a boot is barred: that a journal's block fails a condition of volumes, or a quota
+abbrev pub bar_line : (node : List ℕ) → Bar → Line
+bar_line node NoRing = line.NoVolume node 6 583
+bar_line node AllBoots = line.QuotaExceeded line.Boots boot_limit
+bar_line node LateMoment = line.QuotaExceeded line.Moments moment_limit
+bar_line node FarPosition = line.QuotaExceeded line.Positions position_limit
+
 -- A node that is to be booted: its disk has no volume of it, it was booted as often as may be, its greatest moment is too late, or a journal has come too far.
 -- Where nothing was known of the disk before the run, and nothing is promised of it, this gives no cause; one whose INIT failed is refused before the disk is
 -- read.
@@ -210,6 +283,7 @@ bootable n = elim n.durable.volume [
   | Sound ↦ first_of (refused_if (n.durable.boot == boot_limit) (line.QuotaExceeded line.Boots boot_limit))
       (first_of (refused_if (nat_lt moment_limit n.durable.greatest) (line.QuotaExceeded line.Moments moment_limit)) (refused_if (nat_lt position_limit (last_position n)) (line.QuotaExceeded line.Positions position_limit)))
   | Faulty condition block ↦ Some (line.NoVolume n.name condition block)
+  | Barred bar ↦ Some (bar_line n.name bar)
   | Unknown ↦ None
 ]
 
@@ -263,9 +337,105 @@ last_lines n = elim n.durable.last [ Some s ↦ last_line s | None ↦ [] ]
 abbrev pub silent : Act → Row
 silent act = record { act = Some act; lines = [] }
 
--- the first branch of a transaction has the transaction's id as its serial
-abbrev pub started : Node → List ℕ → Row
-started n label = silent (Begins (record { name = label; node = n.name; tid = next_id n; bid = None; serial = Some (next_id n) }) (blank (next_id n) (next_id n) None Active None))
+-- a line is shown, and nothing is done
+abbrev pub shown_line : Line → Row
+shown_line l = record { act = None; lines = l ∷ [] }
+
+-- The rows of the table.
+
+-- a message is shown with its number, or as one that gets none
+abbrev pub sent_line : Message → List Message → Line
+sent_line m wire = if nat_lt (length wire) message_limit then line.Sent (length wire + 1) m else line.Unsent m
+
+-- a settlement as it is shown
+abbrev pub settled_line : BranchKey → Outcome → Reason → (moment : ℕ) → Line
+settled_line k Commit reason moment = line.Committed k.tid k.serial moment
+settled_line k Abort reason moment = line.Aborted k.tid k.serial reason moment
+
+-- a committed record of which nothing is left is shown to be gone
+abbrev pub forgot_lines : LogRecord → List Line
+forgot_lines r = if nothing_left r.waiting r.rms then line.Forgot r.tid r.serial ∷ [] else []
+
+-- so of the first that waits for a serial, and of the first that waits for a manager
+abbrev pub acknowledged_lines : BranchKey → List LogRecord → List Line
+acknowledged_lines k [] = []
+acknowledged_lines k (r ∷ rs) = if waits_for k r then forgot_lines (acknowledged k r) else acknowledged_lines k rs
+
+abbrev pub released_lines : Id → message.Name → List LogRecord → List Line
+released_lines serial rm [] = []
+released_lines serial rm (r ∷ rs) = if holds serial rm r then forgot_lines (record_released rm r) else released_lines serial rm rs
+
+-- a line of the table; events of resource managers come with these
+abbrev pub table_lines : table.Line → List Line
+table_lines (table.Started k) = line.Started k.tid k.serial ∷ []
+table_lines (table.Ended tid reason) = line.Ended tid reason ∷ []
+table_lines (table.Told event k rm) = []
+
+-- what an act of the table shows, which settles at this moment where it settles a branch
+abbrev pub shown_by : table.Act → (moment : ℕ) → Node → Shared → List Line
+shown_by (Notes b) moment n s = []
+shown_by (Accepts b c) moment n s = line.Joined b.key.tid c.serial ∷ []
+shown_by (Prepares b) moment n s = line.Prepared b.key.tid b.key.serial ∷ []
+shown_by (Settles k outcome reason r) moment n s = settled_line k outcome reason moment ∷ []
+shown_by (Leaves k) moment n s = line.ReadOnly k.tid k.serial ∷ []
+shown_by (Acknowledges k) moment n s = acknowledged_lines k n.volatile.records
+shown_by (Releases serial rm) moment n s = released_lines serial rm n.volatile.records
+shown_by (Undoes k) moment n s = settled_line k Abort SegFail moment ∷ []
+shown_by (Sends m) moment n s = sent_line m s.wire ∷ []
+shown_by (Prints l) moment n s = table_lines l
+
+-- The acts of a row of the table, one after another. A settlement is at the node's next moment then; what an act shows depends on those before it.
+abbrev pub table_rows : List table.Act → Shared → Node → List Row
+table_rows [] s n = []
+table_rows (a ∷ todo) s n = record { act = Some (Tables a (next_moment n)); lines = shown_by a (next_moment n) n s } ∷ table_rows todo (shared_after (Tables a (next_moment n)) s) (acted (Tables a (next_moment n)) n)
+
+-- acts that show nothing, and what the node and what nodes share are behind them
+abbrev pub all_acted : List Act → Node → Node
+all_acted [] n = n
+all_acted (act ∷ todo) n = all_acted todo (acted act n)
+
+abbrev pub all_shared : List Act → Shared → Shared
+all_shared [] s = s
+all_shared (act ∷ todo) s = all_shared todo (shared_after act s)
+
+-- How a task is told to the table: what is drawn, and then the event.
+pub record Telling : Type 0 where
+  pub before : List Act
+  pub event : Event
+
+-- an event before which nothing is drawn
+abbrev pub just : Event → Telling
+just e = record { before = []; event = e }
+
+-- the rows of what is told: those of what is drawn, and then the table's
+abbrev pub told_rows : Shared → Node → Telling → List Row
+told_rows s n t = map silent t.before ++ table_rows (row (tm_of n) t.event) (all_shared t.before s) (all_acted t.before n)
+
+abbrev pub told_if : Shared → Node → Option Telling → List Row
+told_if s n None = []
+told_if s n (Some t) = told_rows s n t
+
+-- when a transaction that begins now is due
+abbrev pub due_after : Node → Option ℕ → Option ℕ
+due_after n seconds = option_map (λ count. n.clock + 100 * count) seconds
+
+-- a transaction draws its id, and its label names the first branch, whose serial is that id
+abbrev pub starts : Node → (label : List ℕ) → (seconds : Option ℕ) → Telling
+starts n label seconds = record {
+  before = Draws ∷ Labels (record { name = label; node = n.name; tid = next_id n; bid = None; serial = Some (next_id n) }) ∷ [];
+  event = rows.Start (next_id n) (due_after n seconds);
+}
+
+-- a branch of this transaction is authorised by an identifier that is drawn, which a label of the other node names
+abbrev pub adds : Node → (other new : List ℕ) → Branch → Telling
+adds n other new b = record {
+  before = Draws ∷ Labels (record { name = new; node = other; tid = b.key.tid; bid = Some (next_id n); serial = None }) ∷ [];
+  event = rows.Authorise b.key.tid (next_id n);
+}
+
+-- a branch draws its serial, which the label of its identifier names from then on
+abbrev pub begins : Node → Label → Option Telling
+begins n l = option_map (λ bid. let t : Telling = record { before = Draws ∷ Numbers l.name (next_id n) ∷ []; event = rows.Begin l.tid (next_id n) bid } in t) l.bid
 
 -- changes of a branch are one act; where there are none, it holds what it read
 abbrev pub operation_act : Branch → (file : List ℕ) → List Change → List Key → Act
@@ -285,30 +455,41 @@ abbrev pub directed : Node → List ℕ → List Change → List Row
 directed n file [] = []
 directed n file (c ∷ cs) = record { act = Some (Directs file (c ∷ cs) (commit_settlement n (next_id n) (next_id n))); lines = line.Committed (next_id n) (next_id n) (next_moment n) ∷ [] } ∷ []
 
--- a branch is committed, and that is shown
-abbrev pub committed : Node → Branch → Row
-committed n b = record { act = Some (Settles (commit_settlement n b.key.tid b.key.serial)); lines = line.Committed b.key.tid b.key.serial (next_moment n) ∷ [] }
-
--- the settlement of a branch that is aborted for a reason at the node's next moment
-abbrev pub abort_settlement : Reason → Node → (tid serial : Id) → Settlement
-abort_settlement reason n tid serial = record { tid = tid; serial = serial; outcome = Abort; reason = Some reason; moment = next_moment n }
-
--- it is aborted, and that is shown
-abbrev pub aborted : Reason → Node → (tid serial : Id) → Row
-aborted reason n tid serial = record { act = Some (Settles (abort_settlement reason n tid serial)); lines = line.Aborted tid serial reason (next_moment n) ∷ [] }
-
--- a restart undoes these units one after another, each at the next moment then
-abbrev pub undoes : Node → List RecoveryUnit → List Row
-undoes n [] = []
-undoes n (u ∷ us) = aborted SegFail n u.tid u.serial ∷ undoes (acted (Settles (abort_settlement SegFail n u.tid u.serial)) n) us
-
 -- the units that a restart undoes, in the order of their first entries
 abbrev pub left_active : Node → List RecoveryUnit
 left_active n = active_units (units_in n.durable.units.entries)
 
+-- the branch of a unit
+abbrev pub unit_key : RecoveryUnit → BranchKey
+unit_key u = child u.tid u.serial
+
+-- A boot raises the boot count and shows the last settlement on the disk, and then undoes one after another the units that are not prepared.
+abbrev pub boot_rows : Shared → Node → List Row
+boot_rows s n = record { act = Some Boots; lines = last_lines n } ∷ table_rows (undo_all (map unit_key (left_active n))) s (acted Boots n)
+
+-- the branches that it finds prepared are shown behind them
+abbrev pub prepared_line : Branch → Line
+prepared_line b = line.Prepared b.key.tid b.key.serial
+
+abbrev pub prepared_lines : Node → List Line
+prepared_lines n = map prepared_line (booted n.durable).branches
+
 -- what is done to the branch that a label names
-abbrev pub to_branch : Shared → Node → List ℕ → (Branch → Row) → List Row
-to_branch s n label does = elim (branch_labelled s n label) [ Some b ↦ does b ∷ [] | None ↦ [] ]
+abbrev pub to_branch : Shared → Node → List ℕ → (Branch → List Row) → List Row
+to_branch s n label does = elim (branch_labelled s n label) [ Some b ↦ does b | None ↦ [] ]
+
+-- the accepted serials whose votes are missing
+abbrev pub missing : List Child → List Id
+missing [] = []
+missing (c ∷ cs) = if is_noted c.vote then missing cs else c.serial ∷ missing cs
+
+-- what END_TRANS is answered, by what its row does: the outcome, or the serials whose votes are missing
+abbrev pub end_answer : List table.Act → Line → Line
+end_answer [] before = before
+end_answer (Notes b ∷ todo) before = end_answer todo (line.Pending (missing b.accepted))
+end_answer (Settles k Commit reason r ∷ todo) before = line.Normal
+end_answer (Settles k Abort reason r ∷ todo) before = line.TransactionAborted reason
+end_answer (_ ∷ todo) before = end_answer todo before
 
 -- the records of a file, in the order of their keys
 abbrev pub records_of : Node → List ℕ → List (Key × List ℕ)
@@ -329,10 +510,6 @@ abbrev pub entry_lines : (position : ℕ) → List JournalEntry → List Line
 entry_lines position [] = []
 entry_lines position (e ∷ es) = entry_line position e ∷ entry_lines (position + entry_size e) es
 
--- a line is shown, and nothing is done
-abbrev pub shown_line : Line → Row
-shown_line l = record { act = None; lines = l ∷ [] }
-
 -- what an operation is answered where it succeeds
 abbrev pub operation_told : Node → List ℕ → Operation → Line
 operation_told n file op = elim (find_file file n.durable.directory) [ Some f ↦ operation_answer f op | None ↦ line.RecordNormal ]
@@ -345,9 +522,10 @@ pub data DiskUse : Type 0 where
   Powered : DiskUse
   MadeAnew : DiskUse
 
--- What a request is: how it uses the disk of its node, and whether a node that is down serves it. Then, by what nodes share and by the node: what refuses it
+-- What a task is: how it uses the disk of its node, and whether a node that is down serves it. Then, by what nodes share and by the node: what refuses it
 -- before the disk is read, which stands before what refuses it by what the disk has, or by a quota; whether it takes memory; where nothing refuses it, its rows,
--- which are done part after part; and its answer. With the answer one act more is done, which no failure leaves done.
+-- which are done part after part; and its answer. With the answer one act more is done, and lines are shown, which no failure leaves done or shown. Where its disk
+-- fails its statement ends, or goes on.
 pub record Service : Type 0 where
   pub uses : DiskUse
   pub while_down : Bool
@@ -356,116 +534,144 @@ pub record Service : Type 0 where
   pub takes_memory : Node → Bool
   pub rows : Shared → Node → List Row
   pub closing : Option Act
-  pub answer : Node → Line
+  pub closing_lines : Node → List Line
+  pub answer : Shared → Node → Line
+  pub goes_on : Bool
 
 -- what is common to most: a node that is down does not serve the request, no memory is taken, and nothing is done with the answer
-abbrev pub plain : DiskUse → (before after : Shared → Node → Option Line) → (Shared → Node → List Row) → (Node → Line) → Service
-plain uses before after rows answer = record { uses = uses; while_down = false; refused_before_reading = before; refused_after_reading = after; takes_memory = λ n. false; rows = rows; closing = None; answer = answer }
+abbrev pub plain : DiskUse → (before after : Shared → Node → Option Line) → (Shared → Node → List Row) → (Shared → Node → Line) → Service
+plain uses before after rows answer = record {
+  uses = uses;
+  while_down = false;
+  refused_before_reading = before;
+  refused_after_reading = after;
+  takes_memory = λ n. false;
+  rows = rows;
+  closing = None;
+  closing_lines = λ n. [];
+  answer = answer;
+  goes_on = false;
+}
 
 -- nothing refuses it
 abbrev pub never : Shared → Node → Option Line
 never s n = None
 
+-- it is answered so in any case
+abbrev pub always : Line → Shared → Node → Line
+always answer s n = answer
+
 -- what each request is
 abbrev pub service : Request → Service
-service (Init slots journal) = record {
-  uses = MadeAnew;
-  while_down = true;
-  refused_before_reading = λ s n. first_of (refused_if s.in_use line.VolumeInUse) (refused_if (not (is_volume_form slots journal n)) line.BadParameter);
-  refused_after_reading = never;
-  takes_memory = λ n. false;
-  rows = λ s n. [];
-  closing = Some (Formats slots journal);
-  answer = λ n. line.Normal;
-}
-service Boot = record {
-  uses = Powered;
-  while_down = true;
-  refused_before_reading = λ s n. first_of (refused_if n.up line.NodeUp) (refused_if n.unmade line.NotInitialized);
-  refused_after_reading = λ s n. bootable n;
-  takes_memory = λ n. not n.was_up;
-  rows = λ s n. record { act = Some Boots; lines = last_lines n } ∷ undoes (acted Boots n) (left_active n);
-  closing = Some ComesUp;
-  answer = λ n. line.NormalCount (n.durable.boot + 1);
-}
+service (Init slots journal) = record (plain MadeAnew
+    (λ s n. first_of (refused_if s.in_use line.VolumeInUse) (refused_if (not (is_volume_form slots journal n)) line.BadParameter)) never
+    (λ s n. []) (always line.Normal)) { while_down = true; closing = Some (Formats slots journal) }
+service Boot = record (plain Powered
+    (λ s n. first_of (refused_if n.up line.NodeUp) (refused_if n.unmade line.NotInitialized)) (λ s n. bootable n)
+    boot_rows (λ s n. line.NormalCount (n.durable.boot + 1))) { while_down = true; takes_memory = λ n. not n.was_up; closing = Some ComesUp; closing_lines = prepared_lines }
 service (Create file bucket size form) = plain Used
     (λ s n. first_of (new_file n file) (refused_if (not (is_file_form bucket size form)) line.BadParameter))
     (λ s n. room_for (blocks_for bucket size form) n)
-    (λ s n. creates n (λ start. created file bucket size form start n.durable.greatest) (blocks_for bucket size form)) (λ n. line.Normal)
+    (λ s n. creates n (λ start. created file bucket size form start n.durable.greatest) (blocks_for bucket size form)) (always line.Normal)
 service (SetFile file setting) = plain Used
     (λ s n. first_of (there_is_file n file) (of_file n file (unchanged_file n))) never
-    (λ s n. silent (Marks file (is_for_units setting)) ∷ []) (λ n. line.Normal)
-service (StartTrans label) = plain Unused
-    (λ s n. new_label s label) (λ s n. refused_if (nat_le branch_limit (length n.volatile.branches)) (line.QuotaExceeded line.Branches branch_limit))
-    (λ s n. started n label ∷ []) (λ n. line.NormalId (next_id n))
+    (λ s n. silent (Marks file (is_for_units setting)) ∷ []) (always line.Normal)
+service (StartTrans label seconds) = plain Unused
+    (λ s n. first_of (new_label s label) (seconds_refused seconds)) (λ s n. more_branches n)
+    (λ s n. told_rows s n (starts n label seconds)) (λ s n. line.NormalId (next_id n))
+service (AddBranch label other new) = plain Unused
+    (λ s n. first_of (made_label s n label) (first_of (new_label s new) (first_of (unsettled_label s n label) (in_state is_first_active (branch_labelled s n label)))))
+    (λ s n. option_and_then more_bids (branch_labelled s n label))
+    (λ s n. to_branch s n label (λ b. told_rows s n (adds n other new b))) (λ s n. line.NormalId (next_id n))
+service (StartBranch label) = plain Unused
+    (λ s n. first_of (made_label s n label) (first_of (of_label s n label authorised) (in_state (λ b. false) (branch_labelled s n label)))) (λ s n. more_branches n)
+    (λ s n. told_if s n (option_and_then (begins n) (labelled n.name label s.labels))) (λ s n. line.Pending (next_id n ∷ []))
 service (Records label file op) = plain Used
     (λ s n. first_of (made_label s n label) (first_of (there_is_file n file) (first_of (of_file n file (λ f. form_refused f op)) (first_of (unsettled_label s n label)
-    (first_of (of_file n file is_marked) (of_file n file (λ f. keys_refused n (serial_labelled n.name label s.labels) file (keys_asked f op))))))))
+    (first_of (in_state is_working (branch_labelled s n label))
+    (first_of (of_file n file is_marked) (of_file n file (λ f. keys_refused n (serial_labelled n.name label s.labels) file (keys_asked f op)))))))))
     (λ s n. operation_refused s n label file op)
-    (λ s n. to_branch s n label (operated n file op)) (λ n. operation_told n file op)
+    (λ s n. to_branch s n label (λ b. operated n file op b ∷ [])) (λ s n. operation_told n file op)
 service (Direct file op) = plain Used
     (λ s n. first_of (there_is_file n file) (first_of (of_file n file (λ f. form_refused f op))
     (first_of (of_file n file (needs_unit op)) (of_file n file (λ f. keys_refused n None file (keys_asked f op))))))
     (λ s n. direct_refused n file op)
-    (λ s n. directed n file (changes_at n file op)) (λ n. operation_told n file op)
+    (λ s n. directed n file (changes_at n file op)) (λ s n. operation_told n file op)
+service (EndBranch label) = plain Used
+    (λ s n. first_of (made_label s n label) (first_of (unsettled_label s n label) (in_state may_end (branch_labelled s n label)))) never
+    (λ s n. to_branch s n label (λ b. told_rows s n (just (rows.EndBranch b.key.serial)))) (always line.Normal)
 service (EndTrans label) = plain Used
-    (λ s n. first_of (made_label s n label) (unsettled_label s n label)) never
-    (λ s n. to_branch s n label (committed n)) (λ n. line.Normal)
+    (λ s n. first_of (made_label s n label) (first_of (unsettled_label s n label) (in_state is_first_active (branch_labelled s n label)))) never
+    (λ s n. to_branch s n label (λ b. told_rows s n (just (rows.EndTrans b.key.tid))))
+    (λ s n. elim (branch_labelled s n label) [ Some b ↦ end_answer (row (tm_of n) (rows.EndTrans b.key.tid)) line.Normal | None ↦ line.Normal ])
 service (AbortTrans label) = plain Used
-    (λ s n. first_of (made_label s n label) (unsettled_label s n label)) never
-    (λ s n. to_branch s n label (λ b. aborted Aborted n b.key.tid b.key.serial)) (λ n. line.Normal)
+    (λ s n. first_of (made_label s n label) (first_of (unsettled_label s n label) (in_state is_open (branch_labelled s n label)))) never
+    (λ s n. to_branch s n label (λ b. told_rows s n (just (rows.AbortBranch b.key.serial Aborted)))) (always line.Normal)
+service (Inquire who) = plain Unused
+    (λ s n. first_of (made_name s n who) (first_of (unsettled (branch_named s n who)) (in_state is_in_doubt (branch_named s n who)))) never
+    (λ s n. told_if s n (option_map (λ (b : Branch). just (rows.InquireBranch b.key.serial)) (branch_named s n who))) (always line.Normal)
 service (Dump file) = plain Used
     (λ s n. first_of (there_is_file n file) (of_file n file (unchanged_file n))) never
-    (λ s n. map shown_record (records_of n file)) (λ n. line.NormalCount (length (records_of n file)))
+    (λ s n. map shown_record (records_of n file)) (λ s n. line.NormalCount (length (records_of n file)))
 service DumpJournal = plain Used never never
-    (λ s n. map shown_line (entry_lines n.durable.units.first n.durable.units.entries)) (λ n. line.NormalSpan n.durable.units.first (end_of n.durable.units))
-service (Fuse writes choice) = record (plain Unused never never (λ s n. silent (Arms writes choice) ∷ []) (λ n. line.Normal)) { while_down = true }
-service Crash = plain Unused never never (λ s n. record { act = Some Falls; lines = line.Crashed n.name ∷ [] } ∷ []) (λ n. line.Normal)
+    (λ s n. map shown_line (entry_lines n.durable.units.first n.durable.units.entries)) (λ s n. line.NormalSpan n.durable.units.first (end_of n.durable.units))
+service (Fuse writes choice) = record (plain Unused never never (λ s n. silent (Arms writes choice) ∷ []) (always line.Normal)) { while_down = true }
+service Crash = plain Unused never never (λ s n. record { act = Some Falls; lines = line.Crashed n.name ∷ [] } ∷ []) (always line.Normal)
+service (Clock now) = record (plain Unused never never (λ s n. silent (Clocks now) ∷ []) (always line.Normal)) { while_down = true }
 
--- what refuses a request before the disk is read, at a node that serves such requests then
-abbrev pub refused_where_served : Shared → Node → Request → Option Line
-refused_where_served s n request = (service request).refused_before_reading s n
+-- What is asked of one node: a request; that it aborts what is due by its clock; a message comes to it, or an answer at once to a branch's question in a settling;
+-- the link to another node fails; it aborts what is not prepared; or it is booted by a settling.
+pub data Task : Type 0 where
+  Serves : Request → Task
+  Ticks : Task
+  Takes : Message → Task
+  Hears : Message → Task
+  LosesLink : (other : List ℕ) → Task
+  RunsDown : Task
+  Restarts : Task
 
--- whether a node that is down serves it
-abbrev pub served_down : Request → Bool
-served_down request = (service request).while_down
+-- a task that tells the table an event, and that nothing refuses at a node that is up
+abbrev pub telling : (Node → Event) → Service
+telling event = plain Used never never (λ s n. told_rows s n (just (event n))) (always line.Normal)
 
--- what refuses it before the disk is read, at any node
-abbrev pub refused_before_reading : Shared → Node → Request → Option Line
-refused_before_reading s n request = first_of (refused_if (not (n.up || served_down request)) line.NodeDown) (refused_where_served s n request)
+-- the outcome that an answer tells
+abbrev pub outcome_told : message.Kind → Outcome
+outcome_told message.Commit = Commit
+outcome_told _ = Abort
 
--- what refuses it by what the disk has, or by a quota
-abbrev pub refused_after_reading : Shared → Node → Request → Option Line
-refused_after_reading s n request = (service request).refused_after_reading s n
+-- what each task is
+abbrev pub task_service : Task → Service
+task_service (Serves request) = service request
+task_service Ticks = record (telling (λ n. rows.Clock n.clock)) { goes_on = true }
+task_service (Takes m) = telling (λ n. rows.Got m)
+task_service (Hears m) = plain Used never never (λ s n. shown_line (line.Asked m.tid m.serial (outcome_told m.kind)) ∷ told_rows s n (just (rows.Got m))) (always line.Normal)
+task_service (LosesLink other) = record (telling (λ n. rows.LinkDown other)) { goes_on = true }
+task_service RunsDown = telling (λ n. rows.RunDown)
+task_service Restarts = record (plain Powered
+    (λ s n. first_of (refused_if n.up line.NodeUp) (refused_if n.unmade (line.NotInitializedAt n.name))) (λ s n. bootable n)
+    boot_rows (always line.Normal)) {
+      while_down = true;
+      takes_memory = λ n. not n.was_up;
+      closing = Some ComesUp;
+      closing_lines = λ n. prepared_lines n ++ line.Booted n.name (n.durable.boot + 1) ∷ [];
+    }
 
--- whether it takes memory
-abbrev pub takes_memory : Node → Request → Bool
-takes_memory n request = (service request).takes_memory n
-
--- what it does, part after part
-abbrev pub rows_at : Shared → Node → Request → List Row
-rows_at s n request = (service request).rows s n
-
--- what it does with its answer
-abbrev pub closing_of : Request → Option Act
-closing_of request = (service request).closing
-
--- its answer
-abbrev pub answer_at : Node → Request → Line
-answer_at n request = (service request).answer n
+-- what refuses a task before the disk is read, at any node
+abbrev pub refused_before_reading : Shared → Node → Service → Option Line
+refused_before_reading s n e = first_of (refused_if (not (n.up || e.while_down)) line.NodeDown) (e.refused_before_reading s n)
 
 -- whether the disk is made to run again first
-abbrev pub powers : Request → Bool
-powers request = elim (service request).uses [ Unused ↦ false | Used ↦ false | Powered ↦ true | MadeAnew ↦ true ]
+abbrev pub powers : Service → Bool
+powers e = elim e.uses [ Unused ↦ false | Used ↦ false | Powered ↦ true | MadeAnew ↦ true ]
 
 -- whether nothing is known of what the disk has, from the moment at which it runs again to the success
-abbrev pub spoils : Request → Bool
-spoils request = elim (service request).uses [ Unused ↦ false | Used ↦ false | Powered ↦ false | MadeAnew ↦ true ]
+abbrev pub spoils : Service → Bool
+spoils e = elim e.uses [ Unused ↦ false | Used ↦ false | Powered ↦ false | MadeAnew ↦ true ]
 
--- whether no volume may be made any more once the request was answered with its success or with a failure of the disk
-abbrev pub occupies : Request → Bool
-occupies request = elim (service request).uses [ Unused ↦ false | Used ↦ false | Powered ↦ true | MadeAnew ↦ false ]
+-- whether no volume may be made any more once the task was done with its success or was ended by a failure of the disk
+abbrev pub occupies : Service → Bool
+occupies e = elim e.uses [ Unused ↦ false | Used ↦ false | Powered ↦ true | MadeAnew ↦ false ]
 
 -- whether the disk is read or written, so that a failure of it may come
-abbrev pub touches : Request → Bool
-touches request = elim (service request).uses [ Unused ↦ false | Used ↦ true | Powered ↦ true | MadeAnew ↦ true ]
+abbrev pub touches : Service → Bool
+touches e = elim e.uses [ Unused ↦ false | Used ↦ true | Powered ↦ true | MadeAnew ↦ true ]

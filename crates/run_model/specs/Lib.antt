@@ -6,14 +6,5 @@ pub mod Answers
 pub mod Steps
 pub mod Statements
 pub mod Transcript
-pub mod Said
-pub mod Promises
-pub mod Laws
-pub mod Restarts
 pub mod Rows
-pub mod Worlds
-pub mod Holding
-pub mod Ordered
-pub mod Apart
-pub mod Room
-pub mod Running
+pub mod StepLaws

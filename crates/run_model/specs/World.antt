@@ -1,19 +1,29 @@
 -- The world of a run: what the statements so far have made of the nodes.
-use Rattle.std.specs.Prelude.{◌≡◌, ◌≤◌, ℕ, suc, ◌+◌, ◌-◌, ◌*◌, List, [], ◌∷◌, Bool, true, false, Option, Some, None, if◌then◌else◌, map, option_map, ◌++◌, nat_le, replicate, slice_set, slice_index_or}
+use Rattle.std.specs.Prelude.{◌≡◌, ◌≤◌, ℕ, zero, suc, ◌+◌, ◌-◌, ◌*◌, List, [], ◌∷◌, Bool, true, false, ◌||◌, Option, Some, None, if◌then◌else◌, map, option_map, ◌++◌, length, nat_le, nat_lt, replicate, slice_set, slice_index_or}
 use Rattle.std.specs.Str.{bytes_eq}
-use Rattle.std.specs.List.{AllByRecursion}
-use Rattle.std.specs.Option.{option_and_then}
+use Rattle.std.specs.List.{AllByRecursion, list_any}
+use Rattle.std.specs.Option.{option_and_then, is_none}
+use Rattle.std.specs.FinMap.{entries, get}
+use Rattle.std.specs.Ordering.{eq_by_cmp}
 use Rattle.vms_model.specs.Ids.{Id}
-use Rattle.vms_model.specs.Keys.{Key}
-use Rattle.vms_model.specs.Transactions.{Outcome, Commit, Abort, Reason}
-use Rattle.records_model.specs.Records.{Change}
+use Rattle.vms_model.specs.Keys.{Key, Number, End}
+use Rattle.vms_model.specs.Transactions.{Outcome, Commit, Abort, Reason, SegFail}
+use Rattle.records_model.specs.Records.{Change, key_cmp}
 use Rattle.records_model.specs.Layout.{Layout, layout_changed}
-use Rattle.records_model.specs.History.{History, LiveChanges, same_id, changes_by, changed_with, settled_at}
+use Rattle.records_model.specs.History.{History, LiveChanges, same_id, changes_by, changes_key, changed_with, current, settled_at}
 use Rattle.unit_laws.specs.Units.{OneMovesEnd}
 use Rattle.unit_laws.specs.Layouts.{layout_restored}
-use Rattle.unit_laws.specs.Journal.{Journal, JournalEntry, RecoveryUnit, empty_journal, entries_for, with_entries, with_settled, trimmed, units_in, find_unit, serial_in, ChangeEntry, PreparedEntry, SettledEntry}
-use Rattle.unit_laws.specs.JournalLaws.{HasNotes}
-use Rattle.commit_protocol.specs.Table.{Branch}
+use Rattle.unit_laws.specs.Units.{IsImage, Map, latest_after}
+use Rattle.unit_laws.specs.Journal.{Journal, JournalEntry, is_of_file, RecoveryUnit, empty_journal, entries_for, with_entries, with_settled, trimmed, units_in, find_unit, serial_in, is_settled_in, ChangeEntry, PreparedEntry, SettledEntry}
+use Rattle.unit_laws.specs.JournalLaws.{HasNotes, is_unit}
+use Rattle.commit_protocol.specs.Messages.{Message, LogRecord}
+use Rattle.commit_protocol.specs.Table as table
+use Rattle.commit_protocol.specs.Table.{Branch, Tm, Key as BranchKey, Prepares, Settles, Leaves, Undoes, Accepts, Sends, child, table_after, records_after, record_key, record_serials, branches_of}
+use Rattle.commit_protocol.specs.Agreement.{Distinct}
+use Rattle.commit_protocol.specs.Standing.{writes}
+use Rattle.log_laws.specs.Slots.{Slots, records_in, prepared_of, committed_of, slots_after}
+use Rattle.commit_protocol.specs.Limits.{PreparedWithin, RecordWithin}
+use Rattle.commit_protocol.specs.World.{In}
 use Rattle.run_model.specs.Extents.{Extent, longest_run, lowest_run}
 use Rattle.run_model.specs.Locks.{Lock, is_locked, with_locks, released}
 
@@ -113,28 +123,42 @@ nothing_carried = record {
   save = record { start = 0; buckets = 0; position = 0; moment = 0; used = 0; root = 0; levels = 0; count = 0 };
 }
 
--- What a node's disk has: a volume of this node; none, for of the conditions of a volume this is the first that fails, at this block; or nothing that is
--- known: after an INIT that failed, or before a run on a disk of which nothing is promised.
+-- What bars each boot of a volume: its journal of recovery units does not lie in its ring; it was booted as often as may be; its greatest moment is too late; or a
+-- journal has come too far.
+pub data Bar : Type 0 where
+  NoRing : Bar
+  AllBoots : Bar
+  LateMoment : Bar
+  FarPosition : Bar
+
+-- What a node's disk has: a volume of this node; none, for of the conditions of a volume this is the first that fails, at this block; a volume with which the node
+-- is not booted, and of which nothing else is known; or nothing that is known: after an INIT that failed, or before a run on a disk of which nothing is promised.
 pub data Volume : Type 0 where
   Sound : Volume
   Faulty : (condition block : ℕ) → Volume
+  Barred : Bar → Volume
   Unknown : Volume
 
--- One change of a node, which takes place whole or not at all. Where a branch begins, a label is made for it. A volume is made with so many log slots
--- and blocks of a journal; a new file takes a place of the directory. The changes of one statement are one act; they stand newest first, and their branch
--- holds these keys from then on. It holds what it read too. Changes without a label are made by a branch of their own and settled in one act.
+-- One change of a node, which takes place whole or not at all. A volume is made with so many log slots and blocks of a journal. A boot raises the boot count, with
+-- which the node has what its disk tells; and in the end the node comes up. A new file takes a place of the directory; a file is marked for recovery units, or no
+-- more. An id is drawn; a label is made, or takes it as its serial. The node does an act of its table; where that settles a branch, it is at this moment. The changes
+-- of one statement are one act; they stand newest first, and their branch holds these keys from then on. It holds what it read too. Changes without a label are made
+-- by a branch of their own and settled in one act. The disk is armed to stop after so many writes, with a choice of what is left then; the clock is set; the node falls.
 pub data Act : Type 0 where
   Formats : (slots journal : ℕ) → Act
   Boots : Act
   ComesUp : Act
   Creates : (place : ℕ) → File → Act
   Marks : (file : List ℕ) → Bool → Act
-  Begins : Label → Branch → Act
+  Draws : Act
+  Labels : Label → Act
+  Numbers : (label : List ℕ) → (serial : Id) → Act
+  Tables : table.Act → (moment : ℕ) → Act
   Changes : (tid serial : Id) → (file : List ℕ) → List Change → List Key → Act
   Holds : (serial : Id) → (file : List ℕ) → List Key → Act
   Directs : (file : List ℕ) → List Change → Settlement → Act
-  Settles : Settlement → Act
   Arms : (writes choice : ℕ) → Act
+  Clocks : (now : ℕ) → Act
   Falls : Act
 
 -- whether an act is one step of the disk, which a failure of the disk may find under way
@@ -144,12 +168,15 @@ is_durable (Creates place file) = true
 is_durable (Marks file units) = true
 is_durable (Changes tid serial file changes keys) = true
 is_durable (Directs file changes s) = true
-is_durable (Settles s) = true
+is_durable (Tables a moment) = writes a
 is_durable (Formats slots journal) = false
 is_durable ComesUp = false
-is_durable (Begins label b) = false
+is_durable Draws = false
+is_durable (Labels l) = false
+is_durable (Numbers label serial) = false
 is_durable (Holds serial file keys) = false
 is_durable (Arms writes choice) = false
+is_durable (Clocks now) = false
 is_durable Falls = false
 
 -- a call by which a disk is made to stop, or runs again after a power loss, with the count of its stops before that
@@ -157,11 +184,11 @@ pub data Call : Type 0 where
   Arm : (writes choice : ℕ) → Call
   Power : (stops : ℕ) → Call
 
--- What a node's disk has, which outlasts the node's fall: the volume, its log slots and its journal's blocks; how often the node was booted, the greatest
--- moment and the last settlement; the journal of recovery units; and the directory, a place for each file number.
+-- What a node's disk has, which outlasts the node's fall: the volume, its log and its journal's blocks; how often the node was booted, the greatest moment and
+-- the last settlement; the journal of recovery units; and the directory, a place for each file number.
 pub record Durable : Type 0 where
   pub volume : Volume
-  pub slots : ℕ
+  pub log : Slots
   pub journal : ℕ
   pub boot : ℕ
   pub greatest : ℕ
@@ -169,13 +196,16 @@ pub record Durable : Type 0 where
   pub units : Journal
   pub directory : List (Option File)
 
--- What a node has while it is up: how many ids it drew in this boot, its unsettled branches in the order of their start, and the keys that these hold.
+-- What a node has while it is up: how many ids it drew in this boot; its table, which are its unsettled branches in the order of their start and its committed
+-- records; the branches that were prepared, in the order of that; and the keys that unsettled branches hold.
 pub record Volatile : Type 0 where
   pub drawn : ℕ
   pub branches : List Branch
+  pub records : List LogRecord
+  pub preparation : List BranchKey
   pub locks : List Lock
 
--- A node: its name, its disk's blocks, what its disk has, and what it has while it is up. And of the run: whether the last INIT that made the disk run failed;
+-- A node: its name, its disk's blocks, what its disk has, and what it has while it is up. And of the run: whether the last INIT that was not refused failed;
 -- whether the node is up, and was up before in this run; its clock; its settlements and the calls that armed or powered its disk, the newest first. Where it
 -- fell in a statement that its disk did not serve, an act may be under way: whether it has taken place is settled when the disk runs again.
 pub record Node : Type 0 where
@@ -196,11 +226,14 @@ pub record DiskCounts : Type 0 where
   pub faults : ℕ
   pub stops : ℕ
 
--- What the nodes of a rack share: the labels, the newest first, and whether a BOOT of this run succeeded or was ended by a failure of its disk, so that no
--- volume is made any more.
+-- What the nodes of a rack share: the labels, the newest first; whether a node may have been in use, so that no volume is made any more; the numbered messages,
+-- the first first; and the branches that were told to be accepted, and to be read-only.
 pub record Shared : Type 0 where
   pub labels : List Label
   pub in_use : Bool
+  pub wire : List Message
+  pub accepted : List BranchKey
+  pub read_only : List BranchKey
 
 -- the nodes and their disks in the order of the rack, and what they share
 pub record World : Type 0 where
@@ -292,7 +325,7 @@ with_counts name new (n ∷ ns) (d ∷ ds) = if bytes_eq name n.name then new �
 
 -- the first block behind the log slots and the journal: there begin the blocks for files
 abbrev pub area_start : Node → ℕ
-area_start n = 584 + n.durable.slots + n.durable.journal
+area_start n = 584 + length n.durable.log + n.durable.journal
 
 -- the longest run of free blocks of a node's disk
 abbrev pub longest_free : Node → ℕ
@@ -342,58 +375,179 @@ empty_directory = replicate 64 None
 
 -- what a disk has after a volume was made on it, with so many log slots and blocks of a journal
 abbrev pub made_volume : (slots journal : ℕ) → Durable
-made_volume slots journal = record { volume = Sound; slots = slots; journal = journal; boot = 0; greatest = 0; last = None; units = empty_journal; directory = empty_directory }
+made_volume slots journal = record { volume = Sound; log = replicate slots None; journal = journal; boot = 0; greatest = 0; last = None; units = empty_journal; directory = empty_directory }
 
--- what a node has that has just come up
+-- what a node has that was never up
 abbrev pub nothing_volatile : Volatile
-nothing_volatile = record { drawn = 0; branches = []; locks = [] }
+nothing_volatile = record { drawn = 0; branches = []; records = []; preparation = []; locks = [] }
 
--- what an act makes of what the disk has; these locks are held before it
-abbrev pub durable_after : Act → List Lock → Durable → Durable
-durable_after (Formats slots journal) locks d = made_volume slots journal
-durable_after Boots locks d = record d { boot = d.boot + 1 }
-durable_after ComesUp locks d = d
-durable_after (Creates place file) locks d = record d { directory = slice_set d.directory place (Some file) }
-durable_after (Marks file units) locks d = record d { directory = with_file file (λ f. record f { recovery_units = units }) d.directory }
-durable_after (Begins label b) locks d = d
-durable_after (Changes tid serial file changes keys) locks d = record d {
-  directory = with_file file (changed_file (is_locked locks file) serial changes) d.directory;
-  units = with_entries (entries_for tid serial file changes) d.units;
-}
-durable_after (Holds serial file keys) locks d = d
-durable_after (Directs file changes s) locks d = record d {
-  greatest = s.moment;
-  last = Some s;
-  directory = with_file file (directly_changed (is_locked locks file) s changes) d.directory;
-  units = trimmed d.units;
-}
-durable_after (Settles s) locks d = record d {
+-- Settlements of the table.
+
+-- the reason of a settlement, which only an abort has
+abbrev pub reason_of : Outcome → Reason → Option Reason
+reason_of Commit reason = None
+reason_of Abort reason = Some reason
+
+-- the settlement of a branch so, at this moment
+abbrev pub settlement : BranchKey → Outcome → Reason → ℕ → Settlement
+settlement k outcome reason moment = record { tid = k.tid; serial = k.serial; outcome = outcome; reason = reason_of outcome reason; moment = moment }
+
+-- the settlement that an act of the table is; a unit that a boot undoes is aborted
+abbrev pub settlement_of : table.Act → ℕ → Option Settlement
+settlement_of (Settles k outcome reason r) moment = Some (settlement k outcome reason moment)
+settlement_of (Undoes k) moment = Some (settlement k Abort SegFail moment)
+settlement_of _ moment = None
+
+-- what a disk has once a branch is settled, where it is
+abbrev pub with_settlement : Option Settlement → Durable → Durable
+with_settlement None d = d
+with_settlement (Some s) d = record d {
   greatest = s.moment;
   last = Some s;
   directory = map (option_map (settled_file s)) d.directory;
   units = with_settled s.tid s.serial s.outcome s.moment d.units;
 }
-durable_after (Arms writes choice) locks d = d
-durable_after Falls locks d = d
 
--- what it makes of what the node has while it is up
-abbrev pub volatile_after : Act → Volatile → Volatile
-volatile_after (Formats slots journal) v = v
-volatile_after Boots v = nothing_volatile
-volatile_after ComesUp v = v
-volatile_after (Creates place file) v = v
-volatile_after (Marks file units) v = v
-volatile_after (Begins label b) v = record v { drawn = v.drawn + 1; branches = v.branches ++ b ∷ [] }
-volatile_after (Changes tid serial file changes keys) v = record v { branches = with_changed serial v.branches; locks = with_locks serial file keys v.locks }
-volatile_after (Holds serial file keys) v = record v { locks = with_locks serial file keys v.locks }
-volatile_after (Directs file changes s) v = record v { drawn = v.drawn + 1 }
-volatile_after (Settles s) v = record v { branches = without_branch s.serial v.branches; locks = released s.serial v.locks }
-volatile_after (Arms writes choice) v = v
-volatile_after Falls v = v
+-- settlements with one more in front, where there is one
+abbrev pub settled_more : Option Settlement → List Settlement → List Settlement
+settled_more None ss = ss
+settled_more (Some s) ss = s ∷ ss
+
+-- a branch that is prepared has an entry in the journal, where it changed something
+abbrev pub with_prepared : table.Act → Journal → Journal
+with_prepared (Prepares b) j = elim (find_unit b.key.serial (units_in j.entries)) [ Some u ↦ with_entries (PreparedEntry b.key.tid b.key.serial ∷ []) j | None ↦ j ]
+with_prepared _ j = j
+
+-- what an act of the table makes of the disk, where these are the committed records
+abbrev pub tabled : table.Act → ℕ → List LogRecord → Durable → Durable
+tabled a moment records d = with_settlement (settlement_of a moment) (record d { log = slots_after a records d.log; units = with_prepared a d.units })
+
+-- the keys that branches hold after it: one that is settled, or read-only, lets go of its own
+abbrev pub locks_after : table.Act → List Lock → List Lock
+locks_after (Settles k outcome reason r) ls = released k.serial ls
+locks_after (Leaves k) ls = released k.serial ls
+locks_after (Undoes k) ls = released k.serial ls
+locks_after _ ls = ls
+
+-- the branches that were prepared, with one more behind
+abbrev pub preparation_after : table.Act → List BranchKey → List BranchKey
+preparation_after (Prepares b) ks = ks ++ b.key ∷ []
+preparation_after _ ks = ks
+
+-- What a boot finds on the disk.
+
+-- the record of this serial, where there is one, and the records but for it
+abbrev pub find_record : Id → List LogRecord → Option LogRecord
+find_record serial [] = None
+find_record serial (r ∷ rs) = if same_id serial r.serial then Some r else find_record serial rs
+
+abbrev pub without_record : Id → List LogRecord → List LogRecord
+without_record serial [] = []
+without_record serial (r ∷ rs) = if same_id serial r.serial then rs else r ∷ without_record serial rs
+
+-- the serials of Prepared entries, in their order
+abbrev pub prepared_serials : List JournalEntry → List Id
+prepared_serials [] = []
+prepared_serials (ChangeEntry tid serial file key before ∷ es) = prepared_serials es
+prepared_serials (PreparedEntry tid serial ∷ es) = serial ∷ prepared_serials es
+prepared_serials (SettledEntry tid serial outcome moment ∷ es) = prepared_serials es
+
+-- records with those of these serials first, in their order
+abbrev pub records_by : List Id → List LogRecord → List LogRecord
+records_by [] rs = rs
+records_by (serial ∷ serials) rs = elim (find_record serial rs) [ Some r ↦ r ∷ records_by serials (without_record serial rs) | None ↦ records_by serials rs ]
+
+-- The records of the branches that are prepared: those with an entry in the order of the entries, and then the others in the order of the slots.
+abbrev pub prepared_left : Durable → List LogRecord
+prepared_left d = records_by (prepared_serials d.units.entries) (prepared_of (records_in d.log))
+
+-- whether an entry moved the end of a sequential file: it is of a position that was absent, or that is above the records now, so that none stands there
+abbrev pub moved_end : (now before : Option (List ℕ)) → Bool
+moved_end now before = is_none before || is_none now
+
+-- what a branch holds of a file after a boot, for an entry of its change of this key: the key, and perhaps the end of a sequential file
+abbrev pub keys_left : File → Key → (before : Option (List ℕ)) → List Key
+keys_left f key before = elim f.organization [
+  | Sequential ↦ (if moved_end (get (current f.history) key) before then key ∷ End ∷ [] else key ∷ [])
+  | Relative greatest ↦ key ∷ []
+  | Indexed position size ↦ key ∷ []
+]
+
+-- the locks with those for an entry of a branch
+abbrev pub relocked_for : Id → List (Option File) → JournalEntry → List Lock → List Lock
+relocked_for serial fs (ChangeEntry tid by file key before) ls = if same_id serial by then elim (find_file file fs) [ Some f ↦ with_locks serial file (keys_left f key before) ls | None ↦ ls ] else ls
+relocked_for serial fs (PreparedEntry tid by) ls = ls
+relocked_for serial fs (SettledEntry tid by outcome moment) ls = ls
+
+-- with those for all its entries
+abbrev pub relocked_by : Id → List (Option File) → List JournalEntry → List Lock → List Lock
+relocked_by serial fs [] ls = ls
+relocked_by serial fs (e ∷ es) ls = relocked_by serial fs es (relocked_for serial fs e ls)
+
+-- with those of all these branches
+abbrev pub relocked : List LogRecord → Durable → List Lock → List Lock
+relocked [] d ls = ls
+relocked (r ∷ rs) d ls = relocked rs d (relocked_by r.serial d.directory d.units.entries ls)
+
+-- what a node has that has just come up: the branches that are prepared, which hold what they changed, and the committed records as they stand in the slots
+abbrev pub booted : Durable → Volatile
+booted d = record {
+  drawn = 0;
+  branches = branches_of (prepared_left d);
+  records = committed_of (records_in d.log);
+  preparation = map (λ (r : LogRecord). record_key r) (prepared_left d);
+  locks = relocked (prepared_left d) d [];
+}
+
+-- Acts.
+
+-- what an act makes of what the disk has, at a node that has this while it is up
+abbrev pub durable_after : Act → Volatile → Durable → Durable
+durable_after (Formats slots journal) v d = made_volume slots journal
+durable_after Boots v d = record d { boot = d.boot + 1 }
+durable_after ComesUp v d = d
+durable_after (Creates place file) v d = record d { directory = slice_set d.directory place (Some file) }
+durable_after (Marks file units) v d = record d { directory = with_file file (λ f. record f { recovery_units = units }) d.directory }
+durable_after Draws v d = d
+durable_after (Labels l) v d = d
+durable_after (Numbers label serial) v d = d
+durable_after (Tables a moment) v d = tabled a moment v.records d
+durable_after (Changes tid serial file changes keys) v d = record d {
+  directory = with_file file (changed_file (is_locked v.locks file) serial changes) d.directory;
+  units = with_entries (entries_for tid serial file changes) d.units;
+}
+durable_after (Holds serial file keys) v d = d
+durable_after (Directs file changes s) v d = record d {
+  greatest = s.moment;
+  last = Some s;
+  directory = with_file file (directly_changed (is_locked v.locks file) s changes) d.directory;
+  units = trimmed d.units;
+}
+durable_after (Arms writes choice) v d = d
+durable_after (Clocks now) v d = d
+durable_after Falls v d = d
+
+-- what it makes of what the node has while it is up, where its disk has this
+abbrev pub volatile_after : Act → Durable → Volatile → Volatile
+volatile_after (Formats slots journal) d v = v
+volatile_after Boots d v = booted d
+volatile_after ComesUp d v = v
+volatile_after (Creates place file) d v = v
+volatile_after (Marks file units) d v = v
+volatile_after Draws d v = record v { drawn = v.drawn + 1 }
+volatile_after (Labels l) d v = v
+volatile_after (Numbers label serial) d v = v
+volatile_after (Tables a moment) d v = record v { branches = table_after a v.branches; records = records_after a v.records; preparation = preparation_after a v.preparation; locks = locks_after a v.locks }
+volatile_after (Changes tid serial file changes keys) d v = record v { branches = with_changed serial v.branches; locks = with_locks serial file keys v.locks }
+volatile_after (Holds serial file keys) d v = record v { locks = with_locks serial file keys v.locks }
+volatile_after (Directs file changes s) d v = record v { drawn = v.drawn + 1 }
+volatile_after (Arms writes choice) d v = v
+volatile_after (Clocks now) d v = v
+volatile_after Falls d v = v
 
 -- a node with what an act makes of these two
 abbrev pub with_act : Act → Node → Node
-with_act act n = record n { durable = durable_after act n.volatile.locks n.durable; volatile = volatile_after act n.volatile }
+with_act act n = record n { durable = durable_after act n.volatile n.durable; volatile = volatile_after act n.durable n.volatile }
 
 -- what an act makes of its node
 abbrev pub acted : Act → Node → Node
@@ -402,45 +556,136 @@ acted Boots n = with_act Boots n
 acted ComesUp n = record n { up = true; was_up = true }
 acted (Creates place file) n = with_act (Creates place file) n
 acted (Marks file units) n = with_act (Marks file units) n
-acted (Begins label b) n = with_act (Begins label b) n
+acted Draws n = with_act Draws n
+acted (Labels l) n = n
+acted (Numbers label serial) n = n
+acted (Tables a moment) n = record (with_act (Tables a moment) n) { settled = settled_more (settlement_of a moment) n.settled }
 acted (Changes tid serial file changes keys) n = with_act (Changes tid serial file changes keys) n
 acted (Holds serial file keys) n = with_act (Holds serial file keys) n
 acted (Directs file changes s) n = record (with_act (Directs file changes s) n) { settled = s ∷ n.settled }
-acted (Settles s) n = record (with_act (Settles s) n) { settled = s ∷ n.settled }
 acted (Arms writes choice) n = record n { calls = Arm writes choice ∷ n.calls }
+acted (Clocks now) n = record n { clock = now }
 acted Falls n = record n { up = false }
 
--- A node goes down, and perhaps this act was under way. Its unsettled branches still stand here, and count only while the node is up.
+-- A node goes down, and perhaps this act was under way. Its table still stands here, and counts only while the node is up.
 abbrev pub fallen : Option Act → Node → Node
 fallen under_way n = record n { up = false; under_way = under_way }
 
--- Its disk runs again, after so many stops: an act that was under way has taken place, or has not.
-abbrev pub powered : Bool → ℕ → Node → Node
-powered taken stops n = record (settles_under_way taken n.under_way n) { calls = Power stops ∷ n.calls; under_way = None }
+-- An abort that was cut short.
+
+-- changes, of which the newest of each key leaves this; those that are newer stand beside
+abbrev pub leaving : Map → (newer : List Change) → List Change → List Change
+leaving standing newer [] = []
+leaving standing newer (c ∷ cs) = (if changes_key c.key newer then c else record c { after = standing c.key }) ∷ leaving standing (c ∷ newer) cs
+
+-- the unsettled branches, of which this one leaves that
+abbrev pub live_leaving : Id → Map → List LiveChanges → List LiveChanges
+live_leaving serial standing [] = []
+live_leaving serial standing (l ∷ ls) = if same_id serial l.serial then record l { changes = leaving standing [] l.changes } ∷ ls else l ∷ live_leaving serial standing ls
+
+-- A file while this branch is undone in it in part: each key that the branch changed has this. In its layout the slots of these keys have it too.
+abbrev pub half_undone : Id → (List ℕ → Map) → File → File
+half_undone serial standing f = record f {
+  history = record f.history { live = live_leaving serial (standing f.name) f.history.live };
+  layout = layout_restored (map (λ (c : Change). record c { before = standing f.name c.key }) (changes_by serial f.history.live)) f.layout;
+}
+
+-- so many positions, from this one on
+abbrev pub numbered : ℕ → ℕ → List Key
+numbered from zero = []
+numbered from (suc count) = Number from ∷ numbered (from + 1) count
+
+-- the positions of a sequential file are those from 1 on
+abbrev pub IsKept : Organization → History → Type 0
+IsKept Sequential h = map (λ e. e.0) (entries (current h)) ≡ numbered 1 (length (entries (current h)))
+IsKept (Relative greatest) h = Unit {0}
+IsKept (Indexed position size) h = Unit {0}
+
+-- Each key that the branch changed in a file has one of the images of its changes, and the file is one of its organization.
+pub record IsHalfUndone (serial : Id) (standing : List ℕ → Map) (f : File) : Type 0 where
+  pub images : (key : Key) → changes_key key (changes_by serial f.history.live) ≡ true → IsImage (changes_by serial f.history.live) key (standing f.name key)
+  pub kept : IsKept f.organization (half_undone serial standing f).history
+
+-- What became of an act that was under way: nothing; it took place; or, of the abort of a prepared branch, a part, so that its keys have this in each file.
+pub data Outturn : Type 0 where
+  Lost : Outturn
+  Taken : Outturn
+  Half : (standing : List ℕ → Map) → Outturn
+
+-- the branch that an act aborts, where its disk tells it to be prepared
+abbrev pub aborted_prepared : Option Act → Durable → Option Id
+aborted_prepared (Some (Tables (Settles k Abort reason r) moment)) d = elim (find_unit k.serial (units_in d.units.entries)) [ Some u ↦ (if u.prepared then Some k.serial else None) | None ↦ None ]
+aborted_prepared _ d = None
+
+-- an act may turn out so: a part of it is done only of the abort of a prepared branch, and leaves each file whole
+abbrev pub MayTurnOut : Node → Outturn → Type 0
+MayTurnOut n Lost = Unit {0}
+MayTurnOut n Taken = Unit {0}
+MayTurnOut n (Half standing) = (serial : Id) × (aborted_prepared n.under_way n.durable ≡ Some serial)
+    × ((place : ℕ) (f : File) → slice_index_or n.durable.directory place None ≡ Some f → IsHalfUndone serial standing f)
+
+-- what is left of the disk where so much of an abort was done
+abbrev pub with_half : Option Id → (List ℕ → Map) → Durable → Durable
+with_half None standing d = d
+with_half (Some serial) standing d = record d { directory = map (option_map (half_undone serial standing)) d.directory }
+
+-- Its disk runs again, after so many stops: an act that was under way has turned out so.
+abbrev pub powered : Outturn → ℕ → Node → Node
+powered outturn stops n = record (turned_out outturn n.under_way n) { calls = Power stops ∷ n.calls; under_way = None }
   where
-    settles_under_way : Bool → Option Act → Node → Node
-    settles_under_way true (Some act) n = acted act n
-    settles_under_way true None n = n
-    settles_under_way false act n = n
+    turned_out : Outturn → Option Act → Node → Node
+    turned_out Taken (Some act) n = acted act n
+    turned_out Taken None n = n
+    turned_out Lost act n = n
+    turned_out (Half standing) act n = record n { durable = with_half (aborted_prepared act n.durable) standing n.durable }
 
 -- Its disk was to run again, after so many stops, and does not: what was under way still is.
 abbrev pub unpowered : ℕ → Node → Node
 unpowered stops n = record n { up = false; calls = Power stops ∷ n.calls }
 
--- what an act makes of what nodes share: where a branch begins, there is one label more
+-- What nodes share.
+
+-- how many messages are numbered, at the most; a later one is lost
+abbrev pub message_limit : ℕ
+message_limit = 1000000
+
+-- the messages with one more, where it is numbered
+abbrev pub posted : Message → List Message → List Message
+posted m wire = if nat_lt (length wire) message_limit then wire ++ m ∷ [] else wire
+
+-- the labels, of which the one of this name has this serial as its latest
+abbrev pub with_serial : (name : List ℕ) → Id → List Label → List Label
+with_serial name serial [] = []
+with_serial name serial (l ∷ ls) = if bytes_eq name l.name then record l { serial = Some serial } ∷ ls else l ∷ with_serial name serial ls
+
+-- what an act of a table makes of what nodes share: a branch is told to be accepted, or read-only, or a message is sent
+abbrev pub shared_tabled : table.Act → Shared → Shared
+shared_tabled (Accepts b c) s = record s { accepted = child b.key.tid c.serial ∷ s.accepted }
+shared_tabled (Leaves k) s = record s { read_only = k ∷ s.read_only }
+shared_tabled (Sends m) s = record s { wire = posted m s.wire }
+shared_tabled _ s = s
+
+-- what an act makes of what nodes share
 abbrev pub shared_after : Act → Shared → Shared
-shared_after (Begins label b) s = record s { labels = label ∷ s.labels }
+shared_after (Labels l) s = record s { labels = l ∷ s.labels }
+shared_after (Numbers label serial) s = record s { labels = with_serial label serial s.labels }
+shared_after (Tables a moment) s = shared_tabled a s
 shared_after (Formats slots journal) s = s
 shared_after Boots s = s
 shared_after ComesUp s = s
 shared_after (Creates place file) s = s
 shared_after (Marks file units) s = s
+shared_after Draws s = s
 shared_after (Changes tid serial file changes keys) s = s
 shared_after (Holds serial file keys) s = s
 shared_after (Directs file changes settlement) s = s
-shared_after (Settles settlement) s = s
 shared_after (Arms writes choice) s = s
+shared_after (Clocks now) s = s
 shared_after Falls s = s
+
+-- what a node knows of the commit protocol
+abbrev pub tm_of : Node → Tm
+tm_of n = record { node = n.name; table = n.volatile.branches; records = n.volatile.records }
 
 -- What the journal tells of unsettled branches.
 
@@ -460,26 +705,66 @@ pub record TellsUnits (units : Journal) (f : File) : Type 0 where
 abbrev pub IsReached : Node → Id → Type 0
 IsReached n id = (id.node ≡ n.name) × (id.boot ≤ n.durable.boot)
 
--- So of each file of a node. While the node is up only a file that is marked for recovery units has unsettled branches; a file that an earlier run left with
--- some may have any mark. The journal's entries are of branches of this node, of boots that it has counted; and a name is one file's.
+-- the journal has a unit of this branch that is prepared
+abbrev pub IsPreparedUnit : Journal → Id → Type 0
+IsPreparedUnit units serial = (u : RecoveryUnit) × (find_unit serial (units_in units.entries) ≡ Some u) × (u.prepared ≡ true)
+
+-- The journal tells so of each file of a node. While the node is up only a file that is marked for recovery units has unsettled branches that are not prepared; a file that an
+-- earlier run left with some may have any mark. The journal's entries are of branches of this node, of boots that it has counted; and a name is one file's.
 pub record AreUnitsOf (n : Node) : Type 0 where
   pub tells : (place : ℕ) (f : File) → slice_index_or n.durable.directory place None ≡ Some f → TellsUnits n.durable.units f
-  pub marked : n.up ≡ true → (place : ℕ) (f : File) → slice_index_or n.durable.directory place None ≡ Some f → f.recovery_units ≡ false → f.history.live ≡ []
+  pub marked : n.up ≡ true → (place : ℕ) (f : File) → slice_index_or n.durable.directory place None ≡ Some f → f.recovery_units ≡ false →
+      AllByRecursion (λ (l : LiveChanges). IsPreparedUnit n.durable.units l.serial) f.history.live
   pub reached : AllByRecursion (λ (e : JournalEntry). IsReached n (serial_in e)) n.durable.units.entries
   pub names : (p q : ℕ) (f g : File) → slice_index_or n.durable.directory p None ≡ Some f → slice_index_or n.durable.directory q None ≡ Some g → f.name ≡ g.name → p ≡ q
 
--- no entry says that a branch is prepared
-abbrev pub IsUnprepared : JournalEntry → Type 0
-IsUnprepared (ChangeEntry tid serial file key before) = Unit {0}
-IsUnprepared (PreparedEntry tid serial) = ⊥
-IsUnprepared (SettledEntry tid serial outcome moment) = Unit {0}
+-- the records whose branches are no units
+abbrev pub without_units : Journal → List LogRecord → List LogRecord
+without_units j [] = []
+without_units j (r ∷ rs) = if is_unit r.serial j then without_units j rs else r ∷ without_units j rs
 
-abbrev pub NonePrepared : List JournalEntry → Type 0
-NonePrepared es = AllByRecursion IsUnprepared es
+-- the transaction of an entry
+abbrev pub tid_in : JournalEntry → Id
+tid_in (ChangeEntry tid serial file key before) = tid
+tid_in (PreparedEntry tid serial) = tid
+tid_in (SettledEntry tid serial outcome moment) = tid
 
--- no branch is prepared
-abbrev pub AllActive : List RecoveryUnit → Type 0
-AllActive us = AllByRecursion (λ (u : RecoveryUnit). u.prepared ≡ false) us
+-- the entries of a branch are of its transaction
+abbrev pub IsOfTransaction : (tid serial : Id) → JournalEntry → Type 0
+IsOfTransaction tid serial e = same_id serial (serial_in e) ≡ true → tid ≡ tid_in e
+
+-- The log and the journal of a disk tell one another: its records are of branches of this node, of boots that it has counted, no two of one branch, and have
+-- what a record of their kind may have. A unit is prepared just where its branch has a prepared record, of its transaction, which is
+-- that of all its entries; and no branch with such a record is settled in the journal. Unsettled units, and prepared branches that are no unit, are not more
+-- than a node may have.
+pub record IsLogInOrder (n : Node) : Type 0 where
+  pub distinct : Distinct (record_serials (records_in n.durable.log))
+  pub reached : AllByRecursion (λ (r : LogRecord). IsReached n r.serial) (records_in n.durable.log)
+  pub prepared_within : (r : LogRecord) → In r (prepared_of (records_in n.durable.log)) → PreparedWithin r
+  pub committed_within : (r : LogRecord) → In r (committed_of (records_in n.durable.log)) → RecordWithin r
+  pub prepared : (serial : Id) (u : RecoveryUnit) → find_unit serial (units_in n.durable.units.entries) ≡ Some u → u.prepared ≡ true →
+      (r : LogRecord) × In r (prepared_of (records_in n.durable.log)) × (r.serial ≡ u.serial) × (r.tid ≡ u.tid)
+  pub active : (r : LogRecord) (u : RecoveryUnit) → In r (prepared_of (records_in n.durable.log)) → find_unit r.serial (units_in n.durable.units.entries) ≡ Some u → (u.prepared ≡ true) × (r.tid ≡ u.tid)
+  pub transactions : AllByRecursion (λ (r : LogRecord). AllByRecursion (IsOfTransaction r.tid r.serial) n.durable.units.entries) (prepared_of (records_in n.durable.log))
+  pub unsettled : AllByRecursion (λ (r : LogRecord). is_settled_in r.serial n.durable.units.entries ≡ false) (prepared_of (records_in n.durable.log))
+  pub few : length (units_in n.durable.units.entries) + length (without_units n.durable.units (prepared_of (records_in n.durable.log))) ≤ 64
+  pub slots : length n.durable.log ≤ 512
+
+-- The changes of a branch in a file, the newest first: none is of the file's end, and each found what the one before it left at its key.
+abbrev pub FollowOneAnother : List Change → Type 0
+FollowOneAnother [] = Unit {0}
+FollowOneAnother (c ∷ cs) = (eq_by_cmp key_cmp End c.key ≡ false) × (changes_key c.key cs ≡ true → c.before ≡ latest_after cs c.key) × FollowOneAnother cs
+
+-- So it is of each unsettled branch of a file; and no record stands at the file's end.
+pub record HasPlainEnd (f : File) : Type 0 where
+  pub follow : AllByRecursion (λ (l : LiveChanges). FollowOneAnother l.changes) f.history.live
+  pub absent : get (current f.history) End ≡ None
+
+-- so it is of each file
+abbrev pub HavePlainEnds : List (Option File) → Type 0
+HavePlainEnds [] = Unit {0}
+HavePlainEnds (None ∷ fs) = HavePlainEnds fs
+HavePlainEnds (Some f ∷ fs) = HasPlainEnd f × HavePlainEnds fs
 
 -- no file has a branch that was settled since its base
 abbrev pub AreResting : List (Option File) → Type 0
@@ -493,7 +778,8 @@ LastIsReached n None = Unit {0}
 LastIsReached n (Some s) = IsReached n s.serial
 
 -- A node as it is before the first line: it is down, and what its disk has is all that there is of it. Units that an earlier run left unsettled stand in its
--- journal, and in its files with what they changed; none of them is prepared.
+-- journal, and in its files with what they changed; those that are prepared stand in its log too, and hold no more keys than may be held. The
+-- journal's entries are of files that are there.
 pub record IsOpening (n : Node) : Type 0 where
   pub down : n.up ≡ false
   pub made : n.unmade ≡ false
@@ -506,8 +792,11 @@ pub record IsOpening (n : Node) : Type 0 where
   pub resting : AreResting n.durable.directory
   pub last : LastIsReached n n.durable.last
   pub units : AreUnitsOf n
-  pub active : NonePrepared n.durable.units.entries
+  pub log : IsLogInOrder n
+  pub ends : HavePlainEnds n.durable.directory
+  pub named : (name : List ℕ) → find_file name n.durable.directory ≡ None → list_any (is_of_file name) n.durable.units.entries ≡ false
+  pub few_locks : length (booted n.durable).locks ≤ 4096
 
 -- the world before the first line: these nodes with these disks, and no label
 abbrev pub opened : List Node → List DiskCounts → World
-opened nodes disks = record { nodes = nodes; disks = disks; shared = record { labels = []; in_use = false } }
+opened nodes disks = record { nodes = nodes; disks = disks; shared = record { labels = []; in_use = false; wire = []; accepted = []; read_only = [] } }

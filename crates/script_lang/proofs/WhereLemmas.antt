@@ -2,9 +2,11 @@
 use Rattle.std.proofs.Common.{◌≡◌, ℕ, inl, inr, List, [], ◌∷◌, ◌++◌, Bool, true, false, refl, ap, sym, ◌∙◌, Option, Some, None}
 use Rattle.std.specs.Prelude.{if◌then◌else◌, codes}
 use Rattle.script_model.specs.LineWords.{Word, words_of}
-use Rattle.script_model.specs.Statements.{Statement, Reading, Blank, Says, Bad, RecoveryUnits}
-use Rattle.script_model.specs.Operands.{KeyWord, Numbered, Spelled}
-use Rattle.script_model.specs.Grammar.{Kind, Meaning, meaning, AFirst, AVerb, ANode, ALabel, ALabelOrNone, AFile, AnOrganization, ASetting, AJournal, RecoveryUnitJournal, ANumber, ALongNumber, SomeBytes, AKey, Verb, Init, Boot, Create, SetFile, StartTrans, Put, Update, Delete, Truncate, Get, Next, EndTrans, AbortTrans, Dump, DumpJournal, Fuse, Crash, Organization, Sequential, Relative, Indexed, First, ToNode, ToWorld, Shape, Ends, Then, EndsOr, reads, form_operands, put_operands, operands, behind_first, line_shape, is_skipped}
+use Rattle.script_model.specs.Statements.{Statement, Reading, Blank, Says, Bad, RecoveryUnits, ByLabel}
+use Rattle.jiff_core.specs.Calendar.{days_from_civil, day_count, days_of_years, days_of_months}
+use Rattle.vms_model.specs.Times.{MomentSaid, time_said}
+use Rattle.script_model.specs.Operands.{KeyWord, Numbered, Spelled, moment_in}
+use Rattle.script_model.specs.Grammar.{Kind, Meaning, meaning, AFirst, AVerb, ANode, ALabel, ALabelOrNone, AFile, AnOrganization, ASetting, AJournal, RecoveryUnitJournal, ANumber, ALongNumber, SomeBytes, AKey, ABranch, ATime, ATimeout, Timeout, Verb, Init, Boot, Create, SetFile, StartTrans, AddBranch, StartBranch, Put, Update, Delete, Truncate, Get, Next, EndBranch, EndTrans, AbortTrans, Inquire, Dump, DumpJournal, Fuse, Crash, Clock, Deliver, LinkDown, Settle, Organization, Sequential, Relative, Indexed, First, ToNode, ToWorld, Shape, Ends, Then, EndsOr, reads, form_operands, put_operands, operands, behind_first, line_shape, is_skipped}
 use Rattle.script_lang.specs.Where.{CanGoOn, TellsWhere, LineTellsWhere}
 
 -- there is such a word
@@ -85,6 +87,19 @@ a_label = record { text = codes "T"; meant = codes "T"; says = refl }
 a_label_or_none : Sample ALabelOrNone
 a_label_or_none = record { text = codes "-"; meant = None; says = refl }
 
+a_branch : Sample ABranch
+a_branch = record { text = codes "T"; meant = ByLabel (codes "T"); says = refl }
+
+first_day : time_said (codes "17-NOV-1858 00:00:00.00") ≡ MomentSaid 0
+unfolding time_said days_from_civil day_count days_of_years days_of_months
+first_day = refl
+
+a_time : Sample ATime
+a_time = record { text = 34 ∷ (codes "17-NOV-1858 00:00:00.00" ++ 34 ∷ []); meant = 0; says = ap moment_in first_day }
+
+a_timeout : Sample ATimeout
+a_timeout = record { text = codes "TIMEOUT"; meant = Timeout; says = refl }
+
 a_journal : Sample AJournal
 a_journal = record { text = codes "RU"; meant = RecoveryUnitJournal; says = refl }
 
@@ -129,15 +144,19 @@ operands_writable n Init = (a_number, λ slots. (a_number, λ blocks. tt))
 operands_writable n Boot = tt
 operands_writable n Create = (a_file, λ f. (an_organization, λ o. (a_number, λ bucket. (a_number, λ size. (a_number, λ count. form_writable n f o bucket size count)))))
 operands_writable n SetFile = (a_file, λ f. (a_setting, λ setting. tt))
-operands_writable n StartTrans = (a_label, λ l. tt)
+operands_writable n StartTrans = (a_label, λ l. (a_timeout, λ t. (a_number, λ seconds. tt)))
+operands_writable n AddBranch = (a_label, λ l. (a_node, λ other. (a_label, λ new. tt)))
+operands_writable n StartBranch = (a_label, λ l. tt)
 operands_writable n Put = (a_label_or_none, λ l. (a_file, λ f. (a_key, λ k. put_writable n l f k)))
 operands_writable n Update = (a_label_or_none, λ l. (a_file, λ f. (a_key, λ k. (some_bytes, λ b. tt))))
 operands_writable n Delete = (a_label_or_none, λ l. (a_file, λ f. (a_key, λ k. tt)))
 operands_writable n Truncate = (a_label_or_none, λ l. (a_file, λ f. (a_number, λ k. tt)))
 operands_writable n Get = (a_label_or_none, λ l. (a_file, λ f. (a_key, λ k. tt)))
 operands_writable n Next = (a_label_or_none, λ l. (a_file, λ f. (a_key, λ k. tt)))
+operands_writable n EndBranch = (a_label, λ l. tt)
 operands_writable n EndTrans = (a_label, λ l. tt)
 operands_writable n AbortTrans = (a_label, λ l. tt)
+operands_writable n Inquire = (a_branch, λ b. tt)
 operands_writable n Dump = (a_file, λ f. tt)
 operands_writable n DumpJournal = (a_journal, λ j. tt)
 
@@ -145,6 +164,10 @@ behind_writable : (first : First) → IsWritable (behind_first first)
 behind_writable (ToNode n) = (a_verb, λ v. operands_writable n v)
 behind_writable (ToWorld Fuse) = (a_node, λ n. (a_number, λ writes. (a_long_number, λ choice. tt)))
 behind_writable (ToWorld Crash) = (a_node, λ n. tt)
+behind_writable (ToWorld Clock) = (a_node, λ n. (a_time, λ now. tt))
+behind_writable (ToWorld Deliver) = (a_number, λ number. tt)
+behind_writable (ToWorld LinkDown) = (a_node, λ a. (a_node, λ b. tt))
+behind_writable (ToWorld Settle) = tt
 
 by_skipped : (b : Bool) (line : List ℕ) (r : Reading) → TellsWhere line_shape (words_of line).words (words_of line).end r → TellsWhere line_shape (words_of line).words (words_of line).end (if b then Blank else r)
 by_skipped true line r t = tt

@@ -2,6 +2,7 @@
 use Rattle.std.specs.Prelude.{ℕ, List, Result, Ok, Err, Option, Some, None}
 use Rattle.std.specs.Option.{option_map}
 use Rattle.vms_model.specs.Keys.{Key}
+use Rattle.vms_base.specs.Ids.{serial_of}
 use Rattle.script_model.specs.Operands as operands
 use Rattle.script_model.specs.Operands.{key_of}
 use Rattle.script_model.specs.LineWords.{Ahead}
@@ -23,6 +24,8 @@ use Rattle.script_lang.specs.declared.statement.Setting.{Setting}
 use Rattle.script_lang.specs.declared.statement.Setting.TheVariants as setting
 use Rattle.script_lang.specs.declared.statement.Journal.{Journal}
 use Rattle.script_lang.specs.declared.statement.Journal.TheVariants as journal
+use Rattle.script_lang.specs.declared.statement.Named.{Named}
+use Rattle.script_lang.specs.declared.statement.Named.TheVariants as named
 use Rattle.script_lang.specs.declared.statement.Verb.{Verb}
 use Rattle.script_lang.specs.declared.statement.Verb.TheVariants as verb
 use Rattle.script_lang.specs.declared.statement.WorldVerb.{WorldVerb}
@@ -57,24 +60,36 @@ verb_of verb.Boot = grammar.Boot
 verb_of verb.Create = grammar.Create
 verb_of verb.SetFile = grammar.SetFile
 verb_of verb.StartTrans = grammar.StartTrans
+verb_of verb.AddBranch = grammar.AddBranch
+verb_of verb.StartBranch = grammar.StartBranch
 verb_of verb.Put = grammar.Put
 verb_of verb.Update = grammar.Update
 verb_of verb.Delete = grammar.Delete
 verb_of verb.Truncate = grammar.Truncate
 verb_of verb.Get = grammar.Get
 verb_of verb.Next = grammar.Next
+verb_of verb.EndBranch = grammar.EndBranch
 verb_of verb.EndTrans = grammar.EndTrans
 verb_of verb.AbortTrans = grammar.AbortTrans
+verb_of verb.Inquire = grammar.Inquire
 verb_of verb.Dump = grammar.Dump
 verb_of verb.DumpJournal = grammar.DumpJournal
 
 abbrev pub world_verb_of : WorldVerb → grammar.WorldVerb
 world_verb_of world_verb.Fuse = grammar.Fuse
 world_verb_of world_verb.Crash = grammar.Crash
+world_verb_of world_verb.Clock = grammar.Clock
+world_verb_of world_verb.Deliver = grammar.Deliver
+world_verb_of world_verb.LinkDown = grammar.LinkDown
+world_verb_of world_verb.Settle = grammar.Settle
 
 abbrev pub first_of : First → grammar.First
 first_of (first.ToNode node) = grammar.ToNode node
 first_of (first.ToWorld v) = grammar.ToWorld (world_verb_of v)
+
+abbrev pub named_of : Named → model.Named
+named_of (named.Label label) = model.ByLabel label
+named_of (named.Serial serial) = model.BySerial (serial_of serial)
 
 -- a word for a key, where these are its bytes if it has bytes
 abbrev pub word_in : List ℕ → KeyWord → operands.KeyWord
@@ -100,19 +115,27 @@ request_of lit (request.Init slots blocks) = model.Init slots blocks
 request_of lit request.Boot = model.Boot
 request_of lit (request.Create file bucket size form) = model.Create file bucket size (form_of form)
 request_of lit (request.SetFile file setting) = model.SetFile file (setting_of setting)
-request_of lit (request.StartTrans label) = model.StartTrans label
+request_of lit (request.StartTrans label seconds) = model.StartTrans label seconds
+request_of lit (request.AddBranch label other new) = model.AddBranch label other new
+request_of lit (request.StartBranch label) = model.StartBranch label
 request_of lit (request.Records label file operation) = model.Records label file (operation_of lit operation)
 request_of lit (request.Direct file operation) = model.Direct file (operation_of lit operation)
+request_of lit (request.EndBranch label) = model.EndBranch label
 request_of lit (request.EndTrans label) = model.EndTrans label
 request_of lit (request.AbortTrans label) = model.AbortTrans label
+request_of lit (request.Inquire named) = model.Inquire (named_of named)
 request_of lit (request.Dump file) = model.Dump file
 request_of lit request.DumpJournal = model.DumpJournal
 request_of lit (request.Fuse writes choice) = model.Fuse writes choice
 request_of lit request.Crash = model.Crash
+request_of lit (request.Clock now) = model.Clock now.0
 
 -- a statement, where these bytes are kept beside it
 abbrev pub statement_of : Literals → Statement → model.Statement
 statement_of lit (statement.At node r) = model.At node (request_of lit r)
+statement_of lit (statement.Deliver number) = model.Deliver number
+statement_of lit (statement.LinkDown a b) = model.LinkDown a b
+statement_of lit statement.Settle = model.Settle
 
 -- what was read is what words in this shape say, whatever bytes are kept beside it
 abbrev pub ReadsPlain : Shape → Ahead → Result Statement LineErr → Type 0

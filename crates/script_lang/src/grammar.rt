@@ -1,15 +1,19 @@
 // The statement of a line.
 ghost use Rattle.std.specs.Prelude.{◌≡◌, ◌≤◌, length};
-ghost use Rattle.script_model.specs.Grammar.{Ends, line_shape, behind_first as behind_first_of, operands as operands_of, form_operands as form_operands_of, world_operands as world_operands_of, reading, Verb as TheVerb, WorldVerb as TheWorldVerb, ToNode as ToTheNode};
+ghost use Rattle.script_model.specs.Grammar.{Ends, line_shape, behind_first as behind_first_of, operands as operands_of, form_operands as form_operands_of, reading, Verb as TheVerb, ToNode as ToTheNode};
 ghost use Rattle.script_model.specs.Statements.{At as AtNode, Create as CreateOf};
 ghost use Rattle.script_lang.specs.Reads.{Reads};
 ghost use Rattle.script_lang.specs.declared.literals.Literals.{Literals as LiteralsSaid};
-ghost use Rattle.script_lang.specs.Statements.{ReadsPlain, first_of, form_of, organization_of, reading_of, statement_of, verb_of, world_verb_of};
+ghost use Rattle.script_lang.specs.Statements.{ReadsPlain, first_of, form_of, organization_of, reading_of, statement_of, verb_of};
 
 use crate::literals::Literals;
 use crate::records::{delete, get, next, put, truncate, update};
-use crate::statement::{First, Form, Organization, Request, Statement, Verb, WorldVerb};
+use crate::statement::{First, Form, Organization, Request, Statement, Verb};
+use crate::transactions::{
+    abort_trans, add_branch, end_branch, end_trans, inquire, start_branch, start_trans,
+};
 use crate::words::{LineErr, Words};
+use crate::world::world_operands;
 use vms_base::{FileName, NodeName};
 
 // The log slots and the journal's blocks of a volume for which none are said.
@@ -126,27 +130,6 @@ fn set_file(node: NodeName, words: &mut Words<'_>) -> Result<Statement, LineErr>
     ends(Statement::At(node, Request::SetFile(file, setting)), words)
 }
 
-fn start_trans(node: NodeName, words: &mut Words<'_>) -> Result<Statement, LineErr>
-    ensures { ReadsPlain (operands_of node TheVerb.StartTrans) words.old result }
-{
-    let label = words.label()?;
-    ends(Statement::At(node, Request::StartTrans(label)), words)
-}
-
-fn end_trans(node: NodeName, words: &mut Words<'_>) -> Result<Statement, LineErr>
-    ensures { ReadsPlain (operands_of node TheVerb.EndTrans) words.old result }
-{
-    let label = words.label()?;
-    ends(Statement::At(node, Request::EndTrans(label)), words)
-}
-
-fn abort_trans(node: NodeName, words: &mut Words<'_>) -> Result<Statement, LineErr>
-    ensures { ReadsPlain (operands_of node TheVerb.AbortTrans) words.old result }
-{
-    let label = words.label()?;
-    ends(Statement::At(node, Request::AbortTrans(label)), words)
-}
-
 fn dump(node: NodeName, words: &mut Words<'_>) -> Result<Statement, LineErr>
     ensures { ReadsPlain (operands_of node TheVerb.Dump) words.old result }
 {
@@ -175,41 +158,20 @@ fn operands(
         Verb::Create => create(node, words),
         Verb::SetFile => set_file(node, words),
         Verb::StartTrans => start_trans(node, words),
+        Verb::AddBranch => add_branch(node, words),
+        Verb::StartBranch => start_branch(node, words),
         Verb::Put => put(node, words, lit),
         Verb::Update => update(node, words, lit),
         Verb::Delete => delete(node, words, lit),
         Verb::Truncate => truncate(node, words),
         Verb::Get => get(node, words, lit),
         Verb::Next => next(node, words, lit),
+        Verb::EndBranch => end_branch(node, words),
         Verb::EndTrans => end_trans(node, words),
         Verb::AbortTrans => abort_trans(node, words),
+        Verb::Inquire => inquire(node, words),
         Verb::Dump => dump(node, words),
         Verb::DumpJournal => dump_journal(node, words),
-    }
-}
-
-fn fuse(words: &mut Words<'_>) -> Result<Statement, LineErr>
-    ensures { ReadsPlain (world_operands_of TheWorldVerb.Fuse) words.old result }
-{
-    let node = words.node()?;
-    let writes = words.number()?;
-    let choice = words.long_number()?;
-    ends(Statement::At(node, Request::Fuse { writes, choice }), words)
-}
-
-fn crash(words: &mut Words<'_>) -> Result<Statement, LineErr>
-    ensures { ReadsPlain (world_operands_of TheWorldVerb.Crash) words.old result }
-{
-    let node = words.node()?;
-    ends(Statement::At(node, Request::Crash), words)
-}
-
-fn world_operands(verb: WorldVerb, words: &mut Words<'_>) -> Result<Statement, LineErr>
-    ensures { ReadsPlain (world_operands_of (world_verb_of verb)) words.old result }
-{
-    match verb {
-        WorldVerb::Fuse => fuse(words),
-        WorldVerb::Crash => crash(words),
     }
 }
 

@@ -9,14 +9,16 @@ mod operands;
 mod records;
 mod statement;
 mod take;
+mod transactions;
 mod wanted;
 mod words;
+mod world;
 
 pub use command::is_run_form;
 pub use grammar::read_statement;
 pub use laws::columns_tell_where_no_statement_goes_on;
 pub use literals::{Literal, Literals};
-pub use statement::{Form, KeyWord, Operation, Request, Setting, Statement};
+pub use statement::{Form, KeyWord, Named, Operation, Request, Setting, Statement};
 pub use wanted::Wanted;
 pub use words::LineErr;
 

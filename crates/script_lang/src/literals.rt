@@ -1,5 +1,6 @@
 // The bytes of a statement's operands, which are kept beside it.
 ghost use Rattle.std.specs.Prelude.{◌≡◌, ℕ, ◌+◌, ◌<◌, ◌≤◌, List, [], ◌∷◌, ◌++◌, take, length, IfOk, IfSome, Option, Some, None, if◌then◌else◌};
+ghost use Rattle.std.specs.Option.{option_map};
 ghost use Rattle.vms_model.specs.Texts.{is_plain as is_plain_byte};
 ghost use Rattle.script_model.specs.Operands.{to_quote, hex_value as hex_value_of, hex_pairs, hex_said, bytes_said};
 
@@ -21,6 +22,15 @@ impl Model for Literal {
     ghost view = { λ l. take l.used l.place.items };
 
     ghost invariant = { λ l. (length l.place.items ≡ 20000) × (l.used ≤ 20000) };
+}
+
+// Writes these bytes over the first ones.
+fn put_first(place: &mut [u8], bytes: &[u8])
+    requires { length bytes.now ≤ length place.old }
+    ensures length { length place.new ≡ length place.old }
+    ensures first { take (length bytes.now) place.new ≡ bytes.now }
+{
+    place[..bytes.len()].copy_from_slice(bytes);
 }
 
 impl Literal {
@@ -54,23 +64,26 @@ impl Literal {
         self.used += 1;
     }
 
+    fn set(&mut self, bytes: &[u8])
+        requires { length bytes.now ≤ 20000 }
+        ensures { self.new ≡ bytes.now }
+    {
+        put_first(&mut self.place, bytes);
+        self.used = bytes.len();
+    }
+
     // Takes plain bytes up to a quote that ends the word.
     fn take_quoted(&mut self, text: &[u8]) -> bool
         requires { length text.now ≤ 20000 }
         ensures { to_quote text.now ≡ (if result then Some self.new else None) }
     {
-        self.clear();
-        for (i, b) in text.iter().enumerate() {
-            let b = *b;
-            if b == b'"' {
-                return i + 1 == text.len();
+        match quoted(text) {
+            Some(bytes) => {
+                self.set(bytes);
+                true
             }
-            if !is_plain(b) {
-                return false;
-            }
-            self.push(b);
+            None => false,
         }
-        false
     }
 
     // Takes the bytes that pairs of hexadecimal digits give.
@@ -130,6 +143,27 @@ fn is_plain(b: u8) -> bool
     ensures { result ≡ is_plain_byte b }
 {
     32 <= b && b <= 126 && b != b'"'
+}
+
+/// The plain bytes up to a quote that ends the word.
+pub fn quoted(text: &[u8]) -> Option<&[u8]>
+    ensures value { option_map (λ bytes. bytes.now) result ≡ to_quote text.now }
+    ensures few { IfSome result (λ bytes. length bytes.now ≤ length text.now) }
+{
+    for (i, b) in text.iter().enumerate() {
+        let b = *b;
+        if b == b'"' {
+            return if i + 1 == text.len() {
+                Some(&text[..i])
+            } else {
+                None
+            };
+        }
+        if !is_plain(b) {
+            return None;
+        }
+    }
+    None
 }
 
 fn hex_value(b: u8) -> Option<u8>

@@ -2,34 +2,43 @@
 ghost use Rattle.std.specs.Prelude.{◌≡◌, ℕ, ◌≤◌, IfSome, Option};
 ghost use Rattle.std.specs.Option.{option_map};
 ghost use Rattle.vms_model.specs.Words.{number_up_to, among};
-ghost use Rattle.script_model.specs.Operands.{prefix_said};
+ghost use Rattle.script_model.specs.Operands.{prefix_said, branch_said, time_word_said};
 ghost use Rattle.script_model.specs.Grammar.{verbs, world_verbs, organizations, settings, journals, first_said};
-ghost use Rattle.script_lang.specs.Statements.{verb_of, world_verb_of, organization_of, setting_of, journal_of, first_of};
+ghost use Rattle.script_lang.specs.Statements.{verb_of, world_verb_of, organization_of, setting_of, journal_of, first_of, named_of};
 
-use crate::statement::{First, Journal, Organization, Setting, Verb, WorldVerb};
-use vms_base::{NodeName, find, part_at, read_digits};
+use crate::literals::quoted;
+use crate::statement::{First, Journal, Named, Organization, Setting, Verb, WorldVerb};
+use vms_base::{Label, Moment, NodeName, Serial, find, part_at, read_digits, read_id, read_time};
 
-const VERBS: [(&[u8], Verb); 15] = [
+const VERBS: [(&[u8], Verb); 19] = [
     (b"INIT", Verb::Init),
     (b"BOOT", Verb::Boot),
     (b"CREATE", Verb::Create),
     (b"SET_FILE", Verb::SetFile),
     (b"START_TRANS", Verb::StartTrans),
+    (b"ADD_BRANCH", Verb::AddBranch),
+    (b"START_BRANCH", Verb::StartBranch),
     (b"PUT", Verb::Put),
     (b"UPDATE", Verb::Update),
     (b"DELETE", Verb::Delete),
     (b"TRUNCATE", Verb::Truncate),
     (b"GET", Verb::Get),
     (b"NEXT", Verb::Next),
+    (b"END_BRANCH", Verb::EndBranch),
     (b"END_TRANS", Verb::EndTrans),
     (b"ABORT_TRANS", Verb::AbortTrans),
+    (b"INQUIRE", Verb::Inquire),
     (b"DUMP", Verb::Dump),
     (b"DUMP_JOURNAL", Verb::DumpJournal),
 ];
 
-const WORLD_VERBS: [(&[u8], WorldVerb); 2] = [
+const WORLD_VERBS: [(&[u8], WorldVerb); 6] = [
     (b"FUSE", WorldVerb::Fuse),
     (b"CRASH", WorldVerb::Crash),
+    (b"CLOCK", WorldVerb::Clock),
+    (b"DELIVER", WorldVerb::Deliver),
+    (b"LINKDOWN", WorldVerb::LinkDown),
+    (b"SETTLE", WorldVerb::Settle),
 ];
 
 const ORGANIZATIONS: [(&[u8], Organization); 3] = [
@@ -113,5 +122,35 @@ pub fn read_first(text: &[u8]) -> Option<First>
             let verb = read_world_verb(text)?;
             Some(First::ToWorld(verb))
         }
+    }
+}
+
+/// The branch of a word: one with a dot is a serial, and another one a label.
+pub fn read_branch(text: &[u8]) -> Option<Named>
+    ensures { option_map named_of result ≡ branch_said text.now }
+{
+    match part_at(b'.', text) {
+        Some(_) => {
+            let id = read_id(text)?;
+            Some(Named::Serial(Serial(id)))
+        }
+        None => {
+            let label = Label::new(text)?;
+            Some(Named::Label(label))
+        }
+    }
+}
+
+/// The moment of a time between quotes.
+pub fn read_time_word(text: &[u8]) -> Option<Moment>
+    ensures { option_map (λ moment. moment.0) result ≡ time_word_said text.now }
+{
+    let [b'"', rest @ ..] = text else {
+        return None;
+    };
+    let time = quoted(rest)?;
+    match read_time(time) {
+        Ok(moment) => Some(moment),
+        Err(_) => None,
     }
 }

@@ -1,5 +1,5 @@
 // The statements of a script.
-use vms_base::{FileName, Label, NodeName};
+use vms_base::{FileName, Label, Moment, NodeName, Serial};
 
 /// What a new file's records are kept as.
 #[derive(Clone, Copy, Debug, PartialEq, Eq, Drop)]
@@ -49,14 +49,18 @@ pub enum Verb {
     Create,
     SetFile,
     StartTrans,
+    AddBranch,
+    StartBranch,
     Put,
     Update,
     Delete,
     Truncate,
     Get,
     Next,
+    EndBranch,
     EndTrans,
     AbortTrans,
+    Inquire,
     Dump,
     DumpJournal,
 }
@@ -66,6 +70,10 @@ pub enum Verb {
 pub enum WorldVerb {
     Fuse,
     Crash,
+    Clock,
+    Deliver,
+    LinkDown,
+    Settle,
 }
 
 /// What the first word of a line says.
@@ -99,6 +107,13 @@ pub enum Operation {
     Next(Option<KeyWord>),
 }
 
+/// What names a branch.
+#[derive(Clone, Copy, Debug, PartialEq, Eq, Drop)]
+pub enum Named {
+    Label(Label),
+    Serial(Serial),
+}
+
 /// What is asked of a node, or done to it. The bytes of a record and of a key are kept beside the statement, in its `Literals`.
 #[derive(Clone, Copy, Debug, PartialEq, Eq, Drop)]
 pub enum Request {
@@ -116,13 +131,29 @@ pub enum Request {
         form: Form,
     },
     SetFile(FileName, Setting),
-    StartTrans(Label),
+    /// A transaction begins, which is aborted once it has lasted so many seconds.
+    StartTrans {
+        label: Label,
+        seconds: Option<u32>,
+    },
+    /// The transaction of a label may have a branch at the other node, which a new label names.
+    AddBranch {
+        label: Label,
+        other: NodeName,
+        new: Label,
+    },
+    /// The branch that a label names joins its transaction.
+    StartBranch(Label),
     /// The branch of a label is asked.
     Records(Label, FileName, Operation),
     /// No branch is asked: a change is a transaction of its own.
     Direct(FileName, Operation),
+    /// The branch will change no more records.
+    EndBranch(Label),
     EndTrans(Label),
     AbortTrans(Label),
+    /// A prepared branch asks how its transaction ended.
+    Inquire(Named),
     Dump(FileName),
     /// The journal of recovery units is shown.
     DumpJournal,
@@ -132,10 +163,18 @@ pub enum Request {
         choice: u64,
     },
     Crash,
+    /// The node's clock is set.
+    Clock(Moment),
 }
 
 /// What a line says.
 #[derive(Clone, Copy, Debug, PartialEq, Eq, Drop)]
 pub enum Statement {
     At(NodeName, Request),
+    /// The message of this number comes to its receiver.
+    Deliver(u32),
+    /// Two nodes lose each other.
+    LinkDown(NodeName, NodeName),
+    /// All nodes settle what is unsettled.
+    Settle,
 }

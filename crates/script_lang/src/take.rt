@@ -1,17 +1,18 @@
 // Operands from the words of a line.
 ghost use Rattle.std.specs.Prelude.{◌≡◌};
-ghost use Rattle.script_model.specs.Grammar.{AFirst, AVerb, ANode, ALabel, ALabelOrNone, AFile, AnOrganization, ASetting, AJournal, ANumber, ALongNumber, SomeBytes, AKey};
+ghost use Rattle.script_model.specs.Grammar.{AFirst, AVerb, ANode, ALabel, ALabelOrNone, AFile, AnOrganization, ASetting, AJournal, ANumber, ALongNumber, SomeBytes, AKey, ABranch, ATime, ATimeout, Timeout};
 ghost use Rattle.script_lang.specs.Reads.{Takes, Finishes};
-ghost use Rattle.script_lang.specs.Statements.{first_of, verb_of, organization_of, setting_of, journal_of, word_in};
+ghost use Rattle.script_lang.specs.Statements.{first_of, verb_of, organization_of, setting_of, journal_of, named_of, word_in};
 
 use crate::literals::Literal;
 use crate::operands::{
-    read_first, read_journal, read_number, read_organization, read_setting, read_verb,
+    read_branch, read_first, read_journal, read_number, read_organization, read_setting,
+    read_time_word, read_verb,
 };
-use crate::statement::{First, Journal, KeyWord, Organization, Setting, Verb};
+use crate::statement::{First, Journal, KeyWord, Named, Organization, Setting, Verb};
 use crate::wanted::Wanted;
 use crate::words::{LineErr, Word, Words};
-use vms_base::{FileName, Label, NodeName};
+use vms_base::{FileName, Label, Moment, NodeName, is_word};
 
 impl Word<'_> {
     // The error of a word that cannot stand where it does.
@@ -80,6 +81,17 @@ impl<'a> Words<'a> {
         }
     }
 
+    /// A label or a serial.
+    pub fn branch_name(&mut self) -> Result<Named, LineErr>
+        ensures { Takes ABranch named_of self.old result self.new }
+    {
+        let word = self.word(Wanted::Branch)?;
+        match read_branch(word.text) {
+            Some(named) => Ok(named),
+            None => Err(word.cannot_stand()),
+        }
+    }
+
     pub fn file(&mut self) -> Result<FileName, LineErr>
         ensures { Takes AFile (λ f. f) self.old result self.new }
     {
@@ -137,6 +149,28 @@ impl<'a> Words<'a> {
         match read_number(u64::MAX, word.text) {
             Some(n) => Ok(n),
             None => Err(word.cannot_stand()),
+        }
+    }
+
+    pub fn time(&mut self) -> Result<Moment, LineErr>
+        ensures { Takes ATime (λ moment. moment.0) self.old result self.new }
+    {
+        let word = self.word(Wanted::Time)?;
+        match read_time_word(word.text) {
+            Some(moment) => Ok(moment),
+            None => Err(word.cannot_stand()),
+        }
+    }
+
+    /// The word before the seconds that a transaction is given.
+    pub fn timeout(&mut self) -> Result<(), LineErr>
+        ensures { Takes ATimeout (λ _. Timeout) self.old result self.new }
+    {
+        let word = self.word(Wanted::Timeout)?;
+        if is_word(b"TIMEOUT", word.text) {
+            Ok(())
+        } else {
+            Err(word.cannot_stand())
         }
     }
 

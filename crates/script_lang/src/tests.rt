@@ -3,7 +3,7 @@ use super::*;
 use std::alloc::Global;
 use std::process::Abort;
 use std::test::Fail;
-use vms_base::{FileName, Label, NodeName};
+use vms_base::{FileName, Id, Label, Moment, NodeName, Serial};
 
 fn node() -> Result<NodeName, Fail> {
     Ok(NodeName::new(b"A").ok_or("a name")?)
@@ -17,14 +17,25 @@ fn label() -> Result<Label, Fail> {
     Ok(Label::new(b"T").ok_or("a name")?)
 }
 
+// The statement that each line says.
+fn state(rt: &impl Abort, alloc: Global, table: &[(&[u8], Statement)]) -> Result<(), Fail> {
+    let mut lit = Literals::reserve(alloc)?;
+    for (line, statement) in table {
+        assert!(rt; line.len() <= 20_000);
+        assert_eq!(rt;
+            read_statement(line, &mut lit),
+            Ok(Some(*statement)),
+            "{line:?}"
+        );
+    }
+    Ok(())
+}
+
 // The request to node A that each line says.
 fn say(rt: &impl Abort, alloc: Global, table: &[(&[u8], Request)]) -> Result<(), Fail> {
     let node = node()?;
-    let mut lit = Literals::reserve(alloc)?;
     for (line, request) in table {
-        assert!(rt; line.len() <= 20_000);
-        let want = Ok(Some(Statement::At(node, *request)));
-        assert_eq!(rt; read_statement(line, &mut lit), want, "{line:?}");
+        state(rt, alloc, &[(*line, Statement::At(node, *request))])?;
     }
     Ok(())
 }
@@ -32,7 +43,14 @@ fn say(rt: &impl Abort, alloc: Global, table: &[(&[u8], Request)]) -> Result<(),
 #[test]
 fn lines_ask_nodes(rt: HostRuntime) -> Result<(), Fail> {
     let (file, label) = (file()?, label()?);
-    let table: [(&[u8], Request); 21] = [
+    let other = NodeName::new(b"B").ok_or("a name")?;
+    let new = Label::new(b"U").ok_or("a name")?;
+    let id = Id {
+        node: other,
+        boot: 1,
+        seq: u32::MAX,
+    };
+    let table: [(&[u8], Request); 28] = [
         (
             b"A: INIT",
             Request::Init {
@@ -92,7 +110,38 @@ fn lines_ask_nodes(rt: HostRuntime) -> Result<(), Fail> {
             b"A: SET_FILE F noru",
             Request::SetFile(file, Setting::NoRecoveryUnits),
         ),
-        (b"A: START_TRANS t", Request::StartTrans(label)),
+        (
+            b"A: START_TRANS t",
+            Request::StartTrans {
+                label,
+                seconds: None,
+            },
+        ),
+        (
+            b"a: start_trans t timeout 0010 ",
+            Request::StartTrans {
+                label,
+                seconds: Some(10),
+            },
+        ),
+        (
+            b"A: START_TRANS T TIMEOUT 4294967295",
+            Request::StartTrans {
+                label,
+                seconds: Some(u32::MAX),
+            },
+        ),
+        (
+            b"A: ADD_BRANCH t b u",
+            Request::AddBranch { label, other, new },
+        ),
+        (b"A: START_BRANCH T", Request::StartBranch(label)),
+        (b"A: End_Branch T", Request::EndBranch(label)),
+        (b"A: INQUIRE t", Request::Inquire(Named::Label(label))),
+        (
+            b"A: inquire b.1.4294967295",
+            Request::Inquire(Named::Serial(Serial(id))),
+        ),
         (
             b"  a:   put  T f 007 %X0aFf  ",
             Request::Records(label, file, Operation::Put(Some(7))),
@@ -213,7 +262,17 @@ fn lines_ask_for_records_without_a_label(rt: HostRuntime) -> Result<(), Fail> {
 
 #[test]
 fn lines_act_on_the_world(rt: HostRuntime) -> Result<(), Fail> {
-    let table: [(&[u8], Request); 6] = [
+    let (node, other) = (node()?, NodeName::new(b"B").ok_or("a name")?);
+    let statements: [(&[u8], Statement); 6] = [
+        (b"DELIVER 1", Statement::Deliver(1)),
+        (b"deliver 00 ", Statement::Deliver(0)),
+        (b"DELIVER 4294967295", Statement::Deliver(u32::MAX)),
+        (b"LinkDown a b", Statement::LinkDown(node, other)),
+        (b"LINKDOWN B A", Statement::LinkDown(other, node)),
+        (b" settle ", Statement::Settle),
+    ];
+    state(&rt, rt.alloc(), &statements)?;
+    let table: [(&[u8], Request); 8] = [
         (
             b"FUSE A 0 18446744073709551615",
             Request::Fuse {
@@ -244,6 +303,14 @@ fn lines_act_on_the_world(rt: HostRuntime) -> Result<(), Fail> {
         ),
         (b"CRASH A", Request::Crash),
         (b" crash  a ", Request::Crash),
+        (
+            b"CLOCK A \"1-JAN-2000 10:00:00.00\"",
+            Request::Clock(Moment(445_343_760_000)),
+        ),
+        (
+            b"clock a  \"31-dec-8999 23:59:59.99\" ",
+            Request::Clock(Moment(22_535_210_879_999)),
+        ),
     ];
     say(&rt, rt.alloc(), &table)
 }
@@ -263,7 +330,7 @@ fn column(alloc: Global, line: &[u8]) -> Result<Option<u32>, Fail> {
 
 #[test]
 fn lines_leave_the_grammar_at_their_columns(rt: HostRuntime) -> Result<(), Fail> {
-    let table: [(&[u8], Option<u32>); 45] = [
+    let table: [(&[u8], Option<u32>); 61] = [
         (b"", None),
         (b"   ", None),
         (b"!A: PUT", None),
@@ -299,7 +366,23 @@ fn lines_leave_the_grammar_at_their_columns(rt: HostRuntime) -> Result<(), Fail>
         (b"A: PUT T F 1", Some(13)),
         (b"A: PUT T F 1  ", Some(15)),
         (b"A: PUT T 1F 1 \"a\"", Some(10)),
-        (b"A: START_TRANS T TIMEOUT 1", Some(18)),
+        (b"A: START_TRANS T TIMEOUT 1", Some(0)),
+        (b"A: START_TRANS T TIMEOUT", Some(25)),
+        (b"A: START_TRANS T 10", Some(18)),
+        (b"A: START_TRANS T TIMEOUT x", Some(26)),
+        (b"A: START_TRANS T TIMEOUT 1 1", Some(28)),
+        (b"A: START_TRANS - TIMEOUT 1", Some(16)),
+        (b"A: ADD_BRANCH T B", Some(18)),
+        (b"A: ADD_BRANCH T 1B U", Some(17)),
+        (b"A: ADD_BRANCH T B -", Some(19)),
+        (b"A: START_BRANCH A.1.1", Some(17)),
+        (b"A: INQUIRE -", Some(12)),
+        (b"A: INQUIRE A.1", Some(12)),
+        (b"A: INQUIRE A.1.0", Some(12)),
+        (b"A: INQUIRE A.01.1", Some(12)),
+        (b"A: INQUIRE A_.1.1", Some(12)),
+        (b"A: INQUIRE A.1.4294967296", Some(12)),
+        (b"A: INQUIRE A.1.1 T", Some(18)),
         (b"A : DUMP F", Some(1)),
         (b"\tA: DUMP F", Some(1)),
         (b"\"a\"b", Some(1)),
@@ -318,7 +401,7 @@ fn lines_leave_the_grammar_at_their_columns(rt: HostRuntime) -> Result<(), Fail>
 
 #[test]
 fn lines_of_nodes_and_of_the_world_leave_it_at_theirs(rt: HostRuntime) -> Result<(), Fail> {
-    let table: [(&[u8], Option<u32>); 38] = [
+    let table: [(&[u8], Option<u32>); 56] = [
         (b"A:INIT", Some(1)),
         (b"INIT", Some(1)),
         (b"A: INIT x", Some(9)),
@@ -357,6 +440,24 @@ fn lines_of_nodes_and_of_the_world_leave_it_at_theirs(rt: HostRuntime) -> Result
         (b"CRASH", Some(6)),
         (b"CRASH 1A", Some(7)),
         (b"CRASH A B", Some(9)),
+        (b"CLOCK A", Some(8)),
+        (b"CLOCK A 1", Some(9)),
+        (b"CLOCK A 1-JAN-2000 10:00:00.00", Some(9)),
+        (b"CLOCK A \"1-JAN-2000 10:00:00.00", Some(9)),
+        (b"CLOCK A \"1-JAN-2000 10:00:00.00\"x", Some(9)),
+        (b"CLOCK A \"1-JAN-2000 10:00:00.00\" x", Some(34)),
+        (b"CLOCK A \"1-JAN-2000  10:00:00.00\"", Some(9)),
+        (b"CLOCK A \"29-FEB-1900 00:00:00.00\"", Some(9)),
+        (b"CLOCK A \"1-JAN-9000 00:00:00.00\"", Some(9)),
+        (b"CLOCK A %X", Some(9)),
+        (b"DELIVER", Some(8)),
+        (b"DELIVER 4294967296", Some(9)),
+        (b"DELIVER 1 2", Some(11)),
+        (b"LINKDOWN A", Some(11)),
+        (b"LINKDOWN A: B", Some(10)),
+        (b"LINKDOWN A B C", Some(14)),
+        (b"SETTLE A", Some(8)),
+        (b"A: SETTLE", Some(4)),
     ];
     for (line, want) in table {
         assert_eq!(rt; column(rt.alloc(), line)?, want, "{line:?}");
@@ -379,12 +480,13 @@ fn wanted(alloc: Global, line: &[u8]) -> Result<Option<Wanted>, Fail> {
 
 #[test]
 fn a_faulty_line_tells_what_it_wants(rt: HostRuntime) -> Result<(), Fail> {
-    let table: [(&[u8], Wanted); 14] = [
+    let table: [(&[u8], Wanted); 17] = [
         (b"INIT", Wanted::First),
         (b"A: FROB", Wanted::Verb),
         (b"CRASH 1A", Wanted::Node),
         (b"A: END_TRANS", Wanted::Label),
         (b"A: GET", Wanted::LabelOrNone),
+        (b"A: INQUIRE", Wanted::Branch),
         (b"A: DUMP", Wanted::File),
         (b"A: DUMP_JOURNAL F", Wanted::Journal),
         (b"A: CREATE F SEK 1 100 10", Wanted::Organization),
@@ -393,6 +495,8 @@ fn a_faulty_line_tells_what_it_wants(rt: HostRuntime) -> Result<(), Fail> {
         (b"FUSE A 1", Wanted::LongNumber),
         (b"A: PUT T F 1", Wanted::Bytes),
         (b"A: GET T F", Wanted::Key),
+        (b"CLOCK A 1", Wanted::Time),
+        (b"A: START_TRANS T 10", Wanted::Timeout),
         (b"A: BOOT now", Wanted::End),
     ];
     for (line, want) in table {

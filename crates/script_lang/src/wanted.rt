@@ -12,6 +12,8 @@ pub enum Wanted {
     Label,
     /// A label, or a dash where there is none.
     LabelOrNone,
+    /// A label or a serial.
+    Branch,
     File,
     Organization,
     Setting,
@@ -23,6 +25,9 @@ pub enum Wanted {
     Bytes,
     /// A number, or bytes.
     Key,
+    Time,
+    /// The word before the seconds that a transaction is given.
+    Timeout,
     /// No word at all.
     End,
 }
@@ -30,12 +35,15 @@ pub enum Wanted {
 impl Wanted {
     fn phrase(&self) -> &'static str {
         match self {
-            Wanted::First => "a node and a colon in one word, as A:, or FUSE or CRASH",
+            Wanted::First =>
+                "a node and a colon in one word, as A:, or FUSE, CRASH, CLOCK, DELIVER, LINKDOWN or SETTLE",
             Wanted::Verb =>
-                "a verb: INIT, BOOT, CREATE, SET_FILE, START_TRANS, PUT, UPDATE, DELETE, TRUNCATE, GET, NEXT, END_TRANS, ABORT_TRANS, DUMP or DUMP_JOURNAL",
+                "a verb: INIT, BOOT, CREATE, SET_FILE, START_TRANS, ADD_BRANCH, START_BRANCH, PUT, UPDATE, DELETE, TRUNCATE, GET, NEXT, END_BRANCH, END_TRANS, ABORT_TRANS, INQUIRE, DUMP or DUMP_JOURNAL",
             Wanted::Node => "a node: 1 to 6 letters and digits, a letter first",
             Wanted::Label => "a label: 1 to 15 letters, digits and _, a letter first",
             Wanted::LabelOrNone => "a label: 1 to 15 letters, digits and _, a letter first, or -",
+            Wanted::Branch =>
+                "a label: 1 to 15 letters, digits and _, a letter first, or a serial: a node, a boot and a number with dots between, as A.1.1",
             Wanted::File => "a file: 1 to 39 letters, digits, _, $ and ., a letter first",
             Wanted::Organization => "an organization: SEQ, REL or IDX",
             Wanted::Setting => "a setting: RU or NORU",
@@ -45,6 +53,9 @@ impl Wanted {
             Wanted::Bytes => "bytes: \"text\" in quotes, or %X and pairs of hexadecimal digits",
             Wanted::Key =>
                 "a number from 0 to 4294967295, or bytes: \"text\" in quotes, or %X and pairs of hexadecimal digits",
+            Wanted::Time =>
+                "a time from 17-NOV-1858 to 31-DEC-8999 in quotes, as \"1-JAN-2000 10:00:00.00\"",
+            Wanted::Timeout => "TIMEOUT",
             Wanted::End => "the end of the line",
         }
     }

@@ -5,9 +5,9 @@ use Rattle.std.specs.Str.{bytes_eq}
 use Rattle.vms_model.specs.Names.{node_named, label_named, file_named}
 use Rattle.vms_model.specs.Words.{number_up_to, among}
 use Rattle.script_model.specs.LineWords.{Word, words_of}
-use Rattle.script_model.specs.Operands.{KeyWord, Numbered, Spelled, bytes_said, key_word_said, key_of, prefix_said}
+use Rattle.script_model.specs.Operands.{KeyWord, Numbered, Spelled, bytes_said, key_word_said, key_of, prefix_said, branch_said, time_word_said}
 use Rattle.script_model.specs.Statements as says
-use Rattle.script_model.specs.Statements.{Statement, Reading, Setting, RecoveryUnits, NoRecoveryUnits}
+use Rattle.script_model.specs.Statements.{Statement, Reading, Setting, RecoveryUnits, NoRecoveryUnits, Named}
 
 -- the word that tells a statement to a node from others
 pub data Verb : Type 0 where
@@ -16,14 +16,18 @@ pub data Verb : Type 0 where
   Create : Verb
   SetFile : Verb
   StartTrans : Verb
+  AddBranch : Verb
+  StartBranch : Verb
   Put : Verb
   Update : Verb
   Delete : Verb
   Truncate : Verb
   Get : Verb
   Next : Verb
+  EndBranch : Verb
   EndTrans : Verb
   AbortTrans : Verb
+  Inquire : Verb
   Dump : Verb
   DumpJournal : Verb
 
@@ -31,6 +35,10 @@ pub data Verb : Type 0 where
 pub data WorldVerb : Type 0 where
   Fuse : WorldVerb
   Crash : WorldVerb
+  Clock : WorldVerb
+  Deliver : WorldVerb
+  LinkDown : WorldVerb
+  Settle : WorldVerb
 
 -- how a new file keeps its records
 pub data Organization : Type 0 where
@@ -51,21 +59,32 @@ verbs =
     ∷ (codes "CREATE", Create)
     ∷ (codes "SET_FILE", SetFile)
     ∷ (codes "START_TRANS", StartTrans)
+    ∷ (codes "ADD_BRANCH", AddBranch)
+    ∷ (codes "START_BRANCH", StartBranch)
     ∷ (codes "PUT", Put)
     ∷ (codes "UPDATE", Update)
     ∷ (codes "DELETE", Delete)
     ∷ (codes "TRUNCATE", Truncate)
     ∷ (codes "GET", Get)
     ∷ (codes "NEXT", Next)
+    ∷ (codes "END_BRANCH", EndBranch)
     ∷ (codes "END_TRANS", EndTrans)
     ∷ (codes "ABORT_TRANS", AbortTrans)
+    ∷ (codes "INQUIRE", Inquire)
     ∷ (codes "DUMP", Dump)
     ∷ (codes "DUMP_JOURNAL", DumpJournal)
     ∷ []
 
 -- those of the world
 abbrev pub world_verbs : List (List ℕ × WorldVerb)
-world_verbs = (codes "FUSE", Fuse) ∷ (codes "CRASH", Crash) ∷ []
+world_verbs =
+    (codes "FUSE", Fuse)
+    ∷ (codes "CRASH", Crash)
+    ∷ (codes "CLOCK", Clock)
+    ∷ (codes "DELIVER", Deliver)
+    ∷ (codes "LINKDOWN", LinkDown)
+    ∷ (codes "SETTLE", Settle)
+    ∷ []
 
 -- the organizations as they are written
 abbrev pub organizations : List (List ℕ × Organization)
@@ -83,14 +102,23 @@ journals = (codes "RU", RecoveryUnitJournal) ∷ []
 abbrev pub settings : List (List ℕ × Setting)
 settings = (codes "RU", RecoveryUnits) ∷ (codes "NORU", NoRecoveryUnits) ∷ []
 
--- what a word may be: the first of a line, a verb, a node, a label, a label or none, a file, an organization, a setting, a journal, a number of 32 or 64
--- bits, bytes, or a key
+-- the word before the seconds that a transaction is given
+pub data TimeoutWord : Type 0 where
+  Timeout : TimeoutWord
+
+-- that as it is written
+abbrev pub timeout_words : List (List ℕ × TimeoutWord)
+timeout_words = (codes "TIMEOUT", Timeout) ∷ []
+
+-- what a word may be: the first of a line, a verb, a node, a label, a label or none, a label or a serial, a file, an organization, a setting, a journal, a number
+-- of 32 or 64 bits, bytes, a key, a time, or the word before seconds
 pub data Kind : Type 0 where
   AFirst : Kind
   AVerb : Kind
   ANode : Kind
   ALabel : Kind
   ALabelOrNone : Kind
+  ABranch : Kind
   AFile : Kind
   AnOrganization : Kind
   ASetting : Kind
@@ -99,6 +127,8 @@ pub data Kind : Type 0 where
   ALongNumber : Kind
   SomeBytes : Kind
   AKey : Kind
+  ATime : Kind
+  ATimeout : Kind
 
 -- what such a word says
 abbrev pub Meaning : Kind → Type 0
@@ -107,6 +137,7 @@ Meaning AVerb = Verb
 Meaning ANode = List ℕ
 Meaning ALabel = List ℕ
 Meaning ALabelOrNone = Option (List ℕ)
+Meaning ABranch = Named
 Meaning AFile = List ℕ
 Meaning AnOrganization = Organization
 Meaning ASetting = Setting
@@ -115,6 +146,8 @@ Meaning ANumber = ℕ
 Meaning ALongNumber = ℕ
 Meaning SomeBytes = List ℕ
 Meaning AKey = KeyWord
+Meaning ATime = ℕ
+Meaning ATimeout = TimeoutWord
 
 -- a node and a colon behind it, or a verb of the world
 abbrev pub first_said : List ℕ → Option First
@@ -131,6 +164,7 @@ meaning AVerb text = among verbs text
 meaning ANode text = node_named text
 meaning ALabel text = label_named text
 meaning ALabelOrNone text = label_or_none text
+meaning ABranch text = branch_said text
 meaning AFile text = file_named text
 meaning AnOrganization text = among organizations text
 meaning ASetting text = among settings text
@@ -139,6 +173,8 @@ meaning ANumber text = number_up_to 4294967295 text
 meaning ALongNumber text = number_up_to 18446744073709551615 text
 meaning SomeBytes text = bytes_said text
 meaning AKey text = key_word_said text
+meaning ATime text = time_word_said text
+meaning ATimeout text = among timeout_words text
 
 -- the words that a line still wants: none, and the line says this; a word of this kind, and then those that its meaning asks for;
 -- or none or these
@@ -185,15 +221,19 @@ operands n Init = EndsOr (says.At n (says.Init default_slots default_journal)) (
 operands n Boot = Ends (says.At n says.Boot)
 operands n Create = Then AFile λ f. Then AnOrganization λ o. Then ANumber λ bucket. Then ANumber λ size. Then ANumber λ count. form_operands n f o bucket size count
 operands n SetFile = Then AFile λ f. Then ASetting λ setting. Ends (says.At n (says.SetFile f setting))
-operands n StartTrans = Then ALabel λ l. Ends (says.At n (says.StartTrans l))
+operands n StartTrans = Then ALabel λ l. EndsOr (says.At n (says.StartTrans l None)) (Then ATimeout λ t. Then ANumber λ seconds. Ends (says.At n (says.StartTrans l (Some seconds))))
+operands n AddBranch = Then ALabel λ l. Then ANode λ other. Then ALabel λ new. Ends (says.At n (says.AddBranch l other new))
+operands n StartBranch = Then ALabel λ l. Ends (says.At n (says.StartBranch l))
 operands n Put = Then ALabelOrNone λ l. Then AFile λ f. Then AKey λ k. put_operands n l f k
 operands n Update = Then ALabelOrNone λ l. Then AFile λ f. Then AKey λ k. Then SomeBytes λ bytes. Ends (asked n l f (says.Update (key_of k) bytes))
 operands n Delete = Then ALabelOrNone λ l. Then AFile λ f. Then AKey λ k. Ends (asked n l f (says.Delete (key_of k)))
 operands n Truncate = Then ALabelOrNone λ l. Then AFile λ f. Then ANumber λ k. Ends (asked n l f (says.Truncate k))
 operands n Get = Then ALabelOrNone λ l. Then AFile λ f. Then AKey λ k. Ends (asked n l f (says.Get (key_of k)))
 operands n Next = Then ALabelOrNone λ l. Then AFile λ f. EndsOr (asked n l f (says.Next None)) (Then AKey λ k. Ends (asked n l f (says.Next (Some (key_of k)))))
+operands n EndBranch = Then ALabel λ l. Ends (says.At n (says.EndBranch l))
 operands n EndTrans = Then ALabel λ l. Ends (says.At n (says.EndTrans l))
 operands n AbortTrans = Then ALabel λ l. Ends (says.At n (says.AbortTrans l))
+operands n Inquire = Then ABranch λ b. Ends (says.At n (says.Inquire b))
 operands n Dump = Then AFile λ f. Ends (says.At n (says.Dump f))
 operands n DumpJournal = Then AJournal λ j. Ends (says.At n says.DumpJournal)
 
@@ -201,6 +241,10 @@ operands n DumpJournal = Then AJournal λ j. Ends (says.At n says.DumpJournal)
 abbrev pub world_operands : WorldVerb → Shape
 world_operands Fuse = Then ANode λ n. Then ANumber λ writes. Then ALongNumber λ choice. Ends (says.At n (says.Fuse writes choice))
 world_operands Crash = Then ANode λ n. Ends (says.At n says.Crash)
+world_operands Clock = Then ANode λ n. Then ATime λ now. Ends (says.At n (says.Clock now))
+world_operands Deliver = Then ANumber λ number. Ends (says.Deliver number)
+world_operands LinkDown = Then ANode λ a. Then ANode λ b. Ends (says.LinkDown a b)
+world_operands Settle = Ends says.Settle
 
 -- what comes behind the first word
 abbrev pub behind_first : First → Shape

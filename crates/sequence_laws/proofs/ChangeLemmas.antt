@@ -1,6 +1,6 @@
 -- Records that go back once a branch, or another one, changes more.
 use Rattle.std.proofs.Common.{◌≡◌, ◌≢◌, ℕ, zero, suc, ◌<◌, ◌≤◌, Bool, true, false, cond, List, [], ◌∷◌, length, Option, Some, None, refl, sym, ◌∙◌, ap, subst, inl, inr, ◌⊎◌, ◌||◌, arith}
-use Rattle.std.specs.Prelude.{nat_le, IsSome, min}
+use Rattle.std.specs.Prelude.{◌==◌, nat_le, IsSome, min}
 use Rattle.std.specs.Option.{is_none}
 use Rattle.seq_file.specs.Records.{record_at, list_set, MaySet}
 use Rattle.seq_file.proofs.RecordLaws.{list_set_none, record_at_take, record_at_past}
@@ -10,12 +10,12 @@ use Rattle.std.specs.Ordering.{eq_by_cmp}
 use Rattle.std.proofs.lemmas.Bool.{false_from_ne_true}
 use Rattle.change_set.proofs.NumberKeys.{same_test, other_test}
 use Rattle.records_model.specs.History.{changes_key}
-use Rattle.unit_laws.specs.Units.{IsImage, is_of, earliest_before, moves_end}
+use Rattle.unit_laws.specs.Units.{IsImage, is_of, earliest_before, latest_after, moves_end}
 use Rattle.unit_laws.proofs.Tests.{never, both_ways, picked, passed, or_one, or_other, or_either}
 use Rattle.unit_laws.proofs.LiveLemmas.{clash}
-use Rattle.sequence_laws.specs.Undoing.{GoesBack, lowest_absent, absent_at, lower, is_taken_away}
+use Rattle.sequence_laws.specs.Undoing.{GoesBack, goes_in_place, lowest_absent, absent_at, lower, is_taken_away}
 use Rattle.sequence_laws.specs.Laws.{NothingGoesBack, ChangeGoesBack, ChangeBesideGoesBack}
-use Rattle.sequence_laws.proofs.SequenceLemmas.{set_at, same_or_other, behind, before, not_taken, swapped, is_there, some_of, none_is_not, some_same, some_before}
+use Rattle.sequence_laws.proofs.SequenceLemmas.{away_behind, before, behind, is_there, latest_is_one, none_is_not, not_taken, same_or_other, set_at, some_before, some_of, some_same, swapped}
 use Rattle.sequence_laws.proofs.OthersLemmas.{replaced, quiet_goes, replaced_goes}
 
 -- A position is set, or the last one goes.
@@ -81,17 +81,17 @@ pub nothing_goes_back : NothingGoesBack
 nothing_goes_back h now records fits = record {
   restored = λ n one. refl;
   own = λ n tk x. absurd (never _ tk refl);
-  absent = λ n tk ck. absurd (never _ tk refl);
+  whole = λ m n tk off le ck. absurd (never _ tk refl);
   same = λ n r s nt is was. ap length (some_same s r (sym was ∙ is));
   records = records;
   fits = fits;
 }
 
 pub change_goes_back : ChangeGoesBack
-change_goes_back h cs now back c n g has next = record {
+change_goes_back h cs now back c n g latest next = record {
   restored = λ m one. elim (same_or_other m n) [ inl same ↦ restored_here m one same | inr other ↦ restored_else m one other ];
   own = λ m tk x. elim (same_or_other m n) [ inl same ↦ or_one _ _ (at_key c n m next.key same) | inr other ↦ or_other (is_of (Number m) c) _ (own_else m other (more_away c n (lowest_absent cs) m next.key tk) (moved m other x)) ];
-  absent = λ m tk ck. elim (same_or_other m n) [ inl same ↦ absent_here m same (more_away c n (lowest_absent cs) m next.key tk) | inr other ↦ inr (absent_else m (of_cs m other ck) (more_away c n (lowest_absent cs) m next.key tk)) ];
+  whole = λ m p tk off le ck. record { latest = stands p ck; absent = absent m p (more_away c n (lowest_absent cs) m next.key tk) off le ck };
   same = λ m r s nt is was. let old = less_away c n (lowest_absent cs) m next.key nt in elim (same_or_other m n) [
     | inl same ↦ same_here m r s same old is was
     | inr other ↦ g.same m r s old.0 (sym ((set_any now n m c.after next.may).1 other) ∙ is) was
@@ -132,16 +132,79 @@ change_goes_back h cs now back c n g has next = record {
     of_cs : (m : ℕ) → m ≢ n → (is_of (Number m) c || changes_key (Number m) cs) ≡ true → changes_key (Number m) cs ≡ true
     of_cs m other ck = elim (or_either _ _ ck) [ inl at ↦ absurd (never _ at (off_key c n m next.key other)) | inr mine ↦ mine ]
 
-    absent_else : (m : ℕ) → changes_key (Number m) cs ≡ true → (is_taken_away (lowest_absent cs) m ≡ true) ⊎ ((c.before ≡ None) × (n ≤ m)) → IsImage cs (Number m) None
-    absent_else m ck (inl tk) = g.absent m tk ck
-    absent_else m ck (inr p) = subst (IsImage cs (Number m)) (gone m p.0 p.1) (has (Number m) ck)
-
-    absent_here : (m : ℕ) → m ≡ n → (is_taken_away (lowest_absent cs) m ≡ true) ⊎ ((c.before ≡ None) × (n ≤ m)) → IsImage (c ∷ cs) (Number m) None
-    absent_here m same (inr p) = inl (at_key c n m next.key same, inl (sym p.0))
-    absent_here m same (inl tk) = elim (is_there c.before) [
-      | inl none ↦ inl (at_key c n m next.key same, inl (sym none))
-      | inr some ↦ inr (g.absent m tk (g.own m tk (inl (subst IsSome (next.found ∙ ap (record_at now) (sym same)) some))))
+    -- what the branch changed stands
+    stands : (p : ℕ) → (is_of (Number p) c || changes_key (Number p) cs) ≡ true → record_at (list_set n c.after now) p ≡ cond (is_of (Number p) c) c.after (latest_after cs (Number p))
+    stands p ck = elim (same_or_other p n) [
+      | inl same ↦ (set_any now n p c.after next.may).0 same ∙ sym (picked (is_of (Number p) c) _ _ (at_key c n p next.key same))
+      | inr other ↦ (set_any now n p c.after next.may).1 other ∙ latest (Number p) (of_cs p other ck) ∙ sym (passed (is_of (Number p) c) _ _ (off_key c n p next.key other))
     ]
+
+    -- what has no record now has none as an image
+    none_now : (p : ℕ) → changes_key (Number p) cs ≡ true → record_at now p ≡ None → IsImage cs (Number p) None
+    none_now p ck none = subst (IsImage cs (Number p)) (sym (latest (Number p) ck) ∙ none) (latest_is_one cs (Number p) ck)
+
+    -- nor has a position behind the one that is changed, unless a record is replaced
+    past : (p : ℕ) → (c.before ≡ None) ⊎ (c.after ≡ None) → n < p → record_at now p ≡ None
+    past p (inl none) lt = gone p none (omega (arith, lt))
+    past p (inr none) lt = record_at_past now p (let end = last c.after none next.may in omega (arith, lt, end))
+      where
+        last : (v : Option (List ℕ)) → v ≡ None → MaySet n v now → n ≡ length now
+        last (Some r) e may = absurd cc
+        last None e may = may.1
+
+    -- a position before it that cannot be set back in place could not before
+    off_before : (m : ℕ) → m ≢ n → goes_in_place (record_at (list_set n c.after now) m) (record_at back m) ≡ false → goes_in_place (record_at now m) (record_at back m) ≡ false
+    off_before m other off = ap (λ (o : Option (List ℕ)). goes_in_place o (record_at back m)) (sym ((set_any now n m c.after next.may).1 other)) ∙ off
+
+    -- the end moves
+    absent_end : (m p : ℕ) → (c.before ≡ None) ⊎ (c.after ≡ None) → (is_taken_away (lowest_absent cs) m ≡ true) ⊎ ((c.before ≡ None) × (n ≤ m)) → goes_in_place (record_at (list_set n c.after now) m) (record_at back m) ≡ false → m ≤ p
+        → (is_of (Number p) c || changes_key (Number p) cs) ≡ true → IsImage (c ∷ cs) (Number p) None
+    absent_end m p moves tk off le ck = elim (same_or_other p n) [
+      | inl same ↦ inl (at_key c n p next.key same, elim moves [ inl none ↦ inl (sym none) | inr none ↦ inr (sym none) ])
+      | inr other ↦ inr (elim (both_ways (nat_le n p)) [
+        | inl late ↦ none_now p (of_cs p other ck) (past p moves (let at = behind n p late in omega (arith, at, other)))
+        | inr early ↦ old (before n p early) (of_cs p other ck) tk
+      ])
+    ]
+      where
+        old : p < n → changes_key (Number p) cs ≡ true → (is_taken_away (lowest_absent cs) m ≡ true) ⊎ ((c.before ≡ None) × (n ≤ m)) → IsImage cs (Number p) None
+        old lt pk (inl away) = let w = g.whole m p away (off_before m (λ e. omega (arith, lt, le, e)) off) le pk in w.absent
+        old lt pk (inr far) = let at = far.1 in absurd (omega (arith, lt, le, at))
+
+    -- a record is replaced by one as long
+    as_long : (r v : List ℕ) (o : Option (List ℕ)) → length v ≡ length r → goes_in_place (Some r) o ≡ goes_in_place (Some v) o
+    as_long r v None same = refl
+    as_long r v (Some s) same = ap (λ (k : ℕ). length s == k) (sym same)
+
+    absent_same : (m p : ℕ) (r v : List ℕ) → c.before ≡ Some r → c.after ≡ Some v → is_taken_away (lowest_absent cs) m ≡ true → goes_in_place (record_at (list_set n c.after now) m) (record_at back m) ≡ false → m ≤ p
+        → (is_of (Number p) c || changes_key (Number p) cs) ≡ true → IsImage (c ∷ cs) (Number p) None
+    absent_same m p r v was is tk off le ck = let w = g.whole m p tk off_now le mine in inr w.absent
+      where
+        now_n : record_at now n ≡ Some r
+        now_n = sym next.found ∙ was
+
+        off_now : goes_in_place (record_at now m) (record_at back m) ≡ false
+        off_now = elim (same_or_other m n) [
+          | inl same ↦
+              ap (λ (o : Option (List ℕ)). goes_in_place o (record_at back m)) (ap (record_at now) same ∙ now_n) ∙ as_long r v (record_at back m) (next.long r v was is)
+              ∙ ap (λ (o : Option (List ℕ)). goes_in_place o (record_at back m)) (sym ((set_any now n m c.after next.may).0 same ∙ is)) ∙ off
+          | inr other ↦ off_before m other off
+        ]
+
+        mine : changes_key (Number p) cs ≡ true
+        mine = elim (same_or_other p n) [
+          | inl same ↦ g.own p (away_behind (lowest_absent cs) m p tk le) (inl (some_of (record_at now p) r (ap (record_at now) same ∙ now_n)))
+          | inr other ↦ of_cs p other ck
+        ]
+
+    absent : (m p : ℕ) → (is_taken_away (lowest_absent cs) m ≡ true) ⊎ ((c.before ≡ None) × (n ≤ m)) → goes_in_place (record_at (list_set n c.after now) m) (record_at back m) ≡ false → m ≤ p → (is_of (Number p) c || changes_key (Number p) cs) ≡ true → IsImage (c ∷ cs) (Number p) None
+    absent m p tk off le ck = go c.before c.after refl refl tk
+      where
+        go : (b a : Option (List ℕ)) → c.before ≡ b → c.after ≡ a → (is_taken_away (lowest_absent cs) m ≡ true) ⊎ ((c.before ≡ None) × (n ≤ m)) → IsImage (c ∷ cs) (Number p) None
+        go None a was is x = absent_end m p (inl was) x off le ck
+        go (Some r) None was is x = absent_end m p (inr is) x off le ck
+        go (Some r) (Some v) was is (inl away) = absent_same m p r v was is away off le ck
+        go (Some r) (Some v) was is (inr none) = absurd (none_is_not c.before none.0 (some_of c.before r was))
 
     same_here : (m : ℕ) (r s : List ℕ) → m ≡ n → (is_taken_away (lowest_absent cs) m ≡ false) × (c.before ≡ None → m < n) → record_at (list_set n c.after now) m ≡ Some r → record_at back m ≡ Some s → length s ≡ length r
     same_here m r s same old is was = go c.before refl

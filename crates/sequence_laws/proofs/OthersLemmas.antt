@@ -12,13 +12,12 @@ use Rattle.seq_file.specs.Records.{record_at, map_of_list, list_set, slot_sizes}
 use Rattle.vms_model.specs.Keys.{Key, Number, Text, End}
 use Rattle.records_model.specs.Records.{Change}
 use Rattle.records_model.specs.History.{changes_key}
-use Rattle.unit_laws.specs.Units.{HasImages, IsImage, is_of, earliest_before}
-use Rattle.unit_laws.specs.Units.{moves_end}
-use Rattle.sequence_laws.specs.Undoing.{GoesBack, lowest_absent, absent_at, lower, is_taken_away}
+use Rattle.unit_laws.specs.Units.{HasImages, IsImage, is_of, earliest_before, moves_end}
+use Rattle.sequence_laws.specs.Undoing.{GoesBack, StandsWhole, goes_in_place, lowest_absent, absent_at, lower, is_taken_away}
 use Rattle.seq_file.proofs.RecordLaws.{record_at_past}
 use Rattle.unit_laws.proofs.Tests.{both_ways, picked, passed}
 use Rattle.unit_laws.proofs.LiveLemmas.{clash}
-use Rattle.sequence_laws.proofs.SequenceLemmas.{earliest_is_one, same_or_other, behind, before, set_at}
+use Rattle.sequence_laws.proofs.SequenceLemmas.{earliest_is_one, same_or_other, behind, before, off_is_some, set_at}
 use Rattle.sequence_laws.specs.Laws.{OtherGoesBack}
 
 some_same : (a b : List ℕ) → Some a ≡ Some b → a ≡ b
@@ -161,7 +160,7 @@ pub quiet_goes : (h : FileHead) (ds : List Change) (now next other : List (List 
 quiet_goes h ds now next other k has kept still records fits = record {
   restored = λ n one. at n one;
   own = λ n away x. clash (is_taken_away (lowest_absent ds) n) away (none_away ds n still);
-  absent = λ n away ck. clash (is_taken_away (lowest_absent ds) n) away (none_away ds n still);
+  whole = λ m n away off le ck. clash (is_taken_away (lowest_absent ds) m) away (none_away ds m still);
   same = λ n r s away is was. alike n r s (positive next n r is) is was;
   records = all_among (IsRecord h.mrs) (replaced ds 1 next) (λ n r one e. elim (both_ways (changes_key (Number n) ds)) [
     | inl ck ↦ all_of (IsRecord h.mrs) other n r k.records (k.restored n one ∙ picked _ _ _ ck ∙ sym (picked (changes_key (Number n) ds) _ _ ck) ∙ sym (at n one) ∙ e)
@@ -207,7 +206,7 @@ end_goes : (h : FileHead) (cs ds : List Change) (now back other : List (List ℕ
 end_goes h cs ds now back other g k has apart still = record {
   restored = λ n one. at n one ∙ both n one (changes_key (Number n) cs) refl;
   own = λ n away x. k.own n away (elim x [ inl some ↦ inl (now_some n some) | inr some ↦ other_or n some ]);
-  absent = k.absent;
+  whole = whole;
   same = λ n r s away is was. alike n r s away (positive back n r is) is was;
   records = all_among (IsRecord h.mrs) (replaced cs 1 other) (λ n r one e. elim (both_ways (changes_key (Number n) cs)) [
     | inl ck ↦ all_of (IsRecord h.mrs) back n r g.records (g.restored n one ∙ picked _ _ _ ck ∙ sym (picked (changes_key (Number n) cs) _ _ ck) ∙ sym (at n one) ∙ e)
@@ -242,6 +241,29 @@ end_goes h cs ds now back other g k has apart still = record {
       | inl ck ↦ has_some cs now n still has ck
       | inr not_c ↦ subst IsSome (g.restored n one ∙ passed _ _ _ not_c) some
     ]
+
+    -- what the second branch changed is as it was
+    apart_from : (n : ℕ) → changes_key (Number n) ds ≡ true → changes_key (Number n) cs ≡ false
+    apart_from n ck = false_from_ne_true _ (λ (e : changes_key (Number n) cs ≡ true). clash (changes_key (Number n) ds) ck (apart (Number n) e))
+
+    back_now : (n : ℕ) → 1 ≤ n → changes_key (Number n) ds ≡ true → record_at back n ≡ record_at now n
+    back_now n one ck = g.restored n one ∙ passed _ _ _ (apart_from n ck)
+
+    whole : (m n : ℕ) → is_taken_away (lowest_absent ds) m ≡ true → goes_in_place (record_at back m) (record_at (replaced cs 1 other) m) ≡ false → m ≤ n → changes_key (Number n) ds ≡ true → StandsWhole ds back n
+    whole m n away off le ck = record { latest = back_now n (omega (arith, one, le)) ck ∙ stands.latest; absent = stands.absent }
+      where
+        some : IsSome (record_at back m)
+        some = off_is_some (record_at back m) (record_at (replaced cs 1 other) m) off
+
+        one : 1 ≤ m
+        one = some_positive back m some
+
+        mine : changes_key (Number m) ds ≡ true
+        mine = k.own m away (inl (now_some m some))
+
+        stands : StandsWhole ds now n
+        stands = k.whole m n away
+            (ap (λ (o : Option (List ℕ)). goes_in_place o (record_at other m)) (sym (back_now m one mine)) ∙ ap (goes_in_place (record_at back m)) (sym (at m one ∙ passed _ _ _ (apart_from m mine))) ∙ off) le ck
 
     other_or : (n : ℕ) → IsSome (record_at (replaced cs 1 other) n) → IsSome (record_at now n) ⊎ IsSome (record_at other n)
     other_or n some = let one = some_positive (replaced cs 1 other) n some in elim (both_ways (changes_key (Number n) cs)) [
@@ -299,7 +321,7 @@ replaced_goes h ds now next other n old new k free one there long set records = 
     | inl same ↦ k.own m tk (inl (is_one _ old (ap (record_at now) same ∙ there)))
     | inr off ↦ k.own m tk (elim x [ inl some ↦ inl (subst IsSome ((set m).1 off) some) | inr some ↦ inr (subst IsSome ((at m).1 off) some) ])
   ];
-  absent = k.absent;
+  whole = whole;
   same = λ m r s nt is was. elim (same_or_other m n) [
     | inl same ↦ ap length (some_same s new (sym was ∙ (at m).0 same)) ∙ ap length (some_same new r (sym ((set m).0 same) ∙ is))
     | inr off ↦ k.same m r s nt (sym ((set m).1 off) ∙ is) (sym ((at m).1 off) ∙ was)
@@ -325,6 +347,17 @@ replaced_goes h ds now next other n old new k free one there long set records = 
 
     at : (m : ℕ) → (m ≡ n → record_at (list_set n (Some new) other) m ≡ Some new) × (m ≢ n → record_at (list_set n (Some new) other) m ≡ record_at other m)
     at m = set_at other n m new one few
+
+    off_place : (m : ℕ) → changes_key (Number m) ds ≡ true → m ≢ n
+    off_place m ck same = clash (changes_key (Number m) ds) ck (ap (λ (x : ℕ). changes_key (Number x) ds) same ∙ free)
+
+    whole : (m p : ℕ) → is_taken_away (lowest_absent ds) m ≡ true → goes_in_place (record_at next m) (record_at (list_set n (Some new) other) m) ≡ false → m ≤ p → changes_key (Number p) ds ≡ true → StandsWhole ds next p
+    whole m p away off le ck = elim (same_or_other m n) [
+      | inl same ↦ clash (changes_key (Number m) ds) (k.own m away (inl (is_one _ old (ap (record_at now) same ∙ there)))) (ap (λ (x : ℕ). changes_key (Number x) ds) same ∙ free)
+      | inr other_place ↦
+          let stands = k.whole m p away (ap (λ (o : Option (List ℕ)). goes_in_place o (record_at other m)) (sym ((set m).1 other_place)) ∙ ap (goes_in_place (record_at next m)) (sym ((at m).1 other_place)) ∙ off) le ck in
+          record { latest = (set p).1 (off_place p ck) ∙ stands.latest; absent = stands.absent }
+    ]
 
     sizes : (m : ℕ) → 1 ≤ m → option_map (λ (r : List ℕ). length r) (record_at other m) ≡ option_map (λ (r : List ℕ). length r) (record_at (list_set n (Some new) other) m)
     sizes m m1 = elim (same_or_other m n) [

@@ -1,5 +1,5 @@
 -- The steps by which the changes of one branch in a sequential file are undone, from whatever records there are.
-use Rattle.std.specs.Prelude.{◌≡◌, ℕ, ◌+◌, ◌-◌, ◌≤◌, List, [], ◌∷◌, ◌++◌, true, false, Some, length, take}
+use Rattle.std.specs.Prelude.{◌≡◌, ℕ, ◌+◌, ◌-◌, ◌<◌, ◌≤◌, List, [], ◌∷◌, ◌++◌, true, false, Some, length, take}
 use Rattle.std.specs.List.{All}
 use Rattle.file_base.specs.declared.head.FileHead.{FileHead}
 use Rattle.seq_file.specs.Layout.{IsRecord, capacity}
@@ -8,27 +8,35 @@ use Rattle.seq_file.specs.Records.{record_at, map_of_list, list_set, slot_sizes,
 use Rattle.vms_model.specs.Keys.{Key, Number}
 use Rattle.records_model.specs.Records.{Change}
 use Rattle.records_model.specs.History.{changes_key}
-use Rattle.unit_laws.specs.Units.{HasImages, earliest_before, moves_end}
-use Rattle.sequence_laws.specs.Undoing.{GoesBack, lowest_absent, is_taken_away}
+use Rattle.unit_laws.specs.Units.{HasImages, HasLatest, earliest_before, moves_end}
+use Rattle.sequence_laws.specs.Undoing.{GoesBack, AllInPlace, goes_in_place, lowest_absent, is_taken_away}
 
--- A step leaves records that go back to the same ones, and of which each changed position has one of its images; the other positions have what they had.
+-- A step leaves records that go back to the same ones, without another one to be taken away, and of which each changed position has one of its images; the other
+-- positions have what they had.
 pub record IsStep (h : FileHead) (cs : List Change) (now back next : List (List ℕ)) : Type 0 where
   pub goes : GoesBack h cs next back
+  pub in_place : AllInPlace cs next back
   pub images : HasImages (map_of_list now) cs → HasImages (map_of_list next) cs
   pub others : (n : ℕ) → 1 ≤ n → changes_key (Number n) cs ≡ false → record_at next n ≡ record_at now n
 
--- the positions from the lowest absent one on go
-abbrev pub CutGoesBack : Type 0
-CutGoesBack = (h : FileHead) (cs : List Change) (now back : List (List ℕ)) (from : ℕ) → GoesBack h cs now back → lowest_absent cs ≡ Some from → 1 ≤ from → IsStep h cs now back (take (from - 1) now)
+-- The first position from the lowest absent one on that cannot be set back in place. It has a record.
+pub record IsFirstOff (cs : List Change) (now back : List (List ℕ)) (from : ℕ) : Type 0 where
+  pub taken : is_taken_away (lowest_absent cs) from ≡ true
+  pub off : goes_in_place (record_at now from) (record_at back from) ≡ false
+  pub first : (n : ℕ) → is_taken_away (lowest_absent cs) n ≡ true → n < from → goes_in_place (record_at now n) (record_at back n) ≡ true
 
--- a changed position is set to its earliest before image: one that there is, or the next one
+-- the positions from it on go
+abbrev pub CutGoesBack : Type 0
+CutGoesBack = (h : FileHead) (cs : List Change) (now back : List (List ℕ)) (from : ℕ) → GoesBack h cs now back → IsFirstOff cs now back from → IsStep h cs now back (take (from - 1) now)
+
+-- where none is left to be taken away, a changed position is set to its earliest before image: one that there is, or the next one
 abbrev pub SetGoesBack : Type 0
-SetGoesBack = (h : FileHead) (cs : List Change) (now back : List (List ℕ)) (n : ℕ) (r : List ℕ) → GoesBack h cs now back → 1 ≤ n → n ≤ length now + 1 → changes_key (Number n) cs ≡ true → earliest_before cs (Number n) ≡ Some r
+SetGoesBack = (h : FileHead) (cs : List Change) (now back : List (List ℕ)) (n : ℕ) (r : List ℕ) → GoesBack h cs now back → AllInPlace cs now back → 1 ≤ n → n ≤ length now + 1 → changes_key (Number n) cs ≡ true → earliest_before cs (Number n) ≡ Some r
     → IsStep h cs now back (list_set n (Some r) now)
 
--- what there is at taken away positions is there again already, and all that there is to be before a position is there
+-- none is left to be taken away, and all that there is to be before a position is there
 pub record IsSetBefore (cs : List Change) (now back : List (List ℕ)) (n : ℕ) : Type 0 where
-  pub regrown : (m : ℕ) (r : List ℕ) → is_taken_away (lowest_absent cs) m ≡ true → record_at now m ≡ Some r → record_at back m ≡ Some r
+  pub in_place : AllInPlace cs now back
   pub filled : n ≤ length now + 1
 
 -- such a set can be done in place, or a record is put behind the last one where that fits the file
@@ -58,9 +66,9 @@ pub record IsChangeOf (c : Change) (n : ℕ) (now : List (List ℕ)) : Type 0 wh
   pub may : MaySet n c.after now
   pub long : (old new : List ℕ) → c.before ≡ Some old → c.after ≡ Some new → length new ≡ length old
 
--- A branch changes more: with the change undone too, it goes back to the same records.
+-- A branch of which nothing is undone changes more: with the change undone too, it goes back to the same records.
 abbrev pub ChangeGoesBack : Type 0
-ChangeGoesBack = (h : FileHead) (cs : List Change) (now back : List (List ℕ)) (c : Change) (n : ℕ) → GoesBack h cs now back → HasImages (map_of_list now) cs → IsChangeOf c n now → GoesBack h (c ∷ cs) (list_set n c.after now) back
+ChangeGoesBack = (h : FileHead) (cs : List Change) (now back : List (List ℕ)) (c : Change) (n : ℕ) → GoesBack h cs now back → HasLatest (map_of_list now) cs → IsChangeOf c n now → GoesBack h (c ∷ cs) (list_set n c.after now) back
 
 -- Another branch changes a position that this one did not, and not the end where this one moved it: this one still goes back, from there.
 abbrev pub ChangeBesideGoesBack : Type 0

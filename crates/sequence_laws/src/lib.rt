@@ -5,9 +5,9 @@
 
 ghost use Rattle.sequence_laws.specs.Laws.{CutGoesBack, SetGoesBack, SetMay, AllSetIsBack, OtherGoesBack, NothingGoesBack, ChangeGoesBack, ChangeBesideGoesBack};
 
-/// A sequential file goes back to the records that it is to have without a branch step by step. First the positions from the lowest absent one on are cut, and
-/// then each other position that the branch changed is set to its earliest before image. After each step it still goes back to the same records, whatever
-/// was done before a fall, and no position of another branch changes.
+/// A sequential file goes back to the records that it is to have without a branch step by step. Where a position from the lowest absent one on cannot be set back
+/// in place, the file is cut there first; then each position that the branch changed is set to its earliest before image. After each step it still goes back to
+/// the same records, whatever was done before a fall, and no position of another branch changes. None is left at which it has to be cut again.
 pub fn steps_go_back()
     ensures cut { CutGoesBack }
     ensures set { SetGoesBack }
@@ -28,8 +28,8 @@ pub fn other_goes_back()
     ensures { OtherGoesBack }
 {}
 
-/// A branch has records to go back to from its first change on: whatever it changes next it goes back to the same ones, and whatever another branch changes, of
-/// which one at most moves the end, there are some.
+/// A branch has records to go back to from its first change on: whatever it changes next, while nothing of it is undone, it goes back to the same ones, and
+/// whatever another branch changes, of which one at most moves the end, there are some.
 pub fn changes_go_back()
     ensures nothing { NothingGoesBack }
     ensures own { ChangeGoesBack }

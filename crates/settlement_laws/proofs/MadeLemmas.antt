@@ -20,7 +20,8 @@ use Rattle.journal_store.proofs.Journals.{appended, keeps_others}
 use Rattle.unit_laws.specs.Journal.{RecoveryUnit, SettledEntry, end_of, find_unit, units_in, with_settled}
 use Rattle.unit_laws.specs.JournalLaws.{is_unit}
 use Rattle.unit_laws.proofs.TrimLemmas.{settles_unit}
-use Rattle.run_model.specs.World.{Node, Settlement, Settles, acted}
+use Rattle.lmcp_log.specs.Keeping.{SameSlots}
+use Rattle.run_model.specs.World.{Node, Settlement}
 use Rattle.volume.specs.declared.catalog.Catalog.{Catalog}
 use Rattle.volume.specs.Catalogs.{IsSound, TellsCatalog, TellsEntry}
 use Rattle.volume.specs.Limits.{EntryFits, SaveFits, data_area}
@@ -43,7 +44,7 @@ use Rattle.unit_journal.specs.Entries.{settled_entry}
 use Rattle.unit_journal.specs.Settling.{content_with, entry_if, from_earliest, settled_home, span_with, with_front}
 use Rattle.unit_journal.specs.Spans.{longer}
 use Rattle.unit_journal.proofs.EntryLemmas.{settled_is}
-use Rattle.settlement_laws.specs.Settled.{IsSettled, Makes, SettlementsAreMade}
+use Rattle.settlement_laws.specs.Settled.{IsSettled, Makes, SettlementsAreMade, noted}
 
 abbrev Content : Type 0
 Content = List (List ℕ)
@@ -267,6 +268,12 @@ module _ (b c : Content) (n : Node) (s : Settlement) (tid : Tid) (serial : Seria
       let past : ru.start - 518 + ru.blocks ≤ k = omega (arith, inside, start, blocks) in
       sym ((put_others ru b j.entries j.is far e).others k (inr past)) ∙ sym (behind k (omega (arith, past, far))) ∙ ap (λ (x : Content). block_at x k) (sym content_is)
 
+  log_stays : SameSlots (length n.durable.log) b c
+  log_stays i below =
+      let slots = has.slots in
+      let start = sound.ru_start in
+      ap (λ (x : Content). block_at x (66 + i)) content_is ∙ behind (66 + i) (omega arith) ∙ (put_others ru b j.entries j.is far e).others (66 + i) (inl (omega (arith, below, slots, start)))
+
   end_after : made.catalog.ru.end ≡ end_of (with_settled s.tid s.serial s.outcome s.moment n.durable.units)
   end_after = ap (λ (k : Catalog). k.ru.end) m.makes.catalog ∙ by (is_unit s.serial n.durable.units) ∙ ap (λ (p : ℕ). p + cond (is_unit s.serial n.durable.units) 48 0) j.end ∙ sym (settles_unit s.tid s.serial s.outcome s.moment n.durable.units).end
     where
@@ -274,8 +281,8 @@ module _ (b c : Content) (n : Node) (s : Settlement) (tid : Tid) (serial : Seria
       by true = ap (λ (k : ℕ). ru.end + k) entry_size
       by false = omega arith
 
-  home_settled : HasHome made.catalog.home (acted (Settles s) n)
-  home_settled = subst (λ (k : Catalog). HasHome k.home (acted (Settles s) n)) (sym m.makes.catalog) (record { volume = has.volume; slots = has.slots; journal = has.journal; boot = has.boot; greatest = refl; last = ap Some m.settlement })
+  home_settled : HasHome made.catalog.home (noted s n)
+  home_settled = subst (λ (k : Catalog). HasHome k.home (noted s n)) (sym m.makes.catalog) (record { volume = has.volume; slots = has.slots; journal = has.journal; boot = has.boot; greatest = refl; last = ap Some m.settlement })
 
   front_tells : TellsCatalog (record v.catalog { home = home_after; ru = ru_after }) after
   front_tells = record {
@@ -304,7 +311,7 @@ module _ (b c : Content) (n : Node) (s : Settlement) (tid : Tid) (serial : Seria
 
   pub made_is : IsSettled n s j.entries b c v.catalog made.catalog × TellsCatalog made.catalog c × IsSound node size made.catalog
   made_is = (
-    record { heads = ap (λ (k : Catalog). k.heads) m.makes.catalog; files = files_stay; home = home_settled; entered = entered_after; first = m.first; end = end_after; low = m.low },
+    record { heads = ap (λ (k : Catalog). k.heads) m.makes.catalog; log = log_stays; files = files_stay; home = home_settled; entered = entered_after; first = m.first; end = end_after; low = m.low },
     subst (λ (k : Catalog). TellsCatalog k c) (sym m.makes.catalog) (subst (TellsCatalog (record v.catalog { home = home_after; ru = ru_after })) (sym content_is) front_tells),
     subst (IsSound node size) (sym m.makes.catalog) sound_after,
   )

@@ -1,18 +1,17 @@
 -- What the settlement of a branch makes of a volume, and of its node.
-use Rattle.std.specs.Prelude.{◌≡◌, ℕ, ◌+◌, ◌-◌, ◌≤◌, ◌^◌, List, ◌++◌, true, false, Option, Some, length}
-use Rattle.std.specs.List.{AllByRecursion}
+use Rattle.std.specs.Prelude.{◌≡◌, ℕ, ◌+◌, ◌-◌, ◌≤◌, ◌^◌, List, ◌++◌, true, Option, Some, length}
 use Rattle.file_base.specs.declared.head.FileHead.{FileHead}
 use Rattle.change_set.specs.Files.{AgreesOn}
+use Rattle.lmcp_log.specs.Keeping.{SameSlots}
 use Rattle.vms_model.specs.Ids.{IsId}
 use Rattle.vms_base.specs.declared.ids.Serial.{Serial}
 use Rattle.vms_base.specs.declared.ids.Tid.{Tid}
-use Rattle.records_model.specs.History.{same_id}
 use Rattle.journal_model.specs.Entries.{Entry}
 use Rattle.journal_model.specs.Ring.{IsJournal, ring_size}
-use Rattle.unit_laws.specs.Journal.{JournalEntry, end_of, is_settled_in, serial_in, with_settled}
+use Rattle.unit_laws.specs.Journal.{end_of, with_settled}
 use Rattle.unit_laws.specs.JournalLaws.{is_unit}
-use Rattle.run_model.specs.World.{Node, Settlement, Settles, acted}
-use Rattle.run_model.specs.Ordered.{tid_in}
+use Rattle.run_model.specs.World.{Node, Settlement, with_settlement}
+use Rattle.world_laws.specs.Ordered as ordered
 use Rattle.volume.specs.declared.catalog.Catalog.{Catalog}
 use Rattle.volume.specs.Catalogs.{IsSound, TellsCatalog}
 use Rattle.volume.specs.State.{VolumeState}
@@ -25,18 +24,21 @@ use Rattle.unit_table.specs.Units.{OpenUnit}
 use Rattle.unit_journal.specs.Entries.{settled_entry}
 use Rattle.unit_journal.specs.Settling.{MakesSettlement, entry_if}
 
--- A branch of a node may be settled so: it is not settled in the journal, the settlement is of its transaction, and no other was later.
-pub record MaySettle (n : Node) (s : Settlement) : Type 0 where
-  pub unsettled : is_settled_in s.serial n.durable.units.entries ≡ false
-  pub transaction : AllByRecursion (λ (e : JournalEntry). same_id s.serial (serial_in e) ≡ true → s.tid ≡ tid_in e) n.durable.units.entries
-  pub later : n.durable.greatest ≤ s.moment
+-- a branch of a node may be settled so
+abbrev pub MaySettle : Node → Settlement → Type 0
+MaySettle n s = ordered.MaySettle n.durable (record { tid = s.tid; serial = s.serial }) s.moment
+
+-- a node once a branch is settled so, but for its log
+abbrev pub noted : Settlement → Node → Node
+noted s n = record n { durable = with_settlement (Some s) n.durable }
 
 -- The settlement of a branch made one content and catalog into another: the home tells it, its entry is behind the end where the branch is a unit, the journal
--- begins with the earliest change of the units that are left, and the files have the blocks that they had.
+-- begins with the earliest change of the units that are left, and the log and the files have the blocks that they had.
 pub record IsSettled (n : Node) (s : Settlement) (es : List Entry) (b c : List (List ℕ)) (v w : Catalog) : Type 0 where
   pub heads : w.heads ≡ v.heads
+  pub log : SameSlots (length n.durable.log) b c
   pub files : (f : ℕ) (h : FileHead) → head_at v.heads f ≡ Some h → AgreesOn h b c
-  pub home : HasHome w.home (acted (Settles s) n)
+  pub home : HasHome w.home (noted s n)
   pub entered : IsJournal c (record w.ru { first = v.ru.first }) (es ++ settled_entries s n.durable.units)
   pub first : w.ru.first ≡ (with_settled s.tid s.serial s.outcome s.moment n.durable.units).first
   pub end : w.ru.end ≡ end_of (with_settled s.tid s.serial s.outcome s.moment n.durable.units)

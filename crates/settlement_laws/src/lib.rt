@@ -6,7 +6,7 @@
 ghost use Rattle.settlement_laws.specs.Settled.{SettlementsAreMade};
 
 /// A settlement that was made of a volume is the node's: the home tells it, its entry is behind the end of the journal where the branch is a unit, the journal
-/// begins with the earliest change of the units that are left, and files have the blocks that they had.
+/// begins with the earliest change of the units that are left, and the log and files have the blocks that they had.
 pub fn settlements_are_made()
     ensures { SettlementsAreMade }
 {}

@@ -102,6 +102,29 @@ impl Table {
         self.branches.get(i)
     }
 
+    // How many branches are unsettled.
+    pub fn branch_count(&self) -> usize
+        ensures count { result ≡ length self.now.tm.table }
+        ensures few { result ≤ 64 }
+    {
+        self.branches.len()
+    }
+
+    // How many committed records there are.
+    pub fn record_count(&self) -> usize
+        ensures count { result ≡ length self.now.tm.records }
+        ensures few { result ≤ 512 }
+    {
+        self.records.len()
+    }
+
+    // The committed record at this place.
+    pub fn record_at(&self, i: usize) -> Option<&LogRec>
+        ensures { option_map log_record_of (option_copied result) ≡ slice_get self.now.tm.records i }
+    {
+        self.records.get(i)
+    }
+
     // The committed record of the serial.
     pub fn committed(&self, serial: &Serial) -> Option<&LogRec>
         ensures { option_map log_record_of (option_copied result) ≡ record_of (serial_of serial.now) self.now.tm.records }

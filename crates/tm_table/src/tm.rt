@@ -1,5 +1,5 @@
 // The table of one node.
-ghost use Rattle.std.specs.Prelude.{◌≡◌, [], map, true, IfOk, option_copied, slice_get};
+ghost use Rattle.std.specs.Prelude.{◌≡◌, ◌≤◌, [], map, length, true, IfOk, option_copied, slice_get};
 ghost use Rattle.std.specs.Option.{option_map};
 ghost use Rattle.commit_protocol.specs.Allowed.{allowed};
 ghost use Rattle.commit_protocol.specs.Effects.{effects_of};
@@ -62,6 +62,29 @@ impl Tm {
         ensures { option_map branch_of (option_copied result) ≡ slice_get self.now.table i }
     {
         self.table.branch_at(i as usize)
+    }
+
+    /// How many branches are unsettled.
+    pub fn branch_count(&self) -> usize
+        ensures count { result ≡ length self.now.table }
+        ensures few { result ≤ 64 }
+    {
+        self.table.branch_count()
+    }
+
+    /// How many committed records there are.
+    pub fn record_count(&self) -> usize
+        ensures count { result ≡ length self.now.records }
+        ensures few { result ≤ 512 }
+    {
+        self.table.record_count()
+    }
+
+    /// The committed record at this place, from 0.
+    pub fn record_at(&self, i: u32) -> Option<&LogRec>
+        ensures { option_map log_record_of (option_copied result) ≡ slice_get self.now.records i }
+    {
+        self.table.record_at(i as usize)
     }
 
     /// The committed record of this serial.

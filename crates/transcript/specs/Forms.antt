@@ -1,10 +1,11 @@
 -- The lines that the code's forms are.
-use Rattle.std.specs.Prelude.{ℕ, List, Option, option_map}
+use Rattle.std.specs.Prelude.{ℕ, List, Option, option_map, map}
 use Rattle.std.specs.Borrow.{Bor}
 use Rattle.vms_model.specs.Times.{CanBeWritten}
 use Rattle.vms_base.specs.Ids.{id_of, tid_of, serial_of}
 use Rattle.vms_base.specs.Keys.{key_of}
 use Rattle.vms_base.specs.Outcomes.{outcome_of, reason_of}
+use Rattle.net_wire.specs.Messages.{message_of}
 use Rattle.transcript_model.specs.Lines as model
 use Rattle.transcript.specs.declared.form.Cause.{Cause}
 use Rattle.transcript.specs.declared.form.Cause.TheVariants as cause
@@ -25,6 +26,8 @@ quota_of quota.Boots = model.Boots
 quota_of quota.Moments = model.Moments
 quota_of quota.Locks = model.Locks
 quota_of quota.Positions = model.Positions
+quota_of quota.Slots = model.Slots
+quota_of quota.Bids = model.Bids
 
 -- the bytes of an image, where there is one
 abbrev pub image_of : Option (Bor (List ℕ)) → Option (List ℕ)
@@ -32,6 +35,16 @@ image_of image = option_map (λ bytes. bytes.now) image
 
 -- what the form shows
 abbrev pub line_of : Form → model.Line
+line_of (form.Sent number message) = model.Sent number (message_of message.now)
+line_of (form.Unsent message) = model.Unsent (message_of message.now)
+line_of (form.Joined tid serial) = model.Joined (tid_of tid) (serial_of serial)
+line_of (form.Started tid serial) = model.Started (tid_of tid) (serial_of serial)
+line_of (form.Prepared tid serial) = model.Prepared (tid_of tid) (serial_of serial)
+line_of (form.ReadOnly tid serial) = model.ReadOnly (tid_of tid) (serial_of serial)
+line_of (form.Ended tid reason) = model.Ended (tid_of tid) (option_map reason_of reason)
+line_of (form.Forgot tid serial) = model.Forgot (tid_of tid) (serial_of serial)
+line_of (form.Asked tid serial outcome) = model.Asked (tid_of tid) (serial_of serial) (outcome_of outcome)
+line_of (form.Booted node boot) = model.Booted node boot
 line_of (form.Record key bytes) = model.Record (key_of key) bytes.now
 line_of (form.Committed tid serial moment) = model.Committed (tid_of tid) (serial_of serial) moment.0
 line_of (form.Aborted tid serial reason moment) = model.Aborted (tid_of tid) (serial_of serial) (reason_of reason) moment.0
@@ -46,6 +59,8 @@ line_of form.Normal = model.Normal
 line_of (form.NormalCount n) = model.NormalCount n
 line_of (form.NormalId id) = model.NormalId (id_of id)
 line_of (form.NormalSpan first end) = model.NormalSpan first end
+line_of (form.Pending serials) = model.Pending (map serial_of serials.now)
+line_of (form.TransactionAborted reason) = model.TransactionAborted (reason_of reason)
 line_of form.RecordNormal = model.RecordNormal
 line_of (form.RecordPosition position) = model.RecordPosition position
 line_of (form.RecordFound bytes) = model.RecordFound bytes.now
@@ -55,6 +70,8 @@ line_of form.NodeDown = model.NodeDown
 line_of form.NodeUp = model.NodeUp
 line_of form.VolumeInUse = model.VolumeInUse
 line_of form.NotInitialized = model.NotInitialized
+line_of (form.NotInitializedAt node) = model.NotInitializedAt node
+line_of form.NoSuchMessage = model.NoSuchMessage
 line_of form.BadLabel = model.BadLabel
 line_of form.FileNotFound = model.FileNotFound
 line_of form.FileExists = model.FileExists
@@ -63,6 +80,9 @@ line_of form.BadOperation = model.BadOperation
 line_of form.BadRecordNumber = model.BadRecordNumber
 line_of form.BadRecordSize = model.BadRecordSize
 line_of form.NoSuchTransaction = model.NoSuchTransaction
+line_of form.NoSuchBranchId = model.NoSuchBranchId
+line_of form.WrongState = model.WrongState
+line_of (form.InDoubt serial node) = model.InDoubt (serial_of serial) node
 line_of form.NotMarked = model.NotMarked
 line_of form.NeedsUnit = model.NeedsUnit
 line_of (form.RecordLocked serial) = model.RecordLocked (serial_of serial)

@@ -179,7 +179,7 @@ impl<'a, K: Sink> SinkEmit<'a, K> {
     }
 
     // Puts bytes behind what was put.
-    fn put(&mut self, bytes: &[u8])
+    pub(crate) fn put(&mut self, bytes: &[u8])
         ensures same_sink { self.new.sink.ghost_name ≡ self.old.sink.ghost_name }
         ensures number { self.new.number ≡ self.old.number }
         ensures appends { Appends (kept_by K.shown K.faults self.old) bytes.now (kept_by K.shown K.faults self.new) }
@@ -194,7 +194,7 @@ impl<'a, K: Sink> SinkEmit<'a, K> {
         self.write_out(bytes);
     }
 
-    fn put_number(&mut self, n: u64)
+    pub(crate) fn put_number(&mut self, n: u64)
         ensures same_sink { self.new.sink.ghost_name ≡ self.old.sink.ghost_name }
         ensures number { self.new.number ≡ self.old.number }
         ensures appends { Appends (kept_by K.shown K.faults self.old) (decimal n) (kept_by K.shown K.faults self.new) }
@@ -219,7 +219,7 @@ impl<'a, K: Sink> SinkEmit<'a, K> {
         }
     }
 
-    fn put_id(&mut self, id: &Id)
+    pub(crate) fn put_id(&mut self, id: &Id)
         ensures same_sink { self.new.sink.ghost_name ≡ self.old.sink.ghost_name }
         ensures number { self.new.number ≡ self.old.number }
         ensures appends { Appends (kept_by K.shown K.faults self.old) (id_text (id_of id.now)) (kept_by K.shown K.faults self.new) }
@@ -279,6 +279,8 @@ impl<'a, K: Sink> SinkEmit<'a, K> {
             Quota::Moments => self.put(b"MOMENTS"),
             Quota::Locks => self.put(b"LOCKS"),
             Quota::Positions => self.put(b"POSITIONS"),
+            Quota::Slots => self.put(b"SLOTS"),
+            Quota::Bids => self.put(b"BIDS"),
         }
     }
 
@@ -410,7 +412,7 @@ impl<'a, K: Sink> SinkEmit<'a, K> {
         }
     }
 
-    fn put_outcome(&mut self, outcome: Outcome)
+    pub(crate) fn put_outcome(&mut self, outcome: Outcome)
         ensures same_sink { self.new.sink.ghost_name ≡ self.old.sink.ghost_name }
         ensures number { self.new.number ≡ self.old.number }
         ensures appends { Appends (kept_by K.shown K.faults self.old) (outcome_text (outcome_of outcome)) (kept_by K.shown K.faults self.new) }
@@ -571,6 +573,16 @@ impl<'a, K: Sink> SinkEmit<'a, K> {
         ensures appends { Appends (kept_by K.shown K.faults self.old) (line_words (line_of form.now)) (kept_by K.shown K.faults self.new) }
     {
         match form {
+            Form::Sent(number, message) => self.put_sent(*number, message),
+            Form::Unsent(message) => self.put_unsent(message),
+            Form::Joined(tid, serial) => self.put_with_branch(b"JOINED ", tid, serial),
+            Form::Started(tid, serial) => self.put_with_branch(b"STARTED ", tid, serial),
+            Form::Prepared(tid, serial) => self.put_with_branch(b"PREPARED ", tid, serial),
+            Form::ReadOnly(tid, serial) => self.put_with_branch(b"READONLY ", tid, serial),
+            Form::Ended(tid, reason) => self.put_ended(tid, *reason),
+            Form::Forgot(tid, serial) => self.put_with_branch(b"FORGOT ", tid, serial),
+            Form::Asked(tid, serial, outcome) => self.put_asked(tid, serial, *outcome),
+            Form::Booted(node, boot) => self.put_booted(node, *boot),
             Form::Record(key, record) => self.put_record(key, record),
             Form::Committed(tid, serial, moment) => self.put_committed(tid, serial, *moment),
             Form::Aborted(tid, serial, reason, moment) => {
@@ -597,6 +609,8 @@ impl<'a, K: Sink> SinkEmit<'a, K> {
             Form::NormalCount(n) => self.put_with_number(b"SS$_NORMAL ", *n),
             Form::NormalId(id) => self.put_with_id(b"SS$_NORMAL ", id),
             Form::NormalSpan(first, end) => self.put_with_numbers(b"SS$_NORMAL ", *first, *end),
+            Form::Pending(serials) => self.put_pending(serials),
+            Form::TransactionAborted(reason) => self.put_transaction_aborted(*reason),
             Form::RecordNormal => self.put(b"RMS$_NORMAL"),
             Form::RecordPosition(position) => self.put_position(*position),
             Form::RecordFound(record) => self.put_found(record),
@@ -606,6 +620,8 @@ impl<'a, K: Sink> SinkEmit<'a, K> {
             Form::NodeUp => self.put(b"NODEUP"),
             Form::VolumeInUse => self.put(b"VOLINUSE"),
             Form::NotInitialized => self.put(b"NOINIT"),
+            Form::NotInitializedAt(node) => self.put_not_initialized_at(node),
+            Form::NoSuchMessage => self.put(b"NOSUCHMSG"),
             Form::BadLabel => self.put(b"LABEL"),
             Form::FileNotFound => self.put(b"RMS$_FNF"),
             Form::FileExists => self.put(b"RMS$_FEX"),
@@ -614,6 +630,9 @@ impl<'a, K: Sink> SinkEmit<'a, K> {
             Form::BadRecordNumber => self.put(b"RMS$_MRN"),
             Form::BadRecordSize => self.put(b"RMS$_RSZ"),
             Form::NoSuchTransaction => self.put(b"SS$_NOSUCHTID"),
+            Form::NoSuchBranchId => self.put(b"SS$_NOSUCHBID"),
+            Form::WrongState => self.put(b"SS$_WRONGSTATE"),
+            Form::InDoubt(serial, node) => self.put_in_doubt(serial, node),
             Form::NotMarked => self.put(b"NOTRU"),
             Form::NeedsUnit => self.put(b"RMS$_NRU"),
             Form::RecordLocked(serial) => self.put_with_id(b"RMS$_RLK ", &serial.0),

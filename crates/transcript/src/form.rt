@@ -1,4 +1,5 @@
 //! What the lines of a transcript show.
+use net_wire::Message;
 use vms_base::{FileName, Id, Key, Moment, NodeName, Outcome, Reason, Record, Serial, Tid};
 
 /// Why a node went down in a statement that its disk did not serve.
@@ -27,11 +28,34 @@ pub enum Quota {
     Locks,
     /// Positions of a journal, of which its end is one.
     Positions,
+    /// Places for records in the log of a volume.
+    Slots,
+    /// Branches that a transaction may have besides its first.
+    Bids,
 }
 
 /// What one line shows: an event, or the answer of a statement.
 #[derive(Clone, Copy)]
 pub enum Form<'a> {
+    /// A message, with its number.
+    Sent(u32, &'a Message),
+    /// A message that got no number, for as many were kept as may be.
+    Unsent(&'a Message),
+    /// A branch was taken into its transaction.
+    Joined(Tid, Serial),
+    /// A branch learned that it was.
+    Started(Tid, Serial),
+    Prepared(Tid, Serial),
+    /// A branch that changed nothing has voted, and is gone.
+    ReadOnly(Tid, Serial),
+    /// A transaction whose END_TRANS waited has ended: it was committed, or aborted for this reason.
+    Ended(Tid, Option<Reason>),
+    /// All who had to hear of a commit have.
+    Forgot(Tid, Serial),
+    /// A prepared branch has asked, and was told this.
+    Asked(Tid, Serial, Outcome),
+    /// A node came up in a settling, by this boot.
+    Booted(NodeName, u32),
     Record(Key, &'a Record),
     Committed(Tid, Serial, Moment),
     Aborted(Tid, Serial, Reason, Moment),
@@ -52,6 +76,9 @@ pub enum Form<'a> {
     NormalId(Id),
     /// The positions at which a journal begins and ends.
     NormalSpan(u64, u64),
+    /// The branches whose answers are missing.
+    Pending(&'a [Serial]),
+    TransactionAborted(Reason),
     RecordNormal,
     /// The position at which a record was put.
     RecordPosition(u32),
@@ -63,6 +90,9 @@ pub enum Form<'a> {
     NodeUp,
     VolumeInUse,
     NotInitialized,
+    /// A settling met this node, of which an INIT failed.
+    NotInitializedAt(NodeName),
+    NoSuchMessage,
     BadLabel,
     FileNotFound,
     FileExists,
@@ -71,6 +101,10 @@ pub enum Form<'a> {
     BadRecordNumber,
     BadRecordSize,
     NoSuchTransaction,
+    NoSuchBranchId,
+    WrongState,
+    /// A prepared branch whose coordinator's node is not in the rack.
+    InDoubt(Serial, NodeName),
     NotMarked,
     /// A change without a branch is asked for, of a file that is marked for recovery units.
     NeedsUnit,

@@ -2,6 +2,7 @@
 #![tactic(auto)]
 
 mod adapters;
+mod branch_lines;
 mod emit;
 mod form;
 mod lines;

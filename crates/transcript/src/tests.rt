@@ -2,10 +2,11 @@ use crate::{
     Cause, Emit, Form, LineReader, MemSink, MemSource, Next, Quota, ReaderSource, Sink, SinkEmit,
     Source, WriterSink,
 };
+use net_wire::Message;
 use std::io::{self, Read};
 use std::test::Fail;
 use vms_base::{
-    FileName, Id, Key, KeyText, Moment, NodeName, Outcome, Reason, Record, Serial, Tid,
+    Bid, FileName, Id, Key, KeyText, Kind, Moment, NodeName, Outcome, Reason, Record, Serial, Tid,
 };
 
 // Gives at most so many bytes at a time.
@@ -145,6 +146,18 @@ fn id(seq: u32) -> Result<Id, Fail> {
     Ok(Id { node, boot: 1, seq })
 }
 
+// A message by which a branch joins.
+fn joining() -> Result<Message, Fail> {
+    Ok(Message {
+        kind: Kind::Join,
+        from: NodeName::new(b"b").ok_or("a name")?,
+        to: NodeName::new(b"a").ok_or("a name")?,
+        tid: Tid(id(1)?),
+        serial: Serial(id(2)?),
+        bid: Some(Bid(id(3)?)),
+    })
+}
+
 #[test]
 fn lines_have_their_bytes(rt: HostRuntime) -> Result<(), Fail> {
     let mut bytes = Vec::new(rt.alloc());
@@ -152,6 +165,9 @@ fn lines_have_their_bytes(rt: HostRuntime) -> Result<(), Fail> {
         let mut sink = WriterSink::new(&mut bytes);
         let mut out = SinkEmit::new(rt.alloc(), &mut sink)?;
         let mut record = Record::reserve(rt.alloc())?;
+        let mut message = joining()?;
+        message.kind = Kind::JoinOk;
+        message.bid = None;
         let node = NodeName::new(b"a").ok_or("a name")?;
         let (tid, serial) = (Tid(id(1)?), Serial(id(2)?));
         let text = KeyText::new(b"aa").ok_or("a key")?;
@@ -181,6 +197,7 @@ fn lines_have_their_bytes(rt: HostRuntime) -> Result<(), Fail> {
         out.emit(&Form::RecordFound(&record));
         out.emit(&Form::NextFound(Key::Number(9), &record));
         out.emit(&Form::NextFound(Key::Text(text), &record));
+        out.emit(&Form::Unsent(&message));
         out.emit(&Form::BadLine(4));
         out.usage();
     }
@@ -205,8 +222,78 @@ fn lines_have_their_bytes(rt: HostRuntime) -> Result<(), Fail> {
 12 RMS$_NORMAL \"w\"\n\
 12 RMS$_NORMAL 9 \"w\"\n\
 12 RMS$_NORMAL \"aa\" \"w\"\n\
+12 UNSENT B A JOINOK A.1.1 A.1.2\n\
 12 BADLINE 4\n\
 usage: dtm RUN NODE=IMAGE ... or dtm MAKE n start\n";
+    assert_eq!(rt; bytes.as_slice(), want.as_slice());
+    Ok(())
+}
+
+#[test]
+fn lines_of_several_nodes_have_their_bytes(rt: HostRuntime) -> Result<(), Fail> {
+    let mut bytes = Vec::new(rt.alloc());
+    {
+        let mut sink = WriterSink::new(&mut bytes);
+        let mut out = SinkEmit::new(rt.alloc(), &mut sink)?;
+        let node = NodeName::new(b"a").ok_or("a name")?;
+        let (tid, serial) = (Tid(id(1)?), Serial(id(2)?));
+        let mut message = joining()?;
+        let record = Record::reserve(rt.alloc())?;
+        out.at(11);
+        out.emit(&Form::Sent(1, &message));
+        message.kind = Kind::JoinOk;
+        message.bid = None;
+        out.emit(&Form::Sent(1_000_000, &message));
+        message.kind = Kind::ReadOnly;
+        out.emit(&Form::Unsent(&message));
+        out.emit(&Form::Joined(tid, serial));
+        out.emit(&Form::Started(tid, serial));
+        out.emit(&Form::Prepared(tid, serial));
+        out.emit(&Form::ReadOnly(tid, serial));
+        out.emit(&Form::Ended(tid, None));
+        out.emit(&Form::Ended(tid, Some(Reason::Vetoed)));
+        out.emit(&Form::Forgot(tid, serial));
+        out.emit(&Form::Asked(tid, serial, Outcome::Commit));
+        out.emit(&Form::Asked(tid, serial, Outcome::Abort));
+        out.emit(&Form::Booted(node, 2));
+        out.emit(&Form::Pending(&[]));
+        out.emit(&Form::Pending(&[serial]));
+        out.emit(&Form::Pending(&[serial, Serial(tid.0), serial]));
+        out.emit(&Form::TransactionAborted(Reason::SyncFail));
+        out.emit(&Form::NotInitializedAt(node));
+        out.emit(&Form::NoSuchMessage);
+        out.emit(&Form::NoSuchBranchId);
+        out.emit(&Form::WrongState);
+        out.emit(&Form::InDoubt(serial, node));
+        out.emit(&Form::QuotaExceeded(Quota::Slots, 128));
+        out.emit(&Form::QuotaExceeded(Quota::Bids, 15));
+        out.emit(&Form::Record(Key::Number(4), &record));
+    }
+    let want = b"11 SENT 1 B A JOIN A.1.1 A.1.2 A.1.3\n\
+11 SENT 1000000 B A JOINOK A.1.1 A.1.2\n\
+11 UNSENT B A READONLY A.1.1 A.1.2\n\
+11 JOINED A.1.1 A.1.2\n\
+11 STARTED A.1.1 A.1.2\n\
+11 PREPARED A.1.1 A.1.2\n\
+11 READONLY A.1.1 A.1.2\n\
+11 ENDED A.1.1 SS$_NORMAL\n\
+11 ENDED A.1.1 SS$_ABORT DDTM$_VETOED\n\
+11 FORGOT A.1.1 A.1.2\n\
+11 ASKED A.1.1 A.1.2 COMMIT\n\
+11 ASKED A.1.1 A.1.2 ABORT\n\
+11 BOOTED A 2\n\
+11 PENDING -\n\
+11 PENDING A.1.2\n\
+11 PENDING A.1.2,A.1.1,A.1.2\n\
+11 SS$_ABORT DDTM$_SYNC_FAIL\n\
+11 NOINIT A\n\
+11 NOSUCHMSG\n\
+11 SS$_NOSUCHBID\n\
+11 SS$_WRONGSTATE\n\
+11 INDOUBT A.1.2 A\n\
+11 SS$_EXQUOTA SLOTS 128\n\
+11 SS$_EXQUOTA BIDS 15\n\
+11 RECORD 4 \"\"\n";
     assert_eq!(rt; bytes.as_slice(), want.as_slice());
     Ok(())
 }
@@ -218,6 +305,9 @@ fn refusals_and_a_record_without_bytes_have_their_bytes(rt: HostRuntime) -> Resu
         let mut sink = WriterSink::new(&mut bytes);
         let mut out = SinkEmit::new(rt.alloc(), &mut sink)?;
         let mut record = Record::reserve(rt.alloc())?;
+        let mut message = joining()?;
+        message.kind = Kind::JoinOk;
+        message.bid = None;
         let node = NodeName::new(b"a").ok_or("a name")?;
         let text = KeyText::new(b"aa").ok_or("a key")?;
         out.at(1);
@@ -262,6 +352,7 @@ fn refusals_and_a_record_without_bytes_have_their_bytes(rt: HostRuntime) -> Resu
         out.emit(&Form::TooLong);
         record.set(b"aa1");
         out.emit(&Form::Record(Key::Text(text), &record));
+        out.emit(&Form::Unsent(&message));
     }
     let want = b"1 RECORD 4 \"\"\n\
 1 NODEUP\n\
@@ -302,7 +393,8 @@ fn refusals_and_a_record_without_bytes_have_their_bytes(rt: HostRuntime) -> Resu
 1 FAULT\n\
 1 STOPPED\n\
 1 TOOLONG\n\
-1 RECORD \"aa\" \"aa1\"\n";
+1 RECORD \"aa\" \"aa1\"\n\
+1 UNSENT B A JOINOK A.1.1 A.1.2\n";
     assert_eq!(rt; bytes.as_slice(), want.as_slice());
     Ok(())
 }

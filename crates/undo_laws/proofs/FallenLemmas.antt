@@ -1,12 +1,13 @@
 -- What a node that falls leaves of a volume in which a branch is undone.
-use Rattle.std.proofs.Common.{◌≡◌, ℕ, List, Option, None, sym, subst, inl}
+use Rattle.std.proofs.Common.{◌≡◌, ℕ, List, Option, None, refl, sym, subst, inl, arith}
 use Rattle.block_disk.specs.Disk.{DiskState}
 use Rattle.careful_write.specs.State.{Leaves}
-use Rattle.run_model.specs.World.{Node, Act, Volume, Sound, Faulty, Unknown, AreUnitsOf, fallen}
+use Rattle.run_model.specs.World.{Node, Act, Volume, Sound, Faulty, Barred, Unknown, AreUnitsOf, fallen}
 use Rattle.volume.specs.declared.catalog.Catalog.{Catalog}
 use Rattle.volume_format.specs.declared.home.Home.{Home}
 use Rattle.volume_model.specs.Homes.{HasHome}
-use Rattle.volume_model.specs.Volumes.{FailsFirst, HasDisk, LeavesVolume, IsEitherOf}
+use Rattle.volume_model.specs.Volumes.{BarsBoots, FailsFirst, HasDisk, LeavesVolume, IsEitherOf}
+use Rattle.volume_laws.proofs.ToldLemmas.{logs_follow}
 use Rattle.undo_laws.specs.Undone.{UndosFail}
 use Rattle.undo_laws.proofs.WayLemmas.{left_on_the_way}
 
@@ -19,16 +20,19 @@ units_fall n act are = record { tells = are.tells; marked = λ up. let never : �
 abbrev pub volume_left_fallen : (a : List (List ℕ)) (k : Catalog) (n : Node) (act : Option Act) → LeavesVolume a k n → LeavesVolume a k (fallen act n)
 volume_left_fallen a k n act left = record {
   home = home_falls k.home n act left.home;
+  log = record { keeps = left.log.keeps; whole = left.log.whole };
   journal = record { entries = left.journal.entries; is = left.journal.is; alike = left.journal.alike; first = left.journal.first; end = left.journal.end; low = left.journal.low };
   units = units_fall n act left.units;
   order = left.order;
-  active = left.active;
+  told = logs_follow.told n (fallen act n) left.told refl (omega arith) refl refl;
   files = left.files;
+  prepared = left.prepared;
 }
 
 abbrev disk_with : Node → DiskState → Volume → Type 0
 disk_with m d Sound = Leaves (IsEitherOf m) d
 disk_with m d (Faulty condition block) = FailsFirst m.name condition block d × (m.under_way ≡ None)
+disk_with m d (Barred bar) = BarsBoots m.name m.blocks bar d × (m.under_way ≡ None)
 disk_with m d Unknown = Unit {0}
 
 disk_is : (m : Node) (d : DiskState) (x : Volume) → x ≡ Sound → Leaves (IsEitherOf m) d → disk_with m d x
@@ -37,11 +41,12 @@ disk_is m d x is leaves = subst (disk_with m d) (sym is) leaves
 pub has_disk : (m : Node) (d : DiskState) → m.durable.volume ≡ Sound → Leaves (IsEitherOf m) d → HasDisk m d
 has_disk m d is leaves = go m.durable.volume (disk_is m d m.durable.volume is leaves)
   where
-    go : (x : Volume) → disk_with m d x → elim x as (λ _. Type 0) [ Sound ↦ Leaves (IsEitherOf m) d | Faulty condition block ↦ FailsFirst m.name condition block d × (m.under_way ≡ None) | Unknown ↦ Unit {0} ]
+    go : (x : Volume) → disk_with m d x → elim x as (λ _. Type 0) [ Sound ↦ Leaves (IsEitherOf m) d | Faulty condition block ↦ FailsFirst m.name condition block d × (m.under_way ≡ None) | Barred bar ↦ BarsBoots m.name m.blocks bar d × (m.under_way ≡ None) | Unknown ↦ Unit {0} ]
     go Sound is = is
     go (Faulty condition block) is = is
+    go (Barred bar) is = is
     go Unknown is = is
 
 pub undos_fail : UndosFail
-undos_fail a k n act left sound size d leaves =
-    has_disk (fallen act n) d left.home.volume (λ image may. let l = leaves image may in (l.0, inl (left_on_the_way a k (fallen act n) (volume_left_fallen a k n act left) sound size _ l.1)))
+undos_fail serial a k n act left ways sound size d leaves =
+    has_disk (fallen act n) d left.home.volume (λ image may. let l = leaves image may in (l.0, inl (left_on_the_way serial a k (fallen act n) (volume_left_fallen a k n act left) ways sound size _ l.1)))

@@ -5,3 +5,4 @@ pub mod WayLemmas
 pub mod SettledLemmas
 pub mod FallenLemmas
 pub mod AbortLemmas
+pub mod HalfLemmas

@@ -18,7 +18,7 @@ use Rattle.unit_laws.specs.Journal.{JournalEntry, ChangeEntry, PreparedEntry, Se
 use Rattle.unit_laws.proofs.Tests.{or_either}
 use Rattle.unit_laws.specs.Units.{is_of}
 use Rattle.run_model.specs.World.{File, Organization, find_file}
-use Rattle.run_model.specs.Ordered.{IsKeyOf, Suits}
+use Rattle.world_laws.specs.Ordered.{IsKeyOf, Suits}
 use Rattle.directory_model.specs.Files.{head_at, organized_by}
 use Rattle.volume_model.specs.Entries.{AreEntries, IsFileOf, entry_for, key_bytes}
 use Rattle.unit_entries.specs.Keys.{key_by, key_in}

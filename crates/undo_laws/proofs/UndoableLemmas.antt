@@ -13,12 +13,12 @@ use Rattle.vms_model.specs.Keys.{Key, Number, Text, End}
 use Rattle.records_model.specs.History.{LiveChanges, same_id, changes_by, changes_key}
 use Rattle.records_model.specs.Records.{Change}
 use Rattle.unit_laws.proofs.Tests.{never}
-use Rattle.run_model.proofs.IdLemmas.{id_is}
+use Rattle.unit_laws.proofs.LiveLemmas.{id_is}
 use Rattle.unit_laws.specs.Journal.{Journal, note_of}
 use Rattle.unit_laws.specs.JournalLaws.{is_unit}
 use Rattle.unit_laws.specs.Units.{OneMovesEnd}
 use Rattle.run_model.specs.World.{Node, File, Organization, Sequential, OneMovesEndOf, find_file}
-use Rattle.run_model.specs.Ordered.{IsKeyOf}
+use Rattle.world_laws.specs.Ordered.{IsKeyOf}
 use Rattle.volume.specs.State.{VolumeState, Holds}
 use Rattle.directory_model.specs.Files.{head_at, file_at, organized_by}
 use Rattle.directory_model.specs.Restoring.{IsLeft, IsPlaceLeft}

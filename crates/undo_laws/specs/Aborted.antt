@@ -1,30 +1,35 @@
 -- A branch of a node is aborted on its volume.
 use Rattle.std.specs.Prelude.{◌≡◌, ℕ, ◌+◌, List, Option, Some, length}
 use Rattle.careful_write.specs.State.{IsEither, Leaves, content}
-use Rattle.vms_model.specs.Transactions.{Abort}
 use Rattle.vms_base.specs.declared.ids.Serial.{Serial}
 use Rattle.vms_base.specs.declared.ids.Tid.{Tid}
-use Rattle.run_model.specs.World.{Node, Act, Settlement, Settles, acted, fallen}
+use Rattle.vms_model.specs.Transactions.{Abort, Reason}
+use Rattle.commit_protocol.specs.Messages.{LogRecord}
+use Rattle.commit_protocol.specs.Table as table
+use Rattle.commit_protocol.specs.Table.{Key, Settles}
+use Rattle.run_model.specs.World.{Node, Act, Settlement, Tables, acted, fallen}
+use Rattle.volume.specs.declared.catalog.Catalog.{Catalog}
 use Rattle.volume.specs.Catalogs.{IsSound}
 use Rattle.volume.specs.State.{VolumeState, Holds}
 use Rattle.volume_format.specs.declared.home.Ending.{Ending}
-use Rattle.volume_model.specs.Volumes.{HasDisk, HasVolume, LeavesVolume}
+use Rattle.volume_model.specs.Volumes.{HasDisk, HasVolume, IsEitherOf, LeavesVolume}
 use Rattle.unit_table.specs.Units.{OpenUnit}
 use Rattle.unit_undo.specs.Undoing.{GoesOn}
-use Rattle.unit_undo.specs.Way.{Undoes, FailsOnTheWay}
-use Rattle.settlement_laws.specs.Settled.{Makes, MaySettle}
+use Rattle.unit_undo.specs.Way.{Undoes, FailsOnTheWay, IsOnTheWay}
+use Rattle.settlement_laws.specs.Settled.{Makes}
 use Rattle.undo_laws.specs.Undoable.{positions_for}
+use Rattle.undo_laws.specs.Undone.{IsAbort, WaysKeepPrepared}
 
--- The volume of a node that tells this content, on which a branch may be aborted so.
-pub record MayAbort (n : Node) (s : Settlement) (a : List (List ℕ)) (v : VolumeState) : Type 0 where
+-- The volume of a node that tells this content, on which an act of the table may abort a branch so, whose record is not in the log.
+pub record MayAbort (n : Node) (act : table.Act) (moment : ℕ) (s : Settlement) (a : List (List ℕ)) (v : VolumeState) : Type 0 where
   pub told : v.store.current ≡ Some a
   pub holds : Holds v
   pub sound : IsSound n.name n.blocks v.catalog
   pub long : length v.catalog.heads ≡ 64
   pub size : length a + 518 ≡ n.blocks
   pub disk : v.store.disk.size ≡ n.blocks
-  pub abort : s.outcome ≡ Abort
-  pub may : MaySettle n s
+  pub is : IsAbort n act moment s
+  pub log : (acted (Tables act moment) n).durable.log ≡ n.durable.log
 
 -- What the branch changed was set back in the volume, from these positions of the journal, and its settlement was made of that.
 pub record IsAborted (n : Node) (s : Settlement) (tid : Tid) (serial : Serial) (ending : Ending) (left : List (Option OpenUnit)) (ps : List ℕ) (v mid w : VolumeState) : Type 0 where
@@ -34,16 +39,22 @@ pub record IsAborted (n : Node) (s : Settlement) (tid : Tid) (serial : Serial) (
 
 -- Then it is the volume of the node after the settlement: of one that is up, and of one that fell.
 pub record AbortsSettle : Type 0 where
-  pub has : (a c : List (List ℕ)) (n : Node) (s : Settlement) (tid : Tid) (serial : Serial) (ending : Ending) (left : List (Option OpenUnit)) (v mid w : VolumeState) (has : HasVolume a v.catalog n) → MayAbort n s a v →
-      IsAborted n s tid serial ending left (positions_for n s.serial v.catalog has.journal.entries) v mid w → w.store.current ≡ Some c → HasVolume c w.catalog (acted (Settles s) n)
-  pub leaves : (a c : List (List ℕ)) (n : Node) (s : Settlement) (tid : Tid) (serial : Serial) (ending : Ending) (left : List (Option OpenUnit)) (v mid w : VolumeState) (fell : LeavesVolume a v.catalog n) → MayAbort n s a v →
-      IsAborted n s tid serial ending left (positions_for n s.serial v.catalog fell.journal.entries) v mid w → w.store.current ≡ Some c → LeavesVolume c w.catalog (acted (Settles s) n)
+  pub has : (a c : List (List ℕ)) (n : Node) (act : table.Act) (moment : ℕ) (s : Settlement) (tid : Tid) (serial : Serial) (ending : Ending) (left : List (Option OpenUnit)) (v mid w : VolumeState) (has : HasVolume a v.catalog n) →
+      MayAbort n act moment s a v → IsAborted n s tid serial ending left (positions_for n s.serial v.catalog has.journal.entries) v mid w → w.store.current ≡ Some c → HasVolume c w.catalog (acted (Tables act moment) n)
+  pub leaves : (a c : List (List ℕ)) (n : Node) (act : table.Act) (moment : ℕ) (s : Settlement) (tid : Tid) (serial : Serial) (ending : Ending) (left : List (Option OpenUnit)) (v mid w : VolumeState) (fell : LeavesVolume a v.catalog n) →
+      MayAbort n act moment s a v → IsAborted n s tid serial ending left (positions_for n s.serial v.catalog fell.journal.entries) v mid w → w.store.current ≡ Some c → LeavesVolume c w.catalog (acted (Tables act moment) n)
 
 -- Where the disk goes down, it has what the node leaves that falls: on the way of the undo, and in the last group.
 pub record AbortsFail : Type 0 where
-  pub undo : (a : List (List ℕ)) (n : Node) (s : Settlement) (act : Option Act) (v w : VolumeState) (fell : LeavesVolume a v.catalog n) → MayAbort n s a v → FailsOnTheWay (positions_for n s.serial v.catalog fell.journal.entries) v w →
-      HasDisk (fallen act n) w.store.disk
-  pub before : (a : List (List ℕ)) (n : Node) (s : Settlement) (act : Option Act) (v mid w : VolumeState) (fell : LeavesVolume a v.catalog n) → MayAbort n s a v → GoesOn v mid →
-      Undoes (positions_for n s.serial v.catalog fell.journal.entries) v mid → Leaves (λ c. Some c ≡ content mid.store) w.store.disk → HasDisk (fallen act n) w.store.disk
-  pub last : (a : List (List ℕ)) (n : Node) (s : Settlement) (tid : Tid) (serial : Serial) (ending : Ending) (left : List (Option OpenUnit)) (v mid made w : VolumeState) (fell : LeavesVolume a v.catalog n) → MayAbort n s a v →
-      IsAborted n s tid serial ending left (positions_for n s.serial v.catalog fell.journal.entries) v mid made → Leaves (IsEither (content mid.store) made.store.current) w.store.disk → HasDisk (fallen (Some (Settles s)) n) w.store.disk
+  pub undo : (a : List (List ℕ)) (n : Node) (act : table.Act) (moment : ℕ) (s : Settlement) (under_way : Option Act) (v w : VolumeState) (fell : LeavesVolume a v.catalog n) → WaysKeepPrepared s.serial a v.catalog n → MayAbort n act moment s a v →
+      FailsOnTheWay (positions_for n s.serial v.catalog fell.journal.entries) v w → HasDisk (fallen under_way n) w.store.disk
+  pub before : (a : List (List ℕ)) (n : Node) (act : table.Act) (moment : ℕ) (s : Settlement) (under_way : Option Act) (v mid w : VolumeState) (fell : LeavesVolume a v.catalog n) → WaysKeepPrepared s.serial a v.catalog n → MayAbort n act moment s a v → GoesOn v mid →
+      Undoes (positions_for n s.serial v.catalog fell.journal.entries) v mid → Leaves (λ c. Some c ≡ content mid.store) w.store.disk → HasDisk (fallen under_way n) w.store.disk
+  pub last : (a : List (List ℕ)) (n : Node) (act : table.Act) (moment : ℕ) (s : Settlement) (tid : Tid) (serial : Serial) (ending : Ending) (left : List (Option OpenUnit)) (v mid made w : VolumeState) (fell : LeavesVolume a v.catalog n) →
+      WaysKeepPrepared s.serial a v.catalog n → MayAbort n act moment s a v → IsAborted n s tid serial ending left (positions_for n s.serial v.catalog fell.journal.entries) v mid made → Leaves (IsEither (content mid.store) made.store.current) w.store.disk →
+      HasDisk (fallen (Some (Tables act moment)) n) w.store.disk
+
+-- A content on the way of the undo of an abort, whose branch may be prepared, is one of those that the node leaves that falls in it.
+abbrev pub AbortsLeave : Type 0
+AbortsLeave = (a : List (List ℕ)) (k : Catalog) (n : Node) (key : Key) (reason : Reason) (r : Option LogRecord) (moment : ℕ) → HasVolume a k n → IsSound n.name n.blocks k → length a + 518 ≡ n.blocks → (c : List (List ℕ)) →
+    IsOnTheWay key.serial a k.heads n.durable.directory k c → IsEitherOf (fallen (Some (Tables (Settles key Abort reason r) moment)) n) c

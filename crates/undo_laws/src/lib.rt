@@ -5,20 +5,22 @@
 //! those of a whole abort.
 #![tactic(auto)]
 
-ghost use Rattle.undo_laws.specs.Aborted.{AbortsFail, AbortsSettle};
+ghost use Rattle.undo_laws.specs.Aborted.{AbortsFail, AbortsLeave, AbortsSettle};
 ghost use Rattle.undo_laws.specs.Undoable.{UnitsAreUndoable};
-ghost use Rattle.undo_laws.specs.Undone.{UndosFail, UndosKeepJournal, UndosLeave, UndoneSettle};
+ghost use Rattle.undo_laws.specs.Undone.{UndoneSettle, UndosFail, UndosKeepJournal, UndosLeave, WaysKeepOthers};
 
 /// A branch can be undone from its entries in the journal of a volume; one that is no unit there changed nothing.
 pub fn units_are_undoable()
     ensures { UnitsAreUndoable }
 {}
 
-/// What is left where the disk goes down on the way of an undo is what the node leaves; at its end the journal is as it was.
+/// What is left where the disk goes down on the way of an undo is what the node leaves, if what prepared branches changed stands there; so it does where the branch
+/// is none of them. At its end the journal is as it was.
 pub fn undos_leave_volumes()
     ensures leaves { UndosLeave }
     ensures fails { UndosFail }
     ensures journal { UndosKeepJournal }
+    ensures others { WaysKeepOthers }
 {}
 
 /// The volume in which a branch was undone whole, and then settled, is that of the node after the settlement.
@@ -26,8 +28,10 @@ pub fn undone_units_are_settled()
     ensures { UndoneSettle }
 {}
 
-/// The volume on which a branch was aborted is that of the node after the settlement. Where the disk goes down meanwhile, it has what the node leaves that falls.
+/// The volume on which a branch was aborted is that of the node after the settlement. Where the disk goes down meanwhile, it has what the node leaves that falls; of a
+/// prepared branch that is any part of the abort.
 pub fn aborts_are_settlements()
     ensures settle { AbortsSettle }
     ensures fail { AbortsFail }
+    ensures leave { AbortsLeave }
 {}

@@ -15,12 +15,12 @@ use Rattle.journal_model.specs.Entries.{Entry}
 use Rattle.journal_model.specs.Ring.{IsJournal, ring_size}
 use Rattle.journal_store.specs.Rings.{IsRing}
 use Rattle.ru_journal.specs.Told.{UnitTold}
-use Rattle.unit_entries.specs.Opening.{AreAlike, AreChangesIn, BeginWithin, IsAlike}
+use Rattle.unit_entries.specs.Opening.{AreAlike, AreChangesIn, AscendWithin, BeginWithin, IsAlike}
 use Rattle.unit_entries.specs.Reading.{placed, positions_of}
 use Rattle.unit_entries.proofs.OpenLemmas.{all_less, first_holds}
 use Rattle.unit_journal.specs.Settling.{MakesSettlement, content_with, from_earliest, next_moment, settled_home, span_with, starting, with_front}
 use Rattle.unit_table.specs.Places.{AreInOrder}
-use Rattle.unit_table.specs.Units.{OpenUnit, Units, begun, earlier, earliest, first_of, first_that, is_active, unit_at, without_first, without_place}
+use Rattle.unit_table.specs.Units.{Ascend, OpenUnit, Units, begun, earlier, earliest, first_of, first_that, is_active, unit_at, without_first, without_place}
 use Rattle.unit_table.proofs.BegunLemmas.{earliest_in, earliest_seen}
 use Rattle.unit_table.proofs.OrderLemmas.{gone_in_order}
 use Rattle.vms_base.specs.declared.ids.Serial.{Serial}
@@ -88,6 +88,45 @@ AreWithin from to us = AllByRecursion (λ (u : OpenUnit). All (λ p. (from ≤ p
 earliest_within : (from to : ℕ) (us : List OpenUnit) → AreWithin from to us → IsWithin from to (earliest (map Some us))
 earliest_within from to [] all = tt
 earliest_within from to (u ∷ us) all = earlier_within from to (first_of u.positions) (earliest (map Some us)) (first_within from to u.positions all.0) (earliest_within from to us all.1)
+
+-- No change begins before the earliest.
+
+abbrev IsLeastOf : Option ℕ → List ℕ → Type 0
+IsLeastOf o [] = Unit {0}
+IsLeastOf None (p ∷ ps) = ⊥
+IsLeastOf (Some n) (p ∷ ps) = n ≤ p
+
+least_self : (o : Option ℕ) (ps : List ℕ) → IsLeastOf (earlier (first_of ps) o) ps
+least_self o [] = tt
+least_self None (p ∷ ps) = omega arith
+least_self (Some n) (p ∷ ps) = omega arith
+
+least_more : (a o : Option ℕ) (ps : List ℕ) → IsLeastOf o ps → IsLeastOf (earlier a o) ps
+least_more a o [] is = tt
+least_more a None (p ∷ ps) is = absurd is
+least_more None (Some n) (p ∷ ps) is = is
+least_more (Some m) (Some n) (p ∷ ps) is = omega (arith, is)
+
+all_more : (a o : Option ℕ) (us : List OpenUnit) → AllByRecursion (λ (u : OpenUnit). IsLeastOf o u.positions) us → AllByRecursion (λ (u : OpenUnit). IsLeastOf (earlier a o) u.positions) us
+all_more a o [] all = tt
+all_more a o (u ∷ us) all = (least_more a o u.positions all.0, all_more a o us all.1)
+
+earliest_least : (us : List OpenUnit) → AllByRecursion (λ (u : OpenUnit). IsLeastOf (earliest (map Some us)) u.positions) us
+earliest_least [] = tt
+earliest_least (u ∷ us) = (least_self (earliest (map Some us)) u.positions, all_more (first_of u.positions) (earliest (map Some us)) us (earliest_least us))
+
+ascend_longer : (from a b : ℕ) (ps : List ℕ) → a ≤ b → Ascend from a ps → Ascend from b ps
+ascend_longer from a b [] le all = omega (arith, le, all)
+ascend_longer from a b (p ∷ ps) le all = (all.0, ascend_longer (p + 1) a b ps le all.1)
+
+ascend_again : (a b c d : ℕ) (o : Option ℕ) (ps : List ℕ) → b ≤ d → c ≡ unwrap_or o d → c ≤ d → IsLeastOf o ps → Ascend a b ps → Ascend c d ps
+ascend_again a b c d o [] le is order least all = order
+ascend_again a b c d None (p ∷ ps) le is order least all = absurd least
+ascend_again a b c d (Some n) (p ∷ ps) le is order least all = (omega (arith, is, least), ascend_longer (p + 1) b d ps le all.1)
+
+ascends_again : (a b c d : ℕ) (o : Option ℕ) (us : List OpenUnit) → b ≤ d → c ≡ unwrap_or o d → c ≤ d → AllByRecursion (λ (u : OpenUnit). IsLeastOf o u.positions) us → AscendWithin a b us → AscendWithin c d us
+ascends_again a b c d o [] le is order least all = tt
+ascends_again a b c d o (u ∷ us) le is order least all = (ascend_again a b c d o u.positions le is order least.0 all.0, ascends_again a b c d o us le is order least.1 all.1)
 
 or_end : (from to : ℕ) (o : Option ℕ) → from ≤ to → IsWithin from to o → (from ≤ unwrap_or o to) × (unwrap_or o to ≤ to)
 or_end from to None order is = (order, omega arith)
@@ -302,6 +341,8 @@ module _ (start : ℕ) (us : List OpenUnit) (u : OpenUnit) (clock : ℕ) (v w : 
     moment = let m = moments in let same : w.catalog.home.greatest_moment.0 ≡ moment = ap (λ (c : Catalog). c.home.greatest_moment.0) aborts.makes.catalog in omega (arith, m.1, same);
     clock_bound = let c = may.clock_bound in omega (arith, c, one);
     within = within;
+    positions = ascends_again v.catalog.ru.first v.catalog.ru.end w.catalog.ru.first w.catalog.ru.end (earliest (map Some left)) left longer now_begins begins.1 (earliest_least left)
+        (all_less (λ (x : OpenUnit). Ascend v.catalog.ru.first v.catalog.ru.end x.positions) is_active us may.positions);
   }
 
 -- the units that are left stand in their order
@@ -351,8 +392,8 @@ within_begin : (s : Span) (us : List OpenUnit) → BeginWithin s us → AreWithi
 within_begin s [] all = tt
 within_begin s (u ∷ us) all = (All-weaker (λ p. (s.first ≤ p) × (p < s.end)) (λ p. (s.first ≤ p) × (p ≤ s.end)) (λ p is. (is.0, (let before = is.1 in omega (arith, before)))) u.positions all.0, within_begin s us all.1)
 
-pub may_begin : (us : List OpenUnit) (clock : ℕ) (v : VolumeState) → MayReopen clock v → BeginWithin v.catalog.ru us → length us ≤ 64 → v.catalog.ru.end - v.catalog.ru.first + 48 * length us ≤ ring_size v.catalog.ru → MayTake v.catalog.ru.first us clock v
-may_begin us clock v m within few room = record {
+pub may_begin : (us : List OpenUnit) (clock : ℕ) (v : VolumeState) → MayReopen clock v → BeginWithin v.catalog.ru us → AscendWithin v.catalog.ru.first v.catalog.ru.end us → length us ≤ 64 → v.catalog.ru.end - v.catalog.ru.first + 48 * length us ≤ ring_size v.catalog.ru → MayTake v.catalog.ru.first us clock v
+may_begin us clock v m within ascends few room = record {
   idle = m.may.idle;
   holds = m.may.holds;
   node = m.may.node;
@@ -367,6 +408,7 @@ may_begin us clock v m within few room = record {
   moment = let g = m.moment in omega (arith, g, few);
   clock_bound = let c = m.clock_bound in omega (arith, c, few);
   within = within_begin v.catalog.ru us within;
+  positions = ascends;
 }
 
 -- no count rose

@@ -6,10 +6,11 @@ use Rattle.change_set.specs.Files.{free_frames}
 use Rattle.journal_model.specs.Entries.{Entry}
 use Rattle.journal_model.specs.Ring.{IsJournal, ring_size}
 use Rattle.ru_journal.specs.Told.{UnitTold, nothing_told, told_by}
+use Rattle.unit_entries.specs.Opening.{AreAlike, AscendWithin}
 use Rattle.unit_entries.specs.Reading.{AreInOrder, placed, positions_of}
 use Rattle.unit_journal.specs.Groups.{LeavesOld}
 use Rattle.unit_journal.specs.Settling.{next_moment}
-use Rattle.unit_table.specs.Units.{OpenUnit, earliest, new_unit}
+use Rattle.unit_table.specs.Units.{OpenUnit, earliest, first_that, is_active, new_unit}
 use Rattle.vms_base.specs.Ids.{serial_of, tid_of}
 use Rattle.vms_base.specs.declared.ids.Serial.{Serial}
 use Rattle.vms_base.specs.declared.ids.Tid.{Tid}
@@ -118,6 +119,7 @@ pub record MayTake (start : ℕ) (us : List OpenUnit) (clock : ℕ) (v : VolumeS
   pub moment : v.catalog.home.greatest_moment.0 + length us ≤ 24000001000066
   pub clock_bound : clock + length us ≤ 24000001000066
   pub within : AllByRecursion (λ (u : OpenUnit). All (λ p. (start ≤ p) × (p ≤ v.catalog.ru.end)) u.positions) us
+  pub positions : AscendWithin v.catalog.ru.first v.catalog.ru.end us
 
 -- Units may be aborted at a restart on a volume, whatever that tells. Numbers that only grow are far from their ends.
 pub record MayReopen (clock : ℕ) (v : VolumeState) : Type 0 where
@@ -138,11 +140,17 @@ IsOutOfOrder v = IfSome v.store.current (λ c. (es : List Entry) → IsJournal c
 abbrev pub IsTooFull : List UnitTold → VolumeState → Type 0
 IsTooFull us v = ring_size v.catalog.ru < v.catalog.ru.end - v.catalog.ru.first + 48 * length us
 
--- Nothing was done, since the journal is not in order or has not the room, or all of its units were taken that are not prepared.
-pub data Reopens (clock : ℕ) (v w : VolumeState) (out : List AbortedUnit) : Type 0 where
-  broken : IsOutOfOrder v → w ≡ v → out ≡ [] → Reopens clock v w out
-  full : (us : List UnitTold) → AreUnits us v → IsTooFull us v → w ≡ v → out ≡ [] → Reopens clock v w out
-  taken : (us : List UnitTold) (many : ℕ) → AreUnits us v → HasTaken clock us many v w out → next_of (left_after many us) ≡ None → Reopens clock v w out
+-- These are the units that are left once so many were aborted: all are prepared, and each has the positions at which its branch's changes begin in the journal of a volume.
+pub record AreLeft (us : List UnitTold) (many : ℕ) (v : VolumeState) (left : List OpenUnit) : Type 0 where
+  pub alike : AreAlike (left_after many us) left
+  pub found : AreFoundIn v left
+  pub prepared : first_that is_active left ≡ None
+
+-- Nothing was done, since the journal is not in order or has not the room, and no unit is told; or all of its units were taken that are not prepared, and these are left.
+pub data Reopens (clock : ℕ) (v w : VolumeState) (out : List AbortedUnit) (left : List OpenUnit) : Type 0 where
+  broken : IsOutOfOrder v → w ≡ v → out ≡ [] → left ≡ [] → Reopens clock v w out left
+  full : (us : List UnitTold) → AreUnits us v → IsTooFull us v → w ≡ v → out ≡ [] → left ≡ [] → Reopens clock v w out left
+  taken : (us : List UnitTold) (many : ℕ) → AreUnits us v → HasTaken clock us many v w out → next_of (left_after many us) ≡ None → AreLeft us many v left → Reopens clock v w out left
 
 -- The disk went down before anything was made; or so many of the units were taken, and then it did, at the next one.
 pub data ReopensNot (clock : ℕ) (v w : VolumeState) (out : List AbortedUnit) : Type 0 where

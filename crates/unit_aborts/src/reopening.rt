@@ -5,7 +5,7 @@ ghost use Rattle.careful_write.specs.State.{IsReady};
 ghost use Rattle.journal_store.specs.Rings.{IsRing};
 ghost use Rattle.unit_journal.specs.Groups.{LeavesOld};
 ghost use Rattle.journal_model.specs.Ring.{ring_size};
-ghost use Rattle.unit_entries.specs.Opening.{AreAlike, BeginWithin};
+ghost use Rattle.unit_entries.specs.Opening.{AreAlike, AscendWithin, BeginWithin};
 ghost use Rattle.unit_table.specs.Units.{IsFirst, OpenUnit, begun, first_that, is_active, without_first};
 ghost use Rattle.unit_aborts.specs.Reopening.{AreFoundIn, AreUnits, BreaksOne, IsOutOfOrder, MayReopen, MayTake, Reopens, ReopensNot, UndoesUnit};
 ghost use Rattle.unit_aborts.specs.Growing.{AreTold, GrowsBy};
@@ -99,6 +99,7 @@ fn read_units<D: Disk>(
     ensures alike { IfOk result (λ whole. whole ≡ true → AreAlike state.new.units (begun units.new)) }
     ensures found { IfOk result (λ whole. whole ≡ true → AreFoundIn volume.old (begun units.new)) }
     ensures within { IfOk result (λ whole. whole ≡ true → BeginWithin volume.old.catalog.ru (begun units.new)) }
+    ensures ascends { IfOk result (λ whole. whole ≡ true → AscendWithin volume.old.catalog.ru.first volume.old.catalog.ru.end (begun units.new)) }
     ensures same { OnOk result (volume.new ≡ volume.old) }
     ensures down { OnErr result (LeavesOld volume.old volume.new.store.disk) }
     ensures kept { volume.new.catalog ≡ volume.old.catalog }
@@ -125,8 +126,8 @@ fn has_room<D: Disk>(volume: &Volume<D>, count: usize) -> bool
 }
 
 /// Aborts the units that a fall left in the journal, in the order of their first entries, and tells their settlements, also after Down. Nothing is done where the
-/// journal is not in order, or has not the room that the settlements take. Prepared units stay, in the journal and in the table, which has all units of the
-/// journal in place of those that it had.
+/// journal is not in order, or has not the room that the settlements take; then the table is without units. Prepared units stay, in the journal and in the table, which
+/// has those of the journal in place of those that it had.
 pub fn reopen_units<D: Disk>(
     volume: &mut Volume<D>,
     clock: Moment,
@@ -139,8 +140,10 @@ pub fn reopen_units<D: Disk>(
 ) -> Result<(), Down>
     requires may { MayReopen clock.0 volume.old }
     requires places { 64 ≤ vec_capacity out.old }
-    ensures reopens { OnOk result (Reopens clock.0 volume.old volume.new out.new.items) }
+    ensures reopens { OnOk result (Reopens clock.0 volume.old volume.new out.new.items (begun units.new)) }
     ensures may { OnOk result (MayAbort volume.new) }
+    ensures room { OnOk result (volume.new.catalog.ru.end - volume.new.catalog.ru.first + 48 * length (begun units.new) ≤ ring_size volume.new.catalog.ru) }
+    ensures ascends { OnOk result (AscendWithin volume.new.catalog.ru.first volume.new.catalog.ru.end (begun units.new)) }
     ensures fails { OnErr result (ReopensNot clock.0 volume.old volume.new out.new.items) }
     ensures grows { GrowsBy 64 clock.0 volume.old volume.new }
     ensures told { AreTold volume.new out.new.items }
@@ -153,10 +156,14 @@ pub fn reopen_units<D: Disk>(
     out.clear();
     match read_units(volume, state, units, image) {
         Err(down) => return Err(down),
-        Ok(false) => return Ok(()),
+        Ok(false) => {
+            units.clear();
+            return Ok(());
+        }
         Ok(true) => {}
     }
     if !has_room(volume, state.units().len()) {
+        units.clear();
         return Ok(());
     }
     while let Some(place) = units.first_active() {

@@ -1,21 +1,21 @@
 -- What entries tell of the keys of a file.
-use Rattle.std.proofs.Common.{◌≡◌, ℕ, zero, suc, ◌≤◌, ◌<◌, Bool, true, false, cond, ◌||◌, ◌&&◌, not, List, [], ◌∷◌, ◌++◌, map, min, Option, Some, None, refl, sym, ◌∙◌, ap, subst, inl, inr, ◌⊎◌, arith, append_assoc, append-nil}
-use Rattle.std.specs.Prelude.{◌==◌, nat_le}
+use Rattle.std.proofs.Common.{◌≡◌, ℕ, Bool, true, false, cond, ◌||◌, ◌&&◌, not, List, [], ◌∷◌, ◌++◌, map, min, Option, Some, None, refl, sym, ◌∙◌, ap, subst, inl, inr, ◌⊎◌, arith, append_assoc, append-nil}
+use Rattle.std.specs.Prelude.{◌==◌}
 use Rattle.std.specs.List.{list_any, AllByRecursion}
 use Rattle.std.specs.Cmp.{tied_itself}
-use Rattle.std.specs.Ordering.{eq_by_cmp, is_eq}
+use Rattle.std.specs.Ordering.{is_eq}
 use Rattle.std.proofs.lemmas.Bool.Decides.{nat_tests}
 use Rattle.file_base.specs.declared.head.FileHead.{FileHead}
 use Rattle.file_base.specs.declared.head.Span.{Span}
 use Rattle.vms_model.specs.Keys.{Key, Number, Text, End}
-use Rattle.records_model.specs.Records.{Change, key_cmp}
+use Rattle.records_model.specs.Records.{Change}
 use Rattle.records_model.specs.History.{changes_key}
 use Rattle.records_model.proofs.KeyLemmas.{key_cmp_total}
 use Rattle.records_model.proofs.RecordsLemmas as records
 use Rattle.change_set.specs.Maps.{same_key}
-use Rattle.unit_laws.specs.Units.{earliest_before, is_of}
+use Rattle.unit_laws.specs.Units.{is_of}
 use Rattle.unit_laws.specs.Journal.{Note, note_of}
-use Rattle.unit_laws.proofs.Tests.{both_ways, never, or_either, or_one, or_other, or_first, or_second, and_first, and_second, picked, passed, or_passed}
+use Rattle.unit_laws.proofs.Tests.{never, or_either, or_one, or_other, and_first, and_second, picked, passed}
 use Rattle.sequence_laws.specs.Undoing.{lowest_absent, absent_at, lower}
 use Rattle.journal_model.specs.Entries.{Entry, has_image}
 use Rattle.unit_entries.specs.Collecting.{IsChangeAt, AreChangesAt}

@@ -1,18 +1,17 @@
 -- The units that a journal leaves are those of the table, entry by entry.
-use Rattle.std.proofs.Common.{◌≡◌, ℕ, zero, suc, ◌+◌, ◌<◌, ◌≤◌, ◌==◌, ◌&&◌, ◌||◌, not, nat_le, bit_or, is_some, Bool, true, false, List, [], ◌∷◌, ◌++◌, length, Option, Some, None, if◌then◌else◌, refl, sym, ◌∙◌, ap, subst, arith, append-nil, length-append, inl, inr, ◌⊎◌}
+use Rattle.std.proofs.Common.{◌≡◌, ℕ, suc, ◌+◌, ◌<◌, ◌≤◌, ◌==◌, ◌&&◌, ◌||◌, not, nat_le, bit_or, is_some, Bool, true, false, List, [], ◌∷◌, ◌++◌, length, Option, Some, None, if◌then◌else◌, refl, sym, ◌∙◌, ap, subst, arith, append-nil, length-append}
 use Rattle.std.specs.List.{All, AllByRecursion, list_any}
-use Rattle.std.proofs.lemmas.Bool.{and_from, and_parts, both_ways, leb-false, or_parts}
-use Rattle.std.proofs.lemmas.Bool.Decides.{nat_tests}
-use Rattle.std.proofs.lemmas.List.Elements.{All-nil, All-push}
+use Rattle.std.proofs.lemmas.Bool.{and_from, leb-false, or_parts}
+use Rattle.std.proofs.lemmas.List.Elements.{All-head, All-nil, All-push, All-tail, All-weaker}
 use Rattle.std.proofs.lemmas.List.Folds.{list_any-append}
 use Rattle.file_base.specs.declared.head.Span.{Span}
 use Rattle.vms_model.specs.Ids.{Id}
 use Rattle.records_model.specs.History.{same_id}
 use Rattle.journal_model.specs.Entries.{Entry}
-use Rattle.ru_journal.specs.Told.{Told, UnitTold, after, file_bit, find_unit, first_told, is_out_of_order, more_told, unit_refuses, units_after, with_unit, without_unit}
-use Rattle.unit_laws.proofs.LiveLemmas.{clash, id_is, id_itself, turned}
-use Rattle.unit_table.specs.Units.{OpenUnit, first_of, first_that, is_of, new_unit, with_first, with_position, without_first}
-use Rattle.unit_entries.specs.Opening.{AreAlike, BeginWithin, Differ, IsAlike, more_open, opened_after}
+use Rattle.ru_journal.specs.Told.{Told, UnitTold, file_bit, find_unit, first_told, is_out_of_order, more_told, unit_refuses, units_after, with_unit, without_unit}
+use Rattle.unit_laws.proofs.LiveLemmas.{id_is, id_itself, turned}
+use Rattle.unit_table.specs.Units.{Ascend, OpenUnit, first_of, first_that, is_of, new_unit, with_first, with_position, without_first}
+use Rattle.unit_entries.specs.Opening.{AreAlike, AscendWithin, BeginWithin, Differ, IsAlike, more_open, opened_after}
 use Rattle.unit_entries.specs.Reading.{is_change_of}
 use Rattle.unit_entries.proofs.RowLemmas.{all_behind}
 
@@ -93,10 +92,64 @@ within_opened s p e ws behind before all = go (e.kind == 3) (first_that (is_of e
     P w = All (λ q. (s.first ≤ q) × (q < s.end)) w.positions
 
     go : (b : Bool) (o : Option OpenUnit) → first_that (is_of e.serial) ws ≡ o →
-        AllByRecursion P (if b then without_first (is_of e.serial) ws else (elim o [ Some w ↦ with_first (is_of e.serial) (more_open p e w) ws | None ↦ ws ++ more_open p e (new_unit e.tid e.serial) ∷ [] ]))
+        AllByRecursion P (if b then without_first (is_of e.serial) ws else (elim o [ Some w ↦ with_first (is_of e.serial) (more_open p e w) ws | None ↦ if e.kind == 1 then ws ++ more_open p e (new_unit e.tid e.serial) ∷ [] else ws ]))
     go true o at = all_less P (is_of e.serial) ws all
     go false (Some w) at = all_first P (is_of e.serial) (more_open p e w) ws (more_within s p e w behind before (first_holds P (is_of e.serial) ws w all at)) all
-    go false None at = all_behind P ws (more_open p e (new_unit e.tid e.serial)) (more_within s p e (new_unit e.tid e.serial) behind before (All-nil _)) all
+    go false None at = first (e.kind == 1)
+      where
+        first : (c : Bool) → AllByRecursion P (if c then ws ++ more_open p e (new_unit e.tid e.serial) ∷ [] else ws)
+        first true = all_behind P ws (more_open p e (new_unit e.tid e.serial)) (more_within s p e (new_unit e.tid e.serial) behind before (All-nil _)) all
+        first false = all
+
+-- And they ascend.
+
+ascend_longer : (from a b : ℕ) (ps : List ℕ) → a ≤ b → Ascend from a ps → Ascend from b ps
+ascend_longer from a b [] le all = omega (arith, le, all)
+ascend_longer from a b (p ∷ ps) le all = (all.0, ascend_longer (p + 1) a b ps le all.1)
+
+ascend_push : (from p end : ℕ) (ps : List ℕ) → p < end → Ascend from p ps → Ascend from end (ps ++ p ∷ [])
+ascend_push from p end [] lt all = (all, omega (arith, lt))
+ascend_push from p end (q ∷ ps) lt all = (all.0, ascend_push (q + 1) p end ps lt all.1)
+
+more_ascends : (from p next : ℕ) (e : Entry) (w : OpenUnit) → p < next → Ascend from p w.positions → let v : OpenUnit = more_open p e w in Ascend from next v.positions
+more_ascends from p next e w lt all = go (e.kind == 1)
+  where
+    go : (b : Bool) → let v : OpenUnit = (if b then with_position p e.file w else record w { prepared = true }) in Ascend from next v.positions
+    go true = ascend_push from p next w.positions lt all
+    go false = ascend_longer from p next w.positions (omega (arith, lt)) all
+
+all_longer : (from a b : ℕ) (ws : List OpenUnit) → a ≤ b → AscendWithin from a ws → AscendWithin from b ws
+all_longer from a b [] le all = tt
+all_longer from a b (w ∷ ws) le all = (ascend_longer from a b w.positions le all.0, all_longer from a b ws le all.1)
+
+pub ascends_opened : (from p next : ℕ) (e : Entry) (ws : List OpenUnit) → from ≤ p → p < next → AscendWithin from p ws → AscendWithin from next (opened_after p e ws)
+ascends_opened from p next e ws behind lt all = go (e.kind == 3) (first_that (is_of e.serial) ws) refl
+  where
+    P : OpenUnit → Type 0
+    P w = Ascend from next w.positions
+
+    longer : AllByRecursion P ws
+    longer = all_longer from p next ws (omega (arith, lt)) all
+
+    go : (b : Bool) (o : Option OpenUnit) → first_that (is_of e.serial) ws ≡ o →
+        AllByRecursion P (if b then without_first (is_of e.serial) ws else (elim o [ Some w ↦ with_first (is_of e.serial) (more_open p e w) ws | None ↦ if e.kind == 1 then ws ++ more_open p e (new_unit e.tid e.serial) ∷ [] else ws ]))
+    go true o at = all_less P (is_of e.serial) ws longer
+    go false (Some w) at = all_first P (is_of e.serial) (more_open p e w) ws (more_ascends from p next e w lt (first_holds (λ (u : OpenUnit). Ascend from p u.positions) (is_of e.serial) ws w all at)) longer
+    go false None at = first (e.kind == 1)
+      where
+        first : (c : Bool) → AllByRecursion P (if c then ws ++ more_open p e (new_unit e.tid e.serial) ∷ [] else ws)
+        first true = all_behind P ws (more_open p e (new_unit e.tid e.serial)) (more_ascends from p next e (new_unit e.tid e.serial) lt behind) longer
+        first false = longer
+
+-- the end is no farther than each of them asks
+ascend_near : (from end far : ℕ) (ps : List ℕ) → from ≤ end → All (λ p. p < end) ps → Ascend from far ps → Ascend from end ps
+ascend_near from end far [] le near all = le
+ascend_near from end far (p ∷ ps) le near all = let here = All-head (λ p. p < end) p ps near in (all.0, ascend_near (p + 1) end far ps (omega (arith, here)) (All-tail (λ p. p < end) p ps near) all.1)
+
+pub ascends_near : (s : Span) (far : ℕ) (ws : List OpenUnit) → s.first ≤ s.end → BeginWithin s ws → AscendWithin s.first far ws → AscendWithin s.first s.end ws
+ascends_near s far [] le near all = tt
+ascends_near s far (w ∷ ws) le near all =
+    (ascend_near s.first s.end far w.positions le (All-weaker (λ p. (s.first ≤ p) × (p < s.end)) (λ p. p < s.end) (λ p is. is.1) w.positions near.0) all.0, ascends_near s far ws le near.1 all.1)
 
 -- Units of the table are those that are told.
 
@@ -178,40 +231,23 @@ module _ (p : ℕ) (e : Entry) (n : ℕ) (kinds : (e.kind == 1) ≡ false → (e
       few true h is = leb-false 1024 u.changes h
       few false h is = let never : ⊥ = cc in absurd never
 
-  more_alike : (u : UnitTold) (w : OpenUnit) → unit_refuses e n (Some u) ≡ false → IsAlike u w → IsAlike (more_told e u) (more_open p e w)
-  more_alike u w may a = go (e.kind == 1) refl
+  more_alike : (u : UnitTold) (w : OpenUnit) → IsAlike u w → IsAlike (more_told e u) (more_open p e w)
+  more_alike u w a = go (e.kind == 1)
     where
-      go : (b : Bool) → (e.kind == 1) ≡ b → IsAlike (if b then record u { changes = u.changes + 1; files = bit_or u.files (file_bit e.file) } else record u { prepared = true }) (if b then with_position p e.file w else record w { prepared = true })
-      go true is = record {
+      go : (b : Bool) → IsAlike (if b then record u { changes = u.changes + 1; files = bit_or u.files (file_bit e.file) } else record u { prepared = true }) (if b then with_position p e.file w else record w { prepared = true })
+      go true = record {
         tid = a.tid;
         serial = a.serial;
         prepared = a.prepared;
         changes = (let long = length-append w.positions (p ∷ []) in let same = a.changes in omega (arith, long, same));
-        first = λ some. first (some_or_none u.changes refl);
-        bare = λ none. absurd (omega (arith, none));
+        first = λ _. still_first p w.positions (let same = a.changes in let some = a.some in omega (arith, same, some)) ∙ a.first a.some;
+        some = let was = a.some in omega (arith, was);
       }
-        where
-          some_or_none : (k : ℕ) → u.changes ≡ k → (u.changes ≡ 0) ⊎ (1 ≤ u.changes)
-          some_or_none zero is = inl is
-          some_or_none (suc k) is = inr (omega (arith, is))
+      go false = record { tid = a.tid; serial = a.serial; prepared = refl; changes = a.changes; first = a.first; some = a.some }
 
-          first : (u.changes ≡ 0) ⊎ (1 ≤ u.changes) → first_of (w.positions ++ p ∷ []) ≡ Some u.first
-          first (inl none) = absurd (both_ways _ (allowed u may).0 (a.bare none))
-          first (inr some) = still_first p w.positions (let same = a.changes in omega (arith, same, some)) ∙ a.first some
-      go false is = record { tid = a.tid; serial = a.serial; prepared = refl; changes = a.changes; first = a.first; bare = λ none. refl }
-
-  first_alike : IsAlike (first_told p e) (more_open p e (new_unit e.tid e.serial))
-  first_alike = go (e.kind == 1) refl (e.kind == 2) refl
-    where
-      apart : (k : ℕ) → (k == 1) ≡ true → (k == 2) ≡ true → ⊥
-      apart k a b = grind (arith, nat_tests)
-
-      go : (b : Bool) → (e.kind == 1) ≡ b → (d : Bool) → (e.kind == 2) ≡ d →
-          IsAlike (record { tid = e.tid; serial = e.serial; first = p; changes = if b then 1 else 0; files = if b then file_bit e.file else 0; prepared = d }) (if b then with_position p e.file (new_unit e.tid e.serial) else record (new_unit e.tid e.serial) { prepared = true })
-      go true is true both = absurd (apart e.kind is both)
-      go true is false other = record { tid = refl; serial = refl; prepared = refl; changes = refl; first = λ some. refl; bare = λ none. absurd (omega (arith, none)) }
-      go false is true both = record { tid = refl; serial = refl; prepared = refl; changes = refl; first = λ some. absurd (omega (arith, some)); bare = λ none. refl }
-      go false is false other = absurd (both_ways _ other (kinds is open_))
+  first_alike : (e.kind == 1) ≡ true → IsAlike (first_told p e) (more_open p e (new_unit e.tid e.serial))
+  first_alike change = subst (λ (b : Bool). IsAlike (first_told p e) (if b then with_position p e.file (new_unit e.tid e.serial) else record (new_unit e.tid e.serial) { prepared = true })) (sym change)
+      (record { tid = refl; serial = refl; prepared = refl; changes = refl; first = λ some. refl; some = omega arith })
 
 -- so after one entry more
 module _ (p : ℕ) (e : Entry) (t : Told) (ws : List OpenUnit) (kinds : (e.kind == 1) ≡ false → (e.kind == 3) ≡ false → (e.kind == 2) ≡ true) (alike : AreAlike t.units ws) (may : is_out_of_order e t ≡ false) where
@@ -235,31 +271,35 @@ module _ (p : ℕ) (e : Entry) (t : Told) (ws : List OpenUnit) (kinds : (e.kind 
           let long = ap (λ (x : OpenUnit). length x.positions) same in let count = a.changes in
           omega (arith, few, long, count)
 
-  pub places_opened : first_that (is_of e.serial) ws ≡ None → (e.kind == 3) ≡ false → length ws < 64
-  places_opened none open_ = go (find_both e.serial t.units ws alike)
+  pub places_opened : first_that (is_of e.serial) ws ≡ None → (e.kind == 1) ≡ true → length ws < 64
+  places_opened none change = go (find_both e.serial t.units ws alike)
     where
       go : Both e.serial t.units ws → length ws < 64
       go (each u y told there a) = let never : ⊥ = (let e : ◌≡◌ {A = Option OpenUnit} None (Some y) = sym none ∙ there in cc) in absurd never
       go (neither gone none) =
-          let refused = subst (λ (b : Bool). (not b && nat_le 64 (length t.units)) ≡ false) open_ (unrefused_at None gone) in
+          let refused = subst (λ (b : Bool). (b && nat_le 64 (length t.units)) ≡ false) change (unrefused_at None gone) in
           let few = leb-false 64 (length t.units) refused in let long = alike_long t.units ws alike in
           omega (arith, few, long)
 
   pub alike_after : AreAlike (units_after p e t.units) (opened_after p e ws)
   alike_after = go (e.kind == 3) refl (find_both e.serial t.units ws alike)
     where
+      begun : (e.kind == 3) ≡ false → (b : Bool) → (e.kind == 1) ≡ b → AreAlike (if b then t.units ++ first_told p e ∷ [] else t.units) (if b then ws ++ more_open p e (new_unit e.tid e.serial) ∷ [] else ws)
+      begun open_ true change = alike_push t.units ws (first_told p e) (more_open p e (new_unit e.tid e.serial)) alike (first_alike p e (length t.units) kinds open_ change)
+      begun open_ false other = alike
+
       go : (b : Bool) → (e.kind == 3) ≡ b → Both e.serial t.units ws →
-          AreAlike (if b then without_unit e.serial t.units else (if is_some (find_unit e.serial t.units) then with_unit e.serial (more_told e) t.units else t.units ++ first_told p e ∷ []))
-          (if b then without_first (is_of e.serial) ws else (elim (first_that (is_of e.serial) ws) [ Some w ↦ with_first (is_of e.serial) (more_open p e w) ws | None ↦ ws ++ more_open p e (new_unit e.tid e.serial) ∷ [] ]))
+          AreAlike (if b then without_unit e.serial t.units else (if is_some (find_unit e.serial t.units) then with_unit e.serial (more_told e) t.units else (if e.kind == 1 then t.units ++ first_told p e ∷ [] else t.units)))
+          (if b then without_first (is_of e.serial) ws else (elim (first_that (is_of e.serial) ws) [ Some w ↦ with_first (is_of e.serial) (more_open p e w) ws | None ↦ if e.kind == 1 then ws ++ more_open p e (new_unit e.tid e.serial) ∷ [] else ws ]))
       go true is both = alike_less e.serial t.units ws alike
       go false is (neither gone none) =
-          subst (λ (o : Option UnitTold). AreAlike (if is_some o then with_unit e.serial (more_told e) t.units else t.units ++ first_told p e ∷ []) (elim (first_that (is_of e.serial) ws) [ Some w ↦ with_first (is_of e.serial) (more_open p e w) ws | None ↦ ws ++ more_open p e (new_unit e.tid e.serial) ∷ [] ])) (sym gone)
-          (subst (λ (o : Option OpenUnit). AreAlike (t.units ++ first_told p e ∷ []) (elim o [ Some w ↦ with_first (is_of e.serial) (more_open p e w) ws | None ↦ ws ++ more_open p e (new_unit e.tid e.serial) ∷ [] ])) (sym none)
-          (alike_push t.units ws (first_told p e) (more_open p e (new_unit e.tid e.serial)) alike (first_alike p e (length t.units) kinds is)))
+          subst (λ (o : Option UnitTold). AreAlike (if is_some o then with_unit e.serial (more_told e) t.units else (if e.kind == 1 then t.units ++ first_told p e ∷ [] else t.units)) (elim (first_that (is_of e.serial) ws) [ Some w ↦ with_first (is_of e.serial) (more_open p e w) ws | None ↦ if e.kind == 1 then ws ++ more_open p e (new_unit e.tid e.serial) ∷ [] else ws ])) (sym gone)
+          (subst (λ (o : Option OpenUnit). AreAlike (if e.kind == 1 then t.units ++ first_told p e ∷ [] else t.units) (elim o [ Some w ↦ with_first (is_of e.serial) (more_open p e w) ws | None ↦ if e.kind == 1 then ws ++ more_open p e (new_unit e.tid e.serial) ∷ [] else ws ])) (sym none)
+          (begun is (e.kind == 1) refl))
       go false is (each u w told there a) =
-          subst (λ (o : Option UnitTold). AreAlike (if is_some o then with_unit e.serial (more_told e) t.units else t.units ++ first_told p e ∷ []) (elim (first_that (is_of e.serial) ws) [ Some w ↦ with_first (is_of e.serial) (more_open p e w) ws | None ↦ ws ++ more_open p e (new_unit e.tid e.serial) ∷ [] ])) (sym told)
-          (subst (λ (o : Option OpenUnit). AreAlike (with_unit e.serial (more_told e) t.units) (elim o [ Some w ↦ with_first (is_of e.serial) (more_open p e w) ws | None ↦ ws ++ more_open p e (new_unit e.tid e.serial) ∷ [] ])) (sym there)
-          (alike_with e.serial (more_told e) (more_open p e w) t.units ws u alike told (more_alike p e (length t.units) kinds is u w (unrefused_at (Some u) told) a)))
+          subst (λ (o : Option UnitTold). AreAlike (if is_some o then with_unit e.serial (more_told e) t.units else (if e.kind == 1 then t.units ++ first_told p e ∷ [] else t.units)) (elim (first_that (is_of e.serial) ws) [ Some w ↦ with_first (is_of e.serial) (more_open p e w) ws | None ↦ if e.kind == 1 then ws ++ more_open p e (new_unit e.tid e.serial) ∷ [] else ws ])) (sym told)
+          (subst (λ (o : Option OpenUnit). AreAlike (with_unit e.serial (more_told e) t.units) (elim o [ Some w ↦ with_first (is_of e.serial) (more_open p e w) ws | None ↦ if e.kind == 1 then ws ++ more_open p e (new_unit e.tid e.serial) ∷ [] else ws ])) (sym there)
+          (alike_with e.serial (more_told e) (more_open p e w) t.units ws u alike told (more_alike p e (length t.units) kinds is u w a)))
 
 -- No branch has two.
 
@@ -431,13 +471,14 @@ module _ (old new : Id → List ℕ) (p : ℕ) (e : Entry) (on : (x : Id) → ne
             (found_unchanged is (with_first (is_of e.serial) (record w { prepared = true }) ws)
             (all_first (λ (u : OpenUnit). u.positions ≡ old u.serial) (is_of e.serial) (record w { prepared = true }) ws (first_holds (λ (u : OpenUnit). u.positions ≡ old u.serial) (is_of e.serial) ws w found at) found))
 
-        first : first_that (is_of e.serial) ws ≡ None → (b : Bool) → (e.kind == 1) ≡ b → After (ws ++ (if b then with_position p e.file (new_unit e.tid e.serial) else record (new_unit e.tid e.serial) { prepared = true }) ∷ []) t.settled
-        first none true is = new_one (with_position p e.file (new_unit e.tid e.serial)) none refl
-            (ap (λ (ps : List ℕ). ps ++ p ∷ []) (sym (fresh e.serial none off)) ∙ sym (grows e.serial (and_from _ _ is (id_itself e.serial))))
-        first none false is = new_one (record (new_unit e.tid e.serial) { prepared = true }) none refl (sym (stays e.serial (no_change is e.serial) ∙ fresh e.serial none off))
+        first : first_that (is_of e.serial) ws ≡ None → (b : Bool) → (e.kind == 1) ≡ b → After (if b then ws ++ more_open p e (new_unit e.tid e.serial) ∷ [] else ws) t.settled
+        first none true is = subst (λ (b : Bool). After (ws ++ (if b then with_position p e.file (new_unit e.tid e.serial) else record (new_unit e.tid e.serial) { prepared = true }) ∷ []) t.settled) (sym is)
+            (new_one (with_position p e.file (new_unit e.tid e.serial)) none refl
+            (ap (λ (ps : List ℕ). ps ++ p ∷ []) (sym (fresh e.serial none off)) ∙ sym (grows e.serial (and_from _ _ is (id_itself e.serial)))))
+        first none false is = (found_unchanged is ws found, differ, λ x gone out. stays x (no_change is x) ∙ fresh x gone out)
 
         go : (b : Bool) → (e.kind == 3) ≡ b → (o : Option OpenUnit) → first_that (is_of e.serial) ws ≡ o →
-            After (if b then without_first (is_of e.serial) ws else (elim o [ Some w ↦ with_first (is_of e.serial) (more_open p e w) ws | None ↦ ws ++ more_open p e (new_unit e.tid e.serial) ∷ [] ])) (if b then t.settled ++ e.serial ∷ [] else t.settled)
+            After (if b then without_first (is_of e.serial) ws else (elim o [ Some w ↦ with_first (is_of e.serial) (more_open p e w) ws | None ↦ if e.kind == 1 then ws ++ more_open p e (new_unit e.tid e.serial) ∷ [] else ws ])) (if b then t.settled ++ e.serial ∷ [] else t.settled)
         go true is o at = settled_one is (kinds is)
         go false is (Some w) at = other w at (e.kind == 1) refl
         go false is None at = first at (e.kind == 1) refl

@@ -1,6 +1,6 @@
 -- The place of a key among keys, and what becomes of them with one entry more.
 use Rattle.std.proofs.Common.{◌≡◌, ℕ, zero, suc, ◌+◌, ◌^◌, ◌≤◌, ◌<◌, Bool, true, false, List, [], ◌∷◌, ◌++◌, length, map, take, set, get_or, Option, Some, None, is_some, slice_get, if◌then◌else◌, refl, sym, ap, subst, ◌∙◌, arith}
-use Rattle.std.specs.Prelude.{nat_le, nat_lt, position, not, ◌||◌, vec_capacity, Vec}
+use Rattle.std.specs.Prelude.{nat_lt, position, not, ◌||◌, vec_capacity, Vec}
 use Rattle.std.proofs.lemmas.Bool.{false≢true}
 use Rattle.std.proofs.lemmas.Bool.Decides.{nat_tests}
 use Rattle.std.proofs.lemmas.List.{map-append, length-append, length-set, take_more, take-map}
@@ -8,9 +8,8 @@ use Rattle.indexmap.specs.IndexSet.{IndexSet, insert_key, spare}
 use Rattle.record_locks.specs.declared.place.Place.{Place}
 use Rattle.record_locks.specs.Table.{same_place}
 use Rattle.std.specs.List.{AllByRecursion, list_any, position_or_len}
-use Rattle.sequence_laws.specs.Undoing.{lower}
 use Rattle.unit_entries.specs.declared.keys.ChangedKey.{ChangedKey}
-use Rattle.unit_entries.specs.Keys.{KeyTold, is_same, find_key, keys_after, with_later, number_for, lesser, IsLeast, NoneFrom}
+use Rattle.unit_entries.specs.Keys.{KeyTold, is_same, find_key, keys_after, with_later}
 use Rattle.unit_entries.specs.Rows.{key_said, place_said, IsPlace, AreLow, AreKept}
 
 no_some : {X : Type 0} {x : X} → None ≡ Some x → ⊥

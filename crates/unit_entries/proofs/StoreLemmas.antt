@@ -1,5 +1,5 @@
 -- Reads of a store, one after another.
-use Rattle.std.proofs.Common.{◌≡◌, Option, Some, None, Ok, IfSome, option_map, refl, sym, subst, ap, ◌∙◌}
+use Rattle.std.proofs.Common.{Option, Some, None, Ok, IfSome, option_map, refl, sym, subst, ap, ◌∙◌}
 use Rattle.block_disk.specs.Disk.{DiskState}
 use Rattle.careful_write.specs.Content.{home}
 use Rattle.careful_write.specs.Down.{went_down}

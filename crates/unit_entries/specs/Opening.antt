@@ -1,32 +1,32 @@
 -- The units that a journal leaves, as they stand in a table.
-use Rattle.std.specs.Prelude.{◌≡◌, ℕ, zero, ◌+◌, ◌<◌, ◌≤◌, ◌==◌, Bool, true, false, List, [], ◌∷◌, ◌++◌, Option, Some, None, length, if◌then◌else◌}
+use Rattle.std.specs.Prelude.{◌≡◌, ℕ, ◌<◌, ◌≤◌, ◌==◌, false, List, [], ◌∷◌, ◌++◌, Some, None, length, if◌then◌else◌}
 use Rattle.std.specs.List.{All, AllByRecursion, list_any}
 use Rattle.file_base.specs.declared.head.Span.{Span}
 use Rattle.vms_model.specs.Ids.{Id}
 use Rattle.records_model.specs.History.{same_id}
 use Rattle.journal_model.specs.Entries.{Entry}
 use Rattle.ru_journal.specs.Told.{Told, UnitTold}
-use Rattle.unit_table.specs.Units.{OpenUnit, first_of, first_that, is_of, new_unit, prepared_unit, with_first, with_position, without_first}
+use Rattle.unit_table.specs.Units.{Ascend, OpenUnit, first_of, first_that, is_of, new_unit, prepared_unit, with_first, with_position, without_first}
 use Rattle.unit_entries.specs.Reading.{AreRead, placed, positions_of}
 
 -- a unit after one entry more of its branch, a Change or a Prepared, which begins at this position
 abbrev pub more_open : (position : ℕ) → Entry → OpenUnit → OpenUnit
 more_open p e w = if e.kind == 1 then with_position p e.file w else prepared_unit w
 
--- the units after one entry more
+-- the units after one entry more; one begins with a Change
 abbrev pub opened_after : (position : ℕ) → Entry → List OpenUnit → List OpenUnit
 opened_after p e ws =
     if e.kind == 3 then without_first (is_of e.serial) ws
-    else (elim (first_that (is_of e.serial) ws) [ Some w ↦ with_first (is_of e.serial) (more_open p e w) ws | None ↦ ws ++ more_open p e (new_unit e.tid e.serial) ∷ [] ])
+    else (elim (first_that (is_of e.serial) ws) [ Some w ↦ with_first (is_of e.serial) (more_open p e w) ws | None ↦ if e.kind == 1 then ws ++ more_open p e (new_unit e.tid e.serial) ∷ [] else ws ])
 
--- A unit of a table is one that entries tell. One without changes is prepared.
+-- A unit of a table is one that entries tell, and has changes.
 pub record IsAlike (u : UnitTold) (w : OpenUnit) : Type 0 where
   pub tid : w.tid ≡ u.tid
   pub serial : w.serial ≡ u.serial
   pub prepared : w.prepared ≡ u.prepared
   pub changes : length w.positions ≡ u.changes
   pub first : 1 ≤ u.changes → first_of w.positions ≡ Some u.first
-  pub bare : u.changes ≡ 0 → u.prepared ≡ true
+  pub some : 1 ≤ u.changes
 
 -- so are all of them, in the same order
 abbrev pub AreAlike : List UnitTold → List OpenUnit → Type 0
@@ -38,6 +38,10 @@ AreAlike (u ∷ us) (w ∷ ws) = IsAlike u w × AreAlike us ws
 -- the entries of their changes begin in the journal
 abbrev pub BeginWithin : Span → List OpenUnit → Type 0
 BeginWithin s ws = AllByRecursion (λ (w : OpenUnit). All (λ p. (s.first ≤ p) × (p < s.end)) w.positions) ws
+
+-- and one behind the other, from a position on and before another
+abbrev pub AscendWithin : (from end : ℕ) → List OpenUnit → Type 0
+AscendWithin from end ws = AllByRecursion (λ (w : OpenUnit). Ascend from end w.positions) ws
 
 -- no branch has two
 abbrev pub Differ : List OpenUnit → Type 0

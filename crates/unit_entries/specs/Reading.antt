@@ -1,12 +1,11 @@
 -- Entries of a journal with the positions at which they begin, and those of one branch.
-use Rattle.std.specs.Prelude.{◌≡◌, ℕ, ◌+◌, ◌-◌, ◌<◌, ◌≤◌, ◌==◌, ◌&&◌, Bool, true, false, List, [], ◌∷◌, ◌++◌, length, map, if◌then◌else◌}
-use Rattle.std.specs.List.{flat_map, AllByRecursion}
+use Rattle.std.specs.Prelude.{◌≡◌, ℕ, ◌+◌, ◌<◌, ◌==◌, ◌&&◌, Bool, false, List, [], ◌∷◌, ◌++◌, length, map, if◌then◌else◌}
+use Rattle.std.specs.List.{flat_map}
 use Rattle.file_base.specs.declared.head.Span.{Span}
 use Rattle.vms_model.specs.Ids.{Id}
 use Rattle.records_model.specs.History.{same_id}
 use Rattle.journal_model.specs.Entries.{Entry, spelling}
-use Rattle.journal_model.specs.Ring.{IsJournal}
-use Rattle.ru_journal.specs.Told.{Told, UnitTold, after, is_out_of_order, nothing_told, told_by}
+use Rattle.ru_journal.specs.Told.{Told, after, is_out_of_order, nothing_told, told_by}
 
 -- each entry with its position, of which the first has this one
 abbrev pub placed : ℕ → List Entry → List (ℕ × Entry)

@@ -20,8 +20,8 @@ use journal_store::entry_at;
 use vms_base::{Key, KeyText, Record};
 use volume::Volume;
 
-// The key that is spelled so in an entry on a file.
-fn key_in(organization: Organization, key: &KeyText) -> Option<Key>
+/// The key that is spelled so in an entry on a file that keeps its records so.
+pub fn key_in(organization: Organization, key: &KeyText) -> Option<Key>
     ensures { option_map key_of result ≡ key_in organization key.now }
 {
     match organization {

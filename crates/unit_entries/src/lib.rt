@@ -5,7 +5,7 @@ mod collecting;
 mod keys;
 mod reading;
 
-pub use collecting::collect_keys;
+pub use collecting::{collect_keys, key_in};
 pub use keys::{ChangedKey, ChangedKeys, MOST_KEYS};
 pub use reading::read_journal;
 

@@ -8,7 +8,7 @@ ghost use Rattle.journal_store.specs.Leaving.{OnlyReads, Fell};
 ghost use Rattle.journal_store.specs.Rings.{IsRing};
 ghost use Rattle.ru_journal.specs.Told.{after, is_out_of_order, nothing_told, told_by};
 ghost use Rattle.unit_table.specs.Units.{begun, first_that, is_of, new_unit, unit_at, with_unit, without_first};
-ghost use Rattle.unit_entries.specs.Opening.{AreAlike, AreChangesIn, BeginWithin, more_open, opened_after};
+ghost use Rattle.unit_entries.specs.Opening.{AreAlike, AreChangesIn, AscendWithin, BeginWithin, more_open, opened_after};
 ghost use Rattle.unit_entries.specs.Reading.{placed, AreInOrder};
 
 use block_disk::Disk;
@@ -26,6 +26,16 @@ fn settles(e: &EntryHead) -> bool
 {
     match e.kind {
         EntryKind::Settled => true,
+        _ => false,
+    }
+}
+
+// Whether an entry tells of a change.
+fn changes(e: &EntryHead) -> bool
+    ensures { result ≡ (kind_code e.now.kind == 1) }
+{
+    match e.kind {
+        EntryKind::Change => true,
         _ => false,
     }
 }
@@ -70,7 +80,7 @@ fn forget_unit(units: &mut UnitTable, serial: &Serial)
 fn follow_entry(units: &mut UnitTable, position: u64, e: &EntryHead)
     requires file { e.now.file < 64 }
     requires room { IfSome (first_that (is_of (serial_of e.now.serial)) (begun units.old)) (λ w. kind_code e.now.kind ≡ 1 → length w.positions < 1024) }
-    requires places { first_that (is_of (serial_of e.now.serial)) (begun units.old) ≡ None → (kind_code e.now.kind == 3) ≡ false → length (begun units.old) < 64 }
+    requires places { first_that (is_of (serial_of e.now.serial)) (begun units.old) ≡ None → (kind_code e.now.kind == 1) ≡ true → length (begun units.old) < 64 }
     ensures { begun units.new ≡ opened_after position (entry_of e.now []) (begun units.old) }
 {
     if settles(e) {
@@ -79,7 +89,11 @@ fn follow_entry(units: &mut UnitTable, position: u64, e: &EntryHead)
     }
     match units.find(&e.serial) {
         Some(place) => note_entry(units, place, position, e),
-        None => open_unit(units, position, e),
+        None => {
+            if changes(e) {
+                open_unit(units, position, e);
+            }
+        }
     }
 }
 
@@ -117,6 +131,7 @@ pub fn read_journal<D: Disk>(
     ensures found { IfOk result (λ whole. whole ≡ true → IfSome store.old.current (λ c. (es : List Entry) → IsJournal c span.now es → AreChangesIn (placed span.now.first es) (begun units.new))) }
     ensures alike { IfOk result (λ whole. whole ≡ true → AreAlike state.new.units (begun units.new)) }
     ensures within { IfOk result (λ whole. whole ≡ true → BeginWithin span.now (begun units.new)) }
+    ensures ascends { IfOk result (λ whole. whole ≡ true → AscendWithin span.now.first span.now.end (begun units.new)) }
     ensures ok { OnOk result (OnlyReads result store.old store.new) }
     ensures down { IfErr result (λ down. Fell down store.old store.new) }
 {

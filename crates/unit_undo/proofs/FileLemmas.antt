@@ -157,7 +157,7 @@ module _ (a b : List (List ℕ)) (h new : FileHead) (serial : Id) (ls : List Liv
       go true = earliest_is_one own key changed
       go false = own_images serial ls (map_of h a) represents.images key changed
 
-  kept_others : (key : Key) → changes_key key own ≡ false → map_of new b key ≡ map_of h a key
+  pub kept_others : (key : Key) → changes_key key own ≡ false → map_of new b key ≡ map_of h a key
   kept_others key not_own = t.map key ∙ passed (has_key key keys) _ _ (false_from_ne_true _ (λ (e : has_key key keys ≡ true). never (changes_key key own) (owned own keys key t.own e) not_own))
 
   pub grouped_back : IsGrouped a h ls b new

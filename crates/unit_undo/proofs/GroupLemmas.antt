@@ -6,6 +6,7 @@ use Rattle.std.proofs.lemmas.List.{length-set, get_or-set_same, get_or-set_other
 use Rattle.file_base.specs.declared.head.FileHead.{FileHead}
 use Rattle.file_base.specs.declared.head.Organization.{Organization as Kept}
 use Rattle.file_base.specs.declared.head.Organization.TheVariants as kept
+use Rattle.vms_model.specs.Ids.{Id}
 use Rattle.records_model.specs.Records.{Change}
 use Rattle.records_model.specs.Slots.{size_of}
 use Rattle.records_model.specs.History.{LiveChanges}
@@ -22,6 +23,7 @@ use Rattle.sequence_laws.specs.Undoing.{GoesBack}
 use Rattle.run_model.specs.World.{File}
 use Rattle.directory_model.specs.Files.{head_at, file_at}
 use Rattle.directory_model.specs.Restoring.{bare, CanRestoreBy, IsLeft, IsPlaceLeft, AreLeft, IsGrouped, IsPlaceGrouped, AreGrouped}
+use Rattle.unit_undo.specs.Way.{AreKeptBeside, IsPlaceKept, KeepsBeside}
 
 all_so : {X : Type 0} (P Q : X → Type 0) (xs : List X) → ((x : X) → P x → Q x) → AllByRecursion P xs → AllByRecursion Q xs
 all_so P Q [] f all = tt
@@ -97,3 +99,32 @@ grouped_more a b c heads mid directory f first h new file are below there named 
         (local_place a b c (head_at heads g) (file_at directory g) (head_at mid g) (λ x at. others g x apart at) (are.each g))
   ];
 }
+
+-- What a branch did not change.
+
+beside_place : (serial : Id) (a : List (List ℕ)) (o : Option FileHead) (p : Option File) → IsPlaceKept serial a o p a o
+beside_place serial a None p = tt
+beside_place serial a (Some h) None = tt
+beside_place serial a (Some h) (Some file) = λ key other. refl
+
+pub beside_itself : (serial : Id) (a : List (List ℕ)) (heads : List (Option FileHead)) (directory : List (Option File)) → AreKeptBeside serial a heads directory a heads
+beside_itself serial a heads directory f = beside_place serial a (head_at heads f) (file_at directory f)
+
+beside_local : (serial : Id) (a b c : List (List ℕ)) (o : Option FileHead) (p : Option File) (m : Option FileHead) → ((h : FileHead) → m ≡ Some h → AgreesOn h b c) → IsPlaceGrouped a o p b m → IsPlaceKept serial a o p b m → IsPlaceKept serial a o p c m
+beside_local serial a b c None p m agrees is k = tt
+beside_local serial a b c (Some first) None m agrees is k = tt
+beside_local serial a b c (Some first) (Some file) None agrees is k = tt
+beside_local serial a b c (Some first) (Some file) (Some h) agrees is k = λ key other. ap (λ (m : Map). m key) (sym (local.local_law h b c is.form (agrees h refl))) ∙ k key other
+
+beside_set : (serial : Id) (a c : List (List ℕ)) (o : Option FileHead) (p : Option File) (first new : FileHead) (file : File) → o ≡ Some first → p ≡ Some file → KeepsBeside serial a first file c new → IsPlaceKept serial a o p c (Some new)
+beside_set serial a c o p first new file there named k = subst (λ x. IsPlaceKept serial a x p c (Some new)) (sym there) (subst (λ x. IsPlaceKept serial a (Some first) x c (Some new)) (sym named) k)
+
+pub beside_more : (serial : Id) (a b c : List (List ℕ)) (heads mid : List (Option FileHead)) (directory : List (Option File)) (f : ℕ) (first h new : FileHead) (file : File) → AreGrouped a heads directory b mid → AreKeptBeside serial a heads directory b mid → f < length mid → head_at heads f ≡ Some first →
+    file_at directory f ≡ Some file → KeepsBeside serial a first file c new → ((g : ℕ) (other : FileHead) → g ≢ f → head_at mid g ≡ Some other → AgreesOn other b c) → AreKeptBeside serial a heads directory c (slice_set mid f (Some new))
+beside_more serial a b c heads mid directory f first h new file are kept below there named is others g = elim (cases_eq f g) [
+  | inl same ↦ subst (λ (k : ℕ). IsPlaceKept serial a (head_at heads k) (file_at directory k) c (head_at (slice_set mid f (Some new)) k)) same
+      (subst (λ (m : Option FileHead). IsPlaceKept serial a (head_at heads f) (file_at directory f) c m) (sym (get_or-set_same mid f (Some new) None below)) (beside_set serial a c (head_at heads f) (file_at directory f) first new file there named is))
+  | inr other ↦ let apart : g ≢ f = λ e. other (sym e) in
+      subst (λ (m : Option FileHead). IsPlaceKept serial a (head_at heads g) (file_at directory g) c m) (sym (get_or-set_other mid f g (Some new) None apart))
+      (beside_local serial a b c (head_at heads g) (file_at directory g) (head_at mid g) (λ x at. others g x apart at) (are.each g) (kept g))
+]

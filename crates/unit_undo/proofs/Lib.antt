@@ -6,6 +6,7 @@ pub mod GroupLemmas
 pub mod ApartLemmas
 pub mod StepLemmas
 pub mod StagedLemmas
+pub mod OffLemmas
 pub mod SettingLemmas
 pub mod PlaceLemmas
 pub mod UnitLemmas

@@ -9,7 +9,7 @@ use Rattle.volume.specs.State.{VolumeState}
 use Rattle.unit_entries.specs.Keys.{KeyTold, IsLeast, NoneFrom}
 use Rattle.unit_entries.proofs.KeyLemmas.{number_is}
 use Rattle.unit_undo.specs.Undoing.{ChangesFile, MayUndo, IsFew, SetsToEntry}
-use Rattle.unit_undo.specs.FileWays.{ChangesOnly, CutsLowest, cut, stays, HasSet, HasPlaced, SetsOne, own, off, PlacesOne, had, gone, TellsBackFile, TellsFailed}
+use Rattle.unit_undo.specs.FileWays.{ChangesOnly, CutsOff, cut, stays, HasSet, HasPlaced, SetsOne, own, off, PlacesOne, had, gone, TellsBackFile, TellsFailed}
 use Rattle.unit_undo.proofs.StepLemmas.{only_same, only_through, only_of, may_on, head_now, fails_going, failed_since}
 use Rattle.unit_undo.proofs.SettingLemmas.{keys_begin, keys_skip, keys_more, keys_end}
 use Rattle.unit_undo.proofs.PlaceLemmas.{number_key, positions_begin, positions_skip, positions_more, positions_end}
@@ -67,13 +67,13 @@ module _ (f steps0 : ℕ) (first : FileHead) (ks : List KeyTold) (v : VolumeStat
   pub cut_fails : (x : VolumeState) → Leaves (IsEither (content v.store) v.store.current) x.store.disk → TellsFailed f first ks v x
   cut_fails x leaves = λ u file s. fails_going u v x s.way leaves
 
-  cut_only : (w : VolumeState) (h : FileHead) → CutsLowest f first ks v w h → ChangesOnly f first v w h
-  cut_only w h (cut from low one changes cuts) = only_of f first h v w changes
-  cut_only w h (stays same_v same_h none) = subst (λ (x : VolumeState). ChangesOnly f first v x h) (sym same_v) (subst (λ (x : FileHead). ChangesOnly f first v v x) (sym same_h) (only_same f first v may.ready may.there))
+  cut_only : (w : VolumeState) (h : FileHead) → CutsOff f first ks v w h → ChangesOnly f first v w h
+  cut_only w h (cut from finds changes cuts) = only_of f first h v w changes
+  cut_only w h (stays found finds far_off same_v same_h) = subst (λ (x : VolumeState). ChangesOnly f first v x h) (sym same_v) (subst (λ (x : FileHead). ChangesOnly f first v v x) (sym same_h) (only_same f first v may.ready may.there))
 
   module _ (sequential : first.organization ≡ kept.Sequential) where
-    pub place_begins : (w : VolumeState) (h : FileHead) (steps : ℕ) → CutsLowest f first ks v w h → IsFew steps w → HasPlaced f 0 first ks v w steps h
-    place_begins w h steps cuts few = record { only = cut_only w h cuts; placed = λ u file s. positions_begin u f first file ks v s sequential w h may.node may.whole may.sound may.there cuts; few = few }
+    pub place_begins : (w : VolumeState) (h : FileHead) (steps : ℕ) → CutsOff f first ks v w h → IsFew steps w → HasPlaced f 0 first ks v w steps h
+    place_begins w h steps cuts few = record { only = cut_only w h cuts; placed = λ u file s. positions_begin u f first file ks v s sequential w h may.node may.whole may.sound may.there may.ring.some far cuts; few = few }
 
     -- the key at the place of the least number
     pub least_key : (from i n : ℕ) (l : IsLeast f from ks i n) (k : KeyTold) → slice_get ks i ≡ Some k → l.key ≡ k

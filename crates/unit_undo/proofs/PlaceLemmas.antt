@@ -1,6 +1,6 @@
 -- Positions of a sequential file are set back in a volume, one after another.
-use Rattle.std.proofs.Common.{◌≡◌, ℕ, ◌+◌, ◌-◌, ◌<◌, ◌≤◌, Bool, true, false, cond, List, [], ◌∷◌, length, Option, Some, None, refl, sym, ◌∙◌, ap, subst, inl, inr, ◌⊎◌, arith}
-use Rattle.std.specs.Prelude.{◌==◌, ◌&&◌, nat_le, min}
+use Rattle.std.proofs.Common.{◌≡◌, ℕ, ◌+◌, ◌-◌, ◌<◌, ◌≤◌, Bool, true, false, cond, List, [], ◌∷◌, length, Option, Some, None, refl, sym, ◌∙◌, ap, subst, inl, inr, arith}
+use Rattle.std.specs.Prelude.{◌==◌, ◌&&◌, nat_le, slice_get}
 use Rattle.std.specs.List.{All, AllByRecursion}
 use Rattle.std.proofs.lemmas.Bool.{false_from_ne_true}
 use Rattle.file_base.specs.declared.head.FileHead.{FileHead}
@@ -20,13 +20,14 @@ use Rattle.seq_file.specs.Layout.{IsSequential, IsRecord, records_in, capacity}
 use Rattle.seq_file.specs.Placing.{buckets_for}
 use Rattle.seq_file.specs.Records.{record_at, map_of_list, cut_from, slot_sizes}
 use Rattle.seq_file.proofs.FileLaws.{used_is}
-use Rattle.seq_file.proofs.RecordLaws.{one_list}
+use Rattle.seq_file.proofs.RecordLaws.{one_list, record_at_past}
 use Rattle.journal_model.specs.Entries.{has_image}
-use Rattle.unit_laws.specs.Units.{Map, map_in, HasImages, is_of, earliest_before}
-use Rattle.unit_laws.proofs.Tests.{both_ways, or_one, or_other, and_first, and_second, picked, passed}
+use Rattle.unit_laws.specs.Units.{Map, map_in, HasImages, earliest_before}
+use Rattle.unit_laws.proofs.Tests.{and_first, and_second, picked, passed}
 use Rattle.unit_laws.proofs.LiveLemmas.{clash}
-use Rattle.sequence_laws.specs.Undoing.{GoesBack, lowest_absent, lower, is_taken_away}
-use Rattle.sequence_laws.proofs.SequenceLemmas.{behind, before}
+use Rattle.sequence_laws.specs.Undoing.{GoesBack, AllInPlace, goes_in_place, lowest_absent, is_taken_away}
+use Rattle.sequence_laws.specs.Laws.{IsFirstOff}
+use Rattle.sequence_laws.proofs.SequenceLemmas.{behind, in_place_none, is_there, none_is_not, off_is_some, some_is_one, taken}
 use Rattle.sequence_laws.proofs.OthersLemmas.{quiet_goes, replaced}
 use Rattle.sequence_laws.proofs.ChangeLemmas.{nothing_goes_back}
 use Rattle.volume.specs.Catalogs.{IsSound}
@@ -39,39 +40,14 @@ use Rattle.unit_entries.specs.Collecting.{IsChangeAt}
 use Rattle.unit_entries.specs.Keys.{KeyTold, number_for, number_of, lowest_in, IsLeast, NoneFrom}
 use Rattle.unit_entries.specs.Told.{TellsKey, before_in}
 use Rattle.unit_undo.specs.Steps.{ArePositionsBack}
-use Rattle.unit_undo.specs.Undoing.{ChangesFile, SetsToEntry, CutsFrom}
-use Rattle.unit_undo.specs.FileWays.{Undo, changes_in, IsStill, IsBackUpTo, IsBack, CutsLowest, cut, stays}
-use Rattle.unit_entries.proofs.KeyLemmas.{itself, number_is, number_itself}
+use Rattle.unit_undo.specs.Undoing.{ChangesFile, SetsToEntry, CutsFrom, TellsInPlace}
+use Rattle.unit_undo.specs.FileWays.{Undo, changes_in, IsStill, IsBackUpTo, IsBack, AreInPlace, FindsOff, found_at, none_off, end_still, CutsOff, cut, stays}
+use Rattle.unit_entries.proofs.KeyLemmas.{number_is, number_itself}
 use Rattle.unit_undo.proofs.BranchLemmas.{IsOwnOrBeside, own_or, own_or_beside, own_images}
-use Rattle.unit_undo.proofs.PositionLemmas.{AlikeSizes, sizes_alike, fits_as, alike_turned, lowest_moves, nothing_cut, are_cut, position_suits, position_takes, is_set_back, set_beside, is_gone}
-use Rattle.unit_undo.proofs.FileLemmas.{kept_so, map_is, grouped_positions, restored_positions, still_images}
+use Rattle.unit_undo.proofs.PositionLemmas.{AlikeSizes, sizes_alike, fits_as, alike_turned, taken_moves, nothing_cut, are_cut, position_suits, position_takes, is_set_back, set_beside, is_gone}
+use Rattle.unit_undo.proofs.FileLemmas.{kept_so, map_is, grouped_positions, kept_still, restored_positions, still_images}
 use Rattle.unit_undo.proofs.StepLemmas.{still_going}
 use Rattle.unit_undo.proofs.SettingLemmas.{told_at_place, found_place, change_stands}
-
--- the lowest position without a record before a change is one that was changed
-least_of : (n m : ℕ) → (min n m ≡ n) ⊎ (min n m ≡ m)
-least_of n m = elim (both_ways (nat_le n m)) [ inl le ↦ inl (let l = behind n m le in omega (arith, l)) | inr gt ↦ inr (let l = before n m gt in omega (arith, l)) ]
-
-some_one : (a b : ℕ) → Some a ≡ Some b → a ≡ b
-some_one a b e = cc
-
-lowest_changed : (cs : List Change) (p : ℕ) → lowest_absent cs ≡ Some p → changes_key (Number p) cs ≡ true
-lowest_changed [] p e = absurd cc
-lowest_changed (c ∷ cs) p e = go c.before c.key refl (lowest_absent cs) refl e (λ later. lowest_changed cs p later)
-  where
-    here : (n : ℕ) → c.key ≡ Number n → n ≡ p → changes_key (Number p) (c ∷ cs) ≡ true
-    here n key same = or_one (is_of (Number p) c) (changes_key (Number p) cs) (subst (λ (k : Key). same_key (Number p) k ≡ true) (sym key) (subst (λ (m : ℕ). same_key (Number p) (Number m) ≡ true) (sym same) (itself (Number p))))
-
-    there : changes_key (Number p) cs ≡ true → changes_key (Number p) (c ∷ cs) ≡ true
-    there is = or_other (is_of (Number p) c) (changes_key (Number p) cs) is
-
-    go : (b : Option (List ℕ)) (key : Key) → c.key ≡ key → (o : Option ℕ) → lowest_absent cs ≡ o → elim b [ Some r ↦ o | None ↦ elim key [ Number n ↦ lower n o | Text t ↦ o | End ↦ o ] ] ≡ Some p
-        → (lowest_absent cs ≡ Some p → changes_key (Number p) cs ≡ true) → changes_key (Number p) (c ∷ cs) ≡ true
-    go (Some r) key is o low e later = there (later (low ∙ e))
-    go None (Number n) is None low e later = here n is (some_one n p e)
-    go None (Number n) is (Some m) low e later = elim (least_of n m) [ inl first ↦ here n is (sym first ∙ some_one (min n m) p e) | inr second ↦ there (later (low ∙ ap Some (sym second) ∙ e)) ]
-    go None (Text t) is o low e later = there (later (low ∙ e))
-    go None End is o low e later = there (later (low ∙ e))
 
 both_so : {X : Type 0} (P Q R : X → Type 0) (xs : List X) → ((x : X) → P x → Q x → R x) → AllByRecursion P xs → AllByRecursion Q xs → AllByRecursion R xs
 both_so P Q R [] f p q = tt
@@ -88,7 +64,7 @@ rebased a b c h new cs from same t = record {
   goes = t.goes;
   images = t.images;
   done = t.done;
-  gone = t.gone;
+  in_place = t.in_place;
 }
 
 pub number_key : (f : ℕ) (k : KeyTold) (n : ℕ) → number_for f k ≡ Some n → ((k.file == f) ≡ true) × (k.key ≡ Number n)
@@ -155,42 +131,98 @@ module _ (u : Undo) (f : ℕ) (first : FileHead) (file : File) (ks : List KeyTol
   goes : (back : List (List ℕ)) × GoesBack first cs (records_in first s.way.now) back
   goes = own_goes file.history.live each_goes
 
-  lowest_one : (p : ℕ) → lowest_absent cs ≡ Some p → 1 ≤ p
-  lowest_one p low = let is = s.positions sequential (Number p) (lowest_changed cs p low) in one_of is.0 is.1 is.2
+  one_of : (n : ℕ) → changes_key (Number n) cs ≡ true → 1 ≤ n
+  one_of n changed = let is = s.positions sequential (Number n) changed in at_least is.0 is.1 is.2
     where
-      one_of : (n : ℕ) → Number p ≡ Number n → 1 ≤ n → 1 ≤ p
-      one_of n e one = let same : p ≡ n = cc in omega (arith, same, one)
+      at_least : (m : ℕ) → Number n ≡ Number m → 1 ≤ m → 1 ≤ n
+      at_least m e one = let same : n ≡ m = cc in omega (arith, same, one)
 
-  module _ (w : VolumeState) (h : FileHead) (node : List ℕ) (long : length v.catalog.heads ≡ 64) (sound : IsSound node v.store.disk.size v.catalog) (there : head_at v.catalog.heads f ≡ Some first) where
+  -- where the key of a changed position stands
+  place_for : (n : ℕ) → changes_key (Number n) cs ≡ true → (i : ℕ) × (k : KeyTold) × (slice_get ks i ≡ Some k) × (number_for f k ≡ Some n)
+  place_for n changed =
+      let is = found_place (λ (k : KeyTold). (k.file == f) && same_key (Number n) k.key) ks (s.tells.all (Number n) changed) in
+      (is.0, is.1, is.3, key_number f is.1 n (and_first (is.1.file == f) (same_key (Number n) is.1.key) is.4) (sym (record_lemmas.same_key (Number n) is.1.key (and_second (is.1.file == f) (same_key (Number n) is.1.key) is.4))))
+
+  -- What can be set back in place, as the entries tell that stand in the journal.
+  module _ (ring : 0 < v.catalog.ru.blocks) (far : 584 ≤ v.catalog.ru.start) where
+    fits_so : (i n : ℕ) (k : KeyTold) → slice_get ks i ≡ Some k → number_for f k ≡ Some n → (fits : Bool) → TellsInPlace first k.key k.first v fits → fits ≡ goes_in_place (record_at (records_in first s.way.now) n) (record_at goes.0 n)
+    fits_so i n k at is fits tells =
+        tells s.way.now told.entry s.way.told (change_stands v.catalog.ru k.first told.entry u.content s.way.now ring far s.way.journal.blocks told.stands) s.left.head.form
+        (local.valid_local_law first u.content s.way.now s.left.head.form s.agrees s.left.laid)
+        ∙ ap (λ (o : Option (List ℕ)). goes_in_place o (before_in told.entry)) now_is ∙ ap (goes_in_place (record_at (records_in first s.way.now) n)) back_is
+      where
+        own : ((k.file == f) ≡ true) × (k.key ≡ Number n)
+        own = number_key f k n is
+
+        told : TellsKey v.catalog.ru u.content cs k
+        told = told_at_place (λ (x : KeyTold). (x.file == f) ≡ true → TellsKey v.catalog.ru u.content cs x) ks i k at s.tells.each own.0
+
+        changed : changes_key (Number n) cs ≡ true
+        changed = subst (λ (x : Key). changes_key x cs ≡ true) own.1 told.changed
+
+        now_is : map_of first s.way.now k.key ≡ record_at (records_in first s.way.now) n
+        now_is = ap (map_of first s.way.now) own.1 ∙ ap (λ (m : Map). m (Number n)) (map_is first s.way.now sequential)
+
+        back_is : before_in told.entry ≡ record_at goes.0 n
+        back_is = sym told.earliest ∙ ap (earliest_before cs) own.1 ∙ sym (goes.1.restored n (one_of n changed) ∙ picked (changes_key (Number n) cs) _ _ changed)
+
+    away_from : (n lowest : ℕ) → lowest_in f ks ≡ Some lowest → is_taken_away (lowest_absent cs) n ≡ nat_le lowest n
+    away_from n lowest low = ap (λ (o : Option ℕ). is_taken_away o n) (sym s.tells.lowest ∙ low)
+
+    -- each position from the lowest one on that has a record is one of the keys
+    fits_each : (lowest until : ℕ) → lowest_in f ks ≡ Some lowest → AreInPlace f lowest until first ks v → (n : ℕ) → is_taken_away (lowest_absent cs) n ≡ true → n < until → goes_in_place (record_at (records_in first s.way.now) n) (record_at goes.0 n) ≡ true
+    fits_each lowest until low fit n tk lt = elim (is_there (record_at (records_in first s.way.now) n)) [
+      | inl none ↦ in_place_none (record_at (records_in first s.way.now) n) (record_at goes.0 n) none
+      | inr some ↦
+          let is = place_for n (goes.1.own n tk (inl some)) in
+          let one = fit is.0 n is.1 is.2 is.3 (behind lowest n (sym (away_from n lowest low) ∙ tk)) lt in
+          sym (fits_so one.place n one.key one.at one.is true one.fits)
+    ]
+
+    first_off : (lowest i n : ℕ) (k : KeyTold) → lowest_in f ks ≡ Some lowest → slice_get ks i ≡ Some k → number_for f k ≡ Some n → lowest ≤ n → TellsInPlace first k.key k.first v false → AreInPlace f lowest n first ks v → IsFirstOff cs (records_in first s.way.now) goes.0 n
+    first_off lowest i n k low at is le tells fit = record {
+      taken = away_from n lowest low ∙ taken lowest n le;
+      off = sym (fits_so i n k at is false tells);
+      first = fits_each lowest n low fit;
+    }
+
+    found_off : (n : ℕ) → FindsOff f first ks v (Some n) → IsFirstOff cs (records_in first s.way.now) goes.0 n
+    found_off n (found_at lowest i m k low is at number le tells fit) = let same : m ≡ n = cc in subst (IsFirstOff cs (records_in first s.way.now) goes.0) same (first_off lowest i m k low at number le tells fit)
+    found_off n (none_off lowest low is fit) = let none : ⊥ = cc in absurd none
+    found_off n (end_still low is) = let none : ⊥ = cc in absurd none
+
+    -- none stands that has to be taken away
+    all_fit : (found : Option ℕ) → FindsOff f first ks v found → ((from : ℕ) → found ≡ Some from → 1 ≤ from → first.count < from) → AllInPlace cs (records_in first s.way.now) goes.0
+    all_fit found (found_at lowest i n k low is at number le tells fit) far_off =
+        let off = first_off lowest i n k low at number le tells fit in
+        let some = off_is_some (record_at (records_in first s.way.now) n) (record_at goes.0 n) off.off in
+        let past = far_off n is (some_is_one (records_in first s.way.now) n some) in
+        let count = laid_now.count in
+        absurd (none_is_not (record_at (records_in first s.way.now) n) (record_at_past (records_in first s.way.now) n (omega (arith, past, count))) some)
+    all_fit found (none_off lowest low is fit) far_off = λ n tk. fits_each lowest (n + 1) low (fit (n + 1)) n tk (omega arith)
+    all_fit found (end_still low is) far_off = λ n tk. let none : false ≡ true = ap (λ (o : Option ℕ). is_taken_away o n) (sym (sym s.tells.lowest ∙ low)) ∙ tk in absurd cc
+
+  module _ (w : VolumeState) (h : FileHead) (node : List ℕ) (long : length v.catalog.heads ≡ 64) (sound : IsSound node v.store.disk.size v.catalog) (there : head_at v.catalog.heads f ≡ Some first) (ring : 0 < v.catalog.ru.blocks) (far : 584 ≤ v.catalog.ru.start) where
     -- nothing had to be taken away
-    quiet_begin : w ≡ v → h ≡ first → ((from : ℕ) → lowest_in f ks ≡ Some from → 1 ≤ from → first.count < from) → IsBackUpTo u f first file 0 w h
-    quiet_begin same_v same_h none =
+    quiet_begin : w ≡ v → h ≡ first → AllInPlace cs (records_in first s.way.now) goes.0 → IsBackUpTo u f first file 0 w h
+    quiet_begin same_v same_h all =
         subst (λ (x : VolumeState). IsBackUpTo u f first file 0 x h) (sym same_v) (subst (λ (x : FileHead). IsBackUpTo u f first file 0 v x) (sym same_h) (record {
           way = s.way;
-          back = rebased s.way.now u.content s.way.now first first cs 0 same_records (nothing_cut s.way.now s.way.now first first cs form laid_now goes.0 goes.1 images_now behind_all);
+          back = rebased s.way.now u.content s.way.now first first cs 0 same_records (nothing_cut s.way.now s.way.now first first cs form laid_now goes.0 goes.1 images_now all);
           others = each_goes;
         }))
-      where
-        behind_all : (n : ℕ) → is_taken_away (lowest_absent cs) n ≡ true → length (records_in first s.way.now) < n
-        behind_all n away = at (lowest_absent cs) refl away
-          where
-            at : (o : Option ℕ) → lowest_absent cs ≡ o → is_taken_away o n ≡ true → length (records_in first s.way.now) < n
-            at None low away = absurd cc
-            at (Some p) low away = let far = none p (s.tells.lowest ∙ low) (lowest_one p low) in let le = behind p n away in let count = laid_now.count in omega (arith, far, le, count)
 
     -- positions were taken away
-    cut_begin : (from : ℕ) → lowest_in f ks ≡ Some from → 1 ≤ from → ChangesFile f first v w h → CutsFrom first from v w h → IsBackUpTo u f first file 0 w h
+    cut_begin : (from : ℕ) → IsFirstOff cs (records_in first s.way.now) goes.0 from → ChangesFile f first v w h → CutsFrom first from v w h → IsBackUpTo u f first file 0 w h
     unfolding still_going
-    cut_begin from is_low one changes cuts = record {
+    cut_begin from off changes cuts = record {
       way = still_going u f first first h file node v w long sound there s.way c.0 c.1 changes s.there s.named
-          (grouped_positions u.content c.0 first h u.serial file.history.live (map_in (records file.history)) 0 sequential s.left.represents back others);
+          (grouped_positions u.content c.0 first h u.serial file.history.live (map_in (records file.history)) 0 sequential s.left.represents back others)
+          (kept_still u.content c.0 first h u.serial file.history.live (map_in (records file.history)) 0 sequential s.left.represents back);
       back = back;
       others = others;
     }
       where
-        low : lowest_absent cs ≡ Some from
-        low = sym s.tells.lowest ∙ is_low
-
         c : (d : List (List ℕ)) × (w.store.current ≡ Some d) × CutsFile first from s.way.now d h
         c = cuts s.way.now s.way.told s.left.head.form (local.valid_local_law first u.content s.way.now s.left.head.form s.agrees s.left.laid)
 
@@ -207,7 +239,7 @@ module _ (u : Undo) (f : ℕ) (first : FileHead) (file : File) (ks : List KeyTol
         maps = sym (map_is h c.0 new_sequential) ∙ c.2.map ∙ ap (cut_from from) (map_is first s.way.now sequential)
 
         from_now : ArePositionsBack s.way.now first cs 0 c.0 h
-        from_now = are_cut s.way.now c.0 first h cs form laid_now goes.0 goes.1 images_now from one low changes.same new_form new_laid maps
+        from_now = are_cut s.way.now c.0 first h cs form laid_now goes.0 goes.1 images_now from off changes.same new_form new_laid maps
 
         back : ArePositionsBack u.content first cs 0 c.0 h
         back = rebased s.way.now u.content c.0 first h cs 0 same_records from_now
@@ -231,7 +263,7 @@ module _ (u : Undo) (f : ℕ) (first : FileHead) (file : File) (ks : List KeyTol
           replaced l.changes 1 (records_in h c.0),
           quiet_goes first l.changes (records_in first s.way.now) (records_in h c.0) has.0.0 has.0.1 has.1
               (λ n n1 changed. still n n1 (false_from_ne_true _ (λ (e : changes_key (Number n) cs ≡ true). clash (changes_key (Number n) l.changes) changed (beside.apart (Number n) e))))
-              (beside.ends (lowest_moves cs from low)) records_new fits_new,
+              (beside.ends (taken_moves cs from off.taken)) records_new fits_new,
         )
 
         others : AllByRecursion (λ (l : LiveChanges). (x : List (List ℕ)) × GoesBack first l.changes (records_in h c.0) x) file.history.live
@@ -240,9 +272,9 @@ module _ (u : Undo) (f : ℕ) (first : FileHead) (file : File) (ks : List KeyTol
             (both_so (λ (l : LiveChanges). (x : List (List ℕ)) × GoesBack first l.changes (records_in first s.way.now) x) (λ (l : LiveChanges). HasImages (map_of_list (records_in first s.way.now)) l.changes)
             (λ (l : LiveChanges). ((x : List (List ℕ)) × GoesBack first l.changes (records_in first s.way.now) x) × HasImages (map_of_list (records_in first s.way.now)) l.changes) file.history.live (λ l a b. (a, b)) each_goes each_images)
 
-    pub positions_begin : CutsLowest f first ks v w h → IsBackUpTo u f first file 0 w h
-    positions_begin (cut from low one changes cuts) = cut_begin from low one changes cuts
-    positions_begin (stays same_v same_h none) = quiet_begin same_v same_h none
+    pub positions_begin : CutsOff f first ks v w h → IsBackUpTo u f first file 0 w h
+    positions_begin (cut from finds changes cuts) = cut_begin from (found_off ring far from finds) changes cuts
+    positions_begin (stays found finds far_off same_v same_h) = quiet_begin same_v same_h (all_fit ring far found finds far_off)
 
   module _ (from i n : ℕ) (w : VolumeState) (h : FileHead) (p : IsBackUpTo u f first file from w h) (l : IsLeast f from ks i n) where
     own : (l.key.file == f) ≡ true
@@ -261,15 +293,10 @@ module _ (u : Undo) (f : ℕ) (first : FileHead) (file : File) (ks : List KeyTol
     earliest = subst (λ (k : Key). earliest_before cs k ≡ before_in told.entry) key_is told.earliest
 
     one : 1 ≤ n
-    one = let is = s.positions sequential (Number n) changed in one_of is.0 is.1 is.2
-      where
-        one_of : (m : ℕ) → Number n ≡ Number m → 1 ≤ m → 1 ≤ n
-        one_of m e some = let same : n ≡ m = cc in omega (arith, same, some)
+    one = one_of n changed
 
     least : (m : ℕ) → from ≤ m → changes_key (Number m) cs ≡ true → n ≤ m
-    least m le ck =
-        let is = found_place (λ (k : KeyTold). (k.file == f) && same_key (Number m) k.key) ks (s.tells.all (Number m) ck) in
-        l.least is.0 m is.1 is.3 (key_number f is.1 m (and_first (is.1.file == f) (same_key (Number m) is.1.key) is.4) (sym (record_lemmas.same_key (Number m) is.1.key (and_second (is.1.file == f) (same_key (Number m) is.1.key) is.4)))) le
+    least m le ck = let is = place_for m ck in l.least is.0 m is.1 is.2 is.3 le
 
     -- there was no record before the branch's changes
     pub positions_skip : l.key.had ≡ false → IsBackUpTo u f first file (n + 1) w h
@@ -341,7 +368,8 @@ module _ (u : Undo) (f : ℕ) (first : FileHead) (file : File) (ks : List KeyTol
         unfolding done others back still_going
         positions_more = record {
           way = still_going u f first h new file node w x long sound there p.way done.0 done.1 changes s.there s.named
-              (grouped_positions u.content done.0 first new u.serial file.history.live (map_in (records file.history)) (n + 1) sequential s.left.represents back others);
+              (grouped_positions u.content done.0 first new u.serial file.history.live (map_in (records file.history)) (n + 1) sequential s.left.represents back others)
+              (kept_still u.content done.0 first new u.serial file.history.live (map_in (records file.history)) (n + 1) sequential s.left.represents back);
           back = back;
           others = others;
         }
@@ -350,7 +378,5 @@ module _ (u : Undo) (f : ℕ) (first : FileHead) (file : File) (ks : List KeyTol
   positions_end from w h p none = record {
     way = p.way;
     restored = restored_positions u.content p.way.now first h u.serial file.history.live (map_in (records file.history)) from sequential s.left.represents p.back (s.positions sequential)
-        (λ m le ck.
-        let is = found_place (λ (k : KeyTold). (k.file == f) && same_key (Number m) k.key) ks (s.tells.all (Number m) ck) in
-        none is.0 m is.1 is.3 (key_number f is.1 m (and_first (is.1.file == f) (same_key (Number m) is.1.key) is.4) (sym (record_lemmas.same_key (Number m) is.1.key (and_second (is.1.file == f) (same_key (Number m) is.1.key) is.4)))) le);
+        (λ m le ck. let is = place_for m ck in none is.0 m is.1 is.2 is.3 le);
   }

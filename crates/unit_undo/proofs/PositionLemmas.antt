@@ -16,14 +16,14 @@ use Rattle.seq_file.specs.Layout as sequential
 use Rattle.seq_file.specs.Layout.{IsSequential, IsRecord, records_in, capacity}
 use Rattle.seq_file.specs.Placing.{buckets_for}
 use Rattle.seq_file.specs.Records.{record_at, map_of_list, list_set, cut_from, slot_sizes, MaySet}
-use Rattle.seq_file.proofs.RecordLaws.{one_list, record_at_past, record_at_take}
+use Rattle.seq_file.proofs.RecordLaws.{one_list, record_at_past}
 use Rattle.seq_file.proofs.MapLaws.{map_set, map_cut}
 use Rattle.seq_file.proofs.FileLaws.{append_takes, used_is}
 use Rattle.unit_laws.specs.Units.{HasImages, IsImage, is_of, earliest_before, with_before_images, moves_end}
 use Rattle.unit_laws.proofs.Tests.{both_ways, never, or_either, or_one, or_other, picked, passed}
-use Rattle.sequence_laws.specs.Undoing.{GoesBack, lowest_absent, absent_at, lower, is_taken_away}
-use Rattle.sequence_laws.specs.Laws.{IsStep, IsSetBefore, IsChangeOf}
-use Rattle.sequence_laws.proofs.SequenceLemmas.{cut_goes_back, set_goes_back, set_may, set_at, all_set_is_back, behind, before, same_or_other, is_there, some_of, none_is_not, some_same, some_before}
+use Rattle.sequence_laws.specs.Undoing.{GoesBack, AllInPlace, lowest_absent, absent_at, lower, is_taken_away}
+use Rattle.sequence_laws.specs.Laws.{IsStep, IsFirstOff, IsSetBefore, IsChangeOf}
+use Rattle.sequence_laws.proofs.SequenceLemmas.{all_set_is_back, before, behind, cut_goes_back, in_place_gone, none_is_not, off_is_some, same_or_other, set_at, set_goes_back, set_may, some_before, some_is_one, some_of, some_same}
 use Rattle.sequence_laws.proofs.ChangeLemmas.{change_beside_goes_back}
 use Rattle.unit_undo.specs.Steps.{ArePositionsBack, ArePositions, IsBeside}
 use Rattle.unit_undo.proofs.BackLemmas.{same_through}
@@ -48,7 +48,7 @@ pub goes_as : (h new : FileHead) (cs : List Change) (now back : List (List ℕ))
 goes_as h new cs now back alike g = record {
   restored = g.restored;
   own = g.own;
-  absent = g.absent;
+  whole = g.whole;
   same = g.same;
   records = subst (λ (m : ℕ). All (IsRecord m) back) (sym alike.mrs) g.records;
   fits = fits_as h new (slot_sizes back) alike g.fits;
@@ -103,12 +103,20 @@ absent_away (c ∷ cs) n changed none = elim (both_ways (changes_key (Number n) 
     here o had key = subst (λ (b : Option (List ℕ)). is_taken_away (elim b [ Some r ↦ o | None ↦ elim c.key [ Number k ↦ lower k o | Text t ↦ o | End ↦ o ] ]) n ≡ true) (sym had)
         (subst (λ (k : Key). is_taken_away (elim k [ Number k ↦ lower k o | Text t ↦ o | End ↦ o ]) n ≡ true) (sym key) (below n o (inr (omega arith))))
 
+-- a position is taken away of a branch alone that moved the end
+pub taken_moves : (cs : List Change) (n : ℕ) → is_taken_away (lowest_absent cs) n ≡ true → moves_end cs ≡ true
+taken_moves cs n tk = go (lowest_absent cs) refl tk
+  where
+    go : (o : Option ℕ) → lowest_absent cs ≡ o → is_taken_away o n ≡ true → moves_end cs ≡ true
+    go None low tk = absurd cc
+    go (Some p) low tk = lowest_moves cs p low
+
 -- Positions are taken away.
 
 module _ (a b : List (List ℕ)) (h new : FileHead) (cs : List Change) (form : IsSequential h) (laid : sequential.IsLaidOut h a) (back : List (List ℕ)) (goes : GoesBack h cs (records_in h a) back) (has : HasImages (map_of_list (records_in h a)) cs) where
-  -- none has a record already
-  pub nothing_cut : ((n : ℕ) → is_taken_away (lowest_absent cs) n ≡ true → length (records_in h a) < n) → ArePositionsBack a h cs 0 a h
-  nothing_cut none = record {
+  -- none has to be
+  pub nothing_cut : AllInPlace cs (records_in h a) back → ArePositionsBack a h cs 0 a h
+  nothing_cut all = record {
     same = record { is = refl };
     form = form;
     laid = laid;
@@ -117,15 +125,18 @@ module _ (a b : List (List ℕ)) (h new : FileHead) (cs : List Change) (form : I
     goes = goes;
     images = has;
     done = λ n one below changed. absurd (omega (arith, below));
-    gone = λ n le away. record_at_past (records_in h a) n (none n away);
+    in_place = all;
   }
 
-  module _ (from : ℕ) (one : 1 ≤ from) (low : lowest_absent cs ≡ Some from) (same : SameFile h new) (new_form : IsSequential new) (new_laid : sequential.IsLaidOut new b) (maps : map_of_list (records_in new b) ≡ cut_from from (map_of_list (records_in h a))) where
+  module _ (from : ℕ) (off : IsFirstOff cs (records_in h a) back from) (same : SameFile h new) (new_form : IsSequential new) (new_laid : sequential.IsLaidOut new b) (maps : map_of_list (records_in new b) ≡ cut_from from (map_of_list (records_in h a))) where
+    one : 1 ≤ from
+    one = some_is_one (records_in h a) from (off_is_some (record_at (records_in h a) from) (record_at back from) off.off)
+
     pub cut_records : records_in new b ≡ take (from - 1) (records_in h a)
     cut_records = one_list (records_in new b) (take (from - 1) (records_in h a)) (maps ∙ sym (map_cut from (records_in h a) one))
 
     step : IsStep h cs (records_in h a) back (records_in new b)
-    step = subst (λ (rs : List (List ℕ)). IsStep h cs (records_in h a) back rs) (sym cut_records) (cut_goes_back h cs (records_in h a) back from goes low one)
+    step = subst (λ (rs : List (List ℕ)). IsStep h cs (records_in h a) back rs) (sym cut_records) (cut_goes_back h cs (records_in h a) back from goes off)
 
     pub are_cut : ArePositionsBack a h cs 0 b new
     are_cut = record {
@@ -137,11 +148,8 @@ module _ (a b : List (List ℕ)) (h new : FileHead) (cs : List Change) (form : I
       goes = step.goes;
       images = step.images has;
       done = λ n first below changed. absurd (omega (arith, below));
-      gone = λ n le away. elim (is_there (record_at (records_in new b) n)) [ inl none ↦ none | inr some ↦ absurd (never_there n (behind from n (subst (λ (o : Option ℕ). is_taken_away o n ≡ true) low away)) some) ];
+      in_place = step.in_place;
     }
-      where
-        never_there : (n : ℕ) → from ≤ n → IsSome (record_at (records_in new b) n) → ⊥
-        never_there n le some = none_is_not (record_at (take (from - 1) (records_in h a)) n) ((record_at_take (records_in h a) from n one).0 le) (subst (λ (rs : List (List ℕ)). IsSome (record_at rs n)) cut_records some)
 
 -- A position is set back.
 
@@ -178,17 +186,8 @@ module _ (a b : List (List ℕ)) (h mid : FileHead) (cs : List Change) (from n :
             last_there zero k1 e = absurd (omega arith)
             last_there (suc k) k1 e = let less : suc k - 1 ≡ k = omega arith in subst (λ (j : ℕ). IsSome (slice_get t.back j)) (sym less) (some_of (record_at t.back (suc k)) r e)
 
-    regrown : (m : ℕ) (q : List ℕ) → is_taken_away (lowest_absent cs) m ≡ true → record_at (records_in mid b) m ≡ Some q → record_at t.back m ≡ Some q
-    regrown zero q away is = absurd cc
-    regrown (suc k) q away is =
-        let ck = t.goes.own (suc k) away (inl (some_of _ q is)) in
-        elim (both_ways (nat_le from (suc k))) [
-          | inl late ↦ absurd (none_is_not (record_at (records_in mid b) (suc k)) (t.gone (suc k) (behind from (suc k) late) away) (some_of _ q is))
-          | inr early ↦ t.goes.restored (suc k) (omega arith) ∙ picked (changes_key (Number (suc k)) cs) _ _ ck ∙ sym (t.done (suc k) (omega arith) (before from (suc k) early) ck) ∙ is
-        ]
-
     sets : IsSetBefore cs (records_in mid b) t.back n
-    sets = record { regrown = regrown; filled = filled }
+    sets = record { in_place = t.in_place; filled = filled }
 
     may : ((old : List ℕ) → record_at (records_in mid b) n ≡ Some old → length r ≡ length old) × (n ≡ length (records_in mid b) + 1 → buckets_for (capacity h) (slot_sizes (records_in mid b ++ r ∷ [])) ≤ h.alloc)
     may = set_may h cs (records_in mid b) t.back n r t.goes sets one changed had
@@ -224,7 +223,7 @@ module _ (a b : List (List ℕ)) (h mid : FileHead) (cs : List Change) (from n :
       set_at_place m = let at = set_at (records_in mid b) n m r one filled in ((λ e. ap (λ rs. record_at rs m) set_records ∙ at.0 e), (λ e. ap (λ rs. record_at rs m) set_records ∙ at.1 e))
 
       went : IsStep h cs (records_in mid b) t.back (records_in new c)
-      went = subst (λ (rs : List (List ℕ)). IsStep h cs (records_in mid b) t.back rs) (sym set_records) (set_goes_back h cs (records_in mid b) t.back n r t.goes one filled changed had)
+      went = subst (λ (rs : List (List ℕ)). IsStep h cs (records_in mid b) t.back rs) (sym set_records) (set_goes_back h cs (records_in mid b) t.back n r t.goes t.in_place one filled changed had)
 
       pub is_set_back : ArePositionsBack a h cs (n + 1) c new
       is_set_back = record {
@@ -239,7 +238,7 @@ module _ (a b : List (List ℕ)) (h mid : FileHead) (cs : List Change) (from n :
           | inl this ↦ (set_at_place m).0 this ∙ sym had ∙ ap (λ k. earliest_before cs (Number k)) (sym this)
           | inr other ↦ (set_at_place m).1 other ∙ below_back m m1 (omega (arith, lt, other)) ck ∙ t.goes.restored m m1 ∙ picked (changes_key (Number m) cs) _ _ ck
         ];
-        gone = λ m late away. (set_at_place m).1 (λ e. omega (arith, late, e)) ∙ t.gone m (omega (arith, late, le)) away;
+        in_place = went.in_place;
       }
 
       -- another branch still goes back
@@ -282,14 +281,14 @@ module _ (a b : List (List ℕ)) (h mid : FileHead) (cs : List Change) (from n :
     goes = t.goes;
     images = t.images;
     done = λ m m1 lt ck. elim (same_or_other m n) [
-      | inl this ↦ ap (record_at (records_in mid b)) this ∙ t.gone n le away ∙ sym none ∙ ap (λ k. earliest_before cs (Number k)) (sym this)
+      | inl this ↦ ap (record_at (records_in mid b)) this ∙ stands_none ∙ sym none ∙ ap (λ k. earliest_before cs (Number k)) (sym this)
       | inr other ↦ below_back m m1 (omega (arith, lt, other)) ck ∙ t.goes.restored m m1 ∙ picked (changes_key (Number m) cs) _ _ ck
     ];
-    gone = λ m late away. t.gone m (omega (arith, late, le)) away;
+    in_place = t.in_place;
   }
     where
-      away : is_taken_away (lowest_absent cs) n ≡ true
-      away = absent_away cs n changed none
+      stands_none : record_at (records_in mid b) n ≡ None
+      stands_none = in_place_gone (record_at (records_in mid b) n) (record_at t.back n) (t.goes.restored n one ∙ picked (changes_key (Number n) cs) _ _ changed ∙ none) (t.in_place n (absent_away cs n changed none))
 
 -- All positions are back.
 

@@ -19,9 +19,9 @@ use Rattle.volume_files.proofs.Places.{head_below}
 use Rattle.unit_undo.proofs.ApartLemmas.{others_keep, journal_off}
 use Rattle.unit_undo.specs.Undoing.{GoesOn, ChangesFile, ChangesHeads, MayGoOn, MayUndo, IsFew}
 use Rattle.unit_undo.specs.FileWays.{Undo, IsGoing, FailsGoing, ChangesOnly}
-use Rattle.unit_undo.specs.Way.{IsOnTheWay, KeepsJournal}
+use Rattle.unit_undo.specs.Way.{AreKeptBeside, IsOnTheWay, KeepsBeside, KeepsJournal}
 use Rattle.unit_undo.proofs.BackLemmas.{same_through}
-use Rattle.unit_undo.proofs.GroupLemmas.{grouped_more}
+use Rattle.unit_undo.proofs.GroupLemmas.{beside_more, grouped_more}
 
 -- Nothing is counted where a call went well.
 
@@ -167,22 +167,24 @@ head_now f h new v w c long there = ap (λ (hs : List (Option FileHead)). head_a
 
 -- What is told goes on its way.
 
-pub same_way : (u : Undo) (k j : Catalog) (c : List (List ℕ)) → j ≡ record k { heads = j.heads } → IsOnTheWay u.content u.heads u.directory k c → IsOnTheWay u.content u.heads u.directory j c
+pub same_way : (u : Undo) (k j : Catalog) (c : List (List ℕ)) → j ≡ record k { heads = j.heads } → IsOnTheWay u.serial u.content u.heads u.directory k c → IsOnTheWay u.serial u.content u.heads u.directory j c
 same_way u k j c same way = record {
   new = way.new;
   tells = subst (λ (x : Catalog). TellsCatalog x c) (sym (λ i. record (same i) { heads = way.new })) way.tells;
   sound = λ node s.
       subst (IsSound node (length u.content + 518)) (sym (λ i. record (same i) { heads = way.new })) (way.sound node (subst (IsSound node (length u.content + 518)) (λ i. record (same i) { heads = u.heads }) s));
   grouped = way.grouped;
+  beside = way.beside;
   journal = subst (λ (x : Catalog). KeepsJournal x.ru u.content c) (sym same) way.journal;
 }
 
-pub now_on_the_way : (u : Undo) (v : VolumeState) (g : IsGoing u v) → IsOnTheWay u.content u.heads u.directory v.catalog g.now
+pub now_on_the_way : (u : Undo) (v : VolumeState) (g : IsGoing u v) → IsOnTheWay u.serial u.content u.heads u.directory v.catalog g.now
 now_on_the_way u v g = record {
   new = v.catalog.heads;
   tells = g.tells;
   sound = λ node s. subst (λ (n : ℕ). IsSound node n v.catalog) (sym g.size) (g.sound node (subst (λ (n : ℕ). IsSound node n (record v.catalog { heads = u.heads })) g.size s));
   grouped = g.grouped;
+  beside = g.beside;
   journal = g.journal;
 }
 
@@ -214,13 +216,15 @@ module _ (u : Undo) (f : ℕ) (first h new : FileHead) (file : File) (node : Lis
   pub others_still : (k : ℕ) (other : FileHead) → k ≢ f → head_at v.catalog.heads k ≡ Some other → AgreesOn other g.now c
   others_still k other differs at = others_keep node v.store.disk.size v.catalog long sound f h g.now c there agrees k other differs at
 
-  unfoldable pub still_going : head_at u.heads f ≡ Some first → file_at u.directory f ≡ Some file → IsGrouped u.content first file.history.live c new → IsGoing u w
-  still_going in_heads in_directory grouped = record {
+  unfoldable pub still_going : head_at u.heads f ≡ Some first → file_at u.directory f ≡ Some file → IsGrouped u.content first file.history.live c new → KeepsBeside u.serial u.content first file c new → IsGoing u w
+  still_going in_heads in_directory grouped beside = record {
     now = c;
     told = now;
     tells = if_told w.store.current c (TellsCatalog w.catalog) now (changes.goes.holds (told_if v.store.current g.now (TellsCatalog v.catalog) g.told g.tells));
     grouped = subst (λ (hs : List (Option FileHead)). AreGrouped u.content u.heads u.directory c hs) (sym changes.heads)
         (grouped_more u.content g.now c u.heads v.catalog.heads u.directory f first h new file g.grouped (let below = head_below v.catalog.heads f h long there in omega (arith, below, long)) in_heads in_directory grouped others_still);
+    beside = subst (λ (hs : List (Option FileHead)). AreKeptBeside u.serial u.content u.heads u.directory c hs) (sym changes.heads)
+        (beside_more u.serial u.content g.now c u.heads v.catalog.heads u.directory f first h new file g.grouped g.beside (let below = head_below v.catalog.heads f h long there in omega (arith, below, long)) in_heads in_directory beside others_still);
     size = g.size ∙ sym changes.goes.quiet.size;
     sound = sound_on u.heads v w changes.goes g.sound;
     journal = record {
@@ -235,7 +239,7 @@ module _ (u : Undo) (f : ℕ) (first h new : FileHead) (file : File) (node : Lis
     way = held.2;
   }
     where
-      held : (b : List (List ℕ)) × (content w.store ≡ Some b) × IsOnTheWay u.content u.heads u.directory w.catalog b
+      held : (b : List (List ℕ)) × (content w.store ≡ Some b) × IsOnTheWay u.serial u.content u.heads u.directory w.catalog b
       held = ⊎_elim (λ same. (g.before, same ∙ g.applied, same_way u v.catalog w.catalog g.before changes.goes.catalog g.way))
           (λ done. (g.now, done ∙ g.told, same_way u v.catalog w.catalog g.now changes.goes.catalog (now_on_the_way u v g))) changes.applied
 
@@ -244,8 +248,8 @@ pub fails_going : (u : Undo) (v w : VolumeState) → IsGoing u v → Leaves (IsE
 fails_going u v w g leaves = λ image left. let l = leaves image left in (
   l.0,
   ⊎_elim
-      (λ was. subst (λ (c : List (List ℕ)). IsOnTheWay u.content u.heads u.directory v.catalog c) (sym (some_is _ g.before (was ∙ g.applied))) g.way)
-      (λ is. subst (λ (c : List (List ℕ)). IsOnTheWay u.content u.heads u.directory v.catalog c) (sym (some_is _ g.now (is ∙ g.told))) (now_on_the_way u v g))
+      (λ was. subst (λ (c : List (List ℕ)). IsOnTheWay u.serial u.content u.heads u.directory v.catalog c) (sym (some_is _ g.before (was ∙ g.applied))) g.way)
+      (λ is. subst (λ (c : List (List ℕ)). IsOnTheWay u.serial u.content u.heads u.directory v.catalog c) (sym (some_is _ g.now (is ∙ g.told))) (now_on_the_way u v g))
       l.1,
 )
 

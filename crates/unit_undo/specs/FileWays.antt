@@ -17,10 +17,10 @@ use Rattle.directory_model.specs.Files.{head_at, file_at}
 use Rattle.directory_model.specs.Restoring.{IsLeft, IsRestored}
 use Rattle.volume.specs.State.{VolumeState}
 use Rattle.volume_files.specs.Staging.{is_of_file}
-use Rattle.unit_entries.specs.Keys.{KeyTold, lowest_in}
+use Rattle.unit_entries.specs.Keys.{KeyTold, lowest_in, number_for}
 use Rattle.unit_entries.specs.Told.{TellsKeys}
 use Rattle.unit_undo.specs.Steps.{has_key, AreSetBack, ArePositions, ArePositionsBack}
-use Rattle.unit_undo.specs.Undoing.{GoesOn, ChangesFile, CutsFrom, IsFew, SetsToEntry}
+use Rattle.unit_undo.specs.Undoing.{GoesOn, ChangesFile, CutsFrom, IsFew, SetsToEntry, TellsInPlace}
 use Rattle.unit_undo.specs.Way.{IsOnTheWay, IsUnderWay}
 
 -- One file was changed, in as many groups as it took, of which the last is staged.
@@ -41,11 +41,11 @@ abbrev pub changes_in : Undo → File → List Change
 changes_in u file = changes_by u.serial file.history.live
 
 abbrev pub IsGoing : Undo → VolumeState → Type 0
-IsGoing u v = IsUnderWay u.content u.heads u.directory v
+IsGoing u v = IsUnderWay u.serial u.content u.heads u.directory v
 
 -- Where the disk goes down, each image has a content that is on the way.
 abbrev pub FailsGoing : Undo → (v w : VolumeState) → Type 0
-FailsGoing u v w = Leaves (IsOnTheWay u.content u.heads u.directory v.catalog) w.store.disk
+FailsGoing u v w = Leaves (IsOnTheWay u.serial u.content u.heads u.directory v.catalog) w.store.disk
 
 -- A file in which the branch is still to be undone: nothing of it was changed, and these keys tell what the branch changed.
 pub record IsStill (u : Undo) (f : ℕ) (first : FileHead) (file : File) (ks : List KeyTold) (v : VolumeState) : Type 0 where
@@ -89,10 +89,34 @@ TellsBackFile f first ks v w h = (u : Undo) (file : File) → IsStill u f first 
 abbrev pub TellsFailed : (f : ℕ) → FileHead → List KeyTold → VolumeState → VolumeState → Type 0
 TellsFailed f first ks v w = (u : Undo) (file : File) → IsStill u f first file ks v → FailsGoing u v w
 
--- Positions were taken away from the lowest one on that had no record before a change, or none had to be.
-pub data CutsLowest (f : ℕ) (h : FileHead) (ks : List KeyTold) (v w : VolumeState) (new : FileHead) : Type 0 where
-  cut : (from : ℕ) → lowest_in f ks ≡ Some from → 1 ≤ from → ChangesFile f h v w new → CutsFrom h from v w new → CutsLowest f h ks v w new
-  stays : w ≡ v → new ≡ h → ((from : ℕ) → lowest_in f ks ≡ Some from → 1 ≤ from → h.count < from) → CutsLowest f h ks v w new
+-- a key that is this number of the file can be set back in place
+pub record FitsAt (f n : ℕ) (h : FileHead) (ks : List KeyTold) (v : VolumeState) : Type 0 where
+  pub place : ℕ
+  pub key : KeyTold
+  pub at : slice_get ks place ≡ Some key
+  pub is : number_for f key ≡ Some n
+  pub fits : TellsInPlace h key.key key.first v true
+
+-- so can each number of the file from one on and before another
+abbrev pub AreInPlace : (f lowest until : ℕ) → FileHead → List KeyTold → VolumeState → Type 0
+AreInPlace f lowest until h ks v = (i n : ℕ) (k : KeyTold) → slice_get ks i ≡ Some k → number_for f k ≡ Some n → lowest ≤ n → n < until → FitsAt f n h ks v
+
+-- The first number of a file that cannot be set back in place, from the lowest one on that had no record before a change; or there is none.
+pub data FindsOff (f : ℕ) (h : FileHead) (ks : List KeyTold) (v : VolumeState) (found : Option ℕ) : Type 0 where
+  found_at : (lowest i n : ℕ) (k : KeyTold) → lowest_in f ks ≡ Some lowest → found ≡ Some n → slice_get ks i ≡ Some k → number_for f k ≡ Some n → lowest ≤ n → TellsInPlace h k.key k.first v false → AreInPlace f lowest n h ks v → FindsOff f h ks v found
+  none_off : (lowest : ℕ) → lowest_in f ks ≡ Some lowest → found ≡ None → ((until : ℕ) → AreInPlace f lowest until h ks v) → FindsOff f h ks v found
+  end_still : lowest_in f ks ≡ None → found ≡ None → FindsOff f h ks v found
+
+-- so far none was found from the lowest one on
+pub record HasFound (f lowest until : ℕ) (h : FileHead) (ks : List KeyTold) (v w : VolumeState) : Type 0 where
+  pub same : w ≡ v
+  pub least : lowest ≤ until
+  pub fit : AreInPlace f lowest until h ks v
+
+-- Positions were taken away from that one on, or none stands there.
+pub data CutsOff (f : ℕ) (h : FileHead) (ks : List KeyTold) (v w : VolumeState) (new : FileHead) : Type 0 where
+  cut : (from : ℕ) → FindsOff f h ks v (Some from) → ChangesFile f h v w new → CutsFrom h from v w new → CutsOff f h ks v w new
+  stays : (found : Option ℕ) → FindsOff f h ks v found → ((from : ℕ) → found ≡ Some from → 1 ≤ from → h.count < from) → w ≡ v → new ≡ h → CutsOff f h ks v w new
 
 -- So far in a file: this was changed, it is told so, and so many steps are staged.
 pub record HasSet (f count : ℕ) (first : FileHead) (ks : List KeyTold) (v w : VolumeState) (steps : ℕ) (h : FileHead) : Type 0 where

@@ -1,5 +1,5 @@
 -- What becomes of a file while the keys that a branch changed in it are set back, one after another.
-use Rattle.std.specs.Prelude.{◌≡◌, ℕ, ◌≤◌, ◌<◌, Bool, true, false, List, map, None, if◌then◌else◌}
+use Rattle.std.specs.Prelude.{◌≡◌, ℕ, ◌≤◌, ◌<◌, Bool, true, false, List, map, if◌then◌else◌}
 use Rattle.std.specs.List.{list_any, AllByRecursion}
 use Rattle.file_base.specs.declared.head.FileHead.{FileHead}
 use Rattle.vms_model.specs.Keys.{Key, Number, Text}
@@ -14,7 +14,7 @@ use Rattle.seq_file.specs.Layout as sequential
 use Rattle.seq_file.specs.Layout.{IsSequential, records_in}
 use Rattle.seq_file.specs.Records.{record_at, map_of_list}
 use Rattle.unit_laws.specs.Units.{earliest_before, HasImages, moves_end}
-use Rattle.sequence_laws.specs.Undoing.{GoesBack, lowest_absent, is_taken_away}
+use Rattle.sequence_laws.specs.Undoing.{GoesBack, AllInPlace}
 
 -- whether a key is one of these
 abbrev pub has_key : Key → List Key → Bool
@@ -38,8 +38,8 @@ pub record AreSetBack (a : List (List ℕ)) (h : FileHead) (cs : List Change) (k
   pub rooms : (key : Key) → room_at h a key ≤ room_at new b key
   pub own : AllByRecursion (λ key. changes_key key cs ≡ true) keys
 
--- The positions of a sequential file that a branch changed have their earliest before images again up to this one, those behind it that are taken away have no
--- record, and the file goes back to the same records as before.
+-- The positions of a sequential file that a branch changed have their earliest before images again up to this one, none is left that has to be taken away, and
+-- the file goes back to the same records as before.
 pub record ArePositionsBack (a : List (List ℕ)) (h : FileHead) (cs : List Change) (from : ℕ) (b : List (List ℕ)) (new : FileHead) : Type 0 where
   pub same : SameFile h new
   pub form : IsSequential new
@@ -49,7 +49,7 @@ pub record ArePositionsBack (a : List (List ℕ)) (h : FileHead) (cs : List Chan
   pub goes : GoesBack h cs (records_in new b) back
   pub images : HasImages (map_of_list (records_in new b)) cs
   pub done : (n : ℕ) → 1 ≤ n → n < from → changes_key (Number n) cs ≡ true → record_at (records_in new b) n ≡ earliest_before cs (Number n)
-  pub gone : (n : ℕ) → from ≤ n → is_taken_away (lowest_absent cs) n ≡ true → record_at (records_in new b) n ≡ None
+  pub in_place : AllInPlace cs (records_in new b) back
 
 -- each key that was changed is a position
 abbrev pub ArePositions : List Change → Type 0

@@ -1,13 +1,14 @@
 -- What becomes of a volume while a unit is undone in it.
-use Rattle.std.specs.Prelude.{◌≡◌, ◌⊎◌, ℕ, ◌*◌, ◌≤◌, List, Option, Some, None, IfSome, length, slice_set}
+use Rattle.std.specs.Prelude.{◌≡◌, ◌⊎◌, ℕ, ◌*◌, ◌≤◌, Bool, List, Option, Some, None, IfSome, length, slice_set}
 use Rattle.careful_write.specs.State.{EachWhole, IsReady, content}
 use Rattle.careful_write.specs.Steps.{Quiet}
 use Rattle.file_base.specs.declared.head.FileHead.{FileHead}
 use Rattle.change_set.specs.Files.{AgreesOut, SameFile, free_frames}
 use Rattle.journal_store.specs.Rings.{IsRing}
 use Rattle.record_files.specs.Any as any
-use Rattle.record_files.specs.Any.{IsLaidOut, Restores, Suits}
+use Rattle.record_files.specs.Any.{IsLaidOut, Restores, Suits, map_of}
 use Rattle.vms_model.specs.Keys.{Key}
+use Rattle.sequence_laws.specs.Undoing.{goes_in_place}
 use Rattle.journal_model.specs.Entries.{Entry}
 use Rattle.journal_format.specs.Heads.{entry_of}
 use Rattle.journal_format.specs.declared.head.EntryHead.{EntryHead}
@@ -79,6 +80,10 @@ ReadsChange s p None image c = (e : Entry) → IsChangeAt s p e c → ⊥
 abbrev pub SetsToEntry : (h : FileHead) → Key → (first : ℕ) → VolumeState → VolumeState → FileHead → Type 0
 SetsToEntry h key first old mid new = (b : List (List ℕ)) (e : Entry) → old.store.current ≡ Some b → IsChangeAt old.catalog.ru first e b → any.IsFile h → IsLaidOut h b → Suits h key (before_in e) → Restores h b key (before_in e)
     → (c : List (List ℕ)) × (mid.store.current ≡ Some c) × SetsBack h key (before_in e) b c new
+
+-- whether a key of the file can be set back in place, to what an entry has that stands there
+abbrev pub TellsInPlace : (h : FileHead) → Key → (first : ℕ) → VolumeState → Bool → Type 0
+TellsInPlace h key first v fits = (b : List (List ℕ)) (e : Entry) → v.store.current ≡ Some b → IsChangeAt v.catalog.ru first e b → any.IsFile h → IsLaidOut h b → fits ≡ goes_in_place (map_of h b key) (before_in e)
 
 -- Positions of the file went from this one on.
 abbrev pub CutsFrom : (h : FileHead) → (from : ℕ) → VolumeState → VolumeState → FileHead → Type 0

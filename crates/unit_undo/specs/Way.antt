@@ -1,12 +1,14 @@
 -- What a unit's undo leaves on its way, and at its end.
-use Rattle.std.specs.Prelude.{◌≡◌, ℕ, ◌+◌, ◌-◌, ◌<◌, ◌≤◌, List, Option, Some, length, map}
+use Rattle.std.specs.Prelude.{◌≡◌, ℕ, ◌+◌, ◌-◌, ◌<◌, ◌≤◌, false, List, Option, Some, None, length, map}
 use Rattle.block_disk.specs.Blocks.{block_at}
 use Rattle.careful_write.specs.State.{EachWhole, Leaves, content}
 use Rattle.file_base.specs.declared.head.FileHead.{FileHead}
 use Rattle.file_base.specs.declared.head.Organization.TheVariants.{Sequential}
 use Rattle.file_base.specs.declared.head.Span.{Span}
+use Rattle.record_files.specs.Any.{map_of}
 use Rattle.vms_model.specs.Ids.{Id}
-use Rattle.records_model.specs.History.{changes_by}
+use Rattle.vms_model.specs.Keys.{Key}
+use Rattle.records_model.specs.History.{changes_by, changes_key}
 use Rattle.unit_laws.specs.Journal.{note_of}
 use Rattle.unit_laws.specs.Units.{OneMovesEnd}
 use Rattle.run_model.specs.World.{File}
@@ -26,26 +28,43 @@ pub record KeepsJournal (s : Span) (a c : List (List ℕ)) : Type 0 where
   pub whole : EachWhole c
   pub blocks : (n : ℕ) → 65 ≤ n → n < s.start - 518 + s.blocks → block_at c n ≡ block_at a n
 
--- A content that an undo may leave: the same volume, to whose files groups of the undo were applied, with the same journal. It is sound where it was.
-pub record IsOnTheWay (a : List (List ℕ)) (heads : List (Option FileHead)) (directory : List (Option File)) (k : Catalog) (c : List (List ℕ)) : Type 0 where
+-- Keys of a file that this branch did not change have what they had.
+abbrev pub KeepsBeside : Id → List (List ℕ) → FileHead → File → List (List ℕ) → FileHead → Type 0
+KeepsBeside serial a h file b new = (key : Key) → changes_key key (changes_by serial file.history.live) ≡ false → map_of new b key ≡ map_of h a key
+
+abbrev pub IsPlaceKept : Id → List (List ℕ) → Option FileHead → Option File → List (List ℕ) → Option FileHead → Type 0
+IsPlaceKept serial a (Some h) (Some file) b (Some new) = KeepsBeside serial a h file b new
+IsPlaceKept serial a (Some h) (Some file) b None = Unit {0}
+IsPlaceKept serial a (Some h) None b new = Unit {0}
+IsPlaceKept serial a None file b new = Unit {0}
+
+-- so in each file
+abbrev pub AreKeptBeside : Id → List (List ℕ) → List (Option FileHead) → List (Option File) → List (List ℕ) → List (Option FileHead) → Type 0
+AreKeptBeside serial a heads directory b new = (f : ℕ) → IsPlaceKept serial a (head_at heads f) (file_at directory f) b (head_at new f)
+
+-- A content that an undo of a branch may leave: the same volume, to whose files groups of the undo were applied, with the same journal. It is sound where it was, and
+-- what the branch did not change is as it was.
+pub record IsOnTheWay (serial : Id) (a : List (List ℕ)) (heads : List (Option FileHead)) (directory : List (Option File)) (k : Catalog) (c : List (List ℕ)) : Type 0 where
   pub new : List (Option FileHead)
   pub tells : TellsCatalog (record k { heads = new }) c
   pub sound : (node : List ℕ) → IsSound node (length a + 518) (record k { heads = heads }) → IsSound node (length a + 518) (record k { heads = new })
   pub grouped : AreGrouped a heads directory c new
+  pub beside : AreKeptBeside serial a heads directory c new
   pub journal : KeepsJournal k.ru a c
 
--- A volume in which an undo is under way, from this content and these heads on: what is staged is on the way, and so is what was applied.
-pub record IsUnderWay (a : List (List ℕ)) (heads : List (Option FileHead)) (directory : List (Option File)) (v : VolumeState) : Type 0 where
+-- A volume in which an undo of a branch is under way, from this content and these heads on: what is staged is on the way, and so is what was applied.
+pub record IsUnderWay (serial : Id) (a : List (List ℕ)) (heads : List (Option FileHead)) (directory : List (Option File)) (v : VolumeState) : Type 0 where
   pub now : List (List ℕ)
   pub told : v.store.current ≡ Some now
   pub tells : TellsCatalog v.catalog now
   pub size : length a + 518 ≡ v.store.disk.size
   pub sound : (node : List ℕ) → IsSound node v.store.disk.size (record v.catalog { heads = heads }) → IsSound node v.store.disk.size v.catalog
   pub grouped : AreGrouped a heads directory now v.catalog.heads
+  pub beside : AreKeptBeside serial a heads directory now v.catalog.heads
   pub journal : KeepsJournal v.catalog.ru a now
   pub before : List (List ℕ)
   pub applied : content v.store ≡ Some before
-  pub way : IsOnTheWay a heads directory v.catalog before
+  pub way : IsOnTheWay serial a heads directory v.catalog before
 
 -- A branch that can be undone in a volume that a fall left: its changes are entered at these positions of the journal, with what each file's keys had before;
 -- in a sequential file they are of positions, and only one branch moved the end.
@@ -60,7 +79,7 @@ pub record IsUndoable (serial : Id) (ps : List ℕ) (v : VolumeState) (a : List 
 
 -- What is staged restores the branch in all files; what was applied before is on the way.
 pub record IsUndone (serial : Id) (a : List (List ℕ)) (heads : List (Option FileHead)) (directory : List (Option File)) (v : VolumeState) : Type 0 where
-  pub way : IsUnderWay a heads directory v
+  pub way : IsUnderWay serial a heads directory v
   pub restored : AreRestored serial a heads directory way.now v.catalog.heads
 
 -- so it is from each content in which the branch can be undone
@@ -69,4 +88,4 @@ Undoes ps v w = (serial : Id) (a : List (List ℕ)) (directory : List (Option Fi
 
 -- the disk went down: each image has a content that is on the way
 abbrev pub FailsOnTheWay : (ps : List ℕ) → VolumeState → VolumeState → Type 0
-FailsOnTheWay ps v w = (serial : Id) (a : List (List ℕ)) (directory : List (Option File)) (es : List Entry) → IsUndoable serial ps v a directory es → Leaves (IsOnTheWay a v.catalog.heads directory v.catalog) w.store.disk
+FailsOnTheWay ps v w = (serial : Id) (a : List (List ℕ)) (directory : List (Option File)) (es : List Entry) → IsUndoable serial ps v a directory es → Leaves (IsOnTheWay serial a v.catalog.heads directory v.catalog) w.store.disk

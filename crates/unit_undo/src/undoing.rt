@@ -4,17 +4,18 @@ ghost use Rattle.std.specs.List.{All};
 ghost use Rattle.careful_write.specs.Down.{Counts};
 ghost use Rattle.careful_write.specs.State.{IsEither, IsIdle, IsReady, Leaves, content};
 ghost use Rattle.careful_write.specs.Steps.{Quiet};
-ghost use Rattle.change_set.specs.Files.{free_frames};
+ghost use Rattle.change_set.specs.Files.{IsPlaced, free_frames};
 ghost use Rattle.file_base.specs.declared.head.Organization.TheVariants as organization;
 ghost use Rattle.journal_store.specs.Rings.{IsRing};
 ghost use Rattle.record_files.specs.Any.{IsFile};
 ghost use Rattle.vms_base.specs.Keys.{key_of};
 ghost use Rattle.volume.specs.Catalogs.{IsSound};
+ghost use Rattle.sequence_laws.specs.Undoing.{is_as_long};
 ghost use Rattle.std.specs.Option.{option_copied};
 ghost use Rattle.journal_format.specs.Heads.{entry_of};
 ghost use Rattle.unit_entries.specs.Told.{before_in};
-ghost use Rattle.unit_undo.specs.Undoing.{GoesOn, ChangesFile, ChangesHeads, ReadsChange, SetsToEntry, IsFew, MayUndo, MayGoOn, CutsFrom};
-ghost use Rattle.unit_undo.specs.FileWays.{ChangesOnly, CutsLowest, FailsNumber, PlacesOne, SetsOne, TellsBackFile, TellsFailed, UndoesNumber};
+ghost use Rattle.unit_undo.specs.Undoing.{GoesOn, ChangesFile, ChangesHeads, ReadsChange, SetsToEntry, IsFew, MayUndo, MayGoOn, CutsFrom, TellsInPlace};
+ghost use Rattle.unit_undo.specs.FileWays.{ChangesOnly, CutsOff, FailsNumber, FindsOff, PlacesOne, SetsOne, TellsBackFile, TellsFailed, UndoesNumber};
 ghost use Rattle.unit_entries.specs.Rows.{key_said};
 ghost use Rattle.unit_undo.specs.UnitWays.{TellsUnit};
 ghost use Rattle.unit_undo.specs.Way.{Undoes, FailsOnTheWay};
@@ -27,7 +28,7 @@ use journal_store::entry_at;
 use unit_entries::{ChangedKey, ChangedKeys, collect_keys};
 use vms_base::Record;
 use volume::Volume;
-use volume_files::{blocks_are_whole, place_of, stage_back, stage_cut};
+use volume_files::{blocks_are_whole, place_of, read_record, stage_back, stage_cut};
 
 // How many keys are set back in one group: a bucket and a directory block each, with room for what settles a unit.
 const MOST_STEPS: u32 = 26;
@@ -163,8 +164,82 @@ fn cut_from<D: Disk>(
     Ok(())
 }
 
-// Takes the positions of a sequential file away, from the lowest one on that had no record before a change.
-fn cut_lowest<D: Disk>(
+// Whether there is a record, one of this length.
+fn is_as_long(image: Option<&Record>, size: usize) -> bool
+    ensures { result ≡ is_as_long size (option_copied image.entry) }
+{
+    match image {
+        Some(record) => record.bytes().len() == size,
+        None => false,
+    }
+}
+
+// Whether a key can be set back in place to what it had before its earliest entry.
+fn is_in_place<D: Disk>(
+    volume: &mut Volume<D>,
+    head: &FileHead,
+    key: &ChangedKey,
+    image: &mut Record,
+) -> Result<bool, Down>
+    requires ready { IsReady volume.old.store }
+    requires placed { IsPlaced head.now volume.old.store.disk }
+    requires frames { 32 ≤ free_frames volume.old.store.pool }
+    requires ring { IsRing volume.old.catalog.ru volume.old.store.disk }
+    requires low { key.now.first ≤ 2 ^ 62 }
+    ensures told { IfOk result (TellsInPlace head.now (key_of key.now.key) key.now.first volume.old) }
+    ensures same { OnOk result (volume.new ≡ volume.old) }
+    ensures catalog { volume.new.catalog ≡ volume.old.catalog }
+    ensures down { OnErr result (Leaves (λ c. Some c ≡ content volume.old.store) volume.new.store.disk) }
+    ensures counts { Counts result volume.old.store.disk volume.new.store.disk }
+    ensures pool { volume.new.store.pool ≡ volume.old.store.pool }
+{
+    one_content();
+    if !read_record(volume, head, &key.key, image)? {
+        return Ok(true);
+    }
+    let size = image.bytes().len();
+    match read_change(volume, key.first, image)? {
+        Some(e) => Ok(is_as_long(image_of(&e, image), size)),
+        None => Ok(true),
+    }
+}
+
+// The first position of a sequential file that cannot be set back in place, from the lowest one on that had no record before a change.
+fn first_off<D: Disk>(
+    volume: &mut Volume<D>,
+    file: u8,
+    head: &FileHead,
+    keys: &ChangedKeys,
+    image: &mut Record,
+) -> Result<Option<u32>, Down>
+    requires ready { IsReady volume.old.store }
+    requires placed { IsPlaced head.now volume.old.store.disk }
+    requires frames { 32 ≤ free_frames volume.old.store.pool }
+    requires ring { IsRing volume.old.catalog.ru volume.old.store.disk }
+    ensures finds { IfOk result (FindsOff file head.now keys.now volume.old) }
+    ensures same { OnOk result (volume.new ≡ volume.old) }
+    ensures catalog { volume.new.catalog ≡ volume.old.catalog }
+    ensures down { OnErr result (Leaves (λ c. Some c ≡ content volume.old.store) volume.new.store.disk) }
+    ensures counts { Counts result volume.old.store.disk volume.new.store.disk }
+    ensures pool { volume.new.store.pool ≡ volume.old.store.pool }
+{
+    let Some(lowest) = keys.lowest_absent(file) else {
+        return Ok(None);
+    };
+    let mut next = lowest as u64;
+    while let Some((i, n)) = keys.next_number(file, next) {
+        match is_in_place(volume, head, keys.at(i), image) {
+            Err(down) => return Err(down),
+            Ok(false) => return Ok(Some(n)),
+            Ok(true) => {}
+        }
+        next = n as u64 + 1;
+    }
+    Ok(None)
+}
+
+// Takes the positions of a sequential file away, from the first one on that cannot be set back in place. So none goes that an earlier undo has set back.
+fn cut_off<D: Disk>(
     volume: &mut Volume<D>,
     file: u8,
     head: &mut FileHead,
@@ -174,14 +249,15 @@ fn cut_lowest<D: Disk>(
 ) -> Result<(), Down>
     requires may { MayUndo file head.old steps.old volume.old }
     requires sequential { head.old.organization ≡ organization.Sequential }
-    ensures cuts { OnOk result (CutsLowest file head.old keys.now volume.old volume.new head.new) }
+    ensures cuts { OnOk result (CutsOff file head.old keys.now volume.old volume.new head.new) }
     ensures few { OnOk result (IsFew steps.new volume.new) }
     ensures down { OnErr result (Leaves (IsEither (content volume.old.store) volume.old.store.current) volume.new.store.disk) }
     ensures kept { OnErr result (volume.new.catalog ≡ volume.old.catalog) }
     ensures counts { Counts result volume.old.store.disk volume.new.store.disk }
     ensures pool { volume.new.store.pool ≡ volume.old.store.pool }
 {
-    match keys.lowest_absent(file) {
+    one_content();
+    match first_off(volume, file, head, keys, image)? {
         Some(from) if 1 <= from && from <= head.count => {
             cut_from(volume, file, head, from, image, steps)
         }
@@ -262,7 +338,7 @@ fn set_position<D: Disk>(
     set_back(volume, head, key, image, steps)
 }
 
-// Sets the positions of a sequential file back, in their order. Those that had no record go first.
+// Sets the positions of a sequential file back, in their order. Those that cannot be set back in place go first.
 fn set_positions<D: Disk>(
     volume: &mut Volume<D>,
     file: u8,
@@ -281,7 +357,7 @@ fn set_positions<D: Disk>(
     ensures counts { Counts result volume.old.store.disk volume.new.store.disk }
     ensures pool { volume.new.store.pool ≡ volume.old.store.pool }
 {
-    match cut_lowest(volume, file, head, keys, image, steps) {
+    match cut_off(volume, file, head, keys, image, steps) {
         Err(down) => return Err(down),
         Ok(()) => {}
     }

@@ -1,15 +1,14 @@
 -- What is entered in the journal, and what settles a branch, leaves the log as it is.
-use Rattle.std.proofs.Common.{◌≡◌, ℕ, ◌+◌, ◌-◌, ◌<◌, ◌≤◌, List, [], length, Option, Some, None, IfSome, option_map, slice_set, refl, sym, ap, subst, ◌∙◌, arith, get_or-set_other, inl}
-use Rattle.block_disk.specs.Blocks.{block_at}
+use Rattle.std.proofs.Common.{◌≡◌, ℕ, ◌+◌, ◌<◌, ◌≤◌, List, [], length, Option, Some, None, IfSome, option_map, slice_set, refl, sym, ap, subst, ◌∙◌, arith, get_or-set_other, inl}
 use Rattle.file_base.specs.declared.head.Span.{Span}
 use Rattle.journal_model.specs.Entries.{Entry, spelling}
-use Rattle.journal_model.specs.Ring.{KeepsOthers, put_stream}
+use Rattle.journal_model.specs.Ring.{put_stream}
 use Rattle.lmcp_log.specs.Keeping.{Keeps, SameSlots}
 use Rattle.lmcp_log.specs.Log.{block_of_slot}
 use Rattle.log_laws.specs.Slots.{Slots}
 use Rattle.unit_journal.proofs.Entered.{OthersStay}
 use Rattle.unit_journal.specs.Settling.{MakesSettlement, content_with, from_earliest, settled_home, span_with, with_front}
-use Rattle.unit_journal.specs.Spans.{entered, longer}
+use Rattle.unit_journal.specs.Spans.{longer}
 use Rattle.volume.specs.State.{VolumeState}
 use Rattle.run_model.specs.World.{File}
 use Rattle.unit_undo.specs.Undoing.{GoesOn}

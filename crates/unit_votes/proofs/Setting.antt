@@ -1,8 +1,7 @@
 -- A slot of the log is staged, or nothing is.
-use Rattle.std.proofs.Common.{◌≡◌, ℕ, ◌+◌, ◌<◌, ◌≤◌, Bool, true, false, List, [], length, Option, Some, None, IfSome, option_map, slice_set, refl, sym, ap, subst, ◌∙◌, arith, length-set, get_or-set_other}
-use Rattle.block_disk.specs.Blocks.{block_at, with_number}
+use Rattle.std.proofs.Common.{◌≡◌, ℕ, ◌+◌, ◌≤◌, Bool, true, false, List, [], length, Option, Some, None, IfSome, option_map, slice_set, refl, sym, ap, subst, ◌∙◌, arith, length-set, get_or-set_other}
 use Rattle.careful_write.proofs.Touched.{length-with_number}
-use Rattle.careful_write.specs.State.{IsReady, StoreState, content}
+use Rattle.careful_write.specs.State.{IsReady, StoreState}
 use Rattle.commit_protocol.specs.Messages.{LogRecord}
 use Rattle.lmcp_log.specs.Keeping.{Keeps}
 use Rattle.lmcp_log.specs.Log.{StagesSlot, block_of}
@@ -12,7 +11,7 @@ use Rattle.vms_model.specs.Ids.{Id}
 use Rattle.volume.specs.Catalogs.{StandsOnTheFront, TellsCatalog}
 use Rattle.volume.specs.State.{Holds, VolumeState}
 use Rattle.volume.specs.declared.catalog.Catalog.{Catalog}
-use Rattle.unit_votes.specs.Logging.{HasLog, SetsRecord, WritesSlot, nothing, written}
+use Rattle.unit_votes.specs.Logging.{HasLog, SetsRecord, nothing, written}
 
 -- another block than those that tell the volume is other
 front_stays : StandsOnTheFront → (k : Catalog) (c : List (List ℕ)) (place : ℕ) (bytes : List ℕ) → TellsCatalog k c → TellsCatalog k (slice_set c (66 + place) bytes)

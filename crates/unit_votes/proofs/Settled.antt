@@ -3,8 +3,8 @@ use Rattle.std.proofs.Common.{◌≡◌, ℕ, ◌+◌, ◌≤◌, ◌^◌, Bool,
 use Rattle.std.specs.Prelude.{◌⊎◌, if◌then◌else◌, max}
 use Rattle.journal_model.specs.Entries.{Entry}
 use Rattle.unit_journal.specs.Settling.{span_with}
-use Rattle.careful_write.specs.State.{IsEither, Leaves, StoreState, content}
-use Rattle.unit_journal.specs.Groups.{Breaks, Grows, GrowsOnce, LeavesOld}
+use Rattle.careful_write.specs.State.{IsEither, Leaves, content}
+use Rattle.unit_journal.specs.Groups.{Breaks, Grows, GrowsOnce}
 use Rattle.volume.specs.State.{VolumeState}
 use Rattle.volume.specs.declared.catalog.Catalog.{Catalog}
 

@@ -1,15 +1,15 @@
 -- Units and the log stay together.
-use Rattle.std.proofs.Common.{◌≡◌, ◌≢◌, ℕ, zero, suc, ◌<◌, Bool, true, false, List, [], ◌∷◌, Option, Some, None, IfSome, length, slice_set, refl, sym, ap, subst, ◌∙◌, arith, inl, inr, get_or-set_same, get_or-set_other}
+use Rattle.std.proofs.Common.{◌≡◌, ◌≢◌, ℕ, ◌<◌, Bool, true, false, List, [], ◌∷◌, Option, Some, None, length, slice_set, refl, sym, ap, subst, ◌∙◌, inl, inr, get_or-set_same, get_or-set_other}
 use Rattle.std.specs.Prelude.{if◌then◌else◌, ◌⊎◌, IsSome}
 use Rattle.std.proofs.lemmas.Bool.{cases_eq}
 use Rattle.commit_protocol.specs.Agreement.{Distinct}
-use Rattle.commit_protocol.specs.Messages.{CommittedRecord, LogRecord, Name, PreparedRecord, RecordKind, same_id}
+use Rattle.commit_protocol.specs.Messages.{CommittedRecord, LogRecord, Name, PreparedRecord, same_id}
 use Rattle.commit_protocol.specs.Table.{record_serials}
 use Rattle.commit_protocol.specs.World.{In}
 use Rattle.commit_protocol.proofs.Lists.{told_id}
 use Rattle.lmcp_log.specs.Log.{record_with}
 use Rattle.lmcp_log.proofs.Apart.{apart_ids, other_ids, same_ids}
-use Rattle.lmcp_log.proofs.SlotLemmas.{clash, none_forgotten}
+use Rattle.lmcp_log.proofs.SlotLemmas.{clash}
 use Rattle.log_laws.specs.Slots.{Slots, filled, forgotten, has_free, has_slot, put_in, records_in, replaced, settled_in}
 use Rattle.unit_table.specs.Units.{OpenUnit, new_unit, prepared_unit, unit_at}
 use Rattle.unit_table.proofs.OrderLemmas.{at_below}

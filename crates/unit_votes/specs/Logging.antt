@@ -1,12 +1,10 @@
 -- What one group makes of the log of a volume.
-use Rattle.std.specs.Prelude.{◌≡◌, ℕ, ◌+◌, ◌<◌, ◌≤◌, ◌⊎◌, true, false, List, Option, Some, None, IfSome, length, option_map, slice_set}
+use Rattle.std.specs.Prelude.{◌≡◌, ℕ, ◌+◌, ◌<◌, ◌≤◌, ◌⊎◌, true, false, Option, None, IfSome, length, option_map, slice_set}
 use Rattle.commit_protocol.specs.Messages.{LogRecord}
 use Rattle.log_laws.specs.Slots.{Slots, has_free, has_slot, settled_in}
 use Rattle.lmcp_log.specs.Keeping.{Keeps}
 use Rattle.lmcp_log.specs.Log.{block_of}
 use Rattle.lmcp_log.specs.Slot.{HasForm}
-use Rattle.tm_types.specs.Parts.{log_record_of}
-use Rattle.vms_base.specs.declared.protocol.LogRec.{LogRec}
 use Rattle.vms_model.specs.Ids.{Id}
 use Rattle.volume.specs.State.{VolumeState}
 

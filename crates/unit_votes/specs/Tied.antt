@@ -1,11 +1,11 @@
 -- How units hang together with the log.
-use Rattle.std.specs.Prelude.{◌≡◌, ◌⊎◌, ◌<◌, ℕ, Bool, true, false, List, [], Option, Some, None, IfSome, length, slice_set}
+use Rattle.std.specs.Prelude.{◌≡◌, ◌⊎◌, ℕ, Bool, true, false, List, Option, Some, None, IfSome}
 use Rattle.commit_protocol.specs.Agreement.{Distinct}
 use Rattle.commit_protocol.specs.Messages.{CommittedRecord, LogRecord, Name, PreparedRecord}
 use Rattle.commit_protocol.specs.Table.{record_serials}
 use Rattle.lmcp_log.specs.Log.{record_with}
-use Rattle.log_laws.specs.Slots.{Slots, has_free, has_slot, put_in, records_in, settled_in}
-use Rattle.unit_table.specs.Units.{OpenUnit, new_unit, prepared_unit, unit_at}
+use Rattle.log_laws.specs.Slots.{Slots, has_free, has_slot, records_in}
+use Rattle.unit_table.specs.Units.{OpenUnit, unit_at}
 use Rattle.vms_model.specs.Ids.{Id}
 use Rattle.unit_votes.specs.Voting.{vote_record}
 

@@ -1,5 +1,5 @@
 // A prepared branch is aborted.
-ghost use Rattle.std.specs.Prelude.{◌≡◌, ◌≤◌, ◌<◌, ◌^◌, ℕ, true, None, IfSome, IsSome, OnOk, OnErr};
+ghost use Rattle.std.specs.Prelude.{◌≡◌, ◌≤◌, ◌<◌, ◌^◌, ℕ, true, None, IfSome, IsSome, OnOk, OnErr, ◌+◌, length};
 ghost use Rattle.std.specs.List.{All};
 ghost use Rattle.careful_write.specs.Down.{Counts};
 ghost use Rattle.careful_write.specs.State.{IsIdle};
@@ -45,7 +45,7 @@ pub fn abort_logged<D: Disk>(
     requires may { MayAbort volume.old }
     requires low { IfSome (unit_at units.old.places place) (λ u. All (λ p. p ≤ 2 ^ 62) u.positions) }
     requires room { IfSome (unit_at units.old.places place) (λ u. HasRoom u.positions volume.old) }
-    requires log { HasLog log.old volume.old }
+    requires before { 584 + length log.old ≤ volume.old.catalog.ru.start }
     ensures units { units.new ≡ without_place place units.old }
     ensures slots { OnOk result (log.new ≡ forgotten (serial_of branch.now.serial) log.old) }
     ensures aborts { OnOk result (IfSome (unit_at units.old.places place) (λ u. AbortsLogged (record { positions = u.positions; tid = branch.now.tid; serial = branch.now.serial; reason = reason; moment = moment.0; left = units.new.places }) log.old log.new volume.old volume.new)) }

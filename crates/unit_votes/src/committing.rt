@@ -45,12 +45,12 @@ pub fn commit_logged<D: Disk>(
     requires ring { IsRing volume.old.catalog.ru volume.old.store.disk }
     requires least { 4096 ≤ volume.old.store.disk.size }
     requires room { has_changed ≡ true → volume.old.catalog.ru.end - volume.old.catalog.ru.first + 48 ≤ ring_size volume.old.catalog.ru }
-    requires log { HasLog log.old volume.old }
+    requires before { 584 + length log.old ≤ volume.old.catalog.ru.start }
     requires may { MayHave (serial_of branch.now.serial) (slot_of (option_copied logged)) log.old }
     ensures slots { log.new ≡ settled_in (serial_of branch.now.serial) (slot_of (option_copied logged.entry)) log.old }
     ensures makes { OnOk result (MakesLogged (record { tid = branch.now.tid; serial = branch.now.serial; ending = ending.Commit; moment = moment.0; entry = entry_if has_changed (settled_entry (tid_of branch.now.tid) (serial_of branch.now.serial) Commit moment.0); left = left.now.places }) (slot_of (option_copied logged.entry)) log.old log.new volume.old volume.new) }
     ensures end { OnOk result (volume.new.catalog.ru.end ≡ volume.old.catalog.ru.end + (if has_changed then 48 else 0)) }
-    ensures log { OnOk result (HasLog log.new volume.new) }
+    ensures log { OnOk result (HasLog log.old volume.old → HasLog log.new volume.new) }
     ensures idle { OnOk result (IsIdle volume.new.store) }
     ensures holds { OnOk result (Holds volume.new) }
     ensures breaks { OnErr result (Breaks (MakesLogged (record { tid = branch.now.tid; serial = branch.now.serial; ending = ending.Commit; moment = moment.0; entry = entry_if has_changed (settled_entry (tid_of branch.now.tid) (serial_of branch.now.serial) Commit moment.0); left = left.now.places }) (slot_of (option_copied logged.entry)) log.old log.new volume.old) volume.old volume.new) }

@@ -56,12 +56,12 @@ pub fn write_record<D: Disk>(
 ) -> Result<(), Down>
     requires idle { IsIdle volume.old.store }
     requires holds { Holds volume.old }
-    requires log { HasLog log.old volume.old }
+    requires before { 584 + length log.old ≤ volume.old.catalog.ru.start }
     requires may { MayHave (serial_of serial) (slot_of (option_copied logged)) log.old }
     requires ring { volume.old.catalog.ru.start ≤ volume.old.store.disk.size }
     ensures slots { log.new ≡ settled_in (serial_of serial) (slot_of (option_copied logged.entry)) log.old }
     ensures sets { OnOk result (SetsRecord (serial_of serial) (slot_of (option_copied logged.entry)) log.old log.new volume.old volume.new) }
-    ensures log { OnOk result (HasLog log.new volume.new) }
+    ensures log { OnOk result (HasLog log.old volume.old → HasLog log.new volume.new) }
     ensures idle { OnOk result (IsIdle volume.new.store) }
     ensures holds { OnOk result (Holds volume.new) }
     ensures breaks { OnErr result (Breaks (SetsRecord (serial_of serial) (slot_of (option_copied logged.entry)) log.old log.new volume.old) volume.old volume.new) }

@@ -80,12 +80,12 @@ pub fn enter_vote<D: Disk>(
     requires ring { IsRing volume.old.catalog.ru volume.old.store.disk }
     requires least { 4096 ≤ volume.old.store.disk.size }
     requires room { has_changed ≡ true → volume.old.catalog.ru.end - volume.old.catalog.ru.first + 48 ≤ ring_size volume.old.catalog.ru }
-    requires log { HasLog log.old volume.old }
+    requires before { 584 + length log.old ≤ volume.old.catalog.ru.start }
     requires may { MayPut (serial_of branch.now.serial) (vote_record (tid_of branch.now.tid) (serial_of branch.now.serial) rms.now) log.old }
     ensures slots { log.new ≡ put_in (vote_record (tid_of branch.now.tid) (serial_of branch.now.serial) rms.now) log.old }
     ensures makes { OnOk result (MakesVote (vote_record (tid_of branch.now.tid) (serial_of branch.now.serial) rms.now) (vote_entry has_changed (tid_of branch.now.tid) (serial_of branch.now.serial)) log.old log.new volume.old volume.new) }
     ensures end { OnOk result (volume.new.catalog.ru.end ≡ volume.old.catalog.ru.end + (if has_changed then 48 else 0)) }
-    ensures log { OnOk result (HasLog log.new volume.new) }
+    ensures log { OnOk result (HasLog log.old volume.old → HasLog log.new volume.new) }
     ensures idle { OnOk result (IsIdle volume.new.store) }
     ensures holds { OnOk result (Holds volume.new) }
     ensures breaks { OnErr result (Breaks (MakesVote (vote_record (tid_of branch.now.tid) (serial_of branch.now.serial) rms.now) (vote_entry has_changed (tid_of branch.now.tid) (serial_of branch.now.serial)) log.old log.new volume.old) volume.old volume.new) }

@@ -1,36 +1,77 @@
--- A node comes up, and a branch begins.
-use Rattle.std.proofs.Common.{◌≡◌, ℕ, zero, suc, ◌+◌, ◌<◌, List, [], ◌∷◌, ◌++◌, true, false, None, length, replicate, slice_index_or, refl, sym, ◌∙◌, ap, subst, arith, inr}
+-- A node stays the same, comes up, and a branch of it begins or is stated anew.
+use Rattle.std.proofs.Common.{◌≡◌, ℕ, zero, suc, ◌+◌, List, [], ◌∷◌, ◌++◌, Bool, true, false, Option, Some, None, replicate, slice_index_or, refl, sym, ◌∙◌, ap, subst, inl, inr}
+use Rattle.std.specs.Prelude.{is_some}
 use Rattle.std.specs.List.{AllByRecursion}
 use Rattle.std.proofs.lemmas.Bool.{both_ways}
-use Rattle.std.proofs.lemmas.List.{length-map, map-append}
 use Rattle.vms_model.specs.Ids.{Id}
+use Rattle.volume.specs.declared.catalog.Catalog.{Catalog}
 use Rattle.volume.specs.State.{VolumeState}
 use Rattle.records_model.specs.History.{same_id}
-use Rattle.unit_laws.specs.Journal.{JournalEntry, serial_in}
+use Rattle.unit_laws.specs.Journal.{ChangeEntry, JournalEntry, PreparedEntry, RecoveryUnit, SettledEntry, entry_size, find_unit, units_in}
+use Rattle.unit_laws.specs.JournalLaws.{is_unit}
 use Rattle.unit_table.specs.Units.{new_unit}
-use Rattle.commit_protocol.specs.Table.{Active, Branch}
-use Rattle.commit_protocol.specs.Rows.{blank}
-use Rattle.run_model.specs.Ordered.{tid_in}
-use Rattle.run_model.specs.Running.{Distinct, Each, IsDrawn}
-use Rattle.run_model.specs.World.{Begins, ComesUp, Label, Node, acted, next_id, serials_of}
-use Rattle.run_model.proofs.HoldingLemmas.{begun_holding}
-use Rattle.run_model.proofs.IdLemmas.{distinct_push, each_as, each_push, id_other}
-use Rattle.run_model.proofs.NodeLemmas.{drawn_next, drawn_other, serials_push}
-use Rattle.run_model.proofs.NotedLemmas.{all_append}
-use Rattle.run_model.proofs.RunningLemmas.{begun_running}
+use Rattle.commit_protocol.specs.Allowed.{is_prepared}
+use Rattle.commit_protocol.specs.Standing.{IsNew as IsNewBranch, Restates, Stands, writes}
+use Rattle.commit_protocol.specs.Table as table
+use Rattle.commit_protocol.specs.Table.{Accepts, Acknowledges, Branch, Leaves, Notes, Prepares, Prints, Releases, Sends, Settles, Undoes, put}
+use Rattle.commit_protocol.specs.World.{In}
+use Rattle.world_laws.specs.Nodes.{IsUp}
+use Rattle.run_model.specs.World.{ComesUp, Durable, Node, Tables, acted}
+use Rattle.world_laws.proofs.EntryLemmas.{all_append, none_settles}
+use Rattle.world_laws.proofs.LeftLemmas.{change_unit}
+use Rattle.world_laws.proofs.TableLemmas.{one_branch, own_in}
+use Rattle.world_laws.proofs.UpLemmas.{differ}
 use Rattle.restart_laws.proofs.ListLemmas.{all_as}
-use Rattle.restart_laws.proofs.UnitLemmas.{keeps_units}
-use Rattle.volume_laws.proofs.FollowLemmas.{follow}
-use Rattle.recovery_units.specs.State.{IsKept, IsNew, IsUnitOf, UnitsState, branch_of, nothing_begun, with_begun}
-use Rattle.unit_world.proofs.Blocks.{ring_same, same_names}
-use Rattle.unit_world.proofs.Found.{found_by, no_positions, not_unit, unchanged_at}
+use Rattle.volume_model.specs.Volumes.{HasVolume}
+use Rattle.recovery_units.specs.State.{AreLocks, AreOfBranches, IsKept, IsUnitOf, UnitsState, is_change_by, positions_of, with_begun}
+use Rattle.unit_world.proofs.Found.{found_by, unchanged_at}
+use Rattle.unit_world.proofs.Tables.{begun, restated, stays_of}
+
+-- A node of the same name whose disk has the same.
+pub volume_as : (content : List (List ℕ)) (v : Catalog) (n m : Node) → HasVolume content v n → m.name ≡ n.name → m.durable ≡ n.durable → m.up ≡ n.up → HasVolume content v m
+volume_as content v n m has name durable up = subst (HasVolume content v) (λ i. record m { name = sym name i; durable = sym durable i; up = sym up i }) again
+  where
+    again : HasVolume content v (record m { name = n.name; durable = n.durable; up = n.up })
+    again = record {
+      home = record { volume = has.home.volume; slots = has.home.slots; journal = has.home.journal; boot = has.home.boot; greatest = has.home.greatest; last = has.home.last };
+      log = record { keeps = has.log.keeps; whole = has.log.whole };
+      journal = record { entries = has.journal.entries; is = has.journal.is; alike = has.journal.alike; first = has.journal.first; end = has.journal.end; low = has.journal.low };
+      units = record { tells = has.units.tells; marked = has.units.marked; reached = has.units.reached; names = has.units.names };
+      order = has.order;
+      told = record {
+        distinct = has.told.distinct;
+        reached = has.told.reached;
+        prepared_within = has.told.prepared_within;
+        committed_within = has.told.committed_within;
+        prepared = has.told.prepared;
+        active = has.told.active;
+        transactions = has.told.transactions;
+        unsettled = has.told.unsettled;
+        few = has.told.few;
+        slots = has.told.slots;
+      };
+      files = has.files;
+      restorable = has.restorable;
+    }
+
+pub stays : (s : UnitsState) (v : VolumeState) (n m : Node) → IsKept s v n → m.name ≡ n.name → m.blocks ≡ n.blocks → m.durable ≡ n.durable → m.up ≡ n.up → m.volatile.branches ≡ n.volatile.branches → m.volatile.locks ≡ n.volatile.locks → IsKept s v m
+stays s v n m kept name blocks durable up branches locks = record {
+  content = kept.content;
+  told = kept.told;
+  name = name ∙ kept.name;
+  blocks = blocks ∙ kept.blocks;
+  has = volume_as kept.content v.catalog n m kept.has name durable up;
+  log = ap (λ (d : Durable). d.log) durable ∙ kept.log;
+  branches = subst (AreOfBranches s.begun) (sym branches) kept.branches;
+  locks = subst (AreLocks v.catalog.heads s.locks) (sym locks) kept.locks;
+  each = subst (λ (d : Durable). AllByRecursion (IsUnitOf (record m { durable = d })) s.begun) (sym durable)
+      (all_as (IsUnitOf n) (IsUnitOf (record m { durable = n.durable })) s.begun (λ u k. record { positions = k.positions; files = k.files; transaction = k.transaction }) kept.each);
+}
 
 -- BOOT ends
-pub comes : (v : VolumeState) (n : Node) → IsKept nothing_begun v n → IsKept nothing_begun v (acted ComesUp n)
-comes v n kept =
+pub comes : (s : UnitsState) (v : VolumeState) (n : Node) → IsKept s v n → IsUp (acted ComesUp n) → IsKept s v (acted ComesUp n)
+comes s v n kept up =
     let has = kept.has in
-    let r = kept.holds.running in
-    let h = kept.holds.holding in
     record {
       content = kept.content;
       told = kept.told;
@@ -38,82 +79,119 @@ comes v n kept =
       blocks = kept.blocks;
       has = record {
         home = record { volume = has.home.volume; slots = has.home.slots; journal = has.home.journal; boot = has.home.boot; greatest = has.home.greatest; last = has.home.last };
-        journal = follow.stays kept.content kept.content v.catalog v.catalog n (acted ComesUp n) has.journal refl refl (same_names v.catalog.heads) (ring_same kept.content v.catalog n has.journal);
-        units = record { tells = has.units.tells; marked = λ up p f there. (h.files f.name f (found_by n p f has.units there).found).1; reached = has.units.reached; names = has.units.names };
+        log = record { keeps = has.log.keeps; whole = has.log.whole };
+        journal = record { entries = has.journal.entries; is = has.journal.is; alike = has.journal.alike; first = has.journal.first; end = has.journal.end; low = has.journal.low };
+        units = record { tells = has.units.tells; marked = λ is p f there. (up.holding.files f.name f (found_by n p f has.units there).found).marked; reached = has.units.reached; names = has.units.names };
         order = has.order;
-        active = has.active;
+        told = record {
+          distinct = has.told.distinct;
+          reached = has.told.reached;
+          prepared_within = has.told.prepared_within;
+          committed_within = has.told.committed_within;
+          prepared = has.told.prepared;
+          active = has.told.active;
+          transactions = has.told.transactions;
+          unsettled = has.told.unsettled;
+          few = has.told.few;
+          slots = has.told.slots;
+        };
         files = has.files;
         restorable = has.restorable;
       };
+      log = kept.log;
       branches = kept.branches;
       locks = kept.locks;
-      holds = record {
-        running = record { drawn = r.drawn; unsettled = r.unsettled; known = r.known; held = r.held; unnoted = r.unnoted };
-        holding = record { by = h.by; files = h.files; few_branches = h.few_branches; few_locks = h.few_locks };
-        drawn = kept.holds.drawn;
-        different = kept.holds.different;
-      };
-      each = tt;
+      each = all_as (IsUnitOf n) (IsUnitOf (acted ComesUp n)) s.begun (λ u k. record { positions = k.positions; files = k.files; transaction = k.transaction }) kept.each;
     }
 
--- START_TRANS
+-- A branch begins.
+
 none_of_none : (k f : ℕ) → slice_index_or (replicate k false) f false ≡ false
 none_of_none zero f = refl
 none_of_none (suc k) zero = refl
 none_of_none (suc k) (suc f) = none_of_none k f
 
-next_begins : (s : UnitsState) (v : VolumeState) (n : Node) (label : Label) → IsKept s v n → length s.begun < 64 →
-    IsKept (with_begun (next_id n) (next_id n) s) v (acted (Begins label (blank (next_id n) (next_id n) None Active None)) n)
-next_begins s v n label kept room =
-    let x = next_id n in
-    let b = blank x x None Active None in
-    let m = acted (Begins label b) n in
-    let bs = n.volatile.branches in
-    let es = n.durable.units.entries in
-    let has = kept.has in
-    let Drawn = IsDrawn n.name n.durable.boot n.volatile.drawn in
-    let More = IsDrawn n.name n.durable.boot (n.volatile.drawn + 1) in
-    let others : Each (λ (y : Id). same_id y x ≡ false) (serials_of bs) = each_as Drawn (λ (y : Id). same_id y x ≡ false) (serials_of bs) (λ y d. drawn_other n y d) kept.holds.drawn in
-    let fresh = not_unit n x kept.holds others in
-    let none : AllByRecursion (λ (e : JournalEntry). same_id x (serial_in e) ≡ false) es =
-    all_as (λ (e : JournalEntry). Drawn (serial_in e)) (λ (e : JournalEntry). same_id x (serial_in e) ≡ false) es (λ e d. id_other (serial_in e) x (drawn_other n (serial_in e) d)) kept.holds.running.drawn in
+-- a branch of which there is no change has no positions
+positions_none : (x : Id) (es : List JournalEntry) → ((e : JournalEntry) → In e es → is_change_by x e ≡ false) → (p : ℕ) → positions_of x p es ≡ []
+positions_none x [] none p = refl
+positions_none x (e ∷ es) none p = rw (none e (inl refl)) (positions_none x es (λ d i. none d (inr i)) (p + entry_size e))
+
+module _ (n : Node) (b : Branch) (moment : ℕ) (new : IsNewBranch n.volatile.branches b) (up : IsUp (acted (Tables (Notes b) moment) n)) where
+  -- the branch that begins is no unit,
+  no_unit : is_unit b.key.serial n.durable.units ≡ false
+  no_unit = go (find_unit b.key.serial (units_in n.durable.units.entries)) refl
+    where
+      go : (o : Option RecoveryUnit) → find_unit b.key.serial (units_in n.durable.units.entries) ≡ o → is_some o ≡ false
+      go None e = refl
+      go (Some u) e =
+          let r = up.table.branches b.key.serial u e in
+          let is : r.branch ≡ b = one_branch (put b n.volatile.branches) r.branch b (differ (acted (Tables (Notes b) moment) n) up.table) r.there (own_in b n.volatile.branches) r.serial in
+          let unprepared : u.prepared ≡ false = sym r.prepared ∙ ap (λ (x : Branch). is_prepared x.state) is ∙ new.unprepared in
+          absurd (both_ways b.changed new.unchanged (ap (λ (x : Branch). x.changed) (sym is) ∙ r.changed unprepared))
+
+  -- and there is no entry of a change of it
+  no_change : (e : JournalEntry) → In e n.durable.units.entries → is_change_by b.key.serial e ≡ false
+  no_change (ChangeEntry tid by file key before) i = go (same_id b.key.serial by) refl
+    where
+      go : (t : Bool) → same_id b.key.serial by ≡ t → t ≡ false
+      go false e = refl
+      go true e = absurd (both_ways (is_unit b.key.serial n.durable.units) no_unit
+          (change_unit b.key.serial n.durable.units.entries [] tid by file key before (none_settles b.key.serial n.durable.units.entries (up.table.entries b (own_in b n.volatile.branches)).unsettled) i e))
+  no_change (PreparedEntry tid by) i = refl
+  no_change (SettledEntry tid by outcome at) i = refl
+
+pub begins : (s : UnitsState) (v : VolumeState) (n : Node) (b : Branch) (moment : ℕ) → IsKept s v n → IsNewBranch n.volatile.branches b → IsUp (acted (Tables (Notes b) moment) n) → IsKept (with_begun b.key.tid b.key.serial s) v (acted (Tables (Notes b) moment) n)
+begins s v n b moment kept new up =
+    let m = acted (Tables (Notes b) moment) n in
+    let x = b.key.serial in
     record {
       content = kept.content;
       told = kept.told;
       name = kept.name;
       blocks = kept.blocks;
-      has = record {
-        home = record { volume = has.home.volume; slots = has.home.slots; journal = has.home.journal; boot = has.home.boot; greatest = has.home.greatest; last = has.home.last };
-        journal = follow.stays kept.content kept.content v.catalog v.catalog n m has.journal refl refl (same_names v.catalog.heads) (ring_same kept.content v.catalog n has.journal);
-        units = keeps_units.begins n label b has.units;
-        order = has.order;
-        active = has.active;
-        files = has.files;
-        restorable = has.restorable;
-      };
-      branches = ap (λ (cs : List Branch). cs ++ b ∷ []) kept.branches ∙ sym (map-append branch_of s.begun (new_unit x x ∷ []));
+      has = volume_as kept.content v.catalog n m kept.has refl refl refl;
+      log = kept.log;
+      branches = begun (new_unit b.key.tid x) b s.begun n.volatile.branches new.absent (record { tid = refl; serial = refl; prepared = new.unprepared; changed = λ e. new.unchanged }) kept.branches;
       locks = kept.locks;
-      holds = record {
-        running = begun_running label b n refl kept.holds.running;
-        holding = begun_holding label b n (let long = few in omega (arith, long, room)) kept.holds.holding;
-        drawn = subst (Each More) (sym (serials_push bs b)) (each_push More x (serials_of bs) (each_as Drawn More (serials_of bs) (λ y d. drawn_next n.name n.durable.boot n.volatile.drawn y d) kept.holds.drawn) (refl, inr (refl, omega arith)));
-        different = subst Distinct (sym (serials_push bs b)) (distinct_push x (serials_of bs) kept.holds.different others);
-      };
-      each = all_append (IsUnitOf m) s.begun (new_unit x x ∷ [])
-          (all_as (IsUnitOf n) (IsUnitOf m) s.begun (λ u k. record { positions = k.positions; files = k.files; transaction = k.transaction; active = k.active }) kept.each) (
+      each = all_append (IsUnitOf m) s.begun (new_unit b.key.tid x ∷ [])
+          (all_as (IsUnitOf n) (IsUnitOf m) s.begun (λ u k. record { positions = k.positions; files = k.files; transaction = k.transaction }) kept.each) (
             record {
-              positions = sym (no_positions x n.durable.units.first es none);
-              files = λ f. unchanged_at n x has.units fresh f ∙ sym (none_of_none 64 f);
-              transaction = all_as (λ (e : JournalEntry). same_id x (serial_in e) ≡ false) (λ (e : JournalEntry). same_id x (serial_in e) ≡ true → x ≡ tid_in e) es (λ e k t. absurd (both_ways _ k t)) none;
-              active = refl;
+              positions = sym (positions_none x n.durable.units.entries (no_change n b moment new up) n.durable.units.first);
+              files = λ f. unchanged_at n x kept.has.units (no_unit n b moment new up) f ∙ sym (none_of_none 64 f);
+              transaction = (up.table.entries b (own_in b n.volatile.branches)).transaction;
             },
             tt,
           );
     }
-  where
-    few : length n.volatile.branches ≡ length s.begun
-    few = ap length kept.branches ∙ length-map s.begun branch_of
 
-pub begins : (s : UnitsState) (v : VolumeState) (n : Node) (label : Label) (serial : Id) → IsKept s v n → IsNew serial s → serial ≡ next_id n → length s.begun < 64 →
-    IsKept (with_begun serial serial s) v (acted (Begins label (blank serial serial None Active None)) n)
-begins s v n label serial kept new is room = subst (λ (k : Id). IsKept (with_begun k k s) v (acted (Begins label (blank k k None Active None)) n)) (sym is) (next_begins s v n label kept room)
+-- The table does what nothing is written for.
+
+noted : (s : UnitsState) (v : VolumeState) (n m : Node) (b : Branch) → IsKept s v n → Restates n.volatile.branches b → (new : Branch) → new.key ≡ b.key → new.state ≡ b.state → new.changed ≡ b.changed → m.name ≡ n.name → m.blocks ≡ n.blocks → m.durable ≡ n.durable → m.up ≡ n.up →
+    m.volatile.branches ≡ put new n.volatile.branches → m.volatile.locks ≡ n.volatile.locks → IsKept s v m
+noted s v n m b kept stands new key state changed name blocks durable up branches locks =
+    let there = subst (λ k. table.find k n.volatile.branches ≡ Some stands.old) (sym key) stands.there in
+    let now : Node = record n { volatile = record n.volatile { branches = put new n.volatile.branches } } in
+    stays s v now m (record {
+      content = kept.content;
+      told = kept.told;
+      name = kept.name;
+      blocks = kept.blocks;
+      has = volume_as kept.content v.catalog n now kept.has refl refl refl;
+      log = kept.log;
+      branches = restated new stands.old s.begun n.volatile.branches there
+          (stays_of new stands.old n.volatile.branches there (ap is_prepared state ∙ stands.stays ∙ sym stands.unprepared) (changed ∙ stands.changed)) kept.branches;
+      locks = kept.locks;
+      each = all_as (IsUnitOf n) (IsUnitOf now) s.begun (λ u k. record { positions = k.positions; files = k.files; transaction = k.transaction }) kept.each;
+    }) name blocks durable up branches locks
+
+pub tables : (s : UnitsState) (v : VolumeState) (n : Node) (a : table.Act) (moment : ℕ) → IsKept s v n → writes a ≡ false → ((k : table.Key) → a ≡ Leaves k → ⊥) → Stands n.volatile.branches a → IsKept s v (acted (Tables a moment) n)
+tables s v n (Notes b) moment kept quiet other stands = noted s v n (acted (Tables (Notes b) moment) n) b kept stands b refl refl refl refl refl refl refl refl refl
+tables s v n (Accepts b c) moment kept quiet other stands = noted s v n (acted (Tables (Accepts b c) moment) n) b kept stands (record b { accepted = b.accepted ++ c ∷ [] }) refl refl refl refl refl refl refl refl refl
+tables s v n (Sends m) moment kept quiet other stands = stays s v n (acted (Tables (Sends m) moment) n) kept refl refl refl refl refl refl
+tables s v n (Prints l) moment kept quiet other stands = stays s v n (acted (Tables (Prints l) moment) n) kept refl refl refl refl refl refl
+tables s v n (Leaves k) moment kept quiet other stands = absurd (other k refl)
+tables s v n (Prepares b) moment kept quiet other stands = let none : ⊥ = cc in absurd none
+tables s v n (Settles k outcome reason r) moment kept quiet other stands = let none : ⊥ = cc in absurd none
+tables s v n (Acknowledges k) moment kept quiet other stands = let none : ⊥ = cc in absurd none
+tables s v n (Releases x rm) moment kept quiet other stands = let none : ⊥ = cc in absurd none
+tables s v n (Undoes k) moment kept quiet other stands = let none : ⊥ = cc in absurd none

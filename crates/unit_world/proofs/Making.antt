@@ -17,12 +17,10 @@ use Rattle.volume_format.specs.Home.{sizes_of}
 use Rattle.vms_model.specs.Ids.{Id}
 use Rattle.records_model.specs.History.{LiveChanges, changed_it, changes_by}
 use Rattle.journal_model.specs.Entries.{Entry}
+use Rattle.lmcp_log.specs.Keeping.{SameSlots}
 use Rattle.unit_laws.specs.Journal.{ChangeEntry, JournalEntry, PreparedEntry, SettledEntry, is_of_file}
 use Rattle.run_model.specs.World.{Creates, File, Node, acted, find_file, free_place}
-use Rattle.run_model.proofs.HoldingLemmas.{created_holding}
-use Rattle.run_model.proofs.NotedLemmas.{unnamed_found}
-use Rattle.run_model.proofs.OrderedLemmas.{creates_keep_order}
-use Rattle.run_model.proofs.RunningLemmas.{created_running}
+use Rattle.world_laws.proofs.OrderedLemmas.{creates_keep_order}
 use Rattle.directory_model.specs.Files.{AreFiles, IsFile, NoneNamed, file_at, head_at}
 use Rattle.directory_model.proofs.Acts.{keeps_files}
 use Rattle.directory_model.proofs.Apart.{extent_holds, lie_apart, writes_apart}
@@ -36,6 +34,7 @@ use Rattle.volume_model.specs.Entries.{AreEntries}
 use Rattle.volume_model.specs.Volumes.{HasVolume}
 use Rattle.volume_laws.specs.Journals.{SameRing}
 use Rattle.volume_laws.proofs.FollowLemmas.{follow}
+use Rattle.volume_laws.proofs.LogLemmas.{stays as log_stays, told}
 use Rattle.recovery_units.specs.Laws.{HeadWritten}
 use Rattle.recovery_units.specs.State.{AreLocks, IsInOrder, IsKept, IsUnitOf, UnitsState, changed_at}
 use Rattle.unit_world.proofs.Blocks.{extents_behind, fit, other_block, ring_behind, same_names}
@@ -66,15 +65,16 @@ free s v w n h b kept order run same size agrees told whole = record {
   has = subst (λ (c : Catalog). HasVolume b c n) (sym same) (record {
     home = kept.has.home;
     journal = follow.stays a b v.catalog v.catalog n n kept.has.journal refl refl (same_names v.catalog.heads) ring;
+    log = log_stays a b n n kept.has.log refl slots;
     units = kept.has.units;
     order = kept.has.order;
-    active = kept.has.active;
+    told = kept.has.told;
     files = stands_on_extents a b v.catalog.heads n.durable.directory agree kept.has.files;
     restorable = keeps_restorable.stands a b v.catalog.heads n.durable.directory agree kept.has.files kept.has.restorable;
   });
+  log = kept.log;
   branches = kept.branches;
   locks = subst (λ (c : Catalog). AreLocks c.heads s.locks n.volatile.locks) (sym same) kept.locks;
-  holds = kept.holds;
   each = kept.each;
 }
   where
@@ -86,6 +86,9 @@ free s v w n h b kept order run same size agrees told whole = record {
 
     agree : (f : ℕ) (other : FileHead) → head_at v.catalog.heads f ≡ Some other → AgreesOn other a b
     agree = writes_apart.in_free (data_area (sizes_of v.catalog.home)) v.catalog.heads h a b (fit v.catalog.home.node v.store.disk.size v.catalog order.sound order.heads) run off
+
+    slots : SameSlots (length n.durable.log) a b
+    slots k below = off.others (66 + k) (out_of_run v.catalog h (66 + k) run (let same = kept.has.home.slots in omega (arith, same, below)))
 
     ring : SameRing v.catalog.ru a b
     ring = record {
@@ -153,8 +156,9 @@ module _ (s : UnitsState) (v : VolumeState) (n : Node) (f : ℕ) (h : FileHead) 
     journal = follow.stays kept.content b v.catalog after n m kept.has.journal refl refl (names_new v.catalog.heads f h free_one)
         (ring_behind v.catalog.home.node v.store.disk.size v.catalog order.sound kept.content (519 + f - 518) bytes front whole);
     units = keeps_units.creates n f file kept.has.units within live none no_entry;
-    order = creates_keep_order n.durable n.volatile.locks f file kept.has.order free_at none no_entry;
-    active = kept.has.active;
+    log = log_stays kept.content b n m kept.has.log refl (λ k from. other_block kept.content (519 + f - 518) (66 + k) bytes (λ is. absurd (omega (arith, is, below))));
+    order = creates_keep_order n.durable n.volatile f file kept.has.order free_at none no_entry;
+    told = told n m kept.has.told refl (omega arith) refl refl;
     files = keeps_files.creates b v.catalog.heads n f h file files_b below (file_stands kept.content b h file own is_file);
     restorable = keeps_restorable.creates b v.catalog.heads n f h file files_b below live (keeps_restorable.stands kept.content b v.catalog.heads d agree kept.has.files kept.has.restorable);
   }
@@ -171,15 +175,10 @@ module _ (s : UnitsState) (v : VolumeState) (n : Node) (f : ℕ) (h : FileHead) 
     name = kept.name ∙ ap (λ (c : Catalog). c.home.node) (sym is);
     blocks = kept.blocks ∙ sym size;
     has = subst (λ (c : Catalog). HasVolume b c m) (sym is) creates_volume;
+    log = kept.log;
     branches = kept.branches;
     locks = subst (λ (c : Catalog). AreLocks c.heads s.locks n.volatile.locks) (sym is) (locks_stay v.catalog.heads heads s.locks n.volatile.locks (names_new v.catalog.heads f h free_one) kept.locks);
-    holds = record {
-      running = created_running f file n (live, unnamed_found file.name d none, kept.holds.running.unnoted file.name none, free_at) none kept.holds.running;
-      holding = created_holding f file n live none free_at kept.holds.holding;
-      drawn = kept.holds.drawn;
-      different = kept.holds.different;
-    };
-    each = all_as (IsUnitOf n) (IsUnitOf m) s.begun (λ u k. record { positions = k.positions; files = λ g. changed_set d f file u.serial within (nobody u.serial) g ∙ k.files g; transaction = k.transaction; active = k.active }) kept.each;
+    each = all_as (IsUnitOf n) (IsUnitOf m) s.begun (λ u k. record { positions = k.positions; files = λ g. changed_set d f file u.serial within (nobody u.serial) g ∙ k.files g; transaction = k.transaction }) kept.each;
   }
 
 pub creates : (s : UnitsState) (v w : VolumeState) (n : Node) (f : ℕ) (h : FileHead) (file : File) (content new : List (List ℕ)) → IsKept s v n → IsInOrder s v → f < 64 → head_at v.catalog.heads f ≡ None →

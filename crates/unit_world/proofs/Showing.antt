@@ -8,7 +8,7 @@ use Rattle.volume.specs.declared.catalog.Catalog.{Catalog}
 use Rattle.vms_model.specs.Keys.{Key, Number, Text, End}
 use Rattle.unit_laws.specs.Journal.{ChangeEntry, JournalEntry, PreparedEntry, SettledEntry}
 use Rattle.run_model.specs.World.{Node, find_file}
-use Rattle.run_model.specs.Ordered.{IsKeyOf, IsSettledBy, Suits}
+use Rattle.world_laws.specs.Ordered.{IsKeyOf, IsSettledBy, Suits}
 use Rattle.directory_model.specs.Files.{organized_by}
 use Rattle.directory_model.proofs.Places.{file_there}
 use Rattle.restart_laws.proofs.ListLemmas.{both_as}

@@ -3,9 +3,11 @@ ghost use Rattle.std.specs.Prelude.{◌≡◌, ℕ, List, ◌↔◌, Some};
 ghost use Rattle.std.specs.Option.{option_map};
 ghost use Rattle.byteorder.specs.Endian.{little_bytes, little_number};
 ghost use Rattle.vms_model.specs.Ids.{Id as IdSaid, IsId, id_bytes};
+ghost use Rattle.vms_model.specs.Serials.{id_number, id_said};
 ghost use Rattle.vms_base.specs.Ids.{id_of, until_zero};
 
 use crate::names::NodeName;
+use crate::text::{part_at, read_digits};
 use byteorder::{ByteOrder, LittleEndian};
 
 /// A node, the number of its boot, and a number that was drawn in that boot.
@@ -75,4 +77,30 @@ pub fn get_id(bytes: &[u8; 16]) -> Option<Id>
     let mut again = [0; 16];
     put_id(&id, &mut again);
     if again == *bytes { Some(id) } else { None }
+}
+
+// A number from 1 on, whose first digit is not a zero.
+fn read_id_number(text: &[u8]) -> Option<u32>
+    ensures { result ≡ id_number text.now }
+{
+    match text {
+        [] | [b'0', ..] => None,
+        _ => {
+            let n = read_digits(u64::from(u32::MAX), text)?;
+            Some(n as u32)
+        }
+    }
+}
+
+/// The id of a text: a node in either case of letters, a boot and a number of it, with dots between them; both numbers are at least 1 and have no leading
+/// zero. None exactly where the text has not this form.
+pub fn read_id(text: &[u8]) -> Option<Id>
+    ensures { option_map id_of result ≡ id_said text.now }
+{
+    let (node, rest) = part_at(b'.', text)?;
+    let (boot, seq) = part_at(b'.', rest)?;
+    let node = NodeName::new(node)?;
+    let boot = read_id_number(boot)?;
+    let seq = read_id_number(seq)?;
+    Some(Id { node, boot, seq })
 }

@@ -11,7 +11,7 @@ mod short;
 mod text;
 mod times;
 
-pub use ids::{Bid, Id, Serial, Tid, get_id, put_id};
+pub use ids::{Bid, Id, Serial, Tid, get_id, put_id, read_id};
 pub use keys::{Key, KeyText};
 pub use names::{FileName, Label, NodeName, RmName};
 pub use outcomes::{Outcome, Reason};

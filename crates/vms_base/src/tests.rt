@@ -70,6 +70,30 @@ fn ids_have_sixteen_bytes(rt: HostRuntime) {
 }
 
 #[test]
+fn ids_are_read_from_their_texts(rt: HostRuntime) {
+    let table: [(&[u8], Option<(u32, u32)>); 11] = [
+        (b"A.1.1", Some((1, 1))),
+        (b"a.20.4294967295", Some((20, 4_294_967_295))),
+        (b"A.4294967296.1", None),
+        (b"A.1.0", None),
+        (b"A.01.1", None),
+        (b"A.1", None),
+        (b"A.1.", None),
+        (b"A.1.1.1", None),
+        (b"A.+1.1", None),
+        (b".1.1", None),
+        (b"1A.1.1", None),
+    ];
+    for (text, numbers) in table {
+        let found = match read_id(text) {
+            Some(id) if id.node.bytes() == b"A".as_slice() => Some((id.boot, id.seq)),
+            _ => None,
+        };
+        assert_eq!(rt; found, numbers, "{text:?}");
+    }
+}
+
+#[test]
 fn names_have_their_letters_and_lengths(rt: HostRuntime) {
     let table: [(&[u8], bool, bool, bool); 8] = [
         (b"", false, false, false),

@@ -10,15 +10,18 @@ use Rattle.records_model.specs.Records.{Change}
 use Rattle.journal_model.specs.Entries.{Entry, spelling}
 use Rattle.journal_model.specs.Ring.{IsJournal}
 use Rattle.journal_store.proofs.EntriesAt.{front_dropped}
-use Rattle.unit_laws.specs.Journal.{Journal, JournalEntry, SettledEntry, RecoveryUnit, end_of, entries_for, entries_from, find_unit, trimmed, units_in, with_entries, with_settled}
+use Rattle.unit_laws.specs.Journal.{Journal, JournalEntry, PreparedEntry, SettledEntry, RecoveryUnit, end_of, entries_for, entries_from, find_unit, trimmed, units_in, with_entries, with_settled}
 use Rattle.unit_laws.proofs.TrimLemmas.{trim_keeps_units}
-use Rattle.run_model.specs.World.{Node, Settlement, Formats, Changes, Directs, Settles, acted}
+use Rattle.commit_protocol.specs.Table as table
+use Rattle.commit_protocol.specs.Table.{Branch, Prepares}
+use Rattle.run_model.specs.World.{Node, Settlement, Formats, Tables, Changes, Directs, acted, settlement_of, with_prepared}
+use Rattle.restart_laws.proofs.PreparedLemmas.{settled_journal}
 use Rattle.directory_model.specs.Files.{head_at}
 use Rattle.volume_model.specs.Entries.{AreEntries, entry_for}
 use Rattle.volume_model.specs.Laws.{KeepsNames}
 use Rattle.volume_model.specs.Volumes.{HasJournal}
 use Rattle.volume_model.proofs.EntryLemmas.{entries_follow}
-use Rattle.volume_laws.specs.Journals.{JournalsFollow, SameRing, settled_entries}
+use Rattle.volume_laws.specs.Journals.{JournalsFollow, SameRing, prepared_entries, settled_entries}
 use Rattle.volume_laws.proofs.RingLemmas.{journal_stands}
 
 formats : (b : List (List ℕ)) (w : Catalog) (n : Node) (slots journal : ℕ) → IsJournal b w.ru [] → w.ru.first ≡ 0 → w.ru.end ≡ 0 → HasJournal b w (acted (Formats slots journal) n)
@@ -78,11 +81,39 @@ settled_trims b v w s u ds (Some x) names alike before is first =
     trims b v w (with_end s u (Some x)) (ds ++ ends s (Some x)) names (entries_follow.joined v.heads u.entries (end_entry s ∷ []) ds (ends s (Some x)) alike (0, tt, refl, tt)) is before first
 settled_trims b v w s u ds None names alike before is first = trims b v w u ds names alike (subst (λ (xs : List Entry). IsJournal b (record w.ru { first = v.ru.first }) xs) (append-nil ds) is) before first
 
-settles : (a b : List (List ℕ)) (v w : Catalog) (n : Node) (s : Settlement) (j : HasJournal a v n) → KeepsNames v.heads w.heads → IsJournal b (record w.ru { first = v.ru.first }) (j.entries ++ settled_entries s n.durable.units) →
-    w.ru.first ≡ (with_settled s.tid s.serial s.outcome s.moment n.durable.units).first → w.ru.end ≡ end_of (with_settled s.tid s.serial s.outcome s.moment n.durable.units) → w.ru.end ≤ 2 ^ 62 → HasJournal b w (acted (Settles s) n)
-settles a b v w n s j names is first end low =
-    let t = settled_trims b v w s n.durable.units j.entries (find_unit s.serial (units_in n.durable.units.entries)) names j.alike j.first is first in
-    record { entries = t.0; is = t.1; alike = t.2; first = first; end = end; low = low }
+settles : (b c : List (List ℕ)) (v w : Catalog) (n : Node) (a : table.Act) (moment : ℕ) (s : Settlement) (j : HasJournal b v n) → settlement_of a moment ≡ Some s → KeepsNames v.heads w.heads →
+    IsJournal c (record w.ru { first = v.ru.first }) (j.entries ++ settled_entries s n.durable.units) → w.ru.first ≡ (with_settled s.tid s.serial s.outcome s.moment n.durable.units).first →
+    w.ru.end ≡ end_of (with_settled s.tid s.serial s.outcome s.moment n.durable.units) → w.ru.end ≤ 2 ^ 62 → HasJournal c w (acted (Tables a moment) n)
+settles b c v w n a moment s j ends_it names is first end low =
+    let t = settled_trims c v w s n.durable.units j.entries (find_unit s.serial (units_in n.durable.units.entries)) names j.alike j.first is first in
+    let units = settled_journal n a moment s ends_it in
+    record { entries = t.0; is = t.1; alike = subst (λ (u : Journal). AreEntries w.heads u.entries t.0) (sym units) t.2; first = first ∙ sym (ap (λ (u : Journal). u.first) units); end = end ∙ sym (ap end_of units); low = low }
+
+prepares : (a b : List (List ℕ)) (v w : Catalog) (n : Node) (x : Branch) (moment : ℕ) (j : HasJournal a v n) → KeepsNames v.heads w.heads → IsJournal b w.ru (j.entries ++ prepared_entries x n.durable.units) → w.ru.first ≡ v.ru.first →
+    w.ru.end ≡ end_of (with_prepared (Prepares x) n.durable.units) → w.ru.end ≤ 2 ^ 62 → HasJournal b w (acted (Tables (Prepares x) moment) n)
+prepares a b v w n x moment j names is first end low = record {
+  entries = j.entries ++ prepared_entries x n.durable.units;
+  is = is;
+  alike = alike (find_unit x.key.serial (units_in n.durable.units.entries));
+  first = first ∙ j.first ∙ begins (find_unit x.key.serial (units_in n.durable.units.entries));
+  end = end;
+  low = low;
+}
+  where
+    entered : Option RecoveryUnit → Journal
+    entered o = elim o [ Some u ↦ with_entries (PreparedEntry x.key.tid x.key.serial ∷ []) n.durable.units | None ↦ n.durable.units ]
+
+    written : Option RecoveryUnit → List Entry
+    written o = elim o [ Some u ↦ entry_for 0 (PreparedEntry x.key.tid x.key.serial) ∷ [] | None ↦ [] ]
+
+    begins : (o : Option RecoveryUnit) → n.durable.units.first ≡ (entered o).first
+    begins (Some u) = refl
+    begins None = refl
+
+    alike : (o : Option RecoveryUnit) → AreEntries w.heads (entered o).entries (j.entries ++ written o)
+    alike (Some u) = entries_follow.renamed v.heads w.heads (n.durable.units.entries ++ PreparedEntry x.key.tid x.key.serial ∷ []) (j.entries ++ written (Some u)) names
+        (entries_follow.joined v.heads n.durable.units.entries (PreparedEntry x.key.tid x.key.serial ∷ []) j.entries (written (Some u)) j.alike (0, tt, refl, tt))
+    alike None = subst (AreEntries w.heads n.durable.units.entries) (sym (append-nil j.entries)) (entries_follow.renamed v.heads w.heads n.durable.units.entries j.entries names j.alike)
 
 directs : (a b : List (List ℕ)) (v w : Catalog) (n : Node) (name : List ℕ) (cs : List Change) (s : Settlement) (j : HasJournal a v n) → KeepsNames v.heads w.heads → IsJournal b (record w.ru { first = v.ru.first }) j.entries →
     w.ru.first ≡ (trimmed n.durable.units).first → w.ru.end ≡ v.ru.end → HasJournal b w (acted (Directs name cs s) n)
@@ -91,4 +122,4 @@ directs a b v w n name cs s j names is first end =
     record { entries = t.0; is = t.1; alike = t.2; first = first; end = end ∙ j.end ∙ sym (trim_keeps_units n.durable.units).end; low = subst (λ (x : ℕ). x ≤ 2 ^ 62) (sym end) j.low }
 
 pub follow : JournalsFollow
-follow = record { formats = formats; stays = stays; changes = changes; settles = settles; directs = directs }
+follow = record { formats = formats; stays = stays; changes = changes; prepares = prepares; settles = settles; directs = directs }

@@ -1,3 +1,5 @@
 pub mod RingLemmas
 pub mod FollowLemmas
 pub mod WholeLemmas
+pub mod LogLemmas
+pub mod ToldLemmas

@@ -1,28 +1,39 @@
 -- A volume falls, and rests.
-use Rattle.std.proofs.Common.{◌≡◌, ℕ, List, [], Option, Some, None, refl, sym, subst}
+use Rattle.std.proofs.Common.{◌≡◌, ℕ, List, Option, Some, None}
 use Rattle.file_base.specs.declared.head.FileHead.{FileHead}
 use Rattle.run_model.specs.World.{File}
 use Rattle.directory_model.specs.Files.{head_at, file_at}
-use Rattle.directory_model.specs.Restoring.{CanRestore, IsPlaceRestorable}
+use Rattle.directory_model.specs.Restoring.{IsPlaceLeft, IsPlaceRestorable}
 use Rattle.restart_laws.proofs.FallLemmas.{falls_leave}
-use Rattle.restart_laws.proofs.RestLemmas.{no_units, rests_as_files}
+use Rattle.restart_laws.proofs.PreparedLemmas.{prepared_stand}
+use Rattle.restart_laws.proofs.RestLemmas.{rests_as_files}
 use Rattle.volume_laws.specs.Falls.{VolumeFalls, VolumeRests}
 
 pub volume_falls : VolumeFalls
-volume_falls content v n has = record { home = has.home; journal = has.journal; units = has.units; order = has.order; active = has.active; files = falls_leave content v.heads n has.files has.units has.restorable }
+volume_falls content v n has = record {
+  home = has.home;
+  log = has.log;
+  journal = has.journal;
+  units = has.units;
+  order = has.order;
+  told = has.told;
+  files = falls_leave content v.heads n has.files has.units has.restorable;
+  prepared = prepared_stand content v.heads n has.files has.units;
+}
 
-place_rests : (content : List (List ℕ)) (o : Option FileHead) (p : Option File) → ((file : File) → p ≡ Some file → file.history.live ≡ []) → IsPlaceRestorable content o p
-place_rests content None p none = tt
-place_rests content (Some h) None none = tt
-place_rests content (Some h) (Some file) none = subst (CanRestore h content) (sym (none file refl)) tt
+place_can : (content : List (List ℕ)) (o : Option FileHead) (p : Option File) → IsPlaceLeft content o p → IsPlaceRestorable content o p
+place_can content None p left = tt
+place_can content (Some h) None left = tt
+place_can content (Some h) (Some file) left = left.can
 
 pub volume_rests : VolumeRests
-volume_rests content v n left none = record {
+volume_rests content v n left all = record {
   home = left.home;
+  log = left.log;
   journal = left.journal;
   units = left.units;
   order = left.order;
-  active = left.active;
-  files = rests_as_files content v.heads n left.files left.units none;
-  restorable = λ f. place_rests content (head_at v.heads f) (file_at n.durable.directory f) (λ file there. no_units n.durable.units file.history.live none (left.units.tells f file there).notes.units);
+  told = left.told;
+  files = rests_as_files content v.heads n left.files left.prepared left.units all;
+  restorable = λ f. place_can content (head_at v.heads f) (file_at n.durable.directory f) (left.files.each f);
 }

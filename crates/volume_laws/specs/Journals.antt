@@ -9,8 +9,10 @@ use Rattle.vms_model.specs.Keys.{Key}
 use Rattle.records_model.specs.Records.{Change}
 use Rattle.journal_model.specs.Entries.{Entry}
 use Rattle.journal_model.specs.Ring.{IsJournal}
-use Rattle.unit_laws.specs.Journal.{Journal, SettledEntry, end_of, entries_for, find_unit, trimmed, units_in, with_entries, with_settled}
-use Rattle.run_model.specs.World.{Node, Settlement, Formats, Changes, Directs, Settles, acted}
+use Rattle.unit_laws.specs.Journal.{Journal, PreparedEntry, SettledEntry, end_of, entries_for, find_unit, trimmed, units_in, with_entries, with_settled}
+use Rattle.commit_protocol.specs.Table as table
+use Rattle.commit_protocol.specs.Table.{Branch, Prepares}
+use Rattle.run_model.specs.World.{Node, Settlement, Formats, Tables, Changes, Directs, acted, settlement_of, with_prepared}
 use Rattle.directory_model.specs.Files.{head_at}
 use Rattle.volume_model.specs.Entries.{entry_for}
 use Rattle.volume_model.specs.Laws.{KeepsNames}
@@ -26,6 +28,10 @@ pub record SameRing (s : Span) (a b : List (List ℕ)) : Type 0 where
 abbrev pub settled_entries : Settlement → Journal → List Entry
 settled_entries s j = elim (find_unit s.serial (units_in j.entries)) [ Some u ↦ entry_for 0 (SettledEntry s.tid s.serial s.outcome s.moment) ∷ [] | None ↦ [] ]
 
+-- and the one that prepares it
+abbrev pub prepared_entries : Branch → Journal → List Entry
+prepared_entries b j = elim (find_unit b.key.serial (units_in j.entries)) [ Some u ↦ entry_for 0 (PreparedEntry b.key.tid b.key.serial) ∷ [] | None ↦ [] ]
+
 pub record JournalsFollow : Type 0 where
   -- a new volume has no entry
   pub formats : (b : List (List ℕ)) (w : Catalog) (n : Node) (slots journal : ℕ) → IsJournal b w.ru [] → w.ru.first ≡ 0 → w.ru.end ≡ 0 → HasJournal b w (acted (Formats slots journal) n)
@@ -35,9 +41,13 @@ pub record JournalsFollow : Type 0 where
   pub changes : (a b : List (List ℕ)) (v w : Catalog) (n : Node) (f : ℕ) (h : FileHead) (tid serial : Id) (cs : List Change) (keys : List Key) (j : HasJournal a v n) → head_at v.heads f ≡ Some h → KeepsNames v.heads w.heads →
       IsJournal b w.ru (j.entries ++ map (entry_for f) (entries_for tid serial h.name cs)) → w.ru.first ≡ v.ru.first → w.ru.end ≡ end_of (with_entries (entries_for tid serial h.name cs) n.durable.units) → w.ru.end ≤ 2 ^ 62 →
       HasJournal b w (acted (Changes tid serial h.name cs keys) n)
+  -- a branch that is prepared: its entry, where it is a unit, stands behind the end
+  pub prepares : (a b : List (List ℕ)) (v w : Catalog) (n : Node) (x : Branch) (moment : ℕ) (j : HasJournal a v n) → KeepsNames v.heads w.heads → IsJournal b w.ru (j.entries ++ prepared_entries x n.durable.units) → w.ru.first ≡ v.ru.first →
+      w.ru.end ≡ end_of (with_prepared (Prepares x) n.durable.units) → w.ru.end ≤ 2 ^ 62 → HasJournal b w (acted (Tables (Prepares x) moment) n)
   -- a settlement: its entry, where the branch is a unit, stands behind the end, and the beginning is that of the earliest unsettled change
-  pub settles : (a b : List (List ℕ)) (v w : Catalog) (n : Node) (s : Settlement) (j : HasJournal a v n) → KeepsNames v.heads w.heads → IsJournal b (record w.ru { first = v.ru.first }) (j.entries ++ settled_entries s n.durable.units) →
-      w.ru.first ≡ (with_settled s.tid s.serial s.outcome s.moment n.durable.units).first → w.ru.end ≡ end_of (with_settled s.tid s.serial s.outcome s.moment n.durable.units) → w.ru.end ≤ 2 ^ 62 → HasJournal b w (acted (Settles s) n)
+  pub settles : (b c : List (List ℕ)) (v w : Catalog) (n : Node) (a : table.Act) (moment : ℕ) (s : Settlement) (j : HasJournal b v n) → settlement_of a moment ≡ Some s → KeepsNames v.heads w.heads →
+      IsJournal c (record w.ru { first = v.ru.first }) (j.entries ++ settled_entries s n.durable.units) → w.ru.first ≡ (with_settled s.tid s.serial s.outcome s.moment n.durable.units).first →
+      w.ru.end ≡ end_of (with_settled s.tid s.serial s.outcome s.moment n.durable.units) → w.ru.end ≤ 2 ^ 62 → HasJournal c w (acted (Tables a moment) n)
   -- changes that are committed at once: the beginning alone moves so
   pub directs : (a b : List (List ℕ)) (v w : Catalog) (n : Node) (name : List ℕ) (cs : List Change) (s : Settlement) (j : HasJournal a v n) → KeepsNames v.heads w.heads → IsJournal b (record w.ru { first = v.ru.first }) j.entries →
       w.ru.first ≡ (trimmed n.durable.units).first → w.ru.end ≡ v.ru.end → HasJournal b w (acted (Directs name cs s) n)

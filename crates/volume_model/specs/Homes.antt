@@ -1,5 +1,5 @@
 -- What the home block of a volume tells of its node.
-use Rattle.std.specs.Prelude.{◌≡◌, ℕ, Option, Some, None, option_map}
+use Rattle.std.specs.Prelude.{◌≡◌, ℕ, Option, Some, None, length, option_map}
 use Rattle.volume_format.specs.declared.home.Home.{Home}
 use Rattle.volume_format.specs.declared.home.Settled.{Settled}
 use Rattle.volume_format.specs.declared.home.Ending.{Ending}
@@ -28,7 +28,7 @@ last_of h = option_map (settlement_of h.greatest_moment.0) h.last
 -- a node of the world has this home's sizes, counts and last settlement
 pub record HasHome (h : Home) (n : Node) : Type 0 where
   pub volume : n.durable.volume ≡ Sound
-  pub slots : n.durable.slots ≡ h.slots
+  pub slots : length n.durable.log ≡ h.slots
   pub journal : n.durable.journal ≡ h.ru_blocks
   pub boot : n.durable.boot ≡ h.boot
   pub greatest : n.durable.greatest ≡ h.greatest_moment.0

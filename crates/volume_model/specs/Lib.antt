@@ -1,4 +1,5 @@
 pub mod Entries
 pub mod Homes
+pub mod Bars
 pub mod Volumes
 pub mod Laws

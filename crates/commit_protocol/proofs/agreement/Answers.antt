@@ -1,4 +1,4 @@
-use Rattle.commit_protocol.proofs.Opened.{agreement_from, alike_from, dead_from}
+use Rattle.commit_protocol.proofs.Opened.{agreement_from, alike_from, dead_from, none_from}
 use Rattle.commit_protocol.proofs.Left.{left_from}
 use Rattle.commit_protocol.proofs.NewVolumes.{new_agree}
 use Rattle.commit_protocol.proofs.agreement.Goals as goal
@@ -8,6 +8,9 @@ returns-clause-agrees c = agreement_from
 
 pub returns-clause-settles_alike : goal.returns-clause-settles_alike
 returns-clause-settles_alike c = alike_from
+
+pub returns-clause-none_aborted : goal.returns-clause-none_aborted
+returns-clause-none_aborted c = none_from
 
 pub returns-clause-stays_dead : goal.returns-clause-stays_dead
 returns-clause-stays_dead c = dead_from

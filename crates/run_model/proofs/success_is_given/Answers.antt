@@ -1,4 +1,4 @@
-use Rattle.run_model.proofs.CountLemmas.{successes}
+use Rattle.run_model.proofs.Failing.{successes}
 use Rattle.run_model.proofs.success_is_given.Goals as goal
 
 pub returns : goal.returns

@@ -1,5 +1,6 @@
+use Rattle.lmcp_log.proofs.SlotLemmas.{none_forgotten}
 use Rattle.volume_laws.proofs.WholeLemmas.{volume_falls}
-use Rattle.unit_world.proofs.Keeping.{begins, comes}
+use Rattle.unit_world.proofs.Keeping.{begins, comes, stays, tables}
 use Rattle.unit_world.proofs.Leaving.{boots, down, formats}
 use Rattle.unit_world.proofs.Showing.{shows}
 use Rattle.unit_world.proofs.Making.{creates, free}
@@ -11,11 +12,14 @@ returns c = record {
   falls = volume_falls;
   down = down;
   shows = λ s v n kept. shows kept.content v.catalog n kept.has;
+  stays = stays;
   comes = comes;
   begins = begins;
+  tables = tables;
   marks = marks;
   free = free;
   creates = creates;
+  unlogged = λ serial ss none. (none_forgotten serial ss none).0;
   boots = boots;
   formats = formats;
 }

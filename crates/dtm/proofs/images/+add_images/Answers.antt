@@ -1,6 +1,6 @@
-use Rattle.std.proofs.Common.{ap, sym, refl, ◌∙◌, inl, inr, subst, map, take, drop, length, ◌-◌}
+use Rattle.std.proofs.Common.{sym, refl, inl, inr, subst, map, take, drop, length, ◌-◌}
 use Rattle.dtm_run.specs.Racks.{names_in, disks_in}
-use Rattle.dtm.specs.Images.{node_and_image, Stops}
+use Rattle.dtm.specs.Images.{Stops}
 use Rattle.dtm.specs.Causes.{WhyUnfilled}
 use Rattle.dtm.proofs.ImageLemmas.{first_said, no_word, filled_here, filled_on, unwanted, why_here, why_on}
 use Rattle.dtm.proofs.images.+add_images.Goals as goal

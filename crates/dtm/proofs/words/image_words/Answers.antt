@@ -1,4 +1,4 @@
-use Rattle.std.proofs.Common.{◌≡◌, ◌∙◌, rules, ap, codes, unwrap_or, [], IfOk, map}
+use Rattle.std.proofs.Common.{◌∙◌, ap, codes, unwrap_or, []}
 use Rattle.clap.specs.Words.{found_of}
 use Rattle.clap.proofs.WalkLemmas.{raw_values-rows}
 use Rattle.std.proofs.lemmas.Result.{IfOk-weaker}

@@ -1,6 +1,6 @@
-use Rattle.std.proofs.Common.{◌≡◌, ◌∙◌, rules, ap, ap₂, refl, codes, map, string_bytes, unwrap_or, [], true, false}
+use Rattle.std.proofs.Common.{◌≡◌, ◌∙◌, rules, ap, ap₂, codes, map, string_bytes, unwrap_or, []}
 use Rattle.std.proofs.lemmas.Bool.{false≢true}
-use Rattle.clap.specs.Words.{all_of, app_of, is_simple, matches_of, rule_of, rows_of, found_of, takes, with_rule}
+use Rattle.clap.specs.Words.{all_of, app_of, is_simple, matches_of, rule_of, takes, with_rule}
 use Rattle.dtm.proofs.WordLemmas.{image, reader, is_bare, is_simple_reader, values_read, words_taken}
 use Rattle.dtm.proofs.words.read_words.Goals as goal
 

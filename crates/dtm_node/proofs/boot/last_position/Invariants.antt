@@ -1,5 +1,5 @@
 use Rattle.std.proofs.Common.{◌≡◌, ◌≤◌, max, take, length}
-use Rattle.dtm_node.specs.Boots.{ends_in}
+use Rattle.volume_model.specs.Bars.{ends_in}
 use Rattle.dtm_node.proofs.boot.last_position.Given as goal
 
 abbrev pub invariant-loop-file : goal.invariant-loop-file

@@ -1,24 +1,25 @@
 use Rattle.std.proofs.Common.{ap, inr, rules, ◌∙◌}
 use Rattle.volume_format.specs.declared.home.Home.{Home}
-use Rattle.dtm_node.proofs.Raising.{bootable_is, raise_refused, raise_up, raise_fell, raised}
+use Rattle.dtm_node.proofs.Raising.{bootable_is, mounted_left, raise_refused, raise_up, raise_fell, raised}
 use Rattle.dtm_node.proofs.boot.raise_boot.Goals as goal
 
 pub returns-in-Some-clause-boots : goal.returns-in-Some-clause-boots
 returns-in-Some-clause-boots g c = λ n m. (
-  bootable_is c.args.volume n _ c.in-Some.ensures.wide m c.in-Some.ensures.refuses,
-  raise_refused c.args.volume n (g.D.Disk.state c.into_parts-disk.result.0) c.in-Some.ensures.wide c.requires.idle c.requires.holds c.requires.sound (c.into_parts-disk.ensures.disk ∙ ap (λ s. s.disk) c.into_store.ensures) m,
+  bootable_is c.args.volume n c.in-Some.ensures.wide m _ c.in-Some.ensures.refuses,
+  raise_refused c.args.volume n (g.D.Disk.state c.into_parts-disk.result.0) c.in-Some.ensures.wide c.requires.idle c.requires.holds c.requires.sound (search rules) (c.into_parts-disk.ensures.disk ∙ ap (λ s. s.disk) c.into_store.ensures) m,
 )
 
 pub returns-in-Ok-clause-boots : goal.returns-in-Ok-clause-boots
 returns-in-Ok-clause-boots g c = λ n m. (
-  bootable_is c.args.volume n _ c.in_default.ensures.wide m c.in_default.ensures.refuses,
-  raise_up c.args.volume n _ c.in_default.ensures.wide c.nodes_are_kept.ensures c.requires.sound (ap (λ (h : Home). record c.args.volume.catalog { home = raised h }) c.home.ensures) (c.in-Ok.ensures.tells c.requires.holds) m c.write_home.new.volume c.in-Ok.ensures.current c.in-Ok.ensures.catalog c.in-Ok.ensures.counts.size,
+  bootable_is c.args.volume n c.in_default.ensures.wide m _ c.in_default.ensures.refuses,
+  raise_up c.args.volume n _ c.the_laws.ensures.nodes c.the_laws.ensures.boots c.requires.sound (ap (λ (h : Home). record c.args.volume.catalog { home = raised h }) c.home.ensures) (c.in-Ok.ensures.tells c.requires.holds) m (mounted_left c.args.volume n c.in_default.ensures.wide m c.in_default.ensures.refuses)
+      c.write_home.new.volume c.in-Ok.ensures.current c.in-Ok.ensures.catalog c.in-Ok.ensures.counts.size,
 )
 
 pub returns-in-Err-clause-boots : goal.returns-in-Err-clause-boots
 returns-in-Err-clause-boots g c = λ n m.
     inr (
-      bootable_is c.args.volume n _ c.in_default.ensures.wide m c.in_default.ensures.refuses,
-      raise_fell c.args.volume n _ c.in_default.ensures.wide c.nodes_are_kept.ensures c.requires.sound (ap (λ (h : Home). record c.args.volume.catalog { home = raised h }) c.home.ensures) (c.in-Err.ensures.tells c.requires.holds) m
+      bootable_is c.args.volume n c.in_default.ensures.wide m _ c.in_default.ensures.refuses,
+      raise_fell c.args.volume n _ c.the_laws.ensures.nodes c.the_laws.ensures.boots c.requires.sound (ap (λ (h : Home). record c.args.volume.catalog { home = raised h }) c.home.ensures) (c.in-Err.ensures.tells c.requires.holds) m (mounted_left c.args.volume n c.in_default.ensures.wide m c.in_default.ensures.refuses)
           (g.D.Disk.state c.into_parts-disk-in-Err.result.0) c.requires.idle c.requires.holds (search rules),
     )

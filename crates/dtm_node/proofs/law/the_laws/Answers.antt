@@ -1,19 +1,4 @@
 use Rattle.dtm_node.proofs.law.the_laws.Goals as goal
 
 pub returns : goal.returns
-returns c = record {
-  finds = c.files_are_found_by_name.ensures;
-  places = c.places_are_found_alike.ensures;
-  runs = c.free_runs_are_found_alike.ensures;
-  files = c.acts_keep_files.ensures;
-  reads = c.records_are_read_alike.ensures;
-  shows = c.records_are_shown_in_order.ensures;
-  stand = c.files_stand_on_their_extents.ensures;
-  apart = c.files_lie_apart.ensures;
-  writes = c.writes_stay_apart.ensures;
-  heads = c.acts_keep_heads.ensures;
-  makes = c.new_files_are_alike.ensures;
-  one = c.one_content.ensures;
-  front = c.catalogs_stand_on_the_front.ensures;
-  nodes = c.nodes_are_kept.ensures;
-}
+returns c = record { nodes = c.nodes_are_kept.ensures; rows = c.nodes_stay_kept.ensures.rows; boots = c.nodes_stay_kept.ensures.boots }

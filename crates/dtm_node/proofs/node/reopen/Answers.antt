@@ -1,51 +1,51 @@
-use Rattle.std.proofs.Common.{◌≡◌, ℕ, List, [], ◌∷◌, ap, map, true, refl, sym, subst, ◌∙◌}
-use Rattle.block_disk.specs.Disk.{DiskState}
+use Rattle.std.proofs.Common.{List, ap, map, subst, sym, ◌<◌, ◌∙◌}
+use Rattle.std.specs.List.{AllByRecursion}
 use Rattle.transcript_model.specs.Emitting.{Emits}
-use Rattle.transcript_model.specs.Lines as line
-use Rattle.transcript_model.specs.Lines.{Line}
-use Rattle.transcript_model.proofs.EmittingLemmas.{emits_on}
+use Rattle.vms_base.specs.Ids.{serial_of}
+use Rattle.vms_base.specs.declared.protocol.LogRec.{LogRec}
 use Rattle.volume_format.specs.declared.home.Home.{Home}
-use Rattle.recovery_units.specs.Uses.{Goes}
+use Rattle.commit_protocol.specs.Table.{record_serials}
+use Rattle.tm_types.specs.Parts.{log_record_of}
+use Rattle.recovery_units.specs.Told.{ReopenedTold}
 use Rattle.recovery_units.specs.declared.settled.SettledUnit.{SettledUnit}
-use Rattle.dtm_node.specs.Listing.{undone_line}
-use Rattle.dtm_node.specs.Nodes.{ReopensUp}
-use Rattle.dtm_node.specs.Standing.{IsDown, Up, disk_in}
-use Rattle.dtm_node.specs.Uses.{cause_of}
-use Rattle.dtm_node.proofs.Reopening.{fell_at}
-use Rattle.dtm_node.proofs.UsesLemmas.{risen_is}
+use Rattle.node_table.specs.Code.{stored_of}
+use Rattle.dtm_node.specs.Nodes.{last_lines_of, undone_line}
+use Rattle.dtm_node.specs.Opening.{prepared_told}
+use Rattle.dtm_node.proofs.Reopening.{reopened_down, reopened_up, three_shown, undone_times}
 use Rattle.dtm_node.proofs.node.reopen.Goals as goal
 
-pub returns-in-Ok-clause-reopens : goal.returns-in-Ok-clause-reopens
-returns-in-Ok-clause-reopens g c =
-    let v = c.args.volume in
-    let told : List SettledUnit = c.reopen-done.new.out in
-    let a = g.E.Emit.shows c.args.out.now in
-    let mid = g.E.Emit.shows c.show_undone.new.out in
-    let b = g.E.Emit.shows c.emit.new.self in
-    let shown = subst (λ (us : List SettledUnit). Emits a (map undone_line us) mid) c.items.ensures c.show_undone.ensures.emits in
-    let boot : c.from.result ≡ v.catalog.home.boot = c.from.ensures ∙ ap (λ (h : Home). h.boot) c.home.ensures ∙ c.in-Ok.ensures.grows.boot in
-    let answered = subst (λ (k : ℕ). Emits mid (line.NormalCount k ∷ []) b) boot c.emit.ensures.emits in
-    record {
-      name_is = refl;
-      made = refl;
-      goes = subst (λ (u : Up). Goes v.store.disk u.volume.store.disk) (sym c.new-running.ensures) c.in-Ok.ensures.grows.goes;
-      shows = subst (λ (u : Up). ReopensUp v u a b) (sym c.new-running.ensures) (record { told = told; emits = emits_on a mid b _ _ shown answered; drawn = refl; none = c.reopen-done.ensures.units; done = c.in-Ok.ensures.done });
-    }
+pub reopen_units-done-requires-clause-order : goal.reopen_units-done-requires-clause-order
+reopen_units-done-requires-clause-order g c = c.requires.raised.1.order _ c.requires.none
 
-pub returns-in-Err-clause-reopens : goal.returns-in-Err-clause-reopens
-returns-in-Err-clause-reopens g c =
-    let v = c.args.volume in
-    let w = c.reopen-done.new.volume in
-    let told : List SettledUnit = c.reopen-done.new.out in
+pub show_undone-requires : goal.show_undone-requires
+show_undone-requires g c = record {
+  times = subst (λ (us : List SettledUnit). AllByRecursion (λ (u : SettledUnit). u.moment.0 < 24000001000067) us) (sym c.settled.ensures)
+      (undone_times c.requires.raised.0 c.args.clock.0 c.args.running.now.stored.volume c.reopen_units-done.new.stored.volume _ c.requires.raised.1 c.requires.clock c.reopen_units-done.ensures.grows c.reopen_units-done.ensures.moments);
+}
+
+pub returns-in-Ok-clause-up : goal.returns-in-Ok-clause-up
+returns-in-Ok-clause-up g c =
+    let v = c.args.running.now.stored.volume in
+    let stored = c.reopen_units-done.new.stored in
+    let told : ReopenedTold = stored.room.told in
+    let up = c.boot.new.self in
     let a = g.E.Emit.shows c.args.out.now in
-    let mid = g.E.Emit.shows c.show_undone.new.out in
-    let b = g.E.Emit.shows c.show_fall.new.out in
-    let shown = subst (λ (us : List SettledUnit). Emits a (map undone_line us) mid) c.items.ensures c.show_undone.ensures.emits in
-    let down = c.fallen.ensures.down ∙ ap (λ (u : Up). IsDown true u.volume.store.disk) c.new-running.ensures in
-    record {
-      name_is = refl;
-      made = refl;
-      goes = subst (λ (d : DiskState). Goes v.store.disk d) (sym (ap disk_in down)) c.in-Err.ensures.grows.goes;
-      shows = fell_at g.D.Disk.state g.U.RecoveryUnits.state c.args.name v c.fallen.result w.store.disk a b down
-          (record { told = told; down = c.in-Err.down; emits = emits_on a mid b (map undone_line told) (line.Down c.args.name (cause_of c.in-Err.down) ∷ line.Broken (cause_of c.in-Err.down) ∷ []) shown c.show_fall.ensures.emits; cause = risen_is c.in-Err.down v.store.disk w.store.disk c.in-Err.ensures.cause; done = c.in-Err.ensures.err });
-    }
+    let b = g.E.Emit.shows c.show_last.new.out in
+    let d = g.E.Emit.shows c.show_undone.new.out in
+    let e = g.E.Emit.shows c.show_prepared.new.out in
+    let last = subst (λ (h : Home). Emits a (last_lines_of h) b) c.home.ensures c.show_last.ensures.shows in
+    let undone = subst (λ (us : List SettledUnit). Emits b (map undone_line us) d) c.settled.ensures c.show_undone.ensures.shows in
+    let prepared = subst (λ (rs : List LogRec). Emits d (map prepared_told rs) e) (c.prepared.ensures ∙ ap (λ (t : ReopenedTold). t.prepared) c.boot.ensures.told) c.show_prepared.ensures.shows in
+    reopened_up c.requires.raised.0 c.args.clock.0 v stored.volume (g.U.RecoveryUnits.state stored.units) told c.requires.raised.1 c.requires.clock c.in-Ok.ensures.grows (map serial_of stored.room.in_doubt.items) (record_serials (map log_record_of told.prepared)) (stored_of g.U.RecoveryUnits.state up.stored) up.table up.drawn
+    c.home-in-Ok.result.now.boot a e c.in-Ok.ensures.room c.in-Ok.ensures.order c.in-Ok.ensures.units c.in-Ok.ensures.begins c.in-Ok.ensures.done c.boot.ensures.stored c.boot.ensures.drawn (ap (λ (h : Home). h.boot) c.home-in-Ok.ensures) c.boot.ensures.up c.boot.ensures.stands (three_shown a b d e _ _ _ last undone prepared)
+
+pub returns-in-Err-clause-down : goal.returns-in-Err-clause-down
+returns-in-Err-clause-down g c =
+    let v = c.args.running.now.stored.volume in
+    let stored = c.reopen_units-done.new.stored in
+    let a = g.E.Emit.shows c.args.out.now in
+    let b = g.E.Emit.shows c.show_last.new.out in
+    let d = g.E.Emit.shows c.show_undone.new.out in
+    let last = subst (λ (h : Home). Emits a (last_lines_of h) b) c.home.ensures c.show_last.ensures.shows in
+    let undone = subst (λ (us : List SettledUnit). Emits b (map undone_line us) d) c.settled.ensures c.show_undone.ensures.shows in
+    reopened_down c.requires.raised.0 c.args.clock.0 v stored.volume (g.U.RecoveryUnits.state stored.units) stored.room.told c.requires.raised.1 c.requires.clock c.in-Err.ensures.grows (g.U.RecoveryUnits.state c.args.running.now.stored.units) c.requires.none c.in-Err.down a b d c.in-Err.ensures.cause c.in-Err.ensures.err last undone

@@ -1,6 +1,6 @@
 use Rattle.std.proofs.Common.{◌≡◌, map, take}
 use Rattle.transcript_model.specs.Emitting.{Emits, Since}
-use Rattle.dtm_node.specs.Listing.{undone_line}
+use Rattle.dtm_node.specs.Nodes.{undone_line}
 use Rattle.dtm_node.proofs.node.show_undone.Given as goal
 
 abbrev pub invariant-loop-unit : goal.invariant-loop-unit

@@ -1,4 +1,4 @@
-use Rattle.dtm_run.proofs.Known.{known_runs_are_whole}
+use Rattle.dtm_run.proofs.Made.{known_runs_are_whole}
 use Rattle.dtm_run.proofs.law.known_runs_are_whole.Goals as goal
 
 pub returns : goal.returns

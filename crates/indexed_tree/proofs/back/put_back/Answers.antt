@@ -1,4 +1,4 @@
-use Rattle.std.proofs.Common.{◌≡◌, ap, arith}
+use Rattle.std.proofs.Common.{ap, arith}
 use Rattle.careful_write.specs.State.{StoreState}
 use Rattle.index_blocks.proofs.StageLaws.{stages_one}
 use Rattle.indexed_tree.proofs.StoreLaws.{sets_back}

@@ -1,4 +1,4 @@
-use Rattle.std.proofs.Common.{ℕ, Result, Ok, Err, IfOk, OnOk}
+use Rattle.std.proofs.Common.{Result, Ok, Err, IfOk, OnOk}
 use Rattle.indexed_tree.proofs.StoreLaws.{leaf_told, path_told}
 use Rattle.indexed_tree.proofs.find.find_leaf.Goals as goal
 

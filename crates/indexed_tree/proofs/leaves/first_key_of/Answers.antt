@@ -1,5 +1,5 @@
-use Rattle.std.proofs.Common.{◌≡◌, ◌+◌, ◌-◌, ℕ, List, length, take, drop, ap, ◌∙◌, arith}
-use Rattle.bucket_page.specs.Pages.{slots_of, slot_at, key_in}
+use Rattle.std.proofs.Common.{◌≡◌, ◌+◌, ◌-◌, take, drop, ap, ◌∙◌, arith}
+use Rattle.bucket_page.specs.Pages.{slots_of, slot_at}
 use Rattle.indexed_file.specs.Chain.{kind_of}
 use Rattle.indexed_tree.proofs.EntryLaws.{key_first}
 use Rattle.indexed_tree.proofs.leaves.first_key_of.Goals as goal

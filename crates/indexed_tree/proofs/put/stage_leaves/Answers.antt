@@ -1,4 +1,4 @@
-use Rattle.std.proofs.Common.{◌≡◌, ℕ, length, ap, arith}
+use Rattle.std.proofs.Common.{◌≡◌, length, ap, arith}
 use Rattle.careful_write.specs.State.{StoreState}
 use Rattle.indexed_file.proofs.StoreLaws.{parts_none, parts_one, parts_two, touched_few}
 use Rattle.indexed_tree.proofs.StoreLaws as all

@@ -1,9 +1,10 @@
 use Rattle.run_model.specs.Locks.{is_locked}
-use Rattle.reference_world.specs.Standing.{id_of, changes_of, locks_of}
+use Rattle.vms_base.specs.Ids.{id_of}
+use Rattle.reference_world.specs.Standing.{changes_of, locks_of}
 use Rattle.reference_world.proofs.FileLemmas.{set_is}
 use Rattle.reference_world.proofs.directory.set_file.Goals as goal
 
 pub returns : goal.returns
-returns c = set_is c.args.file (is_locked (locks_of c.args.locks.now) c.args.name.now) (id_of c.args.serial) (changes_of c.args.changes.items) c.in_ok-f-2.field-0 c.in_ok-f.field-0
+returns c = set_is c.args.file (is_locked (locks_of c.args.locks.now) c.args.name.now) (id_of c.args.serial.now) (changes_of c.args.changes.items) c.in_ok-f-2.field-0 c.in_ok-f.field-0
     (rw c.replace-live.ensures.value at c.in_ok-f-2.ensures)
     (rw (c.as_slice.ensures.value, c.capacity-cap.ensures, c.replace-chain.ensures.value) at c.in_ok-f.ensures)

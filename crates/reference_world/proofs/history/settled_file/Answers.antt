@@ -1,7 +1,8 @@
 use Rattle.std.proofs.Common.{◌≡◌, sym, false, ◌∙◌}
 use Rattle.std.specs.Prelude.{map}
 use Rattle.records_model.specs.History.{changed_it}
-use Rattle.reference_world.specs.Standing.{id_of, live_of, settlement_of}
+use Rattle.vms_base.specs.Ids.{id_of}
+use Rattle.reference_world.specs.Standing.{live_of, settlement_of}
 use Rattle.reference_world.specs.Histories.{only_live}
 use Rattle.reference_world.proofs.FileLemmas.{not_changed}
 use Rattle.reference_world.proofs.history.settled_file.Goals as goal

@@ -1,6 +1,5 @@
-use Rattle.std.proofs.Common.{◌==◌, ◌++◌, ◌∷◌, [], map, if◌then◌else◌, sym, ◌∙◌, arith}
+use Rattle.std.proofs.Common.{◌++◌, ◌∷◌, [], map, if◌then◌else◌, sym, ◌∙◌, arith}
 use Rattle.vms_base.specs.Ids.{serial_of}
-use Rattle.journal_format.specs.Heads.{kind_code}
 use Rattle.ru_journal.specs.Units.{id_of_key}
 use Rattle.ru_journal.proofs.UnitLemmas.{of_ok, noted, noted_longer}
 use Rattle.ru_journal.proofs.state.note_settled.Goals as goal

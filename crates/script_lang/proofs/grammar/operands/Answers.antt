@@ -15,6 +15,12 @@ returns-in-SetFile c = rw c.in-SetFile.is (c.set_file.ensures c.args.lit.now)
 pub returns-in-StartTrans : goal.returns-in-StartTrans
 returns-in-StartTrans c = rw c.in-StartTrans.is (c.start_trans.ensures c.args.lit.now)
 
+pub returns-in-AddBranch : goal.returns-in-AddBranch
+returns-in-AddBranch c = rw c.in-AddBranch.is (c.add_branch.ensures c.args.lit.now)
+
+pub returns-in-StartBranch : goal.returns-in-StartBranch
+returns-in-StartBranch c = rw c.in-StartBranch.is (c.start_branch.ensures c.args.lit.now)
+
 pub returns-in-Put : goal.returns-in-Put
 returns-in-Put c = rw c.in-Put.is c.put.ensures
 
@@ -33,11 +39,17 @@ returns-in-Get c = rw c.in-Get.is c.get.ensures
 pub returns-in-Next : goal.returns-in-Next
 returns-in-Next c = rw c.in-Next.is c.next.ensures
 
+pub returns-in-EndBranch : goal.returns-in-EndBranch
+returns-in-EndBranch c = rw c.in-EndBranch.is (c.end_branch.ensures c.args.lit.now)
+
 pub returns-in-EndTrans : goal.returns-in-EndTrans
 returns-in-EndTrans c = rw c.in-EndTrans.is (c.end_trans.ensures c.args.lit.now)
 
 pub returns-in-AbortTrans : goal.returns-in-AbortTrans
 returns-in-AbortTrans c = rw c.in-AbortTrans.is (c.abort_trans.ensures c.args.lit.now)
+
+pub returns-in-Inquire : goal.returns-in-Inquire
+returns-in-Inquire c = rw c.in-Inquire.is (c.inquire.ensures c.args.lit.now)
 
 pub returns-in-Dump : goal.returns-in-Dump
 returns-in-Dump c = rw c.in-Dump.is (c.dump.ensures c.args.lit.now)

@@ -22,7 +22,7 @@ returns-then-not-has_room-clause-reopens g c =
     let count : length c.units.result.now ≡ length us = sym (length-map c.units.result.now unit_of) ∙ ap length c.units.ensures.value in
     let same = c.in-Ok-true.ensures.same in
     let no = subst (λ (x : VolumeState). ring_size x.catalog.ru < x.catalog.ru.end - x.catalog.ru.first + 48 * length c.units.result.now) same (c.has_room.ensures.no c.if-not-has_room.true) in
-    full us are (omega (arith, no, count)) same c.clear.ensures.items
+    full us are (omega (arith, no, count)) same c.clear.ensures.items (ap begun c.clear-then-not-has_room.ensures)
 
 pub loop-place-init : goal.loop-place-init
 loop-place-init g c =
@@ -42,7 +42,7 @@ loop-place-init g c =
       alike = subst (λ (n : ℕ). AreAlike (left_after n us) (begun c.read_units.new.units)) (sym none) alike;
       found = c.in-Ok-true.ensures.found c.in-Ok-true.field-0-test;
       may = subst (MayTake v.catalog.ru.first (begun c.read_units.new.units) c.args.clock.0) (sym same)
-          (may_begin (begun c.read_units.new.units) c.args.clock.0 v c.requires.may (c.in-Ok-true.ensures.within c.in-Ok-true.field-0-test) (omega (arith, long, few)) (omega (arith, yes, long, count)));
+          (may_begin (begun c.read_units.new.units) c.args.clock.0 v c.requires.may (c.in-Ok-true.ensures.within c.in-Ok-true.field-0-test) (c.in-Ok-true.ensures.ascends c.in-Ok-true.field-0-test) (omega (arith, long, few)) (omega (arith, yes, long, count)));
       places = omega (arith, places, wide);
       few = omega (arith, none, long, few);
       grows = by_none (length c.clear.new.self.items) c.args.clock.0 v c.read_units.new.volume c.read_units.ensures.kept;
@@ -157,6 +157,13 @@ returns-clause-reopens g c =
     let us = c.read_units.new.state.units in
     let n = length c.loop-place.out.items in
     taken us n (c.in-Ok-true.ensures.units c.in-Ok-true.field-0-test) c.loop-place.invariant.taken (none_alike (left_after n us) (begun c.loop-place.units) c.loop-place.invariant.alike c.in_default.ensures.none)
+    (record { alike = c.loop-place.invariant.alike; found = c.loop-place.invariant.found; prepared = c.in_default.ensures.none })
+
+pub returns-clause-room : goal.returns-clause-room
+returns-clause-room g c = let m = c.loop-place.invariant.may in let a = m.room in let b = m.behind in omega (arith, a, b)
+
+pub returns-clause-ascends : goal.returns-clause-ascends
+returns-clause-ascends g c = c.loop-place.invariant.may.positions
 
 pub returns-clause-may : goal.returns-clause-may
 returns-clause-may g c = may_abort c.args.volume.now.catalog.ru.first (begun c.loop-place.units) c.args.clock.0 c.loop-place.volume c.loop-place.invariant.may

@@ -1,13 +1,12 @@
-use Rattle.std.proofs.Common.{◌≡◌, ◌≤◌, ℕ, List, [], Option, Some, None, Ok, IfSome, length, get_or, subst, sym, ap, ◌∙◌, arith}
+use Rattle.std.proofs.Common.{◌≡◌, ◌≤◌, ℕ, List, [], Option, Ok, IfSome, length, get_or, subst, ap, ◌∙◌, arith}
 use Rattle.careful_write.specs.State.{StoreState}
 use Rattle.file_base.specs.declared.head.Span.{Span}
 use Rattle.journal_format.specs.Heads.{entry_of}
 use Rattle.journal_format.specs.declared.head.EntryHead.{EntryHead}
-use Rattle.journal_model.specs.Entries.{Entry}
 use Rattle.journal_store.specs.Leaving.{OnlyReads}
 use Rattle.journal_store.specs.Reading.{ReadsAt}
 use Rattle.volume.specs.declared.catalog.Catalog.{Catalog}
-use Rattle.unit_entries.specs.Keys.{KeyTold, key_told, keys_with}
+use Rattle.unit_entries.specs.Keys.{key_told, keys_with}
 use Rattle.unit_entries.proofs.CollectLemmas.{any_default, collected, none_collected}
 use Rattle.unit_entries.proofs.StoreLemmas.{stays_read, of_both}
 use Rattle.unit_entries.proofs.collecting.collect_keys.Goals as goal

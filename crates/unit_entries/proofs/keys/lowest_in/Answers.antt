@@ -1,4 +1,4 @@
-use Rattle.std.proofs.Common.{◌≡◌, map, take, ap, sym, ◌∙◌}
+use Rattle.std.proofs.Common.{map, take, ap, sym, ◌∙◌}
 use Rattle.unit_entries.specs.Keys.{lowest_in, lowest_with}
 use Rattle.unit_entries.specs.Rows.{key_said}
 use Rattle.unit_entries.proofs.KeyLemmas.{lowest_behind}

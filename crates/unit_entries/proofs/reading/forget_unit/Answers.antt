@@ -1,5 +1,5 @@
-use Rattle.std.proofs.Common.{◌≡◌, ap, sym, ◌∙◌}
-use Rattle.unit_table.specs.Units.{Units, begun, is_of}
+use Rattle.std.proofs.Common.{ap, sym, ◌∙◌}
+use Rattle.unit_table.specs.Units.{begun, is_of}
 use Rattle.vms_base.specs.Ids.{serial_of}
 use Rattle.unit_entries.proofs.OpenLemmas.{less_none}
 use Rattle.unit_entries.proofs.reading.forget_unit.Goals as goal

@@ -1,15 +1,12 @@
-use Rattle.std.proofs.Common.{◌≡◌, ◌<◌, ◌≤◌, ℕ, List, [], true, false, Option, Some, None, IfSome, length, subst, sym, ap, ◌∙◌, arith}
+use Rattle.std.proofs.Common.{◌<◌, ℕ, List, [], Option, Some, None, IfSome, subst, sym, ◌∙◌, arith}
 use Rattle.std.proofs.lemmas.Bool.{false≢true}
 use Rattle.journal_format.specs.Heads.{entry_of}
-use Rattle.journal_format.specs.declared.head.EntryHead.{EntryHead}
-use Rattle.journal_model.specs.Entries.{Entry}
-use Rattle.journal_model.specs.Ring.{IsJournal}
 use Rattle.journal_store.specs.Reading.{ReadsAt}
-use Rattle.ru_journal.specs.Told.{Told, nothing_told, told_by}
+use Rattle.ru_journal.specs.Told.{Told}
 use Rattle.unit_table.specs.Units.{Units, begun, no_units}
-use Rattle.unit_entries.specs.Opening.{AreAlike, BeginWithin, HasOpened}
-use Rattle.unit_entries.specs.Reading.{placed, AreInOrder, HasRead}
-use Rattle.unit_entries.proofs.OpenLemmas.{within_opened}
+use Rattle.unit_entries.specs.Opening.{AreAlike, AscendWithin, BeginWithin, HasOpened}
+use Rattle.unit_entries.specs.Reading.{HasRead}
+use Rattle.unit_entries.proofs.OpenLemmas.{ascends_near, ascends_opened, within_opened}
 use Rattle.unit_entries.proofs.ReadLemmas.{may_take, nothing_opened, nothing_read, one_is_there, opened_all, opened_more, read_more, told_all}
 use Rattle.unit_entries.proofs.StoreLemmas.{stays_so, stays_read, of_any, of_content, of_both}
 use Rattle.unit_entries.proofs.reading.read_journal.Goals as goal
@@ -20,6 +17,7 @@ loop-position-init g c = record {
   behind = omega arith;
   alike = subst (λ (x : Units). AreAlike c.clear.new.self.units (begun x)) (sym c.clear-2.ensures) (subst (λ (t : Told). AreAlike t.units (begun no_units)) (sym c.clear.ensures) tt);
   within = subst (λ (x : Units). BeginWithin c.args.span.now (begun x)) (sym c.clear-2.ensures) tt;
+  ascends = subst (λ (x : Units). AscendWithin c.args.span.now.first c.args.span.now.first (begun x)) (sym c.clear-2.ensures) tt;
   read = of_any c.args.store.now.current (λ x es journal. subst (HasRead x c.args.span.now es c.args.span.now.first) (sym c.clear.ensures) (nothing_read x c.args.span.now es journal));
   opened = of_any c.args.store.now.current (λ x es journal.
       subst (λ (y : Units). HasOpened c.args.span.now es c.args.span.now.first c.clear.new.self (begun y)) (sym c.clear-2.ensures)
@@ -57,6 +55,8 @@ loop-position-preserved g c =
       alike = c.take_entry.ensures.alike c.if-not-take_entry.false;
       within = subst (BeginWithin c.args.span.now) (sym (c.take_entry.ensures.units c.if-not-take_entry.false))
           (within_opened c.args.span.now position (entry_of h []) (begun c.loop-position.units) c.loop-position.invariant.behind c.loop-position-test.true c.loop-position.invariant.within);
+      ascends = subst (AscendWithin c.args.span.now.first next) (sym (c.take_entry.ensures.units c.if-not-take_entry.false))
+          (ascends_opened c.args.span.now.first position next (entry_of h []) (begun c.loop-position.units) c.loop-position.invariant.behind (rw c.in-Ok-Some.field-0-is at c.in-Ok-Some.ensures.on) c.loop-position.invariant.ascends);
       read = of_both c.args.store.now.current (λ x before stands es journal.
           read_more x c.args.span.now es journal position c.loop-position.state c.take_entry.new.state h next image c.loop-position-test.true (before es journal) stands (c.take_entry.ensures.taken c.if-not-take_entry.false)) c.loop-position.invariant.read read;
       opened = of_both c.args.store.now.current (λ x before stands es journal.
@@ -69,3 +69,6 @@ returns-clause-told g c = λ _. of_content c.args.store.now.current (λ x before
 
 pub returns-clause-found : goal.returns-clause-found
 returns-clause-found g c = λ _. of_content c.args.store.now.current (λ x before es journal. opened_all x c.args.span.now es journal c.loop-position.position c.loop-position.state (begun c.loop-position.units) (before es journal) c.loop-position-test.false) c.loop-position.invariant.opened
+
+pub returns-clause-ascends : goal.returns-clause-ascends
+returns-clause-ascends g c = λ _. ascends_near c.args.span.now c.loop-position.position (begun c.loop-position.units) c.requires.ring.order c.loop-position.invariant.within c.loop-position.invariant.ascends

@@ -1,10 +1,10 @@
-use Rattle.std.proofs.Common.{◌≡◌, [], ℕ, ◌<◌, ◌==◌, Bool, false, Option, Some, None, IfSome, Result, Ok, Err, OnOk, length, refl, sym, subst, ap, ◌∙◌}
+use Rattle.std.proofs.Common.{◌≡◌, [], ℕ, ◌==◌, false, Option, Some, None, IfSome, Result, Ok, Err, OnOk, refl, sym, subst, ap, ◌∙◌}
 use Rattle.std.specs.Prelude.{is_err}
-use Rattle.journal_format.specs.Heads.{entry_of, kind_code}
+use Rattle.journal_format.specs.Heads.{entry_of}
 use Rattle.ru_journal.specs.Told.{Told, after, is_out_of_order}
 use Rattle.unit_table.specs.Units.{OpenUnit, begun, first_that, is_of}
 use Rattle.vms_base.specs.Ids.{serial_of}
-use Rattle.unit_entries.specs.Opening.{AreAlike, opened_after}
+use Rattle.unit_entries.specs.Opening.{AreAlike}
 use Rattle.unit_entries.proofs.OpenLemmas.{alike_after, places_opened, room_opened}
 use Rattle.unit_entries.proofs.ReadLemmas.{prepared_kind}
 use Rattle.unit_entries.proofs.reading.take_entry.Goals as goal
@@ -25,10 +25,10 @@ follow_entry-requires-clause-room c =
     (λ w at kind. room_opened c.args.position e c.args.state.now (begun c.args.units.now) (prepared_kind c.args.e.now.kind) c.requires.alike may w at (ap (λ (k : ℕ). k == 3) kind) (ap (λ (k : ℕ). k == 1) kind))
 
 pub follow_entry-requires-clause-places : goal.follow_entry-requires-clause-places
-follow_entry-requires-clause-places c = λ none open_.
+follow_entry-requires-clause-places c = λ none change.
     let e = entry_of c.args.e.now [] in
     let may : is_out_of_order e c.args.state.now ≡ false = sym c.take.ensures.order ∙ sym c.is_err.ensures.value ∙ c.if-is_err.false in
-    places_opened c.args.position e c.args.state.now (begun c.args.units.now) (prepared_kind c.args.e.now.kind) c.requires.alike may none open_
+    places_opened c.args.position e c.args.state.now (begun c.args.units.now) (prepared_kind c.args.e.now.kind) c.requires.alike may none change
 
 pub returns-clause-alike : goal.returns-clause-alike
 returns-clause-alike c = λ _.

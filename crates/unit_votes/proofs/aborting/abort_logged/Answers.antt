@@ -1,5 +1,5 @@
 -- A prepared unit is aborted, and its slot is freed in the last group.
-use Rattle.std.proofs.Common.{◌≡◌, ◌<◌, ℕ, Bool, List, Option, None, not, subst, sym, ap, ◌∙◌, inl, inr}
+use Rattle.std.proofs.Common.{◌<◌, ℕ, Bool, List, Option, None, not, subst, sym, ap, ◌∙◌, inl, inr}
 use Rattle.std.proofs.lemmas.Result.{on_err_weaker, on_ok_weaker}
 use Rattle.journal_model.specs.Entries.{Entry}
 use Rattle.unit_aborts.specs.Aborting.{Abortion}

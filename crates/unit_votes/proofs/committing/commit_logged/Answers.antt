@@ -44,8 +44,8 @@ returns-clause-log g c =
     let e = entry_if c.args.has_changed (settled_entry (tid_of b.tid) (serial_of b.serial) Commit c.args.moment.0) in
     let some : 0 < c.set_record.new.volume.catalog.ru.blocks = subst (λ (k : Catalog). 0 < k.ru.blocks) (sym c.set_record.ensures.catalog) c.requires.ring.some in
     on_ok_weaker c.settle_staged.result
-    (λ makes. log_settled c.log_is_as_it_was_left.ensures.beside c.one_entry_more.ensures.others b.tid b.serial ending.Commit c.args.moment.0 e left c.set_record.new.log c.set_record.new.volume c.settle_staged.new.volume some
-    (makes left (sym c.earliest.ensures)) (c.set_record.ensures.log c.requires.log))
+    (λ makes h. log_settled c.log_is_as_it_was_left.ensures.beside c.one_entry_more.ensures.others b.tid b.serial ending.Commit c.args.moment.0 e left c.set_record.new.log c.set_record.new.volume c.settle_staged.new.volume some
+    (makes left (sym c.earliest.ensures)) (c.set_record.ensures.log h))
     c.settle_staged.ensures.makes
 
 pub returns-clause-grows : goal.returns-clause-grows

@@ -1,8 +1,9 @@
 -- One slot is written in a group of its own.
-use Rattle.std.proofs.Common.{◌∙◌, ap, refl, subst}
+use Rattle.std.proofs.Common.{◌∙◌, ℕ, List, Option, IfSome, ap, refl, subst, sym}
 use Rattle.std.specs.Prelude.{option_copied}
 use Rattle.std.proofs.lemmas.Result.{on_err_weaker, on_ok_weaker}
 use Rattle.careful_write.specs.State.{IsEither, Leaves, StoreState, content}
+use Rattle.lmcp_log.specs.Keeping.{Keeps}
 use Rattle.lmcp_log.specs.Log.{slot_of}
 use Rattle.unit_journal.proofs.Breaking.{breaks_made}
 use Rattle.vms_base.specs.Ids.{serial_of}
@@ -27,3 +28,12 @@ returns-clause-breaks g c =
     (same_content v mid c.set_record.ensures.rest)
     (subst (λ (s : StoreState). Leaves (IsEither (content s) s.current) c.apply.new.self.disk) c.store.ensures.value leaves))
     c.apply.ensures.err
+
+pub returns-clause-log : goal.returns-clause-log
+returns-clause-log g c =
+    on_ok_weaker c.apply.result
+    (λ current h. let k = c.set_record.ensures.log h in record {
+      before = k.before;
+      keeps = subst (λ (o : Option (List (List ℕ))). IfSome o (Keeps c.set_record.new.log)) (sym (current ∙ ap (λ (s : StoreState). s.current) c.store.ensures.value)) k.keeps;
+    })
+    c.apply.ensures.current

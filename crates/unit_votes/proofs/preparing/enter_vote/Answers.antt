@@ -1,12 +1,10 @@
 -- A branch is prepared in one group.
-use Rattle.std.proofs.Common.{◌≡◌, ◌<◌, ◌+◌, ◌≤◌, ◌^◌, ◌∙◌, ℕ, Bool, true, false, List, Option, Some, option_map, if◌then◌else◌, sym, ap, subst, arith, inl}
+use Rattle.std.proofs.Common.{◌<◌, ◌+◌, ◌∙◌, Some, option_map, if◌then◌else◌, sym, ap, subst, inl}
 use Rattle.std.proofs.lemmas.Result.{on_err_weaker, on_ok_weaker}
 use Rattle.careful_write.specs.State.{IsEither, Leaves, StoreState, content}
-use Rattle.file_base.specs.declared.head.Span.{Span}
 use Rattle.unit_journal.specs.Settling.{content_with, span_with}
 use Rattle.unit_journal.proofs.Breaking.{breaks_made, fell_old, staged_disk}
 use Rattle.vms_base.specs.Ids.{serial_of, tid_of}
-use Rattle.volume.specs.State.{VolumeState}
 use Rattle.volume.specs.declared.catalog.Catalog.{Catalog}
 use Rattle.commit_protocol.specs.Messages.{LogRecord}
 use Rattle.unit_votes.specs.Logging.{SetsRecord}
@@ -68,8 +66,8 @@ returns-clause-log g c =
     let e = vote_entry c.args.has_changed (tid_of b.tid) (serial_of b.serial) in
     let some : 0 < logged.catalog.ru.blocks = subst (λ (k : Catalog). 0 < k.ru.blocks) (sym c.set_record.ensures.catalog) c.requires.ring.some in
     on_ok_weaker c.apply.result
-    (λ current. log_voted c.log_is_as_it_was_left.ensures.beside c.one_entry_more.ensures.others e c.set_record.new.log logged (record voted { store = c.apply.new.self }) some
-    (current ∙ ap (λ (s : StoreState). s.current) c.store.ensures.value ∙ c.in-Ok.ensures.current) c.in-Ok.ensures.catalog (c.set_record.ensures.log c.requires.log))
+    (λ current h. log_voted c.log_is_as_it_was_left.ensures.beside c.one_entry_more.ensures.others e c.set_record.new.log logged (record voted { store = c.apply.new.self }) some
+    (current ∙ ap (λ (s : StoreState). s.current) c.store.ensures.value ∙ c.in-Ok.ensures.current) c.in-Ok.ensures.catalog (c.set_record.ensures.log h))
     c.apply.ensures.current
 
 pub returns-clause-grows : goal.returns-clause-grows

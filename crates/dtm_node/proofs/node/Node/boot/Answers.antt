@@ -1,39 +1,45 @@
-use Rattle.std.proofs.Common.{ap, sym, refl, subst, ◌+◌, false}
-use Rattle.script_model.specs.Statements as said
-use Rattle.dtm_node.specs.Keeping.{Serves, up_of}
-use Rattle.dtm_node.specs.Nodes.{kept_of, place_of, shared_of, state_of}
-use Rattle.dtm_node.specs.declared.node.Place.TheVariants as at
-use Rattle.dtm_node.proofs.NodeServes.{kept_same, said_is_down, unmade_follows, unmade_node, up_boots, up_follows}
-use Rattle.dtm_node.proofs.CallingLemmas.{answers_at, answers_same}
-use Rattle.transcript_model.specs.Lines.{NodeUp, NotInitialized}
-use Rattle.dtm_node.specs.Calling.{said_node, said_shared}
-use Rattle.dtm_node.specs.Standing.{counts_of, disk_in}
+use Rattle.std.proofs.Common.{[], false, refl, subst, sym, true, ℕ, ◌∙◌, ◌∷◌}
+use Rattle.script_model.specs.Statements.{Boot}
+use Rattle.run_model.specs.Answers.{Serves}
+use Rattle.transcript_model.specs.Emitting.{Emits}
+use Rattle.transcript_model.specs.Lines.{NormalCount}
+use Rattle.dtm_node.specs.Nodes.{kept_of}
+use Rattle.dtm_node.proofs.BootPlaces.{later_node}
+use Rattle.dtm_node.proofs.Boots.{boot_at_up, boot_performs, boot_tells, boot_unmade}
 use Rattle.dtm_node.proofs.node.Node.boot.Goals as goal
 
-pub returns-then-self-clause-serves : goal.returns-then-self-clause-serves
-returns-then-self-clause-serves g c = λ log n h promised.
-    unmade_node g.D.Disk.state g.U.RecoveryUnits.state c.requires.kept.0 c.args.self log (shared_of c.args.shared.now) n _ _ c.requires.kept.2 c.if-self.true h c.emit.ensures.emits
+pub returns-then-is_up-clause-tells : goal.returns-then-is_up-clause-tells
+returns-then-is_up-clause-tells g c = (true, (boot_at_up (kept_of g.D.Disk.state g.U.RecoveryUnits.state c.args.self.now) c.args.shared.now _ _ (sym c.is_up.ensures ∙ c.if-is_up.true) c.emit.ensures.emits).0)
 
-pub returns-in-Up-clause-serves : goal.returns-in-Up-clause-serves
-returns-in-Up-clause-serves g c = λ log n h promised.
-    subst (λ k. Serves log (shared_of c.args.shared.now) n (counts_of (state_of g.D.Disk.state g.U.RecoveryUnits.state c.args.self)) said.Boot (g.E.Emit.shows c.args.out.now) (g.E.Emit.shows c.emit-in-Up.new.self) k (shared_of c.args.shared.now))
-    (kept_same g.D.Disk.state g.U.RecoveryUnits.state c.args.self (record { name = c.args.self.name; unmade = false; place = at.Up c.in-Up.running }) refl (sym c.if-self.false) (sym c.in-Up.is))
-    (up_boots log (shared_of c.args.shared.now) n (kept_of g.D.Disk.state g.U.RecoveryUnits.state c.args.self) (up_of g.U.RecoveryUnits.state c.in-Up.running) _ _ (ap (place_of g.D.Disk.state g.U.RecoveryUnits.state) c.in-Up.is) h c.emit-in-Up.ensures.emits)
-
-pub returns-in-Down-clause-kept : goal.returns-in-Down-clause-kept
-returns-in-Down-clause-kept g c = λ n h. c.boot_down.ensures.kept (n + 1)
+pub returns-then-is_up-clause-performs : goal.returns-then-is_up-clause-performs
+returns-then-is_up-clause-performs g c = (boot_at_up (kept_of g.D.Disk.state g.U.RecoveryUnits.state c.args.self.now) c.args.shared.now _ _ (sym c.is_up.ensures ∙ c.if-is_up.true) c.emit.ensures.emits).1
 
 pub returns-then-self-clause-tells : goal.returns-then-self-clause-tells
-returns-then-self-clause-tells g c =
-    answers_same said.Boot NotInitialized _ _ _ _ _ _ _ refl refl c.emit.ensures.emits refl refl
-    (unmade_follows g.D.Disk.state g.U.RecoveryUnits.state c.requires.kept.0 c.args.self (shared_of c.args.shared.now) (said_shared (shared_of c.args.shared.now)) c.requires.kept.2 c.if-self.true)
+returns-then-self-clause-tells g c = (true, (boot_unmade (kept_of g.D.Disk.state g.U.RecoveryUnits.state c.args.self.now) c.args.shared.now _ _ (sym c.is_up.ensures ∙ c.if-is_up.false) c.if-self.true c.emit-then-self.ensures.emits).0)
 
-pub returns-in-Up-clause-tells : goal.returns-in-Up-clause-tells
-returns-in-Up-clause-tells g c =
-    answers_same said.Boot NodeUp _ _ _ _ _ _ _ (sym (ap disk_in (ap (place_of g.D.Disk.state g.U.RecoveryUnits.state) c.in-Up.is)))
-    (sym (ap said_node (kept_same g.D.Disk.state g.U.RecoveryUnits.state c.args.self (record { name = c.args.self.name; unmade = false; place = at.Up c.in-Up.running }) refl (sym c.if-self.false) (sym c.in-Up.is))))
-    c.emit-in-Up.ensures.emits refl refl (up_follows g.D.Disk.state g.U.RecoveryUnits.state c.args.self c.in-Up.running (said_shared (shared_of c.args.shared.now)) c.in-Up.is)
+pub returns-then-self-clause-performs : goal.returns-then-self-clause-performs
+returns-then-self-clause-performs g c = (boot_unmade (kept_of g.D.Disk.state g.U.RecoveryUnits.state c.args.self.now) c.args.shared.now _ _ (sym c.is_up.ensures ∙ c.if-is_up.false) c.if-self.true c.emit-then-self.ensures.emits).1
 
-pub returns-in-Down-clause-tells : goal.returns-in-Down-clause-tells
-returns-in-Down-clause-tells g c =
-    answers_at said.Boot _ _ _ _ _ _ _ _ _ _ _ _ (ap disk_in (ap (place_of g.D.Disk.state g.U.RecoveryUnits.state) c.in-Down.is)) refl (said_is_down g.D.Disk.state g.U.RecoveryUnits.state c.args.self _ _ false c.in-Down.is c.if-self.false) refl c.boot_down.ensures.tells
+pub returns-in-Some-clause-node : goal.returns-in-Some-clause-node
+returns-in-Some-clause-node g c = λ count h. later_node g.D.Disk.state g.U.RecoveryUnits.state count c.come_up.new.shared c.come_up.new.self (c.in-Some.ensures.node count h)
+
+pub returns-in_default-clause-node : goal.returns-in_default-clause-node
+returns-in_default-clause-node g c = λ count h. later_node g.D.Disk.state g.U.RecoveryUnits.state count c.come_up.new.shared c.come_up.new.self (c.in_default.ensures.node count h)
+
+pub returns-in-Some-clause-tells : goal.returns-in-Some-clause-tells
+returns-in-Some-clause-tells g c = (
+  false,
+  boot_tells (kept_of g.D.Disk.state g.U.RecoveryUnits.state c.args.self.now) c.args.shared.now c.in-Some.boot _ (g.E.Emit.shows c.come_up.new.out) (g.E.Emit.shows c.emit-in-Some.new.self) (kept_of g.D.Disk.state g.U.RecoveryUnits.state c.come_up.new.self) c.come_up.new.shared c.in-Some.ensures.comes c.if-self.false (sym c.is_up.ensures ∙ c.if-is_up.false)
+      (subst (λ (n : ℕ). Emits (g.E.Emit.shows c.come_up.new.out) (NormalCount n ∷ []) (g.E.Emit.shows c.emit-in-Some.new.self)) c.from.ensures c.emit-in-Some.ensures.emits),
+)
+
+pub returns-in-Some-clause-performs : goal.returns-in-Some-clause-performs
+returns-in-Some-clause-performs g c =
+    boot_performs (kept_of g.D.Disk.state g.U.RecoveryUnits.state c.args.self.now) c.args.shared.now c.in-Some.boot _ (g.E.Emit.shows c.come_up.new.out) (g.E.Emit.shows c.emit-in-Some.new.self) (kept_of g.D.Disk.state g.U.RecoveryUnits.state c.come_up.new.self) c.come_up.new.shared c.in-Some.ensures.comes c.if-self.false (sym c.is_up.ensures ∙ c.if-is_up.false)
+    (subst (λ (n : ℕ). Emits (g.E.Emit.shows c.come_up.new.out) (NormalCount n ∷ []) (g.E.Emit.shows c.emit-in-Some.new.self)) c.from.ensures c.emit-in-Some.ensures.emits)
+
+pub returns-in_default-clause-tells : goal.returns-in_default-clause-tells
+returns-in_default-clause-tells g c = (true, (c.in_default.ensures.comes (Serves Boot) refl (λ e. (let f : ⊥ = cc in absurd f))).0)
+
+pub returns-in_default-clause-performs : goal.returns-in_default-clause-performs
+returns-in_default-clause-performs g c = λ log n w h share kept promised. (true, (c.in_default.ensures.comes (Serves Boot) refl (λ e. (let f : ⊥ = cc in absurd f))).1 log n w h share kept promised)

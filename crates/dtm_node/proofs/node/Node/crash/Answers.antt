@@ -1,31 +1,25 @@
-use Rattle.std.proofs.Common.{ap, sym, subst, refl}
-use Rattle.transcript_model.proofs.EmittingLemmas.{emits_on}
-use Rattle.dtm_node.specs.Keeping.{up_of}
-use Rattle.dtm_node.specs.Nodes.{IsPlaceOf, kept_of, place_of}
-use Rattle.dtm_node.specs.Standing.{disk_in}
-use Rattle.dtm_node.proofs.NodeServes.{crash_serves, down_serves}
-use Rattle.dtm_node.proofs.CallingLemmas.{answers_at, answers_crash, crash_down, said_place}
-use Rattle.script_model.specs.Statements.{Crash}
+use Rattle.std.proofs.Common.{sym, true, ◌∙◌}
+use Rattle.dtm_node.specs.Nodes.{kept_of}
+use Rattle.dtm_node.proofs.NodeCrash.{crashes, crashes_tell}
+use Rattle.dtm_node.proofs.NodePlaces.{fallen_node}
+use Rattle.dtm_node.proofs.NodeRequests.{node_more}
+use Rattle.dtm_node.proofs.Simple.{crash_down_performs, crash_down_tells}
 use Rattle.dtm_node.proofs.node.Node.crash.Goals as goal
 
-pub returns-in-Up-clause-serves : goal.returns-in-Up-clause-serves
-returns-in-Up-clause-serves g c = λ s log n h.
-    let kept = subst (IsPlaceOf g.D.Disk.state g.U.RecoveryUnits.state c.requires.kept.0 c.requires.kept.1 c.args.self) c.in-Up.is c.requires.kept.2 in
-    rw c.fallen.ensures.down
-    (crash_serves log s n (kept_of g.D.Disk.state g.U.RecoveryUnits.state c.args.self) (up_of g.U.RecoveryUnits.state c.in-Up.running) _ _ c.nodes_are_kept.ensures (ap (place_of g.D.Disk.state g.U.RecoveryUnits.state) c.in-Up.is) kept.1 kept.0 h (emits_on _ _ _ _ _ c.emit.ensures.emits c.emit-in-Up.ensures.emits))
+pub returns-then-not-is_up-clause-tells : goal.returns-then-not-is_up-clause-tells
+returns-then-not-is_up-clause-tells g c = (true, crash_down_tells (kept_of g.D.Disk.state g.U.RecoveryUnits.state c.args.self.now) c.args.shared.now _ _ (sym c.is_up.ensures ∙ c.if-not-is_up.true) c.emit.ensures.emits)
 
-pub returns-in-Down-clause-serves : goal.returns-in-Down-clause-serves
-returns-in-Down-clause-serves g c = λ s log n h.
-    let is = ap (place_of g.D.Disk.state g.U.RecoveryUnits.state) c.in-Down.is in
-    rw (sym is) (down_serves log s n (kept_of g.D.Disk.state g.U.RecoveryUnits.state c.args.self) _ _ _ _ _ is refl h c.emit-in-Down.ensures.emits)
+pub returns-then-not-is_up-clause-performs : goal.returns-then-not-is_up-clause-performs
+returns-then-not-is_up-clause-performs g c = crash_down_performs (kept_of g.D.Disk.state g.U.RecoveryUnits.state c.args.self.now) c.args.shared.now _ _ (sym c.is_up.ensures ∙ c.if-not-is_up.true) c.emit.ensures.emits
 
-pub returns-in-Up-clause-tells : goal.returns-in-Up-clause-tells
-returns-in-Up-clause-tells g c = λ s.
-    let is = ap (place_of g.D.Disk.state g.U.RecoveryUnits.state) c.in-Up.is in
-    answers_at Crash _ _ _ _ _ _ s s _ _ _ _ (ap disk_in is) (ap disk_in c.fallen.ensures.down) (said_place c.args.self.name c.args.self.unmade _ _ is) (said_place c.args.self.name c.args.self.unmade _ _ c.fallen.ensures.down)
-    (answers_crash c.args.self.name c.args.self.name c.args.self.unmade s _ _ _ c.in-Up.running.volume.store.disk c.emit.ensures.emits c.emit-in-Up.ensures.emits)
+pub returns-clause-tells : goal.returns-clause-tells
+returns-clause-tells g c = crashes_tell g.D.Disk.state g.U.RecoveryUnits.state c.args.self.now c.args.shared.now c.requires.node (sym c.is_up.ensures ∙ c.if-not-is_up.false) _ _ _ c.replace_with.new.dest c.replace_with.ensures.0 c.emit-2.ensures.emits c.emit-3.ensures.emits
 
-pub returns-in-Down-clause-tells : goal.returns-in-Down-clause-tells
-returns-in-Down-clause-tells g c = λ s.
-    let is = ap (place_of g.D.Disk.state g.U.RecoveryUnits.state) c.in-Down.is in
-    answers_at Crash _ _ _ _ _ _ s s _ _ _ _ (ap disk_in is) refl (said_place c.args.self.name c.args.self.unmade _ _ is) refl (crash_down c.args.self.name c.args.self.unmade s _ _ _ c.emit-in-Down.ensures.emits)
+pub returns-clause-performs : goal.returns-clause-performs
+returns-clause-performs g c = crashes g.D.Disk.state g.U.RecoveryUnits.state c.args.self.now c.args.shared.now c.requires.node (sym c.is_up.ensures ∙ c.if-not-is_up.false) _ _ _ c.replace_with.new.dest c.replace_with.ensures.0 c.emit-2.ensures.emits c.emit-3.ensures.emits c.the_laws.ensures.nodes
+
+pub returns-then-not-is_up-clause-node : goal.returns-then-not-is_up-clause-node
+returns-then-not-is_up-clause-node g c = λ count h. node_more g.D.Disk.state g.U.RecoveryUnits.state count c.args.shared.now c.args.self.now h
+
+pub returns-clause-node : goal.returns-clause-node
+returns-clause-node g c = λ count h. fallen_node g.D.Disk.state g.U.RecoveryUnits.state c.replace_with.new.dest count c.args.shared.now c.args.self.now c.replace_with.ensures.1 h

@@ -1,15 +1,25 @@
-use Rattle.std.proofs.Common.{refl}
-use Rattle.dtm_node.specs.Nodes.{kept_of, place_of}
-use Rattle.dtm_node.proofs.NodeServes.{fuse_serves, place_later}
-use Rattle.dtm_node.proofs.CallingLemmas.{answers_fuse}
+use Rattle.std.proofs.Common.{false, subst, sym, true}
+use Rattle.script_model.specs.Statements.{Fuse}
+use Rattle.run_model.specs.Answers.{Serves}
+use Rattle.dtm_node.specs.Keeping.{PerformsRequest}
+use Rattle.dtm_node.specs.Nodes.{kept_of}
+use Rattle.dtm_node.specs.Standing.{Place}
+use Rattle.dtm_node.specs.Telling.{TellsTask}
+use Rattle.dtm_node.proofs.Arming.{fuse_performs, fuse_tells}
+use Rattle.dtm_node.proofs.NodePlaces.{armed_node}
 use Rattle.dtm_node.proofs.node.Node.fuse.Goals as goal
 
-pub returns-clause-kept : goal.returns-clause-kept
-returns-clause-kept g c = λ n s h. place_later g.D.Disk.state g.U.RecoveryUnits.state n s s c.args.self (record { name = c.args.self.name; unmade = c.args.self.unmade; place = c.armed_place-place.result }) c.armed_place-place.result refl (λ e. e) refl (c.armed_place-place.ensures.kept n s c.args.self h)
-
-pub returns-clause-serves : goal.returns-clause-serves
-returns-clause-serves g c = λ s log n h.
-    fuse_serves log s n (kept_of g.D.Disk.state g.U.RecoveryUnits.state c.args.self) c.args.writes c.args.choice _ _ _ c.armed_place-place.ensures.place h c.emit.ensures.emits
-
 pub returns-clause-tells : goal.returns-clause-tells
-returns-clause-tells g c = λ s. answers_fuse c.args.writes c.args.choice c.args.self.name c.args.self.unmade s _ _ (place_of g.D.Disk.state g.U.RecoveryUnits.state c.args.self.place) _ c.armed_place-place.ensures.place c.emit.ensures.emits
+returns-clause-tells g c =
+    let k = kept_of g.D.Disk.state g.U.RecoveryUnits.state c.args.self.now in (
+      false,
+      subst (λ (p : Place). TellsTask (Serves (Fuse c.args.writes c.args.choice)) true false k c.args.shared.now (g.E.Emit.shows c.args.out.now) (g.E.Emit.shows c.emit.new.self) (record k { place = p }) c.args.shared.now) (sym c.arm.ensures.place) (fuse_tells c.args.writes c.args.choice k c.args.shared.now _ _ c.emit.ensures.emits),
+    )
+
+pub returns-clause-performs : goal.returns-clause-performs
+returns-clause-performs g c =
+    let k = kept_of g.D.Disk.state g.U.RecoveryUnits.state c.args.self.now in
+    subst (λ (p : Place). PerformsRequest (Fuse c.args.writes c.args.choice) k c.args.shared.now (g.E.Emit.shows c.args.out.now) (g.E.Emit.shows c.emit.new.self) (record k { place = p }) c.args.shared.now) (sym c.arm.ensures.place) (fuse_performs c.args.writes c.args.choice k c.args.shared.now _ _ c.emit.ensures.emits c.the_laws.ensures.nodes)
+
+pub returns-clause-node : goal.returns-clause-node
+returns-clause-node g c = λ count h. armed_node g.D.Disk.state g.U.RecoveryUnits.state c.arm.new.place c.args.self.now c.arm.ensures.kept count c.args.shared.now h

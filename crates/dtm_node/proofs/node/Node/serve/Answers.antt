@@ -1,21 +1,35 @@
-use Rattle.std.proofs.Common.{subst}
+use Rattle.std.proofs.Common.{subst, sym}
 use Rattle.script_lang.specs.Statements.{request_of}
-use Rattle.dtm_node.specs.Keeping.{IsPromised}
-use Rattle.dtm_node.specs.Calling.{said_shared}
-use Rattle.dtm_node.specs.Nodes.{shared_of}
+use Rattle.dtm_node.specs.Keeping.{PerformsRequest}
+use Rattle.dtm_node.specs.Nodes.{kept_of}
+use Rattle.dtm_node.proofs.RequestKinds.{for_up}
 use Rattle.dtm_node.proofs.node.Node.serve.Goals as goal
 
-pub returns-in-Fuse-clause-kept : goal.returns-in-Fuse-clause-kept
-returns-in-Fuse-clause-kept g c = λ n h. c.fuse.ensures.kept n (shared_of c.args.shared.now) h
+pub returns-in-Init-clause-performs : goal.returns-in-Init-clause-performs
+returns-in-Init-clause-performs g c =
+    let kept = kept_of g.D.Disk.state g.U.RecoveryUnits.state in
+    let shown = g.E.Emit.shows in
+    subst (λ r. PerformsRequest (request_of c.args.lit.now r) (kept c.args.self.now) c.args.shared.now (shown c.args.out.now) (shown c.init.new.out) (kept c.init.new.self) c.args.shared.now) (sym c.in-Init.is) c.init.ensures.performs
 
-pub returns-in-Crash-clause-kept : goal.returns-in-Crash-clause-kept
-returns-in-Crash-clause-kept g c = λ n h. c.crash.ensures.kept n (shared_of c.args.shared.now) h
+pub returns-in-Boot-clause-performs : goal.returns-in-Boot-clause-performs
+returns-in-Boot-clause-performs g c =
+    let kept = kept_of g.D.Disk.state g.U.RecoveryUnits.state in
+    let shown = g.E.Emit.shows in
+    subst (λ r. PerformsRequest (request_of c.args.lit.now r) (kept c.args.self.now) c.args.shared.now (shown c.args.out.now) (shown c.boot.new.out) (kept c.boot.new.self) c.boot.new.shared) (sym c.in-Boot.is) c.boot.ensures.performs
 
-pub returns-in-Fuse-clause-tells : goal.returns-in-Fuse-clause-tells
-returns-in-Fuse-clause-tells g c = rw c.in-Fuse.is (c.fuse.ensures.tells (said_shared (shared_of c.args.shared.now)))
+pub returns-in-Fuse-clause-performs : goal.returns-in-Fuse-clause-performs
+returns-in-Fuse-clause-performs g c =
+    let kept = kept_of g.D.Disk.state g.U.RecoveryUnits.state in
+    let shown = g.E.Emit.shows in
+    subst (λ r. PerformsRequest (request_of c.args.lit.now r) (kept c.args.self.now) c.args.shared.now (shown c.args.out.now) (shown c.fuse.new.out) (kept c.fuse.new.self) c.args.shared.now) (sym c.in-Fuse.is) c.fuse.ensures.performs
 
-pub returns-in-Crash-clause-tells : goal.returns-in-Crash-clause-tells
-returns-in-Crash-clause-tells g c = rw c.in-Crash.is (c.crash.ensures.tells (said_shared (shared_of c.args.shared.now)))
+pub returns-in-Crash-clause-performs : goal.returns-in-Crash-clause-performs
+returns-in-Crash-clause-performs g c =
+    let kept = kept_of g.D.Disk.state g.U.RecoveryUnits.state in
+    let shown = g.E.Emit.shows in
+    subst (λ r. PerformsRequest (request_of c.args.lit.now r) (kept c.args.self.now) c.args.shared.now (shown c.args.out.now) (shown c.crash.new.out) (kept c.crash.new.self) c.args.shared.now) (sym c.in-Crash.is) c.crash.ensures.performs
 
-pub returns-in-Boot-clause-serves : goal.returns-in-Boot-clause-serves
-returns-in-Boot-clause-serves g c = λ log n h promised. rw c.in-Boot.is (c.boot.ensures.serves log n h (subst (λ r. IsPromised (request_of c.args.lit.now r) n) c.in-Boot.is promised))
+pub serve_up-requires-clause-asks : goal.serve_up-requires-clause-asks
+serve_up-requires-clause-asks g c =
+    let d = c.in_default in
+    for_up c.args.lit.now c.args.request.now c.requires.answered (record { init = d.not-Init; boot = d.not-Boot; fuse = d.not-Fuse; crash = d.not-Crash })

@@ -1,45 +1,48 @@
-use Rattle.std.proofs.Common.{◌≡◌, ap, refl, rules, subst, true}
-use Rattle.dtm_node.specs.Calling.{said_node}
-use Rattle.dtm_node.specs.Nodes.{IsPlaceOf, kept_of, place_of, shared_of}
-use Rattle.dtm_node.specs.Standing.{IsDown, Kept, StandsFor, disk_in}
-use Rattle.dtm_node.proofs.NodeServes.{broke_serves, down_serves, fallen_kept, kept_is_up, not_down, said_is_down}
-use Rattle.dtm_node.proofs.CallingLemmas.{answers_at, answers_broke, answers_down, answers_up}
-use Rattle.dtm_node.specs.Uses.{cause_of}
-use Rattle.dtm_node.proofs.UsesLemmas.{rose_of}
+use Rattle.script_lang.specs.Statements.{request_of}
+use Rattle.dtm_node.proofs.NodeEvents.{fall_shown}
+use Rattle.dtm_node.proofs.NodeRequests.{broken_falls, broken_performs, broken_tells, may_serve_node, node_more, refused_performs, refused_tells, request_use, served_node, served_performs, served_tells}
 use Rattle.dtm_node.proofs.node.Node.serve_up.Goals as goal
 
-pub returns-in-Err-clause-serves : goal.returns-in-Err-clause-serves
-returns-in-Err-clause-serves g c = λ log n h.
-    let kept = subst (IsPlaceOf g.D.Disk.state g.U.RecoveryUnits.state c.requires.kept.0 (shared_of c.args.shared.now) c.args.self.now) c.in-Up.is c.requires.kept.2 in
-    let stands = subst (λ (k : Kept). StandsFor log k n) (kept_is_up g.D.Disk.state g.U.RecoveryUnits.state c.args.self.now c.in-Up.running c.in-Up.is kept.1 kept.3) h in
-    let down : place_of g.D.Disk.state g.U.RecoveryUnits.state c.replace_with.new.dest ≡ IsDown true c.serve.new.self.volume.store.disk = search rules in
-    let served = broke_serves log _ n _ c.args.self.now.name _ _ c.in-Err.down _ _ _ _ _ _ kept.1 (c.in-Err.ensures.serves.serves c.args.shared.now.in_use log n stands) c.show_fall.ensures.emits
-    (fallen_kept g.D.Disk.state g.U.RecoveryUnits.state c.args.self.now c.replace_with.new.dest _ _ kept.1 kept.3 down) in
-    rw c.in-Up.is served
+pub serve_up-requires-clause-may : goal.serve_up-requires-clause-may
+serve_up-requires-clause-may g c = may_serve_node g.D.Disk.state g.U.RecoveryUnits.state c.args.self.now c.args.shared.now c.in-Up.running c.in-Up.is c.requires.node
 
-pub returns-in-Down-clause-serves : goal.returns-in-Down-clause-serves
-returns-in-Down-clause-serves g c = λ log n h.
-    let is = ap (place_of g.D.Disk.state g.U.RecoveryUnits.state) c.in-Down.is in
-    down_serves log (shared_of c.args.shared.now) n (kept_of g.D.Disk.state g.U.RecoveryUnits.state c.args.self.now) _ _ _ _ _ is (not_down c.args.lit.now c.args.request.now c.requires.asks) h c.emit.ensures.emits
+pub returns-in-Ok-clause-node : goal.returns-in-Ok-clause-node
+returns-in-Ok-clause-node g c = λ count h. served_node g.D.Disk.state g.U.RecoveryUnits.state c.args.self.now c.args.shared.now c.in-Up.running c.in-Up.is (request_of c.args.lit.now c.args.request.now) c.requires.asks c.serve_up.new.running c.serve_up.new.shared _ _ c.in-Ok.ensures.does count h
+
+pub returns-in-Ok-clause-in_use : goal.returns-in-Ok-clause-in_use
+returns-in-Ok-clause-in_use g c = λ used. request_use _ _ _ _ _ _ _ c.requires.asks c.in-Ok.ensures.does.says used
 
 pub returns-in-Ok-clause-tells : goal.returns-in-Ok-clause-tells
 returns-in-Ok-clause-tells g c =
-    let kept = subst (IsPlaceOf g.D.Disk.state g.U.RecoveryUnits.state c.requires.kept.0 (shared_of c.args.shared.now) c.args.self.now) c.in-Up.is c.requires.kept.2 in
-    answers_at _ _ _ _ _ _ _ _ _ _ _ _ _ (ap disk_in (ap (place_of g.D.Disk.state g.U.RecoveryUnits.state) c.in-Up.is)) refl (ap said_node (kept_is_up g.D.Disk.state g.U.RecoveryUnits.state c.args.self.now c.in-Up.running c.in-Up.is kept.1 kept.3)) (λ i. record { name = kept.1 i; up = true; unmade = kept.3 i })
-    (answers_up c.args.lit.now c.args.request.now _ _ _ c.args.shared.now.in_use _ _ _ _ c.requires.asks c.in-Ok.ensures.serves.follows c.serve.ensures.serves.keeps.uses.goes)
+    served_tells g.D.Disk.state g.U.RecoveryUnits.state c.args.self.now c.args.shared.now c.in-Up.running c.in-Up.is (request_of c.args.lit.now c.args.request.now) c.requires.asks c.serve_up.new.running c.serve_up.new.shared _ _ c.in-Ok.ensures.does c.requires.node.0 c.requires.node.2
+
+pub returns-in-Ok-clause-performs : goal.returns-in-Ok-clause-performs
+returns-in-Ok-clause-performs g c =
+    served_performs g.D.Disk.state g.U.RecoveryUnits.state c.args.self.now c.args.shared.now c.in-Up.running c.in-Up.is (request_of c.args.lit.now c.args.request.now) c.requires.asks c.serve_up.new.running c.serve_up.new.shared _ _ c.in-Ok.ensures.does c.requires.node.0 c.requires.node.2
+
+pub go_down-requires : goal.go_down-requires
+go_down-requires g c = record {
+  falls = broken_falls g.D.Disk.state g.U.RecoveryUnits.state c.args.self.now c.args.shared.now c.in-Up.running c.in-Up.is (request_of c.args.lit.now c.args.request.now) c.requires.asks c.serve_up.new.running c.serve_up.new.shared _ _ c.in-Err.down c.in-Err.ensures.does c.requires.node.0 c.requires.node.2;
+}
+
+pub returns-in-Err-clause-in_use : goal.returns-in-Err-clause-in_use
+returns-in-Err-clause-in_use g c = λ used. request_use _ _ _ _ _ _ _ c.requires.asks c.in-Err.ensures.does.says used
 
 pub returns-in-Err-clause-tells : goal.returns-in-Err-clause-tells
 returns-in-Err-clause-tells g c =
-    let kept = subst (IsPlaceOf g.D.Disk.state g.U.RecoveryUnits.state c.requires.kept.0 (shared_of c.args.shared.now) c.args.self.now) c.in-Up.is c.requires.kept.2 in
-    let down : place_of g.D.Disk.state g.U.RecoveryUnits.state c.replace_with.new.dest ≡ IsDown true c.serve.new.self.volume.store.disk = search rules in
-    answers_at _ _ _ _ _ _ _ _ _ _ _ _ _ (ap disk_in (ap (place_of g.D.Disk.state g.U.RecoveryUnits.state) c.in-Up.is)) (ap disk_in down) (ap said_node (kept_is_up g.D.Disk.state g.U.RecoveryUnits.state c.args.self.now c.in-Up.running c.in-Up.is kept.1 kept.3))
-    (ap said_node (fallen_kept g.D.Disk.state g.U.RecoveryUnits.state c.args.self.now c.replace_with.new.dest _ _ kept.1 kept.3 down))
-    (answers_broke c.args.lit.now c.args.request.now c.args.self.now.name _ (cause_of c.in-Err.down) _ _ c.args.shared.now.in_use _ _ _ _ _ c.requires.asks c.in-Err.ensures.serves.follows c.show_fall.ensures.emits c.serve.ensures.serves.keeps.uses.goes
-    (rose_of c.serve.result c.in-Err.down _ _ c.in-Err.is c.serve.ensures.serves.keeps.uses))
+    broken_tells g.D.Disk.state g.U.RecoveryUnits.state c.args.self.now c.args.shared.now c.in-Up.running c.in-Up.is (request_of c.args.lit.now c.args.request.now) c.requires.asks c.serve_up.new.running c.serve_up.new.shared _ _ c.in-Err.down c.in-Err.ensures.does _ _ c.go_down.ensures.kept
+    (fall_shown _ _ _ _ _ _ c.cause_of.ensures c.go_down.ensures.shows c.emit.ensures.emits) c.requires.node.0 c.requires.node.2
+
+pub returns-in-Err-clause-performs : goal.returns-in-Err-clause-performs
+returns-in-Err-clause-performs g c =
+    broken_performs g.D.Disk.state g.U.RecoveryUnits.state c.args.self.now c.args.shared.now c.in-Up.running c.in-Up.is (request_of c.args.lit.now c.args.request.now) c.requires.asks c.serve_up.new.running c.serve_up.new.shared _ _ c.in-Err.down c.in-Err.ensures.does _ _ c.go_down.ensures.kept
+    (fall_shown _ _ _ _ _ _ c.cause_of.ensures c.go_down.ensures.shows c.emit.ensures.emits) c.requires.node.0 c.requires.node.2
+
+pub returns-in-Down-clause-node : goal.returns-in-Down-clause-node
+returns-in-Down-clause-node g c = λ count h. node_more g.D.Disk.state g.U.RecoveryUnits.state count c.args.shared.now c.args.self.now h
 
 pub returns-in-Down-clause-tells : goal.returns-in-Down-clause-tells
-returns-in-Down-clause-tells g c =
-    let disk = ap disk_in (ap (place_of g.D.Disk.state g.U.RecoveryUnits.state) c.in-Down.is) in
-    let said = said_is_down g.D.Disk.state g.U.RecoveryUnits.state c.args.self.now _ _ c.args.self.now.unmade c.in-Down.is refl in
-    answers_at _ _ _ _ _ _ _ _ _ _ _ _ _ disk disk said said
-    (answers_down c.args.lit.now c.args.request.now c.args.self.now.name c.args.self.now.unmade _ _ _ _ c.requires.asks c.emit.ensures.emits)
+returns-in-Down-clause-tells g c = refused_tells g.D.Disk.state g.U.RecoveryUnits.state c.args.self.now c.args.shared.now _ _ c.in-Down.is (request_of c.args.lit.now c.args.request.now) c.requires.asks _ _ c.emit-in-Down.ensures.emits
+
+pub returns-in-Down-clause-performs : goal.returns-in-Down-clause-performs
+returns-in-Down-clause-performs g c = refused_performs g.D.Disk.state g.U.RecoveryUnits.state c.args.self.now c.args.shared.now _ _ c.in-Down.is (request_of c.args.lit.now c.args.request.now) c.requires.asks _ _ c.emit-in-Down.ensures.emits

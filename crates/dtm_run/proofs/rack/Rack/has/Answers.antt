@@ -1,6 +1,6 @@
 use Rattle.std.proofs.Common.{◌∙◌}
 use Rattle.vms_base.specs.contracts.names.NodeNamePartialEq.TheImpl.{eq-value}
-use Rattle.dtm_run.proofs.RackLemmas.{same_name, found_among}
+use Rattle.run_nodes.proofs.Lookups.{found_among, same_name}
 use Rattle.dtm_run.proofs.rack.Rack.has.Goals as goal
 
 pub returns : goal.returns

@@ -10,4 +10,4 @@ use Rattle.node_units.proofs.units.NodeUnitsRecoveryUnits.has.Goals as goal
 pub returns : goal.returns
 returns c =
     let x = serial_of c.args.serial.now in
-    c.is_some.ensures ∙ ap is_some (c.place_of.ensures ∙ ap (position (is_of x)) c.deref.ensures.value) ∙ found_if c.self.inside.begun.items c.self.inside.units x c.self.invariant.0 ∙ ap (is_begun x) c.self.view_is
+    c.is_some.ensures ∙ ap is_some (c.place_of.ensures ∙ ap (position (is_of x)) c.deref.ensures.value) ∙ found_if c.self.inside.begun.items c.self.inside.units c.self.inside.log x c.self.invariant.0 ∙ ap (is_begun x) c.self.view_is

@@ -1,13 +1,10 @@
 -- A record that is looked at for no branch is one that the world finds.
-use Rattle.std.proofs.Common.{◌≡◌, None, sym, subst}
+use Rattle.std.proofs.Common.{◌≡◌, sym, subst}
 use Rattle.vms_base.specs.Keys.{key_of}
-use Rattle.volume.specs.State.{VolumeState}
-use Rattle.record_operations.specs.Causes.{down_in}
 use Rattle.recovery_units.specs.Calls as calls
 use Rattle.recovery_units.specs.State as calls_state
 use Rattle.recovery_units.specs.State.{UnitsState}
 use Rattle.rms_units.specs.Calls.{LookRefused, MayLook}
-use Rattle.rms_units.specs.State as rms
 use Rattle.unit_journal.specs.Leaving.{FellIn}
 use Rattle.node_units.proofs.Answering.{err_as, ok_as, refused_same}
 use Rattle.node_units.proofs.ReadErrors.{looks_err}
@@ -16,7 +13,7 @@ use Rattle.node_units.proofs.Seeing.{order_unseen}
 use Rattle.node_units.proofs.units.NodeUnitsRecoveryUnits.look.Goals as goal
 
 pub look-requires-clause-order : goal.look-requires-clause-order
-look-requires-clause-order g c = order_unseen c.self.inside.units c.args.volume.now c.stand_in_order.ensures (subst (λ (x : UnitsState). calls_state.IsInOrder x c.args.volume.now) (sym c.self.view_is) c.requires.order)
+look-requires-clause-order g c = order_unseen c.self.inside.units c.self.inside.log c.args.volume.now c.stand_in_order.ensures (subst (λ (x : UnitsState). calls_state.IsInOrder x c.args.volume.now) (sym c.self.view_is) c.requires.order)
 
 pub returns-clause-same : goal.returns-clause-same
 returns-clause-same g c = ok_as _ _ c.look.result (λ d. (d c.requires.file.0 c.requires.file.1).same) c.look.ensures.done
@@ -34,15 +31,15 @@ pub returns-clause-done : goal.returns-clause-done
 returns-clause-done g c =
     let s = c.self.inside.units in
     let v = c.args.volume.now in
-    let order = order_unseen s v c.stand_in_order.ensures (subst (λ (x : UnitsState). calls_state.IsInOrder x v) (sym c.self.view_is) c.requires.order) in
+    let order = order_unseen s c.self.inside.log v c.stand_in_order.ensures (subst (λ (x : UnitsState). calls_state.IsInOrder x v) (sym c.self.view_is) c.requires.order) in
     ok_as _ _ c.look.result
     (λ d. subst (λ (x : UnitsState). calls.LooksOk c.args.op.now (key_of c.look.new.found) c.look.new.out x v) c.self.view_is
-    (looks_ok c.args.op.now (key_of c.look.new.found) c.look.new.out s v c.look.new.volume order d)) c.look.ensures.done
+    (looks_ok c.args.op.now (key_of c.look.new.found) c.look.new.out s v c.look.new.volume c.self.inside.log order d)) c.look.ensures.done
 
 pub returns-clause-err : goal.returns-clause-err
 returns-clause-err g c =
     let s = c.self.inside.units in
     let v = c.args.volume.now in
-    let order = order_unseen s v c.stand_in_order.ensures (subst (λ (x : UnitsState). calls_state.IsInOrder x v) (sym c.self.view_is) c.requires.order) in
+    let order = order_unseen s c.self.inside.log v c.stand_in_order.ensures (subst (λ (x : UnitsState). calls_state.IsInOrder x v) (sym c.self.view_is) c.requires.order) in
     err_as _ _ c.look.result
-    (λ e k. subst (λ (x : UnitsState). calls.LooksErr c.args.op.now e x v c.look.new.volume) c.self.view_is (looks_err c.args.op.now e s v c.look.new.volume order k)) c.look.ensures.err
+    (λ e k. subst (λ (x : UnitsState). calls.LooksErr c.args.op.now e x v c.look.new.volume) c.self.view_is (looks_err c.args.op.now e s v c.look.new.volume c.self.inside.log order k)) c.look.ensures.err

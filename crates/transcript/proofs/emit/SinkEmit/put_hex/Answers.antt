@@ -1,5 +1,6 @@
 use Rattle.std.proofs.Common.{refl, ◌∙◌}
-use Rattle.transcript_model.proofs.LineLemmas.{hex_more}
+use Rattle.vms_model.specs.Texts.{hex_byte}
+use Rattle.transcript_model.proofs.LineLemmas.{flat_map_more}
 use Rattle.transcript.proofs.BufferedLemmas.{appends2, appends_none}
 use Rattle.transcript.proofs.emit.SinkEmit.put_hex.Goals as goal
 
@@ -10,5 +11,5 @@ pub loop-b-preserved : goal.loop-b-preserved
 loop-b-preserved g c = record {
   same_sink = cc;
   number = cc;
-  appends = appends2 _ _ _ _ _ _ c.loop-b.invariant.appends c.put.ensures.appends (hex_more c.args.bytes.now c.loop-b.b-index c.loop-b-test.true ∙ rw (c.hex_digit.ensures, c.hex_digit-in-loop-b.ensures) refl);
+  appends = appends2 _ _ _ _ _ _ c.loop-b.invariant.appends c.put.ensures.appends (flat_map_more hex_byte c.args.bytes.now c.loop-b.b-index 0 c.loop-b-test.true ∙ rw (c.hex_digit.ensures, c.hex_digit-in-loop-b.ensures) refl);
 }

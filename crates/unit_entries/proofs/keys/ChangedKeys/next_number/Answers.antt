@@ -1,6 +1,6 @@
-use Rattle.std.proofs.Common.{◌≡◌, ℕ, ◌≤◌, ◌<◌, ◌+◌, ◌++◌, ◌∷◌, [], List, length, map, take, subst, ap, sym, ◌∙◌, arith}
+use Rattle.std.proofs.Common.{◌≡◌, ℕ, ◌+◌, List, length, map, take, subst, ap, sym, ◌∙◌, arith}
 use Rattle.std.proofs.lemmas.List.{length-take, length-map}
-use Rattle.unit_entries.specs.Keys.{KeyTold, number_for, lesser}
+use Rattle.unit_entries.specs.Keys.{KeyTold, lesser}
 use Rattle.unit_entries.specs.Rows.{key_said}
 use Rattle.unit_entries.proofs.LeastLemmas.{IsLeastOf, no_number, number_more}
 use Rattle.unit_entries.proofs.RowLemmas.{taken_more}

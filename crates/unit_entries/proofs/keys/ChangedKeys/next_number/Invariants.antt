@@ -1,5 +1,4 @@
-use Rattle.std.proofs.Common.{map, take}
-use Rattle.unit_entries.specs.Rows.{key_said}
+use Rattle.std.proofs.Common.{take}
 use Rattle.unit_entries.proofs.LeastLemmas.{IsLeastOf}
 use Rattle.unit_entries.proofs.keys.ChangedKeys.next_number.Given as goal
 

@@ -1,12 +1,11 @@
-use Rattle.std.proofs.Common.{◌≡◌, ◌≤◌, ◌^◌, ◌||◌, ◌∷◌, [], Bool, true, false, List, length, None, Some, is_some, map, position, slice_get, subst, ap, refl, sym, ◌∙◌, arith}
+use Rattle.std.proofs.Common.{◌≡◌, ◌≤◌, ◌^◌, ◌||◌, Bool, false, length, Some, is_some, map, position, slice_get, ap, refl, sym, ◌∙◌, arith}
 use Rattle.std.proofs.lemmas.List.{length-map}
 use Rattle.std.specs.List.{list_any}
 use Rattle.std.specs.Vec.{with_item}
-use Rattle.record_locks.specs.declared.place.Place.{Place}
 use Rattle.record_locks.specs.Table.{same_place}
 use Rattle.unit_entries.specs.declared.keys.ChangedKey.{ChangedKey}
-use Rattle.unit_entries.specs.Keys.{KeyTold, keys_after, with_later}
-use Rattle.unit_entries.specs.Rows.{key_said, place_said, IsPlace, AreKept}
+use Rattle.unit_entries.specs.Keys.{keys_after}
+use Rattle.unit_entries.specs.Rows.{key_said, place_said, IsPlace}
 use Rattle.unit_entries.proofs.RowLemmas.{found, not_there, here_at, indexed, all_at, changed_at, added, kept_changed, kept_added}
 use Rattle.unit_entries.proofs.keys.ChangedKeys.note.Goals as goal
 use Rattle.unit_entries.proofs.keys.ChangedKeys.note.Goals.{then-known, else-known}

@@ -1,0 +1,12 @@
+use Rattle.std.proofs.Common.{true}
+use Rattle.tm_types.specs.Events.{event_of}
+use Rattle.dtm_node.proofs.NodeEvents.{node_done, node_failed}
+use Rattle.dtm_node.proofs.node.Node.tell_on.Goals as goal
+
+pub returns-in-Ok-clause-does : goal.returns-in-Ok-clause-does
+returns-in-Ok-clause-does g c =
+    node_done g.D.Disk.state g.U.RecoveryUnits.state c.the_laws.ensures.rows (event_of c.args.event.now) c.requires.event c.args.self.now c.args.shared.now c.in-Up.running c.tell.new.self c.in-Up.is c.requires.node c.tell.new.shared _ _ true c.in-Ok.ensures.keeps c.in-Ok.ensures.does
+
+pub returns-in-Err-clause-does : goal.returns-in-Err-clause-does
+returns-in-Err-clause-does g c =
+    node_failed g.D.Disk.state g.U.RecoveryUnits.state c.the_laws.ensures.rows (event_of c.args.event.now) c.requires.event c.args.self.now c.args.shared.now c.in-Up.running c.tell.new.self c.in-Up.is c.requires.node c.tell.new.shared _ _ c.in-Err.down _ true _ c.go_down.ensures.kept c.go_down.ensures.shows c.in-Err.ensures.keeps c.in-Err.ensures.does

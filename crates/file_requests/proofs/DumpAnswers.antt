@@ -1,0 +1,168 @@
+-- Statements that show line after line, from what each of them comes to.
+use Rattle.std.proofs.Common.{◌≡◌, ℕ, zero, suc, ◌+◌, ◌*◌, ◌^◌, ◌<◌, ◌≤◌, inl, List, [], ◌∷◌, Option, Some, None, IfSome, Result, Ok, Err, OnOk, length, refl, sym, ◌∙◌, ap, subst, arith}
+use Rattle.std.specs.Prelude.{map}
+use Rattle.std.specs.FinMap.{get, entries}
+use Rattle.block_disk.specs.Blocks.{block_at}
+use Rattle.block_disk.specs.Disk.{DiskState}
+use Rattle.careful_write.specs.Down.{answered}
+use Rattle.careful_write.specs.declared.down.Down.{Down}
+use Rattle.file_base.specs.declared.head.FileHead.{FileHead}
+use Rattle.record_files.specs.Any.{IsFile, IsLaidOut, map_of}
+use Rattle.script_model.specs.Statements.{Dump, DumpJournal}
+use Rattle.transcript_model.specs.Emitting.{Shown, Emits, Since}
+use Rattle.transcript_model.specs.Lines as line
+use Rattle.transcript_model.specs.Lines.{Line}
+use Rattle.volume.specs.declared.catalog.Catalog.{Catalog}
+use Rattle.volume.specs.Catalogs.{TellsCatalog, TellsEntry}
+use Rattle.volume_model.specs.Volumes.{HasDisk, IsEitherOf}
+use Rattle.vms_model.specs.Ids.{Id}
+use Rattle.vms_model.specs.Keys.{Key}
+use Rattle.records_model.specs.History.{current}
+use Rattle.records_model.specs.Records.{Records}
+use Rattle.run_model.specs.World.{File, Node, Shared, fallen}
+use Rattle.run_model.specs.Answers.{Service, entry_lines, service, shown_line, shown_record}
+use Rattle.run_model.specs.Operations.{in_order}
+use Rattle.directory_model.specs.Files.{IsFile as IsFileHere, IsNamed, NoneNamed}
+use Rattle.unit_laws.specs.Journal.{end_of}
+use Rattle.unit_table.specs.Units as units
+use Rattle.recovery_units.specs.State.{IsInOrder, IsKept}
+use Rattle.node_table.specs.Serving.{service_at}
+use Rattle.node_table.specs.Standing.{Stored}
+use Rattle.node_files.proofs.CatalogLemmas.{fits_at, head_below, placed}
+use Rattle.file_requests.specs.Listing.{Lists, Shows, ShowsJournal, record_line}
+use Rattle.file_requests.specs.Replying.{RepliesIf}
+use Rattle.file_requests.specs.Serving.{DoesThere, KeepsStored, ServesFile, disk_of, name_of}
+use Rattle.file_requests.specs.TheLaws.{TheLaws}
+use Rattle.file_requests.proofs.Calls.{caused_read, goes_read, grows_still, on_ok_then}
+use Rattle.file_requests.proofs.Filing.{dump_absent, dump_early, locked_by}
+use Rattle.file_requests.proofs.FileLemmas.{file_at_name, no_file}
+use Rattle.file_requests.proofs.HeadWrites.{disk_sound, fallen_as, idle_leaves, kept_left}
+use Rattle.file_requests.proofs.Kept.{keeps_same}
+use Rattle.file_requests.proofs.Served.{first_is, listed, refused, unlisted}
+
+-- what reads alone come to
+pub record Looked (r : Result (Unit {0}) Down) (u new : Stored) (a b : Shown) : Type 0 where
+  pub same : OnOk r (new ≡ u)
+  pub catalog : new.volume.catalog ≡ u.volume.catalog
+  pub units : new.units ≡ u.units
+  pub in_doubt : new.in_doubt ≡ u.in_doubt
+  pub since : Since a b
+  pub replies : RepliesIf r a b
+  pub disk : disk_of new ≡ answered r (disk_of u)
+  pub pool : new.volume.store.pool ≡ u.volume.store.pool
+
+keeps_looked : (r : Result (Unit {0}) Down) (u new : Stored) (a b : Shown) → IsInOrder u.units u.volume → Looked r u new a b → KeepsStored 0 0 r u new a b
+keeps_looked r u new a b o l = record {
+  order = on_ok_then r (λ e. subst (λ (v : Stored). IsInOrder v.units v.volume) (sym e) o) l.same;
+  in_doubt = l.in_doubt;
+  grows = grows_still u.volume new.volume (ap (λ (k : Catalog). k.home) l.catalog) (ap (λ (k : Catalog). k.ru) l.catalog) l.pool (goes_read r (disk_of u) (disk_of new) l.disk);
+  cause = caused_read r (disk_of u) (disk_of new) l.disk;
+  since = l.since;
+  replies = l.replies;
+}
+
+-- a read failed: the disk has what it had
+read_fell : (n : Node) (u : Stored) (k : IsKept u.units u.volume n) (r : Result (Unit {0}) Down) (d : DiskState) → IsInOrder u.units u.volume → TheLaws → d ≡ answered r (disk_of u) → HasDisk (fallen None n) d
+read_fell n u k r d o laws is =
+    subst (λ x. HasDisk (fallen None n) x) (sym is)
+    (disk_sound (fallen None n) (answered r (disk_of u)) k.has.home.volume
+    (idle_leaves u.volume.store k.content (IsEitherOf (fallen None n)) o.idle k.told (inl (kept_left u.units u.volume n (fallen None n) k o laws.nodes (fallen_as None n)))))
+
+-- which lines such a service shows at a node of the world, and how many of them were shown
+pub record ListsAt (e : Service) (s : Shared) (n : Node) (r : Result (Unit {0}) Down) (a b : Shown) : Type 0 where
+  pub lines : List Line
+  pub answer : Line
+  pub early : (service_at e s n).early ≡ None
+  pub late : (service_at e s n).late ≡ None
+  pub rows : (service_at e s n).rows ≡ map shown_line lines
+  pub told : (service_at e s n).answer ≡ answer
+  pub lists : Lists r lines answer a b
+
+lists_serve : (e : Service) (s : Shared) (n : Node) (u : Stored) (k : IsKept u.units u.volume n) (r : Result (Unit {0}) Down) (new : Stored) (a b : Shown) → IsInOrder u.units u.volume → TheLaws → Looked r u new a b → ListsAt e s n r a b → DoesThere r (service_at e s n) s n u new a b
+lists_serve e s n u k (Ok tt) new a b o laws l at =
+    listed (service_at e s n) s n a b (new ≡ u) (IsKept new.units new.volume) (disk_of new) at.lines at.answer at.early at.late at.rows at.told (subst (λ (v : Stored). IsKept v.units v.volume n) (sym l.same) k) at.lists
+lists_serve e s n u k (Err down) new a b o laws l at =
+    unlisted (service_at e s n) s n a b (new ≡ u) (IsKept new.units new.volume) (disk_of new) at.lines at.answer at.early at.late at.rows at.told down (read_fell n u k (Err down) (disk_of new) o laws l.disk) at.lists
+
+pub lists_up : (e : Service) (u new : Stored) (r : Result (Unit {0}) Down) (a b : Shown) → IsInOrder u.units u.volume → TheLaws → Looked r u new a b → ((s : Shared) (n : Node) → IsKept u.units u.volume n → ListsAt e s n r a b) → ServesFile r e u new a b
+lists_up e u new r a b o laws l at = record {
+  keeps = keeps_looked r u new a b o l;
+  units = l.units;
+  serves = λ s n ready. lists_serve e s n u ready.kept r new a b o laws l (at s n ready.kept);
+}
+
+-- DUMP
+
+numbers_few : (n : ℕ) → n < 2 ^ 32 → n ≤ 4294967295
+numbers_few n lt = omega arith
+
+used_few : (start alloc bucket used size : ℕ) → 1 ≤ bucket → start + alloc * bucket ≤ size → size ≤ 65536 → used ≤ alloc → used ≤ 65536
+used_few start alloc bucket used size one to fits most = let grown = alloc_few alloc bucket one in omega (arith, to, fits, most, grown)
+  where
+    alloc_few : (a b : ℕ) → 1 ≤ b → a ≤ a * b
+    alloc_few a zero p = let no_way : ⊥ = omega (arith, p) in absurd no_way
+    alloc_few zero (suc b) p = omega arith
+    alloc_few (suc a) (suc b) p = let rest = alloc_few a (suc b) p in omega (arith, rest)
+
+abbrev records_by : Option File → List (Key × List ℕ)
+records_by o = elim o [ Some f ↦ in_order f | None ↦ [] ]
+
+records_shown : (es : List (Key × List ℕ)) → map shown_record es ≡ map shown_line (map record_line es)
+records_shown [] = refl
+records_shown (e ∷ es) = ap (λ t. shown_record e ∷ t) (records_shown es)
+
+module _ (name : List ℕ) (u : Stored) (o : IsInOrder u.units u.volume) (laws : TheLaws) where
+  pub show_absent : (a b : Shown) → NoneNamed u.volume.catalog.heads 64 name → Emits a (line.FileNotFound ∷ []) b → ServesFile {T = Unit {0}} (Ok tt) (service (Dump name)) u u a b
+  show_absent a b none m = record {
+    keeps = keeps_same tt u u a b line.FileNotFound o refl (refl, refl) m;
+    units = refl;
+    serves = λ s n r. let q = service_at (service (Dump name)) s n in refused q s n a b (u ≡ u) (IsKept u.units u.volume) (disk_of u) (Unit {0}) tt line.FileNotFound (first_is q.early q.late line.FileNotFound (dump_absent s n name (no_file n u r.kept laws name none))) refl m;
+  }
+
+  module _ (f : ℕ) (head : FileHead) (there : IsNamed u.volume.catalog.heads f head name) where
+    pub show_locked : (serial : Id) (a b : Shown) → units.first_to_change f u.units.begun ≡ Some serial → Emits a (line.FileLocked serial ∷ []) b → ServesFile {T = Unit {0}} (Ok tt) (service (Dump name)) u u a b
+    show_locked serial a b by m = record {
+      keeps = keeps_same tt u u a b (line.FileLocked serial) o refl (refl, refl) m;
+      units = refl;
+      serves = λ s n r. let q = service_at (service (Dump name)) s n in refused q s n a b (u ≡ u) (IsKept u.units u.volume) (disk_of u) (Unit {0}) tt (line.FileLocked serial) (first_is q.early q.late (line.FileLocked serial) (dump_early n u r.kept laws f head name there s ∙ ap locked_by by)) refl m;
+    }
+
+    -- as many records as numbers of 32 bits tell
+    few_here : (n : Node) (k : IsKept u.units u.volume n) (file : File) → IsFileHere k.content head file → length (in_order file) ≤ 4294967295
+    few_here n k file is =
+        let v = u.volume.catalog in
+        let long = o.heads in
+        let told = subst (λ o. IfSome o (TellsCatalog v)) k.told o.holds in
+        let tells = told.heads f (head_below v.heads f head long there.there) in
+        let ranges : TellsEntry (block_at k.content (1 + f)) (Some head) = subst (TellsEntry (block_at k.content (1 + f))) there.there tells in
+        let lies = placed (name_of u) v f head (disk_of u) laws.apart long o.sound o.most there.there in
+        laws.reads.few k.content head file is (numbers_few head.mrn ranges.ranges.form.mrn) lies.blocks
+        (used_few head.start head.alloc head.bucket head.used (disk_of u).size lies.one lies.to lies.fits (fits_at (name_of u) (disk_of u).size v f head long o.sound there.there).buckets.most)
+
+    pub show_up : (free : units.first_to_change f u.units.begun ≡ None) (r : Result (Unit {0}) Down) (new : Stored) (a b : Shown) → Looked r u new a b →
+        ((content : List (List ℕ)) (m : Records) → u.volume.store.current ≡ Some content → IsFile head → IsLaidOut head content → length (entries m) ≤ 4294967295 → ((k : Key) → get m k ≡ map_of head content k) → Shows r m a b) → ServesFile r (service (Dump name)) u new a b
+    show_up free r new a b l shows = lists_up (service (Dump name)) u new r a b o laws l (λ s n k.
+        let x = file_at_name n u k laws f head name there in
+        let es = in_order x.file in
+        record {
+          lines = map record_line es;
+          answer = line.NormalCount (length es);
+          early = dump_early n u k laws f head name there s ∙ ap locked_by free;
+          late = refl;
+          rows = ap (λ o. map shown_record (records_by o)) x.at.found ∙ records_shown es;
+          told = ap (λ o. line.NormalCount (length (records_by o))) x.at.found;
+          lists = shows k.content (current x.file.history) k.told x.is.head.form x.is.laid (few_here n k x.file x.is) x.is.records;
+        })
+
+-- DUMP_JOURNAL
+
+pub show_journal : (u new : Stored) (r : Result (Unit {0}) Down) (a b : Shown) → IsInOrder u.units u.volume → TheLaws → Looked r u new a b → ((n : Node) → IsKept u.units u.volume n → ShowsJournal r n.durable.units a b) → ServesFile r (service DumpJournal) u new a b
+show_journal u new r a b o laws l shows = lists_up (service DumpJournal) u new r a b o laws l (λ s n k. record {
+  lines = entry_lines n.durable.units.first n.durable.units.entries;
+  answer = line.NormalSpan n.durable.units.first (end_of n.durable.units);
+  early = refl;
+  late = refl;
+  rows = refl;
+  told = refl;
+  lists = shows n k;
+})

@@ -1,0 +1,49 @@
+-- A new file of a volume.
+use Rattle.std.specs.Prelude.{◌≡◌, ℕ, ◌*◌, ◌<◌, List, [], ◌∷◌, None, Result}
+use Rattle.careful_write.specs.declared.down.Down.{Down}
+use Rattle.change_set.specs.Maps.{empty_map}
+use Rattle.extents.specs.Extents.{IsFreeRun, all_extents}
+use Rattle.file_base.specs.declared.head.FileHead.{FileHead}
+use Rattle.node_files.specs.NewFile.{AreSizes, buckets_in, new_head}
+use Rattle.node_files.specs.declared.sizes.Sizes.{Sizes}
+use Rattle.record_files.specs.Any.{IsLaidOut, chain_of, first_chain_of, map_of}
+use Rattle.transcript_model.specs.Emitting.{Shown}
+use Rattle.transcript_model.specs.Lines as line
+use Rattle.volume.specs.declared.catalog.Catalog.{Catalog}
+use Rattle.volume.specs.Limits.{data_area}
+use Rattle.volume_format.specs.Home.{sizes_of}
+use Rattle.run_model.specs.Answers.{silent}
+use Rattle.run_model.specs.World.{Creates, File, Node, Shared}
+use Rattle.world_laws.specs.Nodes.{IsUp}
+use Rattle.directory_model.specs.Files.{IsFile, NoneNamed, head_at}
+use Rattle.recovery_units.specs.State.{IsKept}
+use Rattle.node_table.specs.Serving.{ServiceAt}
+use Rattle.node_table.specs.Standing.{Stored}
+use Rattle.file_requests.specs.Serving.{DoesThere, KeepsStored}
+
+-- The head of a file that is to be made under the lowest free number and a new name, in a free run.
+pub record IsFresh (f : ℕ) (h : FileHead) (v : Catalog) : Type 0 where
+  pub name : List ℕ
+  pub sizes : Sizes
+  pub start : ℕ
+  pub is : h ≡ new_head name sizes start
+  pub fits : AreSizes sizes
+  pub below : f < 64
+  pub free : head_at v.heads f ≡ None
+  pub lowest : (g : ℕ) → g < f → head_at v.heads g ≡ None → ⊥
+  pub none : NoneNamed v.heads 64 name
+  pub run : IsFreeRun (data_area (sizes_of v.home)) (all_extents v.heads) start (buckets_in sizes * sizes.bucket)
+
+-- a file is that of a head, as soon as its buckets are made
+abbrev pub BecomesFile : FileHead → File → Type 0
+BecomesFile h file = (content : List (List ℕ)) → map_of h content ≡ empty_map → IsLaidOut h content → chain_of h content ≡ first_chain_of h → IsFile content h file
+
+-- what the making of a file is at a node, behind what refuses it
+abbrev pub making : ℕ → File → ServiceAt
+making f file = record { early = None; late = None; rows = silent (Creates f file) ∷ []; answer = line.Normal }
+
+-- It was made, and that was answered, or the disk went down in that.
+pub record MakesFile {T : Type 0} (r : Result T Down) (f : ℕ) (h : FileHead) (old new : Stored) (a b : Shown) : Type 0 where
+  pub keeps : KeepsStored 0 0 r old new a b
+  pub units : new.units ≡ old.units
+  pub acts : (s : Shared) (n : Node) (file : File) → IsKept old.units old.volume n → IsUp n → file.history.live ≡ [] → BecomesFile h file → DoesThere r (making f file) s n old new a b

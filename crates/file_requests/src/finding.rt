@@ -1,0 +1,23 @@
+//! A file by its name.
+ghost use Rattle.std.specs.Prelude.{◌≡◌, ◌<◌, IfSome, IfNone, length};
+ghost use Rattle.directory_model.specs.Files.{IsNamed, NoneNamed};
+
+use block_disk::Disk;
+use file_base::FileHead;
+use node_table::Stored;
+use recovery_units::RecoveryUnits;
+use vms_base::FileName;
+
+/// Its number and its head, where there is one.
+pub fn find_file<D: Disk, U: RecoveryUnits>(
+    stored: &Stored<D, U>,
+    name: &FileName,
+) -> Option<(u8, FileHead)>
+    ensures found { IfSome result (λ found. (found.0 < 64) × IsNamed stored.now.volume.catalog.heads found.0 found.1 name.now) }
+    ensures none { IfNone result (NoneNamed stored.now.volume.catalog.heads 64 name.now) }
+    ensures whole { length stored.now.volume.catalog.heads ≡ 64 }
+{
+    let file = stored.volume.find(name)?;
+    let head = stored.volume.head(file)?;
+    Some((file, *head))
+}

@@ -1,0 +1,26 @@
+//! The laws that requests on files rest on, together.
+ghost use Rattle.file_requests.specs.TheLaws.{TheLaws};
+
+use directory_model::{
+    acts_keep_heads, files_are_found_by_name, files_lie_apart, free_runs_are_found_alike,
+    new_files_are_alike, places_are_found_alike, records_are_read_alike,
+    records_are_shown_in_order,
+};
+use unit_world::nodes_are_kept;
+use volume::catalogs_stand_on_the_front;
+
+/// All of them.
+pub(crate) fn the_laws()
+    ensures { TheLaws }
+{
+    files_are_found_by_name();
+    places_are_found_alike();
+    free_runs_are_found_alike();
+    records_are_read_alike();
+    records_are_shown_in_order();
+    files_lie_apart();
+    acts_keep_heads();
+    new_files_are_alike();
+    catalogs_stand_on_the_front();
+    nodes_are_kept();
+}

@@ -1,0 +1,15 @@
+pub mod Branching
+pub mod Doubting
+pub mod Viewing
+pub mod Acting
+pub mod Logged
+pub mod Grows
+pub mod Telling
+pub mod Settling
+pub mod Rows
+pub mod Beginning
+pub mod Upping
+pub mod Events
+pub mod Noting
+pub mod Booting
+pub mod Recalling

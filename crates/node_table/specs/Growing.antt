@@ -1,0 +1,37 @@
+-- How a node's numbers grow that only grow: the greatest moment of its settlements, and the end of its journal.
+use Rattle.std.specs.Prelude.{◌≡◌, ◌≤◌, ◌+◌, ◌*◌, ◌^◌, ℕ, List, [], ◌∷◌, length, max, Result, OnOk, if◌then◌else◌}
+use Rattle.careful_write.specs.declared.down.Down.{Down}
+use Rattle.recovery_units.specs.Uses.{Caused, Goes, down_of}
+use Rattle.unit_table.specs.Units.{OpenUnit}
+use Rattle.node_table.specs.Standing.{Stored}
+
+-- how many groups with an entry of theirs units may still write: their settlement, and before it their preparation
+abbrev pub groups_left : List OpenUnit → ℕ
+groups_left [] = 0
+groups_left (u ∷ us) = (if u.prepared then 1 else 2) + groups_left us
+
+-- what the greatest moment may become by settlements of these units, and the journal's end by such groups, which have a ring's bytes at the most
+abbrev pub moment_to_come : Stored → ℕ
+moment_to_come s = s.volume.catalog.home.greatest_moment.0 + length s.units.begun
+
+abbrev pub end_to_come : Stored → ℕ
+end_to_come s = s.volume.catalog.ru.end + groups_left s.units.begun * 2 ^ 22
+
+-- they are far from their ends
+pub record IsEarlyFor (s : Stored) : Type 0 where
+  pub moment : moment_to_come s ≤ 24000001000066
+  pub low : end_to_come s ≤ 2 ^ 62
+
+-- They have not grown by more than settlements at this clock, and not at all by those of the units that there were.
+pub record Grown (clock : ℕ) (old new : Stored) : Type 0 where
+  pub moment : moment_to_come new ≤ max (moment_to_come old) (clock + 64)
+  pub end : end_to_come new ≤ end_to_come old
+
+-- What calls leave, up to the first that fails: the volume's node, its boot and its frames; a failure raised its count.
+pub record Stays {T : Type 0} (r : Result T Down) (clock : ℕ) (old new : Stored) : Type 0 where
+  pub goes : Goes old.volume.store.disk new.volume.store.disk
+  pub cause : Caused (down_of r) old.volume.store.disk new.volume.store.disk
+  pub pool : new.volume.store.pool ≡ old.volume.store.pool
+  pub node : new.volume.catalog.home.node ≡ old.volume.catalog.home.node
+  pub boot : new.volume.catalog.home.boot ≡ old.volume.catalog.home.boot
+  pub grown : OnOk r (Grown clock old new)

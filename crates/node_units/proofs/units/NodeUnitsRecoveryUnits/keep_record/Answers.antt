@@ -1,0 +1,46 @@
+-- The record of a branch that is committed is written again, as the world writes it.
+use Rattle.std.proofs.Common.{Some, sym, subst}
+use Rattle.commit_protocol.specs.Effects.{KeepEffect}
+use Rattle.commit_protocol.specs.Messages.{LogRecord}
+use Rattle.tm_types.specs.Parts.{log_record_of}
+use Rattle.unit_journal.proofs.Falling.{counts_go}
+use Rattle.volume.specs.State.{VolumeState}
+use Rattle.recovery_units.specs.Calls as calls
+use Rattle.recovery_units.specs.State as calls_state
+use Rattle.recovery_units.specs.State.{UnitsState}
+use Rattle.node_units.specs.Seen.{seen}
+use Rattle.node_units.proofs.Answering.{fail_as, ok_as}
+use Rattle.node_units.proofs.Committing.{HasLogged}
+use Rattle.node_units.proofs.Recording.{records, records_not}
+use Rattle.node_units.proofs.Seeing.{order_unseen}
+use Rattle.node_units.proofs.units.NodeUnitsRecoveryUnits.keep_record.Goals as goal
+use Rattle.node_units.proofs.units.NodeUnitsRecoveryUnits.keep_record.Goals.{After-write_record}
+
+module _ (g : _) (c : After-write_record g) where
+  abbrev r : LogRecord
+  r = log_record_of c.args.logged.now
+
+  abbrev v : VolumeState
+  v = c.args.volume.now
+
+  is : HasLogged c.self.inside.units c.self.inside.log v (Some r)
+  is =
+      let order = subst (λ (z : UnitsState). calls_state.IsInOrder z v) (sym c.self.view_is) c.requires.order in
+      record { order = order_unseen c.self.inside.units c.self.inside.log v c.stand_in_order.ensures order; before = order.slots; parts = (c.have_parts.ensures, c.requires.form) }
+
+pub returns-clause-done : goal.returns-clause-done
+returns-clause-done g c =
+    let s = c.self.inside.units in
+    let w = c.write_record.new.volume in
+    ok_as _ _ c.write_record.result
+    (λ sets. subst (λ (z : UnitsState). calls.KeepsRecord (r g c) z (v g c) (seen s c.write_record.new.log) w) c.self.view_is
+    (records s c.self.inside.log (v g c) w (r g c).serial (Some (r g c)) (KeepEffect (r g c)) tt (is g c) c.write_record.new.log c.write_record.ensures.slots sets (counts_go c.write_record.result (v g c).store.disk w.store.disk c.write_record.ensures.counts).size))
+    c.write_record.ensures.sets
+
+pub returns-clause-err : goal.returns-clause-err
+returns-clause-err g c =
+    let s = c.self.inside.units in
+    let w = c.write_record.new.volume in
+    fail_as _ _ c.write_record.result
+    (λ breaks. subst (λ (z : UnitsState). calls.KeepsRecordNot (r g c) z (v g c) w) c.self.view_is
+    (records_not s c.self.inside.log (v g c) w (r g c).serial (Some (r g c)) (KeepEffect (r g c)) tt (is g c) c.write_record.new.log c.write_record.ensures.slots breaks)) c.write_record.ensures.breaks

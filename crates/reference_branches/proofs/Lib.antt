@@ -1,0 +1,2 @@
+pub mod DoubtLemmas
+pub mod StateLemmas

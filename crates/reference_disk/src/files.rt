@@ -1,0 +1,120 @@
+// New files, and what operations tell of the records of files.
+ghost use Rattle.std.specs.Prelude.{◌≡◌, ◌++◌, [], ◌∷◌, map, length, IfOk};
+ghost use Rattle.std.specs.FinMap.{entries};
+ghost use Rattle.script_lang.specs.Statements.{form_of, setting_of};
+ghost use Rattle.records_model.specs.History.{current};
+ghost use Rattle.transcript_model.specs.Lines as model;
+ghost use Rattle.run_model.specs.Answers as answers;
+ghost use Rattle.run_model.specs.Answers.{shown_record};
+ghost use Rattle.run_model.specs.Operations as operations;
+ghost use Rattle.run_model.specs.Steps.{lines_of_rows};
+ghost use Rattle.reference_world.specs.Standing.{key_of, changes_of, history_of, organization_of, layout_of, file_of, line_of};
+ghost use Rattle.reference_records.specs.Operations.{asked_of};
+
+use crate::forms::buckets_for;
+use reference_records::{Asked, changes_asked, keys_held, operation_answer};
+use reference_world::{
+    Bucket, Change, File, Key, Line, Organization, push_front, records_of, rows_shown,
+};
+use script_lang::{Form, Setting};
+use std::alloc::{AllocError, Global};
+use vms_base::FileName;
+
+/// Whether a setting marks a file for recovery units.
+pub fn is_for_units(setting: Setting) -> bool
+    ensures { result ≡ answers.is_for_units (setting_of setting) }
+{
+    match setting {
+        Setting::RecoveryUnits => true,
+        Setting::NoRecoveryUnits => false,
+    }
+}
+
+// How a file of this form keeps its records.
+fn organized(form: Form) -> Organization
+    ensures { organization_of result ≡ answers.organized (form_of form) }
+{
+    match form {
+        Form::Sequential { .. } => Organization::Sequential,
+        Form::Relative { records } => Organization::Relative { greatest: records },
+        Form::Indexed {
+            position,
+            key_size,
+            ..
+        } => Organization::Indexed {
+            position,
+            size: key_size,
+        },
+    }
+}
+
+// The chain of a new file: one bucket without slots, where it is indexed.
+fn first_chain(alloc: Global, form: Form) -> Result<Vec<Bucket>, AllocError>
+    ensures { IfOk result (λ v. layout_of v.items ≡ answers.first_layout (form_of form)) }
+{
+    let mut chain = Vec::new(alloc);
+    if let Form::Indexed { .. } = form {
+        let slots = Vec::new(alloc);
+        push_front(&mut chain, Bucket { slots })?;
+    }
+    Ok(chain)
+}
+
+/// A new file that lies from this block on.
+pub fn new_file(
+    alloc: Global,
+    name: FileName,
+    bucket: u32,
+    size: u32,
+    form: Form,
+    start: u64,
+    moment: u64,
+) -> Result<File, AllocError>
+    ensures { IfOk result (λ f. file_of f ≡ answers.created name bucket size (form_of form) start moment) }
+{
+    let chain = first_chain(alloc, form)?;
+    Ok(File {
+        name,
+        bucket,
+        record_size: size,
+        organization: organized(form),
+        start,
+        buckets: buckets_for(bucket, size, form),
+        recovery_units: false,
+        moment,
+        settled: Vec::new(alloc),
+        live: Vec::new(alloc),
+        chain,
+    })
+}
+
+/// What an operation changes, the newest change first, what a branch holds that did it, and what it is answered.
+#[derive(Drop)]
+pub struct Told {
+    pub changes: Vec<Change>,
+    pub keys: Vec<Key>,
+    pub line: Line,
+}
+
+/// The same of a file that is there.
+pub fn told_of(alloc: Global, f: &File, asked: Asked<'_>) -> Result<Told, AllocError>
+    ensures changes { IfOk result (λ t. changes_of t.changes.items ≡ operations.changes_of (file_of f.now) (asked_of asked.entry)) }
+    ensures keys { IfOk result (λ t. map key_of t.keys.items ≡ operations.keys_held (file_of f.now) (asked_of asked.entry)) }
+    ensures line { IfOk result (λ t. line_of t.line ≡ operations.operation_answer (file_of f.now) (asked_of asked.entry)) }
+{
+    let all = records_of(alloc, f)?;
+    let rows = all.as_slice();
+    Ok(Told {
+        changes: changes_asked(alloc, f, rows, asked)?,
+        keys: keys_held(alloc, f, rows, asked)?,
+        line: operation_answer(alloc, f, rows, asked)?,
+    })
+}
+
+/// The lines of all records of a file, and their count.
+pub fn show_records(alloc: Global, file: &File) -> Result<Vec<Line>, AllocError>
+    ensures { let es = entries (current (history_of file.now)) in IfOk result (λ v. map line_of v.items ≡ lines_of_rows (map shown_record es) ++ model.NormalCount (length es) ∷ []) }
+{
+    let rows = records_of(alloc, file)?;
+    rows_shown(alloc, rows.as_slice(), rows.len() as u64)
+}

@@ -1,0 +1,255 @@
+// What refuses requests by what the disk has.
+ghost use Rattle.std.specs.Prelude.{◌≡◌, ◌+◌, ◌<◌, ◌≤◌, ◌^◌, ℕ, [], map, option_map, length, IfOk};
+ghost use Rattle.unit_laws.specs.Journal.{end_of as end_said};
+ghost use Rattle.run_model.specs.Answers as answers;
+ghost use Rattle.run_model.specs.Operations as operations;
+ghost use Rattle.run_model.specs.World as world;
+ghost use Rattle.reference_world.specs.Standing.{branch_key_of, changes_of, is_unmade as is_unmade_of, serials_of, line_of};
+ghost use Rattle.reference_units.specs.Entries.{entries_of, journal_of};
+ghost use Rattle.reference_records.specs.Operations.{asked_of};
+ghost use Rattle.reference_disk.specs.Disks.{durable_of, node_on, disk_node, branch_with, first_changed, need_of};
+
+use crate::disk::Durable;
+use crate::forms::{area_size, area_start};
+use reference_records::{
+    Asked, changes_asked, file_full, first_of, form_refused, is_change, refused_if,
+};
+use reference_units::{
+    JournalEntry, changes_made, end_of, entries_for, entries_size, free_bytes, owed_first, units_in,
+};
+use reference_world::{
+    BranchKey, Change, Line, Quota, Runs, Volume, find_file, first_to_change, free_place,
+    free_runs, records_of,
+};
+use std::alloc::{AllocError, Global};
+use vms_base::{FileName, Id, NodeName};
+
+// The bytes that these entries of a branch want of the journal, with what it is owed with the first of them.
+fn bytes_needed(entries: &[JournalEntry], owed: u64) -> u128
+    requires { owed ≤ 96 }
+    ensures { result ≡ need_of (entries_of entries.now) owed }
+{
+    match entries {
+        [] => 0,
+        [_, ..] => entries_size(entries) + u128::from(owed),
+    }
+}
+
+impl Durable {
+    /// Whether the last INIT failed.
+    pub fn is_unmade(&self) -> bool
+        ensures { result ≡ is_unmade_of self.now.volume }
+    {
+        match self.volume {
+            Volume::Sound => false,
+            Volume::Faulty { .. } => false,
+            Volume::Unknown => true,
+        }
+    }
+
+    pub fn there_is_file(&self, name: &FileName) -> Option<Line>
+        ensures { option_map line_of result ≡ answers.there_is_file (disk_node self.now) name.now }
+    {
+        match find_file(self.directory.as_slice(), name) {
+            Some(_) => None,
+            None => Some(Line::FileNotFound),
+        }
+    }
+
+    pub fn new_file(&self, name: &FileName) -> Option<Line>
+        ensures { option_map line_of result ≡ answers.new_file (disk_node self.now) name.now }
+    {
+        match find_file(self.directory.as_slice(), name) {
+            Some(_) => Some(Line::FileExists),
+            None => None,
+        }
+    }
+
+    pub fn fits_file(&self, name: &FileName, asked: Asked<'_>) -> Option<Line>
+        ensures { option_map line_of result ≡ answers.of_file (disk_node self.now) name.now (λ f. operations.form_refused f (asked_of asked.entry)) }
+    {
+        let f = find_file(self.directory.as_slice(), name)?;
+        form_refused(f, asked)
+    }
+
+    pub fn needs_unit(&self, name: &FileName, asked: Asked<'_>) -> Option<Line>
+        ensures { option_map line_of result ≡ answers.of_file (disk_node self.now) name.now (answers.needs_unit (asked_of asked.entry)) }
+    {
+        let f = find_file(self.directory.as_slice(), name)?;
+        refused_if(is_change(asked) && f.recovery_units, Line::NeedsUnit)
+    }
+
+    pub fn unchanged_file(&self, branches: &[BranchKey], name: &FileName) -> Option<Line>
+        ensures { option_map line_of result ≡ answers.of_file (disk_node self.now) name.now (first_changed (serials_of branches.now)) }
+    {
+        let f = find_file(self.directory.as_slice(), name)?;
+        match first_to_change(f, branches) {
+            Some(serial) => Some(Line::FileLocked(serial)),
+            None => None,
+        }
+    }
+
+    pub fn is_marked(&self, name: &FileName) -> Option<Line>
+        ensures { option_map line_of result ≡ answers.of_file (disk_node self.now) name.now answers.is_marked }
+    {
+        let f = find_file(self.directory.as_slice(), name)?;
+        refused_if(!f.recovery_units, Line::NotMarked)
+    }
+
+    /// The changes of an operation.
+    pub fn changes_at(
+        &self,
+        alloc: Global,
+        name: &FileName,
+        asked: Asked<'_>,
+    ) -> Result<Vec<Change>, AllocError>
+        ensures { IfOk result (λ v. changes_of v.items ≡ answers.changes_at (disk_node self.now) name.now (asked_of asked.entry)) }
+    {
+        let Some(f) = find_file(self.directory.as_slice(), name) else {
+            return Ok(Vec::new(alloc));
+        };
+        let all = records_of(alloc, f)?;
+        changes_asked(alloc, f, all.as_slice(), asked)
+    }
+
+    // With these changes a branch has made more than it may.
+    fn more_changes(
+        &self,
+        alloc: Global,
+        branch: &BranchKey,
+        changes: &[Change],
+    ) -> Result<Option<Line>, AllocError>
+        ensures { IfOk result (λ refusal. option_map line_of refusal ≡ answers.more_changes (disk_node self.now) (changes_of changes.now) (branch_with (branch_key_of branch.now))) }
+    {
+        let units = units_in(alloc, self.units.entries.as_slice())?;
+        let made = changes_made(units.as_slice(), &branch.serial);
+        Ok(refused_if(
+            1_024 < made + changes.len() as u64,
+            Line::QuotaExceeded(Quota::Changes, 1_024),
+        ))
+    }
+
+    /// Too few buckets of a file are free for an operation.
+    pub fn file_is_full(
+        &self,
+        alloc: Global,
+        name: &FileName,
+        asked: Asked<'_>,
+    ) -> Result<Option<Line>, AllocError>
+        ensures { IfOk result (λ refusal. option_map line_of refusal ≡ answers.of_file (disk_node self.now) name.now (λ f. operations.file_full f (asked_of asked.entry))) }
+    {
+        let Some(f) = find_file(self.directory.as_slice(), name) else {
+            return Ok(None);
+        };
+        let all = records_of(alloc, f)?;
+        Ok(file_full(f, all.as_slice(), asked))
+    }
+
+    // Too few bytes of the journal are free for changes of a branch.
+    fn journal_full(
+        &self,
+        alloc: Global,
+        branch: &BranchKey,
+        name: &FileName,
+        changes: &[Change],
+    ) -> Result<Option<Line>, AllocError>
+        ensures { IfOk result (λ refusal. option_map line_of refusal ≡ answers.journal_full (disk_node self.now) name.now (changes_of changes.now) (branch_with (branch_key_of branch.now))) }
+    {
+        let units = units_in(alloc, self.units.entries.as_slice())?;
+        let free = free_bytes(
+            self.journal,
+            self.units.entries.as_slice(),
+            units.as_slice(),
+        );
+        let entries = entries_for(alloc, branch, *name, changes)?;
+        let need = bytes_needed(
+            entries.as_slice(),
+            owed_first(units.as_slice(), &branch.serial),
+        );
+        Ok(refused_if(u128::from(free) < need, Line::JournalFull(free, need)))
+    }
+
+    /// What refuses an operation of a branch by the branch's own quotas, and with these other causes between them.
+    pub fn branch_refused(
+        &self,
+        alloc: Global,
+        branch: &BranchKey,
+        name: &FileName,
+        changes: &[Change],
+        between: Option<Line>,
+    ) -> Result<Option<Line>, AllocError>
+        ensures { IfOk result (λ refusal. option_map line_of refusal ≡ operations.first_of (answers.more_changes (disk_node self.now) (changes_of changes.now) (branch_with (branch_key_of branch.now)))
+            (operations.first_of (option_map line_of between) (answers.journal_full (disk_node self.now) name.now (changes_of changes.now) (branch_with (branch_key_of branch.now))))) }
+    {
+        let more = self.more_changes(alloc, branch, changes)?;
+        let full = self.journal_full(alloc, branch, name, changes)?;
+        Ok(first_of(more, first_of(between, full)))
+    }
+
+    // The runs of free blocks on the disk.
+    fn runs(&self, blocks: u32, need: u64) -> Runs
+        requires { length self.now.log.items ≤ 512 }
+        ensures longest { result.longest ≡ world.longest_free (node_on [] blocks (durable_of self.now)) }
+        ensures lowest { result.lowest ≡ world.lowest_free (node_on [] blocks (durable_of self.now)) need }
+    {
+        let start = area_start(self.log.len() as u32, self.journal);
+        let count = area_size(blocks, start);
+        free_runs(self.directory.as_slice(), need, start, count)
+    }
+
+    /// Where the lowest run of so many free blocks begins.
+    pub fn lowest_free(&self, blocks: u32, need: u64) -> Option<u64>
+        requires { length self.now.log.items ≤ 512 }
+        ensures { result ≡ world.lowest_free (node_on [] blocks (durable_of self.now)) need }
+    {
+        self.runs(blocks, need).lowest
+    }
+
+    pub fn room_for(&self, blocks: u32, need: u64) -> Option<Line>
+        requires { length self.now.log.items ≤ 512 }
+        ensures { option_map line_of result ≡ answers.room_for need (node_on [] blocks (durable_of self.now)) }
+    {
+        match free_place(self.directory.as_slice()) {
+            None => Some(Line::QuotaExceeded(Quota::Files, 64)),
+            Some(_) => {
+                let longest = self.runs(blocks, need).longest;
+                refused_if(longest < need, Line::VolumeFull(longest, need))
+            }
+        }
+    }
+
+    // The greatest position of a journal: the files that are kept have none of their own.
+    fn last_position(&self) -> u64
+        requires { end_said (journal_of self.now.units) < 2 ^ 64 }
+        ensures { result ≡ answers.last_position (disk_node self.now) }
+    {
+        end_of(&self.units)
+    }
+
+    /// What refuses a boot by what the disk has.
+    pub fn bootable(&self, name: NodeName) -> Option<Line>
+        requires { end_said (journal_of self.now.units) < 2 ^ 64 }
+        ensures { option_map line_of result ≡ answers.bootable (node_on name 0 (durable_of self.now)) }
+    {
+        match self.volume {
+            Volume::Sound => first_of(
+                refused_if(
+                    self.boot == 4_294_967_295,
+                    Line::QuotaExceeded(Quota::Boots, 4_294_967_295),
+                ),
+                first_of(
+                    refused_if(
+                        24_000_000_000_000 < self.greatest,
+                        Line::QuotaExceeded(Quota::Moments, 24_000_000_000_000),
+                    ),
+                    refused_if(
+                        2_305_843_009_213_693_952 < self.last_position(),
+                        Line::QuotaExceeded(Quota::Positions, 2_305_843_009_213_693_952),
+                    ),
+                ),
+            ),
+            Volume::Faulty { condition, block } => { Some(Line::NoVolume(name, condition, block)) }
+            Volume::Unknown => None,
+        }
+    }
+}

@@ -1,0 +1,18 @@
+use Rattle.std.proofs.Common.{◌≡◌, sym, subst}
+use Rattle.std.specs.Option.{option_map}
+use Rattle.run_model.specs.Answers.{service}
+use Rattle.script_lang.specs.Statements.{request_of}
+use Rattle.script_lang.specs.declared.statement.Request.{Request}
+use Rattle.reference_world.specs.Standing.{line_of}
+use Rattle.reference_node.specs.Nodes.{node_of}
+use Rattle.reference_branches.specs.Branches.{shared_of}
+use Rattle.reference_node.proofs.node.Node.early_plain.Goals as goal
+
+pub returns-in-Boot : goal.returns-in-Boot
+returns-in-Boot c = λ lit. subst (λ (r : Request). option_map line_of c.early_boot.result ≡ (service (request_of lit r)).refused_before_reading (shared_of c.args.shared.now) (node_of c.args.self.now)) (sym c.in-Boot.is) (c.early_boot.ensures (shared_of c.args.shared.now))
+
+pub returns-in-Create : goal.returns-in-Create
+returns-in-Create c = λ lit. subst (λ (r : Request). option_map line_of c.early_create.result ≡ (service (request_of lit r)).refused_before_reading (shared_of c.args.shared.now) (node_of c.args.self.now)) (sym c.in-Create.is) (c.early_create.ensures (shared_of c.args.shared.now))
+
+pub returns-in-AddBranch : goal.returns-in-AddBranch
+returns-in-AddBranch c = λ lit. subst (λ (r : Request). option_map line_of c.early_add.result ≡ (service (request_of lit r)).refused_before_reading (shared_of c.args.shared.now) (node_of c.args.self.now)) (sym c.in-AddBranch.is) (c.early_add.ensures c.in-AddBranch.other)

@@ -1,0 +1,9 @@
+use Rattle.commit_protocol.specs.Allowed.{may_end}
+use Rattle.tm_types.specs.Branches.{branch_of}
+use Rattle.reference_node.specs.Nodes.{node_of}
+use Rattle.reference_branches.specs.Branches.{shared_of}
+use Rattle.reference_node.proofs.StateLemmas.{label_told}
+use Rattle.reference_node.proofs.node.Node.end_branch.Goals as goal
+
+pub told-requires-clause-allowed : goal.told-requires-clause-allowed
+told-requires-clause-allowed c = label_told (shared_of c.args.shared.now) (node_of c.args.self.now) c.args.label.now (branch_of c.in-Some.b) may_end c.in-Some.ensures c.requires.state

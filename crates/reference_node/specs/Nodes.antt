@@ -1,0 +1,132 @@
+-- The node that the code's values stand for, and what nodes share.
+use Rattle.std.specs.Prelude.{◌≡◌, ◌++◌, List, [], ◌∷◌, Bool, false, Some, None, map}
+use Rattle.vms_model.specs.Ids.{Id}
+use Rattle.transcript_model.specs.Lines as model
+use Rattle.commit_protocol.specs.Table.{Branch, Key, cut}
+use Rattle.commit_protocol.specs.Allowed as allowed
+use Rattle.run_model.specs.Answers.{Service, is_first_active, is_open, is_in_doubt}
+use Rattle.run_model.specs.Steps.{lines_of_rows, node_after, node_after_rows, shared_then, shared_after_rows}
+use Rattle.run_model.specs.World as world
+use Rattle.run_model.specs.Locks.{released}
+use Rattle.net_wire.specs.Messages.{message_of}
+use Rattle.reference_world.specs.Standing.{branch_key_of, label_of, locks_of, settlement_of, is_unmade, call_of}
+use Rattle.reference_disk.specs.Disks.{durable_of}
+use Rattle.reference_world.specs.Standing.{line_of}
+use Rattle.reference_world.specs.declared.line.Line.{Line}
+use Rattle.script_lang.specs.declared.statement.Request.{Request}
+use Rattle.script_lang.specs.declared.statement.Request.TheVariants as request
+use Rattle.reference_node.specs.declared.node.Node.{Node}
+
+-- what a node has while it is up
+abbrev pub volatile_of : Node → world.Volatile
+volatile_of n = record { drawn = n.drawn; branches = n.table.table; records = n.table.records; preparation = map branch_key_of n.preparation.items; locks = locks_of n.locks.items }
+
+-- the node that is kept
+abbrev pub node_of : Node → world.Node
+node_of n = record {
+  name = n.name;
+  blocks = n.blocks;
+  durable = durable_of n.durable;
+  volatile = volatile_of n;
+  unmade = is_unmade n.durable.volume;
+  up = n.up;
+  was_up = n.was_up;
+  clock = n.clock;
+  settled = map settlement_of n.settled.items;
+  calls = map call_of n.calls.items;
+  under_way = None;
+}
+
+-- the request is none of records
+abbrev pub IsPlain : Request → Type 0
+IsPlain (request.Records label file operation) = ⊥
+IsPlain (request.Direct file operation) = ⊥
+IsPlain (request.Init slots blocks) = Unit {0}
+IsPlain request.Boot = Unit {0}
+IsPlain (request.Create file bucket size form) = Unit {0}
+IsPlain (request.SetFile file setting) = Unit {0}
+IsPlain (request.StartTrans label seconds) = Unit {0}
+IsPlain (request.AddBranch label other new) = Unit {0}
+IsPlain (request.StartBranch label) = Unit {0}
+IsPlain (request.EndBranch label) = Unit {0}
+IsPlain (request.EndTrans label) = Unit {0}
+IsPlain (request.AbortTrans label) = Unit {0}
+IsPlain (request.Inquire who) = Unit {0}
+IsPlain (request.Dump file) = Unit {0}
+IsPlain request.DumpJournal = Unit {0}
+IsPlain (request.Fuse writes choice) = Unit {0}
+IsPlain request.Crash = Unit {0}
+IsPlain (request.Clock now) = Unit {0}
+
+-- the request tells the table of its node an event
+abbrev pub TellsTable : Request → Type 0
+TellsTable (request.Records label file operation) = ⊥
+TellsTable (request.Direct file operation) = ⊥
+TellsTable (request.Init slots blocks) = ⊥
+TellsTable request.Boot = ⊥
+TellsTable (request.Create file bucket size form) = ⊥
+TellsTable (request.SetFile file setting) = ⊥
+TellsTable (request.StartTrans label seconds) = Unit {0}
+TellsTable (request.AddBranch label other new) = Unit {0}
+TellsTable (request.StartBranch label) = Unit {0}
+TellsTable (request.EndBranch label) = Unit {0}
+TellsTable (request.EndTrans label) = Unit {0}
+TellsTable (request.AbortTrans label) = Unit {0}
+TellsTable (request.Inquire who) = Unit {0}
+TellsTable (request.Dump file) = ⊥
+TellsTable request.DumpJournal = ⊥
+TellsTable (request.Fuse writes choice) = ⊥
+TellsTable request.Crash = ⊥
+TellsTable (request.Clock now) = ⊥
+
+-- a request that tells the table an event, or boots the node
+abbrev pub RestsNot : Request → Type 0
+RestsNot (request.Records label file operation) = ⊥
+RestsNot (request.Direct file operation) = ⊥
+RestsNot (request.Init slots blocks) = ⊥
+RestsNot request.Boot = Unit {0}
+RestsNot (request.Create file bucket size form) = ⊥
+RestsNot (request.SetFile file setting) = ⊥
+RestsNot (request.StartTrans label seconds) = Unit {0}
+RestsNot (request.AddBranch label other new) = Unit {0}
+RestsNot (request.StartBranch label) = Unit {0}
+RestsNot (request.EndBranch label) = Unit {0}
+RestsNot (request.EndTrans label) = Unit {0}
+RestsNot (request.AbortTrans label) = Unit {0}
+RestsNot (request.Inquire who) = Unit {0}
+RestsNot (request.Dump file) = ⊥
+RestsNot request.DumpJournal = ⊥
+RestsNot (request.Fuse writes choice) = ⊥
+RestsNot request.Crash = ⊥
+RestsNot (request.Clock now) = ⊥
+
+-- A task that nothing refuses was done at a node, where nodes shared this: these lines were shown, and the node and what nodes share are those after it.
+pub record Does (s : world.Shared) (n : world.Node) (e : Service) (lines : List Line) (m : world.Node) (t : world.Shared) : Type 0 where
+  pub shows : map line_of lines ≡ lines_of_rows (e.rows s n) ++ (e.closing_lines n ++ e.answer s n ∷ [])
+  pub node : m ≡ node_after e.closing (node_after_rows (e.rows s n) n)
+  pub shared : t ≡ shared_then e.closing (shared_after_rows (e.rows s n) s)
+
+-- a node whose table notes that a branch has changed something
+abbrev pub noted : Id → world.Node → world.Node
+noted serial n = record n { volatile = record n.volatile { branches = world.with_changed serial n.volatile.branches } }
+
+-- a node whose branch holds no key any more
+abbrev pub released_by : Id → world.Node → world.Node
+released_by serial n = record n { volatile = record n.volatile { locks = released serial n.volatile.locks } }
+
+-- a node whose branch is settled, where its table and its log are seen to apart
+abbrev pub settled_by : world.Settlement → world.Node → world.Node
+settled_by s n = record (released_by s.serial n) { durable = world.with_settlement (Some s) n.durable; settled = s ∷ n.settled }
+
+-- a settlement as it is shown
+abbrev pub settlement_line : world.Settlement → model.Line
+settlement_line s = elim s.reason [ Some reason ↦ model.Aborted s.tid s.serial reason s.moment | None ↦ model.Committed s.tid s.serial s.moment ]
+
+-- a prepared branch as it is shown
+abbrev pub key_line : Key → model.Line
+key_line k = model.Prepared k.tid k.serial
+
+-- none of these branches is in a table
+abbrev pub AreUnknown : List Key → List Branch → Type 0
+AreUnknown [] bs = Unit {0}
+AreUnknown (k ∷ ks) bs = (cut k bs ≡ bs) × AreUnknown ks bs

@@ -1,5 +1,0 @@
-use Rattle.reference_run.proofs.RunsLemmas.{transcripts_are_runs}
-use Rattle.reference_run.proofs.law.reference_transcripts_are_runs.Goals as goal
-
-pub returns : goal.returns
-returns c = transcripts_are_runs

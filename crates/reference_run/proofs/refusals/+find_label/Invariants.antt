@@ -1,5 +1,0 @@
-use Rattle.std.proofs.Common.{length}
-use Rattle.reference_run.proofs.refusals.+find_label.Given as goal
-
-abbrev pub decreases-find_label : goal.decreases-find_label
-decreases-find_label l = length l.labels.now

@@ -1,5 +1,0 @@
-use Rattle.reference_run.proofs.RowLemmas.{file_is_full as shown}
-use Rattle.reference_run.proofs.rows.file_is_full.Goals as goal
-
-pub returns : goal.returns
-returns c = shown

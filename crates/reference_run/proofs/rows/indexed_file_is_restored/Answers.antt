@@ -1,5 +1,0 @@
-use Rattle.reference_run.proofs.IndexedRow.{indexed_file_is_restored as shown}
-use Rattle.reference_run.proofs.rows.indexed_file_is_restored.Goals as goal
-
-pub returns : goal.returns
-returns c = shown

@@ -1,5 +1,0 @@
-use Rattle.reference_run.proofs.RowLemmas.{open_quote_is_bad as shown}
-use Rattle.reference_run.proofs.rows.open_quote_is_bad.Goals as goal
-
-pub returns : goal.returns
-returns c = shown

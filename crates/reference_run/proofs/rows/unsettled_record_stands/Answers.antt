@@ -1,5 +1,0 @@
-use Rattle.reference_run.proofs.RowLemmas.{unsettled_record_stands as shown}
-use Rattle.reference_run.proofs.rows.unsettled_record_stands.Goals as goal
-
-pub returns : goal.returns
-returns c = shown

@@ -1,0 +1,5 @@
+pub mod Lasts
+pub mod Anew
+pub mod Names
+pub mod Told
+pub mod Next

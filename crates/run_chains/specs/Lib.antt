@@ -1,0 +1,2 @@
+pub mod Reopenings
+pub mod Chains

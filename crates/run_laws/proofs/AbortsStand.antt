@@ -1,0 +1,160 @@
+-- Where the images agree with which a run begins, aborts stand.
+use Rattle.std.proofs.Common.{◌≡◌, ℕ, ◌⊎◌, List, [], ◌∷◌, ◌++◌, inl, inr, Bool, true, false, Option, Some, None, refl, sym, ◌∙◌, ap, subst}
+use Rattle.std.proofs.lemmas.List.{append_assoc}
+use Rattle.vms_model.specs.Ids.{Id}
+use Rattle.vms_model.specs.Transactions.{Reason}
+use Rattle.transcript_model.specs.Lines.{Line}
+use Rattle.script_model.specs.Statements.{Reading, Blank, Says, Bad}
+use Rattle.script_model.specs.Grammar.{reading}
+use Rattle.commit_protocol.specs.Messages.{LogRecord, same_id}
+use Rattle.commit_protocol.specs.Table.{Key as BranchKey}
+use Rattle.commit_protocol.specs.World as protocol
+use Rattle.commit_protocol.specs.World.{In}
+use Rattle.commit_protocol.specs.Agreement.{IsDead, view}
+use Rattle.commit_protocol.proofs.Acting.{Good}
+use Rattle.commit_protocol.proofs.Lists.{same_id-refl, same_id-true}
+use Rattle.log_laws.specs.Slots.{prepared_of, records_in}
+use Rattle.run_model.specs.World.{World, Node, Act, DiskCounts, find_node, opened}
+use Rattle.run_model.specs.Transcript.{Entry, Legal, AreOpening, Turn}
+use Rattle.run_agreement.specs.Seen.{IsKnown, Resolution}
+use Rattle.commit_protocol.specs.Opening.{IsAgreeing}
+use Rattle.run_agreement.specs.Following.{Shows, opening_of}
+use Rattle.run_agreement.specs.Laws.{IsBase, IsRun, NamesApart, RunsFrom, opening_told}
+use Rattle.run_agreement.proofs.Begun.{runs_begin}
+use Rattle.run_agreement.proofs.Told.{quiet_images, runs_tell_no_more, unused_are_told, used_tell_no_more}
+use Rattle.world_laws.proofs.WorldLemmas.{each_opening}
+use Rattle.run_laws.specs.Promises.{IsNeverCommitted}
+use Rattle.run_laws.specs.Said.{Said}
+use Rattle.run_laws.proofs.TurnsTell.{legal_told}
+use Rattle.run_laws.specs.Laws.{AgreedAbortsStand, AgreedDumpsHold, AllAgree, ToldAgree}
+use Rattle.run_laws.proofs.AbortsHeld.{IsAborting, Leaves, Told, same_leaves, step_leaves}
+use Rattle.run_laws.proofs.DumpsShown.{dumps_hold, legal_on}
+use Rattle.run_laws.proofs.Dying.{dead_other, dead_own, dead_told, dies, runs_used}
+use Rattle.run_laws.proofs.Falling.{NoRecord, RecordsOf, aborting}
+use Rattle.run_laws.proofs.SoundWorlds.{IsSound, legal_sound, opening_sound}
+use Rattle.run_laws.proofs.Undecided.{down, gone, home, never_of, of_its, used}
+
+-- a record of this serial, or none
+found_or_none : (x : Id) (rs : List LogRecord) → ((c : LogRecord) × In c rs × (c.serial ≡ x)) ⊎ ((c : LogRecord) → In c rs → c.serial ≡ x → ⊥)
+found_or_none x [] = inr (λ c i e. i)
+found_or_none x (r ∷ rs) = go (same_id r.serial x) refl (found_or_none x rs)
+  where
+    go : (b : Bool) → same_id r.serial x ≡ b → ((c : LogRecord) × In c rs × (c.serial ≡ x)) ⊎ ((c : LogRecord) → In c rs → c.serial ≡ x → ⊥) → ((c : LogRecord) × In c (r ∷ rs) × (c.serial ≡ x)) ⊎ ((c : LogRecord) → In c (r ∷ rs) → c.serial ≡ x → ⊥)
+    go true is more = inl (r, inl refl, same_id-true r.serial x is)
+    go false is (inl c) = inl (c.0, inr c.1, c.2)
+    go false is (inr none) = inr (λ c i e. elim i [
+      | inl same ↦ (let t : same_id r.serial x ≡ true = ap (λ y. same_id y x) (ap (λ (y : LogRecord). y.serial) (sym same) ∙ e) ∙ same_id-refl x in let clash : false ≡ true = sym is ∙ t in let no : ⊥ = cc in no)
+      | inr j ↦ none c j e
+    ])
+
+turn_leaves : (k : BranchKey) (reason : Reason) (r : Option LogRecord) (moment : ℕ) (w v : World) (said : Reading) (lines : List Line) → IsSound w → Turn w said lines v → Leaves k reason r moment w v
+turn_leaves k reason r moment w v Blank lines sound turn = same_leaves k reason r moment w v (ap (λ (x : World). x.nodes) turn.1)
+turn_leaves k reason r moment w v (Says s) lines sound turn = step_leaves k reason r moment w v s lines sound turn
+turn_leaves k reason r moment w v (Bad column) lines sound turn = absurd turn
+
+module _ (nodes : List Node) (disks : List DiskCounts) (es : List Entry) (opening : AreOpening nodes) (apart : NamesApart nodes) (known : (name : List ℕ) (n : Node) → find_node name nodes ≡ Some n → IsKnown n) (agree : AllAgree nodes disks es)
+    (k : BranchKey) (reason : Reason) (r : Option LogRecord) (moment : ℕ) where
+  abbrev first : World
+  first = opened nodes disks
+
+  -- what is known in the world after some entries, of a branch that was told to abort
+  told_stands : (later before : List Entry) (w : World) → es ≡ later ++ before → Legal first before w → IsSound w → (node : List ℕ) (n : Node) → IsAborting k reason r moment w node n → Told k reason r moment w node n → (after : List Entry) (closing : World) → Legal w after closing → IsNeverCommitted k.serial closing
+  told_stands later before w split legal sound node n at told after closing path = by told
+    where
+      h : k.serial.node ≡ node
+      h = home w sound node n at.0 k reason r moment at.1
+
+      in_use : w.shared.in_use ≡ true
+      in_use = used w sound node n at.0 k reason r moment at.1
+
+      is_down : n.up ≡ false
+      is_down = down w sound node n at.0 k reason r moment at.1
+
+      bare : NoRecord n k.serial → IsNeverCommitted k.serial closing
+      bare none = gone w sound node n at.0 k reason r moment at.1 none after closing path
+
+      dead : RecordsOf n k → ((base : World) (since : List Entry) (is_run : IsRun base since w) (c : LogRecord) → In c (prepared_of (records_in n.durable.log)) → c.serial ≡ k.serial →
+          (q : Resolution) (p : protocol.World) → q node ≡ false → Good p → Shows (opening_of base) q w p → IsDead (view p) k.tid) → IsNeverCommitted k.serial closing
+      dead records dying = go (found_or_none k.serial (prepared_of (records_in n.durable.log)))
+        where
+          go : ((c : LogRecord) × In c (prepared_of (records_in n.durable.log)) × (c.serial ≡ k.serial)) ⊎ ((c : LogRecord) → In c (prepared_of (records_in n.durable.log)) → c.serial ≡ k.serial → ⊥) → IsNeverCommitted k.serial closing
+          go (inr none) = bare none
+          go (inl c) =
+              let b = runs_begin nodes disks before w opening apart known legal in
+              let is_run : IsRun b.0 b.2 w = record { base_is = b.5; agrees = agree later b.2 b.1 b.0 w (split ∙ ap (λ xs. later ++ xs) b.3) b.4 b.5 b.7 b.6 in_use; runs = b.6 } in
+              never_of k.serial closing (λ s i e commit.
+              dies b.0 w b.2 is_run node n at.0 k h reason r moment at.1 is_down (dying b.0 b.2 is_run c.0 c.1 c.2) after closing (runs_used w closing after path in_use).0 s i e
+              (of_its w sound node n at.0 k reason r moment at.1 records after closing path s i e commit) commit)
+
+      by : Told k reason r moment w node n → IsNeverCommitted k.serial closing
+      by (inl none) = bare none
+      by (inr (inl sent)) = dead sent.records (λ base since is_run c i e. dead_told base w since is_run node n at.0 k h reason r moment at.1 is_down sent.records c i e sent.message sent.sent sent.kind sent.key)
+      by (inr (inr answered)) = dead answered.records (λ base since is_run c i e q p off good shows. elim answered.answered [
+        | inl y ↦ dead_other base w since is_run node n at.0 k h reason r moment at.1 is_down answered.records c i e y.0 y.1 y.2 y.3 q p off good shows
+        | inr own ↦ dead_own base w since is_run node n at.0 k h reason r moment at.1 is_down answered.records c i e own.0 own.2 own.1 q p off good shows
+      ])
+
+  stands : (later before : List Entry) (w : World) → es ≡ later ++ before → Legal first before w → (node : List ℕ) (n : Node) → IsAborting k reason r moment w node n → (after : List Entry) (closing : World) → Legal w after closing → IsNeverCommitted k.serial closing
+  stands later [] w split legal node n at after closing path =
+      let o = each_opening nodes opening node n (subst (λ (x : World). find_node node x.nodes ≡ Some n) legal at.0) in
+      let clash : ◌≡◌ {A = Option Act} None (Some (aborting k reason r moment)) = sym o.under_way ∙ at.1 in
+      let no : ⊥ = cc in
+      absurd no
+  stands later (e ∷ before) w split legal node n at after closing path =
+      let sound = legal_sound first legal.0 before (opening_sound nodes disks opening) legal.1 in
+      let sound_w = legal_sound first w (e ∷ before) (opening_sound nodes disks opening) legal in
+      elim (turn_leaves k reason r moment legal.0 w (reading e.source.text) e.lines sound legal.2 node n at) [
+        | inl was ↦ stands (later ++ e ∷ []) before legal.0 (split ∙ sym (append_assoc later (e ∷ []) before)) legal.1 node was.0 was.1 (after ++ e ∷ []) closing (legal_on legal.0 w closing e after legal.2 path)
+        | inr told ↦ told_stands later (e ∷ before) w split legal sound_w node n at told after closing path
+      ]
+
+pub agreed_aborts_stand : AgreedAbortsStand
+agreed_aborts_stand nodes disks es opening apart known agree later after before w closing n k reason r moment split legal path found under =
+    stands nodes disks es opening apart known agree k reason r moment (later ++ after) before w (split ∙ sym (append_assoc later after before)) legal k.serial.node n (found, under) after closing path
+
+pub agreed_dumps_hold : AgreedDumpsHold
+agreed_dumps_hold nodes disks es closing opening apart known lasts agree legal = dumps_hold nodes disks es closing opening lasts legal (agreed_aborts_stand nodes disks es opening apart known agree)
+
+-- The images that lines tell.
+
+-- a legal transcript in parts: where a node may be in use behind the first of them, one may be behind all, and the others tell of no image
+pub legal_parts : (start : World) (later es : List Entry) (w : World) → Legal start (later ++ es) w → (v : World) × Legal start es v × Legal v later w × (v.shared.in_use ≡ true → (w.shared.in_use ≡ true) × ((nodes : List Node) → opening_told nodes (later ++ es) ≡ opening_told nodes es))
+legal_parts start [] es w legal = (w, legal, refl, λ on. (on, λ nodes. refl))
+legal_parts start (e ∷ later) es w legal =
+    let r = legal_parts start later es legal.0 legal.1 in (
+      r.0,
+      r.1,
+      (legal.0, r.2, legal.2),
+      λ on.
+          let s = r.3 on in
+          let t = used_tell_no_more legal.0 w (reading e.source.text) e.lines legal.2 s.0 in
+          (t.0, λ nodes. (λ j. record { images = quiet_images e (later ++ es) nodes t.1 j }) ∙ s.1 nodes),
+    )
+
+pub told_agree : ToldAgree
+told_agree nodes disks es closing opening apart known legal agrees later since before base v split path base_is off runs on = subst IsAgreeing (sym (same ∙ sym (fewer ∙ told))) agrees
+  where
+    first : World
+    first = opened nodes disks
+
+    -- the base has the images that the entries before it tell
+    same : opening_of base ≡ opening_told nodes before
+    same = (unused_are_told nodes disks before base opening apart known path off).1
+
+    -- and those behind it tell of no others, in its run or in the legal transcript
+    told : opening_told nodes (since ++ before) ≡ opening_told nodes before
+    told = runs_tell_no_more nodes base v before since runs
+
+    through : Legal first (since ++ before) v
+    through = run_on since v runs
+      where
+        run_on : (since : List Entry) (v : World) → RunsFrom base since v → Legal first (since ++ before) v
+        run_on [] v r = subst (Legal first before) (sym r) path
+        run_on (e ∷ since) v r = (r.0, run_on since r.0 r.1, r.3)
+
+    fewer : opening_told nodes es ≡ opening_told nodes (since ++ before)
+    fewer =
+        let parts = legal_parts first later (since ++ before) closing (subst (λ xs. Legal first xs closing) split legal) in
+        let in_use : parts.0.shared.in_use ≡ true =
+        ap (λ (x : Said). x.shared.in_use) ((legal_told nodes disks parts.0 (since ++ before) opening parts.1).0 ∙ sym (legal_told nodes disks v (since ++ before) opening through).0) ∙ on in
+        ap (opening_told nodes) split ∙ (parts.3 in_use).1 nodes

@@ -1,0 +1,140 @@
+-- Runs from images that agree, as their lines tell them.
+use Rattle.std.proofs.Common.{◌≡◌, ℕ, List, [], ◌∷◌, ◌++◌, inl, inr, Bool, true, false, Option, Some, None, refl, sym, ◌∙◌, ap, subst}
+use Rattle.std.specs.List.{last_or}
+use Rattle.vms_model.specs.Ids.{Id}
+use Rattle.vms_model.specs.Transactions.{Commit}
+use Rattle.transcript_model.specs.Lines.{Line, Normal}
+use Rattle.script_model.specs.Statements.{At, Bad, Blank, Deliver, LinkDown, Reading, Says, Settle, Statement}
+use Rattle.script_model.specs.Grammar.{reading}
+use Rattle.commit_protocol.specs.Messages.{Name}
+use Rattle.commit_protocol.specs.Opening.{Image, IsAgreeing}
+use Rattle.commit_protocol.specs.Table.{Key, first}
+use Rattle.commit_protocol.specs.World.{In}
+use Rattle.run_model.specs.World.{World, Node, DiskCounts, Act, Settlement, find_node, opened}
+use Rattle.run_model.specs.Steps.{Choice, task_effect}
+use Rattle.run_model.specs.Statements.{Begins, Part, PartEffect, Phases, Step, begun_with, part_effect, phases_of, refused_at_once, stops_at}
+use Rattle.run_model.specs.Transcript.{Entry, Legal, AreOpening, Turn}
+use Rattle.run_agreement.specs.Seen.{IsKnown, Resolution, landed, outcome_of}
+use Rattle.run_agreement.specs.Following.{opening_of}
+use Rattle.run_agreement.specs.Laws.{CommittedAreOfCommitted, IsRun, IsSettled, LeaveAgreement, NamesApart, RestingAreWhole, SettleAlike, SettlingEnds, SettlingLeavesNone, image_here, opening_told}
+use Rattle.run_model.proofs.NodeLists.{found_name}
+use Rattle.run_model.proofs.PartLemmas.{phases_fold}
+use Rattle.run_model.proofs.PartTasks.{View, Doing, Fixed, view}
+use Rattle.run_model.proofs.TaskLemmas.{effect_name}
+use Rattle.run_agreement.proofs.Bases.{used_part}
+use Rattle.run_agreement.proofs.Begun.{AnyPart, any_phases, apart_put, runs_begin}
+use Rattle.run_agreement.proofs.Told.{quiet_images, runs_tell_no_more, unused_are_told}
+use Rattle.run_laws.specs.Agreed.{AgreedRun, EndsHoldAll, SettlesWhole}
+use Rattle.run_laws.specs.Promises.{EndsCommit, settlements_of}
+use Rattle.run_laws.specs.SaidLaws.{SaidThere}
+use Rattle.run_laws.proofs.AbortsStand.{legal_parts}
+use Rattle.run_laws.proofs.Staying.{after_grows}
+
+-- such a run
+pub record RunOf (es : List Entry) (closing : World) : Type 0 where
+  pub base : World
+  pub before : List Entry
+  pub since : List Entry
+  pub parts : es ≡ since ++ before
+  pub is_run : IsRun base since closing
+
+module _ (nodes : List Node) (disks : List DiskCounts) (es : List Entry) (closing : World) (opening : AreOpening nodes) (apart : NamesApart nodes) (known : (name : List ℕ) (n : Node) → find_node name nodes ≡ Some n → IsKnown n) (legal : Legal (opened nodes disks) es closing) (agrees : IsAgreeing (opening_told nodes es)) where
+  pub run_of : RunOf es closing
+  run_of =
+      let b = runs_begin nodes disks es closing opening apart known legal in
+      let same : opening_of b.0 ≡ opening_told nodes es = (unused_are_told nodes disks b.1 b.0 opening apart known b.4 b.7).1 ∙ sym (runs_tell_no_more nodes b.0 closing b.1 b.2 b.6) ∙ ap (opening_told nodes) (sym b.3) in
+      record { base = b.0; before = b.1; since = b.2; parts = b.3; is_run = record { base_is = b.5; agrees = subst IsAgreeing (sym same) agrees; runs = b.6 } }
+
+pub agreed_run : SettleAlike → CommittedAreOfCommitted → LeaveAgreement → RestingAreWhole → (base : World) (since : List Entry) (closing : World) → IsRun base since closing → AgreedRun base since closing
+agreed_run alike committed leave whole base since closing is_run = record {
+  is_run = is_run;
+  alike = λ r k of aborted. alike base closing since is_run r k of aborted;
+  committed = λ r k done. committed base closing since is_run r k done;
+  leaves = λ r. leave base closing since is_run r;
+  whole = λ rests r k x found of other done. whole base closing since is_run rests r k x found of other done;
+}
+
+-- what a node settled it has settled however its act under way turns out
+landed_settled : (taken : Bool) (n : Node) (s : Settlement) → In s n.settled → In s (landed taken n).settled
+landed_settled false n s i = i
+landed_settled true n s i = go n.under_way
+  where
+    go : (o : Option Act) → In s (elim o as (λ x. Node) [ Some act ↦ Rattle.run_model.specs.World.acted act n | None ↦ n ]).settled
+    go (Some act) = after_grows (Some act) n s i
+    go None = i
+
+pub ends_for_all : (base : World) (es : List Entry) (closing : World) → EndsCommit es closing → EndsHoldAll base es closing
+ends_for_all base es closing ends before node label events there =
+    let x = ends before node label events there in
+    let settled = x.5 in
+    (x.0, x.2, λ r. inl (inr (at x.0 r x.1 settled.0 settled.1 settled.2 (find_node x.0.node closing.nodes) refl)))
+  where
+    at : (tid : Id) (r : Resolution) (moment : ℕ) (s : Settlement) → In s (settlements_of tid.node closing) → s ≡ record { tid = tid; serial = tid; outcome = Commit; reason = None; moment = moment } → (o : Option Node) → find_node tid.node closing.nodes ≡ o → IsSettled r closing (first tid) Commit
+    at tid r moment s i same (Some n) found =
+        let j : In s n.settled = subst (λ o. In s (elim o as (λ x. List Settlement) [ Some m ↦ m.settled | None ↦ [] ])) found i in
+        (tid.node, n, found, (s, landed_settled (r tid.node) n s j, ap outcome_of same))
+    at tid r moment s i same None found = absurd (subst (λ o. In s (elim o as (λ x. List Settlement) [ Some m ↦ m.settled | None ↦ [] ])) found i)
+
+-- Names of nodes stay.
+
+part_apart : (w : World) (p : Part) (c : Choice) → NamesApart w.nodes → NamesApart (part_effect w p c).world.nodes
+part_apart w p c apart = go (view w p)
+  where
+    go : View w p → NamesApart (part_effect w p c).world.nodes
+    go (Fixed answer ends kind is) = subst (λ (f : PartEffect). NamesApart f.world.nodes) (sym (is c)) apart
+    go (Doing other t n named found does may) =
+        let e = task_effect w.shared (stops_at other w) n t c in
+        subst (λ (f : PartEffect). NamesApart f.world.nodes) (sym (does c)) (apart_put other e.node w.nodes (effect_name w.shared (stops_at other w) n t c ∙ found_name other w.nodes n found) apart)
+
+step_apart : (w v : World) (s : Statement) (lines : List Line) → Step w s lines v → NamesApart w.nodes → NamesApart v.nodes
+step_apart w v s lines step apart = subst (λ (x : World). NamesApart x.nodes) (sym step.goes) (by (refused_at_once w s) step.does)
+  where
+    begun : (s : Statement) → NamesApart (begun_with s w).nodes
+    begun Settle = apart
+    begun (At node request) = apart
+    begun (Deliver number) = apart
+    begun (LinkDown a b) = apart
+
+    by : (o : Option Line) → Begins o (Phases (phases_of s) v.disks (begun_with s w) Normal) w step.events step.answer step.world → NamesApart step.world.nodes
+    by (Some refusal) d = subst (λ (x : World). NamesApart x.nodes) (sym d.2) apart
+    by None d = phases_fold v.disks AnyPart (λ given. Unit {0}) (λ u rest answer x. NamesApart u.nodes → NamesApart x.nodes) (λ u given q k. k)
+        (λ u p c ok allowed ends k. part_apart u p c k)
+        (λ u p c ok allowed on. (tt, λ rest answer x more k. more (part_apart u p c k)))
+        (phases_of s) (any_phases (phases_of s)) (begun_with s w) Normal step.events step.answer step.world tt d (begun s)
+
+legal_names : (start w : World) (es : List Entry) → NamesApart start.nodes → Legal start es w → NamesApart w.nodes
+legal_names start w [] apart legal = subst (λ (x : World). NamesApart x.nodes) (sym legal) apart
+legal_names start w (e ∷ es) apart legal = go (reading e.source.text) legal.2 (legal_names start legal.0 es apart legal.1)
+  where
+    go : (r : Reading) → Turn legal.0 r e.lines w → NamesApart legal.0.nodes → NamesApart w.nodes
+    go Blank turn k = subst (λ (x : World). NamesApart x.nodes) (sym turn.1) k
+    go (Says s) step k = step_apart legal.0 w s e.lines step k
+    go (Bad column) turn k = absurd turn
+
+-- A SETTLE, from which on a node may be in use.
+
+settle_uses : (w v : World) (lines : List Line) → Step w Settle lines v → v.shared.in_use ≡ true
+settle_uses w v lines step = ap (λ (x : World). x.shared.in_use) step.goes ∙ phases_fold v.disks AnyPart (λ given. Unit {0}) (λ u rest answer x. u.shared.in_use ≡ true → x.shared.in_use ≡ true) (λ u given q k. k)
+    (λ u p c ok allowed ends k. used_part u p c k)
+    (λ u p c ok allowed on. (tt, λ rest answer x more k. more (used_part u p c k)))
+    (phases_of Settle) (any_phases (phases_of Settle)) (begun_with Settle w) Normal step.events step.answer step.world tt step.does refl
+
+pub settles_whole : SettlingLeavesNone → SettlingEnds → (nodes : List Node) (disks : List DiskCounts) (es : List Entry) (closing : World) → AreOpening nodes → NamesApart nodes → ((name : List ℕ) (n : Node) → find_node name nodes ≡ Some n → IsKnown n) →
+    Legal (opened nodes disks) es closing → IsAgreeing (opening_told nodes es) → SettlesWhole (opened nodes disks) es closing
+settles_whole none ends nodes disks es closing opening apart known legal agrees before events answer there =
+    let start = opened nodes disks in
+    let whole : Legal start (there.after ++ (there.entry ∷ before)) closing = subst (λ xs. Legal start xs closing) there.stands legal in
+    let parts = legal_parts start there.after (there.entry ∷ before) closing whole in
+    let v = parts.0 in
+    let w = parts.1.0 in
+    let step : Step w Settle (events ++ answer ∷ []) v = subst (λ ls. Step w Settle ls v) there.shown (subst (λ r. Turn w r there.entry.lines v) there.said parts.1.2) in
+    let used = settle_uses w v (events ++ answer ∷ []) step in
+    let quiet : opening_told nodes (there.entry ∷ before) ≡ opening_told nodes before = λ i. record { images = quiet_images there.entry before nodes (λ n image. ap (λ r. image_here n r (last_or None there.entry.lines) image) there.said) i } in
+    let told : opening_told nodes es ≡ opening_told nodes before = ap (opening_told nodes) there.stands ∙ (parts.3 used).1 nodes ∙ quiet in
+    let b = run_of nodes disks before w opening apart known parts.1.1 (subst IsAgreeing told agrees) in (
+      v,
+      parts.1,
+      parts.2,
+      λ normal. none b.base w v b.since events b.is_run (subst (λ a. Step w Settle (events ++ a ∷ []) v) normal step),
+      ends b.base w v b.since events answer b.is_run (legal_names start w before apart parts.1.1) step,
+    )

@@ -1,0 +1,403 @@
+-- Each dump shows just the records that are told of its file.
+use Rattle.std.proofs.Common.{◌≡◌, ℕ, List, [], ◌∷◌, ◌++◌, map, length, Bool, true, false, not, ◌||◌, ◌&&◌, Option, Some, None, if◌then◌else◌, refl, sym, ◌∙◌, ap, subst, inl, inr}
+use Rattle.std.specs.Str.{bytes_eq}
+use Rattle.std.specs.FinMap.{empty, entries}
+use Rattle.std.proofs.lemmas.Bool.{both_ways, false_from_ne_true}
+use Rattle.std.proofs.lemmas.Slice.Eq.{bytes_eq-Decides}
+use Rattle.vms_model.specs.Ids.{Id}
+use Rattle.vms_model.specs.Keys.{Key}
+use Rattle.vms_model.specs.Transactions.{Outcome, Commit, Abort}
+use Rattle.transcript_model.specs.Lines as line
+use Rattle.transcript_model.specs.Lines.{Line, Cause}
+use Rattle.script_model.specs.Statements.{At, Deliver, LinkDown, Settle, Request, Form, Init, Create, Records, Direct, Dump, Reading, Blank, Says, Bad}
+use Rattle.script_model.specs.Grammar.{reading}
+use Rattle.records_model.specs.Records.{Records as TheRecords}
+use Rattle.records_model.specs.History.{current, on_top, records}
+use Rattle.unit_laws.specs.Units.{SerialsDiffer}
+use Rattle.unit_laws.specs.JournalLaws.{is_unit}
+use Rattle.commit_protocol.specs.Table.{Settles}
+use Rattle.commit_protocol.specs.World.{In}
+use Rattle.run_model.specs.World.{World, Shared, Node, File, DiskCounts, Act, IsOpening, LastIsReached, Settlement, Tables, settlement, find_file, find_node, opened}
+use Rattle.run_model.specs.Answers.{Serves, Task, of_file, records_of, refused_before_reading, service, shown_record, there_is_file, unchanged_file}
+use Rattle.run_model.specs.Steps.{Choice, Cut, TaskAllowed, Unpowered, Whole, WithoutMemory, lines_of_rows, task_effect, whole}
+use Rattle.run_model.specs.Operations.{first_of, refused_if}
+use Rattle.run_model.specs.Statements.{Step, Begins, Phases, RoseAt, begun_with, named_node, other_node, phases_of, refused_at_once, stops_at}
+use Rattle.run_model.specs.StepLaws.{IsTask, is_refusal, task_of}
+use Rattle.run_model.specs.Transcript.{Entry, Legal, AreOpening, Turn}
+use Rattle.run_model.proofs.NodeLists.{found_name, put_node, some_is}
+use Rattle.run_model.proofs.CauseLemmas.{refuses_first}
+use Rattle.run_model.proofs.Failing.{once_refuses}
+use Rattle.run_model.proofs.PartLemmas.{turn}
+use Rattle.run_model.proofs.TaskLemmas.{effect_name}
+use Rattle.run_laws.specs.Accounts.{Account, Told, Tells, account_by, account_here, commits_here, committed_in, created_here, file_of, left_sets, made_anew, no_account, direct_told, one_told, serial_told, sets_of, told_by, unsettled_in}
+use Rattle.run_laws.specs.Laws.{DumpsHold}
+use Rattle.run_laws.specs.Promises.{AbortsStand, AreLastApart, DumpsShow, DumpsShowByAll, Shows, IsLastApart, IsNeverCommitted, settlements_of}
+use Rattle.world_laws.specs.Nodes.{IsKeptDisk, IsKeptNode}
+use Rattle.world_laws.specs.Running.{history_in, history_of}
+use Rattle.world_laws.proofs.DirectLemmas.{none_of}
+use Rattle.world_laws.proofs.AnswerLemmas.{neither}
+use Rattle.world_laws.proofs.ServedLemmas.{file_says, there_is as there_is_one, unchanged_rests}
+use Rattle.world_laws.proofs.HeldLemmas.{noted_at}
+use Rattle.world_laws.proofs.WorldLemmas.{each_opening}
+use Rattle.run_laws.proofs.AccountLemmas.{last_left, opening_tells, untold_left}
+use Rattle.run_laws.proofs.FileRequests.{IsKept, special_effect}
+use Rattle.run_laws.proofs.FileTelling.{Betrays, IsDoomed, IsToldDisk, task_quiet, telling, telling_keeps, tells_file}
+use Rattle.run_laws.proofs.Keeping.{else_effect, is_init, is_special, nothing_more}
+use Rattle.run_laws.proofs.Labelling.{served_up}
+use Rattle.run_laws.proofs.Named.{Named}
+use Rattle.run_laws.proofs.NamedRuns.{legal_named}
+use Rattle.run_laws.proofs.Once.{unit_of}
+use Rattle.run_laws.proofs.OwnLines.{beside_leaves}
+use Rattle.run_laws.proofs.SoundWorlds.{IsPlainReading, IsSound, Tracked, Tracks, legal_sound, opening_sound, sound_node, turn_tracked}
+use Rattle.run_laws.proofs.Staying.{found_settled, stays}
+
+module _ (node file : List ℕ) (D : Id → Type 0) where
+  -- what is told of the file agrees with its node in this world
+  abbrev AreTold : Account → World → Type 0
+  AreTold a w = Tracked (telling node file D) (telling_keeps node file D) node a w
+
+  not_init : (t : Task) → is_special (telling node file D) t ≡ false → is_init t ≡ false
+  not_init (Serves (Init slots journal)) e = let no : ⊥ = cc in absurd no
+  not_init (Serves _) e = refl
+  not_init _ e = refl
+
+  tracks : Tracks (telling node file D) (telling_keeps node file D) node
+  tracks = record {
+    own = λ a s stops n task c rises named sound plain ready may h. else_effect (telling node file D) (telling_keeps node file D) s stops n a sound.kept h task (not_init task plain) (λ off. task_quiet node file D s n task plain off) ready c rises may;
+    beside = λ a s stops n m task c rises other sound may h. subst (λ b. IsKept node file D b n) (sym (beside_leaves node s stops m task c rises a other sound may)) h;
+  }
+
+  -- Statements that tell nothing of the file but what they commit.
+
+  not_here : (b : Bool) → (b && true) ≡ false → b ≡ false
+  not_here true e = e
+  not_here false e = refl
+
+  not_made : (at : List ℕ) (slots journal : ℕ) → bytes_eq at node ≡ false → (lines : List Line) → made_anew node (Says (At at (Init slots journal))) lines ≡ false
+  not_made at slots journal other [] = refl
+  not_made at slots journal other (line.Normal ∷ []) = other
+  not_made at slots journal other (line.Normal ∷ y ∷ ls) = refl
+  not_made at slots journal other (x ∷ ls) = refl
+
+  not_created : (at f : List ℕ) (bucket size : ℕ) (form : Form) → bytes_eq at node ≡ false → (lines : List Line) → created_here node file (Says (At at (Create f bucket size form))) lines ≡ false
+  not_created at f bucket size form other [] = refl
+  not_created at f bucket size form other (line.Normal ∷ []) = ap (λ b. b && bytes_eq f file) other
+  not_created at f bucket size form other (line.Normal ∷ y ∷ ls) = refl
+  not_created at f bucket size form other (x ∷ ls) = refl
+
+  module _ (es : List Entry) (w : World) (a : Account) where
+    abbrev by : Reading → List Line → Account
+    by r lines = account_by node file es w r lines a
+
+    plain_request : (at : List ℕ) (r : Request) (lines : List Line) → (bytes_eq at node && tells_file node file D r) ≡ false → by (Says (At at r)) lines ≡ commits_here node lines a
+    plain_request at (Records label f op) [] e = refl
+    plain_request at (Records label f op) (x ∷ []) e = ap (λ b. commits_here node (x ∷ []) (record a { told = if b then one_told (serial_told at label es) (file_of node file w) (sets_of op x) a.told else a.told })) e
+    plain_request at (Records label f op) (x ∷ y ∷ ls) e = refl
+    plain_request at (Direct f op) lines e = ap (λ b. commits_here node lines (record a { told = if b then direct_told node file w op lines a.told else a.told })) e
+    plain_request at (Create f bucket size form) lines e = ap (λ b. if b then record a { records = empty } else commits_here node lines a) (not_created at f bucket size form (not_here (bytes_eq at node) e) lines)
+    plain_request at (Init slots journal) lines e = ap (λ b. if b then no_account else commits_here node lines a) (not_made at slots journal (not_here (bytes_eq at node) e) lines)
+    plain_request at _ lines e = refl
+
+    plain_by : (r : Reading) (lines : List Line) → IsPlainReading (telling node file D) (telling_keeps node file D) node tracks r → by r lines ≡ commits_here node lines a
+    plain_by Blank lines e = refl
+    plain_by (Bad column) lines e = refl
+    plain_by (Says (At at r)) lines e = plain_request at r lines e
+    plain_by (Says (Deliver number)) lines e = refl
+    plain_by (Says (LinkDown x y)) lines e = refl
+    plain_by (Says Settle) lines e = refl
+
+    -- Statements that may tell more of it.
+
+    special_step : (v : World) (r : Request) (lines : List Line) (at : List ℕ) → at ≡ node → tells_file node file D r ≡ true → Named es w → IsSound w → Step w (At at r) lines v → AreTold a w → AreTold (by (Says (At at r)) lines) v
+    special_step v r lines at same is named sound step h = subst (λ x. Step w (At x r) lines v → AreTold (by (Says (At x r)) lines) v) (sym same) (λ q. go (find_node node w.nodes) refl q) step
+      where
+        -- there is no node of this name
+        none_there : find_node node w.nodes ≡ None → (q : Step w (At node r) lines v) → AreTold (by (Says (At node r)) lines) v
+        none_there none q n found =
+            let d : (q.events ≡ []) × (q.answer ≡ line.NoSuchNode) × (q.world ≡ w) = ended (refused_at_once w (At node r)) (refused none r) q.does in
+            let clash : ◌≡◌ {A = Option Node} None (Some n) = sym none ∙ ap (λ (x : World). find_node node x.nodes) (sym (q.goes ∙ ap (λ (x : World). record x { disks = v.disks }) d.2)) ∙ found in
+            let no : ⊥ = cc in absurd no
+          where
+            refused : find_node node w.nodes ≡ None → (r : Request) → refused_at_once w (At node r) ≡ Some line.NoSuchNode
+            refused none r = ap (λ (o : Option Node). first_of (elim o as (λ x. Option Line) [ Some n ↦ None | None ↦ Some line.NoSuchNode ]) (other_node w r)) none
+
+            ended : (o : Option Line) → o ≡ Some line.NoSuchNode → Begins o (Phases (phases_of (At node r)) v.disks (begun_with (At node r) w) line.Normal) w q.events q.answer q.world → (q.events ≡ []) × (q.answer ≡ line.NoSuchNode) × (q.world ≡ w)
+            ended (Some x) e d = (d.0, d.1 ∙ some_is x line.NoSuchNode e, d.2)
+            ended None e d = let no : ⊥ = cc in absurd no
+
+        there : (n : Node) → find_node node w.nodes ≡ Some n → (q : Step w (At node r) lines v) → AreTold (by (Says (At node r)) lines) v
+        there n found q m now =
+            let it : IsTask w (At node r) node (Serves r) n = record { begins = begins r is; task = tasked r is; found = found } in
+            let t = turn w v (At node r) node (Serves r) n lines it q in
+            let e = task_effect w.shared (stops_at node w) n (Serves r) t.choice in
+            let k = special_effect node file D es w n found named (sound_node w sound node n found) (stops_at node w) a (h n found) r is t.choice (λ cause. RoseAt w node cause v.disks) t.allowed in
+            let shown : lines ≡ e.lines ++ e.answer ∷ [] = q.shows ∙ (λ i. t.shows i ++ t.answers i ∷ []) in
+            let is_now : e.node ≡ m = some_is e.node m (sym (put_node node n e.node w.nodes (effect_name w.shared (stops_at node w) n (Serves r) t.choice) found) ∙ ap (λ (x : World). find_node node x.nodes) (sym t.goes) ∙ now) in
+            subst (λ ls. IsKept node file D (by (Says (At node r)) ls) m) (sym shown) (subst (IsKept node file D (by (Says (At node r)) (e.lines ++ e.answer ∷ []))) is_now k)
+          where
+            first : named_node w node ≡ None
+            first = ap (λ (o : Option Node). elim o as (λ x. Option Line) [ Some n ↦ None | None ↦ Some line.NoSuchNode ]) found
+
+            begins : (r : Request) → tells_file node file D r ≡ true → refused_at_once w (At node r) ≡ None
+            begins (Records label f op) k = ap (λ o. first_of o None) first
+            begins (Direct f op) k = ap (λ o. first_of o None) first
+            begins (Create f bucket size form) k = ap (λ o. first_of o None) first
+            begins (Init slots journal) k = ap (λ o. first_of o None) first
+            begins _ k = let no : ⊥ = cc in absurd no
+
+            tasked : (r : Request) → tells_file node file D r ≡ true → task_of w (At node r) ≡ Some (record { node = node; task = Serves r })
+            tasked (Records label f op) k = refl
+            tasked (Direct f op) k = refl
+            tasked (Create f bucket size form) k = refl
+            tasked (Init slots journal) k = refl
+            tasked _ k = let no : ⊥ = cc in absurd no
+
+        go : (o : Option Node) → find_node node w.nodes ≡ o → (q : Step w (At node r) lines v) → AreTold (by (Says (At node r)) lines) v
+        go (Some n) found q = there n found q
+        go None none q = none_there none q
+
+    turn_told : (v : World) (r : Reading) (lines : List Line) → Named es w → IsSound w → ((n : Node) → find_node node w.nodes ≡ Some n → IsDoomed node file D n) → Turn w r lines v → AreTold a w → AreTold (by r lines) v
+    turn_told v r lines named sound doomed t h = go r t
+      where
+        plainly : (r : Reading) → IsPlainReading (telling node file D) (telling_keeps node file D) node tracks r → Turn w r lines v → AreTold (by r lines) v
+        plainly r plain q = subst (λ b. AreTold b v) (sym (plain_by r lines plain)) (turn_tracked (telling node file D) (telling_keeps node file D) node tracks w v doomed r lines a plain q sound h)
+
+        at_node : (at : List ℕ) (x : Request) (b c : Bool) → bytes_eq at node ≡ b → tells_file node file D x ≡ c → Step w (At at x) lines v → AreTold (by (Says (At at x)) lines) v
+        at_node at x true true e f q = special_step v x lines at ((bytes_eq-Decides at node).0 e) f named sound q h
+        at_node at x true false e f q = plainly (Says (At at x)) (ap (λ b. b && tells_file node file D x) e ∙ f) q
+        at_node at x false c e f q = plainly (Says (At at x)) (ap (λ b. b && tells_file node file D x) e) q
+
+        go : (r : Reading) → Turn w r lines v → AreTold (by r lines) v
+        go Blank q = plainly Blank tt q
+        go (Bad column) q = absurd q
+        go (Says (At at x)) q = at_node at x (bytes_eq at node) (tells_file node file D x) refl refl q
+        go (Says (Deliver number)) q = plainly (Says (Deliver number)) tt q
+        go (Says (LinkDown x y)) q = plainly (Says (LinkDown x y)) tt q
+        go (Says Settle) q = plainly (Says Settle) tt q
+
+  -- The opening.
+
+  abbrev opening_account : World → Account
+  opening_account opening = record { records = committed_in node file opening; told = unsettled_in node file opening; left = [] }
+
+  module _ (nodes : List Node) (disks : List DiskCounts) (n : Node) (found : find_node node nodes ≡ Some n) (o : IsOpening n) (last : IsLastApart n) (kept : IsKeptDisk n) where
+    file_here : file_of node file (opened nodes disks) ≡ find_file file n.durable.directory
+    file_here = rw (found, file_of) refl
+
+    records_here : committed_in node file (opened nodes disks) ≡ records (history_in file n.durable.directory)
+    records_here = ap (λ f. elim f as (λ x. TheRecords) [ Some g ↦ records g.history | None ↦ empty ]) file_here ∙ go (find_file file n.durable.directory)
+      where
+        go : (f : Option File) → (elim f as (λ x. TheRecords) [ Some g ↦ records g.history | None ↦ empty ]) ≡ records (history_of f)
+        go (Some g) = refl
+        go None = refl
+
+    told_here : unsettled_in node file (opened nodes disks) ≡ map left_sets (history_in file n.durable.directory).live
+    told_here = ap (λ f. elim f as (λ x. List Told) [ Some g ↦ map left_sets g.history.live | None ↦ [] ]) file_here ∙ go (find_file file n.durable.directory)
+      where
+        go : (f : Option File) → (elim f as (λ x. List Told) [ Some g ↦ map left_sets g.history.live | None ↦ [] ]) ≡ map left_sets (history_of f).live
+        go (Some g) = refl
+        go None = refl
+
+    -- one that is no unit is told nothing of
+    no_unit_untold : (x : Id) → is_unit x n.durable.units ≡ false → (m : TheRecords) → told_by x (unsettled_in node file (opened nodes disks)) m ≡ m
+    no_unit_untold x none m = ap (λ t. told_by x t m) told_here ∙ go (find_file file n.durable.directory) refl
+      where
+        go : (f : Option File) → find_file file n.durable.directory ≡ f → told_by x (map left_sets (history_of f).live) m ≡ m
+        go (Some g) e = untold_left x g.history.live m (none_of n.durable.units x g.history.live none (noted_at n.durable.units file n.durable.directory g kept.filed.can e).units)
+        go None e = refl
+
+    live_differ : SerialsDiffer (history_in file n.durable.directory).live
+    live_differ = go (find_file file n.durable.directory) refl
+      where
+        go : (f : Option File) → find_file file n.durable.directory ≡ f → SerialsDiffer (history_of f).live
+        go (Some g) e = (noted_at n.durable.units file n.durable.directory g kept.filed.can e).differ
+        go None e = tt
+
+    opening_disk : IsToldDisk node file D (opening_account (opened nodes disks)) n.name n.durable
+    opening_disk = record {
+      named = found_name node nodes n found;
+      records_are = stay n.durable.last refl ∙ records_here;
+      quiet = λ gone x m. ap (λ t. told_by x t m) (told_here ∙ ap (λ f. map left_sets (history_of f).live) gone);
+      own = λ s e. let k : LastIsReached n (Some s) = subst (LastIsReached n) e o.last in k;
+      apart = λ s r e commit i j. (last s e).1 r i j;
+      only = λ x none. (no_unit_untold x (false_from_ne_true _ (λ u. none (unit_of n kept x u))), refl);
+      prepared = λ r i. record { tells = inr (λ m. ap (λ t. told_by r.serial t m) told_here ∙ opening_tells r.serial (history_in file n.durable.directory).live m live_differ); staying = refl };
+    }
+      where
+        stay : (l : Option Settlement) → n.durable.last ≡ l → (last_left node l (opening_account (opened nodes disks))).records ≡ committed_in node file (opened nodes disks)
+        stay None e = refl
+        stay (Some s) e = go s.outcome (bytes_eq s.serial.node node)
+          where
+            go : (c : Outcome) (b : Bool) → (elim c as (λ x. Account) [ Commit ↦ (if b then record { records = told_by s.serial (unsettled_in node file (opened nodes disks)) (committed_in node file (opened nodes disks)); told = unsettled_in node file (opened nodes disks); left = s.serial ∷ [] } else opening_account (opened nodes disks)) | Abort ↦ opening_account (opened nodes disks) ]).records ≡ committed_in node file (opened nodes disks)
+            go Commit true = no_unit_untold s.serial (last s e).0 (committed_in node file (opened nodes disks))
+            go Commit false = refl
+            go Abort b = refl
+
+    opening_kept : IsKept node file D (opening_account (opened nodes disks)) n
+    opening_kept = record {
+      disk = inr opening_disk;
+      way = λ act e. let clash : ◌≡◌ {A = Option Act} None (Some act) = sym o.under_way ∙ e in let no : ⊥ = cc in absurd no;
+      runs = λ up. absurd (both_ways n.up o.down up);
+    }
+
+-- Paths.
+
+pub legal_on : (w u v : World) (e : Entry) (after : List Entry) → Turn w (reading e.source.text) e.lines u → Legal u after v → Legal w (after ++ e ∷ []) v
+legal_on w u v e [] t legal = (w, refl, subst (Turn w (reading e.source.text) e.lines) (sym legal) t)
+legal_on w u v e (x ∷ after) t legal = (legal.0, legal_on w u legal.0 e after t legal.1, legal.2)
+
+pub split_on : (after : List Entry) (e : Entry) (es : List Entry) → (after ++ e ∷ []) ++ es ≡ after ++ e ∷ es
+split_on [] e es = refl
+split_on (x ∷ after) e es = ap (λ xs. x ∷ xs) (split_on after e es)
+
+pub tells_legal : (node file : List ℕ) (opening : World) (es : List Entry) (w : World) (a : Account) → Tells node file opening es w a → Legal opening es w
+tells_legal node file opening [] w a tells = tells.0
+tells_legal node file opening (e ∷ es) w a tells = (tells.0, tells_legal node file opening es tells.0 tells.1 tells.2, tells.3)
+
+pub legal_tells : (node file : List ℕ) (opening : World) (es : List Entry) (w : World) → Legal opening es w → (a : Account) × Tells node file opening es w a
+legal_tells node file opening [] w legal = (record { records = committed_in node file opening; told = unsettled_in node file opening; left = [] }, (legal, refl))
+legal_tells node file opening (e ∷ es) w legal =
+    let before = legal_tells node file opening es legal.0 legal.1 in
+    (account_here node file es e legal.0 before.0, (legal.0, before.0, before.1, legal.2, refl))
+
+last_apart : (nodes : List Node) → AreLastApart nodes → (node : List ℕ) (n : Node) → find_node node nodes ≡ Some n → IsLastApart n
+last_apart [] h node n e = let no : ⊥ = cc in absurd no
+last_apart (m ∷ ns) h node n e = go (bytes_eq node m.name) e (last_apart ns h.1 node n)
+  where
+    go : (b : Bool) → ◌≡◌ {A = Option Node} (if b then Some m else find_node node ns) (Some n) → (find_node node ns ≡ Some n → IsLastApart n) → IsLastApart n
+    go true k more = subst IsLastApart (some_is m n k) h.0
+    go false k more = more k
+
+-- What is told of a file agrees with its node in the world that these entries lead to, over branches that are never committed there.
+module _ (node file : List ℕ) (nodes : List Node) (disks : List DiskCounts) (opens : AreOpening nodes) (apart : AreLastApart nodes) (all later : List Entry) (stand : AbortsStand (opened nodes disks) all) (closing : World) where
+  abbrev Never : Id → Type 0
+  Never x = IsNeverCommitted x closing
+
+  doomed_at : (es after : List Entry) (w : World) → all ≡ later ++ (after ++ es) → Legal (opened nodes disks) es w → Legal w after closing → IsSound w → (n : Node) → find_node node w.nodes ≡ Some n → IsDoomed node file Never n
+  doomed_at es after w split before legal sound n found k reason r moment under =
+      let s = settlement k Abort reason moment in
+      let own = (((sound.once node n found).way (Tables (Settles k Abort reason r) moment) under).own s (inl refl)).0 in
+      stand later after es w closing n k reason r moment split before legal (subst (λ x. find_node x w.nodes ≡ Some n) (sym (own ∙ found_name node w.nodes n found)) found) under
+
+  path_told : (es after : List Entry) (w : World) (a : Account) → all ≡ later ++ (after ++ es) → Tells node file (opened nodes disks) es w a → Legal w after closing → AreTold node file Never a w
+  path_told [] after w a split tells legal = subst (λ b. AreTold node file Never b w) (sym tells.1) (subst (λ x. AreTold node file Never (opening_account node file Never (opened nodes disks)) x) (sym tells.0) (λ n found.
+      opening_kept node file Never nodes disks n found (each_opening nodes opens node n found) (last_apart nodes apart node n found) ((opening_sound nodes disks opens).kept node n found).disk))
+  path_told (e ∷ es) after w a split tells legal =
+      let mid = tells.0 in
+      let before = tells_legal node file (opened nodes disks) es mid tells.1 tells.2 in
+      let on = legal_on mid w closing e after tells.3 legal in
+      let here = split ∙ ap (λ xs. later ++ xs) (sym (split_on after e es)) in
+      let sound = legal_sound (opened nodes disks) mid es (opening_sound nodes disks opens) before in
+      subst (λ b. AreTold node file Never b w) (sym tells.4)
+      (turn_told node file Never es mid tells.1 w (reading e.source.text) e.lines (legal_named nodes disks es mid opens before) sound (doomed_at es (after ++ e ∷ []) mid here before on sound) tells.3 (path_told es (after ++ e ∷ []) mid tells.1 here tells.2 on))
+
+-- Dumps.
+
+-- lists with one more behind them
+pub ends_alike : (xs ys : List Line) (a b : Line) → xs ++ a ∷ [] ≡ ys ++ b ∷ [] → (xs ≡ ys) × (a ≡ b)
+ends_alike [] [] a b e = (refl, cc)
+ends_alike [] (y ∷ []) a b e = let no : ⊥ = cc in absurd no
+ends_alike [] (y ∷ z ∷ ys) a b e = let no : ⊥ = cc in absurd no
+ends_alike (x ∷ []) [] a b e = let no : ⊥ = cc in absurd no
+ends_alike (x ∷ z ∷ xs) [] a b e = let no : ⊥ = cc in absurd no
+ends_alike (x ∷ xs) (y ∷ ys) a b e = let tail : xs ++ a ∷ [] ≡ ys ++ b ∷ [] = cc in let head : x ≡ y = cc in let r = ends_alike xs ys a b tail in ((λ i. head i ∷ r.0 i), r.1)
+
+records_found : (n : Node) (file : List ℕ) (f : File) → find_file file n.durable.directory ≡ Some f → records_of n file ≡ entries (current f.history)
+records_found n file f e = rw (e, records_of) refl
+
+shown_lines : (es : List (Key × List ℕ)) → lines_of_rows (map shown_record es) ≡ map (λ e. line.Record e.0 e.1) es
+shown_lines [] = refl
+shown_lines (e ∷ es) = ap (λ lines. line.Record e.0 e.1 ∷ lines) (shown_lines es)
+
+-- a dump that succeeded shows what the node has committed of the file
+pub record IsDumped (n : Node) (file : List ℕ) (events : List Line) (count : ℕ) : Type 0 where
+  pub up : n.up ≡ true
+  pub shows : Shows events count (records (history_in file n.durable.directory))
+
+dump_rows : (s : Shared) (n : Node) (file : List ℕ) → IsKeptNode s n → n.up ≡ true → (service (Dump file)).refused_before_reading s n ≡ None → Shows (lines_of_rows (map shown_record (records_of n file)) ++ []) (length (records_of n file)) (records (history_in file n.durable.directory))
+dump_rows s n file kept up first =
+    let behind_file = neither (there_is_file n file) (of_file n file (unchanged_file n)) first in
+    let there = there_is_one n file behind_file.0 in
+    let f = there.0 in
+    let live = unchanged_rests n file f there.1 (file_says n file f (unchanged_file n) there.1 behind_file.1) (kept.runs up).0 in
+    let same : records_of n file ≡ entries (records (history_in file n.durable.directory)) =
+    records_found n file f there.1 ∙ ap (λ ls. entries (on_top ls (records f.history))) live ∙ ap (λ o. entries (records (history_of o))) (sym there.1) in
+    (nothing_more (lines_of_rows (map shown_record (records_of n file))) [] refl ∙ shown_lines (records_of n file) ∙ ap (map (λ e. line.Record e.0 e.1)) same, ap length same)
+
+dumped : (w v : World) (node file : List ℕ) (events : List Line) (count : ℕ) → IsSound w → Step w (At node (Dump file)) (events ++ line.NormalCount count ∷ []) v → (n : Node) × (find_node node w.nodes ≡ Some n) × IsDumped n file events count
+dumped w v node file events count sound step = go (find_node node w.nodes) refl
+  where
+    ended : (step.events ≡ events) × (step.answer ≡ line.NormalCount count)
+    ended = let r = ends_alike step.events events step.answer (line.NormalCount count) (sym step.shows) in (r.0, r.1)
+
+    no_refusal : (o : Option Line) (refusal : Line) → o ≡ Some refusal → refused_at_once w (At node (Dump file)) ≡ o → ⊥
+    no_refusal o refusal e is =
+        let d = begins_refused (refused_at_once w (At node (Dump file))) refusal (is ∙ e) step.does in
+        both_ways _ (ap is_refusal ended.1) (ap is_refusal d ∙ (once_refuses w (At node (Dump file))).says refusal (is ∙ e))
+      where
+        begins_refused : (o : Option Line) (refusal : Line) → o ≡ Some refusal → Begins o (Phases (phases_of (At node (Dump file))) v.disks (begun_with (At node (Dump file)) w) line.Normal) w step.events step.answer step.world → step.answer ≡ refusal
+        begins_refused (Some x) refusal e d = d.1 ∙ some_is x refusal e
+        begins_refused None refusal e d = let no : ⊥ = cc in absurd no
+
+    at : (n : Node) → find_node node w.nodes ≡ Some n → IsDumped n file events count
+    at n found =
+        let it : IsTask w (At node (Dump file)) node (Serves (Dump file)) n = record { begins = ap (λ o. first_of o None) (ap (λ (o : Option Node). elim o as (λ x. Option Line) [ Some m ↦ None | None ↦ Some line.NoSuchNode ]) found); task = refl; found = found } in
+        let t = turn w v (At node (Dump file)) node (Serves (Dump file)) n (events ++ line.NormalCount count ∷ []) it step in
+        by_choice t.choice (λ cause. RoseAt w node cause v.disks) t.allowed (sym ended.0 ∙ t.shows) (sym ended.1 ∙ t.answers)
+      where
+        s : Shared
+        s = w.shared
+
+        whole_dump : (o : Option Line) → refused_before_reading w.shared n (service (Dump file)) ≡ o → events ≡ (whole w.shared n n (service (Dump file)) o).lines → line.NormalCount count ≡ (whole w.shared n n (service (Dump file)) o).answer → IsDumped n file events count
+        whole_dump (Some refusal) first shows answers = absurd (both_ways _ (ap is_refusal (sym answers)) ((refuses_first w.shared n (Serves (Dump file))).says refusal first))
+        whole_dump None first shows answers =
+            let up = served_up n _ first in
+            let rows = dump_rows w.shared n file (sound.kept node n found) up (neither (refused_if (not (n.up || false)) line.NodeDown) _ first).1 in
+            let number : count ≡ length (records_of n file) = ap (λ (l : Line). elim l as (λ x. ℕ) [ line.NormalCount k ↦ k | _ ↦ 0 ]) answers in
+            record { up = up; shows = (shows ∙ rows.0, number ∙ rows.1) }
+
+        by_choice : (c : Choice) (rises : Cause → Type 0) → TaskAllowed w.shared (stops_at node w) n (Serves (Dump file)) rises c → events ≡ (task_effect w.shared (stops_at node w) n (Serves (Dump file)) c).lines → line.NormalCount count ≡ (task_effect w.shared (stops_at node w) n (Serves (Dump file)) c).answer → IsDumped n file events count
+        by_choice (Whole o) rises may shows answers = whole_dump (refused_before_reading w.shared n (service (Dump file))) refl shows answers
+        by_choice WithoutMemory rises may shows answers = let no : ⊥ = cc in absurd no
+        by_choice Unpowered rises may shows answers = let no : ⊥ = cc in absurd no
+        by_choice (Cut o j b cause) rises may shows answers = let no : ⊥ = cc in absurd no
+
+    go : (o : Option Node) → find_node node w.nodes ≡ o → (n : Node) × (find_node node w.nodes ≡ Some n) × IsDumped n file events count
+    go (Some n) found = (n, found, at n found)
+    go None found = absurd (no_refusal (Some line.NoSuchNode) line.NoSuchNode refl (ap (λ (o : Option Node). first_of (elim o as (λ x. Option Line) [ Some m ↦ None | None ↦ Some line.NoSuchNode ]) None) found))
+
+-- no branch of this world was committed that is never committed in it
+not_betrayed : (node file : List ℕ) (mid : World) (n : Node) → IsSound mid → find_node node mid.nodes ≡ Some n → Betrays node file (λ x. IsNeverCommitted x mid) n.settled → ⊥
+not_betrayed node file mid n sound found b =
+    let s = b.0 in
+    let own = ((sound.once node n found).disk.own s b.1).0 ∙ found_name node mid.nodes n found in
+    let there : In s (settlements_of s.serial.node mid) = subst (λ x. In s (settlements_of x mid)) (sym own) (subst (In s) (sym (found_settled node mid n found)) b.1) in
+    let clash : Abort ≡ Commit = sym (b.3 s there refl) ∙ b.2 in
+    let no : ⊥ = cc in no
+
+pub dumps_hold : DumpsHold
+dumps_hold nodes disks es closing opens apart legal stand = record { shows = shows; by_all = by_all }
+  where
+    by_all : DumpsShowByAll (opened nodes disks) es
+    by_all before node file events count there mid new a tells step =
+        let first = tells_legal node file (opened nodes disks) before mid a tells in
+        let sound = legal_sound (opened nodes disks) mid before (opening_sound nodes disks opens) first in
+        let later = there.after ++ there.entry ∷ [] in
+        let split : es ≡ later ++ ([] ++ before) = there.stands ∙ sym (split_on there.after there.entry before) in
+        let told = path_told node file nodes disks opens apart es later stand mid before [] mid a split tells refl in
+        let d = dumped mid new node file events count sound step in
+        of_node d.0 d.1 d.2 sound (told d.0 d.1)
+      where
+        of_node : (n : Node) → find_node node mid.nodes ≡ Some n → IsDumped n file events count → IsSound mid → IsKept node file (λ x. IsNeverCommitted x mid) a n → Shows events count a.records
+        of_node n found d sound k = elim (k.runs d.up) [
+          | inl b ↦ absurd (not_betrayed node file mid n sound found b)
+          | inr up ↦ subst (Shows events count) (sym up.records_are) d.shows
+        ]
+
+    shows : DumpsShow (opened nodes disks) es
+    shows before node file events count there =
+        let r = stays (opened nodes disks) closing there.after (there.entry ∷ before) (subst (λ xs. Legal (opened nodes disks) xs closing) there.stands legal) in
+        let l = r.1 in
+        let t = legal_tells node file (opened nodes disks) before l.0 l.1 in
+        let step : Step l.0 (At node (Dump file)) (events ++ line.NormalCount count ∷ []) r.0 = subst (λ ls. Step l.0 (At node (Dump file)) ls r.0) there.shown (subst (λ x. Turn l.0 x there.entry.lines r.0) there.said l.2) in
+        (l.0, t.0, t.1, by_all before node file events count there l.0 r.0 t.0 t.1 step)

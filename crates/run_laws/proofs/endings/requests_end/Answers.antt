@@ -1,0 +1,15 @@
+use Rattle.run_laws.proofs.EndedHold.{ended_hold}
+use Rattle.run_laws.proofs.Ending.{aborts_hold, ends_hold, fails_hold}
+use Rattle.run_laws.proofs.endings.requests_end.Goals as goal
+
+pub returns-clause-ends : goal.returns-clause-ends
+returns-clause-ends c = ends_hold
+
+pub returns-clause-fails : goal.returns-clause-fails
+returns-clause-fails c = fails_hold
+
+pub returns-clause-aborts : goal.returns-clause-aborts
+returns-clause-aborts c = aborts_hold
+
+pub returns-clause-ended : goal.returns-clause-ended
+returns-clause-ended c = ended_hold

@@ -1,0 +1,40 @@
+-- What is promised of a run besides where the images agree with which it begins.
+use Rattle.std.specs.Prelude.{◌≡◌, ◌⊎◌, ℕ, List, [], ◌∷◌, ◌++◌, Some}
+use Rattle.vms_model.specs.Ids.{Id}
+use Rattle.vms_model.specs.Transactions.{Commit as ToCommit, Abort as ToAbort}
+use Rattle.transcript_model.specs.Lines.{Line, Normal}
+use Rattle.script_model.specs.Statements.{At, EndTrans, Says, Settle}
+use Rattle.script_model.specs.Grammar.{reading}
+use Rattle.commit_protocol.specs.Messages.{Name}
+use Rattle.commit_protocol.specs.Table.{Key, first, home_of}
+use Rattle.commit_protocol.specs.World.{In}
+use Rattle.commit_protocol.specs.Opening.{IsAgreeing}
+use Rattle.run_model.specs.World.{World, Node, find_node}
+use Rattle.run_model.specs.Transcript.{Entry, Legal}
+use Rattle.run_agreement.specs.Seen.{Resolution}
+use Rattle.run_agreement.specs.Laws.{EndsFor, HasOutcome, IsAtRest, IsBranch, IsCommitted, IsRun, next_opening}
+use Rattle.run_laws.specs.Causes.{WasBegun}
+use Rattle.run_laws.specs.SaidLaws.{SaidThere}
+
+-- From a base on entries lead to the closing world. However the acts turn out that are under way there: no transaction has a committed branch and an aborted one, and
+-- no branch of a committed transaction is aborted, be it the first, one that was told to be accepted, or one that an image showed accepted; a branch that is committed is
+-- of a committed transaction; and the images that are left agree again. Where each node is up and no branch is unsettled, each accepted branch of a committed
+-- transaction is committed or read-only.
+pub record AgreedRun (base : World) (since : List Entry) (closing : World) : Type 0 where
+  pub is_run : IsRun base since closing
+  pub alike : (r : Resolution) (k : Key) → IsBranch base closing k → HasOutcome base r closing k ToAbort →
+      ((j : Key) → j.tid ≡ k.tid → HasOutcome base r closing j ToCommit → ⊥) × (IsCommitted base r closing k.tid → ⊥)
+  pub committed : (r : Resolution) (k : Key) → HasOutcome base r closing k ToCommit → IsCommitted base r closing k.tid
+  pub leaves : (r : Resolution) → IsAgreeing (next_opening base r closing)
+  pub whole : IsAtRest closing → (r : Resolution) (k : Key) (x : Node) → find_node (home_of k) closing.nodes ≡ Some x → IsBranch base closing k → (k ≡ first k.tid → ⊥) → IsCommitted base r closing k.tid →
+      HasOutcome base r closing k ToCommit ⊎ In k closing.shared.read_only
+
+-- An END_TRANS that was answered with its success has committed the transaction of its label, whatever turns out of the acts under way.
+abbrev pub EndsHoldAll : World → List Entry → World → Type 0
+EndsHoldAll base es closing = (before : List Entry) (node label : List ℕ) (events : List Line) → SaidThere es before (At node (EndTrans label)) events Normal →
+    (tid : Id) × WasBegun before node label tid × ((r : Resolution) → IsCommitted base r closing tid)
+
+-- A SETTLE that was answered with its success left each node up and no branch unsettled; and it is answered so, or ends for a cause that its answer names.
+abbrev pub SettlesWhole : World → List Entry → World → Type 0
+SettlesWhole opening es closing = (before : List Entry) (events : List Line) (answer : Line) → (there : SaidThere es before Settle events answer) →
+    (v : World) × Legal opening (there.entry ∷ before) v × Legal v there.after closing × (answer ≡ Normal → IsAtRest v) × ((answer ≡ Normal) ⊎ EndsFor v answer)

@@ -1,0 +1,9 @@
+pub mod Said
+pub mod SaidLaws
+pub mod Accounts
+pub mod Naming
+pub mod Causes
+pub mod Showing
+pub mod Promises
+pub mod Agreed
+pub mod Laws

@@ -1,8 +1,0 @@
-use Rattle.run_model.proofs.LockLemmas.{held_free, unlocked_is_free}
-use Rattle.run_model.proofs.unlocked_keys_are_free.Goals as goal
-
-pub returns-clause-one : goal.returns-clause-one
-returns-clause-one c = unlocked_is_free
-
-pub returns-clause-asked : goal.returns-clause-asked
-returns-clause-asked c = held_free

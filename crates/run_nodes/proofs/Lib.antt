@@ -1,0 +1,15 @@
+pub mod Counts
+pub mod Entries
+pub mod Places
+pub mod Serving
+pub mod Telling
+pub mod Answers
+pub mod Lookups
+pub mod Each
+pub mod Turns
+pub mod Restarts
+pub mod Worlds
+pub mod Loops
+pub mod Doubts
+pub mod Askings
+pub mod Firsts

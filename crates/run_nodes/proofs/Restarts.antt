@@ -1,0 +1,419 @@
+-- What the lines of a settling tell while nodes are booted one after another.
+use Rattle.std.specs.Prelude.{not, ◌||◌, slice_get, slice_set}
+use Rattle.std.proofs.Common.{◌≡◌, ℕ, zero, suc, ◌+◌, ◌<◌, ◌≤◌, List, [], ◌∷◌, ◌++◌, map, take, drop, length, Bool, true, false, Option, Some, None, IfSome, if◌then◌else◌, ◌⊎◌, inl, inr, refl, sym, ◌∙◌, ap, subst, add-one, append_assoc, arith}
+use Rattle.std.specs.List.{AllByRecursion}
+use Rattle.std.specs.Str.{bytes_eq}
+use Rattle.std.proofs.lemmas.Bool.{false_from_ne_true}
+use Rattle.std.proofs.lemmas.Slice.Eq.{bytes_eq-Decides}
+use Rattle.block_disk.specs.Disk.{DiskState, noted}
+use Rattle.block_disk.specs.declared.disk.DiskCall.TheVariants as disk_call
+use Rattle.commit_protocol.specs.World.{In}
+use Rattle.commit_protocol.proofs.Lists.{in_parts}
+use Rattle.transcript_model.specs.Lines as line
+use Rattle.transcript_model.specs.Lines.{Cause, Line, Normal}
+use Rattle.transcript_model.specs.Emitting.{Emits, Shown}
+use Rattle.transcript_model.proofs.EmittingLemmas.{emits_nothing, emits_on}
+use Rattle.script_model.specs.Statements.{Settle}
+use Rattle.run_laws.specs.Said.{Said, SaidNode, is_by_lines, line_said, lines_said, node_in, with_use}
+use Rattle.run_laws.proofs.Views.{said_append}
+use Rattle.run_model.specs.Answers.{Restarts, Task}
+use Rattle.run_model.specs.Steps.{count_of}
+use Rattle.run_model.proofs.NodeLists.{some_is}
+use Rattle.run_shared.specs.Sharing.{SharedState}
+use Rattle.dtm_node.specs.Standing.{Kept, counts_of, disk_in, is_up}
+use Rattle.dtm_node.specs.Telling.{RestartTold, TellsTask, calls_after_task, is_unpowered, said_node, said_shared}
+use Rattle.said_steps.specs.Calls.{CameUp, NamesDiffer, is_named, is_tried, restarted, shows_boot, spoken_to}
+use Rattle.said_steps.specs.Own.{IsOwn}
+use Rattle.said_steps.proofs.Calling.{restarted_all, restarted_before, restarted_behind, restarted_last, settling_calls, settling_said}
+use Rattle.said_steps.proofs.OwnLines.{last_is, own_down, own_lines_say}
+use Rattle.said_steps.proofs.Restarted.{came_more, came_next, shows_append, shows_other}
+use Rattle.statement_steps.proofs.Counting.{rose_over}
+use Rattle.run_nodes.specs.Names.{AreApart, is_among}
+use Rattle.run_nodes.specs.Tasks.{DoesTask}
+use Rattle.run_nodes.specs.Together.{AnswersTogether, said_together}
+use Rattle.run_nodes.specs.Told.{DiskPowered, DiskTold, IsUnmentioned, Restarted, Told, TurnOver, TurnTold, kept_names}
+use Rattle.run_nodes.proofs.Answers.{IsQuiet, tells_all}
+use Rattle.run_nodes.proofs.Places.{either_false, get_map, get_set, names_set, said_found, said_missing, said_put, turned}
+use Rattle.run_nodes.proofs.Telling.{among_there, count_passes, name_there, not_last, passes_on, passes_same, quiet_rise, task_told, told_none, told_on}
+
+-- A disk, and more lines.
+
+powered_more : (name : List ℕ) (powered : Bool) (front rest : List Line) (old new : DiskState) → DiskPowered name powered front old new → ((cause : Cause) → In (line.Down name cause) rest → ⊥) → DiskPowered name powered (front ++ rest) old new
+powered_more name powered front rest old new h none = record {
+  calls = h.calls;
+  failures = λ cause i c. elim (in_parts (line.Down name cause) front rest i) [ inl j ↦ h.failures cause j c | inr j ↦ absurd (none cause j) ];
+  passes = h.passes;
+}
+
+pub powered_on : (name : List ℕ) (powered : Bool) (touched : List (List ℕ)) (front rest : List Line) (x y z : DiskState) → DiskPowered name powered front x y → DiskTold name touched rest y z → DiskPowered name powered (front ++ rest) x z
+powered_on name powered touched front rest x y z h k = record {
+  calls = k.calls ∙ h.calls;
+  failures = λ cause i c. elim (in_parts (line.Down name cause) front rest i) [
+    | inl j ↦ rose_over (count_of cause (counts_of x)) (count_of cause (counts_of x)) (count_of cause (counts_of y)) (count_of cause (counts_of z)) (omega arith) (count_passes cause y z k.passes (h.passes.counted c)) (h.failures cause j c)
+    | inr j ↦ rose_over (count_of cause (counts_of x)) (count_of cause (counts_of y)) (count_of cause (counts_of z)) (count_of cause (counts_of z)) (count_passes cause x y h.passes c) (omega arith) (k.failures cause j (h.passes.counted c))
+  ];
+  passes = passes_on x y z h.passes k.passes;
+}
+
+-- Lines that mention a node no more.
+unmentioned_more : (name : List ℕ) (front rest : List Line) → IsUnmentioned name front → IsUnmentioned name rest → IsUnmentioned name (front ++ rest)
+unmentioned_more name front rest h k = record {
+  down = λ cause i. elim (in_parts (line.Down name cause) front rest i) [ inl j ↦ h.down cause j | inr j ↦ k.down cause j ];
+  boot = shows_append name front rest ∙ (λ i. h.boot i || k.boot i);
+}
+
+own_unmentioned : (name other : List ℕ) (lines : List Line) → (name ≡ other → ⊥) → AllByRecursion (IsOwn other) lines → IsUnmentioned name lines
+own_unmentioned name other lines ne own = record { down = λ cause i. ne (own_down name other cause lines own i); boot = shows_other name other lines ne own }
+
+-- Places.
+
+get_other : {A : Type 0} (xs : List A) (place j : ℕ) (y : A) → (j ≡ place → ⊥) → slice_get (slice_set xs place y) j ≡ slice_get xs j
+get_other [] place j y ne = refl
+get_other (x ∷ xs) zero zero y ne = absurd (ne refl)
+get_other (x ∷ xs) zero (suc j) y ne = refl
+get_other (x ∷ xs) (suc place) zero y ne = refl
+get_other (x ∷ xs) (suc place) (suc j) y ne = get_other xs place j y (λ e. ne (ap suc e))
+
+-- two places have two names
+apart_places : (ks : List Kept) → AreApart (kept_names ks) → (i j : ℕ) (x y : Kept) → slice_get ks i ≡ Some x → slice_get ks j ≡ Some y → (i ≡ j → ⊥) → x.name ≡ y.name → ⊥
+apart_places [] apart i j x y e f ne same = let none : ⊥ = cc in none
+apart_places (z ∷ ks) apart zero zero x y e f ne same = ne refl
+apart_places (z ∷ ks) apart zero (suc j) x y e f ne same = let no : true ≡ false = sym (among_there z.name ks j y f (sym same ∙ ap (λ (v : Kept). v.name) (sym (some_is z x e)))) ∙ apart.0 in let none : ⊥ = cc in none
+apart_places (z ∷ ks) apart (suc i) zero x y e f ne same = let no : true ≡ false = sym (among_there z.name ks i x e (same ∙ ap (λ (v : Kept). v.name) (sym (some_is z y f)))) ∙ apart.0 in let none : ⊥ = cc in none
+apart_places (z ∷ ks) apart (suc i) (suc j) x y e f ne same = apart_places ks apart.1 i j x y e f (λ q. ne (ap suc q)) same
+
+take_next : {A : Type 0} (xs : List A) (place : ℕ) (x : A) → slice_get xs place ≡ Some x → take (place + 1) xs ≡ take place xs ++ x ∷ []
+take_next xs place x e = rw add-one (go xs place e)
+  where
+    go : {A : Type 0} (ys : List A) (i : ℕ) {y : A} → slice_get ys i ≡ Some y → take (suc i) ys ≡ take i ys ++ y ∷ []
+    go [] i f = let none : ⊥ = cc in absurd none
+    go (z ∷ ys) zero {y} f = ap (λ v. v ∷ []) (some_is z y f)
+    go (z ∷ ys) (suc i) f = ap (λ vs. z ∷ vs) (go ys i f)
+
+-- No node yet.
+pub restarted_none : (ks : List Kept) (s : SharedState) → Restarted 0 [] ks s ks s
+restarted_none ks s = record {
+  says = refl;
+  names = refl;
+  front = λ j k l h e f. absurd (omega arith);
+  came = tt;
+  behind = λ j k h e. (e, record { down = λ cause i. i; boot = refl });
+}
+
+-- the next place or one before it
+earlier : (j place : ℕ) → j < place + 1 → (j < place) ⊎ (j ≡ place)
+earlier j place h = grind arith
+
+-- One is up.
+pub restarted_up : (place : ℕ) (lines : List Line) (ks : List Kept) (s : SharedState) (ls : List Kept) (t : SharedState) (k : Kept) → Restarted place lines ks s ls t → slice_get ks place ≡ Some k → is_up k.place ≡ true → Restarted (place + 1) lines ks s ls t
+restarted_up place lines ks s ls t k h e up = record {
+  says = h.says;
+  names = h.names;
+  front = λ j x y below f g. elim (earlier j place below) [
+    | inl less ↦ h.front j x y less f g
+    | inr same ↦
+        let here : x ≡ k = some_is x k (sym f ∙ ap (slice_get ks) same ∙ e) in
+        let b = h.behind place k (omega arith) e in
+        let there : y ≡ k = some_is y k (sym g ∙ ap (slice_get ls) same ∙ b.0) in
+        subst (λ (v : Kept). DiskPowered x.name (not (is_up x.place)) lines (disk_in x.place) (disk_in v.place)) (sym there)
+        (subst (λ (v : Kept). DiskPowered v.name (not (is_up v.place)) lines (disk_in v.place) (disk_in k.place)) (sym here)
+        (subst (λ (u : Bool). DiskPowered k.name (not u) lines (disk_in k.place) (disk_in k.place)) (sym up)
+        (record { calls = refl; failures = λ cause i c. absurd (b.1.down cause i); passes = passes_same (disk_in k.place) })))
+  ];
+  came = subst (λ ns. CameUp ns lines) (sym (take_next (map said_node ks) place (said_node k) (get_map said_node ks place k e)))
+      (came_next (take place (map said_node ks)) (said_node k) lines h.came (λ down. let no : true ≡ false = sym up ∙ down in let none : ⊥ = cc in absurd none));
+  behind = λ j x above f. h.behind j x (omega arith) f;
+}
+
+or_true : (b : Bool) → b || true ≡ true
+or_true true = refl
+or_true false = refl
+
+unmade_not : (b : Bool) → (b ≡ true → false ≡ true) → b ≡ false
+unmade_not true f = let no : false ≡ true = f refl in let none : ⊥ = cc in absurd none
+unmade_not false f = refl
+
+-- One came up.
+module _ (place : ℕ) (lines : List Line) (ks : List Kept) (s : SharedState) (ls : List Kept) (t : SharedState) (apart : AreApart (kept_names ks)) (h : Restarted place lines ks s ls t) (k : Kept) (e : slice_get ks place ≡ Some k) where
+  there : slice_get ls place ≡ Some k
+  there = (h.behind place k (omega arith) e).0
+
+  apart_now : AreApart (kept_names ls)
+  apart_now = subst AreApart (sym h.names) apart
+
+  module _ (answers ends : Bool) (a b : Shown) (l : Kept) (u : SharedState) (same : l.name ≡ k.name) (d : TellsTask Restarts answers ends k t a b l u) where
+    says_more : lines_said (lines ++ d.lines) (said_together ks s) ≡ said_together (slice_set ls place l) u
+    says_more = said_append lines d.lines (said_together ks s) ∙ ap (lines_said d.lines) h.says
+        ∙ own_lines_say k.name (map said_node ls) d.lines (said_node k) (said_node l) (said_shared t) (said_shared u) d.own (said_found ls place k apart_now there) d.says
+        ∙ ap (λ ns. record { nodes = ns; shared = said_shared u }) (said_put ls place k l apart_now there)
+
+    names_more : kept_names (slice_set ls place l) ≡ kept_names ks
+    names_more = names_set ls place k l there same ∙ h.names
+
+    other_front : (j : ℕ) (x y : Kept) → j < place → slice_get ks j ≡ Some x → slice_get (slice_set ls place l) j ≡ Some y → DiskPowered x.name (not (is_up x.place)) (lines ++ d.lines) (disk_in x.place) (disk_in y.place)
+    other_front j x y less f g =
+        powered_more x.name (not (is_up x.place)) lines d.lines (disk_in x.place) (disk_in y.place) (h.front j x y less f (sym (get_other ls place j l (λ q. omega arith)) ∙ g))
+        (λ cause i. apart_places ks apart j place x k f e (λ q. omega arith) (own_down x.name k.name cause d.lines d.own i))
+
+    other_behind : (j : ℕ) (x : Kept) → place + 1 ≤ j → slice_get ks j ≡ Some x → (slice_get (slice_set ls place l) j ≡ Some x) × IsUnmentioned x.name (lines ++ d.lines)
+    other_behind j x above f =
+        let b = h.behind j x (omega arith) f in
+        (get_other ls place j l (λ q. omega arith) ∙ b.0, unmentioned_more x.name lines d.lines b.1 (own_unmentioned x.name k.name d.lines (apart_places ks apart j place x k f e (λ q. omega arith)) d.own))
+
+    here_powered : (powered : Bool) → calls_after_task Restarts ends d.answer (disk_in k.place).stops (disk_in k.place).calls ≡ (if powered then noted (disk_call.Power (disk_in k.place).stops) (disk_in k.place).calls else (disk_in k.place).calls) → DiskPowered k.name powered (lines ++ d.lines) (disk_in k.place) (disk_in l.place)
+    here_powered powered calls = record {
+      calls = d.calls ∙ calls;
+      failures = λ cause i c. elim (in_parts (line.Down k.name cause) lines d.lines i) [ inl j ↦ absurd ((h.behind place k (omega arith) e).1.down cause j) | inr j ↦ d.failures cause j c ];
+      passes = d.passes;
+    }
+
+  -- and the settling goes on.
+  pub restarted_on : (a b : Shown) (l : Kept) (u : SharedState) → l.name ≡ k.name → is_up k.place ≡ false → (d : TellsTask Restarts false false k t a b l u) → Restarted (place + 1) (lines ++ d.lines) ks s (slice_set ls place l) u
+  restarted_on a b l u same down d = record {
+    says = says_more false false a b l u same d;
+    names = names_more false false a b l u same d;
+    front = λ j x y below f g. elim (earlier j place below) [
+      | inl less ↦ other_front false false a b l u same d j x y less f g
+      | inr q ↦
+          let here : x ≡ k = some_is x k (sym f ∙ ap (slice_get ks) q ∙ e) in
+          let put : y ≡ l = some_is y l (sym g ∙ ap (slice_get (slice_set ls place l)) q ∙ get_set ls place k l there) in
+          subst (λ (v : Kept). DiskPowered x.name (not (is_up x.place)) (lines ++ d.lines) (disk_in x.place) (disk_in v.place)) (sym put)
+          (subst (λ (v : Kept). DiskPowered v.name (not (is_up v.place)) (lines ++ d.lines) (disk_in v.place) (disk_in l.place)) (sym here)
+          (subst (λ (b : Bool). DiskPowered k.name (not b) (lines ++ d.lines) (disk_in k.place) (disk_in l.place)) (sym down) (here_powered false false a b l u same d true refl)))
+    ];
+    came = subst (λ ns. CameUp ns (lines ++ d.lines)) (sym (take_next (map said_node ks) place (said_node k) (get_map said_node ks place k e)))
+        (came_next (take place (map said_node ks)) (said_node k) (lines ++ d.lines) (came_more (take place (map said_node ks)) lines d.lines h.came)
+        (λ f. (unmade_not k.unmade (λ g. (r.unmade g).2), shows_append k.name lines d.lines ∙ ap (λ x. shows_boot k.name lines || x) r.shown ∙ or_true (shows_boot k.name lines))));
+    behind = other_behind false false a b l u same d;
+  }
+    where
+      r : RestartTold k d.lines d.answer false
+      r = d.boots refl
+
+-- Nodes in front of a place, it, and those behind.
+split_at : {A : Type 0} (xs : List A) (place : ℕ) (x : A) → slice_get xs place ≡ Some x → xs ≡ take place xs ++ x ∷ drop (suc place) xs
+split_at [] place x e = let none : ⊥ = cc in absurd none
+split_at (y ∷ xs) zero x e = ap (λ z. z ∷ xs) (some_is y x e)
+split_at (y ∷ xs) (suc place) x e = ap (λ ys. y ∷ ys) (split_at xs place x e)
+
+node_front : (ks : List Kept) (place j : ℕ) (k : Kept) → AreApart (kept_names ks) → slice_get ks j ≡ Some k → j < place → node_in k.name (take place (map said_node ks)) ≡ Some (said_node k)
+node_front [] place j k apart e less = let none : ⊥ = cc in absurd none
+node_front (x ∷ ks) zero j k apart e less = absurd (omega arith)
+node_front (x ∷ ks) (suc place) zero k apart e less = subst (λ (y : Kept). node_in y.name (said_node x ∷ take place (map said_node ks)) ≡ Some (said_node y)) (some_is x k e) (rw ((bytes_eq-Decides x.name x.name).1 refl) refl)
+node_front (x ∷ ks) (suc place) (suc j) k apart e less =
+    let other : bytes_eq k.name x.name ≡ false = name_other k.name x.name (λ q. let no : true ≡ false = sym (among_there x.name ks j k e q) ∙ apart.0 in let none : ⊥ = cc in none) in
+    rw other (node_front ks place j k apart.1 e (omega arith))
+  where
+    name_other : (p q : List ℕ) → (p ≡ q → ⊥) → bytes_eq p q ≡ false
+    name_other p q ne = false_from_ne_true (bytes_eq p q) (λ f. ne ((bytes_eq-Decides p q).0 f))
+
+-- one that is not in front is not found there
+node_not_front : (ks : List Kept) (place j : ℕ) (k : Kept) → AreApart (kept_names ks) → slice_get ks j ≡ Some k → place ≤ j → node_in k.name (take place (map said_node ks)) ≡ None
+node_not_front [] place j k apart e above = let none : ⊥ = cc in absurd none
+node_not_front (x ∷ ks) zero j k apart e above = refl
+node_not_front (x ∷ ks) (suc place) zero k apart e above = absurd (omega arith)
+node_not_front (x ∷ ks) (suc place) (suc j) k apart e above =
+    let other : bytes_eq k.name x.name ≡ false = false_from_ne_true (bytes_eq k.name x.name) (λ f. let no : true ≡ false = sym (among_there x.name ks j k e ((bytes_eq-Decides k.name x.name).0 f)) ∙ apart.0 in let none : ⊥ = cc in none) in
+    rw other (node_not_front ks place j k apart.1 e (omega arith))
+
+said_missing_nodes : (name : List ℕ) (ks : List Kept) → is_among name (kept_names ks) ≡ false → node_in name (map said_node ks) ≡ None
+said_missing_nodes name ks h = said_missing name ks h
+
+names_differ : (ks : List Kept) → AreApart (kept_names ks) → NamesDiffer (map said_node ks)
+names_differ [] h = tt
+names_differ (k ∷ ks) h = (said_missing k.name ks h.0, names_differ ks h.1)
+
+front_differ : (ks : List Kept) (place : ℕ) → AreApart (kept_names ks) → NamesDiffer (take place (map said_node ks))
+front_differ ks zero h = tt
+front_differ [] (suc place) h = tt
+front_differ (k ∷ ks) (suc place) h = (missing_front place k.name ks h.0, front_differ ks place h.1)
+  where
+    missing_front : (place : ℕ) (name : List ℕ) (ms : List Kept) → is_among name (kept_names ms) ≡ false → node_in name (take place (map said_node ms)) ≡ None
+    missing_front zero name ms h = refl
+    missing_front (suc place) name [] h = refl
+    missing_front (suc place) name (m ∷ ms) h =
+        let parts = either_false (bytes_eq m.name name) (is_among name (kept_names ms)) h in
+        rw (turned m.name name parts.0) (missing_front place name ms parts.1)
+
+-- each node is spoken to by a settling
+spoken_to_all : (ks : List Kept) (s : SharedState) (j : ℕ) (k : Kept) → slice_get ks j ≡ Some k → is_named k.name (spoken_to (said_together ks s) Settle) ≡ true
+spoken_to_all [] s j k e = let none : ⊥ = cc in absurd none
+spoken_to_all (x ∷ ks) s zero k e = subst (λ (y : Kept). is_named y.name (spoken_to (said_together (x ∷ ks) s) Settle) ≡ true) (some_is x k e) (rw ((bytes_eq-Decides x.name x.name).1 refl) refl)
+spoken_to_all (x ∷ ks) s (suc j) k e = ap (λ b. bytes_eq k.name x.name || b) (spoken_to_all ks s j k e) ∙ or_true (bytes_eq k.name x.name)
+
+-- That a settling was asked for may be said first.
+use_line : (l : Line) (said : Said) → with_use (line_said l said) ≡ line_said l (with_use said)
+use_line (line.Sent number m) said = refl
+use_line (line.Down node cause) said = refl
+use_line (line.Crashed node) said = refl
+use_line (line.Booted node boot) said = refl
+use_line _ said = refl
+
+use_lines : (ls : List Line) (said : Said) → with_use (lines_said ls said) ≡ lines_said ls (with_use said)
+use_lines [] said = refl
+use_lines (l ∷ ls) said = use_lines ls (line_said l said) ∙ ap (lines_said ls) (use_line l said)
+
+-- What is answered to a settling tells of each disk which calls it had, where this is so of it.
+pub settling_answers : (ks : List Kept) (s : SharedState) (lines : List Line) (answer : Line) (ls : List Kept) (t : SharedState) (a b : Shown) → kept_names ls ≡ kept_names ks → Emits a (lines ++ answer ∷ []) b → ((said : Said) → line_said answer said ≡ said) → lines_said lines (said_together ks (record s { in_use = true })) ≡ said_together ls t →
+    ((j : ℕ) (k l : Kept) → slice_get ks j ≡ Some k → slice_get ls j ≡ Some l → (powered : Bool) × (is_named k.name (restarted (map said_node ks) (lines ++ answer ∷ [])) ≡ powered) × DiskPowered k.name powered lines (disk_in k.place) (disk_in l.place)) →
+    AnswersTogether (kept_names ks) Settle a b ks s ls t
+settling_answers ks s lines answer ls t a b names emits quiet says each = record {
+  lines = lines ++ answer ∷ [];
+  emits = emits;
+  tells = tells_all (said_together ks s) Settle (lines ++ answer ∷ []) ks ls names (λ j k l e f.
+      let x = each j k l e f in
+      record {
+        calls = x.2.calls ∙ sym (settling_calls k.name (said_together ks s) (lines ++ answer ∷ []) (disk_in k.place).stops (disk_in k.place).calls x.0 x.1);
+        failures = λ cause i c. x.2.failures cause (not_last k.name cause lines answer quiet i) c;
+        passes = x.2.passes;
+        elsewhere = λ g. let no : true ≡ false = sym (spoken_to_all ks s j k e) ∙ g in let none : ⊥ = cc in absurd none;
+      });
+  follows = ((λ refusal g. let none : ⊥ = cc in absurd none), (λ g. subst (λ (o : Option Line). IfSome o (λ x. is_by_lines Settle x ≡ false)) (sym (last_is None lines answer)) refl));
+  says = sym (settling_said lines answer (said_together ks s) quiet ∙ use_lines lines (said_together ks s) ∙ says);
+}
+
+-- An answer that says nothing shows no boot.
+quiet_boot : (name : List ℕ) (answer : Line) → ((said : Said) → line_said answer said ≡ said) → shows_boot name (answer ∷ []) ≡ false
+quiet_boot name (line.Booted node boot) quiet = absurd (quiet_rise node boot quiet)
+quiet_boot name _ quiet = refl
+
+-- whether the disk of a node that did not come up was made to run again
+tried_so : (unmade : Bool) (answer : Line) (name : List ℕ) → (unmade ≡ true → answer ≡ line.NotInitializedAt name) → (unmade ≡ false → (node : List ℕ) → answer ≡ line.NotInitializedAt node → ⊥) → not (is_unpowered true answer) ≡ (if unmade then false else is_tried (Some answer))
+tried_so true answer name gone made = rw (gone refl) refl
+tried_so false (line.NotInitializedAt node) name gone made = absurd (made refl node refl)
+tried_so false line.NoMemory name gone made = refl
+tried_so false _ name gone made = refl
+
+by_place : (j place : ℕ) → (j < place) ⊎ ((j ≡ place) ⊎ (place + 1 ≤ j))
+by_place j place = grind arith
+
+-- A settling ended with the boot of a node.
+pub restarted_over : (place : ℕ) (lines : List Line) (ks : List Kept) (s : SharedState) (ls : List Kept) (t : SharedState) (a x b : Shown) (k l : Kept) (u : SharedState) → AreApart (kept_names ks) → Restarted place lines ks (record s { in_use = true }) ls t → Emits a lines x → slice_get ks place ≡ Some k → is_up k.place ≡ false → l.name ≡ k.name →
+    TellsTask Restarts true true k t x b l u → AnswersTogether (kept_names ks) Settle a b ks s (slice_set ls place l) u
+restarted_over place lines ks s ls t a x b k l u apart h emits e down same d =
+    settling_answers ks s (lines ++ d.lines) d.answer (slice_set ls place l) u a b (names_more place lines ks (record s { in_use = true }) ls t apart h k e true true x b l u same d)
+    (subst (λ ms. Emits a ms b) (sym (append_assoc lines d.lines (d.answer ∷ []))) (emits_on a x b lines (d.lines ++ d.answer ∷ []) emits d.emits)) d.quiet (says_more place lines ks (record s { in_use = true }) ls t apart h k e true true x b l u same d) each
+  where
+    all : List Line
+    all = (lines ++ d.lines) ++ d.answer ∷ []
+
+    front : List SaidNode
+    front = take place (map said_node ks)
+
+    back : List SaidNode
+    back = drop (suc place) (map said_node ks)
+
+    split : map said_node ks ≡ front ++ said_node k ∷ back
+    split = split_at (map said_node ks) place (said_node k) (get_map said_node ks place k e)
+
+    came : CameUp front all
+    came = came_more front (lines ++ d.lines) (d.answer ∷ []) (came_more front lines d.lines h.came)
+
+    r : RestartTold k d.lines d.answer true
+    r = d.boots refl
+
+    none : shows_boot k.name all ≡ false
+    none = shows_append k.name (lines ++ d.lines) (d.answer ∷ []) ∙ (λ i. shown i || quiet_boot k.name d.answer d.quiet i)
+      where
+        shown : shows_boot k.name (lines ++ d.lines) ≡ false
+        shown = shows_append k.name lines d.lines ∙ (λ i. (h.behind place k (omega arith) e).1.boot i || r.shown i)
+
+    each : (j : ℕ) (y z : Kept) → slice_get ks j ≡ Some y → slice_get (slice_set ls place l) j ≡ Some z → (powered : Bool) × (is_named y.name (restarted (map said_node ks) all) ≡ powered) × DiskPowered y.name powered (lines ++ d.lines) (disk_in y.place) (disk_in z.place)
+    each j y z f g = elim (by_place j place) [
+      | inl less ↦ (
+        not (is_up y.place),
+        subst (λ ns. is_named y.name (restarted ns all) ≡ not (is_up y.place)) (sym split) (restarted_before front (said_node k) back all came down none y.name (said_node y) (apart_places ks apart j place y k f e (λ q. omega arith)) (front_differ ks place apart) (node_front ks place j y apart f less)),
+        other_front place lines ks (record s { in_use = true }) ls t apart h k e true true x b l u same d j y z less f g,
+      )
+      | inr more ↦ elim more [
+        | inl q ↦
+            let here : k ≡ y = some_is k y (sym e ∙ sym (ap (slice_get ks) q) ∙ f) in
+            let put : l ≡ z = some_is l z (sym (get_set ls place k l (there place lines ks (record s { in_use = true }) ls t apart h k e)) ∙ sym (ap (slice_get (slice_set ls place l)) q) ∙ g) in
+            subst (λ (v : Kept). (powered : Bool) × (is_named v.name (restarted (map said_node ks) all) ≡ powered) × DiskPowered v.name powered (lines ++ d.lines) (disk_in v.place) (disk_in z.place)) here
+            (subst (λ (v : Kept). (powered : Bool) × (is_named k.name (restarted (map said_node ks) all) ≡ powered) × DiskPowered k.name powered (lines ++ d.lines) (disk_in k.place) (disk_in v.place)) put (
+              (if k.unmade then false else is_tried (Some d.answer)),
+              subst (λ ns. is_named k.name (restarted ns all) ≡ (if k.unmade then false else is_tried (Some d.answer))) (sym split)
+                  (restarted_last front (said_node k) back all came down none (node_not_front ks place place k apart e (omega arith)) ∙ ap (λ o. if k.unmade then false else is_tried o) (last_is None (lines ++ d.lines) d.answer)),
+              here_powered place lines ks (record s { in_use = true }) ls t apart h k e true true x b l u same d (if k.unmade then false else is_tried (Some d.answer))
+                  (ap (λ (p : Bool). if p then noted (disk_call.Power (disk_in k.place).stops) (disk_in k.place).calls else (disk_in k.place).calls) (tried_so k.unmade d.answer k.name (λ m. (r.unmade m).1) r.made)),
+            ))
+        | inr above ↦
+            let o = other_behind place lines ks (record s { in_use = true }) ls t apart h k e true true x b l u same d j y above f in
+            let still : y ≡ z = some_is y z (sym o.0 ∙ g) in (
+              false,
+              subst (λ ns. is_named y.name (restarted ns all) ≡ false) (sym split) (restarted_behind front (said_node k) back all came down none y.name (apart_places ks apart j place y k f e (λ q. omega arith)) (node_not_front ks place j y apart f (omega arith))),
+              subst (λ (v : Kept). DiskPowered y.name false (lines ++ d.lines) (disk_in y.place) (disk_in v.place)) still
+                  (record { calls = refl; failures = λ cause i c. absurd (o.1.down cause i); passes = passes_same (disk_in y.place) }),
+            )
+      ]
+    ]
+
+take_all : {A : Type 0} (xs : List A) (place : ℕ) → length xs ≤ place → take place xs ≡ xs
+take_all [] zero h = refl
+take_all [] (suc place) h = refl
+take_all (x ∷ xs) zero h = absurd (omega arith)
+take_all (x ∷ xs) (suc place) h = ap (λ ys. x ∷ ys) (take_all xs place (omega arith))
+
+place_within : (ks : List Kept) (j : ℕ) (k : Kept) → slice_get ks j ≡ Some k → j < length (map said_node ks)
+place_within [] j k e = let none : ⊥ = cc in absurd none
+place_within (x ∷ ks) zero k e = omega arith
+place_within (x ∷ ks) (suc j) k e = let more = place_within ks j k e in omega arith
+
+-- It was answered behind the boots of all nodes.
+pub restarted_behind_all : (place : ℕ) (lines rest : List Line) (answer : Line) (ks : List Kept) (s : SharedState) (ms : List Kept) (t : SharedState) (touched : List (List ℕ)) (ls : List Kept) (u : SharedState) (a x b : Shown) → AreApart (kept_names ks) → length (map said_node ks) ≤ place → Restarted place lines ks (record s { in_use = true }) ms t → Emits a lines x → Told touched rest ms t ls u →
+    Emits x (rest ++ answer ∷ []) b → ((said : Said) → line_said answer said ≡ said) → AnswersTogether (kept_names ks) Settle a b ks s ls u
+restarted_behind_all place lines rest answer ks s ms t touched ls u a x b apart over h emits told more quiet =
+    settling_answers ks s (lines ++ rest) answer ls u a b (told.names ∙ h.names) (subst (λ ns. Emits a ns b) (sym (append_assoc lines rest (answer ∷ []))) (emits_on a x b lines (rest ++ answer ∷ []) emits more)) quiet
+    (said_append lines rest (said_together ks (record s { in_use = true })) ∙ ap (lines_said rest) h.says ∙ told.says)
+    (λ j k l e f.
+    let y = name_there ks ms j k h.names e in
+    let came : CameUp (map said_node ks) ((lines ++ rest) ++ answer ∷ []) = came_more (map said_node ks) (lines ++ rest) (answer ∷ []) (came_more (map said_node ks) lines rest (subst (λ ns. CameUp ns lines) (take_all (map said_node ks) place over) h.came)) in (
+      not (is_up k.place),
+      restarted_all k.name (map said_node ks) (said_node k) ((lines ++ rest) ++ answer ∷ []) came (names_differ ks apart) (said_found ks j k apart e),
+      powered_on k.name (not (is_up k.place)) touched lines rest (disk_in k.place) (disk_in y.0.place) (disk_in l.place) (h.front j k y.0 (let w = place_within ks j k e in omega arith) e y.1)
+          (subst (λ n. DiskTold n touched rest (disk_in y.0.place) (disk_in l.place)) y.2 (told.each j y.0 l y.1 f)),
+    ))
+
+-- Turns one after another.
+pub turn_none : (touched : List (List ℕ)) (ks : List Kept) (s : SharedState) (a : Shown) → TurnTold touched ks s a a ks s
+turn_none touched ks s a = record { lines = []; emits = emits_nothing a; told = told_none touched ks s }
+
+pub turn_on : (touched : List (List ℕ)) (ks : List Kept) (s : SharedState) (a x b : Shown) (ms : List Kept) (u : SharedState) (ls : List Kept) (t : SharedState) → TurnTold touched ks s a x ms u → TurnTold touched ms u x b ls t → TurnTold touched ks s a b ls t
+turn_on touched ks s a x b ms u ls t h k = record { lines = h.lines ++ k.lines; emits = emits_on a x b h.lines k.lines h.emits k.emits; told = told_on touched h.lines k.lines ks s ms u ls t h.told k.told }
+
+pub turn_over : (touched : List (List ℕ)) (ks : List Kept) (s : SharedState) (a x b : Shown) (ms : List Kept) (u : SharedState) (ls : List Kept) (t : SharedState) → TurnTold touched ks s a x ms u → TurnOver touched ms u x b ls t → TurnOver touched ks s a b ls t
+turn_over touched ks s a x b ms u ls t h k = record {
+  lines = h.lines ++ k.lines;
+  answer = k.answer;
+  emits = subst (λ ns. Emits a ns b) (sym (append_assoc h.lines k.lines (k.answer ∷ []))) (emits_on a x b h.lines (k.lines ++ k.answer ∷ []) h.emits k.emits);
+  quiet = k.quiet;
+  told = told_on touched h.lines k.lines ks s ms u ls t h.told k.told;
+}
+
+named_kept : (ks : List Kept) (j : ℕ) (k : Kept) → slice_get ks j ≡ Some k → is_named k.name (kept_names ks) ≡ true
+named_kept [] j k e = let none : ⊥ = cc in absurd none
+named_kept (x ∷ ks) zero k e = subst (λ (y : Kept). is_named y.name (kept_names (x ∷ ks)) ≡ true) (some_is x k e) (rw ((bytes_eq-Decides x.name x.name).1 refl) refl)
+named_kept (x ∷ ks) (suc j) k e = ap (λ b. bytes_eq k.name x.name || b) (named_kept ks j k e) ∙ or_true (bytes_eq k.name x.name)
+
+-- A task of the node at a place in its turn.
+pub task_turn : (names : List (List ℕ)) (place : ℕ) (task : Task) (ks : List Kept) (s : SharedState) (a b : Shown) (ls : List Kept) (t : SharedState) → names ≡ kept_names ks → AreApart names → IsQuiet task → DoesTask place task false false ks s a b ls t → TurnTold names ks s a b ls t
+task_turn names place task ks s a b ls t same apart quiet d = record {
+  lines = d.tells.lines;
+  emits = d.tells.emits;
+  told = subst (λ ms. Told names d.tells.lines ks s ms t) (sym d.put)
+      (task_told names place task false false ks s a b d.old d.new t (subst AreApart same apart) d.here d.named (ap (is_named d.old.name) same ∙ named_kept ks place d.old d.here) d.tells quiet.unpowered quiet.unarmed (sym (quiet.says d.tells.lines d.tells.answer d.old s) ∙ d.tells.says));
+}
+
+pub task_over : (names : List (List ℕ)) (place : ℕ) (task : Task) (ks : List Kept) (s : SharedState) (a b : Shown) (ls : List Kept) (t : SharedState) → names ≡ kept_names ks → AreApart names → IsQuiet task → DoesTask place task true true ks s a b ls t → TurnOver names ks s a b ls t
+task_over names place task ks s a b ls t same apart quiet d = record {
+  lines = d.tells.lines;
+  answer = d.tells.answer;
+  emits = d.tells.emits;
+  quiet = d.tells.quiet;
+  told = subst (λ ms. Told names d.tells.lines ks s ms t) (sym d.put)
+      (task_told names place task true true ks s a b d.old d.new t (subst AreApart same apart) d.here d.named (ap (is_named d.old.name) same ∙ named_kept ks place d.old d.here) d.tells quiet.unpowered quiet.unarmed (sym (quiet.says d.tells.lines d.tells.answer d.old s) ∙ d.tells.says));
+}
+
+-- An answer alone.
+pub answer_over : (names : List (List ℕ)) (answer : Line) (ks : List Kept) (s : SharedState) (a b : Shown) → Emits a (answer ∷ []) b → ((said : Said) → line_said answer said ≡ said) → TurnOver names ks s a b ks s
+answer_over names answer ks s a b emits quiet = record { lines = []; answer = answer; emits = emits; quiet = quiet; told = told_none names ks s }

@@ -1,0 +1,6 @@
+use Rattle.run_model.specs.Answers.{Ticks}
+use Rattle.run_nodes.proofs.Turns.{down_turn}
+use Rattle.run_nodes.proofs.statements.tick.Goals as goal
+
+pub returns-else-is_up-clause-does : goal.returns-else-is_up-clause-does
+returns-else-is_up-clause-does g c = down_turn g.D.Disk.state g.U.RecoveryUnits.state c.args.nodes.now.nodes.entries c.args.place Ticks c.args.shared.now (g.E.Emit.shows c.args.out.now) c.is_up.result c.requires.there c.is_up.ensures c.if-is_up.false

@@ -1,0 +1,43 @@
+-- What the lines of a statement tell of the disk of each node, whether or not it tells its content: the calls that armed or powered it; and which statements the lines
+-- before refuse.
+use Rattle.std.specs.Prelude.{◌≡◌, ℕ, List, [], ◌∷◌, false, Some, None, IfSome}
+use Rattle.std.specs.List.{last_or}
+use Rattle.block_disk.specs.Disk.{DiskState}
+use Rattle.commit_protocol.specs.World.{In}
+use Rattle.transcript_model.specs.Lines as line
+use Rattle.transcript_model.specs.Lines.{Cause, Line}
+use Rattle.transcript_model.specs.Outside.{Rose}
+use Rattle.script_model.specs.Statements.{Bad, Blank, Reading, Says, Statement}
+use Rattle.run_laws.specs.Said.{Said, is_by_lines, refused_by_said}
+use Rattle.run_model.specs.Steps.{count_of}
+use Rattle.recovery_units.specs.Uses.{IsCounted}
+use Rattle.said_steps.specs.Calls.{calls_after, is_named, spoken_to}
+use Rattle.dtm_node.specs.Telling.{Passes}
+use Rattle.dtm_node.specs.Standing.{counts_of}
+
+-- What the lines of a statement tell of the disk of the node of this name: which calls armed or powered it; that each failure of it that they show raised its
+-- count; and that it is as it was where the statement does not speak to the node.
+pub record TellsAt (name : List ℕ) (said : Said) (s : Statement) (lines : List Line) (old new : DiskState) : Type 0 where
+  pub calls : new.calls ≡ calls_after name said s lines old.stops old.calls
+  pub failures : (cause : Cause) → In (line.Down name cause) lines → IsCounted old → Rose (count_of cause (counts_of old)) (count_of cause (counts_of new))
+  pub passes : Passes old new
+  pub elsewhere : is_named name (spoken_to said s) ≡ false → new ≡ old
+
+-- One line and the disk of the node of this name: a skipped line shows nothing and leaves the disk; a statement tells of it; a line outside the grammar is
+-- no entry.
+abbrev pub LineTells : List ℕ → Said → Reading → List Line → DiskState → DiskState → Type 0
+LineTells name said Blank lines old new = (lines ≡ []) × (new ≡ old)
+LineTells name said (Says s) lines old new = TellsAt name said s lines old new
+LineTells name said (Bad column) lines old new = ⊥
+
+-- so of each node of a rack and its disk
+abbrev pub LineTellsAll : List (List ℕ) → Said → Reading → List Line → List DiskState → List DiskState → Type 0
+LineTellsAll [] said r lines [] [] = Unit {0}
+LineTellsAll (name ∷ names) said r lines (old ∷ olds) (new ∷ news) = LineTells name said r lines old new × LineTellsAll names said r lines olds news
+LineTellsAll names said r lines olds news = ⊥
+
+-- What was said before decides the refusals by that alone: where it refuses a statement, just that refusal is shown, and else the answer is none of these.
+abbrev pub LineFollows : Said → Reading → List Line → Type 0
+LineFollows said Blank lines = Unit {0}
+LineFollows said (Says s) lines = ((refusal : Line) → refused_by_said said s ≡ Some refusal → lines ≡ refusal ∷ []) × (refused_by_said said s ≡ None → IfSome (last_or None lines) (λ answer. is_by_lines s answer ≡ false))
+LineFollows said (Bad column) lines = Unit {0}

@@ -1,0 +1,76 @@
+-- What lines of a part of a statement tell of all disks, and say of all nodes.
+use Rattle.std.specs.Prelude.{◌≡◌, ◌<◌, ◌≤◌, ℕ, List, [], ◌∷◌, ◌++◌, Bool, false, not, Some, if◌then◌else◌, map, slice_get, take}
+use Rattle.block_disk.specs.Disk.{DiskState, noted}
+use Rattle.block_disk.specs.declared.disk.DiskCall.TheVariants as disk_call
+use Rattle.commit_protocol.specs.World.{In}
+use Rattle.transcript_model.specs.Lines as line
+use Rattle.transcript_model.specs.Lines.{Cause, Line}
+use Rattle.transcript_model.specs.Outside.{Rose}
+use Rattle.transcript_model.specs.Emitting.{Emits, Shown}
+use Rattle.run_laws.specs.Said.{Said, line_said, lines_said}
+use Rattle.run_model.specs.Steps.{count_of}
+use Rattle.recovery_units.specs.Uses.{IsCounted}
+use Rattle.run_shared.specs.Sharing.{SharedState}
+use Rattle.dtm_node.specs.Standing.{Kept, counts_of, disk_in, is_up}
+use Rattle.dtm_node.specs.Telling.{Passes, said_node}
+use Rattle.said_steps.specs.Calls.{CameUp, is_named, shows_boot}
+use Rattle.run_nodes.specs.Together.{said_together}
+
+-- the names of what is kept
+abbrev pub kept_names : List Kept → List (List ℕ)
+kept_names ks = map (λ (k : Kept). k.name) ks
+
+-- What lines tell of the disk of the node of this name, which they neither arm nor make run again: each failure that they show raised its count, and it is as it
+-- was where its node is none of these.
+pub record DiskTold (name : List ℕ) (touched : List (List ℕ)) (lines : List Line) (old new : DiskState) : Type 0 where
+  pub calls : new.calls ≡ old.calls
+  pub failures : (cause : Cause) → In (line.Down name cause) lines → IsCounted old → Rose (count_of cause (counts_of old)) (count_of cause (counts_of new))
+  pub passes : Passes old new
+  pub elsewhere : is_named name touched ≡ false → new ≡ old
+
+-- so of all disks, where the lines say what is kept of all nodes
+pub record Told (touched : List (List ℕ)) (lines : List Line) (ks : List Kept) (s : SharedState) (ls : List Kept) (t : SharedState) : Type 0 where
+  pub says : lines_said lines (said_together ks s) ≡ said_together ls t
+  pub names : kept_names ls ≡ kept_names ks
+  pub each : (place : ℕ) (k l : Kept) → slice_get ks place ≡ Some k → slice_get ls place ≡ Some l → DiskTold k.name touched lines (disk_in k.place) (disk_in l.place)
+
+-- Such lines were shown, and the statement goes on,
+pub record TurnTold (touched : List (List ℕ)) (ks : List Kept) (s : SharedState) (a b : Shown) (ls : List Kept) (t : SharedState) : Type 0 where
+  pub lines : List Line
+  pub emits : Emits a lines b
+  pub told : Told touched lines ks s ls t
+
+-- or it was answered behind them, by a line that says nothing.
+pub record TurnOver (touched : List (List ℕ)) (ks : List Kept) (s : SharedState) (a b : Shown) (ls : List Kept) (t : SharedState) : Type 0 where
+  pub lines : List Line
+  pub answer : Line
+  pub emits : Emits a (lines ++ answer ∷ []) b
+  pub quiet : (said : Said) → line_said answer said ≡ said
+  pub told : Told touched lines ks s ls t
+
+-- Boots.
+
+-- what lines tell of the disk of the node of this name, which a settling made run again, or did not
+pub record DiskPowered (name : List ℕ) (powered : Bool) (lines : List Line) (old new : DiskState) : Type 0 where
+  pub calls : new.calls ≡ (if powered then noted (disk_call.Power old.stops) old.calls else old.calls)
+  pub failures : (cause : Cause) → In (line.Down name cause) lines → IsCounted old → Rose (count_of cause (counts_of old)) (count_of cause (counts_of new))
+  pub passes : Passes old new
+
+-- lines that show neither that the node of this name went down nor that it came up
+pub record IsUnmentioned (name : List ℕ) (lines : List Line) : Type 0 where
+  pub down : (cause : Cause) → In (line.Down name cause) lines → ⊥
+  pub boot : shows_boot name lines ≡ false
+
+-- The nodes before this place that were down came up, which these lines tell and say; the others are as they were.
+pub record Restarted (place : ℕ) (lines : List Line) (ks : List Kept) (s : SharedState) (ls : List Kept) (t : SharedState) : Type 0 where
+  pub says : lines_said lines (said_together ks s) ≡ said_together ls t
+  pub names : kept_names ls ≡ kept_names ks
+  pub front : (j : ℕ) (k l : Kept) → j < place → slice_get ks j ≡ Some k → slice_get ls j ≡ Some l → DiskPowered k.name (not (is_up k.place)) lines (disk_in k.place) (disk_in l.place)
+  pub came : CameUp (take place (map said_node ks)) lines
+  pub behind : (j : ℕ) (k : Kept) → place ≤ j → slice_get ks j ≡ Some k → (slice_get ls j ≡ Some k) × IsUnmentioned k.name lines
+
+-- such lines were shown
+pub record RestartsTold (place : ℕ) (ks : List Kept) (s : SharedState) (a b : Shown) (ls : List Kept) (t : SharedState) : Type 0 where
+  pub lines : List Line
+  pub emits : Emits a lines b
+  pub told : Restarted place lines ks s ls t

@@ -1,0 +1,21 @@
+-- Nodes of whose disks nothing is known.
+use Rattle.std.specs.Prelude.{◌≡◌, ◌≤◌, ℕ, List, false, Some}
+use Rattle.script_model.specs.Statements.{At, Boot, Clock, Settle, Statement}
+use Rattle.run_model.specs.World.{Node, Unknown, World, find_node}
+
+-- a node that is down, and of whose disk nothing is known, though no INIT of it failed
+pub record IsUntold (n : Node) : Type 0 where
+  pub down : n.up ≡ false
+  pub unknown : n.durable.volume ≡ Unknown
+  pub made : n.unmade ≡ false
+
+-- A statement may bring such a node up: its own BOOT, or a settling. The world does not say what it is answered then.
+abbrev pub BootsUnknown : World → Statement → Type 0
+BootsUnknown w (At node Boot) = (n : Node) × (find_node node w.nodes ≡ Some n) × IsUntold n
+BootsUnknown w Settle = (node : List ℕ) × (n : Node) × (find_node node w.nodes ≡ Some n) × IsUntold n
+BootsUnknown w s = ⊥
+
+-- a clock is set to a moment that a script may name
+abbrev pub IsTimely : Statement → Type 0
+IsTimely (At node (Clock now)) = now ≤ 24000000000000
+IsTimely s = Unit {0}

@@ -1,0 +1,4 @@
+pub mod OwnLines
+pub mod Refusals
+pub mod Restarted
+pub mod Calling

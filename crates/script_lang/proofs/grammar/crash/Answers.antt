@@ -1,8 +1,0 @@
-use Rattle.script_lang.proofs.ReadsLemmas.{missed, took}
-use Rattle.script_lang.proofs.grammar.crash.Goals as goal
-
-pub returns-in_err-node : goal.returns-in_err-node
-returns-in_err-node c = λ lit. missed c.node.ensures c.in_err-node.was c.from_residual.ensures.1
-
-pub returns : goal.returns
-returns c = λ lit. took c.node.ensures c.in_ok-node.was (c.ends.ensures lit)

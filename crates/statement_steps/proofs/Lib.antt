@@ -1,0 +1,15 @@
+pub mod Counting
+pub mod Walking
+pub mod OneParts
+pub mod Phasing
+pub mod Places
+pub mod Keeping
+pub mod Questions
+pub mod Turning
+pub mod Doubting
+pub mod Hearing
+pub mod Asking
+pub mod Stepping
+pub mod Rising
+pub mod Going
+pub mod Answering

@@ -1,0 +1,2 @@
+pub mod RestartLemmas
+pub mod RoomLemmas

@@ -1,0 +1,27 @@
+-- What bars a boot of a volume whose blocks are in order.
+use Rattle.std.specs.Prelude.{◌-◌, ◌^◌, ◌&&◌, ◌==◌, ℕ, List, [], ◌∷◌, Bool, Option, Some, None, if◌then◌else◌, max, nat_le, nat_lt}
+use Rattle.file_base.specs.declared.head.FileHead.{FileHead}
+use Rattle.file_base.specs.declared.head.Span.{Span}
+use Rattle.journal_model.specs.Ring.{ring_size}
+use Rattle.run_model.specs.Answers.{boot_limit, moment_limit, position_limit}
+use Rattle.run_model.specs.World.{Bar, NoRing, AllBoots, LateMoment, FarPosition}
+use Rattle.volume.specs.declared.catalog.Catalog.{Catalog}
+
+-- the greatest end of a journal of images of these heads, whether or not it is marked
+abbrev pub ends_in : List (Option FileHead) → ℕ
+ends_in [] = 0
+ends_in (None ∷ hs) = ends_in hs
+ends_in (Some h ∷ hs) = max (max h.ai.end h.bi.end) (ends_in hs)
+
+-- whether a journal lies in its ring, and its positions are low
+abbrev pub is_in_ring : Span → Bool
+is_in_ring s = nat_le s.first s.end && (nat_le (s.end - s.first) (ring_size s) && nat_le s.end (2 ^ 62))
+
+-- the first of the bars that is so of a volume
+abbrev pub first_bar : Catalog → Option Bar
+first_bar v =
+    if is_in_ring v.ru then (
+    if v.home.boot == boot_limit then Some AllBoots
+    else (if nat_lt moment_limit v.home.greatest_moment.0 then Some LateMoment
+    else (if nat_lt position_limit (max v.ru.end (ends_in v.heads)) then Some FarPosition else None))
+    ) else Some NoRing
