@@ -6,6 +6,7 @@ ghost use Rattle.block_disk.specs.Disk.{DiskState, IsPowered, answered, put, set
 use crate::Failed;
 use thiserror::Error;
 
+/// Why a call of a disk was not carried out.
 #[derive(Clone, Copy, Debug, PartialEq, Eq, Error)]
 pub enum DiskErr {
     /// A call of the platter failed.

@@ -7,8 +7,6 @@ mod file;
 mod mem;
 mod platter;
 mod table;
-#[cfg(test)]
-mod tests;
 
 pub use crash::CrashDisk;
 pub use disk::{Disk, DiskCall, DiskErr};

@@ -78,6 +78,7 @@ impl BlockTable {
         put_entry(&mut self.entries, n, bytes);
     }
 
+    /// Takes all entries away; the room stays.
     pub fn clear(&mut self)
         ensures { self.new ≡ record self.old { entries = [] } }
     {

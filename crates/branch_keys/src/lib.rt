@@ -4,6 +4,3 @@
 mod key;
 
 pub use key::BranchKey;
-
-#[cfg(test)]
-mod tests;

@@ -7,8 +7,6 @@ mod kind;
 mod layout;
 mod packed;
 mod page;
-#[cfg(test)]
-mod tests;
 
 pub use front::{clear_front, insert_front, link_front, remove_front, replace_front, split_front};
 pub use kind::PageKind;

@@ -6,8 +6,6 @@ mod group;
 mod law;
 mod load;
 mod store;
-#[cfg(test)]
-mod tests;
 
 pub use down::Down;
 pub use law::{one_content, power_keeps};

@@ -5,8 +5,6 @@ mod behind;
 mod buckets;
 mod file;
 mod law;
-#[cfg(test)]
-mod tests;
 mod walk;
 
 pub use behind::number_behind;

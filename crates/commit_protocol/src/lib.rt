@@ -42,9 +42,9 @@ pub fn agreement()
     ensures new_volumes_agree { (nodes : List Name) → IsAgreeing (new_volumes nodes) }
 {}
 
-/// The world's steps are those of a node's table. After the acts of a row a node knows what the row leaves, and no other node knows anything else. The committed
-/// records of a node may come in any order. A node that boots knows the prepared and the committed records of its log, both in any order, as that of the log's
-/// slots; behind the prepared ones the boot may name the units that it undoes. Any message that was ever sent may come.
+/// The world's steps are those of a node's table. After the acts of a row a node knows what the row leaves, and no other node knows anything else.
+/// The committed records of a node may come in any order. A node that boots knows the prepared and the committed records of its log, both in any
+/// order, as that of the log's slots; behind the prepared ones the boot may name the units that it undoes. Any message that was ever sent may come.
 pub fn tables()
     ensures follow { (w : World) (n : Name) (todo : List Act) → tm_at (acts_all n todo w) n ≡ after todo (tm_at w n) }
     ensures others_stay { (w : World) (n other : Name) (todo : List Act) → (other ≡ n → ⊥) → (acts_all n todo w).nodes other ≡ w.nodes other }

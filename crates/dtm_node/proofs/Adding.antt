@@ -11,7 +11,8 @@ use Rattle.transcript_model.specs.Emitting.{Emits, Shown, Since}
 use Rattle.transcript_model.specs.Lines as line
 use Rattle.transcript_model.specs.Lines.{Line}
 use Rattle.script_model.specs.Statements.{AddBranch}
-use Rattle.run_laws.specs.Said.{is_of_lines, line_said, refused_by_lines, request_said}
+use Rattle.run_laws.specs.Said.{line_said, refused_by_lines, request_said}
+use Rattle.said_steps.specs.Answers.{is_served}
 use Rattle.run_model.specs.Operations.{first_of, refused_if}
 use Rattle.run_model.specs.World.{Draws, Node, Shared, acted}
 use Rattle.run_model.specs.Answers.{bid_limit, branch_labelled, in_state, is_first_active, made_label, more_bids, new_label, service, unsettled, unsettled_label}
@@ -67,7 +68,7 @@ module _ (label other new : List ℕ) (clock : ℕ) (r : Up) (sh : SharedState) 
         let found = branch_in (name_of r) label sh.labels r.tm.table in
         let none : unsettled found ≡ Some l = sym (ap (λ x. first_of x (unsettled found)) made) ∙ missing in
         let is : l ≡ line.NoSuchTransaction = unsettled_line found l none in
-        refuses (AddBranch label other new) clock r sh a b l up since shows (λ s. ap (λ x. line_said x s) is) (λ s. ap (λ x. request_said (name_of r) (AddBranch label other new) x s) is) (λ refusal e. absurd (no_line refusal (sym unrefused ∙ e))) (λ e. ap is_of_lines is)
+        refuses (AddBranch label other new) clock r sh a b l up since shows (λ s. ap (λ x. line_said x s) is) (λ s. ap (λ x. request_said (name_of r) (AddBranch label other new) x s) is) (λ refusal e. absurd (no_line refusal (sym unrefused ∙ e))) (λ e. ap is_served is)
         (λ s n h share kept. ap (λ x. first_of x ((service (AddBranch label other new)).refused_after_reading s n)) (branch_early s n h share found refl ∙ ap (λ x. first_of x (in_state is_first_active found)) none))
 
     module _ (x : Branch) (found : branch_in (name_of r) label sh.labels r.tm.table ≡ Some x) where

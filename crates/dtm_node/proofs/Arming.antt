@@ -22,7 +22,9 @@ use Rattle.dtm_node.specs.Standing.{IsDown, IsRunning, Kept, Place, StandsFor, S
 use Rattle.dtm_node.specs.Nodes.{place_armed}
 use Rattle.dtm_node.specs.Running.{HasGrown}
 use Rattle.dtm_node.specs.Telling.{Passes, TellsTask, said_alone, said_shared}
+use Rattle.dtm_node.proofs.Answered.{calm_answers}
 use Rattle.dtm_node.proofs.DiskLemmas.{disk_kept}
+use Rattle.dtm_node.proofs.Held.{holds_same}
 use Rattle.dtm_node.proofs.Stepping.{IsPlain, step_done}
 
 abbrev pub armed_volume : ℕ → ℕ → VolumeState → VolumeState
@@ -90,6 +92,8 @@ module _ (writes choice : ℕ) (k : Kept) (s : SharedState) (a b : Shown) (shows
     quiet = λ x. refl;
     fused = λ w c q. refl;
     boots = λ q. (let f : ⊥ = cc in absurd f);
+    answered = calm_answers (Serves (Fuse writes choice)) k.name None [] line.Normal false tt refl (λ q none. (let f : ⊥ = cc in f)) (λ none. refl);
+    held = λ down unused. (armed_up writes choice k.place ∙ down, holds_same (disk_in k.place) (disk_in kept_armed_so.place) (ap (λ (d : DiskState). d.pending) (armed_disk writes choice k.place)) (ap (λ (d : DiskState). d.seen) (armed_disk writes choice k.place)));
   }
 
   pub fuse_performs : KeepsNodes → PerformsRequest (Fuse writes choice) k s a b kept_armed_so s

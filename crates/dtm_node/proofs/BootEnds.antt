@@ -1,6 +1,6 @@
 -- A boot that ends its statement, by its lines and in the world.
 use Rattle.std.proofs.Common.{◌≡◌, ℕ, List, [], ◌∷◌, ◌++◌, Bool, true, false, not, Option, Some, None, if◌then◌else◌, refl, ◌∙◌, ap, sym, subst, arith}
-use Rattle.std.specs.Prelude.{◌||◌}
+use Rattle.std.specs.Prelude.{◌||◌, ◌&&◌}
 use Rattle.std.specs.List.{AllByRecursion}
 use Rattle.block_disk.specs.Disk.{CallLog, DiskState, noted}
 use Rattle.block_disk.specs.declared.disk.DiskCall.TheVariants as disk_call
@@ -12,7 +12,8 @@ use Rattle.transcript_model.specs.Outside.{Rose}
 use Rattle.script_model.specs.Statements as said
 use Rattle.script_model.specs.Statements.{Boot}
 use Rattle.run_laws.specs.Said.{Said, is_of_lines, line_said, lines_said, request_said, with_use}
-use Rattle.said_steps.specs.Calls.{shows_boot}
+use Rattle.said_steps.specs.Answers.{ends_boot as ends_boot_by}
+use Rattle.said_steps.specs.Calls.{is_boot_refusal, shows_boot}
 use Rattle.said_steps.specs.Own.{IsOwn}
 use Rattle.run_model.specs.Answers.{Restarts, Serves, Task, refused_before_reading, task_service}
 use Rattle.run_model.specs.Operations.{first_of, refused_if}
@@ -27,7 +28,9 @@ use Rattle.dtm_node.specs.Boots.{IsBootRefusal}
 use Rattle.dtm_node.specs.Keeping.{IsPromised, Performs}
 use Rattle.dtm_node.specs.Opening.{EndsBoot, EndsTask, boots_node, kept_down, used}
 use Rattle.dtm_node.specs.Standing.{StandsFor, counts_of}
-use Rattle.dtm_node.specs.Telling.{Passes, TellsTask, powered_task, said_alone, said_shared}
+use Rattle.dtm_node.specs.Holding.{HoldsAs}
+use Rattle.dtm_node.specs.Telling.{AnswersTask, Passes, TellsTask, may_answer_task, powered_task, said_alone, said_shared}
+use Rattle.dtm_node.proofs.Answered.{boot_may, calm_answers, fell_answers, restart_may}
 use Rattle.dtm_node.proofs.BootSteps.{IsBoot, boot_is, in_use, restart_is}
 use Rattle.dtm_node.proofs.SaysLemmas.{all_on, alone_down, down_behind, lines_calm, lines_on, own_calm, with_wire}
 
@@ -58,10 +61,13 @@ pub record IsEnding (name : List ℕ) (lines : List Line) (answer : Line) (power
   pub boot_powers : powered_task (Serves Boot) true answer ≡ powers
   pub restart_powers : powered_task Restarts true answer ≡ powers
   pub made : (node : List ℕ) → answer ≡ line.NotInitializedAt node → ⊥
+  pub may : ends_boot_by answer ≡ true
+  pub answers : (task : Task) → (task ≡ Serves said.Crash → ⊥) → (refusal : Option Line) → (refusal ≡ None → may_answer_task task true answer ≡ true) → AnswersTask task name refusal lines answer true
 
 module _ (name : List ℕ) (clock : ℕ) (has_parts has_then : Bool) (d0 d : DiskState) (lines : List Line) (answer : Line) (powers uses : Bool) (e : IsEnding name lines answer powers uses) (passes : Passes d0 d)
     (calls : d.calls ≡ (let cs : CallLog = if powers then noted (disk_call.Power d0.stops) d0.calls else d0.calls in cs))
-    (failures : (cause : Cause) → In (line.Down name cause) lines → IsCounted d0 → Rose (count_of cause (counts_of d0)) (count_of cause (counts_of d))) where
+    (failures : (cause : Cause) → In (line.Down name cause) lines → IsCounted d0 → Rose (count_of cause (counts_of d0)) (count_of cause (counts_of d)))
+    (held : powers && not (is_boot_refusal answer) ≡ false → HoldsAs d0 d) where
   module _ (s : SharedState) (a b : Shown) (m : Emits a (lines ++ answer ∷ []) b) where
     boot_ends : TellsTask (Serves Boot) true true (kept_down name clock has_parts d0) s a b (kept_down name clock has_then d) (if uses then used s else s)
     boot_ends = record {
@@ -78,6 +84,8 @@ module _ (name : List ℕ) (clock : ℕ) (has_parts has_then : Bool) (d0 d : Dis
       quiet = e.quiet;
       fused = λ writes choice q. (let f : ⊥ = cc in absurd f);
       boots = λ q. (let f : ⊥ = cc in absurd f);
+      answered = e.answers (Serves Boot) (λ q. (let f : ⊥ = cc in f)) None (λ none. boot_may answer e.may);
+      held = λ down unused. (refl, held (ap (λ (x : Bool). x && not (is_boot_refusal answer)) (sym e.boot_powers) ∙ unused));
     }
       where
         used_said : (u : Bool) → (let t : Said = if u then with_use (said_alone (kept_down name clock has_parts d0) s) else said_alone (kept_down name clock has_parts d0) s in t) ≡ said_alone (kept_down name clock has_then d) (if u then used s else s)
@@ -98,7 +106,9 @@ module _ (name : List ℕ) (clock : ℕ) (has_parts has_then : Bool) (d0 d : Dis
       passes = passes;
       quiet = e.quiet;
       fused = λ writes choice q. (let f : ⊥ = cc in absurd f);
-      boots = λ q. record { shown = e.none_up; unmade = λ u. (let f : ⊥ = cc in absurd f); made = λ u node r. e.made node r };
+      boots = λ q. record { shown = e.none_up; up = λ on. (let f : ⊥ = cc in absurd f); unmade = λ u. (let f : ⊥ = cc in absurd f); made = λ u node r. e.made node r };
+      answered = e.answers Restarts (λ q. (let f : ⊥ = cc in f)) None (λ none. restart_may answer e.may);
+      held = λ down unused. (refl, held (ap (λ (x : Bool). x && not (is_boot_refusal answer)) (sym e.restart_powers) ∙ unused));
     }
       where
         used_said : (u : Bool) → (u ≡ true → s.in_use ≡ true) → said_alone (kept_down name clock has_parts d0) s ≡ said_alone (kept_down name clock has_then d) (if u then used s else s)
@@ -117,12 +127,12 @@ module _ (name : List ℕ) (clock : ℕ) (has_parts has_then : Bool) (d0 d : Dis
 
 -- memory is missing
 pub lacking_end : (name : List ℕ) → IsEnding name [] line.NoMemory false false
-lacking_end name = record { own = tt; says = λ s is. refl; none_up = refl; plain = refl; quiet = λ s. refl; boot_said = λ s. refl; boot_powers = refl; restart_powers = refl; made = λ node q. (let f : ⊥ = cc in f) }
+lacking_end name = record { own = tt; says = λ s is. refl; none_up = refl; plain = refl; quiet = λ s. refl; boot_said = λ s. refl; boot_powers = refl; restart_powers = refl; made = λ node q. (let f : ⊥ = cc in f); may = refl; answers = λ t no_crash refusal may. calm_answers t name refusal [] line.NoMemory true tt refl (λ q none. no_crash q) may }
 
 -- what the disk has refuses it, or a quota
 pub refused_end : (name : List ℕ) (answer : Line) → IsBootRefusal answer → IsEnding name [] answer true false
-refused_end name (line.NoVolume node condition block) is = record { own = tt; says = λ s e. refl; none_up = refl; plain = refl; quiet = λ s. refl; boot_said = λ s. refl; boot_powers = refl; restart_powers = refl; made = λ other q. (let f : ⊥ = cc in f) }
-refused_end name (line.QuotaExceeded quota limit) is = record { own = tt; says = λ s e. refl; none_up = refl; plain = refl; quiet = λ s. refl; boot_said = λ s. refl; boot_powers = refl; restart_powers = refl; made = λ other q. (let f : ⊥ = cc in f) }
+refused_end name (line.NoVolume node condition block) is = record { own = tt; says = λ s e. refl; none_up = refl; plain = refl; quiet = λ s. refl; boot_said = λ s. refl; boot_powers = refl; restart_powers = refl; made = λ other q. (let f : ⊥ = cc in f); may = refl; answers = λ t no_crash refusal may. calm_answers t name refusal [] (line.NoVolume node condition block) true tt refl (λ q none. no_crash q) may }
+refused_end name (line.QuotaExceeded quota limit) is = record { own = tt; says = λ s e. refl; none_up = refl; plain = refl; quiet = λ s. refl; boot_said = λ s. refl; boot_powers = refl; restart_powers = refl; made = λ other q. (let f : ⊥ = cc in f); may = refl; answers = λ t no_crash refusal may. calm_answers t name refusal [] (line.QuotaExceeded quota limit) true tt refl (λ q none. no_crash q) may }
 refused_end name _ is = let f : ⊥ = cc in absurd f
 
 -- the disk went down, behind lines of work by which nothing is sent
@@ -137,6 +147,8 @@ fallen_end name ls cause calm unsent = record {
   boot_powers = refl;
   restart_powers = refl;
   made = λ node q. (let f : ⊥ = cc in f);
+  may = refl;
+  answers = λ t no_crash refusal may. fell_answers t name refusal ls cause calm no_crash may;
 }
   where
     says : (s : Said) → s.nodes ≡ record { name = name; up = false; unmade = false } ∷ [] → lines_said (ls ++ line.Down name cause ∷ []) s ≡ s

@@ -31,7 +31,11 @@ use Rattle.dtm_node.specs.Keeping.{PerformsRequest, PerformsTask}
 use Rattle.dtm_node.specs.Nodes.{last_lines_of, undone_line}
 use Rattle.dtm_node.specs.Opening.{ComesTo, EndsBoot, EndsTask, IsOpen, Opens, Reopens, ReopensDown, Rises, kept_down, used}
 use Rattle.dtm_node.specs.Standing.{IsDown, IsRunning, Kept, Place, StandsFor, StandsIn, counts_of, disk_in, is_up}
-use Rattle.dtm_node.specs.Telling.{Passes, RestartTold, TellsTask, armed_task, powered_task, refused_task, said_alone, said_node, said_shared, task_said}
+use Rattle.said_steps.specs.Answers.{IsSteady}
+use Rattle.said_steps.proofs.Falls.{steady_on}
+use Rattle.dtm_node.proofs.Answered.{calm_answers, calm_steady, refused_answers, steady_answers}
+use Rattle.dtm_node.proofs.Held.{holds_is}
+use Rattle.dtm_node.specs.Telling.{AnswersTask, Passes, RestartTold, TellsTask, armed_task, powered_task, refused_task, said_alone, said_node, said_shared, task_said}
 use Rattle.dtm_node.specs.TheLaws.{TheLaws}
 use Rattle.dtm_node.proofs.BootEnds.{shares_used}
 use Rattle.dtm_node.proofs.BootSteps.{IsBoot, boot_is, restart_is, step_first}
@@ -122,6 +126,8 @@ module _ (k : Kept) (s : SharedState) (boot : ℕ) (a mid b : Shown) (l : Kept) 
       quiet = λ u. refl;
       fused = λ writes choice q. (let f : ⊥ = cc in absurd f);
       boots = λ q. (let f : ⊥ = cc in absurd f);
+      answered = calm_answers (Serves Boot) k.name (refused_task (said_shared s) (said_node k) (Serves Boot)) r.lines (line.NormalCount boot) false r.work refl (λ q none. (let f : ⊥ = cc in f)) (λ none. refl);
+      held = λ d unused. (let f : ⊥ = cc in absurd f);
     }
       where
         unrefused : refused_task (said_shared s) (said_node k) (Serves Boot) ≡ None
@@ -161,9 +167,14 @@ module _ (k : Kept) (s : SharedState) (boot : ℕ) (a mid b : Shown) (l : Kept) 
       passes = r.passes;
       quiet = λ u. refl;
       fused = λ writes choice q. (let f : ⊥ = cc in absurd f);
-      boots = λ q. record { shown = shown r.lines; unmade = λ u. absurd (let e : true ≡ false = sym u ∙ made in (let f : ⊥ = cc in f)); made = λ u node e. (let f : ⊥ = cc in f) };
+      boots = λ q. record { shown = shown r.lines; up = λ on. r.up; unmade = λ u. absurd (let e : true ≡ false = sym u ∙ made in (let f : ⊥ = cc in f)); made = λ u node e. (let f : ⊥ = cc in f) };
+      answered = steady_answers Restarts k.name None (r.lines ++ booted) line.Normal false (steady_on r.lines booted (calm_steady r.lines r.work) booted_steady) refl (λ q none. (let f : ⊥ = cc in f)) (λ none. refl);
+      held = λ d unused. (let f : ⊥ = cc in absurd f);
     }
       where
+        booted_steady : IsSteady booted
+        booted_steady = record { down = λ node cause i. elim i [ inl e ↦ (let f : ⊥ = cc in f) | inr x ↦ x ]; crash = λ node i. elim i [ inl e ↦ (let f : ⊥ = cc in f) | inr x ↦ x ] }
+
         not_down : (ls : List Line) → AllByRecursion IsOfWork ls → (cause : Cause) → In (line.Down k.name cause) (ls ++ booted) → ⊥
         not_down [] h cause (inl e) = cc
         not_down [] h cause (inr i) = i
@@ -203,13 +214,13 @@ IsStill task answer k s = (task_said task [] answer k s ≡ said_alone k s) × (
 
 module _ (k : Kept) (s : SharedState) (a b : Shown) where
   still_tells : (task : Task) (answer : Line) → Emits a (answer ∷ []) b → IsStill task answer k s → ((calls : CallLog) → armed_task task calls ≡ calls) → ((writes choice : ℕ) → task ≡ Serves (Fuse writes choice) → ⊥)
-      → ((refusal : Line) → refused_task (said_shared s) (said_node k) task ≡ Some refusal → answer ≡ refusal) → (refused_task (said_shared s) (said_node k) task ≡ None → is_of_lines answer ≡ false) → (task ≡ Restarts → RestartTold k [] answer true) → TellsTask task true true k s a b k s
-  still_tells task answer m still unarmed no_fuse refuses others boots = record {
+      → ((refusal : Line) → refused_task (said_shared s) (said_node k) task ≡ Some refusal → answer ≡ refusal) → (refused_task (said_shared s) (said_node k) task ≡ None → is_of_lines answer ≡ false) → (task ≡ Restarts → RestartTold k k [] answer true) → AnswersTask task k.name (refused_task (said_shared s) (said_node k) task) [] answer true → TellsTask task true true k s a b k s
+  still_tells task answer m still unarmed no_fuse refuses others boots answered = record {
     lines = [];
     answer = answer;
     emits = m;
     own = tt;
-    refused = λ refusal q. (refl, refuses refusal q, refl);
+    refused = λ refusal q. (refl, refuses refusal q, refl, refl);
     others = others;
     says = still.0;
     calls = sym (ap (λ (x : Bool). if x then noted (disk_call.Power (disk_in k.place).stops) (disk_in k.place).calls else armed_task task (disk_in k.place).calls) still.2 ∙ unarmed (disk_in k.place).calls);
@@ -218,6 +229,8 @@ module _ (k : Kept) (s : SharedState) (a b : Shown) where
     quiet = still.1;
     fused = λ writes choice q. absurd (no_fuse writes choice q);
     boots = boots;
+    answered = answered;
+    held = λ d unused. (d, holds_is (disk_in k.place) (disk_in k.place) refl);
   }
 
   first_performs : (task : Task) (p : IsBoot task) (answer : Line) → Emits a (answer ∷ []) b → ((log : CallLog) (w : Shared) (n : Node) → StandsFor log k n → refused_before_reading w n (task_service task) ≡ Some answer) → PerformsTask task true true k s a b k s
@@ -254,7 +267,7 @@ module _ (k : Kept) (s : SharedState) (a b : Shown) where
   boot_at_up up m =
       let says : refused_task (said_shared s) (said_node k) (Serves Boot) ≡ Some line.NodeUp = ap (λ (x : Bool). first_of (refused_if x line.NodeUp) (refused_if k.unmade line.NotInitialized)) up in (
         still_tells (Serves Boot) line.NodeUp m (refl, λ u. refl, refl) (λ calls. refl) (λ writes choice q. (let f : ⊥ = cc in f)) (λ refusal q. some_answer line.NodeUp refusal (sym says ∙ q))
-            (λ none. absurd (let e : ◌≡◌ {A = Option Line} (Some line.NodeUp) None = sym says ∙ none in (let f : ⊥ = cc in f))) (λ q. (let f : ⊥ = cc in absurd f)),
+            (λ none. absurd (let e : ◌≡◌ {A = Option Line} (Some line.NodeUp) None = sym says ∙ none in (let f : ⊥ = cc in f))) (λ q. (let f : ⊥ = cc in absurd f)) (refused_answers (Serves Boot) k.name (refused_task (said_shared s) (said_node k) (Serves Boot)) line.NodeUp true says refl),
         λ log n w h share kept promised. (true, first_performs (Serves Boot) boot_is line.NodeUp m (λ l x y z. ap (λ (u : Bool). first_of (refused_if (not (u || true)) line.NodeDown) (first_of (refused_if u line.NodeUp) (refused_if y.unmade line.NotInitialized))) (up_node l y up z)) log n w h share kept promised),
       )
 
@@ -263,13 +276,14 @@ module _ (k : Kept) (s : SharedState) (a b : Shown) where
     boot_unmade m =
         let says : refused_task (said_shared s) (said_node k) (Serves Boot) ≡ Some line.NotInitialized = λ i. first_of (refused_if (down i) line.NodeUp) (refused_if (unmade i) line.NotInitialized) in (
           still_tells (Serves Boot) line.NotInitialized m (refl, λ u. refl, refl) (λ calls. refl) (λ writes choice q. (let f : ⊥ = cc in f)) (λ refusal q. some_answer line.NotInitialized refusal (sym says ∙ q))
-              (λ none. absurd (let e : ◌≡◌ {A = Option Line} (Some line.NotInitialized) None = sym says ∙ none in (let f : ⊥ = cc in f))) (λ q. (let f : ⊥ = cc in absurd f)),
+              (λ none. absurd (let e : ◌≡◌ {A = Option Line} (Some line.NotInitialized) None = sym says ∙ none in (let f : ⊥ = cc in f))) (λ q. (let f : ⊥ = cc in absurd f)) (refused_answers (Serves Boot) k.name (refused_task (said_shared s) (said_node k) (Serves Boot)) line.NotInitialized true says refl),
           λ log n w h share kept promised. (true, first_performs (Serves Boot) boot_is line.NotInitialized m (λ l x y z. (λ i. first_of (refused_if (not (down_node l y down z i || true)) line.NodeDown) (first_of (refused_if (down_node l y down z i) line.NodeUp) (refused_if ((z.unmade ∙ unmade) i) line.NotInitialized)))) log n w h share kept promised),
         )
 
     pub restart_unmade : Emits a (line.NotInitializedAt k.name ∷ []) b → TellsTask Restarts true true k s a b k s × PerformsTask Restarts true true k s a b k s
     restart_unmade m = (
       still_tells Restarts (line.NotInitializedAt k.name) m (refl, λ u. refl, refl) (λ calls. refl) (λ writes choice q. (let f : ⊥ = cc in f)) (λ refusal q. (let f : ⊥ = cc in absurd f)) (λ none. refl)
-          (λ q. record { shown = refl; unmade = λ u. (refl, refl, refl); made = λ u. absurd (let e : true ≡ false = sym unmade ∙ u in (let f : ⊥ = cc in f)) }),
+          (λ q. record { shown = refl; up = λ on. (let f : ⊥ = cc in absurd f); unmade = λ u. (refl, refl, refl); made = λ u. absurd (let e : true ≡ false = sym unmade ∙ u in (let f : ⊥ = cc in f)) })
+          (calm_answers Restarts k.name None [] (line.NotInitializedAt k.name) true tt refl (λ q none. (let f : ⊥ = cc in f)) (λ none. refl)),
       first_performs Restarts restart_is (line.NotInitializedAt k.name) m (λ l x y z. (λ i. first_of (refused_if (not (down_node l y down z i || true)) line.NodeDown) (first_of (refused_if (down_node l y down z i) line.NodeUp) (refused_if ((z.unmade ∙ unmade) i) (line.NotInitializedAt (z.name i)))))),
     )

@@ -82,11 +82,15 @@ module _ (rows_keep_up : RowsKeepUp) (e : Event) (free : ComesFreely e) (name : 
       → TellsRows {T = Unit {0}} (Err d) e clock old new before after a b → TellsEvent e goes_on (not goes_on) (kept_up name clock old) before a c (kept_fallen name clock (disk_of new)) after
   event_failed d c goes_on caused shows does task a0 of on first =
       let is = event_task clock task e of in (
-        event_fails task clock e is name old before after a0 a b first work new goes d c (not goes_on) caused shows,
+        event_fails task clock e is name old before after a0 a b first work new goes d c (not goes_on) (on ∙ twice goes_on) caused shows,
         λ log n s h share kept promised. as_task on log n s h (went_performs log s n name clock old h named (told n h.place) task e is new goes node_is after d (not goes_on) a0 b c caused (does_here {T = Unit {0}} (Err d) does task is a0 first s n h.place share kept)
             (subst (λ x. Emits b (line.Down name (cause_of d) ∷ (if not goes_on then (if x then line.Normal else line.Broken (cause_of d)) ∷ [] else [])) c) (sym on) (shown goes_on shows))),
       )
     where
+      twice : (x : Bool) → x ≡ not (not x)
+      twice true = refl
+      twice false = refl
+
       shown : (x : Bool) → Emits b (line.Down name (cause_of d) ∷ (if not x then line.Broken (cause_of d) ∷ [] else [])) c → Emits b (line.Down name (cause_of d) ∷ (if not x then (if x then line.Normal else line.Broken (cause_of d)) ∷ [] else [])) c
       shown true m = m
       shown false m = m

@@ -14,7 +14,8 @@ use Rattle.commit_protocol.proofs.Lists.{find_serial-key, same_key-true}
 use Rattle.transcript_model.specs.Lines as line
 use Rattle.transcript_model.specs.Lines.{Line}
 use Rattle.script_model.specs.Statements.{ByLabel, EndTrans}
-use Rattle.run_laws.specs.Said.{Said, is_of_lines, line_said}
+use Rattle.run_laws.specs.Said.{Said, line_said}
+use Rattle.said_steps.specs.Answers.{is_served}
 use Rattle.run_model.specs.World.{Node, Shared, tm_of}
 use Rattle.run_model.specs.Answers.{end_answer, is_first_active, missing, service}
 use Rattle.run_shared.specs.Sharing.{IsShared, SharedState}
@@ -43,7 +44,7 @@ ends_allowed bs b found h = ap (λ (o : Option Branch). there_is o (λ x. is_act
 -- A line that says nothing, and is none of the refusals by lines.
 pub record IsCalm (l : Line) : Type 0 where
   pub quiet : (s : Said) → line_said l s ≡ s
-  pub other : is_of_lines l ≡ false
+  pub other : is_served l ≡ true
 
 abbrev IsCalmIf : Option Line → Type 0
 IsCalmIf (Some l) = IsCalm l

@@ -13,7 +13,7 @@ use Rattle.transcript_model.specs.Lines as line
 use Rattle.transcript_model.specs.Lines.{Cause, Line}
 use Rattle.transcript_model.specs.Outside.{Rose}
 use Rattle.transcript_model.proofs.EmittingLemmas.{emits_on}
-use Rattle.script_model.specs.Statements.{Fuse}
+use Rattle.script_model.specs.Statements.{Crash, Fuse}
 use Rattle.run_laws.specs.Said.{Said, SaidNode, SaidShared, down_said, is_of_lines, line_said, lines_said}
 use Rattle.said_steps.specs.Own.{IsOwn}
 use Rattle.run_model.specs.World as world
@@ -28,7 +28,9 @@ use Rattle.dtm_node.specs.Causes.{cause_of}
 use Rattle.dtm_node.specs.Keeping.{all_shown}
 use Rattle.dtm_node.specs.Running.{event_told, shown_first}
 use Rattle.dtm_node.specs.Standing.{Kept, counts_of, disk_in, disk_of, is_up}
-use Rattle.dtm_node.specs.Telling.{Passes, TellsTask, calls_after_task, refused_task, said_alone, said_node, said_shared, task_said}
+use Rattle.dtm_node.proofs.Answered.{calm_answers, fell_answers, goes_answers, refused_answers}
+use Rattle.dtm_node.proofs.Held.{holds_is}
+use Rattle.dtm_node.specs.Telling.{AnswersTask, Passes, TellsTask, calls_after_task, may_answer_task, refused_task, said_alone, said_node, said_shared, task_said}
 use Rattle.dtm_node.proofs.Performing.{kept_fallen, kept_up, rose_of}
 use Rattle.dtm_node.proofs.SaysLemmas.{all_on, alone_down, calm_not_down, down_behind, lines_calm, lines_on, own_calm}
 use Rattle.dtm_node.proofs.Stepping.{IsPlain}
@@ -40,6 +42,9 @@ pub record IsEventTask (t : Task) (clock : ℕ) (e : Event) : Type 0 where
   pub calls : (ends : Bool) (l : Line) (stops : ℕ) (calls : CallLog) → calls_after_task t ends l stops calls ≡ calls
   pub no_fuse : (writes choice : ℕ) → t ≡ Serves (Fuse writes choice) → ⊥
   pub no_restart : t ≡ Restarts → ⊥
+  pub no_crash : t ≡ Serves Crash → ⊥
+  pub may_go : may_answer_task t false line.Normal ≡ true
+  pub may_end : (cause : Cause) → (task_service t).goes_on ≡ false → may_answer_task t true (line.Broken cause) ≡ true
   pub calm : (up : Bool) → AllByRecursion IsOfWork (shown_first up t)
   pub unsent : (up : Bool) (wire : List Message) → wire_after (shown_first up t) wire ≡ wire
   pub plain : IsPlain (task_service t) (task_service t).goes_on
@@ -60,6 +65,9 @@ event_task clock Ticks e h = subst (IsEventTask Ticks clock) (same_event (rows.C
   calls = λ ends l stops calls. refl;
   no_fuse = λ w c q. (let f : ⊥ = cc in f);
   no_restart = λ q. (let f : ⊥ = cc in f);
+  no_crash = λ q. (let f : ⊥ = cc in f);
+  may_go = refl;
+  may_end = λ cause on. (let f : ⊥ = cc in absurd f);
   calm = elim [ true ↦ tt | false ↦ tt ];
   unsent = elim [ true ↦ (λ w. refl) | false ↦ (λ w. refl) ];
   plain = record { powers = refl; occupies = refl; closing = refl; closing_lines = λ n. refl; goes = refl };
@@ -74,6 +82,9 @@ event_task clock (Takes m) e h = subst (IsEventTask (Takes m) clock) (same_event
   calls = λ ends l stops calls. refl;
   no_fuse = λ w c q. (let f : ⊥ = cc in f);
   no_restart = λ q. (let f : ⊥ = cc in f);
+  no_crash = λ q. (let f : ⊥ = cc in f);
+  may_go = refl;
+  may_end = λ cause on. refl;
   calm = elim [ true ↦ tt | false ↦ tt ];
   unsent = elim [ true ↦ (λ w. refl) | false ↦ (λ w. refl) ];
   plain = record { powers = refl; occupies = refl; closing = refl; closing_lines = λ n. refl; goes = refl };
@@ -88,6 +99,9 @@ event_task clock (Hears m) e h = subst (IsEventTask (Hears m) clock) (same_event
   calls = λ ends l stops calls. refl;
   no_fuse = λ w c q. (let f : ⊥ = cc in f);
   no_restart = λ q. (let f : ⊥ = cc in f);
+  no_crash = λ q. (let f : ⊥ = cc in f);
+  may_go = refl;
+  may_end = λ cause on. refl;
   calm = elim [ true ↦ (refl, tt) | false ↦ tt ];
   unsent = elim [ true ↦ (λ w. refl) | false ↦ (λ w. refl) ];
   plain = record { powers = refl; occupies = refl; closing = refl; closing_lines = λ n. refl; goes = refl };
@@ -102,6 +116,9 @@ event_task clock (LosesLink other) e h = subst (IsEventTask (LosesLink other) cl
   calls = λ ends l stops calls. refl;
   no_fuse = λ w c q. (let f : ⊥ = cc in f);
   no_restart = λ q. (let f : ⊥ = cc in f);
+  no_crash = λ q. (let f : ⊥ = cc in f);
+  may_go = refl;
+  may_end = λ cause on. (let f : ⊥ = cc in absurd f);
   calm = elim [ true ↦ tt | false ↦ tt ];
   unsent = elim [ true ↦ (λ w. refl) | false ↦ (λ w. refl) ];
   plain = record { powers = refl; occupies = refl; closing = refl; closing_lines = λ n. refl; goes = refl };
@@ -116,6 +133,9 @@ event_task clock RunsDown e h = subst (IsEventTask RunsDown clock) (same_event r
   calls = λ ends l stops calls. refl;
   no_fuse = λ w c q. (let f : ⊥ = cc in f);
   no_restart = λ q. (let f : ⊥ = cc in f);
+  no_crash = λ q. (let f : ⊥ = cc in f);
+  may_go = refl;
+  may_end = λ cause on. refl;
   calm = elim [ true ↦ tt | false ↦ tt ];
   unsent = elim [ true ↦ (λ w. refl) | false ↦ (λ w. refl) ];
   plain = record { powers = refl; occupies = refl; closing = refl; closing_lines = λ n. refl; goes = refl };
@@ -172,12 +192,14 @@ module _ (t : Task) (clock : ℕ) (e : Event) (is : IsEventTask t clock e) (name
       quiet = λ s. refl;
       fused = λ writes choice q. absurd (is.no_fuse writes choice q);
       boots = λ q. absurd (is.no_restart q);
+      answered = calm_answers t name (refused_task (said_shared before) (said_node (kept_up name clock old)) t) lines line.Normal false calm refl (λ q none. is.no_crash q) (λ none. is.may_go);
+      held = λ d unused. (let f : ⊥ = cc in absurd f);
     }
 
     -- the disk went down in it, which was shown, and answered where the statement ends by it
-    pub event_fails : (d : Down) (c : Shown) (ends : Bool) → Caused (Some d) (disk_of old) (disk_of new) → Emits b (line.Down name (cause_of d) ∷ (if ends then line.Broken (cause_of d) ∷ [] else [])) c
+    pub event_fails : (d : Down) (c : Shown) (ends : Bool) → (task_service t).goes_on ≡ not ends → Caused (Some d) (disk_of old) (disk_of new) → Emits b (line.Down name (cause_of d) ∷ (if ends then line.Broken (cause_of d) ∷ [] else [])) c
         → TellsTask t ends ends (kept_up name clock old) before a0 c (kept_fallen name clock (disk_of new)) after
-    event_fails d c ends caused shows =
+    event_fails d c ends goes_on caused shows =
         let answer = if ends then line.Broken (cause_of d) else line.Normal in
         record {
           lines = lines ++ line.Down name (cause_of d) ∷ [];
@@ -194,8 +216,14 @@ module _ (t : Task) (clock : ℕ) (e : Event) (is : IsEventTask t clock e) (name
           quiet = λ s. quiet_is ends s;
           fused = λ writes choice q. absurd (is.no_fuse writes choice q);
           boots = λ q. absurd (is.no_restart q);
+          answered = answers ends goes_on;
+          held = λ down unused. (let f : ⊥ = cc in absurd f);
         }
       where
+        answers : (x : Bool) → (task_service t).goes_on ≡ not x → AnswersTask t name (refused_task (said_shared before) (said_node (kept_up name clock old)) t) (lines ++ line.Down name (cause_of d) ∷ []) (if x then line.Broken (cause_of d) else line.Normal) x
+        answers true on = fell_answers t name (refused_task (said_shared before) (said_node (kept_up name clock old)) t) lines (cause_of d) calm is.no_crash (λ none. is.may_end (cause_of d) on)
+        answers false on = goes_answers t name (refused_task (said_shared before) (said_node (kept_up name clock old)) t) lines (cause_of d) calm is.no_crash on (λ none. is.may_go)
+
         go : (x : Bool) → Emits a0 (lines ++ line.Down name (cause_of d) ∷ (if x then line.Broken (cause_of d) ∷ [] else [])) c → Emits a0 (all_shown x (lines ++ line.Down name (cause_of d) ∷ []) (if x then line.Broken (cause_of d) else line.Normal)) c
         go true m = subst (λ ls. Emits a0 ls c) (sym (append_assoc lines (line.Down name (cause_of d) ∷ []) (line.Broken (cause_of d) ∷ []))) m
         go false m = m
@@ -215,7 +243,7 @@ event_down t clock e is k s a b down shows = record {
   answer = line.NodeDown;
   emits = shows;
   own = tt;
-  refused = λ refusal r. (let q : Some line.NodeDown ≡ Some refusal = sym (is.refused (said_shared s) (said_node k) ∙ down_is) ∙ r in (refl, (let z : line.NodeDown ≡ refusal = cc in z), refl));
+  refused = λ refusal r. (let q : Some line.NodeDown ≡ Some refusal = sym (is.refused (said_shared s) (said_node k) ∙ down_is) ∙ r in (refl, (let z : line.NodeDown ≡ refusal = cc in z), refl, refl));
   others = λ none. absurd (let q : Some line.NodeDown ≡ None = sym (is.refused (said_shared s) (said_node k) ∙ down_is) ∙ none in (let f : ⊥ = cc in f));
   says = is.said [] line.NodeDown k s;
   calls = sym (is.calls true line.NodeDown (disk_in k.place).stops (disk_in k.place).calls);
@@ -224,6 +252,8 @@ event_down t clock e is k s a b down shows = record {
   quiet = λ x. refl;
   fused = λ writes choice q. absurd (is.no_fuse writes choice q);
   boots = λ q. absurd (is.no_restart q);
+  answered = refused_answers t k.name (refused_task (said_shared s) (said_node k) t) line.NodeDown true (is.refused (said_shared s) (said_node k) ∙ down_is) refl;
+  held = λ d unused. (d, holds_is (disk_in k.place) (disk_in k.place) refl);
 }
   where
     down_is : down_said (said_node k) ≡ Some line.NodeDown

@@ -3,6 +3,7 @@ use Rattle.std.proofs.Common.{◌≡◌, ◌≤◌, ◌+◌, ℕ, List, [], ◌�
 use Rattle.std.specs.Prelude.{OnErr}
 use Rattle.careful_write.specs.declared.down.Down.{Down}
 use Rattle.transcript_model.specs.Emitting.{Shown}
+use Rattle.transcript_model.specs.Lines.{Line}
 use Rattle.script_model.specs.Statements as said
 use Rattle.script_model.specs.Statements.{Request}
 use Rattle.run_laws.specs.Said.{refused_by_lines}
@@ -42,6 +43,7 @@ pub serves_files : {T : Type 0} (r : Result T Down) (request : Request) (clock :
 serves_files {T} r request clock old new shared a b may still none touched rows h = record {
   keeps = keeps_beside old new old.drawn h.units may.up r 0 0 clock a b (omega arith) (omega arith) (omega arith, omega arith) h.keeps;
   uses = uses r;
+  leaves = λ refusal e. absurd (let q : ◌≡◌ {A = Option Line} None (Some refusal) = sym none ∙ e in (let f : ⊥ = cc in f));
   says = says_replies old.stored.volume.catalog.home.node request shared a b still r none h.keeps.replies;
   serves = λ s n stands share kept.
       let q = service_at (service request) s n in

@@ -42,7 +42,10 @@ use Rattle.dtm_node.specs.Causes.{cause_of}
 use Rattle.dtm_node.specs.Formatting.{Formats as FormatsPlace, FormatsDisk, init_answer, init_lines, is_ended, kept_so, unmade_then}
 use Rattle.dtm_node.specs.Keeping.{Performs, PerformsRequest, PerformsTask}
 use Rattle.dtm_node.specs.Standing.{IsDown, IsRunning, Kept, Place, StandsFor, counts_of, disk_in, noted_all}
-use Rattle.dtm_node.specs.Telling.{Passes, TellsTask, powered_task, refused_task, said_alone, said_node, said_shared, task_said}
+use Rattle.dtm_node.specs.Holding.{HoldsAs}
+use Rattle.dtm_node.proofs.Answered.{calm_answers, fell_answers, refused_answers}
+use Rattle.dtm_node.proofs.Held.{holds_is}
+use Rattle.dtm_node.specs.Telling.{AnswersTask, Passes, TellsTask, task_used, powered_task, refused_task, said_alone, said_node, said_shared, task_said}
 use Rattle.dtm_node.proofs.DiskLemmas.{as_it_was, disk_unknown}
 use Rattle.dtm_node.proofs.Passing.{Unpowers, passes_counts, passes_on, passes_power, passes_same, power_calls, rose_after, rose_down}
 use Rattle.dtm_node.proofs.SaysLemmas.{alone_down, same_text}
@@ -166,9 +169,9 @@ module _ (name : List ℕ) (slots journal : ℕ) (has_parts : Bool) (d0 : DiskSt
     tells : (done : Formatted) (d : DiskState) → Emits a (init_lines name done ++ init_answer done ∷ []) b → AllByRecursion (IsOwn name) (init_lines name done) → is_of_lines (init_answer done) ≡ false
         → task_said (Serves (Init slots journal)) (init_lines name done) (init_answer done) before s ≡ said_alone (kept_so name (unmade_then done unmade) clock has_parts d) s → ((u : Said) → line_said (init_answer done) u ≡ u)
         → d.calls ≡ (let cs : CallLog = if powered_task (Serves (Init slots journal)) (is_ended done) (init_answer done) then noted (disk_call.Power d0.stops) d0.calls else d0.calls in cs)
-        → ((cause : Cause) → In (line.Down name cause) (init_lines name done) → IsCounted d0 → Rose (count_of cause (counts_of d0)) (count_of cause (counts_of d))) → Passes d0 d
+        → ((cause : Cause) → In (line.Down name cause) (init_lines name done) → IsCounted d0 → Rose (count_of cause (counts_of d0)) (count_of cause (counts_of d))) → Passes d0 d → (task_used (Serves (Init slots journal)) (is_ended done) (init_answer done) ≡ false → HoldsAs d0 d)
         → TellsTask (Serves (Init slots journal)) true (is_ended done) before s a b (kept_so name (unmade_then done unmade) clock has_parts d) s
-    tells done d m own plain says quiet calls failures passes = record {
+    tells done d m own plain says quiet calls failures passes held = record {
       lines = init_lines name done;
       answer = init_answer done;
       emits = m;
@@ -182,7 +185,14 @@ module _ (name : List ℕ) (slots journal : ℕ) (has_parts : Bool) (d0 : DiskSt
       quiet = quiet;
       fused = λ writes choice q. (let f : ⊥ = cc in absurd f);
       boots = λ q. (let f : ⊥ = cc in absurd f);
+      answered = init_tells done;
+      held = λ down unused. (refl, held unused);
     }
+      where
+        init_tells : (x : Formatted) → AnswersTask (Serves (Init slots journal)) name (refused_task (said_shared s) (said_node before) (Serves (Init slots journal))) (init_lines name x) (init_answer x) (is_ended x)
+        init_tells formatted.Refused = calm_answers (Serves (Init slots journal)) name (refused_task (said_shared s) (said_node before) (Serves (Init slots journal))) [] line.BadParameter true tt refl (λ q none. (let f : ⊥ = cc in f)) (λ none. refl)
+        init_tells formatted.Made = calm_answers (Serves (Init slots journal)) name (refused_task (said_shared s) (said_node before) (Serves (Init slots journal))) [] line.Normal false tt refl (λ q none. (let f : ⊥ = cc in f)) (λ none. refl)
+        init_tells (formatted.Failed down) = fell_answers (Serves (Init slots journal)) name (refused_task (said_shared s) (said_node before) (Serves (Init slots journal))) [] (cause_of down) tt (λ q. (let f : ⊥ = cc in f)) (λ none. refl)
 
     fell_says : (cause : Cause) (d : DiskState) → task_said (Serves (Init slots journal)) (line.Down name cause ∷ []) (line.Broken cause) before s ≡ said_alone (kept_so name true clock has_parts d) s
     fell_says cause d =
@@ -191,7 +201,7 @@ module _ (name : List ℕ) (slots journal : ℕ) (has_parts : Bool) (d0 : DiskSt
 
     fell_tells : (down : Down) (d : DiskState) → Emits a (line.Down name (cause_of down) ∷ line.Broken (cause_of down) ∷ []) b → d.calls ≡ noted (disk_call.Power d0.stops) d0.calls → (IsCounted d0 → Rose (count_of (cause_of down) (counts_of d0)) (count_of (cause_of down) (counts_of d))) → Passes d0 d
         → TellsTask (Serves (Init slots journal)) true true before s a b (kept_so name true clock has_parts d) s
-    fell_tells down d m calls rose passes = tells (formatted.Failed down) d m (refl, tt) refl (fell_says (cause_of down) d) (λ u. refl) calls only passes
+    fell_tells down d m calls rose passes = tells (formatted.Failed down) d m (refl, tt) refl (fell_says (cause_of down) d) (λ u. refl) calls only passes (λ unused. (let f : ⊥ = cc in absurd f))
       where
         cause_in : (x y : Cause) → line.Down name x ≡ line.Down name y → x ≡ y
         cause_in x y e = cc
@@ -315,7 +325,7 @@ module _ (name : List ℕ) (slots journal : ℕ) (has_parts : Bool) (d0 : DiskSt
 
   pub format_misfits : (SizesFit d0.size (record { blocks = d0.size; slots = slots; ru_blocks = journal }) → ⊥) → FormatsDisk name slots journal has_parts d0 formatted.Refused d0
   format_misfits misfit = λ unmade clock s unused a b m. (
-    tells unmade clock s unused a b formatted.Refused d0 m tt refl refl (λ u. refl) refl (λ cause i. absurd i) (passes_same d0),
+    tells unmade clock s unused a b formatted.Refused d0 m tt refl refl (λ u. refl) refl (λ cause i. absurd i) (passes_same d0) (λ unused. holds_is d0 d0 refl),
     λ log n w h share kept promised. misfit_performs unmade clock s unused a b log w n h share misfit m,
   )
 
@@ -333,7 +343,7 @@ module _ (name : List ℕ) (slots journal : ℕ) (has_parts : Bool) (d0 : DiskSt
       format_made law quiet told empty sound closed whole least settled = λ unmade clock s unused a b m.
           let passes = passes_on d0 mid d (passes_power d0 mid power) (passes_counts _ _ mid d quiet) in
           let calls = power_calls d0 mid d power quiet.calls in (
-            tells unmade clock s unused a b formatted.Made d m tt refl (alone_unmade (record { name = name; up = false; unmade = unmade }) (said_shared s) false) (λ u. refl) calls (λ cause i. absurd i) passes,
+            tells unmade clock s unused a b formatted.Made d m tt refl (alone_unmade (record { name = name; up = false; unmade = unmade }) (said_shared s) false) (λ u. refl) calls (λ cause i. absurd i) passes (λ unused. (let f : ⊥ = cc in absurd f)),
             λ log n w h share kept promised. made_performs unmade clock s unused a b log w n h share fit d passes calls law told empty sound closed whole least settled m,
           )
 
@@ -360,7 +370,7 @@ init_in_use slots journal k s a b used m = (
     answer = line.VolumeInUse;
     emits = m;
     own = tt;
-    refused = λ refusal q. (refl, some_line line.VolumeInUse refusal (sym says ∙ q), refl);
+    refused = λ refusal q. (refl, some_line line.VolumeInUse refusal (sym says ∙ q), refl, refl);
     others = λ none. absurd (let e : ◌≡◌ {A = Option Line} (Some line.VolumeInUse) None = sym says ∙ none in (let f : ⊥ = cc in f));
     says = refl;
     calls = refl;
@@ -369,6 +379,8 @@ init_in_use slots journal k s a b used m = (
     quiet = λ u. refl;
     fused = λ writes choice q. (let f : ⊥ = cc in absurd f);
     boots = λ q. (let f : ⊥ = cc in absurd f);
+    answered = refused_answers (Serves (Init slots journal)) k.name (refused_task (said_shared s) (said_node k) (Serves (Init slots journal))) line.VolumeInUse true says refl;
+    held = λ d unused. (d, holds_is (disk_in k.place) (disk_in k.place) refl);
   },
   λ log n w h share kept promised. (
     true,

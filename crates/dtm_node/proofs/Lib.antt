@@ -1,4 +1,5 @@
 pub mod Adding
+pub mod Answered
 pub mod Arming
 pub mod Asides
 pub mod Beginning
@@ -19,6 +20,7 @@ pub mod EventSteps
 pub mod EventTasks
 pub mod Falling
 pub mod FileServices
+pub mod Held
 pub mod Joining
 pub mod Formatting
 pub mod Labels

@@ -28,12 +28,14 @@ use Rattle.dtm_node.specs.Opening.{EndsBoot, OpensUp, RaisesTo, Wakes, kept_down
 use Rattle.dtm_node.specs.Standing.{StandsFor, counts_of, disk_of}
 use Rattle.dtm_node.proofs.BootEnds.{ends_boot, fallen_end, fallen_rose, lacking_end, refused_end, shares_used}
 use Rattle.dtm_node.proofs.Booting.{boot_fell, boot_lacks, boot_refused, boot_unpowered}
+use Rattle.dtm_node.specs.Holding.{HoldsAs}
+use Rattle.dtm_node.proofs.Held.{holds_is, holds_on, holds_power}
 use Rattle.dtm_node.proofs.Passing.{Unpowers, passes_goes, passes_power, passes_same, power_calls, rose_after}
 use Rattle.dtm_node.proofs.Waking.{powered_kept, wakes}
 
 -- memory is missing
 pub open_lacks : (name : List ℕ) (clock : ℕ) (d0 : DiskState) → EndsBoot (kept_down name clock false d0) [] line.NoMemory false (kept_down name clock false d0)
-open_lacks name clock d0 = ends_boot name clock false false d0 d0 [] line.NoMemory false false (lacking_end name) (passes_same d0) refl (λ cause i. absurd i)
+open_lacks name clock d0 = ends_boot name clock false false d0 d0 [] line.NoMemory false false (lacking_end name) (passes_same d0) refl (λ cause i. absurd i) (λ unused. holds_is d0 d0 refl)
     (λ t p log w n h early kept promised s share a b m. boot_lacks log w n name clock false d0 h t p early a b s refl share m)
 
 module _ (name : List ℕ) (clock : ℕ) (has_parts : Bool) (d0 : DiskState) where
@@ -41,7 +43,7 @@ module _ (name : List ℕ) (clock : ℕ) (has_parts : Bool) (d0 : DiskState) whe
   pub open_unpowered : (e : DiskErr) (d : DiskState) → Unpowers e d0 d → (down : Down) → down ≡ down_of e → EndsBoot (kept_down name clock has_parts d0) (line.Down name (cause_of down) ∷ []) (line.Broken (cause_of down)) true (kept_down name clock true d)
   open_unpowered e d u down is =
       subst (λ (cause : Cause). EndsBoot (kept_down name clock has_parts d0) (line.Down name cause ∷ []) (line.Broken cause) true (kept_down name clock true d)) (sym (ap cause_of is ∙ u.cause))
-      (ends_boot name clock has_parts true d0 d (line.Down name Failed ∷ []) (line.Broken Failed) true true (fallen_end name [] Failed tt (λ wire. refl)) u.passes u.calls (fallen_rose name [] Failed d0 d tt (λ counted. u.rose))
+      (ends_boot name clock has_parts true d0 d (line.Down name Failed ∷ []) (line.Broken Failed) true true (fallen_end name [] Failed tt (λ wire. refl)) u.passes u.calls (fallen_rose name [] Failed d0 d tt (λ counted. u.rose)) (λ unused. (let f : ⊥ = cc in absurd f))
       (λ t p log w n h early kept promised s share a b m. boot_unpowered log w n name clock has_parts d0 h t p early (used s) (shares_used s w share) d u.passes u.calls a b u.pending u.seen u.rose m))
 
   module _ (steps : StepsKeepNodes) (d1 : DiskState) (power : IsPowered d0 d1) where
@@ -55,9 +57,9 @@ module _ (name : List ℕ) (clock : ℕ) (has_parts : Bool) (d0 : DiskState) whe
 
     module _ (d : DiskState) (goes : Goes d1 d) where
       -- what the disk has refuses the boot, or a quota
-      pub open_refused : (refusal : Line) → IsBootRefusal refusal → ((n : Node) → IsAwake name d1 n → (bootable n ≡ Some refusal) × HasDisk n d) → EndsBoot (kept_down name clock has_parts d0) [] refusal false (kept_down name clock true d)
-      open_refused refusal is boots =
-          ends_boot name clock has_parts true d0 d [] refusal true false (refused_end name refusal is) (passes_goes d0 d1 d (passes_power d0 d1 power) goes) (power_calls d0 d1 d power goes.calls) (λ cause i. absurd i)
+      pub open_refused : (refusal : Line) → IsBootRefusal refusal → HoldsAs d1 d → ((n : Node) → IsAwake name d1 n → (bootable n ≡ Some refusal) × HasDisk n d) → EndsBoot (kept_down name clock has_parts d0) [] refusal false (kept_down name clock true d)
+      open_refused refusal is held boots =
+          ends_boot name clock has_parts true d0 d [] refusal true false (refused_end name refusal is) (passes_goes d0 d1 d (passes_power d0 d1 power) goes) (power_calls d0 d1 d power goes.calls) (λ cause i. absurd i) (λ unused. holds_on d0 d1 d (holds_power d0 d1 power) held)
           (λ t p log w n h early kept promised s share a b m.
           let x = wakes_here log w n h kept promised in
           let to = boots (powered x.outturn d0.stops n) (awake_here log n h x) in
@@ -69,7 +71,7 @@ module _ (name : List ℕ) (clock : ℕ) (has_parts : Bool) (d0 : DiskState) whe
       open_fell cause rose boots =
           let from : IsCounted d0 → Rose (count_of cause (counts_of d0)) (count_of cause (counts_of d)) = λ counted. rose_after cause d0 d1 d power (rose ((passes_power d0 d1 power).counted counted)) in
           ends_boot name clock has_parts true d0 d (line.Down name cause ∷ []) (line.Broken cause) true true (fallen_end name [] cause tt (λ wire. refl)) (passes_goes d0 d1 d (passes_power d0 d1 power) goes) (power_calls d0 d1 d power goes.calls)
-          (fallen_rose name [] cause d0 d tt from)
+          (fallen_rose name [] cause d0 d tt from) (λ unused. (let f : ⊥ = cc in absurd f))
           (λ t p log w n h early kept promised s share a b m.
           let x = wakes_here log w n h kept promised in
           boot_fell log w n name clock has_parts d0 h t p early d1 x d (passes_goes d0 d1 d (passes_power d0 d1 power) goes) (power_calls d0 d1 d power goes.calls) (used s) (shares_used s w share) cause (from h.counts) a b

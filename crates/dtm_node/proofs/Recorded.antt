@@ -12,7 +12,8 @@ use Rattle.script_model.specs.Statements as said
 use Rattle.script_model.specs.Statements.{Operation, Request}
 use Rattle.vms_model.specs.Ids.{Id}
 use Rattle.records_model.specs.Records.{Change}
-use Rattle.run_laws.specs.Said.{is_of_lines, refused_by_lines}
+use Rattle.run_laws.specs.Said.{refused_by_lines}
+use Rattle.said_steps.specs.Answers.{is_served}
 use Rattle.run_model.specs.Answers.{Serves, branch_labelled, change_limit, directed, found_refused, in_state, is_marked, journal_full, keys_refused, more_changes, more_locks, needs_unit, operation_act, service, silent, touches, unsettled}
 use Rattle.run_model.specs.Operations.{changes_of, file_full, first_of, form_refused, keys_asked, keys_held, operation_answer, refused_if}
 use Rattle.run_model.specs.World as world
@@ -41,12 +42,13 @@ use Rattle.dtm_node.proofs.Saying.{IsStillRequest, says_refusal, says_replies}
 
 -- One answer, and nothing is done: what it refuses by is the world's first cause.
 pub refused_request : (x : Unit {0}) (request : Request) (clock : ℕ) (r : Up) (shared : SharedState) (a b : Shown) (l : Line) → IsUp r → Since a b → Emits a (l ∷ []) b → IsQuiet l → IsStillRequest r.stored.volume.catalog.home.node request
-    → ((refusal : Line) → refused_by_lines (said_shared shared) (node_up r.stored.volume.catalog.home.node) request ≡ Some refusal → l ≡ refusal) → (refused_by_lines (said_shared shared) (node_up r.stored.volume.catalog.home.node) request ≡ None → is_of_lines l ≡ false)
+    → ((refusal : Line) → refused_by_lines (said_shared shared) (node_up r.stored.volume.catalog.home.node) request ≡ Some refusal → l ≡ refusal) → (refused_by_lines (said_shared shared) (node_up r.stored.volume.catalog.home.node) request ≡ None → is_served l ≡ true)
     → ((s : world.Shared) (n : Node) → StandsUp clock r n → IsShared shared s → IsKeptNode s n → first_of ((service request).refused_before_reading s n) ((service request).refused_after_reading s n) ≡ Some l)
     → DoesRequest {T = Unit {0}} (Ok x) request clock r r shared shared a b
 refused_request x request clock r shared a b l up since m quiet still by_lines others refuses = record {
   keeps = keeps_same x clock r a b up since;
   uses = tt;
+  leaves = λ refusal e. refl;
   says = says_refusal r.stored.volume.catalog.home.node request shared a b still x l quiet m by_lines others;
   serves = λ s n stands share kept. inl (record { refusal = l; is = refuses s n stands share kept; shows = m; same = (stands, share) });
 }
@@ -181,6 +183,7 @@ module _ (finds : FindsFiles) (rows : RowsKeepUp) (name : List ℕ) (op : Operat
     records_done {T} r serial f head new l branch lab told found works named h = record {
       keeps = h.keeps;
       uses = uses r;
+      leaves = λ refusal e. absurd (let q : ◌≡◌ {A = Option Line} None (Some refusal) = sym (by_lines ∙ made_by_label (Some l) lab) ∙ e in (let f : ⊥ = cc in f));
       says = says_replies old.stored.volume.catalog.home.node asks shared a b (λ answer said. refl) r (by_lines ∙ made_by_label (Some l) lab) h.replies;
       serves = λ s n stands share kept.
           let x = file_there n f head stands named in
@@ -205,7 +208,7 @@ module _ (finds : FindsFiles) (rows : RowsKeepUp) (name : List ℕ) (op : Operat
           (λ s n stands share kept. no_label n name op _ _ _ _ _ (label_there n s label None stands share lab))
 
       -- behind it, by this line, which no label tells
-      behind_label : (l : Label) (x : Line) → labelled old.stored.volume.catalog.home.node label shared.labels ≡ Some l → Emits a (x ∷ []) b → IsQuiet x → is_of_lines x ≡ false
+      behind_label : (l : Label) (x : Line) → labelled old.stored.volume.catalog.home.node label shared.labels ≡ Some l → Emits a (x ∷ []) b → IsQuiet x → is_served x ≡ true
           → ((s : world.Shared) (n : Node) → StandsUp clock old n → IsShared shared s → IsKeptNode s n → first_of ((service asks).refused_before_reading s n) ((service asks).refused_after_reading s n) ≡ Some x) → DoesRequest {T = Unit {0}} (Ok tt) asks clock old old shared shared a b
       behind_label l x lab m quiet other refuses = refused_request tt asks clock old shared a b x up since m quiet (λ answer said. refl)
           (λ refusal e. absurd (let f : ◌≡◌ {A = Option Line} None (Some refusal) = sym (by_lines ∙ made_by_label (Some l) lab) ∙ e in let no : ⊥ = cc in no))
@@ -217,14 +220,14 @@ module _ (finds : FindsFiles) (rows : RowsKeepUp) (name : List ℕ) (op : Operat
           (λ s n stands share kept. no_file n name op _ _ _ _ _ (ap made_by (label_there n s label (Some l) stands share lab)) (file_absent n stands none))
 
       -- by its form,
-      pub records_misformed : (l : Label) (f : ℕ) (head : FileHead) (x : Line) → labelled old.stored.volume.catalog.home.node label shared.labels ≡ Some l → IsNamed old.stored.volume.catalog.heads f head name → ((file : File) → IsHeadOf head file → form_refused file op ≡ Some x) → IsQuiet x → is_of_lines x ≡ false → Emits a (x ∷ []) b
+      pub records_misformed : (l : Label) (f : ℕ) (head : FileHead) (x : Line) → labelled old.stored.volume.catalog.home.node label shared.labels ≡ Some l → IsNamed old.stored.volume.catalog.heads f head name → ((file : File) → IsHeadOf head file → form_refused file op ≡ Some x) → IsQuiet x → is_served x ≡ true → Emits a (x ∷ []) b
           → DoesRequest {T = Unit {0}} (Ok tt) asks clock old old shared shared a b
       records_misformed l f head x lab named form quiet other m = behind_label l x lab m quiet other
           (λ s n stands share kept. (let y = file_there n f head stands named in no_form n name op _ _ _ _ _ y.0 x (ap made_by (label_there n s label (Some l) stands share lab)) y.2 (form y.0 y.1)))
 
       -- or by its branch.
       pub records_unworked : (l : Label) (f : ℕ) (head : FileHead) (x : Line) → labelled old.stored.volume.catalog.home.node label shared.labels ≡ Some l → IsNamed old.stored.volume.catalog.heads f head name → ((file : File) → IsHeadOf head file → form_refused file op ≡ None)
-          → first_of (unsettled (branch_at l.serial old.tm.table)) (in_state is_working (branch_at l.serial old.tm.table)) ≡ Some x → IsQuiet x → is_of_lines x ≡ false → Emits a (x ∷ []) b → DoesRequest {T = Unit {0}} (Ok tt) asks clock old old shared shared a b
+          → first_of (unsettled (branch_at l.serial old.tm.table)) (in_state is_working (branch_at l.serial old.tm.table)) ≡ Some x → IsQuiet x → is_served x ≡ true → Emits a (x ∷ []) b → DoesRequest {T = Unit {0}} (Ok tt) asks clock old old shared shared a b
       records_unworked l f head x lab named form refused quiet other m = behind_label l x lab m quiet other
           (λ s n stands share kept.
           let y = file_there n f head stands named in
@@ -240,6 +243,7 @@ module _ (finds : FindsFiles) (rows : RowsKeepUp) (name : List ℕ) (op : Operat
   direct_done {T} r f head new named h = record {
     keeps = h.keeps;
     uses = uses r;
+    leaves = λ refusal e. (let f : ⊥ = cc in absurd f);
     says = says_replies old.stored.volume.catalog.home.node asks_alone shared a b (λ answer said. refl) r refl h.replies;
     serves = λ s n stands share kept.
         let x = file_there n f head stands named in
@@ -254,7 +258,7 @@ module _ (finds : FindsFiles) (rows : RowsKeepUp) (name : List ℕ) (op : Operat
       uses (Err d) = refl
 
   module _ (up : IsUp old) (since : Since a b) where
-    alone_refused : (x : Line) → Emits a (x ∷ []) b → IsQuiet x → is_of_lines x ≡ false → ((s : world.Shared) (n : Node) → StandsUp clock old n → IsShared shared s → IsKeptNode s n → first_of ((service asks_alone).refused_before_reading s n) ((service asks_alone).refused_after_reading s n) ≡ Some x)
+    alone_refused : (x : Line) → Emits a (x ∷ []) b → IsQuiet x → is_served x ≡ true → ((s : world.Shared) (n : Node) → StandsUp clock old n → IsShared shared s → IsKeptNode s n → first_of ((service asks_alone).refused_before_reading s n) ((service asks_alone).refused_after_reading s n) ≡ Some x)
         → DoesRequest {T = Unit {0}} (Ok tt) asks_alone clock old old shared shared a b
     alone_refused x m quiet other refuses = refused_request tt asks_alone clock old shared a b x up since m quiet (λ answer said. refl)
         (λ refusal e. absurd (let f : ◌≡◌ {A = Option Line} None (Some refusal) = e in let no : ⊥ = cc in no))
@@ -263,5 +267,5 @@ module _ (finds : FindsFiles) (rows : RowsKeepUp) (name : List ℕ) (op : Operat
     pub alone_absent : NoneNamed old.stored.volume.catalog.heads 64 name → Emits a (line.FileNotFound ∷ []) b → DoesRequest {T = Unit {0}} (Ok tt) asks_alone clock old old shared shared a b
     alone_absent none m = alone_refused line.FileNotFound m refl refl (λ s n stands share kept. direct_absent n s name op (file_absent n stands none))
 
-    pub alone_misformed : (f : ℕ) (head : FileHead) (x : Line) → IsNamed old.stored.volume.catalog.heads f head name → ((file : File) → IsHeadOf head file → form_refused file op ≡ Some x) → IsQuiet x → is_of_lines x ≡ false → Emits a (x ∷ []) b → DoesRequest {T = Unit {0}} (Ok tt) asks_alone clock old old shared shared a b
+    pub alone_misformed : (f : ℕ) (head : FileHead) (x : Line) → IsNamed old.stored.volume.catalog.heads f head name → ((file : File) → IsHeadOf head file → form_refused file op ≡ Some x) → IsQuiet x → is_served x ≡ true → Emits a (x ∷ []) b → DoesRequest {T = Unit {0}} (Ok tt) asks_alone clock old old shared shared a b
     alone_misformed f head x named form quiet other m = alone_refused x m quiet other (λ s n stands share kept. (let y = file_there n f head stands named in direct_form n s name op y.0 x y.2 (form y.0 y.1)))

@@ -1,6 +1,6 @@
 -- A request that a node has to be up for.
 use Rattle.std.proofs.Common.{◌≡◌, ◌⊎◌, inl, inr, ℕ, List, [], ◌∷◌, ◌++◌, Bool, true, false, Option, Some, None, Result, Ok, Err, not, map, is_some, if◌then◌else◌, refl, ◌∙◌, ap, sym, subst, append_assoc, arith}
-use Rattle.std.specs.Prelude.{◌||◌}
+use Rattle.std.specs.Prelude.{◌||◌, ◌&&◌}
 use Rattle.std.specs.List.{AllByRecursion}
 use Rattle.block_disk.specs.Disk.{CallLog, DiskState}
 use Rattle.careful_write.specs.declared.down.Down.{Down}
@@ -12,7 +12,9 @@ use Rattle.transcript_model.specs.Outside.{Rose}
 use Rattle.transcript_model.proofs.EmittingLemmas.{emits_on}
 use Rattle.script_model.specs.Statements.{AbortTrans, AddBranch, Boot, ByLabel, BySerial, Clock, Crash, Create, Direct, Dump, DumpJournal, EndBranch, EndTrans, Fuse, Init, Inquire, Named, Records, Request, SetFile, StartBranch, StartTrans}
 use Rattle.run_laws.specs.Said.{Said, SaidNode, SaidShared, is_of_lines, line_said, lines_said, refused_by_lines, request_said}
+use Rattle.said_steps.specs.Answers.{is_broken, is_served, may_answer}
 use Rattle.said_steps.specs.Calls.{has_powered}
+use Rattle.said_steps.proofs.Refusals.{refusal_of_lines}
 use Rattle.said_steps.specs.Own.{IsOwn}
 use Rattle.run_model.specs.Operations.{first_of, refused_if}
 use Rattle.run_model.specs.World.{Act, Node, Shared}
@@ -25,10 +27,12 @@ use Rattle.node_table.specs.Serving.{DoesService, service_at}
 use Rattle.node_table.specs.Standing.{StandsUp, Up}
 use Rattle.dtm_node.specs.Causes.{cause_of}
 use Rattle.dtm_node.specs.Keeping.{Performs, PerformsRequest}
-use Rattle.dtm_node.specs.Requests.{DoesRequest, IsForUp, SaysRequest, said_up}
+use Rattle.dtm_node.specs.Requests.{DoesRequest, IsForUp, SaysRequest, node_up, said_up}
 use Rattle.dtm_node.specs.Running.{name_of}
 use Rattle.dtm_node.specs.Standing.{IsDown, Kept, StandsFor, counts_of, disk_in, disk_of, is_up}
 use Rattle.dtm_node.specs.Telling.{TellsTask, calls_after_task, said_alone, said_node, said_shared}
+use Rattle.dtm_node.proofs.Answered.{calm_answers, fell_answers, may_of, refused_answers, refused_unbroken, served_other, served_unbroken}
+use Rattle.dtm_node.proofs.Held.{holds_is}
 use Rattle.dtm_node.proofs.Coming.{down_performs}
 use Rattle.dtm_node.proofs.EventTasks.{passes_of}
 use Rattle.dtm_node.proofs.Performing.{LeavesRest, cut_performs, kept_fallen, kept_up, refused_performs, rose_of, served_performs}
@@ -45,6 +49,9 @@ pub record IsUpRequest (request : Request) : Type 0 where
   pub down : (s : SaidShared) (name : List ℕ) (unmade : Bool) → refused_by_lines s (record { name = name; up = false; unmade = unmade }) request ≡ Some line.NodeDown
   pub broken : (name : List ℕ) (cause : Cause) (s : Said) → request_said name request (line.Broken cause) s ≡ s
   pub refused_down : (name : List ℕ) (s : Said) → request_said name request line.NodeDown s ≡ s
+  pub no_crash : Serves request ≡ Serves Crash → ⊥
+  pub may : (answer : Line) → is_served answer ≡ true → may_answer request answer ≡ true
+  pub may_break : (cause : Cause) → touches (service request) ≡ true → may_answer request (line.Broken cause) ≡ true
 
 pub request_is : (request : Request) → IsForUp request → IsUpRequest request
 request_is (Init slots journal) h = absurd h
@@ -52,19 +59,19 @@ request_is Boot h = absurd h
 request_is (Fuse writes choice) h = absurd h
 request_is Crash h = absurd h
 request_is (Clock now) h = absurd h
-request_is (Create file bucket size form) h = record { plain = record { powers = refl; occupies = refl; closing = refl; closing_lines = λ n. refl; goes = refl }; while_down = refl; calls = λ ends l stops calls. refl; no_fuse = λ w c q. (let f : ⊥ = cc in f); down = λ s name unmade. refl; broken = λ name cause s. refl; refused_down = λ name s. refl }
-request_is (SetFile file setting) h = record { plain = record { powers = refl; occupies = refl; closing = refl; closing_lines = λ n. refl; goes = refl }; while_down = refl; calls = λ ends l stops calls. refl; no_fuse = λ w c q. (let f : ⊥ = cc in f); down = λ s name unmade. refl; broken = λ name cause s. refl; refused_down = λ name s. refl }
-request_is (StartTrans label seconds) h = record { plain = record { powers = refl; occupies = refl; closing = refl; closing_lines = λ n. refl; goes = refl }; while_down = refl; calls = λ ends l stops calls. refl; no_fuse = λ w c q. (let f : ⊥ = cc in f); down = λ s name unmade. refl; broken = λ name cause s. refl; refused_down = λ name s. refl }
-request_is (AddBranch label other new) h = record { plain = record { powers = refl; occupies = refl; closing = refl; closing_lines = λ n. refl; goes = refl }; while_down = refl; calls = λ ends l stops calls. refl; no_fuse = λ w c q. (let f : ⊥ = cc in f); down = λ s name unmade. refl; broken = λ name cause s. refl; refused_down = λ name s. refl }
-request_is (StartBranch label) h = record { plain = record { powers = refl; occupies = refl; closing = refl; closing_lines = λ n. refl; goes = refl }; while_down = refl; calls = λ ends l stops calls. refl; no_fuse = λ w c q. (let f : ⊥ = cc in f); down = λ s name unmade. refl; broken = λ name cause s. refl; refused_down = λ name s. refl }
-request_is (Records label file op) h = record { plain = record { powers = refl; occupies = refl; closing = refl; closing_lines = λ n. refl; goes = refl }; while_down = refl; calls = λ ends l stops calls. refl; no_fuse = λ w c q. (let f : ⊥ = cc in f); down = λ s name unmade. refl; broken = λ name cause s. refl; refused_down = λ name s. refl }
-request_is (Direct file op) h = record { plain = record { powers = refl; occupies = refl; closing = refl; closing_lines = λ n. refl; goes = refl }; while_down = refl; calls = λ ends l stops calls. refl; no_fuse = λ w c q. (let f : ⊥ = cc in f); down = λ s name unmade. refl; broken = λ name cause s. refl; refused_down = λ name s. refl }
-request_is (EndBranch label) h = record { plain = record { powers = refl; occupies = refl; closing = refl; closing_lines = λ n. refl; goes = refl }; while_down = refl; calls = λ ends l stops calls. refl; no_fuse = λ w c q. (let f : ⊥ = cc in f); down = λ s name unmade. refl; broken = λ name cause s. refl; refused_down = λ name s. refl }
-request_is (EndTrans label) h = record { plain = record { powers = refl; occupies = refl; closing = refl; closing_lines = λ n. refl; goes = refl }; while_down = refl; calls = λ ends l stops calls. refl; no_fuse = λ w c q. (let f : ⊥ = cc in f); down = λ s name unmade. refl; broken = λ name cause s. refl; refused_down = λ name s. refl }
-request_is (AbortTrans label) h = record { plain = record { powers = refl; occupies = refl; closing = refl; closing_lines = λ n. refl; goes = refl }; while_down = refl; calls = λ ends l stops calls. refl; no_fuse = λ w c q. (let f : ⊥ = cc in f); down = λ s name unmade. refl; broken = λ name cause s. refl; refused_down = λ name s. refl }
-request_is (Inquire who) h = record { plain = record { powers = refl; occupies = refl; closing = refl; closing_lines = λ n. refl; goes = refl }; while_down = refl; calls = λ ends l stops calls. refl; no_fuse = λ w c q. (let f : ⊥ = cc in f); down = λ s name unmade. refl; broken = λ name cause s. refl; refused_down = λ name s. refl }
-request_is (Dump file) h = record { plain = record { powers = refl; occupies = refl; closing = refl; closing_lines = λ n. refl; goes = refl }; while_down = refl; calls = λ ends l stops calls. refl; no_fuse = λ w c q. (let f : ⊥ = cc in f); down = λ s name unmade. refl; broken = λ name cause s. refl; refused_down = λ name s. refl }
-request_is DumpJournal h = record { plain = record { powers = refl; occupies = refl; closing = refl; closing_lines = λ n. refl; goes = refl }; while_down = refl; calls = λ ends l stops calls. refl; no_fuse = λ w c q. (let f : ⊥ = cc in f); down = λ s name unmade. refl; broken = λ name cause s. refl; refused_down = λ name s. refl }
+request_is (Create file bucket size form) h = record { plain = record { powers = refl; occupies = refl; closing = refl; closing_lines = λ n. refl; goes = refl }; while_down = refl; calls = λ ends l stops calls. refl; no_fuse = λ w c q. (let f : ⊥ = cc in f); down = λ s name unmade. refl; broken = λ name cause s. refl; refused_down = λ name s. refl; no_crash = λ q. (let f : ⊥ = cc in f); may = λ answer e. may_of (is_served answer) (is_broken answer && touches (service (Create file bucket size form))) e; may_break = λ cause t. t }
+request_is (SetFile file setting) h = record { plain = record { powers = refl; occupies = refl; closing = refl; closing_lines = λ n. refl; goes = refl }; while_down = refl; calls = λ ends l stops calls. refl; no_fuse = λ w c q. (let f : ⊥ = cc in f); down = λ s name unmade. refl; broken = λ name cause s. refl; refused_down = λ name s. refl; no_crash = λ q. (let f : ⊥ = cc in f); may = λ answer e. may_of (is_served answer) (is_broken answer && touches (service (SetFile file setting))) e; may_break = λ cause t. t }
+request_is (StartTrans label seconds) h = record { plain = record { powers = refl; occupies = refl; closing = refl; closing_lines = λ n. refl; goes = refl }; while_down = refl; calls = λ ends l stops calls. refl; no_fuse = λ w c q. (let f : ⊥ = cc in f); down = λ s name unmade. refl; broken = λ name cause s. refl; refused_down = λ name s. refl; no_crash = λ q. (let f : ⊥ = cc in f); may = λ answer e. may_of (is_served answer) (is_broken answer && touches (service (StartTrans label seconds))) e; may_break = λ cause t. t }
+request_is (AddBranch label other new) h = record { plain = record { powers = refl; occupies = refl; closing = refl; closing_lines = λ n. refl; goes = refl }; while_down = refl; calls = λ ends l stops calls. refl; no_fuse = λ w c q. (let f : ⊥ = cc in f); down = λ s name unmade. refl; broken = λ name cause s. refl; refused_down = λ name s. refl; no_crash = λ q. (let f : ⊥ = cc in f); may = λ answer e. may_of (is_served answer) (is_broken answer && touches (service (AddBranch label other new))) e; may_break = λ cause t. t }
+request_is (StartBranch label) h = record { plain = record { powers = refl; occupies = refl; closing = refl; closing_lines = λ n. refl; goes = refl }; while_down = refl; calls = λ ends l stops calls. refl; no_fuse = λ w c q. (let f : ⊥ = cc in f); down = λ s name unmade. refl; broken = λ name cause s. refl; refused_down = λ name s. refl; no_crash = λ q. (let f : ⊥ = cc in f); may = λ answer e. may_of (is_served answer) (is_broken answer && touches (service (StartBranch label))) e; may_break = λ cause t. t }
+request_is (Records label file op) h = record { plain = record { powers = refl; occupies = refl; closing = refl; closing_lines = λ n. refl; goes = refl }; while_down = refl; calls = λ ends l stops calls. refl; no_fuse = λ w c q. (let f : ⊥ = cc in f); down = λ s name unmade. refl; broken = λ name cause s. refl; refused_down = λ name s. refl; no_crash = λ q. (let f : ⊥ = cc in f); may = λ answer e. may_of (is_served answer) (is_broken answer && touches (service (Records label file op))) e; may_break = λ cause t. t }
+request_is (Direct file op) h = record { plain = record { powers = refl; occupies = refl; closing = refl; closing_lines = λ n. refl; goes = refl }; while_down = refl; calls = λ ends l stops calls. refl; no_fuse = λ w c q. (let f : ⊥ = cc in f); down = λ s name unmade. refl; broken = λ name cause s. refl; refused_down = λ name s. refl; no_crash = λ q. (let f : ⊥ = cc in f); may = λ answer e. may_of (is_served answer) (is_broken answer && touches (service (Direct file op))) e; may_break = λ cause t. t }
+request_is (EndBranch label) h = record { plain = record { powers = refl; occupies = refl; closing = refl; closing_lines = λ n. refl; goes = refl }; while_down = refl; calls = λ ends l stops calls. refl; no_fuse = λ w c q. (let f : ⊥ = cc in f); down = λ s name unmade. refl; broken = λ name cause s. refl; refused_down = λ name s. refl; no_crash = λ q. (let f : ⊥ = cc in f); may = λ answer e. may_of (is_served answer) (is_broken answer && touches (service (EndBranch label))) e; may_break = λ cause t. t }
+request_is (EndTrans label) h = record { plain = record { powers = refl; occupies = refl; closing = refl; closing_lines = λ n. refl; goes = refl }; while_down = refl; calls = λ ends l stops calls. refl; no_fuse = λ w c q. (let f : ⊥ = cc in f); down = λ s name unmade. refl; broken = λ name cause s. refl; refused_down = λ name s. refl; no_crash = λ q. (let f : ⊥ = cc in f); may = λ answer e. may_of (is_served answer) (is_broken answer && touches (service (EndTrans label))) e; may_break = λ cause t. t }
+request_is (AbortTrans label) h = record { plain = record { powers = refl; occupies = refl; closing = refl; closing_lines = λ n. refl; goes = refl }; while_down = refl; calls = λ ends l stops calls. refl; no_fuse = λ w c q. (let f : ⊥ = cc in f); down = λ s name unmade. refl; broken = λ name cause s. refl; refused_down = λ name s. refl; no_crash = λ q. (let f : ⊥ = cc in f); may = λ answer e. may_of (is_served answer) (is_broken answer && touches (service (AbortTrans label))) e; may_break = λ cause t. t }
+request_is (Inquire who) h = record { plain = record { powers = refl; occupies = refl; closing = refl; closing_lines = λ n. refl; goes = refl }; while_down = refl; calls = λ ends l stops calls. refl; no_fuse = λ w c q. (let f : ⊥ = cc in f); down = λ s name unmade. refl; broken = λ name cause s. refl; refused_down = λ name s. refl; no_crash = λ q. (let f : ⊥ = cc in f); may = λ answer e. may_of (is_served answer) (is_broken answer && touches (service (Inquire who))) e; may_break = λ cause t. t }
+request_is (Dump file) h = record { plain = record { powers = refl; occupies = refl; closing = refl; closing_lines = λ n. refl; goes = refl }; while_down = refl; calls = λ ends l stops calls. refl; no_fuse = λ w c q. (let f : ⊥ = cc in f); down = λ s name unmade. refl; broken = λ name cause s. refl; refused_down = λ name s. refl; no_crash = λ q. (let f : ⊥ = cc in f); may = λ answer e. may_of (is_served answer) (is_broken answer && touches (service (Dump file))) e; may_break = λ cause t. t }
+request_is DumpJournal h = record { plain = record { powers = refl; occupies = refl; closing = refl; closing_lines = λ n. refl; goes = refl }; while_down = refl; calls = λ ends l stops calls. refl; no_fuse = λ w c q. (let f : ⊥ = cc in f); down = λ s name unmade. refl; broken = λ name cause s. refl; refused_down = λ name s. refl; no_crash = λ q. (let f : ⊥ = cc in f); may = λ answer e. may_of (is_served answer) (is_broken answer && touches (service DumpJournal)) e; may_break = λ cause t. t }
 
 no_restart : (request : Request) → Serves request ≡ Restarts → ⊥
 no_restart request q = let f : ⊥ = cc in f
@@ -80,8 +87,8 @@ module _ (request : Request) (asks : IsForUp request) (clock : ℕ) (old new : U
         answer = says.answer;
         emits = says.emits;
         own = own_calm (name_of old) says.lines says.work;
-        refused = λ refusal r. (let k = says.refused refusal r in (k.0, k.1, refl));
-        others = says.others;
+        refused = λ refusal r. (let k = says.refused refusal r in (k.0, k.1, refl, d.leaves refusal r));
+        others = λ none. served_other says.answer (says.others none);
         says = says.says;
         calls = d.keeps.goes.calls ∙ sym (is.calls true says.answer (disk_of old).stops (disk_of old).calls);
         failures = λ cause i counted. absurd (calm_not_down says.lines (name_of old) cause says.work i);
@@ -89,7 +96,13 @@ module _ (request : Request) (asks : IsForUp request) (clock : ℕ) (old new : U
         quiet = says.still;
         fused = λ writes choice q. absurd (is.no_fuse writes choice q);
         boots = λ q. absurd (no_restart request q);
+        answered = calm_answers (Serves request) (name_of old) (refused_by_lines (said_shared before) (node_up (name_of old)) request) says.lines says.answer true says.work (unbroken (refused_by_lines (said_shared before) (node_up (name_of old)) request) refl) (λ q none. is.no_crash q) (λ none. is.may says.answer (says.others none));
+        held = λ down unused. (let f : ⊥ = cc in absurd f);
       }
+    where
+      unbroken : (o : Option Line) → refused_by_lines (said_shared before) (node_up (name_of old)) request ≡ o → is_broken d.says.answer ≡ false
+      unbroken None e = served_unbroken d.says.answer (d.says.others e)
+      unbroken (Some refusal) e = ap is_broken (d.says.refused refusal e).1 ∙ refused_unbroken refusal (refusal_of_lines (said_shared before) (node_up (name_of old)) request refusal e)
 
   -- or the disk went down in it, which was shown and answered;
   pub request_fails : (e : Down) (c : Shown) (d : DoesRequest {T = Unit {0}} (Err e) request clock old new before after a b) → Emits b (line.Down (name_of old) (cause_of e) ∷ line.Broken (cause_of e) ∷ []) c
@@ -113,6 +126,8 @@ module _ (request : Request) (asks : IsForUp request) (clock : ℕ) (old new : U
         quiet = λ s. refl;
         fused = λ writes choice q. absurd (is.no_fuse writes choice q);
         boots = λ q. absurd (no_restart request q);
+        answered = fell_answers (Serves request) name (refused_by_lines (said_shared before) (node_up name) request) says.lines (cause_of e) says.work is.no_crash (λ none. is.may_break (cause_of e) d.uses);
+        held = λ down unused. (let f : ⊥ = cc in absurd f);
       }
 
   module _ (told : (n : Node) → StandsUp clock old n → is_some (disk_of old).seen ≡ true) where
@@ -145,7 +160,7 @@ module _ (request : Request) (asks : IsForUp request) (name : List ℕ) (unmade 
         answer = line.NodeDown;
         emits = shows;
         own = tt;
-        refused = λ refusal r. (let q : Some line.NodeDown ≡ Some refusal = sym (is.down (said_shared s) name unmade) ∙ r in (refl, (let z : line.NodeDown ≡ refusal = cc in z), refl));
+        refused = λ refusal r. (let q : Some line.NodeDown ≡ Some refusal = sym (is.down (said_shared s) name unmade) ∙ r in (refl, (let z : line.NodeDown ≡ refusal = cc in z), refl, refl));
         others = λ none. absurd (let q : Some line.NodeDown ≡ None = sym (is.down (said_shared s) name unmade) ∙ none in (let f : ⊥ = cc in f));
         says = is.refused_down name (said_alone kept s);
         calls = sym (is.calls true line.NodeDown d.stops d.calls);
@@ -154,6 +169,8 @@ module _ (request : Request) (asks : IsForUp request) (name : List ℕ) (unmade 
         quiet = λ x. refl;
         fused = λ writes choice q. absurd (is.no_fuse writes choice q);
         boots = λ q. absurd (no_restart request q);
+        answered = refused_answers (Serves request) name (refused_by_lines (said_shared s) (record { name = name; up = false; unmade = unmade }) request) line.NodeDown true (is.down (said_shared s) name unmade) refl;
+        held = λ down unused. (refl, holds_is d d refl);
       }
 
   pub down_answers : PerformsRequest request kept s a b kept s

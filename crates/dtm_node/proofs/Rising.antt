@@ -215,7 +215,7 @@ module _ (the_laws : TheLaws) (name : List ℕ) (clock : ℕ) (has_parts : Bool)
       let calls = down.goes.calls ∙ opens.calls in
       let rose : IsCounted d0 → Rose (count_of cause (counts_of d0)) (count_of cause (counts_of d)) = λ counted. rose_behind cause d0 (disk_of q) d counted opens.passes (rose_of down.down (disk_of q) d down.cause (opens.passes.counted counted)) in
       ends_boot name clock has_parts true d0 d ((last_lines_of home ++ undone) ++ line.Down name cause ∷ []) (line.Broken cause) true true
-      (fallen_end name (last_lines_of home ++ undone) cause work (both_unsent (last_lines_of home) undone last.1 (undone_unsent down.told.settled))) passes calls (fallen_rose name (last_lines_of home ++ undone) cause d0 d work rose)
+      (fallen_end name (last_lines_of home ++ undone) cause work (both_unsent (last_lines_of home) undone last.1 (undone_unsent down.told.settled))) passes calls (fallen_rose name (last_lines_of home ++ undone) cause d0 d work rose) (λ unused. (let f : ⊥ = cc in absurd f))
       (λ t p log w n h early kept promised s share a' b' m.
       let o = opens.world log n w h kept promised in
       boot_broke log w n name clock has_parts d0 h t p early o.ready o.wakes v down.told cause d passes calls (used s) (shares_used s w share) a' b' o.free o.restarting (down.done (acted Boots (powered o.wakes.outturn d0.stops n)) o.restarting (o.wakes.woken.clock ∙ h.clock)) (rose h.counts)

@@ -6,7 +6,8 @@ use Rattle.transcript_model.specs.Emitting.{Emits, Shown}
 use Rattle.transcript_model.specs.Lines as line
 use Rattle.transcript_model.specs.Lines.{Line}
 use Rattle.script_model.specs.Statements.{Request}
-use Rattle.run_laws.specs.Said.{Said, is_of_lines, line_said, lines_said, refused_by_lines, request_said}
+use Rattle.run_laws.specs.Said.{Said, line_said, lines_said, refused_by_lines, request_said}
+use Rattle.said_steps.specs.Answers.{is_served}
 use Rattle.run_shared.specs.Sharing.{SharedState}
 use Rattle.file_requests.specs.Replying.{IsQuiet, Replies, RepliesIf, ShowsQuietly}
 use Rattle.node_table.specs.Telling.{IsOfWork}
@@ -69,7 +70,7 @@ module _ (name : List ℕ) (request : Request) (s : SharedState) (a b : Shown) (
   }
 
   -- one answer alone, which refuses it
-  pub says_refusal : {T : Type 0} (x : T) (l : Line) → IsQuiet l → Emits a (l ∷ []) b → ((refusal : Line) → refused_by_lines (said_shared s) (node_up name) request ≡ Some refusal → l ≡ refusal) → (refused_by_lines (said_shared s) (node_up name) request ≡ None → is_of_lines l ≡ false)
+  pub says_refusal : {T : Type 0} (x : T) (l : Line) → IsQuiet l → Emits a (l ∷ []) b → ((refusal : Line) → refused_by_lines (said_shared s) (node_up name) request ≡ Some refusal → l ≡ refusal) → (refused_by_lines (said_shared s) (node_up name) request ≡ None → is_served l ≡ true)
       → SaysRequest {T = T} (Ok x) name request s s a b
   says_refusal x l quiet m by_lines others = record {
     lines = [];

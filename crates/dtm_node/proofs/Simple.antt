@@ -20,6 +20,9 @@ use Rattle.dtm_node.specs.Keeping.{PerformsRequest, PerformsTask}
 use Rattle.dtm_node.specs.Running.{name_of}
 use Rattle.dtm_node.specs.Standing.{IsDown, IsRunning, Kept, Place, StandsFor, StandsIn, counts_of, disk_in, disk_of, is_up}
 use Rattle.dtm_node.specs.Telling.{TellsTask, said_alone, said_node, said_shared}
+use Rattle.said_steps.proofs.Falls.{falls_none}
+use Rattle.dtm_node.proofs.Answered.{refused_answers}
+use Rattle.dtm_node.proofs.Held.{holds_is}
 use Rattle.dtm_node.proofs.Coming.{down_performs}
 use Rattle.dtm_node.proofs.DiskLemmas.{disk_clocked}
 use Rattle.dtm_node.proofs.Falling.{fallen_disk, told_up}
@@ -43,7 +46,7 @@ crash_down_tells k s a b down shows =
       answer = line.NodeDown;
       emits = shows;
       own = tt;
-      refused = λ refusal r. (let q : Some line.NodeDown ≡ Some refusal = sym said ∙ r in (refl, (let z : line.NodeDown ≡ refusal = cc in z), refl));
+      refused = λ refusal r. (let q : Some line.NodeDown ≡ Some refusal = sym said ∙ r in (refl, (let z : line.NodeDown ≡ refusal = cc in z), refl, refl));
       others = λ none. absurd (let q : Some line.NodeDown ≡ None = sym said ∙ none in (let f : ⊥ = cc in f));
       says = refl;
       calls = refl;
@@ -52,6 +55,8 @@ crash_down_tells k s a b down shows =
       quiet = λ x. refl;
       fused = λ writes choice q. (let f : ⊥ = cc in absurd f);
       boots = λ q. (let f : ⊥ = cc in absurd f);
+      answered = refused_answers (Serves Crash) k.name (refused_if (not (is_up k.place)) line.NodeDown) line.NodeDown true said refl;
+      held = λ d unused. (d, holds_is (disk_in k.place) (disk_in k.place) refl);
     }
 
 pub crash_down_performs : (k : Kept) (s : SharedState) (a b : Shown) → is_up k.place ≡ false → Emits a (line.NodeDown ∷ []) b → PerformsRequest Crash k s a b k s
@@ -77,6 +82,13 @@ module _ (name : List ℕ) (clock : ℕ) (r : Up) (s : SharedState) (a b : Shown
     quiet = λ x. refl;
     fused = λ writes choice q. (let f : ⊥ = cc in absurd f);
     boots = λ q. (let f : ⊥ = cc in absurd f);
+    answered = record {
+      may = λ none. refl;
+      falls = λ on. falls_none (name ∷ []) (line.Crashed name ∷ []) line.Normal (λ node cause i. elim i [ inl e ↦ (let f : ⊥ = cc in f) | inr x ↦ x ]) refl;
+      crashes = λ node i. refl;
+      crash = λ is none. refl;
+    };
+    held = λ d unused. (let f : ⊥ = cc in absurd f);
   }
     where
       crashed_not : (cause : Cause) → In (line.Down name cause) (line.Crashed name ∷ []) → ⊥

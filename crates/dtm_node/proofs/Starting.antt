@@ -1,5 +1,5 @@
 -- START_TRANS at a node that is up.
-use Rattle.std.proofs.Common.{◌≡◌, ℕ, ◌<◌, ◌+◌, List, [], ◌∷◌, ◌++◌, Bool, false, Option, Some, None, Ok, map, length, nat_le, refl, ◌∙◌, ap, sym, subst, arith}
+use Rattle.std.proofs.Common.{◌≡◌, ℕ, ◌<◌, ◌+◌, List, [], ◌∷◌, ◌++◌, Bool, true, false, Option, Some, None, Ok, map, length, nat_le, refl, ◌∙◌, ap, sym, subst, arith}
 use Rattle.std.proofs.lemmas.Bool.{lt-leb}
 use Rattle.std.proofs.lemmas.List.{length-map}
 use Rattle.std.specs.Option.{option_map}
@@ -11,7 +11,8 @@ use Rattle.transcript_model.specs.Emitting.{Emits, Shown, Since}
 use Rattle.transcript_model.specs.Lines as line
 use Rattle.transcript_model.specs.Lines.{Line}
 use Rattle.script_model.specs.Statements.{StartTrans}
-use Rattle.run_laws.specs.Said.{Said, is_of_lines, line_said, new_said, refused_by_lines, request_said}
+use Rattle.run_laws.specs.Said.{Said, line_said, new_said, refused_by_lines, request_said}
+use Rattle.said_steps.specs.Answers.{is_served}
 use Rattle.run_model.specs.Operations.{first_of, refused_if}
 use Rattle.run_model.specs.World.{Draws, Label, Node, Shared, acted, find_label}
 use Rattle.run_model.specs.Answers.{label_limit, more_branches, new_label, seconds_refused}
@@ -53,7 +54,7 @@ pub quota_quiet : (l : Line) → IsQuota l → (s : Said) → line_said l s ≡ 
 quota_quiet (line.QuotaExceeded quota limit) q s = refl
 quota_quiet _ q s = absurd q
 
-pub quota_other : (l : Line) → IsQuota l → is_of_lines l ≡ false
+pub quota_other : (l : Line) → IsQuota l → is_served l ≡ true
 quota_other (line.QuotaExceeded quota limit) q = refl
 quota_other _ q = absurd q
 

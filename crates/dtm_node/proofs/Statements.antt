@@ -18,7 +18,8 @@ use Rattle.transcript_model.specs.Lines.{Line}
 use Rattle.script_model.specs.Statements.{AbortTrans, ByLabel, BySerial, EndBranch, EndTrans, Inquire, Named, Request}
 use Rattle.log_laws.specs.Slots.{begun}
 use Rattle.vms_model.specs.Transactions.{Aborted}
-use Rattle.run_laws.specs.Said.{Said, is_of_lines, line_said, named_said, refused_by_lines, request_said}
+use Rattle.run_laws.specs.Said.{Said, line_said, named_said, refused_by_lines, request_said}
+use Rattle.said_steps.specs.Answers.{is_served}
 use Rattle.run_model.specs.Operations.{first_of, refused_if}
 use Rattle.run_model.specs.World.{Label, Node, Shared, labelled, serial_labelled}
 use Rattle.run_model.specs.Answers.{Row, branch_labelled, branch_named, in_state, is_first_active, is_in_doubt, is_open, just, made_label, made_name, service, told_if, told_rows, touches, unsettled, unsettled_label}
@@ -154,9 +155,9 @@ module _ (request : Request) (who : Named) (holds : Branch → Bool) (event : Br
       said_is (inl w) refusal e = w.1 ∙ one_line line.BadLabel refusal (sym w.0 ∙ sym by_lines ∙ e)
       said_is (inr w) refusal e = absurd (no_line refusal (sym w.0 ∙ sym by_lines ∙ e))
 
-      other_is : ((made_of who (name_of r) sh.labels ≡ Some line.BadLabel) × (l ≡ line.BadLabel)) ⊎ ((made_of who (name_of r) sh.labels ≡ None) × (l ≡ line.NoSuchTransaction)) → refused_by_lines (said_shared sh) (node_up (name_of r)) request ≡ None → is_of_lines l ≡ false
+      other_is : ((made_of who (name_of r) sh.labels ≡ Some line.BadLabel) × (l ≡ line.BadLabel)) ⊎ ((made_of who (name_of r) sh.labels ≡ None) × (l ≡ line.NoSuchTransaction)) → refused_by_lines (said_shared sh) (node_up (name_of r)) request ≡ None → is_served l ≡ true
       other_is (inl w) e = absurd (no_line line.BadLabel (sym e ∙ by_lines ∙ w.0))
-      other_is (inr w) e = ap is_of_lines w.1
+      other_is (inr w) e = ap is_served w.1
 
   module _ (x : Branch) (made : made_of who (name_of r) sh.labels ≡ None) (found : named_in who sh.labels r ≡ Some x) where
     -- what the state of its branch says of it
@@ -187,7 +188,7 @@ module _ (request : Request) (who : Named) (holds : Branch → Bool) (event : Br
         pub asked_fails : (d : Down) → touches (service request) ≡ true → KeepsUp {T = Unit {0}} (Err d) (event x) clock r new sh after a b → TellsRows {T = Unit {0}} (Err d) (event x) clock r new sh after a b → DoesRequest {T = Unit {0}} (Err d) request clock r new sh after a b
         asked_fails d touch keeps does = told_fails rows_keep_up request (event x) clock r r new sh sh after a b refl (omega arith, omega arith) (q.one x) refl (λ n. []) told_here d touch unrefused refl keeps does
 
-        pub asked_serves : (c : Shown) (l : Line) → Since b c → Emits b (l ∷ []) c → ((s : Said) → line_said l s ≡ s) → is_of_lines l ≡ false → KeepsUp {T = Unit {0}} (Ok tt) (event x) clock r new sh after a b → TellsRows {T = Unit {0}} (Ok tt) (event x) clock r new sh after a b
+        pub asked_serves : (c : Shown) (l : Line) → Since b c → Emits b (l ∷ []) c → ((s : Said) → line_said l s ≡ s) → is_served l ≡ true → KeepsUp {T = Unit {0}} (Ok tt) (event x) clock r new sh after a b → TellsRows {T = Unit {0}} (Ok tt) (event x) clock r new sh after a b
             → ((s : Shared) (n : Node) → StandsUp clock r n → IsShared sh s → IsKeptNode s n → StandsUp clock new (node_after_rows ((service request).rows s n) n) → (service request).answer s n ≡ l) → DoesRequest {T = Unit {0}} (Ok tt) request clock r new sh after a c
         asked_serves c l since shows quiet other keeps does answer = told_serves rows_keep_up request (event x) clock r r new sh sh after a b refl (omega arith, omega arith) (q.one x) refl (λ n. []) told_here c l since shows quiet other unrefused (λ ws. q.still (name_of r) l _) keeps does answer
 

@@ -11,7 +11,8 @@ use Rattle.transcript_model.specs.Lines.{Line}
 use Rattle.transcript_model.proofs.EmittingLemmas.{emits_nothing, emits_on, since_on}
 use Rattle.script_model.specs.Statements.{Request}
 use Rattle.log_laws.specs.Slots.{begun}
-use Rattle.run_laws.specs.Said.{Said, is_of_lines, line_said, lines_said, refused_by_lines, request_said}
+use Rattle.run_laws.specs.Said.{Said, line_said, lines_said, refused_by_lines, request_said}
+use Rattle.said_steps.specs.Answers.{is_served}
 use Rattle.run_model.specs.Operations.{first_of, refused_if}
 use Rattle.run_model.specs.World.{Act, Node, Shared, acted, shared_after}
 use Rattle.run_model.specs.Answers.{Row, Serves, all_acted, all_shared, just, refused_before_reading, service, silent, told_rows, touches}
@@ -48,7 +49,7 @@ first_none (Some l) y h = let f : ⊥ = cc in absurd f
 
 -- one line alone was shown, which refuses the request; and nothing was done
 pub refuses : (request : Request) (clock : ℕ) (r : Up) (sh : SharedState) (a b : Shown) (l : Line) → IsUp r → Since a b → Emits a (l ∷ []) b → ((s : Said) → line_said l s ≡ s) → ((s : Said) → request_said (name_of r) request l s ≡ s)
-    → ((refusal : Line) → refused_by_lines (said_shared sh) (node_up (name_of r)) request ≡ Some refusal → l ≡ refusal) → (refused_by_lines (said_shared sh) (node_up (name_of r)) request ≡ None → is_of_lines l ≡ false)
+    → ((refusal : Line) → refused_by_lines (said_shared sh) (node_up (name_of r)) request ≡ Some refusal → l ≡ refusal) → (refused_by_lines (said_shared sh) (node_up (name_of r)) request ≡ None → is_served l ≡ true)
     → ((s : Shared) (n : Node) → StandsUp clock r n → IsShared sh s → IsKeptNode s n → first_of ((service request).refused_before_reading s n) ((service request).refused_after_reading s n) ≡ Some l) → DoesRequest {T = Unit {0}} (Ok tt) request clock r r sh sh a b
 refuses request clock r sh a b l up since shows quiet still by_lines others refused = record {
   keeps = record {
@@ -63,6 +64,7 @@ refuses request clock r sh a b l up since shows quiet still by_lines others refu
     since = since;
   };
   uses = tt;
+  leaves = λ refusal e. refl;
   says = record {
     lines = [];
     answer = l;
@@ -143,6 +145,7 @@ module _ (rows_keep_up : RowsKeepUp) (request : Request) (e : Event) (clock : �
   told_fails d touch unrefused same keeps does = record {
     keeps = kept_over {T = Unit {0}} (Err d) keeps does b keeps.since;
     uses = touch;
+    leaves = λ refusal e. absurd (let q : ◌≡◌ {A = Option Line} None (Some refusal) = sym unrefused ∙ e in (let f : ⊥ = cc in f));
     says = record {
       lines = keeps.work.lines;
       answer = line.Normal;
@@ -165,7 +168,7 @@ module _ (rows_keep_up : RowsKeepUp) (request : Request) (e : Event) (clock : �
       as_cut s n early (Some x) is w = absurd (let f : ⊥ = cc in f)
 
   -- it was done, and answered so
-  pub told_serves : (c : Shown) (l : Line) → Since b c → Emits b (l ∷ []) c → ((s : Said) → line_said l s ≡ s) → is_of_lines l ≡ false → (refused_by_lines (said_shared before) (node_up (name_of old)) request ≡ None)
+  pub told_serves : (c : Shown) (l : Line) → Since b c → Emits b (l ∷ []) c → ((s : Said) → line_said l s ≡ s) → is_served l ≡ true → (refused_by_lines (said_shared before) (node_up (name_of old)) request ≡ None)
       → ((ws : List Message) → request_said (name_of old) request l (record { nodes = node_up (name_of old) ∷ []; shared = record (said_shared before) { wire = ws } }) ≡ record { nodes = node_up (name_of old) ∷ []; shared = record (said_shared shared) { wire = ws } })
       → KeepsUp {T = Unit {0}} (Ok tt) e clock mid new shared after a b → TellsRows {T = Unit {0}} (Ok tt) e clock mid new shared after a b
       → ((s : Shared) (n : Node) → StandsUp clock old n → IsShared before s → IsKeptNode s n → StandsUp clock new (node_after_rows ((service request).rows s n) n) → (service request).answer s n ≡ l)
@@ -173,6 +176,7 @@ module _ (rows_keep_up : RowsKeepUp) (request : Request) (e : Event) (clock : �
   told_serves c l since shows quiet other unrefused said keeps does answer = record {
     keeps = kept_over {T = Unit {0}} (Ok tt) keeps does c (since_on a b c keeps.since since);
     uses = tt;
+    leaves = λ refusal e. absurd (let q : ◌≡◌ {A = Option Line} None (Some refusal) = sym unrefused ∙ e in (let f : ⊥ = cc in f));
     says = record {
       lines = keeps.work.lines;
       answer = l;

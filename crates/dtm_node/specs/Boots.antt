@@ -8,7 +8,7 @@ use Rattle.file_base.specs.declared.head.FileHead.{FileHead}
 use Rattle.file_base.specs.declared.head.Span.{Span}
 use Rattle.journal_model.specs.Ring.{ring_size}
 use Rattle.transcript.specs.Forms.{line_of, HasTime}
-use Rattle.transcript_model.specs.Lines.{Line, NoVolume, QuotaExceeded}
+use Rattle.transcript_model.specs.Lines.{Line}
 use Rattle.transcript_model.specs.Outside.{Rose}
 use Rattle.volume.specs.Conditions.{IsFirstFinding}
 use Rattle.volume.specs.State.{VolumeState}
@@ -25,6 +25,8 @@ use Rattle.dtm_node.specs.declared.boot.Booted.{Booted}
 use Rattle.dtm_node.specs.declared.boot.Booted.TheVariants as booted
 use Rattle.dtm_node.specs.Standing.{counts_of}
 use Rattle.dtm_node.specs.Causes.{cause_of}
+use Rattle.dtm_node.specs.Holding.{HoldsAs}
+use Rattle.said_steps.specs.Calls.{is_boot_refusal}
 
 abbrev pub disk_booted : {D : Type 0} → (D → DiskState) → Booted D → DiskState
 disk_booted state (booted.Up v) = v.store.disk
@@ -109,17 +111,12 @@ pub record IsInRing (s : Span) : Type 0 where
   pub room : s.end - s.first ≤ ring_size s
   pub low : s.end ≤ 2 ^ 62
 
--- whether an answer refuses a boot once its disk runs again: by what the disk has, or by a quota
-abbrev pub is_boot_refusal : Line → Bool
-is_boot_refusal (NoVolume node condition block) = true
-is_boot_refusal (QuotaExceeded quota limit) = true
-is_boot_refusal answer = false
-
+-- an answer refuses a boot once its disk runs again
 abbrev pub IsBootRefusal : Line → Type 0
 IsBootRefusal answer = is_boot_refusal answer ≡ true
 
--- What holds whatever the disk has: a volume that is up is in order, a refusal is one of a disk that runs, and a failure raised its count.
+-- What holds whatever the disk has: a volume that is up is in order; a refusal is one of a disk that runs, of which nothing is lost; and a failure raised its count.
 abbrev pub IsBooted : {D : Type 0} → (D → DiskState) → List ℕ → DiskState → Booted D → Type 0
 IsBooted state name old (booted.Up v) = IsRaised name v
-IsBooted state name old (booted.Refused disk group pool form) = HasTime form × IsBootRefusal (line_of form)
+IsBooted state name old (booted.Refused disk group pool form) = HasTime form × IsBootRefusal (line_of form) × HoldsAs old (state disk)
 IsBooted state name old (booted.Fell disk group pool down) = IsCounted old → Rose (count_of (cause_of down) (counts_of old)) (count_of (cause_of down) (counts_of (state disk)))

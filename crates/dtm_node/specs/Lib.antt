@@ -1,6 +1,7 @@
 pub mod Standing
 pub mod Causes
 pub mod Keeping
+pub mod Holding
 pub mod Telling
 pub mod Running
 pub mod Requests

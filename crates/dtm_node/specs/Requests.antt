@@ -8,7 +8,8 @@ use Rattle.transcript_model.specs.Lines.{Line}
 use Rattle.script_model.specs.Statements.{AbortTrans, AddBranch, Boot, Clock, Crash, EndBranch, EndTrans, Fuse, Init, Inquire, Request, StartBranch, StartTrans}
 use Rattle.vms_model.specs.Ids.{Id}
 use Rattle.unit_table.specs.Units.{OpenUnit}
-use Rattle.run_laws.specs.Said.{Said, SaidNode, is_of_lines, line_said, lines_said, refused_by_lines, request_said}
+use Rattle.said_steps.specs.Answers.{is_served}
+use Rattle.run_laws.specs.Said.{Said, SaidNode, line_said, lines_said, refused_by_lines, request_said}
 use Rattle.run_model.specs.Answers.{Service, service, touches}
 use Rattle.run_model.specs.World.{Node, Shared, with_changed}
 use Rattle.run_shared.specs.Sharing.{IsShared, SharedState}
@@ -63,7 +64,7 @@ pub record SaysRequest {T : Type 0} (r : Result T Down) (name : List ℕ) (reque
   pub work : AllByRecursion IsOfWork lines
   pub still : (said : Said) → line_said answer said ≡ said
   pub refused : (refusal : Line) → refused_by_lines (said_shared before) (node_up name) request ≡ Some refusal → MatchResult r (λ _. (lines ≡ []) × (answer ≡ refusal)) (λ _. ⊥)
-  pub others : refused_by_lines (said_shared before) (node_up name) request ≡ None → OnOk r (is_of_lines answer ≡ false)
+  pub others : refused_by_lines (said_shared before) (node_up name) request ≡ None → OnOk r (is_served answer ≡ true)
   pub says : MatchResult r (λ _. request_said name request answer (lines_said lines (said_up name before)) ≡ said_up name after) (λ _. lines_said lines (said_up name before) ≡ said_up name after)
 
 -- At each node of the world that what is kept stands for, its service was done.
@@ -71,10 +72,11 @@ abbrev pub ServesUp : {T : Type 0} → Result T Down → Service → (clock : �
 ServesUp r e clock old new before after a b = (s : Shared) (n : Node) → StandsUp clock old n → IsShared before s → IsKeptNode s n →
     DoesService r (service_at e s n) s n a b (StandsUp clock new n × IsShared after s) (IsShared after) (StandsUp clock new) (disk_of new)
 
--- All three of a request. The disk goes down in none that uses no disk.
+-- All three of a request. The disk goes down in none that uses no disk, and is left as it was where what was said before refuses the request.
 pub record DoesRequest {T : Type 0} (r : Result T Down) (request : Request) (clock : ℕ) (old new : Up) (before after : SharedState) (a b : Shown) : Type 0 where
   pub keeps : KeepsRequest r clock old new a b
   pub uses : OnErr r (touches (service request) ≡ true)
+  pub leaves : (refusal : Line) → refused_by_lines (said_shared before) (node_up old.stored.volume.catalog.home.node) request ≡ Some refusal → disk_of new ≡ disk_of old
   pub says : SaysRequest r old.stored.volume.catalog.home.node request before after a b
   pub serves : ServesUp r (service request) clock old new before after a b
 

@@ -4,7 +4,7 @@ ghost use Rattle.dtm_node.specs.TheLaws.{TheLaws};
 use unit_world::nodes_are_kept;
 use world_laws::nodes_stay_kept;
 
-/// All of them.
+/// Cites each law of kept nodes once, so that the proofs of a crate have them in one value.
 pub(crate) fn the_laws()
     ensures { TheLaws }
 {

@@ -166,7 +166,7 @@ impl<D: Disk + Drop, U: RecoveryUnits> Node<D, U> {
         }
     }
 
-    /// Its name.
+    /// The name of the node.
     pub fn name(&self) -> NodeName
         ensures { result ≡ self.now.name }
     {
@@ -183,7 +183,7 @@ impl<D: Disk + Drop, U: RecoveryUnits> Node<D, U> {
         }
     }
 
-    /// Its disk.
+    /// The disk of the node, as the last call of it left it; what memory held is gone.
     pub fn into_disk(self) -> D
         ensures { D.state result ≡ state_of D.state U.state self }
     {

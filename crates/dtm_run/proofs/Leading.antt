@@ -1,10 +1,13 @@
 -- How far the lines of a run lead.
 use Rattle.std.specs.Prelude.{slice_get}
-use Rattle.std.proofs.Common.{◌≡◌, ◌⊎◌, inl, inr, ℕ, zero, suc, List, [], ◌∷◌, ◌++◌, ◌==◌, Bool, true, false, not, ◌&&◌, Option, Some, None, map, if◌then◌else◌, is_some, refl, sym, ◌∙◌, ap, subst}
+use Rattle.std.proofs.Common.{◌≡◌, ◌⊎◌, inl, inr, ℕ, zero, suc, List, [], ◌∷◌, ◌++◌, ◌==◌, Bool, true, false, not, ◌&&◌, Option, Some, None, map, if◌then◌else◌, refl, sym, ◌∙◌, ap, subst}
+use Rattle.std.specs.List.{AllByRecursion, last_or}
 use Rattle.std.specs.Str.{bytes_eq}
 use Rattle.std.proofs.lemmas.Bool.{eqb-true}
+use Rattle.std.proofs.lemmas.Slice.Eq.{bytes_eq-Decides}
 use Rattle.block_disk.specs.Disk.{DiskState, CallLog}
 use Rattle.commit_protocol.specs.Messages.{Message}
+use Rattle.transcript_model.specs.Lines as line
 use Rattle.transcript_model.specs.Lines.{Line}
 use Rattle.transcript_model.specs.Script.{ScriptLine}
 use Rattle.transcript_model.specs.Emitting.{Shown, Emits}
@@ -14,16 +17,15 @@ use Rattle.run_agreement.specs.Laws.{NamesApart}
 use Rattle.run_model.specs.World.{World, Node, Label, Volume, Sound, Faulty, Barred, Unknown, find_node, opened}
 use Rattle.run_model.specs.Transcript.{AreInLimits, AreOpening, Ends, Entry, Legal, Turn}
 use Rattle.run_model.proofs.NodeLists.{some_is}
-use Rattle.run_laws.specs.Said.{Said, SaidLabel, nothing_said, said_here}
+use Rattle.run_laws.specs.Said.{Said, SaidLabel, answer_said, line_said, lines_said, nothing_said, request_said, said_here}
 use Rattle.run_shared.specs.Sharing.{SharedState}
-use Rattle.recovery_units.specs.Uses.{IsCounted}
 use Rattle.world_laws.specs.Nodes.{NodesAreKept}
 use Rattle.dtm_node.specs.Standing.{Kept, Place, IsDown, IsRunning, StandsIn, counts_of, disk_in, is_up, noted_all}
 use Rattle.dtm_node.specs.Telling.{said_label, said_node}
 use Rattle.statement_steps.specs.Doing.{AllKept}
 use Rattle.statement_steps.proofs.Keeping.{all_kept}
 use Rattle.statement_steps.proofs.Places.{find_at}
-use Rattle.run_nodes.specs.Calls.{LineTellsAll}
+use Rattle.run_nodes.specs.Calls.{LineFollows, LineTellsAll}
 use Rattle.run_nodes.specs.Held.{clocks_of}
 use Rattle.run_nodes.specs.Names.{AreApart}
 use Rattle.run_nodes.specs.Together.{AnswersTogether, ServesTogether, StandAll, StandsTogether, disks_of, said_together}
@@ -31,12 +33,14 @@ use Rattle.run_nodes.specs.Told.{kept_names}
 use Rattle.run_nodes.specs.Untold.{BootsUnknown, IsUntold}
 use Rattle.run_nodes.proofs.Places.{world_apart}
 use Rattle.run_nodes.proofs.Telling.{passes_on, passes_same}
-use Rattle.dtm_run.specs.Headline.{AllGo, Leaves, StandOn, StandsOn, exit_of}
-use Rattle.dtm_run.specs.Leading.{Beginning, Begins, IsUnknown, Leads, LeadsNowhere, LeavesOver, RunsFrom, are_resting, are_unset, is_unused, is_unused_behind, said_node_of, said_world, world_at}
+use Rattle.dtm_run.specs.Headline.{AllGo, Leaves, StandOn, StandsOn, exit_of, is_known}
+use Rattle.dtm_run.specs.Leading.{Beginning, Begins, IsUnknown, KeepKnown, Leads, LeadsNowhere, LeavesOver, RunsFrom, are_resting, are_unset, is_unused, is_unused_behind, said_node_of, said_world, world_at}
 use Rattle.dtm_run.specs.Taking.{AreAtZero}
 use Rattle.dtm_run.specs.declared.top.Exit.{Exit}
 use Rattle.dtm_run.proofs.Entries.{EndsWith}
-use Rattle.dtm_run.proofs.Opened.{nothing_opening, unknown_node, unknown_stands}
+use Rattle.dtm_run.proofs.Renewing.{AreTold, renewed, renewed_opening, renewed_stand}
+use Rattle.dtm_run.proofs.Unused as free
+use Rattle.dtm_run.proofs.Unused.{unused_fresh}
 
 pub not_both : (b : Bool) → b ≡ true → b ≡ false → ⊥
 not_both b t f = let e : true ≡ false = sym t ∙ f in cc
@@ -208,15 +212,6 @@ zero_as ks [] e h = tt
 zero_as [] (l ∷ ls) e h = let none : ⊥ = cc in absurd none
 zero_as (k ∷ ks) (l ∷ ls) e h = (ap (λ (xs : List ℕ). elim xs [ [] ↦ 0 | x ∷ more ↦ x ]) e ∙ h.0, zero_as ks ls (ap (λ (xs : List ℕ). elim xs [ [] ↦ [] | x ∷ more ↦ more ]) e) h.1)
 
--- the nodes of the disks of such nodes, of which nothing is known
-abbrev pub unknown_of : Kept → Node
-unknown_of k = unknown_node k.name (disk_in k.place).size
-
--- each of these disks tells its content, and was counted
-abbrev pub AreTold : List DiskState → Type 0
-AreTold [] = Unit {0}
-AreTold (d ∷ ds) = (is_some d.seen ≡ true) × IsCounted d × AreTold ds
-
 stand_told : (names : List (List ℕ)) (ds : List DiskState) (ns : List Node) → StandOn names ds ns → AreTold ds
 stand_told [] [] [] h = tt
 stand_told [] [] (n ∷ ns) h = absurd h
@@ -230,14 +225,6 @@ told_on [] [] g h = tt
 told_on [] (new ∷ news) g h = absurd g
 told_on (old ∷ olds) [] g h = absurd g
 told_on (old ∷ olds) (new ∷ news) g h = (g.0.told ∙ h.0, g.0.counted h.1, told_on olds news g.1 h.2)
-
-unknown_opening : (ks : List Kept) → AreOpening (map unknown_of ks)
-unknown_opening [] = tt
-unknown_opening (k ∷ ks) = (nothing_opening k.name (disk_in k.place).size Unknown, unknown_opening ks)
-
-unknown_stand : (ks : List Kept) → AreTold (disks_of ks) → StandOn (kept_names ks) (disks_of ks) (map unknown_of ks)
-unknown_stand [] h = tt
-unknown_stand (k ∷ ks) h = (unknown_stands k.name (disk_in k.place) h.0 h.1, unknown_stand ks h.2)
 
 -- A node that was not booted, over its disk.
 
@@ -282,6 +269,36 @@ nothing_resting (name ∷ names) = nothing_resting names
 
 pub nothing_unused : (names : List (List ℕ)) → is_unused (nothing_said names) ≡ true
 nothing_unused names = nothing_resting names
+
+-- A BOOT behind which no node may be in use was asked in a world in which none may be.
+
+line_use : (l : Line) (said : Said) → (line_said l said).shared.in_use ≡ said.shared.in_use
+line_use (line.Sent number m) said = refl
+line_use (line.Down node cause) said = refl
+line_use (line.Crashed node) said = refl
+line_use (line.Booted node boot) said = refl
+line_use _ said = refl
+
+lines_use : (ls : List Line) (said : Said) → (lines_said ls said).shared.in_use ≡ said.shared.in_use
+lines_use [] said = refl
+lines_use (l ∷ ls) said = lines_use ls (line_said l said) ∙ line_use l said
+
+answer_use : (node : List ℕ) (answer : Line) (said : Said) → (request_said node Boot answer said).shared.in_use ≡ false → said.shared.in_use ≡ false
+answer_use node (line.NormalCount boot) said e = let none : ⊥ = cc in absurd none
+answer_use node (line.Broken cause) said e = let none : ⊥ = cc in absurd none
+answer_use node _ said e = e
+
+used_before : (node : List ℕ) (lines : List Line) (said : Said) → (said_here (Says (At node Boot)) lines said).shared.in_use ≡ false → said.shared.in_use ≡ false
+used_before node lines said e = go (last_or None lines) e
+  where
+    go : (o : Option Line) → ◌≡◌ {A = Bool} (elim o as (λ x. Said) [ Some answer ↦ answer_said (At node Boot) answer (lines_said lines said) | None ↦ said ]).shared.in_use false → said.shared.in_use ≡ false
+    go (Some answer) f = sym (lines_use lines said) ∙ answer_use node answer (lines_said lines said) f
+    go None f = f
+
+-- what is so at each place
+each_of : (P : Node → Type 0) (ns : List Node) → ((place : ℕ) (n : Node) → slice_get ns place ≡ Some n → P n) → AllByRecursion P ns
+each_of P [] h = tt
+each_of P (n ∷ ns) h = (h zero n refl, each_of P ns (λ place m e. h (suc place) m e))
 
 -- Between two lines.
 
@@ -352,19 +369,19 @@ way_blank names first source es ks s blank g = go g.left_over g.parts g.stays
 -- The entries since the last beginning are legal.
 pub since_legal : (names : List (List ℕ)) (first last : Beginning) (es since : List Entry) (w : World) → Leads names first es last since w → Legal (world_at last) since w
 since_legal names first last [] since w h = subst (λ xs. Legal (world_at last) xs w) (sym h.1) (h.2 ∙ ap (λ (x : Beginning). world_at x) (sym h.0))
-since_legal names first last (e ∷ es) [] w h = h.7
+since_legal names first last (e ∷ es) [] w h = h.5
 since_legal names first last (e ∷ es) (latest ∷ since) w h = subst (λ (x : Entry). Legal (world_at last) (x ∷ since) w) (sym h.0) (h.1, since_legal names first last es since h.1 h.2, h.3)
 
 -- and they begin with nodes as before a first line
 pub last_begins : (names : List (List ℕ)) (first last : Beginning) (es since : List Entry) (w : World) → AreOpening first.nodes → Leads names first es last since w → AreOpening last.nodes
 last_begins names first last [] since w o h = subst (λ (x : Beginning). AreOpening x.nodes) (sym h.0) o
-last_begins names first last (e ∷ es) [] w o h = h.6.opening
+last_begins names first last (e ∷ es) [] w o h = h.4.begins.opening
 last_begins names first last (e ∷ es) (latest ∷ since) w o h = last_begins names first last es since h.1 o h.2
 
 -- A statement was served.
 module _ (law : NodesAreKept) (names : List (List ℕ)) (apart : AreApart names) (first : Beginning) (source : ScriptLine) (es : List Entry) (ks ls : List Kept) (s after : SharedState) (same : names ≡ kept_names ks) (named : names ≡ kept_names ls) (g : Way names first es ks s) (statement : Statement)
     (says : reading source.text ≡ Says statement) (a b : Shown) (serves : (logs : List CallLog) (w : World) → StandsTogether logs ks s w → AllKept w.shared w.nodes → (BootsUnknown w statement → ⊥) → ServesTogether logs w statement a b ls after)
-    (answers : AnswersTogether names statement a b ks s ls after) (clocks : (node : List ℕ) → statement ≡ At node Boot → clocks_of ls ≡ clocks_of ks) where
+    (answers : AnswersTogether names statement a b ks s ls after) (fine : (ds : List DiskState) (w : World) → StandsTogether (logs_of ds) ks s w → Leaves ds w (disks_of ks)) (clocks : (node : List ℕ) → statement ≡ At node Boot → clocks_of ls ≡ clocks_of ks) where
   abbrev answered : Entry
   answered = record { source = source; lines = answers.lines }
 
@@ -405,8 +422,12 @@ module _ (law : NodesAreKept) (names : List (List ℕ)) (apart : AreApart names)
       }
 
   module _ (parts : es ≡ g.led) (stays : Led) (boots : BootsUnknown g.closing statement) where
-    is : (unused : Bool) → is_unused_behind g.closing statement answers.lines ≡ unused → IsUnknown g.closing answered unused
-    is unused e = record { statement = statement; says = says; boots = boots; leaves = e }
+    -- what was said before
+    said_is : said_together ks s ≡ said_world g.closing
+    said_is = together_said (logs_of g.last.disks) ks s g.closing stays.1
+
+    abbrev is : (unused : Bool) → is_unused_behind g.closing statement answers.lines ≡ unused → IsUnknown g.closing answered unused
+    is unused e = record { statement = statement; says = says; boots = boots; follows = subst (λ (x : Said). LineFollows x (Says statement) answers.lines) said_is answers.follows; leaves = e }
 
     -- nodes are not unused behind it
     step_out : is_unused_behind g.closing statement answers.lines ≡ false → Next names first source es a b ls after
@@ -418,44 +439,86 @@ module _ (law : NodesAreKept) (names : List (List ℕ)) (apart : AreApart names)
 
     -- what is said behind it
     behind : said_together ls after ≡ said_here (Says statement) answers.lines (said_world g.closing)
-    behind = answers.says ∙ ap (said_here (Says statement) answers.lines) (together_said (logs_of g.last.disks) ks s g.closing stays.1)
+    behind = answers.says ∙ ap (said_here (Says statement) answers.lines) said_is
 
-    -- the nodes again, of whose disks nothing is known
+    -- the nodes again: those of whose disks something is known
     abbrev again : Beginning
-    again = record { nodes = map unknown_of ls; disks = disks_of ls }
+    again = record { nodes = renewed g.closing.nodes ls; disks = disks_of ls }
 
     gone : AllGo g.last.disks (disks_of ls)
     gone = go_on g.last.disks (disks_of ks) (disks_of ls) stays.0 goes
 
-    begins_again : Begins names again
-    begins_again = record {
-      opening = unknown_opening ls;
-      stand = subst (λ xs. StandOn xs (disks_of ls) (map unknown_of ls)) (sym named) (unknown_stand ls (told_on g.last.disks (disks_of ls) gone (stand_told names g.last.disks g.last.nodes g.begins.stand)));
-    }
+    tells_said : LineTellsAll names (said_world g.closing) (Says statement) answers.lines (disks_of ks) (disks_of ls)
+    tells_said = subst (λ (x : Said). LineTellsAll names x (Says statement) answers.lines (disks_of ks) (disks_of ls)) said_is answers.tells
+
+    -- a node of whose disk something is known is not booted
+    known_other : (node : List ℕ) → statement ≡ At node Boot → (place : ℕ) (n : Node) → slice_get g.closing.nodes place ≡ Some n → is_known n.durable.volume ≡ true → bytes_eq n.name node ≡ false
+    known_other node boot place n at known = by (bytes_eq n.name node) refl
+      where
+        booted : BootsUnknown g.closing (At node Boot)
+        booted = subst (BootsUnknown g.closing) boot boots
+
+        by : (b : Bool) → bytes_eq n.name node ≡ b → bytes_eq n.name node ≡ false
+        by false is = is
+        by true is =
+            let there = find_at g.closing.nodes place n (differ stays) at in
+            let same : booted.0 ≡ n = some_is booted.0 n (sym booted.1 ∙ subst (λ (x : List ℕ). find_node x g.closing.nodes ≡ Some n) ((bytes_eq-Decides n.name node).0 is) there) in
+            let no : false ≡ true = ap is_known (sym booted.2.unknown) ∙ ap (λ (x : Node). is_known x.durable.volume) same ∙ known in
+            let none : ⊥ = cc in
+            absurd none
 
     -- the boot was refused
-    step_anew : (node : List ℕ) → statement ≡ At node Boot → is_unused_behind g.closing statement answers.lines ≡ true → Next names first source es a b ls after
-    step_anew node boot e =
-        let f = both (is_unused (said_here (Says statement) answers.lines (said_world g.closing))) (are_unset g.closing.nodes) (unsettled node boot e) in
-        let at_zero = zero_as ks ls (clocks node boot) (unset_zero (logs_of g.last.disks) ks g.closing.nodes stays.1.nodes f.1) in
-        record {
-          lines = answers.lines;
-          emits = answers.emits;
-          way = record {
-            led = answered ∷ g.led;
-            left_over = [];
-            parts = ap (λ (xs : List Entry). answered ∷ xs) parts;
-            last = again;
-            since = [];
-            closing = world_at again;
-            begins = begins_again;
-            leads = (g.last, g.since, g.closing, g.leads, is true e, gone, begins_again, refl);
-            stays = (all_stay (disks_of ls), stands_first names ls after (map unknown_of ls) named at_zero (fresh ls after (ap is_unused behind ∙ f.0)) (unknown_opening ls) begins_again.stand);
-          };
-        }
-      where
-        unsettled : (node : List ℕ) → statement ≡ At node Boot → is_unused_behind g.closing statement answers.lines ≡ true → (is_unused (said_here (Says statement) answers.lines (said_world g.closing)) && are_unset g.closing.nodes) ≡ true
-        unsettled node boot e = subst (λ (x : Statement). is_unused_behind g.closing x answers.lines ≡ true → (is_unused (said_here (Says x) answers.lines (said_world g.closing)) && are_unset g.closing.nodes) ≡ true) (sym boot) (λ y. y) e
+    module _ (node : List ℕ) (boot : statement ≡ At node Boot) (e : is_unused_behind g.closing statement answers.lines ≡ true) where
+      f : (is_unused (said_here (Says statement) answers.lines (said_world g.closing)) ≡ true) × (are_unset g.closing.nodes ≡ true)
+      f = both (is_unused (said_here (Says statement) answers.lines (said_world g.closing))) (are_unset g.closing.nodes)
+          (subst (λ (x : Statement). is_unused_behind g.closing x answers.lines ≡ true → (is_unused (said_here (Says x) answers.lines (said_world g.closing)) && are_unset g.closing.nodes) ≡ true) (sym boot) (λ y. y) e)
+
+      unused : IsFresh ls after
+      unused = fresh ls after (ap is_unused behind ∙ f.0)
+
+      off : g.closing.shared.in_use ≡ false
+      off = used_before node answers.lines (said_world g.closing) (subst (λ (x : Statement). (said_here (Says x) answers.lines (said_world g.closing)).shared.in_use ≡ false) boot (ap (λ (x : Said). x.shared.in_use) (sym behind) ∙ unused.in_use))
+
+      each_fresh : (place : ℕ) (n : Node) → slice_get g.closing.nodes place ≡ Some n → free.IsFresh n
+      each_fresh place n at = unused_fresh g.last.nodes (map counts_of g.last.disks) g.since g.closing g.begins.opening (since_legal names first g.last g.led g.since g.closing g.leads) off n.name n (find_at g.closing.nodes place n (differ stays) at)
+
+      again_stand : StandOn (kept_names ls) (disks_of ls) (renewed g.closing.nodes ls) × KeepKnown g.closing.nodes (renewed g.closing.nodes ls)
+      again_stand = renewed_stand node (said_world g.closing) answers.lines (logs_of g.last.disks) ks ls g.closing.nodes stays.1.nodes
+          (subst (λ (x : Statement). LineTellsAll (kept_names ks) (said_world g.closing) (Says x) answers.lines (disks_of ks) (disks_of ls)) boot (subst (λ xs. LineTellsAll xs (said_world g.closing) (Says statement) answers.lines (disks_of ks) (disks_of ls)) same tells_said))
+          (sym named ∙ same) (each_of free.IsFresh g.closing.nodes each_fresh) (each_of (λ (n : Node). is_known n.durable.volume ≡ true → bytes_eq n.name node ≡ false) g.closing.nodes (known_other node boot))
+          (told_on g.last.disks (disks_of ls) gone (stand_told names g.last.disks g.last.nodes g.begins.stand))
+
+      begins_again : Begins names again
+      begins_again = record {
+        opening = renewed_opening g.closing.nodes ls (each_of free.IsFresh g.closing.nodes each_fresh);
+        stand = subst (λ xs. StandOn xs (disks_of ls) (renewed g.closing.nodes ls)) (sym named) again_stand.0;
+      }
+
+      step_anew : Next names first source es a b ls after
+      step_anew =
+          let at_zero = zero_as ks ls (clocks node boot) (unset_zero (logs_of g.last.disks) ks g.closing.nodes stays.1.nodes f.1) in
+          record {
+            lines = answers.lines;
+            emits = answers.emits;
+            way = record {
+              led = answered ∷ g.led;
+              left_over = [];
+              parts = ap (λ (xs : List Entry). answered ∷ xs) parts;
+              last = again;
+              since = [];
+              closing = world_at again;
+              begins = begins_again;
+              leads = (
+                g.last,
+                g.since,
+                g.closing,
+                g.leads,
+                record { unknown = is true e; disks = disks_of ks; leaves = fine g.last.disks g.closing stays.1; tells = tells_said; goes = gone; begins = begins_again; keeps = again_stand.1 },
+                refl,
+              );
+              stays = (all_stay (disks_of ls), stands_first names ls after (renewed g.closing.nodes ls) named at_zero unused begins_again.opening begins_again.stand);
+            };
+          }
 
     request_beyond : (name : List ℕ) (r : Request) → statement ≡ At name r → BootsUnknown g.closing (At name r) → Next names first source es a b ls after
     request_beyond name Boot is u = by (is_unused_behind g.closing statement answers.lines) refl

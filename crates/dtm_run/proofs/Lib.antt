@@ -1,5 +1,7 @@
 pub mod TopLemmas
 pub mod Leading
+pub mod Unused
+pub mod Renewing
 pub mod Known
 pub mod Made
 pub mod Taking

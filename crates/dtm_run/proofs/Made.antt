@@ -20,12 +20,13 @@ use Rattle.run_model.specs.Statements.{Begins, Phases, Step, begun_with, phases_
 use Rattle.run_model.specs.Transcript.{AreInLimits, Ends, Entry, Legal, Turn}
 use Rattle.run_model.proofs.NodeLists.{some_is}
 use Rattle.run_model.proofs.PartLemmas.{turn}
+use Rattle.run_laws.specs.Anew.{IsMadeFirst, Makes}
 use Rattle.run_laws.specs.Promises.{KeptPromises}
 use Rattle.statement_steps.proofs.Stepping.{request_missing, request_there}
 use Rattle.run_nodes.specs.Untold.{BootsUnknown, IsUntold}
 use Rattle.world_laws.proofs.Induction.{acts_name}
 use Rattle.dtm_run.specs.Headline.{KeepsAgreed, Leaves, WholeRun, exit_of, is_known}
-use Rattle.dtm_run.specs.Leading.{AreKnown, AreMadeFirst, Beginning, IsMadeFirst, IsUnknown, KnownRunsAreWhole, Leads, LeadsNowhere, LeavesOver, MadeRunsAreWhole, Makes, RunOver, world_at}
+use Rattle.dtm_run.specs.Leading.{AreKnown, AreMadeFirst, Beginning, IsUnknown, KnownRunsAreWhole, Leads, LeadsNowhere, LeavesOver, MadeRunsAreWhole, RunOver, world_at}
 use Rattle.dtm_run.specs.declared.top.Exit.{Exit}
 use Rattle.dtm_run.proofs.Known.{KnownAt, found_same, turn_known}
 use Rattle.dtm_run.proofs.Leading.{is_unknown, since_legal}
@@ -128,7 +129,7 @@ leads_made names first last [] since w full later parts sure h = record {
   made = λ name f front back is m. absurd (no_split front back f is);
 }
 leads_made names first last (e ∷ es) [] w full later parts sure h =
-    absurd (not_unknown first h.0 full later es h.1 e h.2 true sure parts (leads_made names first h.0 es h.1 h.2 full (later ++ e ∷ []) (moved_on full later es e parts) sure h.3) h.4)
+    absurd (not_unknown first h.0 full later es h.1 e h.2 true sure parts (leads_made names first h.0 es h.1 h.2 full (later ++ e ∷ []) (moved_on full later es e parts) sure h.3) h.4.unknown)
 leads_made names first last (e ∷ es) (latest ∷ since) w full later parts sure h =
     let before = leads_made names first last es since h.1 full (later ++ e ∷ []) (moved_on full later es e parts) sure h.2 in
     record {

@@ -32,7 +32,7 @@ use Rattle.volume_model.specs.Volumes.{IsLeftBy, LeavesVolume}
 use Rattle.recovery_units.specs.Uses.{IsCounted}
 use Rattle.dtm_node.proofs.DiskLemmas.{ContentBy, have_disk}
 use Rattle.dtm_run.specs.Headline.{StandsOn}
-use Rattle.dtm_run.specs.Reopenings.{rebased_file, rebased_files, reopened}
+use Rattle.run_chains.specs.Reopenings.{rebased_file, rebased_files, reopened}
 use Rattle.dtm_run.proofs.Opened.{all_have, is_told}
 
 -- Files.

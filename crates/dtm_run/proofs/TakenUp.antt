@@ -1,5 +1,5 @@
 -- A disk that the next run takes up: on it stands the node that the run left.
-use Rattle.std.proofs.Common.{◌≡◌, ◌⊎◌, ⊎_elim, inl, inr, ℕ, List, Bool, true, false, Option, Some, None, refl, sym, ◌∙◌, subst}
+use Rattle.std.proofs.Common.{◌≡◌, ◌⊎◌, ⊎_elim, inl, inr, map, ℕ, List, [], ◌∷◌, Bool, true, false, Option, Some, None, refl, sym, ◌∙◌, ap, subst}
 use Rattle.block_disk.specs.Disk.{DiskState}
 use Rattle.careful_write.specs.Content.{content_of}
 use Rattle.careful_write.specs.Load.{fitting}
@@ -7,7 +7,10 @@ use Rattle.careful_write.specs.State.{EachWhole}
 use Rattle.volume.specs.Conditions.{IsFirstFinding}
 use Rattle.unit_laws.specs.Units.{Map}
 use Rattle.run_model.specs.World.{Act, Barred, Boots, Durable, Faulty, Half, IsOpening, LastIsReached, MayTurnOut, Node, Settlement, Shared, Sound, Bar, Unknown, Volume, aborted_prepared, acted, durable_after, opened, powered, with_half}
+use Rattle.run_model.specs.World.{find_node}
+use Rattle.run_model.specs.Transcript.{AreOpening}
 use Rattle.run_model.proofs.NodeLists.{found_name}
+use Rattle.run_agreement.specs.Laws.{NamesApart}
 use Rattle.run_laws.proofs.Keeping.{Kept}
 use Rattle.run_laws.proofs.Once.{once, once_keeps}
 use Rattle.run_laws.proofs.SoundWorlds.{legal_sound, opening_sound}
@@ -16,12 +19,17 @@ use Rattle.world_laws.specs.Nodes.{IsKeptDisk, IsKeptNode, IsOf, NodesAreKept, o
 use Rattle.world_laws.proofs.NodeLemmas.{acted_disk, acted_name, kept_as, powered_ready}
 use Rattle.volume_model.specs.Volumes.{HasBarred, IsLeftBy, half_done}
 use Rattle.volume_laws.specs.Falls.{VolumeFalls}
+use Rattle.dtm_node.specs.Standing.{counts_of}
 use Rattle.dtm_node.proofs.DiskLemmas.{DiskBy, have_disk}
-use Rattle.dtm_run.specs.Headline.{IsVolumeOf, LeavesNode, StandsOn}
-use Rattle.dtm_run.specs.Reopenings.{IsReopened, IsTakenUp, LeftNodesOpen, reopened}
+use Rattle.dtm_run.specs.Headline.{IsVolumeOf, LeaveNodes, LeavesNode, StandOn, StandsOn}
+use Rattle.run_chains.specs.Chains.{AreNext, IsNext}
+use Rattle.run_chains.specs.Reopenings.{IsReopened, reopened}
+use Rattle.run_chains.proofs.Names.{found_behind, found_first, legal_names, names_of, same_apart}
+use Rattle.dtm_run.specs.Reopenings.{AreTakenUp, IsTakenUp, LeftNodesOpen, LeftRacksOpen}
 use Rattle.dtm_run.proofs.Contents.{content_is}
 use Rattle.dtm_run.proofs.Opened.{all_have, is_told, nothing_durable, nothing_opening, resting_node, unknown_node, unknown_stands}
 use Rattle.dtm_run.proofs.Reopening.{opens_again, stands_again}
+use Rattle.dtm_run.proofs.TopLemmas.{stand_names}
 
 abbrev ReopenedBy : Node → Node → Volume → Type 0
 ReopenedBy n m v = elim v [
@@ -30,6 +38,9 @@ ReopenedBy n m v = elim v [
   | Barred bar ↦ m.durable.volume ≡ Barred bar
   | Unknown ↦ m.durable.volume ≡ Unknown
 ]
+
+abbrev volume_of : Volume → Bool
+volume_of v = elim v [ Sound ↦ true | Faulty condition block ↦ false | Barred bar ↦ false | Unknown ↦ false ]
 
 same_blocks : (act : Act) (n : Node) → (acted act n).blocks ≡ n.blocks
 same_blocks Boots n = refl
@@ -54,7 +65,7 @@ acted_kept n s act k way = let w = k.way act way in kept_as (on (durable_after a
 -- On such a disk.
 module _ (name : List ℕ) (n : Node) (shared : Shared) (named : n.name ≡ name) (kept : IsKeptNode shared n) (lasts : Kept once once_keeps tt n) (before left next : DiskState) (l : LeavesNode before n left) (t : IsTakenUp left next) where
   abbrev Opens : Type 0
-  Opens = (m : Node) × IsOpening m × StandsOn name next m × IsReopened n m
+  Opens = (m : Node) × IsOpening m × StandsOn name next m × IsNext n m
 
   content : List (List ℕ)
   content = content_of t.image
@@ -68,13 +79,29 @@ module _ (name : List ℕ) (n : Node) (shared : Shared) (named : n.name ≡ name
   stands : (m : Node) → m.name ≡ name → m.blocks ≡ next.size → fitting t.image ≡ true → IsLeftBy (content_of t.image) m → StandsOn name next (reopened m)
   stands m is_name is_sized fits has = stands_again name next m t.image is_name is_sized t.told t.settled t.counted whole fits has
 
+  -- a node that has a volume
+  with_volume : (x : Node) → x.name ≡ name → x.durable.volume ≡ Sound → IsReopened n (reopened x) → IsNext n (reopened x)
+  with_volume x is_name sound again = record {
+    named = is_name ∙ sym named;
+    reopened = again;
+    bare = λ none. (let clash : true ≡ false = sym (ap volume_of sound) ∙ none in let no : ⊥ = cc in absurd no);
+  }
+
+  -- one that has none, and whose disk tells no last settlement
+  without : (m : Node) → m.name ≡ name → m.durable.last ≡ None → IsReopened n m → IsNext n m
+  without m is_name none again = record {
+    named = is_name ∙ sym named;
+    reopened = again;
+    bare = λ bare s e. (let clash : ◌≡◌ {A = Option Settlement} None (Some s) = sym none ∙ e in let no : ⊥ = cc in absurd no);
+  }
+
   -- it left this
   same_opens : n.durable.volume ≡ Sound → fitting t.image ≡ true → IsLeftBy (content_of t.image) n → Opens
   same_opens sound fits has = (
     reopened n,
     opens_again (content_of t.image) has.catalog n (has.leaves whole) kept.disk (last_is n n.durable.last lasts.disk.last),
     stands n named sized fits has,
-    subst (ReopenedBy n (reopened n)) (sym sound) (inl refl),
+    with_volume n named sound (subst (ReopenedBy n (reopened n)) (sym sound) (inl refl)),
   )
 
   -- or this after the act that was under way
@@ -83,7 +110,7 @@ module _ (name : List ℕ) (n : Node) (shared : Shared) (named : n.name ≡ name
     reopened (acted act n),
     opens_again (content_of t.image) has.catalog (acted act n) (has.leaves whole) (acted_kept n shared act kept way) (last_is (acted act n) (acted act n).durable.last (lasts.way act way).last),
     stands (acted act n) (acted_name act n ∙ named) (same_blocks act n ∙ sized) fits has,
-    subst (ReopenedBy n (reopened (acted act n))) (sym sound) (inr (inl (act, way, refl))),
+    with_volume (acted act n) (acted_name act n ∙ named) (has.leaves whole).home.volume (subst (ReopenedBy n (reopened (acted act n))) (sym sound) (inr (inl (act, way, refl)))),
   )
 
   -- or this with a part of it
@@ -94,7 +121,7 @@ module _ (name : List ℕ) (n : Node) (shared : Shared) (named : n.name ≡ name
         opens_again (content_of t.image) has.catalog (half_done standing n) (has.leaves whole) (half_kept n shared standing kept may)
             (last_is (half_done standing n) (half_done standing n).durable.last (λ s e. subst (λ b. IsOf n.name b s.serial) (sym last.1) (lasts.disk.last s (sym last.0 ∙ e)))),
         stands (half_done standing n) named sized fits has,
-        subst (ReopenedBy n (reopened (half_done standing n))) (sym sound) (inr (inr (standing, may, refl))),
+        with_volume (half_done standing n) named (has.leaves whole).home.volume (subst (ReopenedBy n (reopened (half_done standing n))) (sym sound) (inr (inr (standing, may, refl)))),
       )
 
   faulty_left : (condition block : ℕ) → n.durable.volume ≡ Faulty condition block → IsFirstFinding n.name (fitting t.image) (content_of t.image) condition block → Opens
@@ -109,7 +136,7 @@ module _ (name : List ℕ) (n : Node) (shared : Shared) (named : n.name ≡ name
           counted = t.counted;
           has = have_disk m (fitting t.image) (content_of t.image) next refl (all_have next t.image t.told t.settled) (subst (λ x. IsFirstFinding x (fitting t.image) (content_of t.image) condition block) named first);
         },
-        subst (ReopenedBy n m) (sym faulty) refl,
+        without m refl refl (subst (ReopenedBy n m) (sym faulty) refl),
       )
 
   barred_left : (bar : Bar) → n.durable.volume ≡ Barred bar → fitting t.image ≡ true → HasBarred n.name n.blocks bar (content_of t.image) → Opens
@@ -124,7 +151,7 @@ module _ (name : List ℕ) (n : Node) (shared : Shared) (named : n.name ≡ name
           counted = t.counted;
           has = have_disk m (fitting t.image) (content_of t.image) next refl (all_have next t.image t.told t.settled) (fits, subst (λ x. HasBarred x next.size bar (content_of t.image)) named (subst (λ x. HasBarred n.name x bar (content_of t.image)) sized has));
         },
-        subst (ReopenedBy n m) (sym barred) refl,
+        without m refl refl (subst (ReopenedBy n m) (sym barred) refl),
       )
 
   unknown_left : n.durable.volume ≡ Unknown → Opens
@@ -132,7 +159,7 @@ module _ (name : List ℕ) (n : Node) (shared : Shared) (named : n.name ≡ name
     unknown_node name next.size,
     nothing_opening name next.size Unknown,
     unknown_stands name next (is_told next.seen t.image t.told) t.counted,
-    subst (ReopenedBy n (unknown_node name next.size)) (sym unknown) refl,
+    without (unknown_node name next.size) refl refl (subst (ReopenedBy n (unknown_node name next.size)) (sym unknown) refl),
   )
 
   down_opens : (v : Volume) → n.durable.volume ≡ v → DiskBy n left v → Opens
@@ -158,3 +185,31 @@ module _ (name : List ℕ) (n : Node) (shared : Shared) (named : n.name ≡ name
 pub left_nodes_open : NodesAreKept → VolumeFalls → LeftNodesOpen
 left_nodes_open law falls nodes disks es closing opening legal name n found before left next l t =
     taken_up name n closing.shared (found_name name closing.nodes n found) (law nodes disks es closing opening legal name n found) ((legal_sound (opened nodes disks) closing es (opening_sound nodes disks opening) legal).once name n found) before left next l t falls
+
+-- So of a rack.
+
+abbrev EachOpens : List Node → Type 0
+EachOpens ns = (name : List ℕ) (n : Node) → find_node name ns ≡ Some n → (before left next : DiskState) → LeavesNode before n left → IsTakenUp left next → (m : Node) × IsOpening m × StandsOn name next m × IsNext n m
+
+each_opens : (ns : List Node) → NamesApart ns → EachOpens ns → (before left next : List DiskState) → LeaveNodes before ns left → AreTakenUp left next → (ms : List Node) × AreOpening ms × StandOn (names_of ns) next ms × AreNext ns ms
+each_opens [] apart each [] [] [] l t = ([], tt, tt, tt)
+each_opens [] apart each [] [] (x ∷ nexts) l t = absurd t
+each_opens [] apart each [] (x ∷ lefts) nexts l t = absurd l
+each_opens [] apart each (x ∷ before) lefts nexts l t = absurd l
+each_opens (n ∷ ns) apart each [] lefts nexts l t = absurd (none lefts l)
+  where
+    none : (lefts : List DiskState) → LeaveNodes [] (n ∷ ns) lefts → ⊥
+    none [] h = h
+    none (x ∷ xs) h = h
+each_opens (n ∷ ns) apart each (b ∷ before) [] nexts l t = absurd l
+each_opens (n ∷ ns) apart each (b ∷ before) (x ∷ lefts) [] l t = absurd t
+each_opens (n ∷ ns) apart each (b ∷ before) (x ∷ lefts) (y ∷ nexts) l t =
+    let one = each n.name n (found_first n ns) b x y l.0 t.0 in
+    let more = each_opens ns apart.1 (λ name m e. each name m (found_behind n ns apart.0 name m e)) before lefts nexts l.1 t.1 in
+    (one.0 ∷ more.0, (one.1, more.1), (one.2, more.2), (one.3, more.3))
+
+pub left_racks_open : LeftNodesOpen → LeftRacksOpen
+left_racks_open law names nodes before left next es closing opening apart stand legal l t =
+    let same : names_of closing.nodes ≡ names = legal_names (opened nodes (map counts_of before)) closing es legal ∙ sym (stand_names names before nodes stand) in
+    let now = each_opens closing.nodes (same_apart nodes closing.nodes (legal_names (opened nodes (map counts_of before)) closing es legal) apart) (λ name n found b x y. law nodes (map counts_of before) es closing opening legal name n found b x y) before left next l t in
+    (now.0, now.1, subst (λ xs. StandOn xs next now.0) same now.2, now.3)

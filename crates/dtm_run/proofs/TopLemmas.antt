@@ -72,10 +72,10 @@ runs_in names names' before before' script script' old new x after after' e f h 
 -- The nodes of the last beginning stand on their disks.
 last_stand : (names : List (List ℕ)) (first last : Beginning) (es since : List Entry) (w : World) → StandOn names first.disks first.nodes → Leads names first es last since w → StandOn names last.disks last.nodes
 last_stand names first last [] since w s h = subst (λ (x : Beginning). StandOn names x.disks x.nodes) (sym h.0) s
-last_stand names first last (e ∷ es) [] w s h = h.6.stand
+last_stand names first last (e ∷ es) [] w s h = h.4.begins.stand
 last_stand names first last (e ∷ es) (latest ∷ since) w s h = last_stand names first last es since h.1 s h.2
 
-stand_names : (names : List (List ℕ)) (ds : List DiskState) (ns : List Node) → StandOn names ds ns → names ≡ map (λ (n : Node). n.name) ns
+pub stand_names : (names : List (List ℕ)) (ds : List DiskState) (ns : List Node) → StandOn names ds ns → names ≡ map (λ (n : Node). n.name) ns
 stand_names [] [] [] h = refl
 stand_names [] [] (n ∷ ns) h = absurd h
 stand_names [] (d ∷ ds) ns h = absurd h
@@ -98,7 +98,7 @@ run_over names nodes before after script old new old' new' x law agreed apart op
     record {
       run = r;
       promises = law r.last.nodes (map counts_of r.last.disks) r.since r.closing begins legal;
-      agreed = λ known lasts agree. agreed r.last.nodes (map counts_of r.last.disks) r.since r.closing begins differ known lasts agree legal;
+      agreed = λ known agree. agreed r.last.nodes (map counts_of r.last.disks) r.since r.closing begins differ known agree legal;
     })
 
 -- The rack stays a rack.

@@ -1,5 +1,5 @@
 -- What a run promises.
-use Rattle.std.specs.Prelude.{◌≡◌, ℕ, List, [], ◌∷◌, Bool, true, false, Option, Some, map, is_some}
+use Rattle.std.specs.Prelude.{◌≡◌, ℕ, List, [], ◌∷◌, Bool, true, false, Option, map, is_some}
 use Rattle.std.specs.Option.{option_map}
 use Rattle.block_disk.specs.Disk.{DiskState}
 use Rattle.careful_write.specs.State.{Leaves as DiskLeaves}
@@ -8,12 +8,12 @@ use Rattle.transcript_model.specs.Outside.{behind}
 use Rattle.script_model.specs.Command.{is_run_form}
 use Rattle.commit_protocol.specs.Opening.{IsAgreeing}
 use Rattle.run_agreement.specs.Laws.{opening_told}
-use Rattle.run_agreement.specs.Seen.{IsKnown}
-use Rattle.run_model.specs.World.{World, Node, Volume, Sound, Faulty, Barred, Unknown, find_node, opened}
+use Rattle.run_model.specs.World.{World, Node, Volume, Sound, Faulty, Barred, Unknown, opened}
 use Rattle.run_model.specs.Transcript as model
 use Rattle.run_model.specs.Transcript.{Entry, Ran, EndsUnread}
+use Rattle.run_laws.specs.Anew.{AreKnownOrAnew}
 use Rattle.run_laws.specs.Laws.{AgreedPromises}
-use Rattle.run_laws.specs.Promises.{AreLastApart, KeptPromises}
+use Rattle.run_laws.specs.Promises.{KeptPromises}
 use Rattle.dtm_node.specs.Telling.{Passes}
 use Rattle.volume.specs.declared.catalog.Catalog.{Catalog}
 use Rattle.volume.specs.Catalogs.{IsSound, TellsCatalog}
@@ -102,9 +102,10 @@ pub record RunsTo (opening : World) (before : List DiskState) (script : Option (
   pub ran : Ran opening script old new (exit_of ended)
   pub leaves : Leaves before ran.closing after
 
--- From these nodes on, where something is known of the disk of each and the images agree with which the run began, more of what entries tell is kept, as what dumps show.
+-- From these nodes on, of whose disks something is known or whose volumes are made anew, where the images agree with which the run began, more of what entries tell is
+-- kept, as what dumps show.
 abbrev pub KeepsAgreed : World → List Node → List Entry → World → Type 0
-KeepsAgreed opening nodes es closing = ((name : List ℕ) (n : Node) → find_node name nodes ≡ Some n → IsKnown n) → AreLastApart nodes → IsAgreeing (opening_told nodes es) → AgreedPromises opening es closing
+KeepsAgreed opening nodes es closing = AreKnownOrAnew es nodes → IsAgreeing (opening_told nodes es) → AgreedPromises opening es closing
 
 -- The whole run over a script's bytes, from these nodes on, which are down at first: as above, and all that the transcript tells is kept for good.
 pub record WholeRun (nodes : List Node) (before after : List DiskState) (script old new : Option (List ℕ)) (ended : Exit) : Type 0 where

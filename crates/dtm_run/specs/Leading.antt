@@ -1,19 +1,21 @@
 -- How the entries of a run lead on from the nodes before its first line, where of some of their disks nothing is known.
-use Rattle.std.specs.Prelude.{◌≡◌, ◌⊎◌, ℕ, List, [], ◌∷◌, ◌++◌, ◌==◌, Bool, true, false, not, ◌&&◌, Option, Some, None, map}
+use Rattle.std.specs.Prelude.{◌≡◌, ℕ, List, [], ◌∷◌, ◌++◌, ◌==◌, Bool, true, false, not, ◌&&◌, Option, None, map}
 use Rattle.std.specs.Option.{option_map}
-use Rattle.std.specs.List.{AllByRecursion, last_or}
+use Rattle.std.specs.List.{AllByRecursion}
 use Rattle.block_disk.specs.Disk.{DiskState}
-use Rattle.transcript_model.specs.Lines.{Line, Normal}
+use Rattle.transcript_model.specs.Lines.{Line}
 use Rattle.transcript_model.specs.Outside.{behind}
 use Rattle.transcript_model.specs.Script.{ScriptLine, lines_of}
-use Rattle.script_model.specs.Statements.{At, Boot, Init, Says, Settle, Statement}
+use Rattle.script_model.specs.Statements.{Says, Statement}
 use Rattle.script_model.specs.Grammar.{reading}
-use Rattle.run_model.specs.World.{Node, Unknown, World, opened}
+use Rattle.run_model.specs.World.{Node, Unknown, World, nothing_volatile, opened}
 use Rattle.run_model.specs.Transcript.{AreInLimits, AreOpening, Ends, Entry, Turn}
+use Rattle.run_laws.specs.Anew.{IsMadeFirst}
 use Rattle.run_laws.specs.Promises.{KeptPromises}
 use Rattle.run_laws.specs.Said.{Said, SaidNode, is_settling, said_here}
 use Rattle.dtm_node.specs.Standing.{counts_of}
 use Rattle.dtm_node.specs.Telling.{said_label}
+use Rattle.run_nodes.specs.Calls.{LineFollows, LineTellsAll}
 use Rattle.run_nodes.specs.Untold.{BootsUnknown}
 use Rattle.dtm_run.specs.Headline.{AllGo, KeepsAgreed, Leaves, StandOn, WholeRun, exit_of, is_known}
 use Rattle.dtm_run.specs.declared.top.Exit.{Exit}
@@ -60,19 +62,41 @@ are_unset (n ∷ ns) = (n.clock == 0) && are_unset ns
 abbrev pub is_unused_behind : World → Statement → List Line → Bool
 is_unused_behind w s lines = not (is_settling s) && (is_unused (said_here (Says s) lines (said_world w)) && are_unset w.nodes)
 
--- an entry of a statement that may bring up a node of whose disk nothing is known, behind which nodes are unused or are not
+-- an entry of a statement that may bring up a node of whose disk nothing is known; its lines follow what was said before, and behind it nodes are unused or are
+-- not
 pub record IsUnknown (w : World) (e : Entry) (unused : Bool) : Type 0 where
   pub statement : Statement
   pub says : reading e.source.text ≡ Says statement
   pub boots : BootsUnknown w statement
+  pub follows : LineFollows (said_world w) (Says statement) e.lines
   pub leaves : is_unused_behind w statement e.lines ≡ unused
+
+-- a node as before a first line: it is down, with what its disk has
+abbrev pub as_first : Node → Node
+as_first n = record { name = n.name; blocks = n.blocks; durable = n.durable; volatile = nothing_volatile; unmade = false; up = false; was_up = false; clock = 0; settled = []; calls = []; under_way = None }
+
+-- Nodes, place by place: of whose disk something is known, that node is kept, as before a first line.
+abbrev pub KeepKnown : List Node → List Node → Type 0
+KeepKnown [] [] = Unit {0}
+KeepKnown (n ∷ ns) (m ∷ ms) = (is_known n.durable.volume ≡ true → m ≡ as_first n) × KeepKnown ns ms
+KeepKnown ns ms = ⊥
+
+-- A BOOT of a node of whose disk nothing is known was refused in this world, to which entries led from the former beginning. From disks that have what its nodes
+-- have, its lines tell of each disk as those of any statement do; and nodes are as before a first line, of which those are kept of whose disks something is known.
+pub record BeginsAnew (names : List (List ℕ)) (former : Beginning) (w : World) (e : Entry) (last : Beginning) : Type 0 where
+  pub unknown : IsUnknown w e true
+  pub disks : List DiskState
+  pub leaves : Leaves former.disks w disks
+  pub tells : LineTellsAll names (said_world w) (Says unknown.statement) e.lines disks last.disks
+  pub goes : AllGo former.disks last.disks
+  pub begins : Begins names last
+  pub keeps : KeepKnown w.nodes last.nodes
 
 -- Entries, the newest first, lead from the first beginning to this world, which those since the last beginning made. Each is a turn of the world, but for a BOOT of a
 -- node of whose disk nothing is known: where it was refused, so that nodes are unused, the run begins anew behind it.
 abbrev pub Leads : (names : List (List ℕ)) → (first : Beginning) → List Entry → (last : Beginning) → (since : List Entry) → World → Type 0
 Leads names first [] last since w = (last ≡ first) × (since ≡ []) × (w ≡ world_at first)
-Leads names first (e ∷ es) last [] w =
-    (former : Beginning) × (earlier : List Entry) × (mid : World) × Leads names first es former earlier mid × IsUnknown mid e true × AllGo former.disks last.disks × Begins names last × (w ≡ world_at last)
+Leads names first (e ∷ es) last [] w = (former : Beginning) × (earlier : List Entry) × (mid : World) × Leads names first es former earlier mid × BeginsAnew names former mid e last × (w ≡ world_at last)
 Leads names first (e ∷ es) last (latest ∷ since) w = (latest ≡ e) × (mid : World) × Leads names first es last since mid × Turn mid (reading e.source.text) e.lines w
 
 -- the oldest of these entries is a statement of that kind behind which nodes are not unused
@@ -116,19 +140,7 @@ abbrev pub KnownRunsAreWhole : Type 0
 KnownRunsAreWhole = (names : List (List ℕ)) (nodes : List Node) (before after : List DiskState) (script old new : Option (List ℕ)) (ended : Exit) → AreKnown nodes →
     RunOver names nodes before after script old new ended → WholeRun nodes before after script old new ended
 
--- an entry makes the volume of this node
-pub record Makes (node : List ℕ) (e : Entry) : Type 0 where
-  pub slots : ℕ
-  pub journal : ℕ
-  pub says : reading e.source.text ≡ Says (At node (Init slots journal))
-  pub answered : last_or None e.lines ≡ Some Normal
-
--- Before each of these entries that may boot the node of this name its volume was made.
-abbrev pub IsMadeFirst : List ℕ → List Entry → Type 0
-IsMadeFirst node es = (earlier later : List Entry) (e : Entry) (s : Statement) → es ≡ later ++ e ∷ earlier → reading e.source.text ≡ Says s → (s ≡ At node Boot) ⊎ (s ≡ Settle) →
-    (f : Entry) × (front : List Entry) × (back : List Entry) × (earlier ≡ front ++ f ∷ back) × Makes node f
-
--- so it is of each node of whose disk nothing is known
+-- before anything boots it, the volume is made of each node of whose disk nothing is known
 abbrev pub AreMadeFirst : List Node → List Entry → Type 0
 AreMadeFirst ns es = AllByRecursion (λ (n : Node). n.durable.volume ≡ Unknown → IsMadeFirst n.name es) ns
 

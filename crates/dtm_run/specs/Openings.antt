@@ -1,5 +1,5 @@
 -- The nodes that a run may begin with.
-use Rattle.std.specs.Prelude.{◌≡◌, ◌⊎◌, ◌<◌, ◌≤◌, ◌^◌, ℕ, List, [], ◌∷◌, true, Option, Some, IfSome, is_some, length}
+use Rattle.std.specs.Prelude.{◌≡◌, ◌⊎◌, ◌<◌, ◌≤◌, ◌^◌, ℕ, List, [], ◌∷◌, true, false, Option, Some, IfSome, is_some, length}
 use Rattle.std.specs.List.{All}
 use Rattle.block_disk.specs.Blocks.{IsWhole, block_at}
 use Rattle.block_disk.specs.Disk.{DiskState}
@@ -17,6 +17,9 @@ use Rattle.directory_model.specs.Files.{head_at}
 use Rattle.volume_model.specs.Homes.{last_of}
 use Rattle.volume_model.specs.Volumes.{LeavesVolume}
 use Rattle.recovery_units.specs.Uses.{IsCounted}
+use Rattle.run_agreement.specs.Seen.{has_volume}
+use Rattle.run_laws.specs.Promises.{AreLastApart, IsLastApart}
+use Rattle.run_chains.specs.Chains.{IsNew}
 use Rattle.dtm_run.specs.Headline.{StandOn, StandsOn, is_known}
 use Rattle.dtm_run.specs.Leading.{AreKnown}
 
@@ -46,7 +49,8 @@ pub record Rests (content : List (List ℕ)) (v : Catalog) : Type 0 where
   pub low : v.ru.end ≤ 2 ^ 62
   pub last : IfSome (last_of v.home) (λ s. (s.serial.node ≡ v.home.node) × (s.serial.boot ≤ v.home.boot))
 
--- What a node left of its volume as it fell, whatever its branches had changed that were not settled: one whose disk is as those of nodes are in the worlds of runs.
+-- What a node left of its volume as it fell, whatever its branches had changed that were not settled: one whose disk is as those of nodes are in the worlds of runs, and
+-- whose last settlement is of no branch that stands unsettled.
 pub record IsLeftByOne (name : List ℕ) (size : ℕ) (content : List (List ℕ)) (v : Catalog) : Type 0 where
   pub node : Node
   pub kept : IsKeptDisk node
@@ -54,6 +58,7 @@ pub record IsLeftByOne (name : List ℕ) (size : ℕ) (content : List (List ℕ)
   pub sized : node.blocks ≡ size
   pub leaves : LeavesVolume content v node
   pub last : LastIsReached node node.durable.last
+  pub apart : IsLastApart node
 
 -- One of these is so of the volume that a content tells of the node of this name on a disk of this size, where it tells a sound one.
 abbrev pub HasKnownVolume : List ℕ → ℕ → List (List ℕ) → Type 0
@@ -88,9 +93,10 @@ AreTold (name ∷ names) (d ∷ ds) = IsTold d × AreTold names ds
 AreTold names ds = ⊥
 
 -- On each disk that tells its content there stands a node as before the first line. Where an earlier run is known to have left its volume, or it has none, so is
--- what the node's disk has. And so for all disks of a rack.
+-- what the node's disk has; and the premises of what more is promised where images agree can be met: its last settlement is of no branch that stands unsettled, and where
+-- it has no volume nothing ever happened on it. And so for all disks of a rack.
 pub record OpeningsExist : Type 0 where
   pub one : (name : List ℕ) (d : DiskState) → IsTold d → (n : Node) × IsOpening n × StandsOn name d n
   pub all : (names : List (List ℕ)) (ds : List DiskState) → AreTold names ds → (nodes : List Node) × AreOpening nodes × StandOn names ds nodes
-  pub one_known : (name : List ℕ) (d : DiskState) → IsMade name d → (n : Node) × IsOpening n × StandsOn name d n × (is_known n.durable.volume ≡ true)
-  pub all_known : (names : List (List ℕ)) (ds : List DiskState) → AreMade names ds → (nodes : List Node) × AreOpening nodes × StandOn names ds nodes × AreKnown nodes
+  pub one_known : (name : List ℕ) (d : DiskState) → IsMade name d → (n : Node) × IsOpening n × StandsOn name d n × (is_known n.durable.volume ≡ true) × IsLastApart n × (has_volume n ≡ false → IsNew n)
+  pub all_known : (names : List (List ℕ)) (ds : List DiskState) → AreMade names ds → (nodes : List Node) × AreOpening nodes × StandOn names ds nodes × AreKnown nodes × AreLastApart nodes

@@ -1,7 +1,7 @@
 //! What the definitions promise.
 ghost use Rattle.dtm_run.specs.Leading.{KnownRunsAreWhole, MadeRunsAreWhole};
 ghost use Rattle.dtm_run.specs.Openings.{OpeningsExist};
-ghost use Rattle.dtm_run.specs.Reopenings.{LeftNodesOpen};
+ghost use Rattle.dtm_run.specs.Reopenings.{LeftNodesOpen, LeftRacksOpen};
 
 use directory_model::records_are_read_alike;
 use volume::each_content_has_a_volume_or_a_finding;
@@ -19,9 +19,10 @@ pub fn opening_nodes_exist()
 }
 
 /// What a run leaves of a node's disk, the next run may begin with: on each image that a power loss may leave there stands, as before the first line, the node
-/// that was left. What was committed stands there, and what was not settled is there to be undone.
+/// that was left. What was committed stands there, and what was not settled is there to be undone. And so on all disks of a rack, where no two nodes have one name.
 pub fn left_nodes_open()
-    ensures { LeftNodesOpen }
+    ensures one { LeftNodesOpen }
+    ensures all { LeftRacksOpen }
 {
     nodes_stay_kept();
     volumes_fall();

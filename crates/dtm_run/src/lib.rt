@@ -8,14 +8,3 @@ mod top;
 pub use law::{known_runs_are_whole, left_nodes_open, made_runs_are_whole, opening_nodes_exist};
 pub use rack::{Rack, RackCause, RackErr};
 pub use top::{Exit, run};
-
-#[cfg(test)]
-mod compared;
-#[cfg(test)]
-mod limits;
-#[cfg(test)]
-mod racks;
-#[cfg(test)]
-mod restarts;
-#[cfg(test)]
-mod tests;

@@ -116,8 +116,8 @@ impl<D> Rack<D> {
         self.nodes.reserve(MOST_NODES)
     }
 
-    /// Takes the first node out.
-    pub(crate) fn take_first(&mut self) -> Option<(NodeName, D)>
+    /// Takes the first node out, with its disk. None where the rack has none.
+    pub fn take_first(&mut self) -> Option<(NodeName, D)>
         ensures nodes { self.old.nodes.entries ≡ option_to_list result ++ self.new.nodes.entries }
         ensures some { 0 < length (names_in self.old) → IsSome result }
         ensures room { spare self.old.nodes ≤ spare self.new.nodes }

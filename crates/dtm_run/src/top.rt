@@ -64,13 +64,15 @@ pub fn run<S: Source, K: Sink, D: Disk + Drop, U: RecoveryUnits>(
     rack: &mut Rack<D>,
 ) -> Exit
     requires rack { IsRack D.state rack.old }
-    // Where the words are a command: from all nodes that stand on the disks before the first line, the transcript is legal and keeps its promises, and the
-    // disks have what its nodes have. Where nothing is known of a disk, this is so up to a statement that may bring its node up, and anew behind a BOOT that was
-    // refused while nothing else had come of the nodes.
+    // Where the words are a command: from all nodes that stand on the disks before the first line, the transcript is legal and keeps its promises,
+    // and the disks have what its nodes have. Where nothing is known of a disk, this is so up to a statement that may bring its node up, and anew
+    // behind a BOOT that was refused while nothing else had come of the nodes, of which those of whose disks something is known are kept.
     ensures runs { is_command_of (names_in rack.old) (map string_bytes words.now) ≡ true → (nodes : List NodeSaid) → AreOpening nodes → StandOn (names_in rack.old) (states_in D.state rack.old) nodes →
         RunOver (names_in rack.old) nodes (states_in D.state rack.old) (states_in D.state rack.new) (S.left source.old) (K.shown sink.old) (K.shown sink.new) result }
-    // Whether or not the disks tell their content: what was shown for each line tells which calls armed or powered them, each failure that is shown raised
-    // its count, and a statement is refused with NOSUCHNODE, NODEDOWN, NODEUP, VOLINUSE, NOINIT, NOSUCHMSG or LABEL just where the lines before it say so.
+    // Whether or not the disks tell their content: what was shown for each line tells which calls armed or powered them, and each failure that is shown raised
+    // its count. A statement is refused with NOSUCHNODE, NODEDOWN, NODEUP, VOLINUSE, NOINIT, NOSUCHMSG or LABEL just where the lines before it say so, and
+    // leaves the disks then. Each statement is answered by its last line, FAULT and STOPPED just behind a line DOWN for that failure. What the disk of a node
+    // holds that is down is not lost, but by an INIT of it, or a boot that is not refused.
     ensures calls { is_command_of (names_in rack.old) (map string_bytes words.now) ≡ true →
         TellsOver (names_in rack.old) (states_in D.state rack.old) (states_in D.state rack.new) (option_map lines_of (S.left source.old)) (K.shown sink.old) (K.shown sink.new) result }
     ensures usage { is_command_of (names_in rack.old) (map string_bytes words.now) ≡ false → (result ≡ Exit.Memory) ⊎ Unread (K.shown sink.old) (K.shown sink.new) result }

@@ -8,6 +8,3 @@ mod runs;
 pub use extent::{Extent, all_extents, extents_of};
 pub use fits::{first_misfit, fits_at};
 pub use runs::{free_run, longest_free};
-
-#[cfg(test)]
-mod tests;

@@ -4,7 +4,7 @@ use Rattle.std.specs.List.{AllByRecursion}
 use Rattle.careful_write.specs.declared.down.Down.{Down as DownSaid}
 use Rattle.transcript_model.specs.Emitting.{Shown, Emits}
 use Rattle.transcript_model.specs.Lines.{Line, Booted, Broken, Crashed, Down, Sent}
-use Rattle.run_laws.specs.Said.{is_of_lines}
+use Rattle.said_steps.specs.Answers.{is_served}
 
 -- whether by a line no node goes down or comes up, and no message is sent
 abbrev pub is_quiet : Line → Bool
@@ -24,9 +24,9 @@ pub record ShowsQuietly (a b : Shown) : Type 0 where
   pub shows : Emits a lines b
   pub quiet : AllByRecursion IsQuiet lines
 
--- an answer that is so, and refuses nothing by what lines said before
+-- an answer that is so, of a request that the lines before do not refuse and no failure of the disk ended
 abbrev pub IsPlain : Line → Type 0
-IsPlain line = IsQuiet line × (is_of_lines line ≡ false)
+IsPlain line = IsQuiet line × (is_served line ≡ true)
 
 -- lines were shown so with such an answer
 pub record Replies (a b : Shown) : Type 0 where

@@ -8,7 +8,7 @@ use node_table::Stored;
 use recovery_units::RecoveryUnits;
 use vms_base::FileName;
 
-/// Its number and its head, where there is one.
+/// The number and the head of the file of this name. None exactly where the volume has none.
 pub fn find_file<D: Disk, U: RecoveryUnits>(
     stored: &Stored<D, U>,
     name: &FileName,

@@ -9,7 +9,7 @@ use directory_model::{
 use unit_world::nodes_are_kept;
 use volume::catalogs_stand_on_the_front;
 
-/// All of them.
+/// Cites each law of files, catalogs and records once, so that the proofs of a crate have them in one value.
 pub(crate) fn the_laws()
     ensures { TheLaws }
 {

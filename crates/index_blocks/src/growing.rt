@@ -51,8 +51,9 @@ fn stage_root<D: Disk>(
     stage_index(head, store, frame, fresh, &bytes);
 }
 
-/// Puts entries into the index bucket on a key's way that is `depth - 1` steps from the root, and where that is parted, the entry of the new one into the bucket
-/// above it, and so on; a root that is parted gets a root over it. New buckets take the numbers from `used` on. After `Down` any of it may be staged.
+/// Puts entries into the index bucket on a key's way that is `depth - 1` steps from the root, and where that is parted, the entry of the new one into
+/// the bucket above it, and so on; a root that is parted gets a root over it. New buckets take the numbers from `used` on. After `Down` any of it may
+/// be staged.
 pub fn climb<D: Disk>(
     head: &FileHead,
     store: &mut Store<D>,

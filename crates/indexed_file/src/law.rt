@@ -30,7 +30,8 @@ pub fn order_law()
     ensures tidy { TidyKeepsOrder }
 {}
 
-/// The parts of a bucket have its slots in order, and are as many as are counted. A set adds at most two buckets, and none where the tidied bucket holds the slot.
+/// The parts of a bucket have its slots in order, and are as many as are counted. A set adds at most two buckets, and none where the tidied bucket
+/// holds the slot.
 pub fn part_law()
     ensures parts { PartsKeep }
     ensures few { AddsFew }

@@ -11,8 +11,6 @@ mod read;
 mod restore;
 mod set;
 mod slots;
-#[cfg(test)]
-mod tests;
 mod walk;
 
 pub use indexed::IndexedFile;

@@ -14,8 +14,8 @@ use file_base::FileHead;
 use frame_pool::Frame;
 use index_blocks::{Path, descend};
 
-/// The leaf for a key, and the numbers of the index buckets on the way to it. One bucket of each level of the index is read. Whatever the blocks have, the numbers
-/// are those of used buckets.
+/// The leaf for a key, and the numbers of the index buckets on the way to it. One bucket of each level of the index is read. Whatever the blocks
+/// have, the numbers are those of used buckets.
 pub fn find_leaf<D: Disk>(
     head: &FileHead,
     store: &mut Store<D>,

@@ -33,8 +33,8 @@ pub fn blank_is_rooted()
     ensures { BlankIsRooted }
 {}
 
-/// A key that is set in the leaf for it is set in the layout, and the file has an index again: at once where the leaf was not parted, and else when the entries of
-/// the new leaves were handed up.
+/// A key that is set in the leaf for it is set in the layout, and the file has an index again: at once where the leaf was not parted, and else when
+/// the entries of the new leaves were handed up.
 pub fn set_stages()
     ensures { SetStages }
 {}

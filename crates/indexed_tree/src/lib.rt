@@ -11,8 +11,6 @@ mod put;
 mod read;
 mod restore;
 mod set;
-#[cfg(test)]
-mod tests;
 
 pub use back::put_back;
 pub use file::TreeFile;

@@ -113,8 +113,8 @@ fn find_next<D: Disk>(
     Ok(None)
 }
 
-/// The first key behind another, or the first one, with its record. None exactly where there is none. One bucket of each level is read, and the leaves behind that one
-/// up to the first that has such a key. `Down` says that the disk went down in the call. The store's frames are as before.
+/// The first key behind another, or the first one, with its record. None exactly where there is none. One bucket of each level is read, and the
+/// leaves behind that one up to the first that has such a key. `Down` says that the disk went down in the call. The store's frames are as before.
 pub fn next_key<D: Disk>(
     head: &FileHead,
     store: &mut Store<D>,

@@ -125,8 +125,8 @@ fn stage_set<D: Disk>(
     )
 }
 
-/// Stages the bytes of leaf n, in which a key was set, with those of as many new leaves as it was parted in, whose entries are handed up. Where a leaf is parted,
-/// `may_part` is to be asked before. After `Down` any of it may be staged, and the head is as before.
+/// Stages the bytes of leaf n, in which a key was set, with those of as many new leaves as it was parted in, whose entries are handed up. Where a
+/// leaf is parted, `may_part` is to be asked before. After `Down` any of it may be staged, and the head is as before.
 pub fn put_leaf<D: Disk>(
     head: &mut FileHead,
     store: &mut Store<D>,

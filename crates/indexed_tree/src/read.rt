@@ -77,8 +77,8 @@ fn read_key<D: Disk>(
     }
 }
 
-/// The record of a key: true where it has one, and false exactly where it has none. One bucket of each level is read. `Down` says that the disk went down in the
-/// call. The store's frames are as before.
+/// The record of a key: true where it has one, and false exactly where it has none. One bucket of each level is read. `Down` says that the disk went
+/// down in the call. The store's frames are as before.
 pub fn get_key<D: Disk>(
     head: &FileHead,
     store: &mut Store<D>,

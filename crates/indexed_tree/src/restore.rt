@@ -90,8 +90,8 @@ fn restore_through<D: Disk>(
     }
 }
 
-/// Sets a key back in place to a record or to none, and stages the one leaf for it. No bucket is added, and none is left. Where the key has no slot there, or one with
-/// less room, nothing is done. `Down` says that the disk went down in the call. The store's frames are as before.
+/// Sets a key back in place to a record or to none, and stages the one leaf for it. No bucket is added, and none is left. Where the key has no slot
+/// there, or one with less room, nothing is done. `Down` says that the disk went down in the call. The store's frames are as before.
 pub fn restore_key<D: Disk>(
     head: &FileHead,
     store: &mut Store<D>,

@@ -119,8 +119,9 @@ fn set_through<D: Disk, H: Held>(
     }
 }
 
-/// Sets a key to a record, or takes its record away. Where the leaf for the key would have to part, and no level may come in or too few buckets are free, nothing is
-/// done. `Down` says that the disk went down in the call; any of it may be staged then, and the head is as before. The store's frames are as before.
+/// Sets a key to a record, or takes its record away. Where the leaf for the key would have to part, and no level may come in or too few buckets are
+/// free, nothing is done. `Down` says that the disk went down in the call; any of it may be staged then, and the head is as before. The store's
+/// frames are as before.
 pub fn set_key<D: Disk, H: Held>(
     head: &mut FileHead,
     store: &mut Store<D>,

@@ -10,6 +10,3 @@ pub use check::{EntryErr, HEAD};
 pub use coding::{EntryBuf, LONGEST_ENTRY, decode, encode};
 pub use head::{EntryHead, EntryKind};
 pub use keys::{key_number, number_key};
-
-#[cfg(test)]
-mod tests;

@@ -12,6 +12,3 @@ pub use law::{
     bytes_behind_the_end, entries_stand_where_they_begin, fewer_entries, one_entry_more,
 };
 pub use renewal::renew;
-
-#[cfg(test)]
-mod tests;

@@ -1,7 +1,7 @@
 //! The laws of the transaction log's slots: that they tell the table of their node, act by act, and that its effects are handed on one by one.
 //!
-//! The crate has definitions and laws, and nothing that runs. `specs/Slots` has the slots, and what each act of a table makes of them; `specs/Handing` the effects of
-//! a row between those before and those after.
+//! The crate has definitions and laws, and nothing that runs. `specs/Slots` has the slots, and what each act of a table makes of them;
+//! `specs/Handing` the effects of a row between those before and those after.
 #![tactic(auto)]
 
 ghost use Rattle.std.specs.Prelude.{◌≡◌, ◌≤◌, ◌+◌, length, List};

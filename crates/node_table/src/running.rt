@@ -61,8 +61,8 @@ impl<D: Disk, U: RecoveryUnits> Running<D, U> {
         }
     }
 
-    /// Tells the table an event, and does its row, act after act, each shown, up to a failure of the disk. A branch that the event begins gets its unit first. The
-    /// effects of the row stay readable.
+    /// Tells the table an event, and does its row, act after act, each shown, up to a failure of the disk. A branch that the event begins gets its
+    /// unit first. The effects of the row stay readable.
     pub fn tell<E: Emit>(
         &mut self,
         event: &Event,

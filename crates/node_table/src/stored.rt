@@ -24,7 +24,7 @@ pub struct Room {
 }
 
 impl Room {
-    /// With nothing in it.
+    /// Room for one record, for what a restart tells, and for 64 branches in doubt, taken once.
     pub fn reserve(alloc: Global) -> Result<Room, AllocError>
         ensures { IfOk result (λ r. r.in_doubt.items ≡ []) }
     {

@@ -1,9 +1,11 @@
 -- What is done for one branch leaves the other units as they were.
-use Rattle.std.proofs.Common.{◌≡◌, ℕ, ◌++◌, List, [], ◌∷◌, true, Option, Some, None, slice_set, refl, sym, ◌∙◌, ap, subst, inl, inr, append-nil, get_or-set_same, get_or-set_other}
+use Rattle.std.proofs.Common.{◌≡◌, ℕ, ◌++◌, List, [], ◌∷◌, true, false, Option, Some, None, slice_set, refl, sym, ◌∙◌, ap, subst, inl, inr, append-nil, get_or-set_same, get_or-set_other}
 use Rattle.std.specs.Prelude.{IsSome}
 use Rattle.std.proofs.lemmas.Bool.{both_ways, cases_eq}
 use Rattle.file_base.specs.declared.head.FileHead.{FileHead}
 use Rattle.vms_model.specs.Ids.{Id}
+use Rattle.vms_model.specs.Keys.{Key}
+use Rattle.record_locks.specs.Locks.{with_locks}
 use Rattle.volume.specs.State.{VolumeState}
 use Rattle.records_model.specs.History.{same_id}
 use Rattle.record_operations.specs.declared.ops.RecordOp.{RecordOp}
@@ -15,9 +17,10 @@ use Rattle.unit_cuts.specs.Truncating.{begins_at}
 use Rattle.world_laws.proofs.IdLemmas.{id_itself}
 use Rattle.rms_units.specs.Calls.{ChangesOk}
 use Rattle.rms_units.specs.State.{UnitsState, unit_of}
-use Rattle.rms_units.specs.Truncating.{with_positions}
+use Rattle.rms_units.specs.Truncating.{cut_asked, with_positions}
 use Rattle.rms_units.proofs.CutOrder.{positions_of, prepared_still}
-use Rattle.recovery_units.specs.State.{AreLater, IsLater}
+use Rattle.recovery_units.specs.State.{AreLater, IsLater, locks_of}
+use Rattle.recovery_units.proofs.OtherLemmas.{held_apart}
 
 later_same : (x : Id) (u : OpenUnit) → IsLater x u u
 later_same x u = record { tid = refl; serial_is = refl; prepared = refl; own = ([], sym (append-nil u.positions)); others = λ apart. refl }
@@ -66,6 +69,9 @@ noted_serial (p ∷ ps) file u = noted_serial ps file (with_position p file u)
 units_later : (x : Id) (place : ℕ) (u w : OpenUnit) (s t : UnitsState) → unit_of place s ≡ Some u → IsLater x u w → t.units ≡ table.with_unit place w s.units → AreLater x (begun s.units) (begun t.units)
 units_later x place u w s t there later is = subst (λ (us : table.Units). AreLater x (begun s.units) (begun us)) (sym is) (later_set x s.units.places s.units.order place u w there later)
 
+pub holds_apart : (x : Id) (u : OpenUnit) (file : ℕ) (ks : List Key) (s t : UnitsState) → u.serial ≡ x → t.locks ≡ with_locks u.serial file ks s.locks → (other : Id) → same_id x other ≡ false → locks_of other t.locks ≡ locks_of other s.locks
+holds_apart x u file ks s t own held other apart = ap (locks_of other) held ∙ held_apart u.serial other (subst (λ (y : Id). same_id y other ≡ false) (sym own) apart) file ks s.locks
+
 pub changes_later : (x : Id) (place : ℕ) (u : OpenUnit) (h : FileHead) (o : RecordOp) (bytes : List ℕ) (told : ℕ) (s : UnitsState) (v : VolumeState) (t : UnitsState) (w : VolumeState) → unit_of place s ≡ Some u → u.serial ≡ x → ChangesOk place u h o bytes told s v t w →
     AreLater x (begun s.units) (begun t.units)
 changes_later x place u h (op.Put file key) bytes told s v t w there own ok =
@@ -78,3 +84,11 @@ changes_later x place u h (op.Truncate file from) bytes told s v t w there own o
     let cut = ok.cuts file from refl in
     let ps = begins_at v.catalog.ru.end cut.entries in
     units_later x place u (with_positions ps file u) s t there (later_with x u (with_positions ps file u) ps own (noted_tid ps file u) (noted_serial ps file u) (prepared_still ps file u) (positions_of ps file u)) cut.units
+
+-- the keys that other branches hold stay theirs
+pub changes_apart : (x : Id) (place : ℕ) (u : OpenUnit) (h : FileHead) (o : RecordOp) (bytes : List ℕ) (told : ℕ) (s : UnitsState) (v : VolumeState) (t : UnitsState) (w : VolumeState) → u.serial ≡ x → ChangesOk place u h o bytes told s v t w →
+    (other : Id) → same_id x other ≡ false → locks_of other t.locks ≡ locks_of other s.locks
+changes_apart x place u h (op.Put file key) bytes told s v t w own ok other apart = holds_apart x u file _ s t own (ok.changes refl).locks other apart
+changes_apart x place u h (op.Update file key) bytes told s v t w own ok other apart = holds_apart x u file _ s t own (ok.changes refl).locks other apart
+changes_apart x place u h (op.Delete file key) bytes told s v t w own ok other apart = holds_apart x u file _ s t own (ok.changes refl).locks other apart
+changes_apart x place u h (op.Truncate file from) bytes told s v t w own ok other apart = holds_apart x u file (cut_asked h from) s t own (ok.cuts file from refl).locks other apart

@@ -3,7 +3,5 @@
 
 mod any;
 mod checks;
-#[cfg(test)]
-mod tests;
 
 pub use any::AnyFile;

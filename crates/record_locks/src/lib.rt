@@ -6,6 +6,3 @@ mod place;
 
 pub use locks::{LockErr, Locks};
 pub use place::Place;
-
-#[cfg(test)]
-mod tests;

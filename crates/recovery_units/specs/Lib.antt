@@ -3,3 +3,4 @@ pub mod Told
 pub mod Uses
 pub mod Calls
 pub mod Laws
+pub mod Others

@@ -61,9 +61,15 @@ AreLater serial [] (w ∷ ws) = ⊥
 AreLater serial (u ∷ us) [] = ⊥
 AreLater serial (u ∷ us) (w ∷ ws) = IsLater serial u w × AreLater serial us ws
 
--- Something was done for one branch: its unit alone may have changes that it had not, and the log is as it was.
+-- the keys that a branch holds
+abbrev pub locks_of : Id → List Lock → List Lock
+locks_of serial [] = []
+locks_of serial (l ∷ ls) = if same_id serial l.by then l ∷ locks_of serial ls else locks_of serial ls
+
+-- Something was done for one branch: its unit alone may have changes that it had not, it alone may hold keys that it did not hold, and the log is as it was.
 pub record WorksFor (serial : Id) (s t : UnitsState) : Type 0 where
   pub units : AreLater serial s.begun t.begun
+  pub locks : (other : Id) → same_id serial other ≡ false → locks_of other t.locks ≡ locks_of other s.locks
   pub log : t.log ≡ s.log
 
 -- one more unit, which has changed nothing

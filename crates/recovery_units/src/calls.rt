@@ -31,9 +31,9 @@ use std::alloc::{AllocError, Global};
 use vms_base::{Key, LogRec, Moment, Reason, Record, RmList, Serial, Tid};
 use volume::Volume;
 
-/// The units of one node, and its log. Contracts see them as the units in the order of their beginning, the keys that they hold and the slots of the log, and say
-/// of each call which act of the node of the world it is. Each branch of the node's table has a unit, also one that only joins. Where a call ends with `Down` its
-/// node goes down, and all units are to be forgotten.
+/// The units of one node, and its log. Contracts see them as the units in the order of their beginning, the keys that they hold and the slots of the
+/// log, and say of each call which act of the node of the world it is. Each branch of the node's table has a unit, also one that only joins. Where a
+/// call ends with `Down` its node goes down, and all units are to be forgotten.
 pub trait RecoveryUnits: Drop {
     ghost state: { Self → UnitsState };
 
@@ -200,8 +200,8 @@ pub trait RecoveryUnits: Drop {
         ensures done { IfOk result (λ u. (reason : ReasonSaid) → SettlesOk (serial_of serial.now) Commit reason (slot_of (option_copied logged.entry)) clock.0 u (state self.old) volume.old (state self.new) volume.new) }
         ensures err { OnErr result ((reason : ReasonSaid) → SettlesErr (serial_of serial.now) Commit reason (slot_of (option_copied logged.entry)) clock.0 (state self.old) volume.old volume.new) };
 
-    /// Aborts a branch, prepared or not: what it changed is set back, in as many groups as that takes, and the last of them settles it and frees its slot in the
-    /// log.
+    /// Aborts a branch, prepared or not: what it changed is set back, in as many groups as that takes, and the last of them settles it and frees its
+    /// slot in the log.
     fn abort<D: Disk>(
         &mut self,
         serial: &Serial,
@@ -259,9 +259,9 @@ pub trait RecoveryUnits: Drop {
     fn changed_by(&self, file: u8) -> Option<Serial>
         ensures { option_map serial_of result ≡ first_to_change file (state self.now).begun };
 
-    /// Reads the log, undoes the units that a fall left and that are not prepared, in the order of their first entries, and tells their settlements, after `Down`
-    /// those that were made. The prepared ones are units again, in the order in which their branches were prepared, and hold what they changed; their records and
-    /// the committed ones are told.
+    /// Reads the log, undoes the units that a fall left and that are not prepared, in the order of their first entries, and tells their settlements,
+    /// after `Down` those that were made. The prepared ones are units again, in the order in which their branches were prepared, and hold what they
+    /// changed; their records and the committed ones are told.
     fn reopen<D: Disk>(
         &mut self,
         volume: &mut Volume<D>,

@@ -6,5 +6,5 @@ mod laws;
 mod settled;
 
 pub use calls::RecoveryUnits;
-pub use laws::forms_refuse_alike;
+pub use laws::{forms_refuse_alike, units_stand_apart};
 pub use settled::{Reopened, SettledUnit};

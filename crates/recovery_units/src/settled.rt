@@ -14,8 +14,8 @@ pub struct SettledUnit {
     pub moment: Moment,
 }
 
-/// What a restart tells: the settlements of the units that it undid, in their order; the records of prepared branches, in the order in which these were prepared; and
-/// the committed records, in the order of the slots. Room for 64, 64 and 512 is taken once.
+/// What a restart tells: the settlements of the units that it undid, in their order; the records of prepared branches, in the order in which these
+/// were prepared; and the committed records, in the order of the slots. Room for 64, 64 and 512 is taken once.
 #[derive(Drop)]
 pub struct Reopened {
     settled: Vec<SettledUnit>,

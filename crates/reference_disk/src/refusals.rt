@@ -47,6 +47,7 @@ impl Durable {
         }
     }
 
+    /// The refusal that no file has this name. None exactly where one has it.
     pub fn there_is_file(&self, name: &FileName) -> Option<Line>
         ensures { option_map line_of result ≡ answers.there_is_file (disk_node self.now) name.now }
     {
@@ -56,6 +57,7 @@ impl Durable {
         }
     }
 
+    /// The refusal that a file has this name already. None exactly where no file has it.
     pub fn new_file(&self, name: &FileName) -> Option<Line>
         ensures { option_map line_of result ≡ answers.new_file (disk_node self.now) name.now }
     {
@@ -65,6 +67,7 @@ impl Durable {
         }
     }
 
+    /// What refuses an operation by the form of the file of this name. None also where no file has it.
     pub fn fits_file(&self, name: &FileName, asked: Asked<'_>) -> Option<Line>
         ensures { option_map line_of result ≡ answers.of_file (disk_node self.now) name.now (λ f. operations.form_refused f (asked_of asked.entry)) }
     {
@@ -72,6 +75,7 @@ impl Durable {
         form_refused(f, asked)
     }
 
+    /// The refusal that an operation would change a file marked for the journal. None where it is no change, or no marked file has the name.
     pub fn needs_unit(&self, name: &FileName, asked: Asked<'_>) -> Option<Line>
         ensures { option_map line_of result ≡ answers.of_file (disk_node self.now) name.now (answers.needs_unit (asked_of asked.entry)) }
     {
@@ -79,6 +83,7 @@ impl Durable {
         refused_if(is_change(asked) && f.recovery_units, Line::NeedsUnit)
     }
 
+    /// The refusal that names the first of these branches that made changes of the file. None where none of them did, or no file has the name.
     pub fn unchanged_file(&self, branches: &[BranchKey], name: &FileName) -> Option<Line>
         ensures { option_map line_of result ≡ answers.of_file (disk_node self.now) name.now (first_changed (serials_of branches.now)) }
     {
@@ -89,6 +94,7 @@ impl Durable {
         }
     }
 
+    /// The refusal that the file of this name is not marked for the journal. None where it is marked, or no file has the name.
     pub fn is_marked(&self, name: &FileName) -> Option<Line>
         ensures { option_map line_of result ≡ answers.of_file (disk_node self.now) name.now answers.is_marked }
     {
@@ -205,6 +211,7 @@ impl Durable {
         self.runs(blocks, need).lowest
     }
 
+    /// What refuses a file of so many blocks: no place for a file is free, or no run of free blocks is so long. None where there is room.
     pub fn room_for(&self, blocks: u32, need: u64) -> Option<Line>
         requires { length self.now.log.items ≤ 512 }
         ensures { option_map line_of result ≡ answers.room_for need (node_on [] blocks (durable_of self.now)) }

@@ -55,7 +55,7 @@ impl Node {
         }
     }
 
-    // The unsettled branch of this serial.
+    /// The unsettled branch of this serial.
     pub fn branch_of(&self, serial: &Id) -> Option<BranchState>
         ensures { option_map branch_said result ≡ world.find_branch (id_of serial.now) (node_of self.now).volatile.branches }
     {

@@ -23,8 +23,8 @@ use std::alloc::{AllocError, Global};
 use tm_types::Event;
 use vms_base::{Kind, Moment, NodeName, Outcome};
 
-/// What is asked of a node: that it aborts what is due by its clock; a message comes to it, or an answer at once to a branch's question in a settling; the link to
-/// another node fails; it aborts what is not prepared; or it is booted by a settling.
+/// What is asked of a node: that it aborts what is due by its clock; a message comes to it, or an answer at once to a branch's question in a
+/// settling; the link to another node fails; it aborts what is not prepared; or it is booted by a settling.
 #[derive(Clone, Copy, Drop)]
 pub enum Task {
     Tick,

@@ -184,8 +184,8 @@ fn run_on(alloc: Global, reading: &mut Reading, rest: &[u8]) -> Result<Ending, A
     }
 }
 
-/// What a script shows where no disk fails, from its first line on, and how it ends. The nodes of these places, of which a rack has at most eight, are down, and
-/// their disks are all of zeros.
+/// What a script shows where no disk fails, from its first line on, and how it ends. The nodes of these places, of which a rack has at most eight,
+/// are down, and their disks are all of zeros.
 ///
 /// An error comes only where there is no memory: the limits of a script keep each number within its type, and each moment within the year 9999.
 pub fn reference_transcript_of(

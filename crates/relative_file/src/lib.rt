@@ -6,7 +6,5 @@ mod cell;
 mod file;
 mod make;
 mod relative;
-#[cfg(test)]
-mod tests;
 
 pub use relative::RelativeFile;

@@ -25,8 +25,8 @@ pub fn groups_leave_files()
     ensures untouched { StaysUndone }
 {}
 
-/// A unit that was undone whole is settled, whatever part of it was undone before; what the other branches changed can still be restored, and what prepared ones
-/// changed stands.
+/// A unit that was undone whole is settled, whatever part of it was undone before; what the other branches changed can still be restored, and what
+/// prepared ones changed stands.
 pub fn undone_units_settle()
     ensures unit { UndoesLeave }
     ensures others { OthersStayRestorable }
@@ -38,8 +38,8 @@ pub fn restarts_end()
     ensures { RestsAsFiles }
 {}
 
-/// A file in which one branch alone is undone in part is the world's, where the world says of that branch what stands; and so are all files of a node. What it left
-/// there can still be restored.
+/// A file in which one branch alone is undone in part is the world's, where the world says of that branch what stands; and so are all files of a
+/// node. What it left there can still be restored.
 pub fn halves_are_files()
     ensures files { HalvesAreFiles }
     ensures directories { DirectoriesAreHalf }

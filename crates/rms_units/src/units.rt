@@ -652,8 +652,9 @@ impl Units {
         })
     }
 
-    /// A unit votes. It is read only exactly where it changed nothing and no manager is to be told its outcome; then it is no more, and what it held is free. Else
-    /// its Prepared entry, where it changed something, and its record are written in one group, and it keeps what it holds. On Down it is spent as well.
+    /// A unit votes. It is read only exactly where it changed nothing and no manager is to be told its outcome; then it is no more, and what it held
+    /// is free. Else its Prepared entry, where it changed something, and its record are written in one group, and it keeps what it holds. On Down it
+    /// is spent as well.
     pub fn prepare<D: Disk>(
         &mut self,
         unit: ActiveUnit,
@@ -772,8 +773,8 @@ impl Units {
         })
     }
 
-    /// Commits a prepared unit: its settlement and the record of those that are to be told, or nothing in that record's place, in one group. On Down it is spent as
-    /// well.
+    /// Commits a prepared unit: its settlement and the record of those that are to be told, or nothing in that record's place, in one group. On Down
+    /// it is spent as well.
     pub fn commit_prepared<D: Disk>(
         &mut self,
         unit: PreparedUnit,
@@ -802,8 +803,8 @@ impl Units {
         self.commit_at(place, volume, log, logged, clock)
     }
 
-    /// Aborts a prepared unit: what it changed is set back, in as many groups as that takes, and the last of them settles it and frees its slot in the log. On Down
-    /// it is spent as well.
+    /// Aborts a prepared unit: what it changed is set back, in as many groups as that takes, and the last of them settles it and frees its slot in
+    /// the log. On Down it is spent as well.
     pub fn abort_prepared<D: Disk>(
         &mut self,
         unit: PreparedUnit,
@@ -863,10 +864,11 @@ impl Units {
         self.locks.release_all(branch.serial);
     }
 
-    /// Takes up what a fall left. The units of the journal that are not prepared are aborted, in the order of their first entries, and their settlements are told, also
-    /// after Down. Nothing is aborted where the journal is not in order, or has not the room that the settlements take. The branches of the log's prepared records are
-    /// units again, in the order in which they were prepared, with their changes, and hold the keys that these changed; their records and the committed ones are told.
-    /// Units that are aborted and units that are taken up are no more than 64 together: of more, the prepared records of the last slots are read as free.
+    /// Takes up what a fall left. The units of the journal that are not prepared are aborted, in the order of their first entries, and their
+    /// settlements are told, also after Down. Nothing is aborted where the journal is not in order, or has not the room that the settlements take.
+    /// The branches of the log's prepared records are units again, in the order in which they were prepared, with their changes, and hold the keys
+    /// that these changed; their records and the committed ones are told. Units that are aborted and units that are taken up are no more than 64
+    /// together: of more, the prepared records of the last slots are read as free.
     pub fn reopen<D: Disk>(
         &mut self,
         volume: &mut Volume<D>,

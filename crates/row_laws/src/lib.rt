@@ -14,8 +14,8 @@ ghost use Rattle.commit_protocol.specs.Table.{Act, Tm, after_act};
 ghost use Rattle.log_laws.specs.Slots.{Slots, slots_after};
 ghost use Rattle.row_laws.specs.May.{IsOfMessage, IsTold, MayDo, MayDoAll};
 
-/// Where the log tells a table, each act of each row of it by which no branch begins may be done where its turn comes; and behind an act that may be done the log
-/// tells the table again.
+/// Where the log tells a table, each act of each row of it by which no branch begins may be done where its turn comes; and behind an act that may be
+/// done the log tells the table again.
 pub fn rows_may_be_done()
     ensures row { (tid : Id) (tm : Tm) (e : Event) (ss : Slots) → IsTold tm ss → TmWithin tm → allowed tm e ≡ true → BeginsNothing e → IsOfMessage tid e → MayDoAll tid (row tm e) tm ss }
     ensures act { (tid : Id) (tm : Tm) (a : Act) (ss : Slots) → IsTold tm ss → MayDo tid a tm ss → IsTold (after_act a tm) (slots_after a tm.records ss) }

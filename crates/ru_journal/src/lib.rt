@@ -6,6 +6,3 @@ mod unit;
 
 pub use state::{MOST_ENTRIES, MOST_UNITS, RuErr, RuState};
 pub use unit::{MOST_CHANGES, UnitInfo};
-
-#[cfg(test)]
-mod tests;

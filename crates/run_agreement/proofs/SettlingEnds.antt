@@ -21,11 +21,11 @@ use Rattle.run_model.specs.Steps as steps
 use Rattle.run_model.specs.Steps.{Choice, Whole, WithoutMemory, Unpowered, Cut, ServiceAllowed, TaskAllowed, TaskEffect, service_effect, task_effect, ready_node}
 use Rattle.run_model.specs.Statements as statements
 use Rattle.run_model.specs.Statements.{Part, Does, Asks, PartEffect, Question, Heard, Unanswered, Doubtful, Onward, Parts, Phases, Finished, Step, Allowed, AllowedAt, AllowedOf, RoseAt, stops_at, put_into, done_at, part_effect, question_effect, question, asking, asked, answer_of, answer_in, restarts_of, run_downs_of, all_questions, phases_of, begun_with}
-use Rattle.run_model.specs.Transcript.{Entry}
+use Rattle.run_model.specs.StepLaws.{FailurePutsDown}
 use Rattle.run_model.proofs.PartLemmas.{allowed_here}
 use Rattle.std.proofs.lemmas.Bool.{both_ways}
 use Rattle.run_agreement.specs.Following.{opening_of}
-use Rattle.run_agreement.specs.Laws.{IsRun, NamesApart, EndsFor}
+use Rattle.run_agreement.specs.Laws.{NamesApart, HasFailed, EndsFor, SettlingEnds}
 use Rattle.run_agreement.proofs.Found.{some_is, name_found, found_put, bytes_itself, bytes_other}
 use Rattle.run_agreement.proofs.Tasks.{awake_refused}
 use Rattle.run_agreement.proofs.Changing.{branch_found}
@@ -35,23 +35,28 @@ use Rattle.run_agreement.proofs.Runs.{are_restarts, to_boot, booted_all, are_dow
 use Rattle.run_agreement.proofs.Resting.{Reached, RunDownLaw, Leads, Starting, Downing, Asking, starting_leads, downing_leads, asking_leads, asking_starts, answers_by, to_run_down, fits, reached_next, last_same}
 use Rattle.run_agreement.proofs.Openings.{reached_by}
 
+-- What a refusal has for its cause in the world that it leaves; of a failure nothing is said yet.
+abbrev Ends : World → Line → Type 0
+Ends u (line.Broken cause) = Unit {0}
+Ends u answer = EndsFor u u [] answer
+
 -- Tasks that end their statement.
 
 -- a node that cannot be booted says why
-bootable_ends : (u : World) (n : Name) (r : Node) (l : Line) → find_node n u.nodes ≡ Some r → r.name ≡ n → answers.bootable r ≡ Some l → EndsFor u l
+bootable_ends : (u : World) (n : Name) (r : Node) (l : Line) → find_node n u.nodes ≡ Some r → r.name ≡ n → answers.bootable r ≡ Some l → Ends u l
 bootable_ends u n r l found named e = by r.durable.volume refl
   where
-    ends : (m : Line) → EndsFor u m → m ≡ l → EndsFor u l
-    ends m h same = let P : Line → Type 0 = λ k. EndsFor u k in subst P same h
+    ends : (m : Line) → Ends u m → m ≡ l → Ends u l
+    ends m h same = let P : Line → Type 0 = λ k. Ends u k in subst P same h
 
     quotas : (a b c : Bool) → (r.durable.boot == answers.boot_limit) ≡ a → nat_lt answers.moment_limit r.durable.greatest ≡ b → nat_lt answers.position_limit (answers.last_position r) ≡ c
-        → first_of (refused_if a (line.QuotaExceeded line.Boots answers.boot_limit)) (first_of (refused_if b (line.QuotaExceeded line.Moments answers.moment_limit)) (refused_if c (line.QuotaExceeded line.Positions answers.position_limit))) ≡ Some l → EndsFor u l
+        → first_of (refused_if a (line.QuotaExceeded line.Boots answers.boot_limit)) (first_of (refused_if b (line.QuotaExceeded line.Moments answers.moment_limit)) (refused_if c (line.QuotaExceeded line.Positions answers.position_limit))) ≡ Some l → Ends u l
     quotas true b c p q s k = ends (line.QuotaExceeded line.Boots answers.boot_limit) (refl, (n, r, found, inl p)) (some_is (line.QuotaExceeded line.Boots answers.boot_limit) l k)
     quotas false true c p q s k = ends (line.QuotaExceeded line.Moments answers.moment_limit) (refl, (n, r, found, inl q)) (some_is (line.QuotaExceeded line.Moments answers.moment_limit) l k)
     quotas false false true p q s k = ends (line.QuotaExceeded line.Positions answers.position_limit) (refl, (n, r, found, inl s)) (some_is (line.QuotaExceeded line.Positions answers.position_limit) l k)
     quotas false false false p q s k = absurd (let f : ⊥ = cc in f)
 
-    by : (v : world.Volume) → r.durable.volume ≡ v → EndsFor u l
+    by : (v : world.Volume) → r.durable.volume ≡ v → Ends u l
     by world.Sound f =
         let P : world.Volume → Type 0 = λ v. answers.bootable (record r { durable = record r.durable { volume = v } }) ≡ Some l in
         quotas (r.durable.boot == answers.boot_limit) (nat_lt answers.moment_limit r.durable.greatest) (nat_lt answers.position_limit (answers.last_position r)) refl refl refl (subst P f e)
@@ -59,15 +64,15 @@ bootable_ends u n r l found named e = by r.durable.volume refl
         let P : world.Volume → Type 0 = λ v. answers.bootable (record r { durable = record r.durable { volume = v } }) ≡ Some l in
         let same : line.NoVolume r.name condition block ≡ l = some_is (line.NoVolume r.name condition block) l (subst P f e) in
         let Q : Name → Type 0 = λ m. find_node m u.nodes ≡ Some r in
-        let R : Line → Type 0 = λ m. EndsFor u m in
+        let R : Line → Type 0 = λ m. Ends u m in
         subst R same (r, subst Q (sym named) found, inl f)
     by (world.Barred bar) f =
         let P : world.Volume → Type 0 = λ v. answers.bootable (record r { durable = record r.durable { volume = v } }) ≡ Some l in
         let same : answers.bar_line r.name bar ≡ l = some_is (answers.bar_line r.name bar) l (subst P f e) in
-        let R : Line → Type 0 = λ m. EndsFor u m in
+        let R : Line → Type 0 = λ m. Ends u m in
         subst R same (bars bar f)
       where
-        bars : (b : world.Bar) → r.durable.volume ≡ world.Barred b → EndsFor u (answers.bar_line r.name b)
+        bars : (b : world.Bar) → r.durable.volume ≡ world.Barred b → Ends u (answers.bar_line r.name b)
         bars world.NoRing g = let Q : Name → Type 0 = λ m. find_node m u.nodes ≡ Some r in (r, subst Q (sym named) found, inr g)
         bars world.AllBoots g = (refl, (n, r, found, inr g))
         bars world.LateMoment g = (refl, (n, r, found, inr g))
@@ -77,7 +82,7 @@ bootable_ends u n r l found named e = by r.durable.volume refl
         absurd (let k : None ≡ Some l = subst P f e in let g : ⊥ = cc in g)
 
 restart_ends : (w : World) (n : Name) (c : Choice) (x : Node) (rises : Cause → Type 0) → TaskAllowed w.shared (stops_at n w) x Restarts rises c → find_node n w.nodes ≡ Some x → x.up ≡ false → (task_effect w.shared (stops_at n w) x Restarts c).ends ≡ true
-    → EndsFor (put_into w n (task_effect w.shared (stops_at n w) x Restarts c)).world (task_effect w.shared (stops_at n w) x Restarts c).answer
+    → Ends (put_into w n (task_effect w.shared (stops_at n w) x Restarts c)).world (task_effect w.shared (stops_at n w) x Restarts c).answer
 restart_ends w n (Whole outturn) x rises may found is_down h = by x.unmade refl
   where
     e : Service
@@ -91,20 +96,20 @@ restart_ends w n (Whole outturn) x rises may found is_down h = by x.unmade refl
 
     G : Option Line → Type 0
     G l = (steps.whole w.shared x (ready_node outturn (stops_at n w) (task_service Restarts) x) (task_service Restarts) l).ends ≡ true
-        → EndsFor (put_into w n (steps.whole w.shared x (ready_node outturn (stops_at n w) (task_service Restarts) x) (task_service Restarts) l)).world (steps.whole w.shared x (ready_node outturn (stops_at n w) (task_service Restarts) x) (task_service Restarts) l).answer
+        → Ends (put_into w n (steps.whole w.shared x (ready_node outturn (stops_at n w) (task_service Restarts) x) (task_service Restarts) l)).world (steps.whole w.shared x (ready_node outturn (stops_at n w) (task_service Restarts) x) (task_service Restarts) l).answer
 
     before : refused_before_reading w.shared x (task_service Restarts) ≡ refused_if x.unmade (line.NotInitializedAt x.name)
     before = awake_refused w.shared x (task_service Restarts) refl ∙ ap (λ b. first_of (refused_if b line.NodeUp) (refused_if x.unmade (line.NotInitializedAt x.name))) is_down
 
     begins : (l : Option Line) → answers.bootable (ready_node outturn (stops_at n w) (task_service Restarts) x) ≡ l → (steps.begun w.shared (ready_node outturn (stops_at n w) (task_service Restarts) x) (task_service Restarts) l).ends ≡ true
-        → EndsFor (put_into w n (steps.begun w.shared (ready_node outturn (stops_at n w) (task_service Restarts) x) (task_service Restarts) l)).world (steps.begun w.shared (ready_node outturn (stops_at n w) (task_service Restarts) x) (task_service Restarts) l).answer
+        → Ends (put_into w n (steps.begun w.shared (ready_node outturn (stops_at n w) (task_service Restarts) x) (task_service Restarts) l)).world (steps.begun w.shared (ready_node outturn (stops_at n w) (task_service Restarts) x) (task_service Restarts) l).answer
     begins (Some l) f k =
         let r : Node = ready_node outturn (stops_at n w) (task_service Restarts) x in
         let name : r.name ≡ n = powered_name outturn (stops_at n w) x ∙ named in
         bootable_ends (put_into w n (steps.refused w.shared r l)).world n r l (found_put n r x w.nodes name found) name f
     begins None f k = absurd (let z : false ≡ true = k in let g : ⊥ = cc in g)
 
-    by : (b : Bool) → x.unmade ≡ b → EndsFor (put_into w n (task_effect w.shared (stops_at n w) x Restarts (Whole outturn))).world (task_effect w.shared (stops_at n w) x Restarts (Whole outturn)).answer
+    by : (b : Bool) → x.unmade ≡ b → Ends (put_into w n (task_effect w.shared (stops_at n w) x Restarts (Whole outturn))).world (task_effect w.shared (stops_at n w) x Restarts (Whole outturn)).answer
     by true u =
         let P : Name → Type 0 = λ m. find_node m (with_node n (λ y. x) w.nodes) ≡ Some x in
         subst G (sym (before ∙ ap (λ b. refused_if b (line.NotInitializedAt x.name)) u)) (λ k. (x, subst P (sym named) (found_put n x x w.nodes named found), u)) h
@@ -118,25 +123,25 @@ restart_ends w n Unpowered x rises may found is_down h = tt
 restart_ends w n (Cut outturn done begun cause) x rises may found is_down h = tt
 
 -- a task that nothing refuses ends its statement by its disk alone
-quiet_ends : (u : World) (s : Shared) (stops : ℕ) (x : Node) (e : Service) (c : Choice) (rises : Cause → Type 0) → ServiceAllowed s stops x e rises c → e.takes_memory x ≡ false → e.goes_on ≡ false → refused_before_reading s x e ≡ None → ((y : Node) → e.refused_after_reading s y ≡ None) → (service_effect s stops x e c).ends ≡ true → EndsFor u (service_effect s stops x e c).answer
+quiet_ends : (u : World) (s : Shared) (stops : ℕ) (x : Node) (e : Service) (c : Choice) (rises : Cause → Type 0) → ServiceAllowed s stops x e rises c → e.takes_memory x ≡ false → e.goes_on ≡ false → refused_before_reading s x e ≡ None → ((y : Node) → e.refused_after_reading s y ≡ None) → (service_effect s stops x e c).ends ≡ true → Ends u (service_effect s stops x e c).answer
 quiet_ends u s stops x e (Whole outturn) rises may memory g before after h =
     let r : Node = ready_node outturn stops e x in
-    let P : Option Line → Type 0 = λ l. (steps.whole s x r e l).ends ≡ true → EndsFor u (steps.whole s x r e l).answer in
-    let Q : Option Line → Type 0 = λ l. (steps.begun s r e l).ends ≡ true → EndsFor u (steps.begun s r e l).answer in
+    let P : Option Line → Type 0 = λ l. (steps.whole s x r e l).ends ≡ true → Ends u (steps.whole s x r e l).answer in
+    let Q : Option Line → Type 0 = λ l. (steps.begun s r e l).ends ≡ true → Ends u (steps.begun s r e l).answer in
     subst P (sym before) (subst Q (sym (after r)) (λ k. absurd (let z : false ≡ true = k in let f : ⊥ = cc in f))) h
 quiet_ends u s stops x e WithoutMemory rises may memory g before after h = absurd (both_ways (e.takes_memory x) memory may.1)
 quiet_ends u s stops x e Unpowered rises may memory g before after h = tt
-quiet_ends u s stops x e (Cut outturn done begun cause) rises may memory g before after h = let P : Bool → Type 0 = λ b. EndsFor u (if b then line.Normal else line.Broken cause) in subst P (sym g) tt
+quiet_ends u s stops x e (Cut outturn done begun cause) rises may memory g before after h = let P : Bool → Type 0 = λ b. Ends u (if b then line.Normal else line.Broken cause) in subst P (sym g) tt
 
 awake : (s : Shared) (x : Node) → x.up ≡ true → first_of (refused_if (not (x.up || false)) line.NodeDown) None ≡ None
 awake s x up = ap (λ b. first_of (refused_if (not (b || false)) line.NodeDown) None) up
 
 -- at a node that is found
-ends_at : (w : World) (n : Name) (t : Task) (c : Choice) (x : Node) → find_node n w.nodes ≡ Some x → ((task_effect w.shared (stops_at n w) x t c).ends ≡ true → EndsFor (put_into w n (task_effect w.shared (stops_at n w) x t c)).world (task_effect w.shared (stops_at n w) x t c).answer)
-    → (done_at w n t c).ends ≡ true → EndsFor (done_at w n t c).world (done_at w n t c).answer
+ends_at : (w : World) (n : Name) (t : Task) (c : Choice) (x : Node) → find_node n w.nodes ≡ Some x → ((task_effect w.shared (stops_at n w) x t c).ends ≡ true → Ends (put_into w n (task_effect w.shared (stops_at n w) x t c)).world (task_effect w.shared (stops_at n w) x t c).answer)
+    → (done_at w n t c).ends ≡ true → Ends (done_at w n t c).world (done_at w n t c).answer
 ends_at w n t c x found each h =
     let P : Option Node → Type 0 = λ d. (let e : PartEffect = elim d [ Some y ↦ put_into w n (task_effect w.shared (stops_at n w) y t c) | None ↦ statements.no_node w ] in e).ends ≡ true
-    → EndsFor (let e : PartEffect = elim d [ Some y ↦ put_into w n (task_effect w.shared (stops_at n w) y t c) | None ↦ statements.no_node w ] in e).world (let e : PartEffect = elim d [ Some y ↦ put_into w n (task_effect w.shared (stops_at n w) y t c) | None ↦ statements.no_node w ] in e).answer in
+    → Ends (let e : PartEffect = elim d [ Some y ↦ put_into w n (task_effect w.shared (stops_at n w) y t c) | None ↦ statements.no_node w ] in e).world (let e : PartEffect = elim d [ Some y ↦ put_into w n (task_effect w.shared (stops_at n w) y t c) | None ↦ statements.no_node w ] in e).answer in
     subst P (sym found) each h
 
 -- one with which the statement goes on has the success for its answer
@@ -151,10 +156,10 @@ normal_at w n t c g normal h = by (find_node n w.nodes) h
 -- Parts one after another.
 
 abbrev Closes : Line → World → Type 0
-Closes answer v = (answer ≡ line.Normal) ⊎ EndsFor v answer
+Closes answer v = (answer ≡ line.Normal) ⊎ Ends v answer
 
 record Stops (after : List DiskCounts) (P : List Part → World → Type 0) : Type 0 where
-  stop : (p : Part) (ps : List Part) (w : World) (c : Choice) → P (p ∷ ps) w → Allowed w p after c → (part_effect w p c).ends ≡ true → EndsFor (part_effect w p c).world (part_effect w p c).answer
+  stop : (p : Part) (ps : List Part) (w : World) (c : Choice) → P (p ∷ ps) w → Allowed w p after c → (part_effect w p c).ends ≡ true → Ends (part_effect w p c).world (part_effect w p c).answer
   normal : (p : Part) (ps : List Part) (w : World) (c : Choice) → P (p ∷ ps) w → (part_effect w p c).ends ≡ false → (part_effect w p c).answer ≡ line.Normal
   keep : (p : Part) (ps : List Part) (w : World) (c : Choice) → P (p ∷ ps) w → Allowed w p after c → (part_effect w p c).ends ≡ false → P ps (part_effect w p c).world
 
@@ -172,8 +177,8 @@ parts_close after P more stops onward (p ∷ ps) w given lines answer v g k h =
         ] in t)
         → ((rest : List Line) → (part_effect w p h.0).answer ≡ line.Normal → P ps (part_effect w p h.0).world → Parts ps after more (part_effect w p h.0).world (part_effect w p h.0).answer rest answer v → Closes answer v) → Closes answer v
     go true e t rec =
-        let P1 : World → Type 0 = λ z. EndsFor z answer in
-        let P2 : Line → Type 0 = λ l. EndsFor (part_effect w p h.0).world l in
+        let P1 : World → Type 0 = λ z. Ends z answer in
+        let P2 : Line → Type 0 = λ l. Ends (part_effect w p h.0).world l in
         inr (subst P1 (sym t.2) (subst P2 (sym t.1) (stops.stop p ps w h.0 k h.1 e)))
     go false e t rec = rec t.0 (stops.normal p ps w h.0 k e) (stops.keep p ps w h.0 k h.1 e) t.2
 
@@ -196,7 +201,7 @@ record Boots (base : World) (ps : List Part) (w : World) : Type 0 where
 boots_stop : (base : World) → IsAgreeing (opening_of base) → (after : List DiskCounts) → Stops after (Boots base)
 boots_stop base agrees after = record { stop = stop; normal = normal; keep = keep }
   where
-    stop : (p : Part) (ps : List Part) (w : World) (c : Choice) → Boots base (p ∷ ps) w → Allowed w p after c → (part_effect w p c).ends ≡ true → EndsFor (part_effect w p c).world (part_effect w p c).answer
+    stop : (p : Part) (ps : List Part) (w : World) (c : Choice) → Boots base (p ∷ ps) w → Allowed w p after c → (part_effect w p c).ends ≡ true → Ends (part_effect w p c).world (part_effect w p c).answer
     stop (Does n Restarts) ps w c k may e = let x = k.down n (inl refl) in ends_at w n Restarts c x.0 x.1 (restart_ends w n c x.0 (λ cause. RoseAt w n cause after) (allowed_here w n Restarts x.0 after c x.1 may) x.1 x.2) e
     stop (Asks n serial) ps w c k may e = absurd k.starting.booting.0
     stop (Does n (Serves request)) ps w c k may e = absurd k.starting.booting.0
@@ -269,7 +274,7 @@ record RunDowns (base : World) (ps : List Part) (w : World) : Type 0 where
 downs_stop : RunDownLaw → (base : World) → IsAgreeing (opening_of base) → (after : List DiskCounts) → Stops after (RunDowns base)
 downs_stop law base agrees after = record { stop = stop; normal = normal; keep = keep }
   where
-    stop : (p : Part) (ps : List Part) (w : World) (c : Choice) → RunDowns base (p ∷ ps) w → Allowed w p after c → (part_effect w p c).ends ≡ true → EndsFor (part_effect w p c).world (part_effect w p c).answer
+    stop : (p : Part) (ps : List Part) (w : World) (c : Choice) → RunDowns base (p ∷ ps) w → Allowed w p after c → (part_effect w p c).ends ≡ true → Ends (part_effect w p c).world (part_effect w p c).answer
     stop (Does n RunsDown) ps w c k may e =
         let x = k.found n (inl refl) in
         ends_at w n RunsDown c x.0 x.1 (λ h. quiet_ends (put_into w n (task_effect w.shared (stops_at n w) x.0 RunsDown c)).world w.shared (stops_at n w) x.0 (task_service RunsDown) c (λ cause. RoseAt w n cause after) (allowed_here w n RunsDown x.0 after c x.1 may) refl refl (awake w.shared x.0 (k.downing.ups n x.0 x.1)) (λ y. refl) h) e
@@ -322,7 +327,7 @@ downs_found (y ∷ ys) n i = elim (cases_name n y.name) [
 -- The questions.
 
 heard_stops : (base w : World) (n : Name) (serial : Id) (b : Branch) (y : Node) (m : Message) (c : Choice) (after : List DiskCounts) → AllowedAt w m.to (Hears m) after c → IsAgreeing (opening_of base) → Reached base w → AllUp w → IsAsking w n serial b → ((j : Name) (z : Node) → find_node j w.nodes ≡ Some z → Rattle.run_agreement.proofs.Resting.ArePrepared z.volatile.branches)
-    → find_node (coordinator_of b.key) w.nodes ≡ Some y → answer_of y b.key ≡ Some m → (done_at w m.to (Hears m) c).ends ≡ true → EndsFor (done_at w m.to (Hears m) c).world (done_at w m.to (Hears m) c).answer
+    → find_node (coordinator_of b.key) w.nodes ≡ Some y → answer_of y b.key ≡ Some m → (done_at w m.to (Hears m) c).ends ≡ true → Ends (done_at w m.to (Hears m) c).world (done_at w m.to (Hears m) c).answer
 heard_stops base w n serial b y m c after may agrees reached ups a prepared fy answers h =
     let q = answers_by y b.key (prepared (coordinator_of b.key) y fy) in
     let same : down q.kind b.key ≡ m = some_is (down q.kind b.key) m (sym (ap answer_in q.sends) ∙ answers) in
@@ -353,12 +358,12 @@ asks_stop base agrees after = record { stop = stop; normal = normal; keep = (ask
     normal (Asks n serial) ps w c k e = question_normal w c (question w n serial) e
     normal (Does n t) ps w c k e = absurd k.asks
 
-    stop : (p : Part) (ps : List Part) (w : World) (c : Choice) → Asking base (p ∷ ps) w → Allowed w p after c → (part_effect w p c).ends ≡ true → EndsFor (part_effect w p c).world (part_effect w p c).answer
+    stop : (p : Part) (ps : List Part) (w : World) (c : Choice) → Asking base (p ∷ ps) w → Allowed w p after c → (part_effect w p c).ends ≡ true → Ends (part_effect w p c).world (part_effect w p c).answer
     stop (Does n t) ps w c k may e = absurd k.asks
     stop (Asks n serial) ps w c k may e = by (asking w n serial) refl may e
       where
         G : Question → Type 0
-        G q = AllowedOf w after c q → (question_effect w c q).ends ≡ true → EndsFor (question_effect w c q).world (question_effect w c q).answer
+        G q = AllowedOf w after c q → (question_effect w c q).ends ≡ true → Ends (question_effect w c q).world (question_effect w c q).answer
 
         answered : (b : Branch) (y : Node) → asking w n serial ≡ Some b → find_node (coordinator_of b.key) w.nodes ≡ Some y → (d : Option Message) → answer_of y b.key ≡ d → G (elim d [ Some m ↦ Heard m | None ↦ Unanswered ])
         answered b y f g None i ok h = absurd (let z : false ≡ true = h in let q : ⊥ = cc in q)
@@ -390,18 +395,32 @@ closes_so law base w agrees reached apart after lines answer v h =
       down = λ n i. down_there w.nodes n apart i;
     }) h
 
-pub settling_ends : RunDownLaw → (base v u : World) (es : List Entry) (events : List Line) (answer : Line) → IsRun base es v → NamesApart v.nodes → Step v Settle (events ++ answer ∷ []) u → (answer ≡ line.Normal) ⊎ EndsFor u answer
-settling_ends law base v u es events answer h apart step =
+-- so it ends from any world and with any lines, but for a failure
+ends_for : (w u : World) (events : List Line) (answer : Line) → ((cause : Cause) → answer ≡ line.Broken cause → HasFailed w u events cause) → Ends u answer → EndsFor w u events answer
+ends_for w u events (line.Broken cause) failed k = failed cause refl
+ends_for w u events (line.QuotaExceeded line.Boots limit) failed k = k
+ends_for w u events (line.QuotaExceeded line.Moments limit) failed k = k
+ends_for w u events (line.QuotaExceeded line.Positions limit) failed k = k
+ends_for w u events _ failed k = k
+
+pub settling_ends : FailurePutsDown → RunDownLaw → SettlingEnds
+settling_ends fails law base v u es events answer h apart step =
     let w : World = begun_with Settle v in
     let used : Reached base w = reached_next base v w h.agrees (used_sim (opening_of base) v) (λ r. reached_by base v es h r) in
     let same : answer ≡ step.answer = last_same events step.events answer step.answer step.shows in
     let P : Line → Type 0 = λ l. Closes l u in
-    let Q : World → Type 0 = λ z. Closes step.answer z in
     let c : Closes step.answer step.world = closes_so law base w h.agrees used apart u.disks step.events step.answer step.world step.does in
-    subst P (sym same) (elim c [
+    let closes : Closes answer u = subst P (sym same) (elim c [
       | inl n ↦ inl n
-      | inr k ↦ inr (let R : World → Type 0 = λ z. EndsFor z step.answer in subst R (sym step.goes) (to_disks step.answer k))
-    ])
+      | inr k ↦ inr (let R : World → Type 0 = λ z. Ends z step.answer in subst R (sym step.goes) (to_disks step.answer k))
+    ]) in
+    elim closes [ inl n ↦ inl n | inr k ↦ inr (ends_for v u events answer failed k) ]
   where
-    to_disks : (l : Line) → EndsFor step.world l → EndsFor (record step.world { disks = u.disks }) l
+    to_disks : (l : Line) → Ends step.world l → Ends (record step.world { disks = u.disks }) l
     to_disks l k = k
+
+    failed : (cause : Cause) → answer ≡ line.Broken cause → HasFailed v u events cause
+    failed cause is =
+        let P : Line → Type 0 = λ l. Step v Settle (events ++ l ∷ []) u in
+        let f = fails v u Settle events cause (subst P is step) in
+        record { node = f.0; shown = f.1; told = f.2; down = f.3; rose = f.4 }

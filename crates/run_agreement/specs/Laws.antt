@@ -1,10 +1,11 @@
 -- What holds of each legal transcript of several nodes, from images that agree.
 use Rattle.std.specs.List.{last_or}
+use Rattle.std.specs.Option.{option_map}
 use Rattle.std.specs.Str.{bytes_eq}
 use Rattle.std.specs.Prelude.{◌≡◌, ◌==◌, ℕ, true, false, if◌then◌else◌, nat_lt, List, [], ◌∷◌, ◌++◌, Bool, Option, Some, None, ◌⊎◌}
 use Rattle.vms_model.specs.Ids.{Id}
 use Rattle.vms_model.specs.Transactions.{Outcome, Commit as ToCommit, Abort as ToAbort}
-use Rattle.transcript_model.specs.Lines.{Line, Normal, Broken, NoMemory, QuotaExceeded, Boots, Moments, Positions, NotInitializedAt, NoVolume, InDoubt}
+use Rattle.transcript_model.specs.Lines.{Line, Cause, Down, Normal, Broken, NoMemory, QuotaExceeded, Boots, Moments, Positions, NotInitializedAt, NoVolume, InDoubt}
 use Rattle.script_model.specs.Statements.{At, Settle, Init, EndTrans, Reading, Blank, Says, Bad}
 use Rattle.script_model.specs.Grammar.{reading}
 use Rattle.commit_protocol.specs.Messages.{Name}
@@ -17,7 +18,7 @@ use Rattle.commit_protocol.specs.Opening.{Opening, Image, IsAgreeing, no_image, 
 use Rattle.run_model.specs.World as world
 use Rattle.run_model.specs.World.{World, DiskCounts, Node, Settlement, Sound, Faulty, Barred, NoRing, AllBoots, LateMoment, FarPosition, IsLogInOrder, find_node}
 use Rattle.run_model.specs.Answers.{boot_limit, branch_labelled, last_position, moment_limit, position_limit}
-use Rattle.run_model.specs.Statements.{Step}
+use Rattle.run_model.specs.Statements.{RoseAt, Step}
 use Rattle.run_model.specs.Transcript.{Entry, Turn, Legal, AreOpening}
 use Rattle.run_agreement.specs.Seen.{Resolution, IsKnown, has_volume, outcome_of, landed, image_of}
 use Rattle.run_agreement.specs.Following.{Shows, opening_of}
@@ -123,22 +124,33 @@ SettlingLeavesNone = (base v u : World) (es : List Entry) (events : List Line) �
 abbrev pub HasNode : World → (Node → Type 0) → Type 0
 HasNode u P = (n : Name) × (x : Node) × (find_node n u.nodes ≡ Some x) × P x
 
--- How a settling ends that does not succeed: a disk failed or was stopped; memory is missing for a node that was not up yet; a node was booted too often, or its
--- greatest moment or a position is too late; an INIT of a node failed; a node has no volume; or the coordinator of a prepared branch is not in the rack.
-abbrev pub EndsFor : World → Line → Type 0
-EndsFor u (Broken cause) = Unit {0}
-EndsFor u NoMemory = HasNode u (λ x. x.was_up ≡ false)
-EndsFor u (QuotaExceeded Boots limit) = (limit ≡ boot_limit) × HasNode u (λ x. ((x.durable.boot == limit) ≡ true) ⊎ (x.durable.volume ≡ Barred AllBoots))
-EndsFor u (QuotaExceeded Moments limit) = (limit ≡ moment_limit) × HasNode u (λ x. (nat_lt limit x.durable.greatest ≡ true) ⊎ (x.durable.volume ≡ Barred LateMoment))
-EndsFor u (QuotaExceeded Positions limit) = (limit ≡ position_limit) × HasNode u (λ x. (nat_lt limit (last_position x) ≡ true) ⊎ (x.durable.volume ≡ Barred FarPosition))
-EndsFor u (NotInitializedAt n) = (x : Node) × (find_node n u.nodes ≡ Some x) × (x.unmade ≡ true)
-EndsFor u (NoVolume n condition block) = (x : Node) × (find_node n u.nodes ≡ Some x) × ((x.durable.volume ≡ Faulty condition block) ⊎ (x.durable.volume ≡ Barred NoRing))
-EndsFor u (InDoubt serial n) = (find_node n u.nodes ≡ None) × HasNode u (λ x. (b : Branch) × In b x.volatile.branches × (b.key.serial ≡ serial) × (coordinator_of b.key ≡ n) × (is_prepared b.state ≡ true))
-EndsFor u _ = ⊥
+-- A failure of a disk ended a settling: last before its answer stands that a node is down, with that cause; the count of the cause rose at the node's disk, from
+-- the world before the settling to that behind it; and there the node is down.
+pub record HasFailed (w u : World) (events : List Line) (cause : Cause) : Type 0 where
+  pub node : Name
+  pub shown : List Line
+  pub told : events ≡ shown ++ Down node cause ∷ []
+  pub rose : RoseAt w node cause u.disks
+  pub down : option_map (λ n. n.up) (find_node node u.nodes) ≡ Some false
+
+-- How a settling ends that does not succeed, from one world to another and with these lines before its answer: a disk failed or was stopped in it; memory is missing
+-- for a node that was not up yet; a node was booted too often, or its greatest moment or a position is too late; an INIT of a node failed; a node has no volume; or the
+-- coordinator of a prepared branch is not in the rack.
+abbrev pub EndsFor : World → World → List Line → Line → Type 0
+EndsFor w u events (Broken cause) = HasFailed w u events cause
+EndsFor w u events NoMemory = HasNode u (λ x. x.was_up ≡ false)
+EndsFor w u events (QuotaExceeded Boots limit) = (limit ≡ boot_limit) × HasNode u (λ x. ((x.durable.boot == limit) ≡ true) ⊎ (x.durable.volume ≡ Barred AllBoots))
+EndsFor w u events (QuotaExceeded Moments limit) = (limit ≡ moment_limit) × HasNode u (λ x. (nat_lt limit x.durable.greatest ≡ true) ⊎ (x.durable.volume ≡ Barred LateMoment))
+EndsFor w u events (QuotaExceeded Positions limit) = (limit ≡ position_limit) × HasNode u (λ x. (nat_lt limit (last_position x) ≡ true) ⊎ (x.durable.volume ≡ Barred FarPosition))
+EndsFor w u events (NotInitializedAt n) = (x : Node) × (find_node n u.nodes ≡ Some x) × (x.unmade ≡ true)
+EndsFor w u events (NoVolume n condition block) = (x : Node) × (find_node n u.nodes ≡ Some x) × ((x.durable.volume ≡ Faulty condition block) ⊎ (x.durable.volume ≡ Barred NoRing))
+EndsFor w u events (InDoubt serial n) =
+    (find_node n u.nodes ≡ None) × HasNode u (λ x. (b : Branch) × In b x.volatile.branches × (b.key.serial ≡ serial) × (coordinator_of b.key ≡ n) × (is_prepared b.state ≡ true))
+EndsFor w u events _ = ⊥
 
 -- A settling is answered with its success, or ends so.
 abbrev pub SettlingEnds : Type 0
-SettlingEnds = (base v u : World) (es : List Entry) (events : List Line) (answer : Line) → IsRun base es v → NamesApart v.nodes → Step v Settle (events ++ answer ∷ []) u → (answer ≡ Normal) ⊎ EndsFor u answer
+SettlingEnds = (base v u : World) (es : List Entry) (events : List Line) (answer : Line) → IsRun base es v → NamesApart v.nodes → Step v Settle (events ++ answer ∷ []) u → (answer ≡ Normal) ⊎ EndsFor v u events answer
 
 -- In a world at rest each accepted branch of a committed transaction, whose node is in the rack, is committed or read-only.
 abbrev pub RestingAreWhole : Type 0

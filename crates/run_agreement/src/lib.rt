@@ -19,8 +19,8 @@ pub fn branches_agree()
     commit_protocol::agreement();
 }
 
-/// What is settled stays so; where a world is at rest each accepted branch of a committed transaction is committed or read-only; and an END_TRANS that is answered
-/// with its success has committed its transaction for good.
+/// What is settled stays so; where a world is at rest each accepted branch of a committed transaction is committed or read-only; and an END_TRANS
+/// that is answered with its success has committed its transaction for good.
 pub fn outcomes_stay()
     ensures stay { StaySettled }
     ensures whole { RestingAreWhole }
@@ -29,24 +29,26 @@ pub fn outcomes_stay()
     commit_protocol::agreement();
 }
 
-/// A settling that is answered with its success leaves each node up, and no branch of any transaction unsettled. It is answered otherwise only where a disk failed or
-/// was stopped, memory is missing, a node cannot be booted, or the coordinator of a prepared branch is not in the rack.
+/// A settling that is answered with its success leaves each node up, and no branch of any transaction unsettled. It is answered otherwise only where
+/// the count of failures or of stops of a disk rose in it, and the line of its node stands last before the answer, that it is down for that cause; or
+/// memory is missing, a node cannot be booted, or the coordinator of a prepared branch is not in the rack.
 pub fn settling_leaves_none()
     ensures none { SettlingLeavesNone }
     ensures ends { SettlingEnds }
 {
     commit_protocol::outcomes();
+    run_model::failure_puts_down();
 }
 
-/// Each legal transcript, from nodes of different names of whose disks something is known, has a base: the world after the last INIT that was asked while no node was
-/// in use, or the one before the first line. Its entries up to there lead to the base, and the others are a run from there on.
+/// Each legal transcript, from nodes of different names of whose disks something is known, has a base: the world after the last INIT that was asked
+/// while no node was in use, or the one before the first line. Its entries up to there lead to the base, and the others are a run from there on.
 pub fn runs_begin()
     ensures begin { RunsBegin }
 {}
 
-/// As long as no node may be in use a world is such a base, and the images that it begins with are those that the lines tell: a node has the image of its disk before
-/// the first line, or that of a new volume where an INIT of it was answered with its success, or none where a failure ended one. Once a node may be in use each INIT
-/// is refused, and no line tells of another image.
+/// As long as no node may be in use a world is such a base, and the images that it begins with are those that the lines tell: a node has the image of
+/// its disk before the first line, or that of a new volume where an INIT of it was answered with its success, or none where a failure ended one. Once
+/// a node may be in use each INIT is refused, and no line tells of another image.
 pub fn images_are_told()
     ensures unused { UnusedAreTold }
     ensures used { UsedTellNoMore }

@@ -45,7 +45,7 @@ use Rattle.world_laws.proofs.TableLemmas.{changed_serials, found_in, in_cut, in_
 use Rattle.world_laws.proofs.UpLemmas.{branch_drawn, differ, drawn_more}
 use Rattle.world_laws.proofs.WorldLemmas.{each_opening}
 use Rattle.run_laws.specs.Promises.{AreLastApart, IsLastApart}
-use Rattle.run_laws.proofs.Keeping.{IsNextUnit, Keeps, Kept, Scheme, all_take, any_effect}
+use Rattle.run_laws.proofs.Keeping.{IsNextUnit, Keeps, Kept, Scheme, all_take, any_effect, closes_plain}
 use Rattle.run_laws.proofs.Once.{fewer_after, of_drawn, put_serials_new, unit_branch, unit_of}
 use Rattle.run_laws.proofs.RowFits.{FitsTable, RowFits, free_after, latest_id}
 use Rattle.run_laws.proofs.SoundWorlds.{Beside, Changed, Here, IsSound, IsSoundNode, begins_sound, changed, legal_sound, opening_sound, part_sound, sound_node, unused}
@@ -251,7 +251,8 @@ lasts_keep : Keeps lasts
 lasts_keep = record {
   none = λ a. refl;
   append = λ xs ys a. refl;
-  plain = λ ls a h. refl;
+  plain = λ ls a h v. refl;
+  closes = closes_plain lasts (λ ls a h. refl);
   same = λ a n m name durable settled h. subst (λ x. IsLastDisk x m.durable) (sym name) (subst (IsLastDisk n.name) (sym durable) h);
   row = λ free r n a q f up h. acted_last free r.lines r.act n f h;
   under = λ free r n a act q f is d up h. falls_last (free_after free r.act) (acted act n) up (subst (λ o. IsLastUp (free_after free r.act) (node_after o n)) is (acted_last free r.lines r.act n f h));

@@ -1,5 +1,6 @@
 -- Nodes keep their names, and a node of the next run is found by that of the one that was left.
-use Rattle.std.proofs.Common.{◌≡◌, List, [], ◌∷◌, Bool, true, false, Option, Some, None, if◌then◌else◌, refl, sym, ◌∙◌, ap, map}
+use Rattle.std.proofs.Common.{◌≡◌, List, [], ◌∷◌, Bool, true, false, Option, Some, None, if◌then◌else◌, refl, sym, ◌∙◌, ap, subst, map}
+use Rattle.std.specs.List.{AllByRecursion}
 use Rattle.std.specs.Str.{bytes_eq}
 use Rattle.transcript_model.specs.Lines.{Line, Normal}
 use Rattle.script_model.specs.Statements.{At, Bad, Blank, Deliver, LinkDown, Reading, Says, Settle, Statement}
@@ -9,7 +10,7 @@ use Rattle.run_model.specs.World.{World, Node, find_node, with_node}
 use Rattle.run_model.specs.Steps.{Choice, task_effect}
 use Rattle.run_model.specs.Statements.{Begins, Part, PartEffect, Phases, Step, begun_with, part_effect, phases_of, refused_at_once, stops_at}
 use Rattle.run_model.specs.Transcript.{Entry, Legal, Turn}
-use Rattle.run_model.proofs.NodeLists.{found_name}
+use Rattle.run_model.proofs.NodeLists.{found_name, some_is}
 use Rattle.run_model.proofs.PartLemmas.{phases_fold}
 use Rattle.run_model.proofs.PartTasks.{View, Doing, Fixed, view}
 use Rattle.run_model.proofs.TaskLemmas.{effect_name}
@@ -134,3 +135,12 @@ found_behind n ns none name m e = go (bytes_eq name n.name) refl
 pub all_apart : (ns : List Node) → NamesApart ns → ((name : Name) (n : Node) → find_node name ns ≡ Some n → IsLastApart n) → AreLastApart ns
 all_apart [] apart h = tt
 all_apart (n ∷ ns) apart h = (h n.name n (found_first n ns), all_apart ns apart.1 (λ name m e. h name m (found_behind n ns apart.0 name m e)))
+
+-- what is so of all nodes is so of the one that has this name
+pub node_at : (P : Node → Type 0) (ns : List Node) (name : Name) (n : Node) → AllByRecursion P ns → find_node name ns ≡ Some n → P n
+node_at P [] name n all e = let no : ⊥ = cc in absurd no
+node_at P (m ∷ ms) name n all e = go (bytes_eq name m.name) e (node_at P ms name n all.1)
+  where
+    go : (b : Bool) → ◌≡◌ {A = Option Node} (if b then Some m else find_node name ms) (Some n) → (find_node name ms ≡ Some n → P n) → P n
+    go true f rest = subst P (some_is m n f) all.0
+    go false f rest = rest f

@@ -1,6 +1,7 @@
 -- What a run leaves the next begins with: the image of each volume is that of the node which was left, as its act under way turned out.
 use Rattle.std.proofs.Common.{◌≡◌, ◌≤◌, arith, ℕ, ◌⊎◌, List, [], ◌∷◌, inl, inr, Bool, true, false, Option, Some, None, if◌then◌else◌, refl, sym, ◌∙◌, ap, subst}
 use Rattle.std.specs.Prelude.{is_some}
+use Rattle.std.specs.List.{AllByRecursion}
 use Rattle.std.specs.Option.{option_map}
 use Rattle.std.specs.Str.{bytes_eq}
 use Rattle.std.proofs.lemmas.Bool.{both_ways}
@@ -18,20 +19,22 @@ use Rattle.commit_protocol.proofs.NewVolumes.{new_agree}
 use Rattle.commit_protocol.proofs.Opened.{good_opened}
 use Rattle.commit_protocol.proofs.Running.{goes_run}
 use Rattle.run_model.specs.World.{World, Node, Durable, Volume, Sound, Faulty, Barred, Unknown, Act, Half, MayTurnOut, Settlement, aborted_prepared, acted, find_node, opened, with_half}
-use Rattle.run_model.specs.Transcript.{Entry}
+use Rattle.run_model.specs.Transcript.{AreOpening, Entry, Legal}
 use Rattle.run_model.proofs.NodeLists.{some_is}
-use Rattle.run_agreement.specs.Seen.{Face, IsFace, Resolution, has_volume, image_of, landed, outcome_of}
+use Rattle.run_agreement.specs.Seen.{Face, IsFace, IsKnown, Resolution, has_volume, image_of, landed, outcome_of}
 use Rattle.run_agreement.specs.Following.{opening_of}
 use Rattle.run_agreement.specs.Laws.{IsReachedBy, IsRun, NamesApart, image_after, image_told, images_after, next_opening, opening_told, volume_image}
 use Rattle.run_agreement.proofs.Events.{down_of_face, up_of_face}
 use Rattle.run_agreement.proofs.Openings.{reached_by}
-use Rattle.run_laws.specs.Promises.{IsLastApart}
+use Rattle.run_laws.specs.Anew.{AreKnownOrAnew, IsMadeAnew}
+use Rattle.run_laws.specs.Promises.{AreLastApart, IsLastApart}
 use Rattle.run_laws.specs.Laws.{AgreedPromisesAreKept}
+use Rattle.run_laws.proofs.Anewed.{others_apart, others_for, others_forget, others_last, others_open, same_world, told_alike}
 use Rattle.run_chains.specs.Reopenings.{IsReopened, reopened}
 use Rattle.run_chains.specs.Chains.{Active, AgreeingAreNew, AreNext, ChainsAgree, Committed, Follow, IsNew, Last, MadeAreNew, MayAgree, NextRunsAgree, Prepared, RunOf, TellsBranch, TellsNoneOf, Waited, is_made}
 use Rattle.run_chains.proofs.Anew.{Turns, agree_anew, told_old}
 use Rattle.run_chains.proofs.Lasts.{lasts_stay_apart}
-use Rattle.run_chains.proofs.Names.{Both, Nowhere, Place, all_apart, legal_names, next_names, place, same_apart}
+use Rattle.run_chains.proofs.Names.{Both, Nowhere, Place, all_apart, legal_names, next_names, node_at, place, same_apart}
 use Rattle.run_chains.proofs.Told.{IsToldSo, told_found, told_nowhere, told_so}
 
 -- One node.
@@ -190,7 +193,7 @@ module _ (base closing : World) (since : List Entry) (is_run : IsRun base since 
 
 pub next_runs_agree : AgreedPromisesAreKept → NextRunsAgree
 next_runs_agree promised nodes disks es closing may legal next are =
-    let p = promised nodes disks es closing may.opening may.names may.known may.lasts may.agree legal in
+    let p = promised nodes disks es closing may.opening may.names may.disks may.agree legal in
     let names = same_apart nodes next (next_names closing.nodes next are ∙ legal_names (opened nodes disks) closing es legal) may.names in
     let told = agrees_told p.base closing p.since p.run.is_run p.run.leaves next are names in
     record {
@@ -201,6 +204,17 @@ next_runs_agree promised nodes disks es closing may legal next are =
       known = λ none name m e f. absurd (known p.base p.since p.run.is_run none name m e f (place name closing.nodes next are));
     }
   where
+    -- the run leads to the same world from nodes without the volumes that it makes anew
+    others : List Node
+    others = others_for es nodes may.disks
+
+    opens : AreOpening others
+    opens = others_open es nodes may.disks may.opening
+
+    led : Legal (opened others disks) es closing
+    led = same_world es nodes others disks may.opening opens may.names (others_forget es nodes may.disks) [] es closing refl (λ node m. m.made)
+        (same_apart nodes closing.nodes (legal_names (opened nodes disks) closing es legal) may.names) legal
+
     known : (base : World) (since : List Entry) → IsRun base since closing → ((name : List ℕ) (n : Node) → find_node name closing.nodes ≡ Some n → n.durable.volume ≡ Unknown → ⊥) → (name : Name) (m : Node) → find_node name next ≡ Some m → m.durable.volume ≡ Unknown → Place name closing.nodes next → ⊥
     known base since is_run none name m e f (Nowhere a b) = let clash : ◌≡◌ {A = Option Node} None (Some m) = sym b ∙ e in let no : ⊥ = cc in no
     known base since is_run none name m e f (Both n y a b is) = by (lands n y is.reopened).0 (lands n y is.reopened).1
@@ -226,7 +240,7 @@ next_runs_agree promised nodes disks es closing may legal next are =
     apart name m e (Both n y a b is) = subst IsLastApart (some_is y m (sym b ∙ e)) (by (lands n y is.reopened).0 (lands n y is.reopened).1)
       where
         kept : IsLastApart n × ((act : Act) → n.under_way ≡ Some act → IsLastApart (acted act n))
-        kept = lasts_stay_apart nodes disks es closing may.opening may.lasts legal name n a
+        kept = lasts_stay_apart others disks es closing opens (others_last es nodes may.disks) led name n a
 
         by : (taken : Bool) → Lands n y taken → IsLastApart y
         by taken (inl (has, disk)) = disk_apart (landed taken n) y disk (landed_apart taken n kept.0 kept.1)
@@ -281,22 +295,39 @@ module _ (nodes : List Node) (es : List Entry) (names : NamesApart nodes) (new :
   new_agrees : IsAgreeing (opening_told nodes es)
   new_agrees = agree_anew (new_volumes []) (opening_told nodes es) (λ name. inr (elim (nothing_told name) [ inl e ↦ inl e | inr e ↦ inr (e, tells_none name) ])) (new_agree [])
 
+-- what is known of the disks of the first run, or is made on them
+abbrev first_known : (es : List Entry) (ns : List Node) → AllByRecursion (λ (n : Node). (IsNew n × IsKnown n) ⊎ IsMadeAnew n.name es) ns → AreKnownOrAnew es ns
+first_known es [] h = tt
+first_known es (n ∷ ns) (inl (new, known), rest) = (inl (known, new_apart n new), first_known es ns rest)
+first_known es (n ∷ ns) (inr made, rest) = (inr made, first_known es ns rest)
+
+-- without the volumes that it makes anew each of its nodes is new
+first_new : (es : List Entry) (ns : List Node) (h : AllByRecursion (λ (n : Node). (IsNew n × IsKnown n) ⊎ IsMadeAnew n.name es) ns) → AllByRecursion IsNew (others_for es ns (first_known es ns h))
+first_new es [] h = tt
+first_new es (n ∷ ns) (inl (new, known), rest) = (new, first_new es ns rest)
+first_new es (n ∷ ns) (inr made, rest) = (record { image = λ has. let no : ⊥ = cc in absurd no; bare = λ none s e. let no : ⊥ = cc in absurd no }, first_new es ns rest)
+
+next_known : (es : List Entry) (ns : List Node) → AreLastApart ns → AllByRecursion (λ (n : Node). IsKnown n ⊎ IsMadeAnew n.name es) ns → AreKnownOrAnew es ns
+next_known es [] lasts h = tt
+next_known es (n ∷ ns) lasts (inl known, rest) = (inl (known, lasts.0), next_known es ns lasts.1 rest)
+next_known es (n ∷ ns) lasts (inr made, rest) = (inr made, next_known es ns lasts.1 rest)
+
 chain_agrees : AgreedPromisesAreKept → (r : RunOf) (rs : List RunOf) → Follow (r ∷ rs) → MayAgree r.nodes r.entries
-chain_agrees promised r [] h = record {
-  opening = h.2;
-  names = h.1.0;
-  known = h.3;
-  lasts = all_apart r.nodes h.1.0 (λ name n e. new_apart n (h.1.1 name n e));
-  agree = new_agrees r.nodes r.entries h.1.0 h.1.1;
-}
+chain_agrees promised r [] h =
+    let disks = first_known r.entries r.nodes h.1.1 in
+    let others = others_for r.entries r.nodes disks in
+    let forget = others_forget r.entries r.nodes disks in
+    let apart = others_apart r.entries r.nodes others h.2 (others_open r.entries r.nodes disks h.2) forget h.1.0 in
+    let agree = new_agrees others r.entries apart (λ name n e. node_at IsNew others name n (first_new r.entries r.nodes h.1.1) e) in
+    record { opening = h.2; names = h.1.0; disks = disks; agree = subst IsAgreeing (told_alike r.entries r.nodes others forget) agree }
 chain_agrees promised r (before ∷ rs) h =
-    let left = next_runs_agree promised before.nodes before.disks before.entries before.closing (chain_agrees promised before rs h.0) h.0.4 r.nodes h.1.0 in
-    record { opening = h.2; names = left.names; known = h.3; lasts = left.lasts; agree = left.told r.entries h.1.1 }
+    let left = next_runs_agree promised before.nodes before.disks before.entries before.closing (chain_agrees promised before rs h.0) h.0.3 r.nodes h.1.0 in
+    record { opening = h.2; names = left.names; disks = next_known r.entries r.nodes left.lasts h.1.2; agree = left.told r.entries h.1.1 }
 
 pub chains_agree : AgreedPromisesAreKept → ChainsAgree
 chains_agree promised r rs h =
     let may = chain_agrees promised r rs h in
-    (may, promised r.nodes r.disks r.entries r.closing may.opening may.names may.known may.lasts may.agree h.4)
+    (may, promised r.nodes r.disks r.entries r.closing may.opening may.names may.disks may.agree h.3)
 
 -- Ids of a node whose volume is made.
 

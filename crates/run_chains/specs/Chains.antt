@@ -1,6 +1,6 @@
 -- What one run leaves to the next, and any number of runs, each from what the one before it left.
-use Rattle.std.specs.Prelude.{◌≡◌, ℕ, if◌then◌else◌, Bool, true, false, List, [], ◌∷◌, Option, Some, None}
-use Rattle.std.specs.List.{last_or}
+use Rattle.std.specs.Prelude.{◌≡◌, ◌⊎◌, ℕ, if◌then◌else◌, Bool, true, false, List, [], ◌∷◌, Option, Some, None}
+use Rattle.std.specs.List.{AllByRecursion, last_or}
 use Rattle.std.specs.Str.{bytes_eq}
 use Rattle.vms_model.specs.Transactions.{Outcome}
 use Rattle.transcript_model.specs.Lines.{Line, Normal, Broken}
@@ -14,6 +14,7 @@ use Rattle.run_model.specs.World.{World, Node, DiskCounts, Act, Unknown, acted, 
 use Rattle.run_model.specs.Transcript.{AreOpening, Entry, Legal}
 use Rattle.run_agreement.specs.Seen.{IsKnown, has_volume, image_of}
 use Rattle.run_agreement.specs.Laws.{NamesApart, opening_told}
+use Rattle.run_laws.specs.Anew.{AreKnownOrAnew, IsMadeAnew}
 use Rattle.run_laws.specs.Promises.{AreLastApart, IsLastApart}
 use Rattle.run_laws.specs.Laws.{AgreedPromises}
 use Rattle.run_chains.specs.Reopenings.{IsReopened}
@@ -82,12 +83,12 @@ AreNext (n ∷ ns) (m ∷ ms) = IsNext n m × AreNext ns ms
 AreNext [] (m ∷ ms) = ⊥
 AreNext (n ∷ ns) [] = ⊥
 
--- The premises under which more is promised of a run (AgreedPromises): of the nodes that it begins with, and of the images with which it begins, as its lines tell them.
+-- The premises under which more is promised of a run (AgreedPromises): of the nodes that it begins with, that something is known of each disk, or that the run makes its
+-- volume before anything boots it; and of the images with which it begins, as its lines tell them.
 pub record MayAgree (nodes : List Node) (es : List Entry) : Type 0 where
   pub opening : AreOpening nodes
   pub names : NamesApart nodes
-  pub known : (name : List ℕ) (n : Node) → find_node name nodes ≡ Some n → IsKnown n
-  pub lasts : AreLastApart nodes
+  pub disks : AreKnownOrAnew es nodes
   pub agree : IsAgreeing (opening_told nodes es)
 
 -- What such a run leaves, the next run begins with: no two nodes have one name, no last settlement is of a branch that stands unsettled, and the images agree, as any
@@ -117,16 +118,17 @@ pub record IsNew (n : Node) : Type 0 where
   pub image : has_volume n ≡ true → image_of n ≡ no_image
   pub bare : has_volume n ≡ false → IsLastApart n
 
--- What a run begins with behind these, the newest first: the first with disks on which nothing ever happened, of nodes of different names; each other with what the run
--- before it left, and no image tells an id of a node whose volume it makes.
+-- What a run begins with behind these, the newest first: the first, of nodes of different names, with disks on which nothing ever happened; each other with what the run
+-- before it left, and no image tells an id of a node whose volume it makes. Something is known of each disk, or the run makes its volume before anything boots it, whatever
+-- the disk had.
 abbrev pub Begins : List RunOf → RunOf → Type 0
-Begins [] r = NamesApart r.nodes × ((name : List ℕ) (n : Node) → find_node name r.nodes ≡ Some n → IsNew n)
-Begins (before ∷ rs) r = AreNext before.closing.nodes r.nodes × MadeAreNew r.nodes r.entries
+Begins [] r = NamesApart r.nodes × AllByRecursion (λ (n : Node). (IsNew n × IsKnown n) ⊎ IsMadeAnew n.name r.entries) r.nodes
+Begins (before ∷ rs) r = AreNext before.closing.nodes r.nodes × MadeAreNew r.nodes r.entries × AllByRecursion (λ (n : Node). IsKnown n ⊎ IsMadeAnew n.name r.entries) r.nodes
 
--- Runs one after another, the newest first, each of a legal transcript, from nodes of whose disks something is known.
+-- Runs one after another, the newest first, each of a legal transcript.
 abbrev pub Follow : List RunOf → Type 0
 Follow [] = Unit {0}
-Follow (r ∷ rs) = Follow rs × Begins rs r × AreOpening r.nodes × ((name : List ℕ) (n : Node) → find_node name r.nodes ≡ Some n → IsKnown n) × Legal (opened r.nodes r.disks) r.entries r.closing
+Follow (r ∷ rs) = Follow rs × Begins rs r × AreOpening r.nodes × Legal (opened r.nodes r.disks) r.entries r.closing
 
 -- Of each all is promised that is promised where images agree.
 abbrev pub ChainsAgree : Type 0

@@ -19,7 +19,7 @@ use Rattle.run_model.specs.Transcript.{Entry, Legal, AreOpening, Turn}
 use Rattle.run_agreement.specs.Seen.{IsKnown, Resolution}
 use Rattle.commit_protocol.specs.Opening.{IsAgreeing}
 use Rattle.run_agreement.specs.Following.{Shows, opening_of}
-use Rattle.run_agreement.specs.Laws.{IsBase, IsRun, NamesApart, RunsFrom, opening_told}
+use Rattle.run_agreement.specs.Laws.{IsRun, NamesApart, RunsFrom, opening_told}
 use Rattle.run_agreement.proofs.Begun.{runs_begin}
 use Rattle.run_agreement.proofs.Told.{quiet_images, runs_tell_no_more, unused_are_told, used_tell_no_more}
 use Rattle.world_laws.proofs.WorldLemmas.{each_opening}

@@ -6,9 +6,8 @@ use Rattle.vms_model.specs.Transactions.{Commit}
 use Rattle.transcript_model.specs.Lines.{Line, Normal}
 use Rattle.script_model.specs.Statements.{At, Bad, Blank, Deliver, LinkDown, Reading, Says, Settle, Statement}
 use Rattle.script_model.specs.Grammar.{reading}
-use Rattle.commit_protocol.specs.Messages.{Name}
-use Rattle.commit_protocol.specs.Opening.{Image, IsAgreeing}
-use Rattle.commit_protocol.specs.Table.{Key, first}
+use Rattle.commit_protocol.specs.Opening.{IsAgreeing}
+use Rattle.commit_protocol.specs.Table.{first}
 use Rattle.commit_protocol.specs.World.{In}
 use Rattle.run_model.specs.World.{World, Node, DiskCounts, Act, Settlement, find_node, opened}
 use Rattle.run_model.specs.Steps.{Choice, task_effect}
@@ -26,24 +25,25 @@ use Rattle.run_agreement.proofs.Begun.{AnyPart, any_phases, apart_put, runs_begi
 use Rattle.run_agreement.proofs.Told.{quiet_images, runs_tell_no_more, unused_are_told}
 use Rattle.run_laws.specs.Agreed.{AgreedRun, EndsHoldAll, SettlesWhole}
 use Rattle.run_laws.specs.Promises.{EndsCommit, settlements_of}
-use Rattle.run_laws.specs.SaidLaws.{SaidThere}
 use Rattle.run_laws.proofs.AbortsStand.{legal_parts}
 use Rattle.run_laws.proofs.Staying.{after_grows}
 
 -- such a run
-pub record RunOf (es : List Entry) (closing : World) : Type 0 where
+pub record RunOf (start : World) (es : List Entry) (closing : World) : Type 0 where
   pub base : World
   pub before : List Entry
   pub since : List Entry
   pub parts : es ≡ since ++ before
+  pub begins : Legal start before base
+  pub unused : base.shared.in_use ≡ false
   pub is_run : IsRun base since closing
 
 module _ (nodes : List Node) (disks : List DiskCounts) (es : List Entry) (closing : World) (opening : AreOpening nodes) (apart : NamesApart nodes) (known : (name : List ℕ) (n : Node) → find_node name nodes ≡ Some n → IsKnown n) (legal : Legal (opened nodes disks) es closing) (agrees : IsAgreeing (opening_told nodes es)) where
-  pub run_of : RunOf es closing
+  pub run_of : RunOf (opened nodes disks) es closing
   run_of =
       let b = runs_begin nodes disks es closing opening apart known legal in
       let same : opening_of b.0 ≡ opening_told nodes es = (unused_are_told nodes disks b.1 b.0 opening apart known b.4 b.7).1 ∙ sym (runs_tell_no_more nodes b.0 closing b.1 b.2 b.6) ∙ ap (opening_told nodes) (sym b.3) in
-      record { base = b.0; before = b.1; since = b.2; parts = b.3; is_run = record { base_is = b.5; agrees = subst IsAgreeing (sym same) agrees; runs = b.6 } }
+      record { base = b.0; before = b.1; since = b.2; parts = b.3; begins = b.4; unused = b.7; is_run = record { base_is = b.5; agrees = subst IsAgreeing (sym same) agrees; runs = b.6 } }
 
 pub agreed_run : SettleAlike → CommittedAreOfCommitted → LeaveAgreement → RestingAreWhole → (base : World) (since : List Entry) (closing : World) → IsRun base since closing → AgreedRun base since closing
 agreed_run alike committed leave whole base since closing is_run = record {
@@ -102,7 +102,7 @@ step_apart w v s lines step apart = subst (λ (x : World). NamesApart x.nodes) (
         (λ u p c ok allowed on. (tt, λ rest answer x more k. more (part_apart u p c k)))
         (phases_of s) (any_phases (phases_of s)) (begun_with s w) Normal step.events step.answer step.world tt d (begun s)
 
-legal_names : (start w : World) (es : List Entry) → NamesApart start.nodes → Legal start es w → NamesApart w.nodes
+pub legal_names : (start w : World) (es : List Entry) → NamesApart start.nodes → Legal start es w → NamesApart w.nodes
 legal_names start w [] apart legal = subst (λ (x : World). NamesApart x.nodes) (sym legal) apart
 legal_names start w (e ∷ es) apart legal = go (reading e.source.text) legal.2 (legal_names start legal.0 es apart legal.1)
   where
@@ -132,8 +132,10 @@ settles_whole none ends nodes disks es closing opening apart known legal agrees 
     let quiet : opening_told nodes (there.entry ∷ before) ≡ opening_told nodes before = λ i. record { images = quiet_images there.entry before nodes (λ n image. ap (λ r. image_here n r (last_or None there.entry.lines) image) there.said) i } in
     let told : opening_told nodes es ≡ opening_told nodes before = ap (opening_told nodes) there.stands ∙ (parts.3 used).1 nodes ∙ quiet in
     let b = run_of nodes disks before w opening apart known parts.1.1 (subst IsAgreeing told agrees) in (
+      w,
       v,
-      parts.1,
+      parts.1.1,
+      step,
       parts.2,
       λ normal. none b.base w v b.since events b.is_run (subst (λ a. Step w Settle (events ++ a ∷ []) v) normal step),
       ends b.base w v b.since events answer b.is_run (legal_names start w before apart parts.1.1) step,

@@ -26,7 +26,7 @@ use Rattle.world_laws.proofs.RestartLemmas.{undone_unit}
 use Rattle.world_laws.proofs.WorldLemmas.{each_opening}
 use Rattle.run_laws.proofs.EachRow.{ArePlain, is_plain}
 use Rattle.run_laws.proofs.RowFits.{Fits, RowFits, TellsAct}
-use Rattle.run_laws.proofs.Keeping.{Kept, Keeps, Scheme, all_take, any_effect}
+use Rattle.run_laws.proofs.Keeping.{Kept, Keeps, Scheme, all_take, any_effect, closes_plain}
 use Rattle.run_laws.proofs.SoundWorlds.{IsPlainReading, Tracked, Tracks, legal_sound, opening_sound, turn_tracked, unused}
 
 -- Settlements that lines show.
@@ -97,7 +97,7 @@ shown = record { Told = List Settlement; more = shown_on; Up = λ free ss n. IsS
 up_disk : (ss : List Settlement) (n : Node) → IsShownUp ss n.settled → IsShownDisk ss n.durable n.settled
 up_disk ss n h = record { formed = h.formed; shown = λ s i. inl (h.shown s i) }
 
-formed_settlement : (k : BranchKey) (o : Outcome) (reason : Reason) (moment : ℕ) → IsFormed (settlement k o reason moment)
+pub formed_settlement : (k : BranchKey) (o : Outcome) (reason : Reason) (moment : ℕ) → IsFormed (settlement k o reason moment)
 formed_settlement k Commit reason moment = inl refl
 formed_settlement k Abort reason moment = inr (reason, refl)
 
@@ -177,7 +177,8 @@ pub shown_keeps : Keeps shown
 shown_keeps = record {
   none = λ a. refl;
   append = shown_append;
-  plain = λ ls a h. shown_plain ls a h;
+  plain = λ ls a h v. shown_plain ls a h;
+  closes = closes_plain shown (λ ls a h. shown_plain ls a h);
   same = λ a n m name durable settled h. subst (λ d. IsShownDisk a d m.settled) (sym durable) (subst (IsShownDisk a n.durable) (sym settled) h);
   row = λ free r n a q f up h. row_up free r n a f h;
   under = λ free r n a act q f is d up h. under_disk act n a free (subst (λ o. Fits free o n) is f.fits) h;

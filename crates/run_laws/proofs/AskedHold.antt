@@ -1,26 +1,22 @@
 -- What a boot shows to be committed was asked for.
 use Rattle.std.proofs.Common.{◌≡◌, ℕ, ◌⊎◌, List, [], ◌∷◌, inl, inr, true, false, Option, Some, None, refl, sym, ◌∙◌, ap, subst}
-use Rattle.std.proofs.lemmas.Bool.{both_ways, cases_Bool}
+use Rattle.std.proofs.lemmas.Bool.{both_ways}
 use Rattle.vms_model.specs.Ids.{Id}
 use Rattle.vms_model.specs.Transactions.{Abort}
 use Rattle.transcript_model.specs.Lines as line
 use Rattle.transcript_model.specs.Lines.{Line, Cause}
 use Rattle.script_model.specs.Statements.{At, Deliver, Direct, EndTrans, Settle, Boot, Says}
 use Rattle.commit_protocol.specs.Messages.{Message}
-use Rattle.commit_protocol.specs.Table as table
-use Rattle.commit_protocol.specs.Rows as rows
-use Rattle.commit_protocol.specs.Rows.{row}
 use Rattle.commit_protocol.specs.World.{In}
 use Rattle.commit_protocol.proofs.Lists.{in_left, in_right}
-use Rattle.run_model.specs.World.{World, Shared, Node, DiskCounts, Settlement, Tables, acted, find_node, next_moment, opened, shared_after, tm_of}
-use Rattle.run_model.specs.Answers.{Task, Hears, Restarts, RunsDown, last_line, refused_before_reading, settled_line, table_rows, task_service}
-use Rattle.run_model.specs.Steps.{Choice, Cut, TaskAllowed, Unpowered, Whole, WithoutMemory, node_after_rows, ready_node, task_effect, whole}
-use Rattle.run_model.specs.Statements.{Part, Does, Asks, PartEffect, Question, Heard, Unanswered, Doubtful, Step, Allowed, RoseAt, begun_with, part_effect, phases_of, question, stops_at}
-use Rattle.run_model.specs.StepLaws.{TaskAt, asked_by, task_of_part}
+use Rattle.run_model.specs.World.{World, Shared, Node, DiskCounts, Settlement, find_node, opened}
+use Rattle.run_model.specs.Answers.{Task, Restarts, last_line, settled_line}
+use Rattle.run_model.specs.Steps.{Choice, task_effect}
+use Rattle.run_model.specs.Statements.{Part, PartEffect, Step, Allowed, RoseAt, begun_with, part_effect, phases_of, stops_at}
 use Rattle.run_model.specs.Transcript.{Entry, Legal, AreOpening, Turn}
-use Rattle.run_model.proofs.NodeLists.{found_name, some_is}
-use Rattle.run_model.proofs.PartLemmas.{EachPhase, phases_fold}
-use Rattle.run_model.proofs.PartTasks.{View, Doing, Fixed, all_asked, each_restart, each_run_down, view}
+use Rattle.run_model.proofs.NodeLists.{found_name}
+use Rattle.run_model.proofs.PartLemmas.{phases_fold}
+use Rattle.run_model.proofs.PartTasks.{View, Doing, Fixed, view}
 use Rattle.run_model.proofs.TaskLemmas.{effect_name}
 use Rattle.run_laws.specs.Causes.{CommitCause, DeliversTo, IsDirect}
 use Rattle.run_laws.specs.Laws.{AskedHold}
@@ -29,89 +25,17 @@ use Rattle.run_laws.proofs.AllShown.{legal_shown}
 use Rattle.run_laws.proofs.Asking.{IsAsked, StandsAt, UnderIt, asked_so, step_in}
 use Rattle.run_laws.proofs.CauseRuns.{commits_hold}
 use Rattle.run_laws.proofs.Deciding.{in_split, split_legal}
-use Rattle.run_laws.proofs.Keeping.{behind_down, node_down}
 use Rattle.run_laws.proofs.LastBoots.{boots, lasts_hold, line_of, opening_own, plain_one, settled_own}
 use Rattle.run_laws.proofs.LastSettled.{AllLast, begins_last, legal_lasts, part_lasts}
 use Rattle.run_laws.proofs.OwnLines.{line_in, task_owns}
-use Rattle.run_laws.proofs.PreparedLines.{thin_done, thin_silent}
 use Rattle.run_laws.proofs.Restarting.{last_seen}
+use Rattle.run_laws.proofs.SettlingUp.{IsSettling, SettleTask, each_settling, settle_task, settle_up}
 use Rattle.run_laws.proofs.ShownSettled.{answer_plain, in_append}
 use Rattle.run_laws.proofs.SoundWorlds.{Changed, Here, Beside, IsSound, begins_sound, changed, legal_sound, opening_sound, part_sound, sound_node}
 use Rattle.run_laws.proofs.Staying.{Stay, part_stays}
 use Rattle.run_laws.proofs.TaskCauses.{effect_caused}
-use Rattle.run_laws.proofs.ToldParts.{IsThinning, IsThinPart}
 use Rattle.run_laws.proofs.Traces.{part_in, part_under}
-
--- Parts of a settling.
-abbrev IsSettling : Part → Type 0
-IsSettling (Does other t) = (t ≡ Restarts) ⊎ (t ≡ RunsDown)
-IsSettling (Asks other serial) = Unit {0}
-
-each_settling : EachPhase IsSettling (phases_of Settle)
-each_settling = (λ u. each_restart IsSettling (λ node. inl refl) u.nodes, (λ u. each_run_down IsSettling (λ node. inr refl) u.nodes, (λ u. all_asked IsSettling (λ node serial. tt) u.nodes, tt)))
-
-settling_thin : (p : Part) → IsSettling p → IsThinPart p
-settling_thin (Does other t) (inl e) = subst (λ t. IsThinPart (Does other t)) (sym e) refl
-settling_thin (Does other t) (inr e) = subst (λ t. IsThinPart (Does other t)) (sym e) refl
-settling_thin (Asks other serial) h = tt
-
-abbrev SettleTask : Task → Type 0
-SettleTask t = (t ≡ Restarts) ⊎ (t ≡ RunsDown) ⊎ ((m : Rattle.commit_protocol.specs.Messages.Message) × (t ≡ Hears m))
-
-settle_task : (u : World) (p : Part) (other : List ℕ) (t : Task) → IsSettling p → task_of_part u p ≡ Some (record { node = other; task = t }) → SettleTask t
-settle_task u (Does name s) other t h e =
-    let same : s ≡ t = ap (λ (a : TaskAt). a.task) (some_is _ _ e) in
-    elim h [ inl k ↦ inl (sym same ∙ k) | inr k ↦ inr (inl (sym same ∙ k)) ]
-settle_task u (Asks name y) other t h e = hears (question u name y) refl e
-  where
-    hears : (q : Question) → question u name y ≡ q → asked_by q ≡ Some (record { node = other; task = t }) → SettleTask t
-    hears (Heard m) k f = inr (inr (m, sym (ap (λ (a : TaskAt). a.task) (some_is _ _ f))))
-    hears Unanswered k f = let no : ⊥ = cc in absurd no
-    hears (Doubtful d) k f = let no : ⊥ = cc in absurd no
-
-table_up : (todo : List table.Act) (s : Shared) (n : Node) → (node_after_rows (table_rows todo s n) n).up ≡ n.up
-table_up [] s n = refl
-table_up (a ∷ todo) s n = table_up todo (shared_after (Tables a (next_moment n)) s) (acted (Tables a (next_moment n)) n)
-
--- a node that is up stays so, where the settling goes on
-module _ (s : Shared) (stops : ℕ) (n : Node) (up : n.up ≡ true) where
-  restarted : refused_before_reading s n (task_service Restarts) ≡ None → ⊥
-  restarted first = both_ways n.up (node_down n _ (behind_down n (task_service Restarts) s first)) up
-
-  of_restart : (c : Choice) → (task_effect s stops n Restarts c).ends ≡ false → (task_effect s stops n Restarts c).node.up ≡ true
-  of_restart (Whole o) on = go (refused_before_reading s n (task_service Restarts)) refl
-    where
-      go : (q : Option Line) → refused_before_reading s n (task_service Restarts) ≡ q → (whole s n (ready_node o stops (task_service Restarts) n) (task_service Restarts) q).node.up ≡ true
-      go (Some refusal) is = up
-      go None is = absurd (restarted is)
-  of_restart WithoutMemory on = up
-  of_restart Unpowered on = let no : ⊥ = cc in absurd no
-  of_restart (Cut o j b cause) on = let no : ⊥ = cc in absurd no
-
-  of_run_down : (c : Choice) → (task_effect s stops n RunsDown c).ends ≡ false → (task_effect s stops n RunsDown c).node.up ≡ true
-  of_run_down (Whole o) on = go (refused_before_reading s n (task_service RunsDown))
-    where
-      go : (q : Option Line) → (whole s n n (task_service RunsDown) q).node.up ≡ true
-      go (Some refusal) = up
-      go None = table_up (row (tm_of n) rows.RunDown) s n ∙ up
-  of_run_down WithoutMemory on = up
-  of_run_down Unpowered on = let no : ⊥ = cc in absurd no
-  of_run_down (Cut o j b cause) on = let no : ⊥ = cc in absurd no
-
-  of_heard : (m : Message) (c : Choice) → (task_effect s stops n (Hears m) c).ends ≡ false → (task_effect s stops n (Hears m) c).node.up ≡ true
-  of_heard m (Whole o) on = go (refused_before_reading s n (task_service (Hears m)))
-    where
-      go : (q : Option Line) → (whole s n n (task_service (Hears m)) q).node.up ≡ true
-      go (Some refusal) = up
-      go None = table_up (row (tm_of n) (rows.Got m)) s n ∙ up
-  of_heard m WithoutMemory on = up
-  of_heard m Unpowered on = let no : ⊥ = cc in absurd no
-  of_heard m (Cut o j b cause) on = let no : ⊥ = cc in absurd no
-
-  stays_up : (t : Task) (c : Choice) → SettleTask t → (task_effect s stops n t c).ends ≡ false → (task_effect s stops n t c).node.up ≡ true
-  stays_up t c (inl e) = subst (λ y. (task_effect s stops n y c).ends ≡ false → (task_effect s stops n y c).node.up ≡ true) (sym e) (of_restart c)
-  stays_up t c (inr (inl e)) = subst (λ y. (task_effect s stops n y c).ends ≡ false → (task_effect s stops n y c).node.up ≡ true) (sym e) (of_run_down c)
-  stays_up t c (inr (inr (m, e))) = subst (λ y. (task_effect s stops n y c).ends ≡ false → (task_effect s stops n y c).node.up ≡ true) (sym e) (of_heard m c)
+use Rattle.run_laws.proofs.Unshown.{commit_line}
 
 -- a restart shows no commitment
 restart_commits_none : (s : Shared) (stops : ℕ) (n : Node) (c : Choice) (tid serial : Id) (moment : ℕ) → In (line.Committed tid serial moment) (task_effect s stops n Restarts c).lines → ⊥
@@ -145,7 +69,7 @@ module _ (nodes : List Node) (disks : List DiskCounts) (opening : AreOpening nod
           let own = task_owns u.shared (stops_at other u) n t c (λ cause. RoseAt u other cause after) at (may after c allowed) (commitment tid serial moment) (line_in _ (line.LastCommitted tid serial moment) (commitment tid serial moment) [] j refl) in
           let home : other ≡ serial.node = sym (own ∙ found_name other u.nodes n found) in
           let here : find_node serial.node u.nodes ≡ Some n = subst (λ y. find_node y u.nodes ≡ Some n) home found in
-          elim (part_in serial.node (commitment tid serial moment) refl refl u p c stands) [
+          elim (part_in serial.node (commitment tid serial moment) (line.Committed tid serial moment) (commit_line tid serial moment) u p c stands) [
             | inl k ↦ known n here seen.down (inl k)
             | inr k ↦ elim k [
               | inl under ↦ known n here seen.down (inr under)
@@ -164,8 +88,8 @@ module _ (nodes : List Node) (disks : List DiskCounts) (opening : AreOpening nod
     where
       before_so : StandsAt tid serial moment u ⊎ UnderIt tid serial moment u ⊎ In (line.Committed tid serial moment) (part_effect u p c).lines
       before_so = elim h [
-        | inl k ↦ part_in serial.node (commitment tid serial moment) refl refl u p c k
-        | inr k ↦ elim (part_under serial.node (commitment tid serial moment) refl refl u p c after allowed k) [ inl r ↦ inr (inl r) | inr r ↦ absurd (both_ways (part_effect u p c).ends on r.ends) ]
+        | inl k ↦ part_in serial.node (commitment tid serial moment) (line.Committed tid serial moment) (commit_line tid serial moment) u p c k
+        | inr k ↦ elim (part_under serial.node (commitment tid serial moment) (line.Committed tid serial moment) (commit_line tid serial moment) refl u p c after allowed k) [ inl r ↦ inr (inl r) | inr r ↦ absurd (both_ways (part_effect u p c).ends on r.ends) ]
       ]
 
       by : (n : Node) → find_node serial.node u.nodes ≡ Some n → n.up ≡ false → (In (line.Committed tid serial moment) (part_effect u p c).lines → ⊥) → Asked
@@ -186,17 +110,7 @@ module _ (nodes : List Node) (disks : List DiskCounts) (opening : AreOpening nod
 
           at : Changed other serial.node n u.nodes (task_effect u.shared (stops_at other u) n t c).node m → Asked
           at (Beside apart there) = by m there down (λ i. apart (task_owns u.shared (stops_at other u) n t c (λ cause. RoseAt u other cause after) (sound_node u sound other n found) (may after c allowed) (commitment tid serial moment) (line_in _ (line.Committed tid serial moment) (commitment tid serial moment) [] (shown_here i) refl) ∙ found_name other u.nodes n found))
-          at (Here same there) = elim (cases_Bool n.up) [
-            | inl up ↦ absurd (both_ways m.up down (ap (λ (k : Node). k.up) there ∙ stays_up u.shared (stops_at other u) n up t c kind (sym (ap (λ (e : PartEffect). e.ends) (does c)) ∙ on)))
-            | inr off ↦ by n (subst (λ y. find_node y u.nodes ≡ Some n) (sym same) found) off (λ i. silent t kind (thin_done u p other t (settling_thin p ok) named) off (may after c allowed) (shown_here i))
-          ]
-            where
-              silent : (t : Task) → SettleTask t → IsThinning t → n.up ≡ false → TaskAllowed u.shared (stops_at other u) n t (λ cause. RoseAt u other cause after) c → In (line.Committed tid serial moment) (task_effect u.shared (stops_at other u) n t c).lines → ⊥
-              silent t (inl e) thin off may i = restart_commits_none u.shared (stops_at other u) n c tid serial moment (subst (λ y. In (line.Committed tid serial moment) (task_effect u.shared (stops_at other u) n y c).lines) e i)
-              silent t (inr k) thin off may i = thin_silent u.shared (stops_at other u) n t c (λ cause. RoseAt u other cause after) (line.Committed tid serial moment) thin (λ e. elim k [
-                | inl f ↦ (let clash : RunsDown ≡ Restarts = sym f ∙ e in let no : ⊥ = cc in no)
-                | inr f ↦ (let clash : Hears f.0 ≡ Restarts = sym f.1 ∙ e in let no : ⊥ = cc in no)
-              ]) off may i
+          at (Here same there) = absurd (both_ways m.up down (ap (λ (k : Node). k.up) there ∙ settle_up u.shared (stops_at other u) n t c kind (sym (ap (λ (e : PartEffect). e.ends) (does c)) ∙ on)))
 
   -- a settling
   settle_asked : (lines : List Line) → (step : Step w Settle lines v) → ((node : List ℕ) (t : Settlement) → In t (settlements_of node v) → last_line t ≡ line.LastCommitted tid serial moment ∷ [] → In (commitment tid serial moment) (settlements_of serial.node v) → (t ≡ commitment tid serial moment) × (node ≡ serial.node)) →

@@ -31,7 +31,8 @@ use Rattle.run_laws.proofs.CauseRuns.{commits_hold}
 use Rattle.run_laws.proofs.EachRow.{is_plain}
 use Rattle.run_laws.proofs.Named.{Ended, Refused, Turned, ended}
 use Rattle.run_laws.proofs.ShownSettled.{in_append, outcome_other}
-use Rattle.run_laws.proofs.Traces.{Under, part_in, part_under, phases_trace}
+use Rattle.run_laws.proofs.Traces.{IsUnder, part_in, part_under, phases_trace}
+use Rattle.run_laws.proofs.Unshown.{commit_line}
 
 -- A change without a label.
 module _ (tid serial : Id) (moment : ℕ) where
@@ -117,7 +118,7 @@ module _ (tid serial : Id) (moment : ℕ) where
   s = commitment tid serial moment
 
   abbrev pub UnderIt : World → Type 0
-  UnderIt w = Under serial.node (commitment tid serial moment) refl refl w
+  UnderIt w = IsUnder serial.node (commitment tid serial moment) w
 
   abbrev pub StandsAt : World → Type 0
   StandsAt w = In (commitment tid serial moment) (settlements_of serial.node w)
@@ -141,13 +142,13 @@ module _ (tid serial : Id) (moment : ℕ) where
       go (Some refusal) d j = inl (subst StandsAt d.2 j)
       go None d j = elim (phases_fold v.disks (λ p. Unit {0}) (λ g. Unit {0}) (λ u rest a x. StandsAt x → StandsAt u ⊎ UnderIt u ⊎ In (line.Committed tid serial moment) rest)
           (λ u g q k. inl k)
-          (λ u p c ok allowed ends k. part_in serial.node (commitment tid serial moment) refl refl u p c k)
+          (λ u p c ok allowed ends k. part_in serial.node (commitment tid serial moment) (line.Committed tid serial moment) (commit_line tid serial moment) u p c k)
           (λ u p c ok allowed on. (
             tt,
             λ rest a x more k. elim (more k) [
-              | inl q ↦ elim (part_in serial.node (commitment tid serial moment) refl refl u p c q) [ inl r ↦ inl r | inr r ↦ elim r [ inl t ↦ inr (inl t) | inr t ↦ inr (inr (in_left _ (part_effect u p c).lines rest t)) ] ]
+              | inl q ↦ elim (part_in serial.node (commitment tid serial moment) (line.Committed tid serial moment) (commit_line tid serial moment) u p c q) [ inl r ↦ inl r | inr r ↦ elim r [ inl t ↦ inr (inl t) | inr t ↦ inr (inr (in_left _ (part_effect u p c).lines rest t)) ] ]
               | inr q ↦ elim q [
-                | inl under ↦ elim (part_under serial.node (commitment tid serial moment) refl refl u p c v.disks allowed under) [ inl r ↦ inr (inl r) | inr r ↦ absurd (both_ways (part_effect u p c).ends on r.ends) ]
+                | inl under ↦ elim (part_under serial.node (commitment tid serial moment) (line.Committed tid serial moment) (commit_line tid serial moment) refl u p c v.disks allowed under) [ inl r ↦ inr (inl r) | inr r ↦ absurd (both_ways (part_effect u p c).ends on r.ends) ]
                 | inr shown ↦ inr (inr (in_right _ (part_effect u p c).lines rest shown))
               ]
             ],
@@ -170,7 +171,7 @@ module _ (tid serial : Id) (moment : ℕ) where
     where
       go : (o : Option Line) → refused_at_once w st ≡ o → Begins o (Phases (phases_of st) v.disks (begun_with st w) line.Normal) w step.events step.answer step.world → UnderIt step.world → UnderIt w ⊎ Another w v st lines
       go (Some refusal) e d k = inl (subst UnderIt d.2 k)
-      go None e d k = elim (phases_trace serial.node (commitment tid serial moment) refl refl (phases_of st) v.disks (begun_with st w) line.Normal step.events step.answer step.world d k) [
+      go None e d k = elim (phases_trace serial.node (commitment tid serial moment) (line.Committed tid serial moment) (commit_line tid serial moment) refl (phases_of st) v.disks (begun_with st w) line.Normal step.events step.answer step.world d k) [
         | inl q ↦ inl (begun_under st w q)
         | inr q ↦ inr (record {
           front = q.0;

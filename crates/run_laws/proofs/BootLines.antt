@@ -1,5 +1,5 @@
 -- A boot that succeeds shows the last settlement of its disk, where there is one.
-use Rattle.std.proofs.Common.{◌≡◌, ℕ, List, [], ◌∷◌, ◌++◌, inl, inr, Bool, true, false, if◌then◌else◌, Option, Some, None, refl, sym, ◌∙◌, ap, subst}
+use Rattle.std.proofs.Common.{◌≡◌, ℕ, List, [], ◌∷◌, ◌++◌, inl, inr, true, Option, Some, None, refl, sym, ◌∙◌, ap, subst}
 use Rattle.transcript_model.specs.Lines as line
 use Rattle.transcript_model.specs.Lines.{Line, Cause}
 use Rattle.script_model.specs.Statements.{At, Boot, Settle, Statement}
@@ -13,13 +13,12 @@ use Rattle.run_model.specs.Transcript.{Legal, Turn}
 use Rattle.run_model.specs.StepLaws.{is_refusal}
 use Rattle.run_model.proofs.Refusing.{same_last}
 use Rattle.run_model.proofs.NodeLists.{found_name}
-use Rattle.run_model.proofs.CauseLemmas.{refuses_first, refuses_then}
-use Rattle.run_model.proofs.TaskLemmas.{Failing, First, Lacking, Late, Outcome, Success, outcome}
+use Rattle.run_model.proofs.TaskLemmas.{Outcome, outcome}
 use Rattle.world_laws.proofs.Induction.{powered_name}
 use Rattle.run_laws.specs.Promises.{Boots, last_in}
 use Rattle.run_laws.specs.Laws.{BootsShowLastHold}
 use Rattle.run_laws.proofs.AllShown.{IsFormed, legal_shown, shown, shown_keeps, shown_of}
-use Rattle.run_laws.proofs.Deciding.{part_booted}
+use Rattle.run_laws.proofs.Deciding.{boot_whole, part_booted}
 use Rattle.run_laws.proofs.Keeping.{Kept, all_take, powered_kept}
 use Rattle.run_laws.proofs.LastStays.{HasLast, lasted, lasted_keeps}
 use Rattle.run_laws.proofs.Named.{Ended, Refused, Turned, ended}
@@ -38,7 +37,7 @@ line_last s (inl e) = subst (λ (x : Settlement). (l : Line) × In l (last_line 
 line_last s (inr r) = subst (λ (x : Settlement). (l : Line) × In l (last_line x) × (last_in l ≡ Some x)) (sym r.1) (line.LastAborted s.tid s.serial r.0 s.moment, inl refl, refl)
 
 -- so does a disk that has one
-lasts_last : (n : Node) (s : Settlement) → n.durable.last ≡ Some s → IsFormed s → (l : Line) × In l (last_lines n) × (last_in l ≡ Some s)
+pub lasts_last : (n : Node) (s : Settlement) → n.durable.last ≡ Some s → IsFormed s → (l : Line) × In l (last_lines n) × (last_in l ≡ Some s)
 lasts_last n s e formed =
     let r = line_last s formed in
     (r.0, subst (λ ls. In r.0 ls) (ap (λ (o : Option Settlement). elim o as (λ x. List Line) [ Some t ↦ last_line t | None ↦ [] ]) (sym e)) r.1, r.2)
@@ -48,22 +47,15 @@ abbrev HasLine : List ℕ → List Line → Type 0
 HasLine node ls = (l : Line) × (s : Settlement) × In l ls × (last_in l ≡ Some s) × (s.serial.node ≡ node)
 
 -- a count is no refusal
-not_count : (l : Line) (count : ℕ) → is_refusal l ≡ true → l ≡ line.NormalCount count → {A : Type 0} → A
+pub not_count : (l : Line) (count : ℕ) → is_refusal l ≡ true → l ≡ line.NormalCount count → {A : Type 0} → A
 not_count l count h e = let same : is_refusal (line.NormalCount count) ≡ true = ap is_refusal (sym e) ∙ h in let no : ⊥ = cc in absurd no
 
 boot_lines : (s : Shared) (stops : ℕ) (n : Node) (rises : Cause → Type 0) (node : List ℕ) (count : ℕ) (e : TaskEffect) → Outcome s stops n (Serves Boot) rises e → e.answer ≡ line.NormalCount count → ((o : Outturn) → MayTurnOut n o → HasLine node (last_lines (powered o stops n))) → HasLine node e.lines
-boot_lines s stops n rises node count e (First refusal first is) answer shows = not_count refusal count ((refuses_first s n (Serves Boot)).says refusal first) (sym (ap (λ (x : TaskEffect). x.answer) is) ∙ answer)
-boot_lines s stops n rises node count e (Late o refusal may first late is) answer shows = not_count refusal count ((refuses_then s (powered o stops n) (Serves Boot)).says refusal late) (sym (ap (λ (x : TaskEffect). x.answer) is) ∙ answer)
-boot_lines s stops n rises node count e (Success o may first late is) answer shows =
-    let r = shows o may in
-    let rs = boot_rows s (powered o stops n) in
-    (r.0, r.1, subst (λ (x : TaskEffect). In r.0 x.lines) (sym is) (in_left r.0 (lines_of_rows rs) (prepared_lines (powered o stops n)) (in_left r.0 (last_lines (powered o stops n)) _ r.2)), r.3, r.4)
-boot_lines s stops n rises node count e (Lacking first takes is) answer shows = let clash : line.NoMemory ≡ line.NormalCount count = sym (ap (λ (x : TaskEffect). x.answer) is) ∙ answer in let no : ⊥ = cc in absurd no
-boot_lines s stops n rises node count e (Failing cause shown goes_on first rose lines down is ends) answer shows = go goes_on (sym is ∙ answer)
-  where
-    go : (b : Bool) → (if b then line.Normal else line.Broken cause) ≡ line.NormalCount count → HasLine node e.lines
-    go true q = let no : ⊥ = cc in absurd no
-    go false q = let no : ⊥ = cc in absurd no
+boot_lines s stops n rises node count e outcome answer shows =
+    let x = boot_whole s stops n rises count e outcome answer in
+    let r = shows x.0 x.1 in
+    let rs = boot_rows s (powered x.0 stops n) in
+    (r.0, r.1, subst (λ (y : TaskEffect). In r.0 y.lines) (sym x.3) (in_left r.0 (lines_of_rows rs) (prepared_lines (powered x.0 stops n)) (in_left r.0 (last_lines (powered x.0 stops n)) _ r.2)), r.3, r.4)
 
 module _ (nodes : List Node) (disks : List DiskCounts) (es : List Entry) (closing : World) (opening : AreOpening nodes) (legal : Legal (opened nodes disks) es closing) (before : List Entry) (node : List ℕ) (w : World) (earlier : Legal (opened nodes disks) before w) (t : Settlement) (was : Rattle.run_laws.specs.Promises.WasShownSo t before []) (own : t.serial.node ≡ node) where
   sound_w : IsSound w

@@ -77,55 +77,52 @@ at_caused es said w node t c f = go (find_node node w.nodes) refl
 
 module _ (es : List Entry) (w : World) (known : Known es w) where
   -- a link that failed
-  abbrev IsLink : List ℕ → List ℕ → Part → Type 0
+  abbrev pub IsLink : List ℕ → List ℕ → Part → Type 0
   IsLink a b p = (p ≡ Does a (LosesLink b)) ⊎ (p ≡ Does b (LosesLink a))
 
-  link_thin : (a b : List ℕ) (p : Part) → IsLink a b p → IsThinPart p
+  pub link_thin : (a b : List ℕ) (p : Part) → IsLink a b p → IsThinPart p
   link_thin a b p (inl e) = subst IsThinPart (sym e) refl
   link_thin a b p (inr e) = subst IsThinPart (sym e) refl
+
+  pub link_so : (a b node other : List ℕ) (u : World) (n : Node) (front : List Line) (k : BranchKey) (o : Outcome) (reason : Reason) → ((node ≡ a) × (other ≡ b)) ⊎ ((node ≡ b) × (other ≡ a)) → Thins w u → find_node node u.nodes ≡ Some n → TaskCause u.shared n (LosesLink other) k o reason → LineCause es (Says (LinkDown a b)) front k o reason
+  link_so a b node other u n front k o reason which t found cause =
+      let l = link_cause es w u node other n k o reason known (heirs_then w w u (same_heirs w w refl) t) found cause in
+      subst (λ o. LineCause es (Says (LinkDown a b)) front k o reason) (sym l.0) (subst (λ y. AbortCause es (Says (LinkDown a b)) front y k.tid k.serial) (sym l.1) (
+        a,
+        b,
+        refl,
+        elim which [
+          | inl both ↦ inl (l.2 ∙ both.0, subst (λ y. IsCutOff es k.tid k.serial y) both.1 l.3)
+          | inr both ↦ inr (l.2 ∙ both.0, subst (λ y. IsCutOff es k.tid k.serial y) both.1 l.3)
+        ],
+      ))
 
   link_at : (a b node other : List ℕ) (u : World) (c : Choice) → ((node ≡ a) × (other ≡ b)) ⊎ ((node ≡ b) × (other ≡ a)) → Thins w u → AllCaused es (Says (LinkDown a b)) (done_at u node (LosesLink other) c).lines
   link_at a b node other u c which t = at_caused es (Says (LinkDown a b)) u node (LosesLink other) c (λ n found front this behind x e shown.
       let r = effect_caused u.shared (stops_at node u) n (LosesLink other) c this x (subst (In this) (sym e) (here_in front this behind)) shown in
-      let k = r.0 in
-      let l = link_cause es w u node other n k r.1 r.2 known (heirs_then w w u (same_heirs w w refl) t) found r.5 in (
-        k,
-        r.1,
-        r.2,
-        r.3,
-        r.4,
-        subst (λ o. LineCause es (Says (LinkDown a b)) front k o r.2) (sym l.0) (subst (λ y. AbortCause es (Says (LinkDown a b)) front y k.tid k.serial) (sym l.1) (
-          a,
-          b,
-          refl,
-          elim which [
-            | inl both ↦ inl (l.2 ∙ both.0, subst (λ y. IsCutOff es k.tid k.serial y) both.1 l.3)
-            | inr both ↦ inr (l.2 ∙ both.0, subst (λ y. IsCutOff es k.tid k.serial y) both.1 l.3)
-          ],
-        )),
-      ))
+      (r.0, r.1, r.2, r.3, r.4, link_so a b node other u n front r.0 r.1 r.2 which t found r.5))
 
   link_part : (a b : List ℕ) (u : World) (p : Part) (c : Choice) → IsLink a b p → Thins w u → AllCaused es (Says (LinkDown a b)) (part_effect u p c).lines
   link_part a b u p c (inl e) t = subst (λ q. AllCaused es (Says (LinkDown a b)) (part_effect u q c).lines) (sym e) (link_at a b a b u c (inl (refl, refl)) t)
   link_part a b u p c (inr e) t = subst (λ q. AllCaused es (Says (LinkDown a b)) (part_effect u q c).lines) (sym e) (link_at a b b a u c (inr (refl, refl)) t)
 
-  link_parts : (a b : List ℕ) → EachPhase (IsLink a b) (phases_of (LinkDown a b))
+  pub link_parts : (a b : List ℕ) → EachPhase (IsLink a b) (phases_of (LinkDown a b))
   link_parts a b = (each_up (IsLink a b) a (LosesLink b) (inl refl), (each_up (IsLink a b) b (LosesLink a) (inr refl), tt))
 
   -- a settling
-  abbrev IsSettling : Part → Type 0
+  abbrev pub IsSettling : Part → Type 0
   IsSettling (Does node t) = (t ≡ Restarts) ⊎ (t ≡ RunsDown)
   IsSettling (Asks node serial) = Unit {0}
 
-  settling_thin : (p : Part) → IsSettling p → IsThinPart p
+  pub settling_thin : (p : Part) → IsSettling p → IsThinPart p
   settling_thin (Does node t) (inl e) = subst (λ t. IsThinPart (Does node t)) (sym e) refl
   settling_thin (Does node t) (inr e) = subst (λ t. IsThinPart (Does node t)) (sym e) refl
   settling_thin (Asks node serial) h = tt
 
-  fails : (front : List Line) (k : BranchKey) (o : Outcome) (reason : Reason) → o ≡ Abort → reason ≡ SegFail → LineCause es (Says Settle) front k o reason
+  pub fails : (front : List Line) (k : BranchKey) (o : Outcome) (reason : Reason) → o ≡ Abort → reason ≡ SegFail → LineCause es (Says Settle) front k o reason
   fails front k o reason is why = subst (λ out. LineCause es (Says Settle) front k out reason) (sym is) (subst (λ y. AbortCause es (Says Settle) front y k.tid k.serial) (sym why) (inl refl))
 
-  heard_cause : (n : Node) (m : Message) (front : List Line) (k : BranchKey) (o : Outcome) (reason : Reason) → (kind : message.Kind) → m.kind ≡ kind → (kind ≡ message.Commit) ⊎ (kind ≡ message.Abort) → front ≡ line.Asked m.tid m.serial (outcome_told kind) ∷ [] → MessageSettles (tm_of n) kind m k o reason → LineCause es (Says Settle) front k o reason
+  pub heard_cause : (n : Node) (m : Message) (front : List Line) (k : BranchKey) (o : Outcome) (reason : Reason) → (kind : message.Kind) → m.kind ≡ kind → (kind ≡ message.Commit) ⊎ (kind ≡ message.Abort) → front ≡ line.Asked m.tid m.serial (outcome_told kind) ∷ [] → MessageSettles (tm_of n) kind m k o reason → LineCause es (Says Settle) front k o reason
   heard_cause n m front k o reason message.Commit is kind at (commit, key) =
       subst (λ out. LineCause es (Says Settle) front k out reason) (sym commit) (inl (inr (inr (inr (refl, [], at ∙ (λ i. line.Asked (sym (ap (λ (j : BranchKey). j.tid) key) i) (sym (ap (λ (j : BranchKey). j.serial) key) i) Commit ∷ []))))))
   heard_cause n m front k o reason message.Abort is kind at (abort, why, key) =
@@ -155,17 +152,21 @@ module _ (es : List Entry) (w : World) (known : Known es w) where
       go Unanswered e = subst (λ (q : Question). AllCaused es (Says Settle) (question_effect u c q).lines) (sym e) (none_caused es (Says Settle))
       go (Doubtful k) e = subst (λ (q : Question). AllCaused es (Says Settle) (question_effect u c q).lines) (sym e) (none_caused es (Says Settle))
 
-  settling_parts : EachPhase IsSettling (phases_of Settle)
+  pub settling_parts : EachPhase IsSettling (phases_of Settle)
   settling_parts = (λ u. each_restart IsSettling (λ node. inl refl) u.nodes, (λ u. each_run_down IsSettling (λ node. inr refl) u.nodes, (λ u. all_asked IsSettling (λ node serial. tt) u.nodes, tt)))
 
   -- a clock that was set
   module _ (node : List ℕ) (now : ℕ) (n : Node) (base : World) (found : find_node node w.nodes ≡ Some n) (goes : base.nodes ≡ with_node node (λ k. record n { clock = now }) w.nodes) where
+    pub tick_so : (u : World) (m : Node) (front : List Line) (k : BranchKey) (o : Outcome) (reason : Reason) → Thins base u → find_node node u.nodes ≡ Some m → TaskCause u.shared m Ticks k o reason → LineCause es (Says (At node (Clock now))) front k o reason
+    tick_so u m front k o reason t found_m cause =
+        let y = t.node node m found_m in
+        let changed : record n { clock = now } ≡ y.0 = some_is _ y.0 (sym (put_node node n (record n { clock = now }) w.nodes refl found) ∙ subst (λ ns. find_node node ns ≡ Some y.0) goes y.1) in
+        clock_cause es front w u node m now k o reason known (heirs_then w base u (clock_heirs w base node n now found goes) t) found_m (y.2 ∙ ap (λ (z : Node). z.clock) (sym changed)) cause
+
     tick_part : (u : World) (p : Part) (c : Choice) → p ≡ Does node Ticks → Thins base u → AllCaused es (Says (At node (Clock now))) (part_effect u p c).lines
     tick_part u p c e t = subst (λ q. AllCaused es (Says (At node (Clock now))) (part_effect u q c).lines) (sym e) (at_caused es (Says (At node (Clock now))) u node Ticks c (λ m found_m front this behind x is shown.
         let r = effect_caused u.shared (stops_at node u) m Ticks c this x (subst (In this) (sym is) (here_in front this behind)) shown in
-        let y = t.node node m found_m in
-        let changed : record n { clock = now } ≡ y.0 = some_is _ y.0 (sym (put_node node n (record n { clock = now }) w.nodes refl found) ∙ subst (λ ns. find_node node ns ≡ Some y.0) goes y.1) in
-        (r.0, r.1, r.2, r.3, r.4, clock_cause es front w u node m now r.0 r.1 r.2 known (heirs_then w base u (clock_heirs w base node n now found goes) t) found_m (y.2 ∙ ap (λ (z : Node). z.clock) (sym changed)) r.5)))
+        (r.0, r.1, r.2, r.3, r.4, tick_so u m front r.0 r.1 r.2 t found_m r.5)))
 
 -- Statements.
 module _ (es : List Entry) (w v : World) (known : Known es w) (steps : HaveSteps w.nodes) (homes : (node : List ℕ) (x : Settlement) → In x (settlements_of node v) → x.serial.node ≡ node) where
@@ -232,11 +233,15 @@ module _ (es : List Entry) (w v : World) (known : Known es w) (steps : HaveSteps
 
 -- Runs.
 
+-- what is known of the entries that lead to a world
+pub known_before : (nodes : List Node) (disks : List DiskCounts) (es : List Entry) (w : World) → AreOpening nodes → Legal (opened nodes disks) es w → Known es w
+known_before nodes disks es w opening legal = record { named = legal_named nodes disks es w opening legal; told = legal_are_told nodes disks es w opening legal; sent = λ number m is. was_sent nodes disks es w number m opening legal is }
+
 caused_there : (nodes : List Node) (disks : List DiskCounts) (es before : List Entry) (said : Reading) (front : List Line) (this : Line) (behind : List Line) (x : Settlement) (closing : World) → AreOpening nodes → Legal (opened nodes disks) es closing → ShownThere es before said front this behind → shown_in this ≡ Some x → IsCaused before said front this
 caused_there nodes disks es before said front this behind x closing opening legal there shown =
     let r = stays (opened nodes disks) closing there.after (there.entry ∷ before) (subst (λ es. Legal (opened nodes disks) es closing) there.stands legal) in
     let l = r.1 in
-    let known : Known before l.0 = record { named = legal_named nodes disks before l.0 opening l.1; told = legal_are_told nodes disks before l.0 opening l.1; sent = λ number m is. was_sent nodes disks before l.0 number m opening l.1 is } in
+    let known = known_before nodes disks before l.0 opening l.1 in
     let steps = (legal_told nodes disks l.0 before opening l.1).1 in
     let homes : (node : List ℕ) (y : Settlement) → In y (settlements_of node r.0) → y.serial.node ≡ node = λ node y i. (shown_hold nodes disks es closing opening legal node y (r.2 node y i)).0 in
     turn_caused before l.0 r.0 known steps homes said front this behind x (subst (λ lines. LineTurn l.0 said lines r.0) there.shown (subst (λ y. LineTurn l.0 y there.entry.lines r.0) there.read l.2)) shown
@@ -255,17 +260,18 @@ commits_hold nodes disks es closing opening legal before said front behind tid s
         subst (λ i. CommitCause before said front i serial ⊎ IsDirect said i serial) t (subst (λ i. CommitCause before said front k.tid i ⊎ IsDirect said k.tid i) s h)
     cause k Abort reason at e h = let no : ⊥ = cc in absurd no
 
+-- the cause of the line of an abort is one of that abort
+pub abort_of : (es : List Entry) (said : Reading) (front : List Line) (tid serial : Id) (reason : Reason) (moment : ℕ) (k : BranchKey) (o : Outcome) (why : Reason) (at : ℕ) → line.Aborted tid serial reason moment ≡ settled_line k o why at → LineCause es said front k o why → AbortCause es said front reason tid serial
+abort_of es said front tid serial reason moment k Abort why at e h =
+    let t : k.tid ≡ tid = cc in
+    let s : k.serial ≡ serial = cc in
+    let r : why ≡ reason = cc in
+    subst (λ i. AbortCause es said front reason i serial) t (subst (λ i. AbortCause es said front reason k.tid i) s (subst (λ y. AbortCause es said front y k.tid k.serial) r h))
+abort_of es said front tid serial reason moment k Commit why at e h = let no : ⊥ = cc in absurd no
+
 pub aborted_hold : AbortedHold
 aborted_hold nodes disks es closing opening legal before said front behind tid serial reason moment there =
     let c = caused_there nodes disks es before said front (line.Aborted tid serial reason moment) behind (abort tid serial reason moment) closing opening legal there refl in
     let s = shown_settled nodes disks es closing opening legal before said front behind (line.Aborted tid serial reason moment) (abort tid serial reason moment) there refl in
     let home = (shown_hold nodes disks es closing opening legal s.0 (abort tid serial reason moment) s.1).0 in
-    (cause c.0 c.1 c.2 c.3 c.4 c.5, (abort tid serial reason moment, subst (λ name. In (abort tid serial reason moment) (settlements_of name closing)) (sym home) s.1, refl))
-  where
-    cause : (k : BranchKey) (o : Outcome) (why : Reason) (at : ℕ) → line.Aborted tid serial reason moment ≡ settled_line k o why at → LineCause before said front k o why → AbortCause before said front reason tid serial
-    cause k Abort why at e h =
-        let t : k.tid ≡ tid = cc in
-        let s : k.serial ≡ serial = cc in
-        let r : why ≡ reason = cc in
-        subst (λ i. AbortCause before said front reason i serial) t (subst (λ i. AbortCause before said front reason k.tid i) s (subst (λ y. AbortCause before said front y k.tid k.serial) r h))
-    cause k Commit why at e h = let no : ⊥ = cc in absurd no
+    (abort_of before said front tid serial reason moment c.0 c.1 c.2 c.3 c.4 c.5, (abort tid serial reason moment, subst (λ name. In (abort tid serial reason moment) (settlements_of name closing)) (sym home) s.1, refl))

@@ -60,7 +60,7 @@ append_assoc (x ∷ xs) ys zs = ap (λ l. x ∷ l) (append_assoc xs ys zs)
 asked_more : (said : Reading) (xs front : List Line) (tid serial : Id) (o : Outcome) → WasAsked said front tid serial o → WasAsked said (xs ++ front) tid serial o
 asked_more said xs front tid serial o a = (a.0, xs ++ a.1, ap (λ ls. xs ++ ls) a.2 ∙ append_assoc xs a.1 (line.Asked tid serial o ∷ []))
 
-cause_more : (es : List Entry) (said : Reading) (xs front : List Line) (k : BranchKey) (o : Outcome) (reason : Reason) → LineCause es said front k o reason → LineCause es said (xs ++ front) k o reason
+pub cause_more : (es : List Entry) (said : Reading) (xs front : List Line) (k : BranchKey) (o : Outcome) (reason : Reason) → LineCause es said front k o reason → LineCause es said (xs ++ front) k o reason
 cause_more es said xs front k Commit reason (inl (inr (inr (inr asked)))) = inl (inr (inr (inr (asked_more said xs front k.tid k.serial Commit asked))))
 cause_more es said xs front k Commit reason (inl (inr (inr (inl told)))) = inl (inr (inr (inl told)))
 cause_more es said xs front k Commit reason (inl (inr (inl voted))) = inl (inr (inl voted))

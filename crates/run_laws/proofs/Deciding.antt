@@ -17,7 +17,7 @@ use Rattle.commit_protocol.proofs.Lists.{in_left, in_right}
 use Rattle.run_model.specs.World as world
 use Rattle.run_model.specs.World.{World, Shared, Node, Act, DiskCounts, Outturn, MayTurnOut, Settlement, Tables, acted, find_node, opened, powered}
 use Rattle.run_model.specs.Answers.{Task, Serves, Ticks, Takes, Hears, LosesLink, RunsDown, Restarts, boot_rows, powers, task_service}
-use Rattle.run_model.specs.Steps.{Choice, TaskEffect, node_after_rows, task_effect}
+use Rattle.run_model.specs.Steps.{succeeded, Choice, TaskEffect, node_after_rows, task_effect}
 use Rattle.run_model.specs.Statements.{Part, Does, Asks, PartEffect, Question, Heard, Unanswered, Doubtful, Step, Allowed, RoseAt, begun_with, part_effect, phases_of, put_into, question, stops_at}
 use Rattle.run_model.specs.StepLaws.{TaskAt, asked_by, is_refusal, task_of_part}
 use Rattle.run_model.specs.Transcript.{Entry, Legal, AreOpening, Turn}
@@ -35,7 +35,7 @@ use Rattle.run_laws.proofs.Beginning.{Begins as BeginsSo}
 use Rattle.run_laws.proofs.Coming.{boot_none}
 use Rattle.run_laws.proofs.DumpsShown.{ends_alike}
 use Rattle.run_laws.proofs.FirstBranch.{IsFirst, first, first_keeps, first_on, thin_takes}
-use Rattle.run_laws.proofs.Keeping.{Kept, all_take, is_special}
+use Rattle.run_laws.proofs.Keeping.{behind_down, node_down, Kept, all_take, is_special}
 use Rattle.run_laws.proofs.LastOwn.{lasting, lasting_keeps}
 use Rattle.run_laws.proofs.LastShown.{Any, IsLasting, IsOld, all_old, drawn_so, lasting_on, old_on, seen_at, settled_so, step_sighted}
 use Rattle.run_laws.proofs.Named.{Ended, Refused, Turned, ended}
@@ -273,22 +273,25 @@ pub record IsPast (x : Id) (before : List Entry) (lines : List Line) (v : World)
   pub gone : IsGone x ss v
 
 -- a BOOT that was answered with its count was whole
-pub boot_done : (s : Shared) (stops : ℕ) (n : Node) (rises : Cause → Type 0) (count : ℕ) (e : TaskEffect) → tasks.Outcome s stops n (Serves Boot) rises e → e.answer ≡ line.NormalCount count → (o : Outturn) × (e.node ≡ acted world.ComesUp (node_after_rows (boot_rows s (powered o stops n)) (powered o stops n)))
-boot_done s stops n rises count e outcome answer = go outcome
+pub boot_whole : (s : Shared) (stops : ℕ) (n : Node) (rises : Cause → Type 0) (count : ℕ) (e : TaskEffect) → tasks.Outcome s stops n (Serves Boot) rises e → e.answer ≡ line.NormalCount count → (o : Outturn) × MayTurnOut n o × (n.up ≡ false) × (e ≡ succeeded s (powered o stops n) (task_service (Serves Boot)))
+boot_whole s stops n rises count e outcome answer = go outcome
   where
-    refusal_is : (l : Line) → is_refusal l ≡ true → l ≡ line.NormalCount count → (o : Outturn) × (e.node ≡ acted world.ComesUp (node_after_rows (boot_rows s (powered o stops n)) (powered o stops n)))
+    refusal_is : (l : Line) → is_refusal l ≡ true → l ≡ line.NormalCount count → (o : Outturn) × MayTurnOut n o × (n.up ≡ false) × (e ≡ succeeded s (powered o stops n) (task_service (Serves Boot)))
     refusal_is l h is = let clash : false ≡ true = ap is_refusal (sym is) ∙ h in let no : ⊥ = cc in absurd no
 
-    go : tasks.Outcome s stops n (Serves Boot) rises e → (o : Outturn) × (e.node ≡ acted world.ComesUp (node_after_rows (boot_rows s (powered o stops n)) (powered o stops n)))
+    go : tasks.Outcome s stops n (Serves Boot) rises e → (o : Outturn) × MayTurnOut n o × (n.up ≡ false) × (e ≡ succeeded s (powered o stops n) (task_service (Serves Boot)))
     go (First refusal first is) = refusal_is refusal ((refuses_first s n (Serves Boot)).says refusal first) (sym (ap (λ (x : TaskEffect). x.answer) is) ∙ answer)
     go (Late o refusal may first late is) = refusal_is refusal ((refuses_then s (powered o stops n) (Serves Boot)).says refusal late) (sym (ap (λ (x : TaskEffect). x.answer) is) ∙ answer)
-    go (Success o may first late is) = (o, ap (λ (x : TaskEffect). x.node) is)
+    go (Success o may first late is) = (o, may, node_down n _ (behind_down n (task_service (Serves Boot)) s first), is)
     go (Lacking first takes is) = let clash : line.NoMemory ≡ line.NormalCount count = sym (ap (λ (x : TaskEffect). x.answer) is) ∙ answer in let no : ⊥ = cc in absurd no
     go (Failing cause shown goes_on first rose lines down is ends) = by goes_on (sym is ∙ answer)
       where
-        by : (b : Bool) → (if b then line.Normal else line.Broken cause) ≡ line.NormalCount count → (o : Outturn) × (e.node ≡ acted world.ComesUp (node_after_rows (boot_rows s (powered o stops n)) (powered o stops n)))
+        by : (b : Bool) → (if b then line.Normal else line.Broken cause) ≡ line.NormalCount count → (o : Outturn) × MayTurnOut n o × (n.up ≡ false) × (e ≡ succeeded s (powered o stops n) (task_service (Serves Boot)))
         by true q = let no : ⊥ = cc in absurd no
         by false q = let no : ⊥ = cc in absurd no
+
+boot_done : (s : Shared) (stops : ℕ) (n : Node) (rises : Cause → Type 0) (count : ℕ) (e : TaskEffect) → tasks.Outcome s stops n (Serves Boot) rises e → e.answer ≡ line.NormalCount count → (o : Outturn) × (e.node ≡ acted world.ComesUp (node_after_rows (boot_rows s (powered o stops n)) (powered o stops n)))
+boot_done s stops n rises count e outcome answer = let r = boot_whole s stops n rises count e outcome answer in (r.0, ap (λ (x : TaskEffect). x.node) r.3)
 
 module _ (nodes : List Node) (disks : List DiskCounts) (opening : AreOpening nodes) (before : List Entry) (entry : Entry) (w v : World) (x : Id) (legal : Legal (opened nodes disks) before w) (turn : Turn w (reading entry.source.text) entry.lines v) (is_first : IsFirst x w) where
   abbrev first_world : World

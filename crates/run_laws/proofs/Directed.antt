@@ -35,14 +35,14 @@ pub not_refused : (b : Bool) (refusal : Line) → refused_if b refusal ≡ None 
 not_refused true refusal e = let no : ⊥ = cc in absurd no
 not_refused false refusal e = refl
 
-there_is : (n : Node) (file : List ℕ) → there_is_file n file ≡ None → (f : File) × (find_file file n.durable.directory ≡ Some f)
+pub there_is : (n : Node) (file : List ℕ) → there_is_file n file ≡ None → (f : File) × (find_file file n.durable.directory ≡ Some f)
 there_is n file e = go (find_file file n.durable.directory) refl e
   where
     go : (o : Option File) → find_file file n.durable.directory ≡ o → ◌≡◌ {A = Option Line} (elim o [ Some f ↦ None | None ↦ Some line.FileNotFound ]) None → (f : File) × (find_file file n.durable.directory ≡ Some f)
     go (Some f) found k = (f, found)
     go None found k = let no : ⊥ = cc in absurd no
 
-file_says : (n : Node) (file : List ℕ) (f : File) (says : File → Option Line) → find_file file n.durable.directory ≡ Some f → of_file n file says ≡ None → says f ≡ None
+pub file_says : (n : Node) (file : List ℕ) (f : File) (says : File → Option Line) → find_file file n.durable.directory ≡ Some f → of_file n file says ≡ None → says f ≡ None
 file_says n file f says found e = sym (ap (λ (o : Option File). elim o [ Some g ↦ says g | None ↦ None ]) found) ∙ e
 
 -- What is changed by an operation that the records allow: something.
@@ -53,7 +53,7 @@ dropped_some (suc k) [] h = absurd (omega (arith, h))
 dropped_some zero (e ∷ es) h = (e, es, refl)
 dropped_some (suc k) (e ∷ es) h = dropped_some k es (omega (arith, h))
 
-some_changed : (f : File) (op : Operation) → is_change op ≡ true → data_refused f op ≡ None → (c : Change) × (cs : List Change) × (changes_of f op ≡ c ∷ cs)
+pub some_changed : (f : File) (op : Operation) → is_change op ≡ true → data_refused f op ≡ None → (c : Change) × (cs : List Change) × (changes_of f op ≡ c ∷ cs)
 some_changed f (Put number bytes) is passes = (_, [], refl)
 some_changed f (Update key bytes) is passes = (_, [], refl)
 some_changed f (Delete key) is passes = (_, [], refl)
@@ -92,11 +92,11 @@ direct_done w v node file op n events e is found first late done shows goes =
     record { tid = next_id n; moment = next_moment n; at = found_name node w.nodes n found; shows = lines; settled = subst (In (commitment (next_id n) (next_id n) (next_moment n))) (sym settled) (inl refl) }
 
 -- an answer that it is done is no other
-answer_fine : (answer : Line) → IsDoneAnswer answer → is_refusal answer ≡ false
+pub answer_fine : (answer : Line) → IsDoneAnswer answer → is_refusal answer ≡ false
 answer_fine answer (inl normal) = ap is_refusal normal
 answer_fine answer (inr position) = ap is_refusal position.1
 
-not_ended : (answer : Line) (cause : Cause) (goes_on : Bool) → IsDoneAnswer answer → answer ≡ (if goes_on then line.Normal else line.Broken cause) → ⊥
+pub not_ended : (answer : Line) (cause : Cause) (goes_on : Bool) → IsDoneAnswer answer → answer ≡ (if goes_on then line.Normal else line.Broken cause) → ⊥
 not_ended answer cause true (inl normal) e = let same : line.RecordNormal ≡ line.Normal = sym normal ∙ e in cc
 not_ended answer cause true (inr position) e = let same : line.RecordPosition position.0 ≡ line.Normal = sym position.1 ∙ e in cc
 not_ended answer cause false (inl normal) e = let same : line.RecordNormal ≡ line.Broken cause = sym normal ∙ e in cc

@@ -22,7 +22,7 @@ use Rattle.run_model.specs.World.{World, Shared, Node, Act, Tables, DiskCounts, 
 use Rattle.run_model.specs.Answers as answers
 use Rattle.run_model.specs.Answers.{Row, Task, Serves, Ticks, Takes, Hears, LosesLink, RunsDown, Restarts, task_service, service, told_if, told_rows, table_rows, begins, just, shown_by, branch_labelled, branch_named, refused_before_reading}
 use Rattle.run_model.specs.Steps.{Choice, Whole, WithoutMemory, Unpowered, Cut, TaskAllowed, TaskEffect, task_effect, ready_node, lines_of_rows, rows_if, rows_to_cut, whole, begun, succeeded}
-use Rattle.run_model.specs.Statements.{Part, Does, Asks, PartEffect, Question, Heard, Unanswered, Doubtful, Begins, Phase, Phases, Allowed, AllowedAt, AllowedOf, done_at, delivery, message_at, no_node, part_effect, put_into, question, question_effect, stops_at, RoseAt, phases_of, refused_at_once, begun_with}
+use Rattle.run_model.specs.Statements.{Part, Does, Asks, PartEffect, Question, Heard, Unanswered, Doubtful, Begins, Phase, Phases, Allowed, AllowedAt, AllowedOf, done_at, delivery, message_at, no_node, part_effect, put_into, question, question_effect, stops_at, RoseAt, Step, phases_of, refused_at_once, begun_with}
 use Rattle.run_model.specs.StepLaws.{is_refusal}
 use Rattle.run_model.proofs.NodeLists.{found_name, put_node}
 use Rattle.run_model.proofs.CauseLemmas.{is_success}
@@ -230,13 +230,13 @@ down_last s stops n t (Cut outturn done started why) node cause i = elim (in_app
     ends true = inr refl
     ends false = inl refl
 
-record Fails (n : Node) (rises : Cause → Type 0) (t : Task) (e : TaskEffect) (node : List ℕ) (cause : Cause) : Type 0 where
-  home : node ≡ n.name
+pub record Fails (n : Node) (rises : Cause → Type 0) (t : Task) (e : TaskEffect) (node : List ℕ) (cause : Cause) : Type 0 where
+  pub home : node ≡ n.name
   rose : rises cause
   down : e.node.up ≡ false
   ends : (e.ends ≡ true) ⊎ ((task_service t).goes_on ≡ true)
 
-task_fails : (s : Shared) (stops : ℕ) (n : Node) (t : Task) (rises : Cause → Type 0) (c : Choice) (node : List ℕ) (cause : Cause) → TaskAllowed s stops n t rises c → In (line.Down node cause) (task_effect s stops n t c).lines → Fails n rises t (task_effect s stops n t c) node cause
+pub task_fails : (s : Shared) (stops : ℕ) (n : Node) (t : Task) (rises : Cause → Type 0) (c : Choice) (node : List ℕ) (cause : Cause) → TaskAllowed s stops n t rises c → In (line.Down node cause) (task_effect s stops n t c).lines → Fails n rises t (task_effect s stops n t c) node cause
 task_fails s stops n t rises c node cause may i = go (outcome s stops n t rises c may)
   where
     last : (front : List Line) × ((task_effect s stops n t c).lines ≡ front ++ line.Down node cause ∷ []) × (((task_effect s stops n t c).ends ≡ true) ⊎ ((task_service t).goes_on ≡ true))
@@ -422,12 +422,16 @@ phases_fail (LinkDown a b) after w lines answer v d =
 phases_fail Settle after w lines answer v d = ending_fails after (phases_of Settle)
     (λ u. each_restart Ends (λ node. refl) u.nodes, (λ u. each_run_down Ends (λ node. refl) u.nodes, (λ u. all_asked Ends (λ node serial. tt) u.nodes, tt))) w lines answer v d
 
-pub downs_are_failures : DownsAreFailures
-downs_are_failures w v s lines node cause step i = elim (in_append (line.Down node cause) step.events (step.answer ∷ []) (subst (In (line.Down node cause)) step.shows i)) [
-  | inl j ↦ go (refused_at_once w s) step.does j
+-- it stands before the answer
+pub shown_before : (w v : World) (s : Statement) (lines : List Line) (node : List ℕ) (cause : Cause) → (step : Step w s lines v) → In (line.Down node cause) lines → In (line.Down node cause) step.events
+shown_before w v s lines node cause step i = elim (in_append (line.Down node cause) step.events (step.answer ∷ []) (subst (In (line.Down node cause)) step.shows i)) [
+  | inl j ↦ j
   | inr (inl same) ↦ (let no : false ≡ true = ap is_undown same ∙ answer_passes is_undown refusal_undown success_undown (λ cause. refl) w v s lines step in let none : ⊥ = cc in absurd none)
   | inr (inr none) ↦ absurd none
 ]
+
+pub downs_are_failures : DownsAreFailures
+downs_are_failures w v s lines node cause step i = go (refused_at_once w s) step.does (shown_before w v s lines node cause step i)
   where
     go : (o : Option Line) → Begins o (Phases (phases_of s) v.disks (begun_with s w) line.Normal) w step.events step.answer step.world → In (line.Down node cause) step.events → RoseAt w node cause v.disks × (up_at node v ≡ Some false)
     go (Some refusal) d j = absurd (subst (In (line.Down node cause)) d.0 j)

@@ -324,7 +324,7 @@ dump_rows s n file kept up first =
     records_found n file f there.1 ∙ ap (λ ls. entries (on_top ls (records f.history))) live ∙ ap (λ o. entries (records (history_of o))) (sym there.1) in
     (nothing_more (lines_of_rows (map shown_record (records_of n file))) [] refl ∙ shown_lines (records_of n file) ∙ ap (map (λ e. line.Record e.0 e.1)) same, ap length same)
 
-dumped : (w v : World) (node file : List ℕ) (events : List Line) (count : ℕ) → IsSound w → Step w (At node (Dump file)) (events ++ line.NormalCount count ∷ []) v → (n : Node) × (find_node node w.nodes ≡ Some n) × IsDumped n file events count
+pub dumped : (w v : World) (node file : List ℕ) (events : List Line) (count : ℕ) → IsSound w → Step w (At node (Dump file)) (events ++ line.NormalCount count ∷ []) v → (n : Node) × (find_node node w.nodes ≡ Some n) × IsDumped n file events count
 dumped w v node file events count sound step = go (find_node node w.nodes) refl
   where
     ended : (step.events ≡ events) × (step.answer ≡ line.NormalCount count)

@@ -35,10 +35,32 @@ is_plain _ = true
 abbrev pub ArePlain : List Line → Type 0
 ArePlain ls = AllPass is_plain ls
 
+-- A line that shows no vote: neither that a branch is prepared, nor that it left as read-only; nor that one joined.
+abbrev pub is_voteless : Line → Bool
+is_voteless (line.Prepared tid serial) = false
+is_voteless (line.ReadOnly tid serial) = false
+is_voteless (line.Joined tid serial) = false
+is_voteless _ = true
+
+abbrev pub AreVoteless : List Line → Type 0
+AreVoteless ls = AllPass is_voteless ls
+
+-- what the lines of an act show of a vote, and of a branch that joined
+abbrev pub VotesSo : Option Act → List Line → Type 0
+VotesSo (Some (Tables (Prepares b) moment)) ls = ls ≡ line.Prepared b.key.tid b.key.serial ∷ []
+VotesSo (Some (Tables (Leaves k) moment)) ls = ls ≡ line.ReadOnly k.tid k.serial ∷ []
+VotesSo (Some (Tables (Accepts b c) moment)) ls = ls ≡ line.Joined b.key.tid c.serial ∷ []
+VotesSo _ ls = AreVoteless ls
+
 entry_plain : (position : ℕ) (e : JournalEntry) → is_plain (entry_line position e) ≡ true
 entry_plain position (journal.ChangeEntry tid serial file key before) = refl
 entry_plain position (journal.PreparedEntry tid serial) = refl
 entry_plain position (journal.SettledEntry tid serial outcome moment) = refl
+
+entry_voteless : (position : ℕ) (e : JournalEntry) → is_voteless (entry_line position e) ≡ true
+entry_voteless position (journal.ChangeEntry tid serial file key before) = refl
+entry_voteless position (journal.PreparedEntry tid serial) = refl
+entry_voteless position (journal.SettledEntry tid serial outcome moment) = refl
 
 -- an act that neither settles a branch nor makes a volume
 abbrev pub is_quiet : Option Act → Bool
@@ -50,7 +72,7 @@ is_quiet _ = true
 
 abbrev pub AreQuiet : List Act → Type 0
 AreQuiet [] = Unit {0}
-AreQuiet (act ∷ acts) = (is_quiet (Some act) ≡ true) × AreQuiet acts
+AreQuiet (act ∷ acts) = (is_quiet (Some act) ≡ true) × VotesSo (Some act) [] × AreQuiet acts
 
 -- each of these rows is so at the node that those before it leave
 module _ (P : Row → Node → Type 0) where
@@ -72,26 +94,26 @@ module _ (P : Row → Node → Type 0) where
   cut_each None rs n h = h
 
 -- So is each row of a task where the five kinds of them are.
-module _ (P : Row → Node → Type 0) (plain : (act : Option Act) (ls : List Line) (n : Node) → ArePlain ls → is_quiet act ≡ true → P (record { act = act; lines = ls }) n)
+module _ (P : Row → Node → Type 0) (plain : (act : Option Act) (ls : List Line) (n : Node) → ArePlain ls → is_quiet act ≡ true → VotesSo act ls → P (record { act = act; lines = ls }) n)
     (settles : (k : BranchKey) (o : Outcome) (reason : Reason) (r : Option LogRecord) (n : Node) → P (record { act = Some (Tables (Settles k o reason r) (next_moment n)); lines = settled_line k o reason (next_moment n) ∷ [] }) n)
     (undoes : (k : BranchKey) (n : Node) → P (record { act = Some (Tables (Undoes k) (next_moment n)); lines = settled_line k Abort SegFail (next_moment n) ∷ [] }) n)
     (directs : (file : List ℕ) (cs : List Change) (n : Node) → P (record { act = Some (world.Directs file cs (answers.commit_settlement n (world.next_id n) (world.next_id n))); lines = line.Committed (world.next_id n) (world.next_id n) (next_moment n) ∷ [] }) n)
     (boots : (n : Node) → P (record { act = Some Boots; lines = last_lines n }) n) where
   act_each : (a : table.Act) (n : Node) (s : Shared) → P (record { act = Some (Tables a (next_moment n)); lines = shown_by a (next_moment n) n s }) n
-  act_each (Notes b) n s = plain (Some (Tables (Notes b) (next_moment n))) [] n tt refl
-  act_each (Accepts b c) n s = plain (Some (Tables (Accepts b c) (next_moment n))) (line.Joined b.key.tid c.serial ∷ []) n (refl, tt) refl
-  act_each (Prepares b) n s = plain (Some (Tables (Prepares b) (next_moment n))) (line.Prepared b.key.tid b.key.serial ∷ []) n (refl, tt) refl
+  act_each (Notes b) n s = plain (Some (Tables (Notes b) (next_moment n))) [] n tt refl tt
+  act_each (Accepts b c) n s = plain (Some (Tables (Accepts b c) (next_moment n))) (line.Joined b.key.tid c.serial ∷ []) n (refl, tt) refl refl
+  act_each (Prepares b) n s = plain (Some (Tables (Prepares b) (next_moment n))) (line.Prepared b.key.tid b.key.serial ∷ []) n (refl, tt) refl refl
   act_each (Settles k o reason r) n s = settles k o reason r n
-  act_each (Leaves k) n s = plain (Some (Tables (Leaves k) (next_moment n))) (line.ReadOnly k.tid k.serial ∷ []) n (refl, tt) refl
-  act_each (Acknowledges k) n s = plain (Some (Tables (Acknowledges k) (next_moment n))) (acknowledged_lines k n.volatile.records) n (acknowledged_passes is_plain (λ tid serial. refl) k n.volatile.records) refl
-  act_each (Releases serial rm) n s = plain (Some (Tables (Releases serial rm) (next_moment n))) (released_lines serial rm n.volatile.records) n (released_passes is_plain (λ tid serial. refl) serial rm n.volatile.records) refl
+  act_each (Leaves k) n s = plain (Some (Tables (Leaves k) (next_moment n))) (line.ReadOnly k.tid k.serial ∷ []) n (refl, tt) refl refl
+  act_each (Acknowledges k) n s = plain (Some (Tables (Acknowledges k) (next_moment n))) (acknowledged_lines k n.volatile.records) n (acknowledged_passes is_plain (λ tid serial. refl) k n.volatile.records) refl (acknowledged_passes is_voteless (λ tid serial. refl) k n.volatile.records)
+  act_each (Releases serial rm) n s = plain (Some (Tables (Releases serial rm) (next_moment n))) (released_lines serial rm n.volatile.records) n (released_passes is_plain (λ tid serial. refl) serial rm n.volatile.records) refl (released_passes is_voteless (λ tid serial. refl) serial rm n.volatile.records)
   act_each (Undoes k) n s = undoes k n
   act_each (Sends m) n s = go (nat_lt (length s.wire) message_limit)
     where
       go : (b : Bool) → P (record { act = Some (Tables (Sends m) (next_moment n)); lines = (if b then line.Sent (length s.wire + 1) m else line.Unsent m) ∷ [] }) n
-      go true = plain (Some (Tables (Sends m) (next_moment n))) (line.Sent (length s.wire + 1) m ∷ []) n (refl, tt) refl
-      go false = plain (Some (Tables (Sends m) (next_moment n))) (line.Unsent m ∷ []) n (refl, tt) refl
-  act_each (Prints l) n s = plain (Some (Tables (Prints l) (next_moment n))) (table_lines l) n (printed_passes is_plain (λ tid serial. refl) (λ tid reason. refl) l) refl
+      go true = plain (Some (Tables (Sends m) (next_moment n))) (line.Sent (length s.wire + 1) m ∷ []) n (refl, tt) refl (refl, tt)
+      go false = plain (Some (Tables (Sends m) (next_moment n))) (line.Unsent m ∷ []) n (refl, tt) refl (refl, tt)
+  act_each (Prints l) n s = plain (Some (Tables (Prints l) (next_moment n))) (table_lines l) n (printed_passes is_plain (λ tid serial. refl) (λ tid reason. refl) l) refl (printed_passes is_voteless (λ tid serial. refl) (λ tid reason. refl) l)
 
   table_each : (todo : List table.Act) (s : Shared) (n : Node) → EachRow P (table_rows todo s n) n
   table_each [] s n = tt
@@ -99,7 +121,7 @@ module _ (P : Row → Node → Type 0) (plain : (act : Option Act) (ls : List Li
 
   silent_each : (acts : List Act) (n : Node) → AreQuiet acts → EachRow P (map silent acts) n
   silent_each [] n h = tt
-  silent_each (act ∷ acts) n h = (plain (Some act) [] n tt h.0, silent_each acts (acted act n) h.1)
+  silent_each (act ∷ acts) n h = (plain (Some act) [] n tt h.0 h.1, silent_each acts (acted act n) h.2)
 
   silent_rows : (acts : List Act) (n : Node) → node_after_rows (map silent acts) n ≡ answers.all_acted acts n
   silent_rows [] n = refl
@@ -121,30 +143,30 @@ module _ (P : Row → Node → Type 0) (plain : (act : Option Act) (ls : List Li
   begins_each s n (Some l) = go l.bid
     where
       go : (o : Option Id) → EachRow P (told_if s n (option_map (λ bid. let t : answers.Telling = record { before = world.Draws ∷ world.Numbers l.name (world.next_id n) ∷ []; event = rows.Begin l.tid (world.next_id n) bid } in t) o)) n
-      go (Some bid) = told_each s n (record { before = world.Draws ∷ world.Numbers l.name (world.next_id n) ∷ []; event = rows.Begin l.tid (world.next_id n) bid }) (refl, (refl, tt))
+      go (Some bid) = told_each s n (record { before = world.Draws ∷ world.Numbers l.name (world.next_id n) ∷ []; event = rows.Begin l.tid (world.next_id n) bid }) (refl, tt, (refl, tt, tt))
       go None = tt
 
   entries_each : (es : List JournalEntry) (position : ℕ) (n : Node) → EachRow P (map shown_line (entry_lines position es)) n
   entries_each [] position n = tt
-  entries_each (e ∷ es) position n = (plain None (entry_line position e ∷ []) n (entry_plain position e, tt) refl, entries_each es (position + entry_size e) n)
+  entries_each (e ∷ es) position n = (plain None (entry_line position e ∷ []) n (entry_plain position e, tt) refl (entry_voteless position e, tt), entries_each es (position + entry_size e) n)
 
   records_each : (es : List (Key × List ℕ)) (n : Node) → EachRow P (map shown_record es) n
   records_each [] n = tt
-  records_each (e ∷ es) n = (plain None (line.Record e.0 e.1 ∷ []) n (refl, tt) refl, records_each es n)
+  records_each (e ∷ es) n = (plain None (line.Record e.0 e.1 ∷ []) n (refl, tt) refl (refl, tt), records_each es n)
 
   branch_each : (n : Node) (o : Option Branch) (does : Branch → List Row) → ((b : Branch) → EachRow P (does b) n) → EachRow P (elim o [ Some b ↦ does b | None ↦ [] ]) n
   branch_each n (Some b) does h = h b
   branch_each n None does h = tt
 
-  one_plain : (act : Act) (n : Node) → is_quiet (Some act) ≡ true → EachRow P (silent act ∷ []) n
-  one_plain act n h = (plain (Some act) [] n tt h, tt)
+  one_plain : (act : Act) (n : Node) → is_quiet (Some act) ≡ true → VotesSo (Some act) [] → EachRow P (silent act ∷ []) n
+  one_plain act n h v = (plain (Some act) [] n tt h v, tt)
 
   operated_each : (n : Node) (file : List ℕ) (op : Operation) (b : Branch) → EachRow P (operated n file op b ∷ []) n
   operated_each n file op b = go (changes_at n file op)
     where
       go : (cs : List Change) → EachRow P (silent (answers.operation_act b file cs (keys_at n file op)) ∷ []) n
-      go [] = one_plain (answers.operation_act b file [] (keys_at n file op)) n refl
-      go (c ∷ cs) = one_plain (answers.operation_act b file (c ∷ cs) (keys_at n file op)) n refl
+      go [] = one_plain (answers.operation_act b file [] (keys_at n file op)) n refl tt
+      go (c ∷ cs) = one_plain (answers.operation_act b file (c ∷ cs) (keys_at n file op)) n refl tt
 
   directed_each : (n : Node) (file : List ℕ) (cs : List Change) → EachRow P (directed n file cs) n
   directed_each n file [] = tt
@@ -154,7 +176,7 @@ module _ (P : Row → Node → Type 0) (plain : (act : Option Act) (ls : List Li
   created_each n made need = go (free_place n.durable.directory)
     where
       at : (place : ℕ) (o : Option ℕ) → EachRow P (elim o [ Some start ↦ record { act = Some (Creates place (made start)); lines = [] } ∷ [] | None ↦ [] ]) n
-      at place (Some start) = one_plain (Creates place (made start)) n refl
+      at place (Some start) = one_plain (Creates place (made start)) n refl tt
       at place None = tt
 
       go : (o : Option ℕ) → EachRow P (elim o [ Some place ↦ elim (lowest_free n need) [ Some start ↦ record { act = Some (Creates place (made start)); lines = [] } ∷ [] | None ↦ [] ] | None ↦ [] ]) n
@@ -168,9 +190,9 @@ module _ (P : Row → Node → Type 0) (plain : (act : Option Act) (ls : List Li
   request_each s n (Init slots journal) = tt
   request_each s n Boot = boot_each s n
   request_each s n (Create file bucket size form) = created_each n _ _
-  request_each s n (SetFile file setting) = one_plain (world.Marks file (answers.is_for_units setting)) n refl
-  request_each s n (StartTrans label seconds) = told_each s n (answers.starts n label seconds) (refl, (refl, tt))
-  request_each s n (AddBranch label other new) = branch_each n (branch_labelled s n label) (λ b. told_rows s n (answers.adds n other new b)) (λ b. told_each s n (answers.adds n other new b) (refl, (refl, tt)))
+  request_each s n (SetFile file setting) = one_plain (world.Marks file (answers.is_for_units setting)) n refl tt
+  request_each s n (StartTrans label seconds) = told_each s n (answers.starts n label seconds) (refl, tt, (refl, tt, tt))
+  request_each s n (AddBranch label other new) = branch_each n (branch_labelled s n label) (λ b. told_rows s n (answers.adds n other new b)) (λ b. told_each s n (answers.adds n other new b) (refl, tt, (refl, tt, tt)))
   request_each s n (StartBranch label) = begins_each s n (labelled n.name label s.labels)
   request_each s n (Records label file op) = branch_each n (branch_labelled s n label) (λ b. operated n file op b ∷ []) (λ b. operated_each n file op b)
   request_each s n (Direct file op) = directed_each n file (changes_at n file op)
@@ -180,15 +202,15 @@ module _ (P : Row → Node → Type 0) (plain : (act : Option Act) (ls : List Li
   request_each s n (Inquire who) = asked_each s n (branch_named s n who)
   request_each s n (Dump file) = records_each (records_of n file) n
   request_each s n DumpJournal = entries_each n.durable.units.entries n.durable.units.first n
-  request_each s n (Fuse writes choice) = one_plain (world.Arms writes choice) n refl
-  request_each s n Crash = (plain (Some world.Falls) (line.Crashed n.name ∷ []) n (refl, tt) refl, tt)
-  request_each s n (Clock now) = one_plain (world.Clocks now) n refl
+  request_each s n (Fuse writes choice) = one_plain (world.Arms writes choice) n refl tt
+  request_each s n Crash = (plain (Some world.Falls) (line.Crashed n.name ∷ []) n (refl, tt) refl (refl, tt), tt)
+  request_each s n (Clock now) = one_plain (world.Clocks now) n refl tt
 
   pub task_each : (s : Shared) (n : Node) (t : Task) → EachRow P ((task_service t).rows s n) n
   task_each s n (Serves request) = request_each s n request
   task_each s n Ticks = told_each s n (just (rows.Clock n.clock)) tt
   task_each s n (Takes m) = told_each s n (just (rows.Got m)) tt
-  task_each s n (Hears m) = (plain None (line.Asked m.tid m.serial (answers.outcome_told m.kind) ∷ []) n (refl, tt) refl, told_each s n (just (rows.Got m)) tt)
+  task_each s n (Hears m) = (plain None (line.Asked m.tid m.serial (answers.outcome_told m.kind) ∷ []) n (refl, tt) refl (refl, tt), told_each s n (just (rows.Got m)) tt)
   task_each s n (LosesLink other) = told_each s n (just (rows.LinkDown other)) tt
   task_each s n RunsDown = told_each s n (just rows.RunDown) tt
   task_each s n Restarts = boot_each s n

@@ -1,5 +1,5 @@
 -- A boot and a settling abort for a fall only branches that began in the run, or that stood unsettled on their disk at its opening.
-use Rattle.std.proofs.Common.{◌≡◌, ℕ, ◌⊎◌, List, [], ◌∷◌, ◌++◌, inl, inr, Bool, true, false, not, Option, Some, None, if◌then◌else◌, refl, sym, ◌∙◌, ap, subst}
+use Rattle.std.proofs.Common.{◌≡◌, ℕ, List, [], ◌∷◌, ◌++◌, inl, inr, Bool, true, false, Option, Some, None, if◌then◌else◌, refl, sym, ◌∙◌, ap, subst}
 use Rattle.std.specs.List.{AllByRecursion}
 use Rattle.std.specs.Str.{bytes_eq}
 use Rattle.std.proofs.lemmas.Slice.Eq.{bytes_eq-Decides}
@@ -9,7 +9,7 @@ use Rattle.vms_model.specs.Ids.{Id}
 use Rattle.vms_model.specs.Transactions.{Outcome, Commit, Abort, Reason, Aborted, Vetoed, SyncFail, Timeout, CommFail, SegFail}
 use Rattle.transcript_model.specs.Lines as line
 use Rattle.transcript_model.specs.Lines.{Line, Cause}
-use Rattle.script_model.specs.Statements.{Request, Statement, At, Reading, Says, Init, Boot, StartTrans, AddBranch, StartBranch, Direct, EndTrans, AbortTrans}
+use Rattle.script_model.specs.Statements.{Request, Init, Boot, StartTrans, AddBranch, StartBranch, Direct, EndTrans, AbortTrans}
 use Rattle.records_model.specs.History.{same_id}
 use Rattle.unit_laws.specs.Journal.{RecoveryUnit, find_unit, units_in}
 use Rattle.unit_laws.specs.Units.{Map}
@@ -24,14 +24,14 @@ use Rattle.run_model.specs.World as world
 use Rattle.run_model.specs.World.{World, Shared, Node, Act, Durable, Settlement, Tables, acted, next_moment, aborted_prepared, with_half, prepared_left, tm_of}
 use Rattle.run_model.specs.Answers.{Row, Task, Serves, Ticks, Takes, Hears, LosesLink, RunsDown, Restarts, task_service, service, powers, last_line, last_lines, settled_line, unit_key}
 use Rattle.run_model.specs.Steps.{Choice, TaskAllowed, task_effect, node_after}
-use Rattle.world_laws.specs.Nodes.{IsKeptDisk, IsUp}
+use Rattle.world_laws.specs.Nodes.{IsUp}
 use Rattle.world_laws.proofs.BootLemmas.{branch_in}
 use Rattle.world_laws.proofs.RestartLemmas.{has_settled, undone_unit}
 use Rattle.world_laws.proofs.TableLemmas.{in_cut}
 use Rattle.run_laws.specs.Promises.{abort, settlement_in}
 use Rattle.run_laws.proofs.EachRow.{ArePlain, is_plain}
-use Rattle.run_laws.proofs.Keeping.{AllTake, IsNextUnit, Keeps, Kept, Scheme, any_effect, down_effect, is_special}
-use Rattle.run_laws.proofs.Moving.{AreMild, HasOpen, IsMildIf, is_mild, is_mild_request, rows_move, task_mild}
+use Rattle.run_laws.proofs.Keeping.{AllTake, Keeps, Kept, Scheme, any_effect, down_effect, is_special, closes_plain}
+use Rattle.run_laws.proofs.Moving.{AreMild, HasOpen, IsMildIf, is_mild, rows_move, task_mild}
 use Rattle.run_laws.proofs.Noting.{NotesIn}
 use Rattle.run_laws.proofs.OwnLines.{line_in, task_owns}
 use Rattle.run_laws.proofs.RowFits.{Fits, RowFits, TellsAct}
@@ -202,7 +202,8 @@ module _ (node : List ℕ) (K : BranchKey → Type 0) where
   falling_keeps = record {
     none = λ a. refl;
     append = falls_append node;
-    plain = λ ls a h. falls_plain node ls a h;
+    plain = λ ls a h v. falls_plain node ls a h;
+    closes = closes_plain falling (λ ls a h. falls_plain node ls a h);
     same = λ a n m name durable settled h. (h.0, subst UnitsIn (sym durable) h.1);
     row = λ free r n a q f up h. (row_told free r n a q.1 f h.0, row_open r n q.0 h.1);
     under = λ free r n a act q f is d up h. (h.0, up_units (acted act n) up (subst (λ o. OpenIn (node_after o n)) is (row_open r n q.0 h.1)));

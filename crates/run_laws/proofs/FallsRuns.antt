@@ -1,17 +1,16 @@
 -- The same over runs.
-use Rattle.std.proofs.Common.{◌≡◌, ℕ, ◌⊎◌, List, [], ◌∷◌, ◌++◌, inl, inr, map, Bool, true, false, ◌&&◌, Option, Some, None, if◌then◌else◌, not, ◌||◌, refl, sym, ◌∙◌, ap, subst}
-use Rattle.std.specs.List.{AllByRecursion}
+use Rattle.std.proofs.Common.{◌≡◌, ℕ, ◌⊎◌, List, [], ◌∷◌, ◌++◌, inl, inr, Bool, true, false, ◌&&◌, Option, Some, None, if◌then◌else◌, not, ◌||◌, refl, sym, ◌∙◌, ap, subst}
 use Rattle.std.specs.Option.{is_some, option_and_then, option_map}
 use Rattle.std.specs.Str.{bytes_eq}
 use Rattle.std.proofs.lemmas.Bool.{both_ways}
 use Rattle.std.proofs.lemmas.Slice.Eq.{bytes_eq-Decides}
 use Rattle.vms_model.specs.Ids.{Id}
-use Rattle.vms_model.specs.Transactions.{Abort, SegFail}
+use Rattle.vms_model.specs.Transactions.{SegFail}
 use Rattle.transcript_model.specs.Lines as line
 use Rattle.transcript_model.specs.Lines.{Line, Cause}
 use Rattle.script_model.specs.Statements.{Request, Statement, At, Reading, Says, StartTrans, AddBranch, StartBranch}
 use Rattle.script_model.specs.Grammar.{reading}
-use Rattle.unit_laws.specs.Journal.{RecoveryUnit, find_unit, units_in}
+use Rattle.unit_laws.specs.Journal.{find_unit, units_in}
 use Rattle.commit_protocol.specs.Table as table
 use Rattle.commit_protocol.specs.Table.{Branch, State, Key as BranchKey, child, find, first}
 use Rattle.commit_protocol.specs.Rows as rows
@@ -26,7 +25,7 @@ use Rattle.run_model.specs.Statements.{Step}
 use Rattle.run_model.specs.Transcript.{Entry, AreOpening, Legal, Turn}
 use Rattle.run_model.specs.Operations.{first_of, refused_if}
 use Rattle.run_model.specs.StepLaws.{task_of}
-use Rattle.run_model.proofs.NodeLists.{clash, found_name, put_node, some_is}
+use Rattle.run_model.proofs.NodeLists.{found_name, put_node, some_is}
 use Rattle.world_laws.specs.Nodes.{IsKeptDisk, IsKeptNode}
 use Rattle.run_model.proofs.TaskLemmas.{rows_name}
 use Rattle.world_laws.proofs.NodeLemmas.{rows_way}
@@ -36,7 +35,7 @@ use Rattle.run_laws.specs.Promises.{ShownThere, WasLeft, abort, settlements_of}
 use Rattle.run_laws.specs.Laws.{FallsBegunHold}
 use Rattle.run_laws.proofs.AllShown.{shown_hold}
 use Rattle.run_laws.proofs.CauseRuns.{aborted_hold}
-use Rattle.run_laws.proofs.FallsBegun.{with_fall, AllIn, OpenIn, UnitsIn, fall_in, falling, falling_keeps, falling_tracks, falls_on, is_making, unit_serial}
+use Rattle.run_laws.proofs.FallsBegun.{with_fall, AllIn, fall_in, falling, falling_keeps, falling_tracks, falls_on, is_making, unit_serial}
 use Rattle.run_laws.proofs.Keeping.{Kept}
 use Rattle.run_laws.proofs.Labelling.{Succeeds, request_ends, served_up}
 use Rattle.run_laws.proofs.Named.{Named, born_later}

@@ -51,8 +51,8 @@ use Rattle.world_laws.proofs.ServedLemmas.{undrawn}
 use Rattle.world_laws.proofs.TableLemmas.{changed_serials, found_in, in_cut, in_serials, of_serial, serials_apart}
 use Rattle.world_laws.proofs.UpLemmas.{branch_drawn, differ, drawn_more}
 use Rattle.run_laws.proofs.AccountLemmas.{IsQuiet, IsShownBy, IsUntold, commits_append, commits_last, commits_plain, history_kept, history_other, history_settled, last_left, last_told, left_first, left_is, left_others, left_shown, left_told, none_settled, shown_left}
-use Rattle.run_laws.proofs.EachRow.{ArePlain}
-use Rattle.run_laws.proofs.Keeping.{AllTake, IsNextUnit, Keeps, Scheme, is_special}
+use Rattle.run_laws.proofs.EachRow.{ArePlain, VotesSo}
+use Rattle.run_laws.proofs.Keeping.{AllTake, IsNextUnit, Keeps, Scheme, is_special, closes_plain}
 use Rattle.run_laws.proofs.Once.{fewer_after, of_drawn, put_serials_new, unit_branch}
 use Rattle.run_laws.proofs.RowFits.{Fits, FitsTable, RowFits, TellsAct, free_after, latest_id}
 
@@ -749,7 +749,8 @@ module _ (node file : List ℕ) (D : Id → Type 0) where
   telling_keeps = record {
     none = λ a. refl;
     append = λ xs ys a. commits_append node xs ys a;
-    plain = λ ls a h. commits_plain node ls a h;
+    plain = λ ls a h v. commits_plain node ls a h;
+    closes = closes_plain telling (λ ls a h. commits_plain node ls a h);
     same = λ a n m name durable settled h. or_else (λ b. subst Betrays (sym settled) b) (λ k. inr (subst (λ x. IsToldDisk a x m.durable) (sym name) (subst (IsToldDisk a n.name) (sym durable) k))) h;
     row = λ free r n a q f up h. or_else (betrays_after r.act n) (λ k. acted_told free a r.lines r.act n q f k) h;
     under = λ free r n a act q f is d up h. or_else (betrays_acted act n) (λ k. under_told free a r.lines act n (subst Quiet is q) (fits_act free r n act is f) up k) h;
@@ -768,4 +769,4 @@ module _ (node file : List ℕ) (D : Id → Type 0) where
   }
     where
       fits_act : (free : Bool) (r : Row) (n : Node) (act : Act) → r.act ≡ Some act → RowFits free r n → RowFits free (record { act = Some act; lines = r.lines }) n
-      fits_act free r n act is f = record { up = f.up; fits = subst (λ o. Fits free o n) is f.fits; tells = subst (λ o. TellsAct o r.lines n) is f.tells }
+      fits_act free r n act is f = record { up = f.up; fits = subst (λ o. Fits free o n) is f.fits; tells = subst (λ o. TellsAct o r.lines n) is f.tells; votes = subst (λ o. VotesSo o r.lines) is f.votes }

@@ -1,19 +1,34 @@
 -- All that is proved of the promises, gathered.
-use Rattle.run_agreement.specs.Laws.{CommittedAreOfCommitted, LeaveAgreement, RestingAreWhole, SettleAlike, SettlingEnds, SettlingLeavesNone}
-use Rattle.run_laws.specs.Laws.{AgreedPromisesAreKept, PromisesAreKept}
-use Rattle.run_laws.proofs.AgreedRuns.{agreed_run, ends_for_all, run_of, settles_whole}
+use Rattle.std.proofs.Common.{◌≡◌, inr, ℕ, List, [], ◌∷◌, ◌++◌, Some, refl, sym, subst, ◌∙◌, append_assoc}
+use Rattle.script_model.specs.Statements.{Settle}
+use Rattle.commit_protocol.specs.Opening.{IsAgreeing}
+use Rattle.run_model.specs.World.{DiskCounts, Node, World, find_node, opened}
+use Rattle.run_model.specs.Transcript.{AreOpening, Entry, Legal}
+use Rattle.run_agreement.specs.Seen.{IsKnown}
+use Rattle.run_agreement.specs.Laws.{NamesApart, opening_told, CommittedAreOfCommitted, LeaveAgreement, RestingAreWhole, SettleAlike, SettlingEnds, SettlingLeavesNone}
+use Rattle.run_laws.specs.Laws.{AgreedPromises, AgreedPromisesAreKept, PromisesAreKept}
+use Rattle.run_laws.specs.Promises.{AreLastApart}
+use Rattle.run_laws.proofs.AgreedRuns.{agreed_run, ends_for_all, legal_names, run_of, settles_whole}
+use Rattle.run_laws.proofs.Anewed.{back_again, dumps_like, made_by_then, others_apart, others_for, others_forget, others_known, others_last, others_open, same_world, stand_like, told_alike}
+use Rattle.run_laws.proofs.Forgetting.{inits_forget}
+use Rattle.run_laws.proofs.AbortsAsked.{caused_hold}
 use Rattle.run_laws.proofs.AbortsStand.{agreed_aborts_stand, agreed_dumps_hold, told_agree}
 use Rattle.run_laws.proofs.AllShown.{shown_hold}
 use Rattle.run_laws.proofs.AskedHold.{asked_hold}
 use Rattle.run_laws.proofs.BootLines.{boots_show_last}
+use Rattle.run_laws.proofs.RecordedRuns.{booted_hold}
 use Rattle.run_laws.proofs.CauseRuns.{aborted_hold, commits_hold}
+use Rattle.run_laws.proofs.DownsHeld.{downs_have_causes, failures_show_down}
 use Rattle.run_laws.proofs.EndedHold.{ended_hold}
 use Rattle.run_laws.proofs.Ending.{aborts_hold, ends_hold, fails_hold}
 use Rattle.run_laws.proofs.FallsRuns.{falls_begun}
 use Rattle.run_laws.proofs.Interrupted.{interrupted_hold}
 use Rattle.run_laws.proofs.LastBoots.{lasts_hold}
 use Rattle.run_laws.proofs.LastFirst.{lasts_first}
+use Rattle.run_laws.proofs.Missing.{missing_hold}
 use Rattle.run_laws.proofs.NewIds.{directs_hold, ids_are_new}
+use Rattle.run_laws.proofs.PreparedRuns.{prepared_hold}
+use Rattle.run_laws.proofs.ReadOnlyRuns.{read_only_hold}
 use Rattle.run_laws.proofs.RestartsDecide.{restarts_hold}
 use Rattle.run_laws.proofs.ShowingLines.{aborts_show, directs_show, ends_show}
 use Rattle.run_laws.proofs.SoundWorlds.{settles_once}
@@ -22,6 +37,7 @@ pub kept_promises : PromisesAreKept
 kept_promises nodes disks es closing opening legal = record {
   ends = ends_hold nodes disks es closing opening legal;
   fails = fails_hold nodes disks es closing opening legal;
+  missing = missing_hold nodes disks es closing opening legal;
   ended = ended_hold nodes disks es closing opening legal;
   aborts = aborts_hold nodes disks es closing opening legal;
   directs = directs_hold nodes disks es closing opening legal;
@@ -39,23 +55,68 @@ kept_promises nodes disks es closing opening legal = record {
   lasts_first = lasts_first nodes disks es closing opening legal;
   show_last = boots_show_last nodes disks es closing opening legal;
   asked = asked_hold nodes disks es closing opening legal;
+  caused = caused_hold nodes disks es closing opening legal;
+  downs = downs_have_causes nodes disks es closing opening legal;
+  broken = failures_show_down nodes disks es closing opening legal;
+  prepared = prepared_hold nodes disks es closing opening legal;
+  booted = booted_hold nodes disks es closing opening legal;
+  read_only = read_only_hold nodes disks es closing opening legal;
   once = settles_once nodes disks es closing opening legal;
 }
 
-pub agreed_promises : SettleAlike → CommittedAreOfCommitted → LeaveAgreement → RestingAreWhole → SettlingLeavesNone → SettlingEnds → AgreedPromisesAreKept
-agreed_promises alike committed leave whole none ends nodes disks es closing opening apart known last_apart agrees legal =
-    let agree = told_agree nodes disks es closing opening apart known legal agrees in
-    let b = run_of nodes disks es closing opening apart known legal agrees in
-    let kept = kept_promises nodes disks es closing opening legal in
-    record {
-      kept = kept;
-      base = b.base;
-      before = b.before;
-      since = b.since;
-      parts = b.parts;
-      run = agreed_run alike committed leave whole b.base b.since closing b.is_run;
-      ends = ends_for_all b.base es closing kept.ends;
-      settles = settles_whole none ends nodes disks es closing opening apart known legal agrees;
-      dumps = agreed_dumps_hold nodes disks es closing opening apart known last_apart agree legal;
-      stand = agreed_aborts_stand nodes disks es opening apart known agree;
-    }
+-- where something is known of each disk
+module _ (alike : SettleAlike) (committed : CommittedAreOfCommitted) (leave : LeaveAgreement) (whole : RestingAreWhole) (none : SettlingLeavesNone) (ends : SettlingEnds) where
+  known_promises : (nodes : List Node) (disks : List DiskCounts) (es : List Entry) (closing : World) → AreOpening nodes → NamesApart nodes → ((name : List ℕ) (n : Node) → find_node name nodes ≡ Some n → IsKnown n) → AreLastApart nodes → IsAgreeing (opening_told nodes es) →
+      Legal (opened nodes disks) es closing → AgreedPromises (opened nodes disks) es closing
+  known_promises nodes disks es closing opening apart known last_apart agrees legal =
+      let agree = told_agree nodes disks es closing opening apart known legal agrees in
+      let b = run_of nodes disks es closing opening apart known legal agrees in
+      let kept = kept_promises nodes disks es closing opening legal in
+      record {
+        kept = kept;
+        base = b.base;
+        before = b.before;
+        since = b.since;
+        parts = b.parts;
+        begins = b.begins;
+        unused = b.unused;
+        run = agreed_run alike committed leave whole b.base b.since closing b.is_run;
+        ends = ends_for_all b.base es closing kept.ends;
+        settles = settles_whole none ends nodes disks es closing opening apart known legal agrees;
+        dumps = agreed_dumps_hold nodes disks es closing opening apart known last_apart agree legal;
+        stand = agreed_aborts_stand nodes disks es opening apart known agree;
+      }
+
+  -- else it is so from nodes without the volumes that are made anew, and so from these
+  pub agreed_promises : AgreedPromisesAreKept
+  agreed_promises nodes disks es closing opening apart h agrees legal =
+      let ms = others_for es nodes h in
+      let opens = others_open es nodes h opening in
+      let forget = others_forget es nodes h in
+      let apart_too = others_apart es nodes ms opening opens forget apart in
+      let to_others = inits_forget nodes ms disks es closing opening opens apart forget legal in
+      let a = known_promises ms disks es closing opens apart_too (others_known es nodes h) (others_last es nodes h) (subst IsAgreeing (sym (told_alike es nodes ms forget)) agrees) to_others in
+      record {
+        kept = kept_promises nodes disks es closing opening legal;
+        base = a.base;
+        before = a.before;
+        since = a.since;
+        parts = a.parts;
+        begins = same_world es ms nodes disks opens opening apart_too (back_again es nodes ms forget) a.since a.before a.base a.parts (made_by_then es a.since a.before a.base closing a.parts a.run.is_run.runs) a.run.is_run.base_is.apart a.begins;
+        unused = a.unused;
+        run = a.run;
+        ends = a.ends;
+        settles = λ before events answer there.
+            let s = a.settles before events answer there in
+            let parts : es ≡ (there.after ++ there.entry ∷ []) ++ before = there.stands ∙ sym (append_assoc there.after (there.entry ∷ []) before) in (
+              s.0,
+              s.1,
+              same_world es ms nodes disks opens opening apart_too (back_again es nodes ms forget) (there.after ++ there.entry ∷ []) before s.0 parts (λ node m. m.first before there.after there.entry Settle there.stands there.said (inr refl)) (legal_names (opened ms disks) s.0 before apart_too s.2) s.2,
+              s.3,
+              s.4,
+              s.5,
+              s.6,
+            );
+        dumps = dumps_like es nodes ms disks opening opens apart forget closing legal a.dumps;
+        stand = stand_like es nodes ms disks opening opens apart forget a.stand;
+      }

@@ -1,5 +1,5 @@
 -- What is kept of a node, with what its lines told, wherever a task is cut: a scheme for what is known of a node that is up, of a disk, and of a boot under way.
-use Rattle.std.proofs.Common.{◌≡◌, ℕ, zero, suc, List, [], ◌∷◌, ◌++◌, map, take, drop, Bool, true, false, not, ◌||◌, Option, Some, None, if◌then◌else◌, refl, sym, subst, ◌∙◌, ap}
+use Rattle.std.proofs.Common.{◌≡◌, ℕ, ◌+◌, zero, suc, append-nil, List, [], ◌∷◌, ◌++◌, map, take, drop, Bool, true, false, not, ◌||◌, Option, Some, None, if◌then◌else◌, refl, sym, subst, ◌∙◌, ap}
 use Rattle.std.specs.Prelude.{is_some}
 use Rattle.std.specs.List.{AllByRecursion}
 use Rattle.std.proofs.lemmas.Bool.{both_ways, false_from_ne_true}
@@ -15,7 +15,7 @@ use Rattle.unit_laws.specs.JournalLaws.{HasSettled, is_unit}
 use Rattle.commit_protocol.specs.World.{undo_all}
 use Rattle.run_model.specs.World.{Shared, Node, Act, Arms, Boots, Clocks, ComesUp, Directs, Formats, Tables, Outturn, Lost, Taken, Half, MayTurnOut, Settlement, Unknown, aborted_prepared, acted, durable_after, fallen, is_durable, next_moment, powered, settlement_of, settled_more, unpowered, with_half}
 use Rattle.run_model.specs.Operations.{first_of, refused_if}
-use Rattle.run_model.specs.Answers.{Row, Service, Task, Serves, Ticks, Takes, Hears, LosesLink, RunsDown, Restarts, boot_rows, left_active, last_lines, powers, refused_before_reading, service, settled_line, spoils, table_rows, task_service, touches, unit_key}
+use Rattle.run_model.specs.Answers.{Row, Service, Task, Serves, Ticks, Takes, Hears, LosesLink, RunsDown, Restarts, boot_rows, left_active, last_lines, prepared_lines, powers, refused_before_reading, service, settled_line, spoils, table_rows, task_service, touches, unit_key}
 use Rattle.run_model.specs.Steps.{Choice, Cut, TaskAllowed, Unpowered, Whole, WithoutMemory, act_begun, begun, if_durable, lines_of_rows, node_after, node_after_rows, ready_node, rows_if, rows_to_cut, spoilt, task_effect, whole}
 use Rattle.world_laws.specs.Nodes.{AreKept, IsKeptDisk, IsKeptNode, IsOf, IsUp}
 use Rattle.world_laws.proofs.IdLemmas.{id_is, id_itself}
@@ -27,7 +27,8 @@ use Rattle.world_laws.proofs.Induction.{powered_name}
 use Rattle.world_laws.proofs.RestartLemmas.{AreActive, IsUnprepared, active_settled, are_active, first_active, has_settled, undone_unit}
 use Rattle.world_laws.proofs.UndoLemmas.{boot_kept, left_of}
 use Rattle.world_laws.proofs.UnitSets.{UnitsDiffer, found_active, none_is, units_differ}
-use Rattle.run_laws.proofs.EachRow.{ArePlain, closing_plain}
+use Rattle.run_laws.proofs.EachRow.{ArePlain, AreVoteless, is_plain}
+use Rattle.run_laws.proofs.Passing.{prepared_passes}
 use Rattle.run_laws.proofs.RowFits.{EachFits, RowFits, free_after, task_fits}
 
 -- The scheme.
@@ -67,7 +68,7 @@ pub record IsNextUnit (n : Node) (u : RecoveryUnit) : Type 0 where
 pub record Keeps (t : Scheme) : Type 0 where
   pub none : (a : t.Told) → t.more [] a ≡ a
   pub append : (xs ys : List Line) (a : t.Told) → t.more (xs ++ ys) a ≡ t.more ys (t.more xs a)
-  pub plain : (ls : List Line) (a : t.Told) → ArePlain ls → t.more ls a ≡ a
+  pub plain : (ls : List Line) (a : t.Told) → ArePlain ls → AreVoteless ls → t.more ls a ≡ a
   -- of a disk the name, what it has and the settlements matter alone
   pub same : (a : t.Told) (n m : Node) → m.name ≡ n.name → m.durable ≡ n.durable → m.settled ≡ n.settled → t.Disk a n → t.Disk a m
   -- rows while it is up, what is under way, and a fall
@@ -87,6 +88,8 @@ pub record Keeps (t : Scheme) : Type 0 where
   -- a disk that is to run again, where nothing is under way, or what was before
   pub none_ready : (n : Node) → n.under_way ≡ None → t.Ready n
   pub same_ready : (n m : Node) → m.under_way ≡ n.under_way → t.Ready n → t.Ready m
+  -- the branches that a boot found prepared on the disk are shown behind its rows
+  pub closes : (a : t.Told) (n m : Node) → m.durable.log ≡ n.durable.log → IsUp (acted ComesUp m) → t.Boots a m → t.Boots (t.more (prepared_lines n) a) m
   pub comes : (a : t.Told) (n : Node) → IsUp (acted ComesUp n) → t.Boots a n → t.Up false a (acted ComesUp n)
 
 -- the units that a boot is still to undo
@@ -164,7 +167,7 @@ pub record IsLike (n m : Node) : Type 0 where
   pub volatile : m.volatile ≡ n.volatile
   pub settled : m.settled ≡ n.settled
 
-first_up : (free : Bool) (rs : List Row) (n : Node) → EachFits free rs n → IsUp n
+pub first_up : (free : Bool) (rs : List Row) (n : Node) → EachFits free rs n → IsUp n
 first_up free [] n f = f
 first_up free (r ∷ rs) n f = f.0.up
 
@@ -184,6 +187,18 @@ begun_act (Some x) act e = go (is_durable x) refl e
 pub nothing_more : (xs ys : List Line) → ys ≡ [] → xs ++ ys ≡ xs
 nothing_more [] ys e = e
 nothing_more (x ∷ xs) ys e = ap (λ zs. x ∷ zs) (nothing_more xs ys e)
+
+-- The lines behind the rows of a boot: what is prepared, and perhaps that the node is up.
+abbrev pub ClosesBoot : List Line → Node → Type 0
+ClosesBoot ls n = (rest : List Line) × (ls ≡ prepared_lines n ++ rest) × ArePlain rest × AreVoteless rest
+
+-- its rows leave the log
+undo_log : (us : List RecoveryUnit) (s : Shared) (n : Node) → (node_after_rows (table_rows (undo_all (map unit_key us)) s n) n).durable.log ≡ n.durable.log
+undo_log [] s n = refl
+undo_log (u ∷ us) s n = undo_log us s (undone_unit n u)
+
+boot_log : (s : Shared) (n : Node) → (node_after_rows (boot_rows s n) n).durable.log ≡ n.durable.log
+boot_log s n = undo_log (left_active n) s (acted Boots n)
 
 -- whether a task makes a volume
 abbrev pub is_init : Task → Bool
@@ -377,57 +392,62 @@ module _ (t : Scheme) (k : Keeps t) where
         go (Some act) q = absurd (both_ways n.up (kept.way act q).2 up)
 
     -- at a node that is up
-    module _ (off : powers e ≡ false) (up : n.up ≡ true) (takes : AllTake t (e.rows s n)) where
+    module _ (off : powers e ≡ false) (up : n.up ≡ true) where
       same_ready : (o : Outturn) → ready_node o stops e n ≡ n
       same_ready o = ap (λ b. if b then spoilt (spoils e) (powered o stops n) else n) off
 
       abbrev closed : Option Act → List Line → Node → Type 0
       closed act ls m = Kept (t.more (lines_of_rows (e.rows s n) ++ ls) a) (node_after act m)
 
-      done_up : refused_before_reading s n e ≡ None → e.refused_after_reading s n ≡ None → closed e.closing (e.closing_lines n) (node_after_rows (e.rows s n) n)
-      done_up first late =
-          let f = task_fits s n task kept up off first late in
-          let r = rows_up false (e.rows s n) n a takes f (h.runs up) in
-          let m = node_after_rows (e.rows s n) n in
-          let b = t.more (lines_of_rows (e.rows s n)) a in
-          let c = closes_none task n off in
-          subst (λ o. closed o (e.closing_lines n) m) (sym c.0)
-          (subst (λ ls. Kept (t.more ls a) m) (sym (nothing_more (lines_of_rows (e.rows s n)) (e.closing_lines n) c.1)) (record {
-            disk = k.falls false b m r.0 r.1;
-            way = λ act q. none_under b m act (rows_way (e.rows s n) n ∙ rests up) q;
-            runs = λ q. r.1;
-          }))
+      -- done whole, where its rows keep what is known
+      module _ (rows : EachFits false (e.rows s n) n → IsUp (node_after_rows (e.rows s n) n) × t.Up false (t.more (lines_of_rows (e.rows s n)) a) (node_after_rows (e.rows s n) n)) where
+        done_up : refused_before_reading s n e ≡ None → e.refused_after_reading s n ≡ None → closed e.closing (e.closing_lines n) (node_after_rows (e.rows s n) n)
+        done_up first late =
+            let r = rows (task_fits s n task kept up off first late) in
+            let m = node_after_rows (e.rows s n) n in
+            let b = t.more (lines_of_rows (e.rows s n)) a in
+            let c = closes_none task n off in
+            subst (λ o. closed o (e.closing_lines n) m) (sym c.0)
+            (subst (λ ls. Kept (t.more ls a) m) (sym (nothing_more (lines_of_rows (e.rows s n)) (e.closing_lines n) c.1)) (record {
+              disk = k.falls false b m r.0 r.1;
+              way = λ act q. none_under b m act (rows_way (e.rows s n) n ∙ rests up) q;
+              runs = λ q. r.1;
+            }))
 
-      begun_up : (o : Option Line) → e.refused_after_reading s n ≡ o → refused_before_reading s n e ≡ None → Kept (t.more (begun s n e o).lines a) (begun s n e o).node
-      begun_up (Some refusal) late first = still a n h
-      begun_up None late first = done_up first late
+        begun_up : (o : Option Line) → e.refused_after_reading s n ≡ o → refused_before_reading s n e ≡ None → Kept (t.more (begun s n e o).lines a) (begun s n e o).node
+        begun_up (Some refusal) late first = still a n h
+        begun_up None late first = done_up first late
 
-      whole_up : (o : Option Line) → refused_before_reading s n e ≡ o → Kept (t.more (whole s n n e o).lines a) (whole s n n e o).node
-      whole_up (Some refusal) first = still a n h
-      whole_up None first = begun_up (e.refused_after_reading s n) refl first
+        whole_up : (o : Option Line) → refused_before_reading s n e ≡ o → Kept (t.more (whole s n n e o).lines a) (whole s n n e o).node
+        whole_up (Some refusal) first = still a n h
+        whole_up None first = begun_up (e.refused_after_reading s n) refl first
 
-      cut_up : (j : ℕ) (b : Bool) (cause : Cause) → refused_before_reading s n e ≡ None → (o : Option Line) → e.refused_after_reading s n ≡ o → let rs = rows_if o (e.rows s n) in
-          Kept (t.more (lines_of_rows (take j rs) ++ line.Down n.name cause ∷ []) a) (fallen (act_begun b (drop j rs)) (node_after_rows (take j rs) n))
-      cut_up j b cause first o late = go o late
-        where
-          down_lines : (rs : List Row) (m : Node) → Kept (t.more (lines_of_rows (take j rs)) a) m → Kept (t.more (lines_of_rows (take j rs) ++ line.Down n.name cause ∷ []) a) m
-          down_lines rs m q = subst (λ c. Kept c m) (sym (k.append (lines_of_rows (take j rs)) (line.Down n.name cause ∷ []) a ∙ k.plain (line.Down n.name cause ∷ []) (t.more (lines_of_rows (take j rs)) a) (refl, tt))) q
+        pub whole_effect : (o : Outturn) → KeptEffect a s stops n task (Whole o)
+        whole_effect o = subst (λ m. Kept (t.more (whole s n m e (refused_before_reading s n e)).lines a) (whole s n m e (refused_before_reading s n e)).node) (sym (same_ready o)) (whole_up (refused_before_reading s n e) refl)
 
-          of_rows : (rs : List Row) → AllTake t rs → EachFits false rs n → Kept (t.more (lines_of_rows (take j rs) ++ line.Down n.name cause ∷ []) a) (fallen (act_begun b (drop j rs)) (node_after_rows (take j rs) n))
-          of_rows rs q f =
-              down_lines rs (fallen (act_begun b (drop j rs)) (node_after_rows (take j rs) n))
-              (fell b j rs n (t.more (lines_of_rows (take j rs)) a) (rows_cut false j rs n a q f (h.runs up)) (rows_under false b j rs n a q f (h.runs up)))
+      module _ (takes : AllTake t (e.rows s n)) where
+        cut_up : (j : ℕ) (b : Bool) (cause : Cause) → refused_before_reading s n e ≡ None → (o : Option Line) → e.refused_after_reading s n ≡ o → let rs = rows_if o (e.rows s n) in
+            Kept (t.more (lines_of_rows (take j rs) ++ line.Down n.name cause ∷ []) a) (fallen (act_begun b (drop j rs)) (node_after_rows (take j rs) n))
+        cut_up j b cause first o late = go o late
+          where
+            down_lines : (rs : List Row) (m : Node) → Kept (t.more (lines_of_rows (take j rs)) a) m → Kept (t.more (lines_of_rows (take j rs) ++ line.Down n.name cause ∷ []) a) m
+            down_lines rs m q = subst (λ c. Kept c m) (sym (k.append (lines_of_rows (take j rs)) (line.Down n.name cause ∷ []) a ∙ k.plain (line.Down n.name cause ∷ []) (t.more (lines_of_rows (take j rs)) a) (refl, tt) (refl, tt))) q
 
-          go : (o : Option Line) → e.refused_after_reading s n ≡ o → let rs = rows_if o (e.rows s n) in Kept (t.more (lines_of_rows (take j rs) ++ line.Down n.name cause ∷ []) a) (fallen (act_begun b (drop j rs)) (node_after_rows (take j rs) n))
-          go (Some refusal) q = of_rows [] tt (kept.runs up).0
-          go None q = of_rows (e.rows s n) takes (task_fits s n task kept up off first q)
+            of_rows : (rs : List Row) → AllTake t rs → EachFits false rs n → Kept (t.more (lines_of_rows (take j rs) ++ line.Down n.name cause ∷ []) a) (fallen (act_begun b (drop j rs)) (node_after_rows (take j rs) n))
+            of_rows rs q f =
+                down_lines rs (fallen (act_begun b (drop j rs)) (node_after_rows (take j rs) n))
+                (fell b j rs n (t.more (lines_of_rows (take j rs)) a) (rows_cut false j rs n a q f (h.runs up)) (rows_under false b j rs n a q f (h.runs up)))
 
-      pub up_effect : (c : Choice) (rises : Cause → Type 0) → TaskAllowed s stops n task rises c → KeptEffect a s stops n task c
-      up_effect (Whole o) rises may = subst (λ m. Kept (t.more (whole s n m e (refused_before_reading s n e)).lines a) (whole s n m e (refused_before_reading s n e)).node) (sym (same_ready o)) (whole_up (refused_before_reading s n e) refl)
-      up_effect WithoutMemory rises may = still a n h
-      up_effect Unpowered rises may = absurd (both_ways (powers e) off may.1)
-      up_effect (Cut o j b cause) rises may = subst (λ m. let rs = rows_to_cut s m e in Kept (t.more (lines_of_rows (take j rs) ++ line.Down m.name cause ∷ []) a) (fallen (act_begun b (drop j rs)) (node_after_rows (take j rs) m))) (sym (same_ready o))
-          (cut_up j b cause may.0 (e.refused_after_reading s n) refl)
+            go : (o : Option Line) → e.refused_after_reading s n ≡ o → let rs = rows_if o (e.rows s n) in Kept (t.more (lines_of_rows (take j rs) ++ line.Down n.name cause ∷ []) a) (fallen (act_begun b (drop j rs)) (node_after_rows (take j rs) n))
+            go (Some refusal) q = of_rows [] tt (kept.runs up).0
+            go None q = of_rows (e.rows s n) takes (task_fits s n task kept up off first q)
+
+        pub up_effect : (c : Choice) (rises : Cause → Type 0) → TaskAllowed s stops n task rises c → KeptEffect a s stops n task c
+        up_effect (Whole o) rises may = whole_effect (λ f. rows_up false (e.rows s n) n a takes f (h.runs up)) o
+        up_effect WithoutMemory rises may = still a n h
+        up_effect Unpowered rises may = absurd (both_ways (powers e) off may.1)
+        up_effect (Cut o j b cause) rises may = subst (λ m. let rs = rows_to_cut s m e in Kept (t.more (lines_of_rows (take j rs) ++ line.Down m.name cause ∷ []) a) (fallen (act_begun b (drop j rs)) (node_after_rows (take j rs) m))) (sym (same_ready o))
+            (cut_up j b cause may.0 (e.refused_after_reading s n) refl)
 
     -- at a node that is down
     module _ (off : powers e ≡ false) (down : n.up ≡ false) where
@@ -470,7 +490,7 @@ module _ (t : Scheme) (k : Keeps t) where
       down_effect (Cut o j b cause) rises may = absurd (both_ways (touches e) (quietly (served may.0) n refl).0 may.1)
 
     -- A boot.
-    module _ (boots : (x : Shared) (m : Node) → e.rows x m ≡ boot_rows x m) (closing : e.closing ≡ Some ComesUp) (ready : (o : Outturn) → ready_node o stops e n ≡ powered o stops n) (whole_disk : spoils e ≡ false) (first_ready : t.Ready n) (down : refused_before_reading s n e ≡ None → n.up ≡ false) where
+    module _ (boots : (x : Shared) (m : Node) → e.rows x m ≡ boot_rows x m) (closing : e.closing ≡ Some ComesUp) (ready : (o : Outturn) → ready_node o stops e n ≡ powered o stops n) (whole_disk : spoils e ≡ false) (first_ready : t.Ready n) (down : refused_before_reading s n e ≡ None → n.up ≡ false) (shows : (m : Node) → ClosesBoot (e.closing_lines m) m) where
       module _ (o : Outturn) (may : MayTurnOut n o) where
         abbrev r : Node
         r = powered o stops n
@@ -487,10 +507,13 @@ module _ (t : Scheme) (k : Keeps t) where
         came : Kept (t.more (lines_of_rows (e.rows s r) ++ e.closing_lines r) a) (node_after e.closing (node_after_rows (e.rows s r) r))
         came =
             let m = node_after_rows (boot_rows s r) r in
-            let b = t.more (lines_of_rows (boot_rows s r)) a in
+            let c = t.more (lines_of_rows (boot_rows s r)) a in
+            let b = t.more (prepared_lines r) c in
+            let x = shows r in
             let up = come_up s r r_ready.disk in
-            let now = k.comes b m up (boot_whole s r r_ready.disk a r_kept.0) in
-            let all : t.more (lines_of_rows (boot_rows s r) ++ e.closing_lines r) a ≡ b = k.append (lines_of_rows (boot_rows s r)) (e.closing_lines r) a ∙ k.plain (e.closing_lines r) b (closing_plain r task) in
+            let now = k.comes b m up (k.closes c r m (boot_log s r) up (boot_whole s r r_ready.disk a r_kept.0)) in
+            let all : t.more (lines_of_rows (boot_rows s r) ++ e.closing_lines r) a ≡ b =
+            k.append (lines_of_rows (boot_rows s r)) (e.closing_lines r) a ∙ ap (λ ls. t.more ls c) x.1 ∙ k.append (prepared_lines r) x.0 c ∙ k.plain x.0 b x.2 x.3 in
             subst (λ rs. Kept (t.more (lines_of_rows rs ++ e.closing_lines r) a) (node_after e.closing (node_after_rows rs r))) (sym (boots s r))
             (subst (λ act. Kept (t.more (lines_of_rows (boot_rows s r) ++ e.closing_lines r) a) (node_after act m)) (sym closing)
             (subst (λ c. Kept c (acted ComesUp m)) (sym all) (record {
@@ -511,7 +534,7 @@ module _ (t : Scheme) (k : Keeps t) where
         cut_boot j b cause q = go q
           where
             on_down : (rs : List Row) (m : Node) → Kept (t.more (lines_of_rows (take j rs)) a) m → Kept (t.more (lines_of_rows (take j rs) ++ line.Down r.name cause ∷ []) a) m
-            on_down rs m x = subst (λ c. Kept c m) (sym (k.append (lines_of_rows (take j rs)) (line.Down r.name cause ∷ []) a ∙ k.plain (line.Down r.name cause ∷ []) (t.more (lines_of_rows (take j rs)) a) (refl, tt))) x
+            on_down rs m x = subst (λ c. Kept c m) (sym (k.append (lines_of_rows (take j rs)) (line.Down r.name cause ∷ []) a ∙ k.plain (line.Down r.name cause ∷ []) (t.more (lines_of_rows (take j rs)) a) (refl, tt) (refl, tt))) x
 
             nothing : (j : ℕ) → node_after_rows (take j []) r ≡ r
             nothing zero = refl
@@ -535,7 +558,7 @@ module _ (t : Scheme) (k : Keeps t) where
 
       dead_boot : Kept (t.more (line.Down n.name line.Failed ∷ []) a) (spoilt (spoils e) (unpowered stops n))
       dead_boot = subst (λ b. Kept (t.more (line.Down n.name line.Failed ∷ []) a) (spoilt b (unpowered stops n))) (sym whole_disk)
-          (subst (λ c. Kept c (unpowered stops n)) (sym (k.plain (line.Down n.name line.Failed ∷ []) a (refl, tt))) (like_kept n (unpowered stops n) a (record { name = refl; durable = refl; volatile = refl; settled = refl }) refl refl h))
+          (subst (λ c. Kept c (unpowered stops n)) (sym (k.plain (line.Down n.name line.Failed ∷ []) a (refl, tt) (refl, tt))) (like_kept n (unpowered stops n) a (record { name = refl; durable = refl; volatile = refl; settled = refl }) refl refl h))
 
       pub boot_effect : (c : Choice) (rises : Cause → Type 0) → TaskAllowed s stops n task rises c → KeptEffect a s stops n task c
       boot_effect (Whole o) rises may = subst (λ m. Kept (t.more (whole s n m e (refused_before_reading s n e)).lines a) (whole s n m e (refused_before_reading s n e)).node) (sym (ready o)) (whole_boot o may (refused_before_reading s n e) refl)
@@ -578,7 +601,7 @@ module _ (t : Scheme) (k : Keeps t) where
             r = spoilt true (powered o stops n)
 
             done : Kept (t.more (line.Down n.name cause ∷ []) a) (fallen None r)
-            done = subst (λ c. Kept c (fallen None r)) (sym (k.plain (line.Down n.name cause ∷ []) a (refl, tt))) (record {
+            done = subst (λ c. Kept c (fallen None r)) (sym (k.plain (line.Down n.name cause ∷ []) a (refl, tt) (refl, tt))) (record {
               disk = k.same a (spoilt true (powered o stops n)) (fallen None r) refl refl refl (init_ready o may first).0;
               way = λ act q. let no : ⊥ = cc in absurd no;
               runs = λ q. let no : ⊥ = cc in absurd no;
@@ -591,7 +614,7 @@ module _ (t : Scheme) (k : Keeps t) where
             go (suc j) false = done
 
         init_dead : refused_before_reading s n makes ≡ None → Kept (t.more (line.Down n.name line.Failed ∷ []) a) (spoilt true (unpowered stops n))
-        init_dead first = subst (λ c. Kept c (spoilt true (unpowered stops n))) (sym (k.plain (line.Down n.name line.Failed ∷ []) a (refl, tt))) (record {
+        init_dead first = subst (λ c. Kept c (spoilt true (unpowered stops n))) (sym (k.plain (line.Down n.name line.Failed ∷ []) a (refl, tt) (refl, tt))) (record {
           disk = k.spoils a (unpowered stops n) (k.same a n (unpowered stops n) refl refl refl h.disk);
           way = λ act q. none_under a (spoilt true (unpowered stops n)) act (kept.unused (not_used first)).1 q;
           runs = λ q. let no : ⊥ = cc in absurd no;
@@ -643,7 +666,7 @@ module _ (t : Scheme) (k : Keeps t) where
 
     request_effect : (r : Request) → is_init (Serves r) ≡ false → (powers (service r) ≡ false → AllTake t ((service r).rows s n)) → (powers (service r) ≡ true → t.Ready n) → (c : Choice) (rises : Cause → Type 0) → TaskAllowed s stops n (Serves r) rises c → KeptEffect a s stops n (Serves r) c
     request_effect (Init slots journal) other takes ready c rises may = let no : ⊥ = cc in absurd no
-    request_effect Boot other takes ready c rises may = boot_effect s stops n (Serves Boot) a known h (λ x m. refl) refl (λ o. refl) refl (ready refl) (λ first. node_down n _ (behind_down n (service Boot) s first)) c rises may
+    request_effect Boot other takes ready c rises may = boot_effect s stops n (Serves Boot) a known h (λ x m. refl) refl (λ o. refl) refl (ready refl) (λ first. node_down n _ (behind_down n (service Boot) s first)) (λ m. ([], sym (append-nil (prepared_lines m)), tt, tt)) c rises may
     request_effect (Create file bucket size form) other takes ready c rises may = plain_effect (Serves (Create file bucket size form)) takes refl c rises may
     request_effect (SetFile file setting) other takes ready c rises may = plain_effect (Serves (SetFile file setting)) takes refl c rises may
     request_effect (StartTrans label seconds) other takes ready c rises may = plain_effect (Serves (StartTrans label seconds)) takes refl c rises may
@@ -669,7 +692,7 @@ module _ (t : Scheme) (k : Keeps t) where
     else_effect (Hears m) other takes ready c rises may = plain_effect (Hears m) takes refl c rises may
     else_effect (LosesLink node) other takes ready c rises may = plain_effect (LosesLink node) takes refl c rises may
     else_effect RunsDown other takes ready c rises may = plain_effect RunsDown takes refl c rises may
-    else_effect Restarts other takes ready c rises may = boot_effect s stops n Restarts a known h (λ x m. refl) refl (λ o. refl) refl (ready refl) (λ first. node_down n _ (behind_down n (task_service Restarts) s first)) c rises may
+    else_effect Restarts other takes ready c rises may = boot_effect s stops n Restarts a known h (λ x m. refl) refl (λ o. refl) refl (ready refl) (λ first. node_down n _ (behind_down n (task_service Restarts) s first)) (λ m. (line.Booted m.name (m.durable.boot + 1) ∷ [], refl, (refl, tt), (refl, tt))) c rises may
 
     -- and any task, where the same is known of a new volume
     pub any_effect : (unused : s.in_use ≡ false → n.settled ≡ []) → (s.in_use ≡ false → (slots journal : ℕ) (m : Node) → m.settled ≡ [] → t.Disk a (acted (Formats slots journal) m)) → (task : Task) → (powers (task_service task) ≡ false → AllTake t ((task_service task).rows s n)) → (powers (task_service task) ≡ true → t.Ready n) → (c : Choice) (rises : Cause → Type 0) → TaskAllowed s stops n task rises c →
@@ -684,6 +707,10 @@ module _ (t : Scheme) (k : Keeps t) where
             made_it (Serves _) is m = let no : ⊥ = cc in absurd no
             made_it _ is m = let no : ⊥ = cc in absurd no
         go false other = else_effect task other takes ready c rises may
+
+-- the branches that are prepared tell a scheme nothing that only settlements tell more
+pub closes_plain : (t : Scheme) → ((ls : List Line) (a : t.Told) → ArePlain ls → t.more ls a ≡ a) → (a : t.Told) (n m : Node) → m.durable.log ≡ n.durable.log → IsUp (acted ComesUp m) → t.Boots a m → t.Boots (t.more (prepared_lines n) a) m
+closes_plain t plain a n m log up h = subst (λ b. t.Boots b m) (sym (plain (prepared_lines n) a (prepared_passes is_plain (λ tid serial. refl) _))) h
 
 -- where it is said of all acts
 pub all_take : (t : Scheme) → ((o : Option Act) → t.Takes o) → (rs : List Row) → AllTake t rs

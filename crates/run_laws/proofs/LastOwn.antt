@@ -8,7 +8,7 @@ use Rattle.commit_protocol.specs.World.{In}
 use Rattle.run_model.specs.World as world
 use Rattle.run_model.specs.World.{Node, Act, Directs, Formats, Settlement, Tables, aborted_prepared, acted, with_half}
 use Rattle.run_model.specs.Steps.{node_after}
-use Rattle.run_laws.proofs.Keeping.{Keeps, Scheme}
+use Rattle.run_laws.proofs.Keeping.{Keeps, Scheme, closes_plain}
 use Rattle.world_laws.proofs.FindLemmas.{some_is}
 
 module _ (x : Id) where
@@ -50,7 +50,8 @@ module _ (x : Id) where
   lasting_keeps = record {
     none = λ a. refl;
     append = λ xs ys a. refl;
-    plain = λ ls a h. refl;
+    plain = λ ls a h v. refl;
+    closes = closes_plain lasting (λ ls a h. refl);
     same = λ a n m name durable settled h. subst (λ (d : world.Durable). IsOwn d.last m.settled) (sym durable) (subst (IsOwn n.durable.last) (sym settled) h);
     row = λ free r n a q f up h. after_own r.act n h;
     under = λ free r n a act q f is d up h. acted_own act n h;

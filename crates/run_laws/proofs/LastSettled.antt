@@ -38,13 +38,13 @@ module _ (o : Option Node) where
   settled_last None d ss h t e = h t e
   settled_last (Some s) d ss h t e = inl (inl (sym (some_is s t e)))
 
-  acted_last : (act : Act) (n : Node) → HasLast o n → HasLast o (acted act n)
+  pub acted_last : (act : Act) (n : Node) → HasLast o n → HasLast o (acted act n)
   acted_last (Tables a moment) n h t e = settled_last (settlement_of a moment) _ n.settled h t e
   acted_last (Directs file cs s) n h t e = inl (inl (sym (some_is s t e)))
   acted_last (Formats slots journal) n h t e = let no : ⊥ = cc in absurd no
   acted_last _ n h t e = h t e
 
-  after_last : (act : Option Act) (n : Node) → HasLast o n → HasLast o (node_after act n)
+  pub after_last : (act : Option Act) (n : Node) → HasLast o n → HasLast o (node_after act n)
   after_last None n h t e = h t e
   after_last (Some act) n h t e = acted_last act n h t e
 
@@ -56,7 +56,7 @@ module _ (o : Option Node) where
   half_last None standing d = refl
   half_last (Some serial) standing d = refl
 
-  powered_last : (outturn : Outturn) (stops : ℕ) (n : Node) → HasLast o n → HasLast o (powered outturn stops n)
+  pub powered_last : (outturn : Outturn) (stops : ℕ) (n : Node) → HasLast o n → HasLast o (powered outturn stops n)
   powered_last outturn stops n h = go outturn n.under_way
     where
       go : (r : Outturn) (act : Option Act) → HasLast o (powered r stops (record n { under_way = act }))
@@ -131,7 +131,7 @@ module _ (o : Option Node) where
   directed_quietly file cs n last l s (inr i) e = absurd i
 
   -- the lines of a settlement are that one, where it is among them
-  only_line : (t : Settlement) (l : Line) → In l (last_line t) → last_line t ≡ l ∷ []
+  pub only_line : (t : Settlement) (l : Line) → In l (last_line t) → last_line t ≡ l ∷ []
   only_line t l = go t.outcome t.reason
     where
       go : (x : Outcome) (r : Option Reason) → In l (elim x [ Commit ↦ line.LastCommitted t.tid t.serial t.moment ∷ [] | Abort ↦ elim r [ Some reason ↦ line.LastAborted t.tid t.serial reason t.moment ∷ [] | None ↦ [] ] ]) →
@@ -142,7 +142,7 @@ module _ (o : Option Node) where
       go Abort (Some reason) (inr i) = absurd i
       go Abort None i = absurd i
 
-  lines_of_last : (n : Node) (t : Settlement) → n.durable.last ≡ Some t → last_lines n ≡ last_line t
+  pub lines_of_last : (n : Node) (t : Settlement) → n.durable.last ≡ Some t → last_lines n ≡ last_line t
   lines_of_last n t e = ap (λ (x : Option Settlement). elim x [ Some s ↦ last_line s | None ↦ [] ]) e
 
   boot_shows : (n : Node) → ShowsLast (record { act = Some Boots; lines = last_lines n }) n
@@ -164,7 +164,7 @@ module _ (o : Option Node) where
   ]
 
   shows_all : (s : Shared) (n : Node) (t : Task) → EachRow ShowsLast ((task_service t).rows s n) n
-  shows_all s n t = task_each ShowsLast (λ act ls n h q. quietly act ls n h) (λ k outcome reason r n. settled_quietly k outcome reason (next_moment n) (Some (Tables (Settles k outcome reason r) (next_moment n))) n)
+  shows_all s n t = task_each ShowsLast (λ act ls n h q v. quietly act ls n h) (λ k outcome reason r n. settled_quietly k outcome reason (next_moment n) (Some (Tables (Settles k outcome reason r) (next_moment n))) n)
       (λ k n. settled_quietly k Abort SegFail (next_moment n) (Some (Tables (Undoes k) (next_moment n))) n) directed_quietly boot_shows s n t
 
   behind_plain : (front back : List Line) (l : Line) → ArePlain back → (s : Settlement) → In l (front ++ back) → last_in l ≡ Some s → In l front

@@ -10,7 +10,7 @@ use Rattle.run_model.specs.World.{Node, Act, Directs, Formats, Settlement, Table
 use Rattle.run_model.specs.Answers.{unit_key}
 use Rattle.run_model.specs.Steps.{node_after}
 use Rattle.run_laws.proofs.AllShown.{IsFormed}
-use Rattle.run_laws.proofs.Keeping.{Keeps, Scheme}
+use Rattle.run_laws.proofs.Keeping.{Keeps, Scheme, closes_plain}
 use Rattle.run_laws.proofs.RowFits.{Fits}
 
 -- one that is told as it is
@@ -56,7 +56,8 @@ pub lasted_keeps : Keeps lasted
 lasted_keeps = record {
   none = λ a. refl;
   append = λ xs ys a. refl;
-  plain = λ ls a h. refl;
+  plain = λ ls a h v. refl;
+  closes = closes_plain lasted (λ ls a h. refl);
   same = λ a n m name durable settled h. subst (λ (d : world.Durable). HasLast d.last) (sym durable) h;
   row = λ free r n a q f up h. after_last free r.act n f.fits h;
   under = λ free r n a act q f is d up h. acted_last free act n (subst (λ o. Fits free o n) is f.fits) h;

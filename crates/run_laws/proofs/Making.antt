@@ -41,7 +41,7 @@ AreDown w = (node : List ℕ) (n : Node) → find_node node w.nodes ≡ Some n �
 pub drew_next : (n m : Node) → m.durable.boot ≡ n.durable.boot → m.volatile.drawn ≡ n.volatile.drawn + 1 → IsPast m (next_id n)
 drew_next n m boot drawn = inr (sym boot, subst (λ d. n.volatile.drawn + 1 ≤ d) (sym drawn) (omega arith))
 
-not_past : (n : Node) → IsPast n (next_id n) → ⊥
+pub not_past : (n : Node) → IsPast n (next_id n) → ⊥
 not_past n (inl earlier) = omega (arith, earlier)
 not_past n (inr here) = let low = here.1 in omega (arith, low)
 

@@ -110,7 +110,7 @@ quiet_next (Some act) greatest h = (no_volume act h, λ s e. absurd (settles_non
     settles_none _ k s e = cc
 
 all_next : (s : Shared) (n : Node) (t : Task) → EachRow IsNextRow ((task_service t).rows s n) n
-all_next s n t = task_each IsNextRow (λ act ls m h q. quiet_next act m.durable.greatest q)
+all_next s n t = task_each IsNextRow (λ act ls m h q v. quiet_next act m.durable.greatest q)
     (λ k o reason r m. (refl, λ x e. settles_later m (world.settlement k o reason (next_moment m)) x refl e))
     (λ k m. (refl, λ x e. settles_later m (world.settlement k Abort SegFail (next_moment m)) x refl e))
     (λ file cs m. (refl, λ x e. settles_later m (answers.commit_settlement m (world.next_id m) (world.next_id m)) x refl e))

@@ -22,7 +22,7 @@ use Rattle.world_laws.proofs.FindLemmas.{some_is}
 use Rattle.world_laws.proofs.RestartLemmas.{undone_unit}
 use Rattle.world_laws.proofs.WorldLemmas.{each_opening}
 use Rattle.run_laws.proofs.EachRow.{ArePlain, is_plain}
-use Rattle.run_laws.proofs.Keeping.{Keeps, Kept, Scheme, all_take, any_effect}
+use Rattle.run_laws.proofs.Keeping.{Keeps, Kept, Scheme, all_take, any_effect, closes_plain}
 use Rattle.run_laws.proofs.Moments.{later_moment}
 use Rattle.run_laws.proofs.OwnLines.{line_in, task_owns}
 use Rattle.run_laws.proofs.RowFits.{Fits, RowFits, TellsAct}
@@ -251,7 +251,8 @@ module _ (node : List ℕ) where
   newest_keeps = record {
     none = λ a. refl;
     append = told_append;
-    plain = λ ls a h. told_plain ls a h;
+    plain = λ ls a h v. told_plain ls a h;
+    closes = closes_plain (newest node) (λ ls a h. told_plain ls a h);
     same = λ a n m name durable settled h. rests_newest a n m (ap (λ (d : Durable). d.greatest) durable) (ap (λ (d : Durable). d.last) durable) settled h;
     row = λ free r n a q f up h. row_newest free r n a f h;
     under = λ free r n a act q f is d up h. acted_newest free act n a (subst (λ o. Fits free o n) is f.fits) h;

@@ -275,10 +275,11 @@ abbrev pub IsAskedBy : Event → Branch → Type 0
 IsAskedBy (Got m) b = (m.kind ≡ Prepare) × (key_of m ≡ b.key)
 IsAskedBy _ b = ⊥
 
--- How a branch comes of another by an event: it has its key and its time, the same branches have joined it, and no identifier was authorised for it and END_TRANS was
+-- How a branch comes of another by an event: it has its key and its time, has changed something or not as that, the same branches have joined it, and no identifier was authorised for it and END_TRANS was
 -- not called but by that event.
 pub record Derives (e : Event) (b new : Branch) : Type 0 where
   pub key : new.key ≡ b.key
+  pub changed : new.changed ≡ b.changed
   pub due : new.due ≡ b.due
   pub open_still : is_prepared new.state ≡ false
   pub accepted : (c : Child) → In c new.accepted → (d : Child) × In d b.accepted × (d.serial ≡ c.serial)
@@ -324,9 +325,10 @@ pub row_puts : (tm : Tm) (e : Event) → BeginsNothing e → AllPut (Noted tm.ta
 row_puts tm e h = go e h
   where
     -- one that changes nothing of these
-    alike : (e : Event) (b new : Branch) → new.key ≡ b.key → new.due ≡ b.due → new.accepted ≡ b.accepted → new.bids ≡ b.bids → is_prepared new.state ≡ false → (new.state ≡ Ending → b.state ≡ Ending) → (new.asked ≡ true → (b.asked ≡ true) ⊎ IsAskedBy e b) → Derives e b new
-    alike e b new key due accepted bids unprepared ends asked = record {
+    alike : (e : Event) (b new : Branch) → new.key ≡ b.key → new.changed ≡ b.changed → new.due ≡ b.due → new.accepted ≡ b.accepted → new.bids ≡ b.bids → is_prepared new.state ≡ false → (new.state ≡ Ending → b.state ≡ Ending) → (new.asked ≡ true → (b.asked ≡ true) ⊎ IsAskedBy e b) → Derives e b new
+    alike e b new key changed due accepted bids unprepared ends asked = record {
       key = key;
+      changed = changed;
       due = due;
       open_still = unprepared;
       accepted = λ c i. (c, subst (In c) accepted i, refl);
@@ -346,15 +348,15 @@ row_puts tm e h = go e h
     not_ending s b never e = absurd (never e)
 
     voted : (e : Event) (s : Id) (v : Kind) (b : Branch) → is_prepared b.state ≡ false → Derives e b (with_vote s v b)
-    voted e s v b u = record { key = refl; due = refl; open_still = u; accepted = λ c i. noted_in s v c b.accepted i; taken = λ bid t. noted_bids s v bid b.accepted ∙ t; bids = λ bid i. inl i; ends = λ x. inl x; asked = λ a. inl a }
+    voted e s v b u = record { key = refl; changed = refl; due = refl; open_still = u; accepted = λ c i. noted_in s v c b.accepted i; taken = λ bid t. noted_bids s v bid b.accepted ∙ t; bids = λ bid i. inl i; ends = λ x. inl x; asked = λ a. inl a }
 
     message : (m : Message) (d : Kind) → m.kind ≡ d → AllPut (Noted tm.table (Got m)) (Accepted tm.table (Got m)) (got tm m d)
     message m Join is = join_notes _ _ m (find (first m.tid) tm.table) (λ b f u bid named. (find_in (first m.tid) tm.table b f, u, m, refl, find-key (first m.tid) tm.table b f, refl, named, is))
-    message m JoinOk is = join_ok_notes _ _ (find (key_of m) tm.table) (λ b f u. found (Got m) (key_of m) b _ f u (alike (Got m) b _ refl refl refl refl refl (not_ending Active b (λ e. let no : ⊥ = cc in no)) (λ a. inl a)))
+    message m JoinOk is = join_ok_notes _ _ (find (key_of m) tm.table) (λ b f u. found (Got m) (key_of m) b _ f u (alike (Got m) b _ refl refl refl refl refl refl (not_ending Active b (λ e. let no : ⊥ = cc in no)) (λ a. inl a)))
     message m JoinNo is = join_no_notes _ _ (find (key_of m) tm.table)
     message m Prepare is = prepare_notes _ _ m (find (key_of m) tm.table) (λ b f u. (
-      found (Got m) (key_of m) b _ f u (alike (Got m) b _ refl refl refl refl refl (not_ending Active b (λ e. let no : ⊥ = cc in no)) (λ a. inr (is, sym (find-key (key_of m) tm.table b f)))),
-      found (Got m) (key_of m) b _ f u (alike (Got m) b _ refl refl refl refl refl (not_ending Voting b (λ e. let no : ⊥ = cc in no)) (λ a. inr (is, sym (find-key (key_of m) tm.table b f)))),
+      found (Got m) (key_of m) b _ f u (alike (Got m) b _ refl refl refl refl refl refl (not_ending Active b (λ e. let no : ⊥ = cc in no)) (λ a. inr (is, sym (find-key (key_of m) tm.table b f)))),
+      found (Got m) (key_of m) b _ f u (alike (Got m) b _ refl refl refl refl refl refl (not_ending Voting b (λ e. let no : ⊥ = cc in no)) (λ a. inr (is, sym (find-key (key_of m) tm.table b f)))),
     ))
     message m Yes is = vote_notes _ _ m.serial Yes (find (first m.tid) tm.table) (λ b f u. found (Got m) (first m.tid) b _ f u (voted (Got m) m.serial Yes b u))
     message m ReadOnly is = vote_notes _ _ m.serial ReadOnly (find (first m.tid) tm.table) (λ b f u. found (Got m) (first m.tid) b _ f u (voted (Got m) m.serial ReadOnly b u))
@@ -368,6 +370,7 @@ row_puts tm e h = go e h
     go (Start t due) h = absurd h
     go (Authorise t bid) h = authorise_notes _ _ bid (find (first t) tm.table) (λ b f u. found (Authorise t bid) (first t) b _ f u (record {
       key = refl;
+      changed = refl;
       due = refl;
       open_still = u;
       accepted = λ c i. (c, i, refl);
@@ -377,10 +380,11 @@ row_puts tm e h = go e h
       asked = λ a. inl a;
     }))
     go (Begin t s bid) h = absurd h
-    go (JoinRm s x) h = note_notes _ _ (with_manager x) (find_serial s tm.table) (λ b f u. found_serial (JoinRm s x) s b _ f u (alike (JoinRm s x) b _ refl refl refl refl u (λ e. e) (λ a. inl a)))
+    go (JoinRm s x) h = note_notes _ _ (with_manager x) (find_serial s tm.table) (λ b f u. found_serial (JoinRm s x) s b _ f u (alike (JoinRm s x) b _ refl refl refl refl refl u (λ e. e) (λ a. inl a)))
     go (Changed s) h = absurd h
     go (EndTrans t) h = end_trans_notes _ _ (find (first t) tm.table) (λ b f u. found (EndTrans t) (first t) b _ f u (record {
       key = refl;
+      changed = refl;
       due = refl;
       open_still = refl;
       accepted = λ c i. (c, i, refl);
@@ -390,11 +394,11 @@ row_puts tm e h = go e h
       asked = λ a. inl a;
     }))
     go (EndBranch s) h = end_branch_notes _ _ (find_serial s tm.table) (λ b f u. (
-      found_serial (EndBranch s) s b _ f u (alike (EndBranch s) b _ refl refl refl refl u (λ e. e) (λ a. inl a)),
-      found_serial (EndBranch s) s b _ f u (alike (EndBranch s) b _ refl refl refl refl refl (not_ending Voting b (λ e. let no : ⊥ = cc in no)) (λ a. inl a)),
+      found_serial (EndBranch s) s b _ f u (alike (EndBranch s) b _ refl refl refl refl refl u (λ e. e) (λ a. inl a)),
+      found_serial (EndBranch s) s b _ f u (alike (EndBranch s) b _ refl refl refl refl refl refl (not_ending Voting b (λ e. let no : ⊥ = cc in no)) (λ a. inl a)),
     ))
     go (AbortBranch s why) h = abort_branch_notes _ _ why (find_serial s tm.table)
-    go (Replied s x r) h = reply_notes _ _ s x r (find_serial s tm.table) tm.records (λ b f u. found_serial (Replied s x r) s b _ f u (alike (Replied s x r) b _ refl refl refl refl u (λ e. e) (λ a. inl a)))
+    go (Replied s x r) h = reply_notes _ _ s x r (find_serial s tm.table) tm.records (λ b f u. found_serial (Replied s x r) s b _ f u (alike (Replied s x r) b _ refl refl refl refl refl u (λ e. e) (λ a. inl a)))
     go (Got m) h = message m m.kind refl
     go (Clock now) h = sweep_notes _ _ Timeout (is_due now) tm.table
     go (LinkDown x) h = append_notes _ _ (sweep CommFail (is_cut_off x) tm.table) (sweep CommFail (is_under x) tm.table) (sweep_notes _ _ CommFail (is_cut_off x) tm.table) (sweep_notes _ _ CommFail (is_under x) tm.table)

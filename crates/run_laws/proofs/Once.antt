@@ -39,7 +39,7 @@ use Rattle.world_laws.proofs.TableLemmas.{changed_serials, found_in, in_cut, in_
 use Rattle.world_laws.proofs.UndoLemmas.{all_onto}
 use Rattle.world_laws.proofs.UpLemmas.{branch_drawn, differ, drawn_more}
 use Rattle.run_laws.proofs.RowFits.{FitsTable, RowFits, free_after, latest_id}
-use Rattle.run_laws.proofs.Keeping.{IsNextUnit, Keeps, Scheme}
+use Rattle.run_laws.proofs.Keeping.{IsNextUnit, Keeps, Scheme, closes_plain}
 
 -- What is known.
 
@@ -341,7 +341,8 @@ pub once_keeps : Keeps once
 once_keeps = record {
   none = λ a. refl;
   append = λ xs ys a. refl;
-  plain = λ ls a h. refl;
+  plain = λ ls a h v. refl;
+  closes = closes_plain once (λ ls a h. refl);
   same = λ a n m name durable settled h. subst (λ x. IsOnceDisk x m.durable m.settled) (sym name) (subst (λ d. IsOnceDisk n.name d m.settled) (sym durable) (subst (IsOnceDisk n.name n.durable) (sym settled) h));
   row = λ free r n a q f up h. acted_once free r.lines r.act n f h;
   under = λ free r n a act q f is d up h. falls_once (free_after free r.act) (acted act n) up (subst (λ o. IsOnceUp (free_after free r.act) (node_after o n)) is (acted_once free r.lines r.act n f h));

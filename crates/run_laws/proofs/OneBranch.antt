@@ -31,7 +31,7 @@ use Rattle.world_laws.proofs.TableLemmas.{found_in}
 use Rattle.world_laws.proofs.UpLemmas.{drawn_more, drawn_of}
 use Rattle.run_laws.proofs.Moving.{in_cut, in_put}
 use Rattle.run_laws.proofs.RowFits.{FitsTable, RowFits, free_after, latest_id}
-use Rattle.run_laws.proofs.Keeping.{Keeps, Scheme}
+use Rattle.run_laws.proofs.Keeping.{Keeps, Scheme, closes_plain}
 
 -- Lists.
 
@@ -268,7 +268,8 @@ module _ (x : Id) (K P : Id → Type 0) (C : Settlement → Type 0) where
     one_keeps = record {
       none = λ a. refl;
       append = λ xs ys a. refl;
-      plain = λ ls a h. refl;
+      plain = λ ls a h v. refl;
+      closes = closes_plain one (λ ls a h. refl);
       same = λ a n m name durable settled h. subst (λ y. IsDisk y m.durable m.settled) (sym name) (subst (λ d. IsDisk n.name d m.settled) (sym durable) (subst (IsDisk n.name n.durable) (sym settled) h));
       row = λ free r n a q f up h. done free r.lines r.act n q f h;
       under = λ free r n a act q f is d up h. falls (free_after free r.act) (acted act n) up (subst (λ o. IsOn (free_after free r.act) (node_after o n)) is (done free r.lines r.act n q f h));

@@ -1,5 +1,5 @@
 -- The image of one node alone agrees with itself.
-use Rattle.std.proofs.Common.{◌≡◌, ◌≤◌, ◌⊎◌, ℕ, List, [], ◌∷◌, ◌++◌, inl, inr, map, Bool, true, false, Option, Some, None, if◌then◌else◌, refl, sym, ◌∙◌, ap, subst}
+use Rattle.std.proofs.Common.{◌≡◌, ◌≤◌, ◌⊎◌, List, [], ◌∷◌, ◌++◌, inl, inr, map, Bool, true, false, Option, Some, None, if◌then◌else◌, refl, sym, ◌∙◌, ap, subst}
 use Rattle.std.specs.Option.{is_some, option_map}
 use Rattle.std.specs.List.{AllByRecursion, last_or}
 use Rattle.std.specs.Str.{bytes_eq}
@@ -17,16 +17,16 @@ use Rattle.commit_protocol.specs.Messages.{LogRecord, Name, same_name}
 use Rattle.commit_protocol.specs.Table.{Key, child, first, home_of, record_serials}
 use Rattle.commit_protocol.specs.World.{In}
 use Rattle.commit_protocol.specs.Agreement.{Distinct}
-use Rattle.commit_protocol.specs.Opening.{Image, IsAgreeing, LastIn, OldIn, OldKey, Opening, Shows, image_at, image_in, in_rack, log_serials, new_volumes, no_image, or_none}
+use Rattle.commit_protocol.specs.Opening.{Image, IsAgreeing, OldIn, OldKey, Opening, Shows, image_at, log_serials, no_image, or_none}
 use Rattle.commit_protocol.proofs.Lists.{same_name-true}
 use Rattle.commit_protocol.proofs.NewVolumes.{new_agree}
-use Rattle.log_laws.specs.Slots.{committed_of, prepared_of, records_in}
+use Rattle.log_laws.specs.Slots.{committed_of, prepared_of}
 use Rattle.run_model.specs.World as world
 use Rattle.run_model.specs.World.{Durable, IsOpening, IsReached, LastIsReached, Node, Settlement, prepared_left}
 use Rattle.run_model.specs.Answers.{unit_key}
 use Rattle.run_model.specs.Transcript.{Entry}
 use Rattle.run_model.proofs.NodeLists.{some_is}
-use Rattle.run_agreement.specs.Seen.{has_volume, image_of, left_keys, outcome_of}
+use Rattle.run_agreement.specs.Seen.{has_volume, image_of, outcome_of}
 use Rattle.run_agreement.specs.Laws.{image_after_init, image_here, image_told, volume_image, with_image}
 use Rattle.run_laws.specs.Laws.{IsOfOneNode, OneNodeAgrees}
 use Rattle.world_laws.proofs.UndoLemmas.{all_onto}

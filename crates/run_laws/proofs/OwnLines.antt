@@ -20,7 +20,7 @@ use Rattle.world_laws.proofs.UpLemmas.{branch_drawn}
 use Rattle.run_laws.proofs.AccountLemmas.{left_beside}
 use Rattle.run_laws.proofs.EachRow.{ArePlain}
 use Rattle.run_laws.proofs.AllShown.{shown_append, shown_on, shown_more, shown_plain, shown_stays}
-use Rattle.run_laws.proofs.Keeping.{Keeps, Kept, Scheme, all_take, any_effect}
+use Rattle.run_laws.proofs.Keeping.{Keeps, Kept, Scheme, all_take, any_effect, closes_plain}
 use Rattle.run_laws.proofs.Once.{IsOnceBoot, IsOnceDisk, IsOnceUp, once_keeps}
 use Rattle.run_laws.proofs.RowFits.{Fits, RowFits, TellsAct}
 use Rattle.run_laws.proofs.SoundWorlds.{IsSoundNode, made_once, unused}
@@ -98,7 +98,8 @@ owned_keeps : Keeps owned
 owned_keeps = record {
   none = λ a. refl;
   append = shown_append;
-  plain = λ ls a h. shown_plain ls a h;
+  plain = λ ls a h v. shown_plain ls a h;
+  closes = closes_plain owned (λ ls a h. shown_plain ls a h);
   same = λ a n m name durable settled h. (once_keeps.same tt n m name durable settled h.0, subst (AreOwn a) (sym name) h.1);
   row = λ free r n a q f up h. (once_keeps.row free r n tt tt f up h.0, subst (AreOwn (shown_on r.lines a)) (sym (after_name r.act n)) (row_own free r n a f h.1));
   under = λ free r n a act q f is d up h. (once_keeps.under free r n tt act tt f is d up h.0, subst (AreOwn a) (sym (after_name (Some act) n)) h.1);

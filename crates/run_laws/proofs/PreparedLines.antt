@@ -44,7 +44,7 @@ is_other (line.Prepared tid serial) = false
 is_other (line.NormalCount count) = false
 is_other _ = true
 
-passes_in : (test : Line → Bool) (ls : List Line) (l : Line) → AllPass test ls → In l ls → test l ≡ true
+pub passes_in : (test : Line → Bool) (ls : List Line) (l : Line) → AllPass test ls → In l ls → test l ≡ true
 passes_in test [] l h i = absurd i
 passes_in test (x ∷ ls) l h i = elim i [ inl same ↦ ap test same ∙ h.0 | inr j ↦ passes_in test ls l h.1 j ]
 
@@ -75,7 +75,7 @@ table_other Q S (a ∷ todo) h f s n (suc j) =
     let more = table_other Q S todo h.1 f (shared_after (Tables a (next_moment n)) s) (acted (Tables a (next_moment n)) n) j in
     (append_passes is_other _ _ (act_other Q S a h.0 f (next_moment n) n s) more.0, append_passes is_other _ _ (act_other Q S a h.0 f (next_moment n) n s) more.1)
 
-event_other : (m : Node) (e : Event) → ((b : Branch) → CastsBy e b → ⊥) → (s : Shared) (j : ℕ) → AllPass is_other (lines_of_rows (take j (table_rows (row (tm_of m) e) s m))) × AllPass is_other (lines_of_rows (table_rows (row (tm_of m) e) s m))
+pub event_other : (m : Node) (e : Event) → ((b : Branch) → CastsBy e b → ⊥) → (s : Shared) (j : ℕ) → AllPass is_other (lines_of_rows (take j (table_rows (row (tm_of m) e) s m))) × AllPass is_other (lines_of_rows (table_rows (row (tm_of m) e) s m))
 event_other m e f s j = table_other (PreparesBy m.volatile.branches e) (SendsBy m.volatile.branches e) (row (tm_of m) e) (row_tells (tm_of m) e) (λ b q. f q.0 q.4) s m j
 
 undoes_tell : (ks : List BranchKey) → AllTell (λ m. Unit {0}) (λ b. ⊥) (undo_all ks)
@@ -94,19 +94,19 @@ lasts_other n = go n.durable.last
     go (Some x) = at x x.outcome x.reason
     go None = tt
 
-boot_other : (s : Shared) (n : Node) (j : ℕ) → AllPass is_other (lines_of_rows (take j (boot_rows s n))) × AllPass is_other (lines_of_rows (boot_rows s n))
+pub boot_other : (s : Shared) (n : Node) (j : ℕ) → AllPass is_other (lines_of_rows (take j (boot_rows s n))) × AllPass is_other (lines_of_rows (boot_rows s n))
 boot_other s n zero = (tt, append_passes is_other (last_lines n) _ (lasts_other n) (table_other (λ b. ⊥) (λ m. Unit {0}) (undo_all (map unit_key (left_active n))) (undoes_tell (map unit_key (left_active n))) (λ b q. q) s (acted world.Boots n) zero).1)
 boot_other s n (suc j) =
     let t = table_other (λ b. ⊥) (λ m. Unit {0}) (undo_all (map unit_key (left_active n))) (undoes_tell (map unit_key (left_active n))) (λ b q. q) s (acted world.Boots n) j in
     (append_passes is_other (last_lines n) _ (lasts_other n) t.0, append_passes is_other (last_lines n) _ (lasts_other n) t.1)
 
-if_other : (rs : List Row) (j : ℕ) (o : Option Line) → AllPass is_other (lines_of_rows (take j rs)) → AllPass is_other (lines_of_rows (take j (rows_if o rs)))
+pub if_other : (rs : List Row) (j : ℕ) (o : Option Line) → AllPass is_other (lines_of_rows (take j rs)) → AllPass is_other (lines_of_rows (take j (rows_if o rs)))
 if_other rs zero (Some refusal) h = tt
 if_other rs (suc j) (Some refusal) h = tt
 if_other rs j None h = h
 
 -- Tasks that show none.
-told_other : (s : Shared) (stops : ℕ) (n : Node) (t : Task) → ((m : Node) (j : ℕ) (o : Option Line) → AllPass is_other (lines_of_rows (take j (rows_if o ((task_service t).rows s m))))) → ((m : Node) → AllPass is_other (lines_of_rows ((task_service t).rows s m))) → ((m : Node) → (task_service t).closing_lines m ≡ []) → (c : Choice) (l : Line) → is_other l ≡ false → In l (task_effect s stops n t c).lines → ⊥
+pub told_other : (s : Shared) (stops : ℕ) (n : Node) (t : Task) → ((m : Node) (j : ℕ) (o : Option Line) → AllPass is_other (lines_of_rows (take j (rows_if o ((task_service t).rows s m))))) → ((m : Node) → AllPass is_other (lines_of_rows ((task_service t).rows s m))) → ((m : Node) → (task_service t).closing_lines m ≡ []) → (c : Choice) (l : Line) → is_other l ≡ false → In l (task_effect s stops n t c).lines → ⊥
 told_other s stops n t cut all closes c l off i = by c i
   where
     clash : (ls : List Line) → AllPass is_other ls → In l ls → ⊥

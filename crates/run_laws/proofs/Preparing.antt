@@ -10,7 +10,7 @@ use Rattle.commit_protocol.specs.Table.{Key, Branch, State, Joining, Active, End
 use Rattle.commit_protocol.specs.Rows.{down, up, sends_all, to_each, tells, joined, interested, serials, yes_of, all_voted, all_replied, has_bid, has_serial, others, all_taken, joined_as, ended, told_abort, unless_read_only, aborts_telling, aborts, undone_quietly, refuses, commits, commits_if_all, refuses_join, grants_join, join_state, join_row, join_ok_state, join_ok_row, join_no_state, join_no_row, which_event, ending, begins_ending, end_trans_state, end_trans_row, abort_running, abort_by_state, abort_branch_row, authorise_state, authorise_row, lacks_vote, with_vote, vote_state, vote_row, refused, no_state, no_row, answer_state, answer, inquire_row, is_empty, casts, casts_if_all, voting, begins_vote, asked_branch, votes_if_ended, prepare_state, prepare_row, ended_branch, end_branch_state, end_branch_row, commit_state, commit_row, abort_state, abort_row, with_reply, is_veto, is_forget, first_reply, branch_reply, reply_state, reply_row, note_state, has_changed, note_row, with_manager, asks_state, asks_row, aborted_if, sweep, is_due, is_cut_off, is_under, is_other, got, row, Event, Start, Authorise, Begin, JoinRm, Changed, EndTrans, EndBranch, AbortBranch, Replied, Got, Clock, LinkDown, RunDown, InquireBranch}
 use Rattle.commit_protocol.specs.Allowed.{is_prepared}
 use Rattle.commit_protocol.specs.World.{In}
-use Rattle.commit_protocol.proofs.Lists.{find-key}
+use Rattle.commit_protocol.proofs.Lists.{find-key, find_serial-serial}
 use Rattle.run_laws.proofs.Noting.{find_in, serial_in}
 
 -- what an act sends and prepares is so; so is all that these acts do
@@ -284,7 +284,7 @@ SendsBy bs e m = (m.kind ≡ Join → (bid : Id) × (e ≡ Begin m.tid m.serial 
 -- a branch that votes by this event was asked: before it, or by it
 abbrev pub CastsBy : Event → Branch → Type 0
 CastsBy (Got m) b = (m.kind ≡ Prepare) × (key_of m ≡ b.key)
-CastsBy (EndBranch s) b = b.asked ≡ true
+CastsBy (EndBranch s) b = (b.asked ≡ true) × (b.key.serial ≡ s)
 CastsBy (Replied s x r) b = b.asked ≡ true
 CastsBy _ b = ⊥
 
@@ -328,7 +328,7 @@ row_tells tm e = go e
     go (JoinRm s x) = note_tells _ _ (other_sent tm.table (JoinRm s x)) (with_manager x) (find_serial s tm.table)
     go (Changed s) = note_tells _ _ (other_sent tm.table (Changed s)) has_changed (find_serial s tm.table)
     go (EndTrans t) = end_trans_tells _ _ (other_sent tm.table (EndTrans t)) (find (first t) tm.table) (λ b f u. prepares_sent (EndTrans t) b b.accepted (find_in (first t) tm.table b f) u (λ c i. i))
-    go (EndBranch s) = end_branch_tells _ _ (other_sent tm.table (EndBranch s)) (find_serial s tm.table) (λ b f u asked. (b, serial_in s tm.table b f, u, refl, asked))
+    go (EndBranch s) = end_branch_tells _ _ (other_sent tm.table (EndBranch s)) (find_serial s tm.table) (λ b f u asked. (b, serial_in s tm.table b f, u, refl, (asked, find_serial-serial s tm.table b f)))
     go (AbortBranch s why) = abort_branch_tells _ _ (other_sent tm.table (AbortBranch s why)) why (find_serial s tm.table)
     go (Replied s x r) = reply_tells _ _ (other_sent tm.table (Replied s x r)) s x r (find_serial s tm.table) tm.records (λ b f u asked. (b, serial_in s tm.table b f, u, refl, asked))
     go (Got m) = message m m.kind refl

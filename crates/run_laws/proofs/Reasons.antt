@@ -86,7 +86,7 @@ by_last n reason l i a = absurd (go n.durable.last i)
     go None j = j
 
 by_acts : (s : Shared) (n : Node) (t : Task) → EachRow ByAct ((task_service t).rows s n) n
-by_acts s n t = task_each ByAct (λ act ls n h q. by_plain act ls n h) (λ k o why r n. by_settles k o why r (next_moment n) n) (λ k n. by_undoes k (next_moment n) n) by_directs by_last s n t
+by_acts s n t = task_each ByAct (λ act ls n h q v. by_plain act ls n h) (λ k o why r n. by_settles k o why r (next_moment n) n) (λ k n. by_undoes k (next_moment n) n) by_directs by_last s n t
 
 -- What each task may abort for.
 

@@ -215,32 +215,34 @@ pub record IsBooted (s : Shared) (stops : ℕ) (n : Node) (name : List ℕ) (e :
   pub named : (powered outturn stops n).name ≡ name
   pub node : e.node ≡ acted world.ComesUp (node_after_rows (boot_rows s (powered outturn stops n)) (powered outturn stops n))
   pub lasts : (l : Line) → In l (last_lines (powered outturn stops n)) → In l e.lines
+  pub down : n.up ≡ false
+  pub shows : e.lines ≡ lines_of_rows (boot_rows s (powered outturn stops n)) ++ (answers.prepared_lines (powered outturn stops n) ++ line.Booted (powered outturn stops n).name ((powered outturn stops n).durable.boot + 1) ∷ [])
 
 front_lasts : (s : Shared) (r : Node) (more : List Line) (l : Line) → In l (last_lines r) → In l (lines_of_rows (boot_rows s r) ++ more)
 front_lasts s r more l i = in_left l (lines_of_rows (boot_rows s r)) more (in_left l (last_lines r) _ i)
 
 pub restart_seen : (s : Shared) (stops : ℕ) (n : Node) (c : Choice) (rises : Cause → Type 0) (name : List ℕ) (count : ℕ) → TaskAllowed s stops n Restarts rises c → In (line.Booted name count) (task_effect s stops n Restarts c).lines → IsBooted s stops n name (task_effect s stops n Restarts c)
-restart_seen s stops n (Whole o) rises name count may i = first (refused_before_reading s n (task_service Restarts)) i
+restart_seen s stops n (Whole o) rises name count may i = first (refused_before_reading s n (task_service Restarts)) refl i
   where
     r : Node
     r = powered o stops n
 
-    late : (q : Option Line) → In (line.Booted name count) (begun s r (task_service Restarts) q).lines → IsBooted s stops n name (begun s r (task_service Restarts) q)
-    late (Some refusal) k = absurd k
-    late None k = elim (in_append (line.Booted name count) (lines_of_rows (boot_rows s r)) (answers.prepared_lines r ++ line.Booted r.name (r.durable.boot + 1) ∷ []) k) [
+    late : refused_before_reading s n (task_service Restarts) ≡ None → (q : Option Line) → In (line.Booted name count) (begun s r (task_service Restarts) q).lines → IsBooted s stops n name (begun s r (task_service Restarts) q)
+    late none (Some refusal) k = absurd k
+    late none None k = elim (in_append (line.Booted name count) (lines_of_rows (boot_rows s r)) (answers.prepared_lines r ++ line.Booted r.name (r.durable.boot + 1) ∷ []) k) [
       | inl front ↦ (let clash : false ≡ true = passes_in is_unbooted _ (line.Booted name count) (boot_unbooted s r) front in let no : ⊥ = cc in absurd no)
       | inr back ↦ elim (in_append (line.Booted name count) (answers.prepared_lines r) (line.Booted r.name (r.durable.boot + 1) ∷ []) back) [
         | inl front ↦ (let clash : false ≡ true = passes_in is_unbooted _ (line.Booted name count) (prepared_passes is_unbooted (λ tid serial. refl) (world.booted r.durable).branches) front in let no : ⊥ = cc in absurd no)
         | inr last ↦ elim last [
-          | inl same ↦ record { outturn = o; may = may; named = (let is : line.Booted name count ≡ line.Booted r.name (r.durable.boot + 1) = same in cc); node = refl; lasts = λ l j. front_lasts s r _ l j }
+          | inl same ↦ record { outturn = o; may = may; named = (let is : line.Booted name count ≡ line.Booted r.name (r.durable.boot + 1) = same in cc); node = refl; lasts = λ l j. front_lasts s r _ l j; down = boot_down s stops n Restarts refl none; shows = refl }
           | inr none ↦ absurd none
         ]
       ]
     ]
 
-    first : (q : Option Line) → In (line.Booted name count) (whole s n r (task_service Restarts) q).lines → IsBooted s stops n name (whole s n r (task_service Restarts) q)
-    first (Some refusal) k = absurd k
-    first None k = late ((task_service Restarts).refused_after_reading s r) k
+    first : (q : Option Line) → refused_before_reading s n (task_service Restarts) ≡ q → In (line.Booted name count) (whole s n r (task_service Restarts) q).lines → IsBooted s stops n name (whole s n r (task_service Restarts) q)
+    first (Some refusal) is k = absurd k
+    first None is k = late is ((task_service Restarts).refused_after_reading s r) k
 restart_seen s stops n WithoutMemory rises name count may i = absurd i
 restart_seen s stops n Unpowered rises name count may i = elim i [ inl same ↦ (let no : ⊥ = cc in absurd no) | inr none ↦ absurd none ]
 restart_seen s stops n (Cut o j b cause) rises name count may i = elim (in_append (line.Booted name count) (lines_of_rows (take j (rows_to_cut s (powered o stops n) (task_service Restarts)))) (line.Down (powered o stops n).name cause ∷ []) i) [

@@ -14,7 +14,7 @@ use Rattle.run_model.specs.Answers.{Row, last_line, last_lines}
 use Rattle.run_model.specs.Steps.{node_after}
 use Rattle.run_laws.specs.Promises.{commitment}
 use Rattle.run_laws.proofs.EachRow.{ArePlain, is_plain}
-use Rattle.run_laws.proofs.Keeping.{Keeps, Kept, Scheme}
+use Rattle.run_laws.proofs.Keeping.{Keeps, Kept, Scheme, closes_plain}
 use Rattle.run_laws.proofs.OneBranch as branch
 use Rattle.run_laws.proofs.OneBranch.{one, one_keeps}
 use Rattle.run_laws.proofs.RowFits.{RowFits}
@@ -149,7 +149,8 @@ module _ (x : Id) where
   retold_keeps = record {
     none = λ a. refl;
     append = retold_append;
-    plain = λ ls a h. retold_plain ls a h;
+    plain = λ ls a h v. retold_plain ls a h;
+    closes = closes_plain retold (λ ls a h. retold_plain ls a h);
     same = λ a n m name durable settled h. ((gone_keeps Any).same tt n m name durable settled h.0, subst (λ (d : world.Durable). LastOrTold a d.last m.settled) (sym durable) (subst (LastOrTold a n.durable.last) (sym settled) h.1));
     row = λ free r n a q f up h. ((gone_keeps Any).row free r n tt (takes_so Any r.act) f up h.0, more_told r.lines a (node_after r.act n).settled (row_told free r n a f up h.0 h.1));
     under = λ free r n a act q f is d up h. ((gone_keeps Any).under free r n tt act (takes_so Any r.act) f is d up h.0, told_last a (acted act n).durable.last (acted act n).settled (under_told free r n a act f is d up h.0 h.1));

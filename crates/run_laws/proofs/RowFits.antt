@@ -2,7 +2,7 @@
 use Rattle.std.proofs.Common.{◌≡◌, ℕ, ◌⊎◌, List, [], ◌∷◌, inl, inr, map, Bool, true, false, Option, Some, None, refl}
 use Rattle.std.specs.Option.{option_map, option_and_then}
 use Rattle.vms_model.specs.Ids.{Id}
-use Rattle.vms_model.specs.Transactions.{Abort, Aborted, SegFail}
+use Rattle.vms_model.specs.Transactions.{Outcome, Commit, Abort, Reason, Aborted, SegFail}
 use Rattle.transcript_model.specs.Lines as line
 use Rattle.transcript_model.specs.Lines.{Line}
 use Rattle.script_model.specs.Statements.{Operation, Request, Init, Boot, Create, SetFile, StartTrans, AddBranch, StartBranch, Records, Direct, EndBranch, EndTrans, AbortTrans, Inquire, Dump, DumpJournal, Fuse, Crash, Clock}
@@ -15,15 +15,15 @@ use Rattle.commit_protocol.specs.Standing.{AllStand, BeginsNothing, Stands}
 use Rattle.commit_protocol.proofs.Serials.{unique_of}
 use Rattle.commit_protocol.proofs.StandingRows.{rows_stand}
 use Rattle.run_model.specs.World as world
-use Rattle.run_model.specs.World.{Shared, Node, File, Label, Act, Boots, Changes, Creates, Directs, Draws, Labels, Numbers, Tables, acted, shared_after, next_id, next_moment, labelled, free_place, lowest_free, tm_of}
+use Rattle.run_model.specs.World.{Shared, Node, Settlement, File, Label, Act, Boots, Changes, Creates, Directs, Draws, Labels, Numbers, Tables, acted, shared_after, next_id, next_moment, labelled, free_place, lowest_free, tm_of}
 use Rattle.run_model.specs.Answers as answers
-use Rattle.run_model.specs.Answers.{Row, Task, powers, Serves, Ticks, Takes, Hears, LosesLink, RunsDown, Restarts, task_service, service, refused_before_reading, told_if, told_rows, table_rows, begins, just, branch_labelled, branch_named, creates, operated, directed, changes_at, keys_at, records_of, shown_record, entry_line, entry_lines, shown_line, silent, settled_line, last_lines}
+use Rattle.run_model.specs.Answers.{Row, Task, powers, Serves, Ticks, Takes, Hears, LosesLink, RunsDown, Restarts, task_service, service, refused_before_reading, told_if, told_rows, table_rows, begins, just, branch_labelled, branch_named, creates, operated, directed, changes_at, keys_at, records_of, shown_record, entry_line, entry_lines, shown_line, silent, settled_line, last_line, last_lines}
 use Rattle.run_model.specs.Steps.{node_after}
 use Rattle.world_laws.specs.Nodes.{AreUp, IsKeptNode, IsUp}
 use Rattle.world_laws.proofs.RowActs.{AreRowActs, IsRowAct, rows_are_row_acts}
 use Rattle.world_laws.proofs.TaskLemmas.{task_rows}
 use Rattle.world_laws.proofs.UpLemmas.{differ}
-use Rattle.run_laws.proofs.EachRow.{ArePlain, EachRow, is_quiet, task_each}
+use Rattle.run_laws.proofs.EachRow.{ArePlain, AreVoteless, EachRow, VotesSo, is_quiet, task_each}
 
 -- Acts.
 
@@ -78,15 +78,39 @@ quietly_tells (Some Boots) ls n h q = tt
 quietly_tells (Some act) ls n h q = h
 
 pub each_tells : (s : Shared) (n : Node) (t : Task) → EachRow Tells ((task_service t).rows s n) n
-each_tells s n t = task_each Tells quietly_tells (λ k o reason r m. refl) (λ k m. refl) (λ file cs m. refl) (λ m. tt) s n t
+each_tells s n t = task_each Tells (λ act ls m h q v. quietly_tells act ls m h q) (λ k o reason r m. refl) (λ k m. refl) (λ file cs m. refl) (λ m. tt) s n t
+
+-- what they show of a vote
+abbrev pub Votes : Row → Node → Type 0
+Votes r n = VotesSo r.act r.lines
+
+settled_voteless : (k : table.Key) (o : Outcome) (reason : Reason) (moment : ℕ) → AreVoteless (settled_line k o reason moment ∷ [])
+settled_voteless k Commit reason moment = (refl, tt)
+settled_voteless k Abort reason moment = (refl, tt)
+
+pub lasts_voteless : (n : Node) → AreVoteless (last_lines n)
+lasts_voteless n = go n.durable.last
+  where
+    at : (x : Settlement) (o : Outcome) (r : Option Reason) → AreVoteless (elim o as (λ y. List Line) [ Commit ↦ line.LastCommitted x.tid x.serial x.moment ∷ [] | Abort ↦ elim r as (λ y. List Line) [ Some reason ↦ line.LastAborted x.tid x.serial reason x.moment ∷ [] | None ↦ [] ] ])
+    at x Commit r = (refl, tt)
+    at x Abort (Some reason) = (refl, tt)
+    at x Abort None = tt
+
+    go : (o : Option Settlement) → AreVoteless (elim o as (λ y. List Line) [ Some x ↦ last_line x | None ↦ [] ])
+    go (Some x) = at x x.outcome x.reason
+    go None = tt
+
+pub each_votes : (s : Shared) (n : Node) (t : Task) → EachRow Votes ((task_service t).rows s n) n
+each_votes s n t = task_each Votes (λ act ls m h q v. v) (λ k o reason r m. settled_voteless k o reason (next_moment m)) (λ k m. (refl, tt)) (λ file cs m. (refl, tt)) lasts_voteless s n t
 
 -- Rows of a task.
 
--- What each row finds, where the node is up before it and behind it, and what its lines tell.
+-- What each row finds, where the node is up before it and behind it, and what its lines tell, also of votes.
 pub record RowFits (free : Bool) (r : Row) (n : Node) : Type 0 where
   pub up : IsUp n
   pub fits : Fits free r.act n
   pub tells : TellsAct r.act r.lines n
+  pub votes : VotesSo r.act r.lines
 
 abbrev pub EachFits : Bool → List Row → Node → Type 0
 EachFits free [] n = IsUp n
@@ -96,9 +120,9 @@ abbrev FitsAll : Bool → List Row → Node → Type 0
 FitsAll free [] n = Unit {0}
 FitsAll free (r ∷ rs) n = Fits free r.act n × FitsAll (free_after free r.act) rs (node_after r.act n)
 
-each_fits : (free : Bool) (rs : List Row) (n : Node) → AreUp rs n → FitsAll free rs n → EachRow Tells rs n → EachFits free rs n
-each_fits free [] n up fits tells = up
-each_fits free (r ∷ rs) n up fits tells = (record { up = up.0; fits = fits.0; tells = tells.0 }, each_fits (free_after free r.act) rs (node_after r.act n) up.1 fits.1 tells.1)
+each_fits : (free : Bool) (rs : List Row) (n : Node) → AreUp rs n → FitsAll free rs n → EachRow Tells rs n → EachRow Votes rs n → EachFits free rs n
+each_fits free [] n up fits tells votes = up
+each_fits free (r ∷ rs) n up fits tells votes = (record { up = up.0; fits = fits.0; tells = tells.0; votes = votes.0 }, each_fits (free_after free r.act) rs (node_after r.act n) up.1 fits.1 tells.1 votes.1)
 
 -- the table's rows, of an event by which no branch begins
 table_fits : (free : Bool) (todo : List table.Act) (s : Shared) (n : Node) → AllStand n.volatile.branches todo → AreRowActs todo → FitsAll free (table_rows todo s n) n
@@ -198,4 +222,4 @@ module _ (s : Shared) (n : Node) (up : IsUp n) where
 -- What the rows of a task find that nothing refuses, at a node that is up.
 pub task_fits : (s : Shared) (n : Node) (t : Task) → IsKeptNode s n → n.up ≡ true → powers (task_service t) ≡ false → refused_before_reading s n (task_service t) ≡ None → (task_service t).refused_after_reading s n ≡ None →
     EachFits false ((task_service t).rows s n) n
-task_fits s n t kept up off first late = each_fits false ((task_service t).rows s n) n (task_rows s 0 n kept t up first late).up (any_fits s n (kept.runs up).0 t off) (each_tells s n t)
+task_fits s n t kept up off first late = each_fits false ((task_service t).rows s n) n (task_rows s 0 n kept t up first late).up (any_fits s n (kept.runs up).0 t off) (each_tells s n t) (each_votes s n t)

@@ -7,30 +7,27 @@ use Rattle.vms_model.specs.Ids.{Id}
 use Rattle.vms_model.specs.Transactions.{Outcome, Commit, Abort, Reason, Aborted, SyncFail}
 use Rattle.transcript_model.specs.Lines as line
 use Rattle.transcript_model.specs.Lines.{Line, Cause}
-use Rattle.script_model.specs.Statements.{Statement, At, Request, Direct, EndTrans, AbortTrans, Operation}
+use Rattle.script_model.specs.Statements.{At, Request, Direct, EndTrans, AbortTrans}
 use Rattle.commit_protocol.specs.Messages as message
 use Rattle.commit_protocol.specs.Messages.{Kind, LogRecord, Message, Name, RmEvent}
 use Rattle.commit_protocol.specs.Table as table
 use Rattle.commit_protocol.specs.Table.{Branch, Child, State, Key as BranchKey, Notes, Settles, Sends, Prints, child, first, is_first}
 use Rattle.commit_protocol.specs.Rows as rows
 use Rattle.commit_protocol.specs.Rows.{all_replied, all_taken, all_voted, begins_ending, commits_if_all, down, ending, row, sends_all, serials, tells, to_each, told_abort, yes_of}
-use Rattle.commit_protocol.specs.Allowed.{is_active, is_prepared}
+use Rattle.commit_protocol.specs.Allowed.{is_prepared}
 use Rattle.commit_protocol.specs.World.{In}
 use Rattle.commit_protocol.proofs.Lists.{same_key-refl, same_key-true}
-use Rattle.run_model.specs.World.{World, Shared, Node, DiskCounts, Tables, acted, next_id, find_node, next_moment, opened, shared_after, tm_of, message_limit}
-use Rattle.run_model.specs.Operations.{is_change}
-use Rattle.run_model.specs.Answers as answers
-use Rattle.run_model.specs.Answers.{Row, Serves, Service, service, task_service, refused_before_reading, branch_labelled, changes_at, directed, in_state, is_first_active, is_open, just, made_label, powers, sent_line, shown_by, table_rows, told_rows, unsettled_label}
-use Rattle.run_model.specs.Steps.{Choice, Whole, WithoutMemory, Unpowered, Cut, TaskAllowed, TaskEffect, task_effect, ready_node, rows_if, rows_to_cut, whole, begun, lines_of_rows}
+use Rattle.run_model.specs.World.{World, Shared, Node, Tables, acted, next_id, find_node, next_moment, shared_after, tm_of, message_limit}
+use Rattle.run_model.specs.Answers.{Serves, Service, service, refused_before_reading, branch_labelled, changes_at, directed, is_first_active, is_open, just, made_label, powers, shown_by, table_rows, told_rows, unsettled_label}
+use Rattle.run_model.specs.Steps.{Choice, Whole, WithoutMemory, Unpowered, Cut, TaskAllowed, task_effect, rows_if, rows_to_cut, whole, begun, lines_of_rows}
 use Rattle.run_model.specs.Statements.{Step, stops_at, RoseAt}
 use Rattle.run_model.specs.Transcript.{Entry}
-use Rattle.run_model.specs.StepLaws.{is_refusal, task_of}
+use Rattle.run_model.specs.StepLaws.{task_of}
 use Rattle.run_model.proofs.NodeLists.{clash, found_name}
 use Rattle.run_model.proofs.Refusing.{not_ready, same_last}
 use Rattle.run_laws.specs.Naming.{IsNamed}
-use Rattle.run_laws.specs.Causes.{HasJoined, WasBegun, WasEnded}
-use Rattle.run_laws.specs.SaidLaws.{SaidThere}
-use Rattle.run_laws.specs.Showing.{HeadedBy, IsBehindAbort, IsItsAbort, IsItsEnd, IsOneCommitment, IsSending, IsToBranch, IsToItsBranch, OnceAmong, ShowsThese}
+use Rattle.run_laws.specs.Causes.{HasJoined, WasBegun}
+use Rattle.run_laws.specs.Showing.{HeadedBy, IsBehindAbort, IsItsAbort, IsItsEnd, IsOneCommitment, IsSending, IsToItsBranch, OnceAmong, ShowsThese}
 use Rattle.run_laws.specs.Laws.{AbortsShowHold, DirectsShowHold, EndsShowHold}
 use Rattle.run_laws.proofs.Directed.{neither}
 use Rattle.run_laws.proofs.Ending.{Standing, active_is, active_unprepared, end_row, found_serial, named_branch, row_is, standing}

@@ -1,5 +1,5 @@
 -- What a line shows to be settled is settled, for good.
-use Rattle.std.proofs.Common.{◌≡◌, ℕ, ◌⊎◌, List, [], ◌∷◌, ◌++◌, inl, inr, take, true, false, Option, Some, None, refl, sym, ◌∙◌, ap, subst}
+use Rattle.std.proofs.Common.{◌≡◌, ℕ, ◌⊎◌, List, [], ◌∷◌, ◌++◌, inl, inr, take, Bool, true, false, Option, Some, None, refl, sym, ◌∙◌, ap, subst}
 use Rattle.vms_model.specs.Transactions.{Outcome, Commit, Abort, Reason, SegFail}
 use Rattle.transcript_model.specs.Lines as line
 use Rattle.transcript_model.specs.Lines.{Line, Cause}
@@ -26,7 +26,7 @@ use Rattle.run_model.proofs.PartTasks.{View, Doing, Fixed, view}
 use Rattle.run_model.proofs.Refusing.{each_phase}
 use Rattle.run_laws.specs.Promises.{settlements_of, shown_in}
 use Rattle.run_laws.specs.Laws.{ShownAreSettled}
-use Rattle.run_laws.proofs.EachRow.{ArePlain, EachRow, closing_plain, cut_each, is_plain, take_each, task_each}
+use Rattle.run_laws.proofs.EachRow.{ArePlain, EachRow, closing_plain, cut_each, is_plain, is_voteless, take_each, task_each}
 use Rattle.run_laws.proofs.Staying.{Stay, part_stays, after_grows, rows_grow, found_settled, stays}
 
 -- Lines that show no settlement of their statement.
@@ -86,7 +86,7 @@ last_shows n l s i e = absurd (go n.durable.last i)
     go None j = j
 
 shows_all : (s : Shared) (n : Node) (t : Task) → EachRow Shows ((task_service t).rows s n) n
-shows_all s n t = task_each Shows (λ act ls n h q. quietly act ls n h) (λ k o reason r n. settled_shows k o reason (next_moment n) n.settled) (λ k n. settled_shows k Abort SegFail (next_moment n) n.settled) directed_shows last_shows s n t
+shows_all s n t = task_each Shows (λ act ls n h q v. quietly act ls n h) (λ k o reason r n. settled_shows k o reason (next_moment n) n.settled) (λ k n. settled_shows k Abort SegFail (next_moment n) n.settled) directed_shows last_shows s n t
 
 -- What a task shows.
 
@@ -150,33 +150,56 @@ success_other (line.LastCommitted tid serial moment) h = let no : ⊥ = cc in ab
 success_other (line.LastAborted tid serial reason moment) h = let no : ⊥ = cc in absurd no
 success_other _ h = refl
 
+module _ (test : Line → Bool) (refuses : (l : Line) → is_refusal l ≡ true → test l ≡ true) (succeeds : (l : Line) → is_success l ≡ true → test l ≡ true) (breaks : (cause : Cause) → test (line.Broken cause) ≡ true) (normal : test line.Normal ≡ true) where
+  outcome_passes : (s : Shared) (stops : ℕ) (n : Node) (t : Task) (rises : Cause → Type 0) (e : TaskEffect) → task.Outcome s stops n t rises e → test e.answer ≡ true
+  outcome_passes s stops n t rises e (First refusal first f) = ap (λ (x : TaskEffect). test x.answer) f ∙ refuses refusal ((refuses_first s n t).says refusal first)
+  outcome_passes s stops n t rises e (Late outturn refusal may first late f) = ap (λ (x : TaskEffect). test x.answer) f ∙ refuses refusal ((refuses_then s _ t).says refusal late)
+  outcome_passes s stops n t rises e (Success outturn may first late f) = ap (λ (x : TaskEffect). test x.answer) f ∙ succeeds _ (task_succeeds s _ t)
+  outcome_passes s stops n t rises e (Lacking first takes f) = ap (λ (x : TaskEffect). test x.answer) f ∙ refuses line.NoMemory refl
+  outcome_passes s stops n t rises e (Failing cause shown true first rises_so shows down answers ends) = ap test answers ∙ normal
+  outcome_passes s stops n t rises e (Failing cause shown false first rises_so shows down answers ends) = ap test answers ∙ breaks cause
+
+  part_passes : (w : World) (p : Part) (c : Choice) (after : List DiskCounts) → Allowed w p after c → test (part_effect w p c).answer ≡ true
+  part_passes w p c after allowed = go (view w p)
+    where
+      go : View w p → test (part_effect w p c).answer ≡ true
+      go (Doing node t n named found does may) = ap (λ (x : PartEffect). test x.answer) (does c) ∙ outcome_passes w.shared (stops_at node w) n t (λ cause. RoseAt w node cause after) _ (outcome w.shared (stops_at node w) n t (λ cause. RoseAt w node cause after) c (may after c allowed))
+      go (Fixed answer ends (inl h) is) = ap (λ (x : PartEffect). test x.answer) (is c) ∙ refuses answer h
+      go (Fixed answer ends (inr h) is) = ap (λ (x : PartEffect). test x.answer) (is c) ∙ ap test h ∙ normal
+
+  -- so is the answer of a statement, which is its last line
+  answer_passes : (w v : World) (s : Statement) (lines : List Line) → (step : Step w s lines v) → test step.answer ≡ true
+  answer_passes w v s lines step = go (refused_at_once w s) refl step.does
+    where
+      go : (o : Option Line) → refused_at_once w s ≡ o → Begins o (Phases (phases_of s) v.disks (begun_with s w) line.Normal) w step.events step.answer step.world → test step.answer ≡ true
+      go (Some refusal) is d = ap test d.1 ∙ refuses refusal ((once_refuses w s).says refusal is)
+      go None is d = phases_fold v.disks (λ p. Unit {0}) (λ given. test given ≡ true) (λ u rest answer x. test answer ≡ true)
+          (λ u given q. q)
+          (λ u p c ok allowed ends. part_passes u p c v.disks allowed)
+          (λ u p c ok allowed on. (part_passes u p c v.disks allowed, λ rest answer x more. more))
+          (phases_of s) (each_phase s) (begun_with s w) line.Normal step.events step.answer step.world normal d
+
 pub outcome_other : (s : Shared) (stops : ℕ) (n : Node) (t : Task) (rises : Cause → Type 0) (e : TaskEffect) → task.Outcome s stops n t rises e → is_plain e.answer ≡ true
-outcome_other s stops n t rises e (First refusal first f) = ap (λ (x : TaskEffect). is_plain x.answer) f ∙ refusal_other refusal ((refuses_first s n t).says refusal first)
-outcome_other s stops n t rises e (Late outturn refusal may first late f) = ap (λ (x : TaskEffect). is_plain x.answer) f ∙ refusal_other refusal ((refuses_then s _ t).says refusal late)
-outcome_other s stops n t rises e (Success outturn may first late f) = ap (λ (x : TaskEffect). is_plain x.answer) f ∙ success_other _ (task_succeeds s _ t)
-outcome_other s stops n t rises e (Lacking first takes f) = ap (λ (x : TaskEffect). is_plain x.answer) f
-outcome_other s stops n t rises e (Failing cause shown true first rises_so shows down answers ends) = ap is_plain answers
-outcome_other s stops n t rises e (Failing cause shown false first rises_so shows down answers ends) = ap is_plain answers
+outcome_other s stops n t rises e o = outcome_passes is_plain refusal_other success_other (λ cause. refl) refl s stops n t rises e o
 
-part_other : (w : World) (p : Part) (c : Choice) (after : List DiskCounts) → Allowed w p after c → is_plain (part_effect w p c).answer ≡ true
-part_other w p c after allowed = go (view w p)
-  where
-    go : View w p → is_plain (part_effect w p c).answer ≡ true
-    go (Doing node t n named found does may) = ap (λ (x : PartEffect). is_plain x.answer) (does c) ∙ outcome_other w.shared (stops_at node w) n t (λ cause. RoseAt w node cause after) _ (outcome w.shared (stops_at node w) n t (λ cause. RoseAt w node cause after) c (may after c allowed))
-    go (Fixed answer ends (inl h) is) = ap (λ (x : PartEffect). is_plain x.answer) (is c) ∙ refusal_other answer h
-    go (Fixed answer ends (inr h) is) = ap (λ (x : PartEffect). is_plain x.answer) (is c) ∙ ap is_plain h
-
--- so is the answer of a statement, which is its last line
 pub answer_plain : (w v : World) (s : Statement) (lines : List Line) → (step : Step w s lines v) → is_plain step.answer ≡ true
-answer_plain w v s lines step = go (refused_at_once w s) refl step.does
-  where
-    go : (o : Option Line) → refused_at_once w s ≡ o → Begins o (Phases (phases_of s) v.disks (begun_with s w) line.Normal) w step.events step.answer step.world → is_plain step.answer ≡ true
-    go (Some refusal) is d = ap is_plain d.1 ∙ refusal_other refusal ((once_refuses w s).says refusal is)
-    go None is d = phases_fold v.disks (λ p. Unit {0}) (λ given. is_plain given ≡ true) (λ u rest answer x. is_plain answer ≡ true)
-        (λ u given q. q)
-        (λ u p c ok allowed ends. part_other u p c v.disks allowed)
-        (λ u p c ok allowed on. (part_other u p c v.disks allowed, λ rest answer x more. more))
-        (phases_of s) (each_phase s) (begun_with s w) line.Normal step.events step.answer step.world refl d
+answer_plain w v s lines step = answer_passes is_plain refusal_other success_other (λ cause. refl) refl w v s lines step
+
+pub refusal_voteless : (l : Line) → is_refusal l ≡ true → is_voteless l ≡ true
+refusal_voteless (line.Prepared tid serial) h = let no : ⊥ = cc in absurd no
+refusal_voteless (line.ReadOnly tid serial) h = let no : ⊥ = cc in absurd no
+refusal_voteless (line.Joined tid serial) h = let no : ⊥ = cc in absurd no
+refusal_voteless _ h = refl
+
+success_voteless : (l : Line) → is_success l ≡ true → is_voteless l ≡ true
+success_voteless (line.Prepared tid serial) h = let no : ⊥ = cc in absurd no
+success_voteless (line.ReadOnly tid serial) h = let no : ⊥ = cc in absurd no
+success_voteless (line.Joined tid serial) h = let no : ⊥ = cc in absurd no
+success_voteless _ h = refl
+
+-- nor does it show a vote
+pub answer_voteless : (w v : World) (s : Statement) (lines : List Line) → (step : Step w s lines v) → is_voteless step.answer ≡ true
+answer_voteless w v s lines step = answer_passes is_voteless refusal_voteless success_voteless (λ cause. refl) refl w v s lines step
 
 abbrev Leads : World → List Line → Line → World → Type 0
 Leads w lines answer v = AreSettled lines v × Stay w v

@@ -28,7 +28,7 @@ use Rattle.run_laws.specs.Promises.{Descends, SettledOnce}
 use Rattle.run_laws.specs.Laws.{SettlesOnce}
 use Rattle.run_laws.proofs.Moments as moments
 use Rattle.run_laws.proofs.EffectsTell.{after_under, rows_under}
-use Rattle.run_laws.proofs.ShownSettled.{answer_plain}
+use Rattle.run_laws.proofs.ShownSettled.{answer_plain, answer_voteless}
 use Rattle.run_laws.proofs.Keeping.{Kept, Keeps, Scheme, all_take, any_effect, is_special}
 use Rattle.run_laws.proofs.Once.{IsOnceDisk, once, once_keeps}
 
@@ -351,7 +351,7 @@ module _ (t : Scheme) (k : Keeps t) (node : List ℕ) where
 
     pub step_tracked : (w v : World) (s : Statement) (lines : List Line) (a : t.Told) → IsPlain s → AreReady w → Step w s lines v → IsSound w → Tracked a w → Tracked (t.more lines a) v
     step_tracked w v s lines a plain ready step sound h = subst (λ ls. Tracked (t.more ls a) v) (sym step.shows) (subst (Tracked (t.more (step.events ++ step.answer ∷ []) a)) (sym step.goes)
-        (subst (λ b. Tracked b step.world) (sym (k.append step.events (step.answer ∷ []) a ∙ k.plain (step.answer ∷ []) (t.more step.events a) (answer_plain w v s lines step, tt))) (go (refused_at_once w s) step.does)))
+        (subst (λ b. Tracked b step.world) (sym (k.append step.events (step.answer ∷ []) a ∙ k.plain (step.answer ∷ []) (t.more step.events a) (answer_plain w v s lines step, tt) (answer_voteless w v s lines step, tt))) (go (refused_at_once w s) step.does)))
       where
         go : (o : Option Line) → Begins o (Phases (phases_of s) v.disks (begun_with s w) line.Normal) w step.events step.answer step.world → Tracked (t.more step.events a) step.world
         go (Some refusal) d = subst (λ ls. Tracked (t.more ls a) step.world) (sym d.0) (subst (λ b. Tracked b step.world) (sym (k.none a)) (subst (Tracked a) (sym d.2) h))

@@ -59,7 +59,7 @@ in_one l k (inl same) = same
 in_one l k (inr i) = absurd i
 
 by_acts : (s : Shared) (n : Node) (t : Task) → EachRow ByAct ((task_service t).rows s n) n
-by_acts s n t = task_each ByAct (λ act ls m h q. by_plain act ls m h) (λ k o reason r m l x i e. in_one l (settled_line k o reason (next_moment m)) i) (λ k m l x i e. in_one l (settled_line k Abort SegFail (next_moment m)) i)
+by_acts s n t = task_each ByAct (λ act ls m h q v. by_plain act ls m h) (λ k o reason r m l x i e. in_one l (settled_line k o reason (next_moment m)) i) (λ k m l x i e. in_one l (settled_line k Abort SegFail (next_moment m)) i)
     (λ file cs m l x i e. in_one l _ i) by_last s n t
 
 -- What settles has a cause.

@@ -8,7 +8,7 @@ use Rattle.commit_protocol.specs.Messages.{Message}
 use Rattle.commit_protocol.specs.Table.{Branch, Child, Ending, Key as BranchKey, is_first, same_key, first}
 use Rattle.commit_protocol.specs.Allowed.{is_prepared}
 use Rattle.commit_protocol.specs.Rows as rows
-use Rattle.commit_protocol.specs.Rows.{Event}
+use Rattle.commit_protocol.specs.Rows.{Event, has_bid}
 use Rattle.commit_protocol.specs.World.{In}
 use Rattle.commit_protocol.proofs.Lists.{in_parts}
 use Rattle.run_model.specs.World.{World, Shared, Node, find_node}
@@ -52,16 +52,26 @@ joined_later e es tid serial j = (j.0, inr j.1, j.2)
 pub ended_later : (e : Entry) (es : List Entry) (tid : Id) → WasEnded es tid → WasEnded (e ∷ es) tid
 ended_later e es tid w = (w.0, w.1, w.2, w.3, said_later e es w.0 _ w.2 (line.Pending w.3) w.4, w.5)
 
--- A branch comes of another: it has its key and its time, no more branches have joined it, and it ends only where that does.
+-- A branch comes of another: it has its key and its time, no more branches have joined it and none less, no more may, and it ends only where that does.
 pub record IsHeir (b x : Branch) : Type 0 where
   pub key : x.key ≡ b.key
   pub due : x.due ≡ b.due
   pub accepted : (c : Child) → In c x.accepted → (d : Child) × In d b.accepted × (d.serial ≡ c.serial)
   pub ends : x.state ≡ Ending → b.state ≡ Ending
   pub asked : x.asked ≡ true → b.asked ≡ true
+  pub taken : (bid : Id) → has_bid bid b.accepted ≡ true → has_bid bid x.accepted ≡ true
+  pub bids : (bid : Id) → In bid x.bids → In bid b.bids
 
 pub heir_of_bare : (b x : Branch) → bare x ≡ bare b → IsHeir b x
-heir_of_bare b x same = record { key = ap (λ (y : Branch). y.key) same; due = ap (λ (y : Branch). y.due) same; accepted = λ c i. (c, subst (In c) (ap (λ (y : Branch). y.accepted) same) i, refl); ends = λ e. ap (λ (y : Branch). y.state) (sym same) ∙ e; asked = λ e. ap (λ (y : Branch). y.asked) (sym same) ∙ e }
+heir_of_bare b x same = record {
+  key = ap (λ (y : Branch). y.key) same;
+  due = ap (λ (y : Branch). y.due) same;
+  accepted = λ c i. (c, subst (In c) (ap (λ (y : Branch). y.accepted) same) i, refl);
+  ends = λ e. ap (λ (y : Branch). y.state) (sym same) ∙ e;
+  asked = λ e. ap (λ (y : Branch). y.asked) (sym same) ∙ e;
+  taken = λ bid t. ap (λ (y : Branch). has_bid bid y.accepted) same ∙ t;
+  bids = λ bid i. subst (In bid) (ap (λ (y : Branch). y.bids) same) i;
+}
 
 pub heir_on : (b y x : Branch) → IsHeir b y → IsHeir y x → IsHeir b x
 heir_on b y x f g = record {
@@ -70,6 +80,8 @@ heir_on b y x f g = record {
   accepted = λ c i. let d = g.accepted c i in let a = f.accepted d.0 d.1 in (a.0, a.1, a.2 ∙ d.2);
   ends = λ e. f.ends (g.ends e);
   asked = λ e. f.asked (g.asked e);
+  taken = λ bid t. g.taken bid (f.taken bid t);
+  bids = λ bid i. f.bids bid (g.bids bid i);
 }
 
 first_same : (b x : Branch) → x.key ≡ b.key → is_first x ≡ is_first b

@@ -109,6 +109,15 @@ never_ends s n Restarts e tid h is k = is
 never_ends s n (Serves r) e tid h is k = let no : ⊥ = cc in no
 never_ends s n (Takes m) e tid h is k = let no : ⊥ = cc in no
 
+never_authorises : (s : Shared) (n : Node) (t : Task) (e : Event) (tid bid : Id) → IsThinning t → IsTold s n t e → e ≡ rows.Authorise tid bid → ⊥
+never_authorises s n Ticks e tid bid h is k = let no : rows.Clock n.clock ≡ rows.Authorise tid bid = sym is ∙ k in cc
+never_authorises s n (LosesLink other) e tid bid h is k = let no : rows.LinkDown other ≡ rows.Authorise tid bid = sym is ∙ k in cc
+never_authorises s n RunsDown e tid bid h is k = let no : rows.RunDown ≡ rows.Authorise tid bid = sym is ∙ k in cc
+never_authorises s n (Hears m) e tid bid h is k = let no : rows.Got m ≡ rows.Authorise tid bid = sym is ∙ k in cc
+never_authorises s n Restarts e tid bid h is k = is
+never_authorises s n (Serves r) e tid bid h is k = let no : ⊥ = cc in no
+never_authorises s n (Takes m) e tid bid h is k = let no : ⊥ = cc in no
+
 never_joins : (s : Shared) (n : Node) (t : Task) (e : Event) (m : Message) → IsThinning t → IsTold s n t e → e ≡ rows.Got m → m.kind ≡ message.Join → ⊥
 never_joins s n Ticks e m h is k j = let no : rows.Clock n.clock ≡ rows.Got m = sym is ∙ k in cc
 never_joins s n (LosesLink other) e m h is k j = let no : rows.LinkDown other ≡ rows.Got m = sym is ∙ k in cc
@@ -150,6 +159,8 @@ heir_from s n t ls x h u (y, same, inr (inl (ev, is, (b, i, open_b, d)))) = (
     accepted = d.accepted;
     ends = λ q. elim (d.ends q) [ inl e ↦ e | inr by ↦ absurd (never_ends s n t ev b.key.tid h is by.0) ];
     asked = λ q. elim (d.asked q) [ inl a ↦ a | inr by ↦ absurd (never_asks ev is by) ];
+    taken = d.taken;
+    bids = λ bid q. elim (d.bids bid q) [ inl j ↦ j | inr by ↦ absurd (never_authorises s n t ev b.key.tid bid h is by) ];
   }) (heir_of_bare y x same),
 )
   where

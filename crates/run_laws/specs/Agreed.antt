@@ -3,13 +3,12 @@ use Rattle.std.specs.Prelude.{◌≡◌, ◌⊎◌, ℕ, List, [], ◌∷◌, �
 use Rattle.vms_model.specs.Ids.{Id}
 use Rattle.vms_model.specs.Transactions.{Commit as ToCommit, Abort as ToAbort}
 use Rattle.transcript_model.specs.Lines.{Line, Normal}
-use Rattle.script_model.specs.Statements.{At, EndTrans, Says, Settle}
-use Rattle.script_model.specs.Grammar.{reading}
-use Rattle.commit_protocol.specs.Messages.{Name}
+use Rattle.script_model.specs.Statements.{At, EndTrans, Settle}
 use Rattle.commit_protocol.specs.Table.{Key, first, home_of}
 use Rattle.commit_protocol.specs.World.{In}
 use Rattle.commit_protocol.specs.Opening.{IsAgreeing}
 use Rattle.run_model.specs.World.{World, Node, find_node}
+use Rattle.run_model.specs.Statements.{Step}
 use Rattle.run_model.specs.Transcript.{Entry, Legal}
 use Rattle.run_agreement.specs.Seen.{Resolution}
 use Rattle.run_agreement.specs.Laws.{EndsFor, HasOutcome, IsAtRest, IsBranch, IsCommitted, IsRun, next_opening}
@@ -34,7 +33,8 @@ abbrev pub EndsHoldAll : World → List Entry → World → Type 0
 EndsHoldAll base es closing = (before : List Entry) (node label : List ℕ) (events : List Line) → SaidThere es before (At node (EndTrans label)) events Normal →
     (tid : Id) × WasBegun before node label tid × ((r : Resolution) → IsCommitted base r closing tid)
 
--- A SETTLE that was answered with its success left each node up and no branch unsettled; and it is answered so, or ends for a cause that its answer names.
+-- A SETTLE that was answered with its success left each node up and no branch unsettled; and it is answered so, or ends for a cause that its answer names, in the world
+-- that it leaves; a failure of a disk only where its count rose from the world before that SETTLE to the one behind it.
 abbrev pub SettlesWhole : World → List Entry → World → Type 0
 SettlesWhole opening es closing = (before : List Entry) (events : List Line) (answer : Line) → (there : SaidThere es before Settle events answer) →
-    (v : World) × Legal opening (there.entry ∷ before) v × Legal v there.after closing × (answer ≡ Normal → IsAtRest v) × ((answer ≡ Normal) ⊎ EndsFor v answer)
+    (w : World) × (v : World) × Legal opening before w × Step w Settle (events ++ answer ∷ []) v × Legal v there.after closing × (answer ≡ Normal → IsAtRest v) × ((answer ≡ Normal) ⊎ EndsFor w v events answer)

@@ -6,7 +6,7 @@ use Rattle.vms_model.specs.Ids.{Id}
 use Rattle.vms_model.specs.Transactions.{Outcome, Commit, Abort, Reason, Aborted, Vetoed, SyncFail, Timeout, CommFail, SegFail}
 use Rattle.transcript_model.specs.Lines as line
 use Rattle.transcript_model.specs.Lines.{Line}
-use Rattle.script_model.specs.Statements.{At, Deliver, LinkDown, Settle, Reading, Says, Boot, Clock, StartTrans, StartBranch, Direct, EndTrans, AbortTrans, Operation}
+use Rattle.script_model.specs.Statements.{Statement, At, Deliver, LinkDown, Settle, Reading, Says, AddBranch, Boot, Clock, StartTrans, StartBranch, Direct, EndTrans, AbortTrans, Operation}
 use Rattle.script_model.specs.Grammar.{reading}
 use Rattle.commit_protocol.specs.Messages as message
 use Rattle.commit_protocol.specs.Messages.{Message}
@@ -38,6 +38,19 @@ WasSent es number m = (e : Entry) × In e es × In (line.Sent number m) e.lines
 -- a branch was told to have joined this transaction
 abbrev pub HasJoined : List Entry → (tid serial : Id) → Type 0
 HasJoined es tid serial = (e : Entry) × In e es × In (line.Joined tid serial) e.lines
+
+-- an ADD_BRANCH with a label of this transaction was answered with this identifier, by which a branch may join it
+abbrev pub WasAuthorised : List Entry → (tid bid : Id) → Type 0
+WasAuthorised es tid bid = (before : List Entry) × (label : List ℕ) × (other : List ℕ) × (new : List ℕ) × (l : ToldLabel) × SaidThere es before (At tid.node (AddBranch label other new)) [] (line.NormalId bid) × (find_told label (labels_told before) ≡ Some l) × (l.tid ≡ tid)
+
+-- this statement delivers the Join of a branch that names this identifier
+abbrev pub JoinsBy : List Entry → Statement → (tid serial bid : Id) → Type 0
+JoinsBy es s tid serial bid = (number : ℕ) × (m : Message) × (s ≡ Deliver number) × WasSent es number m × (m.kind ≡ message.Join) × (m.tid ≡ tid) × (m.serial ≡ serial) × (m.bid ≡ Some bid)
+
+-- An identifier was authorised for this transaction by which no branch joined it: each that was told to join it did so by another.
+abbrev pub IsMissing : List Entry → Id → Type 0
+IsMissing es tid = (bid : Id) × WasAuthorised es tid bid
+    × ((before : List Entry) (s : Statement) (events : List Line) (answer : Line) (serial : Id) → SaidThere es before s events answer → In (line.Joined tid serial) events → (given : Id) × JoinsBy before s tid serial given × (given ≡ bid → ⊥))
 
 -- the clock of a node, which the last CLOCK of it set; at first it is 0
 abbrev pub clock_here : List ℕ → Reading → Option Line → ℕ → ℕ

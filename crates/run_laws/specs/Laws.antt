@@ -18,9 +18,10 @@ use Rattle.run_agreement.specs.Following.{opening_of}
 use Rattle.run_agreement.specs.Laws.{IsBase, NamesApart, RunsFrom, opening_told}
 use Rattle.run_laws.specs.Said.{SaidNode, node_in, said_of}
 use Rattle.run_laws.specs.SaidLaws.{SaidThere}
+use Rattle.run_laws.specs.Anew.{AreKnownOrAnew}
 use Rattle.run_laws.specs.Agreed.{AgreedRun, EndsHoldAll, SettlesWhole}
 use Rattle.run_laws.specs.Showing.{AbortsShow, DirectsShow, EndsShow}
-use Rattle.run_laws.specs.Promises.{ShownThere, ReasonFits, WasLast, shown_in, last_in, Descends, SettledOnce, KeptPromises, EndsCommit, EndsAbort, EndedSo, AbortsAbort, DirectsCommit, IdsAreNew, CommitsAreKept, AbortsAreKept, FailuresAreDecided, RestartsDecide, AllAreShown, IsLastApart, LastsAreKept, LastsFirst, FallsWereBegun, BootsShowLast, LastsWereAsked, AbortsStand, AreLastApart, DumpPromises, settlements_of}
+use Rattle.run_laws.specs.Promises.{ShownThere, ReasonFits, WasLast, shown_in, last_in, Descends, SettledOnce, KeptPromises, EndsCommit, EndsAbort, EndedSo, FailsAreMissing, AbortsAbort, DirectsCommit, IdsAreNew, CommitsAreKept, AbortsAreKept, FailuresAreDecided, RestartsDecide, AllAreShown, IsLastApart, LastsAreKept, LastsFirst, FallsWereBegun, BootsShowLast, LastsWereAsked, LastsWereCaused, BootsShowPrepared, PreparedAreTold, ReadOnlyChangedNothing, AbortsStand, AreLastApart, DumpPromises, settlements_of}
 
 -- Each such transcript keeps the promises,
 abbrev pub PromisesAreKept : Type 0
@@ -32,6 +33,9 @@ EndsHold = InAllRuns (λ opening es closing. EndsCommit es closing)
 
 abbrev pub FailsHold : Type 0
 FailsHold = InAllRuns (λ opening es closing. EndsAbort es closing)
+
+abbrev pub MissingHold : Type 0
+MissingHold = InAllRuns (λ opening es closing. FailsAreMissing es)
 
 abbrev pub EndedHold : Type 0
 EndedHold = InAllRuns (λ opening es closing. EndedSo es closing)
@@ -84,6 +88,18 @@ BootsShowLastHold = InAllRuns (λ opening es closing. BootsShowLast es)
 abbrev pub AskedHold : Type 0
 AskedHold = InAllRuns (λ opening es closing. LastsWereAsked opening es)
 
+abbrev pub CausedHold : Type 0
+CausedHold = InAllRuns (λ opening es closing. LastsWereCaused opening es)
+
+abbrev pub PreparedHold : Type 0
+PreparedHold = InAllRuns (λ opening es closing. PreparedAreTold opening es)
+
+abbrev pub BootedHold : Type 0
+BootedHold = InAllRuns (λ opening es closing. BootsShowPrepared opening es)
+
+abbrev pub ReadOnlyHold : Type 0
+ReadOnlyHold = InAllRuns (λ opening es closing. ReadOnlyChangedNothing es)
+
 -- Where no last settlement at the opening is of a branch that stands unsettled there, and aborts stand, dumps show what was committed.
 abbrev pub DumpsHold : Type 0
 DumpsHold = (nodes : List Node) (disks : List DiskCounts) (es : List Entry) (closing : World) → AreOpening nodes → AreLastApart nodes → Legal (opened nodes disks) es closing → AbortsStand (opened nodes disks) es → DumpPromises (opened nodes disks) es
@@ -110,20 +126,22 @@ AgreedDumpsHold = (nodes : List Node) (disks : List DiskCounts) (es : List Entry
 -- All that is proved of a run where the images agree with which it begins, as its lines tell them.
 pub record AgreedPromises (opening : World) (es : List Entry) (closing : World) : Type 0 where
   pub kept : KeptPromises opening es closing
-  -- the base from which the run leads on, and the entries before it and since
+  -- the base from which the run leads on, and the entries before it and since: those before it lead there from the opening, and up to there no node may be in use
   pub base : World
   pub before : List Entry
   pub since : List Entry
   pub parts : es ≡ since ++ before
+  pub begins : Legal opening before base
+  pub unused : base.shared.in_use ≡ false
   pub run : AgreedRun base since closing
   pub ends : EndsHoldAll base es closing
   pub settles : SettlesWhole opening es closing
   pub dumps : DumpPromises opening es
   pub stand : AbortsStand opening es
 
+-- So it is of nodes of different names of whose disks something is known, or whose volumes are made anew, whatever their disks had.
 abbrev pub AgreedPromisesAreKept : Type 0
-AgreedPromisesAreKept = (nodes : List Node) (disks : List DiskCounts) (es : List Entry) (closing : World) → AreOpening nodes → NamesApart nodes → ((name : List ℕ) (n : Node) → find_node name nodes ≡ Some n → IsKnown n) → AreLastApart nodes →
-    IsAgreeing (opening_told nodes es) →
+AgreedPromisesAreKept = (nodes : List Node) (disks : List DiskCounts) (es : List Entry) (closing : World) → AreOpening nodes → NamesApart nodes → AreKnownOrAnew es nodes → IsAgreeing (opening_told nodes es) →
     Legal (opened nodes disks) es closing → AgreedPromises (opened nodes disks) es closing
 
 -- A disk of which no transaction of another node was part: its log is empty, its units and its last settlement are of first branches, and this is of no unit.

@@ -6,4 +6,5 @@ pub mod Causes
 pub mod Showing
 pub mod Promises
 pub mod Agreed
+pub mod Anew
 pub mod Laws

@@ -1,30 +1,32 @@
 -- What a run promises of its transcript, in the words of those who keep records in its files.
 use Rattle.std.specs.Prelude.{◌≡◌, ℕ, ◌≤◌, ◌<◌, ◌⊎◌, List, [], ◌∷◌, ◌++◌, Bool, true, false, not, ◌&&◌, ◌||◌, Option, Some, None, map, length}
 use Rattle.std.specs.List.{list_any}
+use Rattle.std.specs.Option.{option_map}
 use Rattle.std.specs.Str.{bytes_eq}
 use Rattle.std.specs.FinMap.{entries}
 use Rattle.vms_model.specs.Ids.{Id}
 use Rattle.vms_model.specs.Transactions.{Outcome, Commit, Abort, Reason, Aborted, Vetoed, SyncFail, Timeout, CommFail, SegFail}
 use Rattle.transcript_model.specs.Lines as line
 use Rattle.transcript_model.specs.Lines.{Line, Cause}
-use Rattle.script_model.specs.Statements.{Statement, At, Deliver, LinkDown, Settle, Reading, Says, Boot, Clock, Records, Direct, EndTrans, AbortTrans, Dump, Operation}
+use Rattle.script_model.specs.Statements.{Statement, At, Deliver, LinkDown, Settle, Reading, Says, Boot, Clock, Records, Direct, EndBranch, EndTrans, AbortTrans, Dump, Operation}
 use Rattle.script_model.specs.Grammar.{reading}
 use Rattle.records_model.specs.Records as base
 use Rattle.records_model.specs.History.{same_id}
 use Rattle.unit_laws.specs.Journal.{RecoveryUnit, find_unit, units_in}
 use Rattle.unit_laws.specs.JournalLaws.{is_unit}
+use Rattle.commit_protocol.specs.Messages as message
 use Rattle.commit_protocol.specs.Messages.{LogRecord}
 use Rattle.commit_protocol.specs.Table.{Key as BranchKey, Settles}
 use Rattle.commit_protocol.specs.World.{In}
 use Rattle.log_laws.specs.Slots.{prepared_of, records_in}
-use Rattle.run_model.specs.World.{World, Node, Settlement, Tables, find_node}
+use Rattle.run_model.specs.World.{World, Node, Settlement, Tables, find_node, prepared_left}
 use Rattle.run_model.specs.Operations.{is_change}
 use Rattle.run_model.specs.Answers.{last_lines}
-use Rattle.run_model.specs.Statements.{Step}
-use Rattle.run_model.specs.Transcript.{Entry, Legal}
-use Rattle.run_laws.specs.Accounts.{Account, Tells, broken_id}
+use Rattle.run_model.specs.Statements.{RoseAt, Step}
+use Rattle.run_model.specs.Transcript.{Entry, Legal, Turn}
+use Rattle.run_laws.specs.Accounts.{Account, Tells, broken_id, made_anew}
 use Rattle.run_laws.specs.Naming.{IdsDiffer, IsNamed, ids_told}
-use Rattle.run_laws.specs.Causes.{AbortCause, CommitCause, HasBegun, IsDirect, WasBegun, WasEnded}
+use Rattle.run_laws.specs.Causes.{AbortCause, CommitCause, DeliversTo, HasBegun, IsDirect, IsMissing, WasAsked, WasBegun, WasEnded}
 use Rattle.run_laws.specs.SaidLaws.{SaidThere}
 use Rattle.run_laws.specs.Showing.{AbortsShow, DirectsShow, EndsShow}
 
@@ -184,6 +186,11 @@ abbrev pub EndsAbort : List Entry → World → Type 0
 EndsAbort es closing = (before : List Entry) (node label : List ℕ) (events : List Line) (reason : Reason) → SaidThere es before (At node (EndTrans label)) events (line.TransactionAborted reason) →
     (tid : Id) × (moment : ℕ) × WasBegun before node label tid × (tid.node ≡ node) × (reason ≡ SyncFail) × In (line.Aborted tid tid reason moment) events × IsSettledSo tid tid Abort (Some reason) moment closing
 
+-- It was answered so where a branch is missing: an identifier was authorised for the transaction that was aborted, by which none joined it.
+abbrev pub FailsAreMissing : List Entry → Type 0
+FailsAreMissing es = (before : List Entry) (node label : List ℕ) (events : List Line) (reason : Reason) → SaidThere es before (At node (EndTrans label)) events (line.TransactionAborted reason) →
+    (tid : Id) × (moment : ℕ) × WasBegun before node label tid × In (line.Aborted tid tid reason moment) events × IsMissing before tid
+
 -- these lines show how a transaction ended, and it is so for good
 abbrev pub EndsSo : Id → Option Reason → List Line → World → Type 0
 EndsSo tid None lines closing = (moment : ℕ) × In (line.Committed tid tid moment) lines × IsSettledSo tid tid Commit None moment closing
@@ -225,6 +232,83 @@ WasLeft tid serial opening = (n : Node) × (find_node serial.node opening.nodes 
 abbrev pub FallsWereBegun : World → List Entry → Type 0
 FallsWereBegun opening es = (before : List Entry) (said : Reading) (front behind : List Line) (tid serial : Id) (moment : ℕ) → ShownThere es before said front (line.Aborted tid serial SegFail moment) behind →
     HasBegun before tid serial ⊎ WasLeft tid serial opening
+
+-- The nodes that a statement may put down: a request its own, and a link that fails one of its two. Of a delivery and a settling nothing is said here.
+abbrev pub MayPutDown : Reading → List ℕ → Type 0
+MayPutDown (Says (At here request)) node = node ≡ here
+MayPutDown (Says (LinkDown a b)) node = (node ≡ a) ⊎ (node ≡ b)
+MayPutDown said node = Unit {0}
+
+-- A line shows that a node is down only where its disk failed in that statement, or was stopped: between whichever worlds the entries lead, one before the statement
+-- and one behind it, the count of the cause rose at the node's disk; behind it the node is down; and it is one that the statement may put down.
+abbrev pub DownsHaveCauses : World → List Entry → Type 0
+DownsHaveCauses opening es = (before : List Entry) (said : Reading) (front behind : List Line) (node : List ℕ) (cause : Cause) → ShownThere es before said front (line.Down node cause) behind →
+    (w v : World) → Legal opening before w → Turn w said (front ++ line.Down node cause ∷ behind) v → RoseAt w node cause v.disks × (option_map (λ n. n.up) (find_node node v.nodes) ≡ Some false) × MayPutDown said node
+
+-- A statement is answered that a disk failed, or was stopped, only where it showed last before that answer that a node is down for that cause.
+abbrev pub FailuresShowDown : List Entry → Type 0
+FailuresShowDown es = (before : List Entry) (s : Statement) (events : List Line) (cause : Cause) → SaidThere es before s events (line.Broken cause) →
+    (node : List ℕ) × (front : List Line) × (events ≡ front ++ line.Down node cause ∷ [])
+
+-- Branches that are prepared.
+
+-- whether a branch is told to be prepared, once a line was shown: PREPARED tells it, until a line shows how the branch ended
+abbrev pub prepared_here : Id → Line → Bool → Bool
+prepared_here serial (line.Prepared t s) was = was || same_id serial s
+prepared_here serial (line.Committed t s moment) was = was && not (same_id serial s)
+prepared_here serial (line.Aborted t s reason moment) was = was && not (same_id serial s)
+prepared_here serial (line.LastCommitted t s moment) was = was && not (same_id serial s)
+prepared_here serial (line.LastAborted t s reason moment) was = was && not (same_id serial s)
+prepared_here serial other was = was
+
+-- and once these lines were
+abbrev pub prepared_by : Id → List Line → Bool → Bool
+prepared_by serial [] was = was
+prepared_by serial (l ∷ ls) was = prepared_by serial ls (prepared_here serial l was)
+
+-- whether the disk of its node tells it at the opening
+abbrev pub is_left_prepared : Id → World → Bool
+is_left_prepared serial opening = elim (find_node serial.node opening.nodes) [ Some n ↦ list_any (λ (r : LogRecord). same_id serial r.serial) (prepared_left n.durable) | None ↦ false ]
+
+-- and whether these entries do: the disk at the opening and their lines, unless one of them made the volume of its node anew since
+abbrev pub is_told_prepared : Id → World → List Entry → Bool
+is_told_prepared serial opening [] = is_left_prepared serial opening
+is_told_prepared serial opening (e ∷ es) = not (made_anew serial.node (reading e.source.text) e.lines) && prepared_by serial e.lines (is_told_prepared serial opening es)
+
+-- a branch is told this outcome: by a message that is delivered, or in a settling
+abbrev pub IsTold : List Entry → Reading → (front : List Line) → (tid serial : Id) → Outcome → Type 0
+IsTold es said front tid serial Commit = DeliversTo es said message.Commit tid serial ⊎ WasAsked said front tid serial Commit
+IsTold es said front tid serial Abort = DeliversTo es said message.Abort tid serial ⊎ WasAsked said front tid serial Abort
+
+-- A branch that is prepared is settled only as it is told: no restart, no clock, no link and no request settles it.
+abbrev pub PreparedAreTold : World → List Entry → Type 0
+PreparedAreTold opening es = (before : List Entry) (said : Reading) (front behind : List Line) (this : Line) (s : Settlement) → ShownThere es before said front this behind → shown_in this ≡ Some s →
+    prepared_by s.serial front (is_told_prepared s.serial opening before) ≡ true → IsTold before said front s.tid s.serial s.outcome
+
+-- it is shown to be prepared, or as the last settlement of its disk
+abbrev pub ShowsPrepared : Id → List Line → Type 0
+ShowsPrepared serial shown = ((tid : Id) × In (line.Prepared tid serial) shown) ⊎ ((l : Line) × (t : Settlement) × In l shown × (last_in l ≡ Some t) × (t.serial ≡ serial))
+
+-- A failure cut short what was to prepare it: a delivery of the message that asks for its vote, or an END_BRANCH of it.
+abbrev pub WasPreparing : List Entry → (tid serial : Id) → Type 0
+WasPreparing es tid serial = (before : List Entry) × (s : Statement) × (events : List Line) × (cause : Cause) × SaidThere es before s events (line.Broken cause)
+    × (DeliversTo before (Says s) message.Prepare tid serial ⊎ ((label : List ℕ) × (s ≡ At serial.node (EndBranch label)) × IsNamed before serial.node label tid serial))
+
+-- its disk had it as its last settlement at the opening
+abbrev pub WasItsLast : Id → World → Type 0
+WasItsLast serial opening = (n : Node) × (find_node serial.node opening.nodes ≡ Some n) × (s : Settlement) × (n.durable.last ≡ Some s) × (s.serial ≡ serial)
+
+-- A boot that succeeded showed each branch of its node that was told to be prepared: it is prepared still, or it is the last that its disk settled. And it showed none
+-- as prepared that was not told to be so, but where a failure cut short what was to prepare it, or the disk had it as its last settlement at the opening.
+abbrev pub BootsShowPrepared : World → List Entry → Type 0
+BootsShowPrepared opening es = (before : List Entry) (node : List ℕ) (s : Statement) (shown : List Line) (answer : Line) → SaidThere es before s shown answer → Boots node s shown answer → (serial : Id) → serial.node ≡ node →
+    (is_told_prepared serial opening before ≡ true → ShowsPrepared serial shown)
+    × ((tid : Id) → In (line.Prepared tid serial) shown → (is_told_prepared serial opening before ≡ true) ⊎ WasPreparing before tid serial ⊎ WasItsLast serial opening)
+
+-- A branch that left as read-only has changed nothing: no change of records was done before with a label that named it then.
+abbrev pub ReadOnlyChangedNothing : List Entry → Type 0
+ReadOnlyChangedNothing es = (before : List Entry) (said : Reading) (front behind : List Line) (tid serial : Id) → ShownThere es before said front (line.ReadOnly tid serial) behind →
+    (earlier : List Entry) (node label file : List ℕ) (op : Operation) (events : List Line) (answer : Line) → SaidThere before earlier (At node (Records label file op)) events answer → is_change op ≡ true → IsDoneAnswer answer → IsNamed earlier node label tid serial → ⊥
 
 -- Where a failure ended an END_TRANS, the first later BOOT of its node, or settling, that comes past raising its boot count tells what became of the transaction
 -- which its label names.
@@ -268,6 +352,16 @@ abbrev pub LastsWereAsked : World → List Entry → Type 0
 LastsWereAsked opening es = (before : List Entry) (said : Reading) (front behind : List Line) (tid serial : Id) (moment : ℕ) → ShownThere es before said front (line.LastCommitted tid serial moment) behind →
     WasLast serial.node (line.LastCommitted tid serial moment) opening ⊎ IsShown (commitment tid serial moment) before ⊎ WasEnding before tid serial ⊎ WasChanging opening before serial
 
+-- A failure of the disk of this branch's node came in a statement that was to abort it for this reason.
+abbrev pub WasAborting : List Entry → Reason → (tid serial : Id) → Type 0
+WasAborting es reason tid serial = (before : List Entry) × (said : Reading) × (front : List Line) × (behind : List Line) × (cause : Cause) × ShownThere es before said front (line.Down serial.node cause) behind × AbortCause before said front reason tid serial
+
+-- What a boot shows to be aborted has its cause too: it was shown before, or a failure came in the statement that was to abort it; or the disk had it as its last at
+-- the opening.
+abbrev pub LastsWereCaused : World → List Entry → Type 0
+LastsWereCaused opening es = (before : List Entry) (said : Reading) (front behind : List Line) (tid serial : Id) (reason : Reason) (moment : ℕ) → ShownThere es before said front (line.LastAborted tid serial reason moment) behind →
+    WasLast serial.node (line.LastAborted tid serial reason moment) opening ⊎ IsShown (abort tid serial reason moment) before ⊎ WasAborting before reason tid serial
+
 -- What dumps show of records needs more of a run than its transcript: that no branch is committed whose abort was begun; so it is where the volumes agree with
 -- which the run begins. And that no last settlement of a disk at the opening is of a
 -- branch that stands unsettled there.
@@ -302,6 +396,7 @@ pub record KeptPromises (opening : World) (es : List Entry) (closing : World) : 
   -- Statements that end a transaction, and the lines that show how one ended.
   pub ends : EndsCommit es closing
   pub fails : EndsAbort es closing
+  pub missing : FailsAreMissing es
   pub ended : EndedSo es closing
   pub aborts : AbortsAbort es closing
   pub directs : DirectsCommit es closing
@@ -320,6 +415,14 @@ pub record KeptPromises (opening : World) (es : List Entry) (closing : World) : 
   pub lasts_first : LastsFirst es
   pub show_last : BootsShowLast es
   pub asked : LastsWereAsked opening es
+  pub caused : LastsWereCaused opening es
+  -- A failure of a disk is shown only where the count of its cause rose.
+  pub downs : DownsHaveCauses opening es
+  pub broken : FailuresShowDown es
+  -- Branches that are prepared, and branches that changed nothing.
+  pub prepared : PreparedAreTold opening es
+  pub booted : BootsShowPrepared opening es
+  pub read_only : ReadOnlyChangedNothing es
   -- No branch is settled twice, so none is both committed and aborted, and moments ascend.
   pub once : (node : List ℕ) → SettledOnce (settlements_of node closing) × Descends (settlements_of node closing)
 

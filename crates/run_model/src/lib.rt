@@ -5,10 +5,10 @@ ghost use Rattle.run_model.specs.Rows.{ChangeIsInJournal, RestartUndoes, LockedR
 ghost use Rattle.run_model.specs.StepLaws.{FailurePutsDown, IsDetermined, NodeStepsAreSteps, RefusalsLeaveWorld, SuccessIsGiven};
 ghost use Rattle.run_model.specs.Rows.{BothCommit, DoubtIsResolved, AbortIsPresumed, MissingBranchAborts, TimeRunsOut, LostLinkAborts, SettlingAsks, SettlingBoots};
 
-/// Worked scripts show what they are to show. Of one node: a change in the journal, and an empty journal behind its commitment; a restart that undoes; a record
-/// that another branch has put; changes without a label; stops in a change and in a commitment, taken and not; a file with too few buckets; and a transaction
-/// whose time runs out. Of two: a transaction that is committed at both, and one whose branch was in doubt; an abort that is presumed; a branch that is missing;
-/// a link that fails; and a settling that asks, and one that boots.
+/// Worked scripts show what they are to show. Of one node: a change in the journal, and an empty journal behind its commitment; a restart that
+/// undoes; a record that another branch has put; changes without a label; stops in a change and in a commitment, taken and not; a file with too few
+/// buckets; and a transaction whose time runs out. Of two: a transaction that is committed at both, and one whose branch was in doubt; an abort that
+/// is presumed; a branch that is missing; a link that fails; and a settling that asks, and one that boots.
 pub fn worked_scripts_show()
     ensures journal { ChangeIsInJournal }
     ensures restart { RestartUndoes }
@@ -29,10 +29,10 @@ pub fn worked_scripts_show()
     ensures booted { SettlingBoots }
 {}
 
-/// What refuses a statement at once it is told alone. A task that is refused, other than by a failure of a disk, shows its refusal alone: the first cause that
-/// applies, or that memory is missing, where it may be. It leaves the world; or, where what the disk has or a quota refused it once its disk was made to run
-/// again, the world that there is from then on. A clock that is set and a link that fails are refused at once or not at all. A settling that is refused leaves a
-/// world in which a node refuses a task so, or in which a coordinator is not there.
+/// What refuses a statement at once it is told alone. A task that is refused, other than by a failure of a disk, shows its refusal alone: the first
+/// cause that applies, or that memory is missing, where it may be. It leaves the world; or, where what the disk has or a quota refused it once its
+/// disk was made to run again, the world that there is from then on. A clock that is set and a link that fails are refused at once or not at all. A
+/// settling that is refused leaves a world in which a node refuses a task so, or in which a coordinator is not there.
 pub fn refusals_leave_world()
     ensures { RefusalsLeaveWorld }
 {}

@@ -263,18 +263,6 @@ ended_hears logs w v place name serials many unanswered serial a x b ks s ls t a
       emits = subst (λ ns. Emits a ns b) (sym (append_assoc h.lines p.lines (p.answer ∷ []))) (emits_on a x b h.lines (p.lines ++ p.answer ∷ []) h.emits p.emits);
     }
 
--- one name stands at one place
-pub one_place : (ks : List Kept) (i j : ℕ) (name : List ℕ) → AreApart (kept_names ks) → slice_get (kept_names ks) i ≡ Some name → slice_get (kept_names ks) j ≡ Some name → i ≡ j
-one_place [] i j name apart e f = let none : ⊥ = cc in absurd none
-one_place (x ∷ ks) zero zero name apart e f = refl
-one_place (x ∷ ks) zero (suc j) name apart e f =
-    let k = kept_at_place ks j name f in
-    let no : true ≡ false = sym (among_there x.name ks j k.kept k.here (k.named ∙ sym (some_is x.name name e))) ∙ apart.0 in let none : ⊥ = cc in absurd none
-one_place (x ∷ ks) (suc i) zero name apart e f =
-    let k = kept_at_place ks i name e in
-    let no : true ≡ false = sym (among_there x.name ks i k.kept k.here (k.named ∙ sym (some_is x.name name f))) ∙ apart.0 in let none : ⊥ = cc in absurd none
-one_place (x ∷ ks) (suc i) (suc j) name apart e f = ap suc (one_place ks i j name apart.1 e f)
-
 -- What the code asked and was answered, in the world.
 module _ (logs : List CallLog) (w v : World) (place : ℕ) (name : List ℕ) (serials : List Id) (many unanswered : ℕ) (serial : Id) (a x : Shown) (ks : List Kept) (s : SharedState) (apart : AreApart (kept_names ks)) (h : AskingAt logs w v place name serials many unanswered a x ks s) where
   pub asks_so : (k : Kept) → slice_get ks place ≡ Some k → (o : Option Message) → node.question_in serial k.place ≡ o → question_in serial h.node.volatile.branches ≡ o
@@ -291,9 +279,3 @@ module _ (logs : List CallLog) (w v : World) (place : ℕ) (name : List ℕ) (se
         subst (λ y. find_node y h.world.nodes ≡ Some i.node) r.named (there_found logs ks s h.world h.stands apart p r.kept r.here),
         λ k f o is. sym (answer_kept i.log r.kept i.node m i.stands (up_at h.world.nodes p i.node h.up i.at)) ∙ ap (λ (y : Kept). node.answer_in_place m y.place) (some_is r.kept k (sym r.here ∙ f)) ∙ is,
       )
-
-  pub name_here : (k : Kept) → slice_get ks place ≡ Some k → slice_get (kept_names ks) place ≡ Some name
-  name_here k e =
-      let i = it logs ks s h.world h.stands apart place k e in
-      let here : i.node ≡ h.node = some_is i.node h.node (sym i.at ∙ h.at) in
-      get_map (λ (y : Kept). y.name) ks place k e ∙ ap (λ y. Some y) (sym i.stands.name ∙ ap (λ (n : Node). n.name) here ∙ h.named)

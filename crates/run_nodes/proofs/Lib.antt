@@ -3,6 +3,8 @@ pub mod Entries
 pub mod Places
 pub mod Serving
 pub mod Telling
+pub mod Answered
+pub mod Steady
 pub mod Answers
 pub mod Lookups
 pub mod Each

@@ -11,12 +11,12 @@ use Rattle.commit_protocol.specs.Messages.{Message}
 use Rattle.run_shared.specs.Sharing.{SharedState}
 use Rattle.dtm_node.specs.Standing.{Kept, is_up}
 use Rattle.dtm_node.specs.Telling.{said_node}
+use Rattle.said_steps.specs.Answers.{FallsTold}
 use Rattle.run_nodes.specs.Names.{AreApart}
 use Rattle.run_nodes.specs.Tasks.{DoesTask}
 use Rattle.run_nodes.specs.Together.{AnswersTogether}
 use Rattle.run_nodes.specs.Told.{Restarted, RestartsTold, TurnOver, TurnTold, kept_names}
-use Rattle.run_nodes.proofs.Answers.{IsQuiet}
-use Rattle.run_nodes.proofs.Restarts.{restarted_behind_all, restarted_none, restarted_on, restarted_over, restarted_up, task_over, task_turn}
+use Rattle.run_nodes.proofs.Restarts.{IsTurn, restarted_behind_all, restarted_none, restarted_on, restarted_over, restarted_up, task_over, task_turn}
 
 pub at_length : (ks : List Kept) (place : ℕ) → place < length (kept_names ks) → (k : Kept) × (slice_get ks place ≡ Some k)
 at_length [] place h = absurd (omega arith)
@@ -52,20 +52,20 @@ told_over place ks s a x b ms u ls t apart h there d down =
     (restarted_over place h.lines ks s ms u a x b d.old d.new t apart h.told h.emits (same_there place ks (record s { in_use = true }) a x ms u d.old h there d.here) down d.named d.tells)
 
 -- A statement that was answered behind the boots of all nodes.
-pub told_behind : (place : ℕ) (ks : List Kept) (s : SharedState) (a x b : Shown) (ms : List Kept) (u : SharedState) (touched : List (List ℕ)) (ls : List Kept) (t : SharedState) → AreApart (kept_names ks) → length (kept_names ks) ≤ place → RestartsTold place ks (record s { in_use = true }) a x ms u → TurnOver touched ms u x b ls t →
+pub told_behind : (place : ℕ) (ks : List Kept) (s : SharedState) (a x b : Shown) (ms : List Kept) (u : SharedState) (touched : List (List ℕ)) (ls : List Kept) (t : SharedState) → AreApart (kept_names ks) → length (kept_names ks) ≤ place → RestartsTold place ks (record s { in_use = true }) a x ms u → TurnOver touched ms u x b ls t → touched ≡ kept_names ks →
     AnswersTogether (kept_names ks) Settle a b ks s ls t
-told_behind place ks s a x b ms u touched ls t apart over h k =
-    restarted_behind_all place h.lines k.lines k.answer ks s ms u touched ls t a x b apart (let l = length-map ks said_node in let n = length-map ks (λ (y : Kept). y.name) in omega arith) h.told h.emits k.told k.emits k.quiet
+told_behind place ks s a x b ms u touched ls t apart over h k same =
+    restarted_behind_all place h.lines k.lines k.answer ks s ms u touched ls t a x b apart (let l = length-map ks said_node in let n = length-map ks (λ (y : Kept). y.name) in omega arith) h.told h.emits k.told k.emits k.quiet (subst (λ ns. FallsTold ns k.lines k.answer) same k.falls) k.uncrashed k.is k.may
 
-pub quiet_run_down : IsQuiet RunsDown
-quiet_run_down = record { unpowered = λ e y. refl; unarmed = λ y. refl; says = λ y z v o. refl }
+pub quiet_run_down : IsTurn RunsDown
+quiet_run_down = record { quiet = record { unpowered = λ e y. refl; unarmed = λ y. refl; says = λ y z v o. refl; no_crash = λ q. (let no : ⊥ = cc in no) }; on = refl; goes = λ y. refl; ends = λ y. refl; refused = λ y z. refl }
 
-pub quiet_hears : (m : Message) → IsQuiet (Hears m)
-quiet_hears m = record { unpowered = λ e y. refl; unarmed = λ y. refl; says = λ y z v o. refl }
+pub quiet_hears : (m : Message) → IsTurn (Hears m)
+quiet_hears m = record { quiet = record { unpowered = λ e y. refl; unarmed = λ y. refl; says = λ y z v o. refl; no_crash = λ q. (let no : ⊥ = cc in no) }; on = refl; goes = λ y. refl; ends = λ y. refl; refused = λ y z. refl }
 
 -- A task whose flow is this.
-pub flow_turn : (names : List (List ℕ)) (place : ℕ) (task : Task) (over : Bool) (ks : List Kept) (s : SharedState) (a b : Shown) (ls : List Kept) (t : SharedState) → names ≡ kept_names ks → AreApart names → IsQuiet task → DoesTask place task over over ks s a b ls t → over ≡ false → TurnTold names ks s a b ls t
+pub flow_turn : (names : List (List ℕ)) (place : ℕ) (task : Task) (over : Bool) (ks : List Kept) (s : SharedState) (a b : Shown) (ls : List Kept) (t : SharedState) → names ≡ kept_names ks → AreApart names → IsTurn task → DoesTask place task over over ks s a b ls t → over ≡ false → TurnTold names ks s a b ls t
 flow_turn names place task over ks s a b ls t same apart quiet d e = task_turn names place task ks s a b ls t same apart quiet (subst (λ x. DoesTask place task x x ks s a b ls t) e d)
 
-pub flow_over : (names : List (List ℕ)) (place : ℕ) (task : Task) (over : Bool) (ks : List Kept) (s : SharedState) (a b : Shown) (ls : List Kept) (t : SharedState) → names ≡ kept_names ks → AreApart names → IsQuiet task → DoesTask place task over over ks s a b ls t → over ≡ true → TurnOver names ks s a b ls t
+pub flow_over : (names : List (List ℕ)) (place : ℕ) (task : Task) (over : Bool) (ks : List Kept) (s : SharedState) (a b : Shown) (ls : List Kept) (t : SharedState) → names ≡ kept_names ks → AreApart names → IsTurn task → DoesTask place task over over ks s a b ls t → over ≡ true → TurnOver names ks s a b ls t
 flow_over names place task over ks s a b ls t same apart quiet d e = task_over names place task ks s a b ls t same apart quiet (subst (λ x. DoesTask place task x x ks s a b ls t) e d)

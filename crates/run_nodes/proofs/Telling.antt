@@ -1,5 +1,5 @@
 -- What the lines of a statement tell of each disk and say of each node.
-use Rattle.std.specs.Prelude.{◌||◌, slice_get, slice_set}
+use Rattle.std.specs.Prelude.{◌||◌, ◌&&◌, not, slice_get, slice_set}
 use Rattle.std.proofs.Common.{◌≡◌, ℕ, zero, suc, ◌≤◌, List, [], ◌∷◌, ◌++◌, map, Bool, true, false, Some, if◌then◌else◌, inl, inr, refl, sym, ◌∙◌, ap, subst, arith}
 use Rattle.std.specs.Str.{bytes_eq}
 use Rattle.std.proofs.lemmas.Slice.Eq.{bytes_eq-Decides}
@@ -17,9 +17,11 @@ use Rattle.run_model.specs.Steps.{count_of}
 use Rattle.run_model.proofs.NodeLists.{some_is}
 use Rattle.recovery_units.specs.Uses.{IsCounted}
 use Rattle.run_shared.specs.Sharing.{SharedState}
-use Rattle.dtm_node.specs.Standing.{Kept, counts_of, disk_in}
+use Rattle.dtm_node.specs.Holding.{HoldsAs}
+use Rattle.dtm_node.specs.Standing.{Kept, counts_of, disk_in, is_up}
 use Rattle.dtm_node.specs.Telling.{Passes, TellsTask, armed_task, powered_task, said_node, said_shared}
-use Rattle.said_steps.specs.Calls.{is_named}
+use Rattle.dtm_node.proofs.Held.{holds_is, holds_on}
+use Rattle.said_steps.specs.Calls.{is_boot_refusal, is_named}
 use Rattle.said_steps.specs.Own.{alone}
 use Rattle.said_steps.proofs.OwnLines.{own_down, own_lines_say}
 use Rattle.statement_steps.proofs.Counting.{rose_over}
@@ -66,10 +68,15 @@ name_there (x ∷ ks) [] place k names e = let none : ⊥ = cc (names) in absurd
 name_there (x ∷ ks) (y ∷ ls) zero k names e = (y, refl, (let both : y.name ≡ x.name = cc (names) in both ∙ ap (λ (z : Kept). z.name) (some_is x k e)))
 name_there (x ∷ ks) (y ∷ ls) (suc place) k names e = let more : kept_names ls ≡ kept_names ks = cc (names) in name_there ks ls place k more e
 
+-- what was down is as it was
+pub held_same : (k l : Kept) → l ≡ k → is_up k.place ≡ false → (is_up l.place ≡ false) × HoldsAs (disk_in k.place) (disk_in l.place)
+held_same k l e down = (ap (λ (x : Kept). is_up x.place) e ∙ down, holds_is (disk_in k.place) (disk_in l.place) (ap (λ (x : Kept). disk_in x.place) e))
+
 pub told_none : (touched : List (List ℕ)) (ks : List Kept) (s : SharedState) → Told touched [] ks s ks s
 told_none touched ks s = record {
   says = refl;
   names = refl;
+  held = λ place k l e f down. held_same k l (some_is l k (sym f ∙ e)) down;
   each = λ place k l e f.
       let same : k ≡ l = some_is k l (sym e ∙ f) in
       subst (λ (x : Kept). DiskTold k.name touched [] (disk_in k.place) (disk_in x.place)) same (disk_same k.name touched [] (disk_in k.place) (λ cause i. i));
@@ -79,6 +86,11 @@ pub told_on : (touched : List (List ℕ)) (front rest : List Line) (ks : List Ke
 told_on touched front rest ks s ms u ls t h k = record {
   says = said_append front rest (said_together ks s) ∙ ap (lines_said rest) h.says ∙ k.says;
   names = k.names ∙ h.names;
+  held = λ place x z e f down.
+      let y = name_there ks ms place x h.names e in
+      let first = h.held place x y.0 e y.1 down in
+      let second = k.held place y.0 z y.1 f first.0 in
+      (second.0, holds_on (disk_in x.place) (disk_in y.0.place) (disk_in z.place) first.1 second.1);
   each = λ place x z e f.
       let y = name_there ks ms place x h.names e in
       disk_on x.name touched front rest (disk_in x.place) (disk_in y.0.place) (disk_in z.place) (h.each place x y.0 e y.1)
@@ -156,6 +168,12 @@ pub task_told : (touched : List (List ℕ)) (place : ℕ) (task : Task) (answers
 task_told touched place task answers ends ks s a b k l t apart e same named d unpowered unarmed says = record {
   says = own_lines_say k.name (map said_node ks) d.lines (said_node k) (said_node l) (said_shared s) (said_shared t) d.own (said_found ks place k apart e) says ∙ ap (λ ns. record { nodes = ns; shared = said_shared t }) (said_put ks place k l apart e);
   names = names_set ks place k l e same;
+  held = λ other x y f g down. elim (was_put ks place k l apart e other x y f g) [
+    | Here p q ↦
+        let i = d.held (ap (λ (z : Kept). is_up z.place) (sym p) ∙ down) (ap (λ (u : Bool). u && not (is_boot_refusal d.answer)) (unpowered ends d.answer)) in
+        (ap (λ (z : Kept). is_up z.place) q ∙ i.0, subst (λ (z : Kept). HoldsAs (disk_in z.place) (disk_in y.place)) (sym p) (subst (λ (z : Kept). HoldsAs (disk_in k.place) (disk_in z.place)) (sym q) i.1))
+    | There p q ↦ held_same x y p down
+  ];
   each = λ other x y f g. elim (was_put ks place k l apart e other x y f g) [
     | Here p q ↦ subst (λ (z : Kept). DiskTold z.name touched d.lines (disk_in z.place) (disk_in y.place)) (sym p) (subst (λ (z : Kept). DiskTold k.name touched d.lines (disk_in k.place) (disk_in z.place)) (sym q) here)
     | There p q ↦ subst (λ (z : Kept). DiskTold x.name touched d.lines (disk_in x.place) (disk_in z.place)) (sym p) (disk_same x.name touched d.lines (disk_in x.place) (λ cause i. q (own_down x.name k.name cause d.lines d.own i)))

@@ -1,5 +1,5 @@
 -- What lines of a part of a statement tell of all disks, and say of all nodes.
-use Rattle.std.specs.Prelude.{◌≡◌, ◌<◌, ◌≤◌, ℕ, List, [], ◌∷◌, ◌++◌, Bool, false, not, Some, if◌then◌else◌, map, slice_get, take}
+use Rattle.std.specs.Prelude.{◌≡◌, ◌<◌, ◌≤◌, ℕ, List, [], ◌∷◌, ◌++◌, Bool, true, false, not, Some, if◌then◌else◌, map, slice_get, take}
 use Rattle.block_disk.specs.Disk.{DiskState, noted}
 use Rattle.block_disk.specs.declared.disk.DiskCall.TheVariants as disk_call
 use Rattle.commit_protocol.specs.World.{In}
@@ -13,6 +13,8 @@ use Rattle.recovery_units.specs.Uses.{IsCounted}
 use Rattle.run_shared.specs.Sharing.{SharedState}
 use Rattle.dtm_node.specs.Standing.{Kept, counts_of, disk_in, is_up}
 use Rattle.dtm_node.specs.Telling.{Passes, said_node}
+use Rattle.dtm_node.specs.Holding.{HoldsAs}
+use Rattle.said_steps.specs.Answers.{FallsTold, IsSteady, ends_turns, is_answer}
 use Rattle.said_steps.specs.Calls.{CameUp, is_named, shows_boot}
 use Rattle.run_nodes.specs.Together.{said_together}
 
@@ -28,25 +30,43 @@ pub record DiskTold (name : List ℕ) (touched : List (List ℕ)) (lines : List 
   pub passes : Passes old new
   pub elsewhere : is_named name touched ≡ false → new ≡ old
 
--- so of all disks, where the lines say what is kept of all nodes
+-- each of these nodes is up
+abbrev pub AreAllUp : List Kept → Type 0
+AreAllUp ks = (place : ℕ) (k : Kept) → slice_get ks place ≡ Some k → is_up k.place ≡ true
+
+-- so of all disks, where the lines say what is kept of all nodes; and a node that was down is down still, and nothing on its disk is lost
 pub record Told (touched : List (List ℕ)) (lines : List Line) (ks : List Kept) (s : SharedState) (ls : List Kept) (t : SharedState) : Type 0 where
   pub says : lines_said lines (said_together ks s) ≡ said_together ls t
   pub names : kept_names ls ≡ kept_names ks
   pub each : (place : ℕ) (k l : Kept) → slice_get ks place ≡ Some k → slice_get ls place ≡ Some l → DiskTold k.name touched lines (disk_in k.place) (disk_in l.place)
+  pub held : (place : ℕ) (k l : Kept) → slice_get ks place ≡ Some k → slice_get ls place ≡ Some l → is_up k.place ≡ false → (is_up l.place ≡ false) × HoldsAs (disk_in k.place) (disk_in l.place)
 
--- Such lines were shown, and the statement goes on,
+-- Such lines were shown, perhaps of a node that went down, with which its statement goes on.
+pub record TurnShown (touched : List (List ℕ)) (ks : List Kept) (s : SharedState) (a b : Shown) (ls : List Kept) (t : SharedState) : Type 0 where
+  pub lines : List Line
+  pub emits : Emits a lines b
+  pub told : Told touched lines ks s ls t
+  pub uncrashed : (node : List ℕ) → In (line.Crashed node) lines → ⊥
+
+-- Such lines were shown, by which no node goes down, and the statement goes on,
 pub record TurnTold (touched : List (List ℕ)) (ks : List Kept) (s : SharedState) (a b : Shown) (ls : List Kept) (t : SharedState) : Type 0 where
   pub lines : List Line
   pub emits : Emits a lines b
   pub told : Told touched lines ks s ls t
+  pub steady : IsSteady lines
+  pub up : AreAllUp ks → AreAllUp ls
 
--- or it was answered behind them, by a line that says nothing.
+-- or it was answered behind them, by a line that says nothing, and where each node was up by one that ends its turns; and that line tells whether a node went down.
 pub record TurnOver (touched : List (List ℕ)) (ks : List Kept) (s : SharedState) (a b : Shown) (ls : List Kept) (t : SharedState) : Type 0 where
   pub lines : List Line
   pub answer : Line
   pub emits : Emits a (lines ++ answer ∷ []) b
   pub quiet : (said : Said) → line_said answer said ≡ said
   pub told : Told touched lines ks s ls t
+  pub falls : FallsTold touched lines answer
+  pub uncrashed : (node : List ℕ) → In (line.Crashed node) lines → ⊥
+  pub is : is_answer answer ≡ true
+  pub may : AreAllUp ks → ends_turns answer ≡ true
 
 -- Boots.
 
@@ -61,12 +81,14 @@ pub record IsUnmentioned (name : List ℕ) (lines : List Line) : Type 0 where
   pub down : (cause : Cause) → In (line.Down name cause) lines → ⊥
   pub boot : shows_boot name lines ≡ false
 
--- The nodes before this place that were down came up, which these lines tell and say; the others are as they were.
+-- The nodes before this place that were down came up, which these lines tell and say, and by which no node goes down; the others are as they were.
 pub record Restarted (place : ℕ) (lines : List Line) (ks : List Kept) (s : SharedState) (ls : List Kept) (t : SharedState) : Type 0 where
   pub says : lines_said lines (said_together ks s) ≡ said_together ls t
   pub names : kept_names ls ≡ kept_names ks
   pub front : (j : ℕ) (k l : Kept) → j < place → slice_get ks j ≡ Some k → slice_get ls j ≡ Some l → DiskPowered k.name (not (is_up k.place)) lines (disk_in k.place) (disk_in l.place)
   pub came : CameUp (take place (map said_node ks)) lines
+  pub up : (j : ℕ) (l : Kept) → j < place → slice_get ls j ≡ Some l → is_up l.place ≡ true
+  pub steady : IsSteady lines
   pub behind : (j : ℕ) (k : Kept) → place ≤ j → slice_get ks j ≡ Some k → (slice_get ls j ≡ Some k) × IsUnmentioned k.name lines
 
 -- such lines were shown

@@ -183,7 +183,7 @@ fn ask_at<E: Emit, D: Disk + Drop, U: RecoveryUnits>(
     Flow::GoesOn
 }
 
-// A prepared branch asks its coordinator, and hears the answer, where there is one.
+// A prepared branch asks its coordinator, and hears the answer where it stands, if there is one.
 fn ask<E: Emit, D: Disk + Drop, U: RecoveryUnits>(
     nodes: &mut Nodes<D, U>,
     place: usize,
@@ -217,9 +217,5 @@ fn ask<E: Emit, D: Disk + Drop, U: RecoveryUnits>(
     let Some(answer) = nodes.answer(coordinator, &question) else {
         return Flow::GoesOn;
     };
-    let Some(home) = nodes.receiver(&answer) else {
-        out.emit(&Form::NoSuchNode);
-        return Flow::Over;
-    };
-    nodes.hear(home, &answer, shared, out)
+    nodes.hear(place, &answer, shared, out)
 }

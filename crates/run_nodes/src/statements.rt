@@ -25,7 +25,7 @@ use std::alloc::Global;
 use transcript::{Emit, Form};
 use vms_base::NodeName;
 
-/// Serves a statement and answers it.
+/// Serves a statement at the node that it names, or, where it is SETTLE or DELIVER, at each that it reaches, and shows its answer as the last line.
 pub fn serve_statement<E: Emit, D: Disk + Drop, U: RecoveryUnits>(
     alloc: Global,
     nodes: &mut Nodes<D, U>,

@@ -1,5 +1,5 @@
 -- The calls of the disk of each node after a statement.
-use Rattle.std.specs.Prelude.{not}
+use Rattle.std.specs.Prelude.{◌&&◌, not}
 use Rattle.std.proofs.Common.{◌≡◌, ℕ, List, [], ◌∷◌, ◌++◌, Bool, true, false, ◌||◌, Option, Some, None, if◌then◌else◌, refl, sym, ◌∙◌, ap, subst}
 use Rattle.std.specs.List.{last_or}
 use Rattle.std.specs.Str.{bytes_eq}
@@ -11,7 +11,7 @@ use Rattle.transcript_model.specs.Lines as line
 use Rattle.transcript_model.specs.Lines.{Line}
 use Rattle.script_model.specs.Statements.{At, Deliver, Fuse, LinkDown, Request, Says, Settle}
 use Rattle.run_laws.specs.Said.{Said, SaidNode, lines_said, line_said, node_in, said_here, with_use}
-use Rattle.said_steps.specs.Calls.{CameUp, NamesDiffer, armed_by, calls_after, down_names, has_powered, is_named, is_tried, restarted, shows_boot, tried_last}
+use Rattle.said_steps.specs.Calls.{CameUp, NamesDiffer, armed_by, calls_after, down_names, has_powered, has_used, is_boot_refusal, is_named, is_tried, refuses_boot, restarted, shows_boot, tried_last}
 use Rattle.said_steps.proofs.OwnLines.{here_said, last_is}
 use Rattle.said_steps.proofs.Restarted.{all_restarted, some_restarted}
 
@@ -155,3 +155,30 @@ delivery_said number lines answer said quiet = ap (λ (o : Option Line). elim o 
 
 pub link_said : (a b : List ℕ) (lines : List Line) (answer : Line) (said : Said) → ((x : Said) → line_said answer x ≡ x) → said_here (Says (LinkDown a b)) (lines ++ answer ∷ []) said ≡ lines_said lines said
 link_said a b lines answer said quiet = ap (λ (o : Option Line). elim o [ Some c ↦ lines_said (lines ++ answer ∷ []) said | None ↦ said ]) (last_is None lines answer) ∙ here_said lines answer said quiet
+
+-- Whether a disk was used that was made to run again.
+
+used_by : (powered shows refusal : Bool) → powered && (shows || not refusal) ≡ false → powered && not refusal ≡ false
+used_by true true refusal e = let none : ⊥ = cc in absurd none
+used_by true false refusal e = e
+used_by false shows refusal e = refl
+
+-- by a request to the node itself
+pub used_request : (name : List ℕ) (said : Said) (request : Request) (lines : List Line) (answer : Line) → has_used name said (At name request) (lines ++ answer ∷ []) ≡ false → has_powered request answer && not (is_boot_refusal answer) ≡ false
+used_request name said request lines answer unused =
+    used_by (has_powered request answer) (shows_boot name (lines ++ answer ∷ [])) (is_boot_refusal answer)
+    (ap (λ x. x && (shows_boot name (lines ++ answer ∷ []) || not (is_boot_refusal answer))) (sym (named (has_powered request answer)))
+    ∙ ap (λ (o : Option Line). is_named name (elim o [ Some a ↦ (if has_powered request a then name ∷ [] else []) | None ↦ [] ]) && (shows_boot name (lines ++ answer ∷ []) || not (refuses_boot o))) (sym (last_is None lines answer)) ∙ unused)
+  where
+    named : (b : Bool) → is_named name (if b then name ∷ [] else []) ≡ b
+    named true = rw (its_name name) refl
+    named false = refl
+
+-- and by a settling: that of a node that came up,
+pub used_came : (name : List ℕ) (said : Said) (lines : List Line) → is_named name (restarted said.nodes lines) ≡ true → shows_boot name lines ≡ true → has_used name said Settle lines ≡ true
+used_came name said lines named shown = (λ i. named i && (shown i || not (refuses_boot (last_or None lines))))
+
+-- and that of the one that did not
+pub used_stuck : (name : List ℕ) (said : Said) (lines : List Line) (answer : Line) (powered : Bool) → is_named name (restarted said.nodes (lines ++ answer ∷ [])) ≡ powered → shows_boot name (lines ++ answer ∷ []) ≡ false → has_used name said Settle (lines ++ answer ∷ []) ≡ false → powered && not (is_boot_refusal answer) ≡ false
+used_stuck name said lines answer powered named none unused =
+    (λ i. sym named i && (sym none i || not (is_boot_refusal answer))) ∙ ap (λ (o : Option Line). is_named name (restarted said.nodes (lines ++ answer ∷ [])) && (shows_boot name (lines ++ answer ∷ []) || not (refuses_boot o))) (sym (last_is None lines answer)) ∙ unused

@@ -132,3 +132,10 @@ own_down name other cause (l ∷ ls) own i = elim i [
   | inl e ↦ subst (IsOwn other) (sym e) own.0
   | inr j ↦ own_down name other cause ls own.1 j
 ]
+
+pub own_crash : (name other : List ℕ) (ls : List Line) → AllByRecursion (IsOwn other) ls → In (line.Crashed name) ls → name ≡ other
+own_crash name other [] own i = absurd i
+own_crash name other (l ∷ ls) own i = elim i [
+  | inl e ↦ subst (IsOwn other) (sym e) own.0
+  | inr j ↦ own_crash name other ls own.1 j
+]

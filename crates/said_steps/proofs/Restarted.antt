@@ -1,12 +1,13 @@
 -- Which disks a settling made run again, by its lines.
-use Rattle.std.proofs.Common.{◌≡◌, ℕ, List, [], ◌∷◌, ◌++◌, Bool, true, false, ◌||◌, None, if◌then◌else◌, refl, ◌∙◌, ap}
+use Rattle.std.proofs.Common.{◌≡◌, ℕ, List, [], ◌∷◌, ◌++◌, Bool, true, false, ◌||◌, Option, Some, None, if◌then◌else◌, refl, ◌∙◌, ap, subst}
 use Rattle.std.specs.List.{AllByRecursion, last_or}
 use Rattle.std.specs.Str.{bytes_eq}
 use Rattle.std.proofs.lemmas.Bool.{false_from_ne_true}
 use Rattle.std.proofs.lemmas.Slice.Eq.{bytes_eq-Decides}
 use Rattle.transcript_model.specs.Lines as line
 use Rattle.transcript_model.specs.Lines.{Line}
-use Rattle.run_laws.specs.Said.{SaidNode}
+use Rattle.run_laws.specs.Said.{SaidNode, node_in}
+use Rattle.said_steps.specs.Answers.{stuck_at}
 use Rattle.said_steps.specs.Own.{IsOwn}
 use Rattle.said_steps.specs.Calls.{AllRestarted, CameUp, SomeRestarted, down_names, restarted, shows_boot, tried_last}
 
@@ -69,3 +70,32 @@ some_restarted (x ∷ front) n back lines h down none = go x.up refl (some_resta
     go false e more =
         let k = h.0 e in
         (λ i. if k.0 i then [] else (if k.1 i then x.name ∷ more i else tried_last x.name (last_or None lines)))
+
+-- The node at which the boots of a settling ended.
+
+-- none, where each came up;
+pub stuck_none : (ns : List SaidNode) (lines : List Line) → CameUp ns lines → stuck_at ns lines ≡ None
+stuck_none [] lines h = refl
+stuck_none (n ∷ ns) lines h = go n.up refl (stuck_none ns lines h.1)
+  where
+    go : (b : Bool) → n.up ≡ b → stuck_at ns lines ≡ None → ◌≡◌ {A = Option SaidNode} (if b then stuck_at ns lines else (if shows_boot n.name lines then stuck_at ns lines else Some n)) None
+    go true e more = more
+    go false e more = ap (λ b. if b then stuck_at ns lines else Some n) (h.0 e).1 ∙ more
+
+-- the first that did not, where those in front of it did.
+pub stuck_here : (front : List SaidNode) (n : SaidNode) (back : List SaidNode) (lines : List Line) → CameUp front lines → n.up ≡ false → shows_boot n.name lines ≡ false → stuck_at (front ++ n ∷ back) lines ≡ Some n
+stuck_here [] n back lines h down none = (λ i. if down i then stuck_at back lines else (if none i then stuck_at back lines else Some n))
+stuck_here (x ∷ front) n back lines h down none = go x.up refl (stuck_here front n back lines h.1 down none)
+  where
+    go : (b : Bool) → x.up ≡ b → stuck_at (front ++ n ∷ back) lines ≡ Some n → ◌≡◌ {A = Option SaidNode} (if b then stuck_at (front ++ n ∷ back) lines else (if shows_boot x.name lines then stuck_at (front ++ n ∷ back) lines else Some x)) (Some n)
+    go true e more = more
+    go false e more = ap (λ b. if b then stuck_at (front ++ n ∷ back) lines else Some x) (h.0 e).1 ∙ more
+
+-- A node that was down came up in lines by which each did.
+pub came_in : (name : List ℕ) (ns : List SaidNode) (n : SaidNode) (lines : List Line) → CameUp ns lines → node_in name ns ≡ Some n → n.up ≡ false → shows_boot n.name lines ≡ true
+came_in name [] n lines h e down = let none : ⊥ = cc in absurd none
+came_in name (x ∷ ns) n lines h e down = go (bytes_eq name x.name) e (λ k. came_in name ns n lines h.1 k down)
+  where
+    go : (b : Bool) → ◌≡◌ {A = Option SaidNode} (if b then Some x else node_in name ns) (Some n) → (node_in name ns ≡ Some n → shows_boot n.name lines ≡ true) → shows_boot n.name lines ≡ true
+    go true k more = let same : x ≡ n = cc in subst (λ (y : SaidNode). y.up ≡ false → shows_boot y.name lines ≡ true) same (λ d. (h.0 d).1) down
+    go false k more = more k

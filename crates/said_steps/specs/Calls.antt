@@ -1,5 +1,5 @@
 -- Which statements arm the disk of a node, or make it run again, by their lines and by what was said before.
-use Rattle.std.specs.Prelude.{◌≡◌, ℕ, List, [], ◌∷◌, ◌++◌, Bool, true, false, Option, Some, None, if◌then◌else◌}
+use Rattle.std.specs.Prelude.{◌≡◌, ◌&&◌, ◌||◌, not, ℕ, List, [], ◌∷◌, ◌++◌, Bool, true, false, Option, Some, None, if◌then◌else◌}
 use Rattle.std.specs.List.{last_or, list_any}
 use Rattle.std.specs.Str.{bytes_eq}
 use Rattle.block_disk.specs.Disk.{CallLog, noted}
@@ -35,6 +35,12 @@ has_powered Boot (line.Broken cause) = true
 has_powered Boot (line.NoVolume node condition block) = true
 has_powered Boot (line.QuotaExceeded quota limit) = true
 has_powered request answer = false
+
+-- whether an answer refuses a boot once its disk runs again: by what the disk has, or by a quota
+abbrev pub is_boot_refusal : Line → Bool
+is_boot_refusal (line.NoVolume node condition block) = true
+is_boot_refusal (line.QuotaExceeded quota limit) = true
+is_boot_refusal answer = false
 
 -- whether these lines show that a node of this name came up in a settling
 abbrev pub shows_boot : List ℕ → List Line → Bool
@@ -72,6 +78,18 @@ armed_by name s answer calls = calls
 -- the calls of the disk of the node of this name after a statement, which began with so many stops of the disk
 abbrev pub calls_after : List ℕ → Said → Statement → List Line → ℕ → CallLog → CallLog
 calls_after name said s lines stops calls = if is_named name (powered_by said s lines) then noted (disk_call.Power stops) calls else armed_by name s (last_or None lines) calls
+
+-- whether the node of this name was down
+abbrev pub was_down : List ℕ → Said → Bool
+was_down name said = elim (node_in name said.nodes) [ Some n ↦ not n.up | None ↦ false ]
+
+abbrev pub refuses_boot : Option Line → Bool
+refuses_boot (Some answer) = is_boot_refusal answer
+refuses_boot None = false
+
+-- whether a statement that made the disk of the node of this name run again used it then: not where its boot was refused by what it has or by a quota
+abbrev pub has_used : List ℕ → Said → Statement → List Line → Bool
+has_used name said s lines = is_named name (powered_by said s lines) && (shows_boot name lines || not (refuses_boot (last_or None lines)))
 
 -- Each of these nodes was up, or it was down, came up and showed it in these lines.
 abbrev pub CameUp : List SaidNode → List Line → Type 0

@@ -21,7 +21,7 @@ const SLOTS: u32 = 128;
 
 const BLOCKS: u32 = 1_024;
 
-// The statement, where the line ends here.
+/// The statement, where the line ends here.
 pub fn ends(statement: Statement, words: &mut Words<'_>) -> Result<Statement, LineErr>
     ensures { (lit : LiteralsSaid) → Reads (statement_of lit) (Ends (statement_of lit statement)) words.old result }
 {

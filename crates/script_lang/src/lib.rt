@@ -21,6 +21,3 @@ pub use literals::{Literal, Literals};
 pub use statement::{Form, KeyWord, Named, Operation, Request, Setting, Statement};
 pub use wanted::Wanted;
 pub use words::LineErr;
-
-#[cfg(test)]
-mod tests;

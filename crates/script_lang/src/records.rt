@@ -34,6 +34,7 @@ fn operation(
     ends(asked(node, label, file, operation), words)
 }
 
+/// The statement of PUT: a label or a dash, a file, and a record, or a number and a record. An error where a word is missing or cannot stand.
 pub fn put(node: NodeName, words: &mut Words<'_>, lit: &mut Literals) -> Result<Statement, LineErr>
     ensures { Reads (statement_of lit.new) (operands_of node TheVerb.Put) words.old result }
 {
@@ -48,6 +49,7 @@ pub fn put(node: NodeName, words: &mut Words<'_>, lit: &mut Literals) -> Result<
     }
 }
 
+/// The statement of UPDATE: a label or a dash, a file, a key and the new record.
 pub fn update(
     node: NodeName,
     words: &mut Words<'_>,
@@ -62,6 +64,7 @@ pub fn update(
     operation(node, label, file, Operation::Update(key), words)
 }
 
+/// The statement of DELETE: a label or a dash, a file and a key.
 pub fn delete(
     node: NodeName,
     words: &mut Words<'_>,
@@ -75,6 +78,7 @@ pub fn delete(
     operation(node, label, file, Operation::Delete(key), words)
 }
 
+/// The statement of TRUNCATE: a label or a dash, a file and the position from which on the records go.
 pub fn truncate(node: NodeName, words: &mut Words<'_>) -> Result<Statement, LineErr>
     ensures { ReadsPlain (operands_of node TheVerb.Truncate) words.old result }
 {
@@ -84,6 +88,7 @@ pub fn truncate(node: NodeName, words: &mut Words<'_>) -> Result<Statement, Line
     operation(node, label, file, Operation::Truncate(number), words)
 }
 
+/// The statement of GET: a label or a dash, a file and a key.
 pub fn get(node: NodeName, words: &mut Words<'_>, lit: &mut Literals) -> Result<Statement, LineErr>
     ensures { Reads (statement_of lit.new) (operands_of node TheVerb.Get) words.old result }
 {
@@ -93,6 +98,7 @@ pub fn get(node: NodeName, words: &mut Words<'_>, lit: &mut Literals) -> Result<
     operation(node, label, file, Operation::Get(key), words)
 }
 
+/// The statement of NEXT: a label or a dash, a file, and a key or none.
 pub fn next(node: NodeName, words: &mut Words<'_>, lit: &mut Literals) -> Result<Statement, LineErr>
     ensures { Reads (statement_of lit.new) (operands_of node TheVerb.Next) words.old result }
 {

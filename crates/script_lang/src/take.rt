@@ -27,6 +27,7 @@ impl Word<'_> {
 }
 
 impl<'a> Words<'a> {
+    /// A node and a colon, or the verb of the world. An error where no word is left, or the word is neither.
     pub fn first(&mut self) -> Result<First, LineErr>
         ensures { Takes AFirst first_of self.old result self.new }
     {
@@ -37,6 +38,7 @@ impl<'a> Words<'a> {
         }
     }
 
+    /// A verb that tells a statement to a node from others.
     pub fn verb(&mut self) -> Result<Verb, LineErr>
         ensures { Takes AVerb verb_of self.old result self.new }
     {
@@ -47,6 +49,7 @@ impl<'a> Words<'a> {
         }
     }
 
+    /// The name of a node.
     pub fn node(&mut self) -> Result<NodeName, LineErr>
         ensures { Takes ANode (λ n. n) self.old result self.new }
     {
@@ -57,6 +60,7 @@ impl<'a> Words<'a> {
         }
     }
 
+    /// A label.
     pub fn label(&mut self) -> Result<Label, LineErr>
         ensures { Takes ALabel (λ l. l) self.old result self.new }
     {
@@ -92,6 +96,7 @@ impl<'a> Words<'a> {
         }
     }
 
+    /// The name of a file.
     pub fn file(&mut self) -> Result<FileName, LineErr>
         ensures { Takes AFile (λ f. f) self.old result self.new }
     {
@@ -102,6 +107,7 @@ impl<'a> Words<'a> {
         }
     }
 
+    /// The word of an organization.
     pub fn organization(&mut self) -> Result<Organization, LineErr>
         ensures { Takes AnOrganization organization_of self.old result self.new }
     {
@@ -112,6 +118,7 @@ impl<'a> Words<'a> {
         }
     }
 
+    /// The word of a setting.
     pub fn setting(&mut self) -> Result<Setting, LineErr>
         ensures { Takes ASetting setting_of self.old result self.new }
     {
@@ -122,6 +129,7 @@ impl<'a> Words<'a> {
         }
     }
 
+    /// The word that names a journal.
     pub fn journal(&mut self) -> Result<Journal, LineErr>
         ensures { Takes AJournal journal_of self.old result self.new }
     {
@@ -132,6 +140,7 @@ impl<'a> Words<'a> {
         }
     }
 
+    /// A number of 32 bits.
     pub fn number(&mut self) -> Result<u32, LineErr>
         ensures { Takes ANumber (λ n. n) self.old result self.new }
     {
@@ -142,6 +151,7 @@ impl<'a> Words<'a> {
         }
     }
 
+    /// A number of 64 bits.
     pub fn long_number(&mut self) -> Result<u64, LineErr>
         ensures { Takes ALongNumber (λ n. n) self.old result self.new }
     {
@@ -152,6 +162,7 @@ impl<'a> Words<'a> {
         }
     }
 
+    /// A time between quotes.
     pub fn time(&mut self) -> Result<Moment, LineErr>
         ensures { Takes ATime (λ moment. moment.0) self.old result self.new }
     {
@@ -174,6 +185,7 @@ impl<'a> Words<'a> {
         }
     }
 
+    /// Bytes, which are then kept there.
     pub fn bytes(&mut self, to: &mut Literal) -> Result<(), LineErr>
         ensures { Takes SomeBytes (λ _. to.new) self.old result self.new }
     {

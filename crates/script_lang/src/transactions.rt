@@ -7,6 +7,7 @@ use crate::statement::{Request, Statement};
 use crate::words::{LineErr, Words};
 use vms_base::NodeName;
 
+/// The statement of START_TRANS: a label, and TIMEOUT and the seconds or nothing. An error where a word is missing or cannot stand.
 pub fn start_trans(node: NodeName, words: &mut Words<'_>) -> Result<Statement, LineErr>
     ensures { ReadsPlain (operands_of node TheVerb.StartTrans) words.old result }
 {
@@ -27,6 +28,7 @@ pub fn start_trans(node: NodeName, words: &mut Words<'_>) -> Result<Statement, L
     ends(Statement::At(node, request), words)
 }
 
+/// The statement of ADD_BRANCH: a label, the other node and a new label.
 pub fn add_branch(node: NodeName, words: &mut Words<'_>) -> Result<Statement, LineErr>
     ensures { ReadsPlain (operands_of node TheVerb.AddBranch) words.old result }
 {
@@ -39,6 +41,7 @@ pub fn add_branch(node: NodeName, words: &mut Words<'_>) -> Result<Statement, Li
     )
 }
 
+/// The statement of START_BRANCH: a label.
 pub fn start_branch(node: NodeName, words: &mut Words<'_>) -> Result<Statement, LineErr>
     ensures { ReadsPlain (operands_of node TheVerb.StartBranch) words.old result }
 {
@@ -46,6 +49,7 @@ pub fn start_branch(node: NodeName, words: &mut Words<'_>) -> Result<Statement, 
     ends(Statement::At(node, Request::StartBranch(label)), words)
 }
 
+/// The statement of END_BRANCH: a label.
 pub fn end_branch(node: NodeName, words: &mut Words<'_>) -> Result<Statement, LineErr>
     ensures { ReadsPlain (operands_of node TheVerb.EndBranch) words.old result }
 {
@@ -53,6 +57,7 @@ pub fn end_branch(node: NodeName, words: &mut Words<'_>) -> Result<Statement, Li
     ends(Statement::At(node, Request::EndBranch(label)), words)
 }
 
+/// The statement of END_TRANS: a label.
 pub fn end_trans(node: NodeName, words: &mut Words<'_>) -> Result<Statement, LineErr>
     ensures { ReadsPlain (operands_of node TheVerb.EndTrans) words.old result }
 {
@@ -60,6 +65,7 @@ pub fn end_trans(node: NodeName, words: &mut Words<'_>) -> Result<Statement, Lin
     ends(Statement::At(node, Request::EndTrans(label)), words)
 }
 
+/// The statement of ABORT_TRANS: a label.
 pub fn abort_trans(node: NodeName, words: &mut Words<'_>) -> Result<Statement, LineErr>
     ensures { ReadsPlain (operands_of node TheVerb.AbortTrans) words.old result }
 {
@@ -67,6 +73,7 @@ pub fn abort_trans(node: NodeName, words: &mut Words<'_>) -> Result<Statement, L
     ends(Statement::At(node, Request::AbortTrans(label)), words)
 }
 
+/// The statement of INQUIRE: a label or a serial.
 pub fn inquire(node: NodeName, words: &mut Words<'_>) -> Result<Statement, LineErr>
     ensures { ReadsPlain (operands_of node TheVerb.Inquire) words.old result }
 {

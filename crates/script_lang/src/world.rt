@@ -51,6 +51,7 @@ fn settle(words: &mut Words<'_>) -> Result<Statement, LineErr>
     ends(Statement::Settle, words)
 }
 
+/// The statement of a verb of the world with the words behind it. An error where a word is missing or cannot stand.
 pub fn world_operands(verb: WorldVerb, words: &mut Words<'_>) -> Result<Statement, LineErr>
     ensures { ReadsPlain (world_operands_of (world_verb_of verb)) words.old result }
 {

@@ -8,8 +8,6 @@ mod make;
 mod rewrite;
 mod sequential;
 mod spot;
-#[cfg(test)]
-mod tests;
 mod walk;
 
 pub use law::{

@@ -5,9 +5,10 @@
 
 ghost use Rattle.sequence_laws.specs.Laws.{CutGoesBack, SetGoesBack, SetMay, AllSetIsBack, OtherGoesBack, NothingGoesBack, ChangeGoesBack, ChangeBesideGoesBack};
 
-/// A sequential file goes back to the records that it is to have without a branch step by step. Where a position from the lowest absent one on cannot be set back
-/// in place, the file is cut there first; then each position that the branch changed is set to its earliest before image. After each step it still goes back to
-/// the same records, whatever was done before a fall, and no position of another branch changes. None is left at which it has to be cut again.
+/// A sequential file goes back to the records that it is to have without a branch step by step. Where a position from the lowest absent one on cannot
+/// be set back in place, the file is cut there first; then each position that the branch changed is set to its earliest before image. After each step
+/// it still goes back to the same records, whatever was done before a fall, and no position of another branch changes. None is left at which it has
+/// to be cut again.
 pub fn steps_go_back()
     ensures cut { CutGoesBack }
     ensures set { SetGoesBack }

@@ -18,7 +18,7 @@ use tm_types::{BranchState, Child, Effect, State};
 use vms_base::{Kind, LogRec, Outcome, Reason, RmEvent, RmList, RmName, Serial, SerialList, Tid};
 
 impl Table {
-    // The branch is noted as it is given.
+    /// Puts the branch in the table as it is given, in the place of the one with its key.
     pub fn note(&mut self, b: &BranchState)
         requires there { IsThere (branch_of b.now).key self.old.tm.table }
         requires fits { Fits (branch_of b.now) }
@@ -29,7 +29,7 @@ impl Table {
         self.put(b);
     }
 
-    // A branch that begins is noted.
+    /// Notes a branch that begins. The table has room for it.
     pub fn begin(&mut self, b: BranchState)
         requires few { length self.old.tm.table < 64 }
         requires slots { length self.old.tm.table + length self.old.tm.records < 512 }
@@ -40,7 +40,7 @@ impl Table {
         self.add(b);
     }
 
-    // The serial is accepted: b has it last among its accepted ones.
+    /// Accepts the serial: the branch has it last among its accepted ones, and the Joined effect tells it.
     pub fn accept(&mut self, b: &mut BranchState, child: Child)
         requires there { IsThere (branch_of b.old).key self.old.tm.table }
         requires few { length b.old.accepted < 15 }
@@ -55,7 +55,7 @@ impl Table {
         self.push(Effect::Joined { serial });
     }
 
-    // The branch has its Prepared entry and its prepared record.
+    /// Gives the branch its Prepared entry, and writes its prepared record.
     pub fn prepare(&mut self, b: &mut BranchState)
         requires there { IsThere (branch_of b.old).key self.old.tm.table }
         requires fits { Fits (branch_of b.old) }
@@ -72,7 +72,7 @@ impl Table {
         });
     }
 
-    // The branch is settled, with its committed record where there is one.
+    /// Settles the branch: it leaves the table with this outcome, and its committed record is added where there is one.
     pub fn settle(
         &mut self,
         tid: &Tid,
@@ -98,7 +98,7 @@ impl Table {
         });
     }
 
-    // The branch votes read-only and is not there any more.
+    /// The branch votes read-only and is not there any more.
     pub fn leave(&mut self, tid: &Tid, serial: &Serial)
         requires there { IsThere (key_at tid.now serial.now) self.old.tm.table }
         requires room { HasRoom 1 self.old }
@@ -109,6 +109,7 @@ impl Table {
         self.push(Effect::ReadOnly { serial: *serial });
     }
 
+    /// Sends the message. What the node knows stays as it was.
     pub fn send(&mut self, m: Message)
         requires { HasRoom 1 self.old }
         ensures done { self.new ≡ did (Sends (message_of m)) self.old }
@@ -118,6 +119,7 @@ impl Table {
         self.push(Effect::Send(m));
     }
 
+    /// Sends a message of this kind to the branch's node, from its coordinator.
     pub fn send_down(&mut self, kind: Kind, tid: &Tid, serial: &Serial)
         requires { HasRoom 1 self.old }
         ensures done { self.new ≡ did (Sends (down (kind_of kind) (key_at tid.now serial.now))) self.old }
@@ -127,6 +129,7 @@ impl Table {
         self.send(down(kind, tid, serial));
     }
 
+    /// Sends a message of this kind to the coordinator, from the branch's node.
     pub fn send_up(&mut self, kind: Kind, tid: &Tid, serial: &Serial)
         requires { HasRoom 1 self.old }
         ensures done { self.new ≡ did (Sends (up (kind_of kind) (key_at tid.now serial.now))) self.old }
@@ -136,6 +139,7 @@ impl Table {
         self.send(up(kind, tid, serial));
     }
 
+    /// Shows that the branch of this serial has started.
     pub fn show_started(&mut self, tid: &Tid, serial: &Serial)
         requires { HasRoom 1 self.old }
         ensures done { self.new ≡ did (Prints (Started (key_at tid.now serial.now))) self.old }
@@ -158,7 +162,7 @@ impl Table {
         });
     }
 
-    // The outcome of the END_TRANS that was pending, where the branch was ending and it is to be shown.
+    /// Shows the outcome of the END_TRANS that was pending, where the branch was ending and it is to be shown. No reason is a commit.
     pub fn show_ended(&mut self, b: &BranchState, shown: bool, reason: Option<Reason>)
         requires { HasRoom 1 self.old }
         ensures done { self.new ≡ does (ended_if shown (branch_of b.now) (option_map reason_of reason)) self.old }
@@ -173,7 +177,7 @@ impl Table {
         }
     }
 
-    // The same message to each serial.
+    /// Sends the same message of this kind down to each serial of the transaction.
     pub fn send_each(&mut self, kind: Kind, tid: &Tid, serials: &SerialList)
         requires { HasRoom 15 self.old }
         ensures done { self.new ≡ does (sends_all (to_each (kind_of kind) (tid_of tid.now) (map serial_of serials.now))) self.old }
@@ -185,7 +189,7 @@ impl Table {
         }
     }
 
-    // An event to each manager.
+    /// Tells the event of the branch to each of these resource managers.
     pub fn tell_each(&mut self, event: RmEvent, tid: &Tid, serial: &Serial, rms: &RmList)
         requires { HasRoom 8 self.old }
         ensures done { self.new ≡ does (tells (rm_event_of event) (key_at tid.now serial.now) rms.now) self.old }

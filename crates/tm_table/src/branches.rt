@@ -9,7 +9,7 @@ use crate::places::place;
 use tm_types::BranchState;
 use vms_base::{Serial, Tid};
 
-// Puts the branch in the place of the one with its key.
+/// Puts the branch in the place of the one with its key.
 pub fn put_branch(branches: &mut Vec<BranchState>, b: &BranchState)
     requires { IsThere (branch_of b.now).key (map branch_of branches.old.items) }
     ensures branches { map branch_of branches.new.items ≡ put (branch_of b.now) (map branch_of branches.old.items) }
@@ -20,7 +20,7 @@ pub fn put_branch(branches: &mut Vec<BranchState>, b: &BranchState)
     }
 }
 
-// Likewise, or last where none has its key.
+/// Puts the branch in the place of the one with its key, or last where none has it.
 pub fn add_branch(branches: &mut Vec<BranchState>, b: BranchState)
     requires { vec_len branches.old < vec_capacity branches.old }
     ensures branches { map branch_of branches.new.items ≡ put (branch_of b) (map branch_of branches.old.items) }
@@ -32,7 +32,7 @@ pub fn add_branch(branches: &mut Vec<BranchState>, b: BranchState)
     }
 }
 
-// Takes the branch out.
+/// Takes the branch with this key out. Nothing changes where there is none.
 pub fn cut_branch(branches: &mut Vec<BranchState>, tid: &Tid, serial: &Serial)
     requires { Unique (map branch_of branches.old.items) }
     ensures branches { map branch_of branches.new.items ≡ cut (key_at tid.now serial.now) (map branch_of branches.old.items) }

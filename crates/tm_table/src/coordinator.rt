@@ -18,7 +18,7 @@ use net_wire::Message;
 use tm_types::{BidList, BranchState, Child, ChildList, ManagerList, State};
 use vms_base::{Bid, Kind, Moment, Reason, RmEvent, Serial, Tid};
 
-// A branch as it begins.
+/// A branch as it begins: nothing is changed, ended or asked, and it has no accepted serials and no managers.
 pub fn new_branch(
     tid: &Tid,
     serial: &Serial,
@@ -55,7 +55,7 @@ fn ending_event(b: &BranchState) -> RmEvent
 }
 
 impl Table {
-    // START_TRANS: an active first branch.
+    /// START_TRANS: an active first branch begins, with the time at which it is over where there is one.
     pub fn start(&mut self, tid: &Tid, due: Option<Moment>)
         requires { has_room self.old.tm ≡ true }
         ensures { self.new ≡ did (Notes (blank (tid_of tid.now) (tid_of tid.now) None Active (option_map moment_of due))) self.old }
@@ -114,7 +114,7 @@ impl Table {
         }
     }
 
-    // A Join: the branch is accepted, or is answered again, or is refused.
+    /// A Join: the branch is accepted, or is answered again, or is refused. It is refused where the transaction is not there.
     pub fn join(&mut self, m: &Message)
         requires { HasRoom 64 self.old }
         ensures { self.new ≡ does (join_row (message_of m.now) (find (first (tid_of m.now.tid)) self.old.tm.table)) self.old }
@@ -154,7 +154,7 @@ impl Table {
         }
     }
 
-    // END_TRANS of an active transaction.
+    /// END_TRANS of an active transaction. Any other transaction stays as it is.
     pub fn end_trans(&mut self, tid: &Tid)
         requires { HasRoom 64 self.old }
         ensures { self.new ≡ does (end_trans_row (find (first (tid_of tid.now)) self.old.tm.table)) self.old }
@@ -166,7 +166,7 @@ impl Table {
         }
     }
 
-    // A further branch is authorised.
+    /// Authorises a further branch of an active transaction.
     pub fn authorise(&mut self, tid: &Tid, bid: &Bid)
         requires { there_is (find (first (tid_of tid.now)) self.old.tm.table) may_authorise ≡ true }
         ensures { self.new ≡ does (authorise_row (bid_of bid.now) (find (first (tid_of tid.now)) self.old.tm.table)) self.old }
@@ -193,7 +193,7 @@ impl Table {
         }
     }
 
-    // A vote of an accepted serial that has none: it is noted, and when none is missing the transaction is committed.
+    /// A vote of an accepted serial that has none: it is noted, and when none is missing the transaction is committed.
     pub fn vote(&mut self, tid: &Tid, serial: &Serial, kind: Kind)
         requires { HasRoom 64 self.old }
         ensures { self.new ≡ does (vote_row (serial_of serial.now) (kind_of kind) (find (first (tid_of tid.now)) self.old.tm.table)) self.old }
@@ -215,7 +215,7 @@ impl Table {
         }
     }
 
-    // A No of an accepted serial aborts an undecided transaction.
+    /// A No of an accepted serial aborts an undecided transaction.
     pub fn no(&mut self, tid: &Tid, serial: &Serial)
         requires { HasRoom 64 self.old }
         ensures { self.new ≡ does (no_row (serial_of serial.now) (find (first (tid_of tid.now)) self.old.tm.table)) self.old }
@@ -241,7 +241,7 @@ impl Table {
         }
     }
 
-    // An Inquire: Commit where a committed record of the transaction stands, nothing while it is undecided, else Abort.
+    /// An Inquire: Commit where a committed record of the transaction stands, nothing while it is undecided, else Abort.
     pub fn inquire(&mut self, m: &Message)
         requires { HasRoom 64 self.old }
         ensures { self.new ≡ does (inquire_row (message_of m.now) (find (first (tid_of m.now.tid)) self.old.tm.table) self.old.tm.records) self.old }

@@ -18,6 +18,3 @@ mod tm;
 
 pub use commit_protocol::agreement;
 pub use tm::Tm;
-
-#[cfg(test)]
-mod tests;

@@ -10,7 +10,7 @@ ghost use Rattle.tm_types.specs.Branches.{key_at};
 use net_wire::Message;
 use vms_base::{Bid, Kind, Serial, Tid};
 
-// To the branch's node, from its coordinator.
+/// The message to the branch's node, from its coordinator.
 pub fn down(kind: Kind, tid: &Tid, serial: &Serial) -> Message
     ensures { message_of result ≡ down (kind_of kind) (key_at tid.now serial.now) }
 {
@@ -24,7 +24,7 @@ pub fn down(kind: Kind, tid: &Tid, serial: &Serial) -> Message
     }
 }
 
-// To the coordinator, from the branch's node.
+/// The message to the coordinator, from the branch's node.
 pub fn up(kind: Kind, tid: &Tid, serial: &Serial) -> Message
     ensures { message_of result ≡ up (kind_of kind) (key_at tid.now serial.now) }
 {
@@ -38,6 +38,7 @@ pub fn up(kind: Kind, tid: &Tid, serial: &Serial) -> Message
     }
 }
 
+/// The Join by which the branch asks its coordinator to accept it, with the branch id that was authorised.
 pub fn join(tid: &Tid, serial: &Serial, bid: &Bid) -> Message
     ensures { message_of result
         ≡ message Join (home_of (key_at tid.now serial.now)) (coordinator_of (key_at tid.now serial.now)) (key_at tid.now serial.now) (Some (bid_of bid.now)) }

@@ -12,7 +12,7 @@ use crate::table::Table;
 use tm_types::{BranchState, ChildList, owing};
 use vms_base::{Kind, Outcome, Reason, RmEvent, Serial};
 
-// A transaction's first branch has the transaction's id as its serial.
+/// Whether the branch is its transaction's first, which has the transaction's id as its serial.
 pub fn is_first(b: &BranchState) -> bool
     ensures { result ≡ is_first_of (branch_of b.now) }
 {
@@ -35,7 +35,7 @@ impl Table {
         self.show_ended(b, shown, None);
     }
 
-    // The transaction is committed where no vote is missing.
+    /// Commits the transaction where no vote of a branch and no reply of a manager is missing.
     pub fn commit_if_all(&mut self, b: &BranchState, shown: bool)
         requires there { IsThere (branch_of b.now).key self.old.tm.table }
         requires room { HasRoom 32 self.old }
@@ -46,7 +46,7 @@ impl Table {
         }
     }
 
-    // The transaction is aborted, and these of its serials hear of it.
+    /// Aborts the transaction for this reason, and sends Abort to those of these serials that are to hear of it.
     pub fn abort_telling(&mut self, b: &BranchState, children: &ChildList, reason: Reason)
         requires there { IsThere (branch_of b.now).key self.old.tm.table }
         requires room { HasRoom 32 self.old }
@@ -61,7 +61,7 @@ impl Table {
         self.show_ended(b, true, Some(reason));
     }
 
-    // The transaction is aborted.
+    /// Aborts the transaction for this reason, and tells those of its accepted serials and managers that are to hear of it.
     pub fn abort(&mut self, b: &BranchState, reason: Reason)
         requires there { IsThere (branch_of b.now).key self.old.tm.table }
         requires room { HasRoom 32 self.old }
@@ -73,7 +73,7 @@ impl Table {
         self.abort_telling(b, &b.accepted, reason);
     }
 
-    // Another branch is aborted and sends no message.
+    /// Aborts another branch and tells its interested managers, but sends no message.
     pub fn undo_quietly(&mut self, b: &BranchState, reason: Reason)
         requires there { IsThere (branch_of b.now).key self.old.tm.table }
         requires room { HasRoom 32 self.old }
@@ -83,7 +83,7 @@ impl Table {
         self.tell_each(RmEvent::Abort, &b.tid, &b.serial, &b.managers.interested());
     }
 
-    // A branch is aborted by its own node before it is prepared: it sends No.
+    /// Aborts a branch by its own node before it is prepared: it sends No, and its interested managers are told.
     pub fn refuse(&mut self, b: &BranchState, reason: Reason)
         requires there { IsThere (branch_of b.now).key self.old.tm.table }
         requires room { HasRoom 32 self.old }
@@ -97,7 +97,7 @@ impl Table {
         self.tell_each(RmEvent::Abort, &b.tid, &b.serial, &b.managers.interested());
     }
 
-    // An undecided transaction is aborted, or another branch that is not prepared.
+    /// Aborts an undecided transaction, or another branch that is not prepared.
     pub fn abort_running(&mut self, b: &BranchState, reason: Reason)
         requires there { IsThere (branch_of b.now).key self.old.tm.table }
         requires room { HasRoom 32 self.old }

@@ -26,7 +26,7 @@ fn has_none(rms: &RmList) -> bool
 }
 
 impl Table {
-    // START_BRANCH: a joining branch, which asks its coordinator.
+    /// START_BRANCH: a joining branch begins, and asks its coordinator.
     pub fn begin_branch(&mut self, tid: &Tid, serial: &Serial, bid: &Bid)
         requires allowed { has_room self.old.tm ≡ true }
         requires room { HasRoom 64 self.old }
@@ -48,7 +48,7 @@ impl Table {
         self.show_started(&b.tid, &b.serial);
     }
 
-    // The answer to a Join: the branch starts.
+    /// A Join that is granted: the branch starts where it was joining, and else nothing changes.
     pub fn join_ok(&mut self, m: &Message)
         requires { HasRoom 64 self.old }
         ensures { self.new ≡ does (join_ok_row (find (key_at m.now.tid m.now.serial) self.old.tm.table)) self.old }
@@ -60,7 +60,7 @@ impl Table {
         }
     }
 
-    // A refused Join aborts the branch, which sends no message.
+    /// A refused Join aborts the branch, which sends no message.
     pub fn join_no(&mut self, m: &Message)
         requires { HasRoom 64 self.old }
         ensures { self.new ≡ does (join_no_row (find (key_at m.now.tid m.now.serial) self.old.tm.table)) self.old }
@@ -112,6 +112,7 @@ impl Table {
         }
     }
 
+    /// Casts the vote of the branch where no reply of its managers is missing.
     pub fn cast_if_all(&mut self, b: &mut BranchState)
         requires there { IsThere (branch_of b.old).key self.old.tm.table }
         requires fits { Fits (branch_of b.old) }
@@ -189,7 +190,7 @@ impl Table {
         }
     }
 
-    // A Prepare: the branch is asked, and votes where it is ended too.
+    /// A Prepare: the branch is asked, and votes where it is ended too. No is sent for one that is not there.
     pub fn prepare_asked(&mut self, m: &Message)
         requires { HasRoom 64 self.old }
         ensures { self.new ≡ does (prepare_row (message_of m.now) (find (key_at m.now.tid m.now.serial) self.old.tm.table)) self.old }
@@ -213,7 +214,7 @@ impl Table {
         }
     }
 
-    // END_BRANCH: the branch votes where it was asked.
+    /// END_BRANCH of an active branch: it votes where it was asked.
     pub fn end_branch(&mut self, serial: &Serial)
         requires { HasRoom 64 self.old }
         ensures { self.new ≡ does (end_branch_row (find_serial (serial_of serial.now) self.old.tm.table)) self.old }
@@ -237,7 +238,7 @@ impl Table {
         self.tell_each(RmEvent::Commit, &b.tid, &b.serial, &holding);
     }
 
-    // A Commit: a prepared branch is committed; one that is not there sends Ack again.
+    /// A Commit: a prepared branch is committed; one that is not there sends Ack again.
     pub fn commit(&mut self, m: &Message)
         requires { HasRoom 64 self.old }
         ensures { self.new ≡ does (commit_row (message_of m.now) (find (key_at m.now.tid m.now.serial) self.old.tm.table)) self.old }
@@ -252,7 +253,7 @@ impl Table {
         }
     }
 
-    // An Abort: the branch is aborted, prepared or not, and sends no message.
+    /// An Abort: the branch is aborted, prepared or not, and sends no message. One that is ending stays as it is.
     pub fn abort_told(&mut self, m: &Message)
         requires { HasRoom 64 self.old }
         ensures { self.new ≡ does (abort_row (find (key_at m.now.tid m.now.serial) self.old.tm.table)) self.old }
@@ -265,7 +266,7 @@ impl Table {
         }
     }
 
-    // An abort by the branch's own node.
+    /// An abort by the branch's own node. A prepared branch stays as it is.
     pub fn abort_branch(&mut self, serial: &Serial, reason: Reason)
         requires { HasRoom 64 self.old }
         ensures { self.new ≡ does (abort_branch_row (reason_of reason) (find_serial (serial_of serial.now) self.old.tm.table)) self.old }
@@ -278,7 +279,7 @@ impl Table {
         }
     }
 
-    // A prepared branch asks its coordinator.
+    /// A prepared branch asks its coordinator for the outcome. Any other sends nothing.
     pub fn ask_coordinator(&mut self, serial: &Serial)
         requires { HasRoom 64 self.old }
         ensures { self.new ≡ does (asks_row (find_serial (serial_of serial.now) self.old.tm.table)) self.old }

@@ -13,6 +13,7 @@ ghost use Rattle.tm_table.specs.Kept.{kept_at};
 use tm_types::{BranchState, Effect, holds, is_done, same_id, waits_for};
 use vms_base::{LogRec, RmName, Serial, Tid};
 
+/// Whether the branch has this transaction id and this serial.
 #[tactic(auto, unfolding(commit_protocol::specs::Table::same_key))]
 pub fn has_key(b: &BranchState, tid: &Tid, serial: &Serial) -> bool
     ensures { result ≡ same_key_of (branch_of b.now).key (key_at tid.now serial.now) }
@@ -20,7 +21,7 @@ pub fn has_key(b: &BranchState, tid: &Tid, serial: &Serial) -> bool
     same_id(&b.tid.0, &tid.0) && same_id(&b.serial.0, &serial.0)
 }
 
-// The place of the branch.
+/// The place of the branch with this transaction id and serial. None where no branch has them.
 pub fn place(branches: &[BranchState], tid: &Tid, serial: &Serial) -> Option<usize>
     ensures { result ≡ position (λ b. same_key_of (branch_of b).key (key_at tid.now serial.now)) branches.now }
 {
@@ -32,7 +33,7 @@ pub fn place(branches: &[BranchState], tid: &Tid, serial: &Serial) -> Option<usi
     None
 }
 
-// The place of the first branch with the serial.
+/// The place of the first branch with the serial. None where no branch has it.
 pub fn place_of_serial(branches: &[BranchState], serial: &Serial) -> Option<usize>
     ensures { result ≡ position (λ b. same_id_of (branch_of b).key.serial (serial_of serial.now)) branches.now }
 {
@@ -44,7 +45,7 @@ pub fn place_of_serial(branches: &[BranchState], serial: &Serial) -> Option<usiz
     None
 }
 
-// The place of the first record that waits for the branch.
+/// The place of the first record that waits for the branch. None where none does.
 pub fn place_of_waiting(records: &[LogRec], tid: &Tid, serial: &Serial) -> Option<usize>
     ensures { result ≡ position (λ r. waits_for_of (key_at tid.now serial.now) (log_record_of r)) records.now }
 {
@@ -56,7 +57,7 @@ pub fn place_of_waiting(records: &[LogRec], tid: &Tid, serial: &Serial) -> Optio
     None
 }
 
-// The place of the first record of the serial that waits for the manager.
+/// The place of the first record of the serial that waits for the manager. None where none does.
 pub fn place_of_holding(records: &[LogRec], serial: &Serial, rm: &RmName) -> Option<usize>
     ensures { result ≡ position (λ r. holds_of (serial_of serial.now) rm.now (log_record_of r)) records.now }
 {
@@ -68,7 +69,7 @@ pub fn place_of_holding(records: &[LogRec], serial: &Serial, rm: &RmName) -> Opt
     None
 }
 
-// The place of the record of a serial.
+/// The place of the first record of the serial. None where it has none.
 pub fn place_of_record(records: &[LogRec], serial: &Serial) -> Option<usize>
     ensures { result ≡ position (λ r. same_id_of (log_record_of r).serial (serial_of serial.now)) records.now }
 {
@@ -80,7 +81,7 @@ pub fn place_of_record(records: &[LogRec], serial: &Serial) -> Option<usize>
     None
 }
 
-// Whether a record of the transaction stands.
+/// Whether a record of the transaction stands.
 pub fn has_record(records: &[LogRec], tid: &Tid) -> bool
     ensures { result ≡ list_any (λ r. same_id_of r.tid (tid_of tid.now)) (map log_record_of records.now) }
 {
@@ -92,7 +93,7 @@ pub fn has_record(records: &[LogRec], tid: &Tid) -> bool
     false
 }
 
-// Writes a record again at its place, or drops it where nothing is left to wait for, and tells which.
+/// Writes a record again at its place, or drops it where nothing is left to wait for, and tells which.
 pub fn keep_record(records: &mut Vec<LogRec>, i: usize, rec: LogRec) -> Effect
     requires { i < vec_len records.old }
     ensures records { map log_record_of records.new.items ≡ kept_at i (log_record_of rec) (map log_record_of records.old.items) }

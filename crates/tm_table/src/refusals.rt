@@ -124,7 +124,7 @@ impl Table {
         }
     }
 
-    // Whether the event is no refused statement.
+    /// Whether the event is allowed. False where its statement is refused; messages, the clock and lost links are never refused.
     pub fn allows(&self, event: &Event) -> bool
         ensures { result ≡ allowed self.now.tm (event_of event.now) }
     {

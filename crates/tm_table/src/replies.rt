@@ -75,7 +75,7 @@ impl Table {
         }
     }
 
-    // A manager's reply.
+    /// A manager's reply for the branch. Where no branch has the serial, a Forget takes the manager out of the record that waits for it.
     pub fn replied(&mut self, serial: &Serial, rm: &RmName, reply: Reply)
         requires { HasRoom 64 self.old }
         ensures { self.new ≡ does (reply_row (serial_of serial.now) rm.now (reply_of reply) (find_serial (serial_of serial.now) self.old.tm.table) self.old.tm.records) self.old }
@@ -86,7 +86,7 @@ impl Table {
         }
     }
 
-    // A change was made in the branch.
+    /// Notes that a change was made in the branch, where it is active.
     pub fn changed(&mut self, serial: &Serial)
         ensures { self.new ≡ does (note_row has_changed (find_serial (serial_of serial.now) self.old.tm.table)) self.old }
     {
@@ -98,7 +98,7 @@ impl Table {
         }
     }
 
-    // A manager joins the branch.
+    /// The resource manager joins the branch, where it is active. It has no event and no reply yet.
     pub fn join_rm(&mut self, serial: &Serial, rm: &RmName)
         requires { there_is (find_serial (serial_of serial.now) self.old.tm.table) (may_join rm.now) ≡ true }
         ensures { self.new ≡ does (note_row (with_manager rm.now) (find_serial (serial_of serial.now) self.old.tm.table)) self.old }

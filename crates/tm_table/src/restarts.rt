@@ -41,6 +41,7 @@ fn restored(r: &LogRec) -> BranchState
     }
 }
 
+/// Puts the branches of these prepared records in place of all that were there.
 pub fn restore_branches(branches: &mut Vec<BranchState>, prepared: &[LogRec])
     requires { length prepared.now ≤ vec_capacity branches.old }
     ensures branches { map branch_of branches.new.items ≡ branches_of (map log_record_of prepared.now) }
@@ -52,6 +53,7 @@ pub fn restore_branches(branches: &mut Vec<BranchState>, prepared: &[LogRec])
     }
 }
 
+/// Puts copies of these committed records in place of all that were there.
 pub fn restore_records(records: &mut Vec<LogRec>, committed: &[LogRec])
     requires { length committed.now ≤ vec_capacity records.old }
     ensures records { map log_record_of records.new.items ≡ map log_record_of committed.now }

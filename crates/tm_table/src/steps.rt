@@ -31,7 +31,7 @@ impl Table {
         }
     }
 
-    // The row of an event.
+    /// Does what the event asks, by its row. The event is allowed, and no effects of an earlier step are left.
     pub fn take_row(&mut self, event: &Event)
         requires allowed { allowed self.old.tm (event_of event.now) ≡ true }
         requires empty { self.old.effects ≡ [] }

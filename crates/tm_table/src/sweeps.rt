@@ -81,7 +81,7 @@ impl Table {
         }
     }
 
-    // Undecided transactions whose time is over are aborted.
+    /// Aborts the undecided transactions whose time is over.
     pub fn clock(&mut self, now: &Moment)
         requires { HasRoomForAll self.old }
         ensures { self.new ≡ does (sweep Timeout (is_due (moment_of now.now)) self.old.tm.table) self.old }
@@ -89,7 +89,8 @@ impl Table {
         self.sweep(Reason::Timeout, &Choice::Due(*now));
     }
 
-    // The link to a node is lost: transactions that wait for a vote from it are aborted, and then the branches whose coordinator it is.
+    /// The link to a node is lost: transactions that wait for a vote from it are aborted,
+    /// and then the branches whose coordinator it is.
     pub fn link_down(&mut self, other: &NodeName)
         requires { HasRoomForAll self.old }
         ensures { self.new ≡ does (sweep CommFail (is_cut_off other.now) self.old.tm.table ++ sweep CommFail (is_under other.now) self.old.tm.table) self.old }
@@ -98,7 +99,7 @@ impl Table {
         self.sweep(Reason::CommFail, &Choice::Under(*other));
     }
 
-    // All that is not prepared is aborted, first branches first.
+    /// Aborts all that is not prepared, first branches first.
     pub fn run_down(&mut self)
         requires { HasRoomForAll self.old }
         ensures { self.new ≡ does (sweep SegFail is_first_of self.old.tm.table ++ sweep SegFail is_other self.old.tm.table) self.old }

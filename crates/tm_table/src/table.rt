@@ -32,7 +32,7 @@ use vms_base::{
     Kind, LogRec, NodeName, Outcome, Reason, RmEvent, RmList, RmName, Serial, SerialList, Tid,
 };
 
-// What a node knows, and the effects of the acts that were done in this step.
+/// What a node knows, and the effects of the acts that were done in this step.
 #[derive(Drop)]
 pub struct Table {
     node: NodeName,
@@ -75,7 +75,7 @@ impl Table {
         })
     }
 
-    // What the node knows after a restart.
+    /// Makes this what the node knows after a restart, from its prepared and its committed records.
     pub fn boot(&mut self, node: NodeName, prepared: &[LogRec], committed: &[LogRec])
         requires { MayRestart (map log_record_of prepared.now) (map log_record_of committed.now) }
         ensures { self.new.tm ≡ restarted node (map log_record_of prepared.now) (map log_record_of committed.now) }
@@ -85,7 +85,7 @@ impl Table {
         restore_records(&mut self.records, committed);
     }
 
-    // The first branch with the serial.
+    /// The first branch with the serial. None where no branch has it.
     pub fn branch(&self, serial: &Serial) -> Option<&BranchState>
         ensures { option_map branch_of (option_copied result) ≡ find_serial (serial_of serial.now) self.now.tm.table }
     {
@@ -95,14 +95,14 @@ impl Table {
         }
     }
 
-    // The branch at this place, in order of start.
+    /// The branch at this place, in order of start. None past the last.
     pub fn branch_at(&self, i: usize) -> Option<&BranchState>
         ensures { option_map branch_of (option_copied result) ≡ slice_get self.now.tm.table i }
     {
         self.branches.get(i)
     }
 
-    // How many branches are unsettled.
+    /// How many branches are unsettled: at most 64.
     pub fn branch_count(&self) -> usize
         ensures count { result ≡ length self.now.tm.table }
         ensures few { result ≤ 64 }
@@ -110,7 +110,7 @@ impl Table {
         self.branches.len()
     }
 
-    // How many committed records there are.
+    /// How many committed records there are: at most 512.
     pub fn record_count(&self) -> usize
         ensures count { result ≡ length self.now.tm.records }
         ensures few { result ≤ 512 }
@@ -118,14 +118,14 @@ impl Table {
         self.records.len()
     }
 
-    // The committed record at this place.
+    /// The committed record at this place. None past the last.
     pub fn record_at(&self, i: usize) -> Option<&LogRec>
         ensures { option_map log_record_of (option_copied result) ≡ slice_get self.now.tm.records i }
     {
         self.records.get(i)
     }
 
-    // The committed record of the serial.
+    /// The committed record of the serial. None where it has none.
     pub fn committed(&self, serial: &Serial) -> Option<&LogRec>
         ensures { option_map log_record_of (option_copied result) ≡ record_of (serial_of serial.now) self.now.tm.records }
     {
@@ -135,6 +135,7 @@ impl Table {
         }
     }
 
+    /// A copy of the branch with this transaction id and serial. None where it is not there.
     pub fn find(&self, tid: &Tid, serial: &Serial) -> Option<BranchState>
         ensures found { option_map branch_of result ≡ find (key_at tid.now serial.now) self.now.tm.table }
         ensures there { IfSome result (λ b. IsThere (branch_of b).key self.now.tm.table) }
@@ -146,7 +147,7 @@ impl Table {
         }
     }
 
-    // The first branch of the transaction.
+    /// A copy of the first branch of the transaction. None where it is not there.
     pub fn find_first(&self, tid: &Tid) -> Option<BranchState>
         ensures found { option_map branch_of result ≡ find (first (tid_of tid.now)) self.now.tm.table }
         ensures there { IfSome result (λ b. IsThere (branch_of b).key self.now.tm.table) }
@@ -155,6 +156,7 @@ impl Table {
         self.find(tid, &Serial(tid.0))
     }
 
+    /// A copy of the first branch with the serial. None where no branch has it.
     pub fn find_serial(&self, serial: &Serial) -> Option<BranchState>
         ensures found { option_map branch_of result ≡ find_serial (serial_of serial.now) self.now.tm.table }
         ensures there { IfSome result (λ b. IsThere (branch_of b).key self.now.tm.table) }
@@ -166,7 +168,7 @@ impl Table {
         }
     }
 
-    // The branch at this place, in order of start.
+    /// A copy of the branch at this place, in order of start. None past the last.
     pub fn copy_at(&self, i: usize) -> Option<BranchState>
         ensures place { IfSome result (λ b. (i < length self.now.tm.table) × (branch_of b ≡ slice_index_or self.now.tm.table i (branch_of b))) }
         ensures none { IfNone result (length self.now.tm.table ≤ i) }
@@ -181,7 +183,7 @@ impl Table {
         }
     }
 
-    // Drops the effects of an earlier step.
+    /// Drops the effects of an earlier step.
     pub fn clear(&mut self)
         ensures tm { self.new.tm ≡ self.old.tm }
         ensures effects { self.new.effects ≡ [] }
@@ -190,7 +192,7 @@ impl Table {
         self.effects.clear();
     }
 
-    // Exchanges the effects with those of an earlier step.
+    /// Exchanges the effects with those of an earlier step.
     pub fn exchange(&mut self, out: &mut Effects)
         ensures tm { self.new.tm ≡ self.old.tm }
         ensures effects { map effect_of out.new ≡ self.old.effects }
@@ -198,27 +200,28 @@ impl Table {
         mem::swap(&mut self.effects, out);
     }
 
-    // Whether a branch more has room, by the limits of a node and of the greatest log.
+    /// Whether a branch more has room, by the limits of a node and of the greatest log.
     pub fn has_room(&self) -> bool
         ensures { result ≡ has_room self.now.tm }
     {
         self.branches.len() < 64 && self.branches.len() + self.records.len() < 512
     }
 
-    // Whether a record of the serial waits for the manager.
+    /// Whether a record of the serial waits for the manager.
     pub fn holds_manager(&self, serial: &Serial, rm: &RmName) -> bool
         ensures { result ≡ list_any (λ q. holds (serial_of serial.now) rm.now q) self.now.tm.records }
     {
         place_of_holding(&self.records, serial, rm).is_some()
     }
 
-    // Whether a record of the transaction stands.
+    /// Whether a record of the transaction stands.
     pub fn has_record(&self, tid: &Tid) -> bool
         ensures { result ≡ list_any (λ r. same_id_of r.tid (tid_of tid.now)) self.now.tm.records }
     {
         has_record(&self.records, tid)
     }
 
+    /// Puts the branch in the place of the one with its key, which is there.
     pub fn put(&mut self, b: &BranchState)
         requires there { IsThere (branch_of b.now).key self.old.tm.table }
         requires fits { Fits (branch_of b.now) }
@@ -228,6 +231,7 @@ impl Table {
         put_branch(&mut self.branches, b);
     }
 
+    /// Puts the branch in the place of the one with its key, or last where none has it.
     pub fn add(&mut self, b: BranchState)
         requires few { length self.old.tm.table < 64 }
         requires slots { length self.old.tm.table + length self.old.tm.records < 512 }
@@ -238,6 +242,7 @@ impl Table {
         add_branch(&mut self.branches, b);
     }
 
+    /// Takes the branch, which is there, out of the table.
     pub fn cut(&mut self, tid: &Tid, serial: &Serial)
         requires there { IsThere (key_at tid.now serial.now) self.old.tm.table }
         ensures tm { self.new.tm ≡ after_act (Leaves (key_at tid.now serial.now)) self.old.tm }
@@ -248,6 +253,7 @@ impl Table {
         cut_branch(&mut self.branches, tid, serial);
     }
 
+    /// Adds the committed record last. Nothing changes where there is none.
     pub fn add_record(&mut self, rec: &Option<LogRec>)
         requires slots { length self.old.tm.table + length self.old.tm.records < 512 }
         ensures tm { self.new.tm ≡ record self.old.tm { records = add_record (option_map log_record_of rec.now) self.old.tm.records } }
@@ -258,6 +264,7 @@ impl Table {
         }
     }
 
+    /// Adds the effect last to those of this step.
     pub fn push(&mut self, effect: Effect)
         requires { HasRoom 1 self.old }
         ensures tm { self.new.tm ≡ self.old.tm }
@@ -267,7 +274,7 @@ impl Table {
         self.effects.push(effect);
     }
 
-    // An acknowledgement of a serial that a record waits for takes it out.
+    /// Takes a serial that is acknowledged out of the record that waits for it. Nothing changes where none does.
     pub fn acknowledge(&mut self, tid: &Tid, serial: &Serial)
         requires { HasRoom 1 self.old }
         ensures { self.new ≡ does (ack_row (key_at tid.now serial.now) self.old.tm.records) self.old }
@@ -279,7 +286,7 @@ impl Table {
         }
     }
 
-    // A manager that forgets is taken out of the record that waits for it.
+    /// Takes a manager that forgets out of the record that waits for it. Nothing changes where none does.
     pub fn release(&mut self, serial: &Serial, rm: &RmName)
         requires { HasRoom 1 self.old }
         ensures { self.new ≡ does (released_row (serial_of serial.now) rm.now self.old.tm.records) self.old }

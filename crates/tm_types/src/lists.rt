@@ -64,6 +64,7 @@ impl Model for BidList {
 }
 
 impl BidList {
+    /// A list without identifiers.
     pub fn new() -> Self
         ensures { result ≡ [] }
     {
@@ -101,6 +102,7 @@ impl BidList {
         list
     }
 
+    /// Whether the identifier is in the list.
     pub fn contains(&self, bid: &Bid) -> bool
         ensures few { length self.now ≤ 15 }
         ensures found { result ≡ list_any (λ x. same_id_of x (bid_of bid.now)) (map bid_of self.now) }
@@ -176,6 +178,7 @@ fn hears_abort(child: &Child) -> bool
 }
 
 impl ChildList {
+    /// A list without serials.
     pub fn new() -> Self
         ensures { result ≡ [] }
     {
@@ -225,6 +228,7 @@ impl ChildList {
         false
     }
 
+    /// Whether the serial is in the list.
     pub fn has_serial(&self, serial: &Serial) -> bool
         ensures { result ≡ has_serial (serial_of serial.now) (map child_of self.now) }
     {
@@ -272,6 +276,7 @@ impl ChildList {
         false
     }
 
+    /// Whether each serial has a vote.
     pub fn all_voted(&self) -> bool
         ensures { result ≡ all_voted (map child_of self.now) }
     {
@@ -317,6 +322,7 @@ impl ChildList {
         list
     }
 
+    /// The serials alone, in order of acceptance.
     pub fn serials(&self) -> SerialList
         ensures { map serial_of result ≡ serials (map child_of self.now) }
     {
@@ -400,6 +406,7 @@ impl Model for ManagerList {
 }
 
 impl ManagerList {
+    /// A list without managers.
     pub fn new() -> Self
         ensures { result ≡ [] }
     {
@@ -497,6 +504,7 @@ impl ManagerList {
         false
     }
 
+    /// Whether each manager has a noted reply.
     pub fn all_replied(&self) -> bool
         ensures { result ≡ all_replied (map manager_of self.now) }
     {

@@ -15,6 +15,3 @@ pub use form::{Cause, Form, Quota};
 pub use lines::{LineReader, Next};
 pub use memory::{MemSink, MemSource};
 pub use outside::{Failed, Sink, Source};
-
-#[cfg(test)]
-mod tests;

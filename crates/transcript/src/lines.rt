@@ -26,7 +26,7 @@ pub enum Next {
     Failed,
 }
 
-// Why no more bytes were taken.
+/// Why no more bytes were taken.
 #[derive(Clone, Copy, Debug, PartialEq, Eq)]
 pub enum Taken {
     Feed,

@@ -1,5 +1,5 @@
-//! Units are aborted: what they changed is set back from their entries in the journal, and the last group of that has their settlement too. A restart aborts all
-//! units that a fall left.
+//! Units are aborted: what they changed is set back from their entries in the journal, and the last group of that has their settlement too. A restart
+//! aborts all units that a fall left.
 #![tactic(auto)]
 
 mod aborting;

@@ -125,9 +125,9 @@ fn has_room<D: Disk>(volume: &Volume<D>, count: usize) -> bool
     ru.end - ru.first + 48 * count as u64 <= 512 * u64::from(ru.blocks)
 }
 
-/// Aborts the units that a fall left in the journal, in the order of their first entries, and tells their settlements, also after Down. Nothing is done where the
-/// journal is not in order, or has not the room that the settlements take; then the table is without units. Prepared units stay, in the journal and in the table, which
-/// has those of the journal in place of those that it had.
+/// Aborts the units that a fall left in the journal, in the order of their first entries, and tells their settlements, also after Down. Nothing is
+/// done where the journal is not in order, or has not the room that the settlements take; then the table is without units. Prepared units stay, in
+/// the journal and in the table, which has those of the journal in place of those that it had.
 pub fn reopen_units<D: Disk>(
     volume: &mut Volume<D>,
     clock: Moment,

@@ -38,7 +38,8 @@ use volume_format::Ending;
 // So many entries are staged before they are written, where more follow: at most 360 blocks.
 const ENTRIES_A_GROUP: u32 = 20;
 
-// Stages an entry behind a span, and notes where it begins. One that is longer than what is left up to the limit is passed over: no record that is laid out has it.
+// Stages an entry behind a span, and notes where it begins. One that is longer than what is left up to the limit is passed over: no record that is
+// laid out has it.
 fn append_within<D: Disk>(
     volume: &mut Volume<D>,
     span: &mut Span,

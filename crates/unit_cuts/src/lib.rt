@@ -1,5 +1,5 @@
-//! Truncations of sequential files: how many bytes the entries of the records take that go, those entries behind the journal's end, and the group that takes the
-//! records.
+//! Truncations of sequential files: how many bytes the entries of the records take that go, those entries behind the journal's end, and the group
+//! that takes the records.
 #![tactic(auto)]
 
 mod cut;

@@ -8,6 +8,3 @@ mod reading;
 pub use collecting::{collect_keys, key_in};
 pub use keys::{ChangedKey, ChangedKeys, MOST_KEYS};
 pub use reading::read_journal;
-
-#[cfg(test)]
-mod tests;

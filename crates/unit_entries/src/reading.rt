@@ -116,8 +116,8 @@ fn take_entry(state: &mut RuState, units: &mut UnitTable, position: u64, e: &Ent
     true
 }
 
-/// Reads the entries of a journal, the oldest first, in place of those that were taken, and puts the units that they leave in place of those of the table. False
-/// where one of them may not stand there; those before it are taken then.
+/// Reads the entries of a journal, the oldest first, in place of those that were taken, and puts the units that they leave in place of those of the
+/// table. False where one of them may not stand there; those before it are taken then.
 pub fn read_journal<D: Disk>(
     store: &mut Store<D>,
     span: &Span,

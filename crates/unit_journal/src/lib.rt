@@ -8,6 +8,3 @@ mod settling;
 pub use entering::{enter, journal_refusal};
 pub use entries::{encode_change, encode_prepared, encode_settled, entry_size};
 pub use settling::{next_moment, settle, settle_staged, stage_settlement};
-
-#[cfg(test)]
-mod tests;

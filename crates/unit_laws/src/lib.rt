@@ -23,7 +23,8 @@ pub fn one_branch_aborts()
     ensures { AbortsOne }
 {}
 
-/// After a fall one branch is undone whole and settled, whatever part of its changes was undone before. What the file has represents the same committed records.
+/// After a fall one branch is undone whole and settled, whatever part of its changes was undone before. What the file has represents the same
+/// committed records.
 pub fn one_branch_is_undone()
     ensures { UndoesOne }
 {}
@@ -45,8 +46,8 @@ pub fn one_branch_moves_end()
     ensures settles { SettlesKeepEnd }
 {}
 
-/// The units of a journal follow its entries, one by one: changes make a unit of their branch or add to it, and a Prepared entry marks it. What is owed rises by
-/// the two entries that end a unit, and falls by the one that prepares it.
+/// The units of a journal follow its entries, one by one: changes make a unit of their branch or add to it, and a Prepared entry marks it. What is
+/// owed rises by the two entries that end a unit, and falls by the one that prepares it.
 pub fn units_follow_entries()
     ensures follow { UnitsFollow }
     ensures changes { ChangesMakeUnit }

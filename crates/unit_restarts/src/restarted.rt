@@ -7,8 +7,8 @@ use std::marker::Model;
 use unit_aborts::AbortedUnit;
 use vms_base::LogRec;
 
-/// What a restart tells: the units that it undid, in the order of their settlements; the records of the prepared branches, in the order in which these were prepared, with
-/// their units; and the committed records, in the order of the log's slots. Room for 64, 64 and 512 is taken once.
+/// What a restart tells: the units that it undid, in the order of their settlements; the records of the prepared branches, in the order in which
+/// these were prepared, with their units; and the committed records, in the order of the log's slots. Room for 64, 64 and 512 is taken once.
 #[derive(Drop)]
 pub struct Restarted {
     pub(crate) undone: Vec<AbortedUnit>,

@@ -102,9 +102,9 @@ fn list_few(log: &mut Log, most: usize, prepared: &mut Vec<LogRec>, committed: &
     }
 }
 
-/// Takes up what a fall left: aborts the units that are not prepared, and begins those of the log's prepared records again, at places of a table without units, with
-/// the keys that they changed locked. Those that are aborted and those that are begun are no more than 64 together: of more, the prepared records of the last slots are
-/// read as free.
+/// Takes up what a fall left: aborts the units that are not prepared, and begins those of the log's prepared records again, at places of a table
+/// without units, with the keys that they changed locked. Those that are aborted and those that are begun are no more than 64 together: of more, the
+/// prepared records of the last slots are read as free.
 pub fn restart<D: Disk>(
     volume: &mut Volume<D>,
     log: &mut Log,

@@ -73,7 +73,8 @@ fn take_vote(e: &EntryHead, rest: &mut Vec<LogRec>, out: &mut Vec<LogRec>)
     }
 }
 
-// Moves the records of the Prepared entries behind others, in the order of the entries. Where there is one record at the most its order stands, and nothing is read.
+// Moves the records of the Prepared entries behind others, in the order of the entries. Where there is one record at the most its order stands, and
+// nothing is read.
 fn take_votes<D: Disk>(
     volume: &mut Volume<D>,
     rest: &mut Vec<LogRec>,
@@ -126,8 +127,8 @@ fn list(records: &[LogRec], out: &mut Vec<LogRec>)
     }
 }
 
-/// Lists the prepared records of a log in the order in which their branches were prepared, in place of others: those with a Prepared entry in the order of the entries,
-/// and then the others. Where there are fewer than two the journal is not read.
+/// Lists the prepared records of a log in the order in which their branches were prepared, in place of others: those with a Prepared entry in the
+/// order of the entries, and then the others. Where there are fewer than two the journal is not read.
 pub fn arrange<D: Disk>(
     volume: &mut Volume<D>,
     records: &mut Vec<LogRec>,

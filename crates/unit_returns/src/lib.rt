@@ -1,4 +1,5 @@
-//! Prepared branches are units again after a restart, in the order in which they were prepared: with their changes in the journal, and the keys that they changed.
+//! Prepared branches are units again after a restart, in the order in which they were prepared: with their changes in the journal, and the keys that
+//! they changed.
 #![tactic(auto)]
 
 mod arranging;

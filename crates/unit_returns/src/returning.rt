@@ -18,8 +18,8 @@ use unit_table::UnitTable;
 use vms_base::{LogRec, Record};
 use volume::Volume;
 
-// The unit of the branch of a prepared record is begun again, at the place that is answered. It takes its changes from those that the journal left, and holds what they
-// changed.
+// The unit of the branch of a prepared record is begun again, at the place that is answered. It takes its changes from those that the journal left,
+// and holds what they changed.
 fn take_unit<D: Disk>(
     volume: &mut Volume<D>,
     left: &mut UnitTable,
@@ -61,8 +61,8 @@ fn take_unit<D: Disk>(
     Ok(place)
 }
 
-/// The units of the branches of prepared records are begun again, behind those that are there, in the order of the records. Each takes its changes from the units that
-/// the journal left, and holds what they changed. Their places are listed as those of the units that are there.
+/// The units of the branches of prepared records are begun again, behind those that are there, in the order of the records. Each takes its changes
+/// from the units that the journal left, and holds what they changed. Their places are listed as those of the units that are there.
 pub fn take_units<D: Disk>(
     volume: &mut Volume<D>,
     left: &mut UnitTable,

@@ -6,6 +6,3 @@ mod table;
 
 pub use place::{Branch, MOST_CHANGES};
 pub use table::{MOST_UNITS, UnitTable};
-
-#[cfg(test)]
-mod tests;

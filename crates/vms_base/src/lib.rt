@@ -19,6 +19,3 @@ pub use protocol::{Kind, LogKind, LogRec, Reply, RmEvent, RmList, SerialList};
 pub use records::Record;
 pub use text::{find, is_word, part_at, read_digits};
 pub use times::{Moment, TimeErr, TimeText, read_time, write_time, written_times_are_read};
-
-#[cfg(test)]
-mod tests;

@@ -66,6 +66,7 @@ impl Model for SerialList {
 }
 
 impl SerialList {
+    /// A list without serials.
     pub fn new() -> Self
         ensures { result ≡ [] }
     {
@@ -122,6 +123,7 @@ impl Model for RmList {
 }
 
 impl RmList {
+    /// A list without managers.
     pub fn new() -> Self
         ensures { result ≡ [] }
     {

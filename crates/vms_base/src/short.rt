@@ -21,6 +21,7 @@ impl<const N: usize> Model for Short<N> {
 }
 
 impl<const N: usize> Short<N> {
+    /// No bytes.
     pub fn new() -> Self
         ensures { result ≡ [] }
     {
@@ -30,6 +31,7 @@ impl<const N: usize> Short<N> {
         }
     }
 
+    /// The bytes, at most `N`.
     pub fn bytes(&self) -> &[u8]
         ensures value { result.now ≡ self.now }
         ensures few { length self.now ≤ N }
@@ -44,6 +46,7 @@ impl<const N: usize> Short<N> {
         self.bytes
     }
 
+    /// A copy of at most `N` bytes.
     pub fn from_slice(bytes: &[u8]) -> Self
         requires { length bytes.now ≤ N }
         ensures { result ≡ bytes.now }
@@ -53,6 +56,7 @@ impl<const N: usize> Short<N> {
         all
     }
 
+    /// Adds bytes at the end, where there is room for them.
     pub fn extend(&mut self, bytes: &[u8])
         requires { length self.old + length bytes.now ≤ N }
         ensures { self.new ≡ self.old ++ bytes.now }
@@ -62,6 +66,7 @@ impl<const N: usize> Short<N> {
         }
     }
 
+    /// Adds a byte at the end, where there is room for it.
     pub fn push(&mut self, b: u8)
         requires { length self.old < N }
         ensures { self.new ≡ self.old ++ b ∷ [] }

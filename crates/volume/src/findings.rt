@@ -36,6 +36,7 @@ impl Findings {
         })
     }
 
+    /// The findings, ascending, each once, at most 1,000.
     pub fn items(&self) -> &[Finding]
         ensures value { result.now ≡ self.now }
         ensures ascending { Ascends self.now }
@@ -44,6 +45,7 @@ impl Findings {
         &self.found
     }
 
+    /// Takes all findings away; the room stays.
     pub fn clear(&mut self)
         ensures { self.new ≡ [] }
     {

@@ -20,6 +20,3 @@ pub use limits::{Buckets, buckets_of, file_fits, sizes_fit};
 pub use listing::conditions;
 pub use load::Finding;
 pub use volume::{MountErr, Volume};
-
-#[cfg(test)]
-mod tests;

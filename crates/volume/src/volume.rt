@@ -118,6 +118,7 @@ impl<D: Disk> Volume<D> {
         find_name(&self.catalog.heads, 64, name)
     }
 
+    /// The fields of the home block.
     pub fn home(&self) -> &Home
         ensures { result.now ≡ self.now.catalog.home }
     {
@@ -219,7 +220,7 @@ impl<D: Disk> Volume<D> {
         Ok(())
     }
 
-    /// The store.
+    /// The store, in which blocks are read and staged.
     pub fn store(&mut self) -> &mut Store<D>
         ensures* writes { sem 𝓛 (Lends (the_row D.row D.Disk) (store_row D.row D.Disk) self.entry result (λ store. record self.old { store = store })) }
         ensures value { result.now ≡ self.old.store }
@@ -227,6 +228,7 @@ impl<D: Disk> Volume<D> {
         &mut self.store
     }
 
+    /// The store, and with it the disk; the volume is no longer mounted.
     pub fn into_store(self) -> Store<D>
         ensures { result ≡ self.store }
     {

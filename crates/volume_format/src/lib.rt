@@ -14,6 +14,3 @@ pub use laws::{
     sizes_are_those_of_the_home,
 };
 pub use ru::{read_ru, write_ru};
-
-#[cfg(test)]
-mod tests;

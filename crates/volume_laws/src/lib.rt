@@ -13,8 +13,8 @@ pub fn journals_follow()
     ensures { JournalsFollow }
 {}
 
-/// The log in the slots is that of the node of the world on a new volume, and after an act that leaves it. It and the journal tell one another still, also once a
-/// unit is settled that is not prepared.
+/// The log in the slots is that of the node of the world on a new volume, and after an act that leaves it. It and the journal tell one another still,
+/// also once a unit is settled that is not prepared.
 pub fn logs_follow()
     ensures { LogsFollow }
 {}

@@ -1,4 +1,5 @@
-//! What holds of each node in each world of a legal transcript: what a restart needs and restores, how its journal, its log and its locks stand to its unsettled branches.
+//! What holds of each node in each world of a legal transcript: what a restart needs and restores, how its journal, its log and its locks stand to
+//! its unsettled branches.
 #![tactic(auto)]
 
 ghost use Rattle.world_laws.specs.Restarts.{RestartRestores, RestartCutShort, ChangesCanRestart, TablesCanRestart, HalvesCanRestart, CreatesCanRestart, MarksCanRestart, DirectsCanRestart, UnlockedIsFree, HeldFree};
@@ -8,9 +9,9 @@ ghost use Rattle.world_laws.specs.Nodes.{BootsKeepUp, NodesAreKept, RowsKeepUp, 
 ghost use Rattle.world_laws.specs.Room.{ChangesHaveRoom, UnitsHaveRoom};
 ghost use Rattle.world_laws.specs.Worlds.{BranchesAreUnsettled, ChangesAreHeld, ChangesFind, JournalsTellUnits, LocksAreBranches, LogsAreInOrder, NamesAreDifferent, TablesAreTold, UnitsAreBranches, UnitsNameFiles, WorldsCanRestart};
 
-/// A restart undoes all that is unsettled and not prepared, and nothing else: what was committed is in each file, and so is what prepared branches changed; only
-/// these have changes in a file, and the journal has no unit but theirs. Where it is cut short, all that was committed or prepared is kept, and the next restart
-/// can restore it.
+/// A restart undoes all that is unsettled and not prepared, and nothing else: what was committed is in each file, and so is what prepared branches
+/// changed; only these have changes in a file, and the journal has no unit but theirs. Where it is cut short, all that was committed or prepared is
+/// kept, and the next restart can restore it.
 pub fn restarts_restore()
     ensures whole { RestartRestores }
     ensures cut { RestartCutShort }
@@ -43,10 +44,10 @@ pub fn locks_lie_apart()
     ensures keys { HeldKeysDiffer }
 {}
 
-/// The journal of a disk stays in order: its entries suit their files and follow one another, neither changes nor units nor bytes become too many, and no branch
-/// was settled later than the greatest moment. So it is on a new volume, after changes that may be entered, after an act of the table that prepares a branch once or
-/// settles it later than those before it, after a boot, after a new file and after a mark, and where an abort was done in part. A branch that is a unit of it is not
-/// settled there.
+/// The journal of a disk stays in order: its entries suit their files and follow one another, neither changes nor units nor bytes become too many,
+/// and no branch was settled later than the greatest moment. So it is on a new volume, after changes that may be entered, after an act of the table
+/// that prepares a branch once or settles it later than those before it, after a boot, after a new file and after a mark, and where an abort was done
+/// in part. A branch that is a unit of it is not settled there.
 pub fn journals_stay_in_order()
     ensures new { FormatsInOrder }
     ensures boots { BootsKeepOrder }
@@ -59,18 +60,19 @@ pub fn journals_stay_in_order()
     ensures unsettled { UnitsAreUnsettled }
 {}
 
-/// What no quota refuses may be entered in a journal that is in order: changes that are not too many and fit into it, by a branch of which there are not too many.
+/// What no quota refuses may be entered in a journal that is in order: changes that are not too many and fit into it, by a branch of which there are
+/// not too many.
 pub fn unrefused_changes_fit()
     ensures changes { ChangesHaveRoom }
     ensures units { UnitsHaveRoom }
 {}
 
-/// In each world that a legal transcript leads to, whichever statements were cut short, the disk of each node has what a restart needs, its log and its journal tell
-/// one another, and a name is one file's. While a node is up its log and its journal tell its table, and there are no more branches and records than slots. Each unit
-/// of its journal is an unsettled branch, which holds the keys that it changed, is not settled in the journal, and has changed no file that is not there. Each change
-/// of an operation notes what it found. Only unsettled branches hold keys, and the end of a sequential file is held by the branch that moved it, also where that is
-/// prepared and the node was booted since; neither branches nor keys are more than may be. The journal tells the changes of unsettled branches, of which one at the
-/// most has moved the end of a file.
+/// In each world that a legal transcript leads to, whichever statements were cut short, the disk of each node has what a restart needs, its log and
+/// its journal tell one another, and a name is one file's. While a node is up its log and its journal tell its table, and there are no more branches
+/// and records than slots. Each unit of its journal is an unsettled branch, which holds the keys that it changed, is not settled in the journal, and
+/// has changed no file that is not there. Each change of an operation notes what it found. Only unsettled branches hold keys, and the end of a
+/// sequential file is held by the branch that moved it, also where that is prepared and the node was booted since; neither branches nor keys are more
+/// than may be. The journal tells the changes of unsettled branches, of which one at the most has moved the end of a file.
 pub fn worlds_can_restart()
     ensures restart { WorldsCanRestart }
     ensures logs { LogsAreInOrder }
@@ -85,9 +87,9 @@ pub fn worlds_can_restart()
     ensures tells { JournalsTellUnits }
 {}
 
-/// What holds of each node in each world of a run: its disk, also where an act was under way, and its table, its journal and its locks while it is up. Each step
-/// of a node keeps it, there and of the other nodes; at a node that is up so do the rows of a task that nothing refuses, one after another; and so do the rows of a boot, behind which the node is
-/// up.
+/// What holds of each node in each world of a run: its disk, also where an act was under way, and its table, its journal and its locks while it is
+/// up. Each step of a node keeps it, there and of the other nodes; at a node that is up so do the rows of a task that nothing refuses, one after
+/// another; and so do the rows of a boot, behind which the node is up.
 pub fn nodes_stay_kept()
     ensures worlds { NodesAreKept }
     ensures steps { StepsKeepNodes }

@@ -6,4 +6,4 @@ pub returns-clause-none : goal.returns-clause-none
 returns-clause-none c = settling_rests c.outcomes.ensures.run_down
 
 pub returns-clause-ends : goal.returns-clause-ends
-returns-clause-ends c = settling_ends c.outcomes.ensures.run_down
+returns-clause-ends c = settling_ends c.failure_puts_down.ensures c.outcomes.ensures.run_down

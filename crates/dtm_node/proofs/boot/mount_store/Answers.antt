@@ -1,5 +1,6 @@
-use Rattle.std.proofs.Common.{◌≡◌, inl, rules}
+use Rattle.std.proofs.Common.{◌≡◌, inl, refl, rules}
 use Rattle.block_disk.specs.Disk.{DiskState}
+use Rattle.dtm_node.proofs.Held.{holds_is}
 use Rattle.dtm_node.proofs.Mounting.{mounted, condition_found, mount_fell}
 use Rattle.dtm_node.proofs.boot.mount_store.Goals as goal
 
@@ -19,3 +20,9 @@ returns-in-Err-Down-clause-boots g c = λ n o.
     let pending : d.pending ≡ c.args.store.disk.pending = search rules in
     let seen : d.seen ≡ c.args.store.disk.seen = search rules in
     inl (mount_fell c.args.name c.args.store n d pending seen o)
+
+pub returns-in-Err-Condition-clause-booted : goal.returns-in-Err-Condition-clause-booted
+returns-in-Err-Condition-clause-booted g c =
+    let d : DiskState = g.D.Disk.state c.into_parts-disk.result.0 in
+    let same : d ≡ c.args.store.disk = search rules in
+    (tt, refl, holds_is c.args.store.disk d same)

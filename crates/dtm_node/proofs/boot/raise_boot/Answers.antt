@@ -1,5 +1,6 @@
 use Rattle.std.proofs.Common.{ap, inr, rules, ◌∙◌}
 use Rattle.volume_format.specs.declared.home.Home.{Home}
+use Rattle.dtm_node.proofs.Held.{holds_is}
 use Rattle.dtm_node.proofs.Raising.{bootable_is, mounted_left, raise_refused, raise_up, raise_fell, raised}
 use Rattle.dtm_node.proofs.boot.raise_boot.Goals as goal
 
@@ -23,3 +24,7 @@ returns-in-Err-clause-boots g c = λ n m.
       raise_fell c.args.volume n _ c.the_laws.ensures.nodes c.the_laws.ensures.boots c.requires.sound (ap (λ (h : Home). record c.args.volume.catalog { home = raised h }) c.home.ensures) (c.in-Err.ensures.tells c.requires.holds) m (mounted_left c.args.volume n c.in_default.ensures.wide m c.in_default.ensures.refuses)
           (g.D.Disk.state c.into_parts-disk-in-Err.result.0) c.requires.idle c.requires.holds (search rules),
     )
+
+pub returns-in-Some-clause-booted : goal.returns-in-Some-clause-booted
+returns-in-Some-clause-booted g c =
+    (c.in-Some.ensures.time, c.in-Some.ensures.boot, holds_is c.args.volume.store.disk (g.D.Disk.state c.into_parts-disk.result.0) (c.into_parts-disk.ensures.disk ∙ ap (λ s. s.disk) c.into_store.ensures))

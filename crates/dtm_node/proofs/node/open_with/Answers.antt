@@ -20,7 +20,7 @@ returns-in-Up-clause-opens g c = λ clock has_parts.
 pub returns-in-Refused-clause-opens : goal.returns-in-Refused-clause-opens
 returns-in-Refused-clause-opens g c = λ clock has_parts. (
   c.in-Refused.ensures.booted.0,
-  open_refused c.args.name clock has_parts (g.D.Disk.state c.args.disk) c.nodes_stay_kept.ensures.steps (g.D.Disk.state c.power.new.self) c.in_default.ensures.ok (g.D.Disk.state c.in-Refused.disk) c.in-Refused.ensures.goes (line_of c.in-Refused.form) c.in-Refused.ensures.booted.1 c.in-Refused.ensures.boots,
+  open_refused c.args.name clock has_parts (g.D.Disk.state c.args.disk) c.nodes_stay_kept.ensures.steps (g.D.Disk.state c.power.new.self) c.in_default.ensures.ok (g.D.Disk.state c.in-Refused.disk) c.in-Refused.ensures.goes (line_of c.in-Refused.form) c.in-Refused.ensures.booted.1 c.in-Refused.ensures.booted.2 c.in-Refused.ensures.boots,
 )
 
 pub returns-in-Fell-clause-opens : goal.returns-in-Fell-clause-opens

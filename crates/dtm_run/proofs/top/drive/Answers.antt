@@ -84,7 +84,7 @@ returns-then-failed-clause-runs g c = λ said o stand.
     let tells = answers_in _ _ statement _ _ ks l.shared ls t l.invariant.names c.serve_statement.ensures.tells in
     let going = l.invariant.going said o stand in
     going_cut _ _ _ _ _ _ _ _ ks l.shared fine going _ _ (ap (λ s. s.text) at) (ap (λ s. s.number) at) (ap (λ s. s.failed) at ∙ l.invariant.failed) _ _ c.in-Line.ensures.tells c.in-Line.ensures.taken.0 c.if-number-gt-MOST_LINES.false ls t
-    (way_next c.nodes_stay_kept.ensures.worlds names c.requires.apart _ _ _ ks ls l.shared t same named going.way statement says _ _ (λ logs w h kept never. c.serve_statement.ensures.serves logs w h kept never) tells (λ node boot. c.serve_statement.ensures.clocks node boot))
+    (way_next c.nodes_stay_kept.ensures.worlds names c.requires.apart _ _ _ ks ls l.shared t same named going.way statement says _ _ (λ logs w h kept never. c.serve_statement.ensures.serves logs w h kept never) tells fine (λ node boot. c.serve_statement.ensures.clocks node boot))
     (stands_leaves state units (l.number + 1) t c.serve_statement.new.nodes.nodes.entries later) (sym c.failed.ensures ∙ c.if-failed.true)
 
 pub returns-in-Failed-clause-calls : goal.returns-in-Failed-clause-calls
@@ -242,7 +242,7 @@ loop-number-preserved g c =
       read_count = omega (arith, l.invariant.read_count, c.next.ensures.count);
       write_count = omega (arith, l.invariant.write_count, c.serve_statement.ensures.since.counts, same_count);
       going = λ said o stand. (let going = l.invariant.going said o stand in going_served _ _ _ _ _ _ _ _ ks l.shared fine going _ _ (ap (λ s. s.text) at) (ap (λ s. s.number) at) (ap (λ s. s.failed) at ∙ l.invariant.failed) _ _ c.in-Line.ensures.tells c.in-Line.ensures.taken.0 c.if-number-gt-MOST_LINES.false ls t
-          (way_next c.nodes_stay_kept.ensures.worlds names c.requires.apart _ _ _ ks ls l.shared t same named going.way statement says _ _ (λ logs w h kept never. c.serve_statement.ensures.serves logs w h kept never) tells (λ node boot. c.serve_statement.ensures.clocks node boot))
+          (way_next c.nodes_stay_kept.ensures.worlds names c.requires.apart _ _ _ ks ls l.shared t same named going.way statement says _ _ (λ logs w h kept never. c.serve_statement.ensures.serves logs w h kept never) tells fine (λ node boot. c.serve_statement.ensures.clocks node boot))
           _ _ refl c.in-Line.ensures.taken.1 (sym c.failed.ensures ∙ c.if-failed.false));
       telling = telling_served _ _ _ _ _ _ _ _ ks _ l.invariant.telling _ _ (ap (λ s. s.text) at) (ap (λ s. s.number) at) (ap (λ s. s.failed) at ∙ l.invariant.failed) _ _ c.in-Line.ensures.tells c.in-Line.ensures.taken.0 c.if-number-gt-MOST_LINES.false statement l.shared refl ls t says tells _ _ refl c.in-Line.ensures.taken.1 (sym c.failed.ensures ∙ c.if-failed.false);
     }

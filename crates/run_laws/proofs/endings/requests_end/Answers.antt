@@ -1,3 +1,4 @@
+use Rattle.run_laws.proofs.Missing.{missing_hold}
 use Rattle.run_laws.proofs.EndedHold.{ended_hold}
 use Rattle.run_laws.proofs.Ending.{aborts_hold, ends_hold, fails_hold}
 use Rattle.run_laws.proofs.endings.requests_end.Goals as goal
@@ -13,3 +14,6 @@ returns-clause-aborts c = aborts_hold
 
 pub returns-clause-ended : goal.returns-clause-ended
 returns-clause-ended c = ended_hold
+
+pub returns-clause-missing : goal.returns-clause-missing
+returns-clause-missing c = missing_hold

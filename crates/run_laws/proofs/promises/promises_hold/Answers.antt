@@ -1,8 +1,12 @@
+use Rattle.run_laws.proofs.Forgetting.{inits_forget}
 use Rattle.run_laws.proofs.Headline.{agreed_promises, kept_promises}
 use Rattle.run_laws.proofs.promises.promises_hold.Goals as goal
 
 pub returns-clause-kept : goal.returns-clause-kept
 returns-clause-kept c = kept_promises
+
+pub returns-clause-forget : goal.returns-clause-forget
+returns-clause-forget c = inits_forget
 
 pub returns-clause-agreed : goal.returns-clause-agreed
 returns-clause-agreed c =

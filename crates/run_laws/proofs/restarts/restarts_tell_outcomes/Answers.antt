@@ -1,3 +1,4 @@
+use Rattle.run_laws.proofs.AbortsAsked.{caused_hold}
 use Rattle.run_laws.proofs.AllShown.{shown_hold}
 use Rattle.run_laws.proofs.LastBoots.{lasts_hold}
 use Rattle.run_laws.proofs.AskedHold.{asked_hold}
@@ -23,3 +24,6 @@ returns-clause-interrupted c = interrupted_hold
 
 pub returns-clause-asked : goal.returns-clause-asked
 returns-clause-asked c = asked_hold
+
+pub returns-clause-caused : goal.returns-clause-caused
+returns-clause-caused c = caused_hold

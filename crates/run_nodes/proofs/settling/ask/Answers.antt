@@ -1,6 +1,6 @@
 use Rattle.std.specs.Prelude.{slice_get}
 use Rattle.std.specs.Option.{option_map}
-use Rattle.std.proofs.Common.{◌≡◌, Some, None, true, false, refl, sym, ◌∙◌, ap, subst}
+use Rattle.std.proofs.Common.{◌≡◌, ◌<◌, length, Some, None, true, false, refl, sym, ◌∙◌, ap, subst}
 use Rattle.net_wire.specs.Messages.{message_of}
 use Rattle.vms_base.specs.Ids.{serial_of}
 use Rattle.run_model.specs.Answers.{Hears}
@@ -12,13 +12,10 @@ use Rattle.statement_steps.proofs.Rising.{up_at}
 use Rattle.run_nodes.specs.Held.{kept_all, names_of}
 use Rattle.run_nodes.specs.Names.{AreApart, is_among}
 use Rattle.dtm_node.specs.Standing.{Kept}
-use Rattle.run_nodes.proofs.Telling.{among_there}
 use Rattle.run_nodes.specs.Told.{TurnOver, TurnTold, kept_names}
-use Rattle.statement_steps.proofs.Answering.{comes_home}
 use Rattle.run_nodes.specs.Phases.{AskedOne}
 use Rattle.run_nodes.specs.Tasks.{DoesTask}
-use Rattle.run_nodes.proofs.Askings.{asked_hears, asked_none, asked_vain, asks_inquire, asks_so, coordinator_there, ended_hears, ended_nobody, name_here, one_place, question_kept}
-use Rattle.run_nodes.proofs.Each.{within_names}
+use Rattle.run_nodes.proofs.Askings.{asked_hears, asked_none, asked_vain, asks_inquire, asks_so, coordinator_there, ended_hears, ended_nobody, question_kept}
 use Rattle.run_nodes.proofs.Entries.{same_names}
 use Rattle.run_nodes.proofs.Loops.{flow_over, flow_turn, quiet_hears}
 use Rattle.run_nodes.proofs.Places.{get_map, it, kept_at_place, missing}
@@ -46,7 +43,7 @@ returns-in_default-clause-asked g c = λ over logs w v name serials many unanswe
 
 pub returns-in_default-receiver-clause-answered : goal.returns-in_default-receiver-clause-answered
 returns-in_default-receiver-clause-answered g c = λ over.
-    answer_over (names_of c.args.nodes.now) _ (kept_all g.D.Disk.state g.U.RecoveryUnits.state c.args.nodes.now) c.args.shared.now (g.E.Emit.shows c.args.out.now) (g.E.Emit.shows c.emit.new.self) c.emit.ensures.emits (λ said. refl)
+    answer_over (names_of c.args.nodes.now) _ (kept_all g.D.Disk.state g.U.RecoveryUnits.state c.args.nodes.now) c.args.shared.now (g.E.Emit.shows c.args.out.now) (g.E.Emit.shows c.emit.new.self) c.emit.ensures.emits (λ said. refl) refl refl refl
 
 pub answer-requires : goal.answer-requires
 answer-requires g c =
@@ -62,19 +59,8 @@ returns-in_default-answer-clause-told g c = λ over.
     let a = g.E.Emit.shows c.args.out.now in
     subst (λ ms. TurnTold (names_of c.args.nodes.now) ks c.args.shared.now a a ms c.args.shared.now) (sym c.answer.ensures.kept) (turn_none (names_of c.args.nodes.now) ks c.args.shared.now a)
 
-pub returns-in_default-receiver-2-clause-nodes : goal.returns-in_default-receiver-2-clause-nodes
-returns-in_default-receiver-2-clause-nodes g c = λ count h. c.answer.ensures.nodes count c.args.shared.now h
-
-pub returns-in_default-receiver-2-clause-answered : goal.returns-in_default-receiver-2-clause-answered
-returns-in_default-receiver-2-clause-answered g c = λ over.
-    let ks = kept_all g.D.Disk.state g.U.RecoveryUnits.state c.args.nodes.now in
-    let a = g.E.Emit.shows c.args.out.now in
-    let b = g.E.Emit.shows c.emit-in_default-receiver-2.new.self in
-    subst (λ ms. TurnOver (names_of c.args.nodes.now) ks c.args.shared.now a b ms c.args.shared.now) (sym c.answer.ensures.kept)
-    (answer_over (names_of c.args.nodes.now) _ ks c.args.shared.now a b c.emit-in_default-receiver-2.ensures.emits (λ said. refl))
-
 pub hear-requires-clause-there : goal.hear-requires-clause-there
-hear-requires-clause-there g c = within_names (names_of c.answer.new.self) c.in-Some-receiver-2.home c.in-Some-answer.answer.to c.in-Some-receiver-2.ensures.there
+hear-requires-clause-there g c = subst (λ ns. c.args.place < length ns) (sym c.answer.ensures.names) c.requires.there
 
 pub hear-requires-clause-nodes : goal.hear-requires-clause-nodes
 hear-requires-clause-nodes g c = (c.requires.nodes.0, c.requires.nodes.1, c.answer.ensures.nodes c.requires.nodes.0 c.args.shared.now c.requires.nodes.2)
@@ -94,7 +80,7 @@ returns-clause-told g c = λ on.
     let ls = kept_all state units c.hear.new.self in
     let m = message_of c.in-Some-answer.answer in
     subst (λ ms. TurnTold (names_of ns) ms s a b ls c.hear.new.shared) c.answer.ensures.kept
-    (flow_turn (names_of ns) c.in-Some-receiver-2.home (Hears m) (is_over c.hear.result) (kept_all state units c.answer.new.self) s a b ls c.hear.new.shared same c.requires.apart (quiet_hears m) c.hear.ensures.does on)
+    (flow_turn (names_of ns) c.args.place (Hears m) (is_over c.hear.result) (kept_all state units c.answer.new.self) s a b ls c.hear.new.shared same c.requires.apart (quiet_hears m) c.hear.ensures.does on)
 
 pub returns-clause-answered : goal.returns-clause-answered
 returns-clause-answered g c = λ over.
@@ -108,7 +94,7 @@ returns-clause-answered g c = λ over.
     let ls = kept_all state units c.hear.new.self in
     let m = message_of c.in-Some-answer.answer in
     subst (λ ms. TurnOver (names_of ns) ms s a b ls c.hear.new.shared) c.answer.ensures.kept
-    (flow_over (names_of ns) c.in-Some-receiver-2.home (Hears m) (is_over c.hear.result) (kept_all state units c.answer.new.self) s a b ls c.hear.new.shared same c.requires.apart (quiet_hears m) c.hear.ensures.does over)
+    (flow_over (names_of ns) c.args.place (Hears m) (is_over c.hear.result) (kept_all state units c.answer.new.self) s a b ls c.hear.new.shared same c.requires.apart (quiet_hears m) c.hear.ensures.does over)
 
 pub returns-in_default-receiver-clause-ended : goal.returns-in_default-receiver-clause-ended
 returns-in_default-receiver-clause-ended g c = λ over logs w v name serials many unanswered a h next.
@@ -146,33 +132,6 @@ returns-in_default-answer-clause-asked g c = λ on logs w v name serials many un
     let vain = co.2 kc.kept kc.here None (sym (c.answer.ensures.answer kc.kept kc.here) ∙ ap (option_map message_of) c.in_default-answer.is) in
     subst (λ ms. AskedOne logs w v c.args.place name serials many unanswered serial a x ms s) (sym c.answer.ensures.kept) (asked_vain logs w v c.args.place name serials many unanswered serial a x ks s h next q co.0 asks co.1 vain)
 
-pub returns-in_default-receiver-2-clause-ended : goal.returns-in_default-receiver-2-clause-ended
-returns-in_default-receiver-2-clause-ended g c = λ over logs w v name serials many unanswered a h next.
-    let state = g.D.Disk.state in
-    let units = g.U.RecoveryUnits.state in
-    let ns = c.args.nodes.now in
-    let ks = kept_all state units ns in
-    let s = c.args.shared.now in
-    let same = same_names state units c.requires.nodes.0 s ns.nodes.entries c.requires.nodes.2 in
-    let apart = subst AreApart same c.requires.apart in
-    let serial = serial_of c.args.serial.now in
-    let x = g.E.Emit.shows c.args.out.now in
-    let q = message_of c.in-Some.question in
-    let k = kept_within state units ns.nodes.entries c.args.place c.requires.there in
-    let asks = asks_so logs w v c.args.place name serials many unanswered serial a x ks s apart h k.0 k.1 (Some q) (sym (c.question.ensures k.0 k.1) ∙ ap (option_map message_of) c.in-Some.is) in
-    let there = ap (λ xs. slice_get xs c.in-Some-receiver.coordinator) (sym same) ∙ c.in-Some-receiver.ensures.there in
-    let co = coordinator_there logs w v c.args.place name serials many unanswered serial a x ks s apart h c.in-Some-receiver.coordinator q.to there q in
-    let kc = kept_at_place ks c.in-Some-receiver.coordinator q.to there in
-    let m = message_of c.in-Some-answer.answer in
-    let answer = co.2 kc.kept kc.here (Some m) (sym (c.answer.ensures.answer kc.kept kc.here) ∙ ap (option_map message_of) c.in-Some-answer.is) in
-    let home = comes_home w.disks name serials v unanswered h.lines h.world c.args.place h.node serial h.asking h.named h.within h.up h.at next q co.0 m asks co.1 answer in
-    let here = name_here logs w v c.args.place name serials many unanswered serial a x ks s apart h k.0 k.1 in
-    let lost = ap (is_among m.to) (sym c.answer.ensures.names) ∙ c.in_default-receiver-2.ensures.missing in
-    let i = it logs ks s h.world h.stands apart c.args.place k.0 k.1 in
-    let among = among_there name ks c.args.place k.0 k.1 (some_is k.0.name name (sym (get_map (λ (y : Kept). y.name) ks c.args.place k.0 k.1) ∙ here)) in
-    let no : true ≡ false = sym among ∙ ap (is_among name) (sym same) ∙ ap (λ y. is_among y (names_of ns)) (sym home) ∙ lost in
-    let none : ⊥ = cc in absurd none
-
 pub returns-clause-asked : goal.returns-clause-asked
 returns-clause-asked g c = λ on logs w v name serials many unanswered a h next.
     let state = g.D.Disk.state in
@@ -192,14 +151,10 @@ returns-clause-asked g c = λ on logs w v name serials many unanswered a h next.
     let kc = kept_at_place ks c.in-Some-receiver.coordinator q.to there in
     let m = message_of c.in-Some-answer.answer in
     let answer = co.2 kc.kept kc.here (Some m) (sym (c.answer.ensures.answer kc.kept kc.here) ∙ ap (option_map message_of) c.in-Some-answer.is) in
-    let home = comes_home w.disks name serials v unanswered h.lines h.world c.args.place h.node serial h.asking h.named h.within h.up h.at next q co.0 m asks co.1 answer in
-    let here = name_here logs w v c.args.place name serials many unanswered serial a x ks s apart h k.0 k.1 in
-    let at_home = ap (λ xs. slice_get xs c.in-Some-receiver-2.home) (sym same ∙ sym c.answer.ensures.names) ∙ c.in-Some-receiver-2.ensures.there ∙ ap (λ y. Some y) home in
-    let one = one_place ks c.in-Some-receiver-2.home c.args.place name apart at_home here in
     let b = g.E.Emit.shows c.hear.new.out in
     let ls = kept_all state units c.hear.new.self in
     let t = c.hear.new.shared in
-    let d = subst (λ e. DoesTask c.args.place (Hears m) e e ks s x b ls t) on (subst (λ p. DoesTask p (Hears m) (is_over c.hear.result) (is_over c.hear.result) ks s x b ls t) one (subst (λ ms. DoesTask c.in-Some-receiver-2.home (Hears m) (is_over c.hear.result) (is_over c.hear.result) ms s x b ls t) c.answer.ensures.kept c.hear.ensures.does)) in
+    let d = subst (λ e. DoesTask c.args.place (Hears m) e e ks s x b ls t) on (subst (λ ms. DoesTask c.args.place (Hears m) (is_over c.hear.result) (is_over c.hear.result) ms s x b ls t) c.answer.ensures.kept c.hear.ensures.does) in
     asked_hears c.worlds_stay_within.ensures.stays logs w v c.args.place name serials many unanswered serial a x b ks s ls t apart h next q co.0 m asks co.1 answer d
 
 pub returns-clause-ended : goal.returns-clause-ended
@@ -221,12 +176,8 @@ returns-clause-ended g c = λ over logs w v name serials many unanswered a h nex
     let kc = kept_at_place ks c.in-Some-receiver.coordinator q.to there in
     let m = message_of c.in-Some-answer.answer in
     let answer = co.2 kc.kept kc.here (Some m) (sym (c.answer.ensures.answer kc.kept kc.here) ∙ ap (option_map message_of) c.in-Some-answer.is) in
-    let home = comes_home w.disks name serials v unanswered h.lines h.world c.args.place h.node serial h.asking h.named h.within h.up h.at next q co.0 m asks co.1 answer in
-    let here = name_here logs w v c.args.place name serials many unanswered serial a x ks s apart h k.0 k.1 in
-    let at_home = ap (λ xs. slice_get xs c.in-Some-receiver-2.home) (sym same ∙ sym c.answer.ensures.names) ∙ c.in-Some-receiver-2.ensures.there ∙ ap (λ y. Some y) home in
-    let one = one_place ks c.in-Some-receiver-2.home c.args.place name apart at_home here in
     let b = g.E.Emit.shows c.hear.new.out in
     let ls = kept_all state units c.hear.new.self in
     let t = c.hear.new.shared in
-    let d = subst (λ e. DoesTask c.args.place (Hears m) e e ks s x b ls t) over (subst (λ p. DoesTask p (Hears m) (is_over c.hear.result) (is_over c.hear.result) ks s x b ls t) one (subst (λ ms. DoesTask c.in-Some-receiver-2.home (Hears m) (is_over c.hear.result) (is_over c.hear.result) ms s x b ls t) c.answer.ensures.kept c.hear.ensures.does)) in
+    let d = subst (λ e. DoesTask c.args.place (Hears m) e e ks s x b ls t) over (subst (λ ms. DoesTask c.args.place (Hears m) (is_over c.hear.result) (is_over c.hear.result) ms s x b ls t) c.answer.ensures.kept c.hear.ensures.does) in
     ended_hears logs w v c.args.place name serials many unanswered serial a x b ks s ls t apart h next q co.0 m asks co.1 answer d

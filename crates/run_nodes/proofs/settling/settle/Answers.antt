@@ -97,7 +97,7 @@ returns-in-Over-run_down_all-clause-tells g c =
     let y = g.E.Emit.shows c.run_down_all.new.out in
     let ls = kept_all state units c.run_down_all.new.nodes in
     let t = c.run_down_all.new.shared in
-    subst (λ xs. AnswersTogether xs Settle a y ks s ls t) (sym same) (told_behind (length (names_of ns)) ks s a x y ms u (names_of c.restart_all.new.nodes) ls t apart over told (c.in-Over-run_down_all.ensures.answered refl))
+    subst (λ xs. AnswersTogether xs Settle a y ks s ls t) (sym same) (told_behind (length (names_of ns)) ks s a x y ms u (names_of c.restart_all.new.nodes) ls t apart over told (c.in-Over-run_down_all.ensures.answered refl) (c.restart_all.ensures.names ∙ same))
 
 pub returns-in-Over-run_down_all-clause-serves : goal.returns-in-Over-run_down_all-clause-serves
 returns-in-Over-run_down_all-clause-serves g c = λ logs w h kept never.
@@ -149,7 +149,7 @@ returns-in-Over-ask_all-clause-tells g c =
     let r = c.ask_all.new.shared in
     let names = names_of c.restart_all.new.nodes in
     let asked = subst (λ xs. TurnOver xs ls t y z ps r) c.run_down_all.ensures.names (c.in-Over-ask_all.ensures.answered refl) in
-    subst (λ xs. AnswersTogether xs Settle a z ks s ps r) (sym same) (told_behind (length (names_of ns)) ks s a x z ms u names ps r apart over told (turn_over names ms u x y z ls t ps r (c.in-GoesOn-run_down_all.ensures.told refl) asked))
+    subst (λ xs. AnswersTogether xs Settle a z ks s ps r) (sym same) (told_behind (length (names_of ns)) ks s a x z ms u names ps r apart over told (turn_over names ms u x y z ls t ps r (c.in-GoesOn-run_down_all.ensures.told refl) asked) (c.restart_all.ensures.names ∙ same))
 
 pub returns-in-Over-ask_all-clause-serves : goal.returns-in-Over-ask_all-clause-serves
 returns-in-Over-ask_all-clause-serves g c = λ logs w h kept never.
@@ -206,8 +206,8 @@ returns-in-GoesOn-ask_all-clause-tells g c =
     let b = g.E.Emit.shows c.emit.new.self in
     let names = names_of c.restart_all.new.nodes in
     let asked = subst (λ xs. TurnTold xs ls t y z ps r) c.run_down_all.ensures.names (c.in-GoesOn-ask_all.ensures.told refl) in
-    let ends = turn_over names ls t y z b ps r ps r asked (answer_over names Normal ps r z b c.emit.ensures.emits (λ v. refl)) in
-    subst (λ xs. AnswersTogether xs Settle a b ks s ps r) (sym same) (told_behind (length (names_of ns)) ks s a x b ms u names ps r apart over told (turn_over names ms u x y b ls t ps r (c.in-GoesOn-run_down_all.ensures.told refl) ends))
+    let ends = turn_over names ls t y z b ps r ps r asked (answer_over names Normal ps r z b c.emit.ensures.emits (λ v. refl) refl refl refl) in
+    subst (λ xs. AnswersTogether xs Settle a b ks s ps r) (sym same) (told_behind (length (names_of ns)) ks s a x b ms u names ps r apart over told (turn_over names ms u x y b ls t ps r (c.in-GoesOn-run_down_all.ensures.told refl) ends) (c.restart_all.ensures.names ∙ same))
 
 pub returns-in-GoesOn-ask_all-clause-serves : goal.returns-in-GoesOn-ask_all-clause-serves
 returns-in-GoesOn-ask_all-clause-serves g c = λ logs w h kept never.

@@ -10,7 +10,7 @@ use Rattle.vms_model.specs.Ids.{Id}
 use Rattle.record_operations.specs.Asking.{written}
 use Rattle.recovery_units.specs.Calls as calls
 use Rattle.recovery_units.specs.State as calls_state
-use Rattle.recovery_units.specs.State.{AreLater, UnitsState, WorksFor, is_begun}
+use Rattle.recovery_units.specs.State.{AreLater, UnitsState, WorksFor, is_begun, locks_of}
 use Rattle.rms_units.specs.Calls.{ChangeBroke, ChangeRefused}
 use Rattle.rms_units.specs.State as rms
 use Rattle.rms_units.specs.State.{unit_of}
@@ -21,7 +21,7 @@ use Rattle.node_units.proofs.Answering.{both_with, err_as, ok_and, ok_of, ok_wit
 use Rattle.node_units.proofs.Changing.{change_err, change_ok, start_kept}
 use Rattle.node_units.proofs.Seeing.{order_seen, order_unseen}
 use Rattle.node_units.proofs.TokenLemmas.{HasUnit, active_of, is_found, own_unit, same_seen, stand_changes, stand_set}
-use Rattle.node_units.proofs.Working.{all_later, changes_later}
+use Rattle.node_units.proofs.Working.{all_later, changes_apart, changes_later}
 use Rattle.node_units.proofs.units.NodeUnitsRecoveryUnits.change.Goals as goal
 use Rattle.node_units.proofs.units.NodeUnitsRecoveryUnits.change.Goals.{After-stand_in_order-2}
 
@@ -111,6 +111,10 @@ returns-clause-works g c =
           (λ position d. changes_later (x g c) (place_in c.index_mut-begun.result.now.token) (own g c).unit c.requires.file.0 c.args.op.now c.args.bytes.now position (s g c) c.args.volume.now (t g c) c.change_held-done.new.volume (own g c).there (own g c).serial
           (d (own g c).unit c.requires.file.0 (own g c).there c.requires.file.1))
           (λ e k. subst (λ (z : rms.UnitsState). AreLater (x g c) (begun (s g c).units) (begun z.units)) (sym (k (own g c).unit c.requires.file.0 (own g c).there c.requires.file.1).0) (all_later (x g c) (begun (s g c).units))) c.change_held-done.ensures.done c.change_held-done.ensures.err;
+      locks = λ other apart. both_with _ _ (locks_of other (t g c).locks ≡ locks_of other (s g c).locks) c.change_held-done.result
+          (λ position d. changes_apart (x g c) (place_in c.index_mut-begun.result.now.token) (own g c).unit c.requires.file.0 c.args.op.now c.args.bytes.now position (s g c) c.args.volume.now (t g c) c.change_held-done.new.volume (own g c).serial
+          (d (own g c).unit c.requires.file.0 (own g c).there c.requires.file.1) other apart)
+          (λ e k. ap (λ (z : rms.UnitsState). locks_of other z.locks) (k (own g c).unit c.requires.file.0 (own g c).there c.requires.file.1).0) c.change_held-done.ensures.done c.change_held-done.ensures.err;
       log = refl;
     })
 

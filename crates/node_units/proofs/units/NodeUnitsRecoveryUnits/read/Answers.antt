@@ -1,5 +1,5 @@
 -- A read of a branch is one of the world's, and holds its key from then on.
-use Rattle.std.proofs.Common.{◌≡◌, ◌∙◌, ◌+◌, ◌<◌, ◌≤◌, OnOk, IfSome, false, length, get_or, ap, sym, subst, refl}
+use Rattle.std.proofs.Common.{◌≡◌, ◌∙◌, ◌+◌, ◌<◌, ◌≤◌, [], ◌∷◌, OnOk, IfSome, false, length, get_or, ap, sym, subst, refl}
 use Rattle.std.specs.Prelude.{IsSome, map, slice_set}
 use Rattle.std.specs.List.{position}
 use Rattle.std.proofs.lemmas.List.Quantifiers.{position-Some}
@@ -10,7 +10,8 @@ use Rattle.vms_base.specs.Keys.{key_of}
 use Rattle.vms_model.specs.Ids.{Id}
 use Rattle.recovery_units.specs.Calls as calls
 use Rattle.recovery_units.specs.State as calls_state
-use Rattle.recovery_units.specs.State.{AreLater, UnitsState, WorksFor, is_begun}
+use Rattle.recovery_units.specs.State.{AreLater, UnitsState, WorksFor, is_begun, locks_of}
+use Rattle.record_operations.specs.Asking.{read_file_in}
 use Rattle.rms_units.specs.Calls.{MayRead, ReadRefused}
 use Rattle.rms_units.specs.State as rms
 use Rattle.rms_units.specs.State.{unit_of}
@@ -24,7 +25,7 @@ use Rattle.node_units.proofs.ReadErrors.{reads_err}
 use Rattle.node_units.proofs.ReadLemmas.{reads_ok}
 use Rattle.node_units.proofs.Seeing.{order_seen, order_unseen}
 use Rattle.node_units.proofs.TokenLemmas.{HasUnit, active_of, is_found, own_unit, stand_as, stand_set}
-use Rattle.node_units.proofs.Working.{all_later}
+use Rattle.node_units.proofs.Working.{all_later, holds_apart}
 use Rattle.node_units.proofs.units.NodeUnitsRecoveryUnits.read.Goals as goal
 use Rattle.node_units.proofs.units.NodeUnitsRecoveryUnits.read.Goals.{After-stand_in_order-2}
 
@@ -108,7 +109,13 @@ returns-clause-serials g c = ap (λ (us : Units). map (λ (u : OpenUnit). u.seri
 pub returns-clause-works : goal.returns-clause-works
 returns-clause-works g c =
     subst (λ (z : UnitsState). WorksFor (x g c) z (seen (t g c) c.self.inside.log)) c.self.view_is
-    (record { units = subst (λ (us : Units). AreLater (x g c) (begun (s g c).units) (begun us)) (sym (units g c)) (all_later (x g c) (begun (s g c).units)); log = refl })
+    (record {
+      units = subst (λ (us : Units). AreLater (x g c) (begun (s g c).units) (begun us)) (sym (units g c)) (all_later (x g c) (begun (s g c).units));
+      locks = λ other apart. both_as _ _ (locks_of other (t g c).locks ≡ locks_of other (s g c).locks) c.read_held-done.result
+          (λ d. holds_apart (x g c) (own g c).unit (read_file_in c.args.op.now) (key_of c.read_held-done.new.found ∷ []) (s g c) (t g c) (own g c).serial (ap (λ (z : rms.UnitsState). z.locks) (d (own g c).unit c.requires.file.0 (own g c).there c.requires.file.1).held) other apart)
+          (λ e k. ap (λ (z : rms.UnitsState). locks_of other z.locks) (k (own g c).unit c.requires.file.0 (own g c).there c.requires.file.1).0) c.read_held-done.ensures.done c.read_held-done.ensures.err;
+      log = refl;
+    })
 
 pub returns-clause-same : goal.returns-clause-same
 returns-clause-same g c =

@@ -1,6 +1,0 @@
-use Rattle.std.proofs.Common.{◌≡◌}
-use Rattle.indexed_tree.proofs.tests.lists.Given as goal
-
--- the store is as it was
-abbrev pub invariant-loop-plain : goal.invariant-loop-plain
-invariant-loop-plain g l = l.store ≡ l.fn.store

@@ -1,0 +1,15 @@
+//! Names, lines, messages and locks, tried.
+#![tactic(auto)]
+
+#[cfg(test)]
+mod branch_keys_tests;
+#[cfg(test)]
+mod net_wire_tests;
+#[cfg(test)]
+mod record_locks_tests;
+#[cfg(test)]
+mod script_lang_tests;
+#[cfg(test)]
+mod transcript_tests;
+#[cfg(test)]
+mod vms_base_tests;

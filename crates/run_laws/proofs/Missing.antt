@@ -1,0 +1,561 @@
+-- Where END_TRANS is answered that a branch is missing, an identifier was authorised by which none joined.
+use Rattle.std.proofs.Common.{◌≡◌, ℕ, ◌⊎◌, List, [], ◌∷◌, ◌++◌, inl, inr, Bool, true, false, not, ◌&&◌, ◌||◌, Option, Some, None, if◌then◌else◌, refl, sym, ◌∙◌, ap, subst}
+use Rattle.std.specs.Option.{option_map, option_and_then}
+use Rattle.std.proofs.lemmas.Bool.{both_ways}
+use Rattle.vms_model.specs.Ids.{Id}
+use Rattle.transcript_model.specs.Lines as line
+use Rattle.transcript_model.specs.Lines.{Line, Cause}
+use Rattle.script_model.specs.Statements.{Statement, At, Deliver, LinkDown, Settle, Request, StartTrans, AddBranch, StartBranch, Clock, EndTrans, Reading, Blank, Says, Bad}
+use Rattle.script_model.specs.Grammar.{reading}
+use Rattle.commit_protocol.specs.Agreement.{Distinct}
+use Rattle.commit_protocol.specs.Messages as message
+use Rattle.commit_protocol.specs.Messages.{Message, same_id}
+use Rattle.commit_protocol.specs.Table as table
+use Rattle.commit_protocol.specs.Table.{Active, Branch, Child, Key as BranchKey, branch_serials, child, first, put, same_key}
+use Rattle.commit_protocol.specs.Allowed.{is_prepared}
+use Rattle.commit_protocol.specs.Rows as rows
+use Rattle.commit_protocol.specs.Rows.{Event, Got, all_taken, authorise_row, authorise_state, blank, has_bid, row}
+use Rattle.commit_protocol.specs.World.{In}
+use Rattle.commit_protocol.proofs.Lists.{find-key, in_left, in_right, same_id-refl, same_key-refl, same_key-true}
+use Rattle.run_model.specs.World as world
+use Rattle.run_model.specs.World.{World, Shared, Node, Label, DiskCounts, find_node, labelled, next_id, opened, tm_of, with_node}
+use Rattle.run_model.specs.Answers as answers
+use Rattle.run_model.specs.Answers.{Row, Task, is_first_active, made_label, new_label, unsettled_label, Serves, Ticks, Takes, Hears, LosesLink, RunsDown, Restarts, begins, branch_labelled, powers, refused_before_reading, service, table_rows, task_service, told_if, told_rows, touches}
+use Rattle.run_model.specs.Steps.{Choice, TaskAllowed, TaskEffect, lines_of_rows, succeeded, task_effect}
+use Rattle.run_model.specs.Statements.{Part, PartEffect, Begins, Phase, Phases, Step, RoseAt, begun_with, message_at, named_node, part_effect, phases_of, put_into, refused_at_once, stops_at, where_up}
+use Rattle.run_model.specs.StepLaws.{TaskAt, task_of}
+use Rattle.run_model.specs.Transcript.{Entry, Legal, AreOpening, Turn as LineTurn}
+use Rattle.run_model.proofs.NodeLists.{clash, put_node, some_is}
+use Rattle.run_model.proofs.PartLemmas.{EachPhase, phases_fold}
+use Rattle.run_model.proofs.PartTasks.{View, Doing, Fixed, each_up, view}
+use Rattle.run_model.proofs.Refusing.{same_last}
+use Rattle.run_model.proofs.TaskLemmas.{effect_name, rows_name}
+use Rattle.world_laws.proofs.TableLemmas.{in_serials}
+use Rattle.world_laws.proofs.UpLemmas.{differ}
+use Rattle.run_laws.specs.Naming.{ids_here, ids_told}
+use Rattle.run_laws.specs.Causes.{HasBegun, HasJoined, JoinsBy, WasAuthorised, WasSent}
+use Rattle.run_laws.specs.Laws.{MissingHold}
+use Rattle.run_laws.specs.SaidLaws.{SaidThere}
+use Rattle.run_laws.proofs.CausesHold.{first_none}
+use Rattle.run_laws.proofs.Coming.{Came, Never, effect_came}
+use Rattle.run_laws.proofs.Contents.{ArePutting, Comes, From, IsTold, TaskAccepts, TaskNotes, bare, begins_none, rows_come}
+use Rattle.run_laws.proofs.Drawing.{next_new}
+use Rattle.run_laws.proofs.Ending.{active_is, active_unprepared, done, ends_abort, named_branch, standing}
+use Rattle.run_laws.proofs.EachRow.{is_voteless}
+use Rattle.run_laws.proofs.Joining.{HearsJoin, TakesJoin, accepting, effect_joined, take_joined}
+use Rattle.run_laws.proofs.Directed.{neither}
+use Rattle.run_laws.proofs.Labelling.{Succeeds, label_of, refused_rest, request_ends, served_up}
+use Rattle.run_laws.proofs.Making.{state_holds}
+use Rattle.run_laws.proofs.Moments.{opening_found}
+use Rattle.run_laws.proofs.Named.{Ended, Refused, Turned, Named, ended, said_later}
+use Rattle.run_laws.proofs.NamedRuns.{legal_named}
+use Rattle.run_laws.proofs.Noting.{find_in}
+use Rattle.run_laws.proofs.PreparedLines.{thin_done}
+use Rattle.run_laws.proofs.ReadOnlyRuns.{ids_behind}
+use Rattle.run_laws.proofs.ShownSettled.{answer_voteless, in_append}
+use Rattle.run_laws.proofs.SoundWorlds.{IsSound, legal_sound, opening_sound}
+use Rattle.run_laws.proofs.ToldParts.{HasHeirs, IsThinPart, IsThinning, Thins, clock_heirs, found_after, heirs_then, link_phases, phases_thin, same_heirs, settle_phases, thins_disks}
+use Rattle.run_laws.proofs.ToldRuns.{ClockEnds, Unset, Set, clock_ends}
+use Rattle.run_laws.proofs.TurnsTell.{HaveSteps, found_step, last_is, legal_told}
+use Rattle.run_laws.proofs.Wires.{was_sent}
+
+-- What is told of the undecided transactions.
+
+-- Of a first branch: each branch that joined it did so by a Join whose identifier it has; and each identifier that it has of one to come was authorised.
+pub record BranchJoins (es : List Entry) (b : Branch) : Type 0 where
+  pub joins : (before : List Entry) (s : Statement) (events : List Line) (answer : Line) (serial : Id) → SaidThere es before s events answer → In (line.Joined b.key.tid serial) events →
+      (given : Id) × JoinsBy before s b.key.tid serial given × (has_bid given b.accepted ≡ true)
+  pub bids : (bid : Id) → In bid b.bids → WasAuthorised es b.key.tid bid
+
+pub record AreJoined (es : List Entry) (w : World) : Type 0 where
+  pub told : (node : List ℕ) (n : Node) → find_node node w.nodes ≡ Some n → (b : Branch) → In b n.volatile.branches → is_prepared b.state ≡ false → b.key ≡ first b.key.tid → BranchJoins es b
+  pub drawn : (tid serial : Id) → HasJoined es tid serial → In tid (ids_told es)
+
+-- Entries.
+
+said_parts : (e : Entry) (es before : List Entry) (s : Statement) (events : List Line) (answer : Line) → SaidThere (e ∷ es) before s events answer → ((before ≡ es) × (reading e.source.text ≡ Says s) × (e.lines ≡ events ++ answer ∷ [])) ⊎ SaidThere es before s events answer
+said_parts e es before s events answer there = go there.after there.stands
+  where
+    go : (after : List Entry) → e ∷ es ≡ after ++ there.entry ∷ before → ((before ≡ es) × (reading e.source.text ≡ Says s) × (e.lines ≡ events ++ answer ∷ [])) ⊎ SaidThere es before s events answer
+    go [] stands =
+        let same : e ≡ there.entry = cc in
+        let rest : es ≡ before = cc in
+        inl (sym rest, ap (λ (y : Entry). reading y.source.text) same ∙ there.said, ap (λ (y : Entry). y.lines) same ∙ there.shown)
+    go (x ∷ after) stands =
+        let rest : es ≡ after ++ there.entry ∷ before = cc in
+        inr (record { after = after; entry = there.entry; stands = rest; said = there.said; shown = there.shown })
+
+authorised_later : (e : Entry) (es : List Entry) (tid bid : Id) → WasAuthorised es tid bid → WasAuthorised (e ∷ es) tid bid
+authorised_later e es tid bid (before, label, other, new, l, there, found, of) = (before, label, other, new, l, said_later e es before _ [] (line.NormalId bid) there, found, of)
+
+ids_there : (es before : List Entry) (s : Statement) (events : List Line) (answer : Line) (id : Id) → SaidThere es before s events answer → In id (ids_here (Says s) (events ++ answer ∷ [])) → In id (ids_told es)
+ids_there es before s events answer id there i =
+    subst (λ xs. In id (ids_told xs)) (sym there.stands) (ids_behind there.after (there.entry ∷ before) id
+    (in_left id (ids_here (reading there.entry.source.text) there.entry.lines) (ids_told before) (subst (λ r. In id (ids_here r there.entry.lines)) (sym there.said) (subst (λ ls. In id (ids_here (Says s) ls)) (sym there.shown) i))))
+
+-- a transaction whose first branch began was drawn
+begun_drawn : (es : List Entry) (tid serial : Id) → serial ≡ tid → HasBegun es tid serial → In tid (ids_told es)
+begun_drawn es tid serial same (inl (label, is, (before, seconds, there))) = ids_there es before (At tid.node (StartTrans label seconds)) [] (line.NormalId tid) tid there (inl refl)
+begun_drawn es tid serial same (inr (before, label, events, l, there, found, of)) =
+    subst (λ i. In i (ids_told es)) same (ids_there es before (At serial.node (StartBranch label)) events (line.Pending (serial ∷ [])) serial there
+    (subst (λ o. In serial (Rattle.run_laws.specs.Naming.serial_begun o)) (sym (last_is None events (line.Pending (serial ∷ [])))) (inl refl)))
+
+-- a branch that comes of another, and what this entry tells of it
+later_joins : (e : Entry) (es : List Entry) (b x : Branch) → x.key ≡ b.key → ((bid : Id) → has_bid bid b.accepted ≡ true → has_bid bid x.accepted ≡ true) → ((bid : Id) → In bid x.bids → In bid b.bids ⊎ WasAuthorised (e ∷ es) b.key.tid bid) →
+    ((s : Statement) (serial : Id) → reading e.source.text ≡ Says s → In (line.Joined x.key.tid serial) e.lines → (given : Id) × JoinsBy es s x.key.tid serial given × (has_bid given x.accepted ≡ true)) → BranchJoins es b → BranchJoins (e ∷ es) x
+later_joins e es b x key taken bids here t = record {
+  joins = λ before s events answer serial there i. elim (said_parts e es before s events answer there) [
+    | inl now ↦ (
+        let r = here s serial now.1 (subst (In (line.Joined x.key.tid serial)) (sym now.2) (in_left (line.Joined x.key.tid serial) events (answer ∷ []) i)) in
+        (r.0, subst (λ es. JoinsBy es s x.key.tid serial r.0) (sym now.0) r.1, r.2)
+        )
+    | inr old ↦ (
+        let r = t.joins before s events answer serial old (subst (λ (k : BranchKey). In (line.Joined k.tid serial) events) key i) in
+        (r.0, subst (λ (k : BranchKey). JoinsBy before s k.tid serial r.0) (sym key) r.1, taken r.0 r.2)
+        )
+  ];
+  bids = λ bid i. subst (λ (k : BranchKey). WasAuthorised (e ∷ es) k.tid bid) (sym key) (elim (bids bid i) [ inl j ↦ authorised_later e es b.key.tid bid (t.bids bid j) | inr a ↦ a ]);
+}
+
+first_key : (b x : Branch) → x.key ≡ b.key → x.key ≡ first x.key.tid → b.key ≡ first b.key.tid
+first_key b x key is = sym key ∙ is ∙ ap (λ (k : BranchKey). first k.tid) key
+
+drawn_later : (e : Entry) (es : List Entry) (w : World) → AreJoined es w → ((tid serial : Id) → In (line.Joined tid serial) e.lines → In tid (ids_told (e ∷ es))) → (tid serial : Id) → HasJoined (e ∷ es) tid serial → In tid (ids_told (e ∷ es))
+drawn_later e es w h here tid serial (f, inl same, i) = here tid serial (subst (λ (x : Entry). In (line.Joined tid serial) x.lines) same i)
+drawn_later e es w h here tid serial (f, inr j, i) = in_right tid (ids_here (reading e.source.text) e.lines) (ids_told es) (h.drawn tid serial (f, j, i))
+
+quiet_joined : (e : Entry) (es : List Entry) (w v : World) → ((tid serial : Id) → In (line.Joined tid serial) e.lines → ⊥) → HasHeirs w v → AreJoined es w → AreJoined (e ∷ es) v
+quiet_joined e es w v none f h = record {
+  told = λ node m found x i u is.
+      let y = f.node node m found in
+      let b = y.2 x i u in
+      later_joins e es b.0 x b.3.key b.3.taken (λ bid j. inl (b.3.bids bid j)) (λ s serial said j. absurd (none x.key.tid serial j)) (h.told node y.0 y.1 b.0 b.1 b.2 (first_key b.0 x b.3.key is));
+  drawn = drawn_later e es w h (λ tid serial i. absurd (none tid serial i));
+}
+
+-- Statements by which none joins.
+
+thin_unjoined : (t : Task) → IsThinning t → HearsJoin t → ⊥
+thin_unjoined t thin (x, inl e, kind) = let no : false ≡ true = subst IsThinning e thin in let none : ⊥ = cc in none
+thin_unjoined t thin (x, inr e, kind) = elim (subst IsThinning e thin) [ inl c ↦ (let clash : message.Commit ≡ message.Join = sym c ∙ kind in let no : ⊥ = cc in no) | inr a ↦ (let clash : message.Abort ≡ message.Join = sym a ∙ kind in let no : ⊥ = cc in no) ]
+
+part_unjoined : (u : World) (p : Part) (c : Choice) → IsThinPart p → (tid serial : Id) → In (line.Joined tid serial) (part_effect u p c).lines → ⊥
+part_unjoined u p c thin tid serial i = go (view u p)
+  where
+    go : View u p → ⊥
+    go (Fixed answer ends kind is) = subst (λ (e : PartEffect). In (line.Joined tid serial) e.lines) (is c) i
+    go (Doing other t n named found does may) = thin_unjoined t (thin_done u p other t thin named) (effect_joined tid serial u.shared (stops_at other u) n t c (subst (λ (e : PartEffect). In (line.Joined tid serial) e.lines) (does c) i))
+
+phases_unjoined : (disks : List DiskCounts) (ps : List Phase) → EachPhase IsThinPart ps → (w : World) (lines : List Line) (answer : Line) (v : World) → Phases ps disks w line.Normal lines answer v → (tid serial : Id) → In (line.Joined tid serial) lines → ⊥
+phases_unjoined disks ps ok w lines answer v d tid serial i = phases_fold disks IsThinPart (λ g. Unit {0}) (λ u rest a x. In (line.Joined tid serial) rest → ⊥)
+    (λ u g q j. j)
+    (λ u p c o allowed ends j. part_unjoined u p c o tid serial j)
+    (λ u p c o allowed on. (tt, λ rest a x more j. elim (in_append (line.Joined tid serial) (part_effect u p c).lines rest j) [ inl k ↦ part_unjoined u p c o tid serial k | inr k ↦ more k ]))
+    ps ok w line.Normal lines answer v tt d i
+
+module _ (e : Entry) (es : List Entry) (w v : World) (s : Statement) (step : Step w s e.lines v) where
+  -- a line of the answer tells of none
+  in_events : (tid serial : Id) → In (line.Joined tid serial) e.lines → In (line.Joined tid serial) step.events
+  in_events tid serial i = elim (in_append (line.Joined tid serial) step.events (step.answer ∷ []) (subst (In (line.Joined tid serial)) step.shows i)) [
+    | inl j ↦ j
+    | inr j ↦ elim j [ inl same ↦ (let clash : false ≡ true = ap is_voteless same ∙ answer_voteless w v s e.lines step in let no : ⊥ = cc in absurd no) | inr none ↦ absurd none ]
+  ]
+
+  -- one that is one task, which is no delivery
+  task_unjoined : (node : List ℕ) (t : Task) → task_of w s ≡ Some (record { node = node; task = t }) → ((x : Message) → t ≡ Takes x → ⊥) → ((x : Message) → t ≡ Hears x → ⊥) → (tid serial : Id) → In (line.Joined tid serial) e.lines → ⊥
+  task_unjoined node t is takes hears tid serial i = go (ended w v s e.lines node t is step)
+    where
+      told : HearsJoin t → ⊥
+      told (x, inl same, kind) = takes x same
+      told (x, inr same, kind) = hears x same
+
+      go : Ended w v node t e.lines → ⊥
+      go (Refused refusal r shows goes) = let j = in_events tid serial i in subst (In (line.Joined tid serial)) (same_last step.events [] step.answer refusal (sym step.shows ∙ shows)).0 j
+      go (Turned n found c allowed shows goes) =
+          let f = task_effect w.shared (stops_at node w) n t c in
+          told (effect_joined tid serial w.shared (stops_at node w) n t c (subst (In (line.Joined tid serial)) (same_last step.events f.lines step.answer f.answer (sym step.shows ∙ shows)).0 (in_events tid serial i)))
+
+-- Branches of a task.
+
+put_one : (b x : Branch) (bs : List Branch) → Distinct (branch_serials bs) → In x (put b bs) → x.key ≡ b.key → x ≡ b
+put_one b x [] d i key = elim i [ inl same ↦ same | inr none ↦ absurd none ]
+put_one b x (y ∷ bs) d i key = go (same_key y.key b.key) refl i (λ j. put_one b x bs d.1 j key)
+  where
+    go : (t : Bool) → same_key y.key b.key ≡ t → In x (if t then b ∷ bs else y ∷ put b bs) → (In x (put b bs) → x ≡ b) → x ≡ b
+    go true is (inl same) more = same
+    go true is (inr j) more = absurd (d.0 (subst (λ i. In i (branch_serials bs)) (ap (λ (k : BranchKey). k.serial) (key ∙ sym (same_key-true y.key b.key is))) (in_serials x bs j)))
+    go false is (inl same) more = absurd (clash _ (ap (λ k. same_key k b.key) (ap (λ (z : Branch). z.key) (sym same) ∙ key) ∙ same_key-refl b.key) is)
+    go false is (inr j) more = more j
+
+bid_last : (bid : Id) (c : Child) (cs : List Child) → c.bid ≡ bid → has_bid bid (cs ++ c ∷ []) ≡ true
+bid_last bid c [] e = ap (λ t. t || false) (ap (λ x. same_id x bid) e ∙ same_id-refl bid)
+bid_last bid c (d ∷ cs) e = go (same_id d.bid bid) (bid_last bid c cs e)
+  where
+    go : (t : Bool) → has_bid bid (cs ++ c ∷ []) ≡ true → t || has_bid bid (cs ++ c ∷ []) ≡ true
+    go true more = refl
+    go false more = more
+
+bid_stays : (bid : Id) (cs ds : List Child) → has_bid bid cs ≡ true → has_bid bid (cs ++ ds) ≡ true
+bid_stays bid [] ds h = let no : ⊥ = cc in absurd no
+bid_stays bid (c ∷ cs) ds h = go (same_id c.bid bid) h (bid_stays bid cs ds)
+  where
+    go : (t : Bool) → t || has_bid bid cs ≡ true → (has_bid bid cs ≡ true → has_bid bid (cs ++ ds) ≡ true) → t || has_bid bid (cs ++ ds) ≡ true
+    go true k more = refl
+    go false k more = more k
+
+-- what an unprepared branch that a task leaves comes of
+record Origin (s : Shared) (n : Node) (t : Task) (x : Branch) : Type 0 where
+  b : Branch
+  there : In b n.volatile.branches
+  open_still : is_prepared b.state ≡ false
+  key : x.key ≡ b.key
+  taken : (bid : Id) → has_bid bid b.accepted ≡ true → has_bid bid x.accepted ≡ true
+  bids : (bid : Id) → In bid x.bids → In bid b.bids ⊎ IsTold s n t (rows.Authorise b.key.tid bid)
+
+bare_taken : (x y : Branch) → bare x ≡ bare y → (bid : Id) → has_bid bid y.accepted ≡ true → has_bid bid x.accepted ≡ true
+bare_taken x y same bid h = ap (λ (z : Branch). has_bid bid z.accepted) same ∙ h
+
+bare_bids : (x y : Branch) → bare x ≡ bare y → (bid : Id) → In bid x.bids → In bid y.bids
+bare_bids x y same bid i = subst (In bid) (ap (λ (z : Branch). z.bids) same) i
+
+origin : (s : Shared) (n : Node) (t : Task) (ls : List Line) (x : Branch) → is_prepared x.state ≡ false → From (TaskNotes s n t) (TaskAccepts s n t) ls n.volatile.branches x → Origin s n t x
+origin s n t ls x u (y, same, inl old) = record {
+  b = y;
+  there = old;
+  open_still = ap (λ (z : Branch). is_prepared z.state) (sym same) ∙ u;
+  key = ap (λ (z : Branch). z.key) same;
+  taken = bare_taken x y same;
+  bids = λ bid i. inl (bare_bids x y same bid i);
+}
+origin s n t ls x u (y, same, inr (inl (ev, is, (b, i, open_b, d)))) = record {
+  b = b;
+  there = i;
+  open_still = open_b;
+  key = ap (λ (z : Branch). z.key) same ∙ d.key;
+  taken = λ bid h. bare_taken x y same bid (d.taken bid h);
+  bids = λ bid j. elim (d.bids bid (bare_bids x y same bid j)) [ inl old ↦ inl old | inr by ↦ inr (subst (IsTold s n t) by is) ];
+}
+origin s n t ls x u (y, same, inr (inr (b, c, (ev, is, a), shown, put_so))) =
+    let same_b : bare x ≡ bare (record b { accepted = b.accepted ++ c ∷ [] }) = same ∙ ap bare put_so in
+    record {
+      b = b;
+      there = a.0;
+      open_still = a.1;
+      key = ap (λ (z : Branch). z.key) same_b;
+      taken = λ bid h. bare_taken x (record b { accepted = b.accepted ++ c ∷ [] }) same_b bid (bid_stays bid b.accepted (c ∷ []) h);
+      bids = λ bid i. inl (bare_bids x (record b { accepted = b.accepted ++ c ∷ [] }) same_b bid i);
+    }
+
+-- Statements.
+module _ (e : Entry) (es : List Entry) (w v : World) (h : AreJoined es w) (named : Named es w) (named_v : Named (e ∷ es) v) (sound : IsSound w) (steps : HaveSteps w.nodes) (sent : (number : ℕ) (m : Message) → message_at number w.shared.wire ≡ Some m → WasSent es number m) where
+  -- one that is one task, by which no branch begins
+  module _ (s : Statement) (said : reading e.source.text ≡ Says s) (node : List ℕ) (t : Task) (is : task_of w s ≡ Some (record { node = node; task = t })) (step : Step w s e.lines v) (begins : begins_none t ≡ true)
+      (authorised : (b : Branch) (bid : Id) → (n : Node) → find_node node w.nodes ≡ Some n → In b n.volatile.branches → is_prepared b.state ≡ false → b.key ≡ first b.key.tid → IsTold w.shared n t (rows.Authorise b.key.tid bid) → WasAuthorised (e ∷ es) b.key.tid bid)
+      (delivers : (x : Message) → t ≡ Takes x → (number : ℕ) × (s ≡ Deliver number) × (message_at number w.shared.wire ≡ Some x)) (hears : (x : Message) → t ≡ Hears x → ⊥) where
+    module _ (n : Node) (found : find_node node w.nodes ≡ Some n) (c : Choice) (allowed : TaskAllowed w.shared (stops_at node w) n t (λ cause. RoseAt w node cause v.disks) c)
+        (shows : e.lines ≡ (task_effect w.shared (stops_at node w) n t c).lines ++ (task_effect w.shared (stops_at node w) n t c).answer ∷ []) (goes : v ≡ record (put_into w node (task_effect w.shared (stops_at node w) n t c)).world { disks = v.disks }) where
+      abbrev eff : TaskEffect
+      eff = task_effect w.shared (stops_at node w) n t c
+
+      came : Came w.shared t (task_effect w.shared (stops_at node w) n t c).lines n (task_effect w.shared (stops_at node w) n t c).node
+      came = effect_came w.shared (stops_at node w) n t c begins (found_step node w.nodes n steps found)
+
+      there : (name : List ℕ) (x : Node) → find_node name v.nodes ≡ Some x → (find_node name w.nodes ≡ Some x) ⊎ ((find_node name w.nodes ≡ Some n) × (x ≡ (task_effect w.shared (stops_at node w) n t c).node))
+      there = found_after w v node n (task_effect w.shared (stops_at node w) n t c).node (effect_name w.shared (stops_at node w) n t c) found (ap (λ (y : World). y.nodes) goes)
+
+      lines_in : (tid serial : Id) → In (line.Joined tid serial) e.lines → In (line.Joined tid serial) (task_effect w.shared (stops_at node w) n t c).lines
+      lines_in tid serial i = subst (In (line.Joined tid serial)) (same_last step.events (task_effect w.shared (stops_at node w) n t c).lines step.answer (task_effect w.shared (stops_at node w) n t c).answer (sym step.shows ∙ shows)).0 (in_events e es w v s step tid serial i)
+
+      -- the Join that was taken, and what it left
+      record Takes_it (tid serial : Id) : Type 0 where
+        m : Message
+        number : ℕ
+        says : s ≡ Deliver number
+        at : message_at number w.shared.wire ≡ Some m
+        kind : m.kind ≡ message.Join
+        up : n.up ≡ true
+        joins : TakesJoin tid serial n m (task_effect w.shared (stops_at node w) n t c).node.volatile.branches
+
+      takes_it : (tid serial : Id) → In (line.Joined tid serial) e.lines → Takes_it tid serial
+      takes_it tid serial i = by (effect_joined tid serial w.shared (stops_at node w) n t c (lines_in tid serial i))
+        where
+          by : HearsJoin t → Takes_it tid serial
+          by (x, inr same, kind) = absurd (hears x same)
+          by (x, inl same, kind) =
+              let d = delivers x same in
+              record {
+                m = x;
+                number = d.0;
+                says = d.1;
+                at = d.2;
+                kind = kind;
+                up = served_up n None (subst (λ y. refused_before_reading w.shared n (task_service y) ≡ None) same (first_none w.shared (stops_at node w) n t (λ cause. RoseAt w node cause v.disks) c (line.Joined tid serial) allowed (lines_in tid serial i)));
+                joins = subst (λ y. TakesJoin tid serial n x (task_effect w.shared (stops_at node w) n y c).node.volatile.branches) (sym same)
+                    (take_joined tid serial w.shared (stops_at node w) n x kind c (subst (λ y. In (line.Joined tid serial) (task_effect w.shared (stops_at node w) n y c).lines) same (lines_in tid serial i)));
+              }
+
+      key_of_it : (tid serial : Id) (k : Takes_it tid serial) → k.joins.b.key ≡ first k.m.tid
+      key_of_it tid serial k = find-key (first k.m.tid) n.volatile.branches k.joins.b k.joins.found
+
+      tid_of_it : (tid serial : Id) (k : Takes_it tid serial) → tid ≡ k.m.tid
+      tid_of_it tid serial k = k.joins.of ∙ ap (λ (j : BranchKey). j.tid) (key_of_it tid serial k)
+
+      in_it : (tid serial : Id) (k : Takes_it tid serial) → In k.joins.b n.volatile.branches
+      in_it tid serial k = find_in (first k.m.tid) n.volatile.branches k.joins.b k.joins.found
+
+      drawn_it : (tid serial : Id) → In (line.Joined tid serial) e.lines → In tid (ids_told (e ∷ es))
+      drawn_it tid serial i =
+          let k = takes_it tid serial i in
+          let b = k.joins.b in
+          let key = key_of_it tid serial k in
+          in_right tid (ids_here (reading e.source.text) e.lines) (ids_told es)
+          (subst (λ y. In y (ids_told es)) (sym k.joins.of) (begun_drawn es b.key.tid b.key.serial (ap (λ (j : BranchKey). j.serial) key ∙ sym (ap (λ (j : BranchKey). j.tid) key)) (named.born node n found b.key (b, in_it tid serial k, k.joins.open_still, refl))))
+
+      -- the first branch has the identifier
+      joins_now : (name : List ℕ) (m : Node) (x : Branch) → find_node name v.nodes ≡ Some m → In x m.volatile.branches → is_prepared x.state ≡ false → x.key ≡ first x.key.tid → (st : Statement) (serial : Id) → reading e.source.text ≡ Says st → In (line.Joined x.key.tid serial) e.lines →
+          (given : Id) × JoinsBy es st x.key.tid serial given × (has_bid given x.accepted ≡ true)
+      joins_now name m x is_m i u key_x st serial says i_line =
+          let k = takes_it x.key.tid serial i_line in
+          let b = k.joins.b in
+          let key_b = key_of_it x.key.tid serial k in
+          let tid = tid_of_it x.key.tid serial k in
+          let key : x.key ≡ b.key = key_x ∙ ap first tid ∙ sym key_b in
+          let name_is : name ≡ node = sym (named_v.home name m is_m x.key (x, i, u, refl)) ∙ ap (λ (j : BranchKey). j.serial.node) key ∙ named.home node n found b.key (b, in_it x.key.tid serial k, k.joins.open_still, refl) in
+          let at_node : find_node node v.nodes ≡ Some (task_effect w.shared (stops_at node w) n t c).node = ap (λ (y : World). find_node node y.nodes) goes ∙ put_node node n (task_effect w.shared (stops_at node w) n t c).node w.nodes (effect_name w.shared (stops_at node w) n t c) found in
+          let same_m : m ≡ (task_effect w.shared (stops_at node w) n t c).node = some_is m _ (sym is_m ∙ ap (λ y. find_node y v.nodes) name_is ∙ at_node) in
+          let in_put : In x (put (accepting b k.joins.bid k.m) n.volatile.branches) = subst (In x) k.joins.puts (subst (λ (y : Node). In x y.volatile.branches) same_m i) in
+          let one : x ≡ accepting b k.joins.bid k.m = put_one (accepting b k.joins.bid k.m) x n.volatile.branches (differ n ((sound.kept node n found).runs k.up).0.table) in_put key in (
+            k.joins.bid,
+            (k.number, k.m, says_is st says k.says, sent k.number k.m k.at, k.kind, sym tid, sym k.joins.is, k.joins.named),
+            ap (λ (y : Branch). has_bid k.joins.bid y.accepted) one ∙ bid_last k.joins.bid (record { bid = k.joins.bid; serial = k.m.serial; vote = None }) b.accepted refl,
+          )
+        where
+          says_is : {number : ℕ} (st : Statement) → reading e.source.text ≡ Says st → s ≡ Deliver number → st ≡ Deliver number
+          says_is st says is = let same : Says st ≡ Says s = sym says ∙ said in let one : st ≡ s = cc in one ∙ is
+
+      turned_joined : AreJoined (e ∷ es) v
+      turned_joined = record {
+        told = λ name m is_m x i u key. elim (there name m is_m) [
+          | inl old ↦ later_joins e es x x refl (λ bid t. t) (λ bid j. inl j) (λ st serial says j. joins_now name m x is_m i u key st serial says j) (h.told name m old x i u key)
+          | inr both ↦ (
+              let j = subst (λ (y : Node). In x y.volatile.branches) both.1 i in
+              let o = origin w.shared n t (task_effect w.shared (stops_at node w) n t c).lines x u (came.from x j u) in
+              later_joins e es o.b x o.key o.taken
+              (λ bid k. elim (o.bids bid k) [ inl old ↦ inl old | inr by ↦ inr (authorised o.b bid n found o.there o.open_still (first_key o.b x o.key key) by) ])
+              (λ st serial says k. joins_now name m x is_m i u key st serial says k) (h.told name n both.0 o.b o.there o.open_still (first_key o.b x o.key key))
+              )
+        ];
+        drawn = drawn_later e es w h drawn_it;
+      }
+
+    one_joined : AreJoined (e ∷ es) v
+    one_joined = go (ended w v s e.lines node t is step)
+      where
+        go : Ended w v node t e.lines → AreJoined (e ∷ es) v
+        go (Refused refusal r shows goes) = quiet_joined e es w v (λ tid serial i. subst (In (line.Joined tid serial)) (same_last step.events [] step.answer refusal (sym step.shows ∙ shows)).0 (in_events e es w v s step tid serial i)) (same_heirs w v (ap (λ (y : World). y.nodes) goes)) h
+        go (Turned n found c allowed shows goes) = turned_joined n found c allowed shows goes
+
+  -- ADD_BRANCH
+  authorises : (node label other new : List ℕ) → reading e.source.text ≡ Says (At node (AddBranch label other new)) → Succeeds w v node (AddBranch label other new) e.lines →
+      (b : Branch) (bid : Id) → (n : Node) → find_node node w.nodes ≡ Some n → In b n.volatile.branches → is_prepared b.state ≡ false → b.key ≡ first b.key.tid → IsTold w.shared n (Serves (AddBranch label other new)) (rows.Authorise b.key.tid bid) → WasAuthorised (e ∷ es) b.key.tid bid
+  authorises node label other new said x b bid n found i u key (y, labelled_y, is) =
+      let same_n : x.n ≡ n = some_is x.n n (sym x.found ∙ found) in
+      let tid : b.key.tid ≡ y.key.tid = cc in
+      let id : bid ≡ next_id n = cc in
+      let nb = named_branch es w node label n y named found labelled_y (open_of y n labelled_y (subst (λ (z : Node). refused_before_reading w.shared z (service (AddBranch label other new)) ≡ None) same_n x.first)) in
+      let home : b.key.tid.node ≡ node = ap (λ (j : BranchKey). j.serial.node) (sym key) ∙ named.home node n found b.key (b, i, u, refl) in (
+        es,
+        label,
+        other,
+        new,
+        nb.named.0,
+        record {
+          after = [];
+          entry = e;
+          stands = refl;
+          said = said ∙ ap (λ z. Says (At z (AddBranch label other new))) (sym home);
+          shown = x.shows ∙ ap (λ ls. ls ++ line.NormalId (next_id x.n) ∷ []) (silent x.n) ∙ ap (λ z. line.NormalId z ∷ []) (ap next_id same_n ∙ sym id);
+        },
+        nb.named.1,
+        nb.named.3 ∙ sym tid,
+      )
+    where
+      open_of : (y : Branch) (n : Node) → branch_labelled w.shared n label ≡ Some y → refused_before_reading w.shared n (service (AddBranch label other new)) ≡ None → is_prepared y.state ≡ false
+      open_of y n labelled_y none =
+          let states = neither (unsettled_label w.shared n label) _ (neither (new_label w.shared new) _ (neither (made_label w.shared n label) _ (refused_rest (not (n.up || false)) _ none)).1).1 in
+          active_unprepared y (active_is y (state_holds is_first_active (branch_labelled w.shared n label) y labelled_y states.1)).1
+
+      silent : (m : Node) → (succeeded w.shared m (service (AddBranch label other new))).lines ≡ []
+      silent m = by (branch_labelled w.shared m label)
+        where
+          state_silent : (bid : Id) (z : Branch) (st : table.State) (u : Shared) (k : Node) → lines_of_rows (table_rows (authorise_state bid z st) u k) ≡ []
+          state_silent bid z Active u k = refl
+          state_silent bid z _ u k = refl
+
+          row_silent : (bid : Id) (o : Option Branch) (u : Shared) (k : Node) → lines_of_rows (table_rows (authorise_row bid o) u k) ≡ []
+          row_silent bid None u k = refl
+          row_silent bid (Some z) u k = state_silent bid z z.state u k
+
+          by : (o : Option Branch) → lines_of_rows (elim o as (λ y. List Row) [ Some z ↦ told_rows w.shared m (answers.adds m other new z) | None ↦ [] ]) ++ [] ≡ []
+          by None = refl
+          by (Some z) = ap (λ ls. ls ++ []) (row_silent (next_id m) (table.find (first z.key.tid) m.volatile.branches) _ _)
+
+  -- START_TRANS and START_BRANCH
+  begin_joined : (node : List ℕ) (n m : Node) (ls : List Line) (N : Branch → Type 0) → ((tid serial : Id) → In (line.Joined tid serial) e.lines → ⊥) → find_node node w.nodes ≡ Some n → m.name ≡ n.name → v.nodes ≡ with_node node (λ k. m) w.nodes → Comes N Never ls n m →
+      ((y : Branch) → N y → (y.key.serial ≡ next_id n) × (y.bids ≡ [])) → AreJoined (e ∷ es) v
+  begin_joined node n m ls N none found name nodes comes new = record {
+    told = λ other k is x i u key. elim (found_after w v node n m name found nodes other k is) [
+      | inl old ↦ later_joins e es x x refl (λ bid t. t) (λ bid j. inl j) (λ st serial says j. absurd (none x.key.tid serial j)) (h.told other k old x i u key)
+      | inr both ↦ (
+          let y = comes.from x (subst (λ (z : Node). In x z.volatile.branches) both.1 i) u in
+          elim y.2 [
+            | inl old ↦ later_joins e es y.0 x (ap (λ (z : Branch). z.key) y.1) (bare_taken x y.0 y.1) (λ bid j. inl (bare_bids x y.0 y.1 bid j)) (λ st serial says j. absurd (none x.key.tid serial j))
+                (h.told other n both.0 y.0 old (ap (λ (z : Branch). is_prepared z.state) (sym y.1) ∙ u) (first_key y.0 x (ap (λ (z : Branch). z.key) y.1) key))
+            | inr put_so ↦ elim put_so [
+              | inl is_new ↦ first_joins x y.0 y.1 (new y.0 is_new).1 (ap (λ (k : BranchKey). k.serial) (sym key) ∙ ap (λ (z : Branch). z.key.serial) y.1 ∙ (new y.0 is_new).0)
+              | inr never ↦ absurd never.2
+            ]
+          ]
+          )
+    ];
+    drawn = drawn_later e es w h (λ tid serial i. absurd (none tid serial i));
+  }
+    where
+      -- of a transaction that begins nothing is told yet
+      first_joins : (x y : Branch) → bare x ≡ bare y → y.bids ≡ [] → x.key.tid ≡ next_id n → BranchJoins (e ∷ es) x
+      first_joins x y same empty tid = record {
+        joins = λ before s events answer serial there i. elim (said_parts e es before s events answer there) [
+          | inl now ↦ absurd (none x.key.tid serial (subst (In (line.Joined x.key.tid serial)) (sym now.2) (in_left (line.Joined x.key.tid serial) events (answer ∷ []) i)))
+          | inr old ↦ absurd (next_new es w node n x.key.tid named found (h.drawn x.key.tid serial (
+            old.entry,
+            subst (In old.entry) (sym old.stands) (in_right old.entry old.after (old.entry ∷ before) (inl refl)),
+            subst (In (line.Joined x.key.tid serial)) (sym old.shown) (in_left (line.Joined x.key.tid serial) events (answer ∷ []) i),
+          )) tid)
+        ];
+        bids = λ bid i. absurd (subst (In bid) empty (bare_bids x y same bid i));
+      }
+
+  request_joined : (node : List ℕ) (request : Request) → reading e.source.text ≡ Says (At node request) → Step w (At node request) e.lines v → AreJoined (e ∷ es) v
+  request_joined node request said step = go request said step
+    where
+      refused_so : (request : Request) → task_of w (At node request) ≡ Some (record { node = node; task = Serves request }) → powers (service request) ≡ false → touches (service request) ≡ false → Step w (At node request) e.lines v → (Succeeds w v node request e.lines → AreJoined (e ∷ es) v) → AreJoined (e ∷ es) v
+      refused_so request is off dry step does = elim (request_ends w v node request e.lines is off dry step) [
+        | inl r ↦ quiet_joined e es w v (task_unjoined e es w v (At node request) step node (Serves request) is (λ x k. let no : ⊥ = cc in no) (λ x k. let no : ⊥ = cc in no)) (same_heirs w v (ap (λ (y : World). y.nodes) r.4)) h
+        | inr x ↦ does x
+      ]
+
+      none_of : (request : Request) → task_of w (At node request) ≡ Some (record { node = node; task = Serves request }) → Step w (At node request) e.lines v → (tid serial : Id) → In (line.Joined tid serial) e.lines → ⊥
+      none_of request is step = task_unjoined e es w v (At node request) step node (Serves request) is (λ x k. let no : ⊥ = cc in no) (λ x k. let no : ⊥ = cc in no)
+
+      never_told : (request : Request) → ((label other new : List ℕ) → request ≡ AddBranch label other new → ⊥) → (n : Node) (tid bid : Id) → IsTold w.shared n (Serves request) (rows.Authorise tid bid) → ⊥
+      never_told (AddBranch label other new) never n tid bid told = never label other new refl
+      never_told (EndTrans label) never n tid bid told = let no : rows.Authorise tid bid ≡ rows.EndTrans told.0.key.tid = told.2 in cc
+      never_told (Rattle.script_model.specs.Statements.EndBranch label) never n tid bid told = let no : rows.Authorise tid bid ≡ rows.EndBranch told.0.key.serial = told.1 in cc
+      never_told (Rattle.script_model.specs.Statements.AbortTrans label) never n tid bid told = let no : rows.Authorise tid bid ≡ rows.AbortBranch told.0.key.serial Rattle.vms_model.specs.Transactions.Aborted = told.1 in cc
+      never_told (Rattle.script_model.specs.Statements.Inquire who) never n tid bid told = let no : rows.Authorise tid bid ≡ rows.InquireBranch told.0.key.serial = told.1 in cc
+      never_told _ never n tid bid told = told
+
+      clocked : (now : ℕ) → (step : Step w (At node (Clock now)) e.lines v) → AreJoined (e ∷ es) v
+      clocked now step = by (clock_ends w v node now e.lines steps step)
+        where
+          by : ClockEnds w v node now e.lines step → AreJoined (e ∷ es) v
+          by (Unset refusal is none answered goes) = quiet_joined e es w v (λ tid serial i. subst (In (line.Joined tid serial)) none (in_events e es w v (At node (Clock now)) step tid serial i)) (same_heirs w v (ap (λ (y : World). y.nodes) goes)) h
+          by (Set n u found once goes steps_u p) =
+              let thin = (phases_thin v.disks (where_up node Ticks ∷ []) (each_up IsThinPart node Ticks refl, tt) u line.Normal step.events step.answer step.world p steps_u).0 in
+              quiet_joined e es w v (λ tid serial i. phases_unjoined v.disks (where_up node Ticks ∷ []) (each_up IsThinPart node Ticks refl, tt) u step.events step.answer step.world p tid serial (in_events e es w v (At node (Clock now)) step tid serial i))
+              (heirs_then w u v (clock_heirs w u node n now found goes) (subst (Thins u) (sym step.goes) (thins_disks u step.world v.disks thin))) h
+
+      go : (request : Request) → reading e.source.text ≡ Says (At node request) → Step w (At node request) e.lines v → AreJoined (e ∷ es) v
+      go (StartTrans label seconds) said step = refused_so (StartTrans label seconds) refl refl refl step (λ x.
+          let n = x.n in
+          let rs = (service (StartTrans label seconds)).rows w.shared n in
+          let N : Branch → Type 0 = λ y. (y.key.serial ≡ next_id n) × (y.bids ≡ []) in
+          begin_joined node n (succeeded w.shared n (service (StartTrans label seconds))).node (lines_of_rows rs) N (none_of (StartTrans label seconds) refl step) x.found refl (ap (λ (y : World). y.nodes) x.goes) (rows_come N Never rs n (tt, (tt, ((refl, refl), tt)))) (λ y is. is))
+      go (StartBranch label) said step = refused_so (StartBranch label) refl refl refl step (λ x.
+          let n = x.n in
+          let rs = (service (StartBranch label)).rows w.shared n in
+          let N : Branch → Type 0 = λ y. (y.key.serial ≡ next_id n) × (y.bids ≡ []) in
+          begin_joined node n (succeeded w.shared n (service (StartBranch label))).node (lines_of_rows rs) N (none_of (StartBranch label) refl step) x.found (rows_name rs n) (ap (λ (y : World). y.nodes) x.goes) (rows_come N Never rs n (begun_putting n (labelled n.name label w.shared.labels))) (λ y is. is))
+        where
+          begun_putting : (n : Node) (o : Option Label) → ArePutting (λ y. (y.key.serial ≡ next_id n) × (y.bids ≡ [])) Never (told_if w.shared n (option_and_then (begins n) o))
+          begun_putting n None = tt
+          begun_putting n (Some l) = by l.bid
+            where
+              by : (o : Option Id) → ArePutting (λ y. (y.key.serial ≡ next_id n) × (y.bids ≡ [])) Never (told_if w.shared n (option_map (λ bid. let t : answers.Telling = record { before = world.Draws ∷ world.Numbers l.name (next_id n) ∷ []; event = rows.Begin l.tid (next_id n) bid } in t) o))
+              by None = tt
+              by (Some bid) = (tt, (tt, ((refl, refl), (tt, tt))))
+      go (AddBranch label other new) said step = refused_so (AddBranch label other new) refl refl refl step (λ x. one_joined (At node (AddBranch label other new)) said node (Serves (AddBranch label other new)) refl step refl (authorises node label other new said x) (λ y k. let no : ⊥ = cc in absurd no) (λ y k. let no : ⊥ = cc in no))
+      go (Clock now) said step = clocked now step
+      go request said step = one_joined (At node request) said node (Serves request) refl step refl (λ b bid n found i u key told. absurd (never_told request (λ label other new k. let no : ⊥ = cc in no) n b.key.tid bid told)) (λ y k. let no : ⊥ = cc in absurd no) (λ y k. let no : ⊥ = cc in no)
+
+  step_joined : (s : Statement) → reading e.source.text ≡ Says s → Step w s e.lines v → AreJoined (e ∷ es) v
+  step_joined (At node request) said step = request_joined node request said step
+  step_joined (Deliver number) said step = go (message_at number w.shared.wire) refl
+    where
+      go : (o : Option Message) → message_at number w.shared.wire ≡ o → AreJoined (e ∷ es) v
+      go (Some m) is = one_joined (Deliver number) said m.to (Takes m) (ap (λ (o : Option Message). option_map {U = TaskAt} (λ m. record { node = m.to; task = Takes m }) o) is) step refl
+          (λ b bid n found i u key told. let no : ⊥ = cc in absurd no) (λ x k. let same : m ≡ x = cc in (number, refl, is ∙ ap Some same)) (λ x k. let no : ⊥ = cc in no)
+      go None is =
+          let d = subst (λ (o : Option Message). Begins (elim o [ Some m ↦ named_node w m.to | None ↦ Some line.NoSuchMessage ]) (Phases (phases_of (Deliver number)) v.disks w line.Normal) w step.events step.answer step.world) is step.does in
+          quiet_joined e es w v (λ tid serial i. subst (In (line.Joined tid serial)) d.0 (in_events e es w v (Deliver number) step tid serial i)) (same_heirs w v (ap (λ (y : World). y.nodes) (step.goes ∙ ap (λ (x : World). record x { disks = v.disks }) d.2))) h
+  step_joined (LinkDown a b) said step = go (refused_at_once w (LinkDown a b)) step.does
+    where
+      go : (o : Option Line) → Begins o (Phases (phases_of (LinkDown a b)) v.disks w line.Normal) w step.events step.answer step.world → AreJoined (e ∷ es) v
+      go (Some refusal) d = quiet_joined e es w v (λ tid serial i. subst (In (line.Joined tid serial)) d.0 (in_events e es w v (LinkDown a b) step tid serial i)) (same_heirs w v (ap (λ (y : World). y.nodes) (step.goes ∙ ap (λ (x : World). record x { disks = v.disks }) d.2))) h
+      go None d = quiet_joined e es w v (λ tid serial i. phases_unjoined v.disks (phases_of (LinkDown a b)) (link_phases a b) w step.events step.answer step.world d tid serial (in_events e es w v (LinkDown a b) step tid serial i))
+          (heirs_then w w v (same_heirs w w refl) (subst (Thins w) (sym step.goes) (thins_disks w step.world v.disks (phases_thin v.disks (phases_of (LinkDown a b)) (link_phases a b) w line.Normal step.events step.answer step.world d steps).0))) h
+  step_joined Settle said step =
+      let base = begun_with Settle w in
+      let f = phases_thin v.disks (phases_of Settle) settle_phases base line.Normal step.events step.answer step.world step.does steps in
+      quiet_joined e es w v (λ tid serial i. phases_unjoined v.disks (phases_of Settle) settle_phases base step.events step.answer step.world step.does tid serial (in_events e es w v Settle step tid serial i))
+      (heirs_then w base v (same_heirs w base refl) (subst (Thins base) (sym step.goes) (thins_disks base step.world v.disks f.0))) h
+
+  turn_joined : (r : Reading) → reading e.source.text ≡ r → LineTurn w r e.lines v → AreJoined (e ∷ es) v
+  turn_joined Blank said t = quiet_joined e es w v (λ tid serial i. subst (In (line.Joined tid serial)) t.0 i) (same_heirs w v (ap (λ (y : World). y.nodes) t.1)) h
+  turn_joined (Says s) said t = step_joined s said t
+  turn_joined (Bad column) said t = absurd t
+
+-- Runs.
+
+legal_joined : (nodes : List Node) (disks : List DiskCounts) (es : List Entry) (w : World) → AreOpening nodes → Legal (opened nodes disks) es w → AreJoined es w
+legal_joined nodes disks [] w opening legal = subst (AreJoined []) (sym legal) (record {
+  told = λ node n found b i u key. absurd (subst (In b) (ap (λ (y : world.Volatile). y.branches) (opening_found nodes opening node n found).volatile) i);
+  drawn = λ tid serial j. absurd j.1;
+})
+legal_joined nodes disks (e ∷ es) w opening legal =
+    turn_joined e es legal.0 w (legal_joined nodes disks es legal.0 opening legal.1) (legal_named nodes disks es legal.0 opening legal.1) (legal_named nodes disks (e ∷ es) w opening legal) (legal_sound (opened nodes disks) legal.0 es (opening_sound nodes disks opening) legal.1) (legal_told nodes disks legal.0 es opening legal.1).1
+    (λ number m is. was_sent nodes disks es legal.0 number m opening legal.1 is) (reading e.source.text) refl legal.2
+
+-- An identifier that none has.
+not_taken : (bids : List Id) (cs : List Child) → all_taken bids cs ≡ false → (bid : Id) × In bid bids × (has_bid bid cs ≡ false)
+not_taken [] cs e = let no : ⊥ = cc in absurd no
+not_taken (x ∷ bids) cs e = go (has_bid x cs) refl e (not_taken bids cs)
+  where
+    go : (t : Bool) → has_bid x cs ≡ t → t && all_taken bids cs ≡ false → (all_taken bids cs ≡ false → (bid : Id) × In bid bids × (has_bid bid cs ≡ false)) → (bid : Id) × In bid (x ∷ bids) × (has_bid bid cs ≡ false)
+    go true is k more = let r = more k in (r.0, inr r.1, r.2)
+    go false is k more = (x, inl refl, is)
+
+pub missing_hold : MissingHold
+missing_hold nodes disks es closing opening legal before node label events reason there =
+    let s = standing nodes disks es before (At node (EndTrans label)) events (line.TransactionAborted reason) closing opening legal there in
+    let d = done s.w s.v node (EndTrans label) events (line.TransactionAborted reason) refl refl refl refl (λ cause e. let no : ⊥ = cc in no) s.step in
+    let r = ends_abort before s.w s.v node label events (line.TransactionAborted reason) s.named d reason refl in
+    let x = r.0 in
+    let joined = legal_joined nodes disks before s.w opening s.legal in
+    let a = active_is x.b x.active in
+    let l = label_of s.w.shared d.n label x.b x.found in
+    let told = joined.told node d.n d.found x.b l.branch (active_unprepared x.b a.1) a.0 in
+    let free = not_taken x.b.bids x.b.accepted r.2 in
+    let tid : x.b.key.tid ≡ x.tid = ap (λ (k : BranchKey). k.tid) x.key in (
+      x.tid,
+      x.moment,
+      x.begun,
+      x.shown,
+      (
+        free.0,
+        subst (λ t. WasAuthorised before t free.0) tid (told.bids free.0 free.1),
+        λ earlier st shown answer serial there i.
+            let j = told.joins earlier st shown answer serial there (subst (λ t. In (line.Joined t serial) shown) (sym tid) i) in
+            (j.0, subst (λ t. JoinsBy earlier st t serial j.0) tid j.1, λ same. both_ways (has_bid j.0 x.b.accepted) (ap (λ b. has_bid b x.b.accepted) same ∙ free.2) j.2),
+      ),
+    )

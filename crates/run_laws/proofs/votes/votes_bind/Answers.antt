@@ -1,0 +1,13 @@
+use Rattle.run_laws.proofs.RecordedRuns.{booted_hold}
+use Rattle.run_laws.proofs.PreparedRuns.{prepared_hold}
+use Rattle.run_laws.proofs.ReadOnlyRuns.{read_only_hold}
+use Rattle.run_laws.proofs.votes.votes_bind.Goals as goal
+
+pub returns-clause-prepared : goal.returns-clause-prepared
+returns-clause-prepared c = prepared_hold
+
+pub returns-clause-leaving : goal.returns-clause-leaving
+returns-clause-leaving c = read_only_hold
+
+pub returns-clause-booted : goal.returns-clause-booted
+returns-clause-booted c = booted_hold

@@ -1,5 +1,0 @@
-use Rattle.transcript.specs.Reading.{IsSound}
-use Rattle.transcript.proofs.tests.a_script_has_64_mib.Given as goal
-
-abbrev pub invariant-loop-number : goal.invariant-loop-number
-invariant-loop-number g l = IsSound l.reader

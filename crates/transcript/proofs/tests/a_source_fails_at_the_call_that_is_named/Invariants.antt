@@ -1,5 +1,0 @@
-use Rattle.transcript.specs.Reading.{IsSound}
-use Rattle.transcript.proofs.tests.a_source_fails_at_the_call_that_is_named.Given as goal
-
-abbrev pub invariant-loop-next : goal.invariant-loop-next
-invariant-loop-next g l = IsSound l.reader
