@@ -51,6 +51,7 @@ transcript orders A=orders.img
 transcript stopped A=stopped.img
 transcript undone A=undone.img
 transcript doubt A=here.img B=there.img
+transcript manager A=manager.img
 
 # The standard streams are no image.
 no_output() { run 'A: DUMP F

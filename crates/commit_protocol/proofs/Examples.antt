@@ -163,7 +163,7 @@ identifier_without_serial = refl
 one_phase : shows (node_a) (Start t None ∷ JoinRm t r ∷ EndTrans t ∷ Replied t r NormalReply ∷ [])
     ≡ quiet
     ∷ quiet
-    ∷ (true, TellEffect OnePhaseEvent t r ∷ [])
+    ∷ (true, TellEffect OnePhaseEvent t t r ∷ [])
     ∷ (true, SettleEffect t ToCommit Aborted None ∷ EndedEffect t None ∷ []) ∷ []
 unfolding same_id same_key same_name
 one_phase = refl
@@ -172,8 +172,8 @@ one_phase = refl
 one_phase_prepared : shows (node_a) (Start t None ∷ JoinRm t r ∷ EndTrans t ∷ Replied t r PreparedReply ∷ Replied t r RememberReply ∷ Replied t r ForgetReply ∷ [])
     ≡ quiet
     ∷ quiet
-    ∷ (true, TellEffect OnePhaseEvent t r ∷ [])
-    ∷ (true, SettleEffect t ToCommit Aborted (Some (committed t [] (r ∷ []))) ∷ TellEffect CommitEvent t r ∷ EndedEffect t None ∷ [])
+    ∷ (true, TellEffect OnePhaseEvent t t r ∷ [])
+    ∷ (true, SettleEffect t ToCommit Aborted (Some (committed t [] (r ∷ []))) ∷ TellEffect CommitEvent t t r ∷ EndedEffect t None ∷ [])
     ∷ quiet
     ∷ (true, ForgetEffect t ∷ []) ∷ []
 unfolding same_id same_key same_name
@@ -183,7 +183,7 @@ one_phase_prepared = refl
 one_phase_veto : shows (node_a) (Start t None ∷ JoinRm t r ∷ EndTrans t ∷ Replied t r VetoReply ∷ [])
     ≡ quiet
     ∷ quiet
-    ∷ (true, TellEffect OnePhaseEvent t r ∷ [])
+    ∷ (true, TellEffect OnePhaseEvent t t r ∷ [])
     ∷ (true, SettleEffect t ToAbort Vetoed None ∷ EndedEffect t (Some Vetoed) ∷ []) ∷ []
 unfolding same_id same_key same_name
 one_phase_veto = refl
@@ -192,8 +192,8 @@ one_phase_veto = refl
 one_phase_aborted : shows (node_a) (Start t None ∷ JoinRm t r ∷ EndTrans t ∷ AbortBranch t Aborted ∷ [])
     ≡ quiet
     ∷ quiet
-    ∷ (true, TellEffect OnePhaseEvent t r ∷ [])
-    ∷ (true, SettleEffect t ToAbort Aborted None ∷ TellEffect AbortEvent t r ∷ EndedEffect t (Some Aborted) ∷ []) ∷ []
+    ∷ (true, TellEffect OnePhaseEvent t t r ∷ [])
+    ∷ (true, SettleEffect t ToAbort Aborted None ∷ TellEffect AbortEvent t t r ∷ EndedEffect t (Some Aborted) ∷ []) ∷ []
 unfolding same_id same_key same_name
 one_phase_aborted = refl
 
@@ -228,8 +228,8 @@ managers : shows (node_a) (Start t None ∷ JoinRm t r ∷ Changed t ∷ EndTran
     ≡ quiet
     ∷ quiet
     ∷ quiet
-    ∷ (true, TellEffect PrepareEvent t r ∷ [])
-    ∷ (true, SettleEffect t ToCommit Aborted (Some (committed t [] (r ∷ []))) ∷ TellEffect CommitEvent t r ∷ EndedEffect t None ∷ [])
+    ∷ (true, TellEffect PrepareEvent t t r ∷ [])
+    ∷ (true, SettleEffect t ToCommit Aborted (Some (committed t [] (r ∷ []))) ∷ TellEffect CommitEvent t t r ∷ EndedEffect t None ∷ [])
     ∷ (true, ForgetEffect t ∷ []) ∷ []
 unfolding same_id same_key same_name
 managers = refl
@@ -239,9 +239,9 @@ two_managers : shows (node_a) (Start t None ∷ JoinRm t r ∷ JoinRm t q ∷ En
     ≡ quiet
     ∷ quiet
     ∷ quiet
-    ∷ (true, TellEffect PrepareEvent t r ∷ TellEffect PrepareEvent t q ∷ [])
+    ∷ (true, TellEffect PrepareEvent t t r ∷ TellEffect PrepareEvent t t q ∷ [])
     ∷ quiet
-    ∷ (true, SettleEffect t ToCommit Aborted (Some (committed t [] (q ∷ []))) ∷ TellEffect CommitEvent t q ∷ EndedEffect t None ∷ []) ∷ []
+    ∷ (true, SettleEffect t ToCommit Aborted (Some (committed t [] (q ∷ []))) ∷ TellEffect CommitEvent t t q ∷ EndedEffect t None ∷ []) ∷ []
 unfolding same_id same_key same_name
 two_managers = refl
 
@@ -250,8 +250,8 @@ veto_of_one : shows (node_a) (Start t None ∷ JoinRm t r ∷ JoinRm t q ∷ End
     ≡ quiet
     ∷ quiet
     ∷ quiet
-    ∷ (true, TellEffect PrepareEvent t r ∷ TellEffect PrepareEvent t q ∷ [])
-    ∷ (true, SettleEffect t ToAbort Vetoed None ∷ TellEffect AbortEvent t r ∷ EndedEffect t (Some Vetoed) ∷ []) ∷ []
+    ∷ (true, TellEffect PrepareEvent t t r ∷ TellEffect PrepareEvent t t q ∷ [])
+    ∷ (true, SettleEffect t ToAbort Vetoed None ∷ TellEffect AbortEvent t t r ∷ EndedEffect t (Some Vetoed) ∷ []) ∷ []
 unfolding same_id same_key same_name
 veto_of_one = refl
 
@@ -261,9 +261,9 @@ branch_with_managers : shows (node_b) (Begin t s bid ∷ Got (to_b JoinOk) ∷ J
     ∷ (true, StartedEffect s ∷ [])
     ∷ quiet
     ∷ quiet
-    ∷ (true, TellEffect PrepareEvent s r ∷ [])
+    ∷ (true, TellEffect PrepareEvent t s r ∷ [])
     ∷ (true, PrepareEffect s (r ∷ []) ∷ SendEffect (to_a Yes) ∷ [])
-    ∷ (true, SettleEffect s ToCommit Aborted (Some (committed s [] (r ∷ []))) ∷ SendEffect (to_a Ack) ∷ TellEffect CommitEvent s r ∷ [])
+    ∷ (true, SettleEffect s ToCommit Aborted (Some (committed s [] (r ∷ []))) ∷ SendEffect (to_a Ack) ∷ TellEffect CommitEvent t s r ∷ [])
     ∷ (true, ForgetEffect s ∷ []) ∷ []
 unfolding same_id same_key same_name
 branch_with_managers = refl
@@ -275,8 +275,8 @@ branch_with_veto : shows (node_b) (Begin t s bid ∷ Got (to_b JoinOk) ∷ JoinR
     ∷ quiet
     ∷ quiet
     ∷ quiet
-    ∷ (true, TellEffect PrepareEvent s r ∷ TellEffect PrepareEvent s q ∷ [])
-    ∷ (true, SettleEffect s ToAbort Vetoed None ∷ SendEffect (to_a No) ∷ TellEffect AbortEvent s q ∷ []) ∷ []
+    ∷ (true, TellEffect PrepareEvent t s r ∷ TellEffect PrepareEvent t s q ∷ [])
+    ∷ (true, SettleEffect s ToAbort Vetoed None ∷ SendEffect (to_a No) ∷ TellEffect AbortEvent t s q ∷ []) ∷ []
 unfolding same_id same_key same_name
 branch_with_veto = refl
 
@@ -286,7 +286,7 @@ branch_read_only : shows (node_b) (Begin t s bid ∷ Got (to_b JoinOk) ∷ JoinR
     ∷ (true, StartedEffect s ∷ [])
     ∷ quiet
     ∷ quiet
-    ∷ (true, TellEffect PrepareEvent s r ∷ [])
+    ∷ (true, TellEffect PrepareEvent t s r ∷ [])
     ∷ (true, ReadOnlyEffect s ∷ SendEffect (to_a ReadOnly) ∷ [])
     ∷ (true, SendEffect (to_a Ack) ∷ []) ∷ []
 unfolding same_id same_key same_name

@@ -16,7 +16,7 @@ pub data Effect : Type 0 where
   -- the committed record of this serial goes
   ForgetEffect : (serial : Id) → Effect
   SendEffect : (m : Message) → Effect
-  TellEffect : (event : RmEvent) (serial : Id) (rm : Name) → Effect
+  TellEffect : (event : RmEvent) (tid serial : Id) (rm : Name) → Effect
   JoinedEffect : (serial : Id) → Effect
   StartedEffect : (serial : Id) → Effect
   ReadOnlyEffect : (serial : Id) → Effect
@@ -40,7 +40,7 @@ release_effects s x (r ∷ rs) = if holds s x r then record_effects (released x 
 abbrev pub line_effect : Line → Effect
 line_effect (Started k) = StartedEffect k.serial
 line_effect (Ended t reason) = EndedEffect t reason
-line_effect (Told e k rm) = TellEffect e k.serial rm
+line_effect (Told e k rm) = TellEffect e k.tid k.serial rm
 
 -- the effects of an act where these are the committed records
 abbrev pub act_effects : Act → List LogRecord → List Effect

@@ -1,6 +1,6 @@
 -- What the lines and the answer of a task tell of its node.
-use Rattle.std.specs.Prelude.{◌||◌, ◌&&◌}
-use Rattle.std.proofs.Common.{◌≡◌, ℕ, List, [], ◌∷◌, ◌++◌, Bool, true, false, Option, Some, None, inl, inr, refl, sym, ◌∙◌, ap, subst}
+use Rattle.std.specs.Prelude.{◌||◌}
+use Rattle.std.proofs.Common.{◌≡◌, ℕ, List, [], ◌∷◌, ◌++◌, Bool, true, false, Option, Some, None, inl, inr, refl, sym, ◌∙◌, subst}
 use Rattle.std.specs.List.{AllByRecursion}
 use Rattle.commit_protocol.specs.World.{In}
 use Rattle.commit_protocol.proofs.Lists.{in_parts}
@@ -11,10 +11,10 @@ use Rattle.run_laws.specs.Said.{is_of_lines}
 use Rattle.run_model.specs.Answers.{Restarts, Serves, Task, task_service}
 use Rattle.said_steps.specs.Answers.{ends_boot, is_broken, is_served, may_answer}
 use Rattle.said_steps.specs.Answers.{IsSteady}
-use Rattle.said_steps.proofs.Falls.{falls_last, falls_none, named_first, not_broken}
+use Rattle.said_steps.proofs.Falls.{falls_last, falls_none, named_first}
 use Rattle.node_table.specs.Telling.{IsOfWork}
-use Rattle.dtm_node.specs.Telling.{AnswersTask, may_answer_task}
-use Rattle.dtm_node.proofs.SaysLemmas.{calm_not_down}
+use Rattle.node_requests.specs.Telling.{AnswersTask, may_answer_task}
+use Rattle.node_requests.proofs.SaysLemmas.{calm_not_down}
 
 pub calm_not_crashed : (ls : List Line) (name : List ℕ) → AllByRecursion IsOfWork ls → In (line.Crashed name) ls → ⊥
 calm_not_crashed [] name c i = i

@@ -1,27 +1,24 @@
 -- FUSE: the disk of a node is armed.
-use Rattle.std.proofs.Common.{◌≡◌, inl, inr, ℕ, List, [], ◌∷◌, Bool, true, false, Option, Some, None, refl, sym, ap, subst, ◌∙◌, arith}
+use Rattle.std.proofs.Common.{◌≡◌, ℕ, [], ◌∷◌, Bool, true, false, None, refl, sym, ap, subst, ◌∙◌, arith}
 use Rattle.std.specs.Prelude.{◌||◌, not}
-use Rattle.std.specs.List.{AllByRecursion}
-use Rattle.block_disk.specs.Disk.{CallLog, DiskState, armed, noted}
+use Rattle.block_disk.specs.Disk.{DiskState, armed, noted}
 use Rattle.block_disk.specs.declared.disk.DiskCall.TheVariants as disk_call
 use Rattle.recovery_units.specs.Uses.{IsCounted}
-use Rattle.transcript_model.specs.Emitting.{Emits, Shown}
+use Rattle.emitter_model.specs.Emitting.{Emits, Shown}
 use Rattle.transcript_model.specs.Lines as line
 use Rattle.script_model.specs.Statements.{Fuse}
 use Rattle.run_model.specs.Operations.{first_of, refused_if}
-use Rattle.run_model.specs.World.{Arm, Arms, Node, Shared, acted}
-use Rattle.run_model.specs.Answers.{Serves, refused_before_reading, service}
-use Rattle.unit_table.specs.Units.{OpenUnit}
+use Rattle.run_model.specs.World.{Arm, Arms, Node, acted}
+use Rattle.run_model.specs.Answers.{Serves, service}
 use Rattle.recovery_units.specs.Laws.{KeepsNodes}
-use Rattle.recovery_units.specs.State.{IsInOrder, IsKept, IsUnitOf, UnitsState}
+use Rattle.recovery_units.specs.State.{IsKept, UnitsState}
 use Rattle.run_shared.specs.Sharing.{SharedState}
 use Rattle.volume.specs.State.{VolumeState}
-use Rattle.node_table.specs.Standing.{IsUp, StandsUp, Up}
-use Rattle.dtm_node.specs.Keeping.{PerformsRequest}
-use Rattle.dtm_node.specs.Standing.{IsDown, IsRunning, Kept, Place, StandsFor, StandsIn, counts_of, disk_in, is_up}
+use Rattle.node_table.specs.Standing.{IsUp, Up}
+use Rattle.node_requests.specs.Keeping.{PerformsRequest}
+use Rattle.node_requests.specs.Standing.{IsDown, IsRunning, Kept, Place, StandsIn, counts_of, disk_in, is_up}
 use Rattle.dtm_node.specs.Nodes.{place_armed}
-use Rattle.dtm_node.specs.Running.{HasGrown}
-use Rattle.dtm_node.specs.Telling.{Passes, TellsTask, said_alone, said_shared}
+use Rattle.node_requests.specs.Telling.{Passes, TellsTask, said_shared}
 use Rattle.dtm_node.proofs.Answered.{calm_answers}
 use Rattle.dtm_node.proofs.DiskLemmas.{disk_kept}
 use Rattle.dtm_node.proofs.Held.{holds_same}
@@ -55,6 +52,7 @@ armed_stands law writes choice clock (IsRunning r) n s =
         under_way = k.under_way;
       };
       drawn = s.drawn;
+      declared = s.declared;
       preparation = s.preparation;
     }
 

@@ -1,11 +1,11 @@
 -- A boot that ends its statement, by its lines and in the world.
-use Rattle.std.proofs.Common.{◌≡◌, ℕ, List, [], ◌∷◌, ◌++◌, Bool, true, false, not, Option, Some, None, if◌then◌else◌, refl, ◌∙◌, ap, sym, subst, arith}
+use Rattle.std.proofs.Common.{◌≡◌, ℕ, List, [], ◌∷◌, ◌++◌, Bool, true, false, not, Option, None, if◌then◌else◌, refl, ◌∙◌, ap, sym, subst}
 use Rattle.std.specs.Prelude.{◌||◌, ◌&&◌}
 use Rattle.std.specs.List.{AllByRecursion}
 use Rattle.block_disk.specs.Disk.{CallLog, DiskState, noted}
 use Rattle.block_disk.specs.declared.disk.DiskCall.TheVariants as disk_call
 use Rattle.commit_protocol.specs.World.{In}
-use Rattle.transcript_model.specs.Emitting.{Emits, Shown}
+use Rattle.emitter_model.specs.Emitting.{Emits, Shown}
 use Rattle.transcript_model.specs.Lines as line
 use Rattle.transcript_model.specs.Lines.{Cause, Line}
 use Rattle.transcript_model.specs.Outside.{Rose}
@@ -25,14 +25,14 @@ use Rattle.run_shared.specs.Sharing.{IsShared, SharedState}
 use Rattle.node_table.specs.Telling.{IsOfWork, wire_after}
 use Rattle.commit_protocol.specs.Messages.{Message}
 use Rattle.dtm_node.specs.Boots.{IsBootRefusal}
-use Rattle.dtm_node.specs.Keeping.{IsPromised, Performs}
+use Rattle.node_requests.specs.Keeping.{IsPromised, Performs}
 use Rattle.dtm_node.specs.Opening.{EndsBoot, EndsTask, boots_node, kept_down, used}
-use Rattle.dtm_node.specs.Standing.{StandsFor, counts_of}
-use Rattle.dtm_node.specs.Holding.{HoldsAs}
-use Rattle.dtm_node.specs.Telling.{AnswersTask, Passes, TellsTask, may_answer_task, powered_task, said_alone, said_shared}
+use Rattle.node_requests.specs.Standing.{StandsFor, counts_of}
+use Rattle.node_requests.specs.Holding.{HoldsAs}
+use Rattle.node_requests.specs.Telling.{AnswersTask, Passes, TellsTask, may_answer_task, powered_task, said_alone, said_shared}
 use Rattle.dtm_node.proofs.Answered.{boot_may, calm_answers, fell_answers, restart_may}
 use Rattle.dtm_node.proofs.BootSteps.{IsBoot, boot_is, in_use, restart_is}
-use Rattle.dtm_node.proofs.SaysLemmas.{all_on, alone_down, down_behind, lines_calm, lines_on, own_calm, with_wire}
+use Rattle.node_requests.proofs.SaysLemmas.{all_on, alone_down, down_behind, lines_calm, lines_on, own_calm, with_wire}
 
 -- the two tasks that boot a node
 pub each_boot : (P : Task → Type 0) → P (Serves Boot) → P Restarts → (t : Task) → boots_node t ≡ true → P t

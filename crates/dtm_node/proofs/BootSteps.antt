@@ -1,5 +1,5 @@
 -- The ways of a boot, as a statement or in a settling, at a node whose disk is made to run again.
-use Rattle.std.proofs.Common.{◌≡◌, ℕ, ◌≤◌, List, [], ◌∷◌, ◌++◌, Bool, true, false, Option, Some, None, length, take, drop, refl, ◌∙◌, ap, sym}
+use Rattle.std.proofs.Common.{◌≡◌, ℕ, ◌≤◌, List, [], ◌∷◌, ◌++◌, Bool, true, false, Some, None, length, take, drop, refl, ◌∙◌, ap, sym}
 use Rattle.std.specs.Prelude.{◌||◌, not}
 use Rattle.transcript_model.specs.Outside.{Rose}
 use Rattle.transcript_model.specs.Lines as line

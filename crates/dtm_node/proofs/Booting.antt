@@ -1,33 +1,32 @@
 -- A boot, from what its steps do to the node of the world.
-use Rattle.std.proofs.Common.{◌≡◌, ◌⊎◌, inl, inr, ℕ, suc, ◌≤◌, ◌+◌, List, [], ◌∷◌, ◌++◌, Bool, true, false, Option, Some, None, length, map, take, drop, refl, sym, ap, subst, ◌∙◌, append_assoc, arith}
-use Rattle.block_disk.specs.Disk.{DiskState, CallLog, IsPowered, noted}
+use Rattle.std.proofs.Common.{◌≡◌, ◌⊎◌, inl, inr, ℕ, suc, List, [], ◌∷◌, ◌++◌, Bool, true, false, Option, Some, None, length, map, take, drop, refl, sym, ap, subst, ◌∙◌, append_assoc, arith}
+use Rattle.block_disk.specs.Disk.{DiskState, CallLog, noted}
 use Rattle.block_disk.specs.declared.disk.DiskCall.TheVariants as disk_call
 use Rattle.volume.specs.State.{VolumeState}
 use Rattle.transcript_model.specs.Outside.{Rose}
 use Rattle.transcript_model.specs.Lines as line
 use Rattle.transcript_model.specs.Lines.{Line, Cause, Failed}
-use Rattle.transcript_model.specs.Emitting.{Shown, Emits}
-use Rattle.transcript_model.proofs.EmittingLemmas.{emits_on}
+use Rattle.emitter_model.specs.Emitting.{Shown, Emits}
 use Rattle.unit_laws.specs.Journal.{RecoveryUnit}
-use Rattle.run_model.specs.World.{Shared, Node, Act, Outturn, Settlement, Power, Boots, ComesUp, Unknown, acted, fallen, powered, unpowered}
-use Rattle.run_model.specs.Answers.{Row, Task, boot_rows, bootable, last_line, last_lines, left_active, prepared_lines, refused_before_reading, task_service}
+use Rattle.run_model.specs.World.{Shared, Node, Act, Settlement, Power, Boots, ComesUp, acted, fallen, powered, unpowered}
+use Rattle.run_model.specs.Answers.{Row, Task, boot_rows, bootable, last_line, last_lines, left_active, refused_before_reading, task_service}
 use Rattle.run_model.specs.Steps.{NodeStep, act_begun, count_of, lines_of_rows, node_after_rows, rows_if, shared_after_rows}
 use Rattle.volume_model.specs.Volumes.{HasDisk}
-use Rattle.recovery_units.specs.Calls.{BreaksAfter, IsRestarting, ReopensTo, after_undone, settlements_of, told_in, undone_next}
+use Rattle.recovery_units.specs.Calls.{BreaksAfter, IsRestarting, after_undone, settlements_of, told_in, undone_next}
 use Rattle.recovery_units.specs.Told.{ReopenedTold}
 use Rattle.recovery_units.specs.declared.settled.SettledUnit.{SettledUnit}
 use Rattle.run_shared.specs.Sharing.{IsShared, SharedState}
 use Rattle.node_table.specs.Standing.{StandsUp, Up}
 use Rattle.dtm_node.specs.Boots.{IsAwake}
-use Rattle.dtm_node.specs.Keeping.{Performs, all_shown}
+use Rattle.node_requests.specs.Keeping.{Performs}
 use Rattle.dtm_node.specs.Nodes.{last_lines_of, undone_line}
 use Rattle.dtm_node.specs.Opening.{Wakes, kept_down}
-use Rattle.dtm_node.specs.Standing.{IsRunning, Kept, StandsFor, counts_of, disk_of, noted_all}
-use Rattle.dtm_node.specs.Telling.{Passes}
+use Rattle.node_requests.specs.Standing.{StandsFor, counts_of, disk_of, noted_all}
+use Rattle.node_requests.specs.Telling.{Passes}
 use Rattle.dtm_node.proofs.BootSteps.{IsBoot, in_use, step_barred, step_fell, step_lacking, step_risen, step_unpowered}
 use Rattle.dtm_node.proofs.DiskLemmas.{disk_kept}
 use Rattle.dtm_node.proofs.Performing.{kept_fallen, kept_up}
-use Rattle.dtm_node.proofs.Restarting.{StaysSo, all_rows, told_few, undone_begun, undone_count, undone_nodes, undone_rows, undone_same, undone_shared, undone_shown}
+use Rattle.dtm_node.proofs.Restarting.{all_rows, told_few, undone_begun, undone_count, undone_nodes, undone_rows, undone_same, undone_shared, undone_shown}
 
 module _ (log : CallLog) (s : Shared) (n : Node) (name : List ℕ) (clock : ℕ) (has_parts : Bool) (d0 : DiskState) (h : StandsFor log (kept_down name clock has_parts d0) n) (t : Task) (p : IsBoot t) (early : refused_before_reading s n (task_service t) ≡ None) where
   -- memory is missing

@@ -9,13 +9,13 @@ use Rattle.commit_protocol.specs.Messages.{Message}
 use Rattle.commit_protocol.specs.World.{In}
 use Rattle.transcript.specs.Forms.{HasTime, line_of}
 use Rattle.transcript.specs.declared.form.Form.{Form}
-use Rattle.transcript_model.specs.Emitting.{Emits, Shown}
+use Rattle.emitter_model.specs.Emitting.{Emits, Shown}
 use Rattle.transcript_model.specs.Lines as line
 use Rattle.transcript_model.specs.Lines.{Cause, Line}
-use Rattle.transcript_model.proofs.EmittingLemmas.{emits_on}
+use Rattle.emitter_model.proofs.EmittingLemmas.{emits_on}
 use Rattle.script_model.specs.Statements.{Boot, Fuse}
 use Rattle.careful_write.specs.declared.down.Down.{Down}
-use Rattle.run_laws.specs.Said.{Said, is_of_lines, line_said, lines_said, request_said, with_said, with_up, with_use}
+use Rattle.run_laws.specs.Said.{Said, is_of_lines, line_said, lines_said, with_said, with_up, with_use}
 use Rattle.said_steps.specs.Calls.{shows_boot}
 use Rattle.said_steps.specs.Own.{IsOwn}
 use Rattle.run_model.specs.Answers.{Restarts, Serves, Task, refused_before_reading, task_service}
@@ -23,26 +23,24 @@ use Rattle.run_model.specs.Operations.{first_of, refused_if}
 use Rattle.run_model.specs.Steps.{NodeStep}
 use Rattle.run_model.specs.World.{Node, Shared}
 use Rattle.run_shared.specs.Sharing.{IsShared, SharedState}
-use Rattle.node_table.specs.Standing.{Up}
-use Rattle.node_table.specs.Telling.{IsOfWork, wire_after}
+use Rattle.node_table.specs.Telling.{IsOfWork}
 use Rattle.dtm_node.specs.declared.node.Opened.TheVariants as opened
 use Rattle.dtm_node.specs.Causes.{cause_of}
-use Rattle.dtm_node.specs.Keeping.{PerformsRequest, PerformsTask}
+use Rattle.node_requests.specs.Keeping.{PerformsRequest, PerformsTask}
 use Rattle.dtm_node.specs.Nodes.{last_lines_of, undone_line}
-use Rattle.dtm_node.specs.Opening.{ComesTo, EndsBoot, EndsTask, IsOpen, Opens, Reopens, ReopensDown, Rises, kept_down, used}
-use Rattle.dtm_node.specs.Standing.{IsDown, IsRunning, Kept, Place, StandsFor, StandsIn, counts_of, disk_in, is_up}
+use Rattle.dtm_node.specs.Opening.{ComesTo, EndsBoot, EndsTask, IsOpen, Opens, Reopens, Rises, kept_down, used}
+use Rattle.node_requests.specs.Standing.{IsDown, IsRunning, Kept, Place, StandsFor, StandsIn, counts_of, disk_in, is_up}
 use Rattle.said_steps.specs.Answers.{IsSteady}
 use Rattle.said_steps.proofs.Falls.{steady_on}
 use Rattle.dtm_node.proofs.Answered.{calm_answers, calm_steady, refused_answers, steady_answers}
 use Rattle.dtm_node.proofs.Held.{holds_is}
-use Rattle.dtm_node.specs.Telling.{AnswersTask, Passes, RestartTold, TellsTask, armed_task, powered_task, refused_task, said_alone, said_node, said_shared, task_said}
-use Rattle.dtm_node.specs.TheLaws.{TheLaws}
+use Rattle.node_requests.specs.Telling.{AnswersTask, RestartTold, TellsTask, armed_task, powered_task, refused_task, said_alone, said_node, said_shared, task_said}
+use Rattle.node_requests.specs.TheLaws.{TheLaws}
 use Rattle.dtm_node.proofs.BootEnds.{shares_used}
 use Rattle.dtm_node.proofs.BootSteps.{IsBoot, boot_is, restart_is, step_first}
 use Rattle.dtm_node.proofs.Passing.{passes_same}
-use Rattle.dtm_node.proofs.Performing.{kept_up}
 use Rattle.dtm_node.proofs.Rising.{came_down, came_up}
-use Rattle.dtm_node.proofs.SaysLemmas.{all_on, calm_not_down, lines_calm, lines_on, own_calm, same_text, with_wire}
+use Rattle.node_requests.proofs.SaysLemmas.{all_on, calm_not_down, lines_calm, lines_on, own_calm, same_text, with_wire}
 
 -- What an opening came to.
 

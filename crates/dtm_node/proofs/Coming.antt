@@ -1,18 +1,17 @@
 -- An event comes to a node that is up, or to one that is down.
-use Rattle.std.proofs.Common.{◌≡◌, ◌⊎◌, inl, inr, ℕ, List, [], ◌∷◌, ◌++◌, Bool, true, false, Option, Some, None, Result, Ok, Err, not, map, is_some, if◌then◌else◌, refl, ◌∙◌, ap, sym, subst, arith}
+use Rattle.std.proofs.Common.{◌≡◌, ◌⊎◌, inl, inr, ℕ, List, [], ◌∷◌, ◌++◌, Bool, true, false, Some, None, Result, Ok, Err, not, map, is_some, if◌then◌else◌, refl, ◌∙◌, ap, sym, subst, arith}
 use Rattle.std.specs.Prelude.{◌||◌}
 use Rattle.block_disk.specs.Disk.{CallLog, DiskState}
 use Rattle.careful_write.specs.declared.down.Down.{Down}
 use Rattle.commit_protocol.specs.Rows as rows
 use Rattle.commit_protocol.specs.Rows.{Event}
-use Rattle.transcript_model.specs.Emitting.{Emits, Shown}
-use Rattle.transcript_model.proofs.EmittingLemmas.{emits_on}
+use Rattle.emitter_model.specs.Emitting.{Emits, Shown}
+use Rattle.emitter_model.proofs.EmittingLemmas.{emits_on}
 use Rattle.transcript_model.specs.Lines as line
 use Rattle.transcript_model.specs.Lines.{Line}
 use Rattle.run_model.specs.World.{Node, Shared}
-use Rattle.run_model.specs.Answers.{Hears, LosesLink, Restarts, RunsDown, Serves, Service, Takes, Task, Ticks, just, refused_before_reading, shown_line, task_service, told_rows}
+use Rattle.run_model.specs.Answers.{Hears, LosesLink, Restarts, RunsDown, Serves, Takes, Task, Ticks, just, refused_before_reading, shown_line, task_service, told_rows}
 use Rattle.run_model.specs.Operations.{first_of, refused_if}
-use Rattle.run_model.specs.Steps.{NodeStep}
 use Rattle.volume_model.specs.Volumes.{HasDisk}
 use Rattle.world_laws.specs.Nodes.{AreUp, IsKeptNode, RowsKeepUp}
 use Rattle.recovery_units.specs.Uses.{Caused, Goes}
@@ -22,12 +21,12 @@ use Rattle.node_table.specs.Running.{IsNewFor, TellsRows}
 use Rattle.node_table.specs.Standing.{StandsUp, Up}
 use Rattle.node_table.specs.Telling.{ShowsWork}
 use Rattle.dtm_node.specs.Causes.{cause_of}
-use Rattle.dtm_node.specs.Keeping.{Performs, PerformsTask}
-use Rattle.dtm_node.specs.Running.{ComesFreely, TellsEvent, event_told, name_of, shown_first}
-use Rattle.dtm_node.specs.Standing.{IsDown, Kept, StandsFor, counts_of, disk_in, disk_of, is_up}
+use Rattle.node_requests.specs.Keeping.{Performs, PerformsTask}
+use Rattle.node_requests.specs.Running.{ComesFreely, TellsEvent, event_told, name_of, shown_first}
+use Rattle.node_requests.specs.Standing.{IsDown, Kept, StandsFor, counts_of, disk_in, disk_of}
 use Rattle.dtm_node.proofs.EventSteps.{did_performs, does_behind, up_behind, went_performs}
 use Rattle.dtm_node.proofs.EventTasks.{IsEventTask, event_down, event_fails, event_task, event_tells}
-use Rattle.dtm_node.proofs.Performing.{before_here, kept_fallen, kept_up}
+use Rattle.dtm_node.proofs.Performing.{kept_fallen, kept_up}
 use Rattle.dtm_node.proofs.Stepping.{IsPlain, step_early}
 
 -- one line at the most is shown first

@@ -1,5 +1,5 @@
 -- What the disk of a node that is down has.
-use Rattle.std.proofs.Common.{◌≡◌, ⊎_elim, inl, inr, ℕ, List, Bool, true, Option, Some, None, IsSomeAnd, sym, subst, ◌∙◌}
+use Rattle.std.proofs.Common.{◌≡◌, inl, ℕ, List, Bool, true, Option, Some, None, IsSomeAnd, sym, subst, ◌∙◌}
 use Rattle.block_disk.specs.Blocks.{SameBut}
 use Rattle.block_disk.specs.Disk.{DiskState, MayLeave}
 use Rattle.careful_write.specs.Content.{content_of}

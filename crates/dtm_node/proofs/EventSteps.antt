@@ -1,15 +1,14 @@
 -- What an event that came to a node which is up did there, as a step of the node of the world.
-use Rattle.std.proofs.Common.{◌≡◌, ◌⊎◌, inl, inr, ℕ, ◌≤◌, ◌+◌, suc, List, [], ◌∷◌, ◌++◌, Bool, true, false, Option, Some, None, Result, Ok, Err, not, length, map, take, drop, is_some, if◌then◌else◌, refl, ◌∙◌, ap, sym, subst, append_assoc}
-use Rattle.std.specs.Prelude.{MatchResult}
+use Rattle.std.proofs.Common.{◌≡◌, ◌⊎◌, inl, inr, ℕ, List, [], ◌∷◌, ◌++◌, Bool, true, false, Option, Some, None, Result, Ok, Err, not, map, take, is_some, if◌then◌else◌, refl, ◌∙◌, ap, sym, subst}
 use Rattle.std.specs.List.{AllByRecursion}
-use Rattle.block_disk.specs.Disk.{CallLog, DiskState}
+use Rattle.block_disk.specs.Disk.{CallLog}
 use Rattle.careful_write.specs.declared.down.Down.{Down}
 use Rattle.commit_protocol.specs.Rows.{Event, row}
 use Rattle.commit_protocol.specs.Table as table
-use Rattle.transcript_model.specs.Emitting.{Emits, Shown}
+use Rattle.emitter_model.specs.Emitting.{Emits, Shown}
 use Rattle.transcript_model.specs.Lines as line
 use Rattle.transcript_model.specs.Lines.{Line}
-use Rattle.transcript_model.proofs.EmittingLemmas.{emits_on}
+use Rattle.emitter_model.proofs.EmittingLemmas.{emits_on}
 use Rattle.run_model.specs.World.{Act, Node, Shared, Tables, acted, next_moment, shared_after, tm_of}
 use Rattle.run_model.specs.Answers.{Row, Task, just, shown_line, table_rows, task_service, told_rows}
 use Rattle.run_model.specs.Steps.{lines_of_rows, node_after_rows, rows_if, shared_after_rows}
@@ -22,9 +21,9 @@ use Rattle.run_shared.specs.Sharing.{IsShared, SharedState}
 use Rattle.node_table.specs.Serving.{WasCut, service_at}
 use Rattle.node_table.specs.Standing.{StandsUp, Up}
 use Rattle.dtm_node.specs.Causes.{cause_of}
-use Rattle.dtm_node.specs.Keeping.{Performs}
-use Rattle.dtm_node.specs.Running.{name_of, shown_first}
-use Rattle.dtm_node.specs.Standing.{StandsFor, counts_of, disk_of}
+use Rattle.node_requests.specs.Keeping.{Performs}
+use Rattle.node_requests.specs.Running.{name_of, shown_first}
+use Rattle.node_requests.specs.Standing.{StandsFor, counts_of, disk_of}
 use Rattle.dtm_node.proofs.EventTasks.{IsEventTask}
 use Rattle.dtm_node.proofs.Performing.{LeavesRest, cut_performs, kept_fallen, kept_up, leaves_rest, rows_same, stands_then}
 use Rattle.dtm_node.proofs.Stepping.{step_done}

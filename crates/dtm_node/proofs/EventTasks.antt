@@ -1,18 +1,16 @@
 -- Tasks that tell a node's table an event.
-use Rattle.std.proofs.Common.{◌≡◌, ◌⊎◌, inl, inr, ℕ, List, [], ◌∷◌, ◌++◌, Bool, true, false, Option, Some, None, Result, Ok, Err, not, map, if◌then◌else◌, refl, ◌∙◌, ap, sym, subst, append_assoc, arith}
-use Rattle.std.specs.Prelude.{MatchResult}
+use Rattle.std.proofs.Common.{◌≡◌, ℕ, List, [], ◌∷◌, ◌++◌, Bool, true, false, Some, None, not, map, if◌then◌else◌, refl, ◌∙◌, ap, sym, subst, append_assoc, arith}
 use Rattle.std.specs.List.{AllByRecursion}
 use Rattle.block_disk.specs.Disk.{CallLog, DiskState}
 use Rattle.careful_write.specs.declared.down.Down.{Down}
 use Rattle.commit_protocol.specs.Messages.{Message}
 use Rattle.commit_protocol.specs.Rows as rows
 use Rattle.commit_protocol.specs.Rows.{Event}
-use Rattle.commit_protocol.specs.World.{In}
-use Rattle.transcript_model.specs.Emitting.{Emits, Shown}
+use Rattle.emitter_model.specs.Emitting.{Emits, Shown}
 use Rattle.transcript_model.specs.Lines as line
 use Rattle.transcript_model.specs.Lines.{Cause, Line}
 use Rattle.transcript_model.specs.Outside.{Rose}
-use Rattle.transcript_model.proofs.EmittingLemmas.{emits_on}
+use Rattle.emitter_model.proofs.EmittingLemmas.{emits_on}
 use Rattle.script_model.specs.Statements.{Crash, Fuse}
 use Rattle.run_laws.specs.Said.{Said, SaidNode, SaidShared, down_said, is_of_lines, line_said, lines_said}
 use Rattle.said_steps.specs.Own.{IsOwn}
@@ -20,19 +18,19 @@ use Rattle.run_model.specs.World as world
 use Rattle.run_model.specs.World.{Node}
 use Rattle.run_model.specs.Answers.{Hears, LosesLink, Restarts, RunsDown, Serves, Takes, Task, Ticks, just, shown_line, task_service, told_rows, touches}
 use Rattle.run_model.specs.Steps.{count_of}
-use Rattle.recovery_units.specs.Uses.{Caused, Goes, IsCounted}
+use Rattle.recovery_units.specs.Uses.{Caused, Goes}
 use Rattle.run_shared.specs.Sharing.{SharedState}
 use Rattle.node_table.specs.Standing.{Up}
 use Rattle.node_table.specs.Telling.{IsOfWork, ShowsWork, wire_after, wire_behind}
 use Rattle.dtm_node.specs.Causes.{cause_of}
-use Rattle.dtm_node.specs.Keeping.{all_shown}
-use Rattle.dtm_node.specs.Running.{event_told, shown_first}
-use Rattle.dtm_node.specs.Standing.{Kept, counts_of, disk_in, disk_of, is_up}
+use Rattle.node_requests.specs.Keeping.{all_shown}
+use Rattle.node_requests.specs.Running.{event_told, shown_first}
+use Rattle.node_requests.specs.Standing.{Kept, counts_of, disk_in, disk_of, is_up}
 use Rattle.dtm_node.proofs.Answered.{calm_answers, fell_answers, goes_answers, refused_answers}
 use Rattle.dtm_node.proofs.Held.{holds_is}
-use Rattle.dtm_node.specs.Telling.{AnswersTask, Passes, TellsTask, calls_after_task, may_answer_task, refused_task, said_alone, said_node, said_shared, task_said}
+use Rattle.node_requests.specs.Telling.{AnswersTask, Passes, TellsTask, calls_after_task, may_answer_task, refused_task, said_alone, said_node, said_shared, task_said}
 use Rattle.dtm_node.proofs.Performing.{kept_fallen, kept_up, rose_of}
-use Rattle.dtm_node.proofs.SaysLemmas.{all_on, alone_down, calm_not_down, down_behind, lines_calm, lines_on, own_calm}
+use Rattle.node_requests.proofs.SaysLemmas.{all_on, alone_down, calm_not_down, down_behind, lines_calm, lines_on, own_calm}
 use Rattle.dtm_node.proofs.Stepping.{IsPlain}
 
 -- What is so of each of them.

@@ -1,13 +1,12 @@
 -- A node that is up: its disk is told, and has what the node has once it is down.
-use Rattle.std.proofs.Common.{◌≡◌, inl, ℕ, List, Bool, true, false, Option, Some, None, IfSome, is_some, option_map, refl, sym, ap, subst, ◌∙◌}
-use Rattle.block_disk.specs.Disk.{DiskState}
+use Rattle.std.proofs.Common.{◌≡◌, inl, ℕ, true, false, Option, Some, None, IfSome, is_some, option_map, refl, sym, ap, subst, ◌∙◌}
 use Rattle.careful_write.specs.Content.{content_of}
 use Rattle.volume.specs.Catalogs.{TellsCatalog}
 use Rattle.run_model.specs.World.{Durable, Node}
-use Rattle.volume_model.specs.Volumes.{HasDisk, IsEitherOf, IsLeftBy}
+use Rattle.volume_model.specs.Volumes.{HasDisk, IsEitherOf}
 use Rattle.recovery_units.specs.Laws.{KeepsNodes}
 use Rattle.node_table.specs.Standing.{IsUp, StandsUp, Up}
-use Rattle.dtm_node.specs.Standing.{disk_of}
+use Rattle.node_requests.specs.Standing.{disk_of}
 use Rattle.dtm_node.proofs.DiskLemmas.{Content, disk_sound, idle_leaves}
 
 some_of : {A B : Type 0} (f : A → B) (o : Option A) (y : B) → option_map f o ≡ Some y → is_some o ≡ true

@@ -24,12 +24,12 @@ use Rattle.volume.specs.Limits.{SizesFit}
 use Rattle.transcript_model.specs.Outside.{Rose}
 use Rattle.transcript_model.specs.Lines as line
 use Rattle.transcript_model.specs.Lines.{Line, Cause, Failed}
-use Rattle.transcript_model.specs.Emitting.{Shown, Emits}
-use Rattle.script_model.specs.Statements.{Fuse, Init}
-use Rattle.run_laws.specs.Said.{Said, SaidNode, SaidShared, is_of_lines, line_said, lines_said, request_said, with_said}
+use Rattle.emitter_model.specs.Emitting.{Shown, Emits}
+use Rattle.script_model.specs.Statements.{Init}
+use Rattle.run_laws.specs.Said.{Said, SaidNode, SaidShared, is_of_lines, line_said, request_said, with_said}
 use Rattle.said_steps.specs.Own.{IsOwn, alone}
 use Rattle.run_model.specs.World.{DiskCounts, Formats, Lost, Node, Power, Shared, Unknown, acted, fallen, powered, unpowered}
-use Rattle.run_model.specs.Answers.{Restarts, Serves, Task, is_volume_form, is_within, refused_before_reading, service, task_service}
+use Rattle.run_model.specs.Answers.{Serves, is_volume_form, is_within, refused_before_reading, service}
 use Rattle.run_model.specs.Operations.{first_of, refused_if}
 use Rattle.run_model.specs.Steps.{Cut, NodeStep, Unpowered, Whole, count_of, spoilt}
 use Rattle.volume_model.specs.Volumes.{IsLeftBy, LeavesVolume}
@@ -40,15 +40,15 @@ use Rattle.dtm_node.specs.declared.node.Formatted.{Formatted}
 use Rattle.dtm_node.specs.declared.node.Formatted.TheVariants as formatted
 use Rattle.dtm_node.specs.Causes.{cause_of}
 use Rattle.dtm_node.specs.Formatting.{Formats as FormatsPlace, FormatsDisk, init_answer, init_lines, is_ended, kept_so, unmade_then}
-use Rattle.dtm_node.specs.Keeping.{Performs, PerformsRequest, PerformsTask}
-use Rattle.dtm_node.specs.Standing.{IsDown, IsRunning, Kept, Place, StandsFor, counts_of, disk_in, noted_all}
-use Rattle.dtm_node.specs.Holding.{HoldsAs}
+use Rattle.node_requests.specs.Keeping.{Performs, PerformsRequest}
+use Rattle.node_requests.specs.Standing.{IsDown, IsRunning, Kept, Place, StandsFor, counts_of, disk_in, noted_all}
+use Rattle.node_requests.specs.Holding.{HoldsAs}
 use Rattle.dtm_node.proofs.Answered.{calm_answers, fell_answers, refused_answers}
 use Rattle.dtm_node.proofs.Held.{holds_is}
-use Rattle.dtm_node.specs.Telling.{AnswersTask, Passes, TellsTask, task_used, powered_task, refused_task, said_alone, said_node, said_shared, task_said}
+use Rattle.node_requests.specs.Telling.{AnswersTask, Passes, TellsTask, task_used, powered_task, refused_task, said_alone, said_node, said_shared, task_said}
 use Rattle.dtm_node.proofs.DiskLemmas.{as_it_was, disk_unknown}
 use Rattle.dtm_node.proofs.Passing.{Unpowers, passes_counts, passes_on, passes_power, passes_same, power_calls, rose_after, rose_down}
-use Rattle.dtm_node.proofs.SaysLemmas.{alone_down, same_text}
+use Rattle.node_requests.proofs.SaysLemmas.{alone_down, same_text}
 
 -- a volume that was just made, on a disk of so many whole blocks
 is_made : (name : List ℕ) (size slots journal : ℕ) (blocks : List (List ℕ)) → SizesFit size (record { blocks = size; slots = slots; ru_blocks = journal }) → IsWhole size blocks → 4096 ≤ size → IsEmptyVolume (empty_home name size slots journal) (home blocks) → IsMade (home blocks) (empty_catalog (empty_home name size slots journal)) slots journal

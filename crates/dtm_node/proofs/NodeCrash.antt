@@ -1,9 +1,9 @@
 -- A node that is up falls.
-use Rattle.std.proofs.Common.{◌≡◌, ℕ, ◌<◌, List, [], ◌∷◌, Bool, true, false, refl, sym, ap, subst, ◌∙◌}
+use Rattle.std.proofs.Common.{◌≡◌, ℕ, ◌<◌, [], ◌∷◌, Bool, true, false, refl, sym, subst, ◌∙◌}
 use Rattle.block_disk.specs.Disk.{DiskState}
-use Rattle.transcript_model.specs.Emitting.{Emits, Shown}
+use Rattle.emitter_model.specs.Emitting.{Emits, Shown}
 use Rattle.transcript_model.specs.Lines as line
-use Rattle.transcript_model.proofs.EmittingLemmas.{emits_on}
+use Rattle.emitter_model.proofs.EmittingLemmas.{emits_on}
 use Rattle.script_model.specs.Statements.{Crash}
 use Rattle.run_model.specs.Answers.{Serves}
 use Rattle.recovery_units.specs.Laws.{KeepsNodes}
@@ -14,10 +14,10 @@ use Rattle.node_table.specs.declared.running.Running.{Running}
 use Rattle.dtm_node.specs.declared.node.Node.{Node}
 use Rattle.dtm_node.specs.declared.node.Place as code
 use Rattle.dtm_node.specs.declared.node.Place.TheVariants as code_place
-use Rattle.dtm_node.specs.Keeping.{PerformsRequest}
+use Rattle.node_requests.specs.Keeping.{PerformsRequest}
 use Rattle.dtm_node.specs.Nodes.{IsNode, IsPlaceOf, fallen_place, kept_of, place_of}
-use Rattle.dtm_node.specs.Standing.{Kept, Place, disk_of, is_up}
-use Rattle.dtm_node.specs.Telling.{TellsTask}
+use Rattle.node_requests.specs.Standing.{Kept, Place, disk_of, is_up}
+use Rattle.node_requests.specs.Telling.{TellsTask}
 use Rattle.dtm_node.proofs.Performing.{kept_fallen, kept_up}
 use Rattle.dtm_node.proofs.Simple.{crash_performs, crash_tells}
 

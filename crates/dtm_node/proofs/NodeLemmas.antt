@@ -1,5 +1,5 @@
 -- What the code keeps of a node, up and down.
-use Rattle.std.proofs.Common.{◌≡◌, ℕ, ◌≤◌, ◌<◌, ◌+◌, ◌*◌, ◌^◌, List, [], Bool, true, false, Option, Some, None, IfSome, Result, Ok, Err, max, refl, sym, ap, subst, ◌∙◌, arith}
+use Rattle.std.proofs.Common.{◌≡◌, ℕ, ◌≤◌, ◌<◌, ◌+◌, true, false, Option, refl, arith}
 use Rattle.block_disk.specs.Disk.{DiskState}
 use Rattle.commit_protocol.specs.Rows as rows
 use Rattle.commit_protocol.specs.Rows.{Event}
@@ -9,7 +9,6 @@ use Rattle.log_laws.specs.Slots.{begun}
 use Rattle.recovery_units.specs.State.{UnitsState}
 use Rattle.run_shared.specs.Sharing.{SharedState}
 use Rattle.node_table.specs.Code.{up_of}
-use Rattle.node_table.specs.Growing.{end_to_come, moment_to_come}
 use Rattle.node_table.specs.Running.{Grown, IsEarlyFor, IsFreshFor, IsTold}
 use Rattle.node_table.specs.Standing.{IsUp, Up}
 use Rattle.node_table.specs.declared.running.Running.{Running}
@@ -17,11 +16,10 @@ use Rattle.dtm_node.specs.declared.node.Node.{Node}
 use Rattle.dtm_node.specs.declared.node.Parts.{Parts}
 use Rattle.dtm_node.specs.declared.node.Place as code
 use Rattle.dtm_node.specs.declared.node.Place.TheVariants as code_place
-use Rattle.dtm_node.specs.Nodes.{IsFallen, IsNode, IsParts, IsPlaceOf, MayFall, fallen_place, kept_of, place_of, state_of}
-use Rattle.dtm_node.specs.Requests.{HasMoved, MayServe}
-use Rattle.dtm_node.specs.Running.{ComesFreely, HasGrown, name_of}
-use Rattle.dtm_node.specs.Standing.{IsDown, IsRunning, Kept, Place, disk_of, is_up}
-use Rattle.dtm_node.proofs.Performing.{kept_fallen, kept_up}
+use Rattle.dtm_node.specs.Nodes.{IsFallen, IsPlaceOf, kept_of, place_of}
+use Rattle.node_requests.specs.Requests.{HasMoved, MayServe}
+use Rattle.node_requests.specs.Running.{ComesFreely, HasGrown}
+use Rattle.dtm_node.proofs.Performing.{kept_up}
 
 -- A free event is told to any table, by no branch that begins.
 

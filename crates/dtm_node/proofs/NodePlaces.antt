@@ -1,5 +1,5 @@
 -- What holds of a node behind a statement that changed its place, or its clock.
-use Rattle.std.proofs.Common.{◌≡◌, ℕ, ◌≤◌, ◌+◌, Bool, true, false, Option, refl, sym, subst, ◌∙◌}
+use Rattle.std.proofs.Common.{◌≡◌, ℕ, ◌≤◌, ◌+◌, refl, sym, subst, ◌∙◌}
 use Rattle.block_disk.specs.Disk.{DiskState}
 use Rattle.recovery_units.specs.State.{UnitsState}
 use Rattle.run_shared.specs.Sharing.{SharedState}
@@ -11,7 +11,7 @@ use Rattle.dtm_node.specs.declared.node.Node.{Node}
 use Rattle.dtm_node.specs.declared.node.Place as code
 use Rattle.dtm_node.specs.declared.node.Place.TheVariants as code_place
 use Rattle.dtm_node.specs.Nodes.{IsFallen, IsNode, IsPlaceOf, MayFall}
-use Rattle.dtm_node.specs.Running.{HasGrown}
+use Rattle.node_requests.specs.Running.{HasGrown}
 use Rattle.dtm_node.proofs.Arming.{armed_order, armed_volume}
 use Rattle.dtm_node.proofs.NodeLemmas.{fallen_place_of, grown_more}
 

@@ -1,9 +1,9 @@
 -- A request that a node has to be up for comes to a node, by what the code keeps of it.
-use Rattle.std.proofs.Common.{◌≡◌, ℕ, ◌≤◌, ◌<◌, ◌+◌, List, [], ◌∷◌, Bool, true, false, Option, Result, Ok, Err, is_some, refl, sym, ap, subst, ◌∙◌}
+use Rattle.std.proofs.Common.{◌≡◌, ℕ, ◌≤◌, ◌<◌, ◌+◌, List, [], ◌∷◌, Bool, true, Option, Result, Ok, Err, is_some, refl, sym, ap, subst, ◌∙◌}
 use Rattle.block_disk.specs.Disk.{DiskState}
 use Rattle.careful_write.specs.declared.down.Down.{Down}
 use Rattle.change_set.specs.Files.{free_frames}
-use Rattle.transcript_model.specs.Emitting.{Emits, Shown}
+use Rattle.emitter_model.specs.Emitting.{Emits, Shown}
 use Rattle.transcript_model.specs.Lines as line
 use Rattle.transcript_model.specs.Lines.{Line}
 use Rattle.script_model.specs.Statements.{AddBranch, Boot, Init, Request, StartTrans}
@@ -13,24 +13,24 @@ use Rattle.run_model.specs.World as world
 use Rattle.recovery_units.specs.State.{UnitsState}
 use Rattle.run_shared.specs.Sharing.{SharedState}
 use Rattle.node_table.specs.Code.{up_of}
-use Rattle.node_table.specs.Standing.{IsUp, StandsUp, Up}
+use Rattle.node_table.specs.Standing.{IsUp, StandsUp}
 use Rattle.node_table.specs.declared.running.Running.{Running}
 use Rattle.dtm_node.specs.declared.node.Node.{Node}
 use Rattle.dtm_node.specs.declared.node.Parts.{Parts}
 use Rattle.dtm_node.specs.declared.node.Place as code
 use Rattle.dtm_node.specs.declared.node.Place.TheVariants as code_place
 use Rattle.dtm_node.specs.Causes.{cause_of}
-use Rattle.dtm_node.specs.Keeping.{PerformsRequest}
+use Rattle.node_requests.specs.Keeping.{PerformsRequest}
 use Rattle.dtm_node.specs.Nodes.{IsNode, IsPlaceOf, MayFall, fallen_place, kept_of}
-use Rattle.dtm_node.specs.Requests.{DoesRequest, IsForUp, MayServe, SaysRequest, said_up}
-use Rattle.dtm_node.specs.Running.{HasGrown, name_of}
-use Rattle.dtm_node.specs.Standing.{Kept, disk_of}
-use Rattle.dtm_node.specs.Telling.{TellsTask}
+use Rattle.node_requests.specs.Requests.{DoesRequest, IsForUp, MayServe, SaysRequest, said_up}
+use Rattle.node_requests.specs.Running.{name_of}
+use Rattle.node_requests.specs.Standing.{Kept, disk_of}
+use Rattle.node_requests.specs.Telling.{TellsTask}
 use Rattle.dtm_node.proofs.Falling.{told_up}
 use Rattle.dtm_node.proofs.NodeLemmas.{grown_more, kept_is_down, kept_is_up, may_serve, moved_grown}
 use Rattle.dtm_node.proofs.Performing.{kept_fallen, kept_up}
 use Rattle.dtm_node.proofs.RequestTasks.{down_answers, down_tells, request_breaks, request_fails, request_performs, request_tells}
-use Rattle.dtm_node.proofs.SaysLemmas.{lines_calm}
+use Rattle.node_requests.proofs.SaysLemmas.{lines_calm}
 
 -- By no such request a volume may be made again that could not be made before.
 

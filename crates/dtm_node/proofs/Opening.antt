@@ -1,34 +1,29 @@
 -- A node that is down is opened: its disk is made to run again, and its volume is mounted with a raised boot count.
-use Rattle.std.proofs.Common.{◌≡◌, ◌⊎◌, ℕ, List, [], ◌∷◌, ◌++◌, Bool, true, false, Option, Some, None, refl, ◌∙◌, ap, sym, subst, arith}
-use Rattle.std.specs.List.{AllByRecursion}
-use Rattle.block_disk.specs.Disk.{CallLog, DiskState, IsPowered, noted}
-use Rattle.block_disk.specs.declared.disk.DiskCall.TheVariants as disk_call
+use Rattle.std.proofs.Common.{◌≡◌, ◌⊎◌, ℕ, List, [], ◌∷◌, Bool, true, false, Some, None, refl, ◌∙◌, ap, sym, subst}
+use Rattle.block_disk.specs.Disk.{CallLog, DiskState, IsPowered}
 use Rattle.block_disk.specs.declared.disk.DiskErr.{DiskErr}
 use Rattle.careful_write.specs.Down.{down_of}
 use Rattle.careful_write.specs.declared.down.Down.{Down}
-use Rattle.transcript_model.specs.Emitting.{Emits, Shown}
 use Rattle.transcript_model.specs.Lines as line
 use Rattle.transcript_model.specs.Lines.{Cause, Failed, Line}
 use Rattle.transcript_model.specs.Outside.{Rose}
-use Rattle.volume.specs.State.{VolumeState}
 use Rattle.run_model.specs.Answers.{Restarts, bootable}
 use Rattle.run_model.specs.Steps.{count_of}
 use Rattle.run_model.specs.World.{Boots, Node, Shared, acted, fallen, powered}
 use Rattle.volume_model.specs.Volumes.{HasDisk}
 use Rattle.world_laws.specs.Nodes.{IsKeptNode, StepsKeepNodes}
 use Rattle.recovery_units.specs.Calls.{IsRestarting}
-use Rattle.recovery_units.specs.State.{HasNoUnit, UnitsState}
+use Rattle.recovery_units.specs.State.{HasNoUnit}
 use Rattle.recovery_units.specs.Uses.{Goes, IsCounted}
-use Rattle.node_table.specs.Code.{up_of}
 use Rattle.node_table.specs.Standing.{Up}
 use Rattle.dtm_node.specs.Boots.{IsAwake, IsBootRefusal, IsRaised}
 use Rattle.dtm_node.specs.Causes.{cause_of}
-use Rattle.dtm_node.specs.Keeping.{IsPromised}
-use Rattle.dtm_node.specs.Opening.{EndsBoot, OpensUp, RaisesTo, Wakes, kept_down, used}
-use Rattle.dtm_node.specs.Standing.{StandsFor, counts_of, disk_of}
+use Rattle.node_requests.specs.Keeping.{IsPromised}
+use Rattle.dtm_node.specs.Opening.{EndsBoot, OpensUp, Wakes, kept_down, used}
+use Rattle.node_requests.specs.Standing.{StandsFor, counts_of, disk_of}
 use Rattle.dtm_node.proofs.BootEnds.{ends_boot, fallen_end, fallen_rose, lacking_end, refused_end, shares_used}
 use Rattle.dtm_node.proofs.Booting.{boot_fell, boot_lacks, boot_refused, boot_unpowered}
-use Rattle.dtm_node.specs.Holding.{HoldsAs}
+use Rattle.node_requests.specs.Holding.{HoldsAs}
 use Rattle.dtm_node.proofs.Held.{holds_is, holds_on, holds_power}
 use Rattle.dtm_node.proofs.Passing.{Unpowers, passes_goes, passes_power, passes_same, power_calls, rose_after}
 use Rattle.dtm_node.proofs.Waking.{powered_kept, wakes}

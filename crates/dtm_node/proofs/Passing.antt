@@ -1,5 +1,5 @@
 -- A disk over calls of `power` and what comes behind them.
-use Rattle.std.proofs.Common.{◌≡◌, ℕ, ◌<◌, ◌≤◌, ◌^◌, List, [], ◌∷◌, Bool, true, false, Option, Some, None, Result, Err, MatchOption, IsSomeAnd, is_some, refl, sym, ap, subst, ◌∙◌, arith, inl, inr}
+use Rattle.std.proofs.Common.{◌≡◌, ℕ, ◌<◌, ◌≤◌, ◌^◌, List, Bool, true, false, Option, Some, None, Result, Err, MatchOption, IsSomeAnd, is_some, refl, sym, ap, subst, ◌∙◌, arith, inl, inr}
 use Rattle.std.specs.Prelude.{nat_lt}
 use Rattle.std.proofs.lemmas.Bool.{ltb-true, ltb-false}
 use Rattle.block_disk.specs.Blocks.{SameBut}
@@ -14,14 +14,12 @@ use Rattle.careful_write.specs.declared.down.Down.{Down}
 use Rattle.careful_write.specs.declared.down.Down.TheVariants as down
 use Rattle.transcript_model.specs.Outside.{Rose}
 use Rattle.transcript_model.proofs.OutsideLemmas.{rose_earlier}
-use Rattle.transcript_model.specs.Lines as line
 use Rattle.transcript_model.specs.Lines.{Cause, Failed, Stopped}
-use Rattle.transcript_model.specs.Emitting.{Shown, Emits}
 use Rattle.run_model.specs.Steps.{count_of}
 use Rattle.recovery_units.specs.Uses.{Goes, IsCounted}
 use Rattle.dtm_node.specs.Causes.{cause_of}
-use Rattle.dtm_node.specs.Standing.{counts_of}
-use Rattle.dtm_node.specs.Telling.{Passes}
+use Rattle.node_requests.specs.Standing.{counts_of}
+use Rattle.node_requests.specs.Telling.{Passes}
 
 up : (b : Bool) (n : ℕ) → n < 2 ^ 64 → (n ≤ counted b n) × (counted b n < 2 ^ 64)
 up true n h = (omega arith, omega arith)

@@ -1,30 +1,28 @@
 -- What a node that is up did for a task, as a step of the node of the world.
-use Rattle.std.proofs.Common.{◌≡◌, ◌⊎◌, inl, inr, ℕ, zero, suc, ◌≤◌, List, [], ◌∷◌, ◌++◌, Bool, true, false, Option, Some, None, Result, Ok, Err, not, length, take, drop, is_some, if◌then◌else◌, refl, ◌∙◌, ap, sym, subst, append_assoc}
-use Rattle.std.specs.Prelude.{MatchResult, ◌||◌}
+use Rattle.std.proofs.Common.{◌≡◌, ◌⊎◌, inl, inr, ℕ, zero, suc, ◌≤◌, List, [], ◌∷◌, ◌++◌, Bool, true, false, Option, Some, None, not, take, drop, is_some, if◌then◌else◌, refl, ◌∙◌, ap, sym, subst, append_assoc}
+use Rattle.std.specs.Prelude.{◌||◌}
 use Rattle.std.specs.List.{AllByRecursion}
 use Rattle.block_disk.specs.Disk.{CallLog, DiskState}
 use Rattle.careful_write.specs.declared.down.Down.{Down}
 use Rattle.careful_write.specs.declared.down.Down.TheVariants as down
-use Rattle.transcript_model.specs.Emitting.{Emits, Shown}
+use Rattle.emitter_model.specs.Emitting.{Emits, Shown}
 use Rattle.transcript_model.specs.Outside.{Rose}
 use Rattle.transcript_model.specs.Lines as line
 use Rattle.transcript_model.specs.Lines.{Cause, Line}
-use Rattle.transcript_model.proofs.EmittingLemmas.{emits_on}
-use Rattle.run_model.specs.World.{Act, Arms, Boots, Changes, Clocks, ComesUp, Creates, Directs, DiskCounts, Draws, Falls, Formats, Holds, Labels, Marks, Node, Numbers, Shared, Tables, acted, fallen}
+use Rattle.emitter_model.proofs.EmittingLemmas.{emits_on}
+use Rattle.run_model.specs.World.{Act, Arms, Boots, Changes, Clocks, ComesUp, Creates, Declares, Directs, Draws, Falls, Formats, Holds, Labels, Marks, Node, Numbers, Shared, Tables, acted, fallen}
 use Rattle.run_model.specs.Answers.{Row, Service, Task, refused_before_reading, task_service, touches}
 use Rattle.run_model.specs.Operations.{first_of, refused_if}
 use Rattle.run_model.specs.Steps.{NodeStep, act_begun, count_of, lines_of_rows, node_after, node_after_rows, rows_if, shared_after_rows}
-use Rattle.run_model.proofs.TaskLemmas.{rows_name}
 use Rattle.volume_model.specs.Volumes.{HasDisk}
-use Rattle.recovery_units.specs.Uses.{Caused, Goes, HasRisen, IsCounted, down_of}
-use Rattle.row_laws.specs.Doing.{DidAll, DoesRows, WentDown}
+use Rattle.recovery_units.specs.Uses.{Caused, Goes, IsCounted}
 use Rattle.run_shared.specs.Sharing.{IsShared, SharedState}
-use Rattle.node_table.specs.Serving.{DoesService, ServiceAt, WasCut, WasRefused, WasServed, rows_at_risk, service_at}
+use Rattle.node_table.specs.Serving.{WasCut, WasRefused, WasServed, rows_at_risk, service_at}
 use Rattle.node_table.specs.Standing.{StandsUp, Up}
 use Rattle.dtm_node.specs.Causes.{cause_of}
-use Rattle.dtm_node.specs.Keeping.{Performs}
-use Rattle.dtm_node.specs.Running.{name_of}
-use Rattle.dtm_node.specs.Standing.{IsDown, IsRunning, Kept, StandsFor, counts_of, disk_in, disk_of, noted_all}
+use Rattle.node_requests.specs.Keeping.{Performs}
+use Rattle.node_requests.specs.Running.{name_of}
+use Rattle.node_requests.specs.Standing.{IsDown, IsRunning, Kept, StandsFor, counts_of, disk_of, noted_all}
 use Rattle.dtm_node.proofs.Stepping.{IsPlain, step_cut, step_done, step_early, step_late}
 
 -- what is kept of a node that is up, and of one that went down
@@ -68,6 +66,7 @@ acted_same (Numbers label serial) n l = record { name = refl; blocks = refl; clo
 acted_same (Tables a moment) n l = record { name = refl; blocks = refl; clock = refl; unmade = refl; calls = refl }
 acted_same (Changes tid serial file cs keys) n l = record { name = refl; blocks = refl; clock = refl; unmade = refl; calls = refl }
 acted_same (Holds serial file keys) n l = record { name = refl; blocks = refl; clock = refl; unmade = refl; calls = refl }
+acted_same (Declares rms) n l = record { name = refl; blocks = refl; clock = refl; unmade = refl; calls = refl }
 acted_same (Directs file cs x) n l = record { name = refl; blocks = refl; clock = refl; unmade = refl; calls = refl }
 acted_same Falls n l = record { name = refl; blocks = refl; clock = refl; unmade = refl; calls = refl }
 

@@ -6,7 +6,6 @@ use Rattle.journal_model.specs.Ring.{ring_size}
 use Rattle.std.proofs.Math.Seq.{take-length}
 use Rattle.block_disk.specs.Disk.{DiskState}
 use Rattle.careful_write.specs.State.{IsEither, IsIdle, Leaves, content}
-use Rattle.change_set.specs.Files.{free_frames}
 use Rattle.transcript_model.specs.Lines as line
 use Rattle.transcript_model.specs.Lines.{Line}
 use Rattle.file_base.specs.declared.head.FileHead.{FileHead}
@@ -22,7 +21,6 @@ use Rattle.run_model.specs.World.{Node, File, Carried, Boots, Volume, Sound, Fau
 use Rattle.run_model.specs.Answers.{Row, bar_line, bootable, boot_limit, images_end, last_position, left_active, moment_limit, position_limit, table_rows, unit_key}
 use Rattle.run_model.specs.Operations.{first_of, refused_if}
 use Rattle.commit_protocol.specs.World.{undo_all}
-use Rattle.unit_table.specs.Units.{OpenUnit}
 use Rattle.directory_model.specs.Files.{file_at, head_at}
 use Rattle.directory_model.specs.Restoring.{IsPlaceLeft}
 use Rattle.volume_model.specs.Bars.{ends_in, first_bar, is_in_ring}
@@ -31,7 +29,6 @@ use Rattle.world_laws.specs.Nodes.{AreKept, BootsKeepUp, IsKeptDisk}
 use Rattle.world_laws.proofs.UndoLemmas.{relocked_booted}
 use Rattle.recovery_units.specs.Calls.{IsRestarting}
 use Rattle.recovery_units.specs.Laws.{KeepsNodes}
-use Rattle.recovery_units.specs.State.{IsInOrder}
 use Rattle.dtm_node.specs.Boots.{IsMounted, IsWide}
 use Rattle.dtm_node.proofs.DiskLemmas.{Content, DiskBy, disk_sound, idle_leaves, same_some}
 use Rattle.dtm_node.proofs.Mounting.{MountedBy}

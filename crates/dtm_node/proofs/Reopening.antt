@@ -1,32 +1,30 @@
 -- Reopening a volume whose boot count was just raised.
-use Rattle.std.proofs.Common.{◌≡◌, ℕ, suc, ◌+◌, ◌*◌, ◌^◌, ◌<◌, ◌≤◌, List, [], ◌∷◌, ◌++◌, Bool, true, false, Some, if◌then◌else◌, length, map, max, take, get_or, refl, sym, ap, subst, ◌∙◌, arith}
+use Rattle.std.proofs.Common.{◌≡◌, ℕ, suc, ◌+◌, ◌*◌, ◌<◌, ◌≤◌, List, [], ◌∷◌, ◌++◌, Bool, true, false, Some, if◌then◌else◌, length, map, max, take, get_or, sym, ap, subst, ◌∙◌, arith}
 use Rattle.std.specs.List.{AllByRecursion}
 use Rattle.std.proofs.Math.Seq.{take-suc}
 use Rattle.std.proofs.lemmas.List.{map-append}
 use Rattle.careful_write.specs.declared.down.Down.{Down}
+use Rattle.commit_protocol.specs.Messages.{Name}
 use Rattle.commit_protocol.specs.Table.{Tm, branches_of}
-use Rattle.log_laws.specs.Slots.{committed_of, records_in}
 use Rattle.tm_types.specs.Parts.{log_record_of}
-use Rattle.transcript_model.specs.Emitting.{Emits, Shown}
-use Rattle.transcript_model.proofs.EmittingLemmas.{emits_on}
+use Rattle.emitter_model.specs.Emitting.{Emits, Shown}
+use Rattle.emitter_model.proofs.EmittingLemmas.{emits_on}
 use Rattle.transcript_model.specs.Lines.{Line}
 use Rattle.unit_table.specs.Units.{OpenUnit}
-use Rattle.vms_base.specs.declared.protocol.LogRec.{LogRec}
 use Rattle.vms_model.specs.Ids.{Id}
 use Rattle.volume.specs.State.{VolumeState}
 use Rattle.run_model.specs.World.{Node}
 use Rattle.recovery_units.specs.Calls.{MayBegin, ReopensErr, ReopensOk}
 use Rattle.recovery_units.specs.State.{AreOfBranches, HasNoUnit, IsEarly, IsInOrder, UnitsState}
 use Rattle.recovery_units.specs.Told.{ReopenedTold}
-use Rattle.recovery_units.specs.Uses.{Caused, Goes, Grows}
+use Rattle.recovery_units.specs.Uses.{Caused, Grows}
 use Rattle.recovery_units.specs.declared.settled.SettledUnit.{SettledUnit}
 use Rattle.node_table.specs.Growing.{groups_left}
 use Rattle.node_table.specs.Running.{IsBooted}
-use Rattle.node_table.specs.Standing.{IsUp, StandsUp, Stored, Up}
+use Rattle.node_table.specs.Standing.{IsUp, StandsUp, Stored}
 use Rattle.dtm_node.specs.Boots.{IsRaised}
 use Rattle.dtm_node.specs.Nodes.{last_lines_of, undone_line}
 use Rattle.dtm_node.specs.Opening.{Breaks, ReopensUp, prepared_told}
-use Rattle.dtm_node.specs.Running.{HasGrown}
 use Rattle.change_set.specs.Files.{free_frames}
 
 -- its numbers that only grow are low
@@ -65,16 +63,16 @@ three_shown a b c d x y z f g h = emits_on a b d x (y ++ z) f (emits_on b c d y 
 
 module _ (name : List ℕ) (clock : ℕ) (v w : VolumeState) (t : UnitsState) (told : ReopenedTold) (raised : IsRaised name v) (early : clock ≤ 24000000000000) (grows : Grows 64 (clock + 64) v w) where
   -- the node is up
-  pub reopened_up : (doubt ids : List Id) (st : Stored) (tm : Tm) (drawn boot : ℕ) (a b : Shown) → w.catalog.home.greatest_moment.0 + length t.begun ≤ max v.catalog.home.greatest_moment.0 clock + 64 → IsInOrder t w → AreOfBranches t.begun (branches_of (map log_record_of told.prepared)) → MayBegin told t.log → ReopensOk clock told v t w
-      → st ≡ record { volume = w; units = t; in_doubt = ids } → drawn ≡ 0 → boot ≡ st.volume.catalog.home.boot → IsUp (record { stored = st; tm = tm; drawn = drawn })
-      → ((c : ℕ) (n : Node) → IsBooted c told (record { volume = w; units = t; in_doubt = doubt }) n → StandsUp c (record { stored = st; tm = tm; drawn = drawn }) n)
-      → Emits a (last_lines_of v.catalog.home ++ (map undone_line told.settled ++ map prepared_told told.prepared)) b → ReopensUp clock v boot (record { stored = st; tm = tm; drawn = drawn }) a b
-  reopened_up doubt ids st tm drawn boot a b room order units begins done is none boot_is up stands shows =
-      subst (λ (x : Stored). boot ≡ x.volume.catalog.home.boot → IsUp (record { stored = x; tm = tm; drawn = drawn }) → ((c : ℕ) (n : Node) → IsBooted c told (record { volume = w; units = t; in_doubt = doubt }) n → StandsUp c (record { stored = x; tm = tm; drawn = drawn }) n)
-      → ReopensUp clock v boot (record { stored = x; tm = tm; drawn = drawn }) a b) (sym is) here boot_is up stands
+  pub reopened_up : (doubt ids : List Id) (st : Stored) (tm : Tm) (drawn : ℕ) (rms : List Name) (boot : ℕ) (a b : Shown) → w.catalog.home.greatest_moment.0 + length t.begun ≤ max v.catalog.home.greatest_moment.0 clock + 64 → IsInOrder t w → AreOfBranches t.begun (branches_of (map log_record_of told.prepared)) → MayBegin told t.log → ReopensOk clock told v t w
+      → st ≡ record { volume = w; units = t; in_doubt = ids } → drawn ≡ 0 → boot ≡ st.volume.catalog.home.boot → IsUp (record { stored = st; tm = tm; drawn = drawn; declared = rms })
+      → ((c : ℕ) (n : Node) → IsBooted c told (record { volume = w; units = t; in_doubt = doubt }) n → StandsUp c (record { stored = st; tm = tm; drawn = drawn; declared = rms }) n)
+      → Emits a (last_lines_of v.catalog.home ++ (map undone_line told.settled ++ map prepared_told told.prepared)) b → ReopensUp clock v boot (record { stored = st; tm = tm; drawn = drawn; declared = rms }) a b
+  reopened_up doubt ids st tm drawn rms boot a b room order units begins done is none boot_is up stands shows =
+      subst (λ (x : Stored). boot ≡ x.volume.catalog.home.boot → IsUp (record { stored = x; tm = tm; drawn = drawn; declared = rms }) → ((c : ℕ) (n : Node) → IsBooted c told (record { volume = w; units = t; in_doubt = doubt }) n → StandsUp c (record { stored = x; tm = tm; drawn = drawn; declared = rms }) n)
+      → ReopensUp clock v boot (record { stored = x; tm = tm; drawn = drawn; declared = rms }) a b) (sym is) here boot_is up stands
     where
-      here : boot ≡ w.catalog.home.boot → IsUp (record { stored = record { volume = w; units = t; in_doubt = ids }; tm = tm; drawn = drawn }) → ((c : ℕ) (n : Node) → IsBooted c told (record { volume = w; units = t; in_doubt = doubt }) n → StandsUp c (record { stored = record { volume = w; units = t; in_doubt = ids }; tm = tm; drawn = drawn }) n)
-          → ReopensUp clock v boot (record { stored = record { volume = w; units = t; in_doubt = ids }; tm = tm; drawn = drawn }) a b
+      here : boot ≡ w.catalog.home.boot → IsUp (record { stored = record { volume = w; units = t; in_doubt = ids }; tm = tm; drawn = drawn; declared = rms }) → ((c : ℕ) (n : Node) → IsBooted c told (record { volume = w; units = t; in_doubt = doubt }) n → StandsUp c (record { stored = record { volume = w; units = t; in_doubt = ids }; tm = tm; drawn = drawn; declared = rms }) n)
+          → ReopensUp clock v boot (record { stored = record { volume = w; units = t; in_doubt = ids }; tm = tm; drawn = drawn; declared = rms }) a b
       here counted up stands = record {
         told = told;
         emits = shows;
@@ -93,7 +91,7 @@ module _ (name : List ℕ) (clock : ℕ) (v w : VolumeState) (t : UnitsState) (t
         units = units;
         committed = begins.committed;
         done = done;
-        stands = λ n x. stands clock n (record { kept = x.kept; is_up = x.is_up; name = x.name; branches = x.branches; records = x.records; preparation = x.preparation; drawn = x.drawn; clock_is = x.clock_is; up = x.up; was_up = x.was_up; under_way = x.under_way });
+        stands = λ n x. stands clock n (record { kept = x.kept; is_up = x.is_up; name = x.name; branches = x.branches; records = x.records; preparation = x.preparation; drawn = x.drawn; declared = x.declared; clock_is = x.clock_is; up = x.up; was_up = x.was_up; under_way = x.under_way });
       }
 
   -- or the disk went down

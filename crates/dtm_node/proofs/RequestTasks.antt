@@ -1,43 +1,38 @@
 -- A request that a node has to be up for.
-use Rattle.std.proofs.Common.{◌≡◌, ◌⊎◌, inl, inr, ℕ, List, [], ◌∷◌, ◌++◌, Bool, true, false, Option, Some, None, Result, Ok, Err, not, map, is_some, if◌then◌else◌, refl, ◌∙◌, ap, sym, subst, append_assoc, arith}
+use Rattle.std.proofs.Common.{◌≡◌, inl, inr, ℕ, List, [], ◌∷◌, ◌++◌, Bool, true, false, Option, Some, None, Ok, Err, not, is_some, refl, ◌∙◌, ap, sym, subst, append_assoc, arith}
 use Rattle.std.specs.Prelude.{◌||◌, ◌&&◌}
-use Rattle.std.specs.List.{AllByRecursion}
 use Rattle.block_disk.specs.Disk.{CallLog, DiskState}
 use Rattle.careful_write.specs.declared.down.Down.{Down}
-use Rattle.commit_protocol.specs.Table as table
-use Rattle.transcript_model.specs.Emitting.{Emits, Shown}
+use Rattle.emitter_model.specs.Emitting.{Emits, Shown}
 use Rattle.transcript_model.specs.Lines as line
 use Rattle.transcript_model.specs.Lines.{Cause, Line}
 use Rattle.transcript_model.specs.Outside.{Rose}
-use Rattle.transcript_model.proofs.EmittingLemmas.{emits_on}
-use Rattle.script_model.specs.Statements.{AbortTrans, AddBranch, Boot, ByLabel, BySerial, Clock, Crash, Create, Direct, Dump, DumpJournal, EndBranch, EndTrans, Fuse, Init, Inquire, Named, Records, Request, SetFile, StartBranch, StartTrans}
-use Rattle.run_laws.specs.Said.{Said, SaidNode, SaidShared, is_of_lines, line_said, lines_said, refused_by_lines, request_said}
+use Rattle.emitter_model.proofs.EmittingLemmas.{emits_on}
+use Rattle.script_model.specs.Statements.{AbortTrans, AckEvent, AddBranch, Boot, Clock, Crash, Create, DeclareRm, Direct, Dump, DumpJournal, EndBranch, EndTrans, ForgetRm, Fuse, GetDti, Init, Inquire, JoinRm, LmcpDump, LmcpShow, Records, Request, SetFile, StartBranch, StartTrans}
+use Rattle.run_laws.specs.Said.{Said, SaidShared, line_said, lines_said, refused_by_lines, request_said}
 use Rattle.said_steps.specs.Answers.{is_broken, is_served, may_answer}
-use Rattle.said_steps.specs.Calls.{has_powered}
 use Rattle.said_steps.proofs.Refusals.{refusal_of_lines}
 use Rattle.said_steps.specs.Own.{IsOwn}
 use Rattle.run_model.specs.Operations.{first_of, refused_if}
-use Rattle.run_model.specs.World.{Act, Node, Shared}
-use Rattle.run_model.specs.Answers.{Restarts, Row, Serves, Task, refused_before_reading, service, task_service, touches}
+use Rattle.run_model.specs.World.{Node, Shared}
+use Rattle.run_model.specs.Answers.{Restarts, Serves, service, touches}
 use Rattle.run_model.specs.Steps.{count_of}
-use Rattle.world_laws.specs.Nodes.{IsKeptNode}
-use Rattle.recovery_units.specs.Uses.{Caused, Goes, IsCounted}
 use Rattle.run_shared.specs.Sharing.{IsShared, SharedState}
 use Rattle.node_table.specs.Serving.{DoesService, service_at}
 use Rattle.node_table.specs.Standing.{StandsUp, Up}
 use Rattle.dtm_node.specs.Causes.{cause_of}
-use Rattle.dtm_node.specs.Keeping.{Performs, PerformsRequest}
-use Rattle.dtm_node.specs.Requests.{DoesRequest, IsForUp, SaysRequest, node_up, said_up}
-use Rattle.dtm_node.specs.Running.{name_of}
-use Rattle.dtm_node.specs.Standing.{IsDown, Kept, StandsFor, counts_of, disk_in, disk_of, is_up}
-use Rattle.dtm_node.specs.Telling.{TellsTask, calls_after_task, said_alone, said_node, said_shared}
+use Rattle.node_requests.specs.Keeping.{Performs, PerformsRequest}
+use Rattle.node_requests.specs.Requests.{DoesRequest, IsForUp, node_up, said_up}
+use Rattle.node_requests.specs.Running.{name_of}
+use Rattle.node_requests.specs.Standing.{IsDown, Kept, StandsFor, counts_of, disk_of}
+use Rattle.node_requests.specs.Telling.{TellsTask, calls_after_task, said_alone, said_shared}
 use Rattle.dtm_node.proofs.Answered.{calm_answers, fell_answers, may_of, refused_answers, refused_unbroken, served_other, served_unbroken}
 use Rattle.dtm_node.proofs.Held.{holds_is}
 use Rattle.dtm_node.proofs.Coming.{down_performs}
 use Rattle.dtm_node.proofs.EventTasks.{passes_of}
-use Rattle.dtm_node.proofs.Performing.{LeavesRest, cut_performs, kept_fallen, kept_up, refused_performs, rose_of, served_performs}
+use Rattle.dtm_node.proofs.Performing.{cut_performs, kept_fallen, kept_up, refused_performs, rose_of, served_performs}
 use Rattle.dtm_node.proofs.Requested.{rows_rest}
-use Rattle.dtm_node.proofs.SaysLemmas.{all_on, alone_down, calm_not_down, down_behind, lines_on, own_calm}
+use Rattle.node_requests.proofs.SaysLemmas.{all_on, alone_down, calm_not_down, down_behind, lines_on, own_calm}
 use Rattle.dtm_node.proofs.Stepping.{IsPlain}
 
 -- What is so of each of them, at a node that is down as well.
@@ -70,6 +65,13 @@ request_is (EndBranch label) h = record { plain = record { powers = refl; occupi
 request_is (EndTrans label) h = record { plain = record { powers = refl; occupies = refl; closing = refl; closing_lines = λ n. refl; goes = refl }; while_down = refl; calls = λ ends l stops calls. refl; no_fuse = λ w c q. (let f : ⊥ = cc in f); down = λ s name unmade. refl; broken = λ name cause s. refl; refused_down = λ name s. refl; no_crash = λ q. (let f : ⊥ = cc in f); may = λ answer e. may_of (is_served answer) (is_broken answer && touches (service (EndTrans label))) e; may_break = λ cause t. t }
 request_is (AbortTrans label) h = record { plain = record { powers = refl; occupies = refl; closing = refl; closing_lines = λ n. refl; goes = refl }; while_down = refl; calls = λ ends l stops calls. refl; no_fuse = λ w c q. (let f : ⊥ = cc in f); down = λ s name unmade. refl; broken = λ name cause s. refl; refused_down = λ name s. refl; no_crash = λ q. (let f : ⊥ = cc in f); may = λ answer e. may_of (is_served answer) (is_broken answer && touches (service (AbortTrans label))) e; may_break = λ cause t. t }
 request_is (Inquire who) h = record { plain = record { powers = refl; occupies = refl; closing = refl; closing_lines = λ n. refl; goes = refl }; while_down = refl; calls = λ ends l stops calls. refl; no_fuse = λ w c q. (let f : ⊥ = cc in f); down = λ s name unmade. refl; broken = λ name cause s. refl; refused_down = λ name s. refl; no_crash = λ q. (let f : ⊥ = cc in f); may = λ answer e. may_of (is_served answer) (is_broken answer && touches (service (Inquire who))) e; may_break = λ cause t. t }
+request_is (DeclareRm rm) h = record { plain = record { powers = refl; occupies = refl; closing = refl; closing_lines = λ n. refl; goes = refl }; while_down = refl; calls = λ ends l stops calls. refl; no_fuse = λ w c q. (let f : ⊥ = cc in f); down = λ s name unmade. refl; broken = λ name cause s. refl; refused_down = λ name s. refl; no_crash = λ q. (let f : ⊥ = cc in f); may = λ answer e. may_of (is_served answer) (is_broken answer && touches (service (DeclareRm rm))) e; may_break = λ cause t. t }
+request_is (JoinRm label rm) h = record { plain = record { powers = refl; occupies = refl; closing = refl; closing_lines = λ n. refl; goes = refl }; while_down = refl; calls = λ ends l stops calls. refl; no_fuse = λ w c q. (let f : ⊥ = cc in f); down = λ s name unmade. refl; broken = λ name cause s. refl; refused_down = λ name s. refl; no_crash = λ q. (let f : ⊥ = cc in f); may = λ answer e. may_of (is_served answer) (is_broken answer && touches (service (JoinRm label rm))) e; may_break = λ cause t. t }
+request_is (AckEvent who rm reply) h = record { plain = record { powers = refl; occupies = refl; closing = refl; closing_lines = λ n. refl; goes = refl }; while_down = refl; calls = λ ends l stops calls. refl; no_fuse = λ w c q. (let f : ⊥ = cc in f); down = λ s name unmade. refl; broken = λ name cause s. refl; refused_down = λ name s. refl; no_crash = λ q. (let f : ⊥ = cc in f); may = λ answer e. may_of (is_served answer) (is_broken answer && touches (service (AckEvent who rm reply))) e; may_break = λ cause t. t }
+request_is (ForgetRm rm) h = record { plain = record { powers = refl; occupies = refl; closing = refl; closing_lines = λ n. refl; goes = refl }; while_down = refl; calls = λ ends l stops calls. refl; no_fuse = λ w c q. (let f : ⊥ = cc in f); down = λ s name unmade. refl; broken = λ name cause s. refl; refused_down = λ name s. refl; no_crash = λ q. (let f : ⊥ = cc in f); may = λ answer e. may_of (is_served answer) (is_broken answer && touches (service (ForgetRm rm))) e; may_break = λ cause t. t }
+request_is (GetDti who) h = record { plain = record { powers = refl; occupies = refl; closing = refl; closing_lines = λ n. refl; goes = refl }; while_down = refl; calls = λ ends l stops calls. refl; no_fuse = λ w c q. (let f : ⊥ = cc in f); down = λ s name unmade. refl; broken = λ name cause s. refl; refused_down = λ name s. refl; no_crash = λ q. (let f : ⊥ = cc in f); may = λ answer e. may_of (is_served answer) (is_broken answer && touches (service (GetDti who))) e; may_break = λ cause t. t }
+request_is LmcpShow h = record { plain = record { powers = refl; occupies = refl; closing = refl; closing_lines = λ n. refl; goes = refl }; while_down = refl; calls = λ ends l stops calls. refl; no_fuse = λ w c q. (let f : ⊥ = cc in f); down = λ s name unmade. refl; broken = λ name cause s. refl; refused_down = λ name s. refl; no_crash = λ q. (let f : ⊥ = cc in f); may = λ answer e. may_of (is_served answer) (is_broken answer && touches (service LmcpShow)) e; may_break = λ cause t. t }
+request_is LmcpDump h = record { plain = record { powers = refl; occupies = refl; closing = refl; closing_lines = λ n. refl; goes = refl }; while_down = refl; calls = λ ends l stops calls. refl; no_fuse = λ w c q. (let f : ⊥ = cc in f); down = λ s name unmade. refl; broken = λ name cause s. refl; refused_down = λ name s. refl; no_crash = λ q. (let f : ⊥ = cc in f); may = λ answer e. may_of (is_served answer) (is_broken answer && touches (service LmcpDump)) e; may_break = λ cause t. t }
 request_is (Dump file) h = record { plain = record { powers = refl; occupies = refl; closing = refl; closing_lines = λ n. refl; goes = refl }; while_down = refl; calls = λ ends l stops calls. refl; no_fuse = λ w c q. (let f : ⊥ = cc in f); down = λ s name unmade. refl; broken = λ name cause s. refl; refused_down = λ name s. refl; no_crash = λ q. (let f : ⊥ = cc in f); may = λ answer e. may_of (is_served answer) (is_broken answer && touches (service (Dump file))) e; may_break = λ cause t. t }
 request_is DumpJournal h = record { plain = record { powers = refl; occupies = refl; closing = refl; closing_lines = λ n. refl; goes = refl }; while_down = refl; calls = λ ends l stops calls. refl; no_fuse = λ w c q. (let f : ⊥ = cc in f); down = λ s name unmade. refl; broken = λ name cause s. refl; refused_down = λ name s. refl; no_crash = λ q. (let f : ⊥ = cc in f); may = λ answer e. may_of (is_served answer) (is_broken answer && touches (service DumpJournal)) e; may_break = λ cause t. t }
 

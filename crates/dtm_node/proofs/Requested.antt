@@ -1,21 +1,22 @@
 -- The acts of a request leave of their node what is no part of its disk and its table.
-use Rattle.std.proofs.Common.{◌≡◌, ℕ, List, [], ◌∷◌, ◌++◌, Bool, true, false, Option, Some, None, map, refl, subst}
+use Rattle.std.proofs.Common.{◌≡◌, ℕ, List, [], ◌∷◌, ◌++◌, true, Option, Some, None, map, refl, subst}
 use Rattle.std.specs.Option.{option_and_then, option_map}
 use Rattle.std.specs.List.{AllByRecursion}
 use Rattle.vms_model.specs.Keys.{Key}
+use Rattle.commit_protocol.specs.Messages.{Name, Reply}
 use Rattle.commit_protocol.specs.Rows as rows
 use Rattle.commit_protocol.specs.Rows.{row}
-use Rattle.commit_protocol.specs.Table as table
-use Rattle.commit_protocol.specs.Table.{Branch}
+use Rattle.commit_protocol.specs.Table.{Branch, without_rm}
+use Rattle.log_laws.specs.Slots.{slot_records}
 use Rattle.transcript_model.specs.Lines as line
 use Rattle.transcript_model.specs.Lines.{Line}
 use Rattle.records_model.specs.Records.{Change}
-use Rattle.script_model.specs.Statements.{AbortTrans, AddBranch, Boot, Clock, Crash, Create, Direct, Dump, DumpJournal, EndBranch, EndTrans, Fuse, Init, Inquire, Records, Request, SetFile, StartBranch, StartTrans}
-use Rattle.run_model.specs.World.{Act, Creates, Draws, File, Label, Marks, Node, Numbers, Shared, free_place, labelled, lowest_free, next_id, tm_of}
+use Rattle.script_model.specs.Statements.{AbortTrans, AckEvent, AddBranch, Boot, Clock, Crash, Create, DeclareRm, Direct, Dump, DumpJournal, EndBranch, EndTrans, ForgetRm, Fuse, GetDti, Init, Inquire, JoinRm, LmcpDump, LmcpShow, Records, Request, SetFile, StartBranch, StartTrans}
+use Rattle.run_model.specs.World.{Act, Creates, Declares, Draws, File, Label, Marks, Node, Numbers, Shared, free_place, labelled, lowest_free, next_id, tm_of}
 use Rattle.vms_model.specs.Ids.{Id}
 use Rattle.vms_model.specs.Transactions.{Aborted}
-use Rattle.run_model.specs.Answers.{Row, Telling, adds, all_acted, all_shared, begins, blocks_for, branch_labelled, branch_named, changes_at, created, creates, directed, entry_lines, is_for_units, just, keys_at, operated, operation_act, records_of, service, shown_line, shown_record, silent, starts, table_rows, told_if, told_rows, to_branch}
-use Rattle.dtm_node.specs.Requests.{IsForUp}
+use Rattle.run_model.specs.Answers.{Row, Telling, adds, all_acted, all_shared, begins, blocks_for, branch_labelled, branch_named, changes_at, created, creates, directed, entry_lines, is_for_units, just, keys_at, log_line, operated, operation_act, records_of, serial_named, service, shown_line, shown_record, silent, starts, table_rows, told_if, told_rows}
+use Rattle.node_requests.specs.Requests.{IsForUp}
 use Rattle.dtm_node.proofs.EventSteps.{rest_some, table_rest}
 use Rattle.dtm_node.proofs.Performing.{LeavesRest, leaves_rest}
 
@@ -72,6 +73,10 @@ asked_rest : (o : Option Branch) (t : Telling) → option_map (λ (b : Branch). 
 asked_rest None t q = let f : ⊥ = cc in absurd f
 asked_rest (Some b) t q = let P : Option Telling → Type 0 = λ o. elim o [ Some u ↦ AllByRecursion (λ act. leaves_rest act ≡ true) u.before | None ↦ Unit {0} ] in subst P q tt
 
+replied_rest : (o : Option Id) (rm : Name) (reply : Reply) (t : Telling) → option_map (λ (serial : Id). just (rows.Replied serial rm reply)) o ≡ Some t → AllByRecursion (λ act. leaves_rest act ≡ true) t.before
+replied_rest None rm reply t q = let f : ⊥ = cc in absurd f
+replied_rest (Some serial) rm reply t q = let P : Option Telling → Type 0 = λ o. elim o [ Some u ↦ AllByRecursion (λ act. leaves_rest act ≡ true) u.before | None ↦ Unit {0} ] in subst P q tt
+
 pub rows_rest : (request : Request) → IsForUp request → (s : Shared) (n : Node) → AllByRecursion LeavesRest ((service request).rows s n)
 rows_rest (Init slots journal) h s n = absurd h
 rows_rest Boot h s n = absurd h
@@ -89,5 +94,12 @@ rows_rest (EndBranch label) h s n = branch_rest (branch_labelled s n label) (λ 
 rows_rest (EndTrans label) h s n = branch_rest (branch_labelled s n label) (λ b. told_rows s n (just (rows.EndTrans b.key.tid))) (λ b. told_rest (just (rows.EndTrans b.key.tid)) s n tt)
 rows_rest (AbortTrans label) h s n = branch_rest (branch_labelled s n label) (λ b. told_rows s n (just (rows.AbortBranch b.key.serial Aborted))) (λ b. told_rest (just (rows.AbortBranch b.key.serial Aborted)) s n tt)
 rows_rest (Inquire who) h s n = if_rest s n (option_map (λ (b : Branch). just (rows.InquireBranch b.key.serial)) (branch_named s n who)) (asked_rest (branch_named s n who))
+rows_rest (DeclareRm rm) h s n = (λ act q. rest_some _ act q refl, tt)
+rows_rest (JoinRm label rm) h s n = branch_rest (branch_labelled s n label) (λ b. told_rows s n (just (rows.JoinRm b.key.serial rm))) (λ b. told_rest (just (rows.JoinRm b.key.serial rm)) s n tt)
+rows_rest (AckEvent who rm reply) h s n = if_rest s n (option_map (λ (serial : Id). just (rows.Replied serial rm reply)) (serial_named s n who)) (replied_rest (serial_named s n who) rm reply)
+rows_rest (ForgetRm rm) h s n = (act_rest (Declares (without_rm rm n.volatile.declared)) refl, tt)
+rows_rest (GetDti who) h s n = tt
+rows_rest LmcpShow h s n = tt
+rows_rest LmcpDump h s n = shown_rest shown_line (λ l. none_rest (l ∷ [])) (map log_line (slot_records 0 n.durable.log))
 rows_rest (Dump file) h s n = shown_rest shown_record (λ e. none_rest (line.Record e.0 e.1 ∷ [])) (records_of n file)
 rows_rest DumpJournal h s n = shown_rest shown_line (λ l. none_rest (l ∷ [])) (entry_lines n.durable.units.first n.durable.units.entries)

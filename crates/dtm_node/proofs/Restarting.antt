@@ -1,5 +1,5 @@
 -- A restart undoes units, row after row, as calls on units tell it.
-use Rattle.std.proofs.Common.{◌≡◌, ℕ, zero, suc, ◌≤◌, List, [], ◌∷◌, ◌++◌, Bool, true, false, Option, Some, None, if◌then◌else◌, length, map, take, drop, refl, sym, ap, subst, ◌∙◌, arith}
+use Rattle.std.proofs.Common.{◌≡◌, ℕ, zero, suc, ◌≤◌, List, [], ◌∷◌, Bool, true, false, if◌then◌else◌, length, map, take, drop, refl, sym, ap, subst, ◌∙◌, arith}
 use Rattle.std.specs.List.{AllByRecursion}
 use Rattle.std.proofs.Math.Seq.{take-length}
 use Rattle.std.proofs.lemmas.List.{length-map}
@@ -10,7 +10,7 @@ use Rattle.transcript_model.specs.Lines as line
 use Rattle.transcript_model.specs.Lines.{Line}
 use Rattle.vms_model.specs.Transactions.{Abort, SegFail}
 use Rattle.unit_laws.specs.Journal.{RecoveryUnit}
-use Rattle.run_model.specs.World.{Act, Node, Settlement, Shared, acted, next_moment, settlement}
+use Rattle.run_model.specs.World.{Node, Settlement, Shared, acted, next_moment, settlement}
 use Rattle.run_model.specs.Answers.{Row, table_rows, unit_key}
 use Rattle.run_model.specs.Steps.{act_begun, lines_of_rows, node_after_rows, shared_after_rows}
 use Rattle.recovery_units.specs.Calls.{after_undone, settlements_of, told_in, told_settlement, undone_act, undone_next}
@@ -83,13 +83,14 @@ pub record StaysSo (m n : Node) : Type 0 where
   pub was_up : m.was_up ≡ n.was_up
   pub under_way : m.under_way ≡ n.under_way
   pub drawn : m.volatile.drawn ≡ n.volatile.drawn
+  pub declared : m.volatile.declared ≡ n.volatile.declared
   pub records : m.volatile.records ≡ n.volatile.records
   pub preparation : m.volatile.preparation ≡ n.volatile.preparation
   pub log : m.durable.log ≡ n.durable.log
   pub boot : m.durable.boot ≡ n.durable.boot
 
 stays_itself : (n : Node) → StaysSo n n
-stays_itself n = record { same = same_itself n; up = refl; was_up = refl; under_way = refl; drawn = refl; records = refl; preparation = refl; log = refl; boot = refl }
+stays_itself n = record { same = same_itself n; up = refl; was_up = refl; under_way = refl; drawn = refl; declared = refl; records = refl; preparation = refl; log = refl; boot = refl }
 
 pub undone_same : (k : ℕ) (n : Node) (us : List RecoveryUnit) → StaysSo (after_undone k n us) n
 undone_same zero n us = stays_itself n
@@ -102,6 +103,7 @@ undone_same (suc k) n (u ∷ us) =
       was_up = r.was_up;
       under_way = r.under_way;
       drawn = r.drawn;
+      declared = r.declared;
       records = r.records;
       preparation = r.preparation;
       log = r.log;

@@ -1,14 +1,13 @@
 -- A node that was down is up with its volume, or its disk went down while it was reopened.
-use Rattle.std.proofs.Common.{◌≡◌, ◌⊎◌, inl, inr, ℕ, suc, ◌≤◌, ◌+◌, List, [], ◌∷◌, ◌++◌, Bool, true, false, Option, Some, None, length, map, is_some, if◌then◌else◌, refl, ◌∙◌, ap, sym, subst, append_assoc, append-nil, arith}
+use Rattle.std.proofs.Common.{◌≡◌, ℕ, suc, ◌+◌, List, [], ◌∷◌, ◌++◌, Bool, true, false, Option, Some, None, length, map, refl, ◌∙◌, ap, sym, subst, append_assoc, append-nil, arith}
 use Rattle.std.specs.List.{AllByRecursion}
 use Rattle.block_disk.specs.Disk.{CallLog, DiskState, noted}
 use Rattle.block_disk.specs.declared.disk.DiskCall.TheVariants as disk_call
-use Rattle.careful_write.specs.declared.down.Down.{Down}
 use Rattle.commit_protocol.specs.Messages.{LogRecord, Message}
 use Rattle.commit_protocol.specs.Table.{Branch, branches_of, record_key}
 use Rattle.log_laws.specs.Slots.{Slots, committed_of, records_in}
 use Rattle.tm_types.specs.Parts.{log_record_of}
-use Rattle.transcript_model.specs.Emitting.{Emits, Shown}
+use Rattle.emitter_model.specs.Emitting.{Emits, Shown}
 use Rattle.transcript_model.specs.Lines as line
 use Rattle.transcript_model.specs.Lines.{Cause, Line}
 use Rattle.transcript_model.specs.Outside.{Rose}
@@ -17,35 +16,32 @@ use Rattle.unit_table.specs.Units.{OpenUnit}
 use Rattle.vms_base.specs.declared.protocol.LogRec.{LogRec}
 use Rattle.vms_model.specs.Transactions.{Abort, Commit, Outcome, Reason}
 use Rattle.volume.specs.State.{VolumeState}
-use Rattle.volume_format.specs.declared.home.Home.{Home}
 use Rattle.volume_model.specs.Homes.{last_of}
-use Rattle.run_model.specs.Answers.{Restarts, Row, Serves, Task, boot_rows, last_line, last_lines, left_active, prepared_line, prepared_lines, refused_before_reading, task_service}
+use Rattle.run_model.specs.Answers.{Restarts, Row, Serves, Task, last_line, last_lines, left_active, prepared_line, prepared_lines, refused_before_reading, task_service}
 use Rattle.run_model.specs.Steps.{NodeStep, count_of, node_after_rows}
-use Rattle.run_model.specs.World.{Boots, ComesUp, Node, Settlement, Shared, acted, powered, prepared_left}
+use Rattle.run_model.specs.World.{Boots, ComesUp, Node, Settlement, Shared, acted, powered}
 use Rattle.world_laws.specs.Nodes as laws
 use Rattle.world_laws.specs.Nodes.{IsKeptNode}
-use Rattle.recovery_units.specs.Calls.{IsRestarting, ReopensTo, after_undone}
+use Rattle.recovery_units.specs.Calls.{ReopensTo, after_undone}
 use Rattle.recovery_units.specs.State.{AreOfBranches}
-use Rattle.recovery_units.specs.Uses.{Goes, IsCounted}
-use Rattle.recovery_units.specs.declared.settled.SettledUnit.{SettledUnit}
-use Rattle.run_shared.specs.Sharing.{IsShared, SharedState}
+use Rattle.recovery_units.specs.Uses.{IsCounted}
+use Rattle.run_shared.specs.Sharing.{SharedState}
 use Rattle.node_table.specs.Running.{IsBooted}
-use Rattle.node_table.specs.Standing.{StandsUp, Up}
+use Rattle.node_table.specs.Standing.{Up}
 use Rattle.node_table.specs.Telling.{IsOfWork, wire_after}
 use Rattle.dtm_node.specs.Causes.{cause_of}
-use Rattle.dtm_node.specs.Keeping.{IsPromised}
 use Rattle.dtm_node.specs.Nodes.{last_lines_of, undone_line}
 use Rattle.dtm_node.specs.Opening.{EndsBoot, OpensUp, RaisesTo, ReopensDown, ReopensUp, Rises, RisesHere, answer_up, kept_down, prepared_told, shown_up, used}
-use Rattle.dtm_node.specs.Standing.{StandsFor, counts_of, disk_of}
-use Rattle.dtm_node.specs.Telling.{Passes}
-use Rattle.dtm_node.specs.TheLaws.{TheLaws}
+use Rattle.node_requests.specs.Standing.{StandsFor, counts_of, disk_of}
+use Rattle.node_requests.specs.Telling.{Passes}
+use Rattle.node_requests.specs.TheLaws.{TheLaws}
 use Rattle.dtm_node.proofs.BootEnds.{each_boot, early_boot, early_restart, ends_boot, fallen_end, fallen_rose, shares_used}
-use Rattle.dtm_node.proofs.Booting.{boot_broke, boot_risen, last_is, risen_stands}
+use Rattle.dtm_node.proofs.Booting.{boot_broke, boot_risen, risen_stands}
 use Rattle.dtm_node.proofs.BootSteps.{IsBoot, boot_is, in_use, restart_is}
 use Rattle.dtm_node.proofs.Passing.{passes_goes, rose_behind}
 use Rattle.dtm_node.proofs.Performing.{kept_up, rose_of}
-use Rattle.dtm_node.proofs.Restarting.{all_rows, undone_branches, undone_nodes, undone_rows, undone_same, undone_unsent, undone_work}
-use Rattle.dtm_node.proofs.SaysLemmas.{all_on}
+use Rattle.dtm_node.proofs.Restarting.{all_rows, undone_branches, undone_nodes, undone_same, undone_unsent, undone_work}
+use Rattle.node_requests.proofs.SaysLemmas.{all_on}
 
 -- What a boot shows is the node's work, by which nothing is sent.
 
@@ -165,6 +161,7 @@ module _ (the_laws : TheLaws) (log : CallLog) (s : Shared) (n : Node) (name : Li
         records = stays.records ∙ ap (λ (ss : Slots). committed_of (records_in ss)) (sym stays.log ∙ done.kept.log) ∙ sym up.committed;
         preparation = stays.preparation ∙ sym (ap (map record_key) done.prepared);
         drawn = stays.drawn;
+        declared = stays.declared;
         clock_is = stays.same.clock ∙ o.wakes.woken.clock ∙ h.clock;
         up = refl;
         was_up = refl;

@@ -1,10 +1,9 @@
 -- Nodes that differ in nothing that their disks have.
-use Rattle.std.proofs.Common.{◌≡◌, ⊎_elim, inl, inr, ℕ, List, Bool, true, false, Option, Some, None, refl, sym, ap, subst, ◌∙◌}
-use Rattle.careful_write.specs.State.{EachWhole}
+use Rattle.std.proofs.Common.{◌≡◌, inl, inr, ℕ, List, Bool, true, false, Option, refl, sym, subst}
 use Rattle.volume.specs.declared.catalog.Catalog.{Catalog}
 use Rattle.world_laws.specs.Ordered.{IsJournalInOrder}
 use Rattle.unit_laws.specs.Units.{Map}
-use Rattle.run_model.specs.World.{Node, Act, Call, Durable, AreUnitsOf, ComesUp, Falls, Formats, Half, IsLogInOrder, MayTurnOut, Sound, Tables, acted, fallen}
+use Rattle.run_model.specs.World.{Node, Act, Call, Durable, AreUnitsOf, ComesUp, Falls, Formats, IsLogInOrder, Sound, Tables, acted, fallen}
 use Rattle.commit_protocol.specs.Table as table
 use Rattle.commit_protocol.specs.Table.{Settles, Undoes}
 use Rattle.directory_model.specs.Files.{AreFiles}

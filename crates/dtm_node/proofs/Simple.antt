@@ -1,25 +1,24 @@
 -- CRASH and CLOCK.
-use Rattle.std.proofs.Common.{◌≡◌, inl, inr, ℕ, List, [], ◌∷◌, Bool, true, false, not, Option, Some, None, refl, sym, ap, subst, ◌∙◌, arith, if◌then◌else◌}
+use Rattle.std.proofs.Common.{◌≡◌, inl, inr, ℕ, List, [], ◌∷◌, Bool, true, false, not, Some, None, refl, sym, ap, subst, ◌∙◌, arith, if◌then◌else◌}
 use Rattle.std.specs.Prelude.{◌||◌}
-use Rattle.block_disk.specs.Disk.{CallLog, DiskState}
-use Rattle.transcript_model.specs.Emitting.{Emits, Shown}
+use Rattle.block_disk.specs.Disk.{CallLog}
+use Rattle.emitter_model.specs.Emitting.{Emits, Shown}
 use Rattle.transcript_model.specs.Lines as line
 use Rattle.transcript_model.specs.Lines.{Cause}
 use Rattle.commit_protocol.specs.World.{In}
-use Rattle.transcript_model.proofs.EmittingLemmas.{emits_nothing}
+use Rattle.emitter_model.proofs.EmittingLemmas.{emits_nothing}
 use Rattle.script_model.specs.Statements.{Clock, Crash}
-use Rattle.run_laws.specs.Said.{line_said}
 use Rattle.run_model.specs.Operations.{first_of, refused_if}
-use Rattle.run_model.specs.World.{Clocks, Falls, Node, Shared, acted}
-use Rattle.run_model.specs.Answers.{Serves, refused_before_reading, service}
+use Rattle.run_model.specs.World.{Clocks, Falls, Node, acted}
+use Rattle.run_model.specs.Answers.{Serves, service}
 use Rattle.run_model.specs.Steps.{NodeStep}
 use Rattle.recovery_units.specs.Laws.{KeepsNodes}
 use Rattle.run_shared.specs.Sharing.{SharedState}
-use Rattle.node_table.specs.Standing.{IsUp, StandsUp, Up}
-use Rattle.dtm_node.specs.Keeping.{PerformsRequest, PerformsTask}
-use Rattle.dtm_node.specs.Running.{name_of}
-use Rattle.dtm_node.specs.Standing.{IsDown, IsRunning, Kept, Place, StandsFor, StandsIn, counts_of, disk_in, disk_of, is_up}
-use Rattle.dtm_node.specs.Telling.{TellsTask, said_alone, said_node, said_shared}
+use Rattle.node_table.specs.Standing.{IsUp, Up}
+use Rattle.node_requests.specs.Keeping.{PerformsRequest, PerformsTask}
+use Rattle.node_requests.specs.Running.{name_of}
+use Rattle.node_requests.specs.Standing.{IsDown, IsRunning, Kept, Place, StandsFor, StandsIn, counts_of, disk_in, disk_of, is_up}
+use Rattle.node_requests.specs.Telling.{TellsTask, said_shared}
 use Rattle.said_steps.proofs.Falls.{falls_none}
 use Rattle.dtm_node.proofs.Answered.{refused_answers}
 use Rattle.dtm_node.proofs.Held.{holds_is}
@@ -27,7 +26,7 @@ use Rattle.dtm_node.proofs.Coming.{down_performs}
 use Rattle.dtm_node.proofs.DiskLemmas.{disk_clocked}
 use Rattle.dtm_node.proofs.Falling.{fallen_disk, told_up}
 use Rattle.dtm_node.proofs.Performing.{kept_fallen, kept_up}
-use Rattle.dtm_node.proofs.SaysLemmas.{same_text}
+use Rattle.node_requests.proofs.SaysLemmas.{same_text}
 use Rattle.dtm_node.proofs.Stepping.{IsPlain, step_done}
 
 crash_plain : IsPlain (service Crash) false
@@ -144,6 +143,7 @@ clock_stands law clock now (IsRunning r) n s =
         under_way = k.under_way;
       };
       drawn = s.drawn;
+      declared = s.declared;
       preparation = s.preparation;
     }
 

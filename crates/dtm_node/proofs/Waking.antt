@@ -1,5 +1,5 @@
 -- A node whose disk runs again.
-use Rattle.std.proofs.Common.{◌≡◌, ◌⊎◌, ⊎_elim, inl, inr, ℕ, List, [], ◌∷◌, Bool, true, false, Option, Some, None, IsSomeAnd, MatchOption, is_some, refl, sym, ap, subst, ◌∙◌, arith}
+use Rattle.std.proofs.Common.{◌≡◌, inl, inr, ℕ, List, [], ◌∷◌, true, false, Option, Some, None, IsSomeAnd, MatchOption, is_some, refl, sym, ap, subst, ◌∙◌, arith}
 use Rattle.std.specs.Prelude.{◌||◌, not}
 use Rattle.block_disk.specs.Blocks.{SameBut}
 use Rattle.block_disk.specs.Disk.{DiskState, IsPowered, MayLeave}
@@ -11,7 +11,7 @@ use Rattle.unit_laws.specs.Units.{Map}
 use Rattle.run_model.specs.Answers.{Restarts, refused_before_reading, task_service}
 use Rattle.run_model.specs.Operations.{first_of, refused_if}
 use Rattle.run_model.specs.Steps.{Cut, NodeStep}
-use Rattle.run_model.specs.World.{Node, Act, Arms, Boots, Changes, Clocks, ComesUp, Creates, Directs, DiskCounts, Draws, Falls, Formats, Half, Holds, IsLogInOrder, Labels, Lost, Marks, MayTurnOut, Numbers, Outturn, Power, Shared, Tables, Taken, Volume, Sound, Faulty, Barred, Unknown, aborted_prepared, acted, fallen, is_durable, powered, with_half}
+use Rattle.run_model.specs.World.{Node, Act, Boots, Clocks, ComesUp, DiskCounts, Falls, Formats, Half, Lost, MayTurnOut, Outturn, Power, Shared, Taken, Volume, Sound, Faulty, Barred, Unknown, aborted_prepared, acted, fallen, is_durable, powered, with_half}
 use Rattle.vms_model.specs.Ids.{Id}
 use Rattle.world_laws.specs.Nodes.{IsKeptDisk, IsKeptNode, StepsKeepNodes}
 use Rattle.volume_model.specs.Volumes.{HasDisk, IsLeftBy, half_done}

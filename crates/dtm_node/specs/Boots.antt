@@ -1,10 +1,9 @@
 -- How a boot goes, from a disk that runs to the volume whose boot count was raised.
-use Rattle.std.specs.Prelude.{◌≡◌, ◌⊎◌, ℕ, ◌<◌, ◌≤◌, ◌^◌, ◌-◌, max, List, [], ◌∷◌, Bool, true, false, Option, Some, None}
+use Rattle.std.specs.Prelude.{◌≡◌, ◌⊎◌, ℕ, ◌<◌, ◌≤◌, ◌^◌, ◌-◌, List, [], Bool, true, Option, Some, None}
 use Rattle.block_disk.specs.Disk.{DiskState, MayLeave}
 use Rattle.careful_write.specs.Content.{content_of}
 use Rattle.careful_write.specs.Load.{fitting}
 use Rattle.careful_write.specs.State.{StoreState}
-use Rattle.file_base.specs.declared.head.FileHead.{FileHead}
 use Rattle.file_base.specs.declared.head.Span.{Span}
 use Rattle.journal_model.specs.Ring.{ring_size}
 use Rattle.transcript.specs.Forms.{line_of, HasTime}
@@ -23,9 +22,9 @@ use Rattle.recovery_units.specs.Calls.{IsRestarting}
 use Rattle.recovery_units.specs.Uses.{IsCounted}
 use Rattle.dtm_node.specs.declared.boot.Booted.{Booted}
 use Rattle.dtm_node.specs.declared.boot.Booted.TheVariants as booted
-use Rattle.dtm_node.specs.Standing.{counts_of}
+use Rattle.node_requests.specs.Standing.{counts_of}
 use Rattle.dtm_node.specs.Causes.{cause_of}
-use Rattle.dtm_node.specs.Holding.{HoldsAs}
+use Rattle.node_requests.specs.Holding.{HoldsAs}
 use Rattle.said_steps.specs.Calls.{is_boot_refusal}
 
 abbrev pub disk_booted : {D : Type 0} → (D → DiskState) → Booted D → DiskState

@@ -2,7 +2,7 @@
 use Rattle.std.specs.Prelude.{◌≡◌, ℕ, List, [], ◌∷◌, ◌++◌, Bool, true, false}
 use Rattle.block_disk.specs.Disk.{DiskState}
 use Rattle.script_model.specs.Statements.{Init}
-use Rattle.transcript_model.specs.Emitting.{Emits, Shown}
+use Rattle.emitter_model.specs.Emitting.{Emits, Shown}
 use Rattle.transcript_model.specs.Lines as line
 use Rattle.transcript_model.specs.Lines.{Line}
 use Rattle.run_model.specs.Answers.{Serves}
@@ -10,9 +10,9 @@ use Rattle.run_shared.specs.Sharing.{SharedState}
 use Rattle.dtm_node.specs.declared.node.Formatted.{Formatted}
 use Rattle.dtm_node.specs.declared.node.Formatted.TheVariants as formatted
 use Rattle.dtm_node.specs.Causes.{cause_of}
-use Rattle.dtm_node.specs.Keeping.{PerformsTask}
-use Rattle.dtm_node.specs.Standing.{IsDown, IsRunning, Kept, Place}
-use Rattle.dtm_node.specs.Telling.{TellsTask}
+use Rattle.node_requests.specs.Keeping.{PerformsTask}
+use Rattle.node_requests.specs.Standing.{IsDown, IsRunning, Kept, Place}
+use Rattle.node_requests.specs.Telling.{TellsTask}
 
 -- what it shows and is answered
 abbrev pub init_lines : List ℕ → Formatted → List Line

@@ -1,16 +1,6 @@
-pub mod Standing
 pub mod Causes
-pub mod Keeping
-pub mod Holding
-pub mod Telling
-pub mod Running
-pub mod Requests
-pub mod Labelled
-pub mod Operating
-pub mod Transacting
 pub mod Asking
 pub mod Nodes
 pub mod Boots
 pub mod Opening
 pub mod Formatting
-pub mod TheLaws

@@ -11,7 +11,7 @@ use Rattle.log_laws.specs.Slots.{committed_of, records_in}
 use Rattle.tm_types.specs.Parts.{log_record_of}
 use Rattle.script_model.specs.Statements as said
 use Rattle.transcript.specs.Forms.{HasTime, line_of}
-use Rattle.transcript_model.specs.Emitting.{Emits, Shown}
+use Rattle.emitter_model.specs.Emitting.{Emits, Shown}
 use Rattle.transcript_model.specs.Lines as line
 use Rattle.transcript_model.specs.Lines.{Line}
 use Rattle.vms_base.specs.Ids.{serial_of, tid_of}
@@ -32,13 +32,13 @@ use Rattle.node_table.specs.Standing.{IsUp, StandsUp, Up}
 use Rattle.node_table.specs.Telling.{IsOfWork, wire_after}
 use Rattle.dtm_node.specs.declared.node.Opened.{Opened}
 use Rattle.dtm_node.specs.declared.node.Opened.TheVariants as opened
-use Rattle.dtm_node.specs.Boots.{IsAwake, IsBootRefusal, IsRaised}
+use Rattle.dtm_node.specs.Boots.{IsAwake, IsRaised}
 use Rattle.dtm_node.specs.Causes.{cause_of}
-use Rattle.dtm_node.specs.Keeping.{IsPromised, PerformsTask}
+use Rattle.node_requests.specs.Keeping.{IsPromised, PerformsTask}
 use Rattle.dtm_node.specs.Nodes.{last_lines_of, undone_line}
-use Rattle.dtm_node.specs.Running.{HasGrown}
-use Rattle.dtm_node.specs.Standing.{IsDown, IsRunning, Kept, Place, StandsFor, counts_of, disk_in, disk_of, is_up}
-use Rattle.dtm_node.specs.Telling.{Passes, TellsTask}
+use Rattle.node_requests.specs.Running.{HasGrown}
+use Rattle.node_requests.specs.Standing.{IsDown, IsRunning, Kept, Place, StandsFor, counts_of, disk_in, disk_of, is_up}
+use Rattle.node_requests.specs.Telling.{Passes, TellsTask}
 
 -- whether a task boots a node
 abbrev pub boots_node : Task → Bool

@@ -12,12 +12,12 @@ ghost use Rattle.run_model.specs.World.{Node as NodeSaid};
 ghost use Rattle.dtm_node.specs.Boots.{BootsTo, IsBootRefusal, IsBooted, IsMounted, IsOpened, IsAwake, IsInRing, IsWide, disk_booted, pool_booted};
 ghost use Rattle.recovery_units.specs.Uses.{Goes};
 
-use crate::law::the_laws;
 use block_disk::Disk;
 use careful_write::{Down, Group, OpenErr, Store};
 use file_base::Span;
 use frame_pool::Pool;
 use node_files::write_home;
+use node_requests::the_laws;
 use transcript::{Form, Quota};
 use vms_base::NodeName;
 use volume::{MountErr, Volume, sound_volumes_are_valid};

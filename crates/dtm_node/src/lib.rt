@@ -2,11 +2,7 @@
 #![tactic(auto)]
 
 mod boot;
-mod labelled;
-mod law;
 mod node;
-mod requests;
-mod transactions;
 
 pub use node::{Flow, Node};
 pub use run_shared::Shared;

@@ -6,7 +6,7 @@ ghost use Rattle.commit_protocol.specs.Messages.{Inquire as InquireSaid};
 ghost use Rattle.vms_base.specs.Ids.{serial_of};
 ghost use Rattle.vms_base.specs.Outcomes.{outcome_of};
 ghost use Rattle.transcript.specs.Forms.{cause_of as cause_told};
-ghost use Rattle.transcript_model.specs.Emitting.{Emits, Shown, Since};
+ghost use Rattle.emitter_model.specs.Emitting.{Emits, Shown, Since};
 ghost use Rattle.transcript_model.specs.Lines as line;
 ghost use Rattle.net_wire.specs.Messages.{kind_of, message_of};
 ghost use Rattle.tm_types.specs.Events.{event_of};
@@ -16,7 +16,7 @@ ghost use Rattle.script_lang.specs.Statements.{request_of};
 ghost use Rattle.script_model.specs.Statements as said;
 ghost use Rattle.dtm_node.specs.declared.node.Node.{Node as NodeSaid};
 ghost use Rattle.dtm_node.specs.Causes.{cause_of as cause_said};
-ghost use Rattle.dtm_node.specs.Keeping.{PerformsRequest, PerformsTask};
+ghost use Rattle.node_requests.specs.Keeping.{PerformsRequest, PerformsTask};
 ghost use Rattle.dtm_node.specs.Nodes.{IsFallen, IsNode, IsParts, IsPlaceOf, MayFall, fallen_place, kept_of, last_lines_of, place_armed, place_of, state_of, undone_line};
 ghost use Rattle.dtm_node.specs.Boots.{IsRaised};
 ghost use Rattle.dtm_node.specs.Formatting.{Formats, FormatsDisk};
@@ -31,20 +31,20 @@ ghost use Rattle.recovery_units.specs.Told.{nothing_told};
 ghost use Rattle.recovery_units.specs.Uses.{Caused, Grows, down_of};
 ghost use Rattle.node_table.specs.Code.{up_of};
 ghost use Rattle.dtm_node.specs.Asking.{answer_in_place, in_doubt_in, is_over, question_in};
-ghost use Rattle.dtm_node.specs.Requests.{IsForUp};
-ghost use Rattle.dtm_node.specs.Running.{ComesFreely, TellsEvent};
-ghost use Rattle.dtm_node.specs.Standing.{IsDown, is_up as is_up_in};
-ghost use Rattle.dtm_node.specs.Telling.{TellsTask};
+ghost use Rattle.node_requests.specs.Requests.{IsForUp};
+ghost use Rattle.node_requests.specs.Running.{ComesFreely, TellsEvent};
+ghost use Rattle.node_requests.specs.Standing.{IsDown, is_up as is_up_in};
+ghost use Rattle.node_requests.specs.Telling.{TellsTask};
 
 use crate::boot::{Booted, open_disk};
-use crate::law::the_laws;
-use crate::requests::serve_up;
 use block_disk::Disk;
 use careful_write::{Down, Group};
 use core::mem::replace_with;
 use frame_pool::Pool;
 use net_wire::Message;
+use node_requests::{serve_up, the_laws};
 use node_table::{Room, Running, Stored};
+use participants::Rms;
 use recovery_units::{RecoveryUnits, SettledUnit};
 use run_shared::Shared;
 use script_lang::{Literals, Request};
@@ -68,6 +68,7 @@ pub(crate) struct Parts<U: RecoveryUnits> {
     pub room: Room,
     pub table: Tm,
     pub effects: Effects,
+    pub managers: Rms,
 }
 
 // What stands over a node's disk.
@@ -124,6 +125,7 @@ fn reserve_parts<U: RecoveryUnits>(alloc: Global) -> Result<Parts<U>, AllocError
         room: Room::reserve(alloc)?,
         table: Tm::reserve(alloc)?,
         effects: Effects::reserve(alloc)?,
+        managers: Rms::reserve(alloc)?,
     })
 }
 
@@ -698,6 +700,7 @@ fn taken_apart<D: Disk, U: RecoveryUnits>(running: Running<D, U>) -> (D, Parts<U
         table,
         effects,
         drawn: _,
+        managers,
     } = running;
     let Stored {
         volume,
@@ -714,6 +717,7 @@ fn taken_apart<D: Disk, U: RecoveryUnits>(running: Running<D, U>) -> (D, Parts<U
         room,
         table,
         effects,
+        managers,
     };
     (disk, parts)
 }
@@ -828,6 +832,7 @@ fn open_with<D: Disk, U: RecoveryUnits>(
         room,
         table,
         effects,
+        managers,
     } = parts;
     match open_disk(disk, group, pool, name) {
         Booted::Up(volume) => {
@@ -840,6 +845,7 @@ fn open_with<D: Disk, U: RecoveryUnits>(
                 table,
                 effects,
                 drawn: 0,
+                managers,
             };
             (Place::Up(running), Opened::Up)
         }
@@ -851,6 +857,7 @@ fn open_with<D: Disk, U: RecoveryUnits>(
                 room,
                 table,
                 effects,
+                managers,
             };
             (Place::Down(disk, Some(parts)), Opened::Refused(form))
         }
@@ -862,6 +869,7 @@ fn open_with<D: Disk, U: RecoveryUnits>(
                 room,
                 table,
                 effects,
+                managers,
             };
             (Place::Down(disk, Some(parts)), Opened::Fell(down))
         }

@@ -5,7 +5,7 @@ use Rattle.block_disk.specs.Disk.{DiskState}
 use Rattle.volume.specs.Catalogs.{TellsCatalog}
 use Rattle.transcript_model.specs.Lines as line
 use Rattle.transcript_model.specs.Script.{ScriptLine, size_of, IsWithinLimits, BeginsTooLong}
-use Rattle.transcript_model.specs.Emitting.{Shown, Emits}
+use Rattle.emitter_model.specs.Emitting.{Shown, Emits}
 use Rattle.script_model.specs.Statements.{At, Bad, Blank, Clock, Deliver, LinkDown, Says, Settle, Statement}
 use Rattle.script_model.specs.Grammar.{reading}
 use Rattle.script_lang.specs.declared.literals.Literals.{Literals}
@@ -23,13 +23,14 @@ use Rattle.dtm_node.specs.declared.node.Node as node
 use Rattle.dtm_node.specs.declared.node.Place as place
 use Rattle.dtm_node.specs.declared.node.Place.TheVariants as at
 use Rattle.dtm_node.specs.Nodes.{IsPlaceOf, place_of}
-use Rattle.dtm_node.specs.Standing.{Kept, StandsIn, disk_in, noted_all}
+use Rattle.node_requests.specs.Standing.{Kept, StandsIn, disk_in, noted_all}
 use Rattle.run_nodes.specs.Held.{AreNodesIn}
 use Rattle.run_nodes.specs.Together.{StandAll, StandsTogether, disks_of, said_together}
 use Rattle.run_nodes.specs.Told.{kept_names}
 use Rattle.run_nodes.specs.Untold.{IsTimely}
 use Rattle.run_nodes.proofs.Entries.{kept_in}
-use Rattle.reference_run.proofs.EarlyLemmas.{IsEarly, reading_early}
+use Rattle.script_laws.specs.Clocks.{IsEarly}
+use Rattle.script_laws.proofs.EarlyLemmas.{reading_early}
 use Rattle.dtm_run.specs.Headline.{IsVolumeOf, Leaves, LeavesNode, LeaveNodes, StandOn, exit_of}
 use Rattle.dtm_run.specs.Leading.{Beginning, RunsFrom}
 use Rattle.dtm_run.specs.Taking.{AreAtZero}

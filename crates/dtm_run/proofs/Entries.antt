@@ -5,7 +5,7 @@ use Rattle.transcript_model.specs.Outside.{behind}
 use Rattle.transcript_model.specs.Lines as line
 use Rattle.transcript_model.specs.Lines.{Line, lines_text}
 use Rattle.transcript_model.specs.Script.{ScriptLine, size_of, BeginsTooLong, IsWithinLimits}
-use Rattle.transcript_model.specs.Emitting.{Shown, Emits}
+use Rattle.emitter_model.specs.Emitting.{Shown, Emits}
 use Rattle.transcript_model.proofs.OutsideLemmas.{behind_on, behind_none}
 use Rattle.script_model.specs.Statements.{Bad}
 use Rattle.script_model.specs.Grammar.{reading}

@@ -10,7 +10,7 @@ use Rattle.commit_protocol.specs.Messages.{Message}
 use Rattle.transcript_model.specs.Lines as line
 use Rattle.transcript_model.specs.Lines.{Line}
 use Rattle.transcript_model.specs.Script.{ScriptLine}
-use Rattle.transcript_model.specs.Emitting.{Shown, Emits}
+use Rattle.emitter_model.specs.Emitting.{Shown, Emits}
 use Rattle.script_model.specs.Statements.{Statement, At, Deliver, LinkDown, Settle, Request, Boot, Blank, Says}
 use Rattle.script_model.specs.Grammar.{reading}
 use Rattle.run_agreement.specs.Laws.{NamesApart}
@@ -20,8 +20,8 @@ use Rattle.run_model.proofs.NodeLists.{some_is}
 use Rattle.run_laws.specs.Said.{Said, SaidLabel, answer_said, line_said, lines_said, nothing_said, request_said, said_here}
 use Rattle.run_shared.specs.Sharing.{SharedState}
 use Rattle.world_laws.specs.Nodes.{NodesAreKept}
-use Rattle.dtm_node.specs.Standing.{Kept, Place, IsDown, IsRunning, StandsIn, counts_of, disk_in, is_up, noted_all}
-use Rattle.dtm_node.specs.Telling.{said_label, said_node}
+use Rattle.node_requests.specs.Standing.{Kept, Place, IsDown, IsRunning, StandsIn, counts_of, disk_in, is_up, noted_all}
+use Rattle.node_requests.specs.Telling.{said_label, said_node}
 use Rattle.statement_steps.specs.Doing.{AllKept}
 use Rattle.statement_steps.proofs.Keeping.{all_kept}
 use Rattle.statement_steps.proofs.Places.{find_at}

@@ -4,14 +4,14 @@ use Rattle.std.specs.Option.{option_map}
 use Rattle.block_disk.specs.Disk.{DiskState}
 use Rattle.transcript_model.specs.Lines as line
 use Rattle.transcript_model.specs.Script.{ScriptLine, size_of, IsWithinLimits, BeginsTooLong}
-use Rattle.transcript_model.specs.Emitting.{Shown, Emits}
+use Rattle.emitter_model.specs.Emitting.{Shown, Emits}
 use Rattle.script_model.specs.Statements.{Statement, Blank, Says, Bad}
 use Rattle.script_model.specs.Grammar.{reading}
 use Rattle.run_laws.specs.Said.{Said, nothing_said, said_here, said_of}
 use Rattle.run_model.specs.Transcript as model
 use Rattle.run_model.specs.Transcript.{Entry}
 use Rattle.run_shared.specs.Sharing.{SharedState}
-use Rattle.dtm_node.specs.Standing.{Kept}
+use Rattle.node_requests.specs.Standing.{Kept}
 use Rattle.run_nodes.specs.Calls.{LineFollows, LineTellsAll}
 use Rattle.run_nodes.specs.Together.{AnswersTogether, disks_of, said_together}
 use Rattle.run_nodes.specs.Told.{kept_names}

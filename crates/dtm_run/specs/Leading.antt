@@ -13,8 +13,8 @@ use Rattle.run_model.specs.Transcript.{AreInLimits, AreOpening, Ends, Entry, Tur
 use Rattle.run_laws.specs.Anew.{IsMadeFirst}
 use Rattle.run_laws.specs.Promises.{KeptPromises}
 use Rattle.run_laws.specs.Said.{Said, SaidNode, is_settling, said_here}
-use Rattle.dtm_node.specs.Standing.{counts_of}
-use Rattle.dtm_node.specs.Telling.{said_label}
+use Rattle.node_requests.specs.Standing.{counts_of}
+use Rattle.node_requests.specs.Telling.{said_label}
 use Rattle.run_nodes.specs.Calls.{LineFollows, LineTellsAll}
 use Rattle.run_nodes.specs.Untold.{BootsUnknown}
 use Rattle.dtm_run.specs.Headline.{AllGo, KeepsAgreed, Leaves, StandOn, WholeRun, exit_of, is_known}

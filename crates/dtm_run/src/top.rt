@@ -4,7 +4,7 @@ ghost use Rattle.std.specs.Option.{option_map};
 ghost use Rattle.indexmap.specs.IndexMap.{spare};
 ghost use Rattle.transcript_model.specs.Outside.{Rose};
 ghost use Rattle.transcript_model.specs.Script.{lines_of};
-ghost use Rattle.transcript_model.specs.Emitting.{Emits, Since};
+ghost use Rattle.emitter_model.specs.Emitting.{Emits, Since};
 ghost use Rattle.transcript.specs.Emitters.{shown_by};
 ghost use Rattle.transcript.specs.Forms.{HasTime, line_of};
 ghost use Rattle.transcript.specs.Reading.{IsSound, lines_ahead, taken_bytes};

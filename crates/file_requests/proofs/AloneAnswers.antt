@@ -4,8 +4,8 @@ use Rattle.block_disk.specs.Disk.{DiskState}
 use Rattle.careful_write.specs.declared.down.Down.{Down}
 use Rattle.transcript_model.specs.Lines as line
 use Rattle.transcript_model.specs.Lines.{Line}
-use Rattle.transcript_model.specs.Emitting.{Shown, Emits}
-use Rattle.transcript_model.proofs.EmittingLemmas.{emits_nothing}
+use Rattle.emitter_model.specs.Emitting.{Shown, Emits}
+use Rattle.emitter_model.proofs.EmittingLemmas.{emits_nothing}
 use Rattle.script_model.specs.Statements.{Operation}
 use Rattle.vms_model.specs.Ids.{Id}
 use Rattle.run_model.specs.World.{Act, File, Node, acted, fallen, next_id, next_moment}

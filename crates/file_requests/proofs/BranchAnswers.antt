@@ -2,7 +2,7 @@
 use Rattle.std.proofs.Common.{◌≡◌, ℕ, List, [], ◌∷◌, Option, Some, None, Result, Ok, Err, refl, sym, subst}
 use Rattle.careful_write.specs.declared.down.Down.{Down}
 use Rattle.transcript_model.specs.Lines.{Line}
-use Rattle.transcript_model.specs.Emitting.{Shown, Emits}
+use Rattle.emitter_model.specs.Emitting.{Shown, Emits}
 use Rattle.script_model.specs.Statements.{Operation}
 use Rattle.vms_model.specs.Ids.{Id}
 use Rattle.commit_protocol.specs.Table.{Branch}

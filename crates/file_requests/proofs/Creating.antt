@@ -6,7 +6,7 @@ use Rattle.careful_write.specs.declared.down.Down.{Down}
 use Rattle.extents.specs.Extents.{IsFreeRun, all_extents}
 use Rattle.extents.specs.declared.extent.Extent.{Extent as Area}
 use Rattle.file_base.specs.declared.head.FileHead.{FileHead}
-use Rattle.transcript_model.specs.Emitting.{Shown, Emits}
+use Rattle.emitter_model.specs.Emitting.{Shown, Emits}
 use Rattle.transcript_model.specs.Lines as line
 use Rattle.transcript_model.specs.Lines.{Line}
 use Rattle.script_model.specs.Statements.{Create, Form}

@@ -9,7 +9,7 @@ use Rattle.careful_write.specs.declared.down.Down.{Down}
 use Rattle.file_base.specs.declared.head.FileHead.{FileHead}
 use Rattle.record_files.specs.Any.{IsFile, IsLaidOut, map_of}
 use Rattle.script_model.specs.Statements.{Dump, DumpJournal}
-use Rattle.transcript_model.specs.Emitting.{Shown, Emits, Since}
+use Rattle.emitter_model.specs.Emitting.{Shown, Emits, Since}
 use Rattle.transcript_model.specs.Lines as line
 use Rattle.transcript_model.specs.Lines.{Line}
 use Rattle.volume.specs.declared.catalog.Catalog.{Catalog}

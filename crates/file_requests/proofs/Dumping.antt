@@ -10,8 +10,8 @@ use Rattle.record_files.specs.Any.{Begins, IsFile, IsLaidOut}
 use Rattle.record_files.specs.Local.{begins_first_law}
 use Rattle.transcript_model.specs.Lines as line
 use Rattle.transcript_model.specs.Lines.{Line}
-use Rattle.transcript_model.specs.Emitting.{Shown, Emits}
-use Rattle.transcript_model.proofs.EmittingLemmas.{emits_on}
+use Rattle.emitter_model.specs.Emitting.{Shown, Emits}
+use Rattle.emitter_model.proofs.EmittingLemmas.{emits_on}
 use Rattle.vms_model.specs.Keys.{Key}
 use Rattle.records_model.specs.Records.{Records}
 use Rattle.directory_model.specs.Files.{IsShown}

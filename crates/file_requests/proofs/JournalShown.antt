@@ -9,10 +9,10 @@ use Rattle.file_base.specs.declared.head.Span.{Span}
 use Rattle.journal_model.specs.Entries.{Entry, IsEntry}
 use Rattle.journal_model.specs.Ring.{StandsAt}
 use Rattle.journal_store.proofs.EntriesAt.{stands_in}
-use Rattle.transcript_model.specs.Emitting.{Shown, Emits}
+use Rattle.emitter_model.specs.Emitting.{Shown, Emits}
 use Rattle.transcript_model.specs.Lines as line
 use Rattle.transcript_model.specs.Lines.{Line}
-use Rattle.transcript_model.proofs.EmittingLemmas.{emits_nothing, emits_on}
+use Rattle.emitter_model.proofs.EmittingLemmas.{emits_nothing, emits_on}
 use Rattle.volume.specs.State.{VolumeState}
 use Rattle.unit_laws.specs.Journal.{Journal, JournalEntry, ChangeEntry, PreparedEntry, SettledEntry, end_of, entries_size, entry_size}
 use Rattle.unit_laws.proofs.TrimLemmas.{size_append}

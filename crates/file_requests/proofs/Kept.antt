@@ -1,6 +1,6 @@
 -- What is kept in order over a request that changes nothing.
 use Rattle.std.proofs.Common.{◌≡◌, [], ◌∷◌, Ok, refl, sym, subst}
-use Rattle.transcript_model.specs.Emitting.{Shown, Emits}
+use Rattle.emitter_model.specs.Emitting.{Shown, Emits}
 use Rattle.transcript_model.specs.Lines.{Line}
 use Rattle.recovery_units.specs.State.{IsInOrder}
 use Rattle.node_table.specs.Standing.{Stored}

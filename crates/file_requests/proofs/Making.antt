@@ -15,9 +15,9 @@ use Rattle.record_files.specs.Any.{IsLaidOut, chain_of, first_chain_of, map_of}
 use Rattle.script_lang.specs.declared.statement.Form.{Form as CodeForm}
 use Rattle.script_lang.specs.declared.statement.Form.TheVariants as code_form
 use Rattle.script_lang.specs.Statements.{form_of}
-use Rattle.transcript_model.specs.Emitting.{Shown, Emits}
+use Rattle.emitter_model.specs.Emitting.{Shown, Emits}
 use Rattle.transcript_model.specs.Lines as line
-use Rattle.transcript_model.proofs.EmittingLemmas.{emits_nothing, since_same}
+use Rattle.emitter_model.proofs.EmittingLemmas.{emits_nothing, since_same}
 use Rattle.volume.specs.declared.catalog.Catalog.{Catalog}
 use Rattle.volume.specs.Catalogs.{IsSound, TellsCatalog}
 use Rattle.volume.specs.Limits.{FileFits, KeysFit, RootFits, data_area, file_buckets}

@@ -3,8 +3,8 @@ use Rattle.std.proofs.Common.{◌≡◌, ℕ, ◌+◌, ◌-◌, List, [], ◌∷
 use Rattle.careful_write.specs.declared.down.Down.{Down}
 use Rattle.file_base.specs.declared.head.FileHead.{FileHead}
 use Rattle.transcript_model.specs.Lines as line
-use Rattle.transcript_model.specs.Emitting.{Shown, Emits}
-use Rattle.transcript_model.proofs.EmittingLemmas.{emits_nothing, since_same}
+use Rattle.emitter_model.specs.Emitting.{Shown, Emits}
+use Rattle.emitter_model.proofs.EmittingLemmas.{emits_nothing, since_same}
 use Rattle.script_model.specs.Statements.{SetFile, Setting}
 use Rattle.vms_model.specs.Ids.{Id}
 use Rattle.volume.specs.Catalogs.{IsSound}

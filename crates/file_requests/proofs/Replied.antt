@@ -1,8 +1,8 @@
 -- Lines that tell of no node and of no message, one after another.
 use Rattle.std.proofs.Common.{List, [], ◌∷◌, ◌++◌}
 use Rattle.std.specs.List.{AllByRecursion}
-use Rattle.transcript_model.specs.Emitting.{Shown, Emits, Since}
-use Rattle.transcript_model.proofs.EmittingLemmas.{emits_on, since_puts}
+use Rattle.emitter_model.specs.Emitting.{Shown, Emits, Since}
+use Rattle.emitter_model.proofs.EmittingLemmas.{emits_on, since_puts}
 use Rattle.transcript_model.specs.Lines.{Line}
 use Rattle.file_requests.specs.Replying.{IsPlain, IsQuiet, Replies, ShowsQuietly}
 

@@ -5,8 +5,8 @@ use Rattle.std.proofs.lemmas.List.{append-nil, length-map}
 use Rattle.block_disk.specs.Disk.{DiskState}
 use Rattle.careful_write.specs.declared.down.Down.{Down}
 use Rattle.transcript_model.specs.Lines.{Line}
-use Rattle.transcript_model.specs.Emitting.{Shown, Emits}
-use Rattle.transcript_model.proofs.EmittingLemmas.{emits_on}
+use Rattle.emitter_model.specs.Emitting.{Shown, Emits}
+use Rattle.emitter_model.proofs.EmittingLemmas.{emits_on}
 use Rattle.record_operations.specs.declared.errors.RecErr.{RecErr}
 use Rattle.run_model.specs.World.{Act, Node, Shared, acted, fallen, is_durable, shared_after}
 use Rattle.run_model.specs.Operations.{first_of}

@@ -1,7 +1,7 @@
 -- What operations on records come to.
 use Rattle.std.specs.Prelude.{◌≡◌, ℕ, List, [], ◌∷◌, Bool, true, false, None, Result, IfOk, OnOk}
 use Rattle.careful_write.specs.declared.down.Down.{Down}
-use Rattle.transcript_model.specs.Emitting.{Shown}
+use Rattle.emitter_model.specs.Emitting.{Shown}
 use Rattle.script_model.specs.Statements.{Operation}
 use Rattle.vms_model.specs.Ids.{Id}
 use Rattle.commit_protocol.specs.Table.{Branch}

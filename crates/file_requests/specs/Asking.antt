@@ -12,7 +12,7 @@ use Rattle.record_operations.specs.Asking.{file_in, read_file_in}
 use Rattle.record_operations.specs.Causes.{down_in}
 use Rattle.recovery_units.specs.Calls.{IsNumbered, change_said, read_said, refusal_of}
 use Rattle.record_operations.specs.declared.errors.RecErr.{RecErr}
-use Rattle.transcript_model.specs.Emitting.{Shown, Emits}
+use Rattle.emitter_model.specs.Emitting.{Shown, Emits}
 use Rattle.file_requests.specs.declared.asked.Asked.{Asked}
 use Rattle.file_requests.specs.declared.asked.Asked.TheVariants.{Change, Read}
 

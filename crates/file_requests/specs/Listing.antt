@@ -8,7 +8,7 @@ use Rattle.file_base.specs.declared.head.Organization.TheVariants.{Sequential, R
 use Rattle.journal_format.specs.declared.head.EntryHead.{EntryHead}
 use Rattle.std.specs.FinMap.{entries}
 use Rattle.careful_write.specs.declared.down.Down.{Down}
-use Rattle.transcript_model.specs.Emitting.{Shown, Emits}
+use Rattle.emitter_model.specs.Emitting.{Shown, Emits}
 use Rattle.transcript_model.specs.Lines as line
 use Rattle.transcript_model.specs.Lines.{Line}
 use Rattle.vms_model.specs.Keys.{Key, Number, Text}

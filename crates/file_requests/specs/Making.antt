@@ -7,7 +7,7 @@ use Rattle.file_base.specs.declared.head.FileHead.{FileHead}
 use Rattle.node_files.specs.NewFile.{AreSizes, buckets_in, new_head}
 use Rattle.node_files.specs.declared.sizes.Sizes.{Sizes}
 use Rattle.record_files.specs.Any.{IsLaidOut, chain_of, first_chain_of, map_of}
-use Rattle.transcript_model.specs.Emitting.{Shown}
+use Rattle.emitter_model.specs.Emitting.{Shown}
 use Rattle.transcript_model.specs.Lines as line
 use Rattle.volume.specs.declared.catalog.Catalog.{Catalog}
 use Rattle.volume.specs.Limits.{data_area}

@@ -2,7 +2,7 @@
 use Rattle.std.specs.Prelude.{◌≡◌, List, [], ◌∷◌, ◌++◌, Bool, true, false, Result, MatchResult}
 use Rattle.std.specs.List.{AllByRecursion}
 use Rattle.careful_write.specs.declared.down.Down.{Down as DownSaid}
-use Rattle.transcript_model.specs.Emitting.{Shown, Emits}
+use Rattle.emitter_model.specs.Emitting.{Shown, Emits}
 use Rattle.transcript_model.specs.Lines.{Line, Booted, Broken, Crashed, Down, Sent}
 use Rattle.said_steps.specs.Answers.{is_served}
 

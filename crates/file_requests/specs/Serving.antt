@@ -4,7 +4,7 @@ use Rattle.block_disk.specs.Disk.{DiskState}
 use Rattle.careful_write.specs.declared.down.Down.{Down}
 use Rattle.directory_model.specs.Files.{head_at}
 use Rattle.file_base.specs.declared.head.FileHead.{FileHead}
-use Rattle.transcript_model.specs.Emitting.{Shown, Since}
+use Rattle.emitter_model.specs.Emitting.{Shown, Since}
 use Rattle.run_model.specs.Answers.{Service}
 use Rattle.run_model.specs.World.{Node, Shared}
 use Rattle.world_laws.specs.Nodes.{IsUp}

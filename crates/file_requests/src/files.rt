@@ -6,7 +6,7 @@ ghost use Rattle.records_model.specs.Records.{Records};
 ghost use Rattle.record_files.specs.Any.{IsFile, IsLaidOut, map_of};
 ghost use Rattle.script_model.specs.Statements as said;
 ghost use Rattle.script_lang.specs.Statements.{form_of, setting_of};
-ghost use Rattle.transcript_model.specs.Emitting.{Since};
+ghost use Rattle.emitter_model.specs.Emitting.{Since};
 ghost use Rattle.vms_model.specs.Keys.{Key as KeySaid};
 ghost use Rattle.vms_base.specs.Ids.{serial_of};
 ghost use Rattle.run_model.specs.Answers.{is_for_units as units_said, service};

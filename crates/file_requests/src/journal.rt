@@ -4,7 +4,7 @@ ghost use Rattle.std.specs.Option.{option_copied};
 ghost use Rattle.careful_write.specs.Down.{answered};
 ghost use Rattle.journal_format.specs.Heads.{entry_of};
 ghost use Rattle.journal_model.specs.Entries.{IsEntry};
-ghost use Rattle.transcript_model.specs.Emitting.{Since};
+ghost use Rattle.emitter_model.specs.Emitting.{Since};
 ghost use Rattle.transcript.specs.Forms.{HasTime, line_of};
 ghost use Rattle.unit_laws.specs.Journal.{JournalEntry};
 ghost use Rattle.vms_base.specs.Keys.{key_of};

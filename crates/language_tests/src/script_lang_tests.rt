@@ -3,7 +3,7 @@ use script_lang::*;
 use std::alloc::Global;
 use std::process::Abort;
 use std::test::Fail;
-use vms_base::{FileName, Id, Label, Moment, NodeName, Serial};
+use vms_base::{FileName, Id, Label, Moment, NodeName, Reply, RmName, Serial};
 
 fn node() -> Result<NodeName, Fail> {
     Ok(NodeName::new(b"A").ok_or("a name")?)
@@ -315,6 +315,58 @@ fn lines_act_on_the_world(rt: HostRuntime) -> Result<(), Fail> {
     say(&rt, rt.alloc(), &table)
 }
 
+#[test]
+fn lines_ask_for_resource_managers(rt: HostRuntime) -> Result<(), Fail> {
+    let label = label()?;
+    let named = Named::Label(label);
+    let rm = RmName::new(b"R_1").ok_or("a name")?;
+    let longest = RmName::new(b"R23456789012345").ok_or("a name")?;
+    let id = Id {
+        node: NodeName::new(b"B").ok_or("a name")?,
+        boot: 1,
+        seq: 2,
+    };
+    let serial = Named::Serial(Serial(id));
+    let table: [(&[u8], Request); 17] = [
+        (b"A: DECLARE_RM R_1", Request::DeclareRm(rm)),
+        (b"A: declare_rm r_1 ", Request::DeclareRm(rm)),
+        (
+            b"A: DECLARE_RM R23456789012345",
+            Request::DeclareRm(longest),
+        ),
+        (b"A: JOIN_RM T R_1", Request::JoinRm(label, rm)),
+        (b"  a: Join_Rm t r_1", Request::JoinRm(label, rm)),
+        (
+            b"A: ACK_EVENT T R_1 SS$_PREPARED",
+            Request::AckEvent(named, rm, Reply::Prepared),
+        ),
+        (
+            b"A: ack_event t r_1 ss$_forget",
+            Request::AckEvent(named, rm, Reply::Forget),
+        ),
+        (
+            b"A: ACK_EVENT T R_1 SS$_Veto",
+            Request::AckEvent(named, rm, Reply::Veto),
+        ),
+        (
+            b"A: ACK_EVENT B.1.2 R_1 SS$_REMEMBER",
+            Request::AckEvent(serial, rm, Reply::Remember),
+        ),
+        (
+            b"A: ACK_EVENT b.1.2 R_1 SS$_NORMAL ",
+            Request::AckEvent(serial, rm, Reply::Normal),
+        ),
+        (b"A: FORGET_RM R_1", Request::ForgetRm(rm)),
+        (b"A: GETDTI T", Request::GetDti(named)),
+        (b"A: getdti B.1.2", Request::GetDti(serial)),
+        (b"A: LMCP SHOW", Request::LmcpShow),
+        (b"A: lmcp  show ", Request::LmcpShow),
+        (b"A: LMCP DUMP", Request::LmcpDump),
+        (b"A: Lmcp Dump", Request::LmcpDump),
+    ];
+    say(&rt, rt.alloc(), &table)
+}
+
 // The column of a line that says no statement, 0 where it says one, and None where it is skipped.
 fn column(alloc: Global, line: &[u8]) -> Result<Option<u32>, Fail> {
     let mut lit = Literals::reserve(alloc)?;
@@ -465,6 +517,42 @@ fn lines_of_nodes_and_of_the_world_leave_it_at_theirs(rt: HostRuntime) -> Result
     Ok(())
 }
 
+#[test]
+fn lines_of_resource_managers_leave_it_at_theirs(rt: HostRuntime) -> Result<(), Fail> {
+    let table: [(&[u8], Option<u32>); 26] = [
+        (b"A: DECLARE_RM", Some(14)),
+        (b"A: DECLARE_RM 1R", Some(15)),
+        (b"A: DECLARE_RM R-1", Some(15)),
+        (b"A: DECLARE_RM R234567890123456", Some(15)),
+        (b"A: DECLARE_RM R R", Some(17)),
+        (b"DECLARE_RM R", Some(1)),
+        (b"A: JOIN_RM", Some(11)),
+        (b"A: JOIN_RM T", Some(13)),
+        (b"A: JOIN_RM - R", Some(12)),
+        (b"A: JOIN_RM A.1.1 R", Some(12)),
+        (b"A: JOIN_RM T R R", Some(16)),
+        (b"A: ACK_EVENT T R", Some(17)),
+        (b"A: ACK_EVENT - R SS$_PREPARED", Some(14)),
+        (b"A: ACK_EVENT A.1 R SS$_PREPARED", Some(14)),
+        (b"A: ACK_EVENT T R SS$_ABORT", Some(18)),
+        (b"A: ACK_EVENT T R PREPARED", Some(18)),
+        (b"A: ACK_EVENT T R SS$_PREPARED 1", Some(31)),
+        (b"A: FORGET_RM", Some(13)),
+        (b"A: FORGET_RM R R", Some(16)),
+        (b"A: GETDTI", Some(10)),
+        (b"A: GETDTI -", Some(11)),
+        (b"A: GETDTI A.01.1", Some(11)),
+        (b"A: LMCP", Some(8)),
+        (b"A: LMCP LIST", Some(9)),
+        (b"A: LMCP SHOW 1", Some(14)),
+        (b"LMCP SHOW", Some(1)),
+    ];
+    for (line, want) in table {
+        assert_eq!(rt; column(rt.alloc(), line)?, want, "{line:?}");
+    }
+    Ok(())
+}
+
 // What a line wants where it leaves the grammar, and None where it does not.
 fn wanted(alloc: Global, line: &[u8]) -> Result<Option<Wanted>, Fail> {
     let mut lit = Literals::reserve(alloc)?;
@@ -480,7 +568,7 @@ fn wanted(alloc: Global, line: &[u8]) -> Result<Option<Wanted>, Fail> {
 
 #[test]
 fn a_faulty_line_tells_what_it_wants(rt: HostRuntime) -> Result<(), Fail> {
-    let table: [(&[u8], Wanted); 17] = [
+    let table: [(&[u8], Wanted); 20] = [
         (b"INIT", Wanted::First),
         (b"A: FROB", Wanted::Verb),
         (b"CRASH 1A", Wanted::Node),
@@ -497,6 +585,9 @@ fn a_faulty_line_tells_what_it_wants(rt: HostRuntime) -> Result<(), Fail> {
         (b"A: GET T F", Wanted::Key),
         (b"CLOCK A 1", Wanted::Time),
         (b"A: START_TRANS T 10", Wanted::Timeout),
+        (b"A: DECLARE_RM 1R", Wanted::Manager),
+        (b"A: ACK_EVENT T R SS$_ABORT", Wanted::Reply),
+        (b"A: LMCP", Wanted::LogWord),
         (b"A: BOOT now", Wanted::End),
     ];
     for (line, want) in table {

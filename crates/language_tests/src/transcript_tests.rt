@@ -3,10 +3,11 @@ use std::io::{self, Read};
 use std::test::Fail;
 use transcript::{
     Cause, Emit, Form, LineReader, MemSink, MemSource, Next, Quota, ReaderSource, Sink, SinkEmit,
-    Source, WriterSink,
+    Source, Standing, WriterSink,
 };
 use vms_base::{
-    Bid, FileName, Id, Key, KeyText, Kind, Moment, NodeName, Outcome, Reason, Record, Serial, Tid,
+    Bid, FileName, Id, Key, KeyText, Kind, LogKind, LogRec, Moment, NodeName, Outcome, Reason,
+    Record, RmEvent, RmList, RmName, Serial, SerialList, Tid,
 };
 
 // Gives at most so many bytes at a time.
@@ -165,6 +166,7 @@ fn lines_have_their_bytes(rt: HostRuntime) -> Result<(), Fail> {
         let mut sink = WriterSink::new(&mut bytes);
         let mut out = SinkEmit::new(rt.alloc(), &mut sink)?;
         let mut record = Record::reserve(rt.alloc())?;
+        let log = log_record(LogKind::Prepared, &[], &[])?;
         let mut message = joining()?;
         message.kind = Kind::JoinOk;
         message.bid = None;
@@ -198,6 +200,7 @@ fn lines_have_their_bytes(rt: HostRuntime) -> Result<(), Fail> {
         out.emit(&Form::NextFound(Key::Number(9), &record));
         out.emit(&Form::NextFound(Key::Text(text), &record));
         out.emit(&Form::Unsent(&message));
+        out.emit(&Form::LogEntry(0, &log));
         out.emit(&Form::BadLine(4));
         out.usage();
     }
@@ -223,6 +226,7 @@ fn lines_have_their_bytes(rt: HostRuntime) -> Result<(), Fail> {
 12 RMS$_NORMAL 9 \"w\"\n\
 12 RMS$_NORMAL \"aa\" \"w\"\n\
 12 UNSENT B A JOINOK A.1.1 A.1.2\n\
+12 LOG 0 PREPARED A.1.1 A.1.2 -\n\
 12 BADLINE 4\n\
 usage: dtm RUN NODE=IMAGE ... or dtm MAKE n start\n";
     assert_eq!(rt; bytes.as_slice(), want.as_slice());
@@ -238,6 +242,7 @@ fn lines_of_several_nodes_have_their_bytes(rt: HostRuntime) -> Result<(), Fail> 
         let node = NodeName::new(b"a").ok_or("a name")?;
         let (tid, serial) = (Tid(id(1)?), Serial(id(2)?));
         let mut message = joining()?;
+        let log = log_record(LogKind::Prepared, &[], &[])?;
         let record = Record::reserve(rt.alloc())?;
         out.at(11);
         out.emit(&Form::Sent(1, &message));
@@ -256,9 +261,9 @@ fn lines_of_several_nodes_have_their_bytes(rt: HostRuntime) -> Result<(), Fail> 
         out.emit(&Form::Asked(tid, serial, Outcome::Commit));
         out.emit(&Form::Asked(tid, serial, Outcome::Abort));
         out.emit(&Form::Booted(node, 2));
-        out.emit(&Form::Pending(&[]));
-        out.emit(&Form::Pending(&[serial]));
-        out.emit(&Form::Pending(&[serial, Serial(tid.0), serial]));
+        out.emit(&Form::Pending(&[], &[]));
+        out.emit(&Form::Pending(&[serial], &[]));
+        out.emit(&Form::Pending(&[serial, Serial(tid.0), serial], &[]));
         out.emit(&Form::TransactionAborted(Reason::SyncFail));
         out.emit(&Form::NotInitializedAt(node));
         out.emit(&Form::NoSuchMessage);
@@ -268,6 +273,7 @@ fn lines_of_several_nodes_have_their_bytes(rt: HostRuntime) -> Result<(), Fail> 
         out.emit(&Form::QuotaExceeded(Quota::Slots, 128));
         out.emit(&Form::QuotaExceeded(Quota::Bids, 15));
         out.emit(&Form::Record(Key::Number(4), &record));
+        out.emit(&Form::LogEntry(1, &log));
     }
     let want = b"11 SENT 1 B A JOIN A.1.1 A.1.2 A.1.3\n\
 11 SENT 1000000 B A JOINOK A.1.1 A.1.2\n\
@@ -293,7 +299,107 @@ fn lines_of_several_nodes_have_their_bytes(rt: HostRuntime) -> Result<(), Fail> 
 11 INDOUBT A.1.2 A\n\
 11 SS$_EXQUOTA SLOTS 128\n\
 11 SS$_EXQUOTA BIDS 15\n\
-11 RECORD 4 \"\"\n";
+11 RECORD 4 \"\"\n\
+11 LOG 1 PREPARED A.1.1 A.1.2 -\n";
+    assert_eq!(rt; bytes.as_slice(), want.as_slice());
+    Ok(())
+}
+
+// A record of the log that waits for these serials and managers.
+fn log_record(kind: LogKind, serials: &[Serial], rms: &[RmName]) -> Result<LogRec, Fail> {
+    let mut record = LogRec {
+        kind,
+        tid: Tid(id(1)?),
+        serial: Serial(id(2)?),
+        waiting: SerialList::new(),
+        rms: RmList::new(),
+    };
+    for serial in serials {
+        if record.waiting.items().len() < 15 {
+            record.waiting.push(*serial);
+        }
+    }
+    for rm in rms {
+        if record.rms.items().len() < 8 {
+            record.rms.push(*rm);
+        }
+    }
+    Ok(record)
+}
+
+#[test]
+fn lines_of_resource_managers_have_their_bytes(rt: HostRuntime) -> Result<(), Fail> {
+    let mut bytes = Vec::new(rt.alloc());
+    {
+        let mut sink = WriterSink::new(&mut bytes);
+        let mut out = SinkEmit::new(rt.alloc(), &mut sink)?;
+        let first = RmName::new(b"r").ok_or("a name")?;
+        let last = RmName::new(b"a_manager_of_15").ok_or("a name")?;
+        let (tid, serial) = (Tid(id(1)?), Serial(id(2)?));
+        let record = Record::reserve(rt.alloc())?;
+        let mut message = joining()?;
+        message.kind = Kind::JoinOk;
+        message.bid = None;
+        let log = log_record(LogKind::Prepared, &[], &[])?;
+        out.at(9);
+        for event in [
+            RmEvent::Prepare,
+            RmEvent::OnePhase,
+            RmEvent::Commit,
+            RmEvent::Abort,
+        ] {
+            out.emit(&Form::ManagerTold(event, tid, serial, first));
+        }
+        out.emit(&Form::Pending(&[], &[first]));
+        out.emit(&Form::Pending(&[], &[first, last]));
+        out.emit(&Form::Pending(&[serial], &[first]));
+        out.emit(&Form::Pending(&[serial, Serial(tid.0)], &[last, first]));
+        out.emit(&Form::LogEntry(0, &log));
+        out.emit(&Form::LogEntry(7, &log_record(LogKind::Prepared, &[], &[first, last])?));
+        out.emit(&Form::LogEntry(127, &log_record(LogKind::Committed, &[serial], &[])?));
+        out.emit(&Form::LogEntry(
+            511,
+            &log_record(LogKind::Committed, &[serial, serial], &[last])?,
+        ));
+        for standing in [
+            Standing::Active,
+            Standing::Ending,
+            Standing::Prepared,
+            Standing::Committed,
+            Standing::Unknown,
+        ] {
+            out.emit(&Form::NormalStanding(standing));
+        }
+        out.emit(&Form::NormalLog(1, 2, 509));
+        out.emit(&Form::NoSuchManager);
+        out.emit(&Form::QuotaExceeded(Quota::Declared, 64));
+        out.emit(&Form::QuotaExceeded(Quota::Managers, 8));
+        out.emit(&Form::Unsent(&message));
+        out.emit(&Form::Record(Key::Number(4), &record));
+    }
+    let want = b"9 EVENT PREPARE A.1.1 A.1.2 R\n\
+9 EVENT ONEPHASE A.1.1 A.1.2 R\n\
+9 EVENT COMMIT A.1.1 A.1.2 R\n\
+9 EVENT ABORT A.1.1 A.1.2 R\n\
+9 PENDING R\n\
+9 PENDING R,A_MANAGER_OF_15\n\
+9 PENDING A.1.2,R\n\
+9 PENDING A.1.2,A.1.1,A_MANAGER_OF_15,R\n\
+9 LOG 0 PREPARED A.1.1 A.1.2 -\n\
+9 LOG 7 PREPARED A.1.1 A.1.2 R,A_MANAGER_OF_15\n\
+9 LOG 127 COMMITTED A.1.1 A.1.2 A.1.2 -\n\
+9 LOG 511 COMMITTED A.1.1 A.1.2 A.1.2,A.1.2 A_MANAGER_OF_15\n\
+9 SS$_NORMAL ACTIVE\n\
+9 SS$_NORMAL ENDING\n\
+9 SS$_NORMAL PREPARED\n\
+9 SS$_NORMAL COMMITTED\n\
+9 SS$_NORMAL UNKNOWN\n\
+9 SS$_NORMAL 1 2 509\n\
+9 SS$_NOSUCHRM\n\
+9 SS$_EXQUOTA DECLARED 64\n\
+9 SS$_EXQUOTA RMS 8\n\
+9 UNSENT B A JOINOK A.1.1 A.1.2\n\
+9 RECORD 4 \"\"\n";
     assert_eq!(rt; bytes.as_slice(), want.as_slice());
     Ok(())
 }
@@ -305,6 +411,7 @@ fn refusals_and_a_record_without_bytes_have_their_bytes(rt: HostRuntime) -> Resu
         let mut sink = WriterSink::new(&mut bytes);
         let mut out = SinkEmit::new(rt.alloc(), &mut sink)?;
         let mut record = Record::reserve(rt.alloc())?;
+        let log = log_record(LogKind::Prepared, &[], &[])?;
         let mut message = joining()?;
         message.kind = Kind::JoinOk;
         message.bid = None;
@@ -353,6 +460,7 @@ fn refusals_and_a_record_without_bytes_have_their_bytes(rt: HostRuntime) -> Resu
         record.set(b"aa1");
         out.emit(&Form::Record(Key::Text(text), &record));
         out.emit(&Form::Unsent(&message));
+        out.emit(&Form::LogEntry(2, &log));
     }
     let want = b"1 RECORD 4 \"\"\n\
 1 NODEUP\n\
@@ -394,7 +502,8 @@ fn refusals_and_a_record_without_bytes_have_their_bytes(rt: HostRuntime) -> Resu
 1 STOPPED\n\
 1 TOOLONG\n\
 1 RECORD \"aa\" \"aa1\"\n\
-1 UNSENT B A JOINOK A.1.1 A.1.2\n";
+1 UNSENT B A JOINOK A.1.1 A.1.2\n\
+1 LOG 2 PREPARED A.1.1 A.1.2 -\n";
     assert_eq!(rt; bytes.as_slice(), want.as_slice());
     Ok(())
 }

@@ -242,7 +242,8 @@ impl Log {
 
     /// How many slots it has.
     pub fn slots(&self) -> usize
-        ensures { result ≡ length self.now }
+        ensures value { result ≡ length self.now }
+        ensures few { result ≤ 512 }
     {
         let slots: &[Option<LogRec>] = &self.slots;
         slots.len()

@@ -2,3 +2,4 @@ pub mod HandingOn
 pub mod Slotting
 pub mod RowSlots
 pub mod Reading
+pub mod Counting

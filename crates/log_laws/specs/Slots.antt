@@ -1,7 +1,8 @@
 -- The slots of a node's log, what each act of its table makes of them, and that they tell the records of the table.
-use Rattle.std.specs.Prelude.{◌≡◌, ℕ, ◌+◌, length, Bool, true, false, List, [], ◌∷◌, Option, Some, None, ◌⊎◌, if◌then◌else◌}
+use Rattle.std.specs.Prelude.{◌≡◌, ℕ, ◌+◌, length, Bool, true, false, List, [], ◌∷◌, Option, Some, None, ◌⊎◌, if◌then◌else◌, map, slice_index_or}
+use Rattle.std.specs.List.{list_any}
 use Rattle.vms_model.specs.Ids.{Id}
-use Rattle.commit_protocol.specs.Messages.{LogRecord, RecordKind, PreparedRecord, CommittedRecord, same_id}
+use Rattle.commit_protocol.specs.Messages.{Name, LogRecord, RecordKind, PreparedRecord, CommittedRecord, same_name, same_id}
 use Rattle.commit_protocol.specs.Table.{Tm, Act, Prepares, Settles, Acknowledges, Releases, first, child, find, prepared_record, prepared_records, record_serials, after_act}
 use Rattle.commit_protocol.specs.Rows.{Event, Start, Begin}
 use Rattle.commit_protocol.specs.Effects.{Effect, KeepEffect, ForgetEffect, acknowledge_effects, release_effects}
@@ -32,6 +33,23 @@ prepared_of (r ∷ rs) = if is_prepared_record r.kind then r ∷ prepared_of rs 
 abbrev pub committed_of : List LogRecord → List LogRecord
 committed_of [] = []
 committed_of (r ∷ rs) = if is_prepared_record r.kind then committed_of rs else r ∷ committed_of rs
+
+-- those of them that wait for a manager
+abbrev pub waiting_for : Name → List LogRecord → List LogRecord
+waiting_for rm [] = []
+waiting_for rm (r ∷ rs) = if list_any (λ x. same_name x rm) r.rms then r ∷ waiting_for rm rs else waiting_for rm rs
+
+-- the records with the numbers of their slots, of which the first has this one
+abbrev pub slot_records : ℕ → Slots → List (ℕ × LogRecord)
+slot_records slot [] = []
+slot_records slot (None ∷ ss) = slot_records (slot + 1) ss
+slot_records slot (Some r ∷ ss) = (slot, r) ∷ slot_records (slot + 1) ss
+
+-- how many slots are free
+abbrev pub free_slots : Slots → ℕ
+free_slots [] = 0
+free_slots (None ∷ ss) = 1 + free_slots ss
+free_slots (Some r ∷ ss) = free_slots ss
 
 -- a slot has this serial
 abbrev pub has_slot : Id → Slots → Bool
@@ -132,3 +150,10 @@ AreCommitted rs = (r : LogRecord) → In r rs → r.kind ≡ CommittedRecord
 -- the prepared ones of these records wait for no serial
 abbrev pub AreUnwaiting : List LogRecord → Type 0
 AreUnwaiting rs = (r : LogRecord) → In r rs → r.kind ≡ PreparedRecord → r.waiting ≡ []
+
+-- The records of slots with the numbers of these are the records in their order, each in the slot of its number; and each slot is free, or has a prepared or a
+-- committed record.
+pub record SlotsAreCounted (ss : Slots) : Type 0 where
+  pub records : map (λ (e : ℕ × LogRecord). e.1) (slot_records 0 ss) ≡ records_in ss
+  pub numbered : (slot : ℕ) (r : LogRecord) → In (slot, r) (slot_records 0 ss) → slice_index_or ss slot None ≡ Some r
+  pub counted : length (committed_of (records_in ss)) + (length (prepared_of (records_in ss)) + free_slots ss) ≡ length ss

@@ -12,7 +12,7 @@ ghost use Rattle.commit_protocol.specs.Orders.{IsPermuted};
 ghost use Rattle.commit_protocol.specs.Rows.{Event, row};
 ghost use Rattle.commit_protocol.specs.Agreement.{Distinct};
 ghost use Rattle.commit_protocol.specs.Standing.{HasApartLog, Stands};
-ghost use Rattle.log_laws.specs.Slots.{Slots, slots_after, LogTells, HasSlot, AllTell, IsFresh, size, begun, records_in, prepared_of, committed_of, AreCommitted, AreUnwaiting};
+ghost use Rattle.log_laws.specs.Slots.{Slots, slots_after, LogTells, HasSlot, AllTell, IsFresh, size, begun, records_in, prepared_of, committed_of, AreCommitted, AreUnwaiting, SlotsAreCounted};
 ghost use Rattle.log_laws.specs.Handing.{EffectsAreActs};
 
 /// The effects of a row come one by one of its acts, in their order: before each effect the node has done a front of the row's acts.
@@ -41,4 +41,10 @@ pub fn slots_restart()
         → IsPermuted committed tm.records → LogTells tm ss → LogTells (restarted n prepared committed) ss }
     ensures opens { (n : Name) (ss : Slots) → Distinct (record_serials (records_in ss)) → AreUnwaiting (records_in ss)
         → LogTells (restarted n (prepared_of (records_in ss)) (committed_of (records_in ss))) ss }
+{}
+
+/// The records of a log, with the numbers of their slots, are those in the slots, each in the slot of its number; and committed records, prepared records and
+/// free slots together are the slots.
+pub fn slots_are_counted()
+    ensures { (ss : Slots) → SlotsAreCounted ss }
 {}

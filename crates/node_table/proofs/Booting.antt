@@ -133,7 +133,7 @@ doubt_back ps d = record { apart = d; prepared = λ s i. let r = serial_in s ps 
 
 -- What is kept of a node then.
 pub boot_up : (name : Name) (ps cs : List LogRecord) (s : Stored) → IsInOrder s.units s.volume → AreOfBranches s.units.begun (branches_of ps) → LogWithin ps cs → Distinct (record_serials ps ++ record_serials cs) → LogTells (restarted name ps cs) s.units.log → name ≡ s.volume.catalog.home.node → s.in_doubt ≡ record_serials ps
-    → (drawn : ℕ) → IsUp (record { stored = s; tm = restarted name ps cs; drawn = drawn })
+    → (drawn : ℕ) → IsUp (record { stored = s; tm = restarted name ps cs; drawn = drawn; declared = [] })
 boot_up name ps cs s order units w d t is doubt drawn = record {
   follows = record {
     order = order;
@@ -158,8 +158,8 @@ names_back ps = record {
 }
 
 pub boot_stands : (clock : ℕ) (name : Name) (ps cs : List LogRecord) (s : Stored) (n : Node) → Distinct (record_serials ps ++ record_serials cs) → s.in_doubt ≡ record_serials ps → IsKept s.units s.volume n → laws.IsUp n → n.name ≡ name → n.volatile.branches ≡ branches_of ps → n.volatile.records ≡ cs → n.volatile.preparation ≡ map record_key ps
-    → n.clock ≡ clock → n.up ≡ true → n.was_up ≡ true → n.under_way ≡ None → n.volatile.drawn ≡ 0 → StandsUp clock (record { stored = s; tm = restarted name ps cs; drawn = 0 }) n
-boot_stands clock name ps cs s n d doubt kept up named bs rs prep clk u was way drawn = record {
+    → n.clock ≡ clock → n.up ≡ true → n.was_up ≡ true → n.under_way ≡ None → n.volatile.drawn ≡ 0 → n.volatile.declared ≡ [] → StandsUp clock (record { stored = s; tm = restarted name ps cs; drawn = 0; declared = [] }) n
+boot_stands clock name ps cs s n d doubt kept up named bs rs prep clk u was way drawn declared = record {
   stands = record {
     kept = kept;
     table = λ i. record { node = named i; table = bs i; records = rs i };
@@ -171,6 +171,7 @@ boot_stands clock name ps cs s n d doubt kept up named bs rs prep clk u was way 
     under_way = way;
   };
   drawn = drawn;
+  declared = declared;
   preparation = λ k i.
       let r = in_key k ps (subst (λ z. In k z) prep i) in
       let at : In k.serial (branch_serials n.volatile.branches) = subst (λ (z : List Branch). In k.serial (branch_serials z)) (sym bs) (subst (λ z. In k.serial z) (sym (serials_back ps)) (subst (λ (z : Key). In z.serial (record_serials ps)) (sym r.2) (in_serial r.0 ps r.1))) in
@@ -187,16 +188,16 @@ module _ (tm : Tm) (name : Name) (ps cs : List LogRec) (told : ReopenedTold) (s 
   table_is : tm ≡ restarted name (map log_record_of told.prepared) (map log_record_of told.committed)
   table_is = is ∙ (λ i. restarted name (map log_record_of (prepared_is i)) (map log_record_of (committed_is i)))
 
-  pub booted_up : IsInOrder s.units s.volume → AreOfBranches s.units.begun (branches_of (map log_record_of told.prepared)) → IsUp (record { stored = s; tm = tm; drawn = 0 })
-  booted_up order units = subst (λ t. IsUp (record { stored = s; tm = t; drawn = 0 })) (sym table_is)
-      (boot_up name (map log_record_of told.prepared) (map log_record_of told.committed) s order units begins.within begins.apart (begins.tells name) named doubt 0)
+  pub booted_up : (rms : List Name) → rms ≡ [] → IsInOrder s.units s.volume → AreOfBranches s.units.begun (branches_of (map log_record_of told.prepared)) → IsUp (record { stored = s; tm = tm; drawn = 0; declared = rms })
+  booted_up rms none order units = subst (λ (x : List Name). IsUp (record { stored = s; tm = tm; drawn = 0; declared = x })) (sym none) (subst (λ t. IsUp (record { stored = s; tm = t; drawn = 0; declared = [] })) (sym table_is)
+      (boot_up name (map log_record_of told.prepared) (map log_record_of told.committed) s order units begins.within begins.apart (begins.tells name) named doubt 0))
 
-  pub booted_stands : (old : Stored) → old.volume ≡ s.volume → old.units ≡ s.units → (clock : ℕ) (n : Node) → IsBooted clock told old n → StandsUp clock (record { stored = s; tm = tm; drawn = 0 }) n
-  booted_stands old volume units clock n b =
+  pub booted_stands : (rms : List Name) → rms ≡ [] → (old : Stored) → old.volume ≡ s.volume → old.units ≡ s.units → (clock : ℕ) (n : Node) → IsBooted clock told old n → StandsUp clock (record { stored = s; tm = tm; drawn = 0; declared = rms }) n
+  booted_stands rms none old volume units clock n b =
       let kept : IsKept s.units s.volume n = subst (λ v. IsKept s.units v n) volume (subst (λ u. IsKept u old.volume n) units b.kept) in
       let node : n.name ≡ name = b.name ∙ ap (λ (v : VolumeState). v.catalog.home.node) volume ∙ sym named in
-      subst (λ t. StandsUp clock (record { stored = s; tm = t; drawn = 0 }) n) (sym table_is)
-      (boot_stands clock name (map log_record_of told.prepared) (map log_record_of told.committed) s n begins.apart doubt kept b.is_up node b.branches b.records b.preparation b.clock_is b.up b.was_up b.under_way b.drawn)
+      subst (λ (x : List Name). StandsUp clock (record { stored = s; tm = tm; drawn = 0; declared = x }) n) (sym none) (subst (λ t. StandsUp clock (record { stored = s; tm = t; drawn = 0; declared = [] }) n) (sym table_is)
+      (boot_stands clock name (map log_record_of told.prepared) (map log_record_of told.committed) s n begins.apart doubt kept b.is_up node b.branches b.records b.preparation b.clock_is b.up b.was_up b.under_way b.drawn b.declared))
 
 pub restart_as : (ps cs : List LogRec) (told : ReopenedTold) (ss : Slots) → ps ≡ told.prepared → cs ≡ told.committed → MayBegin told ss → MayRestart (map log_record_of ps) (map log_record_of cs)
 restart_as ps cs told ss p c b = subst (λ xs. MayRestart (map log_record_of xs) (map log_record_of cs)) (sym p) (subst (λ xs. MayRestart (map log_record_of told.prepared) (map log_record_of xs)) (sym c) (may_restart (map log_record_of told.prepared) (map log_record_of told.committed) b.within b.apart))

@@ -24,8 +24,8 @@ use Rattle.row_laws.specs.Doing.{DoesRows}
 use Rattle.row_laws.specs.May.{IsOfMessage, MayDoAll}
 use Rattle.row_laws.proofs.Composing.{does_more}
 use Rattle.row_laws.proofs.MayLemmas.{may_row}
-use Rattle.transcript_model.specs.Emitting.{Shown}
-use Rattle.transcript_model.proofs.EmittingLemmas.{emits_nothing}
+use Rattle.emitter_model.specs.Emitting.{Shown}
+use Rattle.emitter_model.proofs.EmittingLemmas.{emits_nothing}
 use Rattle.unit_table.specs.Units.{OpenUnit, new_unit}
 use Rattle.vms_model.specs.Ids.{Id}
 use Rattle.volume_model.specs.Volumes.{HasDisk}
@@ -39,11 +39,11 @@ use Rattle.volume.specs.State.{VolumeState}
 use Rattle.node_table.specs.Growing as growing
 use Rattle.node_table.specs.Growing.{Stays, end_to_come, groups_left, moment_to_come}
 use Rattle.node_table.specs.Running.{Grown, IsEarlyFor, IsFreshFor, IsFreshOf, IsNewFor, IsTold, KeepsUp, TellsRows}
-use Rattle.node_table.specs.Standing.{Follows, IsUp, StandsAt, StandsUp, Stored, Up}
+use Rattle.node_table.specs.Standing.{Follows, HasDeclared, IsUp, StandsAt, StandsUp, Stored, Up}
 use Rattle.node_table.specs.Telling.{MayBegin, MayTellAll, TellsAll, begun_by, uses_disk}
 use Rattle.node_table.proofs.Beginning.{Begins, follows_new, stands_new, unit_new, unit_room, with_unit}
 use Rattle.node_table.proofs.Rows.{up_first}
-use Rattle.node_table.proofs.Upping.{boot_same, does_as, drawn_same, name_same, prepared_all, serials_of}
+use Rattle.node_table.proofs.Upping.{boot_same, declared_same, does_as, drawn_same, name_same, prepared_all, serials_of}
 
 -- Where no branch begins.
 
@@ -52,10 +52,10 @@ quiet_may e tid r up allows none of = record { follows = up.follows; may = may_r
 
 -- what is kept behind acts of a table, where this is the stored part before them
 kept_up : {T : Type 0} (r : Result T Down) (e : Event) (es : List Effect) (tid : Id) (clock : ℕ) (mid : Stored) (acts : List Act) (tm : Tm) (old new : Up) (x y : SharedState) (a b : Shown) → es ≡ effects_of (row old.tm e) old.tm.records → MayTellAll es tid acts tm mid → mid.volume ≡ old.stored.volume
-    → TmWithin (after acts tm) → new.tm ≡ after acts tm → new.drawn ≡ old.drawn
+    → TmWithin (after acts tm) → new.tm ≡ after acts tm → new.drawn ≡ old.drawn → new.declared ≡ old.declared
     → moment_to_come mid ≤ moment_to_come old.stored + begun e → end_to_come mid ≤ end_to_come old.stored + begun e * 2 ^ 23
-    → TellsAll r es tid clock mid new.stored x y a b → KeepsUp r e clock old new x y a b
-kept_up {T} r e es tid clock mid acts tm old new x y a b of_row may same within is ids m n t = record {
+    → TellsAll old.declared r es tid clock mid new.stored x y a b → KeepsUp r e clock old new x y a b
+kept_up {T} r e es tid clock mid acts tm old new x y a b of_row may same within is ids declared m n t = record {
   up = up r t.follows;
   goes = subst (λ (v : VolumeState). Goes v.store.disk new.stored.volume.store.disk) same t.stays.goes;
   cause = subst (λ (v : VolumeState). Caused (down_of r) v.store.disk new.stored.volume.store.disk) same t.stays.cause;
@@ -63,6 +63,7 @@ kept_up {T} r e es tid clock mid acts tm old new x y a b of_row may same within 
   node = t.stays.node ∙ ap (λ (v : VolumeState). v.catalog.home.node) same;
   boot = boot_is;
   drawn = ids;
+  declared = declared;
   grown = grown r t.stays.grown;
   since = t.since;
   work = t.work;
@@ -84,34 +85,35 @@ kept_up {T} r e es tid clock mid acts tm old new x y a b of_row may same within 
     grown (Ok v) h = (let p = h.moment in let q = h.end in record { moment = omega arith; end = omega arith })
 
 -- what stands behind acts of it, in the world
-stood_up : (clock : ℕ) (tid : Id) (es : List Effect) (mid : Stored) (acts : List Act) (tm : Tm) (old new : Up) (sw : world.Shared) (n : Node) → MayTellAll es tid acts tm mid → laws.IsUp n → tm_of n ≡ tm → new.tm ≡ after acts tm → new.drawn ≡ old.drawn → n.volatile.drawn ≡ old.drawn
+stood_up : (clock : ℕ) (tid : Id) (es : List Effect) (mid : Stored) (acts : List Act) (tm : Tm) (old new : Up) (sw : world.Shared) (n : Node) → MayTellAll es tid acts tm mid → laws.IsUp n → tm_of n ≡ tm → new.tm ≡ after acts tm → new.drawn ≡ old.drawn → n.volatile.drawn ≡ old.drawn → new.declared ≡ old.declared → HasDeclared old.declared n
     → ((k : Key) → In k n.volatile.preparation → IsDrawn n.name n.durable.boot n.volatile.drawn k.serial)
     → StandsAt clock new.stored (after acts tm) (node_after_rows (table_rows acts sw n) n) → StandsUp clock new (node_after_rows (table_rows acts sw n) n)
-stood_up clock tid es mid acts tm old new sw n may up at is ids here prep h =
+stood_up clock tid es mid acts tm old new sw n may up at is ids here declared has prep h =
     let m : Node = node_after_rows (table_rows acts sw n) n in
     record {
       stands = subst (λ z. StandsAt clock new.stored z m) (sym is) h;
       drawn = drawn_same acts sw n ∙ here ∙ sym ids;
+      declared = declared_same acts sw n ∙ has ∙ sym declared;
       preparation = λ k j.
           let d : IsDrawn n.name n.durable.boot n.volatile.drawn k.serial = prepared_all tid (IsDrawn n.name n.durable.boot n.volatile.drawn) acts tm mid.units.log sw n may.follows.told may.may (λ i q. up.table.drawn i (subst (λ z. In i (serials_of z)) (sym at) q)) prep k j in
           subst (λ q. IsDrawn q m.durable.boot m.volatile.drawn k.serial) (sym (name_same acts sw n)) (subst (λ q. IsDrawn n.name q m.volatile.drawn k.serial) (sym (boot_same acts sw n)) (subst (λ q. IsDrawn n.name n.durable.boot q k.serial) (sym (drawn_same acts sw n)) d));
     }
 
-pub quiet_keeps : {T : Type 0} (r : Result T Down) (e : Event) (tid : Id) (clock : ℕ) (old new : Up) (x y : SharedState) (a b : Shown) → IsUp old → allowed old.tm e ≡ true → BeginsNothing e → IsOfMessage tid e → new.tm ≡ after (row old.tm e) old.tm → new.drawn ≡ old.drawn
-    → TellsAll r (effects_of (row old.tm e) old.tm.records) tid clock old.stored new.stored x y a b → KeepsUp r e clock old new x y a b
-quiet_keeps r e tid clock old new x y a b up allows none of is ids t =
-    kept_up r e (effects_of (row old.tm e) old.tm.records) tid clock old.stored (row old.tm e) old.tm old new x y a b refl (quiet_may e tid old up allows none of) refl (keeps_limits old.tm e up.within allows) is ids (omega arith) (omega arith) t
+pub quiet_keeps : {T : Type 0} (r : Result T Down) (e : Event) (tid : Id) (clock : ℕ) (old new : Up) (x y : SharedState) (a b : Shown) → IsUp old → allowed old.tm e ≡ true → BeginsNothing e → IsOfMessage tid e → new.tm ≡ after (row old.tm e) old.tm → new.drawn ≡ old.drawn → new.declared ≡ old.declared
+    → TellsAll old.declared r (effects_of (row old.tm e) old.tm.records) tid clock old.stored new.stored x y a b → KeepsUp r e clock old new x y a b
+quiet_keeps r e tid clock old new x y a b up allows none of is ids declared t =
+    kept_up r e (effects_of (row old.tm e) old.tm.records) tid clock old.stored (row old.tm e) old.tm old new x y a b refl (quiet_may e tid old up allows none of) refl (keeps_limits old.tm e up.within allows) is ids declared (omega arith) (omega arith) t
 
-pub quiet_rows : {T : Type 0} (r : Result T Down) (e : Event) (tid : Id) (clock : ℕ) (old new : Up) (x y : SharedState) (a b : Shown) → IsUp old → allowed old.tm e ≡ true → BeginsNothing e → IsOfMessage tid e → new.tm ≡ after (row old.tm e) old.tm → new.drawn ≡ old.drawn
-    → TellsAll r (effects_of (row old.tm e) old.tm.records) tid clock old.stored new.stored x y a b → TellsRows r e clock old new x y a b
-quiet_rows r e tid clock old new x y a b up allows none of is ids t = λ sw n h fresh share ups.
+pub quiet_rows : {T : Type 0} (r : Result T Down) (e : Event) (tid : Id) (clock : ℕ) (old new : Up) (x y : SharedState) (a b : Shown) → IsUp old → allowed old.tm e ≡ true → BeginsNothing e → IsOfMessage tid e → new.tm ≡ after (row old.tm e) old.tm → new.drawn ≡ old.drawn → new.declared ≡ old.declared
+    → TellsAll old.declared r (effects_of (row old.tm e) old.tm.records) tid clock old.stored new.stored x y a b → TellsRows r e clock old new x y a b
+quiet_rows r e tid clock old new x y a b up allows none of is ids declared t = λ sw n h fresh share ups.
     let z : tm_of n ≡ old.tm = h.stands.table in
     let may : MayTellAll (effects_of (row old.tm e) old.tm.records) tid (row (tm_of n) e) (tm_of n) old.stored = subst (λ q. MayTellAll (effects_of (row old.tm e) old.tm.records) tid (row q e) q old.stored) (sym z) (quiet_may e tid old up allows none of) in
     let stands : StandsAt clock old.stored (tm_of n) n = subst (λ q. StandsAt clock old.stored q n) (sym z) h.stands in
     let is' : new.tm ≡ after (row (tm_of n) e) (tm_of n) = is ∙ ap (λ q. after (row q e) q) (sym z) in
     does_as r (table_rows (row (tm_of n) e) sw n) sw n a b (IsShared y) (StandsAt clock new.stored (after (row (tm_of n) e) (tm_of n))) (StandsUp clock new) (λ k. HasDisk k new.stored.volume.store.disk)
-    (stood_up clock tid (effects_of (row old.tm e) old.tm.records) old.stored (row (tm_of n) e) (tm_of n) old new sw n may (up_first (table_rows (row (tm_of n) e) sw n) n ups) refl is' ids h.drawn h.preparation)
-    (t.does (tm_of n) (row (tm_of n) e) sw n may stands share ups)
+    (stood_up clock tid (effects_of (row old.tm e) old.tm.records) old.stored (row (tm_of n) e) (tm_of n) old new sw n may (up_first (table_rows (row (tm_of n) e) sw n) n ups) refl is' ids h.drawn declared h.declared h.preparation)
+    (t.does (tm_of n) (row (tm_of n) e) sw n h.declared may stands share ups)
 
 -- Where a branch begins.
 
@@ -130,28 +132,28 @@ module _ (e : Event) (b : Branch) (rest : List Act) (tid : Id) (old : Up) (row_i
     pub begun_may : MayTellAll (effects_of (row old.tm e) old.tm.records) tid rest (after_act (Notes b) old.tm) (with_unit b old.stored)
     begun_may = record { follows = follows_new b old.tm old.stored q up.follows; may = may; gives = sym (effects_are old.tm) }
 
-    pub begun_keeps : {T : Type 0} (r : Result T Down) (clock : ℕ) (new : Up) (x y : SharedState) (a c : Shown) → TmWithin (after (row old.tm e) old.tm) → new.tm ≡ after (row old.tm e) old.tm → new.drawn ≡ old.drawn
-        → TellsAll r (effects_of (row old.tm e) old.tm.records) tid clock (with_unit b old.stored) new.stored x y a c → KeepsUp r e clock old new x y a c
-    begun_keeps r clock new x y a c within is ids t =
+    pub begun_keeps : {T : Type 0} (r : Result T Down) (clock : ℕ) (new : Up) (x y : SharedState) (a c : Shown) → TmWithin (after (row old.tm e) old.tm) → new.tm ≡ after (row old.tm e) old.tm → new.drawn ≡ old.drawn → new.declared ≡ old.declared
+        → TellsAll old.declared r (effects_of (row old.tm e) old.tm.records) tid clock (with_unit b old.stored) new.stored x y a c → KeepsUp r e clock old new x y a c
+    begun_keeps r clock new x y a c within is ids declared t =
         let sums = begun_sums old.stored.units.begun b.key.tid b.key.serial in
         let s1 = sums.0 in
         let s2 = sums.1 in
         let is1 : 1 ≤ begun e = (let o : begun e ≡ 1 = one in omega arith) in
-        kept_up r e (effects_of (row old.tm e) old.tm.records) tid clock (with_unit b old.stored) rest (after_act (Notes b) old.tm) old new x y a c refl begun_may refl (subst TmWithin (after_is old.tm) within) (is ∙ after_is old.tm) ids (omega arith) (omega arith) t
+        kept_up r e (effects_of (row old.tm e) old.tm.records) tid clock (with_unit b old.stored) rest (after_act (Notes b) old.tm) old new x y a c refl begun_may refl (subst TmWithin (after_is old.tm) within) (is ∙ after_is old.tm) ids declared (omega arith) (omega arith) t
 
-    pub begun_rows : (laws_hold : KeepsNodes) {T : Type 0} (r : Result T Down) (clock : ℕ) (new : Up) (x y : SharedState) (a c : Shown) → new.tm ≡ after (row old.tm e) old.tm → new.drawn ≡ old.drawn
-        → TellsAll r (effects_of (row old.tm e) old.tm.records) tid clock (with_unit b old.stored) new.stored x y a c
+    pub begun_rows : (laws_hold : KeepsNodes) {T : Type 0} (r : Result T Down) (clock : ℕ) (new : Up) (x y : SharedState) (a c : Shown) → new.tm ≡ after (row old.tm e) old.tm → new.drawn ≡ old.drawn → new.declared ≡ old.declared
+        → TellsAll old.declared r (effects_of (row old.tm e) old.tm.records) tid clock (with_unit b old.stored) new.stored x y a c
         → (sw : world.Shared) (n : Node) → StandsUp clock old n → ((k : Key) → In k n.volatile.preparation → k.serial ≡ b.key.serial → ⊥) → IsShared x sw → AreUp (told_rows sw n (just e)) n
         → DoesRows r (told_rows sw n (just e)) sw n a c (IsShared y) (StandsUp clock new) (λ k. HasDisk k new.stored.volume.store.disk)
-    begun_rows laws_hold r clock new x y a c is ids t sw n h fresh share ups =
+    begun_rows laws_hold r clock new x y a c is ids declared t sw n h fresh share ups =
         let at : List Act = row (tm_of n) e in
         let ups' : AreUp (table_rows (Notes b ∷ rest) sw n) n = subst (λ acts. AreUp (table_rows acts sw n) n) (row_is (tm_of n)) ups in
         let m : Node = acted (Tables (Notes b) (next_moment n)) n in
         let first : laws.IsUp m = up_first (table_rows rest sw m) m ups'.1 in
         let stands : StandsAt clock (with_unit b old.stored) (after_act (Notes b) old.tm) m = stands_new laws_hold b clock old.tm old.stored n q up.follows h.stands fresh first in
-        let d : DoesRows r (table_rows rest sw m) sw m a c (IsShared y) (StandsAt clock new.stored (after rest (after_act (Notes b) old.tm))) (λ k. HasDisk k new.stored.volume.store.disk) = t.does (after_act (Notes b) old.tm) rest sw m begun_may stands share ups'.1 in
+        let d : DoesRows r (table_rows rest sw m) sw m a c (IsShared y) (StandsAt clock new.stored (after rest (after_act (Notes b) old.tm))) (λ k. HasDisk k new.stored.volume.store.disk) = t.does (after_act (Notes b) old.tm) rest sw m h.declared begun_may stands share ups'.1 in
         let d' : DoesRows r (table_rows rest sw m) sw m a c (IsShared y) (StandsUp clock new) (λ k. HasDisk k new.stored.volume.store.disk) = does_as r (table_rows rest sw m) sw m a c (IsShared y) (StandsAt clock new.stored (after rest (after_act (Notes b) old.tm))) (StandsUp clock new) (λ k. HasDisk k new.stored.volume.store.disk)
-        (stood_up clock tid (effects_of (row old.tm e) old.tm.records) (with_unit b old.stored) rest (after_act (Notes b) old.tm) old new sw m begun_may first (ap (after_act (Notes b)) h.stands.table) (is ∙ after_is old.tm) ids h.drawn h.preparation) d in
+        (stood_up clock tid (effects_of (row old.tm e) old.tm.records) (with_unit b old.stored) rest (after_act (Notes b) old.tm) old new sw m begun_may first (ap (after_act (Notes b)) h.stands.table) (is ∙ after_is old.tm) ids h.drawn declared h.declared h.preparation) d in
         subst (λ acts. DoesRows r (table_rows acts sw n) sw n a c (IsShared y) (StandsUp clock new) (λ k. HasDisk k new.stored.volume.store.disk)) (sym (row_is (tm_of n)))
         (does_more (IsShared y) (StandsUp clock new) (λ k. HasDisk k new.stored.volume.store.disk) r (record { act = Some (Tables (Notes b) (next_moment n)); lines = [] }) (table_rows rest sw m) sw n a a c (emits_nothing a) d')
 
@@ -242,27 +244,27 @@ module _ (e : Event) (tid : Id) (old : Up) (up : IsUp old) (allows : allowed old
                 (begun_may e b rest tid old k.row_is k.one up q (k.may_rest tid (after_act (Notes b) old.tm) old.stored.units.log)),
           )
 
-  module _ {T : Type 0} (r : Result T Down) (clock : ℕ) (new : Up) (x y : SharedState) (a b : Shown) (is : new.tm ≡ after (row old.tm e) old.tm) (ids : new.drawn ≡ old.drawn)
-      (t : TellsAll r (effects_of (row old.tm e) old.tm.records) tid clock (record_begun e old.stored) new.stored x y a b) where
-    as_units : (u : UnitsState) → begun_by e old.stored.units ≡ u → TellsAll r (effects_of (row old.tm e) old.tm.records) tid clock (record old.stored { units = u }) new.stored x y a b
-    as_units u q = subst (λ z. TellsAll r (effects_of (row old.tm e) old.tm.records) tid clock (record old.stored { units = z }) new.stored x y a b) q t
+  module _ {T : Type 0} (r : Result T Down) (clock : ℕ) (new : Up) (x y : SharedState) (a b : Shown) (is : new.tm ≡ after (row old.tm e) old.tm) (ids : new.drawn ≡ old.drawn) (declared : new.declared ≡ old.declared)
+      (t : TellsAll old.declared r (effects_of (row old.tm e) old.tm.records) tid clock (record_begun e old.stored) new.stored x y a b) where
+    as_units : (u : UnitsState) → begun_by e old.stored.units ≡ u → TellsAll old.declared r (effects_of (row old.tm e) old.tm.records) tid clock (record old.stored { units = u }) new.stored x y a b
+    as_units u q = subst (λ z. TellsAll old.declared r (effects_of (row old.tm e) old.tm.records) tid clock (record old.stored { units = z }) new.stored x y a b) q t
 
     -- what is kept in order
     pub event_keeps : KeepsUp r e clock old new x y a b
     event_keeps = go (kind_of e told)
       where
         go : Kind e → KeepsUp r e clock old new x y a b
-        go (Quiet q) = quiet_keeps r e tid clock old new x y a b up allows q.none of is ids (as_units old.stored.units (q.unit old.stored.units))
+        go (Quiet q) = quiet_keeps r e tid clock old new x y a b up allows q.none of is ids declared (as_units old.stored.units (q.unit old.stored.units))
         go (New c rest k) = begun_keeps e c rest tid old k.row_is k.one up (new_begins e c rest k old up allows fresh) (k.may_rest tid (after_act (Notes c) old.tm) old.stored.units.log) r clock new x y a b
-            (keeps_limits old.tm e up.within allows) is ids (as_units (with_begun c.key.tid c.key.serial old.stored.units) (k.unit old.stored.units))
+            (keeps_limits old.tm e up.within allows) is ids declared (as_units (with_begun c.key.tid c.key.serial old.stored.units) (k.unit old.stored.units))
 
     -- and what it comes to in the world
     pub event_rows : KeepsNodes → TellsRows r e clock old new x y a b
     event_rows laws_hold = go (kind_of e told)
       where
         go : Kind e → TellsRows r e clock old new x y a b
-        go (Quiet q) = quiet_rows r e tid clock old new x y a b up allows q.none of is ids (as_units old.stored.units (q.unit old.stored.units))
-        go (New c rest k) = λ sw n h news share ups. begun_rows e c rest tid old k.row_is k.one up (new_begins e c rest k old up allows fresh) (k.may_rest tid (after_act (Notes c) old.tm) old.stored.units.log) laws_hold r clock new x y a b is ids
+        go (Quiet q) = quiet_rows r e tid clock old new x y a b up allows q.none of is ids declared (as_units old.stored.units (q.unit old.stored.units))
+        go (New c rest k) = λ sw n h news share ups. begun_rows e c rest tid old k.row_is k.one up (new_begins e c rest k old up allows fresh) (k.may_rest tid (after_act (Notes c) old.tm) old.stored.units.log) laws_hold r clock new x y a b is ids declared
             (as_units (with_begun c.key.tid c.key.serial old.stored.units) (k.unit old.stored.units)) sw n h (k.news n news) share ups
 
   -- numbers are early for the acts, too
@@ -290,6 +292,6 @@ told_may e tid old up allows told fresh of es mid q r =
 pub told_early : (e : Event) (tid : Id) (old : Up) → IsUp old → allowed old.tm e ≡ true → IsTold e → IsFreshFor old e → IsOfMessage tid e → IsEarlyFor e old → (mid : Stored) → mid ≡ record_begun e old.stored → growing.IsEarlyFor mid
 told_early e tid old up allows told fresh of early mid r = subst growing.IsEarlyFor (sym r) (event_early e tid old up allows told fresh of early)
 
-pub told_as : {T : Type 0} (e : Event) (tid : Id) (old new : Up) (r : Result T Down) (clock : ℕ) (x y : SharedState) (a b : Shown) (es : List Effect) (mid : Stored) → es ≡ effects_of (row old.tm e) old.tm.records → mid ≡ record_begun e old.stored → TellsAll r es tid clock mid new.stored x y a b
-    → TellsAll r (effects_of (row old.tm e) old.tm.records) tid clock (record_begun e old.stored) new.stored x y a b
-told_as e tid old new r clock x y a b es mid q s t = subst (λ z. TellsAll r (effects_of (row old.tm e) old.tm.records) tid clock z new.stored x y a b) s (subst (λ z. TellsAll r z tid clock mid new.stored x y a b) q t)
+pub told_as : {T : Type 0} (e : Event) (tid : Id) (old new : Up) (r : Result T Down) (clock : ℕ) (x y : SharedState) (a b : Shown) (es : List Effect) (mid : Stored) → es ≡ effects_of (row old.tm e) old.tm.records → mid ≡ record_begun e old.stored → TellsAll old.declared r es tid clock mid new.stored x y a b
+    → TellsAll old.declared r (effects_of (row old.tm e) old.tm.records) tid clock (record_begun e old.stored) new.stored x y a b
+told_as e tid old new r clock x y a b es mid q s t = subst (λ z. TellsAll old.declared r (effects_of (row old.tm e) old.tm.records) tid clock z new.stored x y a b) s (subst (λ z. TellsAll old.declared r z tid clock mid new.stored x y a b) q t)

@@ -11,7 +11,7 @@ use Rattle.block_disk.specs.Disk.{DiskState}
 use Rattle.careful_write.specs.declared.down.Down.{Down}
 use Rattle.careful_write.specs.declared.down.Down.TheVariants as down
 use Rattle.commit_protocol.specs.Effects.{Effect, act_effects, effects_of}
-use Rattle.commit_protocol.specs.Messages.{LogRecord, Message}
+use Rattle.commit_protocol.specs.Messages.{LogRecord, Message, Name}
 use Rattle.commit_protocol.specs.Table.{Act, Accepts, Acknowledges, Branch, Leaves, Notes, Prepares, Prints, Releases, Sends, Settles, Tm, Undoes, after, after_act, acknowledge, records_after, release}
 use Rattle.commit_protocol.specs.Table as table
 use Rattle.log_laws.specs.Handing.{HandsOn, records_after_all}
@@ -24,9 +24,9 @@ use Rattle.run_shared.specs.Sharing.{IsShared, SharedState}
 use Rattle.row_laws.specs.Doing.{DoesRows}
 use Rattle.row_laws.specs.May.{MayDo, MayDoAll}
 use Rattle.row_laws.proofs.Composing.{did_none, does_more, down_first}
-use Rattle.transcript_model.specs.Emitting.{Emits, Shown}
+use Rattle.emitter_model.specs.Emitting.{Emits, Shown}
 use Rattle.transcript_model.specs.Lines.{Line}
-use Rattle.transcript_model.proofs.EmittingLemmas.{emits_nothing, emits_on, since_on, since_same}
+use Rattle.emitter_model.proofs.EmittingLemmas.{emits_nothing, emits_on, since_on, since_same}
 use Rattle.transcript_model.proofs.OutsideLemmas.{rose_earlier}
 use Rattle.vms_model.specs.Ids.{Id}
 use Rattle.volume_model.specs.Volumes.{HasDisk}
@@ -35,8 +35,8 @@ use Rattle.world_laws.specs.Nodes.{AreUp}
 use Rattle.recovery_units.specs.Laws.{KeepsNodes}
 use Rattle.recovery_units.specs.Uses.{Caused, Goes, down_of}
 use Rattle.node_table.specs.Growing.{Grown, IsEarlyFor, Stays}
-use Rattle.node_table.specs.Standing.{Follows, StandsAt, Stored}
-use Rattle.node_table.specs.Telling.{DidOne, IsOfWork, Leads, MayTellAll, MayTellOne, ShowsWork, TellsAll, TellsOne, WentDownIn, done, uses_disk, wire_after, wire_behind}
+use Rattle.node_table.specs.Standing.{Follows, HasDeclared, StandsAt, Stored}
+use Rattle.node_table.specs.Telling.{DidOne, IsOfWork, Leads, MayTellAll, MayTellOne, ShowsWork, TellsAll, TellsOne, TellsOneWith, WentDownIn, done, uses_disk, wire_after, wire_behind}
 use Rattle.node_table.proofs.Acting.{Moves, followed, moves_note, names_quiet, serials_apart, stood}
 use Rattle.node_table.proofs.Telling.{work_none}
 use Rattle.node_table.proofs.Viewing.{acknowledge_still, release_still}
@@ -207,20 +207,20 @@ module _ (laws_hold : KeepsNodes) (tid : Id) (s : Stored) where
       let l : Leads a tm s s = still_leads tid a tm s f m.0 none.0 in
       passed_follows done rest (after_act a tm) u l.follows (subst (λ z. MayDoAll tid (done ++ rest) (after_act a tm) z) (sym l.log) m.1) none.1 then
 
-  pub passed_does : {T : Type 0} (r : Result T Down) (clock : ℕ) (sh : SharedState) (shares : world.Shared → Type 0) (falls : Node → Type 0) (stands : Tm → Node → Type 0) (a b : Shown) (done rest : List Act) (tm : Tm) (sw : world.Shared) (n : Node) → Follows tm s → MayDoAll tid (done ++ rest) tm s.units.log → effects_of done tm.records ≡ []
-      → StandsAt clock s tm n → IsShared sh sw → AreUp (table_rows (done ++ rest) sw n) n
-      → ((at : Tm) (sw' : world.Shared) (n' : Node) → at.records ≡ records_after_all done tm.records → Follows at s → MayDoAll tid rest at s.units.log → StandsAt clock s at n' → IsShared sh sw' → AreUp (table_rows rest sw' n') n' → DoesRows r (table_rows rest sw' n') sw' n' a b shares (stands (after rest at)) falls)
+  pub passed_does : {rms : List Name} {T : Type 0} (r : Result T Down) (clock : ℕ) (sh : SharedState) (shares : world.Shared → Type 0) (falls : Node → Type 0) (stands : Tm → Node → Type 0) (a b : Shown) (done rest : List Act) (tm : Tm) (sw : world.Shared) (n : Node) → Follows tm s → MayDoAll tid (done ++ rest) tm s.units.log → effects_of done tm.records ≡ []
+      → StandsAt clock s tm n → HasDeclared rms n → IsShared sh sw → AreUp (table_rows (done ++ rest) sw n) n
+      → ((at : Tm) (sw' : world.Shared) (n' : Node) → at.records ≡ records_after_all done tm.records → Follows at s → MayDoAll tid rest at s.units.log → StandsAt clock s at n' → HasDeclared rms n' → IsShared sh sw' → AreUp (table_rows rest sw' n') n' → DoesRows r (table_rows rest sw' n') sw' n' a b shares (stands (after rest at)) falls)
       → DoesRows r (table_rows (done ++ rest) sw n) sw n a b shares (stands (after (done ++ rest) tm)) falls
-  passed_does r clock sh shares falls stands a b [] rest tm sw n f m e h share up then = then tm sw n refl f m h share up
-  passed_does r clock sh shares falls stands a b (x ∷ done) rest tm sw n f m e h share up then =
+  passed_does r clock sh shares falls stands a b [] rest tm sw n f m e h declared share up then = then tm sw n refl f m h declared share up
+  passed_does {rms} r clock sh shares falls stands a b (x ∷ done) rest tm sw n f m e h declared share up then =
       let none = first_none (act_effects x tm.records) (effects_of done (records_after x tm.records)) e in
       let l : Leads x tm s s = still_leads tid x tm s f m.0 none.0 in
       let p : Passes x clock tm s n sw = still_passes laws_hold tid x clock tm s n sw f m.0 none.0 h in
       let row : Row = record { act = Some (Tables x (next_moment n)); lines = shown_by x (next_moment n) n sw } in
       does_more shares (stands (after (done ++ rest) (after_act x tm))) falls r row (table_rows (done ++ rest) (shared_after (Tables x (next_moment n)) sw) (acted (Tables x (next_moment n)) n)) sw n a a b
       (subst (λ ls. Emits a ls a) (sym p.lines) (emits_nothing a))
-      (passed_does r clock sh shares falls stands a b done rest (after_act x tm) (shared_after (Tables x (next_moment n)) sw) (acted (Tables x (next_moment n)) n) l.follows
-      (subst (λ z. MayDoAll tid (done ++ rest) (after_act x tm) z) (sym l.log) m.1) none.1 p.stands (p.shares sh share) up.1 then)
+      (passed_does {rms = rms} r clock sh shares falls stands a b done rest (after_act x tm) (shared_after (Tables x (next_moment n)) sw) (acted (Tables x (next_moment n)) n) l.follows
+      (subst (λ z. MayDoAll tid (done ++ rest) (after_act x tm) z) (sym l.log) m.1) none.1 p.stands declared (p.shares sh share) up.1 then)
 
 any_first : (p q : Bool) → p ≡ true → (p || q) ≡ true
 any_first p q h = rw h refl
@@ -230,8 +230,8 @@ any_second true q h = refl
 any_second false q h = h
 
 -- Where no effect is left.
-pub all_none : (laws_hold : KeepsNodes) (tid : Id) (clock : ℕ) (s : Stored) (sh : SharedState) (a : Shown) → TellsAll done [] tid clock s s sh sh a a
-all_none laws_hold tid clock s sh a = record {
+pub all_none : {rms : List Name} (laws_hold : KeepsNodes) (tid : Id) (clock : ℕ) (s : Stored) (sh : SharedState) (a : Shown) → TellsAll rms done [] tid clock s s sh sh a a
+all_none {rms} laws_hold tid clock s sh a = record {
   stays = stays_same clock s;
   since = since_same a;
   work = work_none sh a a (emits_nothing a);
@@ -239,12 +239,12 @@ all_none laws_hold tid clock s sh a = record {
   follows = λ tm acts m.
       let m' : MayDoAll tid (acts ++ []) tm s.units.log = subst (λ z. MayDoAll tid z tm s.units.log) (sym (append-nil acts)) m.may in
       subst (λ z. Follows (after z tm) s) (append-nil acts) (passed_follows laws_hold tid s acts [] tm s m.follows m' m.gives (λ at e f q. f));
-  does = λ tm acts sw n m h share up.
+  does = λ tm acts sw n declared m h share up.
       let m' : MayDoAll tid (acts ++ []) tm s.units.log = subst (λ z. MayDoAll tid z tm s.units.log) (sym (append-nil acts)) m.may in
       let u' : AreUp (table_rows (acts ++ []) sw n) n = subst (λ z. AreUp (table_rows z sw n) n) (sym (append-nil acts)) up in
       subst (λ z. DoesRows done (table_rows z sw n) sw n a a (IsShared sh) (StandsAt clock s (after z tm)) (λ m. HasDisk m s.volume.store.disk)) (append-nil acts)
-      (passed_does laws_hold tid s done clock sh (IsShared sh) (λ m. HasDisk m s.volume.store.disk) (StandsAt clock s) a a acts [] tm sw n m.follows m' m.gives h share u'
-      (λ at sw' n' e f q h' share' up'. did_none sw' n' a share' h'));
+      (passed_does laws_hold tid s {rms = rms} done clock sh (IsShared sh) (λ m. HasDisk m s.volume.store.disk) (StandsAt clock s) a a acts [] tm sw n m.follows m' m.gives h declared share u'
+      (λ at sw' n' e f q h' declared' share' up'. did_none sw' n' a share' h'));
 }
 
 -- The first effect, and the others.
@@ -265,28 +265,28 @@ rest_of es tid act rest at s t l m g = record { follows = l.follows; may = subst
 parts_of : (e : Effect) (es : List Effect) (tid : Id) (acts : List Act) (tm : Tm) (s : Stored) → MayTellAll (e ∷ es) tid acts tm s → (h : HandsOn acts tm.records [] e es) → MayDoAll tid (h.done ++ h.act ∷ h.rest) tm s.units.log
 parts_of e es tid acts tm s m h = subst (λ z. MayDoAll tid z tm s.units.log) h.parts m.may
 
-pub all_more : {T : Type 0} (laws_hold : KeepsNodes) (r : Result T Down) (e : Effect) (es : List Effect) (tid : Id) (clock : ℕ) (s t u : Stored) (x y z : SharedState) (a b c : Shown) → TellsOne done e tid clock s t x y a b → TellsAll r es tid clock t u y z b c → TellsAll r (e ∷ es) tid clock s u x z a c
-all_more {T} laws_hold r e es tid clock s t u x y z a b c one all = record {
+pub all_more : {rms : List Name} {T : Type 0} (laws_hold : KeepsNodes) (r : Result T Down) (e : Effect) (es : List Effect) (tid : Id) (clock : ℕ) (s t u : Stored) (x y z : SharedState) (a b c : Shown) → TellsOneWith rms done e tid clock s t x y a b → TellsAll rms r es tid clock t u y z b c → TellsAll rms r (e ∷ es) tid clock s u x z a c
+all_more {rms} {T} laws_hold r e es tid clock s t u x y z a b c one all = record {
   stays = stays_on r clock s t u one.stays all.stays;
   since = since_on a b c one.since all.since;
   work = work_on x y z a b c one.work all.work;
   uses = any_behind r all.uses;
   follows = go r all.follows;
-  does = λ tm acts sw n m h share up.
+  does = λ tm acts sw n declared m h share up.
       let f = first_act acts tm.records e es m.gives in
       let u' : AreUp (table_rows (f.done ++ f.act ∷ f.rest) sw n) n = subst (λ q. AreUp (table_rows q sw n) n) f.parts up in
       subst (λ q. DoesRows r (table_rows q sw n) sw n a c (IsShared z) (StandsAt clock u (after q tm)) (λ k. HasDisk k u.volume.store.disk)) (sym f.parts)
-      (passed_does laws_hold tid s r clock x (IsShared z) (λ k. HasDisk k u.volume.store.disk) (StandsAt clock u) a c f.done (f.act ∷ f.rest) tm sw n m.follows (parts_of e es tid acts tm s m f) f.gave h share u'
-      (λ at sw' n' same follows may stands share' up'.
+      (passed_does laws_hold tid s {rms = rms} r clock x (IsShared z) (λ k. HasDisk k u.volume.store.disk) (StandsAt clock u) a c f.done (f.act ∷ f.rest) tm sw n m.follows (parts_of e es tid acts tm s m f) f.gave h declared share u'
+      (λ at sw' n' same follows may stands declared' share' up'.
       let gives : act_effects f.act at.records ≡ e ∷ [] = subst (λ q. act_effects f.act q ≡ e ∷ []) (sym same) f.gives in
       let left : effects_of f.rest (records_after f.act at.records) ≡ es = subst (λ q. effects_of f.rest (records_after f.act q) ≡ es) (sym same) f.left in
       let m1 : MayTellOne e tid f.act at s = one_of e tid f.act f.rest at s follows may gives in
       let l : Leads f.act at s t = one.leads at f.act m1 in
       let m2 : MayTellAll es tid f.rest (after_act f.act at) t = rest_of es tid f.act f.rest at s t l may left in
-      let d : DidOne f.act sw' n' a b y (StandsAt clock t (after_act f.act at)) = one.does at f.act sw' n' m1 stands share' up'.0 (up_first (table_rows f.rest (shared_after (Tables f.act (next_moment n')) sw') (acted (Tables f.act (next_moment n')) n')) (acted (Tables f.act (next_moment n')) n') up'.1) in
+      let d : DidOne f.act sw' n' a b y (StandsAt clock t (after_act f.act at)) = one.does at f.act sw' n' declared' m1 stands share' up'.0 (up_first (table_rows f.rest (shared_after (Tables f.act (next_moment n')) sw') (acted (Tables f.act (next_moment n')) n')) (acted (Tables f.act (next_moment n')) n') up'.1) in
       does_more (IsShared z) (StandsAt clock u (after f.rest (after_act f.act at))) (λ k. HasDisk k u.volume.store.disk) r (record { act = Some (Tables f.act (next_moment n')); lines = shown_by f.act (next_moment n') n' sw' })
       (table_rows f.rest (shared_after (Tables f.act (next_moment n')) sw') (acted (Tables f.act (next_moment n')) n')) sw' n' a b c d.shows
-      (all.does (after_act f.act at) f.rest (shared_after (Tables f.act (next_moment n')) sw') (acted (Tables f.act (next_moment n')) n') m2 d.node d.shares up'.1)));
+      (all.does (after_act f.act at) f.rest (shared_after (Tables f.act (next_moment n')) sw') (acted (Tables f.act (next_moment n')) n') declared' m2 d.node d.shares up'.1)));
 }
   where
     any_behind : (q : Result T Down) → OnErr q (list_any uses_disk es ≡ true) → OnErr q (list_any uses_disk (e ∷ es) ≡ true)
@@ -304,21 +304,21 @@ all_more {T} laws_hold r e es tid clock s t u x y z a b c one all = record {
         h (after_act f.act at) f.rest (rest_of es tid f.act f.rest at s t l may left)))
 
 -- The disk went down in the first.
-pub all_down : {T : Type 0} (laws_hold : KeepsNodes) (d : Down) (e : Effect) (es : List Effect) (tid : Id) (clock : ℕ) (s t : Stored) (x y : SharedState) (a b : Shown) → TellsOne {T = T} (Err d) e tid clock s t x y a b → TellsAll {T = T} (Err d) (e ∷ es) tid clock s t x y a b
-all_down {T} laws_hold d e es tid clock s t x y a b one = record {
+pub all_down : {rms : List Name} {T : Type 0} (laws_hold : KeepsNodes) (d : Down) (e : Effect) (es : List Effect) (tid : Id) (clock : ℕ) (s t : Stored) (x y : SharedState) (a b : Shown) → TellsOneWith rms {T = T} (Err d) e tid clock s t x y a b → TellsAll rms {T = T} (Err d) (e ∷ es) tid clock s t x y a b
+all_down {rms} {T} laws_hold d e es tid clock s t x y a b one = record {
   stays = one.stays;
   since = one.since;
   work = one.work;
   uses = any_first (uses_disk e) (list_any uses_disk es) one.uses;
   follows = tt;
-  does = λ tm acts sw n m h share up.
+  does = λ tm acts sw n declared m h share up.
       let f = first_act acts tm.records e es m.gives in
       let u' : AreUp (table_rows (f.done ++ f.act ∷ f.rest) sw n) n = subst (λ q. AreUp (table_rows q sw n) n) f.parts up in
       subst (λ q. DoesRows {T = T} (Err d) (table_rows q sw n) sw n a b (IsShared y) (StandsAt clock t (after q tm)) (λ k. HasDisk k t.volume.store.disk)) (sym f.parts)
-      (passed_does laws_hold tid s {T = T} (Err d) clock x (IsShared y) (λ k. HasDisk k t.volume.store.disk) (StandsAt clock t) a b f.done (f.act ∷ f.rest) tm sw n m.follows (parts_of e es tid acts tm s m f) f.gave h share u'
-      (λ at sw' n' same follows may stands share' up'.
+      (passed_does laws_hold tid s {rms = rms} {T = T} (Err d) clock x (IsShared y) (λ k. HasDisk k t.volume.store.disk) (StandsAt clock t) a b f.done (f.act ∷ f.rest) tm sw n m.follows (parts_of e es tid acts tm s m f) f.gave h declared share u'
+      (λ at sw' n' same follows may stands declared' share' up'.
       let gives : act_effects f.act at.records ≡ e ∷ [] = subst (λ q. act_effects f.act q ≡ e ∷ []) (sym same) f.gives in
-      let w : WentDownIn f.act sw' n' a b y t.volume.store.disk = one.does at f.act sw' n' (one_of e tid f.act f.rest at s follows may gives) stands share' up'.0
+      let w : WentDownIn f.act sw' n' a b y t.volume.store.disk = one.does at f.act sw' n' declared' (one_of e tid f.act f.rest at s follows may gives) stands share' up'.0
       (up_first (table_rows f.rest (shared_after (Tables f.act (next_moment n')) sw') (acted (Tables f.act (next_moment n')) n')) (acted (Tables f.act (next_moment n')) n') up'.1) in
       down_first (record { act = Some (Tables f.act (next_moment n')); lines = shown_by f.act (next_moment n') n' sw' }) (table_rows f.rest (shared_after (Tables f.act (next_moment n')) sw') (acted (Tables f.act (next_moment n')) n')) sw' n' a b w.shows w.shares w.disk));
 }
@@ -338,7 +338,7 @@ first_may e es tid acts tm s m = go f.done tm m.follows (parts_of e es tid acts 
         go done (after_act x at) l.follows (subst (λ z. MayDoAll tid (done ++ f.act ∷ f.rest) (after_act x at) z) (sym l.log) may.1) first.1 gives
 
 -- and those behind it
-pub rest_may : (e : Effect) (es : List Effect) (tid : Id) (clock : ℕ) (acts : List Act) (tm : Tm) (s t : Stored) (x y : SharedState) (a b : Shown) → MayTellAll (e ∷ es) tid acts tm s → TellsOne done e tid clock s t x y a b → (at : Tm) × (rest : List Act) × MayTellAll es tid rest at t
+pub rest_may : {rms : List Name} (e : Effect) (es : List Effect) (tid : Id) (clock : ℕ) (acts : List Act) (tm : Tm) (s t : Stored) (x y : SharedState) (a b : Shown) → MayTellAll (e ∷ es) tid acts tm s → TellsOneWith rms done e tid clock s t x y a b → (at : Tm) × (rest : List Act) × MayTellAll es tid rest at t
 rest_may e es tid clock acts tm s t x y a b m one = go f.done tm m.follows (parts_of e es tid acts tm s m f) f.gave f.gives f.left
   where
     f : HandsOn acts tm.records [] e es
@@ -356,16 +356,23 @@ rest_may e es tid clock acts tm s t x y a b m one = go f.done tm m.follows (part
 pub may_as : (e f : Effect) (tid : Id) (act : Act) (tm : Tm) (s : Stored) → e ≡ f → MayTellOne e tid act tm s → MayTellOne f tid act tm s
 may_as e f tid act tm s q m = subst (λ x. MayTellOne x tid act tm s) q m
 
-pub tells_as : {T : Type 0} (r : Result T Down) (e f : Effect) (tid : Id) (clock : ℕ) (s t : Stored) (x y : SharedState) (a b : Shown) → e ≡ f → TellsOne r f tid clock s t x y a b → TellsOne r e tid clock s t x y a b
-tells_as r e f tid clock s t x y a b q h = subst (λ z. TellsOne r z tid clock s t x y a b) (sym q) h
+-- what is so at every node is so whatever managers are declared there
+pub with_any : {rms : List Name} {T : Type 0} (r : Result T Down) (e : Effect) (tid : Id) (clock : ℕ) (s t : Stored) (x y : SharedState) (a b : Shown) → TellsOne r e tid clock s t x y a b → TellsOneWith rms r e tid clock s t x y a b
+with_any r e tid clock s t x y a b h = record { stays = h.stays; since = h.since; work = h.work; uses = h.uses; leads = h.leads; does = λ tm act sw n declared m stands share up after. h.does tm act sw n m stands share up after }
+
+pub tells_as : {rms : List Name} {T : Type 0} (r : Result T Down) (e f : Effect) (tid : Id) (clock : ℕ) (s t : Stored) (x y : SharedState) (a b : Shown) → e ≡ f → TellsOne r f tid clock s t x y a b → TellsOneWith rms r e tid clock s t x y a b
+tells_as {rms} r e f tid clock s t x y a b q h = with_any {rms = rms} r e tid clock s t x y a b (subst (λ z. TellsOne r z tid clock s t x y a b) (sym q) h)
+
+pub tells_with : {rms : List Name} {T : Type 0} (r : Result T Down) (e f : Effect) (tid : Id) (clock : ℕ) (s t : Stored) (x y : SharedState) (a b : Shown) → e ≡ f → TellsOneWith rms r f tid clock s t x y a b → TellsOneWith rms r e tid clock s t x y a b
+tells_with {rms} r e f tid clock s t x y a b q h = subst (λ z. TellsOneWith rms r z tid clock s t x y a b) (sym q) h
 
 -- Effects as the code has them.
 
 pub may_all_as : (es fs : List Effect) (tid : Id) (acts : List Act) (tm : Tm) (s : Stored) → es ≡ fs → MayTellAll es tid acts tm s → MayTellAll fs tid acts tm s
 may_all_as es fs tid acts tm s q m = subst (λ x. MayTellAll x tid acts tm s) q m
 
-pub tells_all_as : {T : Type 0} (r : Result T Down) (es fs : List Effect) (tid : Id) (clock : ℕ) (s t : Stored) (x y : SharedState) (a b : Shown) → es ≡ fs → TellsAll r fs tid clock s t x y a b → TellsAll r es tid clock s t x y a b
-tells_all_as r es fs tid clock s t x y a b q h = subst (λ z. TellsAll r z tid clock s t x y a b) (sym q) h
+pub tells_all_as : {rms : List Name} {T : Type 0} (r : Result T Down) (es fs : List Effect) (tid : Id) (clock : ℕ) (s t : Stored) (x y : SharedState) (a b : Shown) → es ≡ fs → TellsAll rms r fs tid clock s t x y a b → TellsAll rms r es tid clock s t x y a b
+tells_all_as {rms} r es fs tid clock s t x y a b q h = subst (λ z. TellsAll rms r z tid clock s t x y a b) (sym q) h
 
 -- the first of the code's effects, and the others
 pub split_effects : (xs : List EffectSaid) (x : EffectSaid) → 1 ≤ length xs → x ≡ get_or xs 0 x → map effect_of xs ≡ effect_of x ∷ map effect_of (take (length xs - 1) (drop 1 xs))

@@ -1,7 +1,7 @@
 -- Effects that units do: votes, settlements and records, by what their calls answered.
 use Rattle.std.proofs.Common.{◌≡◌, ◌≤◌, ℕ, Bool, true, false, List, [], ◌∷◌, ◌++◌, Option, Some, None, Result, Ok, Err, ◌⊎◌, inr, refl, ap, sym, subst, ◌∙◌, length}
 use Rattle.std.specs.Prelude.{IfSome, IsSome, is_some, OnErr, OnOk, ◌||◌, not, if◌then◌else◌}
-use Rattle.transcript_model.proofs.EmittingLemmas.{emits_nothing, since_same}
+use Rattle.emitter_model.proofs.EmittingLemmas.{emits_nothing, since_same}
 use Rattle.careful_write.specs.declared.down.Down.{Down}
 use Rattle.commit_protocol.specs.Allowed.{is_prepared}
 use Rattle.commit_protocol.specs.Effects.{Effect, PrepareEffect, SettleEffect, KeepEffect, ForgetEffect, ReadOnlyEffect, act_effects}
@@ -20,7 +20,7 @@ use Rattle.run_model.specs.World as world
 use Rattle.run_model.specs.World.{Node, Settlement, Tables, acted, next_moment, settlement, settlement_of, tm_of}
 use Rattle.run_shared.specs.Sharing.{IsShared, SharedState}
 use Rattle.row_laws.specs.May.{MayDo}
-use Rattle.transcript_model.specs.Emitting.{Emits, Shown, Since}
+use Rattle.emitter_model.specs.Emitting.{Emits, Shown, Since}
 use Rattle.transcript_model.specs.Lines as line
 use Rattle.transcript_model.specs.Lines.{Line}
 use Rattle.vms_model.specs.Ids.{Id}

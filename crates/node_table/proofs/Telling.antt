@@ -12,7 +12,7 @@ use Rattle.run_model.specs.World as world
 use Rattle.run_model.specs.World.{Node, Tables, acted, fallen, message_limit, next_moment, posted, settlement, settlement_of, shared_after, tm_of}
 use Rattle.run_shared.specs.Sharing.{IsShared, SharedState}
 use Rattle.row_laws.specs.May.{MayDo}
-use Rattle.transcript_model.specs.Emitting.{Emits, Shown, Since}
+use Rattle.emitter_model.specs.Emitting.{Emits, Shown, Since}
 use Rattle.transcript_model.specs.Lines as line
 use Rattle.transcript_model.specs.Lines.{Line}
 use Rattle.vms_model.specs.Ids.{Id}
@@ -25,8 +25,9 @@ use Rattle.recovery_units.specs.Calls.{ForActs, Done, Broken}
 use Rattle.recovery_units.specs.Laws.{KeepsNodes}
 use Rattle.recovery_units.specs.State.{IsKept}
 use Rattle.node_table.specs.Growing.{Stays}
-use Rattle.node_table.specs.Standing.{Follows, StandsAt, Stored}
-use Rattle.node_table.specs.Telling.{DidOne, IsOfWork, MayTellOne, ShowsWork, TellsOne, WentDownIn, done, wire_behind}
+use Rattle.node_table.specs.Standing.{Follows, HasDeclared, StandsAt, Stored}
+use Rattle.node_table.specs.Telling.{DidOne, IsOfWork, MayTellOne, ShowsWork, TellsOne, TellsOneWith, WentDownIn, done, event_lines, wire_behind}
+use Rattle.participants.specs.Refusing.{is_among}
 use Rattle.node_table.proofs.Acting.{IsQuiet, Names, followed, moves_quiet, names_quiet, serials_apart, stood}
 use Rattle.node_table.proofs.Viewing.{view}
 
@@ -82,6 +83,21 @@ broke act sw n a b sh w shows shares writes_it disk = record {
 
 -- Effects that leave the units as they are.
 
+writes_not : (act : Act) → IsQuiet act → writes act ≡ false
+writes_not (Notes b) is = refl
+writes_not (Accepts b c) is = refl
+writes_not (Sends m) is = refl
+writes_not (Prints l) is = refl
+writes_not (Prepares b) is = absurd is
+writes_not (Settles k o why r) is = absurd is
+writes_not (Leaves k) is = absurd is
+writes_not (Acknowledges k) is = absurd is
+writes_not (Releases i x) is = absurd is
+writes_not (Undoes k) is = absurd is
+
+leaves_not : (act : Act) → IsQuiet act → (k : Key) → act ≡ Leaves k → ⊥
+leaves_not act is k q = let f : IsQuiet (Leaves k) = subst IsQuiet q is in f
+
 pub quiet_tells : (laws_hold : KeepsNodes) (e : Effect) (tid : Id) (clock : ℕ) (s : Stored) (sh : SharedState) (after_sh : SharedState) (a b : Shown) → Stays done clock s s → Since a b → ShowsWork sh after_sh a b
     → ((act : Act) (tm : Tm) → MayTellOne e tid act tm s → IsQuiet act)
     → ((act : Act) (tm : Tm) (n : Node) (sw : world.Shared) (moment : ℕ) → MayTellOne e tid act tm s → IsShared sh sw → Emits a (shown_by act moment n sw) b × IsShared after_sh (shared_after (Tables act moment) sw))
@@ -99,21 +115,6 @@ quiet_tells laws_hold e tid clock s sh after_sh a b stays since work quiet shows
       did e tid act tm clock s s sw n a b after_sh h (laws_hold.tables s.units s.volume n act (next_moment n) h.kept (writes_not act is) (leaves_not act is) w.may.stands)
       (names_quiet act n s.in_doubt (apart_at tm s clock n h m.follows) is w.may.stands h.doubt h.names) r.0 r.1;
 }
-  where
-    writes_not : (act : Act) → IsQuiet act → writes act ≡ false
-    writes_not (Notes b) is = refl
-    writes_not (Accepts b c) is = refl
-    writes_not (Sends m) is = refl
-    writes_not (Prints l) is = refl
-    writes_not (Prepares b) is = absurd is
-    writes_not (Settles k o why r) is = absurd is
-    writes_not (Leaves k) is = absurd is
-    writes_not (Acknowledges k) is = absurd is
-    writes_not (Releases i x) is = absurd is
-    writes_not (Undoes k) is = absurd is
-
-    leaves_not : (act : Act) → IsQuiet act → (k : Key) → act ≡ Leaves k → ⊥
-    leaves_not act is k q = let f : IsQuiet (Leaves k) = subst IsQuiet q is in f
 
 -- a message that is sent is shown so
 sent_work : (m : Message) (wire : List Message) → IsOfWork (sent_line m wire)
@@ -154,10 +155,36 @@ module _ (laws_hold : KeepsNodes) (tid : Id) (clock : ℕ) (s : Stored) (sh : Sh
       (λ act tm m. subst IsQuiet (sym (view act tm.records (EndedEffect t reason) m.gives)) tt)
       (λ act tm n sw moment m share. let P : Act → Type 0 = λ x. Emits a (shown_by x moment n sw) b × IsShared sh (shared_after (Tables x moment) sw) in subst P (sym (view act tm.records (EndedEffect t reason) m.gives)) (shows, share))
 
-  pub told_tells : (event : RmEvent) (serial : Id) (rm : Name) → Emits a [] b → TellsOne done (TellEffect event serial rm) tid clock s s sh sh a b
-  told_tells event serial rm shows = quiet_tells laws_hold (TellEffect event serial rm) tid clock s sh sh a b stays since (work_none sh a b shows)
-      (λ act tm m. let v = view act tm.records (TellEffect event serial rm) m.gives in subst IsQuiet (sym v.1) tt)
-      (λ act tm n sw moment m share. let v = view act tm.records (TellEffect event serial rm) m.gives in let P : Act → Type 0 = λ x. Emits a (shown_by x moment n sw) b × IsShared sh (shared_after (Tables x moment) sw) in subst P (sym v.1) (shows, share))
+  -- an event to a manager is shown where it is declared
+  pub told_tells : (rms : List Name) (event : RmEvent) (t serial : Id) (rm : Name) → Emits a (event_lines rms event t serial rm) b → TellsOneWith rms done (TellEffect event t serial rm) tid clock s s sh sh a b
+  told_tells rms event t serial rm shows = record {
+    stays = stays;
+    since = since;
+    work = event_work (is_among rm rms) shows;
+    uses = tt;
+    leads = λ tm act m. followed tid act tm s s m.follows m.may m.follows.order refl (moves_quiet act tm s m.follows (quiet act tm m) m.may.stands);
+    does = λ tm act sw n declared m h share up after.
+        let w = same_table (TellEffect event t serial rm) tid act tm s clock n h m in
+        let is = quiet act tm m in
+        did (TellEffect event t serial rm) tid act tm clock s s sw n a b sh h (laws_hold.tables s.units s.volume n act (next_moment n) h.kept (writes_not act is) (leaves_not act is) w.may.stands)
+        (names_quiet act n s.in_doubt (apart_at tm s clock n h m.follows) is w.may.stands h.doubt h.names)
+        (shown_here act tm n sw m declared) (shared_here act tm n sw m share);
+  }
+    where
+      quiet : (act : Act) (tm : Tm) → MayTellOne (TellEffect event t serial rm) tid act tm s → IsQuiet act
+      quiet act tm m = subst IsQuiet (sym (view act tm.records (TellEffect event t serial rm) m.gives)) tt
+
+      event_work : (known : Bool) → Emits a (if known then line.ManagerTold event t serial rm ∷ [] else []) b → ShowsWork sh sh a b
+      event_work true e = work_one sh sh a b (line.ManagerTold event t serial rm) e refl refl
+      event_work false e = work_none sh a b e
+
+      shown_here : (act : Act) (tm : Tm) (n : Node) (sw : world.Shared) → MayTellOne (TellEffect event t serial rm) tid act tm s → HasDeclared rms n → Emits a (shown_by act (next_moment n) n sw) b
+      shown_here act tm n sw m declared =
+          let P : Act → Type 0 = λ x. Emits a (shown_by x (next_moment n) n sw) b in
+          subst P (sym (view act tm.records (TellEffect event t serial rm) m.gives)) (subst (λ (known : List Name). Emits a (event_lines known event t serial rm) b) (sym declared) shows)
+
+      shared_here : (act : Act) (tm : Tm) (n : Node) (sw : world.Shared) → MayTellOne (TellEffect event t serial rm) tid act tm s → IsShared sh sw → IsShared sh (shared_after (Tables act (next_moment n)) sw)
+      shared_here act tm n sw m share = let P : Act → Type 0 = λ x. IsShared sh (shared_after (Tables x (next_moment n)) sw) in subst P (sym (view act tm.records (TellEffect event t serial rm) m.gives)) share
 
   pub sent_tells : (m : Message) (after_sh : SharedState) → after_sh ≡ record sh { wire = posted m sh.wire } → Emits a (sent_line m sh.wire ∷ []) b → TellsOne done (SendEffect m) tid clock s s sh after_sh a b
   sent_tells m after_sh posts shows = quiet_tells laws_hold (SendEffect m) tid clock s sh after_sh a b stays since (work_one sh after_sh a b (sent_line m sh.wire) shows (sent_work m sh.wire) (posts ∙ ap (λ (w : List Message). record sh { wire = w }) (sym (sent_posts m sh.wire))))

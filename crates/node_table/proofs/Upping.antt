@@ -13,7 +13,7 @@ use Rattle.run_model.specs.World.{Node, Settlement, Tables, acted, next_moment, 
 use Rattle.row_laws.specs.Doing.{DoesRows}
 use Rattle.row_laws.specs.May.{IsTold, MayDo, MayDoAll}
 use Rattle.row_laws.proofs.MayLemmas.{told_after}
-use Rattle.transcript_model.specs.Emitting.{Shown}
+use Rattle.emitter_model.specs.Emitting.{Shown}
 use Rattle.vms_model.specs.Ids.{Id}
 
 -- the serials of a table's branches and committed records
@@ -79,6 +79,10 @@ name_same (a ∷ acts) sw n = name_same acts (shared_after (Tables a (next_momen
 pub drawn_same : (acts : List Act) (sw : world.Shared) (n : Node) → (node_after_rows (table_rows acts sw n) n).volatile.drawn ≡ n.volatile.drawn
 drawn_same [] sw n = refl
 drawn_same (a ∷ acts) sw n = drawn_same acts (shared_after (Tables a (next_moment n)) sw) (acted (Tables a (next_moment n)) n)
+
+pub declared_same : (acts : List Act) (sw : world.Shared) (n : Node) → (node_after_rows (table_rows acts sw n) n).volatile.declared ≡ n.volatile.declared
+declared_same [] sw n = refl
+declared_same (a ∷ acts) sw n = declared_same acts (shared_after (Tables a (next_moment n)) sw) (acted (Tables a (next_moment n)) n)
 
 -- what stands behind rows that were done whole may be said otherwise
 pub does_as : {T E : Type 0} (r : Result T E) (rs : List Row) (s : world.Shared) (n : Node) (a b : Shown) (shares : world.Shared → Type 0) (P Q falls : Node → Type 0) → (P (node_after_rows rs n) → Q (node_after_rows rs n)) → DoesRows r rs s n a b shares P falls → DoesRows r rs s n a b shares Q falls

@@ -10,6 +10,6 @@ use Rattle.node_table.specs.Standing.{Stored, Up}
 abbrev pub stored_of : {D U : Type 0} → (U → UnitsState) → StoredSaid D U → Stored
 stored_of state s = record { volume = s.volume; units = state s.units; in_doubt = map serial_of s.room.in_doubt.items }
 
--- with its table
+-- with its table and its managers
 abbrev pub up_of : {D U : Type 0} → (U → UnitsState) → RunningSaid D U → Up
-up_of state r = record { stored = stored_of state r.stored; tm = r.table; drawn = r.drawn }
+up_of state r = record { stored = stored_of state r.stored; tm = r.table; drawn = r.drawn; declared = r.managers }

@@ -1,5 +1,5 @@
 -- What telling a node's table an event comes to.
-use Rattle.std.specs.Prelude.{◌≡◌, map, true, ◌≤◌, ◌<◌, length, ◌+◌, ◌*◌, ◌^◌, ℕ, ◌++◌, max, Option, None, Result, OnErr, OnOk}
+use Rattle.std.specs.Prelude.{◌≡◌, [], map, true, ◌≤◌, ◌<◌, length, ◌+◌, ◌*◌, ◌^◌, ℕ, ◌++◌, max, Option, None, Result, OnErr, OnOk}
 use Rattle.std.specs.List.{list_any}
 use Rattle.careful_write.specs.declared.down.Down.{Down}
 use Rattle.commit_protocol.specs.Effects.{effects_of}
@@ -20,7 +20,7 @@ use Rattle.run_model.specs.Statements.{answer_in}
 use Rattle.run_model.specs.World as world
 use Rattle.run_model.specs.World.{Node, tm_of}
 use Rattle.run_shared.specs.Sharing.{IsShared, SharedState}
-use Rattle.transcript_model.specs.Emitting.{Shown, Since}
+use Rattle.emitter_model.specs.Emitting.{Shown, Since}
 use Rattle.vms_model.specs.Ids.{Id}
 use Rattle.volume_model.specs.Volumes.{HasDisk}
 use Rattle.world_laws.specs.Nodes.{AreUp}
@@ -68,6 +68,7 @@ pub record KeepsUp {T : Type 0} (r : Result T Down) (e : Event) (clock : ℕ) (o
   pub node : new.stored.volume.catalog.home.node ≡ old.stored.volume.catalog.home.node
   pub boot : new.stored.volume.catalog.home.boot ≡ old.stored.volume.catalog.home.boot
   pub drawn : new.drawn ≡ old.drawn
+  pub declared : new.declared ≡ old.declared
   pub grown : OnOk r (Grown e clock old new)
   pub since : Since a b
   pub work : ShowsWork before after a b
@@ -92,6 +93,7 @@ pub record IsBooted (clock : ℕ) (told : ReopenedTold) (s : Stored) (n : Node) 
   pub records : n.volatile.records ≡ map log_record_of told.committed
   pub preparation : n.volatile.preparation ≡ map record_key (map log_record_of told.prepared)
   pub drawn : n.volatile.drawn ≡ 0
+  pub declared : n.volatile.declared ≡ []
   pub clock_is : n.clock ≡ clock
   pub up : n.up ≡ true
   pub was_up : n.was_up ≡ true

@@ -3,6 +3,7 @@ use Rattle.std.specs.Prelude.{◌≡◌, ℕ, List, [], ◌∷◌, true, None, i
 use Rattle.commit_protocol.specs.Agreement.{Distinct}
 use Rattle.commit_protocol.specs.Allowed.{is_prepared}
 use Rattle.commit_protocol.specs.Limits.{TmWithin}
+use Rattle.commit_protocol.specs.Messages.{Name}
 use Rattle.commit_protocol.specs.Table.{Branch, Key, Tm, find}
 use Rattle.commit_protocol.specs.World.{In}
 use Rattle.vms_model.specs.Ids.{Id}
@@ -18,11 +19,12 @@ pub record Stored : Type 0 where
   pub units : UnitsState
   pub in_doubt : List Id
 
--- With its table, and how many ids it drew in this boot.
+-- With its table, how many ids it drew in this boot, and the resource managers that are declared there, in the order of that.
 pub record Up : Type 0 where
   pub stored : Stored
   pub tm : Tm
   pub drawn : ℕ
+  pub declared : List Name
 
 -- these serials are of prepared branches of a table, no two of one
 pub record AreInDoubt (serials : List Id) (bs : List Branch) : Type 0 where
@@ -65,8 +67,13 @@ pub record StandsAt (clock : ℕ) (s : Stored) (tm : Tm) (n : Node) : Type 0 whe
   pub was_up : n.was_up ≡ true
   pub under_way : n.under_way ≡ None
 
--- A node of the world that is up: it drew so many ids, and those of the branches that were prepared are among them.
+-- these resource managers are declared at a node of the world
+abbrev pub HasDeclared : List Name → Node → Type 0
+HasDeclared rms n = n.volatile.declared ≡ rms
+
+-- A node of the world that is up: it drew so many ids, and those of the branches that were prepared are among them; and these resource managers are declared there.
 pub record StandsUp (clock : ℕ) (r : Up) (n : Node) : Type 0 where
   pub stands : StandsAt clock r.stored r.tm n
   pub drawn : n.volatile.drawn ≡ r.drawn
+  pub declared : HasDeclared r.declared n
   pub preparation : (k : Key) → In k n.volatile.preparation → IsDrawn n.name n.durable.boot n.volatile.drawn k.serial

@@ -4,7 +4,7 @@ use Rattle.std.specs.List.{AllByRecursion, list_any}
 use Rattle.block_disk.specs.Disk.{DiskState}
 use Rattle.careful_write.specs.declared.down.Down.{Down as DownSaid}
 use Rattle.commit_protocol.specs.Effects.{Effect, PrepareEffect, SettleEffect, KeepEffect, ForgetEffect, act_effects, effects_of}
-use Rattle.commit_protocol.specs.Messages.{Message}
+use Rattle.commit_protocol.specs.Messages.{Message, Name, RmEvent}
 use Rattle.commit_protocol.specs.Table.{Act, Tm, after, after_act}
 use Rattle.log_laws.specs.Slots.{slots_after}
 use Rattle.run_model.specs.Answers.{shown_by, table_rows}
@@ -14,8 +14,9 @@ use Rattle.run_model.specs.World.{Node, Tables, acted, fallen, next_moment, shar
 use Rattle.run_shared.specs.Sharing.{IsShared, SharedState}
 use Rattle.row_laws.specs.Doing.{DoesRows}
 use Rattle.row_laws.specs.May.{MayDo, MayDoAll}
-use Rattle.transcript_model.specs.Emitting.{Emits, Shown, Since}
-use Rattle.transcript_model.specs.Lines.{Booted, Broken, Crashed, Down, Line, Sent}
+use Rattle.emitter_model.specs.Emitting.{Emits, Shown, Since}
+use Rattle.transcript_model.specs.Lines.{Booted, Broken, Crashed, Down, Line, ManagerTold, Sent}
+use Rattle.participants.specs.Refusing.{is_among}
 use Rattle.vms_model.specs.Ids.{Id}
 use Rattle.volume_model.specs.Volumes.{HasDisk}
 use Rattle.world_laws.specs.Nodes as laws
@@ -24,7 +25,7 @@ use Rattle.commit_protocol.specs.Rows as rows
 use Rattle.commit_protocol.specs.Rows.{Event}
 use Rattle.recovery_units.specs.State.{IsNew, UnitsState, with_begun}
 use Rattle.node_table.specs.Growing.{Stays}
-use Rattle.node_table.specs.Standing.{Follows, StandsAt, Stored}
+use Rattle.node_table.specs.Standing.{Follows, HasDeclared, StandsAt, Stored}
 
 -- whether a line is of what a node does while it is up: it shows no failure of a disk, and no node that goes down or comes up
 abbrev pub is_of_work : Line → Bool
@@ -61,6 +62,10 @@ uses_disk (KeepEffect rec) = true
 uses_disk (ForgetEffect serial) = true
 uses_disk e = false
 
+-- what is shown of an event to a resource manager of a branch, where these are declared
+abbrev pub event_lines : List Name → RmEvent → (tid serial : Id) → Name → List Line
+event_lines rms event tid serial rm = if is_among rm rms then ManagerTold event tid serial rm ∷ [] else []
+
 -- One act.
 
 -- an act of a table, which has this effect, may be done
@@ -92,6 +97,12 @@ DoesOne r effect tid clock old new before after a b = (tm : Tm) (act : Act) (s :
     laws.IsUp n → laws.IsUp (acted (Tables act (next_moment n)) n) →
     MatchResult r (λ _. DidOne act s n a b after (StandsAt clock new (after_act act tm))) (λ _. WentDownIn act s n a b after new.volume.store.disk)
 
+-- or at each of them at which these resource managers are declared
+abbrev pub DoesOneWith : {T : Type 0} → List Name → Result T DownSaid → Effect → Id → (clock : ℕ) → (old new : Stored) → (before after : SharedState) → (a b : Shown) → Type 0
+DoesOneWith rms r effect tid clock old new before after a b = (tm : Tm) (act : Act) (s : world.Shared) (n : Node) → HasDeclared rms n → MayTellOne effect tid act tm old → StandsAt clock old tm n → IsShared before s →
+    laws.IsUp n → laws.IsUp (acted (Tables act (next_moment n)) n) →
+    MatchResult r (λ _. DidOne act s n a b after (StandsAt clock new (after_act act tm))) (λ _. WentDownIn act s n a b after new.volume.store.disk)
+
 -- An effect was done and shown, or the disk went down in it, where it uses that: what the table is behind its act is followed, and it is so in the world.
 pub record TellsOne {T : Type 0} (r : Result T DownSaid) (effect : Effect) (tid : Id) (clock : ℕ) (old new : Stored) (before after : SharedState) (a b : Shown) : Type 0 where
   pub stays : Stays r clock old new
@@ -101,6 +112,15 @@ pub record TellsOne {T : Type 0} (r : Result T DownSaid) (effect : Effect) (tid 
   pub leads : OnOk r ((tm : Tm) (act : Act) → MayTellOne effect tid act tm old → Leads act tm old new)
   pub does : DoesOne r effect tid clock old new before after a b
 
+-- The same of the nodes of the world at which these resource managers are declared: an event to another one is not shown.
+pub record TellsOneWith (rms : List Name) {T : Type 0} (r : Result T DownSaid) (effect : Effect) (tid : Id) (clock : ℕ) (old new : Stored) (before after : SharedState) (a b : Shown) : Type 0 where
+  pub stays : Stays r clock old new
+  pub since : Since a b
+  pub work : ShowsWork before after a b
+  pub uses : OnErr r (uses_disk effect ≡ true)
+  pub leads : OnOk r ((tm : Tm) (act : Act) → MayTellOne effect tid act tm old → Leads act tm old new)
+  pub does : DoesOneWith rms r effect tid clock old new before after a b
+
 -- All acts of a row, or of its rest.
 
 -- acts of a table, which have these effects, may be done one after another
@@ -109,18 +129,18 @@ pub record MayTellAll (effects : List Effect) (tid : Id) (acts : List Act) (tm :
   pub may : MayDoAll tid acts tm s.units.log
   pub gives : effects_of acts tm.records ≡ effects
 
--- at each node of the world that is up before each of them and behind them
-abbrev pub DoesAll : {T : Type 0} → Result T DownSaid → List Effect → Id → (clock : ℕ) → (old new : Stored) → (before shared : SharedState) → (a b : Shown) → Type 0
-DoesAll r effects tid clock old new before shared a b = (tm : Tm) (acts : List Act) (s : world.Shared) (n : Node) → MayTellAll effects tid acts tm old → StandsAt clock old tm n → IsShared before s → AreUp (table_rows acts s n) n →
+-- at each node of the world that is up before each of them and behind them, and at which these resource managers are declared
+abbrev pub DoesAll : {T : Type 0} → List Name → Result T DownSaid → List Effect → Id → (clock : ℕ) → (old new : Stored) → (before shared : SharedState) → (a b : Shown) → Type 0
+DoesAll rms r effects tid clock old new before shared a b = (tm : Tm) (acts : List Act) (s : world.Shared) (n : Node) → HasDeclared rms n → MayTellAll effects tid acts tm old → StandsAt clock old tm n → IsShared before s → AreUp (table_rows acts s n) n →
     DoesRows r (table_rows acts s n) s n a b (IsShared shared) (StandsAt clock new (after acts tm)) (λ m. HasDisk m new.volume.store.disk)
 
-pub record TellsAll {T : Type 0} (r : Result T DownSaid) (effects : List Effect) (tid : Id) (clock : ℕ) (old new : Stored) (before shared : SharedState) (a b : Shown) : Type 0 where
+pub record TellsAll (rms : List Name) {T : Type 0} (r : Result T DownSaid) (effects : List Effect) (tid : Id) (clock : ℕ) (old new : Stored) (before shared : SharedState) (a b : Shown) : Type 0 where
   pub stays : Stays r clock old new
   pub since : Since a b
   pub work : ShowsWork before shared a b
   pub uses : OnErr r (list_any uses_disk effects ≡ true)
   pub follows : OnOk r ((tm : Tm) (acts : List Act) → MayTellAll effects tid acts tm old → Follows (after acts tm) new)
-  pub does : DoesAll r effects tid clock old new before shared a b
+  pub does : DoesAll rms r effects tid clock old new before shared a b
 
 -- Where an event begins a branch, one more unit may begin, which is its.
 

@@ -6,7 +6,7 @@ ghost use Rattle.lmcp_log.specs.Log.{slot_of};
 ghost use Rattle.net_wire.specs.Messages.{message_of};
 ghost use Rattle.tm_types.specs.Effects.{effect_of};
 ghost use Rattle.tm_types.specs.Events.{event_of};
-ghost use Rattle.tm_types.specs.Parts.{log_record_of};
+ghost use Rattle.tm_types.specs.Parts.{log_record_of, rm_event_of};
 ghost use Rattle.vms_base.specs.Ids.{serial_of, tid_of};
 ghost use Rattle.vms_base.specs.Outcomes.{reason_of};
 ghost use Rattle.vms_model.specs.Ids.{Id as IdSaid};
@@ -14,26 +14,28 @@ ghost use Rattle.vms_model.specs.Transactions.{Commit as ToCommit, Abort as ToAb
 ghost use Rattle.run_model.specs.Answers.{sent_line};
 ghost use Rattle.run_model.specs.World.{posted};
 ghost use Rattle.run_shared.specs.Sharing.{SharedState as SharedSaid};
-ghost use Rattle.transcript_model.specs.Emitting.{Emits, Since, Shown as ShownSaid};
+ghost use Rattle.emitter_model.specs.Emitting.{Emits, Since, Shown as ShownSaid};
 ghost use Rattle.recovery_units.specs.Laws.{KeepsNodes};
 ghost use Rattle.node_table.specs.Code.{stored_of};
 ghost use Rattle.node_table.specs.Growing.{IsEarlyFor};
-ghost use Rattle.node_table.specs.Telling.{MayBegin, MayTellAll, MayTellOne, TellsAll, TellsOne, begun_by, done};
+ghost use Rattle.node_table.specs.Telling.{MayBegin, MayTellAll, MayTellOne, TellsAll, TellsOne, TellsOneWith, begun_by, done, event_lines};
 
 use crate::stored::Stored;
 use block_disk::Disk;
 use careful_write::Down;
 use net_wire::Message;
+use participants::Rms;
 use recovery_units::RecoveryUnits;
 use run_shared::Shared;
 use tm_types::{Effect, Event, same_id};
 use transcript::{Emit, Form};
-use vms_base::{LogRec, Moment, Outcome, Reason, RmList, Serial, Tid};
+use vms_base::{LogRec, Moment, Outcome, Reason, RmEvent, RmList, RmName, Serial, Tid};
 
 impl<D: Disk, U: RecoveryUnits> Stored<D, U> {
-    // Does these effects of a row, one after another, and shows each.
+    // Does these effects of a row, one after another, and shows each. An event to a resource manager is shown where it is one of these.
     pub(crate) fn tell_all<E: Emit>(
         &mut self,
+        managers: &Rms,
         effects: &[Effect],
         tid: &Tid,
         clock: Moment,
@@ -45,12 +47,12 @@ impl<D: Disk, U: RecoveryUnits> Stored<D, U> {
         requires early { IsEarlyFor (stored_of U.state self.old) }
         requires clock { clock.0 + 64 ≤ 24000001000066 }
         ensures place { E.place out.new ≡ E.place out.old }
-        ensures tells { TellsAll result (map effect_of effects.now) (tid_of tid.now) clock.0 (stored_of U.state self.old) (stored_of U.state self.new) shared.old shared.new (E.shows out.old) (E.shows out.new) }
+        ensures tells { TellsAll managers.now result (map effect_of effects.now) (tid_of tid.now) clock.0 (stored_of U.state self.old) (stored_of U.state self.new) shared.old shared.new (E.shows out.old) (E.shows out.new) }
     {
         match effects {
             [] => Ok(()),
-            [first, rest @ ..] => match self.tell_one(first, tid, clock, shared, out) {
-                Ok(()) => self.tell_all(rest, tid, clock, shared, out),
+            [first, rest @ ..] => match self.tell_one(managers, first, tid, clock, shared, out) {
+                Ok(()) => self.tell_all(managers, rest, tid, clock, shared, out),
                 Err(down) => Err(down),
             },
         }
@@ -59,6 +61,7 @@ impl<D: Disk, U: RecoveryUnits> Stored<D, U> {
     // Does one effect, and shows it.
     fn tell_one<E: Emit>(
         &mut self,
+        managers: &Rms,
         effect: &Effect,
         tid: &Tid,
         clock: Moment,
@@ -70,7 +73,7 @@ impl<D: Disk, U: RecoveryUnits> Stored<D, U> {
         requires early { IsEarlyFor (stored_of U.state self.old) }
         requires clock { clock.0 + 64 ≤ 24000001000066 }
         ensures place { E.place out.new ≡ E.place out.old }
-        ensures tells { TellsOne result (effect_of effect.now) (tid_of tid.now) clock.0 (stored_of U.state self.old) (stored_of U.state self.new) shared.old shared.new (E.shows out.old) (E.shows out.new) }
+        ensures tells { TellsOneWith managers.now result (effect_of effect.now) (tid_of tid.now) clock.0 (stored_of U.state self.old) (stored_of U.state self.new) shared.old shared.new (E.shows out.old) (E.shows out.new) }
     {
         match effect {
             Effect::Prepare { serial, rms } => self.prepare(*serial, rms, out),
@@ -93,7 +96,15 @@ impl<D: Disk, U: RecoveryUnits> Stored<D, U> {
                 send(message, shared, out);
                 Ok(())
             }
-            Effect::Tell { .. } => Ok(()),
+            Effect::Tell {
+                event,
+                tid,
+                serial,
+                rm,
+            } => {
+                show_event(managers, *event, tid, serial, rm, out);
+                Ok(())
+            }
             Effect::Joined { serial } => {
                 out.emit(&Form::Joined(*tid, *serial));
                 Ok(())
@@ -226,6 +237,25 @@ fn no_longer(in_doubt: &mut Vec<Serial>, serial: Serial)
     ensures room { vec_capacity in_doubt.old ≤ vec_capacity in_doubt.new }
 {
     in_doubt.retain(|s| !same_id(&s.0, &serial.0));
+}
+
+// Shows what a resource manager of a branch is told, where it is declared.
+fn show_event<E: Emit>(
+    managers: &Rms,
+    event: RmEvent,
+    tid: &Tid,
+    serial: &Serial,
+    rm: &RmName,
+    out: &mut E,
+)
+    ensures place { E.place out.new ≡ E.place out.old }
+    ensures since { Since (E.shows out.old) (E.shows out.new) }
+    ensures shows { Emits (E.shows out.old) (event_lines managers.now (rm_event_of event) (tid_of tid.now) (serial_of serial.now) rm.now) (E.shows out.new) }
+{
+    if !managers.is_declared(rm) {
+        return;
+    }
+    out.emit(&Form::ManagerTold(event, *tid, *serial, *rm));
 }
 
 // Sends a message, and shows it with its number, or as one that gets none.

@@ -1,5 +1,5 @@
 //! A node that is up: its volume and its units, and its table.
-ghost use Rattle.std.specs.Prelude.{◌≡◌, ◌<◌, ◌≤◌, ◌+◌, ℕ, map, true};
+ghost use Rattle.std.specs.Prelude.{◌≡◌, ◌<◌, ◌≤◌, ◌+◌, ℕ, [], map, true};
 ghost use Rattle.std.specs.Option.{option_map};
 ghost use Rattle.commit_protocol.specs.Allowed.{allowed};
 ghost use Rattle.commit_protocol.specs.Effects.{effects_of};
@@ -24,6 +24,7 @@ use crate::stored::Stored;
 use block_disk::Disk;
 use careful_write::Down;
 use net_wire::Message;
+use participants::Rms;
 use recovery_units::RecoveryUnits;
 use run_shared::Shared;
 use tm_table::Tm;
@@ -31,13 +32,15 @@ use tm_types::{Effect, Effects, Event};
 use transcript::Emit;
 use vms_base::{Id, Kind, Moment, NodeName, Serial, Tid};
 
-/// What a node keeps while it is up: its volume and its units, its table, the effects of the table's last step, and how many ids it drew in this boot.
+/// What a node keeps while it is up: its volume and its units, its table, the effects of the table's last step, how many ids it drew in this boot, and the
+/// resource managers that are declared.
 #[derive(Drop)]
 pub struct Running<D: Disk, U: RecoveryUnits> {
     pub stored: Stored<D, U>,
     pub table: Tm,
     pub effects: Effects,
     pub drawn: u32,
+    pub managers: Rms,
 }
 
 impl<D: Disk, U: RecoveryUnits> Running<D, U> {
@@ -86,11 +89,18 @@ impl<D: Disk, U: RecoveryUnits> Running<D, U> {
         self.table.step(event, &mut self.effects);
         self.stored.begin(event);
         let tid = transaction(event);
-        self.stored
-            .tell_all(self.effects.items(), &tid, clock, shared, out)
+        self.stored.tell_all(
+            &self.managers,
+            self.effects.items(),
+            &tid,
+            clock,
+            shared,
+            out,
+        )
     }
 
-    /// Begins with what a restart told: the records of prepared branches, which are in doubt in this order, and the committed ones. No id was drawn.
+    /// Begins with what a restart told: the records of prepared branches, which are in doubt in this order, and the committed ones. No id was drawn, and no
+    /// resource manager is declared.
     pub fn boot(&mut self)
         requires order { IsInOrder (U.state self.old.stored.units) self.old.stored.volume }
         requires units { AreOfBranches (U.state self.old.stored.units).begun (branches_of (map log_record_of self.old.stored.room.told.prepared)) }
@@ -99,11 +109,13 @@ impl<D: Disk, U: RecoveryUnits> Running<D, U> {
         ensures stored { stored_of U.state self.new.stored ≡ record (stored_of U.state self.old.stored) { in_doubt = record_serials (map log_record_of self.old.stored.room.told.prepared) } }
         ensures told { self.new.stored.room.told ≡ self.old.stored.room.told }
         ensures drawn { self.new.drawn ≡ 0 }
+        ensures declared { self.new.managers ≡ [] }
         ensures stands { (clock : ℕ) (n : NodeSaid) → IsBooted clock self.old.stored.room.told (stored_of U.state self.old.stored) n → StandsUp clock (up_of U.state self.new) n }
     {
         let node = self.name();
         self.stored.room.recall();
         self.drawn = 0;
+        self.managers.clear();
         let room = &self.stored.room;
         self.table
             .boot(node, room.told.prepared(), room.told.committed());

@@ -73,6 +73,10 @@ impl RecoveryUnits for NodeUnits {
         self.log.slots()
     }
 
+    fn record_at(&self, slot: u32) -> Option<&LogRec> {
+        self.log.at(slot)
+    }
+
     fn has_changes(&self, serial: &Serial) -> bool {
         match place_of(&self.begun, serial) {
             None => false,

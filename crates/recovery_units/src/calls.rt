@@ -6,7 +6,7 @@ ghost use Rattle.vms_base.specs.Keys.{key_of};
 ghost use Rattle.vms_base.specs.Outcomes.{reason_of};
 ghost use Rattle.vms_model.specs.Transactions.{Commit, Abort};
 ghost use Rattle.commit_protocol.specs.Table.{branches_of};
-ghost use Rattle.lmcp_log.specs.Log.{record_with, slot_of};
+ghost use Rattle.lmcp_log.specs.Log.{record_with, slot_at, slot_of};
 ghost use Rattle.lmcp_log.specs.Slot.{HasForm};
 ghost use Rattle.log_laws.specs.Slots.{forgotten, has_slot, put_in};
 ghost use Rattle.tm_types.specs.Parts.{log_record_of};
@@ -51,7 +51,12 @@ pub trait RecoveryUnits: Drop {
 
     /// How many slots the log has.
     fn slots(&self) -> usize
-        ensures { result ≡ length (state self.now).log };
+        ensures value { result ≡ length (state self.now).log }
+        ensures few { result ≤ 512 };
+
+    /// The record in a slot of the log, from 0 on. None where that slot has none.
+    fn record_at(&self, slot: u32) -> Option<&LogRec>
+        ensures { slot_of (option_copied result) ≡ slot_at (state self.now).log slot };
 
     /// Whether the unit of this branch has changed something. Of no unit it has not.
     fn has_changes(&self, serial: &Serial) -> bool

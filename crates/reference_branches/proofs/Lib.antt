@@ -1,2 +1,3 @@
 pub mod DoubtLemmas
 pub mod StateLemmas
+pub mod OwedLemmas

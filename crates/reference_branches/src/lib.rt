@@ -2,9 +2,14 @@
 #![tactic(auto)]
 
 mod doubts;
+mod managers;
 mod shared;
 mod states;
 
 pub use doubts::{arranged, prepared_serials, question, sent_alone};
+pub use managers::{
+    Known, awaited_reply, has_joined, is_among, join_refused, known_branch, known_manager,
+    more_managers, names_without, owed_lines, standing,
+};
 pub use shared::Shared;
 pub use states::{Wanted, held_against, is_prepared, key_of, new_label, unsettled, wrong_state};

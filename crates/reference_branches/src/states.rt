@@ -62,7 +62,7 @@ fn is_first(b: &BranchState) -> bool
 }
 
 // It has joined its coordinator, and is not ended.
-fn is_working(b: &BranchState) -> bool
+pub(crate) fn is_working(b: &BranchState) -> bool
     ensures { result ≡ allowed.is_working (branch_said b.now) }
 {
     is_active(b) && !b.ended

@@ -1,12 +1,14 @@
 // The slots of a node's log.
-ghost use Rattle.std.specs.Prelude.{◌≡◌, ◌≤◌, ℕ, None, map, option_map, length, replicate, IfOk};
+ghost use Rattle.std.specs.Prelude.{◌≡◌, ◌≤◌, ◌+◌, ℕ, None, map, option_map, length, replicate, IfOk};
 ghost use Rattle.commit_protocol.specs.Messages.{LogRecord};
 ghost use Rattle.log_laws.specs.Slots as log;
+ghost use Rattle.run_model.specs.Answers as answers;
 ghost use Rattle.vms_base.specs.Ids.{id_of};
 ghost use Rattle.tm_types.specs.Parts.{log_kind_of, log_record_of};
+ghost use Rattle.reference_world.specs.Standing.{line_of};
 ghost use Rattle.reference_disk.specs.Disks.{logged_tid, slots_of};
 
-use reference_world::{push_front, take_first};
+use reference_world::{Line, push_front, take_first};
 use std::alloc::{AllocError, Global};
 use tm_types::same_id;
 use vms_base::{Id, LogKind, LogRec};
@@ -219,6 +221,64 @@ pub fn count_committed(slots: &[Option<LogRec>]) -> usize
             match slot {
                 None => behind,
                 Some(r) => { if is_prepared(r) { behind } else { behind + 1 } }
+            }
+        }
+    }
+}
+
+/// How many slots are free.
+pub fn count_free(slots: &[Option<LogRec>]) -> usize
+    ensures free { result ≡ log.free_slots (slots_of slots.now) }
+    ensures few { result ≤ length slots.now }
+{
+    match slots {
+        [] => 0,
+        [slot, rest @ ..] => {
+            let behind = count_free(rest);
+            match slot {
+                None => behind + 1,
+                Some(_) => behind,
+            }
+        }
+    }
+}
+
+/// How many prepared records there are.
+pub fn count_prepared(slots: &[Option<LogRec>]) -> usize
+    ensures count { result ≡ length (log.prepared_of (log.records_in (slots_of slots.now))) }
+    ensures few { result ≤ length slots.now }
+{
+    match slots {
+        [] => 0,
+        [slot, rest @ ..] => {
+            let behind = count_prepared(rest);
+            match slot {
+                None => behind,
+                Some(r) => { if is_prepared(r) { behind + 1 } else { behind } }
+            }
+        }
+    }
+}
+
+/// The lines of the records of these slots, of which the first has this number.
+pub fn record_lines(
+    alloc: Global,
+    slot: u32,
+    slots: &[Option<LogRec>],
+) -> Result<Vec<Line>, AllocError>
+    requires { slot + length slots.now ≤ 512 }
+    ensures { IfOk result (λ v. map line_of v.items ≡ map answers.log_line (log.slot_records slot (slots_of slots.now))) }
+{
+    match slots {
+        [] => Ok(Vec::new(alloc)),
+        [first, rest @ ..] => {
+            let mut lines = record_lines(alloc, slot + 1, rest)?;
+            match first {
+                None => Ok(lines),
+                Some(r) => {
+                    push_front(&mut lines, Line::LogEntry(slot, r.copy()))?;
+                    Ok(lines)
+                }
             }
         }
     }

@@ -57,11 +57,11 @@ ended_at position = record { first = position; entries = [] }
 
 -- what the node has that is up, where one id was drawn
 abbrev pub one_drawn : List Branch → List Lock → Volatile
-one_drawn branches locks = record { drawn = 1; branches = branches; records = []; preparation = []; locks = locks }
+one_drawn branches locks = record { drawn = 1; branches = branches; records = []; preparation = []; locks = locks; declared = [] }
 
 -- and where two were
 abbrev pub two_drawn : List Branch → List Lock → Volatile
-two_drawn branches locks = record { drawn = 2; branches = branches; records = []; preparation = []; locks = locks }
+two_drawn branches locks = record { drawn = 2; branches = branches; records = []; preparation = []; locks = locks; declared = [] }
 
 -- the file F
 abbrev pub file_at : List SettledChanges → List LiveChanges → File

@@ -1,19 +1,19 @@
 -- Single effects, and the acts that they are of.
-use Rattle.std.proofs.Common.{◌≡◌, ℕ, List, [], ◌∷◌, ◌++◌, Option, Some, None, refl, sym, ap, subst, ◌∙◌}
+use Rattle.std.proofs.Common.{◌≡◌, ℕ, List, [], ◌∷◌, Option, Some, None, refl, sym, ap, subst, ◌∙◌}
 use Rattle.std.specs.Prelude.{option_map}
 use Rattle.vms_model.specs.Ids.{Id}
 use Rattle.vms_model.specs.Transactions.{Outcome, Commit, Abort, Reason}
 use Rattle.transcript_model.specs.Lines as line
-use Rattle.commit_protocol.specs.Effects.{Effect, PrepareEffect, SettleEffect, KeepEffect, ForgetEffect, SendEffect, TellEffect, JoinedEffect, StartedEffect, ReadOnlyEffect, EndedEffect, act_effects, acknowledge_effects, release_effects}
+use Rattle.commit_protocol.specs.Effects.{Effect, PrepareEffect, SettleEffect, KeepEffect, ForgetEffect, SendEffect, TellEffect, JoinedEffect, StartedEffect, ReadOnlyEffect, EndedEffect, act_effects}
 use Rattle.commit_protocol.specs.Messages.{LogRecord, Message, Name, RmEvent}
 use Rattle.commit_protocol.specs.Table.{Act, Accepts, Acknowledges, Branch, Key, Leaves, Notes, Prepares, Prints, Releases, Sends, Settles, Started, Ended, Told, Undoes, child, holding}
-use Rattle.log_laws.specs.Slots.{Slots, forgotten, put_in, record_effects_in}
-use Rattle.run_model.specs.Answers.{sent_line, settled_line}
+use Rattle.log_laws.specs.Slots.{forgotten, put_in, record_effects_in}
+use Rattle.run_model.specs.Answers.{sent_line, settled_line, table_lines}
 use Rattle.run_model.specs.World as world
 use Rattle.run_model.specs.World.{Node, Shared, next_moment, posted, settlement}
 use Rattle.reference_world.specs.Standing.{line_of}
 use Rattle.reference_world.specs.declared.line.Line.{Line}
-use Rattle.reference_disk.specs.Disks.{logged_tid}
+use Rattle.reference_disk.specs.Disks.{logged_tid, one_line}
 use Rattle.reference_node.specs.Nodes.{key_line, released_by, settlement_line}
 use Rattle.reference_node.specs.Telling.{Applies, IsTellable, prepared_by, settled_logged, settlement_so, tid_among, with_log}
 use Rattle.reference_node.proofs.Viewing.{IsOfRecords, shows_forgotten, shows_kept, view}
@@ -114,8 +114,9 @@ pub send_applies : (q : Message) (a : Act) (rs : List LogRecord) (s t : Shared) 
     t ≡ record s { wire = posted q s.wire } → line_of l ≡ sent_line q s.wire → Applies a rs s n (Some l) t n
 send_applies q a rs s t n l gives shared shows = subst (λ x. Applies x rs s n (Some l) t n) (sym (view a rs (SendEffect q) gives)) (record { shows = ap (λ x. x ∷ []) shows; shared = shared; node = refl })
 
-pub tell_applies : (e : RmEvent) (serial : Id) (rm : Name) (a : Act) (rs : List LogRecord) (s : Shared) (n : Node) → act_effects a rs ≡ TellEffect e serial rm ∷ [] → Applies a rs s n None s n
-tell_applies e serial rm a rs s n gives = let v = view a rs (TellEffect e serial rm) gives in subst (λ x. Applies x rs s n None s n) (sym v.1) (record { shows = refl; shared = refl; node = refl })
+pub tell_applies : (e : RmEvent) (tid serial : Id) (rm : Name) (a : Act) (rs : List LogRecord) (s : Shared) (n : Node) (branch : Key) (shown : Option Line) → act_effects a rs ≡ TellEffect e tid serial rm ∷ [] →
+    branch ≡ record { tid = tid; serial = serial } → one_line (option_map line_of shown) ≡ table_lines n (Told e branch rm) → Applies a rs s n shown s n
+tell_applies e tid serial rm a rs s n branch shown gives is shows = subst (λ x. Applies x rs s n shown s n) (sym (view a rs (TellEffect e tid serial rm) gives)) (record { shows = shows ∙ ap (λ (k : Key). table_lines n (Told e k rm)) is; shared = refl; node = refl })
 
 pub join_applies : (before : List Key) (tid serial : Id) (a : Act) (rs : List LogRecord) (s t : Shared) (n : Node) (branch : Key) (l : Line) → act_effects a rs ≡ JoinedEffect serial ∷ [] → IsTellable before tid a rs n.durable.log →
     branch ≡ record { tid = tid; serial = serial } → t ≡ record s { accepted = branch ∷ s.accepted } → line_of l ≡ line.Joined branch.tid branch.serial → Applies a rs s n (Some l) t n

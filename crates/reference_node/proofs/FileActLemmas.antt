@@ -1,9 +1,13 @@
 -- What statements of files do, by their rows.
 use Rattle.std.proofs.Common.{◌≡◌, ℕ, ◌+◌, List, [], ◌∷◌, ◌++◌, Bool, true, false, Option, Some, None, refl, sym, ap, subst, ◌∙◌, map, length}
+use Rattle.std.proofs.lemmas.List.{length-map}
 use Rattle.vms_model.specs.Keys.{Key}
 use Rattle.transcript_model.specs.Lines as model
-use Rattle.script_model.specs.Statements.{Create, Dump, DumpJournal, Form, Init}
+use Rattle.script_model.specs.Statements.{Create, Dump, DumpJournal, Form, LmcpDump}
 use Rattle.unit_laws.specs.Journal.{end_of}
+use Rattle.commit_protocol.specs.Messages.{LogRecord}
+use Rattle.log_laws.specs.Slots.{records_in, slot_records}
+use Rattle.log_laws.proofs.Counting.{slots_counted}
 use Rattle.run_model.specs.Answers as answers
 use Rattle.run_model.specs.Answers.{Row, created, creates, blocks_for, entry_lines, records_of, service, shown_line, shown_record}
 use Rattle.run_model.specs.Steps.{lines_of_rows, node_after_rows, shared_after_rows}
@@ -47,6 +51,16 @@ dumps_journal s n lines shown =
     let j = n.durable.units in
     let ls = entry_lines j.first j.entries in
     record { shows = shown ∙ ap (λ xs. xs ++ model.NormalSpan j.first (end_of j) ∷ []) (sym (only_lines ls)); node = sym (lines_only ls n); shared = sym (lines_still ls s) }
+
+-- the transaction log is shown, record by record
+pub dumps_log : (s : Shared) (n : Node) (before lines : List Line) (count : ℕ) → map line_of before ≡ map answers.log_line (slot_records 0 n.durable.log) → count ≡ length before →
+    map line_of lines ≡ map line_of before ++ model.NormalCount count ∷ [] → Does s n (service LmcpDump) lines n s
+dumps_log s n before lines count told counts shown =
+    let numbered = slot_records 0 n.durable.log in
+    let ls = map answers.log_line numbered in
+    let all : count ≡ length (records_in n.durable.log) =
+    counts ∙ sym (length-map before line_of) ∙ ap length told ∙ length-map numbered answers.log_line ∙ sym (length-map numbered (λ (e : ℕ × LogRecord). e.1)) ∙ ap length (slots_counted n.durable.log).records in
+    record { shows = shown ∙ (λ i. told i ++ model.NormalCount (all i) ∷ []) ∙ ap (λ xs. xs ++ model.NormalCount (length (records_in n.durable.log)) ∷ []) (sym (only_lines ls)); node = sym (lines_only ls n); shared = sym (lines_still ls s) }
 
 -- records are shown
 shows_only : (es : List (Key × List ℕ)) (n : Node) → node_after_rows (map shown_record es) n ≡ n

@@ -6,13 +6,8 @@ pub mod KeyLemmas
 pub mod ArmLemmas
 pub mod TransactionLemmas
 pub mod BootLemmas
-pub mod ServeLemmas
 pub mod FileActLemmas
-pub mod TaskLemmas
-pub mod UnitsLemmas
-pub mod RequestUnits
 pub mod DiskLemmas
 pub mod RefusalLemmas
 pub mod StateLemmas
-pub mod RequestLemmas
-pub mod ServedUnits
+pub mod ManagerLemmas

@@ -1,7 +1,8 @@
 -- Branches of a table, by their serials and places.
-use Rattle.std.proofs.Common.{◌≡◌, ◌≤◌, ◌<◌, ◌+◌, ℕ, List, [], ◌∷◌, Bool, true, false, Option, Some, None, inl, inr, refl, sym, subst, ap, ◌∙◌, arith, length, get_or, drop, add-one}
+use Rattle.std.proofs.Common.{◌≡◌, ◌+◌, ℕ, List, [], ◌∷◌, Bool, true, false, Option, Some, None, inl, inr, refl, sym, subst, ap, ◌∙◌, drop, add-one}
 use Rattle.std.specs.Option.{option_and_then}
-use Rattle.std.specs.Prelude.{suc, map, cond, if◌then◌else◌, ◌&&◌, not, slice_get}
+use Rattle.std.specs.Prelude.{suc, cond, if◌then◌else◌, ◌&&◌, ◌||◌, not, slice_get}
+use Rattle.std.specs.List.{list_any}
 use Rattle.std.proofs.Math.Seq.{drop-cons}
 use Rattle.std.proofs.Math.ListN.{drop_of_length-le}
 use Rattle.std.proofs.lemmas.Bool.{false_from_ne_true, both_ways}
@@ -10,11 +11,13 @@ use Rattle.vms_model.specs.Ids.{Id}
 use Rattle.records_model.specs.History.{same_id}
 use Rattle.unit_laws.proofs.LiveLemmas.{id_is, id_itself}
 use Rattle.commit_protocol.specs.Messages as messages
-use Rattle.commit_protocol.specs.Table.{Key, Branch, State, Joining, Active, Ending, Voting, Prepared, Tm, Act, Notes, first, find_serial, put, same_key, after}
+use Rattle.commit_protocol.specs.Messages.{LogRecord}
+use Rattle.commit_protocol.specs.Table.{Key, Branch, State, Joining, Active, Ending, Voting, Prepared, Tm, Act, Notes, find_serial, put, same_key, after}
 use Rattle.commit_protocol.specs.Allowed.{is_active, is_working}
 use Rattle.commit_protocol.specs.Rows.{Changed, row, note_row, note_state, has_changed}
-use Rattle.commit_protocol.proofs.Lists.{same_id-refl, told_id, told_key, same_key-refl}
-use Rattle.run_model.specs.World.{find_branch, with_changed}
+use Rattle.commit_protocol.proofs.Lists.{told_id, told_key, same_key-refl}
+use Rattle.run_model.specs.World.{find_branch, find_record, with_changed}
+use Rattle.tm_table.specs.Restarts.{record_of}
 
 -- Ids are compared in either order.
 pub ids_turned : (a b : Id) → messages.same_id b a ≡ same_id a b
@@ -28,6 +31,11 @@ pub found_by_serial : (s : Id) (bs : List Branch) → find_serial s bs ≡ find_
 found_by_serial s [] = refl
 found_by_serial s (b ∷ bs) = ap (λ c. cond c (Some b) (find_serial s bs)) (ids_turned s b.key.serial) ∙ ap (λ (o : Option Branch). cond (same_id s b.key.serial) (Some b) o) (found_by_serial s bs)
 
+-- and its committed record
+pub found_record : (s : Id) (rs : List LogRecord) → record_of s rs ≡ find_record s rs
+found_record s [] = refl
+found_record s (r ∷ rs) = ap (λ c. cond c (Some r) (record_of s rs)) (ids_turned s r.serial) ∙ ap (λ (o : Option LogRecord). cond (same_id s r.serial) (Some r) o) (found_record s rs)
+
 -- Lists from a place on.
 pub nothing_left : {A : Type 0} (xs : List A) (i : ℕ) → slice_get xs i ≡ None → drop i xs ≡ []
 nothing_left xs i none = elim (slice_get_cases xs i).1 [
@@ -38,6 +46,9 @@ nothing_left xs i none = elim (slice_get_cases xs i).1 [
 pub one_left : {A : Type 0} (xs : List A) (i : ℕ) (x : A) → slice_get xs i ≡ Some x → x ∷ drop (i + 1) xs ≡ drop i xs
 one_left xs i x there =
     rw add-one (ap (λ y. y ∷ drop (suc i) xs) (sym (get_or_from_slice_get xs i x x there)) ∙ sym (drop-cons xs i x (slice_get_within xs i x there)))
+
+pub any_left : {A : Type 0} (test : A → Bool) (xs : List A) (i : ℕ) (x : A) → slice_get xs i ≡ Some x → (test x || list_any test (drop (i + 1) xs)) ≡ list_any test (drop i xs)
+any_left test xs i x there = ap (list_any test) (one_left xs i x there)
 
 -- The table notes that a branch has changed something.
 pub branch_serial : (serial : Id) (bs : List Branch) (b : Branch) → find_branch serial bs ≡ Some b → serial ≡ b.key.serial

@@ -1,7 +1,6 @@
 -- The acts of a row, done one after another by their effects.
 use Rattle.std.proofs.Common.{◌≡◌, ℕ, ◌+◌, ◌*◌, ◌<◌, ◌≤◌, List, [], ◌∷◌, ◌++◌, Bool, true, false, Option, Some, None, ◌⊎◌, inl, inr, Result, Ok, Err, refl, sym, ap, subst, ◌∙◌, length, get_or, suc, arith}
 use Rattle.std.specs.Prelude.{if◌then◌else◌, map, option_map, nat_le, ◌^◌, OnOk}
-use Rattle.std.proofs.lemmas.Bool.Decides.{nat_tests}
 use Rattle.vms_model.specs.Ids.{Id}
 use Rattle.vms_model.specs.Times.{CanBeWritten}
 use Rattle.transcript_model.specs.Lines as line
@@ -12,12 +11,11 @@ use Rattle.vms_model.specs.Transactions.{Outcome, Abort}
 use Rattle.commit_protocol.specs.Effects.{Effect, ForgetEffect, KeepEffect, act_effects, acknowledge_effects, effects_of, record_effects, release_effects, JoinedEffect, PrepareEffect, SettleEffect, ReadOnlyEffect, SendEffect, line_effect}
 use Rattle.commit_protocol.specs.Messages.{LogRecord, Name}
 use Rattle.commit_protocol.specs.Rows.{Event, row}
-use Rattle.commit_protocol.specs.Table.{Act, Accepts, Acknowledges, Branch, Key, Leaves, Notes, Prepares, Prints, Releases, Sends, Settles, Started, Ended, Told, Tm, Undoes, acknowledged, after, after_act, holding, holds, nothing_left, records_after, released, waits_for}
+use Rattle.commit_protocol.specs.Table.{Act, Accepts, Acknowledges, Branch, Key, Leaves, Notes, Prepares, Prints, Releases, Sends, Settles, Tm, Undoes, acknowledged, after, after_act, holding, holds, nothing_left, records_after, released, waits_for}
 use Rattle.log_laws.specs.Slots.{Slots, slots_after, record_effects_in}
 use Rattle.run_model.specs.Answers.{acknowledged_lines, released_lines, shown_by, table_rows}
 use Rattle.run_model.specs.Steps.{lines_of_rows, node_after_rows, shared_after_rows}
-use Rattle.run_model.specs.World as world
-use Rattle.run_model.specs.World.{Durable, Node, Shared, Tables, acted, next_moment, shared_after, tm_of}
+use Rattle.run_model.specs.World.{Node, Shared, Tables, acted, next_moment, shared_after, tm_of}
 use Rattle.reference_world.specs.Standing.{line_of}
 use Rattle.reference_world.specs.declared.line.Line.{Line}
 use Rattle.reference_disk.specs.Disks.{one_line}
@@ -280,8 +278,8 @@ moment_within clock greatest count g c = go (nat_le clock (greatest + 1))
     go true = omega arith
     go false = omega arith
 
-less_time : (count : ℕ) (n : Node) → HasTime (count + 1) n → HasTime count n
-less_time count n h = record { greatest = (let g = h.greatest in omega arith); clock = (let c = h.clock in omega arith); end = (let e = h.end in omega arith) }
+one_less : (count : ℕ) (n : Node) → HasTime (count + 1) n → HasTime count n
+one_less count n h = record { greatest = (let g = h.greatest in omega arith); clock = (let c = h.clock in omega arith); end = (let e = h.end in omega arith) }
 
 settled_time : (count : ℕ) (n m : Node) (tid serial : Id) (outcome : Outcome) (moment : ℕ) → m.durable.greatest ≡ next_moment n → m.clock ≡ n.clock → m.durable.units ≡ with_settled tid serial outcome moment n.durable.units →
     HasTime (count + 1) n → HasTime count m
@@ -308,16 +306,16 @@ prepared_time count b rs n h = record {
 
 -- one act takes the time of one settlement at the most
 pub act_time : (count : ℕ) (a : Act) (rs : List LogRecord) (n : Node) → HasTime (count + 1) n → HasTime count (done_by a rs n)
-act_time count (Notes b) rs n h = less_time count (done_by (Notes b) rs n) (record { greatest = h.greatest; clock = h.clock; end = h.end })
-act_time count (Accepts b c) rs n h = less_time count (done_by (Accepts b c) rs n) (record { greatest = h.greatest; clock = h.clock; end = h.end })
+act_time count (Notes b) rs n h = one_less count (done_by (Notes b) rs n) (record { greatest = h.greatest; clock = h.clock; end = h.end })
+act_time count (Accepts b c) rs n h = one_less count (done_by (Accepts b c) rs n) (record { greatest = h.greatest; clock = h.clock; end = h.end })
 act_time count (Prepares b) rs n h = prepared_time count b rs n h
 act_time count (Settles k o why r) rs n h = settled_time count n (done_by (Settles k o why r) rs n) k.tid k.serial o (next_moment n) refl refl refl h
-act_time count (Leaves k) rs n h = less_time count (done_by (Leaves k) rs n) (record { greatest = h.greatest; clock = h.clock; end = h.end })
-act_time count (Acknowledges k) rs n h = less_time count (done_by (Acknowledges k) rs n) (record { greatest = h.greatest; clock = h.clock; end = h.end })
-act_time count (Releases s m) rs n h = less_time count (done_by (Releases s m) rs n) (record { greatest = h.greatest; clock = h.clock; end = h.end })
+act_time count (Leaves k) rs n h = one_less count (done_by (Leaves k) rs n) (record { greatest = h.greatest; clock = h.clock; end = h.end })
+act_time count (Acknowledges k) rs n h = one_less count (done_by (Acknowledges k) rs n) (record { greatest = h.greatest; clock = h.clock; end = h.end })
+act_time count (Releases s m) rs n h = one_less count (done_by (Releases s m) rs n) (record { greatest = h.greatest; clock = h.clock; end = h.end })
 act_time count (Undoes k) rs n h = settled_time count n (done_by (Undoes k) rs n) k.tid k.serial Abort (next_moment n) refl refl refl h
-act_time count (Sends m) rs n h = less_time count (done_by (Sends m) rs n) (record { greatest = h.greatest; clock = h.clock; end = h.end })
-act_time count (Prints l) rs n h = less_time count (done_by (Prints l) rs n) (record { greatest = h.greatest; clock = h.clock; end = h.end })
+act_time count (Sends m) rs n h = one_less count (done_by (Sends m) rs n) (record { greatest = h.greatest; clock = h.clock; end = h.end })
+act_time count (Prints l) rs n h = one_less count (done_by (Prints l) rs n) (record { greatest = h.greatest; clock = h.clock; end = h.end })
 
 -- Behind the first effect.
 
@@ -368,3 +366,6 @@ told_whole e name before behind s t n o m lines there table kept stepped all =
       shared = all.shared ∙ (λ i. shared_after_rows (table_rows (acts i) s (there i)) s);
       node = end ∙ all.node ∙ (λ i. node_after_rows (table_rows (acts i) s (there i)) (there i));
     }
+
+pub less_time : (more count : ℕ) (n : Node) → count ≤ more → HasTime more n → HasTime count n
+less_time more count n few h = record { greatest = (let g = h.greatest in omega arith); clock = (let c = h.clock in omega arith); end = (let e = h.end in omega arith) }

@@ -8,12 +8,12 @@ use Rattle.vms_model.specs.Transactions.{Commit as ToCommit, Abort as ToAbort, S
 use Rattle.transcript_model.specs.Lines as line
 use Rattle.commit_protocol.specs.Allowed.{allowed, has_room, is_active, is_prepared, is_working, may_authorise, may_end, there_is}
 use Rattle.commit_protocol.specs.Messages.{Message, Name, RmEvent, LogRecord, Prepare as ToPrepare}
-use Rattle.commit_protocol.specs.Rows.{Event, Start, Begin, Authorise, EndTrans, EndBranch, AbortBranch, InquireBranch, all_taken, aborts, begins_ending, commits, commits_if_all, ending, end_trans_state, joined, row, sends_all, serials, tells, to_each, which_event, all_voted, all_replied}
+use Rattle.commit_protocol.specs.Rows.{Event, Start, Begin, Authorise, EndTrans, EndBranch, AbortBranch, InquireBranch, all_taken, aborts, asks, begins_ending, commits, commits_if_all, ending, end_trans_state, joined, row, sends_all, serials, tells, to_each, which_event, all_voted, all_replied}
 use Rattle.commit_protocol.specs.Rows as rows
-use Rattle.commit_protocol.specs.Table.{Act, Accepts, Acknowledges, Branch, State, Joining, Active, Ending, Voting, Prepared, Key, Leaves, Notes, Prepares, Prints, Releases, Sends, Settles, Started, Ended, Told, Tm, Undoes, find, find_serial, first, is_first, nothing_left, acknowledged, released, waits_for, holds}
+use Rattle.commit_protocol.specs.Table.{Act, Accepts, Acknowledges, Branch, Manager, State, Joining, Active, Ending, Voting, Prepared, Key, Leaves, Notes, Prepares, Prints, Releases, Sends, Settles, Started, Ended, Told, Tm, Undoes, find, find_serial, first, is_first, nothing_left, acknowledged, released, waits_for, holds}
 use Rattle.commit_protocol.proofs.Lists.{find_serial-key, same_key-true}
 use Rattle.run_model.specs.Answers as answers
-use Rattle.run_model.specs.Answers.{Row, Service, Telling, acknowledged_lines, end_answer, forgot_lines, in_state, is_first_active, is_in_doubt, is_open, missing, more_branches, more_bids, released_lines, settled_line, shown_by, silent, table_rows, told_rows, unsettled}
+use Rattle.run_model.specs.Answers.{Row, Service, Telling, acknowledged_lines, end_answer, forgot_lines, in_state, is_first_active, is_in_doubt, is_open, missing, more_branches, more_bids, released_lines, settled_line, shown_by, silent, table_rows, told_rows, unreplied, unsettled}
 use Rattle.run_model.specs.Operations.{first_of, refused_if}
 use Rattle.run_model.specs.Steps.{lines_of_rows, node_after, node_after_rows, shared_after_rows, shared_then}
 use Rattle.run_model.specs.World as world
@@ -157,6 +157,10 @@ shows_sent : (b : Bool) (k : ℕ) (m : Message) (more : List line.Line) → answ
 shows_sent true k m more = refl
 shows_sent false k m more = refl
 
+shows_told : (b : Bool) (e : RmEvent) (k : Key) (x : Name) → Shows (if b then line.ManagerTold e k.tid k.serial x ∷ [] else [])
+shows_told true e k x more = refl
+shows_told false e k x more = refl
+
 shown_answer : (acts : List Act) (s : Shared) (n : Node) → answer_shown (lines_of_rows (table_rows acts s n)) ≡ answer_by acts
 shown_answer [] s n = refl
 shown_answer (Settles k ToCommit reason r ∷ todo) s n = refl
@@ -171,7 +175,7 @@ shown_answer (Releases i x ∷ todo) s n = shows_released i x n.volatile.records
 shown_answer (Sends m ∷ todo) s n = shows_sent (nat_lt (length s.wire) world.message_limit) (length s.wire + 1) m _ ∙ shown_answer todo _ _
 shown_answer (Prints (Started k) ∷ todo) s n = shown_answer todo _ _
 shown_answer (Prints (Ended t why) ∷ todo) s n = shown_answer todo _ _
-shown_answer (Prints (Told e k x) ∷ todo) s n = shown_answer todo _ _
+shown_answer (Prints (Told e k x) ∷ todo) s n = shows_told (answers.is_declared n x) e k x _ ∙ shown_answer todo _ _
 
 -- it is the answer by the row, where none settles and nothing is noted
 abbrev IsAnswer : List Act → Type 0
@@ -189,16 +193,22 @@ answers_commit : (b : Branch) (t : Bool) → IsAnswer (if t then commits b [] el
 answers_commit b true before = refl
 answers_commit b false before = refl
 
-answers_begin : (b : Branch) → end_answer (begins_ending b) line.Normal ≡ answer_else (answer_by (begins_ending b)) (line.Pending (missing b.accepted))
+-- the managers that are asked are those whose replies are missing then
+asked_names : (e : RmEvent) (ms : List Manager) → unreplied (asks e ms) ≡ joined ms
+asked_names e [] = refl
+asked_names e (m ∷ ms) = ap (λ xs. m.rm ∷ xs) (asked_names e ms)
+
+answers_begin : (b : Branch) → end_answer (begins_ending b) line.Normal ≡ answer_else (answer_by (begins_ending b)) (line.Pending (missing b.accepted) (joined b.managers))
 answers_begin b = answers_sends (to_each ToPrepare b.key.tid (serials b.accepted)) (tells (which_event b.changed b.accepted b.managers) b.key (joined b.managers) ++ commits_if_all (ending b) [])
     (answers_tells (which_event b.changed b.accepted b.managers) b.key (joined b.managers) (commits_if_all (ending b) []) (answers_commit (ending b) (all_voted b.accepted && all_replied (ending b).managers)))
-    (line.Pending (missing b.accepted))
+    (line.Pending (missing b.accepted) (unreplied (ending b).managers))
+    ∙ ap (λ rms. answer_else (answer_by (begins_ending b)) (line.Pending (missing b.accepted) rms)) (asked_names (which_event b.changed b.accepted b.managers) b.managers)
 
-answers_active : (b : Branch) (t : Bool) → (let acts : List Act = if t then begins_ending b else aborts SyncFail b in end_answer acts line.Normal ≡ answer_else (answer_by acts) (line.Pending (missing b.accepted)))
+answers_active : (b : Branch) (t : Bool) → (let acts : List Act = if t then begins_ending b else aborts SyncFail b in end_answer acts line.Normal ≡ answer_else (answer_by acts) (line.Pending (missing b.accepted) (joined b.managers)))
 answers_active b true = answers_begin b
 answers_active b false = refl
 
-answers_state : (b : Branch) (state : State) → is_active state ≡ true → end_answer (end_trans_state b state) line.Normal ≡ answer_else (answer_by (end_trans_state b state)) (line.Pending (missing b.accepted))
+answers_state : (b : Branch) (state : State) → is_active state ≡ true → end_answer (end_trans_state b state) line.Normal ≡ answer_else (answer_by (end_trans_state b state)) (line.Pending (missing b.accepted) (joined b.managers))
 answers_state b Active e = answers_active b (all_taken b.bids b.accepted)
 answers_state b Joining e = let never : ⊥ = cc in absurd never
 answers_state b Ending e = let never : ⊥ = cc in absurd never
@@ -207,7 +217,7 @@ answers_state b Prepared e = let never : ⊥ = cc in absurd never
 
 -- what END_TRANS is answered, by the lines that it showed
 pub end_answered : (s : Shared) (n : Node) (b : Branch) → find (first b.key.tid) n.volatile.branches ≡ Some b → is_active b.state ≡ true →
-    answer_else (answer_shown (lines_of_rows (table_rows (row (tm_of n) (EndTrans b.key.tid)) s n))) (line.Pending (missing b.accepted)) ≡ end_answer (row (tm_of n) (EndTrans b.key.tid)) line.Normal
+    answer_else (answer_shown (lines_of_rows (table_rows (row (tm_of n) (EndTrans b.key.tid)) s n))) (line.Pending (missing b.accepted) (joined b.managers)) ≡ end_answer (row (tm_of n) (EndTrans b.key.tid)) line.Normal
 end_answered s n b there is =
-    ap (λ o. answer_else o (line.Pending (missing b.accepted))) (shown_answer (row (tm_of n) (EndTrans b.key.tid)) s n)
-    ∙ sym (let P : Option Branch → Type 0 = λ o. end_answer (rows.end_trans_row o) line.Normal ≡ answer_else (answer_by (rows.end_trans_row o)) (line.Pending (missing b.accepted)) in subst P (sym there) (answers_state b b.state is))
+    ap (λ o. answer_else o (line.Pending (missing b.accepted) (joined b.managers))) (shown_answer (row (tm_of n) (EndTrans b.key.tid)) s n)
+    ∙ sym (let P : Option Branch → Type 0 = λ o. end_answer (rows.end_trans_row o) line.Normal ≡ answer_else (answer_by (rows.end_trans_row o)) (line.Pending (missing b.accepted) (joined b.managers)) in subst P (sym there) (answers_state b b.state is))

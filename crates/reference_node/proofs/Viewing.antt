@@ -23,7 +23,7 @@ View act (SettleEffect serial outcome reason r) = (k : Key) × (act ≡ Settles 
 View act (KeepEffect r) = IsOfRecords act
 View act (ForgetEffect serial) = IsOfRecords act
 View act (SendEffect m) = act ≡ Sends m
-View act (TellEffect event serial rm) = (k : Key) × (act ≡ Prints (Told event k rm))
+View act (TellEffect event tid serial rm) = act ≡ Prints (Told event (record { tid = tid; serial = serial }) rm)
 View act (JoinedEffect serial) = (b : Branch) × (c : Child) × (act ≡ Accepts b c) × (c.serial ≡ serial)
 View act (StartedEffect serial) = (k : Key) × (act ≡ Prints (Started k)) × (k.serial ≡ serial)
 View act (ReadOnlyEffect serial) = (k : Key) × (act ≡ Leaves k) × (k.serial ≡ serial)
@@ -67,7 +67,7 @@ view (Undoes k) rs x q = absurd (let f : [] ≡ x ∷ [] = q in cc)
 view (Sends m) rs x q = subst (λ y. View (Sends m) y) (one (SendEffect m) x q) refl
 view (Prints (Started k)) rs x q = subst (λ y. View (Prints (Started k)) y) (one (StartedEffect k.serial) x q) (k, refl, refl)
 view (Prints (Ended t why)) rs x q = subst (λ y. View (Prints (Ended t why)) y) (one (EndedEffect t why) x q) refl
-view (Prints (Told e k m)) rs x q = subst (λ y. View (Prints (Told e k m)) y) (one (TellEffect e k.serial m) x q) (k, refl)
+view (Prints (Told e k m)) rs x q = subst (λ y. View (Prints (Told e k m)) y) (one (TellEffect e k.tid k.serial m) x q) refl
 
 -- Acts on committed records.
 
@@ -83,7 +83,7 @@ later r rs (ForgetEffect serial) ls h = (h.0, inr h.1, h.2, h.3)
 later r rs (PrepareEffect serial rms) ls h = tt
 later r rs (SettleEffect serial o why q) ls h = tt
 later r rs (SendEffect m) ls h = tt
-later r rs (TellEffect e serial m) ls h = tt
+later r rs (TellEffect e tid serial m) ls h = tt
 later r rs (JoinedEffect serial) ls h = tt
 later r rs (StartedEffect serial) ls h = tt
 later r rs (ReadOnlyEffect serial) ls h = tt

@@ -1,17 +1,14 @@
 -- The node that the code's values stand for, and what nodes share.
-use Rattle.std.specs.Prelude.{◌≡◌, ◌++◌, List, [], ◌∷◌, Bool, false, Some, None, map}
+use Rattle.std.specs.Prelude.{◌≡◌, ◌++◌, List, [], ◌∷◌, Some, None, map}
 use Rattle.vms_model.specs.Ids.{Id}
 use Rattle.transcript_model.specs.Lines as model
 use Rattle.commit_protocol.specs.Table.{Branch, Key, cut}
-use Rattle.commit_protocol.specs.Allowed as allowed
-use Rattle.run_model.specs.Answers.{Service, is_first_active, is_open, is_in_doubt}
+use Rattle.run_model.specs.Answers.{Service}
 use Rattle.run_model.specs.Steps.{lines_of_rows, node_after, node_after_rows, shared_then, shared_after_rows}
 use Rattle.run_model.specs.World as world
 use Rattle.run_model.specs.Locks.{released}
-use Rattle.net_wire.specs.Messages.{message_of}
-use Rattle.reference_world.specs.Standing.{branch_key_of, label_of, locks_of, settlement_of, is_unmade, call_of}
+use Rattle.reference_world.specs.Standing.{branch_key_of, locks_of, settlement_of, is_unmade, call_of, line_of}
 use Rattle.reference_disk.specs.Disks.{durable_of}
-use Rattle.reference_world.specs.Standing.{line_of}
 use Rattle.reference_world.specs.declared.line.Line.{Line}
 use Rattle.script_lang.specs.declared.statement.Request.{Request}
 use Rattle.script_lang.specs.declared.statement.Request.TheVariants as request
@@ -19,7 +16,7 @@ use Rattle.reference_node.specs.declared.node.Node.{Node}
 
 -- what a node has while it is up
 abbrev pub volatile_of : Node → world.Volatile
-volatile_of n = record { drawn = n.drawn; branches = n.table.table; records = n.table.records; preparation = map branch_key_of n.preparation.items; locks = locks_of n.locks.items }
+volatile_of n = record { drawn = n.drawn; branches = n.table.table; records = n.table.records; preparation = map branch_key_of n.preparation.items; locks = locks_of n.locks.items; declared = n.declared.items }
 
 -- the node that is kept
 abbrev pub node_of : Node → world.Node
@@ -52,53 +49,18 @@ IsPlain (request.EndBranch label) = Unit {0}
 IsPlain (request.EndTrans label) = Unit {0}
 IsPlain (request.AbortTrans label) = Unit {0}
 IsPlain (request.Inquire who) = Unit {0}
+IsPlain (request.DeclareRm rm) = Unit {0}
+IsPlain (request.JoinRm label rm) = Unit {0}
+IsPlain (request.AckEvent who rm reply) = Unit {0}
+IsPlain (request.ForgetRm rm) = Unit {0}
+IsPlain (request.GetDti who) = Unit {0}
+IsPlain request.LmcpShow = Unit {0}
+IsPlain request.LmcpDump = Unit {0}
 IsPlain (request.Dump file) = Unit {0}
 IsPlain request.DumpJournal = Unit {0}
 IsPlain (request.Fuse writes choice) = Unit {0}
 IsPlain request.Crash = Unit {0}
 IsPlain (request.Clock now) = Unit {0}
-
--- the request tells the table of its node an event
-abbrev pub TellsTable : Request → Type 0
-TellsTable (request.Records label file operation) = ⊥
-TellsTable (request.Direct file operation) = ⊥
-TellsTable (request.Init slots blocks) = ⊥
-TellsTable request.Boot = ⊥
-TellsTable (request.Create file bucket size form) = ⊥
-TellsTable (request.SetFile file setting) = ⊥
-TellsTable (request.StartTrans label seconds) = Unit {0}
-TellsTable (request.AddBranch label other new) = Unit {0}
-TellsTable (request.StartBranch label) = Unit {0}
-TellsTable (request.EndBranch label) = Unit {0}
-TellsTable (request.EndTrans label) = Unit {0}
-TellsTable (request.AbortTrans label) = Unit {0}
-TellsTable (request.Inquire who) = Unit {0}
-TellsTable (request.Dump file) = ⊥
-TellsTable request.DumpJournal = ⊥
-TellsTable (request.Fuse writes choice) = ⊥
-TellsTable request.Crash = ⊥
-TellsTable (request.Clock now) = ⊥
-
--- a request that tells the table an event, or boots the node
-abbrev pub RestsNot : Request → Type 0
-RestsNot (request.Records label file operation) = ⊥
-RestsNot (request.Direct file operation) = ⊥
-RestsNot (request.Init slots blocks) = ⊥
-RestsNot request.Boot = Unit {0}
-RestsNot (request.Create file bucket size form) = ⊥
-RestsNot (request.SetFile file setting) = ⊥
-RestsNot (request.StartTrans label seconds) = Unit {0}
-RestsNot (request.AddBranch label other new) = Unit {0}
-RestsNot (request.StartBranch label) = Unit {0}
-RestsNot (request.EndBranch label) = Unit {0}
-RestsNot (request.EndTrans label) = Unit {0}
-RestsNot (request.AbortTrans label) = Unit {0}
-RestsNot (request.Inquire who) = Unit {0}
-RestsNot (request.Dump file) = ⊥
-RestsNot request.DumpJournal = ⊥
-RestsNot (request.Fuse writes choice) = ⊥
-RestsNot request.Crash = ⊥
-RestsNot (request.Clock now) = ⊥
 
 -- A task that nothing refuses was done at a node, where nodes shared this: these lines were shown, and the node and what nodes share are those after it.
 pub record Does (s : world.Shared) (n : world.Node) (e : Service) (lines : List Line) (m : world.Node) (t : world.Shared) : Type 0 where

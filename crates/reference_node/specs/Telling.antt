@@ -1,23 +1,21 @@
 -- What the acts of a table come to at the node that is kept, effect by effect.
-use Rattle.std.specs.Prelude.{◌≡◌, ℕ, ◌+◌, ◌*◌, ◌^◌, ◌<◌, ◌≤◌, List, [], ◌∷◌, ◌++◌, Option, Some, None, if◌then◌else◌, map, option_map}
+use Rattle.std.specs.Prelude.{◌≡◌, ℕ, ◌+◌, ◌*◌, ◌^◌, ◌<◌, List, [], ◌∷◌, ◌++◌, Option, Some, None, if◌then◌else◌, map, option_map}
 use Rattle.vms_model.specs.Ids.{Id}
 use Rattle.vms_model.specs.Times.{CanBeWritten}
 use Rattle.vms_model.specs.Transactions.{Outcome, Reason}
 use Rattle.records_model.specs.History.{same_id}
-use Rattle.script_model.specs.Statements as said
 use Rattle.transcript_model.specs.Lines as line
 use Rattle.unit_laws.specs.Journal.{end_of}
 use Rattle.commit_protocol.specs.Limits.{TmWithin}
-use Rattle.commit_protocol.specs.Allowed.{is_prepared}
-use Rattle.commit_protocol.specs.Effects.{Effect, SendEffect, act_effects, effects_of}
-use Rattle.commit_protocol.specs.Messages.{LogRecord, Message}
+use Rattle.commit_protocol.specs.Effects.{Effect, effects_of}
+use Rattle.commit_protocol.specs.Messages.{LogRecord}
 use Rattle.commit_protocol.specs.Rows.{Event, row}
 use Rattle.commit_protocol.specs.World.{In}
 use Rattle.commit_protocol.specs.Table.{Act, Accepts, Acknowledges, Branch, Key, Leaves, Notes, Prepares, Prints, Releases, Sends, Settles, Started, Ended, Told, Tm, Undoes, after, prepared_record, records_after}
 use Rattle.log_laws.specs.Slots.{Slots, put_in, settled_in, slots_after}
 use Rattle.row_laws.specs.May.{IsTold}
-use Rattle.run_model.specs.Answers.{Service, boot_rows, prepared_lines, shown_by, table_rows}
-use Rattle.run_model.specs.Steps.{Whole, lines_of_rows, node_after_rows, service_effect, shared_after_rows}
+use Rattle.run_model.specs.Answers.{boot_rows, prepared_lines, shown_by, table_rows}
+use Rattle.run_model.specs.Steps.{lines_of_rows, node_after_rows, shared_after_rows}
 use Rattle.run_model.specs.World as world
 use Rattle.run_model.specs.World.{Node, Shared, Tables, next_moment, shared_after, tm_of}
 use Rattle.reference_world.specs.Standing.{line_of}
@@ -153,40 +151,3 @@ answer_else None other = other
 pub record Restarts (s : Shared) (n : Node) (shown : List Line) (m : Node) : Type 0 where
   pub shows : map line_of shown ≡ lines_of_rows (boot_rows s n) ++ prepared_lines n
   pub node : m ≡ world.acted world.ComesUp (node_after_rows (boot_rows s n) n)
-
--- Requests and tasks.
-
--- A node has so many units to spare: with each it may be booted once, draw one id, and settle 2,048 branches or write as many bytes of journal as these take. And its journal has no
--- more blocks than a volume may have.
-pub record HasUnits (units : ℕ) (n : Node) : Type 0 where
-  pub journal : n.durable.journal ≤ 8192
-  pub boot : n.durable.boot + units < 2 ^ 32
-  pub drawn : n.volatile.drawn + units < 2 ^ 32
-  pub time : HasTime (2048 * units) n
-
--- A task was served whole, where no act was under way and no disk was stopped: so it shows its lines and its answer, and so the node is then, and what nodes share.
-pub record Serves (s : Shared) (n : Node) (e : Service) (shown : List Line) (m : Node) (t : Shared) : Type 0 where
-  pub shows : (let x = service_effect s 0 n e (Whole world.Lost) in map line_of shown ≡ x.lines ++ x.answer ∷ [])
-  pub node : m ≡ (service_effect s 0 n e (Whole world.Lost)).node
-  pub shared : t ≡ (service_effect s 0 n e (Whole world.Lost)).shared
-
--- a clock is set early enough for so many units
-abbrev pub IsSetEarly : ℕ → said.Request → Type 0
-IsSetEarly units (said.Clock now) = CanBeWritten (now + 2048 * units)
-IsSetEarly units (said.Records label file operation) = Unit {0}
-IsSetEarly units (said.Direct file operation) = Unit {0}
-IsSetEarly units (said.Init slots blocks) = Unit {0}
-IsSetEarly units said.Boot = Unit {0}
-IsSetEarly units (said.Create file bucket size form) = Unit {0}
-IsSetEarly units (said.SetFile file setting) = Unit {0}
-IsSetEarly units (said.StartTrans label seconds) = Unit {0}
-IsSetEarly units (said.AddBranch label other new) = Unit {0}
-IsSetEarly units (said.StartBranch label) = Unit {0}
-IsSetEarly units (said.EndBranch label) = Unit {0}
-IsSetEarly units (said.EndTrans label) = Unit {0}
-IsSetEarly units (said.AbortTrans label) = Unit {0}
-IsSetEarly units (said.Inquire who) = Unit {0}
-IsSetEarly units (said.Dump file) = Unit {0}
-IsSetEarly units said.DumpJournal = Unit {0}
-IsSetEarly units (said.Fuse writes choice) = Unit {0}
-IsSetEarly units said.Crash = Unit {0}

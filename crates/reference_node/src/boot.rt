@@ -51,6 +51,7 @@ impl Node {
             .boot(self.name, prepared.as_slice(), committed.as_slice());
         self.durable.boot += 1;
         self.drawn = 0;
+        self.declared = Vec::new(alloc);
         Ok(())
     }
 

@@ -4,11 +4,11 @@
 mod acts;
 mod boot;
 mod doubts;
+mod log;
+mod managers;
 mod node;
 mod refusals;
 mod table;
-mod tasks;
 mod transactions;
 
 pub use node::Node;
-pub use tasks::{Task, TaskShown};

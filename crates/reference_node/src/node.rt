@@ -1,32 +1,21 @@
-// A node, and what it is asked.
-ghost use Rattle.std.specs.Prelude.{◌≡◌, ◌+◌, ◌<◌, ◌≤◌, ◌^◌, ℕ, true, false, None, map, drop, length, OnOk, IfOk};
+// A node as it is kept.
+ghost use Rattle.std.specs.Prelude.{◌≡◌, ◌+◌, ◌<◌, ◌^◌, false, None, map, drop, OnOk, IfOk};
 ghost use Rattle.vms_model.specs.Times.{CanBeWritten};
-ghost use Rattle.commit_protocol.specs.Table.{Tm as Table_};
 ghost use Rattle.run_model.specs.Rows.{zeros};
-ghost use Rattle.run_model.specs.Steps.{ready_node};
-ghost use Rattle.run_model.specs.Answers.{powers, refused_before_reading, service, spoils};
 ghost use Rattle.run_model.specs.World as world;
-ghost use Rattle.script_lang.specs.declared.literals.Literals.{Literals as LiteralsSaid};
-ghost use Rattle.script_lang.specs.Statements.{request_of};
 ghost use Rattle.vms_base.specs.Ids.{id_of};
-ghost use Rattle.tm_types.specs.Branches.{branch_of as branch_said};
 ghost use Rattle.reference_world.specs.Standing.{branch_key_of, serials_of};
-ghost use Rattle.world_laws.specs.Nodes.{IsKeptDisk, IsKeptNode};
-ghost use Rattle.reference_node.specs.Nodes.{node_of, Does, RestsNot, TellsTable};
-ghost use Rattle.reference_branches.specs.Branches.{shared_of};
-ghost use Rattle.reference_node.specs.Telling.{CanTell, HasTime, HasUnits, IsSetEarly, Serves};
+ghost use Rattle.reference_node.specs.Nodes.{node_of};
+ghost use Rattle.reference_node.specs.Telling.{HasTime};
 
-use reference_branches::{Shared, key_of};
+use reference_branches::key_of;
 use reference_disk::Durable;
-use reference_records::asked_by;
-use reference_world::{BranchKey, DiskCall, Line, Lock, Settlement, Volume, one, push_front};
-use script_lang::{Literals, Request};
+use reference_world::{BranchKey, DiskCall, Lock, Settlement, push_front};
 use std::alloc::{AllocError, Global};
 use tm_table::Tm;
-use tm_types::BranchState;
-use vms_base::{Id, NodeName};
+use vms_base::{Id, NodeName, RmName};
 
-/// What is kept of a node: its name and its disk's blocks; what its disk has; and what it has while it is up. Locks, settlements and calls stand newest first.
+/// What is kept of a node: its name and its disk's blocks; what its disk has; and what it has while it is up. Managers stand in the order in which they were declared; locks, settlements and calls stand newest first.
 #[derive(Drop)]
 pub struct Node {
     pub name: NodeName,
@@ -39,6 +28,7 @@ pub struct Node {
     pub table: Tm,
     pub preparation: Vec<BranchKey>,
     pub locks: Vec<Lock>,
+    pub declared: Vec<RmName>,
     pub settled: Vec<Settlement>,
     pub calls: Vec<DiskCall>,
 }
@@ -59,6 +49,7 @@ impl Node {
             table: Tm::reserve(alloc)?,
             preparation: Vec::new(alloc),
             locks: Vec::new(alloc),
+            declared: Vec::new(alloc),
             settled: Vec::new(alloc),
             calls: Vec::new(alloc),
         })
@@ -128,134 +119,5 @@ impl Node {
         ensures { OnOk result (node_of self.new ≡ world.powered world.Lost 0 (node_of self.old)) }
     {
         push_front(&mut self.calls, DiskCall::Power)
-    }
-
-    // The disk is made to run again, where the request does that.
-    fn ready(&mut self, request: &Request) -> Result<(), AllocError>
-        ensures { (lit : LiteralsSaid) → OnOk result (node_of self.new ≡ ready_node world.Lost 0 (service (request_of lit request.now)) (node_of self.old)) }
-    {
-        match request {
-            Request::Init { .. } => {
-                self.power()?;
-                self.durable.volume = Volume::Unknown;
-                Ok(())
-            }
-            Request::Boot => self.power(),
-            _ => Ok(()),
-        }
-    }
-
-    // What a request to its transactions does that nothing refuses.
-    fn act_on_branches(
-        &mut self,
-        alloc: Global,
-        shared: &mut Shared,
-        request: &Request,
-        lit: &Literals,
-    ) -> Result<Vec<Line>, AllocError>
-        requires tells { TellsTable request.now }
-        requires early { (service (request_of lit.now request.now)).refused_before_reading (shared_of shared.old) (node_of self.old) ≡ None }
-        requires late { (service (request_of lit.now request.now)).refused_after_reading (shared_of shared.old) (node_of self.old) ≡ None }
-        requires slots { length (node_of self.old).durable.log ≤ 512 }
-        requires drawn { self.old.drawn + 1 < 2 ^ 32 }
-        requires can { CanTell (node_of self.old) }
-        ensures does { IfOk result (λ lines. Does (shared_of shared.old) (node_of self.old) (service (request_of lit.now request.now)) lines.items (node_of self.new) (shared_of shared.new)) }
-        ensures time { (count : ℕ) → HasTime (count + 2048) (node_of self.old) → OnOk result (HasTime count (node_of self.new)) }
-    {
-        match request {
-            Request::StartTrans { label, seconds } => self.start(alloc, shared, label, *seconds),
-            Request::AddBranch { label, other, new } => {
-                self.add_branch(alloc, shared, label, other, new)
-            }
-            Request::StartBranch(label) => self.start_branch(alloc, shared, label),
-            Request::EndBranch(label) => self.end_branch(alloc, shared, label),
-            Request::EndTrans(label) => self.end(alloc, shared, label),
-            Request::AbortTrans(label) => self.abort(alloc, shared, label),
-            Request::Inquire(who) => self.inquire(alloc, shared, who),
-            _ => one(alloc, Line::Normal),
-        }
-    }
-
-    // What a request does that nothing refuses.
-    fn act(
-        &mut self,
-        alloc: Global,
-        shared: &mut Shared,
-        request: &Request,
-        lit: &Literals,
-    ) -> Result<Vec<Line>, AllocError>
-        requires early { powers (service (request_of lit.now request.now)) ≡ false → refused_before_reading (shared_of shared.old) (node_of self.old) (service (request_of lit.now request.now)) ≡ None }
-        requires late { (service (request_of lit.now request.now)).refused_after_reading (shared_of shared.old) (node_of self.old) ≡ None }
-        requires units { HasUnits 1 (node_of self.old) }
-        requires kept { spoils (service (request_of lit.now request.now)) ≡ false → IsKeptDisk (node_of self.old) }
-        requires can { (node_of self.old).up ≡ true → CanTell (node_of self.old) }
-        ensures does { IfOk result (λ lines. Does (shared_of shared.old) (node_of self.old) (service (request_of lit.now request.now)) lines.items (node_of self.new) (shared_of shared.new)) }
-        ensures time { RestsNot request.now → (count : ℕ) → HasTime (count + 2048) (node_of self.old) → OnOk result (HasTime count (node_of self.new)) }
-    {
-        match request {
-            Request::Init { slots, blocks } => self.make(alloc, *slots, *blocks),
-            Request::Boot => self.boot(alloc),
-            Request::Create {
-                file,
-                bucket,
-                size,
-                form,
-            } => self.create(alloc, *file, *bucket, *size, *form),
-            Request::SetFile(file, setting) => self.set_file(alloc, file, *setting),
-            Request::Records(label, file, operation) => {
-                self.operate(alloc, shared, label, file, asked_by(operation, lit))
-            }
-            Request::Direct(file, operation) => {
-                self.direct(alloc, file, asked_by(operation, lit))
-            }
-            Request::Dump(file) => self.dump(alloc, file),
-            Request::DumpJournal => self.dump_journal(alloc),
-            Request::Fuse { writes, choice } => self.arm(alloc, *writes, *choice),
-            Request::Crash => self.crash(alloc),
-            Request::Clock(now) => self.set_clock(alloc, *now),
-            _ => self.act_on_branches(alloc, shared, request, lit),
-        }
-    }
-
-    // A request that nothing refuses before the disk is read.
-    fn serve_allowed(
-        &mut self,
-        alloc: Global,
-        shared: &mut Shared,
-        request: &Request,
-        lit: &Literals,
-    ) -> Result<Vec<Line>, AllocError>
-        requires early { refused_before_reading (shared_of shared.old) (node_of self.old) (service (request_of lit.now request.now)) ≡ None }
-        requires units { HasUnits 1 (node_of self.old) }
-        requires kept { IsKeptNode (shared_of shared.old) (node_of self.old) }
-        ensures serves { IfOk result (λ lines. Serves (shared_of shared.old) (node_of self.old) (service (request_of lit.now request.now)) lines.items (node_of self.new) (shared_of shared.new)) }
-        ensures time { RestsNot request.now → (count : ℕ) → HasTime (count + 2048) (node_of self.old) → OnOk result (HasTime count (node_of self.new)) }
-    {
-        self.ready(request)?;
-        if let Some(refusal) = self.late(alloc, shared, request, lit)? {
-            return one(alloc, refusal);
-        }
-        let lines = self.act(alloc, shared, request, lit)?;
-        shared.occupy(request);
-        Ok(lines)
-    }
-
-    /// Serves a request.
-    pub fn serve(
-        &mut self,
-        alloc: Global,
-        shared: &mut Shared,
-        request: &Request,
-        lit: &Literals,
-    ) -> Result<Vec<Line>, AllocError>
-        requires units { HasUnits 1 (node_of self.old) }
-        requires kept { IsKeptNode (shared_of shared.old) (node_of self.old) }
-        ensures serves { IfOk result (λ lines. Serves (shared_of shared.old) (node_of self.old) (service (request_of lit.now request.now)) lines.items (node_of self.new) (shared_of shared.new)) }
-        ensures units { (units : ℕ) → IsSetEarly units (request_of lit.now request.now) → HasUnits (units + 64) (node_of self.old) → OnOk result (HasUnits units (node_of self.new)) }
-    {
-        if let Some(refusal) = self.early(alloc, shared, request, lit)? {
-            return one(alloc, refusal);
-        }
-        self.serve_allowed(alloc, shared, request, lit)
     }
 }

@@ -19,7 +19,9 @@ ghost use Rattle.reference_node.specs.Nodes.{node_of, IsPlain};
 ghost use Rattle.reference_branches.specs.Branches.{shared_of, is_wanted as is_wanted_said};
 
 use crate::node::Node;
-use reference_branches::{Shared, Wanted, held_against, key_of, new_label, unsettled, wrong_state};
+use reference_branches::{
+    Shared, Wanted, held_against, key_of, more_managers, new_label, unsettled, wrong_state,
+};
 use reference_disk::{blocks_for, is_file_form, is_volume_form, is_within};
 use reference_records::{
     Asked, asked_by, data_refused, first_of, keys_asked, keys_found, keys_held, refused_if,
@@ -75,7 +77,8 @@ impl Node {
         }
     }
 
-    fn made_label(&self, shared: &Shared, name: &Label) -> Option<Line>
+    /// No label of this name was made.
+    pub fn made_label(&self, shared: &Shared, name: &Label) -> Option<Line>
         ensures { option_map line_of result ≡ answers.made_label (shared_of shared.now) (node_of self.now) name.now }
     {
         match shared.labelled(&self.name, name) {
@@ -84,7 +87,8 @@ impl Node {
         }
     }
 
-    fn made_name(&self, shared: &Shared, who: &Named) -> Option<Line>
+    /// A name is a label that was not made.
+    pub fn made_name(&self, shared: &Shared, who: &Named) -> Option<Line>
         ensures { option_map line_of result ≡ answers.made_name (shared_of shared.now) (node_of self.now) (named_of who.now) }
     {
         match who {
@@ -93,7 +97,8 @@ impl Node {
         }
     }
 
-    fn unsettled_label(&self, shared: &Shared, name: &Label) -> Option<Line>
+    /// The branch of a label is not unsettled.
+    pub fn unsettled_label(&self, shared: &Shared, name: &Label) -> Option<Line>
         ensures { option_map line_of result ≡ answers.unsettled_label (shared_of shared.now) (node_of self.now) name.now }
     {
         unsettled(&self.branch_labelled(shared, name))
@@ -368,6 +373,11 @@ impl Node {
             Request::EndTrans(label) => self.early_branch(shared, label, Wanted::FirstActive),
             Request::AbortTrans(label) => self.early_branch(shared, label, Wanted::Open),
             Request::Inquire(who) => self.early_inquire(shared, who),
+            Request::DeclareRm(rm) => self.early_declare(rm),
+            Request::JoinRm(label, rm) => self.early_join(shared, label, rm),
+            Request::AckEvent(who, rm, reply) => self.early_reply(shared, who, rm, *reply),
+            Request::ForgetRm(rm) => self.early_forget(rm),
+            Request::GetDti(who) => self.made_name(shared, who),
             _ => None,
         }
     }
@@ -494,6 +504,8 @@ impl Node {
                 .room_for(self.blocks, blocks_for(*bucket, *size, *form)),
             Request::StartTrans { .. } => self.more_branches(),
             Request::StartBranch(_) => self.more_branches(),
+            Request::DeclareRm(_) => self.more_declared(),
+            Request::JoinRm(label, _) => more_managers(&self.branch_labelled(shared, label)),
             Request::AddBranch { label, .. } => match self.branch_labelled(shared, label) {
                 Some(b) => refused_if(
                     15 <= b.bids.items().len(),

@@ -7,7 +7,7 @@ ghost use Rattle.commit_protocol.specs.Allowed.{allowed};
 ghost use Rattle.commit_protocol.specs.Effects.{act_effects, effects_of};
 ghost use Rattle.commit_protocol.specs.Messages.{LogRecord};
 ghost use Rattle.commit_protocol.specs.Table as protocol;
-ghost use Rattle.commit_protocol.specs.Table.{Act, Branch, Tm as TmSaid, holding as managers_holding};
+ghost use Rattle.commit_protocol.specs.Table.{Act, Branch, Told, Tm as TmSaid, holding as managers_holding};
 ghost use Rattle.log_laws.specs.Slots.{forgotten, put_in};
 ghost use Rattle.row_laws.specs.May.{IsOfMessage};
 ghost use Rattle.run_model.specs.Answers as answers;
@@ -16,7 +16,7 @@ ghost use Rattle.vms_base.specs.Ids.{id_of};
 ghost use Rattle.vms_base.specs.Outcomes.{outcome_of, reason_of};
 ghost use Rattle.tm_types.specs.Effects.{effect_of};
 ghost use Rattle.tm_types.specs.Events.{event_of};
-ghost use Rattle.tm_types.specs.Parts.{log_record_of};
+ghost use Rattle.tm_types.specs.Parts.{log_record_of, rm_event_of};
 ghost use Rattle.reference_world.specs.Standing.{branch_key_of, outcome_by, settlement_of, line_of};
 ghost use Rattle.reference_disk.specs.Disks.{logged_tid, one_line};
 ghost use Rattle.reference_node.specs.Nodes.{node_of, released_by, settled_by, settlement_line, key_line};
@@ -30,7 +30,7 @@ use reference_world::{BranchKey, Line, Settlement, WrittenMoment, push_back, pus
 use std::alloc::{AllocError, Global};
 use std::mem::replace;
 use tm_types::{Effect, Effects, Event};
-use vms_base::{Id, LogRec, NodeName, Outcome, Reason, RmList};
+use vms_base::{Id, LogRec, NodeName, Outcome, Reason, RmEvent, RmList, RmName};
 
 // The transaction of a serial among these branches, or else the serial.
 fn transaction_of(keys: &[BranchKey], serial: &Id) -> Id
@@ -231,6 +231,17 @@ impl Node {
         Ok(Line::Forgot(self.durable.forget(alloc, serial)?))
     }
 
+    // The line of an event that a manager is told, where it is declared.
+    fn event_told(&self, event: RmEvent, branch: &BranchKey, rm: &RmName) -> Option<Line>
+        ensures { one_line (option_map line_of result) ≡ answers.table_lines (node_of self.now) (Told (rm_event_of event) (branch_key_of branch.now) rm.now) }
+    {
+        if self.is_declared(rm) {
+            Some(Line::ManagerTold(event, *branch, *rm))
+        } else {
+            None
+        }
+    }
+
     // An effect is done, and shown where it has a line. These were the branches before the row, and this is the transaction of its message.
     fn apply(
         &mut self,
@@ -269,7 +280,12 @@ impl Node {
             }
             Effect::Forget { serial } => Ok(Some(self.forget(alloc, &serial.0)?)),
             Effect::Send(m) => Ok(Some(shared.send(m)?)),
-            Effect::Tell { .. } => Ok(None),
+            Effect::Tell {
+                event,
+                tid,
+                serial,
+                rm,
+            } => Ok(self.event_told(*event, &branch_in(&tid.0, &serial.0), rm)),
             Effect::Joined { serial } => {
                 let branch = branch_in(tid, &serial.0);
                 push_front(&mut shared.accepted, branch)?;

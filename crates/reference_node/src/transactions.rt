@@ -14,7 +14,7 @@ ghost use Rattle.run_model.specs.World.{tm_of};
 ghost use Rattle.vms_base.specs.Ids.{id_of};
 ghost use Rattle.tm_types.specs.Branches.{branch_of as branch_said, moment_of};
 ghost use Rattle.tm_types.specs.Events.{event_of};
-ghost use Rattle.tm_types.specs.Parts.{child_of};
+ghost use Rattle.tm_types.specs.Parts.{child_of, manager_of};
 ghost use Rattle.reference_world.specs.Standing.{label_of, line_of};
 ghost use Rattle.reference_node.specs.Nodes.{node_of, Does};
 ghost use Rattle.reference_branches.specs.Branches.{shared_of};
@@ -25,8 +25,8 @@ use reference_branches::Shared;
 use reference_world::{LabelEntry, Line, one, push_back, push_front};
 use script_lang::Named;
 use std::alloc::{AllocError, Global};
-use tm_types::{BranchState, Child, Event};
-use vms_base::{Bid, Id, Label, Moment, NodeName, Reason, Serial, Tid};
+use tm_types::{BranchState, Child, Event, Manager};
+use vms_base::{Bid, Id, Label, Moment, NodeName, Reason, RmName, Serial, Tid};
 
 // The serials among these whose votes are missing.
 fn missing(alloc: Global, children: &[Child]) -> Result<Vec<Id>, AllocError>
@@ -39,6 +39,20 @@ fn missing(alloc: Global, children: &[Child]) -> Result<Vec<Id>, AllocError>
             if c.vote.is_none() {
                 push_front(&mut all, c.serial.0)?;
             }
+            Ok(all)
+        }
+    }
+}
+
+// The names of managers.
+fn names(alloc: Global, managers: &[Manager]) -> Result<Vec<RmName>, AllocError>
+    ensures { IfOk result (λ v. v.items ≡ rows.joined (map manager_of managers.now)) }
+{
+    match managers {
+        [] => Ok(Vec::new(alloc)),
+        [m, rest @ ..] => {
+            let mut all = names(alloc, rest)?;
+            push_front(&mut all, m.rm)?;
             Ok(all)
         }
     }
@@ -92,13 +106,16 @@ fn begins(l: &LabelEntry, serial: &Id, bid: &Id) -> Event
     }
 }
 
-// What END_TRANS of this branch is answered where it showed these lines.
+// What END_TRANS of this branch is answered where it showed these lines. Each of its managers is asked then, and none has replied.
 fn end_answer(alloc: Global, lines: &[Line], b: &BranchState) -> Result<Line, AllocError>
-    ensures { IfOk result (λ l. line_of l ≡ answer_else (answer_shown (map line_of lines.now)) (model.Pending (answers.missing (branch_said b.now).accepted))) }
+    ensures { IfOk result (λ l. line_of l ≡ answer_else (answer_shown (map line_of lines.now)) (model.Pending (answers.missing (branch_said b.now).accepted) (rows.joined (branch_said b.now).managers))) }
 {
     match settled_shown(lines) {
         Some(answer) => Ok(answer),
-        None => Ok(Line::Pending(missing(alloc, b.accepted.items())?)),
+        None => {
+            let serials = missing(alloc, b.accepted.items())?;
+            Ok(Line::Pending(serials, names(alloc, b.managers.items())?))
+        }
     }
 }
 
@@ -116,8 +133,8 @@ impl Node {
         }
     }
 
-    // Tells the table an event, and answers behind what it shows.
-    fn told(
+    /// Tells the table an event, and answers behind what it shows.
+    pub fn told(
         &mut self,
         alloc: Global,
         shared: &mut Shared,
@@ -220,7 +237,8 @@ impl Node {
         let event = begins(&l, &serial, bid);
         let mut serials = Vec::new(alloc);
         push_front(&mut serials, serial)?;
-        self.told(alloc, shared, &event, Line::Pending(serials))
+        let pending = Line::Pending(serials, Vec::new(alloc));
+        self.told(alloc, shared, &event, pending)
     }
 
     /// END_BRANCH.

@@ -9,7 +9,7 @@ use Rattle.run_model.specs.Statements.{Asks, Does, Doubtful, Heard, Part, PartEf
 use Rattle.run_model.specs.World.{Lost, Node, World, find_node, with_node}
 use Rattle.reference_world.specs.Standing.{line_of}
 use Rattle.reference_law.specs.Whole.{StatementShown, begins_shown, parts_shown, phases_shown, shown_whole}
-use Rattle.reference_node.specs.declared.tasks.TaskShown.{TaskShown}
+use Rattle.reference_tasks.specs.declared.tasks.TaskShown.{TaskShown}
 use Rattle.reference_run.specs.Served.{Runs, followed}
 
 count_put : (name : List ℕ) (f : Node → Node) (ns : List Node) → length (with_node name f ns) ≡ length ns

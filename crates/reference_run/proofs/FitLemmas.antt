@@ -8,7 +8,7 @@ use Rattle.statement_steps.proofs.Keeping.{begun_keeps}
 use Rattle.run_model.specs.World.{Lost, Node, Shared, World}
 use Rattle.world_laws.specs.Nodes.{StepsKeepNodes, StepsKeepOthers}
 use Rattle.statement_steps.specs.Doing.{AllKept}
-use Rattle.reference_node.proofs.UnitsLemmas.{less_units}
+use Rattle.reference_tasks.proofs.UnitsLemmas.{less_units}
 use Rattle.reference_run.specs.Served.{AllHave, IsFit, moved, no_counts}
 use Rattle.reference_run.proofs.PartLemmas.{world_keeps}
 

@@ -8,7 +8,7 @@ use Rattle.statement_steps.specs.Doing.{AllKept}
 use Rattle.world_laws.specs.Nodes.{IsKeptNode, NodesAreKept}
 use Rattle.reference_law.specs.Whole.{PlaceSaid, nodes_at, opening, no_counts as place_counts}
 use Rattle.reference_branches.specs.Branches.{nothing_shared}
-use Rattle.reference_node.specs.Telling.{HasUnits}
+use Rattle.reference_tasks.specs.Serving.{HasUnits}
 use Rattle.reference_run.specs.Served.{AllHave, IsFit, moved, no_counts}
 use Rattle.reference_run.proofs.FitLemmas.{fit_moved}
 

@@ -15,9 +15,9 @@ use Rattle.world_laws.specs.Nodes.{StepsKeepNodes, StepsKeepOthers}
 use Rattle.reference_world.specs.declared.line.Line.{Line}
 use Rattle.reference_world.specs.Standing.{line_of}
 use Rattle.reference_law.specs.Whole.{StatementShown, parts_shown, then_shown}
-use Rattle.reference_node.specs.Tasks.{Performs}
-use Rattle.reference_node.specs.Telling.{Serves}
-use Rattle.reference_node.specs.declared.tasks.TaskShown.{TaskShown}
+use Rattle.reference_tasks.specs.Tasks.{Performs}
+use Rattle.reference_tasks.specs.Serving.{Serves}
+use Rattle.reference_tasks.specs.declared.tasks.TaskShown.{TaskShown}
 use Rattle.reference_run.specs.Served.{IsDone, IsDoneBy, IsPart, IsServedAt, IsServedBy, Runs, ServesPart, followed, moved, no_counts}
 
 -- Disks that never failed.

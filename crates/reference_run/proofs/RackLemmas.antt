@@ -4,12 +4,12 @@ use Rattle.std.specs.Str.{bytes_eq}
 use Rattle.run_model.specs.Answers.{Service}
 use Rattle.run_model.specs.World.{Node, Shared, find_node, with_node}
 use Rattle.reference_world.specs.declared.line.Line.{Line}
-use Rattle.reference_node.specs.Tasks.{Performs}
-use Rattle.reference_node.specs.Telling.{HasUnits, Serves}
+use Rattle.reference_tasks.specs.Tasks.{Performs}
+use Rattle.reference_tasks.specs.Serving.{HasUnits, Serves}
 use Rattle.reference_node.specs.Nodes.{node_of}
 use Rattle.reference_node.specs.declared.node.Node.{Node as Kept}
-use Rattle.reference_node.proofs.UnitsLemmas.{less_units}
-use Rattle.reference_node.specs.declared.tasks.TaskShown.{TaskShown}
+use Rattle.reference_tasks.proofs.UnitsLemmas.{less_units}
+use Rattle.reference_tasks.specs.declared.tasks.TaskShown.{TaskShown}
 use Rattle.reference_run.proofs.FitLemmas.{have_less}
 use Rattle.reference_run.specs.Served.{AllHave, IsDone, IsDoneBy, IsServedAt, IsServedBy}
 

@@ -19,7 +19,7 @@ use Rattle.reference_world.specs.declared.line.Line.{Line}
 use Rattle.reference_world.specs.Standing.{line_of}
 use Rattle.reference_law.specs.Whole.{StatementShown, begins_shown, parts_shown, phases_shown, shown_whole}
 use Rattle.reference_branches.specs.Branches.{serials_in_doubt}
-use Rattle.reference_node.specs.declared.tasks.TaskShown.{TaskShown}
+use Rattle.reference_tasks.specs.declared.tasks.TaskShown.{TaskShown}
 use Rattle.reference_run.specs.Served.{IsHeard, IsPart, IsShown, Runs, RunsPhases, ServesPart, answer_there, followed, no_counts, node_there, node_up, phases_by, questions_then, sets_clock}
 use Rattle.script_lang.specs.Statements.{request_of}
 use Rattle.script_lang.specs.declared.literals.Literals.{Literals}

@@ -2,8 +2,7 @@
 use Rattle.std.proofs.Common.{◌≡◌, ℕ, ◌+◌, ◌≤◌, length, List, [], ◌∷◌, ◌++◌, true, false, arith, refl, sym, ◌∙◌, ap}
 use Rattle.std.specs.Prelude.{map}
 use Rattle.transcript_model.specs.Lines as line
-use Rattle.transcript_model.specs.Lines.{lines_text}
-use Rattle.transcript_model.specs.Lines.{Line as Line_}
+use Rattle.transcript_model.specs.Lines.{lines_text, Line as Line_}
 use Rattle.transcript_model.specs.Script.{ScriptLine, size_of}
 use Rattle.script_model.specs.Statements.{Statement, Blank, Says, Bad}
 use Rattle.script_model.specs.Grammar.{reading}

@@ -24,9 +24,9 @@ use Rattle.reference_world.specs.Standing.{line_of}
 use Rattle.reference_law.specs.Whole.{PlaceSaid, StatementShown, parts_shown, phases_shown, shown_whole}
 use Rattle.reference_node.specs.Nodes.{node_of}
 use Rattle.reference_branches.specs.Branches.{shared_of}
-use Rattle.reference_node.specs.Tasks.{Performs}
-use Rattle.reference_node.specs.Telling.{HasUnits, IsSetEarly, Serves}
-use Rattle.reference_node.specs.declared.tasks.TaskShown.{TaskShown}
+use Rattle.reference_tasks.specs.Tasks.{Performs}
+use Rattle.reference_tasks.specs.Serving.{HasUnits, IsSetEarly, Serves}
+use Rattle.reference_tasks.specs.declared.tasks.TaskShown.{TaskShown}
 use Rattle.reference_run.specs.declared.rack.Rack.{Rack}
 use Rattle.reference_run.specs.declared.rack.Part.{Part}
 use Rattle.reference_run.specs.declared.rack.Part.TheVariants as part

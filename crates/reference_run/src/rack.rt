@@ -18,13 +18,14 @@ ghost use Rattle.reference_world.specs.Standing.{branch_key_of, line_of};
 ghost use Rattle.reference_law.specs.Whole.{nodes_at, opening};
 ghost use Rattle.reference_node.specs.Nodes.{node_of};
 ghost use Rattle.reference_branches.specs.Branches.{shared_of};
-ghost use Rattle.reference_node.specs.Tasks.{task_of};
-ghost use Rattle.reference_node.specs.Telling.{IsSetEarly};
+ghost use Rattle.reference_tasks.specs.Tasks.{task_of};
+ghost use Rattle.reference_tasks.specs.Serving.{IsSetEarly};
 ghost use Rattle.reference_run.specs.Served.{AllHave, AreTimely, IsDone, IsFit, IsHeard, IsPart, IsServedAt, IsShown, Runs, RunsPhases, ServesPart, answer_there, moved, node_there, node_up, part_of, place_of, questions_then, sets_clock, world_of};
 
 use net_wire::Message;
 use reference_branches::Shared;
-use reference_node::{Node, Task, TaskShown};
+use reference_node::Node;
+use reference_tasks::{Task, TaskShown, perform, serve};
 use reference_world::{BranchKey, Line, append, one, push_back, push_front, take_first};
 use script_lang::{Literals, Request, Statement};
 use std::alloc::{AllocError, Global};
@@ -163,7 +164,7 @@ fn perform_at(
         Some(first) => {
             let mut node = first;
             if name.bytes() == node.name.bytes() {
-                let shown = node.perform(alloc, shared, task)?;
+                let shown = perform(alloc, &mut node, shared, task)?;
                 push_front(&mut rest, node)?;
                 Ok(Done {
                     nodes: rest,
@@ -201,7 +202,7 @@ fn serve_at(
         Some(first) => {
             let mut node = first;
             if name.bytes() == node.name.bytes() {
-                let lines = node.serve(alloc, shared, request, lit)?;
+                let lines = serve(alloc, &mut node, shared, request, lit)?;
                 push_front(&mut rest, node)?;
                 Ok(Served {
                     nodes: rest,

@@ -9,15 +9,19 @@ ghost use Rattle.vms_model.specs.Transactions.{reason_text};
 ghost use Rattle.vms_base.specs.Outcomes.{outcome_of, reason_of};
 ghost use Rattle.transcript_model.specs.Lines as model;
 ghost use Rattle.net_wire.specs.Messages.{kind_of, message_of};
-ghost use Rattle.transcript_model.specs.Lines.{branch_text, message_text, kind_text, bid_text, ids_text, quoted_time, quota_text, image_text, outcome_text, line_words, line_text, lines_text};
-ghost use Rattle.vms_base.specs.Ids.{id_of};
-ghost use Rattle.reference_world.specs.Standing.{key_of, value_of, line_of, quota_of};
+ghost use Rattle.transcript_model.specs.Lines.{branch_text, message_text, kind_text, bid_text, ids_text, quoted_time, quota_text, image_text, outcome_text, list_text, event_text, record_text, standing_text, line_words, line_text, lines_text};
+ghost use Rattle.vms_base.specs.Ids.{id_of, serial_of};
+ghost use Rattle.reference_world.specs.Standing.{key_of, value_of, line_of, quota_of, standing_of};
+ghost use Rattle.tm_types.specs.Parts.{log_record_of, rm_event_of};
 
 use itoa::Buffer;
 use net_wire::Message;
-use reference_world::{BranchKey, Key, Line, Quota, WrittenMoment};
+use reference_world::{BranchKey, Key, Line, Quota, Standing, WrittenMoment};
 use std::alloc::AllocError;
-use vms_base::{FileName, Id, Kind, Moment, NodeName, Outcome, Reason, write_time};
+use vms_base::{
+    FileName, Id, Kind, LogKind, LogRec, Moment, NodeName, Outcome, Reason, RmEvent, RmName,
+    Serial, write_time,
+};
 
 fn put(out: &mut Vec<u8>, bytes: &[u8]) -> Result<(), AllocError>
     ensures { OnOk result (out.new.items ≡ out.old.items ++ bytes.now) }
@@ -223,6 +227,8 @@ fn quota_words(quota: Quota) -> &'static [u8]
         Quota::Positions => b"POSITIONS",
         Quota::Slots => b"SLOTS",
         Quota::Bids => b"BIDS",
+        Quota::Declared => b"DECLARED",
+        Quota::Managers => b"RMS",
     }
 }
 
@@ -474,29 +480,216 @@ fn put_in_doubt(out: &mut Vec<u8>, serial: Id, node: NodeName) -> Result<(), All
     put_with_name(out, b" ", node)
 }
 
-// Ids, with commas between them.
-fn put_ids_behind(out: &mut Vec<u8>, ids: &[Id]) -> Result<(), AllocError>
-    ensures { OnOk result (out.new.items ≡ out.old.items ++ flat_map (λ j. 44 ∷ id_text j) (map id_of ids.now)) }
+// Names of resource managers, each behind a comma.
+fn put_managers_behind(out: &mut Vec<u8>, rms: &[RmName]) -> Result<(), AllocError>
+    ensures { OnOk result (out.new.items ≡ out.old.items ++ flat_map (λ text. 44 ∷ text) rms.now) }
 {
-    match ids {
+    match rms {
         [] => Ok(()),
-        [id, rest @ ..] => {
-            put_with_id(out, b",", *id)?;
-            put_ids_behind(out, rest)
+        [rm, rest @ ..] => {
+            put(out, b",")?;
+            put(out, rm.bytes())?;
+            put_managers_behind(out, rest)
         }
     }
 }
 
-fn put_pending(out: &mut Vec<u8>, ids: &[Id]) -> Result<(), AllocError>
-    ensures { OnOk result (out.new.items ≡ out.old.items ++ line_words (model.Pending (map id_of ids.now))) }
+fn put_managers(out: &mut Vec<u8>, rms: &[RmName]) -> Result<(), AllocError>
+    ensures { OnOk result (out.new.items ≡ out.old.items ++ list_text rms.now) }
 {
-    match ids {
-        [] => put(out, b"PENDING -"),
-        [id, rest @ ..] => {
-            put_with_id(out, b"PENDING ", *id)?;
-            put_ids_behind(out, rest)
+    match rms {
+        [] => put(out, b"-"),
+        [rm, rest @ ..] => {
+            put(out, rm.bytes())?;
+            put_managers_behind(out, rest)
         }
     }
+}
+
+// Ids and then resource managers, each behind a comma.
+fn put_missing_behind(out: &mut Vec<u8>, ids: &[Id], rms: &[RmName]) -> Result<(), AllocError>
+    ensures { OnOk result (out.new.items ≡ out.old.items ++ flat_map (λ text. 44 ∷ text) (map id_text (map id_of ids.now) ++ rms.now)) }
+{
+    match ids {
+        [] => put_managers_behind(out, rms),
+        [id, rest @ ..] => {
+            put_with_id(out, b",", *id)?;
+            put_missing_behind(out, rest, rms)
+        }
+    }
+}
+
+// Ids and then resource managers, or a dash where there is none of both.
+fn put_missing(out: &mut Vec<u8>, ids: &[Id], rms: &[RmName]) -> Result<(), AllocError>
+    ensures { OnOk result (out.new.items ≡ out.old.items ++ list_text (map id_text (map id_of ids.now) ++ rms.now)) }
+{
+    match ids {
+        [] => put_managers(out, rms),
+        [id, rest @ ..] => {
+            put_id(out, *id)?;
+            put_missing_behind(out, rest, rms)
+        }
+    }
+}
+
+fn put_pending(out: &mut Vec<u8>, ids: &[Id], rms: &[RmName]) -> Result<(), AllocError>
+    ensures { OnOk result (out.new.items ≡ out.old.items ++ line_words (model.Pending (map id_of ids.now) rms.now)) }
+{
+    put(out, b"PENDING ")?;
+    put_missing(out, ids, rms)
+}
+
+// Serials, each behind a comma.
+fn put_serials_behind(out: &mut Vec<u8>, serials: &[Serial]) -> Result<(), AllocError>
+    ensures { OnOk result (out.new.items ≡ out.old.items ++ flat_map (λ text. 44 ∷ text) (map id_text (map serial_of serials.now))) }
+{
+    match serials {
+        [] => Ok(()),
+        [serial, rest @ ..] => {
+            put_with_id(out, b",", serial.0)?;
+            put_serials_behind(out, rest)
+        }
+    }
+}
+
+fn put_serials(out: &mut Vec<u8>, serials: &[Serial]) -> Result<(), AllocError>
+    ensures { OnOk result (out.new.items ≡ out.old.items ++ ids_text (map serial_of serials.now)) }
+{
+    match serials {
+        [] => put(out, b"-"),
+        [serial, rest @ ..] => {
+            put_id(out, serial.0)?;
+            put_serials_behind(out, rest)
+        }
+    }
+}
+
+fn event_words(event: RmEvent) -> &'static [u8]
+    ensures { result.now ≡ event_text (rm_event_of event) }
+{
+    match event {
+        RmEvent::Prepare => b"PREPARE",
+        RmEvent::Commit => b"COMMIT",
+        RmEvent::Abort => b"ABORT",
+        RmEvent::OnePhase => b"ONEPHASE",
+    }
+}
+
+// Words, other words, a transaction with its branch, and a name.
+fn put_told(
+    out: &mut Vec<u8>,
+    words: &[u8],
+    what: &[u8],
+    id: BranchKey,
+    name: &[u8],
+) -> Result<(), AllocError>
+    ensures { OnOk result (out.new.items ≡ out.old.items ++ (words.now ++ (what.now ++ (32 ∷ (id_text (id_of id.tid) ++ (32 ∷ (id_text (id_of id.serial) ++ (32 ∷ name.now)))))))) }
+{
+    put(out, words)?;
+    put(out, what)?;
+    put_branch(out, b" ", id)?;
+    put(out, b" ")?;
+    put(out, name)
+}
+
+fn put_event(
+    out: &mut Vec<u8>,
+    event: RmEvent,
+    branch: BranchKey,
+    rm: &RmName,
+) -> Result<(), AllocError>
+    ensures { OnOk result (out.new.items ≡ out.old.items ++ line_words (model.ManagerTold (rm_event_of event) (id_of branch.tid) (id_of branch.serial) rm.now)) }
+{
+    put_told(out, b"EVENT ", event_words(event), branch, rm.bytes())
+}
+
+fn put_log_record(out: &mut Vec<u8>, logged: &LogRec) -> Result<(), AllocError>
+    ensures { OnOk result (out.new.items ≡ out.old.items ++ record_text (log_record_of logged.now).kind (log_record_of logged.now)) }
+{
+    let branch = BranchKey {
+        tid: logged.tid.0,
+        serial: logged.serial.0,
+    };
+    match logged.kind {
+        LogKind::Prepared => {
+            put_branch(out, b"PREPARED ", branch)?;
+            put(out, b" ")?;
+            put_managers(out, logged.rms.items())
+        }
+        LogKind::Committed => {
+            put_branch(out, b"COMMITTED ", branch)?;
+            put(out, b" ")?;
+            put_serials(out, logged.waiting.items())?;
+            put(out, b" ")?;
+            put_managers(out, logged.rms.items())
+        }
+    }
+}
+
+fn put_log_entry(out: &mut Vec<u8>, slot: u32, logged: &LogRec) -> Result<(), AllocError>
+    ensures { OnOk result (out.new.items ≡ out.old.items ++ line_words (model.LogEntry slot (log_record_of logged.now))) }
+{
+    put_with_number(out, b"LOG ", u64::from(slot))?;
+    put(out, b" ")?;
+    put_log_record(out, logged)
+}
+
+// Words behind others.
+fn put_both(out: &mut Vec<u8>, words: &[u8], others: &[u8]) -> Result<(), AllocError>
+    ensures { OnOk result (out.new.items ≡ out.old.items ++ (words.now ++ others.now)) }
+{
+    put(out, words)?;
+    put(out, others)
+}
+
+fn standing_words(standing: Standing) -> &'static [u8]
+    ensures { result.now ≡ standing_text (standing_of standing) }
+{
+    match standing {
+        Standing::Active => b"ACTIVE",
+        Standing::Ending => b"ENDING",
+        Standing::Prepared => b"PREPARED",
+        Standing::Committed => b"COMMITTED",
+        Standing::Unknown => b"UNKNOWN",
+    }
+}
+
+fn put_standing(out: &mut Vec<u8>, standing: Standing) -> Result<(), AllocError>
+    ensures { OnOk result (out.new.items ≡ out.old.items ++ line_words (model.NormalStanding (standing_of standing))) }
+{
+    put_both(out, b"SS$_NORMAL ", standing_words(standing))
+}
+
+// Words, and three numbers behind them.
+fn put_with_three(
+    out: &mut Vec<u8>,
+    words: &[u8],
+    first: u64,
+    second: u64,
+    third: u64,
+) -> Result<(), AllocError>
+    ensures { OnOk result (out.new.items ≡ out.old.items ++ (words.now ++ (decimal first ++ (32 ∷ (decimal second ++ (32 ∷ decimal third)))))) }
+{
+    put_with_numbers(out, words, first, second)?;
+    put(out, b" ")?;
+    put_number(out, third)
+}
+
+fn put_log_counts(
+    out: &mut Vec<u8>,
+    committed: u32,
+    prepared: u32,
+    free: u32,
+) -> Result<(), AllocError>
+    ensures { OnOk result (out.new.items ≡ out.old.items ++ line_words (model.NormalLog committed prepared free)) }
+{
+    put_with_three(
+        out,
+        b"SS$_NORMAL ",
+        u64::from(committed),
+        u64::from(prepared),
+        u64::from(free),
+    )
 }
 
 fn put_prepared_entry(out: &mut Vec<u8>, position: u64, id: BranchKey) -> Result<(), AllocError>
@@ -534,12 +727,19 @@ fn put_words(out: &mut Vec<u8>, line: &Line) -> Result<(), AllocError>
             put_settled_entry(out, *position, *id, *outcome, *moment)
         }
         Line::PreparedEntry(position, id) => put_prepared_entry(out, *position, *id),
+        Line::ManagerTold(event, id, rm) => put_event(out, *event, *id, rm),
+        Line::LogEntry(slot, record) => put_log_entry(out, *slot, record),
         Line::Crashed(node) => put_crashed(out, *node),
-        Line::Pending(serials) => put_pending(out, serials.as_slice()),
+        Line::Pending(serials, rms) => put_pending(out, serials.as_slice(), rms.as_slice()),
+        Line::NormalStanding(standing) => put_standing(out, *standing),
+        Line::NormalLog(committed, prepared, free) => {
+            put_log_counts(out, *committed, *prepared, *free)
+        }
         Line::TransactionAborted(reason) => put_ending(out, *reason),
         Line::NotInitializedAt(node) => put_with_name(out, b"NOINIT ", *node),
         Line::NoSuchMessage => put(out, b"NOSUCHMSG"),
         Line::NoSuchBranchId => put(out, b"SS$_NOSUCHBID"),
+        Line::NoSuchManager => put(out, b"SS$_NOSUCHRM"),
         Line::WrongState => put(out, b"SS$_WRONGSTATE"),
         Line::InDoubt(serial, node) => put_in_doubt(out, *serial, *node),
         Line::Normal => put(out, b"SS$_NORMAL"),

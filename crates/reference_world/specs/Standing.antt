@@ -18,6 +18,7 @@ use Rattle.run_model.specs.World as world
 use Rattle.run_model.specs.Locks as locks
 use Rattle.commit_protocol.specs.Table as table
 use Rattle.net_wire.specs.Messages.{message_of}
+use Rattle.tm_types.specs.Parts.{rm_event_of, log_record_of}
 use Rattle.reference_world.specs.declared.world.BranchKey.{BranchKey}
 use Rattle.reference_world.specs.declared.keys.Key.{Key}
 use Rattle.reference_world.specs.declared.keys.Key.TheVariants as owned
@@ -41,6 +42,8 @@ use Rattle.reference_world.specs.declared.world.DiskCall.TheVariants as call
 use Rattle.reference_world.specs.declared.world.Row.{Row}
 use Rattle.reference_world.specs.declared.line.Quota.{Quota}
 use Rattle.reference_world.specs.declared.line.Quota.TheVariants as quota
+use Rattle.reference_world.specs.declared.line.Standing.{Standing}
+use Rattle.reference_world.specs.declared.line.Standing.TheVariants as standing
 use Rattle.reference_world.specs.declared.line.Line.{Line}
 use Rattle.reference_world.specs.declared.line.Line.TheVariants as line
 
@@ -172,6 +175,16 @@ quota_of quota.Locks = model.Locks
 quota_of quota.Positions = model.Positions
 quota_of quota.Slots = model.Slots
 quota_of quota.Bids = model.Bids
+quota_of quota.Declared = model.Declared
+quota_of quota.Managers = model.Managers
+
+-- how a branch stands
+abbrev pub standing_of : Standing → model.Standing
+standing_of standing.Active = model.ActiveBranch
+standing_of standing.Ending = model.EndingBranch
+standing_of standing.Prepared = model.PreparedBranch
+standing_of standing.Committed = model.CommittedBranch
+standing_of standing.Unknown = model.UnknownBranch
 
 -- what the line shows
 abbrev pub line_of : Line → model.Line
@@ -184,6 +197,7 @@ line_of (line.ReadOnly k) = model.ReadOnly (id_of k.tid) (id_of k.serial)
 line_of (line.Ended tid reason) = model.Ended (id_of tid) (option_map reason_of reason)
 line_of (line.Forgot k) = model.Forgot (id_of k.tid) (id_of k.serial)
 line_of (line.Asked k outcome) = model.Asked (id_of k.tid) (id_of k.serial) (outcome_of outcome)
+line_of (line.ManagerTold event k rm) = model.ManagerTold (rm_event_of event) (id_of k.tid) (id_of k.serial) rm
 line_of (line.Booted node boot) = model.Booted node boot
 line_of (line.Record k bytes) = model.Record (key_of k) bytes.items
 line_of (line.Committed i moment) = model.Committed (id_of i.tid) (id_of i.serial) moment.hundredths
@@ -193,12 +207,15 @@ line_of (line.LastAborted i reason moment) = model.LastAborted (id_of i.tid) (id
 line_of (line.ChangeEntry position i file k image) = model.ChangeEntry position (id_of i.tid) (id_of i.serial) file (key_of k) (value_of image)
 line_of (line.SettledEntry position i outcome moment) = model.SettledEntry position (id_of i.tid) (id_of i.serial) (outcome_of outcome) moment.hundredths
 line_of (line.PreparedEntry position i) = model.PreparedEntry position (id_of i.tid) (id_of i.serial)
+line_of (line.LogEntry slot r) = model.LogEntry slot (log_record_of r)
 line_of (line.Crashed node) = model.Crashed node
 line_of line.Normal = model.Normal
 line_of (line.NormalCount n) = model.NormalCount n
 line_of (line.NormalId i) = model.NormalId (id_of i)
 line_of (line.NormalSpan first end) = model.NormalSpan first end
-line_of (line.Pending serials) = model.Pending (map id_of serials.items)
+line_of (line.NormalStanding standing) = model.NormalStanding (standing_of standing)
+line_of (line.NormalLog committed prepared free) = model.NormalLog committed prepared free
+line_of (line.Pending serials rms) = model.Pending (map id_of serials.items) rms.items
 line_of (line.TransactionAborted reason) = model.TransactionAborted (reason_of reason)
 line_of line.RecordNormal = model.RecordNormal
 line_of (line.RecordPosition n) = model.RecordPosition n
@@ -220,6 +237,7 @@ line_of line.BadRecordNumber = model.BadRecordNumber
 line_of line.BadRecordSize = model.BadRecordSize
 line_of line.NoSuchTransaction = model.NoSuchTransaction
 line_of line.NoSuchBranchId = model.NoSuchBranchId
+line_of line.NoSuchManager = model.NoSuchManager
 line_of line.WrongState = model.WrongState
 line_of (line.InDoubt serial node) = model.InDoubt (id_of serial) node
 line_of line.NotMarked = model.NotMarked

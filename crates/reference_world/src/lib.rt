@@ -21,7 +21,7 @@ pub use directory::{
 pub use dump::{find_row, records_of, rows_shown};
 pub use history::{first_to_change, same_id};
 pub use keys::{Key, KeyRef};
-pub use line::{Line, Quota, one};
+pub use line::{Line, Quota, Standing, one};
 pub use lists::{append, push_back, push_front, take_first};
 pub use locks::{is_lock_of, is_locked};
 pub use moment::WrittenMoment;

@@ -7,7 +7,7 @@ use crate::moment::WrittenMoment;
 use crate::world::BranchKey;
 use net_wire::Message;
 use std::alloc::{AllocError, Global};
-use vms_base::{FileName, Id, NodeName, Outcome, Reason};
+use vms_base::{FileName, Id, LogRec, NodeName, Outcome, Reason, RmEvent, RmName};
 
 /// What the node has only so many of.
 #[derive(Clone, Copy, Drop)]
@@ -21,6 +21,18 @@ pub enum Quota {
     Positions,
     Slots,
     Bids,
+    Declared,
+    Managers,
+}
+
+/// How a branch stands at its node.
+#[derive(Clone, Copy, Drop)]
+pub enum Standing {
+    Active,
+    Ending,
+    Prepared,
+    Committed,
+    Unknown,
 }
 
 /// What a line shows.
@@ -35,6 +47,7 @@ pub enum Line {
     Ended(Id, Option<Reason>),
     Forgot(BranchKey),
     Asked(BranchKey, Outcome),
+    ManagerTold(RmEvent, BranchKey, RmName),
     Booted(NodeName, u32),
     Record(Key, Vec<u8>),
     Committed(BranchKey, WrittenMoment),
@@ -44,12 +57,15 @@ pub enum Line {
     ChangeEntry(u64, BranchKey, FileName, Key, Option<Vec<u8>>),
     PreparedEntry(u64, BranchKey),
     SettledEntry(u64, BranchKey, Outcome, WrittenMoment),
+    LogEntry(u32, LogRec),
     Crashed(NodeName),
     Normal,
     NormalCount(u64),
     NormalId(Id),
     NormalSpan(u64, u64),
-    Pending(Vec<Id>),
+    NormalStanding(Standing),
+    NormalLog(u32, u32, u32),
+    Pending(Vec<Id>, Vec<RmName>),
     TransactionAborted(Reason),
     RecordNormal,
     RecordPosition(u64),
@@ -71,6 +87,7 @@ pub enum Line {
     BadRecordSize,
     NoSuchTransaction,
     NoSuchBranchId,
+    NoSuchManager,
     WrongState,
     InDoubt(Id, NodeName),
     NotMarked,

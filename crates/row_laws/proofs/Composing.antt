@@ -1,8 +1,8 @@
 -- Rows that are done one after another.
 use Rattle.std.proofs.Common.{◌≡◌, ◌≤◌, ◌+◌, ℕ, suc, List, [], ◌∷◌, ◌++◌, Bool, true, false, Option, Some, None, Result, Ok, Err, refl, sym, ap, subst, length, take, drop, arith}
-use Rattle.transcript_model.specs.Emitting.{Shown, Emits}
+use Rattle.emitter_model.specs.Emitting.{Shown, Emits}
 use Rattle.transcript_model.specs.Lines.{Line}
-use Rattle.transcript_model.proofs.EmittingLemmas.{emits_nothing, emits_on}
+use Rattle.emitter_model.proofs.EmittingLemmas.{emits_nothing, emits_on}
 use Rattle.run_model.specs.World.{Act, Node, Shared, fallen}
 use Rattle.run_model.specs.Answers.{Row}
 use Rattle.run_model.specs.Steps.{act_begun, if_durable, lines_of_rows, node_after, node_after_rows, shared_after_rows, shared_then}

@@ -1,6 +1,6 @@
 -- What rows of a task come to, done one after another.
 use Rattle.std.specs.Prelude.{◌≤◌, ℕ, List, Bool, Result, MatchResult, length, take, drop}
-use Rattle.transcript_model.specs.Emitting.{Shown, Emits}
+use Rattle.emitter_model.specs.Emitting.{Shown, Emits}
 use Rattle.run_model.specs.World.{Node, Shared, fallen}
 use Rattle.run_model.specs.Answers.{Row}
 use Rattle.run_model.specs.Steps.{act_begun, lines_of_rows, node_after_rows, shared_after_rows}

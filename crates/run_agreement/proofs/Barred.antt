@@ -3,7 +3,7 @@ use Rattle.std.proofs.Common.{◌≡◌, ℕ, take, Bool, true, false, List, [],
 use Rattle.std.proofs.lemmas.Bool.{both_ways}
 use Rattle.transcript_model.specs.Lines as line
 use Rattle.transcript_model.specs.Lines.{Line, Cause}
-use Rattle.script_model.specs.Statements.{Init, Boot, Create, SetFile, StartTrans, AddBranch, StartBranch, Records, Direct, EndBranch, EndTrans, AbortTrans, Inquire, Dump, DumpJournal, Fuse, Crash, Clock}
+use Rattle.script_model.specs.Statements.{Init, Boot, Create, SetFile, StartTrans, AddBranch, StartBranch, Records, Direct, EndBranch, EndTrans, AbortTrans, Inquire, DeclareRm, JoinRm, AckEvent, ForgetRm, GetDti, LmcpShow, LmcpDump, Dump, DumpJournal, Fuse, Crash, Clock}
 use Rattle.commit_protocol.specs.World as protocol
 use Rattle.commit_protocol.specs.Opening.{Opening}
 use Rattle.run_model.specs.World as world
@@ -142,6 +142,13 @@ barred_task x n s stops (Serves (EndBranch label)) rises c b none used may = bar
 barred_task x n s stops (Serves (EndTrans label)) rises c b none used may = barred_plain x s stops (service (EndTrans label)) rises c (record { powers = refl; closing = refl; awake = refl }) b may
 barred_task x n s stops (Serves (AbortTrans label)) rises c b none used may = barred_plain x s stops (service (AbortTrans label)) rises c (record { powers = refl; closing = refl; awake = refl }) b may
 barred_task x n s stops (Serves (Inquire who)) rises c b none used may = barred_plain x s stops (service (Inquire who)) rises c (record { powers = refl; closing = refl; awake = refl }) b may
+barred_task x n s stops (Serves (DeclareRm rm)) rises c b none used may = barred_plain x s stops (service (DeclareRm rm)) rises c (record { powers = refl; closing = refl; awake = refl }) b may
+barred_task x n s stops (Serves (JoinRm label rm)) rises c b none used may = barred_plain x s stops (service (JoinRm label rm)) rises c (record { powers = refl; closing = refl; awake = refl }) b may
+barred_task x n s stops (Serves (AckEvent who rm reply)) rises c b none used may = barred_plain x s stops (service (AckEvent who rm reply)) rises c (record { powers = refl; closing = refl; awake = refl }) b may
+barred_task x n s stops (Serves (ForgetRm rm)) rises c b none used may = barred_plain x s stops (service (ForgetRm rm)) rises c (record { powers = refl; closing = refl; awake = refl }) b may
+barred_task x n s stops (Serves (GetDti who)) rises c b none used may = barred_plain x s stops (service (GetDti who)) rises c (record { powers = refl; closing = refl; awake = refl }) b may
+barred_task x n s stops (Serves LmcpShow) rises c b none used may = barred_plain x s stops (service LmcpShow) rises c (record { powers = refl; closing = refl; awake = refl }) b may
+barred_task x n s stops (Serves LmcpDump) rises c b none used may = barred_plain x s stops (service LmcpDump) rises c (record { powers = refl; closing = refl; awake = refl }) b may
 barred_task x n s stops (Serves (Dump file)) rises c b none used may = barred_plain x s stops (service (Dump file)) rises c (record { powers = refl; closing = refl; awake = refl }) b may
 barred_task x n s stops (Serves DumpJournal) rises c b none used may = barred_plain x s stops (service DumpJournal) rises c (record { powers = refl; closing = refl; awake = refl }) b may
 barred_task x n s stops (Serves (Fuse writes choice)) rises c b none used may = barred_fuse x s stops writes choice rises c b may

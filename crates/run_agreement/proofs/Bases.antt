@@ -60,6 +60,7 @@ act_use (world.Holds serial file keys) s = refl
 act_use (world.Directs file changes t) s = refl
 act_use (world.Arms writes choice) s = refl
 act_use (world.Clocks now) s = refl
+act_use (world.Declares rms) s = refl
 act_use world.Falls s = refl
 
 then_use : (a : Option Act) (s : Shared) → (shared_then a s).in_use ≡ s.in_use
@@ -326,6 +327,13 @@ task_turns (Serves (said.EndBranch label)) = plain_task (Serves (said.EndBranch 
 task_turns (Serves (said.EndTrans label)) = plain_task (Serves (said.EndTrans label)) (record { powers = refl; closing = refl; awake = refl })
 task_turns (Serves (said.AbortTrans label)) = plain_task (Serves (said.AbortTrans label)) (record { powers = refl; closing = refl; awake = refl })
 task_turns (Serves (said.Inquire who)) = plain_task (Serves (said.Inquire who)) (record { powers = refl; closing = refl; awake = refl })
+task_turns (Serves (said.DeclareRm rm)) = plain_task (Serves (said.DeclareRm rm)) (record { powers = refl; closing = refl; awake = refl })
+task_turns (Serves (said.JoinRm label rm)) = plain_task (Serves (said.JoinRm label rm)) (record { powers = refl; closing = refl; awake = refl })
+task_turns (Serves (said.AckEvent who rm reply)) = plain_task (Serves (said.AckEvent who rm reply)) (record { powers = refl; closing = refl; awake = refl })
+task_turns (Serves (said.ForgetRm rm)) = plain_task (Serves (said.ForgetRm rm)) (record { powers = refl; closing = refl; awake = refl })
+task_turns (Serves (said.GetDti who)) = plain_task (Serves (said.GetDti who)) (record { powers = refl; closing = refl; awake = refl })
+task_turns (Serves said.LmcpShow) = plain_task (Serves said.LmcpShow) (record { powers = refl; closing = refl; awake = refl })
+task_turns (Serves said.LmcpDump) = plain_task (Serves said.LmcpDump) (record { powers = refl; closing = refl; awake = refl })
 task_turns (Serves (said.Dump file)) = plain_task (Serves (said.Dump file)) (record { powers = refl; closing = refl; awake = refl })
 task_turns (Serves said.DumpJournal) = plain_task (Serves said.DumpJournal) (record { powers = refl; closing = refl; awake = refl })
 task_turns (Serves said.Crash) = plain_task (Serves said.Crash) (record { powers = refl; closing = refl; awake = refl })

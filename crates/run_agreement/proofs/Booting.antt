@@ -578,6 +578,7 @@ kept_by (world.Numbers label serial) x e n = absurd (let f : false ≡ true = n 
 kept_by (world.Holds serial file keys) x e n = absurd (let f : false ≡ true = n in cc)
 kept_by (world.Arms writes choice) x e n = absurd (let f : false ≡ true = n in cc)
 kept_by (world.Clocks now) x e n = absurd (let f : false ≡ true = n in cc)
+kept_by (world.Declares rms) x e n = absurd (let f : false ≡ true = n in cc)
 kept_by world.Falls x e n = absurd (let f : false ≡ true = n in cc)
 
 pub power_goes : (outturn : Outturn) (stops : ℕ) (x : Node) (f : Face) → x.up ≡ false → IsDownFace (taken_of outturn) x f → Powered x (powered outturn stops x) f

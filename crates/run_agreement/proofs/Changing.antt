@@ -27,7 +27,7 @@ use Rattle.commit_protocol.proofs.Bridge.{node_same, node_other}
 use Rattle.log_laws.specs.Slots.{size}
 use Rattle.log_laws.proofs.RowSlots.{changed_tells}
 use Rattle.run_model.specs.World as world
-use Rattle.run_model.specs.World.{Act, Creates, Marks, Changes, Holds, Directs, Arms, Clocks, Falls, Node, Shared, File, Settlement, acted, shared_after, is_durable, fallen, tm_of, find_branch, with_changed}
+use Rattle.run_model.specs.World.{Act, Creates, Marks, Changes, Holds, Directs, Arms, Clocks, Declares, Falls, Node, Shared, File, Settlement, acted, shared_after, is_durable, fallen, tm_of, find_branch, with_changed}
 use Rattle.run_model.specs.Answers.{Row, unit_key}
 use Rattle.run_model.specs.Steps as steps
 use Rattle.run_model.specs.Steps.{node_after_rows, shared_after_rows, shared_then, if_durable, act_begun}
@@ -87,6 +87,14 @@ arms_unseen writes choice x = record {
 
 pub clocks_unseen : (now : ℕ) (x : Node) → IsUnseen (Clocks now) x
 clocks_unseen now x = record {
+  raw = refl;
+  shared = λ s. refl;
+  told = λ t. record { log = t.log; apart = t.apart; kinds = t.kinds; slots = t.slots; volume = t.volume; there = t.there; back = t.back; units = t.units };
+  keeps = record { name = refl; volume = refl; up = refl; under_way = refl; slots = refl };
+}
+
+pub declares_unseen : (rms : List Name) (x : Node) → IsUnseen (Declares rms) x
+declares_unseen rms x = record {
   raw = refl;
   shared = λ s. refl;
   told = λ t. record { log = t.log; apart = t.apart; kinds = t.kinds; slots = t.slots; volume = t.volume; there = t.there; back = t.back; units = t.units };

@@ -17,7 +17,7 @@ use Rattle.run_model.specs.World as world
 use Rattle.run_model.specs.World.{World, Node, Shared, Settlement, Tables, acted, shared_after, find_node, next_moment, settlement, settlement_of, settled_more, tm_of}
 use Rattle.run_model.specs.Operations.{first_of, refused_if}
 use Rattle.run_model.specs.Answers as answers
-use Rattle.run_model.specs.Answers.{Row, Service, Serves, service, table_rows, told_rows, just, end_answer, missing, branch_labelled, is_first_active, refused_before_reading}
+use Rattle.run_model.specs.Answers.{Row, Service, Serves, service, table_rows, told_rows, just, end_answer, missing, unreplied, branch_labelled, is_first_active, refused_before_reading}
 use Rattle.run_model.specs.Steps.{Choice, TaskEffect, task_effect, node_after_rows}
 use Rattle.run_model.specs.Statements as statements
 use Rattle.run_model.specs.Statements.{Part, Does, PartEffect, Step, Parts, Phases, Finished, Begins, stops_at, put_into, done_at, part_effect, refused_at_once, named_node}
@@ -80,14 +80,14 @@ ends : (b : Branch) (t : Bool) → end_answer (if t then begins_ending b else ab
 ends b false e = absurd (let f : TransactionAborted SyncFail ≡ Normal = e in let g : ⊥ = cc in g)
 ends b true e = by (all_voted (ending b).accepted && all_replied (ending b).managers) refl
   where
-    left : end_answer (commits_if_all (ending b) []) (Pending (missing b.accepted)) ≡ Normal
-    left = sym (after_sends (to_each Prepare b.key.tid (serials b.accepted)) (tells (which_event b.changed b.accepted b.managers) b.key (joined b.managers) ++ commits_if_all (ending b) []) (Pending (missing b.accepted))
-        ∙ after_tells (which_event b.changed b.accepted b.managers) b.key (joined b.managers) (commits_if_all (ending b) []) (Pending (missing b.accepted))) ∙ e
+    left : end_answer (commits_if_all (ending b) []) (Pending (missing b.accepted) (unreplied (ending b).managers)) ≡ Normal
+    left = sym (after_sends (to_each Prepare b.key.tid (serials b.accepted)) (tells (which_event b.changed b.accepted b.managers) b.key (joined b.managers) ++ commits_if_all (ending b) []) (Pending (missing b.accepted) (unreplied (ending b).managers))
+        ∙ after_tells (which_event b.changed b.accepted b.managers) b.key (joined b.managers) (commits_if_all (ending b) []) (Pending (missing b.accepted) (unreplied (ending b).managers))) ∙ e
 
     by : (c : Bool) → (all_voted (ending b).accepted && all_replied (ending b).managers) ≡ c → HasSettle b.key ToCommit (begins_ending b)
     by false f =
-        let P : Bool → Type 0 = λ z. end_answer (if z then commits (ending b) [] else []) (Pending (missing b.accepted)) ≡ Normal in
-        absurd (let g : Pending (missing b.accepted) ≡ Normal = subst P f left in let h : ⊥ = cc in h)
+        let P : Bool → Type 0 = λ z. end_answer (if z then commits (ending b) [] else []) (Pending (missing b.accepted) (unreplied (ending b).managers)) ≡ Normal in
+        absurd (let g : Pending (missing b.accepted) (unreplied (ending b).managers) ≡ Normal = subst P f left in let h : ⊥ = cc in h)
     by true f =
         let a : Act = Settles b.key ToCommit ByRequest (owing b.key (yes_of b.accepted) (holding (ending b).managers)) in
         let P : Bool → Type 0 = λ z. In a (if z then commits (ending b) [] else []) in
@@ -196,6 +196,7 @@ ended_at v n label c x found normal = elim (cases_Bool e.ends) [
         act_keeps (world.Holds serial file keys) z t i = i
         act_keeps (world.Arms writes choice) z t i = i
         act_keeps (world.Clocks now) z t i = i
+        act_keeps (world.Declares rms) z t i = i
         act_keeps world.Falls z t i = i
 
         landed_keeps : (t : Bool) (z : Node) (d : Settlement) → In d z.settled → In d (landed t z).settled

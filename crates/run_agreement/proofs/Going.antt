@@ -114,6 +114,7 @@ acted_name (world.Holds serial file keys) y = refl
 acted_name (world.Directs file changes t) y = refl
 acted_name (world.Arms writes choice) y = refl
 acted_name (world.Clocks now) y = refl
+acted_name (world.Declares rms) y = refl
 acted_name world.Falls y = refl
 
 pub powered_name : (outturn : Outturn) (stops : ℕ) (x : Node) → (world.powered outturn stops x).name ≡ x.name

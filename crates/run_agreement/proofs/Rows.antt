@@ -8,7 +8,7 @@ use Rattle.commit_protocol.specs.World as protocol
 use Rattle.commit_protocol.specs.World.{In, node_after, lost_after, crashed, crashes, acts_all}
 use Rattle.commit_protocol.specs.Opening.{Opening}
 use Rattle.commit_protocol.proofs.Lists.{cases_name}
-use Rattle.run_model.specs.World.{Shared, Act, Formats, Boots, ComesUp, Creates, Marks, Draws, Labels, Numbers, Tables, Changes, Holds, Directs, Arms, Clocks, Falls, Node, acted, is_durable, settlement_of, settled_more, shared_tabled, shared_after, fallen, next_moment, tm_of}
+use Rattle.run_model.specs.World.{Shared, Act, Formats, Boots, ComesUp, Creates, Marks, Draws, Labels, Numbers, Tables, Changes, Holds, Directs, Arms, Clocks, Declares, Falls, Node, acted, is_durable, settlement_of, settled_more, shared_tabled, shared_after, fallen, next_moment, tm_of}
 use Rattle.run_model.specs.Answers.{Row, table_rows}
 use Rattle.run_model.specs.Steps.{shared_then, node_after_rows, shared_after_rows, if_durable, act_begun}
 use Rattle.run_model.specs.Steps as steps
@@ -237,6 +237,7 @@ acts_fallen (Holds serial file keys) u x = (refl, refl)
 acts_fallen (Directs file changes t) u x = (refl, refl)
 acts_fallen (Arms writes choice) u x = (refl, refl)
 acts_fallen (Clocks now) u x = (refl, refl)
+acts_fallen (Declares rms) u x = (refl, refl)
 acts_fallen Falls u x = (refl, refl)
 
 -- what a fall leaves, whatever turns out of the act under way

@@ -1,23 +1,24 @@
 -- Each task of a node that has a volume, and of one that has none.
 use Rattle.std.specs.Prelude.{if◌then◌else◌, ◌||◌, ◌&&◌, not, nat_le, nat_lt, length, option_map}
 use Rattle.std.specs.Option.{option_and_then}
-use Rattle.std.proofs.Common.{◌≡◌, ℕ, zero, suc, take, map, Bool, true, false, List, [], ◌∷◌, Option, Some, None, refl, ap, sym, subst, ◌∙◌}
-use Rattle.std.proofs.lemmas.Bool.{leb-false, lt-ltb}
+use Rattle.std.proofs.Common.{◌≡◌, ℕ, zero, suc, take, map, Bool, true, false, List, [], ◌∷◌, ◌++◌, Option, Some, None, refl, ap, sym, subst, ◌∙◌}
+use Rattle.std.proofs.lemmas.Bool.{and_from, leb-false, lt-ltb}
 use Rattle.vms_model.specs.Ids.{Id}
 use Rattle.vms_model.specs.Keys as keys
 use Rattle.vms_model.specs.Transactions.{Aborted as ByRequest}
 use Rattle.transcript_model.specs.Lines as line
 use Rattle.transcript_model.specs.Lines.{Line, Cause}
-use Rattle.script_model.specs.Statements.{Request, Init, Boot, Create, SetFile, StartTrans, AddBranch, StartBranch, Records, Direct, EndBranch, EndTrans, AbortTrans, Inquire, Dump, DumpJournal, Fuse, Crash, Clock, Named, ByLabel, BySerial, Operation}
+use Rattle.script_model.specs.Statements.{Request, Init, Boot, Create, SetFile, StartTrans, AddBranch, StartBranch, Records, Direct, EndBranch, EndTrans, AbortTrans, Inquire, DeclareRm, JoinRm, AckEvent, ForgetRm, GetDti, LmcpShow, LmcpDump, Dump, DumpJournal, Fuse, Crash, Clock, Named, ByLabel, BySerial, Operation}
 use Rattle.records_model.specs.Records.{Change}
-use Rattle.commit_protocol.specs.Messages.{Name, Message}
-use Rattle.commit_protocol.specs.Table.{Branch, is_first, find, find_serial, first}
+use Rattle.commit_protocol.specs.Messages.{Name, Message, Reply}
+use Rattle.commit_protocol.specs.Table.{Branch, is_first, find, find_serial, first, without_rm}
 use Rattle.commit_protocol.specs.Rows as rows
 use Rattle.commit_protocol.specs.Rows.{row}
-use Rattle.commit_protocol.specs.Allowed.{is_active, is_prepared, is_working, may_end}
+use Rattle.commit_protocol.specs.Allowed.{is_active, is_prepared, is_working, may_end, may_join}
 use Rattle.commit_protocol.specs.World as protocol
 use Rattle.commit_protocol.specs.World.{In}
 use Rattle.commit_protocol.specs.Opening.{Opening}
+use Rattle.log_laws.specs.Slots.{slot_records}
 use Rattle.run_model.specs.World as world
 use Rattle.run_model.specs.World.{Act, Node, Shared, Label, Call, Outturn, acted, find_branch, powered, unpowered, tm_of}
 use Rattle.run_model.specs.Operations.{first_of, refused_if}
@@ -25,13 +26,14 @@ use Rattle.run_model.specs.Answers as answers
 use Rattle.run_model.specs.Answers.{Row, Service, Task, Serves, Ticks, Takes, Hears, LosesLink, RunsDown, Restarts, just, told_rows, task_service, service, refused_before_reading, powers, spoils, touches, branch_labelled, is_first_active, boot_rows}
 use Rattle.run_model.specs.Steps as steps
 use Rattle.run_model.specs.Steps.{Choice, Whole, WithoutMemory, Unpowered, Cut, node_after_rows, shared_after_rows, ready_node, occupied, whole, cut, rows_if, rows_to_cut, service_effect, task_effect, ServiceAllowed, TaskAllowed}
+use Rattle.run_model.proofs.ReplyLemmas.{reply_is_allowed}
 use Rattle.run_agreement.specs.Seen.{Face, IsFace, IsDownFace, IsBarred, landed, has_volume}
 use Rattle.run_agreement.specs.Following.{Faces}
 use Rattle.run_agreement.proofs.Rows.{cut_node, rows_match}
 use Rattle.run_agreement.proofs.Telling.{quiet_told}
 use Rattle.run_agreement.proofs.Events.{Arrives, IsAt, IsUpAt, RowsGo, up_at, down_of_face, comes_goes}
 use Rattle.run_agreement.proofs.Drawing.{WholeGoes, has_room, start_goes, add_goes, begin_goes, labelled_in}
-use Rattle.run_agreement.proofs.Changing.{unseen_goes, crash_goes, changes_go, direct_goes, marks_unseen, holds_unseen, arms_unseen, clocks_unseen, branch_found, Working}
+use Rattle.run_agreement.proofs.Changing.{unseen_goes, crash_goes, changes_go, direct_goes, marks_unseen, holds_unseen, arms_unseen, clocks_unseen, declares_unseen, branch_found, Working}
 use Rattle.run_agreement.proofs.Booting.{boot_whole, boot_cut, taken_of, power_goes, stays_down}
 use Rattle.run_agreement.proofs.Serving.{Known, Anything, NodeSimFor, same_sim, follows_in_use, first_none, refused_none, serves_up, IsPlain, plain_sim, rows_sim, unused_sim, event_goes, branch_rows, branch_whole, named_branch, labelled_found, serial_found, first_found, parts_true, there, shown_unseen, creates_are_unseen}
 
@@ -111,6 +113,52 @@ inquire_sim o n x s stops who rises c may = unused_sim o n x s stops (service (I
     found (ByLabel label) b e = labelled_found s x label b e
     found (BySerial serial) b e = let P : Id → Type 0 = λ i. find_branch i x.volatile.branches ≡ Some b in subst P (sym (Rattle.run_agreement.proofs.Changing.branch_serial serial x.volatile.branches b e)) e
 
+declare_sim : (o : Opening) (n : Name) (x : Node) (s : Shared) (stops : ℕ) (rm : Name) (rises : Cause → Type 0) (c : Choice) → ServiceAllowed s stops x (service (DeclareRm rm)) rises c → Sim o n x s stops (service (DeclareRm rm)) c
+declare_sim o n x s stops rm rises c may = unused_sim o n x s stops (service (DeclareRm rm)) rises c (record { powers = refl; closing = refl; awake = refl }) refl
+    (λ up h q. (unseen_goes o n (answers.declares x rm) x s (declares_unseen (x.volatile.declared ++ rm ∷ []) x, tt)).whole) may
+
+join_sim : (o : Opening) (n : Name) (x : Node) (s : Shared) (stops : ℕ) (label : List ℕ) (rm : Name) (rises : Cause → Type 0) (c : Choice) → ServiceAllowed s stops x (service (JoinRm label rm)) rises c → Sim o n x s stops (service (JoinRm label rm)) c
+join_sim o n x s stops label rm rises c may = unused_sim o n x s stops (service (JoinRm label rm)) rises c (record { powers = refl; closing = refl; awake = refl }) refl
+    (λ up h q.
+    let h1 = first_none (answers.made_label s x label) _ h in
+    let h2 = first_none (answers.unsettled_label s x label) _ h1.1 in
+    let h3 = first_none (answers.declared_manager x rm) _ h2.1 in
+    branch_whole o n s x label (answers.is_joinable rm) (λ b. told_rows s x (just (rows.JoinRm b.key.serial rm))) h2.0 h3.1
+    (λ b e f g.
+    let p = parts_true (is_working b) (not (answers.has_joined rm b)) g in
+    let few : answers.more_managers b ≡ None = ap (option_and_then answers.more_managers) (sym e) ∙ q in
+    let less : nat_lt (length b.managers) 8 ≡ true = lt-ltb (length b.managers) 8 (leb-false 8 (length b.managers) (refused_none (nat_le answers.manager_limit (length b.managers)) _ few)) in
+    let may : may_join rm b ≡ true = and_from _ _ (and_from (is_working b) (nat_lt (length b.managers) 8) p.0 less) p.1 in
+    (event_goes o n x s (rows.JoinRm b.key.serial rm) refl (there (find_serial b.key.serial x.volatile.branches) b (may_join rm) (serial_found x b f) may) refl tt tt).whole)) may
+
+reply_sim : (o : Opening) (n : Name) (x : Node) (s : Shared) (stops : ℕ) (who : Named) (rm : Name) (reply : Reply) (rises : Cause → Type 0) (c : Choice) → ServiceAllowed s stops x (service (AckEvent who rm reply)) rises c → Sim o n x s stops (service (AckEvent who rm reply)) c
+reply_sim o n x s stops who rm reply rises c may = rows_sim o n x s stops (service (AckEvent who rm reply)) rises c (record { powers = refl; closing = refl; awake = refl })
+    (λ up h q.
+    let h1 = first_none (answers.made_name s x who) _ h in
+    let h2 = first_none (answers.known_branch (answers.known s x who)) _ h1.1 in
+    let h3 = first_none (answers.declared_manager x rm) _ h2.1 in
+    let h4 = first_none (answers.known_manager rm (answers.known s x who)) _ h3.1 in
+    by (answers.serial_named s x who) h2.0 h4.0 h4.1) may
+  where
+    by : (d : Option Id) → answers.known_branch (elim d [ Some serial ↦ answers.known_serial x serial | None ↦ answers.Unheard ]) ≡ None → answers.known_manager rm (elim d [ Some serial ↦ answers.known_serial x serial | None ↦ answers.Unheard ]) ≡ None
+        → answers.awaited_reply rm reply (elim d [ Some serial ↦ answers.known_serial x serial | None ↦ answers.Unheard ]) ≡ None → RowsGo o n (answers.told_if s x (option_map (λ serial. just (rows.Replied serial rm reply)) d)) x s
+    by (Some serial) f g h = event_goes o n x s (rows.Replied serial rm reply) refl (reply_is_allowed x serial rm reply f g h) refl tt tt
+    by None f g h = unseen_goes o n [] x s tt
+
+forget_sim : (o : Opening) (n : Name) (x : Node) (s : Shared) (stops : ℕ) (rm : Name) (rises : Cause → Type 0) (c : Choice) → ServiceAllowed s stops x (service (ForgetRm rm)) rises c → Sim o n x s stops (service (ForgetRm rm)) c
+forget_sim o n x s stops rm rises c may = unused_sim o n x s stops (service (ForgetRm rm)) rises c (record { powers = refl; closing = refl; awake = refl }) refl
+    (λ up h q. (unseen_goes o n (answers.silent (world.Declares (without_rm rm x.volatile.declared)) ∷ []) x s (declares_unseen (without_rm rm x.volatile.declared) x, tt)).whole) may
+
+state_sim : (o : Opening) (n : Name) (x : Node) (s : Shared) (stops : ℕ) (who : Named) (rises : Cause → Type 0) (c : Choice) → ServiceAllowed s stops x (service (GetDti who)) rises c → Sim o n x s stops (service (GetDti who)) c
+state_sim o n x s stops who rises c may = unused_sim o n x s stops (service (GetDti who)) rises c (record { powers = refl; closing = refl; awake = refl }) refl (λ up h q. (unseen_goes o n [] x s tt).whole) may
+
+log_sim : (o : Opening) (n : Name) (x : Node) (s : Shared) (stops : ℕ) (rises : Cause → Type 0) (c : Choice) → ServiceAllowed s stops x (service LmcpShow) rises c → Sim o n x s stops (service LmcpShow) c
+log_sim o n x s stops rises c may = unused_sim o n x s stops (service LmcpShow) rises c (record { powers = refl; closing = refl; awake = refl }) refl (λ up h q. (unseen_goes o n [] x s tt).whole) may
+
+records_shown_sim : (o : Opening) (n : Name) (x : Node) (s : Shared) (stops : ℕ) (rises : Cause → Type 0) (c : Choice) → ServiceAllowed s stops x (service LmcpDump) rises c → Sim o n x s stops (service LmcpDump) c
+records_shown_sim o n x s stops rises c may = unused_sim o n x s stops (service LmcpDump) rises c (record { powers = refl; closing = refl; awake = refl }) refl
+    (λ up h q. let ls = map answers.log_line (slot_records 0 x.durable.log) in (unseen_goes o n (map answers.shown_line ls) x s (shown_unseen Line ls answers.shown_line x (λ y. refl))).whole) may
+
 records_sim : (o : Opening) (n : Name) (x : Node) (s : Shared) (stops : ℕ) (label file : List ℕ) (op : Operation) (rises : Cause → Type 0) (c : Choice) → ServiceAllowed s stops x (service (Records label file op)) rises c → Sim o n x s stops (service (Records label file op)) c
 records_sim o n x s stops label file op rises c may = rows_sim o n x s stops (service (Records label file op)) rises c (record { powers = refl; closing = refl; awake = refl })
     (λ up h q.
@@ -169,6 +217,7 @@ outside (world.Holds serial file keys) x c k u = (refl, refl)
 outside (world.Directs file changes t) x c k u = (refl, refl)
 outside (world.Arms writes choice) x c k u = (refl, refl)
 outside (world.Clocks now) x c k u = (refl, refl)
+outside (world.Declares rms) x c k u = (refl, refl)
 outside world.Falls x c k u = (refl, refl)
 
 landed_outside : (b : Bool) (x : Node) (calls : List Call) (clock : ℕ) (up : Bool) → (let z : Node = record x { calls = calls; clock = clock; up = up } in ((landed b z).durable ≡ (landed b x).durable) × ((landed b z).settled ≡ (landed b x).settled))
@@ -395,6 +444,13 @@ task_sim o n x s stops (Serves (EndBranch label)) rises c suits may = end_branch
 task_sim o n x s stops (Serves (EndTrans label)) rises c suits may = end_trans_sim o n x s stops label rises c may
 task_sim o n x s stops (Serves (AbortTrans label)) rises c suits may = abort_sim o n x s stops label rises c may
 task_sim o n x s stops (Serves (Inquire who)) rises c suits may = inquire_sim o n x s stops who rises c may
+task_sim o n x s stops (Serves (DeclareRm rm)) rises c suits may = declare_sim o n x s stops rm rises c may
+task_sim o n x s stops (Serves (JoinRm label rm)) rises c suits may = join_sim o n x s stops label rm rises c may
+task_sim o n x s stops (Serves (AckEvent who rm reply)) rises c suits may = reply_sim o n x s stops who rm reply rises c may
+task_sim o n x s stops (Serves (ForgetRm rm)) rises c suits may = forget_sim o n x s stops rm rises c may
+task_sim o n x s stops (Serves (GetDti who)) rises c suits may = state_sim o n x s stops who rises c may
+task_sim o n x s stops (Serves LmcpShow) rises c suits may = log_sim o n x s stops rises c may
+task_sim o n x s stops (Serves LmcpDump) rises c suits may = records_shown_sim o n x s stops rises c may
 task_sim o n x s stops (Serves (Dump file)) rises c suits may = dump_sim o n x s stops file rises c may
 task_sim o n x s stops (Serves DumpJournal) rises c suits may = journal_sim o n x s stops rises c may
 task_sim o n x s stops (Serves (Fuse writes choice)) rises c suits may = fuse_sim o n x s stops writes choice rises c may

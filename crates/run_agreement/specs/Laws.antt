@@ -143,7 +143,7 @@ EndsFor w u events (QuotaExceeded Boots limit) = (limit ≡ boot_limit) × HasNo
 EndsFor w u events (QuotaExceeded Moments limit) = (limit ≡ moment_limit) × HasNode u (λ x. (nat_lt limit x.durable.greatest ≡ true) ⊎ (x.durable.volume ≡ Barred LateMoment))
 EndsFor w u events (QuotaExceeded Positions limit) = (limit ≡ position_limit) × HasNode u (λ x. (nat_lt limit (last_position x) ≡ true) ⊎ (x.durable.volume ≡ Barred FarPosition))
 EndsFor w u events (NotInitializedAt n) = (x : Node) × (find_node n u.nodes ≡ Some x) × (x.unmade ≡ true)
-EndsFor w u events (NoVolume n condition block) = (x : Node) × (find_node n u.nodes ≡ Some x) × ((x.durable.volume ≡ Faulty condition block) ⊎ (x.durable.volume ≡ Barred NoRing))
+EndsFor w u events (NoVolume n condition block) = (x : Node) × (find_node n u.nodes ≡ Some x) × ((x.durable.volume ≡ Faulty condition block) ⊎ ((condition ≡ 6) × (block ≡ 583) × (x.durable.volume ≡ Barred NoRing)))
 EndsFor w u events (InDoubt serial n) =
     (find_node n u.nodes ≡ None) × HasNode u (λ x. (b : Branch) × In b x.volatile.branches × (b.key.serial ≡ serial) × (coordinator_of b.key ≡ n) × (is_prepared b.state ≡ true))
 EndsFor w u events _ = ⊥

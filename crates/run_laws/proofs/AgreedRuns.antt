@@ -2,12 +2,12 @@
 use Rattle.std.proofs.Common.{◌≡◌, ℕ, List, [], ◌∷◌, ◌++◌, inl, inr, Bool, true, false, Option, Some, None, refl, sym, ◌∙◌, ap, subst}
 use Rattle.std.specs.List.{last_or}
 use Rattle.vms_model.specs.Ids.{Id}
-use Rattle.vms_model.specs.Transactions.{Commit}
+use Rattle.vms_model.specs.Transactions.{Abort, Commit, Reason}
 use Rattle.transcript_model.specs.Lines.{Line, Normal}
 use Rattle.script_model.specs.Statements.{At, Bad, Blank, Deliver, LinkDown, Reading, Says, Settle, Statement}
 use Rattle.script_model.specs.Grammar.{reading}
 use Rattle.commit_protocol.specs.Opening.{IsAgreeing}
-use Rattle.commit_protocol.specs.Table.{first}
+use Rattle.commit_protocol.specs.Table.{child, first}
 use Rattle.commit_protocol.specs.World.{In}
 use Rattle.run_model.specs.World.{World, Node, DiskCounts, Act, Settlement, find_node, opened}
 use Rattle.run_model.specs.Steps.{Choice, task_effect}
@@ -15,7 +15,7 @@ use Rattle.run_model.specs.Statements.{Begins, Part, PartEffect, Phases, Step, b
 use Rattle.run_model.specs.Transcript.{Entry, Legal, AreOpening, Turn}
 use Rattle.run_agreement.specs.Seen.{IsKnown, Resolution, landed, outcome_of}
 use Rattle.run_agreement.specs.Following.{opening_of}
-use Rattle.run_agreement.specs.Laws.{CommittedAreOfCommitted, IsRun, IsSettled, LeaveAgreement, NamesApart, RestingAreWhole, SettleAlike, SettlingEnds, SettlingLeavesNone, image_here, opening_told}
+use Rattle.run_agreement.specs.Laws.{CommittedAreOfCommitted, HasOutcome, IsRun, IsSettled, LeaveAgreement, NamesApart, RestingAreWhole, SettleAlike, SettlingEnds, SettlingLeavesNone, image_here, opening_told}
 use Rattle.run_model.proofs.NodeLists.{found_name}
 use Rattle.run_model.proofs.PartLemmas.{phases_fold}
 use Rattle.run_model.proofs.PartTasks.{View, Doing, Fixed, view}
@@ -24,7 +24,7 @@ use Rattle.run_agreement.proofs.Bases.{used_part}
 use Rattle.run_agreement.proofs.Begun.{AnyPart, any_phases, apart_put, runs_begin}
 use Rattle.run_agreement.proofs.Told.{quiet_images, runs_tell_no_more, unused_are_told}
 use Rattle.run_laws.specs.Agreed.{AgreedRun, EndsHoldAll, SettlesWhole}
-use Rattle.run_laws.specs.Promises.{EndsCommit, settlements_of}
+use Rattle.run_laws.specs.Promises.{EndsCommit, IsSettledSo, settlements_of}
 use Rattle.run_laws.proofs.AbortsStand.{legal_parts}
 use Rattle.run_laws.proofs.Staying.{after_grows}
 
@@ -74,6 +74,16 @@ ends_for_all base es closing ends before node label events there =
         let j : In s n.settled = subst (λ o. In s (elim o as (λ x. List Settlement) [ Some m ↦ m.settled | None ↦ [] ])) found i in
         (tid.node, n, found, (s, landed_settled (r tid.node) n s j, ap outcome_of same))
     at tid r moment s i same None found = absurd (subst (λ o. In s (elim o as (λ x. List Settlement) [ Some m ↦ m.settled | None ↦ [] ])) found i)
+
+-- a branch that its node aborted is so however acts turn out
+pub aborted_for_all : (r : Resolution) (closing : World) (tid serial : Id) (reason : Reason) (moment : ℕ) → IsSettledSo tid serial Abort (Some reason) moment closing → (base : World) → HasOutcome base r closing (child tid serial) Abort
+aborted_for_all r closing tid serial reason moment settled base = inr (at settled.0 settled.1 settled.2 (find_node serial.node closing.nodes) refl)
+  where
+    at : (s : Settlement) → In s (settlements_of serial.node closing) → s ≡ record { tid = tid; serial = serial; outcome = Abort; reason = Some reason; moment = moment } → (o : Option Node) → find_node serial.node closing.nodes ≡ o → IsSettled r closing (child tid serial) Abort
+    at s i same (Some n) found =
+        let j : In s n.settled = subst (λ o. In s (elim o as (λ x. List Settlement) [ Some m ↦ m.settled | None ↦ [] ])) found i in
+        (serial.node, n, found, (s, landed_settled (r serial.node) n s j, ap outcome_of same))
+    at s i same None found = absurd (subst (λ o. In s (elim o as (λ x. List Settlement) [ Some m ↦ m.settled | None ↦ [] ])) found i)
 
 -- Names of nodes stay.
 

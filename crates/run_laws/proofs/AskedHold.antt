@@ -5,7 +5,7 @@ use Rattle.vms_model.specs.Ids.{Id}
 use Rattle.vms_model.specs.Transactions.{Abort}
 use Rattle.transcript_model.specs.Lines as line
 use Rattle.transcript_model.specs.Lines.{Line, Cause}
-use Rattle.script_model.specs.Statements.{At, Deliver, Direct, EndTrans, Settle, Boot, Says}
+use Rattle.script_model.specs.Statements.{At, Deliver, Direct, EndTrans, Settle, Boot, Says, AckEvent}
 use Rattle.commit_protocol.specs.Messages.{Message}
 use Rattle.commit_protocol.specs.World.{In}
 use Rattle.commit_protocol.proofs.Lists.{in_left, in_right}
@@ -154,8 +154,9 @@ boot_delivers_none es node kind tid serial d = let e : Says (At node Boot) ≡ S
 boot_causes_none : (es : List Entry) (node : List ℕ) (front : List Line) (tid serial : Id) → CommitCause es (Says (At node Boot)) front tid serial ⊎ IsDirect (Says (At node Boot)) tid serial → ⊥
 boot_causes_none es node front tid serial (inl (inl k)) = let e : Says (At node Boot) ≡ Says (At tid.node (EndTrans k.0)) = k.1 in let no : ⊥ = cc in no
 boot_causes_none es node front tid serial (inl (inr (inl k))) = elim k.0 [ inl vote ↦ boot_delivers_none es node _ tid vote.0 vote.1 | inr vote ↦ boot_delivers_none es node _ tid vote.0 vote.1 ]
-boot_causes_none es node front tid serial (inl (inr (inr (inl d)))) = boot_delivers_none es node _ tid serial d
-boot_causes_none es node front tid serial (inl (inr (inr (inr k)))) = let e : Says (At node Boot) ≡ Says Settle = k.0 in let no : ⊥ = cc in no
+boot_causes_none es node front tid serial (inl (inr (inr (inl k)))) = let e : Says (At node Boot) ≡ Says (At serial.node (AckEvent (k.1).0 (k.1).1 k.0)) = (k.1).2 in let no : ⊥ = cc in no
+boot_causes_none es node front tid serial (inl (inr (inr (inr (inl d))))) = boot_delivers_none es node _ tid serial d
+boot_causes_none es node front tid serial (inl (inr (inr (inr (inr k))))) = let e : Says (At node Boot) ≡ Says Settle = k.0 in let no : ⊥ = cc in no
 boot_causes_none es node front tid serial (inr d) = let e : Says (At node Boot) ≡ Says (At serial.node (Direct d.0 d.1)) = d.2 in let no : ⊥ = cc in no
 
 pub asked_hold : AskedHold

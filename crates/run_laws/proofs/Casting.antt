@@ -1,18 +1,19 @@
--- Which branches the rows of a task prepare: none but by what asks a branch for its vote, or by an END_BRANCH of it.
+-- Which branches the rows of a task prepare: none but by what asks a branch for its vote, by an END_BRANCH of it, or by a reply of a resource manager.
 use Rattle.std.proofs.Common.{◌≡◌, ◌∙◌, ℕ, List, [], ◌∷◌, inl, inr, map, true, false, Option, Some, None, refl, sym}
 use Rattle.std.specs.Option.{option_map, option_and_then}
 use Rattle.vms_model.specs.Ids.{Id}
 use Rattle.vms_model.specs.Keys.{Key}
 use Rattle.vms_model.specs.Transactions.{Aborted}
 use Rattle.transcript_model.specs.Lines.{Line}
-use Rattle.script_model.specs.Statements.{Operation, Request, Init, Boot, Create, SetFile, StartTrans, AddBranch, StartBranch, Records, Direct, EndBranch, EndTrans, AbortTrans, Inquire, Dump, DumpJournal, Fuse, Crash, Clock}
+use Rattle.script_model.specs.Statements.{Operation, Request, Init, Boot, Create, SetFile, StartTrans, AddBranch, StartBranch, Records, Direct, EndBranch, EndTrans, AbortTrans, Inquire, DeclareRm, JoinRm, AckEvent, ForgetRm, GetDti, LmcpShow, LmcpDump, Dump, DumpJournal, Fuse, Crash, Clock, Named}
 use Rattle.records_model.specs.Records.{Change}
 use Rattle.commit_protocol.specs.Messages as message
-use Rattle.commit_protocol.specs.Messages.{Message}
+use Rattle.commit_protocol.specs.Messages.{Message, Name, Reply}
 use Rattle.commit_protocol.specs.Table as table
 use Rattle.commit_protocol.specs.Table.{Branch, Prepares}
 use Rattle.commit_protocol.specs.Rows as rows
 use Rattle.commit_protocol.specs.Rows.{Event, row}
+use Rattle.log_laws.specs.Slots.{slot_records}
 use Rattle.run_model.specs.World as world
 use Rattle.run_model.specs.World.{Shared, Node, Label, Act, Tables, acted, next_id, next_moment, shared_after, tm_of}
 use Rattle.run_model.specs.Answers as answers
@@ -58,6 +59,7 @@ never_casts n e f u m = casts_as (PreparesBy n.volatile.branches e) Never (table
 -- What each task may prepare.
 abbrev pub TaskCasts : Shared → Node → Task → Branch → Type 0
 TaskCasts s n (Serves (EndBranch label)) b = (c : Branch) × (branch_labelled s n label ≡ Some c) × PreparesBy n.volatile.branches (rows.EndBranch c.key.serial) b
+TaskCasts s n (Serves (AckEvent who rm reply)) b = (serial : Id) × (answers.serial_named s n who ≡ Some serial) × PreparesBy n.volatile.branches (rows.Replied serial rm reply) b
 TaskCasts s n (Takes m) b = PreparesBy n.volatile.branches (rows.Got m) b
 TaskCasts s n (Hears m) b = PreparesBy n.volatile.branches (rows.Got m) b
 TaskCasts s n _ b = ⊥
@@ -113,6 +115,11 @@ asked_casts : (s : Shared) (n : Node) (o : Option Branch) → AllCast Never (tol
 asked_casts s n (Some b) = never_casts n (rows.InquireBranch b.key.serial) (λ c q. q) s n
 asked_casts s n None = tt
 
+replied_casts : (s : Shared) (n : Node) (who : Named) (rm : Name) (reply : Reply) (o : Option Id) → answers.serial_named s n who ≡ o → AllCast (TaskCasts s n (Serves (AckEvent who rm reply))) (told_if s n (option_map (λ serial. just (rows.Replied serial rm reply)) o))
+replied_casts s n who rm reply (Some serial) is =
+    casts_as (PreparesBy n.volatile.branches (rows.Replied serial rm reply)) (TaskCasts s n (Serves (AckEvent who rm reply))) (told_rows s n (just (rows.Replied serial rm reply))) (λ b q. (serial, is, q)) (event_casts n (rows.Replied serial rm reply) s n)
+replied_casts s n who rm reply None is = tt
+
 request_casts : (s : Shared) (n : Node) (r : Request) → AllCast (TaskCasts s n (Serves r)) ((service r).rows s n)
 request_casts s n (Init slots journal) = tt
 request_casts s n Boot = (tt, undone_casts Never _ s (acted world.Boots n))
@@ -128,6 +135,13 @@ request_casts s n (EndBranch label) = branch_casts (TaskCasts s n (Serves (EndBr
 request_casts s n (EndTrans label) = branch_casts Never (branch_labelled s n label) (λ b. told_rows s n (just (rows.EndTrans b.key.tid))) (λ b is. never_casts n (rows.EndTrans b.key.tid) (λ c q. q) s n)
 request_casts s n (AbortTrans label) = branch_casts Never (branch_labelled s n label) (λ b. told_rows s n (just (rows.AbortBranch b.key.serial Aborted))) (λ b is. never_casts n (rows.AbortBranch b.key.serial Aborted) (λ c q. q) s n)
 request_casts s n (Inquire who) = asked_casts s n (branch_named s n who)
+request_casts s n (DeclareRm rm) = (tt, tt)
+request_casts s n (JoinRm label rm) = branch_casts Never (branch_labelled s n label) (λ b. told_rows s n (just (rows.JoinRm b.key.serial rm))) (λ b is. never_casts n (rows.JoinRm b.key.serial rm) (λ c q. q) s n)
+request_casts s n (AckEvent who rm reply) = replied_casts s n who rm reply (answers.serial_named s n who) refl
+request_casts s n (ForgetRm rm) = (tt, tt)
+request_casts s n (GetDti who) = tt
+request_casts s n LmcpShow = tt
+request_casts s n LmcpDump = lines_cast Never (map answers.log_line (slot_records 0 n.durable.log))
 request_casts s n (Dump file) = records_cast Never (answers.records_of n file)
 request_casts s n DumpJournal = lines_cast Never (answers.entry_lines n.durable.units.first n.durable.units.entries)
 request_casts s n (Fuse writes choice) = (tt, tt)

@@ -1,38 +1,40 @@
 -- What a statement shows to be committed or aborted has its cause in that statement and in the entries before it, and is so for good.
 use Rattle.std.proofs.Common.{◌≡◌, ◌≤◌, ℕ, ◌+◌, ◌*◌, ◌⊎◌, List, [], ◌∷◌, ◌++◌, inl, inr, Bool, true, false, not, ◌||◌, ◌&&◌, Option, Some, None, refl, sym, ◌∙◌, ap, subst}
 use Rattle.std.specs.List.{list_any}
+use Rattle.std.specs.Option.{option_and_then}
 use Rattle.std.proofs.lemmas.Bool.{and_parts, leb-true}
 use Rattle.vms_model.specs.Ids.{Id}
 use Rattle.vms_model.specs.Transactions.{Outcome, Commit, Abort, Reason, Aborted, Vetoed, SyncFail, Timeout, CommFail, SegFail}
 use Rattle.transcript_model.specs.Lines as line
 use Rattle.transcript_model.specs.Lines.{Line, Cause}
-use Rattle.script_model.specs.Statements.{At, Deliver, Request, Boot, StartTrans, Direct, EndTrans, AbortTrans, Clock, Reading, Says}
+use Rattle.script_model.specs.Statements.{At, Deliver, Request, Boot, StartTrans, Direct, EndTrans, AbortTrans, AckEvent, Clock, Named as SaidName, ByLabel, BySerial, Reading, Says}
 use Rattle.commit_protocol.specs.Messages as message
-use Rattle.commit_protocol.specs.Messages.{Message}
+use Rattle.commit_protocol.specs.Messages.{Message, Reply, PreparedReply, ForgetReply, VetoReply, RememberReply, NormalReply}
 use Rattle.commit_protocol.specs.Table as table
 use Rattle.commit_protocol.specs.Table.{Branch, Child, Ending, Key as BranchKey, coordinator_of, first, is_first, key_of, same_key}
 use Rattle.commit_protocol.specs.Allowed.{is_prepared}
 use Rattle.commit_protocol.specs.Rows as rows
-use Rattle.commit_protocol.specs.Rows.{is_cut_off, is_due, is_late, is_noted, is_under}
+use Rattle.commit_protocol.specs.Rows.{is_cut_off, is_due, is_late, is_noted, is_under, is_veto}
 use Rattle.commit_protocol.specs.World.{In}
 use Rattle.commit_protocol.proofs.Lists.{same_key-true, same_name-true}
-use Rattle.run_model.specs.World.{World, Shared, Node, Settlement, find_node, tm_of}
-use Rattle.run_model.specs.Answers.{Task, Serves, branch_labelled, in_state, is_first_active, is_open, made_label, refused_before_reading, service, settled_line, task_service, unsettled_label}
+use Rattle.run_model.specs.World.{World, Shared, Node, Label, Settlement, find_node, labelled, serial_labelled, tm_of}
+use Rattle.run_model.specs.Answers.{Task, Serves, branch_labelled, in_state, is_first_active, is_open, made_label, refused_before_reading, serial_named, service, settled_line, task_service, unsettled_label}
 use Rattle.run_model.specs.Steps.{Choice, TaskAllowed, TaskEffect, task_effect}
 use Rattle.run_model.specs.Statements.{message_at}
 use Rattle.run_model.specs.Transcript.{Entry}
 use Rattle.run_model.proofs.NodeLists.{found_name}
 use Rattle.run_model.proofs.TaskLemmas as tasks
 use Rattle.run_model.proofs.TaskLemmas.{First, Late, Success, Lacking, Failing, effect_name, outcome}
-use Rattle.run_laws.specs.Naming.{IsNamed}
-use Rattle.run_laws.specs.Causes.{AbortCause, CommitCause, DeliversTo, HasJoined, IsCutOff, IsDirect, Votes, WasAsked, WasBegun, WasEnded, WasSent, clock_told}
+use Rattle.run_laws.specs.Naming.{IsNamed, find_told}
+use Rattle.run_laws.specs.Causes.{AbortCause, CommitCause, DeliversTo, HasJoined, IsCutOff, IsDirect, Names, Replies, Votes, WasAsked, WasBegun, WasEnded, WasSent, clock_told}
 use Rattle.run_laws.specs.SaidLaws.{SaidThere}
 use Rattle.run_laws.specs.Promises.{shown_in}
 use Rattle.run_laws.proofs.Directed.{neither}
 use Rattle.run_laws.proofs.Ending.{active_is, active_unprepared, named_branch}
-use Rattle.run_laws.proofs.Labelling.{label_of, refused_rest, found_label}
+use Rattle.run_laws.proofs.Labelling.{label_of, labelled_is, find_map, refused_rest, found_label, served_up}
 use Rattle.run_laws.proofs.Making.{state_holds}
-use Rattle.run_laws.proofs.Named.{Named, ended}
+use Rattle.run_laws.proofs.Moving.{HasOpen}
+use Rattle.run_laws.proofs.Named.{Named, ended, told}
 use Rattle.run_laws.proofs.Settling.{EventSettles, HasAccepted, IsOpen, MessageSettles}
 use Rattle.run_laws.proofs.Splits.{split_append}
 use Rattle.run_laws.proofs.TaskCauses.{TaskCause}
@@ -61,8 +63,9 @@ asked_more : (said : Reading) (xs front : List Line) (tid serial : Id) (o : Outc
 asked_more said xs front tid serial o a = (a.0, xs ++ a.1, ap (λ ls. xs ++ ls) a.2 ∙ append_assoc xs a.1 (line.Asked tid serial o ∷ []))
 
 pub cause_more : (es : List Entry) (said : Reading) (xs front : List Line) (k : BranchKey) (o : Outcome) (reason : Reason) → LineCause es said front k o reason → LineCause es said (xs ++ front) k o reason
-cause_more es said xs front k Commit reason (inl (inr (inr (inr asked)))) = inl (inr (inr (inr (asked_more said xs front k.tid k.serial Commit asked))))
-cause_more es said xs front k Commit reason (inl (inr (inr (inl told)))) = inl (inr (inr (inl told)))
+cause_more es said xs front k Commit reason (inl (inr (inr (inr (inr asked))))) = inl (inr (inr (inr (inr (asked_more said xs front k.tid k.serial Commit asked)))))
+cause_more es said xs front k Commit reason (inl (inr (inr (inr (inl told))))) = inl (inr (inr (inr (inl told))))
+cause_more es said xs front k Commit reason (inl (inr (inr (inl replied)))) = inl (inr (inr (inl replied)))
 cause_more es said xs front k Commit reason (inl (inr (inl voted))) = inl (inr (inl voted))
 cause_more es said xs front k Commit reason (inl (inl ended)) = inl (inl ended)
 cause_more es said xs front k Commit reason (inr direct) = inr direct
@@ -154,12 +157,56 @@ module _ (es : List Entry) (w : World) (known : Known es w) (node : List ℕ) (n
       open_is true q = let no : ⊥ = cc in absurd no
       open_is false q = refl
 
+  -- the label of a branch that is not prepared names it
+  label_names : (label : List ℕ) (serial : Id) (k : BranchKey) → serial_labelled n.name label w.shared.labels ≡ Some serial → IsOpen n.volatile.branches k → k.serial ≡ serial → IsNamed es k.serial.node label k.tid k.serial
+  label_names label serial k is x same = go (labelled n.name label w.shared.labels) refl is
+    where
+      held : HasOpen n k
+      held = (x.branch, x.there, x.unprepared, x.key)
+
+      go : (o : Option Label) → labelled n.name label w.shared.labels ≡ o → option_and_then (λ (l : Label). l.serial) o ≡ Some serial → IsNamed es k.serial.node label k.tid k.serial
+      go (Some l) found_l serial_l =
+          let r = labelled_is n.name label w.shared.labels l found_l in
+          let made = known.named.made l (found_label label w.shared.labels l r.0).0 in
+          let at : l.node ≡ node = r.1 ∙ at_home in
+          let has : l.serial ≡ Some k.serial = serial_l ∙ ap Some (sym same) in
+          let tid : k.tid ≡ l.tid = made.fits n (subst (λ name. find_node name w.nodes ≡ Some n) (sym at) found) k held has in
+          (told l, ap (find_told label) known.named.labels ∙ find_map label w.shared.labels l r.0, at ∙ sym (known.named.home node n found k held), sym tid, has)
+      go None found_l serial_l = let no : ⊥ = cc in absurd no
+
+  pub named_so : (who : SaidName) (serial : Id) (k : BranchKey) → serial_named w.shared n who ≡ Some serial → IsOpen n.volatile.branches k → k.serial ≡ serial → Names es who k.tid k.serial
+  named_so (ByLabel label) serial k is x same = label_names label serial k is x same
+  named_so (BySerial other) serial k is x same = let one : other ≡ serial = cc in one ∙ sym same
+
+  reply_cause : (who : SaidName) (rm : List ℕ) (reply : Reply) (front : List Line) (k : BranchKey) (o : Outcome) (reason : Reason) → n.up ≡ true → TaskCause w.shared n (Serves (AckEvent who rm reply)) k o reason → LineCause es (Says (At node (AckEvent who rm reply))) front k o reason
+  reply_cause who rm reply front k o reason up (serial, is, (same, x, cause)) = go cause
+    where
+      home : node ≡ k.serial.node
+      home = sym (known.named.home node n found k (x.branch, x.there, x.unprepared, x.key))
+
+      replies : (r : Reply) → reply ≡ r → Replies es (Says (At node (AckEvent who rm reply))) k.tid k.serial r
+      replies r e = (who, rm, (λ i. Says (At (home i) (AckEvent who rm (e i)))), named_so who serial k is x same)
+
+      veto : (r : Reply) → is_veto r ≡ true → r ≡ VetoReply
+      veto VetoReply e = refl
+      veto PreparedReply e = let no : ⊥ = cc in absurd no
+      veto ForgetReply e = let no : ⊥ = cc in absurd no
+      veto RememberReply e = let no : ⊥ = cc in absurd no
+      veto NormalReply e = let no : ⊥ = cc in absurd no
+
+      go : ((o ≡ Commit) × (is_veto reply ≡ false) × (x.branch.state ≡ Ending) × (k ≡ first k.tid)) ⊎ ((o ≡ Abort) × (reason ≡ Vetoed) × (is_veto reply ≡ true)) → LineCause es (Says (At node (AckEvent who rm reply))) front k o reason
+      go (inl (commit, other, q, key)) = subst (λ out. LineCause es (Says (At node (AckEvent who rm reply))) front k out reason) (sym commit)
+          (inl (inr (inr (inl (reply, replies reply refl, other, subst (λ (j : BranchKey). WasEnded es j.tid) x.key (known.told.ended node n found up x.branch x.there x.unprepared q), ap (λ (j : BranchKey). j.serial) key)))))
+      go (inr (ab, why, e)) = subst (λ out. LineCause es (Says (At node (AckEvent who rm reply))) front k out reason) (sym ab)
+          (subst (λ y. AbortCause es (Says (At node (AckEvent who rm reply))) front y k.tid k.serial) (sym why) (inr (replies VetoReply (veto reply e))))
+
   pub request_cause : (request : Request) (front : List Line) (k : BranchKey) (o : Outcome) (reason : Reason) → refused_before_reading w.shared n (service request) ≡ None → (request ≡ Boot → k.serial.node ≡ node) → TaskCause w.shared n (Serves request) k o reason → LineCause es (Says (At node request)) front k o reason
   request_cause Boot front k o reason first_so home (is, why) = subst (λ out. LineCause es (Says (At node Boot)) front k out reason) (sym is) (subst (λ y. AbortCause es (Says (At node Boot)) front y k.tid k.serial) (sym why) (inr (ap (λ y. Says (At y Boot)) (sym (home refl)))))
   request_cause (Direct file op) front k o reason first_so home (is, key) = subst (λ out. LineCause es (Says (At node (Direct file op))) front k out reason) (sym is)
       (subst (λ (j : BranchKey). CommitCause es (Says (At node (Direct file op))) front j.tid j.serial ⊎ IsDirect (Says (At node (Direct file op))) j.tid j.serial) (sym key) (inr (file, op, ap (λ y. Says (At y (Direct file op))) (sym at_home), refl)))
   request_cause (EndTrans label) front k o reason first_so home cause = end_cause label front k o reason first_so cause
   request_cause (AbortTrans label) front k o reason first_so home cause = abort_cause label front k o reason first_so cause
+  request_cause (AckEvent who rm reply) front k o reason first_so home cause = reply_cause who rm reply front k o reason (served_up n _ first_so) cause
   request_cause _ front k o reason first_so home cause = absurd cause
 
   -- a message that is delivered
@@ -190,10 +237,10 @@ module _ (es : List Entry) (w : World) (known : Known es w) (node : List ℕ) (n
       go : (kind : message.Kind) → m.kind ≡ kind → MessageSettles (tm_of n) kind m k o reason → LineCause es (Says (Deliver number)) front k o reason
       go message.Yes is (commit, key, x, q, acc) = commit_so commit (inr (inl (inl (votes message.Yes is key x acc), ends x q, same key)))
       go message.ReadOnly is (commit, key, x, q, acc) = commit_so commit (inr (inl (inr (votes message.ReadOnly is key x acc), ends x q, same key)))
-      go message.Commit is (commit, key) = commit_so commit (inr (inr (inl (to k.tid k.serial (sym (ap (λ (j : BranchKey). j.tid) key)) (sym (ap (λ (j : BranchKey). j.serial) key)) message.Commit is))))
+      go message.Commit is (commit, key) = commit_so commit (inr (inr (inr (inl (to k.tid k.serial (sym (ap (λ (j : BranchKey). j.tid) key)) (sym (ap (λ (j : BranchKey). j.serial) key)) message.Commit is)))))
       go message.Abort is (ab, why, key) = abort_so Aborted ab why (inr (inl (to k.tid k.serial (sym (ap (λ (j : BranchKey). j.tid) key)) (sym (ap (λ (j : BranchKey). j.serial) key)) message.Abort is)))
       go message.JoinNo is (ab, why, key, x) = abort_so SyncFail ab why (inr (to k.tid k.serial (sym (ap (λ (j : BranchKey). j.tid) key)) (sym (ap (λ (j : BranchKey). j.serial) key)) message.JoinNo is))
-      go message.No is (ab, why, key, x, acc) = abort_so Vetoed ab why (votes message.No is key x acc, same key)
+      go message.No is (ab, why, key, x, acc) = abort_so Vetoed ab why (inl (votes message.No is key x acc, same key))
       go message.Join is q = absurd q
       go message.JoinOk is q = absurd q
       go message.Prepare is q = absurd q

@@ -1,4 +1,5 @@
 -- How the unprepared branches of a node come of those before a task.
+use Rattle.log_laws.specs.Slots.{slot_records}
 use Rattle.std.proofs.Common.{◌≡◌, ℕ, ◌⊎◌, List, [], ◌∷◌, ◌++◌, map, take, zero, suc, inl, inr, Bool, true, false, Option, Some, None, if◌then◌else◌, refl, sym, ◌∙◌, ap}
 use Rattle.std.specs.Option.{option_map}
 use Rattle.vms_model.specs.Ids.{Id}
@@ -6,7 +7,7 @@ use Rattle.vms_model.specs.Keys.{Key}
 use Rattle.vms_model.specs.Transactions.{Aborted}
 use Rattle.transcript_model.specs.Lines as line
 use Rattle.transcript_model.specs.Lines.{Line}
-use Rattle.script_model.specs.Statements.{Operation, Request, Init, Boot, Create, SetFile, StartTrans, AddBranch, StartBranch, Records, Direct, EndBranch, EndTrans, AbortTrans, Inquire, Dump, DumpJournal, Fuse, Crash, Clock}
+use Rattle.script_model.specs.Statements.{Operation, Request, Init, Boot, Create, SetFile, StartTrans, AddBranch, StartBranch, Records, Direct, EndBranch, EndTrans, AbortTrans, Inquire, DeclareRm, JoinRm, AckEvent, ForgetRm, GetDti, LmcpShow, LmcpDump, Dump, DumpJournal, Fuse, Crash, Clock}
 use Rattle.records_model.specs.Records.{Change}
 use Rattle.records_model.specs.History.{same_id}
 use Rattle.commit_protocol.specs.Table as table
@@ -186,6 +187,8 @@ IsTold s n (Serves (AddBranch label other new)) e = (b : Branch) × (branch_labe
 IsTold s n (Serves (EndBranch label)) e = (b : Branch) × (e ≡ rows.EndBranch b.key.serial)
 IsTold s n (Serves (AbortTrans label)) e = (b : Branch) × (e ≡ rows.AbortBranch b.key.serial Aborted)
 IsTold s n (Serves (Inquire who)) e = (b : Branch) × (e ≡ rows.InquireBranch b.key.serial)
+IsTold s n (Serves (JoinRm label rm)) e = (b : Branch) × (e ≡ rows.JoinRm b.key.serial rm)
+IsTold s n (Serves (AckEvent who rm reply)) e = (serial : Id) × (e ≡ rows.Replied serial rm reply)
 IsTold s n (Serves _) e = ⊥
 IsTold s n Ticks e = e ≡ rows.Clock n.clock
 IsTold s n (Takes m) e = e ≡ rows.Got m
@@ -246,6 +249,17 @@ request_putting s n (Inquire who) h = asked (branch_named s n who)
     asked : (o : Option Branch) → ArePutting (TaskNotes s n (Serves (Inquire who))) (TaskAccepts s n (Serves (Inquire who))) (told_if s n (option_map (λ (b : Branch). just (rows.InquireBranch b.key.serial)) o))
     asked (Some b) = event_putting s n (Serves (Inquire who)) (rows.InquireBranch b.key.serial) tt (b, refl) s n refl refl
     asked None = tt
+request_putting s n (DeclareRm rm) h = (tt, tt)
+request_putting s n (JoinRm label rm) h = branch_putting _ _ (branch_labelled s n label) (λ b. told_rows s n (just (rows.JoinRm b.key.serial rm))) (λ b is. event_putting s n (Serves (JoinRm label rm)) (rows.JoinRm b.key.serial rm) tt (b, refl) s n refl refl)
+request_putting s n (AckEvent who rm reply) h = replied (answers.serial_named s n who)
+  where
+    replied : (o : Option Id) → ArePutting (TaskNotes s n (Serves (AckEvent who rm reply))) (TaskAccepts s n (Serves (AckEvent who rm reply))) (told_if s n (option_map (λ serial. just (rows.Replied serial rm reply)) o))
+    replied (Some serial) = event_putting s n (Serves (AckEvent who rm reply)) (rows.Replied serial rm reply) tt (serial, refl) s n refl refl
+    replied None = tt
+request_putting s n (ForgetRm rm) h = (tt, tt)
+request_putting s n (GetDti who) h = tt
+request_putting s n LmcpShow h = tt
+request_putting s n LmcpDump h = lines_putting _ _ (map answers.log_line (slot_records 0 n.durable.log))
 request_putting s n (Dump file) h = records_putting _ _ (answers.records_of n file)
 request_putting s n DumpJournal h = lines_putting _ _ (answers.entry_lines n.durable.units.first n.durable.units.entries)
 request_putting s n (Fuse writes choice) h = (tt, tt)

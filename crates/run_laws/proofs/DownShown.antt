@@ -1,4 +1,5 @@
 -- A statement shows that a node is down only where its disk failed or was stopped, and the node is down behind it.
+use Rattle.log_laws.specs.Slots.{slot_records, records_in, committed_of, waiting_for}
 use Rattle.std.proofs.Common.{◌≡◌, ℕ, ◌+◌, ◌⊎◌, List, [], ◌∷◌, ◌++◌, inl, inr, map, take, zero, suc, Bool, true, false, not, Option, Some, None, if◌then◌else◌, refl, sym, ◌∙◌, ap, subst}
 use Rattle.std.specs.Prelude.{length, nat_lt}
 use Rattle.std.specs.Option.{option_map, option_and_then}
@@ -7,11 +8,11 @@ use Rattle.vms_model.specs.Transactions as txn
 use Rattle.vms_model.specs.Transactions.{Outcome, Commit, Abort, Reason}
 use Rattle.transcript_model.specs.Lines as line
 use Rattle.transcript_model.specs.Lines.{Line, Cause}
-use Rattle.script_model.specs.Statements.{Statement, At, Deliver, LinkDown, Settle, Operation, Request, Init, Boot, Create, SetFile, StartTrans, AddBranch, StartBranch, Records, Direct, EndBranch, EndTrans, AbortTrans, Inquire, Dump, DumpJournal, Fuse, Crash, Clock}
+use Rattle.script_model.specs.Statements.{Statement, At, Deliver, LinkDown, Settle, Operation, Request, Init, Boot, Create, SetFile, StartTrans, AddBranch, StartBranch, Records, Direct, EndBranch, EndTrans, AbortTrans, Inquire, DeclareRm, JoinRm, AckEvent, ForgetRm, GetDti, LmcpShow, LmcpDump, Dump, DumpJournal, Fuse, Crash, Clock}
 use Rattle.records_model.specs.Records.{Change}
 use Rattle.unit_laws.specs.Journal as journal
 use Rattle.unit_laws.specs.Journal.{JournalEntry, entry_size}
-use Rattle.commit_protocol.specs.Messages.{Message}
+use Rattle.commit_protocol.specs.Messages.{Message, LogRecord}
 use Rattle.commit_protocol.specs.Table as table
 use Rattle.commit_protocol.specs.Table.{Branch, Notes, Accepts, Prepares, Settles, Leaves, Acknowledges, Releases, Undoes, Sends, Prints}
 use Rattle.commit_protocol.specs.Rows as rows
@@ -35,7 +36,7 @@ use Rattle.run_model.proofs.Refusing.{same_last}
 use Rattle.run_laws.specs.Laws.{DownsAreFailures}
 use Rattle.run_laws.proofs.Answering.{answer_passes}
 use Rattle.run_laws.proofs.Labelling.{served_up}
-use Rattle.run_laws.proofs.Passing.{AllPass, acknowledged_passes, append_passes, prepared_passes, printed_passes, released_passes}
+use Rattle.run_laws.proofs.Passing.{AllPass, acknowledged_passes, append_passes, prepared_passes, printed_passes, released_passes, owed_passes}
 use Rattle.run_laws.proofs.ShownSettled.{in_append}
 use Rattle.run_laws.proofs.Staying.{find_put}
 
@@ -87,7 +88,7 @@ act_passes (Sends m) moment n s = go (nat_lt (length s.wire) message_limit)
     go : (b : Bool) → AllPass is_undown ((if b then line.Sent (length s.wire + 1) m else line.Unsent m) ∷ [])
     go true = (refl, tt)
     go false = (refl, tt)
-act_passes (Prints l) moment n s = printed_passes is_undown (λ tid serial. refl) (λ tid reason. refl) l
+act_passes (Prints l) moment n s = printed_passes is_undown (λ event tid serial rm. refl) (λ tid serial. refl) (λ tid reason. refl) n l
 
 table_pass : (todo : List table.Act) (s : Shared) (n : Node) → RowsPass (table_rows todo s n)
 table_pass [] s n = tt
@@ -139,6 +140,10 @@ records_pass : (es : List (Key × List ℕ)) → RowsPass (map answers.shown_rec
 records_pass [] = tt
 records_pass (e ∷ es) = ((refl, tt), records_pass es)
 
+logs_pass : (es : List (ℕ × LogRecord)) → RowsPass (map answers.shown_line (map answers.log_line es))
+logs_pass [] = tt
+logs_pass (e ∷ es) = ((refl, tt), logs_pass es)
+
 branch_pass : (o : Option Branch) (does : Branch → List Row) → ((b : Branch) → RowsPass (does b)) → RowsPass (elim o [ Some b ↦ does b | None ↦ [] ])
 branch_pass (Some b) does h = h b
 branch_pass None does h = tt
@@ -169,6 +174,13 @@ request_pass s n (EndBranch label) = branch_pass (branch_labelled s n label) (λ
 request_pass s n (EndTrans label) = branch_pass (branch_labelled s n label) (λ b. told_rows s n (just (rows.EndTrans b.key.tid))) (λ b. told_pass s n (just (rows.EndTrans b.key.tid)))
 request_pass s n (AbortTrans label) = branch_pass (branch_labelled s n label) (λ b. told_rows s n (just (rows.AbortBranch b.key.serial txn.Aborted))) (λ b. told_pass s n (just (rows.AbortBranch b.key.serial txn.Aborted)))
 request_pass s n (Inquire who) = if_told s n (option_map (λ (b : Branch). just (rows.InquireBranch b.key.serial)) (branch_named s n who))
+request_pass s n (DeclareRm rm) = (owed_passes is_undown (λ event tid serial rm. refl) rm (waiting_for rm (committed_of (records_in n.durable.log))), tt)
+request_pass s n (JoinRm label rm) = branch_pass (branch_labelled s n label) (λ b. told_rows s n (just (rows.JoinRm b.key.serial rm))) (λ b. told_pass s n (just (rows.JoinRm b.key.serial rm)))
+request_pass s n (AckEvent who rm reply) = if_told s n (option_map (λ serial. just (rows.Replied serial rm reply)) (answers.serial_named s n who))
+request_pass s n (ForgetRm rm) = (tt, tt)
+request_pass s n (GetDti who) = tt
+request_pass s n LmcpShow = tt
+request_pass s n LmcpDump = logs_pass (slot_records 0 n.durable.log)
 request_pass s n (Dump file) = records_pass (answers.records_of n file)
 request_pass s n DumpJournal = entries_pass n.durable.units.entries n.durable.units.first
 request_pass s n (Fuse writes choice) = (tt, tt)

@@ -1,4 +1,5 @@
 -- What holds of each row of a task: of those that show a settlement, of the one that shows the last of a disk, and of all others.
+use Rattle.log_laws.specs.Slots.{slot_records, records_in, committed_of, waiting_for}
 use Rattle.std.proofs.Common.{◌≡◌, ℕ, ◌+◌, zero, suc, List, [], ◌∷◌, ◌++◌, map, take, Bool, true, false, Option, Some, None, if◌then◌else◌, refl, sym, subst}
 use Rattle.std.specs.Prelude.{nat_lt, length}
 use Rattle.std.specs.Option.{option_map, option_and_then}
@@ -7,13 +8,13 @@ use Rattle.vms_model.specs.Keys.{Key}
 use Rattle.vms_model.specs.Transactions.{Outcome, Abort, Reason, Aborted, SegFail}
 use Rattle.transcript_model.specs.Lines as line
 use Rattle.transcript_model.specs.Lines.{Line, Cause}
-use Rattle.script_model.specs.Statements.{Operation, Request, Init, Boot, Create, SetFile, StartTrans, AddBranch, StartBranch, Records, Direct, EndBranch, EndTrans, AbortTrans, Inquire, Dump, DumpJournal, Fuse, Crash, Clock}
+use Rattle.script_model.specs.Statements.{Operation, Request, Init, Boot, Create, SetFile, StartTrans, AddBranch, StartBranch, Records, Direct, EndBranch, EndTrans, AbortTrans, Inquire, DeclareRm, JoinRm, AckEvent, ForgetRm, GetDti, LmcpShow, LmcpDump, Dump, DumpJournal, Fuse, Crash, Clock}
 use Rattle.records_model.specs.Records.{Change}
 use Rattle.unit_laws.specs.Journal as journal
 use Rattle.unit_laws.specs.Journal.{JournalEntry, entry_size}
-use Rattle.commit_protocol.specs.Messages.{LogRecord}
+use Rattle.commit_protocol.specs.Messages.{LogRecord, Name, Reply}
 use Rattle.commit_protocol.specs.Table as table
-use Rattle.commit_protocol.specs.Table.{Branch, Key as BranchKey, Notes, Accepts, Prepares, Settles, Leaves, Acknowledges, Releases, Undoes, Sends, Prints, nothing_left, waits_for, holds, acknowledged}
+use Rattle.commit_protocol.specs.Table.{Branch, Key as BranchKey, Notes, Accepts, Prepares, Settles, Leaves, Acknowledges, Releases, Undoes, Sends, Prints, nothing_left, waits_for, holds, acknowledged, without_rm}
 use Rattle.commit_protocol.specs.Rows as rows
 use Rattle.commit_protocol.specs.Rows.{row}
 use Rattle.run_model.specs.World as world
@@ -21,7 +22,7 @@ use Rattle.run_model.specs.World.{World, Shared, Node, File, Label, Settlement, 
 use Rattle.run_model.specs.Answers as answers
 use Rattle.run_model.specs.Answers.{Row, Service, Task, Serves, Ticks, Takes, Hears, LosesLink, RunsDown, Restarts, task_service, service, refused_before_reading, told_if, told_rows, table_rows, begins, just, boot_rows, shown_by, settled_line, forgot_lines, acknowledged_lines, released_lines, table_lines, last_line, last_lines, branch_labelled, branch_named, creates, operated, directed, changes_at, keys_at, records_of, shown_record, entry_line, entry_lines, shown_line, prepared_line, prepared_lines, silent}
 use Rattle.run_model.specs.Steps.{node_after, node_after_rows, rows_if}
-use Rattle.run_laws.proofs.Passing.{AllPass, acknowledged_passes, append_passes, prepared_passes, printed_passes, released_passes}
+use Rattle.run_laws.proofs.Passing.{AllPass, acknowledged_passes, append_passes, prepared_passes, printed_passes, released_passes, owed_passes}
 
 -- A line that shows no settlement, be it as the last of a disk.
 
@@ -113,7 +114,7 @@ module _ (P : Row → Node → Type 0) (plain : (act : Option Act) (ls : List Li
       go : (b : Bool) → P (record { act = Some (Tables (Sends m) (next_moment n)); lines = (if b then line.Sent (length s.wire + 1) m else line.Unsent m) ∷ [] }) n
       go true = plain (Some (Tables (Sends m) (next_moment n))) (line.Sent (length s.wire + 1) m ∷ []) n (refl, tt) refl (refl, tt)
       go false = plain (Some (Tables (Sends m) (next_moment n))) (line.Unsent m ∷ []) n (refl, tt) refl (refl, tt)
-  act_each (Prints l) n s = plain (Some (Tables (Prints l) (next_moment n))) (table_lines l) n (printed_passes is_plain (λ tid serial. refl) (λ tid reason. refl) l) refl (printed_passes is_voteless (λ tid serial. refl) (λ tid reason. refl) l)
+  act_each (Prints l) n s = plain (Some (Tables (Prints l) (next_moment n))) (table_lines n l) n (printed_passes is_plain (λ event tid serial rm. refl) (λ tid serial. refl) (λ tid reason. refl) n l) refl (printed_passes is_voteless (λ event tid serial rm. refl) (λ tid serial. refl) (λ tid reason. refl) n l)
 
   table_each : (todo : List table.Act) (s : Shared) (n : Node) → EachRow P (table_rows todo s n) n
   table_each [] s n = tt
@@ -153,6 +154,14 @@ module _ (P : Row → Node → Type 0) (plain : (act : Option Act) (ls : List Li
   records_each : (es : List (Key × List ℕ)) (n : Node) → EachRow P (map shown_record es) n
   records_each [] n = tt
   records_each (e ∷ es) n = (plain None (line.Record e.0 e.1 ∷ []) n (refl, tt) refl (refl, tt), records_each es n)
+
+  logs_each : (es : List (ℕ × LogRecord)) (n : Node) → EachRow P (map shown_line (map answers.log_line es)) n
+  logs_each [] n = tt
+  logs_each (e ∷ es) n = (plain None (answers.log_line e ∷ []) n (refl, tt) refl (refl, tt), logs_each es n)
+
+  replied_each : (s : Shared) (n : Node) (rm : Name) (reply : Reply) (o : Option Id) → EachRow P (told_if s n (option_map (λ serial. just (rows.Replied serial rm reply)) o)) n
+  replied_each s n rm reply (Some serial) = told_each s n (just (rows.Replied serial rm reply)) tt
+  replied_each s n rm reply None = tt
 
   branch_each : (n : Node) (o : Option Branch) (does : Branch → List Row) → ((b : Branch) → EachRow P (does b) n) → EachRow P (elim o [ Some b ↦ does b | None ↦ [] ]) n
   branch_each n (Some b) does h = h b
@@ -200,6 +209,15 @@ module _ (P : Row → Node → Type 0) (plain : (act : Option Act) (ls : List Li
   request_each s n (EndTrans label) = branch_each n (branch_labelled s n label) (λ b. told_rows s n (just (rows.EndTrans b.key.tid))) (λ b. told_each s n (just (rows.EndTrans b.key.tid)) tt)
   request_each s n (AbortTrans label) = branch_each n (branch_labelled s n label) (λ b. told_rows s n (just (rows.AbortBranch b.key.serial Aborted))) (λ b. told_each s n (just (rows.AbortBranch b.key.serial Aborted)) tt)
   request_each s n (Inquire who) = asked_each s n (branch_named s n who)
+  request_each s n (DeclareRm rm) =
+      let owed = waiting_for rm (committed_of (records_in n.durable.log)) in
+      (plain (Some (world.Declares (n.volatile.declared ++ rm ∷ []))) (map (answers.owed_line rm) owed) n (owed_passes is_plain (λ event tid serial rm. refl) rm owed) refl (owed_passes is_voteless (λ event tid serial rm. refl) rm owed), tt)
+  request_each s n (JoinRm label rm) = branch_each n (branch_labelled s n label) (λ b. told_rows s n (just (rows.JoinRm b.key.serial rm))) (λ b. told_each s n (just (rows.JoinRm b.key.serial rm)) tt)
+  request_each s n (AckEvent who rm reply) = replied_each s n rm reply (answers.serial_named s n who)
+  request_each s n (ForgetRm rm) = one_plain (world.Declares (without_rm rm n.volatile.declared)) n refl tt
+  request_each s n (GetDti who) = tt
+  request_each s n LmcpShow = tt
+  request_each s n LmcpDump = logs_each (slot_records 0 n.durable.log) n
   request_each s n (Dump file) = records_each (records_of n file) n
   request_each s n DumpJournal = entries_each n.durable.units.entries n.durable.units.first n
   request_each s n (Fuse writes choice) = one_plain (world.Arms writes choice) n refl tt

@@ -144,7 +144,7 @@ module _ (x : Id) where
 -- An END_TRANS that is whole is not answered so.
 end_unbroken : (todo : List table.Act) (given : Line) (cause : Cause) → (given ≡ line.Broken cause → ⊥) → end_answer todo given ≡ line.Broken cause → ⊥
 end_unbroken [] given cause h e = h e
-end_unbroken (table.Notes b ∷ todo) given cause h e = end_unbroken todo (line.Pending (answers.missing b.accepted)) cause (λ k. let no : ⊥ = cc in no) e
+end_unbroken (table.Notes b ∷ todo) given cause h e = end_unbroken todo (line.Pending (answers.missing b.accepted) (answers.unreplied b.managers)) cause (λ k. let no : ⊥ = cc in no) e
 end_unbroken (Settles k Commit reason r ∷ todo) given cause h e = let no : ⊥ = cc in no
 end_unbroken (Settles k Abort reason r ∷ todo) given cause h e = let no : ⊥ = cc in no
 end_unbroken (_ ∷ todo) given cause h e = end_unbroken todo given cause h e

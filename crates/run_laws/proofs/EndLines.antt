@@ -1,4 +1,5 @@
 -- A task shows how a transaction ended only behind the line of that settlement, where the first branch was ending.
+use Rattle.log_laws.specs.Slots.{slot_records, records_in, committed_of, waiting_for}
 use Rattle.std.proofs.Common.{◌≡◌, ℕ, ◌+◌, ◌⊎◌, List, [], ◌∷◌, ◌++◌, inl, inr, map, take, zero, suc, Bool, true, false, Option, Some, None, if◌then◌else◌, refl, sym, ◌∙◌, subst}
 use Rattle.std.specs.Prelude.{length, nat_lt}
 use Rattle.std.specs.Option.{option_map, option_and_then}
@@ -7,11 +8,11 @@ use Rattle.vms_model.specs.Keys.{Key}
 use Rattle.vms_model.specs.Transactions.{Outcome, Commit, Abort, Reason, Aborted}
 use Rattle.transcript_model.specs.Lines as line
 use Rattle.transcript_model.specs.Lines.{Line, Cause}
-use Rattle.script_model.specs.Statements.{Operation, Request, Init, Boot, Create, SetFile, StartTrans, AddBranch, StartBranch, Records, Direct, EndBranch, EndTrans, AbortTrans, Inquire, Dump, DumpJournal, Fuse, Crash, Clock}
+use Rattle.script_model.specs.Statements.{Operation, Request, Init, Boot, Create, SetFile, StartTrans, AddBranch, StartBranch, Records, Direct, EndBranch, EndTrans, AbortTrans, Inquire, DeclareRm, JoinRm, AckEvent, ForgetRm, GetDti, LmcpShow, LmcpDump, Dump, DumpJournal, Fuse, Crash, Clock}
 use Rattle.records_model.specs.Records.{Change}
 use Rattle.unit_laws.specs.Journal as journal
 use Rattle.unit_laws.specs.Journal.{JournalEntry, entry_size}
-use Rattle.commit_protocol.specs.Messages.{Reply, Name}
+use Rattle.commit_protocol.specs.Messages.{Reply, Name, LogRecord}
 use Rattle.commit_protocol.specs.Table as table
 use Rattle.commit_protocol.specs.Table.{Branch, Key as BranchKey, Notes, Accepts, Prepares, Settles, Leaves, Acknowledges, Releases, Undoes, Sends, Prints}
 use Rattle.commit_protocol.specs.Rows as rows
@@ -25,7 +26,7 @@ use Rattle.run_model.specs.Steps.{Choice, Whole, WithoutMemory, Unpowered, Cut, 
 use Rattle.run_model.proofs.Refusing.{not_ready}
 use Rattle.run_laws.proofs.EndRows.{ActEnds, AllEnd, IsEndingIn, Seen, SettlesSo, row_ends}
 use Rattle.run_laws.proofs.Labelling.{served_up}
-use Rattle.run_laws.proofs.Passing.{AllPass, acknowledged_passes, append_passes, prepared_passes, released_passes}
+use Rattle.run_laws.proofs.Passing.{AllPass, acknowledged_passes, append_passes, prepared_passes, released_passes, owed_passes, told_passes}
 
 -- the line that shows how the first branch of a transaction was settled
 abbrev pub ended_line : Id → Option Reason → ℕ → Line
@@ -137,7 +138,7 @@ module _ (P : Id → Type 0) where
       go false = (tt, tt)
   act_lines (Prints (table.Started k)) moment n s seen ls f h = (tt, tt)
   act_lines (Prints (table.Ended t reason)) moment n s seen ls f h = ((h.0, f t reason h.1), tt)
-  act_lines (Prints (table.Told event k rm)) moment n s seen ls f h = tt
+  act_lines (Prints (table.Told event k rm)) moment n s seen ls f h = unended ls _ (told_passes is_unended (λ event tid serial rm. refl) event k rm (answers.is_declared n rm))
 
   in_more : (l : Line) (xs ls : List Line) → In l ls → In l (xs ++ ls)
   in_more l [] ls i = i
@@ -191,8 +192,8 @@ ending_up s n _ tid first h = (h, served_up n _ first)
 none_seen : (t : Id) (reason : Option Reason) → Seen [] t reason → IsShownIn [] t reason
 none_seen t reason (a, i, e) = absurd i
 
-event_ends : (e : Event) (s : Shared) (n m : Node) → ((serial : Id) (rm : Name) (reply : Reply) → e ≡ rows.Replied serial rm reply → ⊥) → RowsEnd (IsEndingIn n.volatile.branches) [] (table_rows (row (tm_of n) e) s m)
-event_ends e s n m h = table_end (IsEndingIn n.volatile.branches) (row (tm_of n) e) s m [] [] none_seen (row_ends (tm_of n) e h)
+event_ends : (e : Event) (s : Shared) (n m : Node) → RowsEnd (IsEndingIn n.volatile.branches) [] (table_rows (row (tm_of n) e) s m)
+event_ends e s n m = table_end (IsEndingIn n.volatile.branches) (row (tm_of n) e) s m [] [] none_seen (row_ends (tm_of n) e)
 
 module _ (P : Id → Type 0) where
   created_ends : (n : Node) (made : ℕ → world.File) (need : ℕ) → RowsEnd P [] (answers.creates n made need)
@@ -230,6 +231,10 @@ module _ (P : Id → Type 0) where
   records_ends [] seen = tt
   records_ends (e ∷ es) seen = ((tt, tt), records_ends es _)
 
+  logs_ends : (es : List (ℕ × LogRecord)) (seen : List Line) → RowsEnd P seen (map answers.shown_line (map answers.log_line es))
+  logs_ends [] seen = tt
+  logs_ends (e ∷ es) seen = ((tt, tt), logs_ends es _)
+
   branch_ends : (o : Option Branch) (does : Branch → List Row) → ((b : Branch) → RowsEnd P [] (does b)) → RowsEnd P [] (elim o [ Some b ↦ does b | None ↦ [] ])
   branch_ends (Some b) does h = h b
   branch_ends None does h = tt
@@ -255,11 +260,15 @@ begins_ends s n (Some l) = go l.bid
   where
     go : (o : Option Id) → RowsEnd (IsEndingIn n.volatile.branches) [] (told_if s n (option_map (λ bid. let t : answers.Telling = record { before = world.Draws ∷ world.Numbers l.name (next_id n) ∷ []; event = rows.Begin l.tid (next_id n) bid } in t) o))
     go None = tt
-    go (Some bid) = (tt, (tt, event_ends (rows.Begin l.tid (next_id n) bid) (answers.all_shared (world.Draws ∷ world.Numbers l.name (next_id n) ∷ []) s) n (answers.all_acted (world.Draws ∷ world.Numbers l.name (next_id n) ∷ []) n) (λ x y z e. let no : ⊥ = cc in no)))
+    go (Some bid) = (tt, (tt, event_ends (rows.Begin l.tid (next_id n) bid) (answers.all_shared (world.Draws ∷ world.Numbers l.name (next_id n) ∷ []) s) n (answers.all_acted (world.Draws ∷ world.Numbers l.name (next_id n) ∷ []) n)))
 
 asked_ends : (s : Shared) (n : Node) (o : Option Branch) → RowsEnd (IsEndingIn n.volatile.branches) [] (told_if s n (option_map (λ (b : Branch). just (rows.InquireBranch b.key.serial)) o))
-asked_ends s n (Some b) = event_ends (rows.InquireBranch b.key.serial) s n n (λ x y z e. let no : ⊥ = cc in no)
+asked_ends s n (Some b) = event_ends (rows.InquireBranch b.key.serial) s n n
 asked_ends s n None = tt
+
+replied_ends : (s : Shared) (n : Node) (rm : Name) (reply : Reply) (o : Option Id) → RowsEnd (IsEndingIn n.volatile.branches) [] (told_if s n (option_map (λ serial. just (rows.Replied serial rm reply)) o))
+replied_ends s n rm reply (Some serial) = event_ends (rows.Replied serial rm reply) s n n
+replied_ends s n rm reply None = tt
 
 request_ends : (s : Shared) (n : Node) (request : Request) → RowsEnd (EndingAt n (Serves request)) [] ((service request).rows s n)
 request_ends s n (Init slots blocks) = tt
@@ -267,14 +276,21 @@ request_ends s n Boot = boot_ends (EndingAt n (Serves Boot)) s n
 request_ends s n (Create file bucket size form) = created_ends (IsEndingIn n.volatile.branches) n _ _
 request_ends s n (SetFile file setting) = (tt, tt)
 request_ends s n (StartTrans label seconds) = (tt, (tt, (tt, tt)))
-request_ends s n (AddBranch label other new) = branch_ends (IsEndingIn n.volatile.branches) (branch_labelled s n label) (λ b. told_rows s n (answers.adds n other new b)) (λ b. (tt, (tt, event_ends (rows.Authorise b.key.tid (next_id n)) _ n _ (λ x y z e. let no : ⊥ = cc in no))))
+request_ends s n (AddBranch label other new) = branch_ends (IsEndingIn n.volatile.branches) (branch_labelled s n label) (λ b. told_rows s n (answers.adds n other new b)) (λ b. (tt, (tt, event_ends (rows.Authorise b.key.tid (next_id n)) _ n _)))
 request_ends s n (StartBranch label) = begins_ends s n (world.labelled n.name label s.labels)
 request_ends s n (Records label file op) = branch_ends (IsEndingIn n.volatile.branches) (branch_labelled s n label) (λ b. answers.operated n file op b ∷ []) (λ b. operated_ends (IsEndingIn n.volatile.branches) n file op b)
 request_ends s n (Direct file op) = directed_ends (IsEndingIn n.volatile.branches) n file (answers.changes_at n file op)
-request_ends s n (EndBranch label) = branch_ends (IsEndingIn n.volatile.branches) (branch_labelled s n label) (λ b. told_rows s n (just (rows.EndBranch b.key.serial))) (λ b. event_ends (rows.EndBranch b.key.serial) s n n (λ x y z e. let no : ⊥ = cc in no))
-request_ends s n (EndTrans label) = branch_ends (IsEndingIn n.volatile.branches) (branch_labelled s n label) (λ b. told_rows s n (just (rows.EndTrans b.key.tid))) (λ b. event_ends (rows.EndTrans b.key.tid) s n n (λ x y z e. let no : ⊥ = cc in no))
-request_ends s n (AbortTrans label) = branch_ends (IsEndingIn n.volatile.branches) (branch_labelled s n label) (λ b. told_rows s n (just (rows.AbortBranch b.key.serial Aborted))) (λ b. event_ends (rows.AbortBranch b.key.serial Aborted) s n n (λ x y z e. let no : ⊥ = cc in no))
+request_ends s n (EndBranch label) = branch_ends (IsEndingIn n.volatile.branches) (branch_labelled s n label) (λ b. told_rows s n (just (rows.EndBranch b.key.serial))) (λ b. event_ends (rows.EndBranch b.key.serial) s n n)
+request_ends s n (EndTrans label) = branch_ends (IsEndingIn n.volatile.branches) (branch_labelled s n label) (λ b. told_rows s n (just (rows.EndTrans b.key.tid))) (λ b. event_ends (rows.EndTrans b.key.tid) s n n)
+request_ends s n (AbortTrans label) = branch_ends (IsEndingIn n.volatile.branches) (branch_labelled s n label) (λ b. told_rows s n (just (rows.AbortBranch b.key.serial Aborted))) (λ b. event_ends (rows.AbortBranch b.key.serial Aborted) s n n)
 request_ends s n (Inquire who) = asked_ends s n (branch_named s n who)
+request_ends s n (DeclareRm rm) = (unended (IsEndingIn n.volatile.branches) [] _ (owed_passes is_unended (λ event tid serial rm. refl) rm (waiting_for rm (committed_of (records_in n.durable.log)))), tt)
+request_ends s n (JoinRm label rm) = branch_ends (IsEndingIn n.volatile.branches) (branch_labelled s n label) (λ b. told_rows s n (just (rows.JoinRm b.key.serial rm))) (λ b. event_ends (rows.JoinRm b.key.serial rm) s n n)
+request_ends s n (AckEvent who rm reply) = replied_ends s n rm reply (answers.serial_named s n who)
+request_ends s n (ForgetRm rm) = (tt, tt)
+request_ends s n (GetDti who) = tt
+request_ends s n LmcpShow = tt
+request_ends s n LmcpDump = logs_ends (IsEndingIn n.volatile.branches) (slot_records 0 n.durable.log) []
 request_ends s n (Dump file) = records_ends (IsEndingIn n.volatile.branches) (answers.records_of n file) []
 request_ends s n DumpJournal = entries_ends (EndingAt n (Serves DumpJournal)) n.durable.units.entries n.durable.units.first []
 request_ends s n (Fuse writes choice) = (tt, tt)
@@ -283,11 +299,11 @@ request_ends s n (Clock now) = (tt, tt)
 
 task_ends : (s : Shared) (n : Node) (t : Task) → RowsEnd (EndingAt n t) [] ((task_service t).rows s n)
 task_ends s n (Serves request) = request_ends s n request
-task_ends s n Ticks = event_ends (rows.Clock n.clock) s n n (λ x y z e. let no : ⊥ = cc in no)
-task_ends s n (Takes m) = event_ends (Got m) s n n (λ x y z e. let no : ⊥ = cc in no)
-task_ends s n (Hears m) = ((tt, tt), table_end (IsEndingIn n.volatile.branches) (row (tm_of n) (Got m)) s n [] _ (λ t reason h. absurd h.1) (row_ends (tm_of n) (Got m) (λ x y z e. let no : ⊥ = cc in no)))
-task_ends s n (LosesLink other) = event_ends (rows.LinkDown other) s n n (λ x y z e. let no : ⊥ = cc in no)
-task_ends s n RunsDown = event_ends rows.RunDown s n n (λ x y z e. let no : ⊥ = cc in no)
+task_ends s n Ticks = event_ends (rows.Clock n.clock) s n n
+task_ends s n (Takes m) = event_ends (Got m) s n n
+task_ends s n (Hears m) = ((tt, tt), table_end (IsEndingIn n.volatile.branches) (row (tm_of n) (Got m)) s n [] _ (λ t reason h. absurd h.1) (row_ends (tm_of n) (Got m)))
+task_ends s n (LosesLink other) = event_ends (rows.LinkDown other) s n n
+task_ends s n RunsDown = event_ends rows.RunDown s n n
 task_ends s n Restarts = boot_ends (EndingAt n Restarts) s n
 
 closing_unended : (n : Node) (t : Task) → AllPass is_unended ((task_service t).closing_lines n)

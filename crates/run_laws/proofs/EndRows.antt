@@ -5,8 +5,8 @@ use Rattle.vms_model.specs.Ids.{Id}
 use Rattle.vms_model.specs.Transactions.{Outcome, Reason, Aborted, Vetoed, SyncFail, Timeout, CommFail, SegFail}
 use Rattle.vms_model.specs.Transactions as settles
 use Rattle.commit_protocol.specs.Messages.{Name, Kind, Join, JoinOk, JoinNo, Prepare, Yes, ReadOnly, No, Commit, Abort, Ack, Inquire, Message, RmEvent, PrepareEvent, CommitEvent, AbortEvent, Reply, LogRecord, same_id}
-use Rattle.commit_protocol.specs.Table.{Key, Branch, State, Joining, Active, Ending, Voting, Prepared, Child, Act, Notes, Accepts, Prepares, Settles, Leaves, Acknowledges, Sends, Prints, Ended, Tm, first, key_of, is_first, find, find_serial, waits_for, holding}
-use Rattle.commit_protocol.specs.Rows.{down, up, sends_all, to_each, tells, joined, interested, serials, yes_of, all_voted, all_replied, has_bid, has_serial, others, all_taken, joined_as, ended, told_abort, aborts_telling, aborts, undone_quietly, refuses, commits, commits_if_all, refuses_join, grants_join, join_state, join_row, join_ok_state, join_ok_row, join_no_state, join_no_row, which_event, ending, begins_ending, end_trans_state, end_trans_row, abort_running, abort_by_state, abort_branch_row, authorise_state, authorise_row, lacks_vote, with_vote, vote_state, vote_row, refused, no_state, no_row, answer_state, answer, inquire_row, is_empty, casts, casts_if_all, voting, begins_vote, asked_branch, votes_if_ended, prepare_state, prepare_row, ended_branch, end_branch_state, end_branch_row, commit_state, commit_row, abort_state, abort_row, note_state, note_row, has_changed, with_manager, asks_state, asks_row, aborted_if, sweep, is_due, is_cut_off, is_under, is_other, got, row, Event, Start, Authorise, Begin, JoinRm, Changed, EndTrans, EndBranch, AbortBranch, Replied, Got, Clock, LinkDown, RunDown, InquireBranch}
+use Rattle.commit_protocol.specs.Table.{Key, Branch, State, Joining, Active, Ending, Voting, Prepared, Child, Act, Notes, Accepts, Prepares, Settles, Leaves, Acknowledges, Releases, Sends, Prints, Ended, Tm, first, key_of, is_first, find, find_serial, waits_for, holds, holding}
+use Rattle.commit_protocol.specs.Rows.{down, up, sends_all, to_each, tells, joined, interested, serials, yes_of, all_voted, all_replied, has_bid, has_serial, others, all_taken, joined_as, ended, told_abort, aborts_telling, aborts, undone_quietly, refuses, commits, commits_if_all, refuses_join, grants_join, join_state, join_row, join_ok_state, join_ok_row, join_no_state, join_no_row, which_event, ending, begins_ending, end_trans_state, end_trans_row, abort_running, abort_by_state, abort_branch_row, authorise_state, authorise_row, lacks_vote, with_vote, vote_state, vote_row, refused, no_state, no_row, answer_state, answer, inquire_row, is_empty, casts, casts_if_all, voting, begins_vote, asked_branch, votes_if_ended, prepare_state, prepare_row, ended_branch, end_branch_state, end_branch_row, commit_state, commit_row, abort_state, abort_row, with_reply, is_veto, is_forget, first_reply, branch_reply, reply_state, reply_row, note_state, note_row, has_changed, with_manager, asks_state, asks_row, aborted_if, sweep, is_due, is_cut_off, is_under, is_other, got, row, Event, Start, Authorise, Begin, JoinRm, Changed, EndTrans, EndBranch, AbortBranch, Replied, Got, Clock, LinkDown, RunDown, InquireBranch}
 use Rattle.commit_protocol.specs.World.{In}
 use Rattle.commit_protocol.proofs.Lists.{find-key, same_key-true}
 use Rattle.run_laws.proofs.Noting.{find_in, serial_in}
@@ -268,6 +268,28 @@ module _ (P : Id → Type 0) where
   abort_branch_end why None h = tt
   abort_branch_end why (Some b) h = by_state_end [] why b (h b refl)
 
+  reply_end : (s : Id) (x : Name) (r : Reply) (o : Option Branch) (rs : List LogRecord) → ((b : Branch) → o ≡ Some b → EndsFirst b) → AllEnd [] (reply_row s x r o rs)
+  reply_end s x r None rs h = if_end [] (is_forget r && list_any (λ q. holds s x q) rs) (Releases s x ∷ []) [] (tt, tt) tt
+  reply_end s x r (Some b) rs h = go b.state
+    where
+      at_first : (t : Bool) → is_first b ≡ t → AllEnd [] (if t then first_reply x r b else [])
+      at_first true e =
+          let k = same_key-true b.key (first b.key.tid) e in
+          if_end [] (is_veto r) (aborts Vetoed (with_reply x r b)) (Notes (with_reply x r b) ∷ commits_if_all (with_reply x r b) (ended b b.state None))
+          (aborts_end [] b.accepted Vetoed (with_reply x r b) (λ q. (h b refl q k, k)))
+          (tt, commits_end _ (with_reply x r b) (ended b b.state None) (λ wider seen. ended_end wider b b.state None (λ q. (h b refl q k, seen k))))
+      at_first false e = tt
+
+      at_other : AllEnd [] (branch_reply x r b)
+      at_other = if_end [] (is_veto r) (refuses Vetoed (with_reply x r b)) (Notes (with_reply x r b) ∷ casts_if_all (with_reply x r b)) (refuses_end [] Vetoed (with_reply x r b)) (tt, casts_end _ (with_reply x r b))
+
+      go : (z : State) → AllEnd [] (reply_state x r b z)
+      go Ending = at_first (is_first b) refl
+      go Voting = if_end [] b.asked (branch_reply x r b) [] at_other tt
+      go Joining = tt
+      go Active = tt
+      go Prepared = tt
+
   sweep_end : (seen : List Act) (why : Reason) (chosen : Branch → Bool) (bs : List Branch) → ((b : Branch) → In b bs → EndsFirst b) → AllEnd seen (sweep why chosen bs)
   sweep_end seen why chosen [] h = tt
   sweep_end seen why chosen (b ∷ bs) h = append_end seen (aborted_if (chosen b) why b) (sweep why chosen bs) (go (chosen b)) (sweep_end seen why chosen bs (λ x i. h x (inr i)))
@@ -280,8 +302,8 @@ module _ (P : Id → Type 0) where
 abbrev pub IsEndingIn : List Branch → Id → Type 0
 IsEndingIn bs t = (b : Branch) × In b bs × (b.key ≡ first t) × (b.state ≡ Ending)
 
-pub row_ends : (tm : Tm) (e : Event) → ((s : Id) (rm : Name) (reply : Reply) → e ≡ Replied s rm reply → ⊥) → AllEnd (IsEndingIn tm.table) [] (row tm e)
-row_ends tm e h = go e h
+pub row_ends : (tm : Tm) (e : Event) → AllEnd (IsEndingIn tm.table) [] (row tm e)
+row_ends tm e = go e
   where
     P : Id → Type 0
     P = IsEndingIn tm.table
@@ -308,18 +330,18 @@ row_ends tm e h = go e h
     message m Ack = if_end P [] (list_any (λ r. waits_for (key_of m) r) tm.records) (Acknowledges (key_of m) ∷ []) [] (tt, tt) tt
     message m Inquire = inquire_end P m (find (first m.tid) tm.table) tm.records
 
-    go : (e : Event) → ((s : Id) (rm : Name) (reply : Reply) → e ≡ Replied s rm reply → ⊥) → AllEnd P [] (row tm e)
-    go (Start t due) h = (tt, tt)
-    go (Authorise t bid) h = authorise_end P bid (find (first t) tm.table)
-    go (Begin t s bid) h = (tt, (tt, tt))
-    go (JoinRm s x) h = note_end P (with_manager x) (find_serial s tm.table)
-    go (Changed s) h = note_end P has_changed (find_serial s tm.table)
-    go (EndTrans t) h = end_trans_end P (find (first t) tm.table) (at t)
-    go (EndBranch s) h = end_branch_end P (find_serial s tm.table)
-    go (AbortBranch s why) h = abort_branch_end P why (find_serial s tm.table) (λ b is. among b (serial_in s tm.table b is))
-    go (Replied s x r) h = absurd (h s x r refl)
-    go (Got m) h = message m m.kind
-    go (Clock now) h = sweep_end P [] Timeout (is_due now) tm.table among
-    go (LinkDown x) h = append_end P [] (sweep CommFail (is_cut_off x) tm.table) (sweep CommFail (is_under x) tm.table) (sweep_end P [] CommFail (is_cut_off x) tm.table among) (sweep_end P [] CommFail (is_under x) tm.table among)
-    go RunDown h = append_end P [] (sweep SegFail is_first tm.table) (sweep SegFail is_other tm.table) (sweep_end P [] SegFail is_first tm.table among) (sweep_end P [] SegFail is_other tm.table among)
-    go (InquireBranch s) h = asks_end P (find_serial s tm.table)
+    go : (e : Event) → AllEnd P [] (row tm e)
+    go (Start t due) = (tt, tt)
+    go (Authorise t bid) = authorise_end P bid (find (first t) tm.table)
+    go (Begin t s bid) = (tt, (tt, tt))
+    go (JoinRm s x) = note_end P (with_manager x) (find_serial s tm.table)
+    go (Changed s) = note_end P has_changed (find_serial s tm.table)
+    go (EndTrans t) = end_trans_end P (find (first t) tm.table) (at t)
+    go (EndBranch s) = end_branch_end P (find_serial s tm.table)
+    go (AbortBranch s why) = abort_branch_end P why (find_serial s tm.table) (λ b is. among b (serial_in s tm.table b is))
+    go (Replied s x r) = reply_end P s x r (find_serial s tm.table) tm.records (λ b is. among b (serial_in s tm.table b is))
+    go (Got m) = message m m.kind
+    go (Clock now) = sweep_end P [] Timeout (is_due now) tm.table among
+    go (LinkDown x) = append_end P [] (sweep CommFail (is_cut_off x) tm.table) (sweep CommFail (is_under x) tm.table) (sweep_end P [] CommFail (is_cut_off x) tm.table among) (sweep_end P [] CommFail (is_under x) tm.table among)
+    go RunDown = append_end P [] (sweep SegFail is_first tm.table) (sweep SegFail is_other tm.table) (sweep_end P [] SegFail is_first tm.table among) (sweep_end P [] SegFail is_other tm.table among)
+    go (InquireBranch s) = asks_end P (find_serial s tm.table)

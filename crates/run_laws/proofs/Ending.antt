@@ -192,14 +192,14 @@ ending_commits b e = go (all_voted b.accepted && all_replied (ending b).managers
     event : RmEvent
     event = which_event b.changed b.accepted b.managers
 
-    passes : end_answer (begins_ending b) line.Normal ≡ end_answer (commits_if_all (ending b) []) (line.Pending (answers.missing b.accepted))
-    passes = sends_answer sent (tells event b.key (joined b.managers) ++ commits_if_all (ending b) []) (line.Pending (answers.missing b.accepted)) ∙ tells_answer event b.key (joined b.managers) (commits_if_all (ending b) []) (line.Pending (answers.missing b.accepted))
+    passes : end_answer (begins_ending b) line.Normal ≡ end_answer (commits_if_all (ending b) []) (line.Pending (answers.missing b.accepted) (answers.unreplied (ending b).managers))
+    passes = sends_answer sent (tells event b.key (joined b.managers) ++ commits_if_all (ending b) []) (line.Pending (answers.missing b.accepted) (answers.unreplied (ending b).managers)) ∙ tells_answer event b.key (joined b.managers) (commits_if_all (ending b) []) (line.Pending (answers.missing b.accepted) (answers.unreplied (ending b).managers))
 
     go : (t : Bool) → all_voted b.accepted && all_replied (ending b).managers ≡ t → end_answer (begins_ending b) line.Normal ≡ line.Normal → Settled b (begins_ending b) Commit Aborted
     go true all k =
         let acts : commits_if_all (ending b) [] ≡ rows.commits (ending b) [] = rw all refl in
         record { rec = rows.owing b.key (rows.yes_of b.accepted) (table.holding (ending b).managers); there = inr (in_right _ (sends_all sent) _ (in_right _ (tells event b.key (joined b.managers)) _ (subst (In _) (sym acts) (inl refl)))) }
-    go false all k = let acts : commits_if_all (ending b) [] ≡ [] = rw all refl in let no : line.Pending (answers.missing b.accepted) ≡ line.Normal = sym (passes ∙ ap (λ xs. end_answer xs (line.Pending (answers.missing b.accepted))) acts) ∙ k in let none : ⊥ = cc in absurd none
+    go false all k = let acts : commits_if_all (ending b) [] ≡ [] = rw all refl in let no : line.Pending (answers.missing b.accepted) (answers.unreplied (ending b).managers) ≡ line.Normal = sym (passes ∙ ap (λ xs. end_answer xs (line.Pending (answers.missing b.accepted) (answers.unreplied (ending b).managers))) acts) ∙ k in let none : ⊥ = cc in absurd none
 
 ending_aborts : (b : Branch) (reason : Reason) → end_answer (begins_ending b) line.Normal ≡ line.TransactionAborted reason → ⊥
 ending_aborts b reason e = go (all_voted b.accepted && all_replied (ending b).managers) refl
@@ -210,12 +210,12 @@ ending_aborts b reason e = go (all_voted b.accepted && all_replied (ending b).ma
     event : RmEvent
     event = which_event b.changed b.accepted b.managers
 
-    passes : end_answer (begins_ending b) line.Normal ≡ end_answer (commits_if_all (ending b) []) (line.Pending (answers.missing b.accepted))
-    passes = sends_answer sent (tells event b.key (joined b.managers) ++ commits_if_all (ending b) []) (line.Pending (answers.missing b.accepted)) ∙ tells_answer event b.key (joined b.managers) (commits_if_all (ending b) []) (line.Pending (answers.missing b.accepted))
+    passes : end_answer (begins_ending b) line.Normal ≡ end_answer (commits_if_all (ending b) []) (line.Pending (answers.missing b.accepted) (answers.unreplied (ending b).managers))
+    passes = sends_answer sent (tells event b.key (joined b.managers) ++ commits_if_all (ending b) []) (line.Pending (answers.missing b.accepted) (answers.unreplied (ending b).managers)) ∙ tells_answer event b.key (joined b.managers) (commits_if_all (ending b) []) (line.Pending (answers.missing b.accepted) (answers.unreplied (ending b).managers))
 
     go : (t : Bool) → all_voted b.accepted && all_replied (ending b).managers ≡ t → ⊥
-    go true all = let acts : commits_if_all (ending b) [] ≡ rows.commits (ending b) [] = rw all refl in let no : line.Normal ≡ line.TransactionAborted reason = sym (passes ∙ ap (λ xs. end_answer xs (line.Pending (answers.missing b.accepted))) acts) ∙ e in let none : ⊥ = cc in none
-    go false all = let acts : commits_if_all (ending b) [] ≡ [] = rw all refl in let no : line.Pending (answers.missing b.accepted) ≡ line.TransactionAborted reason = sym (passes ∙ ap (λ xs. end_answer xs (line.Pending (answers.missing b.accepted))) acts) ∙ e in let none : ⊥ = cc in none
+    go true all = let acts : commits_if_all (ending b) [] ≡ rows.commits (ending b) [] = rw all refl in let no : line.Normal ≡ line.TransactionAborted reason = sym (passes ∙ ap (λ xs. end_answer xs (line.Pending (answers.missing b.accepted) (answers.unreplied (ending b).managers))) acts) ∙ e in let none : ⊥ = cc in none
+    go false all = let acts : commits_if_all (ending b) [] ≡ [] = rw all refl in let no : line.Pending (answers.missing b.accepted) (answers.unreplied (ending b).managers) ≡ line.TransactionAborted reason = sym (passes ∙ ap (λ xs. end_answer xs (line.Pending (answers.missing b.accepted) (answers.unreplied (ending b).managers))) acts) ∙ e in let none : ⊥ = cc in none
 
 -- the row of an END_TRANS of an active transaction
 abbrev pub end_row : Branch → List table.Act

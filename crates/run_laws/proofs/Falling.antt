@@ -1,17 +1,18 @@
 -- What a task leaves of a node at which it leaves an abort under way.
+use Rattle.std.specs.Option.{option_map}
 use Rattle.std.proofs.Common.{◌≡◌, ℕ, zero, suc, ◌⊎◌, List, [], ◌∷◌, map, take, drop, inl, inr, Bool, true, false, not, ◌||◌, Option, Some, None, refl, sym, ◌∙◌, ap, subst}
 use Rattle.std.proofs.lemmas.Bool.{both_ways}
 use Rattle.vms_model.specs.Ids.{Id}
-use Rattle.vms_model.specs.Transactions.{Outcome, Commit, Abort, Reason}
+use Rattle.vms_model.specs.Transactions.{Outcome, Commit, Abort, Reason, Vetoed}
 use Rattle.transcript_model.specs.Lines as line
 use Rattle.transcript_model.specs.Lines.{Line, Cause}
-use Rattle.script_model.specs.Statements.{Init, Boot, Direct, EndTrans, AbortTrans, Fuse, Clock}
+use Rattle.script_model.specs.Statements.{Init, Boot, Direct, EndTrans, AbortTrans, AckEvent, Fuse, Clock}
 use Rattle.commit_protocol.specs.Messages as message
 use Rattle.commit_protocol.specs.Messages.{LogRecord, Message, Name, Kind, RmEvent}
 use Rattle.commit_protocol.specs.Table as table
 use Rattle.commit_protocol.specs.Table.{Branch, Key as BranchKey, State, Ending, Prints, Settles, find, key_of}
 use Rattle.commit_protocol.specs.Rows as rows
-use Rattle.commit_protocol.specs.Rows.{Event, Got, abort_row, abort_state, interested, row, tells, undone_quietly}
+use Rattle.commit_protocol.specs.Rows.{Event, Got, abort_row, abort_state, interested, row, tells, undone_quietly, is_veto}
 use Rattle.commit_protocol.specs.Allowed.{is_prepared}
 use Rattle.commit_protocol.specs.World.{In, undo_all}
 use Rattle.commit_protocol.proofs.Lists.{find-key}
@@ -19,7 +20,7 @@ use Rattle.log_laws.specs.Slots.{prepared_of, records_in}
 use Rattle.run_model.specs.World as world
 use Rattle.run_model.specs.World.{Shared, Node, Act, Tables, Outturn, acted, fallen, next_moment, powered, shared_after, tm_of, unpowered}
 use Rattle.run_model.specs.Answers as answers
-use Rattle.run_model.specs.Answers.{Row, Service, Task, Serves, Ticks, Takes, Hears, LosesLink, RunsDown, Restarts, boot_rows, branch_labelled, just, powers, refused_before_reading, service, shown_line, spoils, table_rows, task_service, told_rows, touches, unit_key}
+use Rattle.run_model.specs.Answers.{Row, Service, Task, Serves, Ticks, Takes, Hears, LosesLink, RunsDown, Restarts, boot_rows, branch_labelled, just, powers, refused_before_reading, service, shown_line, spoils, table_rows, task_service, told_if, told_rows, touches, unit_key}
 use Rattle.run_model.specs.Operations.{refused_if}
 use Rattle.run_model.specs.Steps.{Choice, Cut, TaskAllowed, Unpowered, Whole, WithoutMemory, act_begun, begun, node_after, node_after_rows, ready_node, rows_if, rows_to_cut, spoilt, task_effect, whole}
 use Rattle.run_model.proofs.Refusing.{not_ready}
@@ -186,6 +187,11 @@ module _ (k : BranchKey) (reason : Reason) (r : Option LogRecord) (moment : ℕ)
     caused : (t : Task) → powers (task_service t) ≡ false → TaskCause s n t k Abort reason → Caused t
     caused (Serves (EndTrans label)) off (b, is, h) = inl (h.1, subst (λ o. AllTake unprepared (labelled_rows (λ y. told_rows s n (just (rows.EndTrans y.key.tid))) o)) (sym is) (event_takes (rows.EndTrans b.key.tid) (λ y c. c)))
     caused (Serves (AbortTrans label)) off (b, is, h) = inl (h.3, subst (λ o. AllTake unprepared (labelled_rows (λ y. told_rows s n (just (rows.AbortBranch y.key.serial Rattle.vms_model.specs.Transactions.Aborted))) o)) (sym is) (event_takes (rows.AbortBranch b.key.serial Rattle.vms_model.specs.Transactions.Aborted) (λ y c. c)))
+    caused (Serves (AckEvent who rm reply)) off (serial, is, (same, x, how)) = inl (x, subst (λ o. AllTake unprepared (told_if s n (option_map (λ y. just (rows.Replied y rm reply)) o))) (sym is) (event_takes (rows.Replied serial rm reply) (λ y c. never c.1 how)))
+      where
+        never : is_veto reply ≡ false → ((Abort ≡ Commit) × (is_veto reply ≡ false) × (x.branch.state ≡ Ending) × (k ≡ table.first k.tid)) ⊎ ((Abort ≡ Abort) × (reason ≡ Vetoed) × (is_veto reply ≡ true)) → ⊥
+        never v (inl wrong) = let no : Abort ≡ Commit = wrong.0 in let none : ⊥ = cc in none
+        never v (inr veto) = both_ways (is_veto reply) v veto.2
     caused (Serves (Direct file op)) off h = let no : Abort ≡ Commit = h.0 in let none : ⊥ = cc in absurd none
     caused (Serves Boot) off h = let no : ⊥ = cc in absurd no
     caused (Serves _) off h = absurd h

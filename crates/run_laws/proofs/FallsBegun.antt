@@ -9,7 +9,7 @@ use Rattle.vms_model.specs.Ids.{Id}
 use Rattle.vms_model.specs.Transactions.{Outcome, Commit, Abort, Reason, Aborted, Vetoed, SyncFail, Timeout, CommFail, SegFail}
 use Rattle.transcript_model.specs.Lines as line
 use Rattle.transcript_model.specs.Lines.{Line, Cause}
-use Rattle.script_model.specs.Statements.{Request, Init, Boot, StartTrans, AddBranch, StartBranch, Direct, EndTrans, AbortTrans}
+use Rattle.script_model.specs.Statements.{Request, Init, Boot, StartTrans, AddBranch, StartBranch, Direct, EndTrans, AbortTrans, AckEvent}
 use Rattle.records_model.specs.History.{same_id}
 use Rattle.unit_laws.specs.Journal.{RecoveryUnit, find_unit, units_in}
 use Rattle.unit_laws.specs.Units.{Map}
@@ -255,6 +255,7 @@ module _ (node : List ℕ) (K : BranchKey → Type 0) where
       go (Direct file op) o g = let no : Abort ≡ Commit = g.0 in let none : ⊥ = cc in absurd none
       go (EndTrans label) o g = of_open n k known g.2.1
       go (AbortTrans label) o g = of_open n k known g.2.3
+      go (AckEvent who rm reply) o g = of_open n k known g.2.1
       go _ o g = absurd g
   fall_open s n Ticks off known k h = of_open n k known h.2
   fall_open s n (LosesLink other) off known k h = of_open n k known h.2

@@ -9,13 +9,13 @@ use Rattle.vms_model.specs.Ids.{Id}
 use Rattle.vms_model.specs.Transactions.{Outcome, Commit, Abort, Reason, Aborted, SegFail}
 use Rattle.transcript_model.specs.Lines as line
 use Rattle.transcript_model.specs.Lines.{Line}
-use Rattle.script_model.specs.Statements.{Operation, Request, Init, Boot, Create, SetFile, StartTrans, AddBranch, StartBranch, Records, Direct, EndBranch, EndTrans, AbortTrans, Inquire, Dump, DumpJournal, Fuse, Crash, Clock}
+use Rattle.script_model.specs.Statements.{Operation, Request, Init, Boot, Create, SetFile, StartTrans, AddBranch, StartBranch, Records, Direct, EndBranch, EndTrans, AbortTrans, Inquire, DeclareRm, JoinRm, AckEvent, ForgetRm, GetDti, LmcpShow, LmcpDump, Dump, DumpJournal, Fuse, Crash, Clock}
 use Rattle.records_model.specs.Records.{Records as TheRecords, Change, applied}
 use Rattle.records_model.specs.History.{History, LiveChanges, changes_by, records, same_id}
 use Rattle.unit_laws.specs.Units.{Map}
 use Rattle.unit_laws.specs.Journal.{Journal, RecoveryUnit, find_unit, units_in}
 use Rattle.unit_laws.specs.JournalLaws.{is_unit}
-use Rattle.commit_protocol.specs.Messages.{LogRecord}
+use Rattle.commit_protocol.specs.Messages.{LogRecord, Name, Reply}
 use Rattle.commit_protocol.specs.Table as table
 use Rattle.commit_protocol.specs.Table.{Branch, Key as BranchKey, Accepts, Acknowledges, Leaves, Notes, Prepares, Prints, Releases, Sends, Settles, Undoes, branch_serials, cut, put, table_after}
 use Rattle.commit_protocol.specs.Allowed.{is_prepared}
@@ -24,7 +24,7 @@ use Rattle.commit_protocol.specs.Rows.{Event, row}
 use Rattle.commit_protocol.specs.Standing.{Stands}
 use Rattle.commit_protocol.specs.World.{In}
 use Rattle.commit_protocol.proofs.Lists.{find-key}
-use Rattle.log_laws.specs.Slots.{prepared_of, records_in}
+use Rattle.log_laws.specs.Slots.{prepared_of, records_in, slot_records}
 use Rattle.log_laws.proofs.Reading.{is_prepared_one}
 use Rattle.run_model.specs.Locks.{is_locked}
 use Rattle.run_model.specs.World as world
@@ -586,6 +586,7 @@ module _ (node file : List ℕ) (D : Id → Type 0) where
       go (Some (Holds serial f keys)) q g = inr (still (acted (Holds serial f keys) n) false g.tells (by_disk (acted (Holds serial f keys) n) refl refl refl refl))
       go (Some (Arms writes choice)) q g = inr (still (acted (Arms writes choice) n) false g.tells (by_disk (acted (Arms writes choice) n) refl refl refl refl))
       go (Some (Clocks now)) q g = inr (still (acted (Clocks now) n) false g.tells (by_disk (acted (Clocks now) n) refl refl refl refl))
+      go (Some (world.Declares rms)) q g = inr (still (acted (world.Declares rms) n) false g.tells (by_disk (acted (world.Declares rms) n) refl refl refl refl))
       go (Some Falls) q g = inr (still (acted Falls n) false g.tells (by_disk (acted Falls n) refl refl refl refl))
 
   -- what is known of the disk where a row was begun, of which no line was shown
@@ -629,6 +630,7 @@ module _ (node file : List ℕ) (D : Id → Type 0) where
       go (Holds serial f keys) q g up now = plainly (acted (Holds serial f keys) n) false g.tells up now
       go (Arms writes choice) q g up now = plainly (acted (Arms writes choice) n) false g.tells up now
       go (Clocks time) q g up now = plainly (acted (Clocks time) n) false g.tells up now
+      go (world.Declares rms) q g up now = plainly (acted (world.Declares rms) n) false g.tells up now
       go Falls q g up now = plainly (acted Falls n) false g.tells up now
 
   -- Requests of which another file, or none, is told.
@@ -672,6 +674,10 @@ module _ (node file : List ℕ) (D : Id → Type 0) where
     asked_quiet (Some b) = told_quiet (rows.InquireBranch b.key.serial)
     asked_quiet None = tt
 
+    replied_quiet : (rm : Name) (reply : Reply) (o : Option Id) → AllTake telling (answers.told_if s n (option_map (λ serial. answers.just (rows.Replied serial rm reply)) o))
+    replied_quiet rm reply (Some serial) = told_quiet (rows.Replied serial rm reply)
+    replied_quiet rm reply None = tt
+
     begins_quiet : (o : Option world.Label) → AllTake telling (answers.told_if s n (option_and_then (answers.begins n) o))
     begins_quiet None = tt
     begins_quiet (Some l) = go l.bid
@@ -709,6 +715,13 @@ module _ (node file : List ℕ) (D : Id → Type 0) where
     request_quiet (EndTrans label) e off = branch_quiet (answers.branch_labelled s n label) (λ b. answers.told_rows s n (answers.just (rows.EndTrans b.key.tid))) (λ b. told_quiet (rows.EndTrans b.key.tid))
     request_quiet (AbortTrans label) e off = branch_quiet (answers.branch_labelled s n label) (λ b. answers.told_rows s n (answers.just (rows.AbortBranch b.key.serial Aborted))) (λ b. told_quiet (rows.AbortBranch b.key.serial Aborted))
     request_quiet (Inquire who) e off = asked_quiet (answers.branch_named s n who)
+    request_quiet (DeclareRm rm) e off = (tt, tt)
+    request_quiet (JoinRm label rm) e off = branch_quiet (answers.branch_labelled s n label) (λ b. answers.told_rows s n (answers.just (rows.JoinRm b.key.serial rm))) (λ b. told_quiet (rows.JoinRm b.key.serial rm))
+    request_quiet (AckEvent who rm reply) e off = replied_quiet rm reply (answers.serial_named s n who)
+    request_quiet (ForgetRm rm) e off = (tt, tt)
+    request_quiet (GetDti who) e off = tt
+    request_quiet LmcpShow e off = tt
+    request_quiet LmcpDump e off = lines_quiet (λ l. l ∷ []) (map answers.log_line (slot_records 0 n.durable.log))
     request_quiet (Dump f) e off = lines_quiet (λ x. line.Record x.0 x.1 ∷ []) (answers.records_of n f)
     request_quiet DumpJournal e off = lines_quiet (λ l. l ∷ []) (answers.entry_lines n.durable.units.first n.durable.units.entries)
     request_quiet (Fuse writes choice) e off = (tt, tt)

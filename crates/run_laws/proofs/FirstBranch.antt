@@ -1,7 +1,7 @@
 -- The first branch of a transaction is never prepared.
 use Rattle.std.proofs.Common.{◌≡◌, List, [], ◌∷◌, ◌++◌, true, false, Option, Some, refl, sym, ◌∙◌, ap, subst}
 use Rattle.vms_model.specs.Ids.{Id}
-use Rattle.script_model.specs.Statements.{EndBranch}
+use Rattle.script_model.specs.Statements.{EndBranch, AckEvent}
 use Rattle.script_model.specs.Grammar.{reading}
 use Rattle.commit_protocol.specs.Messages.{Message}
 use Rattle.commit_protocol.specs.Table.{Branch, Key as BranchKey, Prepares}
@@ -55,6 +55,7 @@ module _ (x : Id) where
 
     none_first : (t : Task) → ((m : Message) → IsTold s n t (rows.Got m) → IsApart m) → (b : Branch) → TaskCasts s n t b → b.key.serial ≡ b.key.tid → ⊥
     none_first (Serves (EndBranch label)) apart b (c, is, q) same = unasked q.0 q.1 q.2 q.4.0 (comes_first n (rows.EndBranch c.key.serial) b q same)
+    none_first (Serves (AckEvent who rm reply)) apart b (serial, is, q) same = unasked q.0 q.1 q.2 q.4.0 (comes_first n (rows.Replied serial rm reply) b q same)
     none_first (Serves _) apart b q same = q
     none_first (Takes m) apart b q same = message_casts m (apart m refl) b q same
     none_first (Hears m) apart b q same = message_casts m (apart m refl) b q same

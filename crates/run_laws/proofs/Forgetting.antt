@@ -178,6 +178,13 @@ module _ (n : Node) (d : world.Durable) (s : Shared) (stops : ℕ) (rises : Caus
   request_alike (said.EndTrans label) c other may = plain_alike (Serves (said.EndTrans label)) refl c may
   request_alike (said.AbortTrans label) c other may = plain_alike (Serves (said.AbortTrans label)) refl c may
   request_alike (said.Inquire who) c other may = plain_alike (Serves (said.Inquire who)) refl c may
+  request_alike (said.DeclareRm rm) c other may = plain_alike (Serves (said.DeclareRm rm)) refl c may
+  request_alike (said.JoinRm label rm) c other may = plain_alike (Serves (said.JoinRm label rm)) refl c may
+  request_alike (said.AckEvent who rm reply) c other may = plain_alike (Serves (said.AckEvent who rm reply)) refl c may
+  request_alike (said.ForgetRm rm) c other may = plain_alike (Serves (said.ForgetRm rm)) refl c may
+  request_alike (said.GetDti who) c other may = plain_alike (Serves (said.GetDti who)) refl c may
+  request_alike said.LmcpShow c other may = plain_alike (Serves said.LmcpShow) refl c may
+  request_alike said.LmcpDump c other may = plain_alike (Serves said.LmcpDump) refl c may
   request_alike (said.Dump file) c other may = plain_alike (Serves (said.Dump file)) refl c may
   request_alike said.DumpJournal c other may = plain_alike (Serves said.DumpJournal) refl c may
   request_alike said.Crash c other may = plain_alike (Serves said.Crash) refl c may
@@ -519,6 +526,13 @@ module _ (M : Name → Type 0) where
     request_fits node (said.EndTrans label) h = (one_fits node (Serves (said.EndTrans label)) (no_boot node (Serves (said.EndTrans label)) refl), tt)
     request_fits node (said.AbortTrans label) h = (one_fits node (Serves (said.AbortTrans label)) (no_boot node (Serves (said.AbortTrans label)) refl), tt)
     request_fits node (said.Inquire who) h = (one_fits node (Serves (said.Inquire who)) (no_boot node (Serves (said.Inquire who)) refl), tt)
+    request_fits node (said.DeclareRm rm) h = (one_fits node (Serves (said.DeclareRm rm)) (no_boot node (Serves (said.DeclareRm rm)) refl), tt)
+    request_fits node (said.JoinRm label rm) h = (one_fits node (Serves (said.JoinRm label rm)) (no_boot node (Serves (said.JoinRm label rm)) refl), tt)
+    request_fits node (said.AckEvent who rm reply) h = (one_fits node (Serves (said.AckEvent who rm reply)) (no_boot node (Serves (said.AckEvent who rm reply)) refl), tt)
+    request_fits node (said.ForgetRm rm) h = (one_fits node (Serves (said.ForgetRm rm)) (no_boot node (Serves (said.ForgetRm rm)) refl), tt)
+    request_fits node (said.GetDti who) h = (one_fits node (Serves (said.GetDti who)) (no_boot node (Serves (said.GetDti who)) refl), tt)
+    request_fits node said.LmcpShow h = (one_fits node (Serves said.LmcpShow) (no_boot node (Serves said.LmcpShow) refl), tt)
+    request_fits node said.LmcpDump h = (one_fits node (Serves said.LmcpDump) (no_boot node (Serves said.LmcpDump) refl), tt)
     request_fits node (said.Dump file) h = (one_fits node (Serves (said.Dump file)) (no_boot node (Serves (said.Dump file)) refl), tt)
     request_fits node said.DumpJournal h = (one_fits node (Serves said.DumpJournal) (no_boot node (Serves said.DumpJournal) refl), tt)
     request_fits node said.Crash h = (one_fits node (Serves said.Crash) (no_boot node (Serves said.Crash) refl), tt)

@@ -8,7 +8,7 @@ use Rattle.vms_model.specs.Ids.{Id}
 use Rattle.vms_model.specs.Transactions.{Aborted}
 use Rattle.transcript_model.specs.Lines as line
 use Rattle.transcript_model.specs.Lines.{Line, Cause}
-use Rattle.script_model.specs.Statements.{Request, Boot, StartTrans, AddBranch, StartBranch, EndBranch, EndTrans, AbortTrans, Inquire, Clock}
+use Rattle.script_model.specs.Statements.{Request, Boot, StartTrans, AddBranch, StartBranch, EndBranch, EndTrans, AbortTrans, Inquire, JoinRm, AckEvent, Clock}
 use Rattle.commit_protocol.specs.Messages as message
 use Rattle.commit_protocol.specs.Messages.{Message, same_id}
 use Rattle.commit_protocol.specs.Table as table
@@ -130,6 +130,8 @@ module _ (tid serial : Id) where
   told_message s n (Serves (EndBranch label)) x h = let no : Got x ≡ rows.EndBranch h.0.key.serial = h.1 in let none : ⊥ = cc in absurd none
   told_message s n (Serves (AbortTrans label)) x h = let no : Got x ≡ rows.AbortBranch h.0.key.serial Aborted = h.1 in let none : ⊥ = cc in absurd none
   told_message s n (Serves (Inquire who)) x h = let no : Got x ≡ rows.InquireBranch h.0.key.serial = h.1 in let none : ⊥ = cc in absurd none
+  told_message s n (Serves (JoinRm label rm)) x h = let no : Got x ≡ rows.JoinRm h.0.key.serial rm = h.1 in let none : ⊥ = cc in absurd none
+  told_message s n (Serves (AckEvent who rm reply)) x h = let no : Got x ≡ rows.Replied h.0 rm reply = h.1 in let none : ⊥ = cc in absurd none
   told_message s n (Serves _) x h = absurd h
   told_message s n Ticks x h = let no : ⊥ = cc in absurd no
   told_message s n (LosesLink other) x h = let no : ⊥ = cc in absurd no

@@ -7,7 +7,7 @@ use Rattle.vms_model.specs.Ids.{Id}
 use Rattle.vms_model.specs.Transactions.{Abort, SegFail}
 use Rattle.transcript_model.specs.Lines as line
 use Rattle.transcript_model.specs.Lines.{Line, Cause}
-use Rattle.script_model.specs.Statements.{Request, Init, Boot, Create, SetFile, StartTrans, AddBranch, StartBranch, Records, Direct, EndBranch, EndTrans, AbortTrans, Inquire, Dump, DumpJournal, Fuse, Crash, Clock}
+use Rattle.script_model.specs.Statements.{Request, Init, Boot, Create, SetFile, StartTrans, AddBranch, StartBranch, Records, Direct, EndBranch, EndTrans, AbortTrans, Inquire, DeclareRm, JoinRm, AckEvent, ForgetRm, GetDti, LmcpShow, LmcpDump, Dump, DumpJournal, Fuse, Crash, Clock}
 use Rattle.records_model.specs.History.{same_id}
 use Rattle.unit_laws.specs.Units.{Map}
 use Rattle.unit_laws.specs.Journal.{Journal, RecoveryUnit, active_units, find_unit, units_in}
@@ -678,6 +678,13 @@ module _ (t : Scheme) (k : Keeps t) where
     request_effect (EndTrans label) other takes ready c rises may = plain_effect (Serves (EndTrans label)) takes refl c rises may
     request_effect (AbortTrans label) other takes ready c rises may = plain_effect (Serves (AbortTrans label)) takes refl c rises may
     request_effect (Inquire who) other takes ready c rises may = plain_effect (Serves (Inquire who)) takes refl c rises may
+    request_effect (DeclareRm rm) other takes ready c rises may = plain_effect (Serves (DeclareRm rm)) takes refl c rises may
+    request_effect (JoinRm label rm) other takes ready c rises may = plain_effect (Serves (JoinRm label rm)) takes refl c rises may
+    request_effect (AckEvent who rm reply) other takes ready c rises may = plain_effect (Serves (AckEvent who rm reply)) takes refl c rises may
+    request_effect (ForgetRm rm) other takes ready c rises may = plain_effect (Serves (ForgetRm rm)) takes refl c rises may
+    request_effect (GetDti who) other takes ready c rises may = plain_effect (Serves (GetDti who)) takes refl c rises may
+    request_effect LmcpShow other takes ready c rises may = plain_effect (Serves LmcpShow) takes refl c rises may
+    request_effect LmcpDump other takes ready c rises may = plain_effect (Serves LmcpDump) takes refl c rises may
     request_effect (Dump file) other takes ready c rises may = plain_effect (Serves (Dump file)) takes refl c rises may
     request_effect DumpJournal other takes ready c rises may = plain_effect (Serves DumpJournal) takes refl c rises may
     request_effect (Fuse writes choice) other takes ready c rises may = plain_effect (Serves (Fuse writes choice)) takes refl c rises may

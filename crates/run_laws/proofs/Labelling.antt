@@ -87,7 +87,7 @@ request_ends w v node request lines is off dry step = go (ended w v (At node req
 refused_labels : (said : Reading) (refusal : Line) (ls : List ToldLabel) → is_refusal refusal ≡ true → labels_here said (Some refusal) ls ≡ ls
 refused_labels (Says (At node (StartTrans label seconds))) (line.NormalId id) ls h = let no : ⊥ = cc in absurd no
 refused_labels (Says (At node (AddBranch label other new))) (line.NormalId id) ls h = let no : ⊥ = cc in absurd no
-refused_labels (Says (At node (StartBranch label))) (line.Pending serials) ls h = let no : ⊥ = cc in absurd no
+refused_labels (Says (At node (StartBranch label))) (line.Pending serials rms) ls h = let no : ⊥ = cc in absurd no
 refused_labels (Says (At node (StartTrans label seconds))) _ ls h = refl
 refused_labels (Says (At node (AddBranch label other new))) _ ls h = refl
 refused_labels (Says (At node (StartBranch label))) _ ls h = refl
@@ -101,7 +101,7 @@ refused_named e es w v s refusal said is shows none f h =
 pub refused_draws : (node : List ℕ) (request : Request) (refusal : Line) → is_refusal refusal ≡ true → ids_here (Says (At node request)) (refusal ∷ []) ≡ []
 refused_draws node (StartTrans label seconds) (line.NormalId id) h = let no : ⊥ = cc in absurd no
 refused_draws node (AddBranch label other new) (line.NormalId id) h = let no : ⊥ = cc in absurd no
-refused_draws node (StartBranch label) (line.Pending serials) h = let no : ⊥ = cc in absurd no
+refused_draws node (StartBranch label) (line.Pending serials rms) h = let no : ⊥ = cc in absurd no
 refused_draws node (StartTrans label seconds) _ h = refl
 refused_draws node (AddBranch label other new) _ h = refl
 refused_draws node (StartBranch label) _ h = refl

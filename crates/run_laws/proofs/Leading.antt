@@ -1,4 +1,5 @@
 -- Messages by which a branch is brought into a transaction, or to its vote, are of none that is a first one.
+use Rattle.log_laws.specs.Slots.{slot_records}
 use Rattle.std.proofs.Common.{◌≡◌, ℕ, zero, suc, ◌⊎◌, List, [], ◌∷◌, ◌++◌, map, take, inl, inr, Bool, true, false, Option, Some, None, if◌then◌else◌, refl, sym, ◌∙◌, ap, subst}
 use Rattle.std.specs.Prelude.{nat_lt, length}
 use Rattle.std.specs.Option.{option_map, option_and_then}
@@ -7,10 +8,10 @@ use Rattle.vms_model.specs.Keys.{Key}
 use Rattle.vms_model.specs.Transactions.{Aborted}
 use Rattle.transcript_model.specs.Lines as line
 use Rattle.transcript_model.specs.Lines.{Line}
-use Rattle.script_model.specs.Statements.{Statement, At, Deliver, LinkDown, Settle, Operation, Request, Init, Boot, Create, SetFile, StartTrans, AddBranch, StartBranch, Records, Direct, EndBranch, EndTrans, AbortTrans, Inquire, Dump, DumpJournal, Fuse, Crash, Clock, Reading, Blank, Says, Bad}
+use Rattle.script_model.specs.Statements.{Statement, At, Deliver, LinkDown, Settle, Operation, Request, Init, Boot, Create, SetFile, StartTrans, AddBranch, StartBranch, Records, Direct, EndBranch, EndTrans, AbortTrans, Inquire, DeclareRm, JoinRm, AckEvent, ForgetRm, GetDti, LmcpShow, LmcpDump, Dump, DumpJournal, Fuse, Crash, Clock, Reading, Blank, Says, Bad}
 use Rattle.records_model.specs.Records.{Change}
 use Rattle.commit_protocol.specs.Messages as message
-use Rattle.commit_protocol.specs.Messages.{Message}
+use Rattle.commit_protocol.specs.Messages.{Message, Name, Reply}
 use Rattle.commit_protocol.specs.Table as table
 use Rattle.commit_protocol.specs.Table.{Branch, Child, Sends, Key as BranchKey}
 use Rattle.commit_protocol.specs.Rows as rows
@@ -163,6 +164,10 @@ asked_sends : (s : Shared) (n : Node) → AcceptsOthers n → (o : Option Branch
 asked_sends s n others (Some b) = event_sends n others (rows.InquireBranch b.key.serial) (λ t x bid e. let no : ⊥ = cc in no) s n
 asked_sends s n others None = tt
 
+replied_sends : (s : Shared) (n : Node) → AcceptsOthers n → (rm : Name) (reply : Reply) (o : Option Id) → AllSend (told_if s n (option_map (λ serial. just (rows.Replied serial rm reply)) o))
+replied_sends s n others rm reply (Some serial) = event_sends n others (rows.Replied serial rm reply) (λ t x bid e. let no : ⊥ = cc in no) s n
+replied_sends s n others rm reply None = tt
+
 -- a label that a branch takes at this node is of a transaction with another id
 abbrev pub BeginsOthers : Shared → Node → Task → Type 0
 BeginsOthers s n (Serves (StartBranch label)) = (l : Label) → world.labelled n.name label s.labels ≡ Some l → l.tid ≡ next_id n → ⊥
@@ -193,6 +198,13 @@ request_sends s n r (inr (others, labels)) = go r labels
     go (EndTrans label) h = branch_sends (branch_labelled s n label) (λ b. told_rows s n (just (rows.EndTrans b.key.tid))) (λ b. event_sends n others (rows.EndTrans b.key.tid) (λ t x bid e. let no : ⊥ = cc in no) s n)
     go (AbortTrans label) h = branch_sends (branch_labelled s n label) (λ b. told_rows s n (just (rows.AbortBranch b.key.serial Aborted))) (λ b. event_sends n others (rows.AbortBranch b.key.serial Aborted) (λ t x bid e. let no : ⊥ = cc in no) s n)
     go (Inquire who) h = asked_sends s n others (branch_named s n who)
+    go (DeclareRm rm) h = (tt, tt)
+    go (JoinRm label rm) h = branch_sends (branch_labelled s n label) (λ b. told_rows s n (just (rows.JoinRm b.key.serial rm))) (λ b. event_sends n others (rows.JoinRm b.key.serial rm) (λ t x bid e. let no : ⊥ = cc in no) s n)
+    go (AckEvent who rm reply) h = replied_sends s n others rm reply (answers.serial_named s n who)
+    go (ForgetRm rm) h = (tt, tt)
+    go (GetDti who) h = tt
+    go LmcpShow h = tt
+    go LmcpDump h = lines_send (map answers.log_line (slot_records 0 n.durable.log))
     go (Dump file) h = records_send (answers.records_of n file)
     go DumpJournal h = lines_send (answers.entry_lines n.durable.units.first n.durable.units.entries)
     go (Fuse writes choice) h = (tt, tt)
@@ -295,6 +307,8 @@ taken w s node n t m e told = by t e told
     by (Serves (EndBranch label)) f h = let no : rows.Got m ≡ rows.EndBranch h.0.key.serial = h.1 in let none : ⊥ = cc in absurd none
     by (Serves (AbortTrans label)) f h = let no : rows.Got m ≡ rows.AbortBranch h.0.key.serial Aborted = h.1 in let none : ⊥ = cc in absurd none
     by (Serves (Inquire who)) f h = let no : rows.Got m ≡ rows.InquireBranch h.0.key.serial = h.1 in let none : ⊥ = cc in absurd none
+    by (Serves (JoinRm label rm)) f h = let no : rows.Got m ≡ rows.JoinRm h.0.key.serial rm = h.1 in let none : ⊥ = cc in absurd none
+    by (Serves (AckEvent who rm reply)) f h = let no : rows.Got m ≡ rows.Replied h.0 rm reply = h.1 in let none : ⊥ = cc in absurd none
     by (Serves _) f h = absurd h
     by Ticks f h = let no : ⊥ = cc in absurd no
     by (Takes x) f h = let one : m ≡ x = cc in subst (λ z. In z w.shared.wire) (sym one) (delivered s x f)

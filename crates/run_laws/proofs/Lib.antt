@@ -66,6 +66,9 @@ pub mod Joining
 pub mod Missing
 pub mod BootsPrepared
 pub mod Casting
+pub mod Releasing
+pub mod ReleasingTasks
+pub mod Owed
 pub mod Recorded
 pub mod RecordedTasks
 pub mod RecordedRuns
@@ -107,3 +110,7 @@ pub mod ReadOnlyRuns
 pub mod StayPrepared
 pub mod PreparedTasks
 pub mod PreparedRuns
+pub mod Retelling
+pub mod EventsWait
+pub mod EventsTasks
+pub mod Vetoing

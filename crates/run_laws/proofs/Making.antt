@@ -296,8 +296,8 @@ module _ (e : Entry) (es : List Entry) (w v : World) (node label : List ℕ) (h 
     begun_labels : v.shared.labels ≡ with_serial l.name (next_id here) w.shared.labels
     begun_labels = ap (λ (y : World). y.shared.labels) x.goes ∙ ap (λ qs. (shared_after_rows qs w.shared).labels) begun_are ∙ rows_labels Begins begun_rows begun_shared begun_mild
 
-    begun_last : last_or None e.lines ≡ Some (line.Pending (next_id here ∷ []))
-    begun_last = answered e es w v node (StartBranch label) h (λ y found. down node y found) said x (line.Pending (next_id here ∷ [])) refl
+    begun_last : last_or None e.lines ≡ Some (line.Pending (next_id here ∷ []) [])
+    begun_last = answered e es w v node (StartBranch label) h (λ y found. down node y found) said x (line.Pending (next_id here ∷ []) []) refl
 
     begun_ids : ids_here (reading e.source.text) e.lines ≡ next_id here ∷ []
     begun_ids = ap (λ r. ids_here r e.lines) said ∙ ap serial_begun begun_last

@@ -97,8 +97,8 @@ ids_there es before s events answer id there i =
 begun_drawn : (es : List Entry) (tid serial : Id) → serial ≡ tid → HasBegun es tid serial → In tid (ids_told es)
 begun_drawn es tid serial same (inl (label, is, (before, seconds, there))) = ids_there es before (At tid.node (StartTrans label seconds)) [] (line.NormalId tid) tid there (inl refl)
 begun_drawn es tid serial same (inr (before, label, events, l, there, found, of)) =
-    subst (λ i. In i (ids_told es)) same (ids_there es before (At serial.node (StartBranch label)) events (line.Pending (serial ∷ [])) serial there
-    (subst (λ o. In serial (Rattle.run_laws.specs.Naming.serial_begun o)) (sym (last_is None events (line.Pending (serial ∷ [])))) (inl refl)))
+    subst (λ i. In i (ids_told es)) same (ids_there es before (At serial.node (StartBranch label)) events (line.Pending (serial ∷ []) []) serial there
+    (subst (λ o. In serial (Rattle.run_laws.specs.Naming.serial_begun o)) (sym (last_is None events (line.Pending (serial ∷ []) []))) (inl refl)))
 
 -- a branch that comes of another, and what this entry tells of it
 later_joins : (e : Entry) (es : List Entry) (b x : Branch) → x.key ≡ b.key → ((bid : Id) → has_bid bid b.accepted ≡ true → has_bid bid x.accepted ≡ true) → ((bid : Id) → In bid x.bids → In bid b.bids ⊎ WasAuthorised (e ∷ es) b.key.tid bid) →
@@ -453,6 +453,8 @@ module _ (e : Entry) (es : List Entry) (w v : World) (h : AreJoined es w) (named
       never_told (Rattle.script_model.specs.Statements.EndBranch label) never n tid bid told = let no : rows.Authorise tid bid ≡ rows.EndBranch told.0.key.serial = told.1 in cc
       never_told (Rattle.script_model.specs.Statements.AbortTrans label) never n tid bid told = let no : rows.Authorise tid bid ≡ rows.AbortBranch told.0.key.serial Rattle.vms_model.specs.Transactions.Aborted = told.1 in cc
       never_told (Rattle.script_model.specs.Statements.Inquire who) never n tid bid told = let no : rows.Authorise tid bid ≡ rows.InquireBranch told.0.key.serial = told.1 in cc
+      never_told (Rattle.script_model.specs.Statements.JoinRm label rm) never n tid bid told = let no : rows.Authorise tid bid ≡ rows.JoinRm told.0.key.serial rm = told.1 in cc
+      never_told (Rattle.script_model.specs.Statements.AckEvent who rm reply) never n tid bid told = let no : rows.Authorise tid bid ≡ rows.Replied told.0 rm reply = told.1 in cc
       never_told _ never n tid bid told = told
 
       clocked : (now : ℕ) → (step : Step w (At node (Clock now)) e.lines v) → AreJoined (e ∷ es) v

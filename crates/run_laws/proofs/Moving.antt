@@ -1,16 +1,17 @@
 -- What a task leaves of a node by which no label is made or takes a branch, and no volume is made: the ids that the node drew stay drawn, no branch begins, and the
 -- labels stay.
+use Rattle.log_laws.specs.Slots.{slot_records}
 use Rattle.std.proofs.Common.{◌≡◌, ◌<◌, ◌≤◌, ℕ, ◌+◌, zero, suc, ◌⊎◌, List, [], ◌∷◌, ◌++◌, map, take, inl, inr, Bool, true, false, Option, Some, None, if◌then◌else◌, refl, sym, ◌∙◌, ap, subst, arith}
 use Rattle.std.specs.Option.{option_map}
 use Rattle.vms_model.specs.Ids.{Id}
 use Rattle.vms_model.specs.Keys.{Key}
 use Rattle.vms_model.specs.Transactions.{Aborted}
 use Rattle.transcript_model.specs.Lines.{Line}
-use Rattle.script_model.specs.Statements.{Operation, Request, Init, Boot, Create, SetFile, StartTrans, AddBranch, StartBranch, Records, Direct, EndBranch, EndTrans, AbortTrans, Inquire, Dump, DumpJournal, Fuse, Crash, Clock}
+use Rattle.script_model.specs.Statements.{Operation, Request, Init, Boot, Create, SetFile, StartTrans, AddBranch, StartBranch, Records, Direct, EndBranch, EndTrans, AbortTrans, Inquire, DeclareRm, JoinRm, AckEvent, ForgetRm, GetDti, LmcpShow, LmcpDump, Dump, DumpJournal, Fuse, Crash, Clock}
 use Rattle.records_model.specs.Records.{Change}
 use Rattle.records_model.specs.History.{same_id}
 use Rattle.unit_laws.specs.Units.{Map}
-use Rattle.commit_protocol.specs.Messages.{LogRecord}
+use Rattle.commit_protocol.specs.Messages.{LogRecord, Name, Reply}
 use Rattle.commit_protocol.specs.Table as table
 use Rattle.commit_protocol.specs.Table.{Branch, Prepared, Key as BranchKey, Notes, Accepts, Prepares, Settles, Leaves, Acknowledges, Releases, Undoes, Sends, Prints, branches_of, cut, put, same_key, table_after}
 use Rattle.commit_protocol.specs.Rows as rows
@@ -267,6 +268,10 @@ asked_mild : (s : Shared) (n : Node) (o : Option Branch) → AreMild (HasOpen n)
 asked_mild s n (Some b) = event_mild (rows.InquireBranch b.key.serial) s n tt
 asked_mild s n None = tt
 
+replied_mild : (s : Shared) (n : Node) (rm : Name) (reply : Reply) (o : Option Id) → AreMild (HasOpen n) (told_if s n (option_map (λ serial. just (rows.Replied serial rm reply)) o))
+replied_mild s n rm reply (Some serial) = event_mild (rows.Replied serial rm reply) s n tt
+replied_mild s n rm reply None = tt
+
 request_mild : (s : Shared) (n : Node) (request : Request) → is_mild_request request ≡ true → AreMild (HasOpen n) ((service request).rows s n)
 request_mild s n (Init slots journal) h = let no : ⊥ = cc in absurd no
 request_mild s n (StartTrans label seconds) h = let no : ⊥ = cc in absurd no
@@ -281,6 +286,13 @@ request_mild s n (EndBranch label) h = branch_mild (HasOpen n) (branch_labelled 
 request_mild s n (EndTrans label) h = branch_mild (HasOpen n) (branch_labelled s n label) (λ b. told_rows s n (just (rows.EndTrans b.key.tid))) (λ b. event_mild (rows.EndTrans b.key.tid) s n tt)
 request_mild s n (AbortTrans label) h = branch_mild (HasOpen n) (branch_labelled s n label) (λ b. told_rows s n (just (rows.AbortBranch b.key.serial Aborted))) (λ b. event_mild (rows.AbortBranch b.key.serial Aborted) s n tt)
 request_mild s n (Inquire who) h = asked_mild s n (branch_named s n who)
+request_mild s n (DeclareRm rm) h = (tt, tt)
+request_mild s n (JoinRm label rm) h = branch_mild (HasOpen n) (branch_labelled s n label) (λ b. told_rows s n (just (rows.JoinRm b.key.serial rm))) (λ b. event_mild (rows.JoinRm b.key.serial rm) s n tt)
+request_mild s n (AckEvent who rm reply) h = replied_mild s n rm reply (answers.serial_named s n who)
+request_mild s n (ForgetRm rm) h = (tt, tt)
+request_mild s n (GetDti who) h = tt
+request_mild s n LmcpShow h = tt
+request_mild s n LmcpDump h = lines_mild (HasOpen n) (map answers.log_line (slot_records 0 n.durable.log))
 request_mild s n (Dump file) h = records_mild (HasOpen n) (answers.records_of n file)
 request_mild s n DumpJournal h = lines_mild (HasOpen n) (answers.entry_lines n.durable.units.first n.durable.units.entries)
 request_mild s n (Fuse writes choice) h = (tt, tt)

@@ -66,7 +66,7 @@ begun_later e es node label tid b = (b.0, b.1, said_later e es b.0 (At node (Sta
 
 pub born_later : (e : Entry) (es : List Entry) (tid serial : Id) → HasBegun es tid serial → HasBegun (e ∷ es) tid serial
 born_later e es tid serial (inl b) = inl (b.0, b.1, begun_later e es tid.node b.0 tid b.2)
-born_later e es tid serial (inr b) = inr (b.0, b.1, b.2, b.3, said_later e es b.0 (At serial.node (StartBranch b.1)) b.2 (line.Pending (serial ∷ [])) b.4, b.5, b.6)
+born_later e es tid serial (inr b) = inr (b.0, b.1, b.2, b.3, said_later e es b.0 (At serial.node (StartBranch b.1)) b.2 (line.Pending (serial ∷ []) []) b.4, b.5, b.6)
 
 -- Worlds in which no label is made and no branch begins.
 

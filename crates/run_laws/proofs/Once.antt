@@ -335,6 +335,7 @@ acted_once free ls (Some (Marks file units)) n f h = quiet_once false n (acted (
 acted_once free ls (Some (Holds serial file keys)) n f h = quiet_once false n (acted (Holds serial file keys) n) refl refl refl refl refl (λ x i. i) (less_free free n h)
 acted_once free ls (Some (Arms writes choice)) n f h = quiet_once false n (acted (Arms writes choice) n) refl refl refl refl refl (λ x i. i) (less_free free n h)
 acted_once free ls (Some (Clocks now)) n f h = quiet_once false n (acted (Clocks now) n) refl refl refl refl refl (λ x i. i) (less_free free n h)
+acted_once free ls (Some (world.Declares rms)) n f h = quiet_once false n (acted (world.Declares rms) n) refl refl refl refl refl (λ x i. i) (less_free free n h)
 acted_once free ls (Some Falls) n f h = quiet_once false n (acted Falls n) refl refl refl refl refl (λ x i. i) (less_free free n h)
 
 pub once_keeps : Keeps once

@@ -262,6 +262,7 @@ module _ (x : Id) (K P : Id → Type 0) (C : Settlement → Type 0) where
     done free ls (Some (Holds serial file keys)) n t f h = quiet free n (acted (Holds serial file keys) n) refl refl refl refl refl h
     done free ls (Some (Arms writes choice)) n t f h = quiet free n (acted (Arms writes choice) n) refl refl refl refl refl h
     done free ls (Some (Clocks now)) n t f h = quiet free n (acted (Clocks now) n) refl refl refl refl refl h
+    done free ls (Some (world.Declares rms)) n t f h = quiet free n (acted (world.Declares rms) n) refl refl refl refl refl h
     done free ls (Some Falls) n t f h = quiet free n (acted Falls n) refl refl refl refl refl h
 
     pub one_keeps : Keeps one

@@ -4,10 +4,11 @@ use Rattle.vms_model.specs.Ids.{Id}
 use Rattle.vms_model.specs.Transactions.{Reason}
 use Rattle.transcript_model.specs.Lines as line
 use Rattle.transcript_model.specs.Lines.{Line}
-use Rattle.commit_protocol.specs.Messages.{LogRecord}
+use Rattle.commit_protocol.specs.Messages.{LogRecord, RmEvent}
 use Rattle.commit_protocol.specs.Table as table
 use Rattle.commit_protocol.specs.Table.{Branch, Key as BranchKey, nothing_left, waits_for, holds, acknowledged}
-use Rattle.run_model.specs.Answers.{acknowledged_lines, forgot_lines, prepared_line, released_lines, table_lines}
+use Rattle.run_model.specs.World.{Node}
+use Rattle.run_model.specs.Answers.{acknowledged_lines, forgot_lines, is_declared, owed_line, prepared_line, released_lines, table_lines}
 
 abbrev pub AllPass : (Line → Bool) → List Line → Type 0
 AllPass test [] = Unit {0}
@@ -18,10 +19,19 @@ module _ (test : Line → Bool) where
   append_passes [] l h g = g
   append_passes (x ∷ k) l h g = (h.0, append_passes k l h.1 g)
 
-  pub printed_passes : ((tid serial : Id) → test (line.Started tid serial) ≡ true) → ((tid : Id) (reason : Option Reason) → test (line.Ended tid reason) ≡ true) → (l : table.Line) → AllPass test (table_lines l)
-  printed_passes started ended (table.Started k) = (started k.tid k.serial, tt)
-  printed_passes started ended (table.Ended tid reason) = (ended tid reason, tt)
-  printed_passes started ended (table.Told event k rm) = tt
+  module _ (told : (event : RmEvent) (tid serial : Id) (rm : List ℕ) → test (line.ManagerTold event tid serial rm) ≡ true) where
+    pub told_passes : (event : RmEvent) (k : BranchKey) (rm : List ℕ) (b : Bool) → AllPass test (if b then line.ManagerTold event k.tid k.serial rm ∷ [] else [])
+    told_passes event k rm true = (told event k.tid k.serial rm, tt)
+    told_passes event k rm false = tt
+
+    pub owed_passes : (rm : List ℕ) (rs : List LogRecord) → AllPass test (map (owed_line rm) rs)
+    owed_passes rm [] = tt
+    owed_passes rm (r ∷ rs) = (told _ r.tid r.serial rm, owed_passes rm rs)
+
+    pub printed_passes : ((tid serial : Id) → test (line.Started tid serial) ≡ true) → ((tid : Id) (reason : Option Reason) → test (line.Ended tid reason) ≡ true) → (n : Node) (l : table.Line) → AllPass test (table_lines n l)
+    printed_passes started ended n (table.Started k) = (started k.tid k.serial, tt)
+    printed_passes started ended n (table.Ended tid reason) = (ended tid reason, tt)
+    printed_passes started ended n (table.Told event k rm) = told_passes event k rm (is_declared n rm)
 
   pub prepared_passes : ((tid serial : Id) → test (line.Prepared tid serial) ≡ true) → (bs : List Branch) → AllPass test (map prepared_line bs)
   prepared_passes prepared [] = tt

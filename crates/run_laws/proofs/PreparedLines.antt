@@ -19,7 +19,7 @@ use Rattle.log_laws.specs.Slots.{prepared_of, records_in}
 use Rattle.run_model.specs.World as world
 use Rattle.run_model.specs.World.{World, DiskCounts, Shared, Node, Settlement, Outturn, MayTurnOut, Tables, acted, message_limit, next_moment, powered, prepared_left, prepared_serials, shared_after, tm_of}
 use Rattle.run_model.specs.Answers as answers
-use Rattle.run_model.specs.Answers.{Row, Task, Serves, Ticks, Takes, Hears, LosesLink, RunsDown, Restarts, boot_rows, last_line, last_lines, left_active, refused_before_reading, shown_by, shown_line, table_rows, task_service, unit_key}
+use Rattle.run_model.specs.Answers.{Row, Task, Serves, Ticks, Takes, Hears, LosesLink, RunsDown, Restarts, boot_rows, last_line, last_lines, left_active, powers, refused_before_reading, shown_by, shown_line, table_rows, task_service, unit_key}
 use Rattle.run_model.specs.Steps.{Choice, Cut, TaskAllowed, TaskEffect, Unpowered, Whole, WithoutMemory, begun, lines_of_rows, ready_node, rows_if, rows_to_cut, task_effect, whole}
 use Rattle.run_model.specs.Statements.{Part, Does, Asks, PartEffect, Question, Heard, Unanswered, Doubtful, Allowed, RoseAt, part_effect, question, stops_at}
 use Rattle.run_model.specs.StepLaws.{TaskAt, asked_by, task_of_part}
@@ -27,6 +27,7 @@ use Rattle.run_model.proofs.NodeLists.{some_is}
 use Rattle.run_model.proofs.TaskLemmas as tasks
 use Rattle.run_model.proofs.TaskLemmas.{First, Failing, Lacking, Late, Success, outcome}
 use Rattle.run_model.proofs.PartTasks.{View, Doing, Fixed, view}
+use Rattle.run_model.proofs.Refusing.{not_ready}
 use Rattle.world_laws.specs.Nodes.{IsKeptDisk, IsKeptNode}
 use Rattle.world_laws.proofs.BootLemmas.{branch_in}
 use Rattle.world_laws.proofs.IdLemmas.{each_at}
@@ -65,7 +66,7 @@ act_other Q S (Sends m) q f moment n s = go (nat_lt (length s.wire) message_limi
     go : (b : Bool) → AllPass is_other ((if b then line.Sent (length s.wire + 1) m else line.Unsent m) ∷ [])
     go true = (refl, tt)
     go false = (refl, tt)
-act_other Q S (Prints l) q f moment n s = printed_passes is_other (λ tid serial. refl) (λ tid reason. refl) l
+act_other Q S (Prints l) q f moment n s = printed_passes is_other (λ event tid serial rm. refl) (λ tid serial. refl) (λ tid reason. refl) n l
 
 table_other : (Q : Branch → Type 0) (S : Message → Type 0) (todo : List table.Act) → AllTell S Q todo → ((b : Branch) → Q b → ⊥) → (s : Shared) (n : Node) (j : ℕ) → AllPass is_other (lines_of_rows (take j (table_rows todo s n))) × AllPass is_other (lines_of_rows (table_rows todo s n))
 table_other Q S [] h f s n zero = (tt, tt)
@@ -75,8 +76,11 @@ table_other Q S (a ∷ todo) h f s n (suc j) =
     let more = table_other Q S todo h.1 f (shared_after (Tables a (next_moment n)) s) (acted (Tables a (next_moment n)) n) j in
     (append_passes is_other _ _ (act_other Q S a h.0 f (next_moment n) n s) more.0, append_passes is_other _ _ (act_other Q S a h.0 f (next_moment n) n s) more.1)
 
+pub event_here : (m : Node) (e : Event) → ((b : Branch) → In b m.volatile.branches → CastsBy e b → ⊥) → (s : Shared) (j : ℕ) → AllPass is_other (lines_of_rows (take j (table_rows (row (tm_of m) e) s m))) × AllPass is_other (lines_of_rows (table_rows (row (tm_of m) e) s m))
+event_here m e f s j = table_other (PreparesBy m.volatile.branches e) (SendsBy m.volatile.branches e) (row (tm_of m) e) (row_tells (tm_of m) e) (λ b q. f q.0 q.1 q.4) s m j
+
 pub event_other : (m : Node) (e : Event) → ((b : Branch) → CastsBy e b → ⊥) → (s : Shared) (j : ℕ) → AllPass is_other (lines_of_rows (take j (table_rows (row (tm_of m) e) s m))) × AllPass is_other (lines_of_rows (table_rows (row (tm_of m) e) s m))
-event_other m e f s j = table_other (PreparesBy m.volatile.branches e) (SendsBy m.volatile.branches e) (row (tm_of m) e) (row_tells (tm_of m) e) (λ b q. f q.0 q.4) s m j
+event_other m e f s j = event_here m e (λ b i q. f b q) s j
 
 undoes_tell : (ks : List BranchKey) → AllTell (λ m. Unit {0}) (λ b. ⊥) (undo_all ks)
 undoes_tell [] = tt
@@ -130,6 +134,30 @@ told_other s stops n t cut all closes c l off i = by c i
     by (Cut o k b cause) j =
         let ready = ready_node o stops (task_service t) n in
         clash _ (append_passes is_other (lines_of_rows (take k (rows_to_cut s ready (task_service t)))) (line.Down ready.name cause ∷ []) (cut ready k ((task_service t).refused_after_reading s ready)) (refl, tt)) j
+
+-- a task that does not power its node, by its rows at this node alone
+pub told_here : (s : Shared) (stops : ℕ) (n : Node) (t : Task) → powers (task_service t) ≡ false → ((j : ℕ) (o : Option Line) → AllPass is_other (lines_of_rows (take j (rows_if o ((task_service t).rows s n))))) → AllPass is_other (lines_of_rows ((task_service t).rows s n)) → (task_service t).closing_lines n ≡ [] →
+    (c : Choice) (l : Line) → is_other l ≡ false → In l (task_effect s stops n t c).lines → ⊥
+told_here s stops n t off cut all closes c l is_off i = by c i
+  where
+    clash : (ls : List Line) → AllPass is_other ls → In l ls → ⊥
+    clash ls h j = both_ways (is_other l) is_off (passes_in is_other ls l h j)
+
+    by : (c : Choice) → In l (task_effect s stops n t c).lines → ⊥
+    by (Whole o) j = first (refused_before_reading s n (task_service t)) (subst (λ m. In l (whole s n m (task_service t) (refused_before_reading s n (task_service t))).lines) (not_ready o stops (task_service t) n off) j)
+      where
+        late : (q : Option Line) → In l (begun s n (task_service t) q).lines → ⊥
+        late (Some refusal) k = k
+        late None k = elim (in_append l (lines_of_rows ((task_service t).rows s n)) ((task_service t).closing_lines n) k) [ inl x ↦ clash _ all x | inr x ↦ subst (In l) closes x ]
+
+        first : (q : Option Line) → In l (whole s n n (task_service t) q).lines → ⊥
+        first (Some refusal) k = k
+        first None k = late ((task_service t).refused_after_reading s n) k
+    by WithoutMemory j = j
+    by Unpowered j = clash (line.Down n.name line.Failed ∷ []) (refl, tt) j
+    by (Cut o k b cause) j =
+        let shown = subst (λ (m : Node). In l (lines_of_rows (take k (rows_to_cut s m (task_service t))) ++ line.Down m.name cause ∷ [])) (not_ready o stops (task_service t) n off) j in
+        clash _ (append_passes is_other (lines_of_rows (take k (rows_to_cut s n (task_service t)))) (line.Down n.name cause ∷ []) (cut k ((task_service t).refused_after_reading s n)) (refl, tt)) shown
 
 pub down_other : (s : Shared) (stops : ℕ) (n : Node) (c : Choice) (l : Line) → is_other l ≡ false → In l (task_effect s stops n RunsDown c).lines → ⊥
 down_other s stops n c l off = told_other s stops n RunsDown (λ m j o. if_other _ j o (event_other m rows.RunDown (λ b q. q) s j).0) (λ m. (event_other m rows.RunDown (λ b q. q) s zero).1) (λ m. refl) c l off

@@ -9,11 +9,11 @@ use Rattle.vms_model.specs.Ids.{Id}
 use Rattle.vms_model.specs.Transactions.{Outcome, Commit, Abort, Reason, Aborted, Vetoed, SyncFail, Timeout, CommFail, SegFail}
 use Rattle.transcript_model.specs.Lines as line
 use Rattle.transcript_model.specs.Lines.{Line, Cause}
-use Rattle.script_model.specs.Statements.{At, Blank, Bad, Clock, Deliver, Direct, EndTrans, AbortTrans, Init, LinkDown, Reading, Request, Says, Settle, Statement}
+use Rattle.script_model.specs.Statements.{At, Blank, Bad, Clock, Deliver, Direct, EndTrans, AbortTrans, Init, LinkDown, Reading, Request, Says, Settle, Statement, AckEvent}
 use Rattle.script_model.specs.Grammar.{reading}
 use Rattle.records_model.specs.History.{same_id}
 use Rattle.commit_protocol.specs.Messages as message
-use Rattle.commit_protocol.specs.Messages.{LogRecord, Message}
+use Rattle.commit_protocol.specs.Messages.{LogRecord, Message, VetoReply}
 use Rattle.commit_protocol.specs.Table.{Key as BranchKey, key_of}
 use Rattle.commit_protocol.specs.World.{In}
 use Rattle.log_laws.specs.Slots.{prepared_of, records_in}
@@ -344,15 +344,17 @@ settle_delivers es kind tid serial d = let no : Says Settle ≡ Says (Deliver d.
 settle_commits : (es : List Entry) (front : List Line) (tid serial : Id) → CommitCause es (Says Settle) front tid serial ⊎ IsDirect (Says Settle) tid serial → IsTold es (Says Settle) front tid serial Commit
 settle_commits es front tid serial (inl (inl k)) = let e : Says Settle ≡ Says (At tid.node (EndTrans k.0)) = k.1 in let no : ⊥ = cc in absurd no
 settle_commits es front tid serial (inl (inr (inl k))) = elim k.0 [ inl vote ↦ settle_delivers es _ tid vote.0 vote.1 | inr vote ↦ settle_delivers es _ tid vote.0 vote.1 ]
-settle_commits es front tid serial (inl (inr (inr (inl d)))) = inl d
-settle_commits es front tid serial (inl (inr (inr (inr asked)))) = inr asked
+settle_commits es front tid serial (inl (inr (inr (inl k)))) = let e : Says Settle ≡ Says (At serial.node (AckEvent (k.1).0 (k.1).1 k.0)) = (k.1).2 in let no : ⊥ = cc in absurd no
+settle_commits es front tid serial (inl (inr (inr (inr (inl d))))) = inl d
+settle_commits es front tid serial (inl (inr (inr (inr (inr asked))))) = inr asked
 settle_commits es front tid serial (inr d) = let e : Says Settle ≡ Says (At serial.node (Direct d.0 d.1)) = d.2 in let no : ⊥ = cc in absurd no
 
 settle_aborts : (es : List Entry) (front : List Line) (tid serial : Id) (reason : Reason) → AbortCause es (Says Settle) front reason tid serial → IsTold es (Says Settle) front tid serial Abort ⊎ (reason ≡ SegFail)
 settle_aborts es front tid serial Aborted (inl k) = let e : Says Settle ≡ Says (At serial.node (AbortTrans k.0)) = k.1 in let no : ⊥ = cc in absurd no
 settle_aborts es front tid serial Aborted (inr (inl d)) = inl (inl d)
 settle_aborts es front tid serial Aborted (inr (inr asked)) = inl (inr asked)
-settle_aborts es front tid serial Vetoed (vote, same) = settle_delivers es _ tid vote.0 vote.1
+settle_aborts es front tid serial Vetoed (inl (vote, same)) = settle_delivers es _ tid vote.0 vote.1
+settle_aborts es front tid serial Vetoed (inr k) = let e : Says Settle ≡ Says (At serial.node (AckEvent k.0 k.1 VetoReply)) = k.2 in let no : ⊥ = cc in absurd no
 settle_aborts es front tid serial SyncFail (inl k) = let e : Says Settle ≡ Says (At serial.node (EndTrans k.0)) = k.1 in let no : ⊥ = cc in absurd no
 settle_aborts es front tid serial SyncFail (inr d) = settle_delivers es _ tid serial d
 settle_aborts es front tid serial Timeout k = let e : Says Settle ≡ Says (At serial.node (Clock k.0)) = k.1 in let no : ⊥ = cc in absurd no

@@ -1,11 +1,12 @@
 -- A task settles a branch that is told to be prepared only where it takes or hears a message that tells the outcome.
+use Rattle.std.specs.Option.{option_map}
 use Rattle.std.proofs.Common.{◌≡◌, ◌+◌, ℕ, zero, suc, ◌⊎◌, List, [], ◌∷◌, ◌++◌, inl, inr, map, take, Bool, true, false, Option, Some, None, if◌then◌else◌, refl, sym, ◌∙◌, ap, subst, arith}
 use Rattle.std.proofs.lemmas.Bool.{both_ways, cases_Bool}
 use Rattle.vms_model.specs.Ids.{Id}
-use Rattle.vms_model.specs.Transactions.{Outcome, Commit, Abort, Reason, Aborted, SegFail}
+use Rattle.vms_model.specs.Transactions.{Outcome, Commit, Abort, Reason, Aborted, SegFail, Vetoed}
 use Rattle.transcript_model.specs.Lines as line
 use Rattle.transcript_model.specs.Lines.{Line, Cause}
-use Rattle.script_model.specs.Statements.{Request, Init, Boot, Direct, EndTrans, AbortTrans}
+use Rattle.script_model.specs.Statements.{Request, Init, Boot, Direct, EndTrans, AbortTrans, AckEvent}
 use Rattle.records_model.specs.History.{same_id}
 use Rattle.records_model.specs.Records.{Change}
 use Rattle.unit_laws.specs.Journal.{RecoveryUnit, active_units, find_unit, units_in}
@@ -13,14 +14,14 @@ use Rattle.commit_protocol.specs.Allowed.{is_prepared}
 use Rattle.commit_protocol.specs.Messages as message
 use Rattle.commit_protocol.specs.Messages.{Message}
 use Rattle.commit_protocol.specs.Rows as rows
-use Rattle.commit_protocol.specs.Rows.{row}
+use Rattle.commit_protocol.specs.Rows.{row, is_veto}
 use Rattle.commit_protocol.specs.Table as table
 use Rattle.commit_protocol.specs.Table.{Branch, Key as BranchKey, child, first, key_of}
 use Rattle.commit_protocol.specs.World.{In, undo_all}
 use Rattle.run_model.specs.World as world
 use Rattle.run_model.specs.World.{Shared, Node, MayTurnOut, Outturn, Settlement, Tables, acted, next_id, next_moment, powered, settlement, shared_after, tm_of}
 use Rattle.run_model.specs.Answers as answers
-use Rattle.run_model.specs.Answers.{Row, Serves, Task, Ticks, Takes, Hears, LosesLink, RunsDown, Restarts, boot_rows, branch_labelled, changes_at, directed, just, last_line, last_lines, left_active, powers, refused_before_reading, service, settled_line, table_rows, task_service, told_rows, unit_key}
+use Rattle.run_model.specs.Answers.{Row, Serves, Task, Ticks, Takes, Hears, LosesLink, RunsDown, Restarts, boot_rows, branch_labelled, changes_at, directed, just, last_line, last_lines, left_active, powers, refused_before_reading, service, settled_line, table_rows, task_service, told_if, told_rows, unit_key}
 use Rattle.run_model.specs.Steps.{Choice, Cut, TaskAllowed, Unpowered, Whole, WithoutMemory, TaskEffect, begun, lines_of_rows, rows_if, task_effect, whole}
 use Rattle.run_model.proofs.TaskLemmas as tasks
 use Rattle.run_model.proofs.TaskLemmas.{Failing, First, Lacking, Late, Success, outcome}
@@ -35,7 +36,7 @@ use Rattle.run_laws.proofs.EachRow.{ArePlain, closing_plain}
 use Rattle.run_laws.proofs.Keeping.{Kept, powered_kept}
 use Rattle.run_laws.proofs.Labelling.{served_up}
 use Rattle.run_laws.proofs.Passing.{AllPass}
-use Rattle.run_laws.proofs.PreparedLines.{event_other, if_other, is_other, told_other}
+use Rattle.run_laws.proofs.PreparedLines.{event_here, event_other, if_other, is_other, told_here, told_other}
 use Rattle.run_laws.proofs.Settling.{IsOpen, MessageSettles}
 use Rattle.run_laws.proofs.ShownSettled.{here_in, none_shown}
 use Rattle.run_laws.proofs.SoundWorlds.{IsSoundNode}
@@ -119,6 +120,7 @@ settler s n t k o reason c = go t c
     request (Direct file op) h = MadeNow h.1
     request (EndTrans label) h = Opened h.2.1
     request (AbortTrans label) h = Opened h.2.3
+    request (AckEvent who rm reply) h = Opened h.2.1
     request _ h = absurd h
 
     go : (t : Task) → TaskCause s n t k o reason → Settler n t k o reason
@@ -139,6 +141,7 @@ cause_up s n t k o reason off c none = go t off c none
     request (Direct file op) p h e = served_up n _ e
     request (EndTrans label) p h e = served_up n _ e
     request (AbortTrans label) p h e = served_up n _ e
+    request (AckEvent who rm reply) p h e = served_up n _ e
     request _ p h e = absurd h
 
     go : (t : Task) → powers (task_service t) ≡ false → TaskCause s n t k o reason → refused_before_reading s n (task_service t) ≡ None → n.up ≡ true
@@ -157,8 +160,12 @@ none_other (suc j) None = tt
 none_other zero (Some refusal) = tt
 none_other (suc j) (Some refusal) = tt
 
-cause_other : (s : Shared) (stops : ℕ) (n : Node) (t : Task) (c : Choice) (k : BranchKey) (o : Outcome) (reason : Reason) → powers (task_service t) ≡ false → TaskCause s n t k o reason → (l : Line) → is_other l ≡ false → In l (task_effect s stops n t c).lines → ⊥
-cause_other s stops n t c k o reason off cause l shows i = go t off cause i
+-- no two branches of a node have the same serial
+abbrev OneSerial : Node → Type 0
+OneSerial n = (b x : Branch) → In b n.volatile.branches → In x n.volatile.branches → b.key.serial ≡ x.key.serial → b ≡ x
+
+cause_other : (s : Shared) (stops : ℕ) (n : Node) (t : Task) (c : Choice) (k : BranchKey) (o : Outcome) (reason : Reason) → OneSerial n → powers (task_service t) ≡ false → TaskCause s n t k o reason → (l : Line) → is_other l ≡ false → In l (task_effect s stops n t c).lines → ⊥
+cause_other s stops n t c k o reason one off cause l shows i = go t off cause i
   where
     branch_rows : (s : Shared) (m : Node) (e : Branch → rows.Event) → ((b x : Branch) → Rattle.run_laws.proofs.Preparing.CastsBy (e b) x → ⊥) → (o : Option Branch) (j : ℕ) (q : Option Line) →
         AllPass is_other (lines_of_rows (take j (rows_if q (elim o as (λ x. List Row) [ Some b ↦ told_rows s m (just (e b)) | None ↦ [] ])))) × AllPass is_other (lines_of_rows (elim o as (λ x. List Row) [ Some b ↦ told_rows s m (just (e b)) | None ↦ [] ]))
@@ -181,6 +188,19 @@ cause_other s stops n t c k o reason off cause l shows i = go t off cause i
     request (Direct file op) p h i = told_other s stops n (Serves (Direct file op)) (λ m j q. (direct_rows m file (changes_at m file op) j q).0) (λ m. (direct_rows m file (changes_at m file op) zero None).1) (λ m. refl) c l shows i
     request (EndTrans label) p h i = told_other s stops n (Serves (EndTrans label)) (λ m j q. (branch_rows s m (λ b. rows.EndTrans b.key.tid) (λ b x f. f) (branch_labelled s m label) j q).0) (λ m. (branch_rows s m (λ b. rows.EndTrans b.key.tid) (λ b x f. f) (branch_labelled s m label) zero None).1) (λ m. refl) c l shows i
     request (AbortTrans label) p h i = told_other s stops n (Serves (AbortTrans label)) (λ m j q. (branch_rows s m (λ b. rows.AbortBranch b.key.serial Aborted) (λ b x f. f) (branch_labelled s m label) j q).0) (λ m. (branch_rows s m (λ b. rows.AbortBranch b.key.serial Aborted) (λ b x f. f) (branch_labelled s m label) zero None).1) (λ m. refl) c l shows i
+    request (AckEvent who rm reply) p (serial, is, (same, x, how)) i = told_here s stops n (Serves (AckEvent who rm reply)) refl (λ j q. (reply_rows j q).0) (reply_rows zero None).1 refl c l shows i
+      where
+        never : (b : Branch) → In b n.volatile.branches → Rattle.run_laws.proofs.Preparing.CastsBy (rows.Replied serial rm reply) b →
+            ((o ≡ Commit) × (is_veto reply ≡ false) × (x.branch.state ≡ table.Ending) × (k ≡ first k.tid)) ⊎ ((o ≡ Abort) × (reason ≡ Vetoed) × (is_veto reply ≡ true)) → ⊥
+        never b there casts (inl ends) =
+            let b_is : b ≡ x.branch = one b x.branch there x.there (casts.3 ∙ sym same ∙ ap (λ (j : BranchKey). j.serial) (sym x.key)) in
+            let clash : table.Voting ≡ table.Ending = sym casts.2 ∙ ap (λ (y : Branch). y.state) b_is ∙ ends.2 in
+            let no : ⊥ = cc in no
+        never b there casts (inr veto) = both_ways (is_veto reply) casts.1 veto.2
+
+        reply_rows : (j : ℕ) (q : Option Line) → AllPass is_other (lines_of_rows (take j (rows_if q ((service (AckEvent who rm reply)).rows s n)))) × AllPass is_other (lines_of_rows ((service (AckEvent who rm reply)).rows s n))
+        reply_rows j q = subst (λ y. AllPass is_other (lines_of_rows (take j (rows_if q (told_if s n (option_map (λ z. just (rows.Replied z rm reply)) y))))) × AllPass is_other (lines_of_rows (told_if s n (option_map (λ z. just (rows.Replied z rm reply)) y)))) (sym is)
+            (if_other _ j q (event_here n (rows.Replied serial rm reply) (λ b there casts. never b there casts how) s j).0, (event_here n (rows.Replied serial rm reply) (λ b there casts. never b there casts how) s zero).1)
     request _ p h i = h
 
     heard : (x : Message) → MessageSettles (tm_of n) x.kind x k o reason → (m : Node) (j : ℕ) → AllPass is_other (lines_of_rows (take j (answers.shown_line (line.Asked x.tid x.serial (answers.outcome_told x.kind)) ∷ table_rows (row (tm_of m) (rows.Got x)) s m)))
@@ -387,7 +407,7 @@ module _ (serial : Id) where
             told_before : a ≡ true
             told_before = elim (cases_Bool a) [
               | inl is_told ↦ is_told
-              | inr none ↦ absurd (unvoted_settled (task_effect s stops n t c).lines (λ tid i. cause_other s stops n t c k o reason off cause (line.Prepared tid serial) refl i) (subst (λ b. SettledThere b (task_effect s stops n t c).lines) none p))
+              | inr none ↦ absurd (unvoted_settled (task_effect s stops n t c).lines (λ tid i. cause_other s stops n t c k o reason (λ b x i j e. one_branch n.volatile.branches b x (differ n (sound.kept.runs up).0.table) i j e) off cause (line.Prepared tid serial) refl i) (subst (λ b. SettledThere b (task_effect s stops n t c).lines) none p))
             ]
 
             in_table : IsIn serial n.volatile.branches

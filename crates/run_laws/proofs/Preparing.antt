@@ -225,19 +225,19 @@ module _ (S : Message → Type 0) (Q : Branch → Type 0) (other : (m : Message)
       go Active e = (tt, if_tells b.asked (begins_vote (ended_branch b)) [] (λ t. votes_tell (ended_branch b) (h b refl (ap is_prepared e) t)) (λ t. tt))
       go _ e = tt
 
-  reply_tells : (s : Id) (x : Name) (r : Reply) (o : Option Branch) (rs : List LogRecord) → ((b : Branch) → o ≡ Some b → is_prepared b.state ≡ false → b.asked ≡ true → Q (with_reply x r b)) → AllTell S Q (reply_row s x r o rs)
+  reply_tells : (s : Id) (x : Name) (r : Reply) (o : Option Branch) (rs : List LogRecord) → ((b : Branch) → o ≡ Some b → is_veto r ≡ false → b.state ≡ Voting → b.asked ≡ true → Q (with_reply x r b)) → AllTell S Q (reply_row s x r o rs)
   reply_tells s x r None rs h = if_tells (is_forget r && list_any (λ q. holds s x q) rs) (Releases s x ∷ []) [] (λ t. (tt, tt)) (λ t. tt)
   reply_tells s x r (Some b) rs h = go b.state refl
     where
       at_first : AllTell S Q (first_reply x r b)
       at_first = if_tells (is_veto r) (aborts Vetoed (with_reply x r b)) (Notes (with_reply x r b) ∷ commits_if_all (with_reply x r b) (ended b b.state None)) (λ t. aborts_tell b.accepted Vetoed (with_reply x r b)) (λ t. (tt, commits_tell (with_reply x r b) (ended b b.state None) (ended_tells b b.state None)))
 
-      at_other : Q (with_reply x r b) → AllTell S Q (branch_reply x r b)
-      at_other k = if_tells (is_veto r) (refuses Vetoed (with_reply x r b)) (Notes (with_reply x r b) ∷ casts_if_all (with_reply x r b)) (λ t. refuses_tells Vetoed (with_reply x r b)) (λ t. (tt, casts_tell (with_reply x r b) k))
+      at_other : (is_veto r ≡ false → Q (with_reply x r b)) → AllTell S Q (branch_reply x r b)
+      at_other k = if_tells (is_veto r) (refuses Vetoed (with_reply x r b)) (Notes (with_reply x r b) ∷ casts_if_all (with_reply x r b)) (λ t. refuses_tells Vetoed (with_reply x r b)) (λ t. (tt, casts_tell (with_reply x r b) (k t)))
 
       go : (z : State) → b.state ≡ z → AllTell S Q (reply_state x r b z)
       go Ending e = if_tells (is_first b) (first_reply x r b) [] (λ t. at_first) (λ t. tt)
-      go Voting e = if_tells b.asked (branch_reply x r b) [] (λ t. at_other (h b refl (ap is_prepared e) t)) (λ t. tt)
+      go Voting e = if_tells b.asked (branch_reply x r b) [] (λ t. at_other (λ v. h b refl v e t)) (λ t. tt)
       go _ e = tt
 
   note_tells : (f : Branch → Branch) (o : Option Branch) → AllTell S Q (note_row f o)
@@ -281,11 +281,11 @@ module _ (S : Message → Type 0) (Q : Branch → Type 0) (other : (m : Message)
 abbrev pub SendsBy : List Branch → Event → Message → Type 0
 SendsBy bs e m = (m.kind ≡ Join → (bid : Id) × (e ≡ Begin m.tid m.serial bid)) × (m.kind ≡ Prepare → (b : Branch) × In b bs × (is_prepared b.state ≡ false) × (m.tid ≡ b.key.tid) × ((c : Child) × In c b.accepted × (m.serial ≡ c.serial)))
 
--- a branch that votes by this event was asked: before it, or by it
+-- a branch that votes by this event was asked: before it, or by it; by a reply, the branch was voting, and the reply is no veto
 abbrev pub CastsBy : Event → Branch → Type 0
 CastsBy (Got m) b = (m.kind ≡ Prepare) × (key_of m ≡ b.key)
 CastsBy (EndBranch s) b = (b.asked ≡ true) × (b.key.serial ≡ s)
-CastsBy (Replied s x r) b = b.asked ≡ true
+CastsBy (Replied s x r) b = (b.asked ≡ true) × (is_veto r ≡ false) × (b.state ≡ Voting) × (b.key.serial ≡ s)
 CastsBy _ b = ⊥
 
 -- what is prepared comes of a branch of the table that is not
@@ -330,7 +330,7 @@ row_tells tm e = go e
     go (EndTrans t) = end_trans_tells _ _ (other_sent tm.table (EndTrans t)) (find (first t) tm.table) (λ b f u. prepares_sent (EndTrans t) b b.accepted (find_in (first t) tm.table b f) u (λ c i. i))
     go (EndBranch s) = end_branch_tells _ _ (other_sent tm.table (EndBranch s)) (find_serial s tm.table) (λ b f u asked. (b, serial_in s tm.table b f, u, refl, (asked, find_serial-serial s tm.table b f)))
     go (AbortBranch s why) = abort_branch_tells _ _ (other_sent tm.table (AbortBranch s why)) why (find_serial s tm.table)
-    go (Replied s x r) = reply_tells _ _ (other_sent tm.table (Replied s x r)) s x r (find_serial s tm.table) tm.records (λ b f u asked. (b, serial_in s tm.table b f, u, refl, asked))
+    go (Replied s x r) = reply_tells _ _ (other_sent tm.table (Replied s x r)) s x r (find_serial s tm.table) tm.records (λ b f v z asked. (b, serial_in s tm.table b f, ap is_prepared z, refl, (asked, v, z, find_serial-serial s tm.table b f)))
     go (Got m) = message m m.kind refl
     go (Clock now) = sweep_tells _ _ (other_sent tm.table (Clock now)) Timeout (is_due now) tm.table
     go (LinkDown x) = append_tells _ _ (other_sent tm.table (LinkDown x)) (sweep CommFail (is_cut_off x) tm.table) (sweep CommFail (is_under x) tm.table) (sweep_tells _ _ (other_sent tm.table (LinkDown x)) CommFail (is_cut_off x) tm.table) (sweep_tells _ _ (other_sent tm.table (LinkDown x)) CommFail (is_under x) tm.table)

@@ -1,4 +1,5 @@
 -- The reason of an abort that is shown comes with the statement that it names.
+use Rattle.log_laws.specs.Slots.{slot_records}
 use Rattle.std.proofs.Common.{◌≡◌, ℕ, ◌⊎◌, List, [], ◌∷◌, ◌++◌, inl, inr, map, take, zero, suc, Bool, true, false, Option, Some, None, if◌then◌else◌, refl, sym, ◌∙◌, ap, subst}
 use Rattle.std.specs.Option.{option_map, option_and_then}
 use Rattle.std.specs.List.{list_any}
@@ -6,10 +7,10 @@ use Rattle.vms_model.specs.Ids.{Id}
 use Rattle.vms_model.specs.Transactions.{Outcome, Commit, Abort, Reason, Aborted, Vetoed, SyncFail, Timeout, CommFail, SegFail}
 use Rattle.transcript_model.specs.Lines as line
 use Rattle.transcript_model.specs.Lines.{Line, Cause}
-use Rattle.script_model.specs.Statements.{Statement, At, Deliver, LinkDown, Settle, Request, Init, Boot, Create, SetFile, StartTrans, AddBranch, StartBranch, Records, Direct, EndBranch, EndTrans, AbortTrans, Inquire, Dump, DumpJournal, Fuse, Crash, Clock, Reading, Blank, Says, Bad}
+use Rattle.script_model.specs.Statements.{Statement, At, Deliver, LinkDown, Settle, Request, Init, Boot, Create, SetFile, StartTrans, AddBranch, StartBranch, Records, Direct, EndBranch, EndTrans, AbortTrans, Inquire, DeclareRm, JoinRm, AckEvent, ForgetRm, GetDti, LmcpShow, LmcpDump, Dump, DumpJournal, Fuse, Crash, Clock, Reading, Blank, Says, Bad, Named}
 use Rattle.records_model.specs.Records.{Change}
 use Rattle.commit_protocol.specs.Messages as message
-use Rattle.commit_protocol.specs.Messages.{Message, LogRecord, same_id}
+use Rattle.commit_protocol.specs.Messages.{Message, LogRecord, same_id, Name, Reply, VetoReply}
 use Rattle.commit_protocol.specs.Table as table
 use Rattle.commit_protocol.specs.Table.{Branch, State, Joining, Active, Ending, Voting, Prepared, Key as BranchKey, coordinator_of, find, first, Notes, Accepts, Prepares, Settles, Leaves, Acknowledges, Releases, Undoes, Sends, Prints}
 use Rattle.commit_protocol.specs.Rows as rows
@@ -100,6 +101,7 @@ abbrev of_request : Request → Reason → Type 0
 of_request Boot reason = reason ≡ SegFail
 of_request (EndTrans label) reason = reason ≡ SyncFail
 of_request (AbortTrans label) reason = reason ≡ Aborted
+of_request (AckEvent who rm reply) reason = (reply ≡ VetoReply) × (reason ≡ Vetoed)
 of_request _ reason = ⊥
 
 abbrev of_task : Task → Reason → Type 0
@@ -215,6 +217,10 @@ records_fit : (may : Reason → Type 0) (es : List (_ × List ℕ)) → AllFit m
 records_fit may [] = tt
 records_fit may (e ∷ es) = (tt, records_fit may es)
 
+replied_fits : (s : Shared) (n : Node) (who : Named) (rm : Name) (reply : Reply) (o : Option Id) → AllFit (of_request (AckEvent who rm reply)) (told_if s n (option_map (λ serial. just (rows.Replied serial rm reply)) o))
+replied_fits s n who rm reply (Some serial) = event_fits (of_request (AckEvent who rm reply)) (rows.Replied serial rm reply) s n (λ k reason h. (h.1, h.2))
+replied_fits s n who rm reply None = tt
+
 request_fits : (s : Shared) (n : Node) (request : Request) → AllFit (of_request request) ((service request).rows s n)
 request_fits s n (Init slots journal) = tt
 request_fits s n Boot = (tt, undone_fits (of_request Boot) _ s (acted Boots n) refl)
@@ -235,6 +241,13 @@ request_fits s n (EndBranch label) = branch_fits _ (branch_labelled s n label) (
 request_fits s n (EndTrans label) = branch_fits _ (branch_labelled s n label) (λ b. told_rows s n (just (rows.EndTrans b.key.tid))) (λ b. event_fits _ (rows.EndTrans b.key.tid) s n (λ k reason h. h.1))
 request_fits s n (AbortTrans label) = branch_fits _ (branch_labelled s n label) (λ b. told_rows s n (just (rows.AbortBranch b.key.serial Aborted))) (λ b. event_fits _ (rows.AbortBranch b.key.serial Aborted) s n (λ k reason h. h.1))
 request_fits s n (Inquire who) = asked_fits _ s n (branch_named s n who)
+request_fits s n (DeclareRm rm) = (tt, tt)
+request_fits s n (JoinRm label rm) = branch_fits _ (branch_labelled s n label) (λ b. told_rows s n (just (rows.JoinRm b.key.serial rm))) (λ b. event_fits _ (rows.JoinRm b.key.serial rm) s n (λ k reason h. absurd h))
+request_fits s n (AckEvent who rm reply) = replied_fits s n who rm reply (answers.serial_named s n who)
+request_fits s n (ForgetRm rm) = (tt, tt)
+request_fits s n (GetDti who) = tt
+request_fits s n LmcpShow = tt
+request_fits s n LmcpDump = shown_fit _ (map answers.log_line (slot_records 0 n.durable.log))
 request_fits s n (Dump file) = records_fit _ (answers.records_of n file)
 request_fits s n DumpJournal = shown_fit _ (answers.entry_lines n.durable.units.first n.durable.units.entries)
 request_fits s n (Fuse writes choice) = (tt, tt)
@@ -372,12 +385,13 @@ request_reason : (node : List ℕ) (request : Request) (reason : Reason) → of_
 request_reason node Boot reason h = subst (λ r. ReasonFits r (Says (At node Boot))) (sym h) (inr (node, refl))
 request_reason node (EndTrans label) reason h = subst (λ r. ReasonFits r (Says (At node (EndTrans label)))) (sym h) (inl (node, label, refl))
 request_reason node (AbortTrans label) reason h = subst (λ r. ReasonFits r (Says (At node (AbortTrans label)))) (sym h) (inl (node, label, refl))
+request_reason node (AckEvent who rm reply) reason h = subst (λ r. ReasonFits r (Says (At node (AckEvent who rm reply)))) (sym h.1) (inr (node, who, rm, ap (λ r. Says (At node (AckEvent who rm r))) h.0))
 request_reason node _ reason h = absurd h
 
 delivered_reason : (number : ℕ) (kind : message.Kind) (reason : Reason) → of_kind kind reason → ReasonFits reason (Says (Deliver number))
 delivered_reason number message.JoinNo reason h = subst (λ r. ReasonFits r (Says (Deliver number))) (sym h) (inr (number, refl))
 delivered_reason number message.Abort reason h = subst (λ r. ReasonFits r (Says (Deliver number))) (sym h) (inr (inl (number, refl)))
-delivered_reason number message.No reason h = subst (λ r. ReasonFits r (Says (Deliver number))) (sym h) (number, refl)
+delivered_reason number message.No reason h = subst (λ r. ReasonFits r (Says (Deliver number))) (sym h) (inl (number, refl))
 delivered_reason number _ reason h = absurd h
 
 delivery_of : (number : ℕ) (o : Option Message) → EachPart (IsOf (Deliver number)) (elim o [ Some m ↦ Does m.to (Takes m) ∷ [] | None ↦ [] ])

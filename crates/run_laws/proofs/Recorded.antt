@@ -163,6 +163,7 @@ module _ (tid serial : Id) where
         go (Some (world.Holds id file keys)) g t v up once has w = steady t v (by w (λ e. e))
         go (Some (world.Arms writes choice)) g t v up once has w = steady t v (by w (λ e. e))
         go (Some (world.Clocks now)) g t v up once has w = steady t v (by w (λ e. e))
+        go (Some (world.Declares rms)) g t v up once has w = steady t v (by w (λ e. e))
         go (Some world.Falls) g t v up once has w = steady t v (by w (λ e. e))
 
     under_fact : (free : Bool) (act : Act) (n : Node) (a : Bool) → Fits free (Some act) n → IsUp n → IsUp (acted act n) → (PreparesIt (Some act) → W) → Fact a n.durable → Fact a (acted act n).durable

@@ -8,13 +8,14 @@ use Rattle.std.proofs.lemmas.Slice.Eq.{bytes_eq-Decides}
 use Rattle.vms_model.specs.Ids.{Id}
 use Rattle.transcript_model.specs.Lines as line
 use Rattle.transcript_model.specs.Lines.{Line, Cause}
-use Rattle.script_model.specs.Statements.{Statement, At, Clock, Deliver, EndBranch, Init, LinkDown, Settle, Request, Reading, Blank, Says, Bad}
+use Rattle.script_model.specs.Statements.{Statement, At, AckEvent, Clock, Deliver, EndBranch, Init, LinkDown, Settle, Request, Reading, Blank, Says, Bad, Named as SaidName}
 use Rattle.script_model.specs.Grammar.{reading}
 use Rattle.records_model.specs.History.{same_id}
 use Rattle.commit_protocol.specs.Messages as message
-use Rattle.commit_protocol.specs.Messages.{LogRecord, Message}
+use Rattle.commit_protocol.specs.Messages.{LogRecord, Message, Name, Reply}
 use Rattle.commit_protocol.specs.Table.{Branch, Key as BranchKey, child, key_of}
 use Rattle.commit_protocol.specs.Rows as rows
+use Rattle.commit_protocol.specs.Rows.{is_veto}
 use Rattle.commit_protocol.specs.Allowed.{is_prepared}
 use Rattle.commit_protocol.specs.World.{In}
 use Rattle.log_laws.specs.Slots.{prepared_of, records_in}
@@ -35,12 +36,14 @@ use Rattle.world_laws.proofs.TableLemmas.{one_branch}
 use Rattle.world_laws.proofs.UpLemmas.{differ}
 use Rattle.world_laws.proofs.WorldLemmas.{each_opening}
 use Rattle.run_laws.specs.Accounts.{made_anew}
-use Rattle.run_laws.specs.Causes.{DeliversTo}
+use Rattle.run_laws.specs.Causes.{DeliversTo, Replies}
 use Rattle.run_laws.specs.Laws.{BootedHold}
 use Rattle.run_laws.specs.Naming.{IsNamed}
 use Rattle.run_laws.specs.Promises.{Boots, WasItsLast, WasPreparing, is_left_prepared, is_told_prepared, prepared_by}
 use Rattle.run_laws.proofs.BootsPrepared.{boots_find, disk_then, in_ordered, told_shown}
 use Rattle.run_laws.proofs.Casting.{TaskCasts}
+use Rattle.run_laws.proofs.CauseRuns.{known_before}
+use Rattle.run_laws.proofs.CausesHold.{named_so}
 use Rattle.run_laws.proofs.Deciding.{in_any}
 use Rattle.run_laws.proofs.Ending.{NamedBranch, named_branch}
 use Rattle.run_laws.proofs.Keeping.{init_done, init_else, init_ready, is_init, powered_kept}
@@ -116,7 +119,7 @@ module _ (nodes : List Node) (disks : List DiskCounts) (opening : AreOpening nod
 
     -- a failure ended it that was to prepare the branch
     broken : (s : Statement) → reading e.source.text ≡ Says s → (events : List Line) (cause : Cause) → e.lines ≡ events ++ line.Broken cause ∷ [] →
-        DeliversTo es (Says s) message.Prepare tid serial ⊎ ((label : List ℕ) × (s ≡ At serial.node (EndBranch label)) × IsNamed es serial.node label tid serial) → Reason (e ∷ es)
+        DeliversTo es (Says s) message.Prepare tid serial ⊎ ((label : List ℕ) × (s ≡ At serial.node (EndBranch label)) × IsNamed es serial.node label tid serial) ⊎ ((reply : Reply) × Replies es (Says s) tid serial reply × (is_veto reply ≡ false)) → Reason (e ∷ es)
     broken s read events cause shown why = inl (es, s, events, cause, record { after = []; entry = e; stands = refl; said = read; shown = shown }, why)
 
     -- a delivery
@@ -152,11 +155,34 @@ module _ (nodes : List Node) (disks : List DiskCounts) (opening : AreOpening nod
             let key : c.key ≡ child tid serial = ap (λ (y : Branch). y.key) one ∙ sym q.3 ∙ same in
             let nb : NamedBranch es other label c = named_branch es w other label n c (legal_named nodes disks es w opening legal) found is (ap (λ (y : Branch). is_prepared y.state) one ∙ q.2) in
             broken (At other (EndBranch label)) read events cause shown
-            (inr (label, ap (λ y. At y (EndBranch label)) home, subst (λ y. IsNamed es y label tid serial) home (subst (λ (k : BranchKey). IsNamed es other label k.tid k.serial) key nb.named)))
+            (inr (inl (label, ap (λ y. At y (EndBranch label)) home, subst (λ y. IsNamed es y label tid serial) home (subst (λ (k : BranchKey). IsNamed es other label k.tid k.serial) key nb.named))))
+
+    -- a reply of a resource manager
+    reply_known : (other : List ℕ) (who : SaidName) (rm : Name) (reply : Reply) → reading e.source.text ≡ Says (At other (AckEvent who rm reply)) → Step w (At other (AckEvent who rm reply)) e.lines v → Known (e ∷ es) told w → Known (e ∷ es) (prepared_by serial e.lines told) v
+    reply_known other who rm reply read step h = one_known tid serial (Reason (e ∷ es)) (find_node serial.node nodes) (late (e ∷ es)) w v (At other (AckEvent who rm reply)) e.lines other (Serves (AckEvent who rm reply)) told refl step sound
+        (λ n c home found allowed shows k. own_whole tid serial (Reason (e ∷ es)) (find_node serial.node nodes) (late (e ∷ es)) w.shared (stops_at other w) n (Serves (AckEvent who rm reply)) c (λ cause. RoseAt w other cause v.disks) told (sound_node w sound other n found) refl refl
+        (λ up outturn j b cause cut x q same. ends n cause (task_effect w.shared (stops_at other w) n (Serves (AckEvent who rm reply)) (Cut outturn j b cause)).lines home found
+        (shows ∙ ap (λ y. (task_effect w.shared (stops_at other w) n (Serves (AckEvent who rm reply)) y).lines ++ (task_effect w.shared (stops_at other w) n (Serves (AckEvent who rm reply)) y).answer ∷ []) cut) x q same) allowed k) h
+      where
+        ends : (n : Node) (cause : Cause) (events : List Line) → other ≡ serial.node → find_node other w.nodes ≡ Some n → e.lines ≡ events ++ line.Broken cause ∷ [] → (b : Branch) → TaskCasts w.shared n (Serves (AckEvent who rm reply)) b → b.key ≡ child tid serial → Reason (e ∷ es)
+        ends n cause events home found shown b (x, is, q) same =
+            let key : (q.0).key ≡ child tid serial = sym q.3 ∙ same in
+            broken (At other (AckEvent who rm reply)) read events cause shown
+            (inr (inr (
+              reply,
+              (
+                who,
+                rm,
+                ap (λ y. Says (At y (AckEvent who rm reply))) home,
+                named_so es w (known_before nodes disks es w opening legal) other n found who x (child tid serial) is (record { branch = q.0; there = q.1; key = key; unprepared = q.2 }) (ap (λ (k : BranchKey). k.serial) (sym key) ∙ q.4.3),
+              ),
+              q.4.1,
+            )))
 
     -- a request, but an INIT of the node
     request_known : (other : List ℕ) (request : Request) → (bytes_eq other serial.node && is_init (Serves request)) ≡ false → reading e.source.text ≡ Says (At other request) → Step w (At other request) e.lines v → Known (e ∷ es) told w → Known (e ∷ es) (prepared_by serial e.lines told) v
     request_known other (EndBranch label) off read step h = end_known other label read step h
+    request_known other (AckEvent who rm reply) off read step h = reply_known other who rm reply read step h
     request_known other (Clock now) off read step h = phases_known tid serial (Reason (e ∷ es)) (find_node serial.node nodes) (late (e ∷ es)) w v (At other (Clock now)) e.lines told (clock_suits tid serial (Reason (e ∷ es)) (find_node serial.node nodes) (late (e ∷ es)) other now) step sound h
     request_known other (Init slots journal) off read step h = one_known tid serial (Reason (e ∷ es)) (find_node serial.node nodes) (late (e ∷ es)) w v (At other (Init slots journal)) e.lines other (Serves (Init slots journal)) told refl step sound
         (λ n c home found allowed shows k. absurd (both_ways (bytes_eq other serial.node && true) off (ap (λ b. b && true) ((bytes_eq-Decides other serial.node).1 home)))) h

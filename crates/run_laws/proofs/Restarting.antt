@@ -177,7 +177,7 @@ act_unbooted (Sends m) moment n s = go (nat_lt (length s.wire) message_limit)
     go : (b : Bool) → AllPass is_unbooted ((if b then line.Sent (length s.wire + 1) m else line.Unsent m) ∷ [])
     go true = (refl, tt)
     go false = (refl, tt)
-act_unbooted (Prints l) moment n s = printed_passes is_unbooted (λ tid serial. refl) (λ tid reason. refl) l
+act_unbooted (Prints l) moment n s = printed_passes is_unbooted (λ event tid serial rm. refl) (λ tid serial. refl) (λ tid reason. refl) n l
 
 table_unbooted : (todo : List table.Act) (s : Shared) (n : Node) (j : ℕ) → AllPass is_unbooted (lines_of_rows (take j (table_rows todo s n))) × AllPass is_unbooted (lines_of_rows (table_rows todo s n))
 table_unbooted [] s n zero = (tt, tt)

@@ -1,11 +1,13 @@
 -- What each row of a task finds at a node that is up, act by act: its branch stands in the table, or is new and has the latest id.
+use Rattle.log_laws.specs.Slots.{slot_records}
+use Rattle.commit_protocol.specs.Messages.{Name, Reply}
 use Rattle.std.proofs.Common.{◌≡◌, ℕ, ◌⊎◌, List, [], ◌∷◌, inl, inr, map, Bool, true, false, Option, Some, None, refl}
 use Rattle.std.specs.Option.{option_map, option_and_then}
 use Rattle.vms_model.specs.Ids.{Id}
 use Rattle.vms_model.specs.Transactions.{Outcome, Commit, Abort, Reason, Aborted, SegFail}
 use Rattle.transcript_model.specs.Lines as line
 use Rattle.transcript_model.specs.Lines.{Line}
-use Rattle.script_model.specs.Statements.{Operation, Request, Init, Boot, Create, SetFile, StartTrans, AddBranch, StartBranch, Records, Direct, EndBranch, EndTrans, AbortTrans, Inquire, Dump, DumpJournal, Fuse, Crash, Clock}
+use Rattle.script_model.specs.Statements.{Operation, Request, Init, Boot, Create, SetFile, StartTrans, AddBranch, StartBranch, Records, Direct, EndBranch, EndTrans, AbortTrans, Inquire, DeclareRm, JoinRm, AckEvent, ForgetRm, GetDti, LmcpShow, LmcpDump, Dump, DumpJournal, Fuse, Crash, Clock}
 use Rattle.records_model.specs.Records.{Change}
 use Rattle.commit_protocol.specs.Table as table
 use Rattle.commit_protocol.specs.Table.{Branch, Settles, Undoes, Notes}
@@ -159,6 +161,10 @@ module _ (s : Shared) (n : Node) (up : IsUp n) where
   asked_fits (Some b) = told_fits (rows.InquireBranch b.key.serial) tt
   asked_fits None = tt
 
+  replied_fits : (rm : Name) (reply : Reply) (o : Option Id) → FitsAll false (told_if s n (option_map (λ serial. just (rows.Replied serial rm reply)) o)) n
+  replied_fits rm reply (Some serial) = told_fits (rows.Replied serial rm reply) tt
+  replied_fits rm reply None = tt
+
   branch_fits : (o : Option Branch) (does : Branch → List Row) → ((b : Branch) → FitsAll false (does b) n) → FitsAll false (elim o [ Some b ↦ does b | None ↦ [] ]) n
   branch_fits (Some b) does h = h b
   branch_fits None does h = tt
@@ -204,6 +210,13 @@ module _ (s : Shared) (n : Node) (up : IsUp n) where
   request_fits (EndTrans label) off = branch_fits (branch_labelled s n label) (λ b. told_rows s n (just (rows.EndTrans b.key.tid))) (λ b. told_fits (rows.EndTrans b.key.tid) tt)
   request_fits (AbortTrans label) off = branch_fits (branch_labelled s n label) (λ b. told_rows s n (just (rows.AbortBranch b.key.serial Aborted))) (λ b. told_fits (rows.AbortBranch b.key.serial Aborted) tt)
   request_fits (Inquire who) off = asked_fits (branch_named s n who)
+  request_fits (DeclareRm rm) off = (tt, tt)
+  request_fits (JoinRm label rm) off = branch_fits (branch_labelled s n label) (λ b. told_rows s n (just (rows.JoinRm b.key.serial rm))) (λ b. told_fits (rows.JoinRm b.key.serial rm) tt)
+  request_fits (AckEvent who rm reply) off = replied_fits rm reply (answers.serial_named s n who)
+  request_fits (ForgetRm rm) off = (tt, tt)
+  request_fits (GetDti who) off = tt
+  request_fits LmcpShow off = tt
+  request_fits LmcpDump off = lines_fit (λ l. l ∷ []) (map answers.log_line (slot_records 0 n.durable.log))
   request_fits (Dump file) off = lines_fit (λ e. line.Record e.0 e.1 ∷ []) (records_of n file)
   request_fits DumpJournal off = lines_fit (λ l. l ∷ []) (entry_lines n.durable.units.first n.durable.units.entries)
   request_fits (Fuse writes choice) off = (tt, tt)

@@ -1,4 +1,6 @@
 -- The lines of a task's rows tell what they do to what nodes share and to whether the node is up.
+use Rattle.log_laws.specs.Slots.{slot_records, records_in, committed_of, waiting_for}
+use Rattle.commit_protocol.specs.Messages.{Name, Reply, LogRecord}
 use Rattle.std.proofs.Common.{◌≡◌, ℕ, ◌+◌, List, [], ◌∷◌, ◌++◌, map, Bool, true, false, Option, Some, None, if◌then◌else◌, refl, sym, ap}
 use Rattle.std.specs.Prelude.{nat_lt, length, ◌==◌}
 use Rattle.std.proofs.lemmas.Bool.{eq-eqb}
@@ -9,7 +11,7 @@ use Rattle.vms_model.specs.Keys.{Key}
 use Rattle.vms_model.specs.Transactions.{Outcome, Commit, Abort, Reason}
 use Rattle.transcript_model.specs.Lines as line
 use Rattle.transcript_model.specs.Lines.{Line}
-use Rattle.script_model.specs.Statements.{Request, Init, Boot, Create, SetFile, StartTrans, AddBranch, StartBranch, Records, Direct, EndBranch, EndTrans, AbortTrans, Inquire, Dump, DumpJournal, Fuse, Crash, Clock, Operation}
+use Rattle.script_model.specs.Statements.{Request, Init, Boot, Create, SetFile, StartTrans, AddBranch, StartBranch, Records, Direct, EndBranch, EndTrans, AbortTrans, Inquire, DeclareRm, JoinRm, AckEvent, ForgetRm, GetDti, LmcpShow, LmcpDump, Dump, DumpJournal, Fuse, Crash, Clock, Operation}
 use Rattle.records_model.specs.Records.{Change}
 use Rattle.unit_laws.specs.Journal as journal
 use Rattle.unit_laws.specs.Journal.{JournalEntry, entry_size}
@@ -20,7 +22,7 @@ use Rattle.commit_protocol.specs.Rows.{row}
 use Rattle.run_model.specs.World.{Shared, Node, File, Label, Settlement, Boots, Creates, Draws, Numbers, Tables, acted, shared_after, with_serial, next_id, next_moment, tm_of, message_limit, labelled, free_place, lowest_free}
 use Rattle.run_model.specs.Answers as answers
 use Rattle.run_model.specs.Answers.{Row, Task, Serves, Ticks, Takes, Hears, LosesLink, RunsDown, Restarts, task_service, service, told_rows, told_if, table_rows, just, begins, boot_rows, shown_by, sent_line, settled_line, forgot_lines, acknowledged_lines, released_lines, table_lines, last_line, last_lines, to_branch, branch_labelled, branch_named, creates, operated, directed, changes_at, keys_at, records_of, shown_record, entry_line, entry_lines, shown_line, prepared_line, prepared_lines, left_active, unit_key}
-use Rattle.run_laws.proofs.Passing.{acknowledged_passes, prepared_passes, printed_passes, released_passes}
+use Rattle.run_laws.proofs.Passing.{acknowledged_passes, prepared_passes, printed_passes, released_passes, owed_passes}
 use Rattle.run_laws.proofs.Views.{node_told, shared_told, label_told, View, Tells, AllTell, up_view, is_neutral, AreNeutral, neutral_lines}
 use Rattle.run_laws.specs.Said.{SaidNode, lines_said}
 
@@ -85,7 +87,7 @@ module _ (node : List ℕ) (base : List SaidNode) where
       go : (b : Bool) → lines_said ((if b then line.Sent (length s.wire + 1) m else line.Unsent m) ∷ []) (View node base (node_told n) (shared_told s)) ≡ View node base (node_told n) (shared_told (record s { wire = if b then s.wire ++ m ∷ [] else s.wire }))
       go true = let next : (length s.wire + 1 == length s.wire + 1) ≡ true = eq-eqb (length s.wire + 1) (length s.wire + 1) refl in ap (λ b. View node base (node_told n) (record (shared_told s) { wire = if b then s.wire ++ m ∷ [] else s.wire })) next
       go false = refl
-  act_tells (Prints l) moment n s = neutral_lines (table_lines l) (printed_passes is_neutral (λ tid serial. refl) (λ tid reason. refl) l) (View node base (node_told n) (shared_told s))
+  act_tells (Prints l) moment n s = neutral_lines (table_lines n l) (printed_passes is_neutral (λ event tid serial rm. refl) (λ tid serial. refl) (λ tid reason. refl) n l) (View node base (node_told n) (shared_told s))
 
   pub table_tells : (todo : List table.Act) (s : Shared) (n : Node) → AllTell node base (table_rows todo s n) n s
   table_tells [] s n = tt
@@ -120,6 +122,14 @@ module _ (node : List ℕ) (base : List SaidNode) where
   asked_tell : (s : Shared) (n : Node) (o : Option Branch) → AllTell node base (told_if s n (option_map (λ (b : Branch). just (rows.InquireBranch b.key.serial)) o)) n s
   asked_tell s n (Some b) = table_tells (row (tm_of n) (rows.InquireBranch b.key.serial)) s n
   asked_tell s n None = tt
+
+  replied_tell : (s : Shared) (n : Node) (rm : Name) (reply : Reply) (o : Option Id) → AllTell node base (told_if s n (option_map (λ serial. just (rows.Replied serial rm reply)) o)) n s
+  replied_tell s n rm reply (Some serial) = table_tells (row (tm_of n) (rows.Replied serial rm reply)) s n
+  replied_tell s n rm reply None = tt
+
+  logs_tell : (es : List (ℕ × LogRecord)) (n : Node) (s : Shared) → AllTell node base (map shown_line (map answers.log_line es)) n s
+  logs_tell [] n s = tt
+  logs_tell (e ∷ es) n s = (refl, logs_tell es n s)
 
   operated_tell : (n : Node) (s : Shared) (file : List ℕ) (op : Operation) (b : Branch) → AllTell node base (operated n file op b ∷ []) n s
   operated_tell n s file op b = go (changes_at n file op)
@@ -161,6 +171,13 @@ module _ (node : List ℕ) (base : List SaidNode) where
   request_tells s n (EndTrans label) named h = branch_tells s n (branch_labelled s n label) _ (λ b. table_tells (row (tm_of n) (rows.EndTrans b.key.tid)) s n)
   request_tells s n (AbortTrans label) named h = branch_tells s n (branch_labelled s n label) _ (λ b. table_tells (row (tm_of n) (rows.AbortBranch b.key.serial _)) s n)
   request_tells s n (Inquire who) named h = asked_tell s n (branch_named s n who)
+  request_tells s n (DeclareRm rm) named h = (neutral_lines _ (owed_passes is_neutral (λ event tid serial rm. refl) rm (waiting_for rm (committed_of (records_in n.durable.log)))) (View node base (node_told n) (shared_told s)), tt)
+  request_tells s n (JoinRm label rm) named h = branch_tells s n (branch_labelled s n label) _ (λ b. table_tells (row (tm_of n) (rows.JoinRm b.key.serial rm)) s n)
+  request_tells s n (AckEvent who rm reply) named h = replied_tell s n rm reply (answers.serial_named s n who)
+  request_tells s n (ForgetRm rm) named h = (refl, tt)
+  request_tells s n (GetDti who) named h = tt
+  request_tells s n LmcpShow named h = tt
+  request_tells s n LmcpDump named h = logs_tell (slot_records 0 n.durable.log) n s
   request_tells s n (Dump file) named h = records_tell (records_of n file) n s
   request_tells s n DumpJournal named h = entries_tell n.durable.units.entries n.durable.units.first n s
   request_tells s n (Fuse writes choice) named h = (refl, tt)

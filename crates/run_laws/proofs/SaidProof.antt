@@ -6,7 +6,7 @@ use Rattle.std.specs.Str.{bytes_eq}
 use Rattle.std.proofs.lemmas.List.{length-map}
 use Rattle.transcript_model.specs.Lines as line
 use Rattle.transcript_model.specs.Lines.{Line}
-use Rattle.script_model.specs.Statements.{Statement, At, Deliver, LinkDown, Settle, Request, Init, Boot, StartTrans, AddBranch, StartBranch, Records, EndBranch, EndTrans, AbortTrans, Inquire, Fuse, Clock, Named, ByLabel, BySerial}
+use Rattle.script_model.specs.Statements.{Statement, At, Deliver, LinkDown, Settle, Request, Init, Boot, StartTrans, AddBranch, StartBranch, Records, EndBranch, EndTrans, AbortTrans, Inquire, JoinRm, AckEvent, GetDti, Fuse, Clock, Named, ByLabel, BySerial}
 use Rattle.commit_protocol.specs.Messages.{Message}
 use Rattle.run_model.specs.World.{World, Shared, Node, Label, find_node, find_label, opened}
 use Rattle.run_model.specs.Operations.{first_of, refused_if}
@@ -99,6 +99,9 @@ lines_so s n (EndBranch label) = λ i. first_of (served_up n i) (sym (made_so s 
 lines_so s n (EndTrans label) = λ i. first_of (served_up n i) (sym (made_so s n label) i)
 lines_so s n (AbortTrans label) = λ i. first_of (served_up n i) (sym (made_so s n label) i)
 lines_so s n (Inquire who) = λ i. first_of (served_up n i) (sym (named_so s n who) i)
+lines_so s n (JoinRm label rm) = λ i. first_of (served_up n i) (sym (made_so s n label) i)
+lines_so s n (AckEvent who rm reply) = λ i. first_of (served_up n i) (sym (named_so s n who) i)
+lines_so s n (GetDti who) = λ i. first_of (served_up n i) (sym (named_so s n who) i)
 lines_so s n (Fuse writes choice) = ap (λ o. first_of o None) (served_down n)
 lines_so s n (Clock now) = ap (λ o. first_of o None) (served_down n)
 lines_so s n _ = ap (λ o. first_of o None) (served_up n) ∙ first_none (down_said (node_told n))
@@ -329,6 +332,9 @@ says_request s n (EndBranch label) = says_label s n label
 says_request s n (EndTrans label) = says_label s n label
 says_request s n (AbortTrans label) = says_label s n label
 says_request s n (Inquire who) = cause.says_first is_of_lines _ _ (says_down n) (says_name s.labels n.name who)
+says_request s n (JoinRm label rm) = says_label s n label
+says_request s n (AckEvent who rm reply) = cause.says_first is_of_lines _ _ (says_down n) (says_name s.labels n.name who)
+says_request s n (GetDti who) = cause.says_first is_of_lines _ _ (says_down n) (says_name s.labels n.name who)
 says_request s n (Fuse writes choice) = cause.says_none is_of_lines
 says_request s n (Clock now) = cause.says_none is_of_lines
 says_request s n _ = says_down n

@@ -6,11 +6,11 @@ use Rattle.vms_model.specs.Ids.{Id}
 use Rattle.vms_model.specs.Transactions.{Outcome, Reason, Aborted, Vetoed, SyncFail, Timeout, CommFail, SegFail}
 use Rattle.vms_model.specs.Transactions as settles
 use Rattle.commit_protocol.specs.Messages.{Name, Kind, Join, JoinOk, JoinNo, Prepare, Yes, ReadOnly, No, Commit, Abort, Ack, Inquire, Message, RmEvent, PrepareEvent, CommitEvent, AbortEvent, Reply, LogRecord, same_id}
-use Rattle.commit_protocol.specs.Table.{Key, Branch, State, Joining, Active, Ending, Voting, Prepared, Child, Act, Notes, Accepts, Prepares, Settles, Leaves, Acknowledges, Undoes, Sends, Tm, first, key_of, is_first, find, find_serial, waits_for, holding}
-use Rattle.commit_protocol.specs.Rows.{down, up, sends_all, to_each, tells, joined, interested, serials, yes_of, all_voted, all_replied, has_bid, has_serial, others, all_taken, joined_as, ended, told_abort, aborts_telling, aborts, undone_quietly, refuses, commits, commits_if_all, refuses_join, grants_join, join_state, join_row, join_ok_state, join_ok_row, join_no_state, join_no_row, which_event, ending, begins_ending, end_trans_state, end_trans_row, abort_running, abort_by_state, abort_branch_row, authorise_state, authorise_row, lacks_vote, with_vote, vote_state, vote_row, refused, no_state, no_row, answer_state, answer, inquire_row, is_empty, casts, casts_if_all, voting, begins_vote, asked_branch, votes_if_ended, prepare_state, prepare_row, ended_branch, end_branch_state, end_branch_row, commit_state, commit_row, abort_state, abort_row, note_state, note_row, has_changed, with_manager, asks_state, asks_row, aborted_if, sweep, is_due, is_cut_off, is_under, is_other, got, row, Event, Start, Authorise, Begin, JoinRm, Changed, EndTrans, EndBranch, AbortBranch, Replied, Got, Clock, LinkDown, RunDown, InquireBranch}
+use Rattle.commit_protocol.specs.Table.{Key, Branch, State, Joining, Active, Ending, Voting, Prepared, Child, Act, Notes, Accepts, Prepares, Settles, Leaves, Acknowledges, Releases, Undoes, Sends, Tm, first, key_of, is_first, find, find_serial, waits_for, holds, holding}
+use Rattle.commit_protocol.specs.Rows.{down, up, sends_all, to_each, tells, joined, interested, serials, yes_of, all_voted, all_replied, has_bid, has_serial, others, all_taken, joined_as, ended, told_abort, aborts_telling, aborts, undone_quietly, refuses, commits, commits_if_all, refuses_join, grants_join, join_state, join_row, join_ok_state, join_ok_row, join_no_state, join_no_row, which_event, ending, begins_ending, end_trans_state, end_trans_row, abort_running, abort_by_state, abort_branch_row, authorise_state, authorise_row, lacks_vote, with_vote, vote_state, vote_row, refused, no_state, no_row, answer_state, answer, inquire_row, is_empty, casts, casts_if_all, voting, begins_vote, asked_branch, votes_if_ended, prepare_state, prepare_row, ended_branch, end_branch_state, end_branch_row, commit_state, commit_row, abort_state, abort_row, with_reply, is_veto, is_forget, first_reply, branch_reply, reply_state, reply_row, note_state, note_row, has_changed, with_manager, asks_state, asks_row, aborted_if, sweep, is_due, is_cut_off, is_under, is_other, got, row, Event, Start, Authorise, Begin, JoinRm, Changed, EndTrans, EndBranch, AbortBranch, Replied, Got, Clock, LinkDown, RunDown, InquireBranch}
 use Rattle.commit_protocol.specs.Allowed.{is_prepared}
 use Rattle.commit_protocol.specs.World.{In}
-use Rattle.commit_protocol.proofs.Lists.{find-key, find_serial-serial, same_id-true}
+use Rattle.commit_protocol.proofs.Lists.{find-key, find_serial-serial, same_id-true, same_key-true}
 use Rattle.run_laws.proofs.Noting.{find_in, serial_in}
 
 -- A branch of a table that has this key and is not prepared.
@@ -42,7 +42,7 @@ EventSettles tm (Got m) k o reason = MessageSettles tm m.kind m k o reason
 EventSettles tm (Clock now) k o reason = (o ≡ settles.Abort) × (reason ≡ Timeout) × (x : IsOpen tm.table k) × (is_due now x.branch ≡ true)
 EventSettles tm (LinkDown other) k o reason = (o ≡ settles.Abort) × (reason ≡ CommFail) × (x : IsOpen tm.table k) × ((is_cut_off other x.branch ≡ true) ⊎ (is_under other x.branch ≡ true))
 EventSettles tm RunDown k o reason = (o ≡ settles.Abort) × (reason ≡ SegFail) × IsOpen tm.table k
-EventSettles tm (Replied s rm reply) k o reason = Unit {0}
+EventSettles tm (Replied s rm reply) k o reason = (k.serial ≡ s) × (x : IsOpen tm.table k) × (((o ≡ settles.Commit) × (is_veto reply ≡ false) × (x.branch.state ≡ Ending) × (k ≡ first k.tid)) ⊎ ((o ≡ settles.Abort) × (reason ≡ Vetoed) × (is_veto reply ≡ true)))
 EventSettles tm _ k o reason = ⊥
 
 -- each of these acts that settles a branch does so for such a cause, and none undoes a unit
@@ -177,6 +177,27 @@ module _ (P : Key → Outcome → Reason → Type 0) where
       go Ending e = aborted (ap is_prepared e)
       go _ e = tt
 
+  reply_settles : (s : Id) (x : Name) (r : Reply) (o : Option Branch) (rs : List LogRecord) →
+      FoundSo o (λ b. (is_veto r ≡ true → is_prepared b.state ≡ false → P b.key settles.Abort Vetoed) × (is_veto r ≡ false → b.state ≡ Ending → is_first b ≡ true → P b.key settles.Commit Aborted)) → AllSettle P (reply_row s x r o rs)
+  reply_settles s x r None rs h = if_settles (is_forget r && list_any (λ q. holds s x q) rs) (Releases s x ∷ []) [] (λ t. (tt, tt)) (λ t. tt)
+  reply_settles s x r (Some b) rs h = go b.state refl
+    where
+      at_first : b.state ≡ Ending → is_first b ≡ true → AllSettle P (first_reply x r b)
+      at_first e f = if_settles (is_veto r) (aborts Vetoed (with_reply x r b)) (Notes (with_reply x r b) ∷ commits_if_all (with_reply x r b) (ended b b.state None))
+          (λ t. aborts_settle b.accepted Vetoed (with_reply x r b) ((h b refl).0 t (ap is_prepared e)))
+          (λ t. (tt, commits_settle (with_reply x r b) (ended b b.state None) ((h b refl).1 t e f) (ended_settles b b.state None)))
+
+      at_other : b.state ≡ Voting → AllSettle P (branch_reply x r b)
+      at_other e = if_settles (is_veto r) (refuses Vetoed (with_reply x r b)) (Notes (with_reply x r b) ∷ casts_if_all (with_reply x r b))
+          (λ t. refuses_settles Vetoed (with_reply x r b) ((h b refl).0 t (ap is_prepared e))) (λ t. (tt, casts_settle (with_reply x r b)))
+
+      go : (z : State) → b.state ≡ z → AllSettle P (reply_state x r b z)
+      go Ending e = if_settles (is_first b) (first_reply x r b) [] (λ f. at_first e f) (λ f. tt)
+      go Voting e = if_settles b.asked (branch_reply x r b) [] (λ f. at_other e) (λ f. tt)
+      go Joining e = tt
+      go Active e = tt
+      go Prepared e = tt
+
   commit_settles : (m : Message) (o : Option Branch) → FoundSo o (λ b. P b.key settles.Commit Aborted) → AllSettle P (commit_row m o)
   commit_settles m None h = (tt, tt)
   commit_settles m (Some b) h = go b.state
@@ -282,8 +303,8 @@ accepted_in test s (c ∷ cs) is h = go (test c) refl h (accepted_in test s cs i
     go true e k more = (c, inl refl, is c e)
     go false e k more = let r = more k in (r.0, inr r.1, r.2)
 
-pub row_settles : (tm : Tm) (e : Event) → ((s : Id) (rm : Name) (reply : Reply) → e ≡ Replied s rm reply → ⊥) → AllSettle (EventSettles tm e) (row tm e)
-row_settles tm e h = go e h
+pub row_settles : (tm : Tm) (e : Event) → AllSettle (EventSettles tm e) (row tm e)
+row_settles tm e = go e
   where
     at : (k : Key) (b : Branch) → find k tm.table ≡ Some b → is_prepared b.state ≡ false → IsOpen tm.table b.key
     at k b is unprepared = record { branch = b; there = find_in k tm.table b is; key = refl; unprepared = unprepared }
@@ -307,22 +328,25 @@ row_settles tm e h = go e h
     message m Ack = if_settles (MessageSettles tm Ack m) (list_any (λ r. waits_for (key_of m) r) tm.records) (Acknowledges (key_of m) ∷ []) [] (λ t. (tt, tt)) (λ t. tt)
     message m Inquire = inquire_settles (MessageSettles tm Inquire m) m (find (first m.tid) tm.table) tm.records
 
-    go : (e : Event) → ((s : Id) (rm : Name) (reply : Reply) → e ≡ Replied s rm reply → ⊥) → AllSettle (EventSettles tm e) (row tm e)
-    go (Start t due) h = (tt, tt)
-    go (Authorise t bid) h = authorise_settles (EventSettles tm (Authorise t bid)) bid (find (first t) tm.table)
-    go (Begin t s bid) h = (tt, (tt, tt))
-    go (JoinRm s x) h = note_settles (EventSettles tm (JoinRm s x)) (with_manager x) (find_serial s tm.table)
-    go (Changed s) h = note_settles (EventSettles tm (Changed s)) has_changed (find_serial s tm.table)
-    go (EndTrans t) h = end_trans_settles (EventSettles tm (EndTrans t)) (find (first t) tm.table) (λ b is u. ((find-key (first t) tm.table b is, at (first t) b is u, inl refl), λ none. (find-key (first t) tm.table b is, at (first t) b is u, inr (refl, refl, none))))
-    go (EndBranch s) h = end_branch_settles (EventSettles tm (EndBranch s)) (find_serial s tm.table)
-    go (AbortBranch s why) h = abort_branch_settles (EventSettles tm (AbortBranch s why)) why (find_serial s tm.table) (λ b is u. (refl, refl, find_serial-serial s tm.table b is, by_serial s b is u))
-    go (Replied s x r) h = absurd (h s x r refl)
-    go (Got m) h = message m m.kind
-    go (Clock now) h = sweep_settles (EventSettles tm (Clock now)) Timeout (is_due now) tm.table (λ b i c u. (refl, refl, record { branch = b; there = i; key = refl; unprepared = u }, c))
-    go (LinkDown x) h = append_settles (EventSettles tm (LinkDown x)) (sweep CommFail (is_cut_off x) tm.table) (sweep CommFail (is_under x) tm.table)
+    go : (e : Event) → AllSettle (EventSettles tm e) (row tm e)
+    go (Start t due) = (tt, tt)
+    go (Authorise t bid) = authorise_settles (EventSettles tm (Authorise t bid)) bid (find (first t) tm.table)
+    go (Begin t s bid) = (tt, (tt, tt))
+    go (JoinRm s x) = note_settles (EventSettles tm (JoinRm s x)) (with_manager x) (find_serial s tm.table)
+    go (Changed s) = note_settles (EventSettles tm (Changed s)) has_changed (find_serial s tm.table)
+    go (EndTrans t) = end_trans_settles (EventSettles tm (EndTrans t)) (find (first t) tm.table) (λ b is u. ((find-key (first t) tm.table b is, at (first t) b is u, inl refl), λ none. (find-key (first t) tm.table b is, at (first t) b is u, inr (refl, refl, none))))
+    go (EndBranch s) = end_branch_settles (EventSettles tm (EndBranch s)) (find_serial s tm.table)
+    go (AbortBranch s why) = abort_branch_settles (EventSettles tm (AbortBranch s why)) why (find_serial s tm.table) (λ b is u. (refl, refl, find_serial-serial s tm.table b is, by_serial s b is u))
+    go (Replied s x r) = reply_settles (EventSettles tm (Replied s x r)) s x r (find_serial s tm.table) tm.records (λ b is. (
+      (λ veto u. (find_serial-serial s tm.table b is, by_serial s b is u, inr (refl, refl, veto))),
+      (λ other e key. (find_serial-serial s tm.table b is, by_serial s b is (ap is_prepared e), inl (refl, other, e, same_key-true b.key (first b.key.tid) key))),
+    ))
+    go (Got m) = message m m.kind
+    go (Clock now) = sweep_settles (EventSettles tm (Clock now)) Timeout (is_due now) tm.table (λ b i c u. (refl, refl, record { branch = b; there = i; key = refl; unprepared = u }, c))
+    go (LinkDown x) = append_settles (EventSettles tm (LinkDown x)) (sweep CommFail (is_cut_off x) tm.table) (sweep CommFail (is_under x) tm.table)
         (sweep_settles (EventSettles tm (LinkDown x)) CommFail (is_cut_off x) tm.table (λ b i c u. (refl, refl, record { branch = b; there = i; key = refl; unprepared = u }, inl c)))
         (sweep_settles (EventSettles tm (LinkDown x)) CommFail (is_under x) tm.table (λ b i c u. (refl, refl, record { branch = b; there = i; key = refl; unprepared = u }, inr c)))
-    go RunDown h = append_settles (EventSettles tm RunDown) (sweep SegFail is_first tm.table) (sweep SegFail is_other tm.table)
+    go RunDown = append_settles (EventSettles tm RunDown) (sweep SegFail is_first tm.table) (sweep SegFail is_other tm.table)
         (sweep_settles (EventSettles tm RunDown) SegFail is_first tm.table (λ b i c u. (refl, refl, record { branch = b; there = i; key = refl; unprepared = u })))
         (sweep_settles (EventSettles tm RunDown) SegFail is_other tm.table (λ b i c u. (refl, refl, record { branch = b; there = i; key = refl; unprepared = u })))
-    go (InquireBranch s) h = asks_settle (EventSettles tm (InquireBranch s)) (find_serial s tm.table)
+    go (InquireBranch s) = asks_settle (EventSettles tm (InquireBranch s)) (find_serial s tm.table)

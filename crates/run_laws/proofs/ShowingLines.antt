@@ -18,7 +18,7 @@ use Rattle.commit_protocol.specs.Allowed.{is_prepared}
 use Rattle.commit_protocol.specs.World.{In}
 use Rattle.commit_protocol.proofs.Lists.{same_key-refl, same_key-true}
 use Rattle.run_model.specs.World.{World, Shared, Node, Tables, acted, next_id, find_node, next_moment, shared_after, tm_of, message_limit}
-use Rattle.run_model.specs.Answers.{Serves, Service, service, refused_before_reading, branch_labelled, changes_at, directed, is_first_active, is_open, just, made_label, powers, shown_by, table_rows, told_rows, unsettled_label}
+use Rattle.run_model.specs.Answers.{Serves, Service, service, refused_before_reading, branch_labelled, changes_at, directed, is_declared, is_first_active, is_open, just, made_label, powers, shown_by, table_rows, told_rows, unsettled_label}
 use Rattle.run_model.specs.Steps.{Choice, Whole, WithoutMemory, Unpowered, Cut, TaskAllowed, task_effect, rows_if, rows_to_cut, whole, begun, lines_of_rows}
 use Rattle.run_model.specs.Statements.{Step, stops_at, RoseAt}
 use Rattle.run_model.specs.Transcript.{Entry}
@@ -27,7 +27,7 @@ use Rattle.run_model.proofs.NodeLists.{clash, found_name}
 use Rattle.run_model.proofs.Refusing.{not_ready, same_last}
 use Rattle.run_laws.specs.Naming.{IsNamed}
 use Rattle.run_laws.specs.Causes.{HasJoined, WasBegun}
-use Rattle.run_laws.specs.Showing.{HeadedBy, IsBehindAbort, IsItsAbort, IsItsEnd, IsOneCommitment, IsSending, IsToItsBranch, OnceAmong, ShowsThese}
+use Rattle.run_laws.specs.Showing.{HeadedBy, IsBehindAbort, IsItsAbort, IsItsEnd, IsManagerEvent, IsOneCommitment, IsSending, IsToItsBranch, OnceAmong, ShowsThese}
 use Rattle.run_laws.specs.Laws.{AbortsShowHold, DirectsShowHold, EndsShowHold}
 use Rattle.run_laws.proofs.Directed.{neither}
 use Rattle.run_laws.proofs.Ending.{Standing, active_is, active_unprepared, end_row, found_serial, named_branch, row_is, standing}
@@ -118,9 +118,13 @@ module _ (P Q : Line → Type 0) where
       go (Some message.ReadOnly) more = more
       go _ more = (sends_say (down message.Abort (child t c.serial)) (p c (inl refl)), more)
 
-  tells_say : (e : RmEvent) (k : BranchKey) (xs : List Name) → AllSay (tells e k xs)
-  tells_say e k [] = tt
-  tells_say e k (x ∷ xs) = (λ moment n s. tt, tells_say e k xs)
+  tells_say : (e : RmEvent) (k : BranchKey) (xs : List Name) → ((l : Line) → IsManagerEvent e k.tid k.serial l → P l) → AllSay (tells e k xs)
+  tells_say e k [] p = tt
+  tells_say e k (x ∷ xs) p = (λ moment n s. go (is_declared n x), tells_say e k xs p)
+    where
+      go : (b : Bool) → AllByRecursion P (if b then line.ManagerTold e k.tid k.serial x ∷ [] else [])
+      go true = (p _ (x, refl), tt)
+      go false = tt
 
 -- Serials of branches that were accepted.
 
@@ -213,7 +217,10 @@ module _ (es : List Entry) (w : World) (node label : List ℕ) (h : Named es w) 
     begun_so = let a = active_is b active in (named_branch es w node label n b h found is (active_unprepared b a.1)).begun (sym (ap (λ (k : BranchKey). k.serial) a.0))
 
     to_branch : (kind : Kind) (s : Id) → HasJoined es b.key.tid s → (l : Line) → IsSending (down kind (child b.key.tid s)) l → ToBranch l
-    to_branch kind s j l i = (b.key.tid, begun_so, (down kind (child b.key.tid s), i, refl, j))
+    to_branch kind s j l i = (b.key.tid, begun_so, inl (down kind (child b.key.tid s), i, refl, j))
+
+    to_manager : (event : RmEvent) (l : Line) → IsManagerEvent event b.key.tid b.key.serial l → ToBranch l
+    to_manager event l i = (b.key.tid, begun_so, inr (event, (i.0, i.1 ∙ ap (λ (k : BranchKey). line.ManagerTold event b.key.tid k.serial i.0) (active_is b active).0)))
 
     of_accepted : (c : Child) → In c b.accepted → HasJoined es b.key.tid c.serial
     of_accepted = (known (active_unprepared b (active_is b active).1)).joined
@@ -232,7 +239,7 @@ module _ (es : List Entry) (w : World) (node label : List ℕ) (h : Named es w) 
         inr (
           settles Commit Aborted (rows.owing b.key (yes_of b.accepted) (table.holding (ending b).managers)) (inl refl),
           say_append ToBranch ItsEnd _ _ (each_say ToBranch ItsEnd message.Commit b.key.tid (yes_of b.accepted) (λ s i. let c = yes_in s b.accepted i in to_branch message.Commit s (subst (HasJoined es b.key.tid) c.2 (of_accepted c.0 c.1))))
-              (say_append ToBranch ItsEnd _ [] (tells_say ToBranch ItsEnd _ b.key _) tt),
+              (say_append ToBranch ItsEnd _ [] (tells_say ToBranch ItsEnd _ b.key _ (to_manager _)) tt),
         )
     commits_so false = tt
 
@@ -241,7 +248,7 @@ module _ (es : List Entry) (w : World) (node label : List ℕ) (h : Named es w) 
         inl (
           λ moment m s. tt,
           is_append ToBranch ItsEnd _ _ (each_say ToBranch ItsEnd message.Prepare b.key.tid (serials b.accepted) (λ s i. let c = accepted_in s b.accepted i in to_branch message.Prepare s (subst (HasJoined es b.key.tid) c.2 (of_accepted c.0 c.1))))
-              (is_append ToBranch ItsEnd _ _ (tells_say ToBranch ItsEnd _ b.key _) (commits_so (all_voted b.accepted && all_replied (ending b).managers))),
+              (is_append ToBranch ItsEnd _ _ (tells_say ToBranch ItsEnd _ b.key _ (to_manager _)) (commits_so (all_voted b.accepted && all_replied (ending b).managers))),
         )
 
     aborts_so : OneIs ToBranch ItsEnd (rows.aborts SyncFail b)
@@ -249,7 +256,7 @@ module _ (es : List Entry) (w : World) (node label : List ℕ) (h : Named es w) 
         inr (
           settles Abort SyncFail None (inr (refl, refl)),
           say_append ToBranch ItsEnd _ _ (aborts_say ToBranch ItsEnd b.key.tid b.accepted (λ c i. to_branch message.Abort c.serial (of_accepted c i)))
-              (say_append ToBranch ItsEnd _ _ (tells_say ToBranch ItsEnd _ b.key _) (subst (λ (x : State). AllSay ToBranch ItsEnd (rows.ended b x (Some SyncFail))) (sym (active_is b active).1) tt)),
+              (say_append ToBranch ItsEnd _ _ (tells_say ToBranch ItsEnd _ b.key _ (to_manager _)) (subst (λ (x : State). AllSay ToBranch ItsEnd (rows.ended b x (Some SyncFail))) (sym (active_is b active).1) tt)),
         )
 
     end_so : OneIs ToBranch ItsEnd (end_row b)
@@ -274,6 +281,9 @@ module _ (es : List Entry) (w : World) (node label : List ℕ) (h : Named es w) 
     aborted_is : (r : Option LogRecord) → ActIs Behind ItsAbort (Settles b.key Abort Aborted r)
     aborted_is r moment m s = (line.Aborted b.key.tid b.key.serial Aborted moment, refl, (b.key.tid, b.key.serial, moment, named, refl))
 
+    of_managers : (l : Line) → IsManagerEvent message.AbortEvent b.key.tid b.key.serial l → Behind l
+    of_managers l i = (b.key.tid, b.key.serial, named, inr (inr (inr i)))
+
     first_serial : is_first b ≡ true → b.key.serial ≡ b.key.tid
     first_serial first_so = ap (λ (k : BranchKey). k.serial) (rows_first first_so)
       where
@@ -292,13 +302,13 @@ module _ (es : List Entry) (w : World) (node label : List ℕ) (h : Named es w) 
         let own = first_serial first_so in (
           aborted_is None,
           say_append Behind ItsAbort _ _ (aborts_say Behind ItsAbort b.key.tid b.accepted (λ c i l x. (b.key.tid, b.key.serial, named, inl (own, (down message.Abort (child b.key.tid c.serial), x, refl, (known unprepared).joined c i)))))
-              (say_append Behind ItsAbort _ _ (tells_say Behind ItsAbort _ b.key _) (ended_say own b.state refl)),
+              (say_append Behind ItsAbort _ _ (tells_say Behind ItsAbort _ b.key _ of_managers) (ended_say own b.state refl)),
         )
 
     one_aborts : is_first b ≡ false → FirstIs Behind ItsAbort (rows.refuses Aborted b)
     one_aborts other =
         let apart : b.key.serial ≡ b.key.tid → ⊥ = λ same. clash _ (ap (λ (k : BranchKey). table.same_key k (first b.key.tid)) (λ i. record { tid = b.key.tid; serial = same i }) ∙ same_key-refl (first b.key.tid)) other in
-        (aborted_is None, (sends_say Behind ItsAbort (rows.up message.No b.key) (λ l x. (b.key.tid, b.key.serial, named, inr (inr (rows.up message.No b.key, x, refl, refl, apart)))), tells_say Behind ItsAbort _ b.key _))
+        (aborted_is None, (sends_say Behind ItsAbort (rows.up message.No b.key) (λ l x. (b.key.tid, b.key.serial, named, inr (inr (inl (rows.up message.No b.key, x, refl, refl, apart))))), tells_say Behind ItsAbort _ b.key _ of_managers))
 
     abort_so : FirstIs Behind ItsAbort (rows.abort_by_state Aborted b b.state)
     abort_so = by_state b.state unprepared

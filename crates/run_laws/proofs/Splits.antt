@@ -62,7 +62,7 @@ act_plain (Sends m) moment n s h = go (nat_lt (length s.wire) message_limit)
     go : (b : Bool) → ArePlain ((if b then line.Sent (length s.wire + 1) m else line.Unsent m) ∷ [])
     go true = (refl, tt)
     go false = (refl, tt)
-act_plain (Prints l) moment n s h = printed_passes is_plain (λ tid serial. refl) (λ tid reason. refl) l
+act_plain (Prints l) moment n s h = printed_passes is_plain (λ event tid serial rm. refl) (λ tid serial. refl) (λ tid reason. refl) n l
 
 rows_plain : (todo : List table.Act) (s : Shared) (n : Node) (k : ℕ) → AllSettle (λ k o reason. ⊥) todo → ArePlain (lines_of_rows (take k (table_rows todo s n)))
 rows_plain todo s n zero h = tt

@@ -272,6 +272,7 @@ module _ (serial : Id) where
       go (Some (world.Holds id file keys)) g t v = quiet (Some (world.Holds id file keys)) g (λ e. e) (steady t v)
       go (Some (world.Arms writes choice)) g t v = quiet (Some (world.Arms writes choice)) g (λ e. e) (steady t v)
       go (Some (world.Clocks now)) g t v = quiet (Some (world.Clocks now)) g (λ e. e) (steady t v)
+      go (Some (world.Declares rms)) g t v = quiet (Some (world.Declares rms)) g (λ e. e) (steady t v)
       go (Some world.Falls) g t v = quiet (Some world.Falls) g (λ e. e) (steady t v)
 
   fresh_after : (free : Bool) (o : Option Act) (n : Node) → IsUp n → (free ≡ true → In (latest_id n) (branch_serials n.volatile.branches) → ⊥) → free_after free o ≡ true → In (latest_id (node_after o n)) (branch_serials (node_after o n).volatile.branches) → ⊥

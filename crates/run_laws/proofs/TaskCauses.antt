@@ -1,4 +1,5 @@
 -- What a task shows to be settled has its cause in what the task is told.
+use Rattle.log_laws.specs.Slots.{slot_records}
 use Rattle.std.proofs.Common.{◌≡◌, ℕ, List, [], ◌∷◌, ◌++◌, inl, inr, map, take, zero, suc, Bool, true, false, Option, Some, None, refl, sym, ◌∙◌, ap, subst}
 use Rattle.std.specs.Option.{option_map, option_and_then}
 use Rattle.vms_model.specs.Ids.{Id}
@@ -6,7 +7,7 @@ use Rattle.vms_model.specs.Keys.{Key}
 use Rattle.vms_model.specs.Transactions.{Outcome, Commit, Abort, Reason, Aborted, SegFail}
 use Rattle.transcript_model.specs.Lines as line
 use Rattle.transcript_model.specs.Lines.{Line, Cause}
-use Rattle.script_model.specs.Statements.{Operation, Request, Init, Boot, Create, SetFile, StartTrans, AddBranch, StartBranch, Records, Direct, EndBranch, EndTrans, AbortTrans, Inquire, Dump, DumpJournal, Fuse, Crash, Clock}
+use Rattle.script_model.specs.Statements.{Operation, Request, Init, Boot, Create, SetFile, StartTrans, AddBranch, StartBranch, Records, Direct, EndBranch, EndTrans, AbortTrans, Inquire, DeclareRm, JoinRm, AckEvent, ForgetRm, GetDti, LmcpShow, LmcpDump, Dump, DumpJournal, Fuse, Crash, Clock, Named}
 use Rattle.records_model.specs.Records.{Change}
 use Rattle.commit_protocol.specs.Messages.{Reply, Name}
 use Rattle.commit_protocol.specs.Table as table
@@ -154,6 +155,7 @@ RequestCause s n Boot k o reason = (o ≡ Abort) × (reason ≡ SegFail)
 RequestCause s n (Direct file op) k o reason = (o ≡ Commit) × (k ≡ first (next_id n))
 RequestCause s n (EndTrans label) k o reason = (b : Branch) × (branch_labelled s n label ≡ Some b) × EventSettles (tm_of n) (rows.EndTrans b.key.tid) k o reason
 RequestCause s n (AbortTrans label) k o reason = (b : Branch) × (branch_labelled s n label ≡ Some b) × EventSettles (tm_of n) (rows.AbortBranch b.key.serial Aborted) k o reason
+RequestCause s n (AckEvent who rm reply) k o reason = (serial : Id) × (answers.serial_named s n who ≡ Some serial) × EventSettles (tm_of n) (rows.Replied serial rm reply) k o reason
 RequestCause s n _ k o reason = ⊥
 
 abbrev pub TaskCause : Shared → Node → Task → BranchKey → Outcome → Reason → Type 0
@@ -165,8 +167,8 @@ TaskCause s n (LosesLink other) k o reason = EventSettles (tm_of n) (rows.LinkDo
 TaskCause s n RunsDown k o reason = EventSettles (tm_of n) rows.RunDown k o reason
 TaskCause s n Restarts k o reason = (o ≡ Abort) × (reason ≡ SegFail)
 
-event_caused : (e : Event) (s : Shared) (n : Node) → ((serial : Id) (rm : Name) (reply : Reply) → e ≡ rows.Replied serial rm reply → ⊥) → AreCaused (EventSettles (tm_of n) e) (table_rows (row (tm_of n) e) s n)
-event_caused e s n h = table_caused (EventSettles (tm_of n) e) (row (tm_of n) e) s n (row_settles (tm_of n) e h)
+event_caused : (e : Event) (s : Shared) (n : Node) → AreCaused (EventSettles (tm_of n) e) (table_rows (row (tm_of n) e) s n)
+event_caused e s n = table_caused (EventSettles (tm_of n) e) (row (tm_of n) e) s n (row_settles (tm_of n) e)
 
 more_caused : (P Q : BranchKey → Outcome → Reason → Type 0) (rs : List Row) → ((k : BranchKey) (o : Outcome) (reason : Reason) → P k o reason → Q k o reason) → AreCaused P rs → AreCaused Q rs
 more_caused P Q [] f h = tt
@@ -187,8 +189,12 @@ begins_caused s n (Some l) = go l.bid
     go (Some bid) = (tt, (tt, (tt, (tt, tt))))
 
 asked_caused : (s : Shared) (n : Node) (o : Option Branch) → AreCaused (λ k out reason. ⊥) (told_if s n (option_map (λ (b : Branch). just (rows.InquireBranch b.key.serial)) o))
-asked_caused s n (Some b) = event_caused (rows.InquireBranch b.key.serial) s n (λ x y z e. let no : ⊥ = cc in no)
+asked_caused s n (Some b) = event_caused (rows.InquireBranch b.key.serial) s n
 asked_caused s n None = tt
+
+replied_caused : (s : Shared) (n : Node) (who : Named) (rm : Name) (reply : Reply) (o : Option Id) → answers.serial_named s n who ≡ o → AreCaused (RequestCause s n (AckEvent who rm reply)) (told_if s n (option_map (λ serial. just (rows.Replied serial rm reply)) o))
+replied_caused s n who rm reply (Some serial) is = more_caused (EventSettles (tm_of n) (rows.Replied serial rm reply)) (RequestCause s n (AckEvent who rm reply)) _ (λ k o reason h. (serial, is, h)) (event_caused (rows.Replied serial rm reply) s n)
+replied_caused s n who rm reply None is = tt
 
 request_caused : (s : Shared) (n : Node) (request : Request) → AreCaused (RequestCause s n request) ((service request).rows s n)
 request_caused s n (Init slots journal) = tt
@@ -202,16 +208,23 @@ request_caused s n (AddBranch label other new) = branch_caused (λ k o reason. �
     added b is =
         let l : world.Label = record { name = new; node = other; tid = b.key.tid; bid = Some (next_id n); serial = None } in
         let e = rows.Authorise b.key.tid (next_id n) in
-        (tt, (tt, table_caused (λ k o reason. ⊥) (row (tm_of n) e) (shared_after (world.Labels l) s) (acted (world.Labels l) (acted world.Draws n)) (row_settles (tm_of n) e (λ x y z e. let no : ⊥ = cc in no))))
+        (tt, (tt, table_caused (λ k o reason. ⊥) (row (tm_of n) e) (shared_after (world.Labels l) s) (acted (world.Labels l) (acted world.Draws n)) (row_settles (tm_of n) e)))
 request_caused s n (StartBranch label) = begins_caused s n (world.labelled n.name label s.labels)
 request_caused s n (Records label file op) = branch_caused (λ k o reason. ⊥) (branch_labelled s n label) (λ b. answers.operated n file op b ∷ []) (λ b is. operated_caused _ n file op b)
 request_caused s n (Direct file op) = directed_caused (RequestCause s n (Direct file op)) n file (answers.changes_at n file op) (refl, refl)
-request_caused s n (EndBranch label) = branch_caused (λ k o reason. ⊥) (branch_labelled s n label) (λ b. told_rows s n (just (rows.EndBranch b.key.serial))) (λ b is. event_caused (rows.EndBranch b.key.serial) s n (λ x y z e. let no : ⊥ = cc in no))
+request_caused s n (EndBranch label) = branch_caused (λ k o reason. ⊥) (branch_labelled s n label) (λ b. told_rows s n (just (rows.EndBranch b.key.serial))) (λ b is. event_caused (rows.EndBranch b.key.serial) s n)
 request_caused s n (EndTrans label) = branch_caused (RequestCause s n (EndTrans label)) (branch_labelled s n label) (λ b. told_rows s n (just (rows.EndTrans b.key.tid)))
-    (λ b is. more_caused (EventSettles (tm_of n) (rows.EndTrans b.key.tid)) (RequestCause s n (EndTrans label)) _ (λ k o reason h. (b, is, h)) (event_caused (rows.EndTrans b.key.tid) s n (λ x y z e. let no : ⊥ = cc in no)))
+    (λ b is. more_caused (EventSettles (tm_of n) (rows.EndTrans b.key.tid)) (RequestCause s n (EndTrans label)) _ (λ k o reason h. (b, is, h)) (event_caused (rows.EndTrans b.key.tid) s n))
 request_caused s n (AbortTrans label) = branch_caused (RequestCause s n (AbortTrans label)) (branch_labelled s n label) (λ b. told_rows s n (just (rows.AbortBranch b.key.serial Aborted)))
-    (λ b is. more_caused (EventSettles (tm_of n) (rows.AbortBranch b.key.serial Aborted)) (RequestCause s n (AbortTrans label)) _ (λ k o reason h. (b, is, h)) (event_caused (rows.AbortBranch b.key.serial Aborted) s n (λ x y z e. let no : ⊥ = cc in no)))
+    (λ b is. more_caused (EventSettles (tm_of n) (rows.AbortBranch b.key.serial Aborted)) (RequestCause s n (AbortTrans label)) _ (λ k o reason h. (b, is, h)) (event_caused (rows.AbortBranch b.key.serial Aborted) s n))
 request_caused s n (Inquire who) = asked_caused s n (branch_named s n who)
+request_caused s n (DeclareRm rm) = (tt, tt)
+request_caused s n (JoinRm label rm) = branch_caused (λ k o reason. ⊥) (branch_labelled s n label) (λ b. told_rows s n (just (rows.JoinRm b.key.serial rm))) (λ b is. event_caused (rows.JoinRm b.key.serial rm) s n)
+request_caused s n (AckEvent who rm reply) = replied_caused s n who rm reply (answers.serial_named s n who) refl
+request_caused s n (ForgetRm rm) = (tt, tt)
+request_caused s n (GetDti who) = tt
+request_caused s n LmcpShow = tt
+request_caused s n LmcpDump = shown_lines_caused (λ k o reason. ⊥) (map answers.log_line (slot_records 0 n.durable.log))
 request_caused s n (Dump file) = records_caused (λ k o reason. ⊥) (answers.records_of n file)
 request_caused s n DumpJournal = shown_lines_caused (λ k o reason. ⊥) (answers.entry_lines n.durable.units.first n.durable.units.entries)
 request_caused s n (Fuse writes choice) = (tt, tt)
@@ -220,11 +233,11 @@ request_caused s n (Clock now) = (tt, tt)
 
 pub task_caused : (s : Shared) (n : Node) (t : Task) → AreCaused (TaskCause s n t) ((task_service t).rows s n)
 task_caused s n (Serves request) = request_caused s n request
-task_caused s n Ticks = event_caused (rows.Clock n.clock) s n (λ x y z e. let no : ⊥ = cc in no)
-task_caused s n (Takes m) = event_caused (Got m) s n (λ x y z e. let no : ⊥ = cc in no)
-task_caused s n (Hears m) = (tt, event_caused (Got m) s n (λ x y z e. let no : ⊥ = cc in no))
-task_caused s n (LosesLink other) = event_caused (rows.LinkDown other) s n (λ x y z e. let no : ⊥ = cc in no)
-task_caused s n RunsDown = event_caused rows.RunDown s n (λ x y z e. let no : ⊥ = cc in no)
+task_caused s n Ticks = event_caused (rows.Clock n.clock) s n
+task_caused s n (Takes m) = event_caused (Got m) s n
+task_caused s n (Hears m) = (tt, event_caused (Got m) s n)
+task_caused s n (LosesLink other) = event_caused (rows.LinkDown other) s n
+task_caused s n RunsDown = event_caused rows.RunDown s n
 task_caused s n Restarts = (tt, undone_caused (TaskCause s n Restarts) _ s (acted world.Boots n) (λ k. (refl, refl)))
 
 -- What a task shows.

@@ -50,7 +50,7 @@ joined_later : (e : Entry) (es : List Entry) (tid serial : Id) → HasJoined es 
 joined_later e es tid serial j = (j.0, inr j.1, j.2)
 
 pub ended_later : (e : Entry) (es : List Entry) (tid : Id) → WasEnded es tid → WasEnded (e ∷ es) tid
-ended_later e es tid w = (w.0, w.1, w.2, w.3, said_later e es w.0 _ w.2 (line.Pending w.3) w.4, w.5)
+ended_later e es tid w = (w.0, w.1, w.2, w.3, w.4, said_later e es w.0 _ w.2 (line.Pending w.3 w.4) w.5, w.6)
 
 -- A branch comes of another: it has its key and its time, no more branches have joined it and none less, no more may, and it ends only where that does.
 pub record IsHeir (b x : Branch) : Type 0 where

@@ -8,7 +8,7 @@ use Rattle.vms_model.specs.Ids.{Id}
 use Rattle.vms_model.specs.Transactions.{Reason, Aborted, SyncFail}
 use Rattle.transcript_model.specs.Lines as line
 use Rattle.transcript_model.specs.Lines.{Line, Cause}
-use Rattle.script_model.specs.Statements.{Statement, At, Deliver, LinkDown, Settle, Request, StartTrans, AddBranch, StartBranch, EndBranch, EndTrans, AbortTrans, Inquire, Clock, Reading, Blank, Says, Bad}
+use Rattle.script_model.specs.Statements.{Statement, At, Deliver, LinkDown, Settle, Request, StartTrans, AddBranch, StartBranch, EndBranch, EndTrans, AbortTrans, Inquire, JoinRm, AckEvent, Clock, Reading, Blank, Says, Bad}
 use Rattle.script_model.specs.Grammar.{reading}
 use Rattle.commit_protocol.specs.Messages as message
 use Rattle.commit_protocol.specs.Messages.{Message, Name, RmEvent}
@@ -149,7 +149,7 @@ cut_key k x (y ∷ bs) i same = go (same_key y.key k) refl i (λ j. cut_key k x 
     go false is (inr j) more = more j
 
 -- an END_TRANS that leaves its branch unsettled is answered that something is missing
-end_pending : (b x : Branch) (bs : List Branch) → In x (tables (if all_taken b.bids b.accepted then begins_ending b else rows.aborts SyncFail b) bs) → x.key ≡ b.key → (ss : List Id) × (end_answer (if all_taken b.bids b.accepted then begins_ending b else rows.aborts SyncFail b) line.Normal ≡ line.Pending ss)
+end_pending : (b x : Branch) (bs : List Branch) → In x (tables (if all_taken b.bids b.accepted then begins_ending b else rows.aborts SyncFail b) bs) → x.key ≡ b.key → (ss : List Id) × (rms : List Name) × (end_answer (if all_taken b.bids b.accepted then begins_ending b else rows.aborts SyncFail b) line.Normal ≡ line.Pending ss rms)
 end_pending b x bs i key = go (all_taken b.bids b.accepted) i
   where
     sent : List Message
@@ -158,7 +158,7 @@ end_pending b x bs i key = go (all_taken b.bids b.accepted) i
     event : RmEvent
     event = which_event b.changed b.accepted b.managers
 
-    all : (t : Bool) → all_voted b.accepted && all_replied (ending b).managers ≡ t → In x (tables (begins_ending b) bs) → (ss : List Id) × (end_answer (begins_ending b) line.Normal ≡ line.Pending ss)
+    all : (t : Bool) → all_voted b.accepted && all_replied (ending b).managers ≡ t → In x (tables (begins_ending b) bs) → (ss : List Id) × (rms : List Name) × (end_answer (begins_ending b) line.Normal ≡ line.Pending ss rms)
     all true is j =
         let acts : commits_if_all (ending b) [] ≡ rows.commits (ending b) [] = rw is refl in
         let left : tables (begins_ending b) bs ≡ cut b.key (put (ending b) bs) =
@@ -167,9 +167,9 @@ end_pending b x bs i key = go (all_taken b.bids b.accepted) i
         absurd (cut_key b.key x (put (ending b) bs) (subst (In x) left j) key)
     all false is j =
         let acts : commits_if_all (ending b) [] ≡ [] = rw is refl in
-        (answers.missing b.accepted, sends_answer sent (tells event b.key (joined b.managers) ++ commits_if_all (ending b) []) (line.Pending (answers.missing b.accepted)) ∙ tells_answer event b.key (joined b.managers) (commits_if_all (ending b) []) (line.Pending (answers.missing b.accepted)) ∙ ap (λ todo. end_answer todo (line.Pending (answers.missing b.accepted))) acts)
+        (answers.missing b.accepted, answers.unreplied (ending b).managers, sends_answer sent (tells event b.key (joined b.managers) ++ commits_if_all (ending b) []) (line.Pending (answers.missing b.accepted) (answers.unreplied (ending b).managers)) ∙ tells_answer event b.key (joined b.managers) (commits_if_all (ending b) []) (line.Pending (answers.missing b.accepted) (answers.unreplied (ending b).managers)) ∙ ap (λ todo. end_answer todo (line.Pending (answers.missing b.accepted) (answers.unreplied (ending b).managers))) acts)
 
-    go : (t : Bool) → In x (tables (if t then begins_ending b else rows.aborts SyncFail b) bs) → (ss : List Id) × (end_answer (if t then begins_ending b else rows.aborts SyncFail b) line.Normal ≡ line.Pending ss)
+    go : (t : Bool) → In x (tables (if t then begins_ending b else rows.aborts SyncFail b) bs) → (ss : List Id) × (rms : List Name) × (end_answer (if t then begins_ending b else rows.aborts SyncFail b) line.Normal ≡ line.Pending ss rms)
     go true j = all (all_voted b.accepted && all_replied (ending b).managers) refl j
     go false j =
         let left : tables (rows.aborts SyncFail b) bs ≡ cut b.key bs =
@@ -191,12 +191,12 @@ module _ (e : Entry) (es : List Entry) (w v : World) (node label : List ℕ) (h 
       let rows_so : (service (EndTrans label)).rows w.shared n ≡ table_rows (end_row b) w.shared n = ap (λ (o : Option Branch). elim o [ Some y ↦ told_rows w.shared n (just (rows.EndTrans y.key.tid)) | None ↦ [] ]) labelled_b ∙ ap (λ todo. table_rows todo w.shared n) row_so in
       let left : eff.node.volatile.branches ≡ tables (end_row b) n.volatile.branches = ap (λ (y : TaskEffect). y.node.volatile.branches) is ∙ ap (λ rs. (node_after_rows rs n).volatile.branches) rows_so ∙ rows_tables (end_row b) w.shared n in
       let r = end_pending b x n.volatile.branches (subst (In x) left i) (key ∙ ap first tid ∙ sym a.0) in
-      let answer_so : eff.answer ≡ line.Pending r.0 = ap (λ (y : TaskEffect). y.answer) is ∙ ap (λ (o : Option Branch). elim o [ Some y ↦ end_answer (row (tm_of n) (rows.EndTrans y.key.tid)) line.Normal | None ↦ line.Normal ]) labelled_b ∙ ap (λ todo. end_answer todo line.Normal) row_so ∙ r.1 in
+      let answer_so : eff.answer ≡ line.Pending r.0 r.1 = ap (λ (y : TaskEffect). y.answer) is ∙ ap (λ (o : Option Branch). elim o [ Some y ↦ end_answer (row (tm_of n) (rows.EndTrans y.key.tid)) line.Normal | None ↦ line.Normal ]) labelled_b ∙ ap (λ todo. end_answer todo line.Normal) row_so ∙ r.2 in
       let nb = named_branch es w node label n b named found labelled_b (active_unprepared b a.1) in
       let same : b.key.tid ≡ b.key.serial = sym (ap (λ (k : BranchKey). k.serial) a.0) in
       let home : x.key.tid.node ≡ node = ap (λ (y : Id). y.node) (tid ∙ same) ∙ nb.home in
       let begun : WasBegun es x.key.tid.node label x.key.tid = subst (λ y. WasBegun es y label x.key.tid) (sym home) (subst (WasBegun es node label) (sym tid) (nb.begun same)) in
-      (es, label, eff.lines, r.0, record { after = []; entry = e; stands = refl; said = said ∙ ap (λ y. Says (At y (EndTrans label))) (sym home); shown = shows ∙ ap (λ l. eff.lines ++ l ∷ []) answer_so }, begun)
+      (es, label, eff.lines, r.0, r.1, record { after = []; entry = e; stands = refl; said = said ∙ ap (λ y. Says (At y (EndTrans label))) (sym home); shown = shows ∙ ap (λ l. eff.lines ++ l ∷ []) answer_so }, begun)
 
   end_ends : (ev : Event) (x : Branch) → IsTold w.shared n (Serves (EndTrans label)) ev → ev ≡ rows.EndTrans x.key.tid → x.key ≡ first x.key.tid → In x eff.node.volatile.branches → is_prepared x.state ≡ false → x.state ≡ Ending → eff.node.up ≡ true → WasEnded (e ∷ es) x.key.tid
   end_ends ev x (b, labelled_b, is) by key i u q up = go (outcome w.shared (stops_at node w) n (Serves (EndTrans label)) rises c allowed)
@@ -480,6 +480,8 @@ ends_only s n (Serves (AddBranch label other new)) ev tid is e = let no : rows.A
 ends_only s n (Serves (EndBranch label)) ev tid is e = let no : rows.EndBranch is.0.key.serial ≡ rows.EndTrans tid = sym is.1 ∙ e in let none : ⊥ = cc in absurd none
 ends_only s n (Serves (AbortTrans label)) ev tid is e = let no : rows.AbortBranch is.0.key.serial Aborted ≡ rows.EndTrans tid = sym is.1 ∙ e in let none : ⊥ = cc in absurd none
 ends_only s n (Serves (Inquire who)) ev tid is e = let no : rows.InquireBranch is.0.key.serial ≡ rows.EndTrans tid = sym is.1 ∙ e in let none : ⊥ = cc in absurd none
+ends_only s n (Serves (JoinRm label rm)) ev tid is e = let no : rows.JoinRm is.0.key.serial rm ≡ rows.EndTrans tid = sym is.1 ∙ e in let none : ⊥ = cc in absurd none
+ends_only s n (Serves (AckEvent who rm reply)) ev tid is e = let no : rows.Replied is.0 rm reply ≡ rows.EndTrans tid = sym is.1 ∙ e in let none : ⊥ = cc in absurd none
 ends_only s n (Serves _) ev tid is e = absurd is
 ends_only s n Ticks ev tid is e = let no : rows.Clock n.clock ≡ rows.EndTrans tid = sym is ∙ e in let none : ⊥ = cc in absurd none
 ends_only s n (Takes m) ev tid is e = let no : rows.Got m ≡ rows.EndTrans tid = sym is ∙ e in let none : ⊥ = cc in absurd none

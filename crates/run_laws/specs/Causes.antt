@@ -1,15 +1,16 @@
 -- What commits a branch, and what aborts one, as a statement and the entries before it tell.
-use Rattle.std.specs.Prelude.{◌≡◌, ◌≤◌, ◌⊎◌, ℕ, ◌+◌, ◌*◌, List, [], ◌∷◌, ◌++◌, Option, Some, None, if◌then◌else◌}
+use Rattle.std.specs.Prelude.{◌≡◌, ◌≤◌, ◌⊎◌, ℕ, ◌+◌, ◌*◌, List, [], ◌∷◌, ◌++◌, false, Option, Some, None, if◌then◌else◌}
 use Rattle.std.specs.List.{last_or}
 use Rattle.std.specs.Str.{bytes_eq}
 use Rattle.vms_model.specs.Ids.{Id}
 use Rattle.vms_model.specs.Transactions.{Outcome, Commit, Abort, Reason, Aborted, Vetoed, SyncFail, Timeout, CommFail, SegFail}
 use Rattle.transcript_model.specs.Lines as line
 use Rattle.transcript_model.specs.Lines.{Line}
-use Rattle.script_model.specs.Statements.{Statement, At, Deliver, LinkDown, Settle, Reading, Says, AddBranch, Boot, Clock, StartTrans, StartBranch, Direct, EndTrans, AbortTrans, Operation}
+use Rattle.script_model.specs.Statements.{Statement, At, Deliver, LinkDown, Settle, Reading, Says, AddBranch, Boot, Clock, StartTrans, StartBranch, Direct, EndTrans, AbortTrans, AckEvent, Named, ByLabel, BySerial, Operation}
 use Rattle.script_model.specs.Grammar.{reading}
 use Rattle.commit_protocol.specs.Messages as message
-use Rattle.commit_protocol.specs.Messages.{Message}
+use Rattle.commit_protocol.specs.Messages.{Message, Reply, VetoReply}
+use Rattle.commit_protocol.specs.Rows.{is_veto}
 use Rattle.commit_protocol.specs.World.{In}
 use Rattle.run_model.specs.Transcript.{Entry}
 use Rattle.run_laws.specs.Naming.{ToldLabel, IsNamed, find_told, labels_told}
@@ -25,11 +26,11 @@ WasBegun es node label tid = (before : List Entry) × (seconds : Option ℕ) × 
 abbrev pub HasBegun : List Entry → (tid serial : Id) → Type 0
 HasBegun es tid serial =
     ((label : List ℕ) × (serial ≡ tid) × WasBegun es tid.node label tid)
-    ⊎ ((before : List Entry) × (label : List ℕ) × (events : List Line) × (l : ToldLabel) × SaidThere es before (At serial.node (StartBranch label)) events (line.Pending (serial ∷ [])) × (find_told label (labels_told before) ≡ Some l) × (l.tid ≡ tid))
+    ⊎ ((before : List Entry) × (label : List ℕ) × (events : List Line) × (l : ToldLabel) × SaidThere es before (At serial.node (StartBranch label)) events (line.Pending (serial ∷ []) []) × (find_told label (labels_told before) ≡ Some l) × (l.tid ≡ tid))
 
--- an END_TRANS of this transaction was answered that votes are missing
+-- an END_TRANS of this transaction was answered that votes are missing, or replies of resource managers
 abbrev pub WasEnded : List Entry → Id → Type 0
-WasEnded es tid = (before : List Entry) × (label : List ℕ) × (events : List Line) × (serials : List Id) × SaidThere es before (At tid.node (EndTrans label)) events (line.Pending serials) × WasBegun before tid.node label tid
+WasEnded es tid = (before : List Entry) × (label : List ℕ) × (events : List Line) × (serials : List Id) × (rms : List (List ℕ)) × SaidThere es before (At tid.node (EndTrans label)) events (line.Pending serials rms) × WasBegun before tid.node label tid
 
 -- this message was sent under this number
 abbrev pub WasSent : List Entry → ℕ → Message → Type 0
@@ -79,14 +80,26 @@ Votes es said kind tid = (serial : Id) × DeliversTo es said kind tid serial × 
 abbrev pub WasAsked : Reading → (front : List Line) → (tid serial : Id) → Outcome → Type 0
 WasAsked said front tid serial outcome = (said ≡ Says Settle) × (earlier : List Line) × (front ≡ earlier ++ line.Asked tid serial outcome ∷ [])
 
+-- Replies of resource managers.
+
+-- a label or a serial names a branch of this transaction at its node
+abbrev pub Names : List Entry → Named → (tid serial : Id) → Type 0
+Names es (ByLabel label) tid serial = IsNamed es serial.node label tid serial
+Names es (BySerial named) tid serial = named ≡ serial
+
+-- a resource manager of this branch replies so
+abbrev pub Replies : List Entry → Reading → (tid serial : Id) → Reply → Type 0
+Replies es said tid serial reply = (who : Named) × (rm : List ℕ) × (said ≡ Says (At serial.node (AckEvent who rm reply))) × Names es who tid serial
+
 -- Causes.
 
--- What commits a branch, as the statement tells that shows it: an END_TRANS of its transaction, or the last vote that was missing since then, for the first branch;
--- for another, that it was told so.
+-- What commits a branch, as the statement tells that shows it: an END_TRANS of its transaction, or the last vote or the last reply that was missing since then, for
+-- the first branch; for another, that it was told so.
 abbrev pub CommitCause : List Entry → Reading → (front : List Line) → (tid serial : Id) → Type 0
 CommitCause es said front tid serial =
     ((label : List ℕ) × (said ≡ Says (At tid.node (EndTrans label))) × WasBegun es tid.node label tid × (serial ≡ tid))
     ⊎ ((Votes es said message.Yes tid ⊎ Votes es said message.ReadOnly tid) × WasEnded es tid × (serial ≡ tid))
+    ⊎ ((reply : Reply) × Replies es said tid serial reply × (is_veto reply ≡ false) × WasEnded es tid × (serial ≡ tid))
     ⊎ DeliversTo es said message.Commit tid serial
     ⊎ WasAsked said front tid serial Commit
 
@@ -98,13 +111,13 @@ IsDirect said tid serial = (file : List ℕ) × (op : Operation) × (said ≡ Sa
 abbrev pub IsCutOff : List Entry → (tid serial : Id) → (other : List ℕ) → Type 0
 IsCutOff es tid serial other = ((serial ≡ tid) × (s : Id) × HasJoined es tid s × (s.node ≡ other)) ⊎ (tid.node ≡ other)
 
--- What aborts a branch for this reason: a request to abort it, or a delivered or heard Abort; a delivered No of a branch that joined; an END_TRANS, or a delivered
--- refusal to join; its node's clock, once its time is over; a link that failed between its node and one that it needs; or a settling, or a
+-- What aborts a branch for this reason: a request to abort it, or a delivered or heard Abort; a delivered No of a branch that joined, or a veto of a resource manager;
+-- an END_TRANS, or a delivered refusal to join; its node's clock, once its time is over; a link that failed between its node and one that it needs; or a settling, or a
 -- boot of its node.
 abbrev pub AbortCause : List Entry → Reading → (front : List Line) → Reason → (tid serial : Id) → Type 0
 AbortCause es said front Aborted tid serial =
     ((label : List ℕ) × (said ≡ Says (At serial.node (AbortTrans label))) × IsNamed es serial.node label tid serial) ⊎ DeliversTo es said message.Abort tid serial ⊎ WasAsked said front tid serial Abort
-AbortCause es said front Vetoed tid serial = Votes es said message.No tid × (serial ≡ tid)
+AbortCause es said front Vetoed tid serial = (Votes es said message.No tid × (serial ≡ tid)) ⊎ Replies es said tid serial VetoReply
 AbortCause es said front SyncFail tid serial =
     ((label : List ℕ) × (said ≡ Says (At serial.node (EndTrans label))) × WasBegun es serial.node label tid × (serial ≡ tid)) ⊎ DeliversTo es said message.JoinNo tid serial
 AbortCause es said front Timeout tid serial = (now : ℕ) × (said ≡ Says (At serial.node (Clock now))) × WasDue es tid now × (serial ≡ tid)

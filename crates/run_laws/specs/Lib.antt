@@ -6,5 +6,7 @@ pub mod Causes
 pub mod Showing
 pub mod Promises
 pub mod Agreed
+pub mod Owing
+pub mod Vetoing
 pub mod Anew
 pub mod Laws

@@ -34,7 +34,7 @@ numbered name serial (l ∷ ls) = if bytes_eq name l.name then record l { serial
 abbrev pub labels_here : Reading → Option Line → List ToldLabel → List ToldLabel
 labels_here (Says (At node (StartTrans label seconds))) (Some (line.NormalId id)) ls = record { name = label; node = node; tid = id; serial = Some id } ∷ ls
 labels_here (Says (At node (AddBranch label other new))) (Some (line.NormalId id)) ls = elim (find_told label ls) [ Some l ↦ record { name = new; node = other; tid = l.tid; serial = None } ∷ ls | None ↦ ls ]
-labels_here (Says (At node (StartBranch label))) (Some (line.Pending (serial ∷ []))) ls = numbered label serial ls
+labels_here (Says (At node (StartBranch label))) (Some (line.Pending (serial ∷ []) [])) ls = numbered label serial ls
 labels_here said answer ls = ls
 
 -- the labels that these entries tell, the newest first
@@ -60,7 +60,7 @@ id_given (Some (line.NormalId id)) = id ∷ []
 id_given answer = []
 
 abbrev pub serial_begun : Option Line → List Id
-serial_begun (Some (line.Pending (serial ∷ []))) = serial ∷ []
+serial_begun (Some (line.Pending (serial ∷ []) [])) = serial ∷ []
 serial_begun answer = []
 
 -- The ids that these lines tell to be drawn: that of a transaction, of an identifier for a branch, of a branch that began, and of a change without a label.

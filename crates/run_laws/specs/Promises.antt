@@ -8,14 +8,15 @@ use Rattle.vms_model.specs.Ids.{Id}
 use Rattle.vms_model.specs.Transactions.{Outcome, Commit, Abort, Reason, Aborted, Vetoed, SyncFail, Timeout, CommFail, SegFail}
 use Rattle.transcript_model.specs.Lines as line
 use Rattle.transcript_model.specs.Lines.{Line, Cause}
-use Rattle.script_model.specs.Statements.{Statement, At, Deliver, LinkDown, Settle, Reading, Says, Boot, Clock, Records, Direct, EndBranch, EndTrans, AbortTrans, Dump, Operation}
+use Rattle.script_model.specs.Statements.{Statement, At, Deliver, LinkDown, Settle, Reading, Says, Boot, Clock, Records, Direct, EndBranch, EndTrans, AbortTrans, AckEvent, Dump, Named, Operation}
 use Rattle.script_model.specs.Grammar.{reading}
 use Rattle.records_model.specs.Records as base
 use Rattle.records_model.specs.History.{same_id}
 use Rattle.unit_laws.specs.Journal.{RecoveryUnit, find_unit, units_in}
 use Rattle.unit_laws.specs.JournalLaws.{is_unit}
 use Rattle.commit_protocol.specs.Messages as message
-use Rattle.commit_protocol.specs.Messages.{LogRecord}
+use Rattle.commit_protocol.specs.Messages.{LogRecord, Reply, VetoReply}
+use Rattle.commit_protocol.specs.Rows.{is_veto}
 use Rattle.commit_protocol.specs.Table.{Key as BranchKey, Settles}
 use Rattle.commit_protocol.specs.World.{In}
 use Rattle.log_laws.specs.Slots.{prepared_of, records_in}
@@ -26,7 +27,7 @@ use Rattle.run_model.specs.Statements.{RoseAt, Step}
 use Rattle.run_model.specs.Transcript.{Entry, Legal, Turn}
 use Rattle.run_laws.specs.Accounts.{Account, Tells, broken_id, made_anew}
 use Rattle.run_laws.specs.Naming.{IdsDiffer, IsNamed, ids_told}
-use Rattle.run_laws.specs.Causes.{AbortCause, CommitCause, DeliversTo, HasBegun, IsDirect, IsMissing, WasAsked, WasBegun, WasEnded}
+use Rattle.run_laws.specs.Causes.{AbortCause, CommitCause, DeliversTo, HasBegun, IsDirect, IsMissing, Replies, WasAsked, WasBegun, WasEnded}
 use Rattle.run_laws.specs.SaidLaws.{SaidThere}
 use Rattle.run_laws.specs.Showing.{AbortsShow, DirectsShow, EndsShow}
 
@@ -107,7 +108,7 @@ SettledOnce (s ∷ ss) = ((t : Settlement) → In t ss → t.serial ≡ s.serial
 -- By the statement alone: with which ones a reason may come.
 abbrev pub ReasonFits : Reason → Reading → Type 0
 ReasonFits Aborted said = ((node : List ℕ) × (label : List ℕ) × (said ≡ Says (At node (AbortTrans label)))) ⊎ ((number : ℕ) × (said ≡ Says (Deliver number))) ⊎ (said ≡ Says Settle)
-ReasonFits Vetoed said = (number : ℕ) × (said ≡ Says (Deliver number))
+ReasonFits Vetoed said = ((number : ℕ) × (said ≡ Says (Deliver number))) ⊎ ((node : List ℕ) × (who : Named) × (rm : List ℕ) × (said ≡ Says (At node (AckEvent who rm VetoReply))))
 ReasonFits SyncFail said = ((node : List ℕ) × (label : List ℕ) × (said ≡ Says (At node (EndTrans label)))) ⊎ ((number : ℕ) × (said ≡ Says (Deliver number)))
 ReasonFits Timeout said = (node : List ℕ) × (now : ℕ) × (said ≡ Says (At node (Clock now)))
 ReasonFits CommFail said = (a : List ℕ) × (b : List ℕ) × (said ≡ Says (LinkDown a b))
@@ -289,10 +290,11 @@ PreparedAreTold opening es = (before : List Entry) (said : Reading) (front behin
 abbrev pub ShowsPrepared : Id → List Line → Type 0
 ShowsPrepared serial shown = ((tid : Id) × In (line.Prepared tid serial) shown) ⊎ ((l : Line) × (t : Settlement) × In l shown × (last_in l ≡ Some t) × (t.serial ≡ serial))
 
--- A failure cut short what was to prepare it: a delivery of the message that asks for its vote, or an END_BRANCH of it.
+-- A failure cut short what was to prepare it: a delivery of the message that asks for its vote, an END_BRANCH of it, or a reply of a resource manager that is no veto.
 abbrev pub WasPreparing : List Entry → (tid serial : Id) → Type 0
 WasPreparing es tid serial = (before : List Entry) × (s : Statement) × (events : List Line) × (cause : Cause) × SaidThere es before s events (line.Broken cause)
-    × (DeliversTo before (Says s) message.Prepare tid serial ⊎ ((label : List ℕ) × (s ≡ At serial.node (EndBranch label)) × IsNamed before serial.node label tid serial))
+    × (DeliversTo before (Says s) message.Prepare tid serial ⊎ ((label : List ℕ) × (s ≡ At serial.node (EndBranch label)) × IsNamed before serial.node label tid serial)
+    ⊎ ((reply : Reply) × Replies before (Says s) tid serial reply × (is_veto reply ≡ false)))
 
 -- its disk had it as its last settlement at the opening
 abbrev pub WasItsLast : Id → World → Type 0

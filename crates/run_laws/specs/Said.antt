@@ -5,7 +5,7 @@ use Rattle.std.specs.List.{last_or}
 use Rattle.std.specs.Str.{bytes_eq}
 use Rattle.transcript_model.specs.Lines as line
 use Rattle.transcript_model.specs.Lines.{Line}
-use Rattle.script_model.specs.Statements.{Statement, At, Deliver, LinkDown, Settle, Request, Init, Boot, StartTrans, AddBranch, StartBranch, Records, EndBranch, EndTrans, AbortTrans, Inquire, Fuse, Clock, Named, ByLabel, BySerial, Reading, Blank, Says, Bad}
+use Rattle.script_model.specs.Statements.{Statement, At, Deliver, LinkDown, Settle, Request, Init, Boot, StartTrans, AddBranch, StartBranch, Records, EndBranch, EndTrans, AbortTrans, Inquire, JoinRm, AckEvent, GetDti, Fuse, Clock, Named, ByLabel, BySerial, Reading, Blank, Says, Bad}
 use Rattle.script_model.specs.Grammar.{reading}
 use Rattle.commit_protocol.specs.Messages.{Message}
 use Rattle.run_model.specs.Operations.{first_of, refused_if}
@@ -78,6 +78,9 @@ refused_by_lines s n (EndBranch label) = first_of (down_said n) (made_said s.lab
 refused_by_lines s n (EndTrans label) = first_of (down_said n) (made_said s.labels n.name label)
 refused_by_lines s n (AbortTrans label) = first_of (down_said n) (made_said s.labels n.name label)
 refused_by_lines s n (Inquire who) = first_of (down_said n) (named_said s.labels n.name who)
+refused_by_lines s n (JoinRm label rm) = first_of (down_said n) (made_said s.labels n.name label)
+refused_by_lines s n (AckEvent who rm reply) = first_of (down_said n) (named_said s.labels n.name who)
+refused_by_lines s n (GetDti who) = first_of (down_said n) (named_said s.labels n.name who)
 refused_by_lines s n (Fuse writes choice) = None
 refused_by_lines s n (Clock now) = None
 refused_by_lines s n _ = down_said n

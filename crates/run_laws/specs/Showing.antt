@@ -7,7 +7,7 @@ use Rattle.transcript_model.specs.Lines as line
 use Rattle.transcript_model.specs.Lines.{Line, Cause}
 use Rattle.script_model.specs.Statements.{At, Direct, EndTrans, AbortTrans, Operation}
 use Rattle.commit_protocol.specs.Messages as message
-use Rattle.commit_protocol.specs.Messages.{Message}
+use Rattle.commit_protocol.specs.Messages.{Message, RmEvent}
 use Rattle.run_model.specs.Operations.{is_change}
 use Rattle.run_model.specs.Transcript.{Entry}
 use Rattle.run_laws.specs.Naming.{IsNamed}
@@ -40,11 +40,16 @@ IsToBranch es tid l = (m : Message) × IsSending m l × (m.tid ≡ tid) × HasJo
 abbrev pub IsItsEnd : List Entry → (node label : List ℕ) → Line → Type 0
 IsItsEnd es node label l = (tid : Id) × (moment : ℕ) × WasBegun es node label tid × ((l ≡ line.Committed tid tid moment) ⊎ (l ≡ line.Aborted tid tid SyncFail moment))
 
-abbrev pub IsToItsBranch : List Entry → (node label : List ℕ) → Line → Type 0
-IsToItsBranch es node label l = (tid : Id) × WasBegun es node label tid × IsToBranch es tid l
+-- a line of an event that is told to a resource manager of this branch
+abbrev pub IsManagerEvent : RmEvent → (tid serial : Id) → Line → Type 0
+IsManagerEvent event tid serial l = (rm : List ℕ) × (l ≡ line.ManagerTold event tid serial rm)
 
--- An END_TRANS shows at most one settlement, of the transaction that was begun with its label, and besides only messages to branches that joined it. So it shows the
--- settlement alone where no branch joined.
+-- a message to a branch that joined it, or an event for a resource manager of its first branch
+abbrev pub IsToItsBranch : List Entry → (node label : List ℕ) → Line → Type 0
+IsToItsBranch es node label l = (tid : Id) × WasBegun es node label tid × (IsToBranch es tid l ⊎ ((event : RmEvent) × IsManagerEvent event tid tid l))
+
+-- An END_TRANS shows at most one settlement, of the transaction that was begun with its label, and besides only messages to branches that joined it and events for
+-- resource managers of its first branch. So it shows the settlement alone where neither joined.
 abbrev pub EndsShow : List Entry → Type 0
 EndsShow es = (before : List Entry) (node label : List ℕ) (events : List Line) (answer : Line) → SaidThere es before (At node (EndTrans label)) events answer →
     ShowsThese (OnceAmong (IsToItsBranch before node label) (IsItsEnd before node label)) node events answer
@@ -53,10 +58,11 @@ EndsShow es = (before : List Entry) (node label : List ℕ) (events : List Line)
 abbrev pub IsItsAbort : List Entry → (node label : List ℕ) → Line → Type 0
 IsItsAbort es node label l = (tid : Id) × (serial : Id) × (moment : ℕ) × IsNamed es node label tid serial × (l ≡ line.Aborted tid serial Aborted moment)
 
--- then, of a transaction, messages to branches that joined it, and that it ended where END_TRANS had been answered that something was missing; of another branch, its No
+-- then, of a transaction, messages to branches that joined it, and that it ended where END_TRANS had been answered that something was missing; of another branch, its No;
+-- and of either, that it aborts, for its resource managers
 abbrev pub IsBehindAbort : List Entry → (node label : List ℕ) → Line → Type 0
 IsBehindAbort es node label l = (tid : Id) × (serial : Id) × IsNamed es node label tid serial
-    × (((serial ≡ tid) × IsToBranch es tid l) ⊎ ((serial ≡ tid) × WasEnded es tid × (l ≡ line.Ended tid (Some Aborted))) ⊎ ((m : Message) × IsSending m l × (m.kind ≡ message.No) × (m.serial ≡ serial) × (serial ≡ tid → ⊥)))
+    × (((serial ≡ tid) × IsToBranch es tid l) ⊎ ((serial ≡ tid) × WasEnded es tid × (l ≡ line.Ended tid (Some Aborted))) ⊎ ((m : Message) × IsSending m l × (m.kind ≡ message.No) × (m.serial ≡ serial) × (serial ≡ tid → ⊥)) ⊎ IsManagerEvent message.AbortEvent tid serial l)
 
 -- An ABORT_TRANS shows first that what its label names is aborted.
 abbrev pub AbortsShow : List Entry → Type 0

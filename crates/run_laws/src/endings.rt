@@ -16,10 +16,10 @@ pub fn requests_end()
 {}
 
 /// In every legal transcript each line of a commitment and each of an abort has its cause in its statement and the entries before it, and is so from
-/// then on and for good. A first branch is committed by an END_TRANS of its transaction, or by a vote of a branch that joined it since then; another
-/// as it is told, by a message that was sent or in a settling; and a change without a label by itself. An abort comes with what its reason names: a
-/// request of its branch, an Abort that was sent or asked for, a No of a branch that joined, an END_TRANS or a refusal to join, the time with which
-/// its transaction began, a link to a node that it needs, or a boot or a settling.
+/// then on and for good. A first branch is committed by an END_TRANS of its transaction, or by a vote of a branch that joined it since then, or by a
+/// reply of a resource manager; another as it is told, by a message that was sent or in a settling; and a change without a label by itself. An abort
+/// comes with what its reason names: a request of its branch, an Abort that was sent or asked for, a No of a branch that joined, a veto of a resource
+/// manager, an END_TRANS or a refusal to join, the time with which its transaction began, a link to a node that it needs, or a boot or a settling.
 pub fn settlements_have_causes()
     ensures commits { CommitmentsHold }
     ensures undoes { AbortedHold }

@@ -3,6 +3,7 @@
 
 pub mod dumps;
 pub mod endings;
+pub mod owing;
 pub mod promises;
 pub mod restarts;
 pub mod votes;
@@ -35,7 +36,8 @@ pub fn settlements_last()
 /// In every legal transcript a change without a label that was done showed that a transaction of its own is committed, and nothing besides, and it is
 /// so from then on and for good. No id is told twice: that of a transaction, of an identifier for a branch, of a branch, or of such a change. The
 /// reason of an abort comes only with a statement that it names: a time that ran out with CLOCK, a link that failed with LINKDOWN, a branch that is
-/// missing with END_TRANS or a delivery, a veto with a delivery, a fall with BOOT or SETTLE, and a request with ABORT_TRANS, a delivery or SETTLE.
+/// missing with END_TRANS or a delivery, a veto with a delivery or an ACK_EVENT, a fall with BOOT or SETTLE, and a request with ABORT_TRANS, a
+/// delivery or SETTLE.
 pub fn transactions_end()
     ensures directs { DirectsHold }
     ensures new { NewHold }

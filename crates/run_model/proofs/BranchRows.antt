@@ -43,7 +43,7 @@ world_of durable volatile settled labels = record {
 
 abbrev u_alone : List Lock → World
 u_alone locks = world_of (record (disk_with (record { first = 100; entries = [] }) (Some file_done ∷ replicate 63 None)) { greatest = 1; last = Some settlement })
-    (record { drawn = 2; branches = blank (id 1 2) (id 1 2) None Active None ∷ []; records = []; preparation = []; locks = locks }) (settlement ∷ []) two_labels
+    (record { drawn = 2; branches = blank (id 1 2) (id 1 2) None Active None ∷ []; records = []; preparation = []; locks = locks; declared = [] }) (settlement ∷ []) two_labels
 
 abbrev lock_u : List Lock
 lock_u = lock (codes "F") (id 1 2) ∷ []

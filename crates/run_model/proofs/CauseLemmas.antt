@@ -2,14 +2,16 @@
 use Rattle.std.proofs.Common.{◌≡◌, ℕ, ◌==◌, List, [], ◌∷◌, Bool, true, false, not, ◌&&◌, Option, Some, None, refl, subst, sym}
 use Rattle.std.specs.Prelude.{nat_lt}
 use Rattle.std.specs.Option.{option_and_then}
+use Rattle.std.specs.List.{list_any}
 use Rattle.vms_model.specs.Ids.{Id}
 use Rattle.vms_model.specs.Keys.{Key, Number, Text}
 use Rattle.vms_model.specs.Transactions.{Commit, Abort}
 use Rattle.transcript_model.specs.Lines as line
 use Rattle.transcript_model.specs.Lines.{Line, Cause}
-use Rattle.script_model.specs.Statements.{Request, Init, Boot, Create, SetFile, StartTrans, AddBranch, StartBranch, Records, Direct, EndBranch, EndTrans, AbortTrans, Inquire, Dump, Named, ByLabel, BySerial, Operation, Put, Update, Delete, Truncate, Get, Next}
+use Rattle.script_model.specs.Statements.{Request, Init, Boot, Create, SetFile, StartTrans, AddBranch, StartBranch, Records, Direct, EndBranch, EndTrans, AbortTrans, Inquire, DeclareRm, JoinRm, AckEvent, ForgetRm, GetDti, Dump, Named, ByLabel, BySerial, Operation, Put, Update, Delete, Truncate, Get, Next}
 use Rattle.records_model.specs.Records.{Records as TheRecords}
 use Rattle.records_model.specs.History.{first_to_change}
+use Rattle.commit_protocol.specs.Messages.{Name, Reply}
 use Rattle.commit_protocol.specs.Table as table
 use Rattle.commit_protocol.specs.Table.{Branch, Notes, Settles}
 use Rattle.commit_protocol.specs.Rows.{row}
@@ -18,7 +20,7 @@ use Rattle.commit_protocol.specs.Allowed.{is_working, may_end}
 use Rattle.run_model.specs.World.{Shared, Node, File, Organization, Sequential, Relative, Indexed, Volume, Sound, Faulty, Barred, Unknown, NoRing, AllBoots, LateMoment, FarPosition, Label, find_file, find_label, labelled, serial_labelled, serials_of, tm_of}
 use Rattle.run_model.specs.Locks.{holder}
 use Rattle.run_model.specs.Operations.{first_of, refused_if, first_behind, in_order, record_in, standing_of, count_of, key_refused, place_refused, delete_refused, truncate_refused, after_refused, form_refused, keys_asked, keys_found, put_refused, other_refused, update_refused, missing, at_end, data_refused, put_answer, found_answer, next_answer, operation_answer}
-use Rattle.run_model.specs.Answers.{bar_line, Task, Serves, Restarts, service, task_service, authorised, boot_limit, bootable, branch_labelled, branch_named, changes_at, end_answer, found_refused, held_against, in_state, is_file_form, is_first_active, is_in_doubt, is_marked, is_open, is_volume_form, journal_full, keys_refused, last_position, made_label, made_name, moment_limit, more_bids, more_branches, more_changes, needs_unit, new_file, new_label, of_file, of_label, operation_told, position_limit, refused_before_reading, seconds_refused, there_is_file, unchanged_file, unsettled, unsettled_label}
+use Rattle.run_model.specs.Answers.{bar_line, Task, Serves, Restarts, service, task_service, Known, Unsettled, Recorded, Unheard, known, known_branch, known_manager, awaited_reply, declared_manager, is_declared, has_joined, is_joinable, more_managers, authorised, boot_limit, bootable, branch_labelled, branch_named, changes_at, end_answer, found_refused, held_against, in_state, is_file_form, is_first_active, is_in_doubt, is_marked, is_open, is_volume_form, journal_full, keys_refused, last_position, made_label, made_name, moment_limit, more_bids, more_branches, more_changes, needs_unit, new_file, new_label, of_file, of_label, operation_told, position_limit, refused_before_reading, seconds_refused, there_is_file, unchanged_file, unsettled, unsettled_label}
 use Rattle.run_model.specs.StepLaws.{is_refusal}
 
 -- a line that may stand here passes this test
@@ -201,6 +203,9 @@ by_lines s n (EndBranch label) = made_label s n label
 by_lines s n (EndTrans label) = made_label s n label
 by_lines s n (AbortTrans label) = made_label s n label
 by_lines s n (Inquire who) = made_name s n who
+by_lines s n (JoinRm label rm) = made_label s n label
+by_lines s n (AckEvent who rm reply) = made_name s n who
+by_lines s n (GetDti who) = made_name s n who
 by_lines s n _ = None
 
 abbrev pub by_more : Shared → Node → Request → Option Line
@@ -218,6 +223,10 @@ by_more s n (EndBranch label) = first_of (unsettled_label s n label) (in_state m
 by_more s n (EndTrans label) = first_of (unsettled_label s n label) (in_state is_first_active (branch_labelled s n label))
 by_more s n (AbortTrans label) = first_of (unsettled_label s n label) (in_state is_open (branch_labelled s n label))
 by_more s n (Inquire who) = first_of (unsettled (branch_named s n who)) (in_state is_in_doubt (branch_named s n who))
+by_more s n (DeclareRm rm) = refused_if (is_declared n rm) line.WrongState
+by_more s n (JoinRm label rm) = first_of (unsettled_label s n label) (first_of (declared_manager n rm) (in_state (is_joinable rm) (branch_labelled s n label)))
+by_more s n (AckEvent who rm reply) = first_of (known_branch (known s n who)) (first_of (declared_manager n rm) (first_of (known_manager rm (known s n who)) (awaited_reply rm reply (known s n who))))
+by_more s n (ForgetRm rm) = first_of (declared_manager n rm) (refused_if (list_any (has_joined rm) n.volatile.branches) line.WrongState)
 by_more s n (Dump file) = first_of (there_is_file n file) (of_file n file (unchanged_file n))
 by_more s n _ = None
 
@@ -232,6 +241,7 @@ first_again None b c = refl
 -- the one stands before the other
 pub parted : (s : Shared) (n : Node) (request : Request) → (service request).refused_before_reading s n ≡ first_of (by_lines s n request) (by_more s n request)
 parted s n Boot = sym (first_none _)
+parted s n (GetDti who) = sym (first_none _)
 parted s n (AddBranch label other new) = sym (first_again (made_label s n label) (new_label s new) _)
 parted s n _ = refl
 
@@ -244,6 +254,24 @@ refuses_seconds (Some seconds) = says_if is_by_more _ _ refl
 
 refuses_authorised : (l : Label) → RefusesByMore (authorised l)
 refuses_authorised l = says_case is_by_more l.bid (λ bid. None) _ (λ bid. says_none is_by_more) (says_some is_by_more _ refl)
+
+refuses_manager : (n : Node) (rm : Name) → RefusesByMore (declared_manager n rm)
+refuses_manager n rm = says_if is_by_more _ _ refl
+
+refuses_branch : (k : Known) → RefusesByMore (known_branch k)
+refuses_branch (Unsettled b) = says_none is_by_more
+refuses_branch (Recorded r) = says_none is_by_more
+refuses_branch Unheard = says_some is_by_more _ refl
+
+refuses_known : (rm : Name) (k : Known) → RefusesByMore (known_manager rm k)
+refuses_known rm (Unsettled b) = says_if is_by_more _ _ refl
+refuses_known rm (Recorded r) = says_if is_by_more _ _ refl
+refuses_known rm Unheard = says_none is_by_more
+
+refuses_reply : (rm : Name) (reply : Reply) (k : Known) → RefusesByMore (awaited_reply rm reply k)
+refuses_reply rm reply (Unsettled b) = says_if is_by_more _ _ refl
+refuses_reply rm reply (Recorded r) = says_if is_by_more _ _ refl
+refuses_reply rm reply Unheard = says_none is_by_more
 
 pub more_refuses : (s : Shared) (n : Node) (request : Request) → RefusesByMore (by_more s n request)
 more_refuses s n (Init slots journal) = says_if is_by_more _ _ refl
@@ -265,6 +293,12 @@ more_refuses s n (EndBranch label) = refuses_label s n label may_end
 more_refuses s n (EndTrans label) = refuses_label s n label is_first_active
 more_refuses s n (AbortTrans label) = refuses_label s n label is_open
 more_refuses s n (Inquire who) = says_first is_by_more _ _ (refuses_unsettled (branch_named s n who)) (refuses_state is_in_doubt (branch_named s n who))
+more_refuses s n (DeclareRm rm) = says_if is_by_more _ _ refl
+more_refuses s n (JoinRm label rm) =
+    says_first is_by_more _ _ (refuses_unsettled (branch_labelled s n label)) (says_first is_by_more _ _ (refuses_manager n rm) (refuses_state (is_joinable rm) (branch_labelled s n label)))
+more_refuses s n (AckEvent who rm reply) =
+    says_first is_by_more _ _ (refuses_branch (known s n who)) (says_first is_by_more _ _ (refuses_manager n rm) (says_first is_by_more _ _ (refuses_known rm (known s n who)) (refuses_reply rm reply (known s n who))))
+more_refuses s n (ForgetRm rm) = says_first is_by_more _ _ (refuses_manager n rm) (says_if is_by_more _ _ refl)
 more_refuses s n (Dump file) = refuses_free n file
 more_refuses s n _ = says_none is_by_more
 
@@ -289,6 +323,9 @@ lines_refuse s n (EndBranch label) = refuses_made s n label
 lines_refuse s n (EndTrans label) = refuses_made s n label
 lines_refuse s n (AbortTrans label) = refuses_made s n label
 lines_refuse s n (Inquire who) = refuses_name s n who
+lines_refuse s n (JoinRm label rm) = refuses_made s n label
+lines_refuse s n (AckEvent who rm reply) = refuses_name s n who
+lines_refuse s n (GetDti who) = refuses_name s n who
 lines_refuse s n _ = says_none is_refusal
 
 request_refuses : (s : Shared) (n : Node) (request : Request) → Refuses ((service request).refused_before_reading s n)
@@ -324,6 +361,8 @@ late_refuses s n (Create file bucket size form) = says_first is_by_more _ _ (say
 late_refuses s n (StartTrans label seconds) = refuses_branches n
 late_refuses s n (AddBranch label other new) = refuses_of_branch more_bids (branch_labelled s n label) (λ b. says_if is_by_more _ _ refl)
 late_refuses s n (StartBranch label) = refuses_branches n
+late_refuses s n (DeclareRm rm) = says_if is_by_more _ _ refl
+late_refuses s n (JoinRm label rm) = refuses_of_branch more_managers (branch_labelled s n label) (λ b. says_if is_by_more _ _ refl)
 late_refuses s n (Records label file op) =
     says_first is_by_more _ _ (refuses_of_file n file _ (refuses_found n _ file op)) (says_first is_by_more _ _ (refuses_of_branch (more_changes n (changes_at n file op)) (branch_labelled s n label) (λ b. says_if is_by_more _ _ refl))
     (says_first is_by_more _ _ (refuses_of_file n file _ (λ f. says_if is_by_more _ _ refl))
@@ -348,7 +387,9 @@ is_success line.Normal = true
 is_success (line.NormalCount n) = true
 is_success (line.NormalId id) = true
 is_success (line.NormalSpan first end) = true
-is_success (line.Pending serials) = true
+is_success (line.NormalStanding standing) = true
+is_success (line.NormalLog committed prepared free) = true
+is_success (line.Pending serials rms) = true
 is_success (line.TransactionAborted reason) = true
 is_success line.RecordNormal = true
 is_success (line.RecordPosition position) = true
@@ -416,7 +457,9 @@ success_no_refusal line.Normal h = refl
 success_no_refusal (line.NormalCount n) h = refl
 success_no_refusal (line.NormalId id) h = refl
 success_no_refusal (line.NormalSpan first end) h = refl
-success_no_refusal (line.Pending serials) h = refl
+success_no_refusal (line.NormalStanding standing) h = refl
+success_no_refusal (line.NormalLog committed prepared free) h = refl
+success_no_refusal (line.Pending serials rms) h = refl
 success_no_refusal (line.TransactionAborted reason) h = refl
 success_no_refusal line.RecordNormal h = refl
 success_no_refusal (line.RecordPosition position) h = refl

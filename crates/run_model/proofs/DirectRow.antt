@@ -41,7 +41,7 @@ world_g greatest drawn last settled done = record {
     name = codes "A";
     blocks = 784;
     durable = record { volume = Sound; log = replicate 64 None; journal = 64; boot = 1; greatest = greatest; last = last; units = empty_journal; directory = Some (file_f []) ∷ Some (file_g done) ∷ replicate 62 None };
-    volatile = record { drawn = drawn; branches = []; records = []; preparation = []; locks = [] };
+    volatile = record { drawn = drawn; branches = []; records = []; preparation = []; locks = []; declared = [] };
     unmade = false;
     up = true;
     was_up = true;

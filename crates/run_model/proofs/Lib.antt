@@ -1,4 +1,5 @@
 pub mod NodeLists
+pub mod ReplyLemmas
 pub mod CauseLemmas
 pub mod PartLemmas
 pub mod PartTasks
@@ -12,3 +13,4 @@ pub mod RowLemmas
 pub mod DirectRow
 pub mod BranchRows
 pub mod PairRows
+pub mod ManagerRows

@@ -42,7 +42,7 @@ node_a put = record {
   name = codes "A";
   blocks = 720;
   durable = disk_with (if put then entered (id 1 1) (codes "F") else empty_journal) (Some (file_f (if put then live (id 1 1) (codes "a") else [])) ∷ replicate 63 None);
-  volatile = record { drawn = 2; branches = branch_t put ∷ []; records = []; preparation = []; locks = if put then lock (codes "F") (id 1 1) ∷ [] else [] };
+  volatile = record { drawn = 2; branches = branch_t put ∷ []; records = []; preparation = []; locks = if put then lock (codes "F") (id 1 1) ∷ [] else []; declared = [] };
   unmade = false;
   up = true;
   was_up = true;
@@ -57,7 +57,7 @@ node_b put = record {
   name = codes "B";
   blocks = 720;
   durable = disk_with (if put then entered (id_b 1 1) (codes "G") else empty_journal) (Some (file_g (if put then live (id_b 1 1) (codes "b") else [])) ∷ replicate 63 None);
-  volatile = record { drawn = 1; branches = branch_u put ∷ []; records = []; preparation = []; locks = if put then lock (codes "G") (id_b 1 1) ∷ [] else [] };
+  volatile = record { drawn = 1; branches = branch_u put ∷ []; records = []; preparation = []; locks = if put then lock (codes "G") (id_b 1 1) ∷ [] else []; declared = [] };
   unmade = false;
   up = true;
   was_up = true;
@@ -95,7 +95,7 @@ unfolding same_name same_id same_key
 puts_b = rw (get-empty, get-empty) refl
 
 abbrev joins_lines : List (List Line)
-joins_lines = pair_lines ++ (line.Sent 1 (record (to_a message.Join) { bid = Some (id 1 2) }) ∷ line.Pending (id_b 1 1 ∷ []) ∷ [])
+joins_lines = pair_lines ++ (line.Sent 1 (record (to_a message.Join) { bid = Some (id 1 2) }) ∷ line.Pending (id_b 1 1 ∷ []) [] ∷ [])
     ∷ (line.Joined (id 1 1) (id_b 1 1) ∷ line.Sent 2 (to_b message.JoinOk) ∷ line.Normal ∷ []) ∷ (line.Started (id 1 1) (id_b 1 1) ∷ line.Normal ∷ []) ∷ []
 
 -- behind the puts these moves show the same as from that world

@@ -129,7 +129,7 @@ file_f live = record {
 abbrev pub disk_with : Journal → List (Option File) → Durable
 disk_with units files = record { volume = Sound; log = replicate 64 None; journal = 64; boot = 1; greatest = 0; last = None; units = units; directory = files }
 
-abbrev world_with : Durable → Volatile → (up : Bool) → List Call → Option Act → World
+abbrev pub world_with : Durable → Volatile → (up : Bool) → List Call → Option Act → World
 world_with durable volatile up calls under_way = record {
   nodes = record { name = codes "A"; blocks = 720; durable = durable; volatile = volatile; unmade = false; up = up; was_up = true; clock = 0; settled = []; calls = calls; under_way = under_way } ∷ [];
   disks = record { faults = 0; stops = 0 } ∷ [];
@@ -143,7 +143,7 @@ abbrev branch_t : Bool → Branch
 branch_t changed = record (blank (id 1 1) (id 1 1) None Active None) { changed = changed }
 
 abbrev volatile_with : Bool → List Lock → Volatile
-volatile_with changed locks = record { drawn = 1; branches = branch_t changed ∷ []; records = []; preparation = []; locks = locks }
+volatile_with changed locks = record { drawn = 1; branches = branch_t changed ∷ []; records = []; preparation = []; locks = locks; declared = [] }
 
 -- T has begun
 abbrev begun : List Call → World
@@ -165,7 +165,7 @@ live serial bytes = record { serial = serial; changes = change bytes ∷ [] } �
 abbrev put : World
 put = world_with (disk_with (entered (id 1 1) (codes "F")) (Some (file_f (live (id 1 1) (codes "a"))) ∷ replicate 63 None)) (volatile_with true (lock (codes "F") (id 1 1) ∷ [])) true two_powers None
 
-abbrev put_said : Move
+abbrev pub put_said : Move
 put_said = says (Records (codes "T") (codes "F") (Put (Some 1) (codes "a")))
 
 puts : shown (begun two_powers) put_said ≡ record { lines = line.RecordNormal ∷ []; world = put }

@@ -2,30 +2,32 @@
 -- statement.
 use Rattle.std.specs.Prelude.{ℕ, ◌+◌, ◌-◌, ◌*◌, ◌/◌, List, [], ◌∷◌, ◌++◌, Bool, true, false, not, ◌&&◌, ◌||◌, ◌==◌, if◌then◌else◌, Option, Some, None, option_map, min, max, nat_le, nat_lt, map, length}
 use Rattle.std.specs.Option.{option_and_then}
+use Rattle.std.specs.List.{list_any}
 use Rattle.std.specs.FinMap.{empty}
 use Rattle.vms_model.specs.Keys.{Key}
 use Rattle.vms_model.specs.Ids.{Id}
 use Rattle.vms_model.specs.Transactions.{Outcome, Commit, Abort, Reason, Aborted, SegFail}
 use Rattle.transcript_model.specs.Lines as line
-use Rattle.transcript_model.specs.Lines.{Line}
-use Rattle.script_model.specs.Statements.{Request, Init, Boot, Create, SetFile, StartTrans, AddBranch, StartBranch, Records, Direct, EndBranch, EndTrans, AbortTrans, Inquire, Dump, DumpJournal, Fuse, Crash, Clock, Named, ByLabel, BySerial, Form, Sequential, Relative, Indexed, Setting, Operation, RecoveryUnits, NoRecoveryUnits}
+use Rattle.transcript_model.specs.Lines.{Line, Standing, ActiveBranch, EndingBranch, PreparedBranch, CommittedBranch, UnknownBranch}
+use Rattle.script_model.specs.Statements.{Request, Init, Boot, Create, SetFile, StartTrans, AddBranch, StartBranch, Records, Direct, EndBranch, EndTrans, AbortTrans, Inquire, DeclareRm, JoinRm, AckEvent, ForgetRm, GetDti, LmcpShow, LmcpDump, Dump, DumpJournal, Fuse, Crash, Clock, Named, ByLabel, BySerial, Form, Sequential, Relative, Indexed, Setting, Operation, RecoveryUnits, NoRecoveryUnits}
 use Rattle.records_model.specs.Records.{Change}
 use Rattle.records_model.specs.Layout.{Layout, no_layout, first_layout as one_bucket}
 use Rattle.records_model.specs.History.{first_to_change, same_id}
 use Rattle.unit_laws.specs.Journal as journal
 use Rattle.unit_laws.specs.Journal.{JournalEntry, RecoveryUnit, entry_size, entries_size, entries_for, end_of, owed, units_in, find_unit, active_units}
 use Rattle.commit_protocol.specs.Messages as message
-use Rattle.commit_protocol.specs.Messages.{Message, LogRecord}
+use Rattle.commit_protocol.specs.Messages.{Name, Message, Reply, LogRecord, CommitEvent, same_name}
 use Rattle.commit_protocol.specs.Table as table
-use Rattle.commit_protocol.specs.Table.{Branch, Child, Active, Key as BranchKey, Notes, Accepts, Prepares, Settles, Leaves, Acknowledges, Undoes, Sends, Prints, Releases, child, is_first, waits_for, acknowledged, holds, nothing_left}
+use Rattle.commit_protocol.specs.Table.{Branch, Child, Manager, State, Joining, Active, Ending, Voting, Prepared, Key as BranchKey, Notes, Accepts, Prepares, Settles, Leaves, Acknowledges, Undoes, Sends, Prints, Releases, child, is_first, waits_for, acknowledged, holds, nothing_left, without_rm}
 use Rattle.commit_protocol.specs.Table.{released as record_released}
 use Rattle.commit_protocol.specs.Rows as rows
-use Rattle.commit_protocol.specs.Rows.{Event, row, is_noted}
-use Rattle.commit_protocol.specs.Allowed.{is_active, is_prepared, is_working, may_end}
+use Rattle.commit_protocol.specs.Rows.{Event, row, is_noted, is_replied}
+use Rattle.commit_protocol.specs.Allowed.{is_active, is_prepared, is_working, may_end, may_reply, answers}
 use Rattle.commit_protocol.specs.World.{undo_all}
+use Rattle.log_laws.specs.Slots.{records_in, committed_of, prepared_of, waiting_for, slot_records, free_slots}
 use Rattle.run_model.specs.Locks.{holder, not_locked}
 use Rattle.run_model.specs.World as world
-use Rattle.run_model.specs.World.{Shared, Node, File, Organization, Label, Settlement, Volume, Sound, Faulty, Barred, Unknown, Bar, NoRing, AllBoots, LateMoment, FarPosition, Act, Formats, Boots, ComesUp, Creates, Marks, Draws, Labels, Numbers, Tables, Changes, Holds, Directs, Arms, Clocks, Falls, acted, shared_after, tm_of, booted, message_limit, nothing_carried, find_file, free_place, find_label, labelled, serial_labelled, find_branch, changes_made, serials_of, longest_free, lowest_free, next_id, next_moment}
+use Rattle.run_model.specs.World.{Shared, Node, File, Organization, Label, Settlement, Volume, Sound, Faulty, Barred, Unknown, Bar, NoRing, AllBoots, LateMoment, FarPosition, Act, Formats, Boots, ComesUp, Creates, Marks, Draws, Labels, Numbers, Tables, Changes, Holds, Directs, Arms, Clocks, Declares, Falls, acted, shared_after, tm_of, booted, message_limit, nothing_carried, find_file, free_place, find_label, labelled, serial_labelled, find_branch, find_record, changes_made, serials_of, longest_free, lowest_free, next_id, next_moment}
 use Rattle.run_model.specs.Operations.{first_of, refused_if, in_order, form_refused, data_refused, changes_of, file_full, operation_answer, is_change, keys_asked, keys_found, keys_held}
 
 -- how many labels a run makes, at the most
@@ -58,6 +60,13 @@ bid_limit = 15
 
 abbrev pub second_limit : ℕ
 second_limit = 1000000
+
+-- how many resource managers are declared at a node, and how many join a branch, at the most
+abbrev pub declared_limit : ℕ
+declared_limit = 64
+
+abbrev pub manager_limit : ℕ
+manager_limit = 8
 
 -- a part of a statement: perhaps an act, and then lines
 pub record Row : Type 0 where
@@ -132,6 +141,83 @@ authorised l = elim l.bid [ Some bid ↦ None | None ↦ Some line.NoSuchBranchI
 -- what a label says of it, where it was made for this node
 abbrev pub of_label : Shared → Node → List ℕ → (Label → Option Line) → Option Line
 of_label s n name says = elim (labelled n.name name s.labels) [ Some l ↦ says l | None ↦ None ]
+
+-- Resource managers, and what a node knows of a branch.
+
+-- a resource manager is declared at the node
+abbrev pub is_declared : Node → Name → Bool
+is_declared n rm = list_any (λ x. same_name x rm) n.volatile.declared
+
+-- a resource manager that is used: it is not declared
+abbrev pub declared_manager : Node → Name → Option Line
+declared_manager n rm = refused_if (not (is_declared n rm)) line.NoSuchManager
+
+-- a resource manager that is to be declared: as many are as may be
+abbrev pub more_declared : Node → Option Line
+more_declared n = refused_if (nat_le declared_limit (length n.volatile.declared)) (line.QuotaExceeded line.Declared declared_limit)
+
+-- a resource manager has joined the branch
+abbrev pub has_joined : Name → Branch → Bool
+has_joined rm b = list_any (λ m. same_name m.rm rm) b.managers
+
+-- a branch that a resource manager is to join: it has joined its coordinator, is not ended, and the manager has not joined it
+abbrev pub is_joinable : Name → Branch → Bool
+is_joinable rm b = is_working b && not (has_joined rm b)
+
+-- as many have joined it as may
+abbrev pub more_managers : Branch → Option Line
+more_managers b = refused_if (nat_le manager_limit (length b.managers)) (line.QuotaExceeded line.Managers manager_limit)
+
+-- what a node knows of a branch: it is unsettled, or else its committed record stands, or else nothing
+pub data Known : Type 0 where
+  Unsettled : Branch → Known
+  Recorded : LogRecord → Known
+  Unheard : Known
+
+-- of a serial
+abbrev pub known_serial : Node → Id → Known
+known_serial n serial = elim (find_branch serial n.volatile.branches) [ Some b ↦ Unsettled b | None ↦ elim (find_record serial n.volatile.records) [ Some r ↦ Recorded r | None ↦ Unheard ] ]
+
+-- the serial of the branch that a label or a serial names
+abbrev pub serial_named : Shared → Node → Named → Option Id
+serial_named s n (ByLabel label) = serial_labelled n.name label s.labels
+serial_named s n (BySerial serial) = Some serial
+
+-- of what it names; a label that has no serial yet names nothing
+abbrev pub known : Shared → Node → Named → Known
+known s n who = elim (serial_named s n who) [ Some serial ↦ known_serial n serial | None ↦ Unheard ]
+
+-- a branch to an event of which a resource manager replies: nothing is known of it
+abbrev pub known_branch : Known → Option Line
+known_branch (Unsettled b) = None
+known_branch (Recorded r) = None
+known_branch Unheard = Some line.NoSuchTransaction
+
+-- the manager has not joined it, or its record does not wait for the manager
+abbrev pub known_manager : Name → Known → Option Line
+known_manager rm (Unsettled b) = refused_if (not (has_joined rm b)) line.NoSuchManager
+known_manager rm (Recorded r) = refused_if (not (list_any (λ x. same_name x rm) r.rms)) line.NoSuchManager
+known_manager rm Unheard = None
+
+-- no event waits for the manager's reply, or it is none to that event; a committed record that waits for the manager is the event COMMIT that waits
+abbrev pub awaited_reply : Name → Reply → Known → Option Line
+awaited_reply rm reply (Unsettled b) = refused_if (not (may_reply rm reply b)) line.WrongState
+awaited_reply rm reply (Recorded r) = refused_if (not (answers CommitEvent reply)) line.WrongState
+awaited_reply rm reply Unheard = None
+
+-- how an unsettled branch stands: it is ending once END_TRANS was called, or once its Prepare came
+abbrev pub branch_standing : Branch → State → Standing
+branch_standing b Joining = ActiveBranch
+branch_standing b Active = if b.asked then EndingBranch else ActiveBranch
+branch_standing b Ending = EndingBranch
+branch_standing b Voting = EndingBranch
+branch_standing b Prepared = PreparedBranch
+
+-- how a branch stands by what is known of it
+abbrev pub standing : Known → Standing
+standing (Unsettled b) = branch_standing b b.state
+standing (Recorded r) = CommittedBranch
+standing Unheard = UnknownBranch
 
 -- a file that is used: the node has none of this name
 abbrev pub there_is_file : Node → List ℕ → Option Line
@@ -365,11 +451,11 @@ abbrev pub released_lines : Id → message.Name → List LogRecord → List Line
 released_lines serial rm [] = []
 released_lines serial rm (r ∷ rs) = if holds serial rm r then forgot_lines (record_released rm r) else released_lines serial rm rs
 
--- a line of the table; events of resource managers come with these
-abbrev pub table_lines : table.Line → List Line
-table_lines (table.Started k) = line.Started k.tid k.serial ∷ []
-table_lines (table.Ended tid reason) = line.Ended tid reason ∷ []
-table_lines (table.Told event k rm) = []
+-- a line of the table; an event to a resource manager that is not declared at the node is not shown
+abbrev pub table_lines : Node → table.Line → List Line
+table_lines n (table.Started k) = line.Started k.tid k.serial ∷ []
+table_lines n (table.Ended tid reason) = line.Ended tid reason ∷ []
+table_lines n (table.Told event k rm) = if is_declared n rm then line.ManagerTold event k.tid k.serial rm ∷ [] else []
 
 -- what an act of the table shows, which settles at this moment where it settles a branch
 abbrev pub shown_by : table.Act → (moment : ℕ) → Node → Shared → List Line
@@ -382,7 +468,7 @@ shown_by (Acknowledges k) moment n s = acknowledged_lines k n.volatile.records
 shown_by (Releases serial rm) moment n s = released_lines serial rm n.volatile.records
 shown_by (Undoes k) moment n s = settled_line k Abort SegFail moment ∷ []
 shown_by (Sends m) moment n s = sent_line m s.wire ∷ []
-shown_by (Prints l) moment n s = table_lines l
+shown_by (Prints l) moment n s = table_lines n l
 
 -- The acts of a row of the table, one after another. A settlement is at the node's next moment then; what an act shows depends on those before it.
 abbrev pub table_rows : List table.Act → Shared → Node → List Row
@@ -483,13 +569,30 @@ abbrev pub missing : List Child → List Id
 missing [] = []
 missing (c ∷ cs) = if is_noted c.vote then missing cs else c.serial ∷ missing cs
 
--- what END_TRANS is answered, by what its row does: the outcome, or the serials whose votes are missing
+-- the managers whose replies are missing
+abbrev pub unreplied : List Manager → List Name
+unreplied [] = []
+unreplied (m ∷ ms) = if is_replied m.reply then unreplied ms else m.rm ∷ unreplied ms
+
+-- what END_TRANS is answered, by what its row does: the outcome, or the serials whose votes and the managers whose replies are missing
 abbrev pub end_answer : List table.Act → Line → Line
 end_answer [] before = before
-end_answer (Notes b ∷ todo) before = end_answer todo (line.Pending (missing b.accepted))
+end_answer (Notes b ∷ todo) before = end_answer todo (line.Pending (missing b.accepted) (unreplied b.managers))
 end_answer (Settles k Commit reason r ∷ todo) before = line.Normal
 end_answer (Settles k Abort reason r ∷ todo) before = line.TransactionAborted reason
 end_answer (_ ∷ todo) before = end_answer todo before
+
+-- the event COMMIT of a committed record that waits for a resource manager
+abbrev pub owed_line : Name → LogRecord → Line
+owed_line rm r = line.ManagerTold CommitEvent r.tid r.serial rm
+
+-- A resource manager is declared, and told the events COMMIT that wait for it, in the order of the log's slots.
+abbrev pub declares : Node → Name → List Row
+declares n rm = record { act = Some (Declares (n.volatile.declared ++ rm ∷ [])); lines = map (owed_line rm) (waiting_for rm (committed_of (records_in n.durable.log))) } ∷ []
+
+-- a record of the log, with its slot
+abbrev pub log_line : ℕ × LogRecord → Line
+log_line e = line.LogEntry e.0 e.1
 
 -- the records of a file, in the order of their keys
 abbrev pub records_of : Node → List ℕ → List (Key × List ℕ)
@@ -585,7 +688,7 @@ service (AddBranch label other new) = plain Unused
     (λ s n. to_branch s n label (λ b. told_rows s n (adds n other new b))) (λ s n. line.NormalId (next_id n))
 service (StartBranch label) = plain Unused
     (λ s n. first_of (made_label s n label) (first_of (of_label s n label authorised) (in_state (λ b. false) (branch_labelled s n label)))) (λ s n. more_branches n)
-    (λ s n. told_if s n (option_and_then (begins n) (labelled n.name label s.labels))) (λ s n. line.Pending (next_id n ∷ []))
+    (λ s n. told_if s n (option_and_then (begins n) (labelled n.name label s.labels))) (λ s n. line.Pending (next_id n ∷ []) [])
 service (Records label file op) = plain Used
     (λ s n. first_of (made_label s n label) (first_of (there_is_file n file) (first_of (of_file n file (λ f. form_refused f op)) (first_of (unsettled_label s n label)
     (first_of (in_state is_working (branch_labelled s n label))
@@ -610,6 +713,25 @@ service (AbortTrans label) = plain Used
 service (Inquire who) = plain Unused
     (λ s n. first_of (made_name s n who) (first_of (unsettled (branch_named s n who)) (in_state is_in_doubt (branch_named s n who)))) never
     (λ s n. told_if s n (option_map (λ (b : Branch). just (rows.InquireBranch b.key.serial)) (branch_named s n who))) (always line.Normal)
+service (DeclareRm rm) = plain Unused
+    (λ s n. refused_if (is_declared n rm) line.WrongState) (λ s n. more_declared n)
+    (λ s n. declares n rm) (always line.Normal)
+service (JoinRm label rm) = plain Unused
+    (λ s n. first_of (made_label s n label) (first_of (unsettled_label s n label) (first_of (declared_manager n rm) (in_state (is_joinable rm) (branch_labelled s n label)))))
+    (λ s n. option_and_then more_managers (branch_labelled s n label))
+    (λ s n. to_branch s n label (λ b. told_rows s n (just (rows.JoinRm b.key.serial rm)))) (always line.Normal)
+service (AckEvent who rm reply) = plain Used
+    (λ s n. first_of (made_name s n who) (first_of (known_branch (known s n who))
+    (first_of (declared_manager n rm) (first_of (known_manager rm (known s n who)) (awaited_reply rm reply (known s n who)))))) never
+    (λ s n. told_if s n (option_map (λ serial. just (rows.Replied serial rm reply)) (serial_named s n who))) (always line.Normal)
+service (ForgetRm rm) = plain Unused
+    (λ s n. first_of (declared_manager n rm) (refused_if (list_any (has_joined rm) n.volatile.branches) line.WrongState)) never
+    (λ s n. silent (Declares (without_rm rm n.volatile.declared)) ∷ []) (always line.Normal)
+service (GetDti who) = plain Unused (λ s n. made_name s n who) never (λ s n. []) (λ s n. line.NormalStanding (standing (known s n who)))
+service LmcpShow = plain Unused never never (λ s n. [])
+    (λ s n. line.NormalLog (length (committed_of (records_in n.durable.log))) (length (prepared_of (records_in n.durable.log))) (free_slots n.durable.log))
+service LmcpDump = plain Unused never never
+    (λ s n. map shown_line (map log_line (slot_records 0 n.durable.log))) (λ s n. line.NormalCount (length (records_in n.durable.log)))
 service (Dump file) = plain Used
     (λ s n. first_of (there_is_file n file) (of_file n file (unchanged_file n))) never
     (λ s n. map shown_record (records_of n file)) (λ s n. line.NormalCount (length (records_of n file)))

@@ -7,4 +7,5 @@ pub mod Steps
 pub mod Statements
 pub mod Transcript
 pub mod Rows
+pub mod ManagerRows
 pub mod StepLaws

@@ -214,7 +214,7 @@ join_moves = tells_b (StartBranch (codes "U")) ∷ does (Deliver 1) ∷ does (De
     ∷ says (Records (codes "T") (codes "F") (Put (Some 1) (codes "a"))) ∷ tells_b (Records (codes "U") (codes "G") (Put (Some 1) (codes "b"))) ∷ []
 
 abbrev pub join_lines : List (List Line)
-join_lines = (line.Sent 1 (record (to_a message.Join) { bid = Some (id 1 2) }) ∷ line.Pending (id_b 1 1 ∷ []) ∷ [])
+join_lines = (line.Sent 1 (record (to_a message.Join) { bid = Some (id 1 2) }) ∷ line.Pending (id_b 1 1 ∷ []) [] ∷ [])
     ∷ (line.Joined (id 1 1) (id_b 1 1) ∷ line.Sent 2 (to_b message.JoinOk) ∷ line.Normal ∷ []) ∷ (line.Started (id 1 1) (id_b 1 1) ∷ line.Normal ∷ [])
     ∷ (line.RecordNormal ∷ []) ∷ (line.RecordNormal ∷ []) ∷ []
 
@@ -223,7 +223,7 @@ abbrev pub prepare_moves : List Move
 prepare_moves = tells_b (EndBranch (codes "U")) ∷ says (EndTrans (codes "T")) ∷ does (Deliver 3) ∷ []
 
 abbrev pub prepare_lines : List (List Line)
-prepare_lines = (line.Normal ∷ []) ∷ (line.Sent 3 (to_b message.Prepare) ∷ line.Pending (id_b 1 1 ∷ []) ∷ [])
+prepare_lines = (line.Normal ∷ []) ∷ (line.Sent 3 (to_b message.Prepare) ∷ line.Pending (id_b 1 1 ∷ []) [] ∷ [])
     ∷ (line.Prepared (id 1 1) (id_b 1 1) ∷ line.Sent 4 (to_a message.Yes) ∷ line.Normal ∷ []) ∷ []
 
 -- and its vote comes, so that the transaction is committed

@@ -2,7 +2,7 @@
 use Rattle.std.specs.Prelude.{◌≡◌, ℕ, ◌+◌, ◌<◌, ◌^◌, ◌⊎◌, List, [], ◌∷◌, ◌++◌, Bool, true, false, Option, Some, None, map, length, option_map}
 use Rattle.std.specs.List.{last_or}
 use Rattle.vms_model.specs.Ids.{Id}
-use Rattle.transcript_model.specs.Lines.{Line, Cause, Down, NoSuchNode, NodeDown, NodeUp, VolumeInUse, NotInitialized, NotInitializedAt, NoSuchMessage, BadLabel, FileNotFound, FileExists, BadParameter, BadOperation, BadRecordNumber, BadRecordSize, NoSuchTransaction, NoSuchBranchId, WrongState, InDoubt, NotMarked, NeedsUnit, RecordLocked, FileLocked, NoVolume, RecordExists, KeyExists, RecordNotFound, EndOfFile, KeyChanged, QuotaExceeded, VolumeFull, FileFull, JournalFull, NoMemory, Broken}
+use Rattle.transcript_model.specs.Lines.{Line, Cause, Down, NoSuchNode, NodeDown, NodeUp, VolumeInUse, NotInitialized, NotInitializedAt, NoSuchMessage, BadLabel, FileNotFound, FileExists, BadParameter, BadOperation, BadRecordNumber, BadRecordSize, NoSuchTransaction, NoSuchBranchId, NoSuchManager, WrongState, InDoubt, NotMarked, NeedsUnit, RecordLocked, FileLocked, NoVolume, RecordExists, KeyExists, RecordNotFound, EndOfFile, KeyChanged, QuotaExceeded, VolumeFull, FileFull, JournalFull, NoMemory, Broken}
 use Rattle.script_model.specs.Statements.{Statement, At, Deliver, LinkDown, Settle, Clock}
 use Rattle.commit_protocol.specs.Table.{Branch, coordinator_of}
 use Rattle.run_model.specs.World.{World, Shared, Node, DiskCounts, Outturn, MayTurnOut, opened, find_node, with_node, disk_of, with_counts}
@@ -78,6 +78,7 @@ is_refusal BadRecordNumber = true
 is_refusal BadRecordSize = true
 is_refusal NoSuchTransaction = true
 is_refusal NoSuchBranchId = true
+is_refusal NoSuchManager = true
 is_refusal WrongState = true
 is_refusal (InDoubt serial node) = true
 is_refusal NotMarked = true

@@ -16,7 +16,7 @@ use Rattle.unit_laws.specs.Layouts.{layout_restored}
 use Rattle.unit_laws.specs.Units.{IsImage, Map, latest_after}
 use Rattle.unit_laws.specs.Journal.{Journal, JournalEntry, is_of_file, RecoveryUnit, empty_journal, entries_for, with_entries, with_settled, trimmed, units_in, find_unit, serial_in, is_settled_in, ChangeEntry, PreparedEntry, SettledEntry}
 use Rattle.unit_laws.specs.JournalLaws.{HasNotes, is_unit}
-use Rattle.commit_protocol.specs.Messages.{Message, LogRecord}
+use Rattle.commit_protocol.specs.Messages.{Name, Message, LogRecord}
 use Rattle.commit_protocol.specs.Table as table
 use Rattle.commit_protocol.specs.Table.{Branch, Tm, Key as BranchKey, Prepares, Settles, Leaves, Undoes, Accepts, Sends, child, table_after, records_after, record_key, record_serials, branches_of}
 use Rattle.commit_protocol.specs.Agreement.{Distinct}
@@ -143,7 +143,8 @@ pub data Volume : Type 0 where
 -- which the node has what its disk tells; and in the end the node comes up. A new file takes a place of the directory; a file is marked for recovery units, or no
 -- more. An id is drawn; a label is made, or takes it as its serial. The node does an act of its table; where that settles a branch, it is at this moment. The changes
 -- of one statement are one act; they stand newest first, and their branch holds these keys from then on. It holds what it read too. Changes without a label are made
--- by a branch of their own and settled in one act. The disk is armed to stop after so many writes, with a choice of what is left then; the clock is set; the node falls.
+-- by a branch of their own and settled in one act. The disk is armed to stop after so many writes, with a choice of what is left then; the clock is set; these are
+-- the resource managers that are declared from then on; the node falls.
 pub data Act : Type 0 where
   Formats : (slots journal : ℕ) → Act
   Boots : Act
@@ -159,6 +160,7 @@ pub data Act : Type 0 where
   Directs : (file : List ℕ) → List Change → Settlement → Act
   Arms : (writes choice : ℕ) → Act
   Clocks : (now : ℕ) → Act
+  Declares : (rms : List Name) → Act
   Falls : Act
 
 -- whether an act is one step of the disk, which a failure of the disk may find under way
@@ -177,6 +179,7 @@ is_durable (Numbers label serial) = false
 is_durable (Holds serial file keys) = false
 is_durable (Arms writes choice) = false
 is_durable (Clocks now) = false
+is_durable (Declares rms) = false
 is_durable Falls = false
 
 -- a call by which a disk is made to stop, or runs again after a power loss, with the count of its stops before that
@@ -197,13 +200,15 @@ pub record Durable : Type 0 where
   pub directory : List (Option File)
 
 -- What a node has while it is up: how many ids it drew in this boot; its table, which are its unsettled branches in the order of their start and its committed
--- records; the branches that were prepared, in the order of that; and the keys that unsettled branches hold.
+-- records; the branches that were prepared, in the order of that; the keys that unsettled branches hold; and the resource managers that are declared, in the order
+-- of that.
 pub record Volatile : Type 0 where
   pub drawn : ℕ
   pub branches : List Branch
   pub records : List LogRecord
   pub preparation : List BranchKey
   pub locks : List Lock
+  pub declared : List Name
 
 -- A node: its name, its disk's blocks, what its disk has, and what it has while it is up. And of the run: whether the last INIT that was not refused failed;
 -- whether the node is up, and was up before in this run; its clock; its settlements and the calls that armed or powered its disk, the newest first. Where it
@@ -379,7 +384,7 @@ made_volume slots journal = record { volume = Sound; log = replicate slots None;
 
 -- what a node has that was never up
 abbrev pub nothing_volatile : Volatile
-nothing_volatile = record { drawn = 0; branches = []; records = []; preparation = []; locks = [] }
+nothing_volatile = record { drawn = 0; branches = []; records = []; preparation = []; locks = []; declared = [] }
 
 -- Settlements of the table.
 
@@ -489,7 +494,8 @@ abbrev pub relocked : List LogRecord → Durable → List Lock → List Lock
 relocked [] d ls = ls
 relocked (r ∷ rs) d ls = relocked rs d (relocked_by r.serial d.directory d.units.entries ls)
 
--- what a node has that has just come up: the branches that are prepared, which hold what they changed, and the committed records as they stand in the slots
+-- what a node has that has just come up: the branches that are prepared, which hold what they changed, and the committed records as they stand in the slots; no
+-- resource manager is declared
 abbrev pub booted : Durable → Volatile
 booted d = record {
   drawn = 0;
@@ -497,6 +503,7 @@ booted d = record {
   records = committed_of (records_in d.log);
   preparation = map (λ (r : LogRecord). record_key r) (prepared_left d);
   locks = relocked (prepared_left d) d [];
+  declared = [];
 }
 
 -- Acts.
@@ -525,6 +532,7 @@ durable_after (Directs file changes s) v d = record d {
 }
 durable_after (Arms writes choice) v d = d
 durable_after (Clocks now) v d = d
+durable_after (Declares rms) v d = d
 durable_after Falls v d = d
 
 -- what it makes of what the node has while it is up, where its disk has this
@@ -543,6 +551,7 @@ volatile_after (Holds serial file keys) d v = record v { locks = with_locks seri
 volatile_after (Directs file changes s) d v = record v { drawn = v.drawn + 1 }
 volatile_after (Arms writes choice) d v = v
 volatile_after (Clocks now) d v = v
+volatile_after (Declares rms) d v = record v { declared = rms }
 volatile_after Falls d v = v
 
 -- a node with what an act makes of these two
@@ -565,6 +574,7 @@ acted (Holds serial file keys) n = with_act (Holds serial file keys) n
 acted (Directs file changes s) n = record (with_act (Directs file changes s) n) { settled = s ∷ n.settled }
 acted (Arms writes choice) n = record n { calls = Arm writes choice ∷ n.calls }
 acted (Clocks now) n = record n { clock = now }
+acted (Declares rms) n = with_act (Declares rms) n
 acted Falls n = record n { up = false }
 
 -- A node goes down, and perhaps this act was under way. Its table still stands here, and counts only while the node is up.
@@ -681,6 +691,7 @@ shared_after (Holds serial file keys) s = s
 shared_after (Directs file changes settlement) s = s
 shared_after (Arms writes choice) s = s
 shared_after (Clocks now) s = s
+shared_after (Declares rms) s = s
 shared_after Falls s = s
 
 -- what a node knows of the commit protocol

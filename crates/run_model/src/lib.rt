@@ -3,6 +3,7 @@
 
 ghost use Rattle.run_model.specs.Rows.{ChangeIsInJournal, RestartUndoes, LockedRecordIsRefused, ChangeWithoutLabel, StoppedChangeIsGone, TakenChangeIsUndone, TakenCommitIsTold, LostCommitIsUndone, FileIsFull};
 ghost use Rattle.run_model.specs.StepLaws.{FailurePutsDown, IsDetermined, NodeStepsAreSteps, RefusalsLeaveWorld, SuccessIsGiven};
+ghost use Rattle.run_model.specs.ManagerRows.{OnePhaseCommits, OnePhaseIsVetoed, PreparedManagerIsTold, CommitWaitsForManager, RepliesFitEvents, AbortIsToldToManagers, EightManagersJoin, BranchManagerIsTold, BranchManagerLeaves, BranchIsVetoed};
 ghost use Rattle.run_model.specs.Rows.{BothCommit, DoubtIsResolved, AbortIsPresumed, MissingBranchAborts, TimeRunsOut, LostLinkAborts, SettlingAsks, SettlingBoots};
 
 /// Worked scripts show what they are to show. Of one node: a change in the journal, and an empty journal behind its commitment; a restart that
@@ -27,6 +28,22 @@ pub fn worked_scripts_show()
     ensures unlinked { LostLinkAborts }
     ensures asked { SettlingAsks }
     ensures booted { SettlingBoots }
+{}
+
+/// Worked scripts with resource managers show what they are to show. Of one node: a manager that decides alone, and one that vetoes; one that is prepared and
+/// told of the commitment; a commitment that waits for its manager over a fall; each reply to each event; an abort; and eight managers, of which there are nine.
+/// Of two: a branch whose manager is prepared, one whose manager has no interest in the outcome, and one whose manager vetoes.
+pub fn manager_scripts_show()
+    ensures one_phase { OnePhaseCommits }
+    ensures one_phase_veto { OnePhaseIsVetoed }
+    ensures prepared { PreparedManagerIsTold }
+    ensures waiting { CommitWaitsForManager }
+    ensures replies { RepliesFitEvents }
+    ensures aborted { AbortIsToldToManagers }
+    ensures eight { EightManagersJoin }
+    ensures branch { BranchManagerIsTold }
+    ensures leaving { BranchManagerLeaves }
+    ensures vetoed { BranchIsVetoed }
 {}
 
 /// What refuses a statement at once it is told alone. A task that is refused, other than by a failure of a disk, shows its refusal alone: the first

@@ -9,17 +9,17 @@ use Rattle.commit_protocol.specs.Messages.{Message}
 use Rattle.commit_protocol.proofs.Lists.{in_parts}
 use Rattle.transcript_model.specs.Lines as line
 use Rattle.transcript_model.specs.Lines.{Cause, Line, Normal}
-use Rattle.transcript_model.specs.Emitting.{Emits, Shown}
-use Rattle.transcript_model.proofs.EmittingLemmas.{emits_nothing, emits_on}
+use Rattle.emitter_model.specs.Emitting.{Emits, Shown}
+use Rattle.emitter_model.proofs.EmittingLemmas.{emits_nothing, emits_on}
 use Rattle.script_model.specs.Statements.{AddBranch, At, Boot, Clock, Crash, Deliver, Fuse, Init, LinkDown, Request, Says, StartTrans, Statement}
 use Rattle.run_laws.specs.Said.{Said, SaidNode, answer_said, down_said, is_by_lines, line_said, lines_said, node_in, other_said, refused_by_lines, refused_by_said, request_said, said_here}
 use Rattle.run_model.specs.Answers.{LosesLink, Serves, Takes, Task, Ticks, service}
 use Rattle.run_model.specs.Statements.{message_at}
 use Rattle.run_model.proofs.NodeLists.{some_is}
 use Rattle.run_shared.specs.Sharing.{SharedState}
-use Rattle.dtm_node.specs.Holding.{HoldsAs}
-use Rattle.dtm_node.specs.Standing.{Kept, disk_in, is_up}
-use Rattle.dtm_node.specs.Telling.{TellsTask, armed_task, powered_task, said_node, said_shared, task_said}
+use Rattle.node_requests.specs.Holding.{HoldsAs}
+use Rattle.node_requests.specs.Standing.{Kept, disk_in, is_up}
+use Rattle.node_requests.specs.Telling.{TellsTask, armed_task, powered_task, said_node, said_shared, task_said}
 use Rattle.dtm_node.proofs.Held.{holds_is}
 use Rattle.said_steps.specs.Answers.{IsSteady, is_answer}
 use Rattle.said_steps.specs.Calls.{armed_by, calls_after, has_powered, is_named, spoken_to, was_down}

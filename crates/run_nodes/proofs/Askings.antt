@@ -10,15 +10,15 @@ use Rattle.commit_protocol.specs.Messages.{Inquire, Message}
 use Rattle.commit_protocol.specs.Rows.{Got, row, up}
 use Rattle.commit_protocol.specs.Table.{Branch, Tm, find_serial}
 use Rattle.transcript_model.specs.Lines.{InDoubt}
-use Rattle.transcript_model.specs.Emitting.{Emits, Shown}
-use Rattle.transcript_model.proofs.EmittingLemmas.{emits_nothing, emits_on}
+use Rattle.emitter_model.specs.Emitting.{Emits, Shown}
+use Rattle.emitter_model.proofs.EmittingLemmas.{emits_nothing, emits_on}
 use Rattle.run_model.specs.World.{Node, World, find_node, tm_of}
 use Rattle.run_model.specs.Answers.{Hears}
 use Rattle.run_model.proofs.NodeLists.{some_is}
 use Rattle.run_model.specs.Statements.{answer_in}
 use Rattle.run_shared.specs.Sharing.{SharedState}
 use Rattle.dtm_node.specs.Asking as node
-use Rattle.dtm_node.specs.Standing.{IsDown, IsRunning, Kept, Place, StandsFor, StandsIn, counts_of, disk_in}
+use Rattle.node_requests.specs.Standing.{IsDown, IsRunning, Kept, Place, StandsFor, StandsIn, counts_of, disk_in}
 use Rattle.statement_steps.specs.Doing.{IsWithin, moved}
 use Rattle.statement_steps.specs.Settling.{AreUp, Asking, Through, asks_of, doubts_of, question_in, question_of}
 use Rattle.statement_steps.proofs.Answering.{next_ended, next_hears, next_nobody, next_none, next_vain}

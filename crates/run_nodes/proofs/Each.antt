@@ -7,7 +7,7 @@ use Rattle.block_disk.specs.Disk.{CallLog}
 use Rattle.commit_protocol.specs.Messages.{Message}
 use Rattle.transcript_model.specs.Lines as line
 use Rattle.transcript_model.specs.Lines.{Line, Normal}
-use Rattle.transcript_model.specs.Emitting.{Emits, Shown}
+use Rattle.emitter_model.specs.Emitting.{Emits, Shown}
 use Rattle.script_model.specs.Statements.{AddBranch, At, Clock, Deliver, LinkDown, Statement}
 use Rattle.script_model.specs.Statements as said
 use Rattle.script_lang.specs.Statements.{request_of}
@@ -21,8 +21,8 @@ use Rattle.run_model.specs.Operations.{refused_if}
 use Rattle.run_model.specs.Answers.{LosesLink, Takes, Ticks}
 use Rattle.run_model.specs.Statements.{message_at, other_node}
 use Rattle.run_shared.specs.Sharing.{SharedState}
-use Rattle.dtm_node.specs.Standing.{Kept}
-use Rattle.dtm_node.specs.Telling.{said_node}
+use Rattle.node_requests.specs.Standing.{Kept}
+use Rattle.node_requests.specs.Telling.{said_node}
 use Rattle.said_steps.proofs.Refusals.{delivery_said_lost, delivery_said_missing, link_said_first, link_said_second, request_said_alone, request_said_missing, there_said_at, there_said_missing}
 use Rattle.statement_steps.specs.Doing.{AllKept}
 use Rattle.statement_steps.specs.TheLaws.{StaysWithin}

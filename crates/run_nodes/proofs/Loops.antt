@@ -2,15 +2,15 @@
 use Rattle.std.specs.Prelude.{slice_get}
 use Rattle.std.proofs.Common.{◌≡◌, ℕ, zero, suc, ◌+◌, ◌<◌, ◌≤◌, List, [], ◌∷◌, ◌++◌, length, Bool, true, false, Some, refl, sym, ◌∙◌, ap, subst, arith}
 use Rattle.std.proofs.lemmas.List.{length-map}
-use Rattle.transcript_model.specs.Emitting.{Shown}
-use Rattle.transcript_model.proofs.EmittingLemmas.{emits_nothing, emits_on}
+use Rattle.emitter_model.specs.Emitting.{Shown}
+use Rattle.emitter_model.proofs.EmittingLemmas.{emits_nothing, emits_on}
 use Rattle.script_model.specs.Statements.{Settle}
 use Rattle.run_model.specs.Answers.{Hears, Restarts, RunsDown, Task}
 use Rattle.run_model.proofs.NodeLists.{some_is}
 use Rattle.commit_protocol.specs.Messages.{Message}
 use Rattle.run_shared.specs.Sharing.{SharedState}
-use Rattle.dtm_node.specs.Standing.{Kept, is_up}
-use Rattle.dtm_node.specs.Telling.{said_node}
+use Rattle.node_requests.specs.Standing.{Kept, is_up}
+use Rattle.node_requests.specs.Telling.{said_node}
 use Rattle.said_steps.specs.Answers.{FallsTold}
 use Rattle.run_nodes.specs.Names.{AreApart}
 use Rattle.run_nodes.specs.Tasks.{DoesTask}

@@ -5,8 +5,8 @@ use Rattle.std.specs.Str.{bytes_eq}
 use Rattle.block_disk.specs.Disk.{CallLog}
 use Rattle.transcript_model.specs.Lines as line
 use Rattle.transcript_model.specs.Lines.{Line, Normal}
-use Rattle.transcript_model.specs.Emitting.{Emits, Shown}
-use Rattle.transcript_model.proofs.EmittingLemmas.{emits_nothing, emits_on}
+use Rattle.emitter_model.specs.Emitting.{Emits, Shown}
+use Rattle.emitter_model.proofs.EmittingLemmas.{emits_nothing, emits_on}
 use Rattle.script_model.specs.Statements.{At, Boot, Clock, Deliver, LinkDown, Request, Statement}
 use Rattle.commit_protocol.specs.Messages.{Message}
 use Rattle.run_model.specs.World.{DiskCounts, Node, Sound, Unknown, World, disk_of, find_node}
@@ -15,8 +15,8 @@ use Rattle.run_model.specs.Operations.{refused_if}
 use Rattle.run_model.specs.Statements.{Does, Part, message_at, other_node, refused_at_once, where_up}
 use Rattle.run_model.proofs.NodeLists.{some_is}
 use Rattle.run_shared.specs.Sharing.{SharedState}
-use Rattle.dtm_node.specs.Keeping.{IsPromised, Performs, PerformsRequest, PerformsTask}
-use Rattle.dtm_node.specs.Standing.{IsDown, IsRunning, Kept, Place, StandsFor, StandsIn, counts_of, disk_in, is_up}
+use Rattle.node_requests.specs.Keeping.{IsPromised, Performs, PerformsRequest, PerformsTask}
+use Rattle.node_requests.specs.Standing.{IsDown, IsRunning, Kept, Place, StandsFor, StandsIn, counts_of, disk_in, is_up}
 use Rattle.statement_steps.specs.Doing.{AllKept, DoesParts, IsPlain, IsWithin, as_begun, moved}
 use Rattle.statement_steps.specs.TheLaws.{StaysWithin}
 use Rattle.statement_steps.proofs.Keeping.{kept_at, within_begun}

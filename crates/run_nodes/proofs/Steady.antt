@@ -4,15 +4,15 @@ use Rattle.std.specs.Str.{bytes_eq}
 use Rattle.commit_protocol.specs.World.{In}
 use Rattle.transcript_model.specs.Lines as line
 use Rattle.transcript_model.specs.Lines.{Cause, Line}
-use Rattle.transcript_model.specs.Emitting.{Shown}
+use Rattle.emitter_model.specs.Emitting.{Shown}
 use Rattle.script_model.specs.Statements.{Crash}
 use Rattle.run_laws.specs.Said.{Said, SaidNode, SaidShared, line_said, lines_said, with_said}
 use Rattle.run_model.specs.Answers.{Serves, Task, task_service}
 use Rattle.run_shared.specs.Sharing.{SharedState}
 use Rattle.said_steps.specs.Answers.{IsSteady, is_normal}
 use Rattle.said_steps.specs.Own.{alone}
-use Rattle.dtm_node.specs.Standing.{Kept}
-use Rattle.dtm_node.specs.Telling.{TellsTask, may_answer_task, refused_task, said_node, said_shared}
+use Rattle.node_requests.specs.Standing.{Kept}
+use Rattle.node_requests.specs.Telling.{TellsTask, may_answer_task, refused_task, said_node, said_shared}
 
 -- whether the first node is up
 abbrev first_up : List SaidNode → Bool

@@ -9,7 +9,7 @@ use Rattle.commit_protocol.specs.World.{In}
 use Rattle.commit_protocol.proofs.Lists.{in_parts}
 use Rattle.transcript_model.specs.Lines as line
 use Rattle.transcript_model.specs.Lines.{Cause, Line, Normal}
-use Rattle.transcript_model.specs.Emitting.{Shown}
+use Rattle.emitter_model.specs.Emitting.{Shown}
 use Rattle.run_laws.specs.Said.{Said, SaidNode, line_said, lines_said}
 use Rattle.run_laws.proofs.Views.{said_append}
 use Rattle.run_model.specs.Answers.{Task}
@@ -17,9 +17,9 @@ use Rattle.run_model.specs.Steps.{count_of}
 use Rattle.run_model.proofs.NodeLists.{some_is}
 use Rattle.recovery_units.specs.Uses.{IsCounted}
 use Rattle.run_shared.specs.Sharing.{SharedState}
-use Rattle.dtm_node.specs.Holding.{HoldsAs}
-use Rattle.dtm_node.specs.Standing.{Kept, counts_of, disk_in, is_up}
-use Rattle.dtm_node.specs.Telling.{Passes, TellsTask, armed_task, powered_task, said_node, said_shared}
+use Rattle.node_requests.specs.Holding.{HoldsAs}
+use Rattle.node_requests.specs.Standing.{Kept, counts_of, disk_in, is_up}
+use Rattle.node_requests.specs.Telling.{Passes, TellsTask, armed_task, powered_task, said_node, said_shared}
 use Rattle.dtm_node.proofs.Held.{holds_is, holds_on}
 use Rattle.said_steps.specs.Calls.{is_boot_refusal, is_named}
 use Rattle.said_steps.specs.Own.{alone}

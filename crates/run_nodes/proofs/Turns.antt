@@ -3,10 +3,10 @@ use Rattle.std.specs.Prelude.{slice_get}
 use Rattle.std.proofs.Common.{◌≡◌, ℕ, zero, suc, ◌<◌, List, [], ◌∷◌, length, Bool, true, false, Some, refl, sym, ◌∙◌, arith}
 use Rattle.block_disk.specs.Disk.{DiskState}
 use Rattle.recovery_units.specs.State.{UnitsState}
-use Rattle.transcript_model.specs.Emitting.{Shown}
+use Rattle.emitter_model.specs.Emitting.{Shown}
 use Rattle.run_model.specs.Answers.{Task}
 use Rattle.run_shared.specs.Sharing.{SharedState}
-use Rattle.dtm_node.specs.Standing.{Kept, is_up}
+use Rattle.node_requests.specs.Standing.{Kept, is_up}
 use Rattle.dtm_node.specs.declared.node.Node.{Node}
 use Rattle.run_nodes.specs.Tasks.{DoesIfUp}
 use Rattle.run_nodes.proofs.Entries.{kept_in, names_in}

@@ -4,16 +4,16 @@ use Rattle.std.proofs.Common.{◌≡◌, ℕ, ◌+◌, ◌≤◌, List, [], ◌�
 use Rattle.std.proofs.lemmas.List.{length-map}
 use Rattle.block_disk.specs.Disk.{CallLog}
 use Rattle.transcript_model.specs.Lines.{Normal}
-use Rattle.transcript_model.specs.Emitting.{Emits, Shown}
-use Rattle.transcript_model.proofs.EmittingLemmas.{emits_nothing, emits_on}
+use Rattle.emitter_model.specs.Emitting.{Emits, Shown}
+use Rattle.emitter_model.proofs.EmittingLemmas.{emits_nothing, emits_on}
 use Rattle.script_model.specs.Statements.{Settle}
 use Rattle.run_model.specs.World.{Node, World}
 use Rattle.run_model.specs.Answers.{Restarts, RunsDown}
 use Rattle.run_model.specs.Statements.{Part, begun_with}
 use Rattle.run_shared.specs.Sharing.{SharedState}
 use Rattle.run_agreement.specs.Laws.{NamesApart}
-use Rattle.dtm_node.specs.Keeping.{IsPromised}
-use Rattle.dtm_node.specs.Standing.{Kept, counts_of, disk_in, is_up}
+use Rattle.node_requests.specs.Keeping.{IsPromised}
+use Rattle.node_requests.specs.Standing.{Kept, counts_of, disk_in, is_up}
 use Rattle.statement_steps.specs.Doing.{AllKept, IsWithin, moved}
 use Rattle.statement_steps.specs.Settling.{AreUp, Through, asks_of, restart_of, run_down_of}
 use Rattle.statement_steps.specs.TheLaws.{StaysWithin}

@@ -3,11 +3,11 @@ use Rattle.std.specs.Prelude.{◌≡◌, ℕ, suc, ◌+◌, List, [], ◌∷◌,
 use Rattle.vms_model.specs.Ids.{Id}
 use Rattle.block_disk.specs.Disk.{CallLog}
 use Rattle.transcript_model.specs.Lines.{Line, Normal}
-use Rattle.transcript_model.specs.Emitting.{Emits, Shown}
+use Rattle.emitter_model.specs.Emitting.{Emits, Shown}
 use Rattle.run_model.specs.World.{Node, World, find_node}
 use Rattle.run_model.specs.Statements.{Part}
 use Rattle.run_shared.specs.Sharing.{SharedState}
-use Rattle.dtm_node.specs.Standing.{Kept}
+use Rattle.node_requests.specs.Standing.{Kept}
 use Rattle.statement_steps.specs.Doing.{DoesParts, IsWithin}
 use Rattle.statement_steps.specs.Settling.{AreUp, Asking, Through, asks, doubts_of, each_node}
 use Rattle.run_nodes.specs.Together.{StandsTogether}

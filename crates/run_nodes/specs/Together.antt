@@ -2,14 +2,14 @@
 use Rattle.std.specs.Prelude.{◌≡◌, ℕ, List, [], ◌∷◌, map}
 use Rattle.block_disk.specs.Disk.{CallLog, DiskState}
 use Rattle.transcript_model.specs.Lines.{Line}
-use Rattle.transcript_model.specs.Emitting.{Emits, Shown}
+use Rattle.emitter_model.specs.Emitting.{Emits, Shown}
 use Rattle.script_model.specs.Statements.{Says, Statement}
 use Rattle.run_laws.specs.Said.{Said, said_here}
 use Rattle.run_model.specs.Statements.{Step}
 use Rattle.run_model.specs.World.{Node, World}
 use Rattle.run_shared.specs.Sharing.{IsShared, SharedState}
-use Rattle.dtm_node.specs.Standing.{Kept, StandsFor, counts_of, disk_in}
-use Rattle.dtm_node.specs.Telling.{said_node, said_shared}
+use Rattle.node_requests.specs.Standing.{Kept, StandsFor, counts_of, disk_in}
+use Rattle.node_requests.specs.Telling.{said_node, said_shared}
 use Rattle.run_nodes.specs.Calls.{LineFollows, LineTellsAll}
 
 -- the disks of nodes, by what is kept of each

@@ -6,14 +6,14 @@ use Rattle.commit_protocol.specs.World.{In}
 use Rattle.transcript_model.specs.Lines as line
 use Rattle.transcript_model.specs.Lines.{Cause, Line}
 use Rattle.transcript_model.specs.Outside.{Rose}
-use Rattle.transcript_model.specs.Emitting.{Emits, Shown}
+use Rattle.emitter_model.specs.Emitting.{Emits, Shown}
 use Rattle.run_laws.specs.Said.{Said, line_said, lines_said}
 use Rattle.run_model.specs.Steps.{count_of}
 use Rattle.recovery_units.specs.Uses.{IsCounted}
 use Rattle.run_shared.specs.Sharing.{SharedState}
-use Rattle.dtm_node.specs.Standing.{Kept, counts_of, disk_in, is_up}
-use Rattle.dtm_node.specs.Telling.{Passes, said_node}
-use Rattle.dtm_node.specs.Holding.{HoldsAs}
+use Rattle.node_requests.specs.Standing.{Kept, counts_of, disk_in, is_up}
+use Rattle.node_requests.specs.Telling.{Passes, said_node}
+use Rattle.node_requests.specs.Holding.{HoldsAs}
 use Rattle.said_steps.specs.Answers.{FallsTold, IsSteady, ends_turns, is_answer}
 use Rattle.said_steps.specs.Calls.{CameUp, is_named, shows_boot}
 use Rattle.run_nodes.specs.Together.{said_together}

@@ -3,7 +3,7 @@ ghost use Rattle.std.specs.Prelude.{◌≡◌, ◌<◌, ◌+◌, ℕ, List, Some
 ghost use Rattle.vms_base.specs.Ids.{serial_of};
 ghost use Rattle.vms_model.specs.Ids.{Id};
 ghost use Rattle.block_disk.specs.Disk.{CallLog};
-ghost use Rattle.transcript_model.specs.Emitting.{Since, Shown};
+ghost use Rattle.emitter_model.specs.Emitting.{Since, Shown};
 ghost use Rattle.run_model.specs.Statements.{begun_with};
 ghost use Rattle.run_model.specs.World.{World};
 ghost use Rattle.run_agreement.specs.Laws.{NamesApart};

@@ -2,7 +2,7 @@
 ghost use Rattle.std.specs.Prelude.{◌≡◌, ◌<◌, ◌+◌, ℕ, List, true, false, length, slice_get};
 ghost use Rattle.std.specs.Str.{bytes_eq};
 ghost use Rattle.block_disk.specs.Disk.{CallLog};
-ghost use Rattle.transcript_model.specs.Emitting.{Since};
+ghost use Rattle.emitter_model.specs.Emitting.{Since};
 ghost use Rattle.run_model.specs.Answers.{LosesLink, Ticks};
 ghost use Rattle.run_model.specs.World.{World};
 ghost use Rattle.script_lang.specs.Statements.{request_of, statement_of};

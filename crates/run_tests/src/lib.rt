@@ -1,17 +1,9 @@
-//! Whole scripts by `run`, tried over the units of `node_units`: against stored transcripts, and against the plain program.
+//! Worked scripts of one node by `run`, tried over the units of `node_units`: their transcripts, how they may come, and what a node has at the most.
 #![tactic(auto)]
 
 #[cfg(test)]
-mod compared;
-#[cfg(test)]
-mod doubts;
+mod commands;
 #[cfg(test)]
 mod limits;
 #[cfg(test)]
-mod racks;
-#[cfg(test)]
-mod restarts;
-#[cfg(test)]
-mod rows;
-#[cfg(test)]
-mod tests;
+mod worked;

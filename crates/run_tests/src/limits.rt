@@ -1,9 +1,10 @@
-//! What a node has at the most: its unsettled branches, their changes and locks, and the bytes of its journal.
-use crate::tests::{disk_of, filled, run_on, shown};
+//! What a node has at the most: the files of its volume, its unsettled branches, their changes and locks, and the bytes of its journal.
 use block_disk::{CrashDisk, MemPlatter};
 use dtm_run::Exit;
 use std::alloc::Global;
 use std::test::Fail;
+use test_scripts::one_node::{disk_of, run_on, shown};
+use test_scripts::texts::{filled, joined};
 
 // A line for each of these numbers, between two texts.
 fn numbered(
@@ -17,6 +18,20 @@ fn numbered(
     for n in from..to {
         lines.extend_from_slice(format!(in alloc; "{front}{n}{behind}\n")?.as_bytes())?;
     }
+    Ok(())
+}
+
+#[test]
+fn a_volume_has_64_files(rt: HostRuntime) -> Result<(), Fail> {
+    let mut script = joined(rt.alloc(), &[b"A: INIT\nA: BOOT\n"])?;
+    for number in 0..65u32 {
+        script.extend_from_slice(format!(in rt.alloc();
+            "A: CREATE F{number} REL 1 100 4\n"
+        )?.as_bytes())?;
+    }
+    let disk = CrashDisk::new(rt.alloc(), MemPlatter::new(rt.alloc(), 8_192)?)?;
+    let (text, _) = run_on(rt.alloc(), disk, &script)?;
+    assert!(rt; text.ends_with(b"\n66 SS$_NORMAL\n67 SS$_EXQUOTA FILES 64\n"));
     Ok(())
 }
 

@@ -4,7 +4,7 @@ use Rattle.std.proofs.Common.{◌≡◌, ℕ, List, Bool, true, false, Option, S
 use Rattle.std.specs.Str.{bytes_eq}
 use Rattle.transcript_model.specs.Lines as line
 use Rattle.transcript_model.specs.Lines.{Line}
-use Rattle.script_model.specs.Statements.{AbortTrans, AddBranch, At, Boot, ByLabel, BySerial, Clock, Deliver, EndBranch, EndTrans, Fuse, Init, Inquire, LinkDown, Named, Records, Request, Settle, StartBranch, StartTrans, Statement}
+use Rattle.script_model.specs.Statements.{AbortTrans, AckEvent, AddBranch, At, Boot, ByLabel, BySerial, Clock, Deliver, EndBranch, EndTrans, Fuse, GetDti, Init, Inquire, JoinRm, LinkDown, Named, Records, Request, Settle, StartBranch, StartTrans, Statement}
 use Rattle.commit_protocol.specs.Messages.{Message}
 use Rattle.run_model.specs.Answers.{label_limit}
 use Rattle.run_model.specs.Operations.{first_of, refused_if}
@@ -96,6 +96,9 @@ refusal_of_lines s n (EndBranch label) = of_first (down_said n) (made_said s.lab
 refusal_of_lines s n (EndTrans label) = of_first (down_said n) (made_said s.labels n.name label) (refusal_down n) (of_made s.labels n.name label)
 refusal_of_lines s n (AbortTrans label) = of_first (down_said n) (made_said s.labels n.name label) (refusal_down n) (of_made s.labels n.name label)
 refusal_of_lines s n (Inquire who) = of_first (down_said n) (named_said s.labels n.name who) (refusal_down n) (of_named s.labels n.name who)
+refusal_of_lines s n (JoinRm label rm) = of_first (down_said n) (made_said s.labels n.name label) (refusal_down n) (of_made s.labels n.name label)
+refusal_of_lines s n (AckEvent who rm reply) = of_first (down_said n) (named_said s.labels n.name who) (refusal_down n) (of_named s.labels n.name who)
+refusal_of_lines s n (GetDti who) = of_first (down_said n) (named_said s.labels n.name who) (refusal_down n) (of_named s.labels n.name who)
 refusal_of_lines s n (Fuse writes choice) = of_none
 refusal_of_lines s n (Clock now) = of_none
 refusal_of_lines s n _ = refusal_down n

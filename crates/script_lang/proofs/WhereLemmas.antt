@@ -5,8 +5,9 @@ use Rattle.script_model.specs.LineWords.{Word, words_of}
 use Rattle.script_model.specs.Statements.{Statement, Reading, Blank, Says, Bad, RecoveryUnits, ByLabel}
 use Rattle.jiff_core.specs.Calendar.{days_from_civil, day_count, days_of_years, days_of_months}
 use Rattle.vms_model.specs.Times.{MomentSaid, time_said}
+use Rattle.commit_protocol.specs.Messages.{VetoReply}
 use Rattle.script_model.specs.Operands.{KeyWord, Numbered, Spelled, moment_in}
-use Rattle.script_model.specs.Grammar.{Kind, Meaning, meaning, AFirst, AVerb, ANode, ALabel, ALabelOrNone, AFile, AnOrganization, ASetting, AJournal, RecoveryUnitJournal, ANumber, ALongNumber, SomeBytes, AKey, ABranch, ATime, ATimeout, Timeout, Verb, Init, Boot, Create, SetFile, StartTrans, AddBranch, StartBranch, Put, Update, Delete, Truncate, Get, Next, EndBranch, EndTrans, AbortTrans, Inquire, Dump, DumpJournal, Fuse, Crash, Clock, Deliver, LinkDown, Settle, Organization, Sequential, Relative, Indexed, First, ToNode, ToWorld, Shape, Ends, Then, EndsOr, reads, form_operands, put_operands, operands, behind_first, line_shape, is_skipped}
+use Rattle.script_model.specs.Grammar.{Kind, Meaning, meaning, AFirst, AVerb, ANode, ALabel, ALabelOrNone, AManager, AReply, AFile, AnOrganization, ASetting, AJournal, RecoveryUnitJournal, ALogWord, LogWord, Show, Dumped, ANumber, ALongNumber, SomeBytes, AKey, ABranch, ATime, ATimeout, Timeout, Verb, Init, Boot, Create, SetFile, StartTrans, AddBranch, StartBranch, Put, Update, Delete, Truncate, Get, Next, EndBranch, EndTrans, AbortTrans, Inquire, DeclareRm, JoinRm, AckEvent, ForgetRm, GetDti, Lmcp, Dump, DumpJournal, Fuse, Crash, Clock, Deliver, LinkDown, Settle, Organization, Sequential, Relative, Indexed, First, ToNode, ToWorld, Shape, Ends, Then, EndsOr, reads, form_operands, put_operands, operands, behind_first, line_shape, is_skipped}
 use Rattle.script_lang.specs.Where.{CanGoOn, TellsWhere, LineTellsWhere}
 
 -- there is such a word
@@ -103,6 +104,15 @@ a_timeout = record { text = codes "TIMEOUT"; meant = Timeout; says = refl }
 a_journal : Sample AJournal
 a_journal = record { text = codes "RU"; meant = RecoveryUnitJournal; says = refl }
 
+a_manager : Sample AManager
+a_manager = record { text = codes "R"; meant = codes "R"; says = refl }
+
+a_reply : Sample AReply
+a_reply = record { text = codes "SS$_VETO"; meant = VetoReply; says = refl }
+
+a_log_word : Sample ALogWord
+a_log_word = record { text = codes "SHOW"; meant = Show; says = refl }
+
 a_file : Sample AFile
 a_file = record { text = codes "F"; meant = codes "F"; says = refl }
 
@@ -157,6 +167,12 @@ operands_writable n EndBranch = (a_label, λ l. tt)
 operands_writable n EndTrans = (a_label, λ l. tt)
 operands_writable n AbortTrans = (a_label, λ l. tt)
 operands_writable n Inquire = (a_branch, λ b. tt)
+operands_writable n DeclareRm = (a_manager, λ rm. tt)
+operands_writable n JoinRm = (a_label, λ l. (a_manager, λ rm. tt))
+operands_writable n AckEvent = (a_branch, λ b. (a_manager, λ rm. (a_reply, λ reply. tt)))
+operands_writable n ForgetRm = (a_manager, λ rm. tt)
+operands_writable n GetDti = (a_branch, λ b. tt)
+operands_writable n Lmcp = (a_log_word, λ w. tt)
 operands_writable n Dump = (a_file, λ f. tt)
 operands_writable n DumpJournal = (a_journal, λ j. tt)
 

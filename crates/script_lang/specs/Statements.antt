@@ -9,6 +9,7 @@ use Rattle.script_model.specs.LineWords.{Ahead}
 use Rattle.script_model.specs.Statements as model
 use Rattle.script_model.specs.Grammar as grammar
 use Rattle.script_model.specs.Grammar.{Shape}
+use Rattle.tm_types.specs.Parts.{reply_of}
 use Rattle.script_lang.specs.Reads.{Reads}
 use Rattle.script_lang.specs.declared.words.LineErr.{LineErr}
 use Rattle.script_lang.specs.declared.literals.Literals.{Literals}
@@ -24,6 +25,8 @@ use Rattle.script_lang.specs.declared.statement.Setting.{Setting}
 use Rattle.script_lang.specs.declared.statement.Setting.TheVariants as setting
 use Rattle.script_lang.specs.declared.statement.Journal.{Journal}
 use Rattle.script_lang.specs.declared.statement.Journal.TheVariants as journal
+use Rattle.script_lang.specs.declared.statement.LogWord.{LogWord}
+use Rattle.script_lang.specs.declared.statement.LogWord.TheVariants as log_word
 use Rattle.script_lang.specs.declared.statement.Named.{Named}
 use Rattle.script_lang.specs.declared.statement.Named.TheVariants as named
 use Rattle.script_lang.specs.declared.statement.Verb.{Verb}
@@ -54,6 +57,10 @@ setting_of setting.NoRecoveryUnits = model.NoRecoveryUnits
 abbrev pub journal_of : Journal → grammar.Journal
 journal_of journal.RecoveryUnits = grammar.RecoveryUnitJournal
 
+abbrev pub log_word_of : LogWord → grammar.LogWord
+log_word_of log_word.Show = grammar.Show
+log_word_of log_word.Dump = grammar.Dumped
+
 abbrev pub verb_of : Verb → grammar.Verb
 verb_of verb.Init = grammar.Init
 verb_of verb.Boot = grammar.Boot
@@ -72,6 +79,12 @@ verb_of verb.EndBranch = grammar.EndBranch
 verb_of verb.EndTrans = grammar.EndTrans
 verb_of verb.AbortTrans = grammar.AbortTrans
 verb_of verb.Inquire = grammar.Inquire
+verb_of verb.DeclareRm = grammar.DeclareRm
+verb_of verb.JoinRm = grammar.JoinRm
+verb_of verb.AckEvent = grammar.AckEvent
+verb_of verb.ForgetRm = grammar.ForgetRm
+verb_of verb.GetDti = grammar.GetDti
+verb_of verb.Lmcp = grammar.Lmcp
 verb_of verb.Dump = grammar.Dump
 verb_of verb.DumpJournal = grammar.DumpJournal
 
@@ -124,6 +137,13 @@ request_of lit (request.EndBranch label) = model.EndBranch label
 request_of lit (request.EndTrans label) = model.EndTrans label
 request_of lit (request.AbortTrans label) = model.AbortTrans label
 request_of lit (request.Inquire named) = model.Inquire (named_of named)
+request_of lit (request.DeclareRm rm) = model.DeclareRm rm
+request_of lit (request.JoinRm label rm) = model.JoinRm label rm
+request_of lit (request.AckEvent named rm reply) = model.AckEvent (named_of named) rm (reply_of reply)
+request_of lit (request.ForgetRm rm) = model.ForgetRm rm
+request_of lit (request.GetDti named) = model.GetDti (named_of named)
+request_of lit request.LmcpShow = model.LmcpShow
+request_of lit request.LmcpDump = model.LmcpDump
 request_of lit (request.Dump file) = model.Dump file
 request_of lit request.DumpJournal = model.DumpJournal
 request_of lit (request.Fuse writes choice) = model.Fuse writes choice

@@ -7,6 +7,7 @@ ghost use Rattle.script_lang.specs.declared.literals.Literals.{Literals as Liter
 ghost use Rattle.script_lang.specs.Statements.{ReadsPlain, first_of, form_of, organization_of, reading_of, statement_of, verb_of};
 
 use crate::literals::Literals;
+use crate::managers::{ack_event, declare_rm, forget_rm, get_dti, join_rm, lmcp};
 use crate::records::{delete, get, next, put, truncate, update};
 use crate::statement::{First, Form, Organization, Request, Statement, Verb};
 use crate::transactions::{
@@ -170,6 +171,12 @@ fn operands(
         Verb::EndTrans => end_trans(node, words),
         Verb::AbortTrans => abort_trans(node, words),
         Verb::Inquire => inquire(node, words),
+        Verb::DeclareRm => declare_rm(node, words),
+        Verb::JoinRm => join_rm(node, words),
+        Verb::AckEvent => ack_event(node, words),
+        Verb::ForgetRm => forget_rm(node, words),
+        Verb::GetDti => get_dti(node, words),
+        Verb::Lmcp => lmcp(node, words),
         Verb::Dump => dump(node, words),
         Verb::DumpJournal => dump_journal(node, words),
     }

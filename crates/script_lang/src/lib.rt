@@ -5,6 +5,7 @@ mod command;
 mod grammar;
 mod laws;
 mod literals;
+mod managers;
 mod operands;
 mod records;
 mod statement;

@@ -3,14 +3,17 @@ ghost use Rattle.std.specs.Prelude.{◌≡◌, ℕ, ◌≤◌, IfSome, Option};
 ghost use Rattle.std.specs.Option.{option_map};
 ghost use Rattle.vms_model.specs.Words.{number_up_to, among};
 ghost use Rattle.script_model.specs.Operands.{prefix_said, branch_said, time_word_said};
-ghost use Rattle.script_model.specs.Grammar.{verbs, world_verbs, organizations, settings, journals, first_said};
-ghost use Rattle.script_lang.specs.Statements.{verb_of, world_verb_of, organization_of, setting_of, journal_of, first_of, named_of};
+ghost use Rattle.script_model.specs.Grammar.{verbs, world_verbs, organizations, settings, journals, log_words, replies, first_said};
+ghost use Rattle.script_lang.specs.Statements.{verb_of, world_verb_of, organization_of, setting_of, journal_of, log_word_of, first_of, named_of};
+ghost use Rattle.tm_types.specs.Parts.{reply_of};
 
 use crate::literals::quoted;
-use crate::statement::{First, Journal, Named, Organization, Setting, Verb, WorldVerb};
-use vms_base::{Label, Moment, NodeName, Serial, find, part_at, read_digits, read_id, read_time};
+use crate::statement::{First, Journal, LogWord, Named, Organization, Setting, Verb, WorldVerb};
+use vms_base::{
+    Label, Moment, NodeName, Reply, Serial, find, part_at, read_digits, read_id, read_time,
+};
 
-const VERBS: [(&[u8], Verb); 19] = [
+const VERBS: [(&[u8], Verb); 25] = [
     (b"INIT", Verb::Init),
     (b"BOOT", Verb::Boot),
     (b"CREATE", Verb::Create),
@@ -28,6 +31,12 @@ const VERBS: [(&[u8], Verb); 19] = [
     (b"END_TRANS", Verb::EndTrans),
     (b"ABORT_TRANS", Verb::AbortTrans),
     (b"INQUIRE", Verb::Inquire),
+    (b"DECLARE_RM", Verb::DeclareRm),
+    (b"JOIN_RM", Verb::JoinRm),
+    (b"ACK_EVENT", Verb::AckEvent),
+    (b"FORGET_RM", Verb::ForgetRm),
+    (b"GETDTI", Verb::GetDti),
+    (b"LMCP", Verb::Lmcp),
     (b"DUMP", Verb::Dump),
     (b"DUMP_JOURNAL", Verb::DumpJournal),
 ];
@@ -53,6 +62,16 @@ const SETTINGS: [(&[u8], Setting); 2] = [
 ];
 
 const JOURNALS: [(&[u8], Journal); 1] = [(b"RU", Journal::RecoveryUnits)];
+
+const LOG_WORDS: [(&[u8], LogWord); 2] = [(b"SHOW", LogWord::Show), (b"DUMP", LogWord::Dump)];
+
+const REPLIES: [(&[u8], Reply); 5] = [
+    (b"SS$_PREPARED", Reply::Prepared),
+    (b"SS$_FORGET", Reply::Forget),
+    (b"SS$_VETO", Reply::Veto),
+    (b"SS$_REMEMBER", Reply::Remember),
+    (b"SS$_NORMAL", Reply::Normal),
+];
 
 /// The verb of a word in either case of letters.
 pub fn read_verb(text: &[u8]) -> Option<Verb>
@@ -87,6 +106,20 @@ pub fn read_journal(text: &[u8]) -> Option<Journal>
     ensures { option_map journal_of result ≡ among journals text.now }
 {
     find(&JOURNALS, text)
+}
+
+/// What is shown of a transaction log, by a word in either case of letters.
+pub fn read_log_word(text: &[u8]) -> Option<LogWord>
+    ensures { option_map log_word_of result ≡ among log_words text.now }
+{
+    find(&LOG_WORDS, text)
+}
+
+/// The reply of a resource manager, by a word in either case of letters.
+pub fn read_reply(text: &[u8]) -> Option<Reply>
+    ensures { option_map reply_of result ≡ among replies text.now }
+{
+    find(&REPLIES, text)
 }
 
 /// The number of 1 to 20 digits, at most the limit.

@@ -1,5 +1,5 @@
 // The statements of a script.
-use vms_base::{FileName, Label, Moment, NodeName, Serial};
+use vms_base::{FileName, Label, Moment, NodeName, Reply, RmName, Serial};
 
 /// What a new file's records are kept as.
 #[derive(Clone, Copy, Debug, PartialEq, Eq, Drop)]
@@ -41,6 +41,13 @@ pub enum Journal {
     RecoveryUnits,
 }
 
+/// The word that tells what is shown of a transaction log.
+#[derive(Clone, Copy, Debug, PartialEq, Eq, Drop)]
+pub enum LogWord {
+    Show,
+    Dump,
+}
+
 /// The word that tells a statement to a node from others.
 #[derive(Clone, Copy, Debug, PartialEq, Eq, Drop)]
 pub enum Verb {
@@ -61,6 +68,12 @@ pub enum Verb {
     EndTrans,
     AbortTrans,
     Inquire,
+    DeclareRm,
+    JoinRm,
+    AckEvent,
+    ForgetRm,
+    GetDti,
+    Lmcp,
     Dump,
     DumpJournal,
 }
@@ -154,6 +167,20 @@ pub enum Request {
     AbortTrans(Label),
     /// A prepared branch asks how its transaction ended.
     Inquire(Named),
+    /// A resource manager is there from now on, and is told the commitments that wait for it.
+    DeclareRm(RmName),
+    /// A resource manager takes part in the branch of a label.
+    JoinRm(Label, RmName),
+    /// A resource manager replies to the event of a branch that waits for it.
+    AckEvent(Named, RmName, Reply),
+    /// A resource manager is there no more.
+    ForgetRm(RmName),
+    /// How a branch stands is shown.
+    GetDti(Named),
+    /// How many records the transaction log has is shown.
+    LmcpShow,
+    /// The records of the transaction log are shown.
+    LmcpDump,
     Dump(FileName),
     /// The journal of recovery units is shown.
     DumpJournal,

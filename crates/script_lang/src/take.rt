@@ -1,18 +1,19 @@
 // Operands from the words of a line.
 ghost use Rattle.std.specs.Prelude.{◌≡◌};
-ghost use Rattle.script_model.specs.Grammar.{AFirst, AVerb, ANode, ALabel, ALabelOrNone, AFile, AnOrganization, ASetting, AJournal, ANumber, ALongNumber, SomeBytes, AKey, ABranch, ATime, ATimeout, Timeout};
+ghost use Rattle.script_model.specs.Grammar.{AFirst, AVerb, ANode, ALabel, ALabelOrNone, AManager, AReply, AFile, AnOrganization, ASetting, AJournal, ALogWord, ANumber, ALongNumber, SomeBytes, AKey, ABranch, ATime, ATimeout, Timeout};
 ghost use Rattle.script_lang.specs.Reads.{Takes, Finishes};
-ghost use Rattle.script_lang.specs.Statements.{first_of, verb_of, organization_of, setting_of, journal_of, named_of, word_in};
+ghost use Rattle.script_lang.specs.Statements.{first_of, verb_of, organization_of, setting_of, journal_of, log_word_of, named_of, word_in};
+ghost use Rattle.tm_types.specs.Parts.{reply_of};
 
 use crate::literals::Literal;
 use crate::operands::{
-    read_branch, read_first, read_journal, read_number, read_organization, read_setting,
-    read_time_word, read_verb,
+    read_branch, read_first, read_journal, read_log_word, read_number, read_organization,
+    read_reply, read_setting, read_time_word, read_verb,
 };
-use crate::statement::{First, Journal, KeyWord, Named, Organization, Setting, Verb};
+use crate::statement::{First, Journal, KeyWord, LogWord, Named, Organization, Setting, Verb};
 use crate::wanted::Wanted;
 use crate::words::{LineErr, Word, Words};
-use vms_base::{FileName, Label, Moment, NodeName, is_word};
+use vms_base::{FileName, Label, Moment, NodeName, Reply, RmName, is_word};
 
 impl Word<'_> {
     // The error of a word that cannot stand where it does.
@@ -96,6 +97,28 @@ impl<'a> Words<'a> {
         }
     }
 
+    /// The name of a resource manager.
+    pub fn manager(&mut self) -> Result<RmName, LineErr>
+        ensures { Takes AManager (λ rm. rm) self.old result self.new }
+    {
+        let word = self.word(Wanted::Manager)?;
+        match RmName::new(word.text) {
+            Some(rm) => Ok(rm),
+            None => Err(word.cannot_stand()),
+        }
+    }
+
+    /// What a resource manager replies.
+    pub fn reply(&mut self) -> Result<Reply, LineErr>
+        ensures { Takes AReply reply_of self.old result self.new }
+    {
+        let word = self.word(Wanted::Reply)?;
+        match read_reply(word.text) {
+            Some(reply) => Ok(reply),
+            None => Err(word.cannot_stand()),
+        }
+    }
+
     /// The name of a file.
     pub fn file(&mut self) -> Result<FileName, LineErr>
         ensures { Takes AFile (λ f. f) self.old result self.new }
@@ -136,6 +159,17 @@ impl<'a> Words<'a> {
         let word = self.word(Wanted::Journal)?;
         match read_journal(word.text) {
             Some(journal) => Ok(journal),
+            None => Err(word.cannot_stand()),
+        }
+    }
+
+    /// The word that tells what is shown of a transaction log.
+    pub fn log_word(&mut self) -> Result<LogWord, LineErr>
+        ensures { Takes ALogWord log_word_of self.old result self.new }
+    {
+        let word = self.word(Wanted::LogWord)?;
+        match read_log_word(word.text) {
+            Some(shown) => Ok(shown),
             None => Err(word.cannot_stand()),
         }
     }

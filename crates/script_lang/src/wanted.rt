@@ -14,10 +14,16 @@ pub enum Wanted {
     LabelOrNone,
     /// A label or a serial.
     Branch,
+    /// A resource manager.
+    Manager,
+    /// What a resource manager replies.
+    Reply,
     File,
     Organization,
     Setting,
     Journal,
+    /// What is shown of a transaction log.
+    LogWord,
     /// A number of 32 bits.
     Number,
     /// A number of 64 bits.
@@ -38,16 +44,20 @@ impl Wanted {
             Wanted::First =>
                 "a node and a colon in one word, as A:, or FUSE, CRASH, CLOCK, DELIVER, LINKDOWN or SETTLE",
             Wanted::Verb =>
-                "a verb: INIT, BOOT, CREATE, SET_FILE, START_TRANS, ADD_BRANCH, START_BRANCH, PUT, UPDATE, DELETE, TRUNCATE, GET, NEXT, END_BRANCH, END_TRANS, ABORT_TRANS, INQUIRE, DUMP or DUMP_JOURNAL",
+                "a verb: INIT, BOOT, CREATE, SET_FILE, START_TRANS, ADD_BRANCH, START_BRANCH, PUT, UPDATE, DELETE, TRUNCATE, GET, NEXT, END_BRANCH, END_TRANS, ABORT_TRANS, INQUIRE, DECLARE_RM, JOIN_RM, ACK_EVENT, FORGET_RM, GETDTI, LMCP, DUMP or DUMP_JOURNAL",
             Wanted::Node => "a node: 1 to 6 letters and digits, a letter first",
             Wanted::Label => "a label: 1 to 15 letters, digits and _, a letter first",
             Wanted::LabelOrNone => "a label: 1 to 15 letters, digits and _, a letter first, or -",
             Wanted::Branch =>
                 "a label: 1 to 15 letters, digits and _, a letter first, or a serial: a node, a boot and a number with dots between, as A.1.1",
+            Wanted::Manager => "a resource manager: 1 to 15 letters, digits and _, a letter first",
+            Wanted::Reply =>
+                "a reply: SS$_PREPARED, SS$_FORGET, SS$_VETO, SS$_REMEMBER or SS$_NORMAL",
             Wanted::File => "a file: 1 to 39 letters, digits, _, $ and ., a letter first",
             Wanted::Organization => "an organization: SEQ, REL or IDX",
             Wanted::Setting => "a setting: RU or NORU",
             Wanted::Journal => "a journal: RU",
+            Wanted::LogWord => "SHOW or DUMP",
             Wanted::Number => "a number from 0 to 4294967295",
             Wanted::LongNumber => "a number from 0 to 18446744073709551615",
             Wanted::Bytes => "bytes: \"text\" in quotes, or %X and pairs of hexadecimal digits",

@@ -4,6 +4,7 @@ use Rattle.std.specs.Option.{option_map}
 use Rattle.std.specs.Str.{bytes_eq}
 use Rattle.vms_model.specs.Names.{node_named, label_named, file_named}
 use Rattle.vms_model.specs.Words.{number_up_to, among}
+use Rattle.commit_protocol.specs.Messages.{Reply, PreparedReply, ForgetReply, VetoReply, RememberReply, NormalReply}
 use Rattle.script_model.specs.LineWords.{Word, words_of}
 use Rattle.script_model.specs.Operands.{KeyWord, Numbered, Spelled, bytes_said, key_word_said, key_of, prefix_said, branch_said, time_word_said}
 use Rattle.script_model.specs.Statements as says
@@ -28,6 +29,12 @@ pub data Verb : Type 0 where
   EndTrans : Verb
   AbortTrans : Verb
   Inquire : Verb
+  DeclareRm : Verb
+  JoinRm : Verb
+  AckEvent : Verb
+  ForgetRm : Verb
+  GetDti : Verb
+  Lmcp : Verb
   Dump : Verb
   DumpJournal : Verb
 
@@ -71,6 +78,12 @@ verbs =
     ∷ (codes "END_TRANS", EndTrans)
     ∷ (codes "ABORT_TRANS", AbortTrans)
     ∷ (codes "INQUIRE", Inquire)
+    ∷ (codes "DECLARE_RM", DeclareRm)
+    ∷ (codes "JOIN_RM", JoinRm)
+    ∷ (codes "ACK_EVENT", AckEvent)
+    ∷ (codes "FORGET_RM", ForgetRm)
+    ∷ (codes "GETDTI", GetDti)
+    ∷ (codes "LMCP", Lmcp)
     ∷ (codes "DUMP", Dump)
     ∷ (codes "DUMP_JOURNAL", DumpJournal)
     ∷ []
@@ -110,8 +123,27 @@ pub data TimeoutWord : Type 0 where
 abbrev pub timeout_words : List (List ℕ × TimeoutWord)
 timeout_words = (codes "TIMEOUT", Timeout) ∷ []
 
--- what a word may be: the first of a line, a verb, a node, a label, a label or none, a label or a serial, a file, an organization, a setting, a journal, a number
--- of 32 or 64 bits, bytes, a key, a time, or the word before seconds
+-- what is shown of a transaction log: how many records it has, or the records
+pub data LogWord : Type 0 where
+  Show : LogWord
+  Dumped : LogWord
+
+-- those as they are written
+abbrev pub log_words : List (List ℕ × LogWord)
+log_words = (codes "SHOW", Show) ∷ (codes "DUMP", Dumped) ∷ []
+
+-- the replies of resource managers as they are written
+abbrev pub replies : List (List ℕ × Reply)
+replies =
+    (codes "SS$_PREPARED", PreparedReply)
+    ∷ (codes "SS$_FORGET", ForgetReply)
+    ∷ (codes "SS$_VETO", VetoReply)
+    ∷ (codes "SS$_REMEMBER", RememberReply)
+    ∷ (codes "SS$_NORMAL", NormalReply)
+    ∷ []
+
+-- what a word may be: the first of a line, a verb, a node, a label, a label or none, a label or a serial, a resource manager, its reply, a file, an organization, a
+-- setting, a journal, what is shown of a log, a number of 32 or 64 bits, bytes, a key, a time, or the word before seconds
 pub data Kind : Type 0 where
   AFirst : Kind
   AVerb : Kind
@@ -119,10 +151,13 @@ pub data Kind : Type 0 where
   ALabel : Kind
   ALabelOrNone : Kind
   ABranch : Kind
+  AManager : Kind
+  AReply : Kind
   AFile : Kind
   AnOrganization : Kind
   ASetting : Kind
   AJournal : Kind
+  ALogWord : Kind
   ANumber : Kind
   ALongNumber : Kind
   SomeBytes : Kind
@@ -138,10 +173,13 @@ Meaning ANode = List ℕ
 Meaning ALabel = List ℕ
 Meaning ALabelOrNone = Option (List ℕ)
 Meaning ABranch = Named
+Meaning AManager = List ℕ
+Meaning AReply = Reply
 Meaning AFile = List ℕ
 Meaning AnOrganization = Organization
 Meaning ASetting = Setting
 Meaning AJournal = Journal
+Meaning ALogWord = LogWord
 Meaning ANumber = ℕ
 Meaning ALongNumber = ℕ
 Meaning SomeBytes = List ℕ
@@ -165,10 +203,13 @@ meaning ANode text = node_named text
 meaning ALabel text = label_named text
 meaning ALabelOrNone text = label_or_none text
 meaning ABranch text = branch_said text
+meaning AManager text = label_named text
+meaning AReply text = among replies text
 meaning AFile text = file_named text
 meaning AnOrganization text = among organizations text
 meaning ASetting text = among settings text
 meaning AJournal text = among journals text
+meaning ALogWord text = among log_words text
 meaning ANumber text = number_up_to 4294967295 text
 meaning ALongNumber text = number_up_to 18446744073709551615 text
 meaning SomeBytes text = bytes_said text
@@ -215,6 +256,11 @@ abbrev pub put_operands : List ℕ → Option (List ℕ) → List ℕ → KeyWor
 put_operands n l f (Numbered number) = Then SomeBytes λ bytes. Ends (asked n l f (says.Put (Some number) bytes))
 put_operands n l f (Spelled bytes) = Ends (asked n l f (says.Put None bytes))
 
+-- what is asked of a transaction log
+abbrev pub log_asked : LogWord → says.Request
+log_asked Show = says.LmcpShow
+log_asked Dumped = says.LmcpDump
+
 -- the operands of each verb, and the statement to this node that they make
 abbrev pub operands : List ℕ → Verb → Shape
 operands n Init = EndsOr (says.At n (says.Init default_slots default_journal)) (Then ANumber λ slots. Then ANumber λ blocks. Ends (says.At n (says.Init slots blocks)))
@@ -234,6 +280,12 @@ operands n EndBranch = Then ALabel λ l. Ends (says.At n (says.EndBranch l))
 operands n EndTrans = Then ALabel λ l. Ends (says.At n (says.EndTrans l))
 operands n AbortTrans = Then ALabel λ l. Ends (says.At n (says.AbortTrans l))
 operands n Inquire = Then ABranch λ b. Ends (says.At n (says.Inquire b))
+operands n DeclareRm = Then AManager λ rm. Ends (says.At n (says.DeclareRm rm))
+operands n JoinRm = Then ALabel λ l. Then AManager λ rm. Ends (says.At n (says.JoinRm l rm))
+operands n AckEvent = Then ABranch λ b. Then AManager λ rm. Then AReply λ reply. Ends (says.At n (says.AckEvent b rm reply))
+operands n ForgetRm = Then AManager λ rm. Ends (says.At n (says.ForgetRm rm))
+operands n GetDti = Then ABranch λ b. Ends (says.At n (says.GetDti b))
+operands n Lmcp = Then ALogWord λ w. Ends (says.At n (log_asked w))
 operands n Dump = Then AFile λ f. Ends (says.At n (says.Dump f))
 operands n DumpJournal = Then AJournal λ j. Ends (says.At n says.DumpJournal)
 

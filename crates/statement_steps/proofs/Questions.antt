@@ -16,7 +16,7 @@ use Rattle.run_model.specs.Steps.{Choice, NodeStep, WithoutMemory}
 use Rattle.run_model.specs.Statements.{Allowed, AllowedAt, AllowedOf, Asks, Doubtful, Heard, NoneFalls, Part, PartEffect, Unanswered, answer_in, answer_of, asked, asking, done_at, in_doubt, part_effect, question, question_effect}
 use Rattle.run_model.specs.StepLaws.{asked_by}
 use Rattle.run_model.proofs.NodeLists.{none_falls_same, some_is}
-use Rattle.run_agreement.proofs.Units.{other_ids, same_is}
+use Rattle.run_model.proofs.ReplyLemmas.{same_found}
 use Rattle.statement_steps.specs.Doing.{Behind, DoesParts, Walked, as_begun, moved}
 use Rattle.statement_steps.specs.Settling.{question_in, question_of}
 use Rattle.statement_steps.proofs.OneParts.{does_task}
@@ -36,21 +36,6 @@ fixed_part begun w p ends answer on is may = record {
 -- a question that nobody answers
 unanswered : (begun : List DiskCounts) (w : World) (node : List ℕ) (serial : Id) → question w node serial ≡ Unanswered → DoesParts begun (Asks node serial ∷ []) w false [] Normal w
 unanswered begun w node serial e = fixed_part begun w (Asks node serial) false Normal (λ f. refl) (λ c. ap (question_effect (as_begun begun w) c) e) (subst (AllowedOf (as_begun begun w) w.disks WithoutMemory) (sym e) tt)
-
--- A branch is found by its serial either way.
-pub same_found : (serial : Id) (bs : List Branch) → find_branch serial bs ≡ find_serial serial bs
-same_found serial [] = refl
-same_found serial (b ∷ bs) = go (said_id serial b.key.serial) refl (same_found serial bs)
-  where
-    go : (t : Bool) → said_id serial b.key.serial ≡ t → find_branch serial bs ≡ find_serial serial bs → ◌≡◌ {A = Option Branch} (if t then Some b else find_branch serial bs) (find_serial serial (b ∷ bs))
-    go true is more = elim (told_id b.key.serial serial) [
-      | inl q ↦ rw (q.0) refl
-      | inr q ↦ absurd (q.1 (sym (same_is serial b.key.serial is)))
-    ]
-    go false is more = elim (told_id b.key.serial serial) [
-      | inl q ↦ absurd (other_ids serial b.key.serial is (sym q.1))
-      | inr q ↦ rw (q.0) more
-    ]
 
 -- A branch asks this.
 pub record IsAsker (serial : Id) (n : Node) (q : Message) : Type 0 where

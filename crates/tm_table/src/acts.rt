@@ -157,6 +157,7 @@ impl Table {
     {
         self.push(Effect::Tell {
             event,
+            tid: *tid,
             serial: *serial,
             rm,
         });

@@ -31,6 +31,7 @@ pub enum Effect {
     /// An event to a manager that joined the branch. It is for the caller to leave it out where the manager is not declared.
     Tell {
         event: RmEvent,
+        tid: Tid,
         serial: Serial,
         rm: RmName,
     },

@@ -12,5 +12,5 @@ pub use branch::BranchState;
 pub use effects::{Effect, Effects};
 pub use events::Event;
 pub use lists::{BidList, Child, ChildList, Manager, ManagerList, State, answers};
-pub use records::{acknowledged, holds, is_done, owing, released, waits_for};
+pub use records::{acknowledged, has_rm, holds, is_done, owing, released, waits_for};
 pub use same::{same_id, same_node, same_rm};

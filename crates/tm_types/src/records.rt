@@ -23,7 +23,8 @@ fn has_serial(serials: &SerialList, serial: &Serial) -> bool
     false
 }
 
-fn has_rm(rms: &RmList, rm: &RmName) -> bool
+/// Whether a resource manager is in a list.
+pub fn has_rm(rms: &RmList, rm: &RmName) -> bool
     ensures { result ≡ list_any (λ y. same_name y rm.now) rms.now }
 {
     for y in rms.items() {

@@ -1,7 +1,7 @@
 -- Texts that are put through a buffer, one after another.
 use Rattle.std.proofs.Common.{◌≡◌, List, [], ◌∷◌, ◌++◌, ℕ, Bool, true, false, refl, sym, ◌∙◌, ap, subst, append-nil, append_assoc}
-use Rattle.transcript_model.specs.Emitting.{Shown, Adds, Puts}
-use Rattle.transcript_model.proofs.EmittingLemmas.{puts_on, puts_nothing, puts2}
+use Rattle.emitter_model.specs.Emitting.{Shown, Adds, Puts}
+use Rattle.emitter_model.proofs.EmittingLemmas.{puts_on, puts_nothing, puts2}
 use Rattle.transcript.specs.Buffered.{Kept, Holds, Appends}
 
 -- after a failure any text is put

@@ -1,6 +1,6 @@
 -- What is put through a buffer: a text of which the end may still wait.
 use Rattle.std.specs.Prelude.{◌≡◌, List, ℕ, ◌++◌, false}
-use Rattle.transcript_model.specs.Emitting.{Shown, Puts}
+use Rattle.emitter_model.specs.Emitting.{Shown, Puts}
 
 -- what is shown, and what waits in the buffer
 pub record Kept : Type 0 where

@@ -6,11 +6,14 @@ use Rattle.vms_base.specs.Ids.{id_of, tid_of, serial_of}
 use Rattle.vms_base.specs.Keys.{key_of}
 use Rattle.vms_base.specs.Outcomes.{outcome_of, reason_of}
 use Rattle.net_wire.specs.Messages.{message_of}
+use Rattle.tm_types.specs.Parts.{rm_event_of, log_record_of}
 use Rattle.transcript_model.specs.Lines as model
 use Rattle.transcript.specs.declared.form.Cause.{Cause}
 use Rattle.transcript.specs.declared.form.Cause.TheVariants as cause
 use Rattle.transcript.specs.declared.form.Quota.{Quota}
 use Rattle.transcript.specs.declared.form.Quota.TheVariants as quota
+use Rattle.transcript.specs.declared.form.Standing.{Standing}
+use Rattle.transcript.specs.declared.form.Standing.TheVariants as standing
 use Rattle.transcript.specs.declared.form.Form.{Form}
 use Rattle.transcript.specs.declared.form.Form.TheVariants as form
 
@@ -28,6 +31,15 @@ quota_of quota.Locks = model.Locks
 quota_of quota.Positions = model.Positions
 quota_of quota.Slots = model.Slots
 quota_of quota.Bids = model.Bids
+quota_of quota.Declared = model.Declared
+quota_of quota.Managers = model.Managers
+
+abbrev pub standing_of : Standing → model.Standing
+standing_of standing.Active = model.ActiveBranch
+standing_of standing.Ending = model.EndingBranch
+standing_of standing.Prepared = model.PreparedBranch
+standing_of standing.Committed = model.CommittedBranch
+standing_of standing.Unknown = model.UnknownBranch
 
 -- the bytes of an image, where there is one
 abbrev pub image_of : Option (Bor (List ℕ)) → Option (List ℕ)
@@ -43,6 +55,7 @@ line_of (form.Prepared tid serial) = model.Prepared (tid_of tid) (serial_of seri
 line_of (form.ReadOnly tid serial) = model.ReadOnly (tid_of tid) (serial_of serial)
 line_of (form.Ended tid reason) = model.Ended (tid_of tid) (option_map reason_of reason)
 line_of (form.Forgot tid serial) = model.Forgot (tid_of tid) (serial_of serial)
+line_of (form.ManagerTold event tid serial rm) = model.ManagerTold (rm_event_of event) (tid_of tid) (serial_of serial) rm
 line_of (form.Asked tid serial outcome) = model.Asked (tid_of tid) (serial_of serial) (outcome_of outcome)
 line_of (form.Booted node boot) = model.Booted node boot
 line_of (form.Record key bytes) = model.Record (key_of key) bytes.now
@@ -53,13 +66,16 @@ line_of (form.LastAborted tid serial reason moment) = model.LastAborted (tid_of 
 line_of (form.ChangeEntry position tid serial file key image) = model.ChangeEntry position (tid_of tid) (serial_of serial) file (key_of key) (image_of image)
 line_of (form.PreparedEntry position tid serial) = model.PreparedEntry position (tid_of tid) (serial_of serial)
 line_of (form.SettledEntry position tid serial outcome moment) = model.SettledEntry position (tid_of tid) (serial_of serial) (outcome_of outcome) moment.0
+line_of (form.LogEntry slot rec) = model.LogEntry slot (log_record_of rec.now)
 line_of (form.Down node cause) = model.Down node (cause_of cause)
 line_of (form.Crashed node) = model.Crashed node
 line_of form.Normal = model.Normal
 line_of (form.NormalCount n) = model.NormalCount n
 line_of (form.NormalId id) = model.NormalId (id_of id)
 line_of (form.NormalSpan first end) = model.NormalSpan first end
-line_of (form.Pending serials) = model.Pending (map serial_of serials.now)
+line_of (form.NormalStanding standing) = model.NormalStanding (standing_of standing)
+line_of (form.NormalLog committed prepared free) = model.NormalLog committed prepared free
+line_of (form.Pending serials rms) = model.Pending (map serial_of serials.now) rms.now
 line_of (form.TransactionAborted reason) = model.TransactionAborted (reason_of reason)
 line_of form.RecordNormal = model.RecordNormal
 line_of (form.RecordPosition position) = model.RecordPosition position
@@ -81,6 +97,7 @@ line_of form.BadRecordNumber = model.BadRecordNumber
 line_of form.BadRecordSize = model.BadRecordSize
 line_of form.NoSuchTransaction = model.NoSuchTransaction
 line_of form.NoSuchBranchId = model.NoSuchBranchId
+line_of form.NoSuchManager = model.NoSuchManager
 line_of form.WrongState = model.WrongState
 line_of (form.InDoubt serial node) = model.InDoubt (serial_of serial) node
 line_of form.NotMarked = model.NotMarked

@@ -36,7 +36,7 @@ fn kind_text(kind: Kind) -> &'static [u8]
 
 impl<'a, K: Sink> SinkEmit<'a, K> {
     // A transaction, and a branch of it.
-    fn put_branch(&mut self, tid: &Tid, serial: &Serial)
+    pub(crate) fn put_branch(&mut self, tid: &Tid, serial: &Serial)
         ensures same_sink { self.new.sink.ghost_name ≡ self.old.sink.ghost_name }
         ensures number { self.new.number ≡ self.old.number }
         ensures appends { Appends (kept_by K.shown K.faults self.old) (branch_text (tid_of tid.now) (serial_of serial.now)) (kept_by K.shown K.faults self.new) }
@@ -161,7 +161,7 @@ impl<'a, K: Sink> SinkEmit<'a, K> {
     }
 
     // Serials, each with a comma before it.
-    fn put_serials_behind(&mut self, serials: &[Serial])
+    pub(crate) fn put_serials_behind(&mut self, serials: &[Serial])
         ensures same_sink { self.new.sink.ghost_name ≡ self.old.sink.ghost_name }
         ensures number { self.new.number ≡ self.old.number }
         ensures appends { Appends (kept_by K.shown K.faults self.old) (flat_map (λ serial. 44 ∷ id_text (serial_of serial)) serials.now) (kept_by K.shown K.faults self.new) }
@@ -173,7 +173,7 @@ impl<'a, K: Sink> SinkEmit<'a, K> {
     }
 
     // Serials with commas between them, or a dash where there is none.
-    fn put_serials(&mut self, serials: &[Serial])
+    pub(crate) fn put_serials(&mut self, serials: &[Serial])
         ensures same_sink { self.new.sink.ghost_name ≡ self.old.sink.ghost_name }
         ensures number { self.new.number ≡ self.old.number }
         ensures appends { Appends (kept_by K.shown K.faults self.old) (ids_text (map serial_of serials.now)) (kept_by K.shown K.faults self.new) }
@@ -185,15 +185,6 @@ impl<'a, K: Sink> SinkEmit<'a, K> {
             }
             [] => self.put(b"-"),
         }
-    }
-
-    pub(crate) fn put_pending(&mut self, serials: &[Serial])
-        ensures same_sink { self.new.sink.ghost_name ≡ self.old.sink.ghost_name }
-        ensures number { self.new.number ≡ self.old.number }
-        ensures appends { Appends (kept_by K.shown K.faults self.old) (line_words (model.Pending (map serial_of serials.now))) (kept_by K.shown K.faults self.new) }
-    {
-        self.put(b"PENDING ");
-        self.put_serials(serials);
     }
 
     pub(crate) fn put_in_doubt(&mut self, serial: &Serial, node: &NodeName)

@@ -11,7 +11,7 @@ ghost use Rattle.vms_base.specs.Keys.{key_of};
 ghost use Rattle.vms_base.specs.Outcomes.{outcome_of, reason_of};
 ghost use Rattle.transcript_model.specs.Lines as model;
 ghost use Rattle.transcript_model.specs.Lines.{line_words, quoted_time, cause_text, quota_text, image_text, outcome_text, usage_text};
-ghost use Rattle.transcript_model.specs.Emitting.{Puts, Emits, EmittingComposes, Shown, Since};
+ghost use Rattle.emitter_model.specs.Emitting.{Puts, Emits, EmittingComposes, Shown, Since};
 ghost use Rattle.transcript.specs.Writes.{Writes};
 ghost use Rattle.transcript.specs.Buffered.{Appends};
 ghost use Rattle.transcript.specs.Emitters.{shown_by, kept_by};
@@ -78,7 +78,7 @@ impl<'a, K: Sink> SinkEmit<'a, K> {
     /// At line 0, before any write, with a buffer that is there.
     pub fn over(sink: &'a mut K, buffer: LineBuffer) -> SinkEmit<'a, K>
         ensures same_sink { result.sink.ghost_name ≡ sink.entry.ghost_name }
-        ensures now { shown_by K.shown K.faults result ≡ record { number = 0; text = K.shown sink.old; faults = K.faults sink.old; failed = false } }
+        ensures now { shown_by K.shown K.faults result ≡ record { number = 0; text = K.shown sink.old; faults = K.faults sink.old; failed = false; tally = None } }
     {
         SinkEmit {
             sink,
@@ -91,7 +91,7 @@ impl<'a, K: Sink> SinkEmit<'a, K> {
     /// At line 0, before any write.
     pub fn new(alloc: Global, sink: &'a mut K) -> Result<SinkEmit<'a, K>, AllocError>
         ensures same_sink { IfOk result (λ e. e.sink.ghost_name ≡ sink.entry.ghost_name) }
-        ensures now { IfOk result (λ e. shown_by K.shown K.faults e ≡ record { number = 0; text = K.shown sink.old; faults = K.faults sink.old; failed = false }) }
+        ensures now { IfOk result (λ e. shown_by K.shown K.faults e ≡ record { number = 0; text = K.shown sink.old; faults = K.faults sink.old; failed = false; tally = None }) }
     {
         let buffer = Vec::with_capacity(alloc, BUFFER_BYTES)?;
         Ok(SinkEmit {
@@ -138,6 +138,30 @@ impl<'a, K: Sink> SinkEmit<'a, K> {
     {
         self.buffer.clear();
         self.put(b"usage: dtm RUN NODE=IMAGE ... or dtm MAKE n start\n");
+        self.flush();
+    }
+
+    /// Writes a line without a number: these words, and a count behind them.
+    pub fn count(&mut self, words: &[u8], n: u64)
+        ensures same_sink { self.new.sink.ghost_name ≡ self.old.sink.ghost_name }
+        ensures puts { Puts (shown_by K.shown K.faults self.old) (words.now ++ (decimal n ++ (10 ∷ []))) (shown_by K.shown K.faults self.new) }
+    {
+        self.buffer.clear();
+        self.put(words);
+        self.put_number(n);
+        self.put(b"\n");
+        self.flush();
+    }
+
+    /// Writes what a line shows without a number. A moment in it is at most 31-DEC-9999 23:59:59.99.
+    pub fn alone(&mut self, form: &Form<'_>)
+        requires { HasTime form.now }
+        ensures same_sink { self.new.sink.ghost_name ≡ self.old.sink.ghost_name }
+        ensures puts { Puts (shown_by K.shown K.faults self.old) (line_words (line_of form.now) ++ (10 ∷ [])) (shown_by K.shown K.faults self.new) }
+    {
+        self.buffer.clear();
+        self.put_words(form);
+        self.put(b"\n");
         self.flush();
     }
 
@@ -281,6 +305,8 @@ impl<'a, K: Sink> SinkEmit<'a, K> {
             Quota::Positions => self.put(b"POSITIONS"),
             Quota::Slots => self.put(b"SLOTS"),
             Quota::Bids => self.put(b"BIDS"),
+            Quota::Declared => self.put(b"DECLARED"),
+            Quota::Managers => self.put(b"RMS"),
         }
     }
 
@@ -581,6 +607,9 @@ impl<'a, K: Sink> SinkEmit<'a, K> {
             Form::ReadOnly(tid, serial) => self.put_with_branch(b"READONLY ", tid, serial),
             Form::Ended(tid, reason) => self.put_ended(tid, *reason),
             Form::Forgot(tid, serial) => self.put_with_branch(b"FORGOT ", tid, serial),
+            Form::ManagerTold(event, tid, serial, rm) => {
+                self.put_manager_told(*event, tid, serial, rm);
+            }
             Form::Asked(tid, serial, outcome) => self.put_asked(tid, serial, *outcome),
             Form::Booted(node, boot) => self.put_booted(node, *boot),
             Form::Record(key, record) => self.put_record(key, record),
@@ -603,13 +632,18 @@ impl<'a, K: Sink> SinkEmit<'a, K> {
             Form::SettledEntry(position, tid, serial, outcome, moment) => {
                 self.put_settled_entry(*position, tid, serial, *outcome, *moment);
             }
+            Form::LogEntry(slot, rec) => self.put_log_entry(*slot, rec),
             Form::Down(node, cause) => self.put_down(node, *cause),
             Form::Crashed(node) => self.put_crashed(node),
             Form::Normal => self.put(b"SS$_NORMAL"),
             Form::NormalCount(n) => self.put_with_number(b"SS$_NORMAL ", *n),
             Form::NormalId(id) => self.put_with_id(b"SS$_NORMAL ", id),
             Form::NormalSpan(first, end) => self.put_with_numbers(b"SS$_NORMAL ", *first, *end),
-            Form::Pending(serials) => self.put_pending(serials),
+            Form::NormalStanding(standing) => self.put_standing(*standing),
+            Form::NormalLog(committed, prepared, free) => {
+                self.put_log_counts(*committed, *prepared, *free);
+            }
+            Form::Pending(serials, rms) => self.put_pending(serials, rms),
             Form::TransactionAborted(reason) => self.put_transaction_aborted(*reason),
             Form::RecordNormal => self.put(b"RMS$_NORMAL"),
             Form::RecordPosition(position) => self.put_position(*position),
@@ -631,6 +665,7 @@ impl<'a, K: Sink> SinkEmit<'a, K> {
             Form::BadRecordSize => self.put(b"RMS$_RSZ"),
             Form::NoSuchTransaction => self.put(b"SS$_NOSUCHTID"),
             Form::NoSuchBranchId => self.put(b"SS$_NOSUCHBID"),
+            Form::NoSuchManager => self.put(b"SS$_NOSUCHRM"),
             Form::WrongState => self.put(b"SS$_WRONGSTATE"),
             Form::InDoubt(serial, node) => self.put_in_doubt(serial, node),
             Form::NotMarked => self.put(b"NOTRU"),

@@ -1,6 +1,9 @@
 //! What the lines of a transcript show.
 use net_wire::Message;
-use vms_base::{FileName, Id, Key, Moment, NodeName, Outcome, Reason, Record, Serial, Tid};
+use vms_base::{
+    FileName, Id, Key, LogRec, Moment, NodeName, Outcome, Reason, Record, RmEvent, RmName, Serial,
+    Tid,
+};
 
 /// Why a node went down in a statement that its disk did not serve.
 #[derive(Clone, Copy, Debug, PartialEq, Eq)]
@@ -32,6 +35,22 @@ pub enum Quota {
     Slots,
     /// Branches that a transaction may have besides its first.
     Bids,
+    /// Resource managers that are declared at a node.
+    Declared,
+    /// Resource managers that join a branch.
+    Managers,
+}
+
+/// What a node knows of a branch.
+#[derive(Clone, Copy, Debug, PartialEq, Eq)]
+pub enum Standing {
+    Active,
+    /// Its END_TRANS was called, or its coordinator asked for its vote.
+    Ending,
+    Prepared,
+    /// It is settled, and its committed record stands.
+    Committed,
+    Unknown,
 }
 
 /// What one line shows: an event, or the answer of a statement.
@@ -52,6 +71,8 @@ pub enum Form<'a> {
     Ended(Tid, Option<Reason>),
     /// All who had to hear of a commit have.
     Forgot(Tid, Serial),
+    /// A resource manager of a branch is told this.
+    ManagerTold(RmEvent, Tid, Serial, RmName),
     /// A prepared branch has asked, and was told this.
     Asked(Tid, Serial, Outcome),
     /// A node came up in a settling, by this boot.
@@ -69,6 +90,8 @@ pub enum Form<'a> {
     PreparedEntry(u64, Tid, Serial),
     /// An entry by which a branch was settled.
     SettledEntry(u64, Tid, Serial, Outcome, Moment),
+    /// A record of the transaction log, with the number of its slot.
+    LogEntry(u32, &'a LogRec),
     Down(NodeName, Cause),
     Crashed(NodeName),
     Normal,
@@ -76,8 +99,12 @@ pub enum Form<'a> {
     NormalId(Id),
     /// The positions at which a journal begins and ends.
     NormalSpan(u64, u64),
-    /// The branches whose answers are missing.
-    Pending(&'a [Serial]),
+    /// How a branch stands.
+    NormalStanding(Standing),
+    /// The committed and the prepared records of the transaction log, and its free slots.
+    NormalLog(u32, u32, u32),
+    /// The branches whose answers are missing, and the resource managers whose replies are.
+    Pending(&'a [Serial], &'a [RmName]),
     TransactionAborted(Reason),
     RecordNormal,
     /// The position at which a record was put.
@@ -102,6 +129,7 @@ pub enum Form<'a> {
     BadRecordSize,
     NoSuchTransaction,
     NoSuchBranchId,
+    NoSuchManager,
     WrongState,
     /// A prepared branch whose coordinator's node is not in the rack.
     InDoubt(Serial, NodeName),

@@ -44,7 +44,9 @@ impl Model for CutRoom {
 
 impl CutRoom {
     /// Room for as many records as a unit may change.
-    pub fn reserve(alloc: Global) -> Result<CutRoom, AllocError> {
+    pub fn reserve(alloc: Global) -> Result<CutRoom, AllocError>
+        ensures { IfOk result (λ r. r ≡ record { positions = []; places = [] }) }
+    {
         Ok(CutRoom {
             positions: Vec::with_capacity(alloc, MOST_CHANGES)?,
             places: Vec::with_capacity(alloc, MOST_CHANGES)?,

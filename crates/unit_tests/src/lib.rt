@@ -2,6 +2,8 @@
 #![tactic(auto)]
 
 #[cfg(test)]
+mod participants_tests;
+#[cfg(test)]
 mod ru_journal_tests;
 #[cfg(test)]
 mod tm_table_tests;

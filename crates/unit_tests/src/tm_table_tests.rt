@@ -198,6 +198,7 @@ fn named(effect: &Effect) -> (&'static str, NodeName) {
         Effect::Send(m) => (kind_name(m.kind), m.from),
         Effect::Tell {
             event,
+            tid: _,
             serial,
             rm: _,
         } => (event_name(*event), serial.0.node),

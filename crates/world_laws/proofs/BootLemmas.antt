@@ -186,7 +186,7 @@ module _ (m : Node) (l : IsLogInOrder m) (ps : List LogRecord) (o : IsReordered 
   rs = records_in m.durable.log
 
   abbrev pub up : Node
-  up = record m { volatile = record { drawn = 0; branches = branches_of ps; records = committed_of rs; preparation = order; locks = locks } }
+  up = record m { volatile = record { drawn = 0; branches = branches_of ps; records = committed_of rs; preparation = order; locks = locks; declared = [] } }
 
   within : (r : LogRecord) → In r ps → PreparedWithin r
   within r i = l.prepared_within r (o.there r i)

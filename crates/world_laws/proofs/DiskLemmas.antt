@@ -20,7 +20,7 @@ use Rattle.unit_laws.proofs.NoteLemmas.{unchanged_has_notes}
 use Rattle.commit_protocol.specs.Table as table
 use Rattle.commit_protocol.specs.Table.{Prepares, Undoes}
 use Rattle.run_model.specs.Locks.{is_locked}
-use Rattle.run_model.specs.World.{File, Settlement, Durable, Volatile, Act, Formats, Boots, ComesUp, Creates, Marks, Draws, Labels, Numbers, Tables, Changes, Holds, Directs, Arms, Clocks, Falls, FollowOneAnother, IsHalfUndone, OneMovesEndOf, Sequential, changed_file, directly_changed, durable_after, find_file, free_place, half_undone, settled_file, settlement, with_file, with_half, with_settlement}
+use Rattle.run_model.specs.World.{File, Settlement, Durable, Volatile, Act, Formats, Boots, ComesUp, Creates, Marks, Draws, Labels, Numbers, Tables, Changes, Holds, Directs, Arms, Clocks, Declares, Falls, FollowOneAnother, IsHalfUndone, OneMovesEndOf, Sequential, changed_file, directly_changed, durable_after, find_file, free_place, half_undone, settled_file, settlement, with_file, with_half, with_settlement}
 use Rattle.log_laws.specs.Slots.{Slots}
 use Rattle.world_laws.specs.Restarts.{AllNoted, CanRestart, HasNoName, MayChange, MayDirect, NamesDiffer}
 use Rattle.world_laws.specs.Running.{IsUnnoted}
@@ -223,6 +223,7 @@ disk_acted (Numbers label serial) name v d safe h = h
 disk_acted (Holds serial file keys) name v d safe h = h
 disk_acted (Arms writes choice) name v d safe h = h
 disk_acted (Clocks now) name v d safe h = h
+disk_acted (Declares rms) name v d safe h = h
 disk_acted Falls name v d safe h = h
 
 -- an abort is done in part

@@ -10,7 +10,7 @@ use Rattle.commit_protocol.specs.Messages.{LogRecord}
 use Rattle.commit_protocol.specs.Table as table
 use Rattle.log_laws.specs.Slots.{prepared_of, committed_of, records_in}
 use Rattle.run_model.specs.Locks.{Lock}
-use Rattle.run_model.specs.World.{Act, Arms, Boots, Changes, Clocks, ComesUp, Creates, Directs, Draws, Durable, Falls, Formats, Holds, IsLogInOrder, Labels, Marks, MayTurnOut, Node, Numbers, Outturn, Shared, Tables, Unknown, acted, durable_after, made_volume, powered, prepared_left, relocked, relocked_by, shared_after, shared_tabled, unpowered, IsOfTransaction, without_units, IsReached}
+use Rattle.run_model.specs.World.{Act, Arms, Boots, Changes, Clocks, ComesUp, Creates, Declares, Directs, Draws, Durable, Falls, Formats, Holds, IsLogInOrder, Labels, Marks, MayTurnOut, Node, Numbers, Outturn, Shared, Tables, Unknown, acted, durable_after, made_volume, powered, prepared_left, relocked, relocked_by, shared_after, shared_tabled, unpowered, IsOfTransaction, without_units, IsReached}
 use Rattle.run_model.specs.Answers.{Row, Service, Unused, Powered, MadeAnew, boot_rows, lock_limit, occupies, plain, powers, silent, spoils, refused_before_reading}
 use Rattle.run_model.specs.Operations.{refused_if}
 use Rattle.run_model.specs.Steps.{Choice, Cut, Unpowered, Whole, WithoutMemory, ServiceAllowed, act_begun, begun, cut, node_after, node_after_rows, occupied, ready_node, rows_if, rows_to_cut, service_effect, shared_after_rows, shared_then, spoilt, succeeded, whole}
@@ -57,6 +57,7 @@ acted_use (Holds serial file keys) s = refl
 acted_use (Directs file changes settlement) s = refl
 acted_use (Arms writes choice) s = refl
 acted_use (Clocks now) s = refl
+acted_use (Declares rms) s = refl
 acted_use Falls s = refl
 
 then_use : (o : Option Act) (s : Shared) → (shared_then o s).in_use ≡ s.in_use

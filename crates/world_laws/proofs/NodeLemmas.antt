@@ -9,7 +9,7 @@ use Rattle.unit_laws.specs.Units.{Map, moves_end, IsImage}
 use Rattle.commit_protocol.specs.Messages.{LogRecord}
 use Rattle.commit_protocol.specs.World.{In}
 use Rattle.log_laws.specs.Slots.{prepared_of, records_in}
-use Rattle.run_model.specs.World.{Act, Boots, ComesUp, Changes, Creates, Directs, File, Formats, Half, IsHalfUndone, IsLogInOrder, Lost, Marks, MayTurnOut, Node, Outturn, Shared, Tables, Taken, aborted_prepared, acted, durable_after, fallen, find_file, half_undone, is_durable, powered, with_half, Numbers, leaving, Labels, Clocks, Falls, Draws, Holds, Arms}
+use Rattle.run_model.specs.World.{Act, Boots, ComesUp, Changes, Creates, Directs, File, Formats, Half, IsHalfUndone, IsLogInOrder, Lost, Marks, MayTurnOut, Node, Outturn, Shared, Tables, Taken, aborted_prepared, acted, durable_after, fallen, find_file, half_undone, is_durable, powered, with_half, Numbers, leaving, Labels, Clocks, Declares, Falls, Draws, Holds, Arms}
 use Rattle.run_model.specs.Answers.{Row}
 use Rattle.run_model.specs.Steps.{act_begun, if_durable, node_after, node_after_rows}
 use Rattle.world_laws.proofs.DiskLemmas.{half_filed, place_of}
@@ -77,6 +77,7 @@ acted_disk (Numbers label serial) n e = let none : ⊥ = cc in absurd none
 acted_disk (Holds serial file keys) n e = let none : ⊥ = cc in absurd none
 acted_disk (Arms writes choice) n e = let none : ⊥ = cc in absurd none
 acted_disk (Clocks now) n e = let none : ⊥ = cc in absurd none
+acted_disk (Declares rms) n e = let none : ⊥ = cc in absurd none
 acted_disk Falls n e = let none : ⊥ = cc in absurd none
 
 pub acted_name : (act : Act) (n : Node) → (acted act n).name ≡ n.name
@@ -99,6 +100,7 @@ acted_up (Numbers label serial) n e = refl
 acted_up (Holds serial file keys) n e = refl
 acted_up (Arms writes choice) n e = refl
 acted_up (Clocks now) n e = refl
+acted_up (Declares rms) n e = refl
 acted_up Falls n e = let none : ⊥ = cc in absurd none
 
 -- what may be under way behind some rows

@@ -1,27 +1,29 @@
 -- What holds of a node in every world is kept by each task, at each choice.
-use Rattle.std.proofs.Common.{◌≡◌, ◌≤◌, ◌<◌, ℕ, List, [], ◌∷◌, length, Bool, true, false, not, ◌||◌, Option, Some, None, if◌then◌else◌, refl, sym, ◌∙◌, ap, subst, arith, inl, inr}
+use Rattle.std.proofs.Common.{◌≡◌, ◌≤◌, ◌<◌, ℕ, List, [], ◌∷◌, length, map, Bool, true, false, not, ◌||◌, Option, Some, None, if◌then◌else◌, refl, sym, ◌∙◌, ap, subst, arith, inl, inr}
 use Rattle.std.specs.Prelude.{nat_le, nat_lt}
 use Rattle.std.specs.Option.{option_and_then, option_map}
 use Rattle.std.proofs.lemmas.Bool.{and_from, and_parts, both_ways, leb-false, ltb-false, leb-true}
 use Rattle.vms_model.specs.Ids.{Id}
 use Rattle.transcript_model.specs.Lines as line
 use Rattle.transcript_model.specs.Lines.{Line, Cause}
-use Rattle.script_model.specs.Statements.{Request, Init, Boot, Create, SetFile, StartTrans, AddBranch, StartBranch, Records, Direct, EndBranch, EndTrans, AbortTrans, Inquire, Dump, DumpJournal, Fuse, Crash, Clock, Named, ByLabel, BySerial, Operation}
+use Rattle.script_model.specs.Statements.{Request, Init, Boot, Create, SetFile, StartTrans, AddBranch, StartBranch, Records, Direct, EndBranch, EndTrans, AbortTrans, Inquire, DeclareRm, JoinRm, AckEvent, ForgetRm, GetDti, LmcpShow, LmcpDump, Dump, DumpJournal, Fuse, Crash, Clock, Named, ByLabel, BySerial, Operation}
 use Rattle.records_model.specs.History.{same_id}
-use Rattle.commit_protocol.specs.Messages.{Join}
+use Rattle.commit_protocol.specs.Messages.{Join, Name, Reply}
 use Rattle.commit_protocol.specs.Table as table
 use Rattle.commit_protocol.specs.Table.{Branch, Key as BranchKey, Active, Joining, Notes, branch_serials, find, find_serial, first, is_first, same_key}
 use Rattle.commit_protocol.specs.Rows as rows
 use Rattle.commit_protocol.specs.Rows.{Event, blank, row}
-use Rattle.commit_protocol.specs.Allowed.{allowed, is_active, is_prepared, is_working, may_authorise, may_end, there_is}
+use Rattle.commit_protocol.specs.Allowed.{allowed, is_active, is_prepared, is_working, may_authorise, may_end, may_join, there_is}
 use Rattle.commit_protocol.specs.Standing.{BeginsNothing}
 use Rattle.commit_protocol.specs.Agreement.{Distinct}
 use Rattle.commit_protocol.specs.World.{In}
 use Rattle.commit_protocol.proofs.Lists.{find-key, find_serial-key, find_serial-serial, told_id, told_key, same_key-true}
-use Rattle.run_model.specs.World.{Arms, Clocks, Draws, Falls, Label, Labels, Node, Numbers, Shared, acted, find_branch, labelled, next_id, serial_labelled, tm_of, next_moment}
+use Rattle.log_laws.specs.Slots.{slot_records}
+use Rattle.run_model.specs.World.{Arms, Clocks, Declares, Draws, Falls, Label, Labels, Node, Numbers, Shared, acted, find_branch, labelled, next_id, serial_labelled, tm_of, next_moment}
 use Rattle.run_model.specs.Operations.{data_refused, first_of, form_refused, keys_asked, keys_held, refused_if}
-use Rattle.run_model.specs.Answers.{Row, Service, Task, Serves, Ticks, Takes, Hears, LosesLink, RunsDown, Restarts, all_shared, adds, begins, bid_limit, branch_labelled, branch_named, directed, found_refused, in_state, is_first_active, is_for_units, is_in_doubt, is_marked, is_open, is_volume_form, just, keys_refused, made_label, made_name, more_bids, more_branches, more_locks, needs_unit, new_file, of_file, operated, operation_refused, refused_before_reading, records_of, entry_lines, service, starts, task_service, there_is_file, to_branch, told_if, told_rows, unsettled, unsettled_label, direct_refused, changes_at, due_after, Telling}
+use Rattle.run_model.specs.Answers.{Row, Service, Task, Serves, Ticks, Takes, Hears, LosesLink, RunsDown, Restarts, all_shared, adds, begins, bid_limit, branch_labelled, branch_named, directed, found_refused, in_state, is_first_active, is_for_units, is_in_doubt, is_marked, is_open, is_volume_form, just, keys_refused, made_label, made_name, more_bids, more_branches, more_locks, needs_unit, new_file, of_file, operated, operation_refused, refused_before_reading, records_of, entry_lines, service, starts, task_service, there_is_file, to_branch, told_if, told_rows, unsettled, unsettled_label, direct_refused, changes_at, due_after, Telling, awaited_reply, declared_manager, has_joined, is_declared, is_joinable, known, known_branch, known_manager, known_serial, log_line, manager_limit, more_managers, serial_named, Known, Unheard}
 use Rattle.run_model.specs.Steps.{Choice, TaskAllowed, task_effect}
+use Rattle.run_model.proofs.ReplyLemmas.{is_so, reply_is_allowed}
 use Rattle.world_laws.specs.Nodes.{IsKeptNode, IsRoomy, IsUp}
 use Rattle.world_laws.proofs.AnswerLemmas.{neither, not_refused}
 use Rattle.world_laws.proofs.EffectLemmas.{boot_effect, init_effect, same_kept, up_effect, quiet_effect}
@@ -30,7 +32,7 @@ use Rattle.world_laws.proofs.OperationLemmas.{direct_keeps, operation_keeps}
 use Rattle.world_laws.proofs.RowLemmas.{tabled_up}
 use Rattle.world_laws.proofs.ServedLemmas.{RowsKeep, absent_next, begin_keeps, create_keeps, event_keeps, file_says, mark_keeps, nothing_done, roomy, shown_keeps, there_is as there_is_one}
 use Rattle.world_laws.proofs.TableLemmas.{found_in, one_branch}
-use Rattle.world_laws.proofs.UpLemmas.{differ, drew_up, same_up}
+use Rattle.world_laws.proofs.UpLemmas.{declared_up, differ, drew_up, same_up}
 use Rattle.vms_model.specs.Transactions.{Aborted}
 
 -- Finding branches.
@@ -81,11 +83,7 @@ labelled_in s n label b e = go (serial_labelled n.name label s.labels) e
 
 -- a state that nothing refuses
 pub holds_it : (test : Branch → Bool) (o : Option Branch) (b : Branch) → in_state test o ≡ None → o ≡ Some b → test b ≡ true
-holds_it test (Some c) b e f = go (test b) (subst (λ (x : Branch). refused_if (not (test x)) line.WrongState ≡ None) (some_is c b f) e)
-  where
-    go : (t : Bool) → refused_if (not t) line.WrongState ≡ None → t ≡ true
-    go true k = refl
-    go false k = let none : ⊥ = cc in absurd none
+holds_it test (Some c) b e f = is_so (test b) line.WrongState (subst (λ (x : Branch). refused_if (not (test x)) line.WrongState ≡ None) (some_is c b f) e)
 holds_it test None b e f = let none : ⊥ = cc in absurd none
 
 first_key : (b : Branch) → is_first b ≡ true → b.key ≡ first b.key.tid
@@ -200,6 +198,34 @@ module _ (s : Shared) (stops : ℕ) (n : Node) (h : IsKeptNode s n) where
           let k = h.runs up in
           told_keeps (rows.InquireBranch b.key.serial) s n tt (ap (λ o. there_is o (λ b. is_prepared b.state)) (serial_found s n k.0 k.1 b (there who b e)) ∙ holds_it is_in_doubt (branch_named s n who) b state e) k.0 k.1
 
+  -- these managers are declared from then on
+  declare_keeps : (rms : List Name) (lines : List Line) → n.up ≡ true → RowsKeep (record { act = Some (Declares rms); lines = lines } ∷ []) n
+  declare_keeps rms lines up = let k = h.runs up in record { up = (k.0, declared_up rms n k.0); room = k.1 }
+
+  join_keeps : (label : List ℕ) (rm : Name) → n.up ≡ true → (service (JoinRm label rm)).refused_before_reading s n ≡ None → option_and_then more_managers (branch_labelled s n label) ≡ None →
+      RowsKeep (to_branch s n label (λ b. told_rows s n (just (rows.JoinRm b.key.serial rm)))) n
+  join_keeps label rm up passes few =
+      let k = h.runs up in
+      let state = (neither (declared_manager n rm) _ (neither (unsettled_label s n label) _ (neither (made_label s n label) _ passes).1).1).1 in
+      branch_keeps s n k.0 k.1 label (λ b. told_rows s n (just (rows.JoinRm b.key.serial rm))) (λ b e i named.
+      let joinable = and_parts (is_working b) (not (has_joined rm b)) (holds_it (is_joinable rm) (branch_labelled s n label) b state e) in
+      let none_more : more_managers b ≡ None = subst (λ o. option_and_then more_managers o ≡ None) e few in
+      let less = leb-false manager_limit (length b.managers) (not_refused (nat_le manager_limit (length b.managers)) (line.QuotaExceeded line.Managers manager_limit) none_more) in
+      let may : may_join rm b ≡ true = and_from _ _ (and_from (is_working b) (nat_lt (length b.managers) 8) joinable.0 (below (length b.managers) 8 less)) joinable.1 in
+      told_keeps (rows.JoinRm b.key.serial rm) s n tt (ap (λ o. there_is o (may_join rm)) (serial_found s n k.0 k.1 b i) ∙ may) k.0 k.1)
+
+  reply_keeps : (who : Named) (rm : Name) (reply : Reply) → n.up ≡ true → (service (AckEvent who rm reply)).refused_before_reading s n ≡ None →
+      RowsKeep (told_if s n (option_map (λ serial. just (rows.Replied serial rm reply)) (serial_named s n who))) n
+  reply_keeps who rm reply up passes =
+      let behind_branch = neither (known_branch (known s n who)) _ (neither (made_name s n who) _ passes).1 in
+      let behind_manager = neither (known_manager rm (known s n who)) _ (neither (declared_manager n rm) _ behind_branch.1).1 in
+      go (serial_named s n who) behind_branch.0 behind_manager.0 behind_manager.1
+    where
+      go : (o : Option Id) → known_branch (elim o [ Some serial ↦ known_serial n serial | None ↦ Unheard ]) ≡ None → known_manager rm (elim o [ Some serial ↦ known_serial n serial | None ↦ Unheard ]) ≡ None →
+          awaited_reply rm reply (elim o [ Some serial ↦ known_serial n serial | None ↦ Unheard ]) ≡ None → RowsKeep (told_if s n (option_map (λ serial. just (rows.Replied serial rm reply)) o)) n
+      go (Some serial) x y z = let k = h.runs up in told_keeps (rows.Replied serial rm reply) s n tt (reply_is_allowed n serial rm reply x y z) k.0 k.1
+      go None x y z = let k = h.runs up in nothing_done n k.0 k.1
+
   start_branch : (label : List ℕ) → n.up ≡ true → more_branches n ≡ None → RowsKeep (told_if s n (option_and_then (begins n) (labelled n.name label s.labels))) n
   start_branch label up few = go (labelled n.name label s.labels)
     where
@@ -253,6 +279,16 @@ module _ (s : Shared) (stops : ℕ) (n : Node) (h : IsKeptNode s n) where
       told_keeps (rows.AbortBranch b.key.serial Aborted) s n tt (ap (λ o. there_is o (λ b. not (is_prepared b.state))) (serial_found s n k.0 k.1 b i) ∙ holds_it is_open (branch_labelled s n label) b state e) k.0 k.1)
   request_rows (Inquire who) up r q =
       inquire_keeps who up (passed (service (Inquire who)) r)
+  request_rows (DeclareRm rm) up r q = declare_keeps _ _ up
+  request_rows (JoinRm label rm) up r q = join_keeps label rm up (passed (service (JoinRm label rm)) r) q
+  request_rows (AckEvent who rm reply) up r q = reply_keeps who rm reply up (passed (service (AckEvent who rm reply)) r)
+  request_rows (ForgetRm rm) up r q = declare_keeps _ _ up
+  request_rows (GetDti who) up r q =
+      let k = h.runs up in nothing_done n k.0 k.1
+  request_rows LmcpShow up r q =
+      let k = h.runs up in nothing_done n k.0 k.1
+  request_rows LmcpDump up r q =
+      let k = h.runs up in shown_keeps (λ l. l ∷ []) (map log_line (slot_records 0 n.durable.log)) n k.0 k.1
   request_rows (Dump file) up r q =
       let k = h.runs up in shown_keeps (λ e. line.Record e.0 e.1 ∷ []) (records_of n file) n k.0 k.1
   request_rows DumpJournal up r q =
@@ -265,11 +301,7 @@ module _ (s : Shared) (stops : ℕ) (n : Node) (h : IsKeptNode s n) where
       (λ e. bounds (neither (refused_if s.in_use line.VolumeInUse) _ e).1) (λ e. not_refused s.in_use line.VolumeInUse (neither (refused_if s.in_use line.VolumeInUse) _ e).0) c rises a
     where
       form : refused_if (not (is_volume_form slots journal n)) line.BadParameter ≡ None → is_volume_form slots journal n ≡ true
-      form e = go (is_volume_form slots journal n) e
-        where
-          go : (b : Bool) → refused_if (not b) line.BadParameter ≡ None → b ≡ true
-          go true k = refl
-          go false k = let none : ⊥ = cc in absurd none
+      form e = is_so (is_volume_form slots journal n) line.BadParameter e
 
       at_most : (a b : ℕ) → nat_le a b ≡ true → a ≤ b
       at_most a b e = leb-true a b e
@@ -293,6 +325,13 @@ module _ (s : Shared) (stops : ℕ) (n : Node) (h : IsKeptNode s n) where
   request_kept (EndTrans label) c rises a = up_effect (service (EndTrans label)) refl refl refl s stops n h (λ up r q. request_rows (EndTrans label) up r q) c rises a
   request_kept (AbortTrans label) c rises a = up_effect (service (AbortTrans label)) refl refl refl s stops n h (λ up r q. request_rows (AbortTrans label) up r q) c rises a
   request_kept (Inquire who) c rises a = up_effect (service (Inquire who)) refl refl refl s stops n h (λ up r q. request_rows (Inquire who) up r q) c rises a
+  request_kept (DeclareRm rm) c rises a = up_effect (service (DeclareRm rm)) refl refl refl s stops n h (λ up r q. request_rows (DeclareRm rm) up r q) c rises a
+  request_kept (JoinRm label rm) c rises a = up_effect (service (JoinRm label rm)) refl refl refl s stops n h (λ up r q. request_rows (JoinRm label rm) up r q) c rises a
+  request_kept (AckEvent who rm reply) c rises a = up_effect (service (AckEvent who rm reply)) refl refl refl s stops n h (λ up r q. request_rows (AckEvent who rm reply) up r q) c rises a
+  request_kept (ForgetRm rm) c rises a = up_effect (service (ForgetRm rm)) refl refl refl s stops n h (λ up r q. request_rows (ForgetRm rm) up r q) c rises a
+  request_kept (GetDti who) c rises a = up_effect (service (GetDti who)) refl refl refl s stops n h (λ up r q. request_rows (GetDti who) up r q) c rises a
+  request_kept LmcpShow c rises a = up_effect (service LmcpShow) refl refl refl s stops n h (λ up r q. request_rows LmcpShow up r q) c rises a
+  request_kept LmcpDump c rises a = up_effect (service LmcpDump) refl refl refl s stops n h (λ up r q. request_rows LmcpDump up r q) c rises a
   request_kept (Dump file) c rises a = up_effect (service (Dump file)) refl refl refl s stops n h (λ up r q. request_rows (Dump file) up r q) c rises a
   request_kept DumpJournal c rises a = up_effect (service DumpJournal) refl refl refl s stops n h (λ up r q. request_rows DumpJournal up r q) c rises a
   request_kept Crash c rises a = up_effect (service Crash) refl refl refl s stops n h (λ up r q. request_rows Crash up r q) c rises a

@@ -8,7 +8,7 @@ use Rattle.records_model.specs.History.{LiveChanges, same_id, changes_by, settle
 use Rattle.unit_laws.specs.Units.{moves_end}
 use Rattle.unit_laws.specs.Journal.{RecoveryUnit, entries_for, find_unit, serial_in, units_in}
 use Rattle.unit_laws.proofs.NoteLemmas.{changes_elsewhere_keep_notes}
-use Rattle.commit_protocol.specs.Messages.{LogRecord}
+use Rattle.commit_protocol.specs.Messages.{LogRecord, Name}
 use Rattle.commit_protocol.specs.Table as table
 use Rattle.commit_protocol.specs.Table.{Branch, Key as BranchKey, Notes, Accepts, Prepares, Settles, Leaves, Acknowledges, Releases, Undoes, Sends, Prints, Prepared, after_act, branch_serials, find, prepared_records, put, record_serials, records_after, table_after}
 use Rattle.commit_protocol.specs.Allowed.{is_prepared}
@@ -18,7 +18,7 @@ use Rattle.commit_protocol.specs.World.{In}
 use Rattle.commit_protocol.proofs.Lists.{in_left}
 use Rattle.commit_protocol.proofs.Serials.{keyed, parts_apart}
 use Rattle.run_model.specs.Locks.{Lock, not_locked, with_locks, is_locked}
-use Rattle.run_model.specs.World.{Changes, Creates, Directs, Draws, File, Holds, IsPreparedUnit, Marks, Node, Sequential, Settlement, acted, find_file, serials_of, tm_of, with_changed, Durable, Volatile, directly_changed, changed_file}
+use Rattle.run_model.specs.World.{Changes, Creates, Declares, Directs, Draws, File, Holds, IsPreparedUnit, Marks, Node, Sequential, Settlement, acted, find_file, serials_of, tm_of, with_changed, Durable, Volatile, directly_changed, changed_file}
 use Rattle.run_model.specs.Answers.{lock_limit}
 use Rattle.world_laws.specs.Running.{IsDrawn, TellTable, no_history, IsFileHeld}
 use Rattle.world_laws.proofs.EntryLemmas.{all_append, all_entered, all_more, all_trimmed}
@@ -121,6 +121,16 @@ same_up n m name durable volatile h = subst IsUp (λ i. record m { name = sym na
       running = record { drawn = h.running.drawn; held = h.running.held; unnoted = h.running.unnoted };
       holding = record { by = h.holding.by; files = h.holding.files; few_locks = h.holding.few_locks };
     }
+
+-- the managers that are declared are no matter of disk, table or locks
+pub declared_up : (rms : List Name) (n : Node) → IsUp n → IsUp (acted (Declares rms) n)
+declared_up rms n h = record {
+  filed = h.filed;
+  slots = h.slots;
+  table = record { log = h.table.log; apart = h.table.apart; limits = h.table.limits; drawn = h.table.drawn; branches = h.table.branches; units = h.table.units; entries = h.table.entries };
+  running = record { drawn = h.running.drawn; held = h.running.held; unnoted = h.running.unnoted };
+  holding = record { by = h.holding.by; files = h.holding.files; few_locks = h.holding.few_locks };
+}
 
 -- how many keys a branch is to hold besides those that are held
 abbrev pub HasLocks : Node → List ℕ → List Key → Type 0

@@ -15,7 +15,7 @@ returns-in-Err-clause-opens g c = λ clock has_parts.
 
 pub returns-in-Up-clause-opens : goal.returns-in-Up-clause-opens
 returns-in-Up-clause-opens g c = λ clock has_parts.
-    open_up c.args.name clock has_parts (g.D.Disk.state c.args.disk) c.nodes_stay_kept.ensures.steps (g.D.Disk.state c.power.new.self) c.in_default.ensures.ok (record { stored = record { volume = c.in-Up.volume; units = g.U.RecoveryUnits.state c.args.parts.units; in_doubt = map serial_of c.args.parts.room.in_doubt.items }; tm = c.args.parts.table; drawn = 0 }) c.in-Up.ensures.goes c.in-Up.ensures.booted c.requires.parts.none c.in-Up.ensures.boots
+    open_up c.args.name clock has_parts (g.D.Disk.state c.args.disk) c.nodes_stay_kept.ensures.steps (g.D.Disk.state c.power.new.self) c.in_default.ensures.ok (record { stored = record { volume = c.in-Up.volume; units = g.U.RecoveryUnits.state c.args.parts.units; in_doubt = map serial_of c.args.parts.room.in_doubt.items }; tm = c.args.parts.table; drawn = 0; declared = c.args.parts.managers }) c.in-Up.ensures.goes c.in-Up.ensures.booted c.requires.parts.none c.in-Up.ensures.boots
 
 pub returns-in-Refused-clause-opens : goal.returns-in-Refused-clause-opens
 returns-in-Refused-clause-opens g c = λ clock has_parts. (

@@ -1,6 +1,6 @@
 use Rattle.std.proofs.Common.{List, ap, map, subst, sym, ◌<◌, ◌∙◌}
 use Rattle.std.specs.List.{AllByRecursion}
-use Rattle.transcript_model.specs.Emitting.{Emits}
+use Rattle.emitter_model.specs.Emitting.{Emits}
 use Rattle.vms_base.specs.Ids.{serial_of}
 use Rattle.vms_base.specs.declared.protocol.LogRec.{LogRec}
 use Rattle.volume_format.specs.declared.home.Home.{Home}
@@ -36,7 +36,7 @@ returns-in-Ok-clause-up g c =
     let last = subst (λ (h : Home). Emits a (last_lines_of h) b) c.home.ensures c.show_last.ensures.shows in
     let undone = subst (λ (us : List SettledUnit). Emits b (map undone_line us) d) c.settled.ensures c.show_undone.ensures.shows in
     let prepared = subst (λ (rs : List LogRec). Emits d (map prepared_told rs) e) (c.prepared.ensures ∙ ap (λ (t : ReopenedTold). t.prepared) c.boot.ensures.told) c.show_prepared.ensures.shows in
-    reopened_up c.requires.raised.0 c.args.clock.0 v stored.volume (g.U.RecoveryUnits.state stored.units) told c.requires.raised.1 c.requires.clock c.in-Ok.ensures.grows (map serial_of stored.room.in_doubt.items) (record_serials (map log_record_of told.prepared)) (stored_of g.U.RecoveryUnits.state up.stored) up.table up.drawn
+    reopened_up c.requires.raised.0 c.args.clock.0 v stored.volume (g.U.RecoveryUnits.state stored.units) told c.requires.raised.1 c.requires.clock c.in-Ok.ensures.grows (map serial_of stored.room.in_doubt.items) (record_serials (map log_record_of told.prepared)) (stored_of g.U.RecoveryUnits.state up.stored) up.table up.drawn up.managers
     c.home-in-Ok.result.now.boot a e c.in-Ok.ensures.room c.in-Ok.ensures.order c.in-Ok.ensures.units c.in-Ok.ensures.begins c.in-Ok.ensures.done c.boot.ensures.stored c.boot.ensures.drawn (ap (λ (h : Home). h.boot) c.home-in-Ok.ensures) c.boot.ensures.up c.boot.ensures.stands (three_shown a b d e _ _ _ last undone prepared)
 
 pub returns-in-Err-clause-down : goal.returns-in-Err-clause-down

@@ -1,5 +1,5 @@
 use Rattle.std.proofs.Common.{◌≡◌, map, take}
-use Rattle.transcript_model.specs.Emitting.{Emits, Since}
+use Rattle.emitter_model.specs.Emitting.{Emits, Since}
 use Rattle.dtm_node.specs.Opening.{prepared_told}
 use Rattle.dtm_node.proofs.node.show_prepared.Given as goal
 

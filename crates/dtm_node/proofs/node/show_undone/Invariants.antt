@@ -1,5 +1,5 @@
 use Rattle.std.proofs.Common.{◌≡◌, map, take}
-use Rattle.transcript_model.specs.Emitting.{Emits, Since}
+use Rattle.emitter_model.specs.Emitting.{Emits, Since}
 use Rattle.dtm_node.specs.Nodes.{undone_line}
 use Rattle.dtm_node.proofs.node.show_undone.Given as goal
 

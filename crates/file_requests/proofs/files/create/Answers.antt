@@ -3,7 +3,7 @@ use Rattle.extents.specs.Extents.{IsFreeRun, all_extents}
 use Rattle.volume.specs.Limits.{data_area}
 use Rattle.volume_format.specs.Home.{sizes_of}
 use Rattle.script_lang.specs.Statements.{form_of}
-use Rattle.transcript_model.specs.Emitting.{Emits}
+use Rattle.emitter_model.specs.Emitting.{Emits}
 use Rattle.transcript_model.specs.Lines as line
 use Rattle.run_model.specs.Answers.{blocks_for}
 use Rattle.node_table.specs.Code.{stored_of}

@@ -6,9 +6,9 @@ use Rattle.change_set.specs.Maps.{IsNext, EndsAfter}
 use Rattle.change_set.specs.declared.walk.Place.{Place}
 use Rattle.record_files.specs.Any.{Begins, IsFile, IsLaidOut, map_of}
 use Rattle.vms_base.specs.Keys.{key_of}
-use Rattle.transcript_model.specs.Emitting.{Emits}
+use Rattle.emitter_model.specs.Emitting.{Emits}
 use Rattle.transcript_model.specs.Lines as line
-use Rattle.transcript_model.proofs.EmittingLemmas.{emits_nothing, since_on}
+use Rattle.emitter_model.proofs.EmittingLemmas.{emits_nothing, since_on}
 use Rattle.node_table.specs.Code.{stored_of}
 use Rattle.node_table.specs.Standing.{Stored}
 use Rattle.node_files.proofs.CatalogLemmas.{placed}

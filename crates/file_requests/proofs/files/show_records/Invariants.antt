@@ -1,7 +1,7 @@
 use Rattle.std.proofs.Common.{◌≡◌, ◌≤◌, ◌-◌, Some, IfSome, ℕ, List}
 use Rattle.std.specs.Prelude.{option_map}
 use Rattle.std.specs.FinMap.{get}
-use Rattle.transcript_model.specs.Emitting.{Since}
+use Rattle.emitter_model.specs.Emitting.{Since}
 use Rattle.vms_model.specs.Keys.{Key}
 use Rattle.vms_base.specs.Keys.{key_of}
 use Rattle.records_model.specs.Records.{Records}

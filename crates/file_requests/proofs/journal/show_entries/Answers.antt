@@ -1,9 +1,9 @@
 use Rattle.std.proofs.Common.{◌≡◌, [], ◌∷◌, sym, ap, refl, subst, ◌∙◌, arith, rules}
 use Rattle.file_base.specs.declared.head.Span.{Span}
-use Rattle.transcript_model.specs.Emitting.{Emits}
+use Rattle.emitter_model.specs.Emitting.{Emits}
 use Rattle.transcript_model.specs.Lines as line
 use Rattle.transcript_model.specs.Lines.{Line}
-use Rattle.transcript_model.proofs.EmittingLemmas.{emits_nothing, since_on}
+use Rattle.emitter_model.proofs.EmittingLemmas.{emits_nothing, since_on}
 use Rattle.node_table.specs.Code.{stored_of}
 use Rattle.node_table.specs.Standing.{Stored}
 use Rattle.file_requests.proofs.Replied.{quiet_none, quiet_on, replies_after}

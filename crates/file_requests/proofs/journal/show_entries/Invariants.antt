@@ -1,5 +1,5 @@
 use Rattle.std.proofs.Common.{◌≡◌, ◌-◌}
-use Rattle.transcript_model.specs.Emitting.{Since}
+use Rattle.emitter_model.specs.Emitting.{Since}
 use Rattle.run_model.specs.World.{Node}
 use Rattle.recovery_units.specs.State.{IsKept}
 use Rattle.node_table.specs.Code.{stored_of}

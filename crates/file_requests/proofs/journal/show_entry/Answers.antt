@@ -1,8 +1,8 @@
 use Rattle.std.proofs.Common.{◌≡◌, [], ◌∷◌, Option, Some, None, ap, subst}
 use Rattle.transcript.specs.Forms.{line_of}
-use Rattle.transcript_model.specs.Emitting.{Emits}
+use Rattle.emitter_model.specs.Emitting.{Emits}
 use Rattle.transcript_model.specs.Lines.{Line}
-use Rattle.transcript_model.proofs.EmittingLemmas.{emits_nothing}
+use Rattle.emitter_model.proofs.EmittingLemmas.{emits_nothing}
 use Rattle.careful_write.specs.State.{StoreState}
 use Rattle.run_model.specs.Answers.{entry_line}
 use Rattle.file_requests.proofs.Replied.{quiet_none}

@@ -1,6 +1,6 @@
 use Rattle.std.proofs.Common.{[], ◌∷◌, refl, subst}
-use Rattle.transcript_model.specs.Emitting.{Emits}
-use Rattle.transcript_model.proofs.EmittingLemmas.{emits_on}
+use Rattle.emitter_model.specs.Emitting.{Emits}
+use Rattle.emitter_model.proofs.EmittingLemmas.{emits_on}
 use Rattle.vms_base.specs.Ids.{id_of}
 use Rattle.recovery_units.specs.Calls.{change_said, position_line}
 use Rattle.record_operations.specs.Asking.{file_in}

@@ -1,5 +1,5 @@
 use Rattle.std.proofs.Common.{[], ◌∷◌, Ok, refl, sym, subst}
-use Rattle.transcript_model.specs.Emitting.{Emits}
+use Rattle.emitter_model.specs.Emitting.{Emits}
 use Rattle.vms_base.specs.Ids.{serial_of}
 use Rattle.vms_base.specs.Keys.{key_of}
 use Rattle.recovery_units.specs.Calls.{change_said, position_line, read_said, record_line}

@@ -1,5 +1,5 @@
 use Rattle.std.proofs.Common.{[], ◌∷◌, refl, subst}
-use Rattle.transcript_model.specs.Emitting.{Emits}
+use Rattle.emitter_model.specs.Emitting.{Emits}
 use Rattle.vms_base.specs.Keys.{key_of}
 use Rattle.recovery_units.specs.Calls.{read_said, record_line}
 use Rattle.record_operations.specs.Asking.{read_file_in}

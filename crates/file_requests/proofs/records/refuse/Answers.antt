@@ -1,6 +1,6 @@
 use Rattle.transcript.specs.Forms.{line_of}
 use Rattle.file_requests.proofs.Replied.{quiet_none, replies_one}
-use Rattle.transcript_model.proofs.EmittingLemmas.{emits_nothing}
+use Rattle.emitter_model.proofs.EmittingLemmas.{emits_nothing}
 use Rattle.file_requests.proofs.records.refuse.Goals as goal
 
 pub returns-in-Ok-clause-replies : goal.returns-in-Ok-clause-replies

@@ -3,7 +3,7 @@ use Rattle.reference_run.proofs.RackLemmas.{compared, served_later, have_first, 
 use Rattle.reference_run.proofs.rack.+serve_at.Goals as goal
 
 pub returns-in_ok-push_front-in-Some-clause-units : goal.returns-in_ok-push_front-in-Some-clause-units
-returns-in_ok-push_front-in-Some-clause-units t c = λ units h early. have_first (units + 64) units _ _ c.in-Some.first c.serve.new.self _ c.in-Some.ensures (c.in_ok-push_front-in-Some).ensures (omega arith) (λ k. (c.in_ok-lines-in-Some).ensures.units units early k) h
+returns-in_ok-push_front-in-Some-clause-units t c = λ units h early. have_first (units + 64) units _ _ c.in-Some.first c.serve.new.node _ c.in-Some.ensures (c.in_ok-push_front-in-Some).ensures (omega arith) (λ k. (c.in_ok-lines-in-Some).ensures.units units early k) h
 
 pub returns-in_ok-push_front-in-Some-2-clause-served : goal.returns-in_ok-push_front-in-Some-2-clause-served
 returns-in_ok-push_front-in-Some-2-clause-served t c = served_later _ _ _ _ _ _ c.in-Some.first _ _ _ c.in-Some.ensures (c.in_ok-push_front-in-Some-2).ensures

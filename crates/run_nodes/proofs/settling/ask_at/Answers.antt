@@ -2,7 +2,7 @@ use Rattle.std.specs.Prelude.{slice_get}
 use Rattle.std.specs.Option.{option_map}
 use Rattle.std.proofs.Common.{◌≡◌, ◌+◌, ◌<◌, ◌≤◌, length, true, false, refl, sym, ◌∙◌, ap, subst, arith}
 use Rattle.vms_base.specs.Ids.{serial_of}
-use Rattle.transcript_model.proofs.EmittingLemmas.{since_on, since_same}
+use Rattle.emitter_model.proofs.EmittingLemmas.{since_on, since_same}
 use Rattle.statement_steps.specs.Settling.{doubts_of}
 use Rattle.run_nodes.specs.Held.{kept_all, names_of}
 use Rattle.run_nodes.specs.Names.{AreApart}

@@ -1,6 +1,6 @@
 use Rattle.std.proofs.Common.{◌≡◌, ℕ, List, true}
 use Rattle.block_disk.specs.Disk.{CallLog}
-use Rattle.transcript_model.specs.Emitting.{Since}
+use Rattle.emitter_model.specs.Emitting.{Since}
 use Rattle.script_model.specs.Statements.{Settle}
 use Rattle.run_model.specs.Statements.{begun_with}
 use Rattle.run_model.specs.World.{World}

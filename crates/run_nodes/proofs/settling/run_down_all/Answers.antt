@@ -1,5 +1,5 @@
 use Rattle.std.proofs.Common.{◌<◌, length, refl, sym, ◌∙◌, ap, subst, arith}
-use Rattle.transcript_model.proofs.EmittingLemmas.{since_on, since_same}
+use Rattle.emitter_model.proofs.EmittingLemmas.{since_on, since_same}
 use Rattle.run_model.specs.Answers.{RunsDown}
 use Rattle.statement_steps.specs.Settling.{run_down_of}
 use Rattle.run_nodes.specs.Held.{kept_all, names_of}

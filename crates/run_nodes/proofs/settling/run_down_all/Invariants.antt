@@ -1,6 +1,6 @@
 use Rattle.std.proofs.Common.{◌≡◌, ℕ, List, true}
 use Rattle.block_disk.specs.Disk.{CallLog}
-use Rattle.transcript_model.specs.Emitting.{Since}
+use Rattle.emitter_model.specs.Emitting.{Since}
 use Rattle.run_model.specs.World.{World}
 use Rattle.statement_steps.specs.Settling.{AreUp, run_down_of}
 use Rattle.run_nodes.specs.Held.{AreNodes, kept_all, names_of}

@@ -51,6 +51,24 @@ returns-in-AbortTrans c = rw c.in-AbortTrans.is (c.abort_trans.ensures c.args.li
 pub returns-in-Inquire : goal.returns-in-Inquire
 returns-in-Inquire c = rw c.in-Inquire.is (c.inquire.ensures c.args.lit.now)
 
+pub returns-in-DeclareRm : goal.returns-in-DeclareRm
+returns-in-DeclareRm c = rw c.in-DeclareRm.is (c.declare_rm.ensures c.args.lit.now)
+
+pub returns-in-JoinRm : goal.returns-in-JoinRm
+returns-in-JoinRm c = rw c.in-JoinRm.is (c.join_rm.ensures c.args.lit.now)
+
+pub returns-in-AckEvent : goal.returns-in-AckEvent
+returns-in-AckEvent c = rw c.in-AckEvent.is (c.ack_event.ensures c.args.lit.now)
+
+pub returns-in-ForgetRm : goal.returns-in-ForgetRm
+returns-in-ForgetRm c = rw c.in-ForgetRm.is (c.forget_rm.ensures c.args.lit.now)
+
+pub returns-in-GetDti : goal.returns-in-GetDti
+returns-in-GetDti c = rw c.in-GetDti.is (c.get_dti.ensures c.args.lit.now)
+
+pub returns-in-Lmcp : goal.returns-in-Lmcp
+returns-in-Lmcp c = rw c.in-Lmcp.is (c.lmcp.ensures c.args.lit.now)
+
 pub returns-in-Dump : goal.returns-in-Dump
 returns-in-Dump c = rw c.in-Dump.is (c.dump.ensures c.args.lit.now)
 

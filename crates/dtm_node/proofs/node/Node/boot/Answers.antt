@@ -1,7 +1,7 @@
 use Rattle.std.proofs.Common.{[], false, refl, subst, sym, true, ℕ, ◌∙◌, ◌∷◌}
 use Rattle.script_model.specs.Statements.{Boot}
 use Rattle.run_model.specs.Answers.{Serves}
-use Rattle.transcript_model.specs.Emitting.{Emits}
+use Rattle.emitter_model.specs.Emitting.{Emits}
 use Rattle.transcript_model.specs.Lines.{NormalCount}
 use Rattle.dtm_node.specs.Nodes.{kept_of}
 use Rattle.dtm_node.proofs.BootPlaces.{later_node}

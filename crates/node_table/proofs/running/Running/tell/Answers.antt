@@ -21,13 +21,13 @@ returns-clause-keeps g c =
     let e = event_of c.args.event.now in
     let tid = tid_of c.transaction-tid.result in
     let old : Up = up_of g.U.RecoveryUnits.state c.args.self.now in
-    let new : Up = record { stored = stored_of g.U.RecoveryUnits.state c.tell_all.new.self; tm = c.step.new.self; drawn = c.args.self.now.drawn } in
-    event_keeps e tid old c.requires.up c.requires.allowed c.requires.told c.requires.fresh c.transaction-tid.ensures _ _ new _ _ _ _ c.step.ensures.table refl (told_as e tid old new _ _ _ _ _ _ _ _ (ap (map effect_of) c.items.ensures.value ∙ c.step.ensures.effects) c.begin.ensures c.tell_all.ensures.tells)
+    let new : Up = record { stored = stored_of g.U.RecoveryUnits.state c.tell_all.new.self; tm = c.step.new.self; drawn = c.args.self.now.drawn; declared = c.args.self.now.managers } in
+    event_keeps e tid old c.requires.up c.requires.allowed c.requires.told c.requires.fresh c.transaction-tid.ensures _ _ new _ _ _ _ c.step.ensures.table refl refl (told_as e tid old new _ _ _ _ _ _ _ _ (ap (map effect_of) c.items.ensures.value ∙ c.step.ensures.effects) c.begin.ensures c.tell_all.ensures.tells)
 
 pub returns-clause-does : goal.returns-clause-does
 returns-clause-does g c =
     let e = event_of c.args.event.now in
     let tid = tid_of c.transaction-tid.result in
     let old : Up = up_of g.U.RecoveryUnits.state c.args.self.now in
-    let new : Up = record { stored = stored_of g.U.RecoveryUnits.state c.tell_all.new.self; tm = c.step.new.self; drawn = c.args.self.now.drawn } in
-    event_rows e tid old c.requires.up c.requires.allowed c.requires.told c.requires.fresh c.transaction-tid.ensures _ _ new _ _ _ _ c.step.ensures.table refl (told_as e tid old new _ _ _ _ _ _ _ _ (ap (map effect_of) c.items.ensures.value ∙ c.step.ensures.effects) c.begin.ensures c.tell_all.ensures.tells) c.requires.laws
+    let new : Up = record { stored = stored_of g.U.RecoveryUnits.state c.tell_all.new.self; tm = c.step.new.self; drawn = c.args.self.now.drawn; declared = c.args.self.now.managers } in
+    event_rows e tid old c.requires.up c.requires.allowed c.requires.told c.requires.fresh c.transaction-tid.ensures _ _ new _ _ _ _ c.step.ensures.table refl refl (told_as e tid old new _ _ _ _ _ _ _ _ (ap (map effect_of) c.items.ensures.value ∙ c.step.ensures.effects) c.begin.ensures c.tell_all.ensures.tells) c.requires.laws

@@ -1,6 +1,6 @@
 use Rattle.std.proofs.Common.{None, refl, arith}
 use Rattle.commit_protocol.specs.Effects.{SettleEffect}
-use Rattle.transcript_model.proofs.EmittingLemmas.{emits_nothing, since_same}
+use Rattle.emitter_model.proofs.EmittingLemmas.{emits_nothing, since_same}
 use Rattle.vms_model.specs.Transactions.{Abort}
 use Rattle.vms_base.specs.Ids.{serial_of}
 use Rattle.vms_base.specs.Outcomes.{reason_of}

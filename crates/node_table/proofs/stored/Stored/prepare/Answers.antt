@@ -2,7 +2,7 @@ use Rattle.tm_types.proofs.ListLemmas.{map_push}
 use Rattle.std.proofs.Common.{ap, ◌∙◌, map, refl, arith}
 use Rattle.std.proofs.lemmas.List.{length-map}
 use Rattle.commit_protocol.specs.Effects.{PrepareEffect}
-use Rattle.transcript_model.proofs.EmittingLemmas.{emits_nothing, since_same}
+use Rattle.emitter_model.proofs.EmittingLemmas.{emits_nothing, since_same}
 use Rattle.vms_base.specs.Ids.{serial_of, tid_of}
 use Rattle.node_table.specs.Code.{stored_of}
 use Rattle.node_table.proofs.Grows.{early}

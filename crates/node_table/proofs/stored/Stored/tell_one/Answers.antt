@@ -8,8 +8,7 @@ use Rattle.node_table.proofs.Settling.{abort_told, aborts_without, no_record}
 use Rattle.net_wire.specs.Messages.{message_of}
 use Rattle.tm_types.specs.Effects.{effect_of}
 use Rattle.vms_base.specs.Ids.{serial_of, tid_of}
-use Rattle.node_table.proofs.Rows.{may_as, stays_same, tells_as}
-use Rattle.transcript_model.proofs.EmittingLemmas.{emits_nothing, since_same}
+use Rattle.node_table.proofs.Rows.{may_as, stays_same, tells_as, tells_with}
 use Rattle.node_table.proofs.Telling.{ended_tells, joined_tells, sent_tells, started_tells, told_tells}
 use Rattle.node_table.proofs.stored.Stored.tell_one.Goals as goal
 
@@ -48,7 +47,7 @@ pub returns-in-Ended-clause-tells : goal.returns-in-Ended-clause-tells
 returns-in-Ended-clause-tells g c = tells_as _ _ _ _ _ _ _ _ _ _ _ (ap effect_of c.in-Ended.is) (ended_tells c.requires.laws (tid_of c.args.tid.now) _ _ _ _ _ (stays_same _ _) c.emit-in-Ended.ensures.since _ _ c.emit-in-Ended.ensures.emits)
 
 pub returns-in-Tell-clause-tells : goal.returns-in-Tell-clause-tells
-returns-in-Tell-clause-tells g c = tells_as _ _ _ _ _ _ _ _ _ _ _ (ap effect_of c.in-Tell.is) (told_tells c.requires.laws (tid_of c.args.tid.now) _ _ _ _ _ (stays_same _ _) (since_same _) _ _ _ (emits_nothing _))
+returns-in-Tell-clause-tells g c = tells_with _ _ _ _ _ _ _ _ _ _ _ (ap effect_of c.in-Tell.is) (told_tells c.requires.laws (tid_of c.args.tid.now) _ _ _ _ _ (stays_same _ _) c.show_event.ensures.since _ _ _ _ _ c.show_event.ensures.shows)
 
 pub returns-in-Commit-clause-tells : goal.returns-in-Commit-clause-tells
 returns-in-Commit-clause-tells g c =

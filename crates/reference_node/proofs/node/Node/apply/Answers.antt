@@ -38,7 +38,7 @@ pub returns-in_ok-send-in-Send : goal.returns-in_ok-send-in-Send
 returns-in_ok-send-in-Send c = λ a rs gives tellable. send_applies _ a rs (shared_of c.args.shared.now) _ (node_of c.args.self.now) _ (gives_so c.args.effect.now _ (act_effects a rs) gives c.in-Send.is) (c.in_ok-send-in-Send).ensures.wire (c.in_ok-send-in-Send).ensures.line
 
 pub returns-in-Tell : goal.returns-in-Tell
-returns-in-Tell c = λ a rs gives tellable. tell_applies _ _ _ a rs (shared_of c.args.shared.now) (node_of c.args.self.now) (gives_so c.args.effect.now _ (act_effects a rs) gives c.in-Tell.is)
+returns-in-Tell c = λ a rs gives tellable. tell_applies _ _ _ _ a rs (shared_of c.args.shared.now) (node_of c.args.self.now) _ _ (gives_so c.args.effect.now _ (act_effects a rs) gives c.in-Tell.is) c.branch_in.ensures c.event_told.ensures
 
 pub returns-in_ok-push_front-in-Joined : goal.returns-in_ok-push_front-in-Joined
 returns-in_ok-push_front-in-Joined c = λ a rs gives tellable.
@@ -48,7 +48,7 @@ returns-in_ok-push_front-in-Joined c = λ a rs gives tellable.
 
 pub returns-in-Started : goal.returns-in-Started
 returns-in-Started c = λ a rs gives tellable. start_applies (map branch_key_of c.args.before.now) (id_of c.args.tid.now) _ a rs (shared_of c.args.shared.now) (node_of c.args.self.now) _ _
-    (gives_so c.args.effect.now _ (act_effects a rs) gives c.in-Started.is) tellable c.branch_in.ensures refl
+    (gives_so c.args.effect.now _ (act_effects a rs) gives c.in-Started.is) tellable c.branch_in-in-Started.ensures refl
 
 pub returns-in-Ended : goal.returns-in-Ended
 returns-in-Ended c = λ a rs gives tellable. end_applies _ _ a rs (shared_of c.args.shared.now) (node_of c.args.self.now) _ (gives_so c.args.effect.now _ (act_effects a rs) gives c.in-Ended.is) refl

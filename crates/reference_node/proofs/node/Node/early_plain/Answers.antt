@@ -16,3 +16,9 @@ returns-in-Create c = λ lit. subst (λ (r : Request). option_map line_of c.earl
 
 pub returns-in-AddBranch : goal.returns-in-AddBranch
 returns-in-AddBranch c = λ lit. subst (λ (r : Request). option_map line_of c.early_add.result ≡ (service (request_of lit r)).refused_before_reading (shared_of c.args.shared.now) (node_of c.args.self.now)) (sym c.in-AddBranch.is) (c.early_add.ensures c.in-AddBranch.other)
+
+pub returns-in-DeclareRm : goal.returns-in-DeclareRm
+returns-in-DeclareRm c = λ lit. subst (λ (r : Request). option_map line_of c.early_declare.result ≡ (service (request_of lit r)).refused_before_reading (shared_of c.args.shared.now) (node_of c.args.self.now)) (sym c.in-DeclareRm.is) (c.early_declare.ensures (shared_of c.args.shared.now))
+
+pub returns-in-ForgetRm : goal.returns-in-ForgetRm
+returns-in-ForgetRm c = λ lit. subst (λ (r : Request). option_map line_of c.early_forget.result ≡ (service (request_of lit r)).refused_before_reading (shared_of c.args.shared.now) (node_of c.args.self.now)) (sym c.in-ForgetRm.is) (c.early_forget.ensures (shared_of c.args.shared.now))

@@ -2,7 +2,7 @@ use Rattle.std.proofs.Common.{◌≡◌, ◌∙◌, ◌∷◌, ◌++◌, [], Lis
 use Rattle.std.specs.Prelude.{map}
 use Rattle.std.proofs.lemmas.List.{map-append}
 use Rattle.transcript_model.specs.Lines as model
-use Rattle.commit_protocol.specs.Rows.{EndTrans, row}
+use Rattle.commit_protocol.specs.Rows.{EndTrans, joined, row}
 use Rattle.commit_protocol.specs.Table.{Branch}
 use Rattle.run_model.specs.Answers.{Row, branch_labelled, end_answer, just, missing, service, table_rows, told_rows}
 use Rattle.run_model.specs.Steps.{lines_of_rows, node_after_rows, shared_after_rows}
@@ -32,8 +32,8 @@ returns-clause-does c =
     let answered : (elim (branch_labelled s n c.args.label.now) as (λ _. model.Line) [ Some x ↦ end_answer (row (tm_of n) (EndTrans x.key.tid)) model.Normal | None ↦ model.Normal ]) ≡ end_answer (row (tm_of n) (EndTrans b.key.tid)) model.Normal =
     ap (λ (o : Option Branch). elim o as (λ _. model.Line) [ Some x ↦ end_answer (row (tm_of n) (EndTrans x.key.tid)) model.Normal | None ↦ model.Normal ]) (sym c.in-Some.ensures) in
     let answer : line_of c.in_ok-answer.answer ≡ end_answer (row (tm_of n) (EndTrans b.key.tid)) model.Normal =
-    c.in_ok-answer.ensures ∙ ap (λ ls. answer_else (answer_shown (map line_of ls)) (model.Pending (missing b.accepted))) c.as_slice.ensures.value
-    ∙ ap (λ ls. answer_else (answer_shown ls) (model.Pending (missing b.accepted))) told.shows ∙ end_answered s n b f.0 f.1 in
+    c.in_ok-answer.ensures ∙ ap (λ ls. answer_else (answer_shown (map line_of ls)) (model.Pending (missing b.accepted) (joined b.managers))) c.as_slice.ensures.value
+    ∙ ap (λ ls. answer_else (answer_shown ls) (model.Pending (missing b.accepted) (joined b.managers))) told.shows ∙ end_answered s n b f.0 f.1 in
     record {
       shows = ap (map line_of) c.in_ok-push_back.ensures ∙ map-append line_of c.in_ok-lines.lines.items (c.in_ok-answer.answer ∷ []) ∙ (λ i. told.shows i ++ answer i ∷ []) ∙ sym (λ i. lines_of_rows (are i) ++ answered i ∷ []);
       node = told.node ∙ sym (ap (λ rs. node_after_rows rs n) are);

@@ -17,8 +17,7 @@ use Rattle.reference_disk.specs.Disks.{one_line}
 use Rattle.reference_node.specs.Nodes.{AreUnknown, key_line, node_of}
 use Rattle.reference_node.specs.Telling.{HasTime}
 use Rattle.reference_node.proofs.BootLemmas.{are_unknown, few_left, has_restarted, may_begin, shown_prepared}
-use Rattle.reference_node.proofs.TellLemmas.{on_ok}
-use Rattle.reference_node.proofs.UnitsLemmas.{less_time}
+use Rattle.reference_node.proofs.TellLemmas.{on_ok, less_time}
 use Rattle.reference_node.proofs.node.Node.restart.Goals as goal
 
 nothing_more : (xs : List model.Line) → xs ++ [] ≡ xs

@@ -4,7 +4,7 @@ use Rattle.run_model.specs.Statements.{Does}
 use Rattle.reference_world.specs.Standing.{line_of}
 use Rattle.reference_node.specs.Nodes.{node_of}
 use Rattle.reference_branches.specs.Branches.{shared_of}
-use Rattle.reference_node.specs.Tasks.{task_of}
+use Rattle.reference_tasks.specs.Tasks.{task_of}
 use Rattle.reference_run.specs.Served.{AllHave, IsDone, IsPart, world_of}
 use Rattle.reference_run.proofs.PartLemmas.{performed, not_there}
 use Rattle.reference_run.proofs.RackLemmas.{taken_out}

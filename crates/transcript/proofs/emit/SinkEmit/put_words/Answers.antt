@@ -14,3 +14,18 @@ returns-in-NoSuchTransaction-clause-appends g c = rw c.in-NoSuchTransaction.is c
 
 pub returns-in-FileFull-clause-appends : goal.returns-in-FileFull-clause-appends
 returns-in-FileFull-clause-appends g c = rw c.in-FileFull.is c.put_file_full.ensures.appends
+
+pub returns-in-ManagerTold-clause-appends : goal.returns-in-ManagerTold-clause-appends
+returns-in-ManagerTold-clause-appends g c = rw c.in-ManagerTold.is c.put_manager_told.ensures.appends
+
+pub returns-in-LogEntry-clause-appends : goal.returns-in-LogEntry-clause-appends
+returns-in-LogEntry-clause-appends g c = rw c.in-LogEntry.is c.put_log_entry.ensures.appends
+
+pub returns-in-NormalStanding-clause-appends : goal.returns-in-NormalStanding-clause-appends
+returns-in-NormalStanding-clause-appends g c = rw c.in-NormalStanding.is c.put_standing.ensures.appends
+
+pub returns-in-NormalLog-clause-appends : goal.returns-in-NormalLog-clause-appends
+returns-in-NormalLog-clause-appends g c = rw c.in-NormalLog.is c.put_log_counts.ensures.appends
+
+pub returns-in-Pending-clause-appends : goal.returns-in-Pending-clause-appends
+returns-in-Pending-clause-appends g c = rw c.in-Pending.is c.put_pending.ensures.appends

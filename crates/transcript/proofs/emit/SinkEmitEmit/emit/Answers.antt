@@ -1,5 +1,5 @@
 use Rattle.std.proofs.Common.{refl, ◌∙◌}
-use Rattle.transcript_model.proofs.EmittingLemmas.{since_puts}
+use Rattle.emitter_model.proofs.EmittingLemmas.{since_puts}
 use Rattle.transcript_model.proofs.LineLemmas.{one_line}
 use Rattle.transcript.proofs.BufferedLemmas.{appends4, puts_through}
 use Rattle.transcript.specs.Forms.{line_of}
@@ -10,6 +10,7 @@ returns-clause-emits g c = record {
   puts = puts_through _ _ _ _ c.clear.ensures.items
       (appends4 _ _ _ _ _ _ _ _ _ _ c.put_number.ensures.appends c.put.ensures.appends c.put_words.ensures.appends c.put-2.ensures.appends (one_line c.args.self.now.number (line_of c.args.form.now) ∙ rw c.from.ensures refl))
       c.flush.ensures.puts;
+  counted = refl;
 }
 
 pub returns-clause-since : goal.returns-clause-since

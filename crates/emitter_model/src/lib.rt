@@ -1,0 +1,2 @@
+//! Definitions of what an emitter shows, and of what it has done between two moments.
+#![tactic(auto)]

@@ -1,0 +1,11 @@
+pub mod Standing
+pub mod Keeping
+pub mod Holding
+pub mod Telling
+pub mod Running
+pub mod Requests
+pub mod Labelled
+pub mod Operating
+pub mod Transacting
+pub mod Managers
+pub mod TheLaws

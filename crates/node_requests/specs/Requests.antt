@@ -1,0 +1,126 @@
+-- What a request to a node that is up comes to.
+use Rattle.std.specs.Prelude.{◌≡◌, ◌≤◌, ◌<◌, ◌+◌, ◌^◌, ℕ, max, List, [], ◌∷◌, ◌++◌, Bool, true, false, Some, None, Result, OnErr, OnOk, MatchResult, if◌then◌else◌}
+use Rattle.std.specs.List.{AllByRecursion}
+use Rattle.careful_write.specs.declared.down.Down.{Down}
+use Rattle.commit_protocol.specs.Table.{Branch, Tm}
+use Rattle.emitter_model.specs.Emitting.{Emits, Shown, Since}
+use Rattle.transcript_model.specs.Lines.{Line}
+use Rattle.script_model.specs.Statements.{AbortTrans, AckEvent, AddBranch, Boot, Clock, Crash, DeclareRm, EndBranch, EndTrans, ForgetRm, Fuse, GetDti, Init, Inquire, JoinRm, LmcpDump, LmcpShow, Request, StartBranch, StartTrans}
+use Rattle.vms_model.specs.Ids.{Id}
+use Rattle.unit_table.specs.Units.{OpenUnit}
+use Rattle.said_steps.specs.Answers.{is_served}
+use Rattle.run_laws.specs.Said.{Said, SaidNode, line_said, lines_said, refused_by_lines, request_said}
+use Rattle.run_model.specs.Answers.{Service, service, touches}
+use Rattle.run_model.specs.World.{Node, Shared, with_changed}
+use Rattle.run_shared.specs.Sharing.{IsShared, SharedState}
+use Rattle.world_laws.specs.Nodes.{IsKeptNode}
+use Rattle.recovery_units.specs.State.{has_changed_by}
+use Rattle.recovery_units.specs.Uses.{Caused, Goes, down_of}
+use Rattle.node_table.specs.Growing.{end_to_come, moment_to_come}
+use Rattle.node_table.specs.Serving.{DoesService, service_at}
+use Rattle.node_table.specs.Standing.{IsUp, StandsUp, Up}
+use Rattle.node_table.specs.Telling.{IsOfWork}
+use Rattle.node_requests.specs.Standing.{disk_of}
+use Rattle.node_requests.specs.Telling.{said_shared}
+
+-- what is asked of a node that is up before a request: numbers that only grow are far from their ends
+pub record MayServe (clock : ℕ) (r : Up) : Type 0 where
+  pub up : IsUp r
+  pub moment : moment_to_come r.stored + 1 ≤ 24000001000066
+  pub low : end_to_come r.stored + 2 ^ 23 ≤ 2 ^ 62
+  pub drawn : r.drawn < 4294967295
+  pub time : clock + 64 ≤ 24000001000066
+
+-- such numbers have grown by one statement: the greatest moment with the settlements to come, and the journal's end with the groups to come
+pub record HasMoved (clock : ℕ) (old new : Up) : Type 0 where
+  pub moment : moment_to_come new.stored ≤ max (moment_to_come old.stored + 1) (clock + 64)
+  pub end : end_to_come new.stored ≤ end_to_come old.stored + 2 ^ 23
+
+-- What is kept in order over a request, whatever the disk has.
+pub record KeepsRequest {T : Type 0} (r : Result T Down) (clock : ℕ) (old new : Up) (a b : Shown) : Type 0 where
+  pub up : OnOk r (IsUp new)
+  pub goes : Goes (disk_of old) (disk_of new)
+  pub cause : Caused (down_of r) (disk_of old) (disk_of new)
+  pub pool : new.stored.volume.store.pool ≡ old.stored.volume.store.pool
+  pub node : new.stored.volume.catalog.home.node ≡ old.stored.volume.catalog.home.node
+  pub boot : new.stored.volume.catalog.home.boot ≡ old.stored.volume.catalog.home.boot
+  pub drawn : (old.drawn ≤ new.drawn) × (new.drawn ≤ old.drawn + 1)
+  pub moved : OnOk r (HasMoved clock old new)
+  pub since : Since a b
+
+-- what was said of the node of a name, which is up, and of what nodes share
+abbrev pub node_up : List ℕ → SaidNode
+node_up name = record { name = name; up = true; unmade = false }
+
+abbrev pub said_up : List ℕ → SharedState → Said
+said_up name s = record { nodes = node_up name ∷ []; shared = said_shared s }
+
+-- What is shown of a request: lines of the node's work and an answer, or such lines alone where the disk went down. They say what is shared then; and what was said
+-- before refuses it just where they show that refusal.
+pub record SaysRequest {T : Type 0} (r : Result T Down) (name : List ℕ) (request : Request) (before after : SharedState) (a b : Shown) : Type 0 where
+  pub lines : List Line
+  pub answer : Line
+  pub emits : MatchResult r (λ _. Emits a (lines ++ answer ∷ []) b) (λ _. Emits a lines b)
+  pub work : AllByRecursion IsOfWork lines
+  pub still : (said : Said) → line_said answer said ≡ said
+  pub refused : (refusal : Line) → refused_by_lines (said_shared before) (node_up name) request ≡ Some refusal → MatchResult r (λ _. (lines ≡ []) × (answer ≡ refusal)) (λ _. ⊥)
+  pub others : refused_by_lines (said_shared before) (node_up name) request ≡ None → OnOk r (is_served answer ≡ true)
+  pub says : MatchResult r (λ _. request_said name request answer (lines_said lines (said_up name before)) ≡ said_up name after) (λ _. lines_said lines (said_up name before) ≡ said_up name after)
+
+-- At each node of the world that what is kept stands for, its service was done.
+abbrev pub ServesUp : {T : Type 0} → Result T Down → Service → (clock : ℕ) → (old new : Up) → (before after : SharedState) → (a b : Shown) → Type 0
+ServesUp r e clock old new before after a b = (s : Shared) (n : Node) → StandsUp clock old n → IsShared before s → IsKeptNode s n →
+    DoesService r (service_at e s n) s n a b (StandsUp clock new n × IsShared after s) (IsShared after) (StandsUp clock new) (disk_of new)
+
+-- All three of a request. The disk goes down in none that uses no disk, and is left as it was where what was said before refuses the request.
+pub record DoesRequest {T : Type 0} (r : Result T Down) (request : Request) (clock : ℕ) (old new : Up) (before after : SharedState) (a b : Shown) : Type 0 where
+  pub keeps : KeepsRequest r clock old new a b
+  pub uses : OnErr r (touches (service request) ≡ true)
+  pub leaves : (refusal : Line) → refused_by_lines (said_shared before) (node_up old.stored.volume.catalog.home.node) request ≡ Some refusal → disk_of new ≡ disk_of old
+  pub says : SaysRequest r old.stored.volume.catalog.home.node request before after a b
+  pub serves : ServesUp r (service request) clock old new before after a b
+
+-- a request that a node has to be up for, and that is answered there
+abbrev pub IsForUp : Request → Type 0
+IsForUp (Init slots journal) = ⊥
+IsForUp Boot = ⊥
+IsForUp (Fuse writes choice) = ⊥
+IsForUp Crash = ⊥
+IsForUp (Clock now) = ⊥
+IsForUp request = Unit {0}
+
+-- one on a transaction, on a resource manager, on how a branch stands, or on the transaction log
+abbrev pub IsOfTransaction : Request → Type 0
+IsOfTransaction (StartTrans label seconds) = Unit {0}
+IsOfTransaction (AddBranch label other new) = Unit {0}
+IsOfTransaction (StartBranch label) = Unit {0}
+IsOfTransaction (EndBranch label) = Unit {0}
+IsOfTransaction (EndTrans label) = Unit {0}
+IsOfTransaction (AbortTrans label) = Unit {0}
+IsOfTransaction (Inquire who) = Unit {0}
+IsOfTransaction (DeclareRm rm) = Unit {0}
+IsOfTransaction (JoinRm label rm) = Unit {0}
+IsOfTransaction (AckEvent who rm reply) = Unit {0}
+IsOfTransaction (ForgetRm rm) = Unit {0}
+IsOfTransaction (GetDti who) = Unit {0}
+IsOfTransaction LmcpShow = Unit {0}
+IsOfTransaction LmcpDump = Unit {0}
+IsOfTransaction request = ⊥
+
+-- one of these but on a transaction
+abbrev pub IsOfManager : Request → Type 0
+IsOfManager (DeclareRm rm) = Unit {0}
+IsOfManager (JoinRm label rm) = Unit {0}
+IsOfManager (AckEvent who rm reply) = Unit {0}
+IsOfManager (ForgetRm rm) = Unit {0}
+IsOfManager (GetDti who) = Unit {0}
+IsOfManager LmcpShow = Unit {0}
+IsOfManager LmcpDump = Unit {0}
+IsOfManager request = ⊥
+
+-- branches of which that of a serial is noted to have changed something, where its unit has; and a table with these
+abbrev pub with_noted : Id → List OpenUnit → List Branch → List Branch
+with_noted serial us bs = if has_changed_by serial us then with_changed serial bs else bs
+
+abbrev pub noted : Id → List OpenUnit → Tm → Tm
+noted serial us tm = record tm { table = with_noted serial us tm.table }

@@ -1,0 +1,6 @@
+pub mod TaskLemmas
+pub mod ServeLemmas
+pub mod UnitsLemmas
+pub mod RequestLemmas
+pub mod RequestUnits
+pub mod ServedUnits

@@ -1,0 +1,7 @@
+//! What tests of whole scripts share: texts, the run of a script over disks in memory, and statements that are drawn by numbers.
+#![tactic(auto)]
+
+pub mod one_node;
+pub mod racks;
+pub mod random;
+pub mod texts;
