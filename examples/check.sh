@@ -108,6 +108,8 @@ ends "a faulty line" 1 run 'A: PUT T F 1 %xAA
 ' A=new.img
 check "its line of the transcript" [ "$(cat out)" = '1 BADLINE 14' ]
 check "its caret" grep -q '^    A: PUT T F 1 %xAA$' err
+ends "a day" 0 "$dtm" MAKE 1 0 < /dev/null
+check "its summary" [ "$(tr '\n' ' ' < out)" = 'TRANSACTIONS 1 COMMITTED 1 ABORTED 0 A S 1 A R 1 A I 0 B S 0 B R 0 B I 1 ' ]
 long() { head -c 20001 /dev/zero | "$dtm" RUN A=new.img; }
 ends "a long line" 6 long
 check "its limit" grep -q '20000 bytes' err

@@ -46,82 +46,87 @@ fn file(name: FileName, start: u32, alloc: u32, ai: u32, save: u32) -> FileHead 
     }
 }
 
+// Free of it are 990 to 999, 1032 to 1033, 1040 to 1051 and 1058 to 1061.
+const AREA: Extent = Extent {
+    start: 990,
+    end: 1062,
+};
+
+const LATER: Extent = Extent {
+    start: 1000,
+    end: 1050,
+};
+
+// So many blocks, and where they are free in the area, and in the later one.
+const RUNS: [(u32, Option<u64>); 7] = [
+    (0, Some(990)),
+    (1, Some(990)),
+    (10, Some(990)),
+    (11, Some(1040)),
+    (12, Some(1040)),
+    (13, None),
+    (72, None),
+];
+
+const LATER_RUNS: [(u32, Option<u64>); 5] = [
+    (0, Some(1032)),
+    (2, Some(1032)),
+    (3, Some(1040)),
+    (10, Some(1040)),
+    (11, None),
+];
+
+// Two files, 3 and 60: where the second lies with its journal and its copy, and the copy of the first.
+fn heads(start: u32, ai: u32, save: u32, other: u32) -> Option<[Option<FileHead>; 64]> {
+    let name = FileName::new(b"F")?;
+    let mut heads = [None; 64];
+    heads[3] = Some(file(name, 1000, 10, 1022, other));
+    heads[60] = Some(file(name, start, 1, ai, save));
+    Some(heads)
+}
+
 #[test]
 fn free_runs_lie_between_the_files(rt: HostRuntime) {
-    let Some(name) = FileName::new(b"F") else {
+    // Buckets 1000 to 1019, journal 1022 to 1026, copy 1034 to 1039; and 1020 to 1021, 1027 to 1031, 1052 to 1057.
+    let Some(heads) = heads(1020, 1027, 1052, 1034) else {
         return assert!(rt; false);
     };
-    // Buckets 1000 to 1019, journal 1022 to 1026, copy 1034 to 1039; and 1020 to 1021, 1027 to 1031, 1052 to 1057.
-    let mut heads = [None; 64];
-    heads[3] = Some(file(name, 1000, 10, 1022, 1034));
-    heads[60] = Some(file(name, 1020, 1, 1027, 1052));
     let extents = all_extents(&heads);
-    // Free are 990 to 999, 1032 to 1033, 1040 to 1051 and 1058 to 1061.
-    let area = Extent {
-        start: 990,
-        end: 1062,
-    };
-    let runs: [(u32, Option<u64>); 7] = [
-        (0, Some(990)),
-        (1, Some(990)),
-        (10, Some(990)),
-        (11, Some(1040)),
-        (12, Some(1040)),
-        (13, None),
-        (72, None),
-    ];
-    for (blocks, start) in runs {
-        assert_eq!(rt; free_run(&extents, area, blocks), start, "{blocks} blocks");
+    for (blocks, start) in RUNS {
+        assert_eq!(rt; free_run(&extents, AREA, blocks), start, "{blocks} blocks");
     }
-    let later = Extent {
-        start: 1000,
-        end: 1050,
-    };
-    let after: [(u32, Option<u64>); 5] = [
-        (0, Some(1032)),
-        (2, Some(1032)),
-        (3, Some(1040)),
-        (10, Some(1040)),
-        (11, None),
-    ];
-    for (blocks, start) in after {
+    for (blocks, start) in LATER_RUNS {
         assert_eq!(rt;
-            free_run(&extents, later, blocks),
+            free_run(&extents, LATER, blocks),
             start,
             "{blocks} blocks behind 999"
         );
     }
-    assert_eq!(rt; longest_free(&extents, area), 12);
-    assert_eq!(rt; longest_free(&extents, later), 10);
-    assert_eq!(rt; first_misfit(&area, &extents), None);
-    assert_eq!(rt; first_misfit(&later, &extents), Some(243));
+    assert_eq!(rt; longest_free(&extents, AREA), 12);
+    assert_eq!(rt; longest_free(&extents, LATER), 10);
+    assert_eq!(rt; first_misfit(&AREA, &extents), None);
+    assert_eq!(rt; first_misfit(&LATER, &extents), Some(243));
 }
+
+// Where the second file lies, and the place of the first misfit: 4 extents for each file number.
+const MISFITS: [(u32, u32, u32, Option<usize>); 7] = [
+    (1032, 1027, 1050, None),
+    (1031, 1027, 1050, Some(241)),
+    (1019, 1027, 1050, Some(240)),
+    (1060, 1027, 1050, None),
+    (1061, 1027, 1050, Some(240)),
+    (1032, 985, 1050, Some(241)),
+    (1032, 1027, 1041, Some(243)),
+];
 
 #[test]
 fn a_misfit_is_the_later_of_two_that_overlap(rt: HostRuntime) {
-    let Some(name) = FileName::new(b"F") else {
-        return assert!(rt; false);
-    };
-    // Where the second file lies, and the place of the first misfit: 4 extents for each file number.
-    let table: [(u32, u32, u32, Option<usize>); 7] = [
-        (1032, 1027, 1050, None),
-        (1031, 1027, 1050, Some(241)),
-        (1019, 1027, 1050, Some(240)),
-        (1060, 1027, 1050, None),
-        (1061, 1027, 1050, Some(240)),
-        (1032, 985, 1050, Some(241)),
-        (1032, 1027, 1041, Some(243)),
-    ];
-    let area = Extent {
-        start: 990,
-        end: 1062,
-    };
-    for (start, ai, save, place) in table {
-        let mut heads = [None; 64];
-        heads[3] = Some(file(name, 1000, 10, 1022, 1040));
-        heads[60] = Some(file(name, start, 1, ai, save));
+    for (start, ai, save, place) in MISFITS {
+        let Some(heads) = heads(start, ai, save, 1040) else {
+            return assert!(rt; false);
+        };
         assert_eq!(rt;
-            first_misfit(&area, &all_extents(&heads)),
+            first_misfit(&AREA, &all_extents(&heads)),
             place,
             "{start} {ai} {save}"
         );

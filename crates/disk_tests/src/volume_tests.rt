@@ -129,36 +129,36 @@ fn stage<D: Disk>(volume: &mut Volume<D>, number: u8, head: &FileHead) -> bool {
     volume.stage_head(number, head).is_ok()
 }
 
+// What a disk answers the mount of a node with a name of one letter.
+fn answer(alloc: Global, disk: CrashDisk<MemPlatter>, letter: u8) -> Option<Outcome> {
+    let node = NodeName::new(&[letter])?;
+    Some(outcome_of(mounted(alloc, disk, node).ok()??))
+}
+
+// The node that mounts, the byte of the image that is changed, and the answer.
+const MOUNTS: [(u8, Option<(u32, usize, u8)>, Outcome); 9] = [
+    (b'A', None, Outcome::Volume),
+    (b'B', None, Outcome::Finding(3, 518)),
+    (b'A', Some((518, 0, 0)), Outcome::Finding(1, 518)),
+    (b'B', Some((518, 8, 2)), Outcome::Finding(1, 518)),
+    (b'B', Some((518, 16, 63)), Outcome::Finding(2, 518)),
+    (b'A', Some((518, 13, 15)), Outcome::Finding(2, 518)),
+    (b'A', Some((518, 80, 3)), Outcome::Finding(3, 518)),
+    (b'A', Some((519, 1, 9)), Outcome::Finding(4, 519)),
+    (b'A', Some((582, 511, 1)), Outcome::Finding(4, 582)),
+];
+
 #[test]
 fn a_mount_names_the_lowest_condition(rt: HostRuntime) -> Result<(), Fail> {
-    let alloc = rt.alloc();
-    let (Some(a), Some(b)) = (NodeName::new(b"A"), NodeName::new(b"B")) else {
-        return Ok(assert!(rt; false));
-    };
-    // The node that mounts, the byte of the image that is changed, and the answer.
-    let table: [(NodeName, Option<(u32, usize, u8)>, Outcome); 9] = [
-        (a, None, Outcome::Volume),
-        (b, None, Outcome::Finding(3, 518)),
-        (a, Some((518, 0, 0)), Outcome::Finding(1, 518)),
-        (b, Some((518, 8, 2)), Outcome::Finding(1, 518)),
-        (b, Some((518, 16, 63)), Outcome::Finding(2, 518)),
-        (a, Some((518, 13, 15)), Outcome::Finding(2, 518)),
-        (a, Some((518, 80, 3)), Outcome::Finding(3, 518)),
-        (a, Some((519, 1, 9)), Outcome::Finding(4, 519)),
-        (a, Some((582, 511, 1)), Outcome::Finding(4, 582)),
-    ];
-    for (node, at, want) in table {
-        let disk = changed(alloc, at)?;
-        let Some(result) = mounted(alloc, disk, node)? else {
-            return Ok(assert!(rt; false));
-        };
-        assert_eq!(rt; outcome_of(result), want);
+    for (letter, at, want) in MOUNTS {
+        let disk = changed(rt.alloc(), at)?;
+        assert_eq!(rt; answer(rt.alloc(), disk, letter), Some(want));
     }
-    let zeros = CrashDisk::new(alloc, MemPlatter::new(alloc, 4096)?)?;
-    let Some(result) = mounted(alloc, zeros, a)? else {
-        return Ok(assert!(rt; false));
-    };
-    assert_eq!(rt; outcome_of(result), Outcome::Finding(1, 518));
+    let zeros = CrashDisk::new(rt.alloc(), MemPlatter::new(rt.alloc(), 4096)?)?;
+    assert_eq!(rt;
+        answer(rt.alloc(), zeros, b'A'),
+        Some(Outcome::Finding(1, 518))
+    );
     Ok(())
 }
 
@@ -171,84 +171,134 @@ fn put_file<D: Disk>(disk: &mut D, number: u32, head: FileHead) {
     }
 }
 
+// A file with a name of one letter, its first block and its buckets of two blocks.
+type Lying = (u8, u32, u32);
+
+fn put_named<D: Disk>(disk: &mut D, number: u32, (letter, start, alloc): Lying) {
+    if let Some(name) = FileName::new(&[letter]) {
+        put_file(disk, number, file(name, start, alloc));
+    }
+}
+
+// The data area is 1736 to 4095. The files have the numbers 0 and 2.
+const LYING: [(Lying, Lying, Outcome); 7] = [
+    ((b'F', 1736, 10), (b'G', 2000, 100), Outcome::Volume),
+    (
+        (b'F', 1735, 10),
+        (b'G', 2000, 100),
+        Outcome::Finding(5, 519),
+    ),
+    ((b'F', 1736, 10), (b'G', 1755, 1), Outcome::Finding(5, 521)),
+    ((b'F', 1736, 10), (b'G', 1756, 1170), Outcome::Volume),
+    (
+        (b'F', 1736, 10),
+        (b'G', 1756, 1171),
+        Outcome::Finding(5, 521),
+    ),
+    (
+        (b'F', 1736, 10),
+        (b'F', 2000, 100),
+        Outcome::Finding(4, 521),
+    ),
+    ((b'F', 1736, 0), (b'G', 1735, 100), Outcome::Finding(4, 519)),
+];
+
 #[test]
 fn files_lie_in_the_data_area_and_apart(rt: HostRuntime) -> Result<(), Fail> {
-    let alloc = rt.alloc();
-    let (Some(node), Some(f), Some(g)) = (
-        NodeName::new(b"A"),
-        FileName::new(b"F"),
-        FileName::new(b"G"),
-    ) else {
-        return Ok(assert!(rt; false));
-    };
-    // The data area is 1736 to 4095. F has number 0, the other file number 2, both with buckets of two blocks: first
-    // block and buckets of F, name, first block and buckets of the other, and the answer.
-    let table: [(u32, u32, FileName, u32, u32, Outcome); 7] = [
-        (1736, 10, g, 2000, 100, Outcome::Volume),
-        (1735, 10, g, 2000, 100, Outcome::Finding(5, 519)),
-        (1736, 10, g, 1755, 1, Outcome::Finding(5, 521)),
-        (1736, 10, g, 1756, 1170, Outcome::Volume),
-        (1736, 10, g, 1756, 1171, Outcome::Finding(5, 521)),
-        (1736, 10, f, 2000, 100, Outcome::Finding(4, 521)),
-        (1736, 0, g, 1735, 100, Outcome::Finding(4, 519)),
-    ];
-    for (start, alloc_of_f, name, other, alloc_of_other, want) in table {
-        let mut disk = changed(alloc, None)?;
-        put_file(&mut disk, 0, file(f, start, alloc_of_f));
-        put_file(&mut disk, 2, file(name, other, alloc_of_other));
-        let Some(result) = mounted(alloc, disk, node)? else {
-            return Ok(assert!(rt; false));
-        };
-        assert_eq!(rt; outcome_of(result), want);
+    for (first, second, want) in LYING {
+        let mut disk = changed(rt.alloc(), None)?;
+        put_named(&mut disk, 0, first);
+        put_named(&mut disk, 2, second);
+        assert_eq!(rt; answer(rt.alloc(), disk, b'A'), Some(want));
     }
     Ok(())
 }
 
-#[test]
-fn a_volume_finds_its_files_and_its_free_blocks(rt: HostRuntime) -> Result<(), Fail> {
-    let alloc = rt.alloc();
-    let (Some(node), Some(f), Some(g)) = (
-        NodeName::new(b"A"),
-        FileName::new(b"F"),
-        FileName::new(b"G"),
-    ) else {
-        return Ok(assert!(rt; false));
+// What is seen of a volume: the number of a file with a name of one letter, the first free number, where so many blocks are free, and whether a file
+// is staged at a number.
+#[derive(Clone, Copy)]
+enum Seen {
+    Found(u8, Option<u8>),
+    FreeFile(Option<u8>),
+    FreeRun(u32, Option<u32>),
+    Staged(u8, Lying),
+    Longest(u32),
+}
+
+fn found<D: Disk>(volume: &Volume<D>, letter: u8) -> Option<u8> {
+    let name = FileName::new(&[letter])?;
+    volume.find(&name)
+}
+
+fn staged<D: Disk>(volume: &mut Volume<D>, number: u8, (letter, start, alloc): Lying) -> bool {
+    match FileName::new(&[letter]) {
+        Some(name) => stage(volume, number, &file(name, start, alloc)),
+        None => false,
+    }
+}
+
+// Whether the volume is seen so.
+fn is_seen<D: Disk>(volume: &mut Volume<D>, seen: Seen) -> bool {
+    match seen {
+        Seen::Found(letter, want) => found(volume, letter) == want,
+        Seen::FreeFile(want) => volume.free_file() == want,
+        Seen::FreeRun(blocks, want) => volume.free_run(blocks) == want,
+        Seen::Staged(number, lying) => staged(volume, number, lying),
+        Seen::Longest(want) => volume.longest_free() == want,
+    }
+}
+
+const FREE: [Seen; 11] = [
+    Seen::Found(b'F', Some(0)),
+    Seen::Found(b'G', None),
+    Seen::FreeFile(Some(1)),
+    Seen::FreeRun(2340, Some(1756)),
+    Seen::FreeRun(2341, None),
+    Seen::Staged(2, (b'G', 2000, 100)),
+    Seen::Found(b'G', Some(2)),
+    Seen::FreeFile(Some(1)),
+    Seen::FreeRun(244, Some(1756)),
+    Seen::FreeRun(245, Some(2200)),
+    Seen::Longest(1896),
+];
+
+// Which of the things above a volume is seen with, and its journal; None where it is not mounted.
+fn seen_all(alloc: Global, disk: CrashDisk<MemPlatter>) -> Option<([bool; 11], u32, u32)> {
+    let node = NodeName::new(b"A")?;
+    let Some(Ok(mut volume)) = mounted(alloc, disk, node).ok()? else {
+        return None;
     };
-    let mut disk = changed(alloc, None)?;
-    put_file(&mut disk, 0, file(f, 1736, 10));
-    let Some(Ok(mut volume)) = mounted(alloc, disk, node)? else {
-        return Ok(assert!(rt; false));
-    };
-    assert_eq!(rt; volume.find(&f), Some(0));
-    assert_eq!(rt; volume.find(&g), None);
-    assert_eq!(rt; volume.free_file(), Some(1));
-    assert_eq!(rt; volume.free_run(2340), Some(1756));
-    assert_eq!(rt; volume.free_run(2341), None);
-    assert!(rt; stage(&mut volume, 2, &file(g, 2000, 100)));
-    assert_eq!(rt; volume.find(&g), Some(2));
-    assert_eq!(rt; volume.free_file(), Some(1));
-    assert_eq!(rt; volume.free_run(244), Some(1756));
-    assert_eq!(rt; volume.free_run(245), Some(2200));
-    assert_eq!(rt; volume.longest_free(), 1896);
-    assert_eq!(rt; (volume.ru().start, volume.ru().blocks), (712, 1024));
-    Ok(())
+    let mut seen = [false; 11];
+    for i in 0..11 {
+        seen[i] = is_seen(&mut volume, FREE[i]);
+    }
+    Some((seen, volume.ru().start, volume.ru().blocks))
 }
 
 #[test]
+fn a_volume_finds_its_files_and_its_free_blocks(rt: HostRuntime) -> Result<(), Fail> {
+    let mut disk = changed(rt.alloc(), None)?;
+    put_named(&mut disk, 0, (b'F', 1736, 10));
+    assert_eq!(rt; seen_all(rt.alloc(), disk), Some(([true; 11], 712, 1024)));
+    Ok(())
+}
+
+// Blocks of the disk, log slots, journal blocks.
+const SIZES: [(u32, u32, u32, bool); 9] = [
+    (4096, 128, 1024, true),
+    (4096, 64, 64, true),
+    (4096, 63, 64, false),
+    (4096, 64, 63, false),
+    (65_536, 512, 8192, true),
+    (65_536, 513, 8192, false),
+    (65_536, 512, 8193, false),
+    (4096, 512, 2999, true),
+    (4096, 512, 3000, false),
+];
+
+#[test]
 fn sizes_have_limits(rt: HostRuntime) {
-    // Blocks of the disk, log slots, journal blocks.
-    let table: [(u32, u32, u32, bool); 9] = [
-        (4096, 128, 1024, true),
-        (4096, 64, 64, true),
-        (4096, 63, 64, false),
-        (4096, 64, 63, false),
-        (65_536, 512, 8192, true),
-        (65_536, 513, 8192, false),
-        (65_536, 512, 8193, false),
-        (4096, 512, 2999, true),
-        (4096, 512, 3000, false),
-    ];
-    for (blocks, slots, ru_blocks, fits) in table {
+    for (blocks, slots, ru_blocks, fits) in SIZES {
         let sizes = Sizes {
             blocks,
             slots,
@@ -289,36 +339,42 @@ fn listed(
     }
 }
 
+// Bytes that are changed, the node, and what fails.
+const FAILING: [([(u32, usize, u8); 3], u8, &[(u8, u32)]); 8] = [
+    ([(519, 0, 0); 3], b'A', &[]),
+    ([(518, 0, 0), (518, 16, 1), (519, 0, 7)], b'B', &[(1, 518)]),
+    ([(518, 16, 1), (519, 0, 7), (520, 0, 7)], b'B', &[(2, 518)]),
+    ([(0, 0, 1), (1, 0, 1), (1, 1, 2)], b'A', &[(2, 518)]),
+    ([(519, 0, 7); 3], b'B', &[(3, 518)]),
+    (
+        [(519, 0, 7), (524, 9, 1), (582, 511, 1)],
+        b'A',
+        &[(4, 519), (4, 524), (4, 582)],
+    ),
+    ([(520, 0, 2), (583, 0, 1), (584, 0, 1)], b'A', &[(4, 520)]),
+    ([(583, 0, 1), (584, 0, 1), (1735, 0, 1)], b'A', &[]),
+];
+
+// Whether just these are the findings at the node with this letter.
+fn finds(
+    alloc: Global,
+    disk: CrashDisk<MemPlatter>,
+    letter: u8,
+    want: &[(u8, u32)],
+) -> Option<bool> {
+    let node = NodeName::new(&[letter])?;
+    let out = listed(alloc, disk, node).ok()??;
+    Some(lists(out.items(), want))
+}
+
 #[test]
 fn each_failing_condition_is_listed(rt: HostRuntime) -> Result<(), Fail> {
-    let alloc = rt.alloc();
-    let (Some(a), Some(b)) = (NodeName::new(b"A"), NodeName::new(b"B")) else {
-        return Ok(assert!(rt; false));
-    };
-    // Bytes that are changed, the node, and what fails.
-    let table: [([(u32, usize, u8); 3], NodeName, &[(u8, u32)]); 8] = [
-        ([(519, 0, 0); 3], a, &[]),
-        ([(518, 0, 0), (518, 16, 1), (519, 0, 7)], b, &[(1, 518)]),
-        ([(518, 16, 1), (519, 0, 7), (520, 0, 7)], b, &[(2, 518)]),
-        ([(0, 0, 1), (1, 0, 1), (1, 1, 2)], a, &[(2, 518)]),
-        ([(519, 0, 7); 3], b, &[(3, 518)]),
-        (
-            [(519, 0, 7), (524, 9, 1), (582, 511, 1)],
-            a,
-            &[(4, 519), (4, 524), (4, 582)],
-        ),
-        ([(520, 0, 2), (583, 0, 1), (584, 0, 1)], a, &[(4, 520)]),
-        ([(583, 0, 1), (584, 0, 1), (1735, 0, 1)], a, &[]),
-    ];
-    for (bytes, node, want) in table {
-        let mut disk = changed(alloc, None)?;
+    for (bytes, letter, want) in FAILING {
+        let mut disk = changed(rt.alloc(), None)?;
         for (block, byte, value) in bytes {
             poke(&mut disk, block, byte, value);
         }
-        let Some(out) = listed(alloc, disk, node)? else {
-            return Ok(assert!(rt; false));
-        };
-        assert!(rt; lists(out.items(), want));
+        assert_eq!(rt; finds(rt.alloc(), disk, letter, want), Some(true));
     }
     Ok(())
 }
@@ -330,86 +386,67 @@ fn lists(found: &[Finding], want: &[(u8, u32)]) -> bool {
             && x.block == *block)
 }
 
-// A file with a name of one letter.
-fn put_named<D: Disk>(disk: &mut D, number: u32, (letter, start, alloc): (u8, u32, u32)) {
-    if let Some(name) = FileName::new(&[letter]) {
-        put_file(disk, number, file(name, start, alloc));
-    }
-}
+// Files 0, 2 and 7, and what fails. The data area is 1736 to 4095.
+const FILES: [([Lying; 3], &[(u8, u32)]); 7] = [
+    ([(b'F', 1736, 10), (b'G', 1756, 10), (b'H', 1776, 10)], &[]),
+    (
+        [(b'F', 1736, 10), (b'F', 1756, 10), (b'F', 1776, 10)],
+        &[(4, 521), (4, 526)],
+    ),
+    // The name of file 2 is not tested against a file that does not fit itself.
+    (
+        [(b'F', 1736, 0), (b'F', 1756, 10), (b'F', 1776, 10)],
+        &[(4, 519), (4, 526)],
+    ),
+    (
+        [(b'F', 1735, 10), (b'G', 1735, 10), (b'F', 1776, 10)],
+        &[(4, 526)],
+    ),
+    (
+        [(b'F', 1735, 10), (b'G', 1755, 10), (b'H', 1774, 10)],
+        &[(5, 519), (5, 526)],
+    ),
+    (
+        [(b'F', 1736, 11), (b'G', 1756, 10), (b'H', 1736, 1)],
+        &[(5, 521), (5, 526)],
+    ),
+    (
+        [(b'F', 4076, 11), (b'G', 1756, 10), (b'H', 4094, 1)],
+        &[(5, 519), (5, 526)],
+    ),
+];
 
 #[test]
 fn each_file_that_fails_is_listed(rt: HostRuntime) -> Result<(), Fail> {
-    let alloc = rt.alloc();
-    let Some(node) = NodeName::new(b"A") else {
-        return Ok(assert!(rt; false));
-    };
-    let [f, g, h] = *b"FGH";
-    // Files 0, 2 and 7: name, first block and buckets of two blocks; and what fails. The data area is 1736 to 4095.
-    let table: [((u8, u32, u32), (u8, u32, u32), (u8, u32, u32), &[(u8, u32)]); 7] = [
-        ((f, 1736, 10), (g, 1756, 10), (h, 1776, 10), &[]),
-        (
-            (f, 1736, 10),
-            (f, 1756, 10),
-            (f, 1776, 10),
-            &[(4, 521), (4, 526)],
-        ),
-        // The name of file 2 is not tested against a file that does not fit itself.
-        (
-            (f, 1736, 0),
-            (f, 1756, 10),
-            (f, 1776, 10),
-            &[(4, 519), (4, 526)],
-        ),
-        ((f, 1735, 10), (g, 1735, 10), (f, 1776, 10), &[(4, 526)]),
-        (
-            (f, 1735, 10),
-            (g, 1755, 10),
-            (h, 1774, 10),
-            &[(5, 519), (5, 526)],
-        ),
-        (
-            (f, 1736, 11),
-            (g, 1756, 10),
-            (h, 1736, 1),
-            &[(5, 521), (5, 526)],
-        ),
-        (
-            (f, 4076, 11),
-            (g, 1756, 10),
-            (h, 4094, 1),
-            &[(5, 519), (5, 526)],
-        ),
-    ];
-    for (first, second, third, want) in table {
-        let mut disk = changed(alloc, None)?;
+    for (files, want) in FILES {
+        let [first, second, third] = files;
+        let mut disk = changed(rt.alloc(), None)?;
         put_named(&mut disk, 0, first);
         put_named(&mut disk, 2, second);
         put_named(&mut disk, 7, third);
-        let Some(out) = listed(alloc, disk, node)? else {
-            return Ok(assert!(rt; false));
-        };
-        assert!(rt; lists(out.items(), want));
+        assert_eq!(rt; finds(rt.alloc(), disk, b'A', want), Some(true));
     }
     Ok(())
 }
 
+fn add(out: &mut Findings, number: u8, block: u32) {
+    out.add(Finding { number, block });
+}
+
+// The findings of a thousand and more.
+fn findings(alloc: Global) -> Result<Findings, AllocError> {
+    let mut out = Findings::reserve(alloc)?;
+    for i in 0..600 {
+        add(&mut out, 9, 600 - i);
+        add(&mut out, 8, 600 - i);
+        add(&mut out, 8, 600 - i);
+    }
+    Ok(out)
+}
+
 #[test]
 fn the_first_thousand_findings_are_kept(rt: HostRuntime) -> Result<(), Fail> {
-    let mut out = Findings::reserve(rt.alloc())?;
-    for i in 0..600 {
-        out.add(Finding {
-            number: 9,
-            block: 600 - i,
-        });
-        out.add(Finding {
-            number: 8,
-            block: 600 - i,
-        });
-        out.add(Finding {
-            number: 8,
-            block: 600 - i,
-        });
-    }
+    let out = findings(rt.alloc())?;
     let found = out.items();
     assert_eq!(rt; found.len(), 1000);
     assert!(rt; lists(&found[..2], &[(8, 1), (8, 2)]));

@@ -1,4 +1,5 @@
 pub mod Causes
 pub mod Commands
+pub mod Days
 pub mod Images
 pub mod Statuses

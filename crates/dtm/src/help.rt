@@ -22,11 +22,12 @@ const USAGE: &str = "\
 dtm runs a script of transaction and record services by simulated nodes, each over a disk image.
 
   dtm RUN NODE=IMAGE ...   reads the script from the standard input and writes its transcript to the standard output
+  dtm MAKE n start         runs a day of n transactions by nodes over disks in memory, and writes its summary to the standard output
   dtm --help               shows this
-  dtm MAKE n start         is not built yet
 
 There are one to eight nodes, each over an image of its own. NODE is 1 to 6 letters and digits, a letter first. IMAGE is the path
 of a file of 4096 to 65536 blocks of 512 bytes; where there is none, one of 8192 blocks is made. INIT in a script erases what the image had.
+n is 1 to 10000, and start 0 to 4294967295: the day draws its numbers from it. Neither has a leading zero.
 
   dtm RUN A=ledger.img < examples/first.dtm
 

@@ -1,11 +1,12 @@
 //! The program `dtm`: runs the script of the standard input over one image file for each node, and writes its transcript to the
-//! standard output.
+//! standard output; or runs a day of transactions over disks in memory, and writes its summary there.
 #![tactic(auto)]
 
 ghost use Rattle.std.specs.Prelude.{◌≡◌};
 ghost use Rattle.dtm.specs.Statuses.{status_of as status_said};
 
 mod command;
+mod day;
 mod help;
 mod images;
 mod system;
@@ -13,15 +14,16 @@ mod watch;
 mod words;
 
 use command::run_command;
+use day::{is_for_a_day, run_day_command};
 use dtm_run::Exit;
 use help::{said_of, said_of_images};
-use images::OpenErr;
-use std::alloc::AllocError;
+use images::{ImageFiles, OpenErr};
+use std::alloc::{AllocError, Global};
 use std::env;
 use std::io::{ErrorKind, writer};
 use std::process::ExitCode;
 use system::{SystemFiles, hold_streams};
-use transcript::{ReaderSource, WriterSink};
+use transcript::{ReaderSource, Sink, Source, WriterSink};
 use watch::{Tail, WatchedSink, WatchedSource};
 
 const CANNOT_OPEN: u8 = 7;
@@ -57,6 +59,33 @@ fn say(rt: &impl Eprint, said: Result<String, AllocError>) {
     }
 }
 
+// How the day ends that words ask for; or that memory is missing for it.
+fn day_ended<S: Source, K: Sink>(
+    alloc: Global,
+    words: &[String],
+    source: &mut S,
+    sink: &mut K,
+) -> Result<Exit, OpenErr<'static>> {
+    match run_day_command(alloc, words, source, sink) {
+        Ok((exit, _rack)) => Ok(exit),
+        Err(_) => Err(OpenErr::Memory),
+    }
+}
+
+// How the script ends over the images that words name; or why one of these is not opened.
+fn script_ended<'a, F: ImageFiles, S: Source, K: Sink>(
+    files: &F,
+    alloc: Global,
+    words: &'a [String],
+    source: &mut S,
+    sink: &mut K,
+) -> Result<Exit, OpenErr<'a>> {
+    match run_command(files, alloc, words, source, sink) {
+        Ok((exit, _rack)) => Ok(exit),
+        Err(e) => Err(e),
+    }
+}
+
 fn main(rt: HostRuntime) -> ExitCode {
     hold_streams(&rt);
     let alloc = rt.alloc();
@@ -77,8 +106,13 @@ fn main(rt: HostRuntime) -> ExitCode {
         sink: WriterSink::new(writer(&rt)),
         tail: transcript,
     };
-    match run_command(&files, alloc, &words, &mut source, &mut sink) {
-        Ok((exit, _rack)) => {
+    let ended = if is_for_a_day(&words) {
+        day_ended(alloc, &words, &mut source, &mut sink)
+    } else {
+        script_ended(&files, alloc, &words, &mut source, &mut sink)
+    };
+    match ended {
+        Ok(exit) => {
             say(&rt, said_of(alloc, exit, &source.tail, &sink.tail));
             ExitCode::from(status_of(exit))
         }

@@ -7,7 +7,7 @@ use Rattle.commit_protocol.proofs.Lists.{in_parts}
 use Rattle.transcript_model.specs.Lines as line
 use Rattle.transcript_model.specs.Lines.{Cause, Line}
 use Rattle.script_model.specs.Statements.{Boot, Crash}
-use Rattle.run_laws.specs.Said.{is_of_lines}
+use Rattle.run_said.specs.Said.{is_of_lines}
 use Rattle.run_model.specs.Answers.{Restarts, Serves, Task, task_service}
 use Rattle.said_steps.specs.Answers.{ends_boot, is_broken, is_served, may_answer}
 use Rattle.said_steps.specs.Answers.{IsSteady}

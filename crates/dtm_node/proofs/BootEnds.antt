@@ -11,7 +11,7 @@ use Rattle.transcript_model.specs.Lines.{Cause, Line}
 use Rattle.transcript_model.specs.Outside.{Rose}
 use Rattle.script_model.specs.Statements as said
 use Rattle.script_model.specs.Statements.{Boot}
-use Rattle.run_laws.specs.Said.{Said, is_of_lines, line_said, lines_said, request_said, with_use}
+use Rattle.run_said.specs.Said.{Said, is_of_lines, line_said, lines_said, request_said, with_use}
 use Rattle.said_steps.specs.Answers.{ends_boot as ends_boot_by}
 use Rattle.said_steps.specs.Calls.{is_boot_refusal, shows_boot}
 use Rattle.said_steps.specs.Own.{IsOwn}

@@ -15,7 +15,7 @@ use Rattle.transcript_model.specs.Lines.{Cause, Line}
 use Rattle.emitter_model.proofs.EmittingLemmas.{emits_on}
 use Rattle.script_model.specs.Statements.{Boot, Fuse}
 use Rattle.careful_write.specs.declared.down.Down.{Down}
-use Rattle.run_laws.specs.Said.{Said, is_of_lines, line_said, lines_said, with_said, with_up, with_use}
+use Rattle.run_said.specs.Said.{Said, is_of_lines, line_said, lines_said, with_said, with_up, with_use}
 use Rattle.said_steps.specs.Calls.{shows_boot}
 use Rattle.said_steps.specs.Own.{IsOwn}
 use Rattle.run_model.specs.Answers.{Restarts, Serves, Task, refused_before_reading, task_service}

@@ -12,7 +12,7 @@ use Rattle.transcript_model.specs.Lines.{Cause, Line}
 use Rattle.transcript_model.specs.Outside.{Rose}
 use Rattle.emitter_model.proofs.EmittingLemmas.{emits_on}
 use Rattle.script_model.specs.Statements.{Crash, Fuse}
-use Rattle.run_laws.specs.Said.{Said, SaidNode, SaidShared, down_said, is_of_lines, line_said, lines_said}
+use Rattle.run_said.specs.Said.{Said, SaidNode, SaidShared, down_said, is_of_lines, line_said, lines_said}
 use Rattle.said_steps.specs.Own.{IsOwn}
 use Rattle.run_model.specs.World as world
 use Rattle.run_model.specs.World.{Node}

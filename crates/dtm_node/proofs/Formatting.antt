@@ -26,7 +26,7 @@ use Rattle.transcript_model.specs.Lines as line
 use Rattle.transcript_model.specs.Lines.{Line, Cause, Failed}
 use Rattle.emitter_model.specs.Emitting.{Shown, Emits}
 use Rattle.script_model.specs.Statements.{Init}
-use Rattle.run_laws.specs.Said.{Said, SaidNode, SaidShared, is_of_lines, line_said, request_said, with_said}
+use Rattle.run_said.specs.Said.{Said, SaidNode, SaidShared, is_of_lines, line_said, request_said, with_said}
 use Rattle.said_steps.specs.Own.{IsOwn, alone}
 use Rattle.run_model.specs.World.{DiskCounts, Formats, Lost, Node, Power, Shared, Unknown, acted, fallen, powered, unpowered}
 use Rattle.run_model.specs.Answers.{Serves, is_volume_form, is_within, refused_before_reading, service}

@@ -7,7 +7,7 @@ use Rattle.emitter_model.specs.Emitting.{Emits, Shown}
 use Rattle.transcript_model.specs.Lines as line
 use Rattle.transcript_model.specs.Lines.{Line}
 use Rattle.script_model.specs.Statements.{AddBranch, Boot, Init, Request, StartTrans}
-use Rattle.run_laws.specs.Said.{Said, lines_said, request_said}
+use Rattle.run_said.specs.Said.{Said, lines_said, request_said}
 use Rattle.run_model.specs.Answers.{Serves}
 use Rattle.run_model.specs.World as world
 use Rattle.recovery_units.specs.State.{UnitsState}

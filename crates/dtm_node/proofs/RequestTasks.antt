@@ -9,7 +9,7 @@ use Rattle.transcript_model.specs.Lines.{Cause, Line}
 use Rattle.transcript_model.specs.Outside.{Rose}
 use Rattle.emitter_model.proofs.EmittingLemmas.{emits_on}
 use Rattle.script_model.specs.Statements.{AbortTrans, AckEvent, AddBranch, Boot, Clock, Crash, Create, DeclareRm, Direct, Dump, DumpJournal, EndBranch, EndTrans, ForgetRm, Fuse, GetDti, Init, Inquire, JoinRm, LmcpDump, LmcpShow, Records, Request, SetFile, StartBranch, StartTrans}
-use Rattle.run_laws.specs.Said.{Said, SaidShared, line_said, lines_said, refused_by_lines, request_said}
+use Rattle.run_said.specs.Said.{Said, SaidShared, line_said, lines_said, refused_by_lines, request_said}
 use Rattle.said_steps.specs.Answers.{is_broken, is_served, may_answer}
 use Rattle.said_steps.proofs.Refusals.{refusal_of_lines}
 use Rattle.said_steps.specs.Own.{IsOwn}

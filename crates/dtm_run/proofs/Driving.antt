@@ -14,7 +14,7 @@ use Rattle.script_lang.specs.Statements.{reading_of, statement_of}
 use Rattle.run_model.specs.World.{World, Node}
 use Rattle.run_model.specs.Transcript as model
 use Rattle.run_model.specs.Transcript.{AreOpening, EndsTooLong, Entry}
-use Rattle.run_laws.specs.Said.{nothing_said}
+use Rattle.run_said.specs.Said.{nothing_said}
 use Rattle.run_shared.specs.Sharing.{SharedState}
 use Rattle.recovery_units.specs.State.{UnitsState}
 use Rattle.node_table.specs.Code.{up_of}
@@ -27,10 +27,7 @@ use Rattle.node_requests.specs.Standing.{Kept, StandsIn, disk_in, noted_all}
 use Rattle.run_nodes.specs.Held.{AreNodesIn}
 use Rattle.run_nodes.specs.Together.{StandAll, StandsTogether, disks_of, said_together}
 use Rattle.run_nodes.specs.Told.{kept_names}
-use Rattle.run_nodes.specs.Untold.{IsTimely}
 use Rattle.run_nodes.proofs.Entries.{kept_in}
-use Rattle.script_laws.specs.Clocks.{IsEarly}
-use Rattle.script_laws.proofs.EarlyLemmas.{reading_early}
 use Rattle.dtm_run.specs.Headline.{IsVolumeOf, Leaves, LeavesNode, LeaveNodes, StandOn, exit_of}
 use Rattle.dtm_run.specs.Leading.{Beginning, RunsFrom}
 use Rattle.dtm_run.specs.Taking.{AreAtZero}
@@ -140,25 +137,3 @@ module _ (names : List (List ℕ)) (first : Beginning) (script ahead : Option (L
 -- the exit as it is given back
 pub runs_as : (names : List (List ℕ)) (first : Beginning) (script : Option (List ScriptLine)) (old new : Option (List ℕ)) (x y : Exit) (ds : List DiskState) → y ≡ x → RunsFrom names first script old new x ds → RunsFrom names first script old new y ds
 runs_as names first script old new x y ds is r = subst (λ z. RunsFrom names first script old new z ds) (sym is) r
-
--- what a line was read to say
-
-pub read_blank : (lit : Literals) (o : Option code.Statement) (given line : List ℕ) → o ≡ None → given ≡ line → reading_of lit (Ok o) ≡ reading given → reading line ≡ Blank
-read_blank lit o given line e is h = ap reading (sym is) ∙ sym h ∙ ap (λ x. reading_of lit (Ok x)) e
-
-pub read_says : (lit : Literals) (o : Option code.Statement) (s : code.Statement) (given line : List ℕ) → o ≡ Some s → given ≡ line → reading_of lit (Ok o) ≡ reading given → reading line ≡ Says (statement_of lit s)
-read_says lit o s given line e is h = ap reading (sym is) ∙ sym h ∙ ap (λ x. reading_of lit (Ok x)) e
-
-pub read_bad : (column : ℕ) (given line : List ℕ) → given ≡ line → Bad column ≡ reading given → reading line ≡ Bad column
-read_bad column given line is h = ap reading (sym is) ∙ sym h
-
--- a clock that is set is set to a moment that can be read
-pub timely : (line : List ℕ) (s : Statement) → reading line ≡ Says s → IsTimely s
-timely line s says = by s (reading_early line s says)
-  where
-    by : (x : Statement) → IsEarly x → IsTimely x
-    by (At node (Clock now)) h = omega (arith, h)
-    by (At node _) h = tt
-    by (Deliver number) h = tt
-    by (LinkDown a b) h = tt
-    by Settle h = tt

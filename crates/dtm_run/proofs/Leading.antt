@@ -17,7 +17,7 @@ use Rattle.run_agreement.specs.Laws.{NamesApart}
 use Rattle.run_model.specs.World.{World, Node, Label, Volume, Sound, Faulty, Barred, Unknown, find_node, opened}
 use Rattle.run_model.specs.Transcript.{AreInLimits, AreOpening, Ends, Entry, Legal, Turn}
 use Rattle.run_model.proofs.NodeLists.{some_is}
-use Rattle.run_laws.specs.Said.{Said, SaidLabel, answer_said, line_said, lines_said, nothing_said, request_said, said_here}
+use Rattle.run_said.specs.Said.{Said, SaidLabel, answer_said, line_said, lines_said, nothing_said, request_said, said_here}
 use Rattle.run_shared.specs.Sharing.{SharedState}
 use Rattle.world_laws.specs.Nodes.{NodesAreKept}
 use Rattle.node_requests.specs.Standing.{Kept, Place, IsDown, IsRunning, StandsIn, counts_of, disk_in, is_up, noted_all}

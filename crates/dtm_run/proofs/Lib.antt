@@ -2,7 +2,6 @@ pub mod TopLemmas
 pub mod Leading
 pub mod Unused
 pub mod Renewing
-pub mod Known
 pub mod Made
 pub mod Taking
 pub mod Driving
@@ -17,3 +16,6 @@ pub mod Reopening
 pub mod Openings
 pub mod TakenUp
 pub mod Resting
+pub mod Asking
+pub mod Agreeing
+pub mod Days

@@ -22,19 +22,16 @@ use Rattle.run_model.proofs.NodeLists.{some_is}
 use Rattle.run_model.proofs.PartLemmas.{turn}
 use Rattle.run_laws.specs.Anew.{IsMadeFirst, Makes}
 use Rattle.run_laws.specs.Promises.{KeptPromises}
+use Rattle.manager_laws.specs.Promises.{ManagerPromises}
 use Rattle.statement_steps.proofs.Stepping.{request_missing, request_there}
 use Rattle.run_nodes.specs.Untold.{BootsUnknown, IsUntold}
 use Rattle.world_laws.proofs.Induction.{acts_name}
 use Rattle.dtm_run.specs.Headline.{KeepsAgreed, Leaves, WholeRun, exit_of, is_known}
 use Rattle.dtm_run.specs.Leading.{AreKnown, AreMadeFirst, Beginning, IsUnknown, KnownRunsAreWhole, Leads, LeadsNowhere, LeavesOver, MadeRunsAreWhole, RunOver, world_at}
 use Rattle.dtm_run.specs.declared.top.Exit.{Exit}
-use Rattle.dtm_run.proofs.Known.{KnownAt, found_same, turn_known}
+use Rattle.day_run.proofs.Known.{KnownAt, found_same, turn_known}
+use Rattle.day_run.proofs.Making.{last_behind}
 use Rattle.dtm_run.proofs.Leading.{is_unknown, since_legal}
-
-last_behind : (xs : List Line) (x : Line) → last_or None (xs ++ x ∷ []) ≡ Some x
-last_behind [] x = refl
-last_behind (y ∷ []) x = refl
-last_behind (y ∷ z ∷ xs) x = last_behind (z ∷ xs) x
 
 -- An INIT that is answered so.
 
@@ -151,7 +148,7 @@ nowhere_made first last full later (e ∷ f ∷ left) es since w sure parts led 
 
 -- what is so since a beginning
 abbrev KeptSince : Beginning → List Entry → World → Type 0
-KeptSince b since w = Legal (world_at b) since w × KeptPromises (world_at b) since w × KeepsAgreed (world_at b) b.nodes since w
+KeptSince b since w = Legal (world_at b) since w × KeptPromises (world_at b) since w × ManagerPromises (world_at b) since w × KeepsAgreed (world_at b) b.nodes since w
 
 whole : (names : List (List ℕ)) (nodes : List Node) (before after : List DiskState) (script old new : Option (List ℕ)) (ended : Exit) (r : RunOver names nodes before after script old new ended) →
     Sure (record { nodes = nodes; disks = before }) (r.run.left_over ++ r.run.led) → WholeRun nodes before after script old new ended
@@ -165,7 +162,7 @@ whole names nodes before after script old new ended r sure = go r.run.left_over 
 
     since : KeptSince (record { nodes = nodes; disks = before }) r.run.led r.run.closing
     since = subst (λ (b : Beginning). KeptSince b r.run.led r.run.closing) led.same
-        (subst (λ (es : List Entry). KeptSince r.run.last es r.run.closing) led.all (since_legal names (record { nodes = nodes; disks = before }) r.run.last r.run.led r.run.since r.run.closing r.run.leads, r.promises, r.agreed))
+        (subst (λ (es : List Entry). KeptSince r.run.last es r.run.closing) led.all (since_legal names (record { nodes = nodes; disks = before }) r.run.last r.run.led r.run.since r.run.closing r.run.leads, r.promises, r.managers, r.agreed))
 
     go : (left : List Entry) → r.run.left_over ≡ left → LeavesOver r.run.last r.run.closing left after → WholeRun nodes before after script old new ended
     go (e ∷ es) is leaves = absurd (nowhere_made (record { nodes = nodes; disks = before }) r.run.last (r.run.left_over ++ r.run.led) [] (e ∷ es) r.run.led r.run.since r.run.closing sure (ap (λ (l : List Entry). l ++ r.run.led) is) led leaves)
@@ -183,7 +180,8 @@ whole names nodes before after script old new ended r sure = go r.run.left_over 
         leaves = subst (λ (b : Beginning). Leaves b.disks r.run.closing after) led.same leaves;
       };
       promises = since.1;
-      agreed = since.2;
+      managers = since.2;
+      agreed = since.3;
     }
 
 found_made : (name : List ℕ) (ns : List Node) (n : Node) (es : List Entry) → AreMadeFirst ns es → find_node name ns ≡ Some n → (n.durable.volume ≡ Unknown → IsMadeFirst n.name es) × (name ≡ n.name)

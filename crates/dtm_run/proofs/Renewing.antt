@@ -10,7 +10,7 @@ use Rattle.transcript_model.specs.Lines.{Line}
 use Rattle.script_model.specs.Statements.{At, Boot, Says}
 use Rattle.run_model.specs.World.{Act, Barred, Faulty, IsOpening, Node, Sound, Unknown, Volume, aborted_prepared}
 use Rattle.run_model.specs.Transcript.{AreOpening}
-use Rattle.run_laws.specs.Said.{Said}
+use Rattle.run_said.specs.Said.{Said}
 use Rattle.volume_model.specs.Volumes.{HasDisk, IsEitherOf, IsLeftBy, LeavesVolume}
 use Rattle.recovery_units.specs.Uses.{IsCounted}
 use Rattle.dtm_node.proofs.DiskLemmas.{DiskBy}

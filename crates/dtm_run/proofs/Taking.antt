@@ -4,7 +4,7 @@ use Rattle.std.proofs.Common.{◌≡◌, ℕ, zero, suc, ◌+◌, ◌<◌, ◌�
 use Rattle.std.specs.Str.{bytes_eq}
 use Rattle.block_disk.specs.Disk.{DiskState}
 use Rattle.recovery_units.specs.State.{UnitsState}
-use Rattle.run_laws.specs.Said.{nothing_said}
+use Rattle.run_said.specs.Said.{nothing_said}
 use Rattle.run_shared.specs.Sharing.{SharedState}
 use Rattle.run_model.proofs.NodeLists.{some_is}
 use Rattle.dtm_node.specs.Nodes.{IsNode, kept_of}

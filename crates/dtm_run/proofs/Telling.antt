@@ -7,16 +7,17 @@ use Rattle.transcript_model.specs.Script.{ScriptLine, size_of, IsWithinLimits, B
 use Rattle.emitter_model.specs.Emitting.{Shown, Emits}
 use Rattle.script_model.specs.Statements.{Statement, Blank, Says, Bad}
 use Rattle.script_model.specs.Grammar.{reading}
-use Rattle.run_laws.specs.Said.{Said, nothing_said, said_here, said_of}
+use Rattle.run_said.specs.Said.{Said, nothing_said, said_here, said_of}
 use Rattle.run_model.specs.Transcript as model
 use Rattle.run_model.specs.Transcript.{Entry}
 use Rattle.run_shared.specs.Sharing.{SharedState}
 use Rattle.node_requests.specs.Standing.{Kept}
 use Rattle.run_nodes.specs.Calls.{LineFollows, LineTellsAll}
+use Rattle.day_run.specs.Tells.{EntriesTell}
 use Rattle.run_nodes.specs.Together.{AnswersTogether, disks_of, said_together}
 use Rattle.run_nodes.specs.Told.{kept_names}
 use Rattle.dtm_run.specs.Headline.{exit_of}
-use Rattle.dtm_run.specs.Calls.{EntriesTell, TellsOver}
+use Rattle.dtm_run.specs.Calls.{TellsOver}
 use Rattle.dtm_run.specs.declared.top.Exit.{Exit}
 use Rattle.dtm_run.specs.declared.top.Exit.TheVariants as exit
 use Rattle.dtm_run.proofs.Entries.{AreRead, EndsWith, ends_bad, ends_cut, ends_done, ends_memory, ends_read_fault, ends_too_long, next_bad, next_too_long, next_too_many, read_first, read_nothing, read_shown}

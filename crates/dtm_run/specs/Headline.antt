@@ -1,11 +1,12 @@
 -- What a run promises.
-use Rattle.std.specs.Prelude.{◌≡◌, ℕ, List, [], ◌∷◌, Bool, true, false, Option, map, is_some}
+use Rattle.std.specs.Prelude.{◌≡◌, ◌||◌, ℕ, List, [], ◌∷◌, Bool, true, false, Option, map, is_some}
 use Rattle.std.specs.Option.{option_map}
 use Rattle.block_disk.specs.Disk.{DiskState}
 use Rattle.careful_write.specs.State.{Leaves as DiskLeaves}
 use Rattle.transcript_model.specs.Script.{ScriptLine, lines_of}
 use Rattle.transcript_model.specs.Outside.{behind}
 use Rattle.script_model.specs.Command.{is_run_form}
+use Rattle.day_model.specs.Command.{day_asked}
 use Rattle.commit_protocol.specs.Opening.{IsAgreeing}
 use Rattle.run_agreement.specs.Laws.{opening_told}
 use Rattle.run_model.specs.World.{World, Node, Volume, Sound, Faulty, Barred, Unknown, opened}
@@ -14,6 +15,7 @@ use Rattle.run_model.specs.Transcript.{Entry, Ran, EndsUnread}
 use Rattle.run_laws.specs.Anew.{AreKnownOrAnew}
 use Rattle.run_laws.specs.Laws.{AgreedPromises}
 use Rattle.run_laws.specs.Promises.{KeptPromises}
+use Rattle.manager_laws.specs.Promises.{ManagerPromises}
 use Rattle.node_requests.specs.Telling.{Passes}
 use Rattle.volume.specs.declared.catalog.Catalog.{Catalog}
 use Rattle.volume.specs.Catalogs.{IsSound, TellsCatalog}
@@ -32,9 +34,9 @@ exit_of exit.WriteFault = model.WriteFault
 exit_of exit.Memory = model.Memory
 exit_of exit.TooLong = model.TooLong
 
--- whether these words are a command over the nodes of these names
+-- whether these words are a command over the nodes of these names: for a script, or for a day
 abbrev pub is_command : List (List ℕ) → List (List ℕ) → Bool
-is_command names words = is_run_form names words
+is_command names words = is_run_form names words || is_some (day_asked names words)
 
 -- whether something is known of what a disk has
 abbrev pub is_known : Volume → Bool
@@ -111,6 +113,7 @@ KeepsAgreed opening nodes es closing = AreKnownOrAnew es nodes → IsAgreeing (o
 pub record WholeRun (nodes : List Node) (before after : List DiskState) (script old new : Option (List ℕ)) (ended : Exit) : Type 0 where
   pub run : RunsTo (opened nodes (map counts_of before)) before (option_map lines_of script) old new ended after
   pub promises : KeptPromises (opened nodes (map counts_of before)) run.ran.entries run.ran.closing
+  pub managers : ManagerPromises (opened nodes (map counts_of before)) run.ran.entries run.ran.closing
   pub agreed : KeepsAgreed (opened nodes (map counts_of before)) nodes run.ran.entries run.ran.closing
 
 -- the answer to words that are no command, and what was shown for it

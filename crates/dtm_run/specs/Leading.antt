@@ -12,7 +12,8 @@ use Rattle.run_model.specs.World.{Node, Unknown, World, nothing_volatile, opened
 use Rattle.run_model.specs.Transcript.{AreInLimits, AreOpening, Ends, Entry, Turn}
 use Rattle.run_laws.specs.Anew.{IsMadeFirst}
 use Rattle.run_laws.specs.Promises.{KeptPromises}
-use Rattle.run_laws.specs.Said.{Said, SaidNode, is_settling, said_here}
+use Rattle.manager_laws.specs.Promises.{ManagerPromises}
+use Rattle.run_said.specs.Said.{Said, SaidNode, is_settling, said_here}
 use Rattle.node_requests.specs.Standing.{counts_of}
 use Rattle.node_requests.specs.Telling.{said_label}
 use Rattle.run_nodes.specs.Calls.{LineFollows, LineTellsAll}
@@ -129,6 +130,7 @@ pub record RunsFrom (names : List (List ℕ)) (first : Beginning) (script : Opti
 pub record RunOver (names : List (List ℕ)) (nodes : List Node) (before after : List DiskState) (script old new : Option (List ℕ)) (ended : Exit) : Type 0 where
   pub run : RunsFrom names (record { nodes = nodes; disks = before }) (option_map lines_of script) old new ended after
   pub promises : KeptPromises (world_at run.last) run.since run.closing
+  pub managers : ManagerPromises (world_at run.last) run.since run.closing
   pub agreed : KeepsAgreed (world_at run.last) run.last.nodes run.since run.closing
 
 -- something is known of the disk of each of these nodes

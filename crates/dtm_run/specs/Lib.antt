@@ -5,3 +5,5 @@ pub mod Leading
 pub mod Calls
 pub mod Openings
 pub mod Reopenings
+pub mod Asked
+pub mod Days

@@ -1,6 +1,7 @@
-//! The run: a script's lines, served by nodes over their disks, and its transcript.
+//! The run: a script's lines, served by nodes over their disks, and its transcript; or a day of transactions, and its summary.
 #![tactic(auto)]
 
+mod command;
 mod law;
 mod rack;
 mod top;

@@ -1,5 +1,5 @@
-//! The top call: a script is read line by line, served, and its transcript written.
-ghost use Rattle.std.specs.Prelude.{◌≡◌, ℕ, ◌<◌, ◌≤◌, List, [], ◌∷◌, ◌⊎◌, length, true, false, map, string_bytes, if◌then◌else◌};
+//! The top call: a script is read line by line, served, and its transcript written; or a day is served, and its summary written.
+ghost use Rattle.std.specs.Prelude.{◌≡◌, ℕ, ◌<◌, ◌≤◌, List, [], ◌∷◌, ◌⊎◌, length, true, false, map, string_bytes, if◌then◌else◌, Some, codes};
 ghost use Rattle.std.specs.Option.{option_map};
 ghost use Rattle.indexmap.specs.IndexMap.{spare};
 ghost use Rattle.transcript_model.specs.Outside.{Rose};
@@ -10,29 +10,35 @@ ghost use Rattle.transcript.specs.Forms.{HasTime, line_of};
 ghost use Rattle.transcript.specs.Reading.{IsSound, lines_ahead, taken_bytes};
 ghost use Rattle.run_model.specs.Transcript.{AreOpening};
 ghost use Rattle.run_model.specs.World.{Node as NodeSaid};
-ghost use Rattle.run_laws.specs.Said.{nothing_said};
+ghost use Rattle.run_said.specs.Said.{nothing_said};
 ghost use Rattle.dtm_run.specs.Racks.{names_in, disks_in, states_in, IsRack};
 ghost use Rattle.run_nodes.specs.Held.{AreNodes, kept_all, names_of};
 ghost use Rattle.run_nodes.specs.Names.{AreApart, is_among};
 ghost use Rattle.run_nodes.specs.Together.{disks_of, said_together};
 ghost use Rattle.dtm_run.specs.Calls.{TellsOver};
 ghost use Rattle.dtm_run.specs.Headline.{is_command as is_command_of, StandOn, AllGo, Unread};
+ghost use Rattle.dtm_run.specs.Days.{DayRan, DayTold};
+ghost use Rattle.day_model.specs.Command.{Asked, day_asked as day_asked_of};
+ghost use Rattle.script_model.specs.Command.{is_run_form as is_run_form_of};
 ghost use Rattle.dtm_run.specs.Leading.{RunsFrom, RunOver};
 ghost use Rattle.dtm_run.specs.Taking.{AreAtZero, AreNew};
 
+use crate::command::{Command, command_of};
 use crate::rack::Rack;
 use block_disk::Disk;
+use day_run::serve_day;
+use day_script::Day;
+use day_tally::{Counts, LineCounter, write_end};
 use dtm_node::{Node, Shared};
+use manager_laws::manager_promises_hold;
 use recovery_units::RecoveryUnits;
 use run_laws::promises::promises_hold;
 use run_nodes::{Nodes, serve_statement};
-use script_lang::{Literals, is_run_form, read_statement};
+use script_lang::{Literals, read_statement};
+use script_laws::clocks_are_early;
 use std::alloc::Global;
 use transcript::{Emit, Form, LineBuffer, LineReader, Next, Sink, SinkEmit, Source};
-use vms_base::NodeName;
 use world_laws::nodes_stay_kept;
-
-const MOST_NODES: usize = 8;
 
 const MOST_LINES: u32 = 1_000_000;
 
@@ -55,7 +61,8 @@ pub enum Exit {
     TooLong,
 }
 
-/// Runs the script of a source by the nodes of a rack, and writes its transcript to a sink. The words are those of the command line.
+/// Runs the script of a source by the nodes of a rack, and writes its transcript to a sink; or runs a day by them, and writes its summary. The words are those
+/// of the command line, which say which. A day does not read the source.
 pub fn run<S: Source, K: Sink, D: Disk + Drop, U: RecoveryUnits>(
     alloc: Global,
     words: &[String],
@@ -64,17 +71,25 @@ pub fn run<S: Source, K: Sink, D: Disk + Drop, U: RecoveryUnits>(
     rack: &mut Rack<D>,
 ) -> Exit
     requires rack { IsRack D.state rack.old }
-    // Where the words are a command: from all nodes that stand on the disks before the first line, the transcript is legal and keeps its promises,
+    // Where the words are a command for a script: from all nodes that stand on the disks before the first line, the transcript is legal and keeps its promises,
     // and the disks have what its nodes have. Where nothing is known of a disk, this is so up to a statement that may bring its node up, and anew
     // behind a BOOT that was refused while nothing else had come of the nodes, of which those of whose disks something is known are kept.
-    ensures runs { is_command_of (names_in rack.old) (map string_bytes words.now) ≡ true → (nodes : List NodeSaid) → AreOpening nodes → StandOn (names_in rack.old) (states_in D.state rack.old) nodes →
+    ensures runs { is_run_form_of (names_in rack.old) (map string_bytes words.now) ≡ true → (nodes : List NodeSaid) → AreOpening nodes → StandOn (names_in rack.old) (states_in D.state rack.old) nodes →
         RunOver (names_in rack.old) nodes (states_in D.state rack.old) (states_in D.state rack.new) (S.left source.old) (K.shown sink.old) (K.shown sink.new) result }
     // Whether or not the disks tell their content: what was shown for each line tells which calls armed or powered them, and each failure that is shown raised
     // its count. A statement is refused with NOSUCHNODE, NODEDOWN, NODEUP, VOLINUSE, NOINIT, NOSUCHMSG or LABEL just where the lines before it say so, and
     // leaves the disks then. Each statement is answered by its last line, FAULT and STOPPED just behind a line DOWN for that failure. What the disk of a node
     // holds that is down is not lost, but by an INIT of it, or a boot that is not refused.
-    ensures calls { is_command_of (names_in rack.old) (map string_bytes words.now) ≡ true →
+    ensures calls { is_run_form_of (names_in rack.old) (map string_bytes words.now) ≡ true →
         TellsOver (names_in rack.old) (states_in D.state rack.old) (states_in D.state rack.new) (option_map lines_of (S.left source.old)) (K.shown sink.old) (K.shown sink.new) result }
+    // Where they ask for a day: from all nodes that stand on the disks before it, whatever is known of these, its transcript is legal and keeps its promises, its
+    // summary was written, or the answer at which it ended, and the disks have what its nodes have.
+    ensures makes { (asked : Asked) → day_asked_of (names_in rack.old) (map string_bytes words.now) ≡ Some asked → (nodes : List NodeSaid) → AreOpening nodes → StandOn (names_in rack.old) (states_in D.state rack.old) nodes →
+        (result ≡ Exit.Memory) ⊎ DayRan nodes (states_in D.state rack.old) (states_in D.state rack.new) asked.count asked.start (K.shown sink.old) (K.shown sink.new) result }
+    // Whether or not the disks tell their content: the entries of the day tell which calls armed or powered them.
+    ensures made { (asked : Asked) → day_asked_of (names_in rack.old) (map string_bytes words.now) ≡ Some asked →
+        (result ≡ Exit.Memory) ⊎ DayTold (names_in rack.old) (states_in D.state rack.old) (states_in D.state rack.new) asked.count asked.start (K.shown sink.old) (K.shown sink.new) result }
+    ensures unread_day { is_run_form_of (names_in rack.old) (map string_bytes words.now) ≡ false → S.left source.new ≡ S.left source.old }
     ensures usage { is_command_of (names_in rack.old) (map string_bytes words.now) ≡ false → (result ≡ Exit.Memory) ⊎ Unread (K.shown sink.old) (K.shown sink.new) result }
     ensures commanded { is_command_of (names_in rack.old) (map string_bytes words.now) ≡ true → (result ≡ Exit.Usage → ⊥) }
     ensures unread { is_command_of (names_in rack.old) (map string_bytes words.now) ≡ false → (S.left source.new ≡ S.left source.old) × (disks_in rack.new ≡ disks_in rack.old) }
@@ -86,34 +101,28 @@ pub fn run<S: Source, K: Sink, D: Disk + Drop, U: RecoveryUnits>(
     ensures rack { IsRack D.state rack.new }
 {
     promises_hold();
+    manager_promises_hold();
     let Ok(buffer) = LineBuffer::reserve(alloc) else {
         return Exit::Memory;
     };
     let mut out = SinkEmit::over(sink, buffer);
-    if is_command(rack, words) {
-        let exit = run_script::<S, K, D, U>(alloc, source, &mut out, rack);
-        out.into_sink();
-        exit
-    } else {
-        let exit = answer_usage(&mut out);
-        out.into_sink();
-        exit
-    }
-}
-
-// Whether the words are a command over the nodes of the rack.
-fn is_command<D>(rack: &Rack<D>, words: &[String]) -> bool
-    requires few { length (names_in rack.now) ≤ 8 }
-    ensures { result ≡ is_command_of (names_in rack.now) (map string_bytes words.now) }
-{
-    let mut names = [NodeName::default(); MOST_NODES];
-    let count = rack.len();
-    for place in 0..count {
-        if let Some(name) = rack.name(place) {
-            names[place] = name;
+    match command_of(rack, words) {
+        Command::Script => {
+            let exit = run_script::<S, K, D, U>(alloc, source, &mut out, rack);
+            out.into_sink();
+            exit
+        }
+        Command::Day(asked) => {
+            let exit = run_day::<K, D, U>(alloc, asked, &mut out, rack);
+            out.into_sink();
+            exit
+        }
+        Command::Nothing => {
+            let exit = answer_usage(&mut out);
+            out.into_sink();
+            exit
         }
     }
-    is_run_form(&names[..count], words)
 }
 
 fn answer_usage<K: Sink>(out: &mut SinkEmit<'_, K>) -> Exit
@@ -178,6 +187,63 @@ fn run_script<S: Source, K: Sink, D: Disk + Drop, U: RecoveryUnits>(
     );
     put_back(rack, &mut nodes);
     exit
+}
+
+// Takes all memory, serves a day by the rack's nodes, and writes its summary, or the answer at which it ended.
+fn run_day<K: Sink, D: Disk + Drop, U: RecoveryUnits>(
+    alloc: Global,
+    asked: Day,
+    out: &mut SinkEmit<'_, K>,
+    rack: &mut Rack<D>,
+) -> Exit
+    requires failed { out.old.failed ≡ false }
+    requires count { asked.count ≤ 10000 }
+    requires rack { IsRack D.state rack.old }
+    requires names { names_in rack.old ≡ codes "A" ∷ (codes "B" ∷ []) }
+    ensures same_sink { out.new.sink.ghost_name ≡ out.old.sink.ghost_name }
+    ensures makes { (nodes : List NodeSaid) → AreOpening nodes → StandOn (names_in rack.old) (states_in D.state rack.old) nodes →
+        (result ≡ Exit.Memory) ⊎ DayRan nodes (states_in D.state rack.old) (states_in D.state rack.new) asked.count asked.start (K.shown out.old.sink.now) (K.shown out.new.sink.now) result }
+    ensures calls { (result ≡ Exit.Memory) ⊎ DayTold (names_in rack.old) (states_in D.state rack.old) (states_in D.state rack.new) asked.count asked.start (K.shown out.old.sink.now) (K.shown out.new.sink.now) result }
+    ensures ends { (result ≡ Exit.Usage → ⊥) × (result ≡ Exit.ReadFault → ⊥) }
+    ensures write_fault { result ≡ Exit.WriteFault → Rose (K.faults out.old.sink.now) (K.faults out.new.sink.now) }
+    ensures memory { result ≡ Exit.Memory → (K.shown out.new.sink.now ≡ K.shown out.old.sink.now) × (disks_in rack.new ≡ disks_in rack.old) }
+    ensures names { names_in rack.new ≡ names_in rack.old }
+    ensures disks { AllGo (states_in D.state rack.old) (states_in D.state rack.new) }
+    ensures rack { IsRack D.state rack.new }
+{
+    promises_hold();
+    manager_promises_hold();
+    let Ok(mut shared) = Shared::reserve(alloc) else {
+        return Exit::Memory;
+    };
+    let Ok(mut literals) = Literals::reserve(alloc) else {
+        return Exit::Memory;
+    };
+    let Ok(mut nodes) = Nodes::reserve(alloc) else {
+        return Exit::Memory;
+    };
+    let Ok(()) = rack.make_room() else {
+        return Exit::Memory;
+    };
+    take_out(&mut nodes, rack);
+    let mut lines = LineCounter::new();
+    let mut counts = Counts::new();
+    let ended = serve_day::<D, U>(
+        alloc,
+        asked,
+        &mut literals,
+        &mut shared,
+        &mut lines,
+        &mut counts,
+        &mut nodes,
+    );
+    put_back(rack, &mut nodes);
+    write_end(out, asked, ended, &lines, &counts);
+    if out.failed() {
+        Exit::WriteFault
+    } else {
+        Exit::Done
+    }
 }
 
 // Takes the nodes of a rack out, which are not booted yet.
@@ -255,6 +321,7 @@ fn drive<S: Source, K: Sink, D: Disk + Drop, U: RecoveryUnits>(
     ensures disks { AllGo (disks_of (kept_all D.state U.state nodes.old)) (disks_of (kept_all D.state U.state nodes.new)) }
 {
     nodes_stay_kept();
+    clocks_are_early();
     for number in 1..1_000_002 {
         match reader.next(source) {
             Next::Failed => return Exit::ReadFault,

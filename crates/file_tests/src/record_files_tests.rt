@@ -1,5 +1,5 @@
 //! The same records in a file of each organization, and tables of heads and keys that are those of a file or not.
-ghost use Rattle.std.specs.Prelude.{◌≡◌, ◌≤◌, Bool, true, OnOk};
+ghost use Rattle.std.specs.Prelude.{◌≡◌, ◌≤◌, Bool, true, length, OnOk};
 ghost use Rattle.careful_write.specs.State.{IsIdle};
 ghost use Rattle.change_set.specs.Files.{IsPlaced, free_frames};
 ghost use Rattle.record_files.specs.Any.{IsFile, IsNew};
@@ -166,17 +166,147 @@ fn ends<D: Disk>(
     Ok(!AnyFile::next(head, store, after, &mut found, out)?)
 }
 
-const TEXTS: [&[u8]; 3] = [b"AAAA first", b"BBBB", b"CCCC third of three"];
+// The record of the key at a place.
+fn record_at(place: usize) -> &'static [u8]
+    ensures { length result.now ≤ 100 }
+{
+    match place {
+        0 => b"AAAA first",
+        1 => b"BBBB",
+        _ => b"CCCC third of three",
+    }
+}
 
-// Puts three records into a new file, takes the last one away, and sets it back. What is told of the file then are its
-// used buckets, its records where it counts them, and the free buckets that a further record asks for.
+/// What is done to a file, by the places of its three keys: a key gets its record, loses it, or gets it back. And what is seen of it: which key comes behind
+/// another, or first, that none does, and whether a key has its record, or none.
+#[derive(Clone, Copy, Debug, PartialEq, Eq, Drop)]
+enum Step {
+    Put(usize),
+    TakeAway(usize),
+    PutBack(usize),
+    Follows(Option<usize>, usize),
+    Ends(Option<usize>),
+    Has(usize),
+    HasNone(usize),
+}
+
+// Three records are put into a new file, the last one is taken away, and set back.
+const STEPS: [Step; 12] = [
+    Step::Ends(None),
+    Step::Put(0),
+    Step::Put(1),
+    Step::Put(2),
+    Step::Follows(None, 0),
+    Step::Follows(Some(0), 1),
+    Step::Ends(Some(2)),
+    Step::TakeAway(2),
+    Step::Ends(Some(1)),
+    Step::HasNone(2),
+    Step::PutBack(2),
+    Step::Has(2),
+];
+
+// The key at a place, where there is one.
+fn key_at(keys: &[Key; 3], place: Option<usize>) -> Option<&Key> {
+    match place {
+        Some(place) if place < 3 => Some(&keys[place]),
+        _ => None,
+    }
+}
+
+// Changes a file, and tells whether it may have the key and the record.
+fn change<D: Disk>(
+    head: &mut FileHead,
+    store: &mut Store<D>,
+    keys: &[Key; 3],
+    step: Step,
+    out: &mut Record,
+) -> Result<bool, Down>
+    requires form { IsFile head.old }
+    requires placed { IsPlaced head.old store.old.disk }
+    requires frames { 32 ≤ free_frames store.old.pool }
+    requires idle { IsIdle store.old }
+    ensures form { OnOk result (IsFile head.new) }
+    ensures placed { OnOk result (IsPlaced head.new store.new.disk) }
+    ensures frames { OnOk result (32 ≤ free_frames store.new.pool) }
+    ensures idle { OnOk result (IsIdle store.new) }
+{
+    match step {
+        Step::Put(i) if i < 3 => {
+            out.set(record_at(i));
+            put(head, store, &keys[i], Some(&*out))
+        }
+        Step::TakeAway(i) if i < 3 => put(head, store, &keys[i], None),
+        Step::PutBack(i) if i < 3 => {
+            out.set(record_at(i));
+            put_back(head, store, &keys[i], Some(&*out))
+        }
+        _ => Ok(false),
+    }
+}
+
+// Whether what is to be seen is seen.
+fn is_seen<D: Disk>(
+    head: &FileHead,
+    store: &mut Store<D>,
+    keys: &[Key; 3],
+    step: Step,
+    out: &mut Record,
+) -> Result<bool, Down>
+    requires form { IsFile head.now }
+    requires placed { IsPlaced head.now store.old.disk }
+    requires frames { 32 ≤ free_frames store.old.pool }
+    ensures same { OnOk result (store.new ≡ store.old) }
+{
+    match step {
+        Step::Follows(after, i) if i < 3 => {
+            goes_on(
+                head,
+                store,
+                key_at(keys, after),
+                &keys[i],
+                record_at(i),
+                out,
+            )
+        }
+        Step::Ends(after) => ends(head, store, key_at(keys, after), out),
+        Step::Has(i) if i < 3 => has(head, store, &keys[i], record_at(i), out),
+        Step::HasNone(i) if i < 3 => Ok(!AnyFile::get(head, store, &keys[i], out)?),
+        _ => Ok(false),
+    }
+}
+
+fn take<D: Disk>(
+    head: &mut FileHead,
+    store: &mut Store<D>,
+    keys: &[Key; 3],
+    step: Step,
+    out: &mut Record,
+) -> Result<bool, Down>
+    requires form { IsFile head.old }
+    requires placed { IsPlaced head.old store.old.disk }
+    requires frames { 32 ≤ free_frames store.old.pool }
+    requires idle { IsIdle store.old }
+    ensures form { OnOk result (IsFile head.new) }
+    ensures placed { OnOk result (IsPlaced head.new store.new.disk) }
+    ensures frames { OnOk result (32 ≤ free_frames store.new.pool) }
+    ensures idle { OnOk result (IsIdle store.new) }
+{
+    match step {
+        Step::Put(_) | Step::TakeAway(_) | Step::PutBack(_) => {
+            change(head, store, keys, step, out)
+        }
+        _ => is_seen(head, store, keys, step, out),
+    }
+}
+
+// Takes the steps above in a new file, up to one that is not seen.
 fn keeps<D: Disk>(
     head: &mut FileHead,
     store: &mut Store<D>,
     keys: &[Key; 3],
-    told: [u32; 3],
     out: &mut Record,
-) -> Result<[bool; 9], Down>
+) -> Result<Option<Step>, Down>
     requires form { IsFile head.old }
     requires placed { IsPlaced head.old store.old.disk }
     requires frames { 32 ≤ free_frames store.old.pool }
@@ -188,27 +318,23 @@ fn keeps<D: Disk>(
     ensures idle { OnOk result (IsIdle store.new) }
 {
     AnyFile::make(head, store)?;
-    let empty = ends(head, store, None, out)?;
-    let mut put_all = true;
-    out.set(TEXTS[0]);
-    put_all &= put(head, store, &keys[0], Some(&*out))?;
-    out.set(TEXTS[1]);
-    put_all &= put(head, store, &keys[1], Some(&*out))?;
-    out.set(TEXTS[2]);
-    put_all &= put(head, store, &keys[2], Some(&*out))?;
-    let first = goes_on(head, store, None, &keys[0], TEXTS[0], out)?;
-    let second = goes_on(head, store, Some(&keys[0]), &keys[1], TEXTS[1], out)?;
-    let last = ends(head, store, Some(&keys[2]), out)?;
-    let taken = put(head, store, &keys[2], None)? && ends(head, store, Some(&keys[1]), out)?;
-    let gone = !AnyFile::get(head, store, &keys[2], out)?;
-    out.set(TEXTS[2]);
-    let back = put_back(head, store, &keys[2], Some(&*out))?
-        && has(head, store, &keys[2], TEXTS[2], out)?;
+    for step in STEPS {
+        if !take(head, store, keys, step, out)? {
+            return Ok(Some(step));
+        }
+    }
+    Ok(None)
+}
+
+// What is told of a file: its used buckets, its records where it counts them, and the free buckets that a further record asks for.
+fn told_of<D: Disk>(head: &FileHead, store: &mut Store<D>) -> Result<[u32; 3], Down>
+    requires form { IsFile head.now }
+    requires placed { IsPlaced head.now store.old.disk }
+    requires frames { 32 ≤ free_frames store.old.pool }
+    ensures same { OnOk result (store.new ≡ store.old) }
+{
     let need = AnyFile::need(head, store, 100)?;
-    let tells = [head.used, head.count, need] == told;
-    Ok([
-        empty, put_all, first, second, last, taken, gone, back, tells,
-    ])
+    Ok([head.used, head.count, need])
 }
 
 // Takes the positions from one on away. False in a file that is not sequential, or has no such position.
@@ -234,14 +360,13 @@ fn cut<D: Disk>(head: &mut FileHead, store: &mut Store<D>, from: u32) -> Result<
     }
 }
 
-// The nine answers of `keeps`, and whether the positions from the second on are cut, in a file that has such.
-type Answers = ([bool; 9], bool);
+// The step that is not seen, if any, what is told then, and whether the positions from the second on are cut, in a file that has such.
+type Answers = (Option<Step>, [u32; 3], bool);
 
 fn keeps_and_cuts<D: Disk>(
     head: &mut FileHead,
     store: &mut Store<D>,
     keys: &[Key; 3],
-    told: [u32; 3],
     out: &mut Record,
 ) -> Result<Answers, Down>
     requires form { IsFile head.old }
@@ -250,9 +375,10 @@ fn keeps_and_cuts<D: Disk>(
     requires idle { IsIdle store.old }
     requires fresh { IsNew head.old }
 {
-    let kept = keeps(head, store, keys, told, out)?;
+    let unseen = keeps(head, store, keys, out)?;
+    let told = told_of(head, store)?;
     let is_cut = cut(head, store, 2)? && head.count == 1 && ends(head, store, Some(&keys[0]), out)?;
-    Ok((kept, is_cut))
+    Ok((unseen, told, is_cut))
 }
 
 // None where the store did not open, or a name or a text is none.
@@ -260,7 +386,6 @@ fn run(
     alloc: Global,
     organization: Organization,
     keys: &[Key; 3],
-    told: [u32; 3],
 ) -> Result<Option<Result<Answers, Down>>, AllocError> {
     let disk = CrashDisk::new(alloc, MemPlatter::new(alloc, 4096)?)?;
     let group = Group::reserve(alloc)?;
@@ -278,7 +403,7 @@ fn run(
                 return Ok(None);
             }
             let mut head = new_head(name, organization);
-            Ok(Some(keeps_and_cuts(&mut head, &mut store, keys, told, &mut out)))
+            Ok(Some(keeps_and_cuts(&mut head, &mut store, keys, &mut out)))
         }
         Err(_) => Ok(None),
     }
@@ -295,19 +420,19 @@ fn text(bytes: &[u8]) -> Key {
 fn each_organization_keeps_records_by_its_keys(rt: HostRuntime) -> Result<(), Fail> {
     let positions = [Key::Number(1), Key::Number(2), Key::Number(3)];
     assert_eq!(rt;
-        run(rt.alloc(), Organization::Sequential, &positions, [1, 3, 0])?,
-        Some(Ok(([true; 9], true)))
+        run(rt.alloc(), Organization::Sequential, &positions)?,
+        Some(Ok((None, [1, 3, 0], true)))
     );
     // Four cells a bucket: the three numbers lie in three buckets.
     let numbers = [Key::Number(1), Key::Number(6), Key::Number(16)];
     assert_eq!(rt;
-        run(rt.alloc(), Organization::Relative, &numbers, [4, 0, 0])?,
-        Some(Ok(([true; 9], false)))
+        run(rt.alloc(), Organization::Relative, &numbers)?,
+        Some(Ok((None, [4, 0, 0], false)))
     );
     let texts = [text(b"AAAA"), text(b"BBBB"), text(b"CCCC")];
     assert_eq!(rt;
-        run(rt.alloc(), Organization::Indexed, &texts, [1, 0, 3])?,
-        Some(Ok(([true; 9], false)))
+        run(rt.alloc(), Organization::Indexed, &texts)?,
+        Some(Ok((None, [1, 0, 3], false)))
     );
     Ok(())
 }
@@ -353,49 +478,56 @@ fn formed(
     Ok(out)
 }
 
+const TURNS: [Turn; 15] = [
+    Turn::Used(0),
+    Turn::Used(1),
+    Turn::Used(4),
+    Turn::Used(5),
+    Turn::Root(1),
+    Turn::Levels(0),
+    Turn::Levels(1),
+    Turn::Count(1),
+    Turn::Cells(17),
+    Turn::Longest(495),
+    Turn::KeyAt(96),
+    Turn::KeyAt(97),
+    Turn::KeySize(0),
+    Turn::KeySize(64),
+    Turn::KeySize(65),
+];
+
+const FORMED: [(Organization, [bool; 15]); 3] = [
+    (
+        Organization::Sequential,
+        [
+            false, true, true, false, false, true, false, true, true, true, true, true, true, true,
+            true,
+        ],
+    ),
+    (
+        Organization::Relative,
+        [
+            false, false, true, false, false, true, false, false, false, false, true, true, true,
+            true, true,
+        ],
+    ),
+    (
+        Organization::Indexed,
+        [
+            false, true, true, false, false, false, true, false, true, true, true, false, false,
+            true, false,
+        ],
+    ),
+];
+
 #[test]
 fn heads_have_the_numbers_of_their_organization(rt: HostRuntime) -> Result<(), Fail> {
-    let turns = [
-        Turn::Used(0),
-        Turn::Used(1),
-        Turn::Used(4),
-        Turn::Used(5),
-        Turn::Root(1),
-        Turn::Levels(0),
-        Turn::Levels(1),
-        Turn::Count(1),
-        Turn::Cells(17),
-        Turn::Longest(495),
-        Turn::KeyAt(96),
-        Turn::KeyAt(97),
-        Turn::KeySize(0),
-        Turn::KeySize(64),
-        Turn::KeySize(65),
-    ];
-    let sequential = [
-        false, true, true, false, false, true, false, true, true, true, true, true, true, true,
-        true,
-    ];
-    assert_eq!(rt;
-        formed(rt.alloc(), Organization::Sequential, &turns)?.as_slice(),
-        sequential.as_slice()
-    );
-    let relative = [
-        false, false, true, false, false, true, false, false, false, false, true, true, true, true,
-        true,
-    ];
-    assert_eq!(rt;
-        formed(rt.alloc(), Organization::Relative, &turns)?.as_slice(),
-        relative.as_slice()
-    );
-    let indexed = [
-        false, true, true, false, false, false, true, false, true, true, true, false, false, true,
-        false,
-    ];
-    assert_eq!(rt;
-        formed(rt.alloc(), Organization::Indexed, &turns)?.as_slice(),
-        indexed.as_slice()
-    );
+    for (organization, want) in FORMED {
+        assert_eq!(rt;
+            formed(rt.alloc(), organization, &TURNS)?.as_slice(),
+            want.as_slice()
+        );
+    }
     Ok(())
 }
 
@@ -415,9 +547,8 @@ fn suited(
     Ok(out)
 }
 
-#[test]
-fn keys_and_records_are_those_that_a_file_may_have(rt: HostRuntime) -> Result<(), Fail> {
-    let keys = [
+fn keys() -> [Key; 8] {
+    [
         Key::Number(0),
         Key::Number(1),
         Key::Number(16),
@@ -426,41 +557,52 @@ fn keys_and_records_are_those_that_a_file_may_have(rt: HostRuntime) -> Result<()
         text(b"AAAB"),
         text(b"AAA"),
         Key::End,
-    ];
+    ]
+}
+
+// The organization, and its keys with no record, and with one of 100 bytes.
+const SUITED: [(Organization, [bool; 8], [bool; 8]); 3] = [
+    (
+        Organization::Sequential,
+        [false, true, true, true, false, false, false, false],
+        [false, true, true, true, false, false, false, false],
+    ),
+    (
+        Organization::Relative,
+        [false, true, true, false, false, false, false, false],
+        [false, true, true, false, false, false, false, false],
+    ),
+    (
+        Organization::Indexed,
+        [false, false, false, false, true, true, false, false],
+        [false, false, false, false, true, false, false, false],
+    ),
+];
+
+#[test]
+fn keys_and_records_are_those_that_a_file_may_have(rt: HostRuntime) -> Result<(), Fail> {
     let mut record = Record::reserve(rt.alloc())?;
     record.set(&[b'A'; 100]);
-    // (the organization, the keys with no record, with one of 100 bytes)
-    let table = [
-        (
-            Organization::Sequential,
-            [false, true, true, true, false, false, false, false],
-            [false, true, true, true, false, false, false, false],
-        ),
-        (
-            Organization::Relative,
-            [false, true, true, false, false, false, false, false],
-            [false, true, true, false, false, false, false, false],
-        ),
-        (
-            Organization::Indexed,
-            [false, false, false, false, true, true, false, false],
-            [false, false, false, false, true, false, false, false],
-        ),
-    ];
-    for (organization, gone, kept) in &table {
+    for (organization, gone, kept) in SUITED {
         assert_eq!(rt;
-            suited(rt.alloc(), *organization, &keys, None)?.as_slice(),
+            suited(rt.alloc(), organization, &keys(), None)?.as_slice(),
             gone.as_slice()
         );
         assert_eq!(rt;
-            suited(rt.alloc(), *organization, &keys, Some(&record))?.as_slice(),
+            suited(rt.alloc(), organization, &keys(), Some(&record))?.as_slice(),
             kept.as_slice()
         );
     }
+    Ok(())
+}
+
+#[test]
+fn no_file_may_have_a_record_that_is_too_long(rt: HostRuntime) -> Result<(), Fail> {
+    let mut record = Record::reserve(rt.alloc())?;
     record.set(&[b'A'; 101]);
-    for (organization, _, _) in &table {
+    for (organization, _, _) in SUITED {
         assert_eq!(rt;
-            suited(rt.alloc(), *organization, &keys, Some(&record))?.as_slice(),
+            suited(rt.alloc(), organization, &keys(), Some(&record))?.as_slice(),
             [false; 8].as_slice()
         );
     }

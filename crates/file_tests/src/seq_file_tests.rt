@@ -211,16 +211,129 @@ fn is_bounded<D: Disk>(
     Ok(there && !longer && !first)
 }
 
-// Fills a bucket with two records to the last byte and two buckets more, reads one by other heads, writes a record over
-// one, takes the last one away, puts it behind the others and sets it back to none, cuts over all buckets, and begins
-// anew.
+/// The two records that a test is given, and records of one byte.
+#[derive(Clone, Copy, Debug, PartialEq, Eq, Drop)]
+enum Text {
+    First,
+    Second,
+    Nine,
+    Eight,
+    Seven,
+}
+
+/// What is done to a file: a position is set to a record, set to none, or set back to none, and positions are cut from one on. And what is seen of it: its
+/// used buckets and records with the last record, its first two records with the buckets that a further one asks for, and its longest record.
+#[derive(Clone, Copy, Debug, PartialEq, Eq, Drop)]
+enum Step {
+    Write(u32, Text),
+    TakeAway(u32),
+    PutBack(u32),
+    Cut(u32),
+    Ends(u32, u32, Text),
+    Begins(u32),
+    Bounded,
+}
+
+// A bucket is filled with two records to the last byte and two buckets more, one is read by other heads, a record is written over one, the last one is taken
+// away, put behind the others and set back to none, all buckets are cut over, and the file begins anew.
+const STEPS: [Step; 24] = [
+    Step::Write(1, Text::First),
+    Step::Write(2, Text::Second),
+    Step::Ends(1, 2, Text::Second),
+    Step::Begins(1),
+    Step::Bounded,
+    Step::Write(3, Text::Nine),
+    Step::Ends(2, 3, Text::Nine),
+    Step::Begins(0),
+    Step::Write(4, Text::First),
+    Step::Write(5, Text::Second),
+    Step::Ends(3, 5, Text::Second),
+    Step::Write(3, Text::Eight),
+    Step::TakeAway(5),
+    Step::Write(5, Text::Second),
+    Step::PutBack(5),
+    Step::Ends(2, 4, Text::First),
+    Step::Cut(4),
+    Step::Ends(2, 3, Text::Eight),
+    Step::Cut(2),
+    Step::Write(2, Text::Second),
+    Step::Ends(1, 2, Text::Second),
+    Step::Cut(1),
+    Step::Write(1, Text::Seven),
+    Step::Ends(1, 1, Text::Seven),
+];
+
+fn bytes_of<'a>(text: Text, first: &'a [u8], second: &'a [u8]) -> &'a [u8] {
+    match text {
+        Text::First => first,
+        Text::Second => second,
+        Text::Nine => &[9],
+        Text::Eight => &[8],
+        Text::Seven => &[7],
+    }
+}
+
+// Sets a position to none, or back to none, where there is such a position.
+fn empty<D: Disk>(head: &mut FileHead, store: &mut Store<D>, n: u32, back: bool) -> Result<(), Down>
+    requires form { IsSequential head.old }
+    requires placed { IsPlaced head.old store.old.disk }
+    requires frames { 32 ≤ free_frames store.old.pool }
+    requires idle { IsIdle store.old }
+    ensures form { OnOk result (IsSequential head.new) }
+    ensures placed { OnOk result (IsPlaced head.new store.new.disk) }
+    ensures frames { OnOk result (32 ≤ free_frames store.new.pool) }
+    ensures idle { OnOk result (IsIdle store.new) }
+{
+    if n == 0 {
+        return Ok(());
+    }
+    if back {
+        put_back(head, store, n, None)
+    } else {
+        put(head, store, n, None)
+    }
+}
+
+// Takes a step, and tells whether what is to be seen is seen.
+fn take<D: Disk>(
+    head: &mut FileHead,
+    store: &mut Store<D>,
+    step: Step,
+    first: &[u8],
+    second: &[u8],
+    out: &mut Record,
+) -> Result<bool, Down>
+    requires form { IsSequential head.old }
+    requires placed { IsPlaced head.old store.old.disk }
+    requires frames { 32 ≤ free_frames store.old.pool }
+    requires idle { IsIdle store.old }
+    ensures form { OnOk result (IsSequential head.new) }
+    ensures placed { OnOk result (IsPlaced head.new store.new.disk) }
+    ensures frames { OnOk result (32 ≤ free_frames store.new.pool) }
+    ensures idle { OnOk result (IsIdle store.new) }
+{
+    match step {
+        Step::Write(n, text) => write(head, store, n, bytes_of(text, first, second), out)?,
+        Step::TakeAway(n) => empty(head, store, n, false)?,
+        Step::PutBack(n) => empty(head, store, n, true)?,
+        Step::Cut(n) => cut(head, store, n)?,
+        Step::Ends(used, count, text) => {
+            return ends_with(head, store, used, count, bytes_of(text, first, second), out);
+        }
+        Step::Begins(free) => return begins_with(head, store, first, second, free, out),
+        Step::Bounded => return is_bounded(head, store, first, out),
+    }
+    Ok(true)
+}
+
+// Takes the steps above in a new file, up to one that is not seen.
 fn fills_and_cuts<D: Disk>(
     head: &mut FileHead,
     store: &mut Store<D>,
     first: &[u8],
     second: &[u8],
     out: &mut Record,
-) -> Result<[bool; 10], Down>
+) -> Result<Option<Step>, Down>
     requires form { IsSequential head.old }
     requires placed { IsPlaced head.old store.old.disk }
     requires frames { 32 ≤ free_frames store.old.pool }
@@ -228,33 +341,12 @@ fn fills_and_cuts<D: Disk>(
     requires fresh { IsFresh head.old }
 {
     SeqFile::make(head, store)?;
-    write(head, store, 1, first, out)?;
-    write(head, store, 2, second, out)?;
-    let full = ends_with(head, store, 1, 2, second, out)?;
-    let kept = begins_with(head, store, first, second, 1, out)?;
-    let bounded = is_bounded(head, store, first, out)?;
-    write(head, store, 3, &[9], out)?;
-    let next = ends_with(head, store, 2, 3, &[9], out)?;
-    let still = begins_with(head, store, first, second, 0, out)?;
-    write(head, store, 4, first, out)?;
-    write(head, store, 5, second, out)?;
-    let third = ends_with(head, store, 3, 5, second, out)?;
-    write(head, store, 3, &[8], out)?;
-    put(head, store, 5, None)?;
-    write(head, store, 5, second, out)?;
-    put_back(head, store, 5, None)?;
-    let gone = ends_with(head, store, 2, 4, first, out)?;
-    cut(head, store, 4)?;
-    let over = ends_with(head, store, 2, 3, &[8], out)?;
-    cut(head, store, 2)?;
-    write(head, store, 2, second, out)?;
-    let again = ends_with(head, store, 1, 2, second, out)?;
-    cut(head, store, 1)?;
-    write(head, store, 1, &[7], out)?;
-    let anew = ends_with(head, store, 1, 1, &[7], out)?;
-    Ok([
-        full, kept, bounded, next, still, third, gone, over, again, anew,
-    ])
+    for step in STEPS {
+        if !take(head, store, step, first, second, out)? {
+            return Ok(Some(step));
+        }
+    }
+    Ok(None)
 }
 
 // None where the store did not open, or a bucket of so many blocks is too small for the records.
@@ -264,7 +356,7 @@ fn run(
     mrs: u16,
     first: &[u8],
     second: &[u8],
-) -> Result<Option<Result<[bool; 10], Down>>, AllocError>
+) -> Result<Option<Result<Option<Step>, Down>>, AllocError>
     requires blocks { (1 ≤ bucket) × (bucket ≤ 16) }
     requires records { (1 ≤ mrs) × (mrs + 32 ≤ 512 * bucket) × (mrs ≤ 8160) }
 {
@@ -295,16 +387,16 @@ fn buckets_are_filled_to_the_last_byte_and_cut(rt: HostRuntime) -> Result<(), Fa
     // 512 - 16 is 248 twice, and a slot has two bytes more than its record.
     assert_eq!(rt;
         run(rt.alloc(), 1, 480, &[1; 246], &[2; 246])?,
-        Some(Ok([true; 10]))
+        Some(Ok(None))
     );
     // 8,192 - 16 is 8,162 and 14, either way round.
     assert_eq!(rt;
         run(rt.alloc(), 16, 8160, &[1; 8160], &[2; 12])?,
-        Some(Ok([true; 10]))
+        Some(Ok(None))
     );
     assert_eq!(rt;
         run(rt.alloc(), 16, 8160, &[1; 12], &[2; 8160])?,
-        Some(Ok([true; 10]))
+        Some(Ok(None))
     );
     Ok(())
 }

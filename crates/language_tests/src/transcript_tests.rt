@@ -1,5 +1,10 @@
+ghost use Rattle.std.specs.Prelude.{◌≡◌, true};
+ghost use Rattle.transcript.specs.Forms.{HasTime};
+
 use net_wire::Message;
+use std::alloc::{AllocError, Global};
 use std::io::{self, Read};
+use std::process::Abort;
 use std::test::Fail;
 use transcript::{
     Cause, Emit, Form, LineReader, MemSink, MemSource, Next, Quota, ReaderSource, Sink, SinkEmit,
@@ -43,7 +48,7 @@ fn lines_come_whole_from_pieces(rt: HostRuntime) -> Result<(), Fail> {
 }
 
 // A script of one line.
-fn script_of(alloc: std::alloc::Global, length: usize, ended: bool) -> Result<Vec<u8>, Fail> {
+fn script_of(alloc: Global, length: usize, ended: bool) -> Result<Vec<u8>, Fail> {
     let mut script = vec![in alloc; b'x'; length]?;
     if ended {
         script.push(b'\n')?;
@@ -142,166 +147,541 @@ fn a_sink_fails_at_the_call_that_is_named(rt: HostRuntime) -> Result<(), Fail> {
     Ok(())
 }
 
+// Whether a form shows no moment, or one that can be written.
+fn has_time(form: &Form<'_>) -> bool
+    ensures { result ≡ true → HasTime form.now }
+{
+    match form {
+        Form::Committed(_, _, moment)
+        | Form::Aborted(_, _, _, moment)
+        | Form::LastCommitted(_, _, moment)
+        | Form::LastAborted(_, _, _, moment)
+        | Form::SettledEntry(_, _, _, _, moment) => moment.0 < 25_690_901_760_000,
+        _ => true,
+    }
+}
+
+// The lines of these forms, each with this number.
+fn lines_of(alloc: Global, number: u32, forms: &[Form<'_>]) -> Result<Vec<u8>, AllocError> {
+    let mut bytes = Vec::new(alloc);
+    {
+        let mut sink = WriterSink::new(&mut bytes);
+        let mut out = SinkEmit::new(alloc, &mut sink)?;
+        out.at(number);
+        for form in forms {
+            if has_time(form) {
+                out.emit(form);
+            }
+        }
+    }
+    Ok(bytes)
+}
+
+// These forms have these lines.
+fn shows(rt: &impl Abort, alloc: Global, number: u32, forms: &[Form<'_>], want: &[u8]) {
+    match lines_of(alloc, number, forms) {
+        Ok(bytes) => assert_eq!(rt; bytes.as_slice(), want),
+        Err(_) => assert!(rt; false),
+    }
+}
+
+// Forms that show no name and no record: refusals, and others by the tests that they are of.
+const REFUSALS: [Form<'static>; 35] = [
+    Form::NodeUp,
+    Form::VolumeInUse,
+    Form::NotInitialized,
+    Form::FileExists,
+    Form::BadParameter,
+    Form::NotMarked,
+    Form::QuotaExceeded(Quota::Branches, 64),
+    Form::QuotaExceeded(Quota::Files, 64),
+    Form::QuotaExceeded(Quota::Changes, 1_024),
+    Form::QuotaExceeded(Quota::Boots, 4_294_967_295),
+    Form::QuotaExceeded(Quota::Moments, 24_000_000_000_000),
+    Form::QuotaExceeded(Quota::Locks, 4_096),
+    Form::QuotaExceeded(Quota::Positions, 2_305_843_009_213_693_952),
+    Form::VolumeFull(7_000, 68_719_476_720),
+    Form::FileFull(1, 3),
+    Form::JournalFull(4_096, 8_268),
+    Form::NeedsUnit,
+    Form::BadOperation,
+    Form::KeyExists,
+    Form::RecordNotFound,
+    Form::EndOfFile,
+    Form::KeyChanged,
+    Form::Normal,
+    Form::RecordNormal,
+    Form::NoSuchNode,
+    Form::BadLabel,
+    Form::FileNotFound,
+    Form::BadRecordNumber,
+    Form::BadRecordSize,
+    Form::NoSuchTransaction,
+    Form::RecordExists,
+    Form::NoMemory,
+    Form::Broken(Cause::Failed),
+    Form::Broken(Cause::Stopped),
+    Form::TooLong,
+];
+
+const ANSWERS: [Form<'static>; 4] = [
+    Form::NormalSpan(0, 248),
+    Form::NormalCount(2),
+    Form::RecordPosition(70),
+    Form::BadLine(4),
+];
+
+const ANSWERS_OF_NODES: [Form<'static>; 6] = [
+    Form::TransactionAborted(Reason::SyncFail),
+    Form::NoSuchMessage,
+    Form::NoSuchBranchId,
+    Form::WrongState,
+    Form::QuotaExceeded(Quota::Slots, 128),
+    Form::QuotaExceeded(Quota::Bids, 15),
+];
+
+const ANSWERS_OF_MANAGERS: [Form<'static>; 9] = [
+    Form::NormalStanding(Standing::Active),
+    Form::NormalStanding(Standing::Ending),
+    Form::NormalStanding(Standing::Prepared),
+    Form::NormalStanding(Standing::Committed),
+    Form::NormalStanding(Standing::Unknown),
+    Form::NormalLog(1, 2, 509),
+    Form::NoSuchManager,
+    Form::QuotaExceeded(Quota::Declared, 64),
+    Form::QuotaExceeded(Quota::Managers, 8),
+];
+
+#[test]
+fn refusals_have_their_bytes(rt: HostRuntime) {
+    let want = b"1 NODEUP\n\
+1 VOLINUSE\n\
+1 NOINIT\n\
+1 RMS$_FEX\n\
+1 SS$_BADPARAM\n\
+1 NOTRU\n\
+1 SS$_EXQUOTA BRANCHES 64\n\
+1 SS$_EXQUOTA FILES 64\n\
+1 SS$_EXQUOTA CHANGES 1024\n\
+1 SS$_EXQUOTA BOOTS 4294967295\n\
+1 SS$_EXQUOTA MOMENTS 24000000000000\n\
+1 SS$_EXQUOTA LOCKS 4096\n\
+1 SS$_EXQUOTA POSITIONS 2305843009213693952\n\
+1 RMS$_FUL VOLUME 7000 68719476720\n\
+1 RMS$_FUL FILE 1 3\n\
+1 RMS$_FUL RU 4096 8268\n\
+1 RMS$_NRU\n\
+1 RMS$_IOP\n\
+1 RMS$_DUP\n\
+1 RMS$_RNF\n\
+1 RMS$_EOF\n\
+1 RMS$_CHG\n\
+1 SS$_NORMAL\n\
+1 RMS$_NORMAL\n\
+1 NOSUCHNODE\n\
+1 LABEL\n\
+1 RMS$_FNF\n\
+1 RMS$_MRN\n\
+1 RMS$_RSZ\n\
+1 SS$_NOSUCHTID\n\
+1 RMS$_REX\n\
+1 SS$_INSFMEM\n\
+1 FAULT\n\
+1 STOPPED\n\
+1 TOOLONG\n";
+    shows(&rt, rt.alloc(), 1, &REFUSALS, want);
+}
+
+#[test]
+fn answers_have_their_bytes(rt: HostRuntime) {
+    let want = b"12 SS$_NORMAL 0 248\n\
+12 SS$_NORMAL 2\n\
+12 RMS$_NORMAL 70\n\
+12 BADLINE 4\n";
+    shows(&rt, rt.alloc(), 12, &ANSWERS, want);
+    let of_nodes = b"11 SS$_ABORT DDTM$_SYNC_FAIL\n\
+11 NOSUCHMSG\n\
+11 SS$_NOSUCHBID\n\
+11 SS$_WRONGSTATE\n\
+11 SS$_EXQUOTA SLOTS 128\n\
+11 SS$_EXQUOTA BIDS 15\n";
+    shows(&rt, rt.alloc(), 11, &ANSWERS_OF_NODES, of_nodes);
+    let of_managers = b"9 SS$_NORMAL ACTIVE\n\
+9 SS$_NORMAL ENDING\n\
+9 SS$_NORMAL PREPARED\n\
+9 SS$_NORMAL COMMITTED\n\
+9 SS$_NORMAL UNKNOWN\n\
+9 SS$_NORMAL 1 2 509\n\
+9 SS$_NOSUCHRM\n\
+9 SS$_EXQUOTA DECLARED 64\n\
+9 SS$_EXQUOTA RMS 8\n";
+    shows(&rt, rt.alloc(), 9, &ANSWERS_OF_MANAGERS, of_managers);
+}
+
+// Writes the line of a faulty line, and the one that has no number.
+fn usage<K: Sink>(alloc: Global, sink: &mut K) -> Result<(), AllocError> {
+    let mut out = SinkEmit::new(alloc, sink)?;
+    out.at(12);
+    out.emit(&Form::BadLine(4));
+    out.usage();
+    Ok(())
+}
+
+#[test]
+fn the_usage_has_no_number(rt: HostRuntime) -> Result<(), Fail> {
+    let mut sink = MemSink::new(rt.alloc(), 100)?;
+    usage(rt.alloc(), &mut sink)?;
+    let want = b"12 BADLINE 4\n\
+usage: dtm RUN NODE=IMAGE ... or dtm MAKE n start\n";
+    assert_eq!(rt; sink.bytes(), want.as_slice());
+    Ok(())
+}
+
 fn id(seq: u32) -> Result<Id, Fail> {
     let node = NodeName::new(b"a").ok_or("a name")?;
     Ok(Id { node, boot: 1, seq })
 }
 
-// A message by which a branch joins.
-fn joining() -> Result<Message, Fail> {
-    Ok(Message {
-        kind: Kind::Join,
-        from: NodeName::new(b"b").ok_or("a name")?,
-        to: NodeName::new(b"a").ok_or("a name")?,
-        tid: Tid(id(1)?),
-        serial: Serial(id(2)?),
-        bid: Some(Bid(id(3)?)),
-    })
+// What is shown of the branch A.1.2 of the transaction A.1.1.
+#[derive(Clone, Copy)]
+enum Shown {
+    Joined,
+    Started,
+    Prepared,
+    ReadOnly,
+    Ended,
+    EndedByVeto,
+    Forgot,
+    Asked(Outcome),
+    Committed,
+    Aborted,
+    LastCommitted,
+    LastAborted,
+    PreparedEntry,
+    SettledEntry(u64, Outcome, Moment),
+    Id,
+    Told(RmEvent),
 }
 
-#[test]
-fn lines_have_their_bytes(rt: HostRuntime) -> Result<(), Fail> {
-    let mut bytes = Vec::new(rt.alloc());
-    {
-        let mut sink = WriterSink::new(&mut bytes);
-        let mut out = SinkEmit::new(rt.alloc(), &mut sink)?;
-        let mut record = Record::reserve(rt.alloc())?;
-        let log = log_record(LogKind::Prepared, &[], &[])?;
-        let mut message = joining()?;
-        message.kind = Kind::JoinOk;
-        message.bid = None;
-        let node = NodeName::new(b"a").ok_or("a name")?;
-        let (tid, serial) = (Tid(id(1)?), Serial(id(2)?));
-        let text = KeyText::new(b"aa").ok_or("a key")?;
-        record.set(b"x y");
-        out.at(12);
-        out.emit(&Form::Record(Key::Number(3), &record));
-        record.set(b"\"\xAF");
-        out.emit(&Form::Record(Key::Number(3), &record));
-        out.emit(&Form::Committed(tid, serial, Moment(445_343_760_000)));
-        out.emit(&Form::Aborted(tid, serial, Reason::Vetoed, Moment(1)));
-        out.emit(&Form::LastCommitted(tid, serial, Moment(445_343_760_000)));
-        out.emit(&Form::LastAborted(tid, serial, Reason::SegFail, Moment(2)));
-        let file = FileName::new(b"f").ok_or("a name")?;
-        out.emit(&Form::ChangeEntry(0, tid, serial, file, Key::Number(1), None));
-        out.emit(&Form::ChangeEntry(52, tid, serial, file, Key::Text(text), Some(&record)));
-        out.emit(&Form::PreparedEntry(104, tid, serial));
-        out.emit(&Form::SettledEntry(152, tid, serial, Outcome::Commit, Moment(1)));
-        out.emit(&Form::SettledEntry(200, tid, serial, Outcome::Abort, Moment(2)));
-        out.emit(&Form::NormalSpan(0, 248));
-        out.emit(&Form::Down(node, Cause::Failed));
-        out.emit(&Form::Down(node, Cause::Stopped));
-        out.emit(&Form::Crashed(node));
-        out.emit(&Form::NormalCount(2));
-        out.emit(&Form::NormalId(tid.0));
-        out.emit(&Form::RecordPosition(70));
-        record.set(b"w");
-        out.emit(&Form::RecordFound(&record));
-        out.emit(&Form::NextFound(Key::Number(9), &record));
-        out.emit(&Form::NextFound(Key::Text(text), &record));
-        out.emit(&Form::Unsent(&message));
-        out.emit(&Form::LogEntry(0, &log));
-        out.emit(&Form::BadLine(4));
-        out.usage();
+fn form_of(shown: Shown, tid: &Tid, serial: &Serial, rm: &RmName) -> Form<'static> {
+    match shown {
+        Shown::Joined => Form::Joined(*tid, *serial),
+        Shown::Started => Form::Started(*tid, *serial),
+        Shown::Prepared => Form::Prepared(*tid, *serial),
+        Shown::ReadOnly => Form::ReadOnly(*tid, *serial),
+        Shown::Ended => Form::Ended(*tid, None),
+        Shown::EndedByVeto => Form::Ended(*tid, Some(Reason::Vetoed)),
+        Shown::Forgot => Form::Forgot(*tid, *serial),
+        Shown::Asked(outcome) => Form::Asked(*tid, *serial, outcome),
+        Shown::Committed => Form::Committed(*tid, *serial, Moment(445_343_760_000)),
+        Shown::Aborted => Form::Aborted(*tid, *serial, Reason::Vetoed, Moment(1)),
+        Shown::LastCommitted => Form::LastCommitted(*tid, *serial, Moment(445_343_760_000)),
+        Shown::LastAborted => Form::LastAborted(*tid, *serial, Reason::SegFail, Moment(2)),
+        Shown::PreparedEntry => Form::PreparedEntry(104, *tid, *serial),
+        Shown::SettledEntry(at, outcome, moment) => {
+            Form::SettledEntry(at, *tid, *serial, outcome, moment)
+        }
+        Shown::Id => Form::NormalId(tid.0),
+        Shown::Told(event) => Form::ManagerTold(event, *tid, *serial, *rm),
     }
-    let want = b"12 RECORD 3 \"x y\"\n\
-12 RECORD 3 %X22AF\n\
-12 COMMIT A.1.1 A.1.2 \"1-JAN-2000 10:00:00.00\"\n\
-12 ABORT A.1.1 A.1.2 DDTM$_VETOED \"17-NOV-1858 00:00:00.01\"\n\
-12 LAST COMMIT A.1.1 A.1.2 \"1-JAN-2000 10:00:00.00\"\n\
-12 LAST ABORT A.1.1 A.1.2 DDTM$_SEG_FAIL \"17-NOV-1858 00:00:00.02\"\n\
-12 ENTRY 0 CHANGE A.1.1 A.1.2 F 1 -\n\
-12 ENTRY 52 CHANGE A.1.1 A.1.2 F \"aa\" %X22AF\n\
-12 ENTRY 104 PREPARED A.1.1 A.1.2\n\
-12 ENTRY 152 SETTLED A.1.1 A.1.2 COMMIT \"17-NOV-1858 00:00:00.01\"\n\
-12 ENTRY 200 SETTLED A.1.1 A.1.2 ABORT \"17-NOV-1858 00:00:00.02\"\n\
-12 SS$_NORMAL 0 248\n\
-12 DOWN A FAULT\n\
-12 DOWN A STOPPED\n\
-12 DOWN A CRASH\n\
-12 SS$_NORMAL 2\n\
-12 SS$_NORMAL A.1.1\n\
-12 RMS$_NORMAL 70\n\
-12 RMS$_NORMAL \"w\"\n\
-12 RMS$_NORMAL 9 \"w\"\n\
-12 RMS$_NORMAL \"aa\" \"w\"\n\
-12 UNSENT B A JOINOK A.1.1 A.1.2\n\
-12 LOG 0 PREPARED A.1.1 A.1.2 -\n\
-12 BADLINE 4\n\
-usage: dtm RUN NODE=IMAGE ... or dtm MAKE n start\n";
-    assert_eq!(rt; bytes.as_slice(), want.as_slice());
+}
+
+// The number of a line, what it shows, and its bytes.
+const OF_BRANCHES: [(u32, Shown, &[u8]); 21] = [
+    (11, Shown::Joined, b"11 JOINED A.1.1 A.1.2\n"),
+    (11, Shown::Started, b"11 STARTED A.1.1 A.1.2\n"),
+    (11, Shown::Prepared, b"11 PREPARED A.1.1 A.1.2\n"),
+    (11, Shown::ReadOnly, b"11 READONLY A.1.1 A.1.2\n"),
+    (11, Shown::Ended, b"11 ENDED A.1.1 SS$_NORMAL\n"),
+    (
+        11,
+        Shown::EndedByVeto,
+        b"11 ENDED A.1.1 SS$_ABORT DDTM$_VETOED\n",
+    ),
+    (11, Shown::Forgot, b"11 FORGOT A.1.1 A.1.2\n"),
+    (
+        11,
+        Shown::Asked(Outcome::Commit),
+        b"11 ASKED A.1.1 A.1.2 COMMIT\n",
+    ),
+    (
+        11,
+        Shown::Asked(Outcome::Abort),
+        b"11 ASKED A.1.1 A.1.2 ABORT\n",
+    ),
+    (
+        12,
+        Shown::Committed,
+        b"12 COMMIT A.1.1 A.1.2 \"1-JAN-2000 10:00:00.00\"\n",
+    ),
+    (
+        12,
+        Shown::Aborted,
+        b"12 ABORT A.1.1 A.1.2 DDTM$_VETOED \"17-NOV-1858 00:00:00.01\"\n",
+    ),
+    (
+        12,
+        Shown::LastCommitted,
+        b"12 LAST COMMIT A.1.1 A.1.2 \"1-JAN-2000 10:00:00.00\"\n",
+    ),
+    (
+        12,
+        Shown::LastAborted,
+        b"12 LAST ABORT A.1.1 A.1.2 DDTM$_SEG_FAIL \"17-NOV-1858 00:00:00.02\"\n",
+    ),
+    (
+        12,
+        Shown::PreparedEntry,
+        b"12 ENTRY 104 PREPARED A.1.1 A.1.2\n",
+    ),
+    (
+        12,
+        Shown::SettledEntry(152, Outcome::Commit, Moment(1)),
+        b"12 ENTRY 152 SETTLED A.1.1 A.1.2 COMMIT \"17-NOV-1858 00:00:00.01\"\n",
+    ),
+    (
+        12,
+        Shown::SettledEntry(200, Outcome::Abort, Moment(2)),
+        b"12 ENTRY 200 SETTLED A.1.1 A.1.2 ABORT \"17-NOV-1858 00:00:00.02\"\n",
+    ),
+    (12, Shown::Id, b"12 SS$_NORMAL A.1.1\n"),
+    (
+        9,
+        Shown::Told(RmEvent::Prepare),
+        b"9 EVENT PREPARE A.1.1 A.1.2 R\n",
+    ),
+    (
+        9,
+        Shown::Told(RmEvent::OnePhase),
+        b"9 EVENT ONEPHASE A.1.1 A.1.2 R\n",
+    ),
+    (
+        9,
+        Shown::Told(RmEvent::Commit),
+        b"9 EVENT COMMIT A.1.1 A.1.2 R\n",
+    ),
+    (
+        9,
+        Shown::Told(RmEvent::Abort),
+        b"9 EVENT ABORT A.1.1 A.1.2 R\n",
+    ),
+];
+
+#[test]
+fn branches_have_their_bytes(rt: HostRuntime) -> Result<(), Fail> {
+    let tid = Tid(id(1)?);
+    let serial = Serial(id(2)?);
+    let rm = RmName::new(b"r").ok_or("a name")?;
+    for (number, shown, want) in OF_BRANCHES {
+        let form = form_of(shown, &tid, &serial, &rm);
+        shows(&rt, rt.alloc(), number, &[form], want);
+    }
     Ok(())
 }
 
 #[test]
-fn lines_of_several_nodes_have_their_bytes(rt: HostRuntime) -> Result<(), Fail> {
-    let mut bytes = Vec::new(rt.alloc());
-    {
-        let mut sink = WriterSink::new(&mut bytes);
-        let mut out = SinkEmit::new(rt.alloc(), &mut sink)?;
-        let node = NodeName::new(b"a").ok_or("a name")?;
-        let (tid, serial) = (Tid(id(1)?), Serial(id(2)?));
-        let mut message = joining()?;
-        let log = log_record(LogKind::Prepared, &[], &[])?;
-        let record = Record::reserve(rt.alloc())?;
-        out.at(11);
-        out.emit(&Form::Sent(1, &message));
-        message.kind = Kind::JoinOk;
-        message.bid = None;
-        out.emit(&Form::Sent(1_000_000, &message));
-        message.kind = Kind::ReadOnly;
-        out.emit(&Form::Unsent(&message));
-        out.emit(&Form::Joined(tid, serial));
-        out.emit(&Form::Started(tid, serial));
-        out.emit(&Form::Prepared(tid, serial));
-        out.emit(&Form::ReadOnly(tid, serial));
-        out.emit(&Form::Ended(tid, None));
-        out.emit(&Form::Ended(tid, Some(Reason::Vetoed)));
-        out.emit(&Form::Forgot(tid, serial));
-        out.emit(&Form::Asked(tid, serial, Outcome::Commit));
-        out.emit(&Form::Asked(tid, serial, Outcome::Abort));
-        out.emit(&Form::Booted(node, 2));
-        out.emit(&Form::Pending(&[], &[]));
-        out.emit(&Form::Pending(&[serial], &[]));
-        out.emit(&Form::Pending(&[serial, Serial(tid.0), serial], &[]));
-        out.emit(&Form::TransactionAborted(Reason::SyncFail));
-        out.emit(&Form::NotInitializedAt(node));
-        out.emit(&Form::NoSuchMessage);
-        out.emit(&Form::NoSuchBranchId);
-        out.emit(&Form::WrongState);
-        out.emit(&Form::InDoubt(serial, node));
-        out.emit(&Form::QuotaExceeded(Quota::Slots, 128));
-        out.emit(&Form::QuotaExceeded(Quota::Bids, 15));
-        out.emit(&Form::Record(Key::Number(4), &record));
-        out.emit(&Form::LogEntry(1, &log));
+fn nodes_have_their_bytes(rt: HostRuntime) -> Result<(), Fail> {
+    let node = NodeName::new(b"a").ok_or("a name")?;
+    let downs = [
+        Form::Down(node, Cause::Failed),
+        Form::Down(node, Cause::Stopped),
+        Form::Crashed(node),
+    ];
+    let want = b"12 DOWN A FAULT\n\
+12 DOWN A STOPPED\n\
+12 DOWN A CRASH\n";
+    shows(&rt, rt.alloc(), 12, &downs, want);
+    let boots = [Form::Booted(node, 2), Form::NotInitializedAt(node)];
+    shows(&rt, rt.alloc(), 11, &boots, b"11 BOOTED A 2\n11 NOINIT A\n");
+    let none = [Form::NoVolume(node, 1, 518)];
+    shows(&rt, rt.alloc(), 1, &none, b"1 VOLUME A 1 518\n");
+    Ok(())
+}
+
+#[test]
+fn holders_have_their_bytes(rt: HostRuntime) -> Result<(), Fail> {
+    let locks = [
+        Form::RecordLocked(Serial(id(2)?)),
+        Form::FileLocked(Serial(id(2)?)),
+    ];
+    shows(
+        &rt,
+        rt.alloc(),
+        1,
+        &locks,
+        b"1 RMS$_RLK A.1.2\n1 RMS$_FLK A.1.2\n",
+    );
+    let node = NodeName::new(b"a").ok_or("a name")?;
+    let doubt = [Form::InDoubt(Serial(id(2)?), node)];
+    shows(&rt, rt.alloc(), 11, &doubt, b"11 INDOUBT A.1.2 A\n");
+    Ok(())
+}
+
+// A record of these bytes; without any where there are too many.
+fn record(alloc: Global, bytes: &[u8]) -> Result<Record, AllocError> {
+    let mut record = Record::reserve(alloc)?;
+    if bytes.len() < 100 {
+        record.set(bytes);
     }
-    let want = b"11 SENT 1 B A JOIN A.1.1 A.1.2 A.1.3\n\
-11 SENT 1000000 B A JOINOK A.1.1 A.1.2\n\
-11 UNSENT B A READONLY A.1.1 A.1.2\n\
-11 JOINED A.1.1 A.1.2\n\
-11 STARTED A.1.1 A.1.2\n\
-11 PREPARED A.1.1 A.1.2\n\
-11 READONLY A.1.1 A.1.2\n\
-11 ENDED A.1.1 SS$_NORMAL\n\
-11 ENDED A.1.1 SS$_ABORT DDTM$_VETOED\n\
-11 FORGOT A.1.1 A.1.2\n\
-11 ASKED A.1.1 A.1.2 COMMIT\n\
-11 ASKED A.1.1 A.1.2 ABORT\n\
-11 BOOTED A 2\n\
-11 PENDING -\n\
-11 PENDING A.1.2\n\
-11 PENDING A.1.2,A.1.1,A.1.2\n\
-11 SS$_ABORT DDTM$_SYNC_FAIL\n\
-11 NOINIT A\n\
-11 NOSUCHMSG\n\
-11 SS$_NOSUCHBID\n\
-11 SS$_WRONGSTATE\n\
-11 INDOUBT A.1.2 A\n\
-11 SS$_EXQUOTA SLOTS 128\n\
-11 SS$_EXQUOTA BIDS 15\n\
-11 RECORD 4 \"\"\n\
-11 LOG 1 PREPARED A.1.1 A.1.2 -\n";
-    assert_eq!(rt; bytes.as_slice(), want.as_slice());
+    Ok(record)
+}
+
+#[test]
+fn records_have_their_bytes(rt: HostRuntime) -> Result<(), Fail> {
+    let none = Record::reserve(rt.alloc())?;
+    let table: [(u32, &[u8]); 3] = [
+        (1, b"1 RECORD 4 \"\"\n"),
+        (9, b"9 RECORD 4 \"\"\n"),
+        (11, b"11 RECORD 4 \"\"\n"),
+    ];
+    for (number, want) in table {
+        let form = Form::Record(Key::Number(4), &none);
+        shows(&rt, rt.alloc(), number, &[form], want);
+    }
+    let texts: [(&[u8], &[u8]); 2] = [
+        (b"x y", b"12 RECORD 3 \"x y\"\n"),
+        (b"\"\xAF", b"12 RECORD 3 %X22AF\n"),
+    ];
+    for (bytes, want) in texts {
+        let record = record(rt.alloc(), bytes)?;
+        let form = Form::Record(Key::Number(3), &record);
+        shows(&rt, rt.alloc(), 12, &[form], want);
+    }
+    Ok(())
+}
+
+#[test]
+fn records_with_their_keys_have_their_bytes(rt: HostRuntime) -> Result<(), Fail> {
+    let text = KeyText::new(b"aa").ok_or("a key")?;
+    let digit = record(rt.alloc(), b"aa1")?;
+    let form = Form::Record(Key::Text(text), &digit);
+    shows(&rt, rt.alloc(), 1, &[form], b"1 RECORD \"aa\" \"aa1\"\n");
+    let found = record(rt.alloc(), b"w")?;
+    let forms = [
+        Form::RecordFound(&found),
+        Form::NextFound(Key::Number(9), &found),
+        Form::NextFound(Key::Text(text), &found),
+    ];
+    let want = b"12 RMS$_NORMAL \"w\"\n\
+12 RMS$_NORMAL 9 \"w\"\n\
+12 RMS$_NORMAL \"aa\" \"w\"\n";
+    shows(&rt, rt.alloc(), 12, &forms, want);
+    Ok(())
+}
+
+#[test]
+fn changes_have_their_bytes(rt: HostRuntime) -> Result<(), Fail> {
+    let file = FileName::new(b"f").ok_or("a name")?;
+    let (tid, serial) = (Tid(id(1)?), Serial(id(2)?));
+    let put = Form::ChangeEntry(0, tid, serial, file, Key::Number(1), None);
+    shows(
+        &rt,
+        rt.alloc(),
+        12,
+        &[put],
+        b"12 ENTRY 0 CHANGE A.1.1 A.1.2 F 1 -\n",
+    );
+    let text = KeyText::new(b"aa").ok_or("a key")?;
+    let image = record(rt.alloc(), b"\"\xAF")?;
+    let (tid, serial) = (Tid(id(1)?), Serial(id(2)?));
+    let update = Form::ChangeEntry(52, tid, serial, file, Key::Text(text), Some(&image));
+    let want = b"12 ENTRY 52 CHANGE A.1.1 A.1.2 F \"aa\" %X22AF\n";
+    shows(&rt, rt.alloc(), 12, &[update], want);
+    Ok(())
+}
+
+// A message of this kind; where a branch joins, it has an id.
+fn message(kind: Kind) -> Result<Message, Fail> {
+    let bid = match kind {
+        Kind::Join => Some(Bid(id(3)?)),
+        _ => None,
+    };
+    Ok(Message {
+        kind,
+        from: NodeName::new(b"b").ok_or("a name")?,
+        to: NodeName::new(b"a").ok_or("a name")?,
+        tid: Tid(id(1)?),
+        serial: Serial(id(2)?),
+        bid,
+    })
+}
+
+#[test]
+fn messages_have_their_bytes(rt: HostRuntime) -> Result<(), Fail> {
+    let sent: [(Kind, u32, &[u8]); 2] = [
+        (Kind::Join, 1, b"11 SENT 1 B A JOIN A.1.1 A.1.2 A.1.3\n"),
+        (
+            Kind::JoinOk,
+            1_000_000,
+            b"11 SENT 1000000 B A JOINOK A.1.1 A.1.2\n",
+        ),
+    ];
+    for (kind, message_number, want) in sent {
+        let message = message(kind)?;
+        shows(
+            &rt,
+            rt.alloc(),
+            11,
+            &[Form::Sent(message_number, &message)],
+            want,
+        );
+    }
+    let unsent: [(Kind, u32, &[u8]); 4] = [
+        (Kind::ReadOnly, 11, b"11 UNSENT B A READONLY A.1.1 A.1.2\n"),
+        (Kind::JoinOk, 12, b"12 UNSENT B A JOINOK A.1.1 A.1.2\n"),
+        (Kind::JoinOk, 9, b"9 UNSENT B A JOINOK A.1.1 A.1.2\n"),
+        (Kind::JoinOk, 1, b"1 UNSENT B A JOINOK A.1.1 A.1.2\n"),
+    ];
+    for (kind, number, want) in unsent {
+        let message = message(kind)?;
+        shows(&rt, rt.alloc(), number, &[Form::Unsent(&message)], want);
+    }
+    Ok(())
+}
+
+#[test]
+fn missing_answers_have_their_bytes(rt: HostRuntime) -> Result<(), Fail> {
+    let three = [Serial(id(2)?), Serial(id(1)?), Serial(id(2)?)];
+    let serials = three.as_slice();
+    let table: [(usize, &[u8]); 3] = [
+        (0, b"11 PENDING -\n"),
+        (1, b"11 PENDING A.1.2\n"),
+        (3, b"11 PENDING A.1.2,A.1.1,A.1.2\n"),
+    ];
+    for (count, want) in table {
+        assert!(rt; count <= 3);
+        let some = &serials[..count];
+        shows(&rt, rt.alloc(), 11, &[Form::Pending(some, &[])], want);
+    }
+    Ok(())
+}
+
+// The managers A_MANAGER_OF_15, R and A_MANAGER_OF_15.
+fn managers() -> Result<[RmName; 3], Fail> {
+    let first = RmName::new(b"r").ok_or("a name")?;
+    let last = RmName::new(b"a_manager_of_15").ok_or("a name")?;
+    Ok([last, first, last])
+}
+
+#[test]
+fn missing_replies_have_their_bytes(rt: HostRuntime) -> Result<(), Fail> {
+    let two = [Serial(id(2)?), Serial(id(1)?)];
+    let serials = two.as_slice();
+    let three = managers()?;
+    let rms = three.as_slice();
+    // How many serials, and which managers: from one on, up to another.
+    let table: [(usize, usize, usize, &[u8]); 4] = [
+        (0, 1, 2, b"9 PENDING R\n"),
+        (0, 1, 3, b"9 PENDING R,A_MANAGER_OF_15\n"),
+        (1, 1, 2, b"9 PENDING A.1.2,R\n"),
+        (2, 0, 2, b"9 PENDING A.1.2,A.1.1,A_MANAGER_OF_15,R\n"),
+    ];
+    for (count, from, to, want) in table {
+        assert!(rt; count <= 2 && from <= to && to <= 3);
+        let some = &serials[..count];
+        let form = Form::Pending(some, &rms[from..to]);
+        shows(&rt, rt.alloc(), 9, &[form], want);
+    }
     Ok(())
 }
 
@@ -328,182 +708,81 @@ fn log_record(kind: LogKind, serials: &[Serial], rms: &[RmName]) -> Result<LogRe
 }
 
 #[test]
-fn lines_of_resource_managers_have_their_bytes(rt: HostRuntime) -> Result<(), Fail> {
-    let mut bytes = Vec::new(rt.alloc());
-    {
-        let mut sink = WriterSink::new(&mut bytes);
-        let mut out = SinkEmit::new(rt.alloc(), &mut sink)?;
-        let first = RmName::new(b"r").ok_or("a name")?;
-        let last = RmName::new(b"a_manager_of_15").ok_or("a name")?;
-        let (tid, serial) = (Tid(id(1)?), Serial(id(2)?));
-        let record = Record::reserve(rt.alloc())?;
-        let mut message = joining()?;
-        message.kind = Kind::JoinOk;
-        message.bid = None;
-        let log = log_record(LogKind::Prepared, &[], &[])?;
-        out.at(9);
-        for event in [
-            RmEvent::Prepare,
-            RmEvent::OnePhase,
-            RmEvent::Commit,
-            RmEvent::Abort,
-        ] {
-            out.emit(&Form::ManagerTold(event, tid, serial, first));
-        }
-        out.emit(&Form::Pending(&[], &[first]));
-        out.emit(&Form::Pending(&[], &[first, last]));
-        out.emit(&Form::Pending(&[serial], &[first]));
-        out.emit(&Form::Pending(&[serial, Serial(tid.0)], &[last, first]));
-        out.emit(&Form::LogEntry(0, &log));
-        out.emit(&Form::LogEntry(7, &log_record(LogKind::Prepared, &[], &[first, last])?));
-        out.emit(&Form::LogEntry(127, &log_record(LogKind::Committed, &[serial], &[])?));
-        out.emit(&Form::LogEntry(
+fn records_of_the_log_have_their_bytes(rt: HostRuntime) -> Result<(), Fail> {
+    let two = [Serial(id(2)?), Serial(id(2)?)];
+    let serials = two.as_slice();
+    let three = managers()?;
+    let rms = three.as_slice();
+    // The line's number, the slot, what the record tells, how many serials, and which managers: from one on, up to another.
+    let table: [(u32, u32, LogKind, usize, usize, usize, &[u8]); 7] = [
+        (
+            12,
+            0,
+            LogKind::Prepared,
+            0,
+            0,
+            0,
+            b"12 LOG 0 PREPARED A.1.1 A.1.2 -\n",
+        ),
+        (
+            11,
+            1,
+            LogKind::Prepared,
+            0,
+            0,
+            0,
+            b"11 LOG 1 PREPARED A.1.1 A.1.2 -\n",
+        ),
+        (
+            9,
+            0,
+            LogKind::Prepared,
+            0,
+            0,
+            0,
+            b"9 LOG 0 PREPARED A.1.1 A.1.2 -\n",
+        ),
+        (
+            1,
+            2,
+            LogKind::Prepared,
+            0,
+            0,
+            0,
+            b"1 LOG 2 PREPARED A.1.1 A.1.2 -\n",
+        ),
+        (
+            9,
+            7,
+            LogKind::Prepared,
+            0,
+            1,
+            3,
+            b"9 LOG 7 PREPARED A.1.1 A.1.2 R,A_MANAGER_OF_15\n",
+        ),
+        (
+            9,
+            127,
+            LogKind::Committed,
+            1,
+            0,
+            0,
+            b"9 LOG 127 COMMITTED A.1.1 A.1.2 A.1.2 -\n",
+        ),
+        (
+            9,
             511,
-            &log_record(LogKind::Committed, &[serial, serial], &[last])?,
-        ));
-        for standing in [
-            Standing::Active,
-            Standing::Ending,
-            Standing::Prepared,
-            Standing::Committed,
-            Standing::Unknown,
-        ] {
-            out.emit(&Form::NormalStanding(standing));
-        }
-        out.emit(&Form::NormalLog(1, 2, 509));
-        out.emit(&Form::NoSuchManager);
-        out.emit(&Form::QuotaExceeded(Quota::Declared, 64));
-        out.emit(&Form::QuotaExceeded(Quota::Managers, 8));
-        out.emit(&Form::Unsent(&message));
-        out.emit(&Form::Record(Key::Number(4), &record));
+            LogKind::Committed,
+            2,
+            0,
+            1,
+            b"9 LOG 511 COMMITTED A.1.1 A.1.2 A.1.2,A.1.2 A_MANAGER_OF_15\n",
+        ),
+    ];
+    for (number, slot, kind, count, from, to, want) in table {
+        assert!(rt; count <= 2 && from <= to && to <= 3);
+        let log = log_record(kind, &serials[..count], &rms[from..to])?;
+        shows(&rt, rt.alloc(), number, &[Form::LogEntry(slot, &log)], want);
     }
-    let want = b"9 EVENT PREPARE A.1.1 A.1.2 R\n\
-9 EVENT ONEPHASE A.1.1 A.1.2 R\n\
-9 EVENT COMMIT A.1.1 A.1.2 R\n\
-9 EVENT ABORT A.1.1 A.1.2 R\n\
-9 PENDING R\n\
-9 PENDING R,A_MANAGER_OF_15\n\
-9 PENDING A.1.2,R\n\
-9 PENDING A.1.2,A.1.1,A_MANAGER_OF_15,R\n\
-9 LOG 0 PREPARED A.1.1 A.1.2 -\n\
-9 LOG 7 PREPARED A.1.1 A.1.2 R,A_MANAGER_OF_15\n\
-9 LOG 127 COMMITTED A.1.1 A.1.2 A.1.2 -\n\
-9 LOG 511 COMMITTED A.1.1 A.1.2 A.1.2,A.1.2 A_MANAGER_OF_15\n\
-9 SS$_NORMAL ACTIVE\n\
-9 SS$_NORMAL ENDING\n\
-9 SS$_NORMAL PREPARED\n\
-9 SS$_NORMAL COMMITTED\n\
-9 SS$_NORMAL UNKNOWN\n\
-9 SS$_NORMAL 1 2 509\n\
-9 SS$_NOSUCHRM\n\
-9 SS$_EXQUOTA DECLARED 64\n\
-9 SS$_EXQUOTA RMS 8\n\
-9 UNSENT B A JOINOK A.1.1 A.1.2\n\
-9 RECORD 4 \"\"\n";
-    assert_eq!(rt; bytes.as_slice(), want.as_slice());
-    Ok(())
-}
-
-#[test]
-fn refusals_and_a_record_without_bytes_have_their_bytes(rt: HostRuntime) -> Result<(), Fail> {
-    let mut bytes = Vec::new(rt.alloc());
-    {
-        let mut sink = WriterSink::new(&mut bytes);
-        let mut out = SinkEmit::new(rt.alloc(), &mut sink)?;
-        let mut record = Record::reserve(rt.alloc())?;
-        let log = log_record(LogKind::Prepared, &[], &[])?;
-        let mut message = joining()?;
-        message.kind = Kind::JoinOk;
-        message.bid = None;
-        let node = NodeName::new(b"a").ok_or("a name")?;
-        let text = KeyText::new(b"aa").ok_or("a key")?;
-        out.at(1);
-        out.emit(&Form::Record(Key::Number(4), &record));
-        out.emit(&Form::NodeUp);
-        out.emit(&Form::VolumeInUse);
-        out.emit(&Form::NotInitialized);
-        out.emit(&Form::FileExists);
-        out.emit(&Form::BadParameter);
-        out.emit(&Form::NotMarked);
-        out.emit(&Form::NoVolume(node, 1, 518));
-        out.emit(&Form::QuotaExceeded(Quota::Branches, 64));
-        out.emit(&Form::QuotaExceeded(Quota::Files, 64));
-        out.emit(&Form::QuotaExceeded(Quota::Changes, 1_024));
-        out.emit(&Form::QuotaExceeded(Quota::Boots, 4_294_967_295));
-        out.emit(&Form::QuotaExceeded(Quota::Moments, 24_000_000_000_000));
-        out.emit(&Form::QuotaExceeded(Quota::Locks, 4_096));
-        out.emit(&Form::QuotaExceeded(Quota::Positions, 2_305_843_009_213_693_952));
-        out.emit(&Form::VolumeFull(7_000, 68_719_476_720));
-        out.emit(&Form::FileFull(1, 3));
-        out.emit(&Form::JournalFull(4_096, 8_268));
-        out.emit(&Form::NeedsUnit);
-        out.emit(&Form::RecordLocked(Serial(id(2)?)));
-        out.emit(&Form::BadOperation);
-        out.emit(&Form::KeyExists);
-        out.emit(&Form::RecordNotFound);
-        out.emit(&Form::EndOfFile);
-        out.emit(&Form::KeyChanged);
-        out.emit(&Form::Normal);
-        out.emit(&Form::RecordNormal);
-        out.emit(&Form::NoSuchNode);
-        out.emit(&Form::BadLabel);
-        out.emit(&Form::FileNotFound);
-        out.emit(&Form::BadRecordNumber);
-        out.emit(&Form::BadRecordSize);
-        out.emit(&Form::NoSuchTransaction);
-        out.emit(&Form::FileLocked(Serial(id(2)?)));
-        out.emit(&Form::RecordExists);
-        out.emit(&Form::NoMemory);
-        out.emit(&Form::Broken(Cause::Failed));
-        out.emit(&Form::Broken(Cause::Stopped));
-        out.emit(&Form::TooLong);
-        record.set(b"aa1");
-        out.emit(&Form::Record(Key::Text(text), &record));
-        out.emit(&Form::Unsent(&message));
-        out.emit(&Form::LogEntry(2, &log));
-    }
-    let want = b"1 RECORD 4 \"\"\n\
-1 NODEUP\n\
-1 VOLINUSE\n\
-1 NOINIT\n\
-1 RMS$_FEX\n\
-1 SS$_BADPARAM\n\
-1 NOTRU\n\
-1 VOLUME A 1 518\n\
-1 SS$_EXQUOTA BRANCHES 64\n\
-1 SS$_EXQUOTA FILES 64\n\
-1 SS$_EXQUOTA CHANGES 1024\n\
-1 SS$_EXQUOTA BOOTS 4294967295\n\
-1 SS$_EXQUOTA MOMENTS 24000000000000\n\
-1 SS$_EXQUOTA LOCKS 4096\n\
-1 SS$_EXQUOTA POSITIONS 2305843009213693952\n\
-1 RMS$_FUL VOLUME 7000 68719476720\n\
-1 RMS$_FUL FILE 1 3\n\
-1 RMS$_FUL RU 4096 8268\n\
-1 RMS$_NRU\n\
-1 RMS$_RLK A.1.2\n\
-1 RMS$_IOP\n\
-1 RMS$_DUP\n\
-1 RMS$_RNF\n\
-1 RMS$_EOF\n\
-1 RMS$_CHG\n\
-1 SS$_NORMAL\n\
-1 RMS$_NORMAL\n\
-1 NOSUCHNODE\n\
-1 LABEL\n\
-1 RMS$_FNF\n\
-1 RMS$_MRN\n\
-1 RMS$_RSZ\n\
-1 SS$_NOSUCHTID\n\
-1 RMS$_FLK A.1.2\n\
-1 RMS$_REX\n\
-1 SS$_INSFMEM\n\
-1 FAULT\n\
-1 STOPPED\n\
-1 TOOLONG\n\
-1 RECORD \"aa\" \"aa1\"\n\
-1 UNSENT B A JOINOK A.1.1 A.1.2\n\
-1 LOG 2 PREPARED A.1.1 A.1.2 -\n";
-    assert_eq!(rt; bytes.as_slice(), want.as_slice());
     Ok(())
 }

@@ -11,7 +11,7 @@ use Rattle.emitter_model.specs.Emitting.{Emits, Shown, Since}
 use Rattle.transcript_model.specs.Lines as line
 use Rattle.transcript_model.specs.Lines.{Line}
 use Rattle.script_model.specs.Statements.{AddBranch}
-use Rattle.run_laws.specs.Said.{line_said, refused_by_lines, request_said}
+use Rattle.run_said.specs.Said.{line_said, refused_by_lines, request_said}
 use Rattle.said_steps.specs.Answers.{is_served}
 use Rattle.run_model.specs.Operations.{first_of, refused_if}
 use Rattle.run_model.specs.World.{Draws, Node, Shared, acted}

@@ -14,7 +14,7 @@ use Rattle.commit_protocol.proofs.Lists.{find_serial-key, same_key-true}
 use Rattle.transcript_model.specs.Lines as line
 use Rattle.transcript_model.specs.Lines.{Line}
 use Rattle.script_model.specs.Statements.{ByLabel, EndTrans}
-use Rattle.run_laws.specs.Said.{Said, line_said}
+use Rattle.run_said.specs.Said.{Said, line_said}
 use Rattle.said_steps.specs.Answers.{is_served}
 use Rattle.run_model.specs.World.{Node, Shared, tm_of}
 use Rattle.run_model.specs.Answers.{end_answer, is_first_active, missing, service, unreplied}

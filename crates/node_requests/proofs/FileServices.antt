@@ -6,7 +6,7 @@ use Rattle.emitter_model.specs.Emitting.{Shown}
 use Rattle.transcript_model.specs.Lines.{Line}
 use Rattle.script_model.specs.Statements as said
 use Rattle.script_model.specs.Statements.{Request}
-use Rattle.run_laws.specs.Said.{refused_by_lines}
+use Rattle.run_said.specs.Said.{refused_by_lines}
 use Rattle.run_model.specs.Answers.{service, touches}
 use Rattle.run_model.specs.Steps.{node_after_rows}
 use Rattle.run_model.specs.World as world

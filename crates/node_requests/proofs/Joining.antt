@@ -15,7 +15,7 @@ use Rattle.emitter_model.specs.Emitting.{Emits, Shown, Since}
 use Rattle.transcript_model.specs.Lines as line
 use Rattle.transcript_model.specs.Lines.{Line}
 use Rattle.script_model.specs.Statements.{StartBranch}
-use Rattle.run_laws.specs.Said.{SaidLabel, refused_by_lines}
+use Rattle.run_said.specs.Said.{SaidLabel, refused_by_lines}
 use Rattle.run_model.specs.Operations.{first_of}
 use Rattle.run_model.specs.World.{Draws, Label, Node, Shared, acted, labelled, with_serial}
 use Rattle.run_model.specs.Answers.{authorised, branch_labelled, in_state, more_branches, service, unsettled}

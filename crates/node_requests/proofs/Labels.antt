@@ -9,7 +9,7 @@ use Rattle.transcript_model.specs.Lines as line
 use Rattle.transcript_model.specs.Lines.{Line}
 use Rattle.records_model.specs.History.{same_id}
 use Rattle.vms_model.specs.Ids.{Id}
-use Rattle.run_laws.specs.Said.{SaidLabel, find_said, made_said}
+use Rattle.run_said.specs.Said.{SaidLabel, find_said, made_said}
 use Rattle.run_model.specs.Answers.{branch_labelled}
 use Rattle.run_model.specs.World as world
 use Rattle.run_model.specs.World.{Label, Node, find_branch, find_label, serial_labelled}

@@ -7,7 +7,7 @@ use Rattle.emitter_model.specs.Emitting.{Emits, Shown, Since}
 use Rattle.transcript_model.specs.Lines as line
 use Rattle.transcript_model.specs.Lines.{Line}
 use Rattle.script_model.specs.Statements.{ByLabel, BySerial, DeclareRm, ForgetRm, GetDti, LmcpDump, LmcpShow, Named}
-use Rattle.run_laws.specs.Said.{Said, line_said, refused_by_lines}
+use Rattle.run_said.specs.Said.{Said, line_said, refused_by_lines}
 use Rattle.said_steps.specs.Answers.{is_served}
 use Rattle.run_model.specs.Operations.{first_of}
 use Rattle.run_model.specs.World.{Declares, Node, Shared, acted}

@@ -12,7 +12,7 @@ use Rattle.script_model.specs.Statements as said
 use Rattle.script_model.specs.Statements.{Operation, Request}
 use Rattle.vms_model.specs.Ids.{Id}
 use Rattle.records_model.specs.Records.{Change}
-use Rattle.run_laws.specs.Said.{refused_by_lines}
+use Rattle.run_said.specs.Said.{refused_by_lines}
 use Rattle.said_steps.specs.Answers.{is_served}
 use Rattle.run_model.specs.Answers.{Serves, branch_labelled, change_limit, directed, found_refused, in_state, is_marked, journal_full, keys_refused, more_changes, more_locks, needs_unit, operation_act, service, silent, touches, unsettled}
 use Rattle.run_model.specs.Operations.{changes_of, file_full, first_of, form_refused, keys_asked, keys_held, operation_answer, refused_if}

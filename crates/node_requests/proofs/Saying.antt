@@ -6,7 +6,7 @@ use Rattle.emitter_model.specs.Emitting.{Emits, Shown}
 use Rattle.transcript_model.specs.Lines as line
 use Rattle.transcript_model.specs.Lines.{Line}
 use Rattle.script_model.specs.Statements.{Request}
-use Rattle.run_laws.specs.Said.{Said, line_said, lines_said, refused_by_lines, request_said}
+use Rattle.run_said.specs.Said.{Said, line_said, lines_said, refused_by_lines, request_said}
 use Rattle.said_steps.specs.Answers.{is_served}
 use Rattle.run_shared.specs.Sharing.{SharedState}
 use Rattle.file_requests.specs.Replying.{IsQuiet, Replies, RepliesIf, ShowsQuietly}

@@ -7,7 +7,7 @@ use Rattle.commit_protocol.specs.Messages.{Message}
 use Rattle.commit_protocol.specs.World.{In}
 use Rattle.transcript_model.specs.Lines as line
 use Rattle.transcript_model.specs.Lines.{Cause, Line}
-use Rattle.run_laws.specs.Said.{Said, SaidNode, SaidShared, line_said, lines_said, with_said, with_up}
+use Rattle.run_said.specs.Said.{Said, SaidNode, SaidShared, line_said, lines_said, with_said, with_up}
 use Rattle.said_steps.specs.Calls.{shows_boot}
 use Rattle.said_steps.specs.Own.{IsOwn, alone}
 use Rattle.node_table.specs.Telling.{IsOfWork, wire_after, wire_behind}

@@ -18,7 +18,7 @@ use Rattle.transcript_model.specs.Lines.{Line}
 use Rattle.script_model.specs.Statements.{AbortTrans, ByLabel, BySerial, EndBranch, EndTrans, Inquire, Named, Request}
 use Rattle.log_laws.specs.Slots.{begun}
 use Rattle.vms_model.specs.Transactions.{Aborted}
-use Rattle.run_laws.specs.Said.{Said, line_said, named_said, refused_by_lines, request_said}
+use Rattle.run_said.specs.Said.{Said, line_said, named_said, refused_by_lines, request_said}
 use Rattle.said_steps.specs.Answers.{is_served}
 use Rattle.run_model.specs.Operations.{first_of, refused_if}
 use Rattle.run_model.specs.World.{Label, Node, Shared, labelled, serial_labelled}

@@ -11,7 +11,7 @@ use Rattle.transcript_model.specs.Lines.{Line}
 use Rattle.emitter_model.proofs.EmittingLemmas.{emits_nothing, emits_on, since_on}
 use Rattle.script_model.specs.Statements.{Request}
 use Rattle.log_laws.specs.Slots.{begun}
-use Rattle.run_laws.specs.Said.{Said, line_said, lines_said, refused_by_lines, request_said}
+use Rattle.run_said.specs.Said.{Said, line_said, lines_said, refused_by_lines, request_said}
 use Rattle.said_steps.specs.Answers.{is_served}
 use Rattle.run_model.specs.Operations.{first_of, refused_if}
 use Rattle.run_model.specs.World.{Act, Node, Shared, acted, shared_after}

@@ -9,7 +9,7 @@ use Rattle.script_model.specs.Statements.{AbortTrans, AckEvent, AddBranch, Boot,
 use Rattle.vms_model.specs.Ids.{Id}
 use Rattle.unit_table.specs.Units.{OpenUnit}
 use Rattle.said_steps.specs.Answers.{is_served}
-use Rattle.run_laws.specs.Said.{Said, SaidNode, line_said, lines_said, refused_by_lines, request_said}
+use Rattle.run_said.specs.Said.{Said, SaidNode, line_said, lines_said, refused_by_lines, request_said}
 use Rattle.run_model.specs.Answers.{Service, service, touches}
 use Rattle.run_model.specs.World.{Node, Shared, with_changed}
 use Rattle.run_shared.specs.Sharing.{IsShared, SharedState}

@@ -9,7 +9,7 @@ use Rattle.transcript_model.specs.Lines as line
 use Rattle.transcript_model.specs.Lines.{Cause, Line}
 use Rattle.transcript_model.specs.Outside.{Rose}
 use Rattle.script_model.specs.Statements.{Crash, Fuse, Request}
-use Rattle.run_laws.specs.Said.{Said, SaidLabel, SaidNode, SaidShared, down_said, is_of_lines, line_said, lines_said, refused_by_lines, request_said}
+use Rattle.run_said.specs.Said.{Said, SaidLabel, SaidNode, SaidShared, down_said, is_of_lines, line_said, lines_said, refused_by_lines, request_said}
 use Rattle.said_steps.specs.Answers.{FallsTold, ends_boot, is_broken, is_normal, may_answer}
 use Rattle.said_steps.specs.Calls.{has_powered, is_boot_refusal, shows_boot}
 use Rattle.said_steps.specs.Own.{IsOwn}

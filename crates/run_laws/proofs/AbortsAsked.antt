@@ -24,7 +24,7 @@ use Rattle.run_model.proofs.Refusing.{same_last}
 use Rattle.world_laws.proofs.WorldLemmas.{each_opening}
 use Rattle.run_laws.specs.Causes.{AbortCause}
 use Rattle.run_laws.specs.Laws.{CausedHold}
-use Rattle.run_laws.specs.Promises.{IsShown, WasAborting, WasLast, abort, last_in, settlements_of}
+use Rattle.run_laws.specs.Promises.{ShownThere, WasAborting, WasLast, abort, last_in, settlements_of}
 use Rattle.run_laws.proofs.AbortsSeen.{HasIt, settle_seen, task_seen}
 use Rattle.run_laws.proofs.CausesHold.{Known, LineCause, cause_more, message_cause, request_cause}
 use Rattle.run_laws.proofs.CauseRuns.{IsLink, IsSettling, abort_of, fails, heard_cause, known_before, link_parts, link_so, link_thin, settling_parts, settling_thin, tick_so}
@@ -277,8 +277,11 @@ module _ (tid serial : Id) (reason : Reason) (moment : ℕ) where
         ]
       ]
 
-pub caused_hold : CausedHold
-caused_hold nodes disks es closing opening legal before said front behind tid serial reason moment there = elim kind [ inl boot ↦ of_boot boot | inr settle ↦ of_settle settle ]
+-- What a boot shows so stood at the node in the world before, or was under way there; or it was the last of the disk at the opening.
+pub last_known : (nodes : List Node) (disks : List DiskCounts) (es : List Entry) (closing : World) → AreOpening nodes → Legal (opened nodes disks) es closing → (before : List Entry) (said : Reading) (front behind : List Line) (tid serial : Id) (reason : Reason) (moment : ℕ) →
+    ShownThere es before said front (line.LastAborted tid serial reason moment) behind → (Known : Type 0) → ((w : World) (n : Node) → Legal (opened nodes disks) before w → find_node serial.node w.nodes ≡ Some n → HasIt tid serial reason moment n → Known) →
+    WasLast serial.node (line.LastAborted tid serial reason moment) (opened nodes disks) ⊎ Known
+last_known nodes disks es closing opening legal before said front behind tid serial reason moment there Known known = elim kind [ inl boot ↦ of_boot boot | inr settle ↦ of_settle settle ]
   where
     r : (v : World) × Legal (opened nodes disks) (there.entry ∷ before) v × Legal v there.after closing
     r = split_legal (opened nodes disks) closing there.after (there.entry ∷ before) (subst (λ es. Legal (opened nodes disks) es closing) there.stands legal)
@@ -292,34 +295,39 @@ caused_hold nodes disks es closing opening legal before said front behind tid se
     sound : IsSound (r.1).0
     sound = legal_sound (opened nodes disks) (r.1).0 before (opening_sound nodes disks opening) (r.1).1
 
-    known : (n : Node) → find_node serial.node ((r.1).0).nodes ≡ Some n → HasIt tid serial reason moment n → IsAsked tid serial reason moment before
-    known n found has = asked_so tid serial reason moment nodes disks before (r.1).0 opening (r.1).1 (elim has [ inl i ↦ inl (subst (In (abort tid serial reason moment)) (sym (found_settled serial.node (r.1).0 n found)) i) | inr u ↦ inr (n, found, u) ])
-
-    told : IsAsked tid serial reason moment before → WasLast serial.node (line.LastAborted tid serial reason moment) (opened nodes disks) ⊎ IsShown (abort tid serial reason moment) before ⊎ WasAborting before reason tid serial
-    told (inl (e, i, j)) = inr (inl (e, line.Aborted tid serial reason moment, i, j, refl))
-    told (inr aborting) = inr (inr aborting)
-
     among : (st : Statement) (step : Step (r.1).0 st there.entry.lines r.0) → In (line.LastAborted tid serial reason moment) step.events
     among st step = elim (in_append (line.LastAborted tid serial reason moment) step.events (step.answer ∷ []) (subst (In (line.LastAborted tid serial reason moment)) (sym there.shown ∙ step.shows) (here_in front (line.LastAborted tid serial reason moment) behind))) [
       | inl i ↦ i
       | inr i ↦ elim i [ inl same ↦ absurd (plain_one step.answer (abort tid serial reason moment) (answer_plain (r.1).0 r.0 st there.entry.lines step) (ap last_in (sym same))) | inr none ↦ absurd none ]
     ]
 
-    of_boot : said ≡ Says (At serial.node Boot) → WasLast serial.node (line.LastAborted tid serial reason moment) (opened nodes disks) ⊎ IsShown (abort tid serial reason moment) before ⊎ WasAborting before reason tid serial
+    of_boot : said ≡ Says (At serial.node Boot) → WasLast serial.node (line.LastAborted tid serial reason moment) (opened nodes disks) ⊎ Known
     of_boot boot = go (ended (r.1).0 r.0 (At serial.node Boot) there.entry.lines serial.node (Serves Boot) refl step)
       where
         step : Step (r.1).0 (At serial.node Boot) there.entry.lines r.0
         step = subst (λ x. Turn (r.1).0 x there.entry.lines r.0) (there.read ∙ boot) (r.1).2
 
-        go : Ended (r.1).0 r.0 serial.node (Serves Boot) there.entry.lines → WasLast serial.node (line.LastAborted tid serial reason moment) (opened nodes disks) ⊎ IsShown (abort tid serial reason moment) before ⊎ WasAborting before reason tid serial
+        go : Ended (r.1).0 r.0 serial.node (Serves Boot) there.entry.lines → WasLast serial.node (line.LastAborted tid serial reason moment) (opened nodes disks) ⊎ Known
         go (Refused refusal is shows goes) = absurd (subst (In (line.LastAborted tid serial reason moment)) (same_last step.events [] step.answer refusal (sym step.shows ∙ shows)).0 (among (At serial.node Boot) step))
         go (Turned n found c allowed shows goes) =
             let e = task_effect ((r.1).0).shared (stops_at serial.node (r.1).0) n (Serves Boot) c in
             let seen = task_seen tid serial reason moment (opened nodes disks) (r.1).0 serial.node n (Serves Boot) c (λ cause. RoseAt (r.1).0 serial.node cause (r.0).disks) last sound found allowed
             (subst (In (line.LastAborted tid serial reason moment)) (same_last step.events e.lines step.answer e.answer (sym step.shows ∙ shows)).0 (among (At serial.node Boot) step)) in
-            elim seen.has [ inl has ↦ told (known n found has) | inr was ↦ inl was ]
+            elim seen.has [ inl has ↦ inr (known (r.1).0 n (r.1).1 found has) | inr was ↦ inl was ]
 
-    of_settle : said ≡ Says Settle → WasLast serial.node (line.LastAborted tid serial reason moment) (opened nodes disks) ⊎ IsShown (abort tid serial reason moment) before ⊎ WasAborting before reason tid serial
+    of_settle : said ≡ Says Settle → WasLast serial.node (line.LastAborted tid serial reason moment) (opened nodes disks) ⊎ Known
     of_settle settle =
         let step : Step (r.1).0 Settle there.entry.lines r.0 = subst (λ x. Turn (r.1).0 x there.entry.lines r.0) (there.read ∙ settle) (r.1).2 in
-        elim (settle_seen tid serial reason moment (opened nodes disks) (IsAsked tid serial reason moment before) (r.1).0 r.0 there.entry.lines step last sound (λ n found down has. known n found has) (among Settle step)) [ inl asked ↦ told asked | inr was ↦ inl was ]
+        elim (settle_seen tid serial reason moment (opened nodes disks) Known (r.1).0 r.0 there.entry.lines step last sound (λ n found down has. known (r.1).0 n (r.1).1 found has) (among Settle step)) [ inl asked ↦ inr asked | inr was ↦ inl was ]
+
+-- what a node has stands in its world, or is under way there
+pub stands_at : (tid serial : Id) (reason : Reason) (moment : ℕ) (w : World) (n : Node) → find_node serial.node w.nodes ≡ Some n → HasIt tid serial reason moment n → Stands tid serial reason moment w
+stands_at tid serial reason moment w n found has = elim has [ inl i ↦ inl (subst (In (abort tid serial reason moment)) (sym (found_settled serial.node w n found)) i) | inr u ↦ inr (n, found, u) ]
+
+pub caused_hold : CausedHold
+caused_hold nodes disks es closing opening legal before said front behind tid serial reason moment there =
+    elim (last_known nodes disks es closing opening legal before said front behind tid serial reason moment there (IsAsked tid serial reason moment before)
+    (λ w n led found has. asked_so tid serial reason moment nodes disks before w opening led (stands_at tid serial reason moment w n found has))) [
+      | inl was ↦ inl was
+      | inr asked ↦ inr (elim asked [ inl (e, i, j) ↦ inl (e, line.Aborted tid serial reason moment, i, j, refl) | inr aborting ↦ inr aborting ])
+    ]

@@ -24,7 +24,7 @@ use Rattle.run_agreement.proofs.Begun.{runs_begin}
 use Rattle.run_agreement.proofs.Told.{quiet_images, runs_tell_no_more, unused_are_told, used_tell_no_more}
 use Rattle.world_laws.proofs.WorldLemmas.{each_opening}
 use Rattle.run_laws.specs.Promises.{IsNeverCommitted}
-use Rattle.run_laws.specs.Said.{Said}
+use Rattle.run_said.specs.Said.{Said}
 use Rattle.run_laws.proofs.TurnsTell.{legal_told}
 use Rattle.run_laws.specs.Laws.{AgreedAbortsStand, AgreedDumpsHold, AllAgree, ToldAgree}
 use Rattle.run_laws.proofs.AbortsHeld.{IsAborting, Leaves, Told, same_leaves, step_leaves}

@@ -22,11 +22,12 @@ use Rattle.run_laws.specs.Causes.{CommitCause, DeliversTo, IsDirect}
 use Rattle.run_laws.specs.Laws.{AskedHold}
 use Rattle.run_laws.specs.Promises.{IsShown, WasChanging, WasEnding, WasLast, commitment, last_in, settlements_of}
 use Rattle.run_laws.proofs.AllShown.{legal_shown}
-use Rattle.run_laws.proofs.Asking.{IsAsked, StandsAt, UnderIt, asked_so, step_in}
+use Rattle.run_laws.proofs.Asking.{IsAsked, StandsAt, UnderIt, asked_so}
 use Rattle.run_laws.proofs.CauseRuns.{commits_hold}
 use Rattle.run_laws.proofs.Deciding.{in_split, split_legal}
 use Rattle.run_laws.proofs.LastBoots.{boots, lasts_hold, line_of, opening_own, plain_one, settled_own}
 use Rattle.run_laws.proofs.LastSettled.{AllLast, begins_last, legal_lasts, part_lasts}
+use Rattle.run_laws.proofs.Leaving.{step_in}
 use Rattle.run_laws.proofs.OwnLines.{line_in, task_owns}
 use Rattle.run_laws.proofs.Restarting.{last_seen}
 use Rattle.run_laws.proofs.SettlingUp.{IsSettling, SettleTask, each_settling, settle_task, settle_up}
@@ -89,7 +90,7 @@ module _ (nodes : List Node) (disks : List DiskCounts) (opening : AreOpening nod
       before_so : StandsAt tid serial moment u ⊎ UnderIt tid serial moment u ⊎ In (line.Committed tid serial moment) (part_effect u p c).lines
       before_so = elim h [
         | inl k ↦ part_in serial.node (commitment tid serial moment) (line.Committed tid serial moment) (commit_line tid serial moment) u p c k
-        | inr k ↦ elim (part_under serial.node (commitment tid serial moment) (line.Committed tid serial moment) (commit_line tid serial moment) refl u p c after allowed k) [ inl r ↦ inr (inl r) | inr r ↦ absurd (both_ways (part_effect u p c).ends on r.ends) ]
+        | inr k ↦ elim (part_under serial.node (commitment tid serial moment) (line.Committed tid serial moment) (commit_line tid serial moment) (inl refl) u p c after allowed k) [ inl r ↦ inr (inl r) | inr r ↦ absurd (both_ways (part_effect u p c).ends on r.ends) ]
       ]
 
       by : (n : Node) → find_node serial.node u.nodes ≡ Some n → n.up ≡ false → (In (line.Committed tid serial moment) (part_effect u p c).lines → ⊥) → Asked
@@ -187,7 +188,7 @@ asked_hold nodes disks es closing opening legal before said front behind tid ser
     of_boot : said ≡ Says (At serial.node Boot) → In (commitment tid serial moment) (settlements_of serial.node r.0) → WasLast serial.node (line.LastCommitted tid serial moment) (opened nodes disks) ⊎ IsShown (commitment tid serial moment) before ⊎ WasEnding before tid serial ⊎ WasChanging (opened nodes disks) before serial
     of_boot boot stands =
         let step : Step (r.1).0 (At serial.node Boot) there.entry.lines r.0 = subst (λ x. Turn (r.1).0 x there.entry.lines r.0) (there.read ∙ boot) (r.1).2 in
-        elim (step_in tid serial moment (r.1).0 r.0 (At serial.node Boot) there.entry.lines step stands) [
+        elim (step_in serial.node (commitment tid serial moment) (line.Committed tid serial moment) (commit_line tid serial moment) (inl refl) (r.1).0 r.0 (At serial.node Boot) there.entry.lines step stands) [
           | inl k ↦ told (asked_so tid serial moment nodes disks before (r.1).0 opening (r.1).1 (inl k))
           | inr k ↦ elim k [
             | inl under ↦ told (asked_so tid serial moment nodes disks before (r.1).0 opening (r.1).1 (inr under))

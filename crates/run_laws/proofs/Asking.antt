@@ -1,12 +1,10 @@
 -- Each commitment that stands at a node, or is under way there, was asked for.
 use Rattle.std.proofs.Common.{◌≡◌, ℕ, zero, suc, ◌⊎◌, List, [], ◌∷◌, ◌++◌, take, inl, inr, true, false, Option, Some, None, refl, sym, ◌∙◌, ap, subst}
 use Rattle.std.specs.Option.{option_map}
-use Rattle.std.proofs.lemmas.Bool.{both_ways}
-use Rattle.std.proofs.lemmas.List.{append_assoc}
 use Rattle.vms_model.specs.Ids.{Id}
 use Rattle.transcript_model.specs.Lines as line
 use Rattle.transcript_model.specs.Lines.{Line, Cause}
-use Rattle.script_model.specs.Statements.{Statement, At, Settle, Deliver, LinkDown, Direct, Operation, Put, Update, Delete, Truncate, Get, Next, Reading, Blank, Says, Bad}
+use Rattle.script_model.specs.Statements.{Statement, At, Direct, Operation, Put, Update, Delete, Truncate, Get, Next, Reading, Blank, Says, Bad}
 use Rattle.script_model.specs.Grammar.{reading}
 use Rattle.records_model.specs.Records.{Change}
 use Rattle.commit_protocol.specs.World.{In}
@@ -15,12 +13,10 @@ use Rattle.run_model.specs.World.{World, Shared, Node, Act, DiskCounts, File, Se
 use Rattle.run_model.specs.Operations.{changes_of, is_change}
 use Rattle.run_model.specs.Answers.{Serves, changes_at, directed, refused_before_reading, service}
 use Rattle.run_model.specs.Steps.{Choice, Cut, Unpowered, Whole, WithoutMemory, begun, lines_of_rows, rows_if, task_effect, whole}
-use Rattle.run_model.specs.Statements.{Phases, Begins, Step, RoseAt, begun_with, part_effect, phases_of, refused_at_once, stops_at}
+use Rattle.run_model.specs.Statements.{Step, RoseAt, stops_at}
 use Rattle.run_model.specs.StepLaws.{is_refusal}
 use Rattle.run_model.specs.Transcript.{Entry, Legal, AreOpening, Turn}
 use Rattle.run_model.proofs.NodeLists.{clash}
-use Rattle.run_model.proofs.PartLemmas.{phases_fold}
-use Rattle.run_model.proofs.Refusing.{each_phase}
 use Rattle.run_model.proofs.TaskLemmas.{outcome}
 use Rattle.world_laws.proofs.WorldLemmas.{each_opening}
 use Rattle.run_laws.specs.Accounts.{broken_id}
@@ -29,9 +25,10 @@ use Rattle.run_laws.specs.Promises.{WasChanging, WasEnding, commitment, settleme
 use Rattle.run_laws.specs.SaidLaws.{SaidThere}
 use Rattle.run_laws.proofs.CauseRuns.{commits_hold}
 use Rattle.run_laws.proofs.EachRow.{is_plain}
+use Rattle.run_laws.proofs.Leaving.{Another, step_in, step_under}
 use Rattle.run_laws.proofs.Named.{Ended, Refused, Turned, ended}
 use Rattle.run_laws.proofs.ShownSettled.{in_append, outcome_other}
-use Rattle.run_laws.proofs.Traces.{IsUnder, part_in, part_under, phases_trace}
+use Rattle.run_laws.proofs.Traces.{IsUnder}
 use Rattle.run_laws.proofs.Unshown.{commit_line}
 
 -- A change without a label.
@@ -114,81 +111,11 @@ module _ (tid serial : Id) (moment : ℕ) where
 
 -- Statements.
 module _ (tid serial : Id) (moment : ℕ) where
-  abbrev s : Settlement
-  s = commitment tid serial moment
-
   abbrev pub UnderIt : World → Type 0
   UnderIt w = IsUnder serial.node (commitment tid serial moment) w
 
   abbrev pub StandsAt : World → Type 0
   StandsAt w = In (commitment tid serial moment) (settlements_of serial.node w)
-
-  begun_stands : (st : Statement) (w : World) → StandsAt (begun_with st w) → StandsAt w
-  begun_stands Settle w i = i
-  begun_stands (At node request) w i = i
-  begun_stands (Deliver number) w i = i
-  begun_stands (LinkDown a b) w i = i
-
-  begun_under : (st : Statement) (w : World) → UnderIt (begun_with st w) → UnderIt w
-  begun_under Settle w i = i
-  begun_under (At node request) w i = i
-  begun_under (Deliver number) w i = i
-  begun_under (LinkDown a b) w i = i
-
-  pub step_in : (w v : World) (st : Statement) (lines : List Line) → (step : Step w st lines v) → StandsAt v → StandsAt w ⊎ UnderIt w ⊎ In (line.Committed tid serial moment) step.events
-  step_in w v st lines step i = go (refused_at_once w st) step.does (subst StandsAt step.goes i)
-    where
-      go : (o : Option Line) → Begins o (Phases (phases_of st) v.disks (begun_with st w) line.Normal) w step.events step.answer step.world → StandsAt step.world → StandsAt w ⊎ UnderIt w ⊎ In (line.Committed tid serial moment) step.events
-      go (Some refusal) d j = inl (subst StandsAt d.2 j)
-      go None d j = elim (phases_fold v.disks (λ p. Unit {0}) (λ g. Unit {0}) (λ u rest a x. StandsAt x → StandsAt u ⊎ UnderIt u ⊎ In (line.Committed tid serial moment) rest)
-          (λ u g q k. inl k)
-          (λ u p c ok allowed ends k. part_in serial.node (commitment tid serial moment) (line.Committed tid serial moment) (commit_line tid serial moment) u p c k)
-          (λ u p c ok allowed on. (
-            tt,
-            λ rest a x more k. elim (more k) [
-              | inl q ↦ elim (part_in serial.node (commitment tid serial moment) (line.Committed tid serial moment) (commit_line tid serial moment) u p c q) [ inl r ↦ inl r | inr r ↦ elim r [ inl t ↦ inr (inl t) | inr t ↦ inr (inr (in_left _ (part_effect u p c).lines rest t)) ] ]
-              | inr q ↦ elim q [
-                | inl under ↦ elim (part_under serial.node (commitment tid serial moment) (line.Committed tid serial moment) (commit_line tid serial moment) refl u p c v.disks allowed under) [ inl r ↦ inr (inl r) | inr r ↦ absurd (both_ways (part_effect u p c).ends on r.ends) ]
-                | inr shown ↦ inr (inr (in_right _ (part_effect u p c).lines rest shown))
-              ]
-            ],
-          ))
-          (phases_of st) (each_phase st) (begun_with st w) line.Normal step.events step.answer step.world tt d j) [
-            | inl k ↦ inl (begun_stands st w k)
-            | inr k ↦ elim k [ inl t ↦ inr (inl (begun_under st w t)) | inr t ↦ inr (inr t) ]
-          ]
-
-  -- where it is left under way, another step shows it
-  pub record Another (w v : World) (st : Statement) (lines : List Line) : Type 0 where
-    pub front : List Line
-    pub cause : Cause
-    pub other : World
-    pub is : lines ≡ (front ++ line.Down serial.node cause ∷ []) ++ line.Broken cause ∷ []
-    pub step : Step w st (front ++ line.Committed tid serial moment ∷ line.Down serial.node cause ∷ line.Broken cause ∷ []) other
-
-  pub step_under : (w v : World) (st : Statement) (lines : List Line) → Step w st lines v → UnderIt v → UnderIt w ⊎ Another w v st lines
-  step_under w v st lines step h = go (refused_at_once w st) refl step.does (subst UnderIt step.goes h)
-    where
-      go : (o : Option Line) → refused_at_once w st ≡ o → Begins o (Phases (phases_of st) v.disks (begun_with st w) line.Normal) w step.events step.answer step.world → UnderIt step.world → UnderIt w ⊎ Another w v st lines
-      go (Some refusal) e d k = inl (subst UnderIt d.2 k)
-      go None e d k = elim (phases_trace serial.node (commitment tid serial moment) (line.Committed tid serial moment) (commit_line tid serial moment) refl (phases_of st) v.disks (begun_with st w) line.Normal step.events step.answer step.world d k) [
-        | inl q ↦ inl (begun_under st w q)
-        | inr q ↦ inr (record {
-          front = q.0;
-          cause = q.1;
-          other = record q.2 { disks = v.disks };
-          is = step.shows ∙ (λ i. q.3 i ++ q.4 i ∷ []);
-          step = record {
-            events = q.0 ++ line.Committed tid serial moment ∷ line.Down serial.node q.1 ∷ [];
-            answer = line.Broken q.1;
-            world = q.2;
-            does = subst (λ o. Begins o (Phases (phases_of st) v.disks (begun_with st w) line.Normal) w (q.0 ++ line.Committed tid serial moment ∷ line.Down serial.node q.1 ∷ []) (line.Broken q.1) q.2) (sym e) q.5;
-            counts = step.counts;
-            shows = sym (append_assoc q.0 (line.Committed tid serial moment ∷ line.Down serial.node q.1 ∷ []) (line.Broken q.1 ∷ []));
-            goes = refl;
-          };
-        })
-      ]
 
   -- Runs.
 
@@ -202,7 +129,7 @@ module _ (tid serial : Id) (moment : ℕ) where
   later opening e es (inr (inr (before, file, op, events, cause, w, there, is, legal, id))) = inr (inr (before, file, op, events, cause, w, record { after = e ∷ there.after; entry = there.entry; stands = ap (λ xs. e ∷ xs) there.stands; said = there.said; shown = there.shown }, is, legal, id))
 
   -- by the step that shows it
-  another_asked : (nodes : List Node) (disks : List DiskCounts) (es : List Entry) (e : Entry) (w v : World) (st : Statement) → AreOpening nodes → Legal (opened nodes disks) es w → reading e.source.text ≡ Says st → Another w v st e.lines → IsAsked (opened nodes disks) (e ∷ es)
+  another_asked : (nodes : List Node) (disks : List DiskCounts) (es : List Entry) (e : Entry) (w v : World) (st : Statement) → AreOpening nodes → Legal (opened nodes disks) es w → reading e.source.text ≡ Says st → Another serial.node (line.Committed tid serial moment) w v st e.lines → IsAsked (opened nodes disks) (e ∷ es)
   another_asked nodes disks es e w v st opening legal said a = elim cause [
     | inl c ↦ inr (inl (es, st, a.front, a.cause, there, c))
     | inr d ↦ inr (inr (direct d))
@@ -241,14 +168,14 @@ module _ (tid serial : Id) (moment : ℕ) where
       go Blank said turn before (inl i) = before (inl (subst StandsAt turn.1 i))
       go Blank said turn before (inr u) = before (inr (subst UnderIt turn.1 u))
       go (Bad column) said turn before h = absurd turn
-      go (Says st) said turn before (inl i) = elim (step_in legal.0 w st e.lines turn i) [
+      go (Says st) said turn before (inl i) = elim (step_in serial.node (commitment tid serial moment) (line.Committed tid serial moment) (commit_line tid serial moment) (inl refl) legal.0 w st e.lines turn i) [
         | inl k ↦ before (inl k)
         | inr k ↦ elim k [
           | inl u ↦ before (inr u)
           | inr shown ↦ inl (e, inl refl, subst (In (line.Committed tid serial moment)) (sym turn.shows) (in_left (line.Committed tid serial moment) turn.events (turn.answer ∷ []) shown))
         ]
       ]
-      go (Says st) said turn before (inr u) = elim (step_under legal.0 w st e.lines turn u) [
+      go (Says st) said turn before (inr u) = elim (step_under serial.node (commitment tid serial moment) (line.Committed tid serial moment) (commit_line tid serial moment) (inl refl) legal.0 w st e.lines turn u) [
         | inl k ↦ before (inr k)
         | inr a ↦ another_asked nodes disks es e legal.0 w st opening legal.1 said a
       ]

@@ -25,9 +25,10 @@ use Rattle.run_laws.specs.Causes.{AbortCause, CommitCause, IsCutOff, IsDirect}
 use Rattle.run_laws.specs.Promises.{ShownThere, abort, commitment, settlements_of, shown_in}
 use Rattle.run_laws.specs.Laws.{AbortedHold, CommitmentsHold}
 use Rattle.run_laws.proofs.AllShown.{shown_hold}
-use Rattle.run_laws.proofs.CausesHold.{AllCaused, IsCaused, Known, LineCause, caused_append, clock_cause, first_none, link_cause, message_cause, none_caused, request_cause}
+use Rattle.run_laws.proofs.CausesHold.{AllCaused, IsCaused, Known, LineCause, caused_append, clock_cause, link_cause, message_cause, none_caused, request_cause}
 use Rattle.run_laws.proofs.EachRow.{is_plain}
-use Rattle.run_laws.proofs.Labelling.{served_up}
+use Rattle.run_laws.proofs.Labelling.{first_none, served_up}
+use Rattle.run_laws.proofs.Missing.{legal_joined}
 use Rattle.run_laws.proofs.Named.{Ended, Refused, Turned, ended}
 use Rattle.run_laws.proofs.NamedRuns.{legal_named}
 use Rattle.run_laws.proofs.Reasons.{heard_kind}
@@ -91,6 +92,7 @@ module _ (es : List Entry) (w : World) (known : Known es w) where
         a,
         b,
         refl,
+        l.4,
         elim which [
           | inl both ↦ inl (l.2 ∙ both.0, subst (λ y. IsCutOff es k.tid k.serial y) both.1 l.3)
           | inr both ↦ inr (l.2 ∙ both.0, subst (λ y. IsCutOff es k.tid k.serial y) both.1 l.3)
@@ -235,7 +237,7 @@ module _ (es : List Entry) (w v : World) (known : Known es w) (steps : HaveSteps
 
 -- what is known of the entries that lead to a world
 pub known_before : (nodes : List Node) (disks : List DiskCounts) (es : List Entry) (w : World) → AreOpening nodes → Legal (opened nodes disks) es w → Known es w
-known_before nodes disks es w opening legal = record { named = legal_named nodes disks es w opening legal; told = legal_are_told nodes disks es w opening legal; sent = λ number m is. was_sent nodes disks es w number m opening legal is }
+known_before nodes disks es w opening legal = record { named = legal_named nodes disks es w opening legal; told = legal_are_told nodes disks es w opening legal; sent = λ number m is. was_sent nodes disks es w number m opening legal is; joined = legal_joined nodes disks es w opening legal }
 
 caused_there : (nodes : List Node) (disks : List DiskCounts) (es before : List Entry) (said : Reading) (front : List Line) (this : Line) (behind : List Line) (x : Settlement) (closing : World) → AreOpening nodes → Legal (opened nodes disks) es closing → ShownThere es before said front this behind → shown_in this ≡ Some x → IsCaused before said front this
 caused_there nodes disks es before said front this behind x closing opening legal there shown =

@@ -6,7 +6,7 @@ use Rattle.std.proofs.lemmas.Bool.{and_parts, leb-true}
 use Rattle.vms_model.specs.Ids.{Id}
 use Rattle.vms_model.specs.Transactions.{Outcome, Commit, Abort, Reason, Aborted, Vetoed, SyncFail, Timeout, CommFail, SegFail}
 use Rattle.transcript_model.specs.Lines as line
-use Rattle.transcript_model.specs.Lines.{Line, Cause}
+use Rattle.transcript_model.specs.Lines.{Line}
 use Rattle.script_model.specs.Statements.{At, Deliver, Request, Boot, StartTrans, Direct, EndTrans, AbortTrans, AckEvent, Clock, Named as SaidName, ByLabel, BySerial, Reading, Says}
 use Rattle.commit_protocol.specs.Messages as message
 use Rattle.commit_protocol.specs.Messages.{Message, Reply, PreparedReply, ForgetReply, VetoReply, RememberReply, NormalReply}
@@ -17,22 +17,20 @@ use Rattle.commit_protocol.specs.Rows as rows
 use Rattle.commit_protocol.specs.Rows.{is_cut_off, is_due, is_late, is_noted, is_under, is_veto}
 use Rattle.commit_protocol.specs.World.{In}
 use Rattle.commit_protocol.proofs.Lists.{same_key-true, same_name-true}
-use Rattle.run_model.specs.World.{World, Shared, Node, Label, Settlement, find_node, labelled, serial_labelled, tm_of}
-use Rattle.run_model.specs.Answers.{Task, Serves, branch_labelled, in_state, is_first_active, is_open, made_label, refused_before_reading, serial_named, service, settled_line, task_service, unsettled_label}
-use Rattle.run_model.specs.Steps.{Choice, TaskAllowed, TaskEffect, task_effect}
+use Rattle.run_model.specs.World.{World, Node, Label, Settlement, find_node, labelled, serial_labelled, tm_of}
+use Rattle.run_model.specs.Answers.{Serves, branch_labelled, in_state, is_first_active, is_open, made_label, refused_before_reading, serial_named, service, settled_line, unsettled_label}
 use Rattle.run_model.specs.Statements.{message_at}
 use Rattle.run_model.specs.Transcript.{Entry}
 use Rattle.run_model.proofs.NodeLists.{found_name}
-use Rattle.run_model.proofs.TaskLemmas as tasks
-use Rattle.run_model.proofs.TaskLemmas.{First, Late, Success, Lacking, Failing, effect_name, outcome}
 use Rattle.run_laws.specs.Naming.{IsNamed, find_told}
-use Rattle.run_laws.specs.Causes.{AbortCause, CommitCause, DeliversTo, HasJoined, IsCutOff, IsDirect, Names, Replies, Votes, WasAsked, WasBegun, WasEnded, WasSent, clock_told}
+use Rattle.run_laws.specs.Causes.{AbortCause, CommitCause, DeliversTo, HasBegun, HasJoined, IsCutOff, IsDirect, IsMissing, IsWhole, Names, Replies, Votes, WasAsked, WasBegun, WasEnded, WasSent, clock_told}
 use Rattle.run_laws.specs.SaidLaws.{SaidThere}
 use Rattle.run_laws.specs.Promises.{shown_in}
 use Rattle.run_laws.proofs.Directed.{neither}
 use Rattle.run_laws.proofs.Ending.{active_is, active_unprepared, named_branch}
 use Rattle.run_laws.proofs.Labelling.{label_of, labelled_is, find_map, refused_rest, found_label, served_up}
 use Rattle.run_laws.proofs.Making.{state_holds}
+use Rattle.run_laws.proofs.Missing.{AreJoined, lacks, lacks_none}
 use Rattle.run_laws.proofs.Moving.{HasOpen}
 use Rattle.run_laws.proofs.Named.{Named, ended, told}
 use Rattle.run_laws.proofs.Settling.{EventSettles, HasAccepted, IsOpen, MessageSettles}
@@ -96,17 +94,7 @@ pub record Known (es : List Entry) (w : World) : Type 0 where
   pub named : Named es w
   pub told : AreTold es w
   pub sent : (number : ℕ) (m : Message) → message_at number w.shared.wire ≡ Some m → WasSent es number m
-
--- a task shows something only where nothing refuses it first
-pub first_none : (s : Shared) (stops : ℕ) (n : Node) (t : Task) (rises : Cause → Type 0) (c : Choice) (l : Line) → TaskAllowed s stops n t rises c → In l (task_effect s stops n t c).lines → refused_before_reading s n (task_service t) ≡ None
-first_none s stops n t rises c l may i = go (outcome s stops n t rises c may)
-  where
-    go : tasks.Outcome s stops n t rises (task_effect s stops n t c) → refused_before_reading s n (task_service t) ≡ None
-    go (First refusal first f) = absurd (subst (λ (e : TaskEffect). In l e.lines) f i)
-    go (Late outturn refusal may first late f) = first
-    go (Success outturn may first late f) = first
-    go (Lacking first takes f) = first
-    go (Failing cause shown goes_on first rises_so shows down answers ends) = first
+  pub joined : AreJoined es w
 
 -- Requests.
 module _ (es : List Entry) (w : World) (known : Known es w) (node : List ℕ) (n : Node) (found : find_node node w.nodes ≡ Some n) where
@@ -131,13 +119,25 @@ module _ (es : List Entry) (w : World) (known : Known es w) (node : List ℕ) (n
       begun : WasBegun es b.key.tid.node label b.key.tid
       begun = subst (λ y. WasBegun es y label b.key.tid) (sym home) ((named_branch es w node label n b known.named found labelled_b (active_unprepared b a.1)).begun same)
 
+      of : x.branch.key ≡ first b.key.tid
+      of = x.key ∙ key
+
+      tid : x.branch.key.tid ≡ b.key.tid
+      tid = ap (λ (j : BranchKey). j.tid) (x.key ∙ key)
+
+      missing : rows.all_taken x.branch.bids x.branch.accepted ≡ false → IsMissing es b.key.tid
+      missing lacking = subst (IsMissing es) tid (lacks es w node n x.branch known.joined found x.there x.unprepared (of ∙ ap first (sym tid)) lacking)
+
+      whole : rows.all_taken x.branch.bids x.branch.accepted ≡ true → IsWhole es b.key.tid
+      whole all = subst (IsWhole es) tid (lacks_none es w node n x.branch known.joined found x.there x.unprepared (of ∙ ap first (sym tid)) all)
+
       said : Says (At node (EndTrans label)) ≡ Says (At b.key.tid.node (EndTrans label))
       said = ap (λ y. Says (At y (EndTrans label))) (sym home)
 
-      go : (o ≡ Commit) ⊎ ((o ≡ Abort) × (reason ≡ SyncFail) × (rows.all_taken x.branch.bids x.branch.accepted ≡ false)) → LineCause es (Says (At node (EndTrans label))) front k o reason
-      go (inl commit) = subst (λ (j : BranchKey). LineCause es (Says (At node (EndTrans label))) front j o reason) (sym key) (subst (λ out. LineCause es (Says (At node (EndTrans label))) front (first b.key.tid) out reason) (sym commit) (inl (inl (label, said, begun, refl))))
+      go : ((o ≡ Commit) × (rows.all_taken x.branch.bids x.branch.accepted ≡ true)) ⊎ ((o ≡ Abort) × (reason ≡ SyncFail) × (rows.all_taken x.branch.bids x.branch.accepted ≡ false)) → LineCause es (Says (At node (EndTrans label))) front k o reason
+      go (inl (commit, all)) = subst (λ (j : BranchKey). LineCause es (Says (At node (EndTrans label))) front j o reason) (sym key) (subst (λ out. LineCause es (Says (At node (EndTrans label))) front (first b.key.tid) out reason) (sym commit) (inl (inl (label, said, begun, refl, whole all))))
       go (inr abort) = subst (λ (j : BranchKey). LineCause es (Says (At node (EndTrans label))) front j o reason) (sym key)
-          (subst (λ out. LineCause es (Says (At node (EndTrans label))) front (first b.key.tid) out reason) (sym abort.0) (subst (λ why. AbortCause es (Says (At node (EndTrans label))) front why b.key.tid b.key.tid) (sym abort.1) (inl (label, said, begun, refl))))
+          (subst (λ out. LineCause es (Says (At node (EndTrans label))) front (first b.key.tid) out reason) (sym abort.0) (subst (λ why. AbortCause es (Says (At node (EndTrans label))) front why b.key.tid b.key.tid) (sym abort.1) (inl (label, said, begun, refl, missing abort.2))))
 
   abort_cause : (label : List ℕ) (front : List Line) (k : BranchKey) (o : Outcome) (reason : Reason) → refused_before_reading w.shared n (service (AbortTrans label)) ≡ None → TaskCause w.shared n (Serves (AbortTrans label)) k o reason → LineCause es (Says (At node (AbortTrans label))) front k o reason
   abort_cause label front k o reason first_so (b, labelled_b, (is_abort, why, serial, x)) =
@@ -198,7 +198,7 @@ module _ (es : List Entry) (w : World) (known : Known es w) (node : List ℕ) (n
       go (inl (commit, other, q, key)) = subst (λ out. LineCause es (Says (At node (AckEvent who rm reply))) front k out reason) (sym commit)
           (inl (inr (inr (inl (reply, replies reply refl, other, subst (λ (j : BranchKey). WasEnded es j.tid) x.key (known.told.ended node n found up x.branch x.there x.unprepared q), ap (λ (j : BranchKey). j.serial) key)))))
       go (inr (ab, why, e)) = subst (λ out. LineCause es (Says (At node (AckEvent who rm reply))) front k out reason) (sym ab)
-          (subst (λ y. AbortCause es (Says (At node (AckEvent who rm reply))) front y k.tid k.serial) (sym why) (inr (replies VetoReply (veto reply e))))
+          (subst (λ y. AbortCause es (Says (At node (AckEvent who rm reply))) front y k.tid k.serial) (sym why) (inr (replies VetoReply (veto reply e), known.named.born node n found k (x.branch, x.there, x.unprepared, x.key))))
 
   pub request_cause : (request : Request) (front : List Line) (k : BranchKey) (o : Outcome) (reason : Reason) → refused_before_reading w.shared n (service request) ≡ None → (request ≡ Boot → k.serial.node ≡ node) → TaskCause w.shared n (Serves request) k o reason → LineCause es (Says (At node request)) front k o reason
   request_cause Boot front k o reason first_so home (is, why) = subst (λ out. LineCause es (Says (At node Boot)) front k out reason) (sym is) (subst (λ y. AbortCause es (Says (At node Boot)) front y k.tid k.serial) (sym why) (inr (ap (λ y. Says (At y Boot)) (sym (home refl)))))
@@ -239,7 +239,7 @@ module _ (es : List Entry) (w : World) (known : Known es w) (node : List ℕ) (n
       go message.ReadOnly is (commit, key, x, q, acc) = commit_so commit (inr (inl (inr (votes message.ReadOnly is key x acc), ends x q, same key)))
       go message.Commit is (commit, key) = commit_so commit (inr (inr (inr (inl (to k.tid k.serial (sym (ap (λ (j : BranchKey). j.tid) key)) (sym (ap (λ (j : BranchKey). j.serial) key)) message.Commit is)))))
       go message.Abort is (ab, why, key) = abort_so Aborted ab why (inr (inl (to k.tid k.serial (sym (ap (λ (j : BranchKey). j.tid) key)) (sym (ap (λ (j : BranchKey). j.serial) key)) message.Abort is)))
-      go message.JoinNo is (ab, why, key, x) = abort_so SyncFail ab why (inr (to k.tid k.serial (sym (ap (λ (j : BranchKey). j.tid) key)) (sym (ap (λ (j : BranchKey). j.serial) key)) message.JoinNo is))
+      go message.JoinNo is (ab, why, key, x) = abort_so SyncFail ab why (inr (to k.tid k.serial (sym (ap (λ (j : BranchKey). j.tid) key)) (sym (ap (λ (j : BranchKey). j.serial) key)) message.JoinNo is, known.named.born node n found k (x.branch, x.there, x.unprepared, x.key)))
       go message.No is (ab, why, key, x, acc) = abort_so Vetoed ab why (inl (votes message.No is key x acc, same key))
       go message.Join is q = absurd q
       go message.JoinOk is q = absurd q
@@ -252,6 +252,7 @@ module _ (es : List Entry) (w : World) (known : Known es w) (node : List ℕ) (n
 -- what is known of an unprepared branch there
 record Swept (es : List Entry) (node : List ℕ) (k : BranchKey) (b : Branch) : Type 0 where
   home : k.serial.node ≡ node
+  born : HasBegun es k.tid k.serial
   told : (origin : Branch) × (origin.key ≡ k) × (b.due ≡ origin.due) × ((c : Child) → In c b.accepted → (d : Child) × In d origin.accepted × (d.serial ≡ c.serial)) × BranchTold es origin
 
 swept : (es : List Entry) (w u : World) (node : List ℕ) (n : Node) (k : BranchKey) (x : IsOpen n.volatile.branches k) → Known es w → HasHeirs w u → find_node node u.nodes ≡ Some n → Swept es node k x.branch
@@ -259,7 +260,7 @@ swept es w u node n k x known thins found =
     let m = thins.node node n found in
     let b = m.2 x.branch x.there x.unprepared in
     let key : b.0.key ≡ k = sym b.3.key ∙ x.key in
-    record { home = known.named.home node m.0 m.1 k (b.0, b.1, b.2, key); told = (b.0, key, b.3.due, b.3.accepted, known.told.told node m.0 m.1 b.0 b.1 b.2) }
+    record { home = known.named.home node m.0 m.1 k (b.0, b.1, b.2, key); born = known.named.born node m.0 m.1 k (b.0, b.1, b.2, key); told = (b.0, key, b.3.due, b.3.accepted, known.told.told node m.0 m.1 b.0 b.1 b.2) }
 
 first_serial : (b : Branch) (k : BranchKey) → b.key ≡ k → is_first b ≡ true → k.serial ≡ k.tid
 first_serial b k same f = ap (λ (j : BranchKey). j.serial) (sym same ∙ same_key-true b.key (first b.key.tid) f) ∙ ap (λ (j : BranchKey). j.tid) same
@@ -286,8 +287,8 @@ clock_cause es front w u node n now k o reason known thins found clock (ab, why,
 
 -- a link that failed
 pub link_cause : (es : List Entry) (w u : World) (node other : List ℕ) (n : Node) (k : BranchKey) (o : Outcome) (reason : Reason) → Known es w → HasHeirs w u → find_node node u.nodes ≡ Some n → EventSettles (tm_of n) (rows.LinkDown other) k o reason →
-    (o ≡ Abort) × (reason ≡ CommFail) × (k.serial.node ≡ node) × IsCutOff es k.tid k.serial other
-link_cause es w u node other n k o reason known thins found (ab, why, x, cause) = (ab, why, s.home, go cause)
+    (o ≡ Abort) × (reason ≡ CommFail) × (k.serial.node ≡ node) × IsCutOff es k.tid k.serial other × HasBegun es k.tid k.serial
+link_cause es w u node other n k o reason known thins found (ab, why, x, cause) = (ab, why, s.home, go cause, s.born)
   where
     s : Swept es node k x.branch
     s = swept es w u node n k x known thins found

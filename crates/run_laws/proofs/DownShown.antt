@@ -36,7 +36,7 @@ use Rattle.run_model.proofs.Refusing.{same_last}
 use Rattle.run_laws.specs.Laws.{DownsAreFailures}
 use Rattle.run_laws.proofs.Answering.{answer_passes}
 use Rattle.run_laws.proofs.Labelling.{served_up}
-use Rattle.run_laws.proofs.Passing.{AllPass, acknowledged_passes, append_passes, prepared_passes, printed_passes, released_passes, owed_passes}
+use Rattle.run_said.proofs.Passing.{AllPass, acknowledged_passes, append_passes, prepared_passes, printed_passes, released_passes, owed_passes}
 use Rattle.run_laws.proofs.ShownSettled.{in_append}
 use Rattle.run_laws.proofs.Staying.{find_put}
 
@@ -246,7 +246,10 @@ pub record Fails (n : Node) (rises : Cause → Type 0) (t : Task) (e : TaskEffec
   pub home : node ≡ n.name
   rose : rises cause
   down : e.node.up ≡ false
-  ends : (e.ends ≡ true) ⊎ ((task_service t).goes_on ≡ true)
+  pub ends : (e.ends ≡ true) ⊎ ((task_service t).goes_on ≡ true)
+  pub front : List Line
+  pub last : e.lines ≡ front ++ line.Down node cause ∷ []
+  pub answers : e.ends ≡ true → e.answer ≡ line.Broken cause
 
 pub task_fails : (s : Shared) (stops : ℕ) (n : Node) (t : Task) (rises : Cause → Type 0) (c : Choice) (node : List ℕ) (cause : Cause) → TaskAllowed s stops n t rises c → In (line.Down node cause) (task_effect s stops n t c).lines → Fails n rises t (task_effect s stops n t c) node cause
 task_fails s stops n t rises c node cause may i = go (outcome s stops n t rises c may)
@@ -266,7 +269,11 @@ task_fails s stops n t rises c node cause may i = go (outcome s stops n t rises 
         let same = (same_last last.0 shown (line.Down node cause) (line.Down n.name why) (sym last.1 ∙ shows)).1 in
         let home : node ≡ n.name = cc in
         let is : why ≡ cause = cc in
-        record { home = home; rose = subst rises is rises_so; down = down; ends = last.2 }
+        record { home = home; rose = subst rises is rises_so; down = down; ends = last.2; front = last.0; last = last.1; answers = λ over. answered goes_on over ends answers ∙ ap line.Broken is }
+      where
+        answered : (b : Bool) → (task_effect s stops n t c).ends ≡ true → (task_effect s stops n t c).ends ≡ not b → (task_effect s stops n t c).answer ≡ (if b then line.Normal else line.Broken why) → (task_effect s stops n t c).answer ≡ line.Broken why
+        answered true over off is = let no : true ≡ false = sym over ∙ off in let none : ⊥ = cc in absurd none
+        answered false over off is = is
 
 -- Parts.
 
@@ -292,7 +299,7 @@ done_fails w at t c after allowed = go (find_node at w.nodes) refl
         ))
 
 -- the part's failure ends its statement
-abbrev Ends : Part → Type 0
+abbrev pub Ends : Part → Type 0
 Ends (Does node t) = (task_service t).goes_on ≡ false
 Ends (Asks node serial) = Unit {0}
 

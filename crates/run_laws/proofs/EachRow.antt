@@ -22,7 +22,7 @@ use Rattle.run_model.specs.World.{World, Shared, Node, File, Label, Settlement, 
 use Rattle.run_model.specs.Answers as answers
 use Rattle.run_model.specs.Answers.{Row, Service, Task, Serves, Ticks, Takes, Hears, LosesLink, RunsDown, Restarts, task_service, service, refused_before_reading, told_if, told_rows, table_rows, begins, just, boot_rows, shown_by, settled_line, forgot_lines, acknowledged_lines, released_lines, table_lines, last_line, last_lines, branch_labelled, branch_named, creates, operated, directed, changes_at, keys_at, records_of, shown_record, entry_line, entry_lines, shown_line, prepared_line, prepared_lines, silent}
 use Rattle.run_model.specs.Steps.{node_after, node_after_rows, rows_if}
-use Rattle.run_laws.proofs.Passing.{AllPass, acknowledged_passes, append_passes, prepared_passes, printed_passes, released_passes, owed_passes}
+use Rattle.run_said.proofs.Passing.{AllPass, acknowledged_passes, append_passes, prepared_passes, printed_passes, released_passes, owed_passes}
 
 -- A line that shows no settlement, be it as the last of a disk.
 

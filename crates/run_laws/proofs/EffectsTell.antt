@@ -15,8 +15,8 @@ use Rattle.run_model.proofs.TaskLemmas.{rows_name, ready_name}
 use Rattle.run_model.specs.StepLaws.{is_refusal}
 use Rattle.run_model.proofs.CauseLemmas.{refuses_first, refuses_then}
 use Rattle.run_model.proofs.Refusing.{not_ready}
-use Rattle.run_laws.specs.Said.{Said, SaidNode, with_up, with_use, with_unmade, with_label, lines_said, request_said}
-use Rattle.run_laws.proofs.Views.{node_told, label_told, shared_told, View, AllTell, rows_tell, take_tells, said_append, used_then, up_view, unmade_view, label_lines, neutral_lines}
+use Rattle.run_said.specs.Said.{Said, SaidNode, with_up, with_use, with_unmade, with_label, lines_said, request_said}
+use Rattle.run_said.proofs.Views.{node_told, label_told, shared_told, View, AllTell, rows_tell, take_tells, said_append, used_then, up_view, unmade_view, label_lines, neutral_lines}
 use Rattle.run_laws.proofs.RowsTell.{makes_label, table_tells, boot_tells, prepared_neutral}
 
 -- What may be under way at a node is one step of its disk.

@@ -26,7 +26,7 @@ use Rattle.run_model.specs.Steps.{Choice, Whole, WithoutMemory, Unpowered, Cut, 
 use Rattle.run_model.proofs.Refusing.{not_ready}
 use Rattle.run_laws.proofs.EndRows.{ActEnds, AllEnd, IsEndingIn, Seen, SettlesSo, row_ends}
 use Rattle.run_laws.proofs.Labelling.{served_up}
-use Rattle.run_laws.proofs.Passing.{AllPass, acknowledged_passes, append_passes, prepared_passes, released_passes, owed_passes, told_passes}
+use Rattle.run_said.proofs.Passing.{AllPass, acknowledged_passes, append_passes, prepared_passes, released_passes, owed_passes, told_passes}
 
 -- the line that shows how the first branch of a transaction was settled
 abbrev pub ended_line : Id → Option Reason → ℕ → Line

@@ -24,10 +24,10 @@ use Rattle.run_laws.specs.Causes.{WasEnded}
 use Rattle.run_laws.specs.Promises.{ShownThere, EndsSo}
 use Rattle.run_laws.specs.Laws.{EndedHold}
 use Rattle.run_laws.proofs.Answering.{answer_passes}
-use Rattle.run_laws.proofs.CausesHold.{first_none}
 use Rattle.run_laws.proofs.CauseRuns.{aborted_hold, commits_hold}
 use Rattle.run_laws.proofs.EndLines.{IsShownIn, effect_ends, ended_line, ending_up, is_unended}
 use Rattle.run_laws.proofs.EndRows.{IsEndingIn}
+use Rattle.run_laws.proofs.Labelling.{first_none}
 use Rattle.run_laws.proofs.Named.{Ended, Refused, Turned, ended}
 use Rattle.run_laws.proofs.ShownSettled.{here_in}
 use Rattle.run_laws.proofs.Splits.{split_append}

@@ -116,7 +116,7 @@ tells_answer event k (x ∷ xs) more given = tells_answer event k xs more given
 -- The branch that such a request names.
 
 -- a branch that is found by its serial is found by its key, where it is a first one; and by its serial in the table
-find_first : (serial : Id) (bs : List Branch) (b : Branch) → find_branch serial bs ≡ Some b → b.key ≡ first serial → find (first serial) bs ≡ Some b
+pub find_first : (serial : Id) (bs : List Branch) (b : Branch) → find_branch serial bs ≡ Some b → b.key ≡ first serial → find (first serial) bs ≡ Some b
 find_first serial [] b e k = let no : ⊥ = cc in absurd no
 find_first serial (x ∷ bs) b e k = go (same_id serial x.key.serial) refl e (find_first serial bs b)
   where
@@ -243,6 +243,13 @@ end_aborts b reason e = go (all_taken b.bids b.accepted) refl e
     go true is k = absurd (ending_aborts b reason k)
     go false is k = let same : reason ≡ SyncFail = cc in (is, same, record { rec = None; there = inl (ap (λ why. Settles b.key Abort why None) same) })
 
+end_waits : (b : Branch) (serials : List Id) (rms : List (List ℕ)) → end_answer (end_row b) line.Normal ≡ line.Pending serials rms → all_taken b.bids b.accepted ≡ true
+end_waits b serials rms e = go (all_taken b.bids b.accepted) e
+  where
+    go : (t : Bool) → end_answer (if t then begins_ending b else rows.aborts SyncFail b) line.Normal ≡ line.Pending serials rms → t ≡ true
+    go true k = refl
+    go false k = let no : ⊥ = cc in absurd no
+
 -- What a line shows of a branch.
 
 pub shown_so : (k : BranchKey) (o : Outcome) (reason : Reason) (moment : ℕ) (node : List ℕ) (v : World) (events : List Line) → k.serial.node ≡ node → In (settled_line k o reason moment) events → ((l : Line) (x : Settlement) → In l events → shown_in l ≡ Some x → In x (settlements_of node v)) →
@@ -304,6 +311,14 @@ module _ (before : List Entry) (w v : World) (node label : List ℕ) (events : L
       let b = branch_there (branch_labelled w.shared n label) branches.0 in
       let r = end_aborts b.0 reason (sym (answer_so b.0 b.1) ∙ e) in
       (ends_as b.0 b.1 Abort reason r.2, r.1, r.0)
+
+  -- it is answered that something is missing where no branch is
+  pub ends_waiting : (serials : List Id) (rms : List (List ℕ)) → answer ≡ line.Pending serials rms → (b : Branch) × (branch_labelled w.shared n label ≡ Some b) × (is_first_active b ≡ true) × WasBegun before node label b.key.tid × (all_taken b.bids b.accepted ≡ true)
+  ends_waiting serials rms e =
+      let b = branch_there (branch_labelled w.shared n label) branches.0 in
+      let a = active_is b.0 (active b.0 b.1) in
+      let nb = named_branch before w node label n b.0 h d.found b.1 (active_unprepared b.0 a.1) in
+      (b.0, b.1, active b.0 b.1, nb.begun (sym (ap (λ (k : BranchKey). k.serial) a.0)), end_waits b.0 serials rms (sym (answer_so b.0 b.1) ∙ e))
 
 -- ABORT_TRANS.
 

@@ -5,7 +5,7 @@ use Rattle.commit_protocol.specs.Opening.{IsAgreeing}
 use Rattle.run_model.specs.World.{DiskCounts, Node, World, find_node, opened}
 use Rattle.run_model.specs.Transcript.{AreOpening, Entry, Legal}
 use Rattle.run_agreement.specs.Seen.{IsKnown}
-use Rattle.run_agreement.specs.Laws.{NamesApart, opening_told, CommittedAreOfCommitted, LeaveAgreement, RestingAreWhole, SettleAlike, SettlingEnds, SettlingLeavesNone}
+use Rattle.run_agreement.specs.Laws.{Agree, NamesApart, opening_told, CommittedAreOfCommitted, LeaveAgreement, RestingAreWhole, SettleAlike, SettlingEnds, SettlingLeavesNone}
 use Rattle.run_laws.specs.Laws.{AgreedPromises, AgreedPromisesAreKept, PromisesAreKept}
 use Rattle.run_laws.specs.Promises.{AreLastApart}
 use Rattle.run_laws.proofs.AgreedRuns.{agreed_run, ends_for_all, legal_names, run_of, settles_whole}
@@ -18,14 +18,15 @@ use Rattle.run_laws.proofs.AskedHold.{asked_hold}
 use Rattle.run_laws.proofs.BootLines.{boots_show_last}
 use Rattle.run_laws.proofs.RecordedRuns.{booted_hold}
 use Rattle.run_laws.proofs.CauseRuns.{aborted_hold, commits_hold}
-use Rattle.run_laws.proofs.DownsHeld.{downs_have_causes, failures_show_down}
+use Rattle.run_laws.proofs.DownsHeld.{downs_end, downs_have_causes, failures_show_down}
 use Rattle.run_laws.proofs.EndedHold.{ended_hold}
 use Rattle.run_laws.proofs.Ending.{aborts_hold, ends_hold, fails_hold}
 use Rattle.run_laws.proofs.FallsRuns.{falls_begun}
 use Rattle.run_laws.proofs.Interrupted.{interrupted_hold}
 use Rattle.run_laws.proofs.LastBoots.{lasts_hold}
+use Rattle.run_laws.proofs.LastFalls.{last_falls_begun}
 use Rattle.run_laws.proofs.LastFirst.{lasts_first}
-use Rattle.run_laws.proofs.Missing.{missing_hold}
+use Rattle.run_laws.proofs.Missing.{missing_hold, waits_hold}
 use Rattle.run_laws.proofs.NewIds.{directs_hold, ids_are_new}
 use Rattle.run_laws.proofs.PreparedRuns.{prepared_hold}
 use Rattle.run_laws.proofs.ReadOnlyRuns.{read_only_hold}
@@ -38,6 +39,7 @@ kept_promises nodes disks es closing opening legal = record {
   ends = ends_hold nodes disks es closing opening legal;
   fails = fails_hold nodes disks es closing opening legal;
   missing = missing_hold nodes disks es closing opening legal;
+  waits = waits_hold nodes disks es closing opening legal;
   ended = ended_hold nodes disks es closing opening legal;
   aborts = aborts_hold nodes disks es closing opening legal;
   directs = directs_hold nodes disks es closing opening legal;
@@ -48,6 +50,7 @@ kept_promises nodes disks es closing opening legal = record {
   commits = commits_hold nodes disks es closing opening legal;
   undoes = aborted_hold nodes disks es closing opening legal;
   falls = falls_begun nodes disks es closing opening legal;
+  last_falls = last_falls_begun nodes disks es closing opening legal;
   interrupted = interrupted_hold nodes disks es closing opening legal;
   restarts = restarts_hold nodes disks es closing opening legal;
   shown = shown_hold nodes disks es closing opening legal;
@@ -58,6 +61,7 @@ kept_promises nodes disks es closing opening legal = record {
   caused = caused_hold nodes disks es closing opening legal;
   downs = downs_have_causes nodes disks es closing opening legal;
   broken = failures_show_down nodes disks es closing opening legal;
+  ending = downs_end nodes disks es closing opening legal;
   prepared = prepared_hold nodes disks es closing opening legal;
   booted = booted_hold nodes disks es closing opening legal;
   read_only = read_only_hold nodes disks es closing opening legal;
@@ -65,7 +69,7 @@ kept_promises nodes disks es closing opening legal = record {
 }
 
 -- where something is known of each disk
-module _ (alike : SettleAlike) (committed : CommittedAreOfCommitted) (leave : LeaveAgreement) (whole : RestingAreWhole) (none : SettlingLeavesNone) (ends : SettlingEnds) where
+module _ (alike : SettleAlike) (committed : CommittedAreOfCommitted) (leave : LeaveAgreement) (whole : RestingAreWhole) (agreement : Agree) (none : SettlingLeavesNone) (ends : SettlingEnds) where
   known_promises : (nodes : List Node) (disks : List DiskCounts) (es : List Entry) (closing : World) → AreOpening nodes → NamesApart nodes → ((name : List ℕ) (n : Node) → find_node name nodes ≡ Some n → IsKnown n) → AreLastApart nodes → IsAgreeing (opening_told nodes es) →
       Legal (opened nodes disks) es closing → AgreedPromises (opened nodes disks) es closing
   known_promises nodes disks es closing opening apart known last_apart agrees legal =
@@ -80,7 +84,7 @@ module _ (alike : SettleAlike) (committed : CommittedAreOfCommitted) (leave : Le
         parts = b.parts;
         begins = b.begins;
         unused = b.unused;
-        run = agreed_run alike committed leave whole b.base b.since closing b.is_run;
+        run = agreed_run alike committed leave whole agreement b.base b.since closing b.is_run;
         ends = ends_for_all b.base es closing kept.ends;
         settles = settles_whole none ends nodes disks es closing opening apart known legal agrees;
         dumps = agreed_dumps_hold nodes disks es closing opening apart known last_apart agree legal;

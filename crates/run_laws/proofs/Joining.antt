@@ -24,7 +24,7 @@ use Rattle.run_model.specs.Answers.{Row, Service, Task, Serves, Ticks, Takes, He
 use Rattle.run_model.specs.Steps.{Choice, Whole, WithoutMemory, Unpowered, Cut, begun, lines_of_rows, node_after, node_after_rows, ready_node, rows_if, task_effect, whole}
 use Rattle.run_laws.proofs.Contents.{ArePutting, IsTold, PutsIn, TaskAccepts, TaskNotes, begins_none, task_putting}
 use Rattle.run_laws.proofs.EachRow.{AreVoteless, EachRow, VotesSo, cut_each, is_voteless, take_each}
-use Rattle.run_laws.proofs.Passing.{AllPass, append_passes, prepared_passes}
+use Rattle.run_said.proofs.Passing.{AllPass, append_passes, prepared_passes}
 use Rattle.run_laws.proofs.PreparedLines.{passes_in}
 use Rattle.run_laws.proofs.RowFits.{Votes, each_votes}
 use Rattle.run_laws.proofs.ShownSettled.{in_append}

@@ -28,7 +28,7 @@ use Rattle.world_laws.proofs.RestartLemmas.{AreActive, IsUnprepared, active_sett
 use Rattle.world_laws.proofs.UndoLemmas.{boot_kept, left_of}
 use Rattle.world_laws.proofs.UnitSets.{UnitsDiffer, found_active, none_is, units_differ}
 use Rattle.run_laws.proofs.EachRow.{ArePlain, AreVoteless, is_plain}
-use Rattle.run_laws.proofs.Passing.{prepared_passes}
+use Rattle.run_said.proofs.Passing.{prepared_passes}
 use Rattle.run_laws.proofs.RowFits.{EachFits, RowFits, free_after, task_fits}
 
 -- The scheme.

@@ -23,6 +23,8 @@ use Rattle.run_model.specs.StepLaws.{is_refusal, task_of}
 use Rattle.run_model.proofs.NodeLists.{clash, found_name, put_node, put_same, some_is}
 use Rattle.run_model.proofs.CauseLemmas.{refuses_first, refuses_then}
 use Rattle.run_model.proofs.Refusing.{not_ready}
+use Rattle.run_model.proofs.TaskLemmas as tasks
+use Rattle.run_model.proofs.TaskLemmas.{First, Late, Success, Lacking, Failing, outcome}
 use Rattle.run_laws.specs.Naming.{ToldLabel, find_told, ids_here, ids_told, labels_here, labels_told}
 use Rattle.run_laws.proofs.Directed.{neither, not_refused}
 use Rattle.run_laws.proofs.Moving.{IsPast, stays_so}
@@ -180,6 +182,17 @@ served_up n more e = go n.up (not_refused (not (n.up || false)) line.NodeDown (n
 
 pub refused_rest : (b : Bool) (more : Option Line) → first_of (refused_if b line.NodeDown) more ≡ None → more ≡ None
 refused_rest b more e = (neither (refused_if b line.NodeDown) more e).1
+
+-- A task shows something only where nothing refuses it first.
+pub first_none : (s : Shared) (stops : ℕ) (n : Node) (t : Task) (rises : Cause → Type 0) (c : Choice) (l : Line) → TaskAllowed s stops n t rises c → In l (task_effect s stops n t c).lines → refused_before_reading s n (task_service t) ≡ None
+first_none s stops n t rises c l may i = go (outcome s stops n t rises c may)
+  where
+    go : tasks.Outcome s stops n t rises (task_effect s stops n t c) → refused_before_reading s n (task_service t) ≡ None
+    go (First refusal first f) = absurd (subst (λ (e : TaskEffect). In l e.lines) f i)
+    go (Late outturn refusal may first late f) = first
+    go (Success outturn may first late f) = first
+    go (Lacking first takes f) = first
+    go (Failing cause shown goes_on first rises_so shows down answers ends) = first
 
 -- What each of the three has in common.
 

@@ -1,5 +1,3 @@
-pub mod Passing
-pub mod Views
 pub mod RowsTell
 pub mod EffectsTell
 pub mod TurnsTell
@@ -58,10 +56,12 @@ pub mod Retold
 pub mod AskedHold
 pub mod Asking
 pub mod Traces
+pub mod Leaving
 pub mod Unshown
 pub mod SettlingUp
 pub mod AbortsSeen
 pub mod AbortsAsked
+pub mod LastFalls
 pub mod Joining
 pub mod Missing
 pub mod BootsPrepared
@@ -73,6 +73,7 @@ pub mod Recorded
 pub mod RecordedTasks
 pub mod RecordedRuns
 pub mod Headline
+pub mod Absent
 pub mod AgreedRuns
 pub mod OneNode
 pub mod FallsBegun

@@ -9,7 +9,7 @@ use Rattle.commit_protocol.specs.Rows.{down, up, sends_all, to_each, tells, join
 use Rattle.commit_protocol.specs.Allowed.{is_prepared}
 use Rattle.commit_protocol.specs.Standing.{BeginsNothing}
 use Rattle.commit_protocol.specs.World.{In}
-use Rattle.commit_protocol.proofs.Lists.{find-key}
+use Rattle.commit_protocol.proofs.Lists.{find-key, in_left}
 use Rattle.run_model.proofs.NodeLists.{some_is}
 
 -- one of these branches has this key and is not prepared
@@ -284,7 +284,9 @@ pub record Derives (e : Event) (b new : Branch) : Type 0 where
   pub open_still : is_prepared new.state ≡ false
   pub accepted : (c : Child) → In c new.accepted → (d : Child) × In d b.accepted × (d.serial ≡ c.serial)
   pub taken : (bid : Id) → has_bid bid b.accepted ≡ true → has_bid bid new.accepted ≡ true
+  pub given : (bid : Id) → has_bid bid new.accepted ≡ true → has_bid bid b.accepted ≡ true
   pub bids : (bid : Id) → In bid new.bids → In bid b.bids ⊎ (e ≡ Authorise b.key.tid bid)
+  pub kept : (bid : Id) → In bid b.bids → In bid new.bids
   pub ends : new.state ≡ Ending → (b.state ≡ Ending) ⊎ ((e ≡ EndTrans b.key.tid) × (b.key ≡ first b.key.tid))
   pub asked : new.asked ≡ true → (b.asked ≡ true) ⊎ IsAskedBy e b
 
@@ -333,7 +335,9 @@ row_puts tm e h = go e h
       open_still = unprepared;
       accepted = λ c i. (c, subst (In c) accepted i, refl);
       taken = λ bid t. ap (has_bid bid) accepted ∙ t;
+      given = λ bid t. ap (has_bid bid) (sym accepted) ∙ t;
       bids = λ bid i. inl (subst (In bid) bids i);
+      kept = λ bid i. subst (In bid) (sym bids) i;
       ends = λ s. inl (ends s);
       asked = asked;
     }
@@ -348,7 +352,7 @@ row_puts tm e h = go e h
     not_ending s b never e = absurd (never e)
 
     voted : (e : Event) (s : Id) (v : Kind) (b : Branch) → is_prepared b.state ≡ false → Derives e b (with_vote s v b)
-    voted e s v b u = record { key = refl; changed = refl; due = refl; open_still = u; accepted = λ c i. noted_in s v c b.accepted i; taken = λ bid t. noted_bids s v bid b.accepted ∙ t; bids = λ bid i. inl i; ends = λ x. inl x; asked = λ a. inl a }
+    voted e s v b u = record { key = refl; changed = refl; due = refl; open_still = u; accepted = λ c i. noted_in s v c b.accepted i; taken = λ bid t. noted_bids s v bid b.accepted ∙ t; given = λ bid t. sym (noted_bids s v bid b.accepted) ∙ t; bids = λ bid i. inl i; kept = λ bid i. i; ends = λ x. inl x; asked = λ a. inl a }
 
     message : (m : Message) (d : Kind) → m.kind ≡ d → AllPut (Noted tm.table (Got m)) (Accepted tm.table (Got m)) (got tm m d)
     message m Join is = join_notes _ _ m (find (first m.tid) tm.table) (λ b f u bid named. (find_in (first m.tid) tm.table b f, u, m, refl, find-key (first m.tid) tm.table b f, refl, named, is))
@@ -375,6 +379,8 @@ row_puts tm e h = go e h
       open_still = u;
       accepted = λ c i. (c, i, refl);
       taken = λ x i. i;
+      given = λ x i. i;
+      kept = λ x i. in_left x b.bids (bid ∷ []) i;
       bids = λ x i. elim (in_last x bid b.bids i) [ inl j ↦ inl j | inr same ↦ inr (λ i. Authorise (sym (ap (λ (k : Key). k.tid) (find-key (first t) tm.table b f)) i) (sym same i)) ];
       ends = λ x. inl x;
       asked = λ a. inl a;
@@ -389,7 +395,9 @@ row_puts tm e h = go e h
       open_still = refl;
       accepted = λ c i. (c, i, refl);
       taken = λ x i. i;
+      given = λ x i. i;
       bids = λ x i. inl i;
+      kept = λ x i. i;
       ends = λ x. let key = find-key (first t) tm.table b f in inr (ap EndTrans (sym (ap (λ (k : Key). k.tid) key)), key ∙ ap (λ (k : Key). first k.tid) (sym key));
       asked = λ a. inl a;
     }))

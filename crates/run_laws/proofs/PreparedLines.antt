@@ -34,7 +34,7 @@ use Rattle.world_laws.proofs.IdLemmas.{each_at}
 use Rattle.world_laws.proofs.NodeLemmas.{powered_ready}
 use Rattle.run_laws.proofs.Labelling.{served_up}
 use Rattle.run_laws.proofs.OneBranch.{in_order}
-use Rattle.run_laws.proofs.Passing.{AllPass, acknowledged_passes, append_passes, printed_passes, released_passes}
+use Rattle.run_said.proofs.Passing.{AllPass, acknowledged_passes, append_passes, printed_passes, released_passes}
 use Rattle.run_laws.proofs.Preparing.{AllTell, CastsBy, PreparesBy, SendsBy, Tells, row_tells}
 use Rattle.run_laws.proofs.ShownSettled.{in_append}
 use Rattle.run_laws.proofs.SoundWorlds.{IsSound, sound_node}

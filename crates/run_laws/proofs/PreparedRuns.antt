@@ -354,9 +354,9 @@ settle_aborts es front tid serial Aborted (inl k) = let e : Says Settle ≡ Says
 settle_aborts es front tid serial Aborted (inr (inl d)) = inl (inl d)
 settle_aborts es front tid serial Aborted (inr (inr asked)) = inl (inr asked)
 settle_aborts es front tid serial Vetoed (inl (vote, same)) = settle_delivers es _ tid vote.0 vote.1
-settle_aborts es front tid serial Vetoed (inr k) = let e : Says Settle ≡ Says (At serial.node (AckEvent k.0 k.1 VetoReply)) = k.2 in let no : ⊥ = cc in absurd no
+settle_aborts es front tid serial Vetoed (inr (k, began)) = let e : Says Settle ≡ Says (At serial.node (AckEvent k.0 k.1 VetoReply)) = k.2 in let no : ⊥ = cc in absurd no
 settle_aborts es front tid serial SyncFail (inl k) = let e : Says Settle ≡ Says (At serial.node (EndTrans k.0)) = k.1 in let no : ⊥ = cc in absurd no
-settle_aborts es front tid serial SyncFail (inr d) = settle_delivers es _ tid serial d
+settle_aborts es front tid serial SyncFail (inr d) = settle_delivers es _ tid serial d.0
 settle_aborts es front tid serial Timeout k = let e : Says Settle ≡ Says (At serial.node (Clock k.0)) = k.1 in let no : ⊥ = cc in absurd no
 settle_aborts es front tid serial CommFail k = let e : Says Settle ≡ Says (LinkDown k.0 k.1) = k.2 in let no : ⊥ = cc in absurd no
 settle_aborts es front tid serial SegFail k = inr refl

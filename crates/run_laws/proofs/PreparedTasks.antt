@@ -35,7 +35,7 @@ use Rattle.run_laws.specs.Promises.{prepared_by, prepared_here, shown_in}
 use Rattle.run_laws.proofs.EachRow.{ArePlain, closing_plain}
 use Rattle.run_laws.proofs.Keeping.{Kept, powered_kept}
 use Rattle.run_laws.proofs.Labelling.{served_up}
-use Rattle.run_laws.proofs.Passing.{AllPass}
+use Rattle.run_said.proofs.Passing.{AllPass}
 use Rattle.run_laws.proofs.PreparedLines.{event_here, event_other, if_other, is_other, told_here, told_other}
 use Rattle.run_laws.proofs.Settling.{IsOpen, MessageSettles}
 use Rattle.run_laws.proofs.ShownSettled.{here_in, none_shown}

@@ -20,7 +20,7 @@ use Rattle.run_laws.specs.Promises.{last_in}
 use Rattle.world_laws.specs.Nodes.{IsKeptNode}
 use Rattle.run_laws.proofs.Keeping.{behind_down, node_down}
 use Rattle.run_laws.proofs.LastBoots.{NoLast, append_last, boots, else_last, none_last, settled_last}
-use Rattle.run_laws.proofs.Passing.{AllPass, acknowledged_passes, append_passes, prepared_passes, printed_passes, released_passes}
+use Rattle.run_said.proofs.Passing.{AllPass, acknowledged_passes, append_passes, prepared_passes, printed_passes, released_passes}
 use Rattle.run_laws.proofs.ShownSettled.{in_append}
 use Rattle.run_laws.proofs.Staying.{Grows, after_grows, rows_grow}
 use Rattle.commit_protocol.proofs.Lists.{in_left}

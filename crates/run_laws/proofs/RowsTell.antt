@@ -22,9 +22,9 @@ use Rattle.commit_protocol.specs.Rows.{row}
 use Rattle.run_model.specs.World.{Shared, Node, File, Label, Settlement, Boots, Creates, Draws, Numbers, Tables, acted, shared_after, with_serial, next_id, next_moment, tm_of, message_limit, labelled, free_place, lowest_free}
 use Rattle.run_model.specs.Answers as answers
 use Rattle.run_model.specs.Answers.{Row, Task, Serves, Ticks, Takes, Hears, LosesLink, RunsDown, Restarts, task_service, service, told_rows, told_if, table_rows, just, begins, boot_rows, shown_by, sent_line, settled_line, forgot_lines, acknowledged_lines, released_lines, table_lines, last_line, last_lines, to_branch, branch_labelled, branch_named, creates, operated, directed, changes_at, keys_at, records_of, shown_record, entry_line, entry_lines, shown_line, prepared_line, prepared_lines, left_active, unit_key}
-use Rattle.run_laws.proofs.Passing.{acknowledged_passes, prepared_passes, printed_passes, released_passes, owed_passes}
-use Rattle.run_laws.proofs.Views.{node_told, shared_told, label_told, View, Tells, AllTell, up_view, is_neutral, AreNeutral, neutral_lines}
-use Rattle.run_laws.specs.Said.{SaidNode, lines_said}
+use Rattle.run_said.proofs.Passing.{acknowledged_passes, prepared_passes, printed_passes, released_passes, owed_passes}
+use Rattle.run_said.proofs.Views.{node_told, shared_told, label_told, View, Tells, AllTell, up_view, is_neutral, AreNeutral, neutral_lines}
+use Rattle.run_said.specs.Said.{SaidNode, lines_said}
 
 -- Lines that tell nothing of these.
 

@@ -20,9 +20,9 @@ use Rattle.run_model.proofs.CauseLemmas.{by_lines, by_more, parted, more_refuses
 use Rattle.run_model.proofs.PartTasks.{task_there}
 use Rattle.run_model.proofs.Refusing.{refusals, same_last, none_some}
 use Rattle.run_model.proofs.Failing.{successes}
-use Rattle.run_laws.specs.Said.{Said, SaidNode, SaidLabel, SaidShared, at_said, down_said, find_said, is_by_lines, is_of_lines, is_settling, made_said, named_said, new_said, node_in, other_said, refused_by_lines, refused_by_said, there_said}
+use Rattle.run_said.specs.Said.{Said, SaidNode, SaidLabel, SaidShared, at_said, down_said, find_said, is_by_lines, is_of_lines, is_settling, made_said, named_said, new_said, node_in, other_said, refused_by_lines, refused_by_said, there_said}
 use Rattle.run_laws.specs.SaidLaws.{SaidIsSo}
-use Rattle.run_laws.proofs.Views.{node_told, label_told, shared_told, told_in}
+use Rattle.run_said.proofs.Views.{node_told, label_told, shared_told, told_in}
 use Rattle.run_laws.proofs.TurnsTell.{legal_told}
 
 -- What is found.

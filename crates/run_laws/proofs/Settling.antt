@@ -36,7 +36,7 @@ MessageSettles tm _ m k o reason = ⊥
 
 -- the event settles this branch so
 abbrev pub EventSettles : Tm → Event → Key → Outcome → Reason → Type 0
-EventSettles tm (EndTrans t) k o reason = (k ≡ first t) × (x : IsOpen tm.table k) × ((o ≡ settles.Commit) ⊎ ((o ≡ settles.Abort) × (reason ≡ SyncFail) × (all_taken x.branch.bids x.branch.accepted ≡ false)))
+EventSettles tm (EndTrans t) k o reason = (k ≡ first t) × (x : IsOpen tm.table k) × (((o ≡ settles.Commit) × (all_taken x.branch.bids x.branch.accepted ≡ true)) ⊎ ((o ≡ settles.Abort) × (reason ≡ SyncFail) × (all_taken x.branch.bids x.branch.accepted ≡ false)))
 EventSettles tm (AbortBranch s why) k o reason = (o ≡ settles.Abort) × (reason ≡ why) × (k.serial ≡ s) × IsOpen tm.table k
 EventSettles tm (Got m) k o reason = MessageSettles tm m.kind m k o reason
 EventSettles tm (Clock now) k o reason = (o ≡ settles.Abort) × (reason ≡ Timeout) × (x : IsOpen tm.table k) × (is_due now x.branch ≡ true)
@@ -233,7 +233,7 @@ module _ (P : Key → Outcome → Reason → Type 0) where
       go Active = (tt, tt)
       go _ = tt
 
-  end_trans_settles : (o : Option Branch) → FoundSo o (λ b. is_prepared b.state ≡ false → P b.key settles.Commit Aborted × (all_taken b.bids b.accepted ≡ false → P b.key settles.Abort SyncFail)) → AllSettle P (end_trans_row o)
+  end_trans_settles : (o : Option Branch) → FoundSo o (λ b. is_prepared b.state ≡ false → (all_taken b.bids b.accepted ≡ true → P b.key settles.Commit Aborted) × (all_taken b.bids b.accepted ≡ false → P b.key settles.Abort SyncFail)) → AllSettle P (end_trans_row o)
   end_trans_settles None h = tt
   end_trans_settles (Some b) h = go b.state refl
     where
@@ -241,7 +241,7 @@ module _ (P : Key → Outcome → Reason → Type 0) where
       go Active e = let p = h b refl (ap is_prepared e) in if_settles (all_taken b.bids b.accepted) (begins_ending b) (aborts SyncFail b) (λ t. (
         tt,
         append_settles (sends_all (to_each Prepare b.key.tid (serials b.accepted))) (tells (which_event b.changed b.accepted b.managers) b.key (joined b.managers) ++ commits_if_all (ending b) []) (sends_settle (to_each Prepare b.key.tid (serials b.accepted)))
-            (append_settles (tells (which_event b.changed b.accepted b.managers) b.key (joined b.managers)) (commits_if_all (ending b) []) (tells_settle (which_event b.changed b.accepted b.managers) b.key (joined b.managers)) (commits_settle (ending b) [] p.0 tt)),
+            (append_settles (tells (which_event b.changed b.accepted b.managers) b.key (joined b.managers)) (commits_if_all (ending b) []) (tells_settle (which_event b.changed b.accepted b.managers) b.key (joined b.managers)) (commits_settle (ending b) [] (p.0 t) tt)),
       )) (λ t. aborts_settle b.accepted SyncFail b (p.1 t))
       go _ e = tt
 
@@ -334,7 +334,7 @@ row_settles tm e = go e
     go (Begin t s bid) = (tt, (tt, tt))
     go (JoinRm s x) = note_settles (EventSettles tm (JoinRm s x)) (with_manager x) (find_serial s tm.table)
     go (Changed s) = note_settles (EventSettles tm (Changed s)) has_changed (find_serial s tm.table)
-    go (EndTrans t) = end_trans_settles (EventSettles tm (EndTrans t)) (find (first t) tm.table) (λ b is u. ((find-key (first t) tm.table b is, at (first t) b is u, inl refl), λ none. (find-key (first t) tm.table b is, at (first t) b is u, inr (refl, refl, none))))
+    go (EndTrans t) = end_trans_settles (EventSettles tm (EndTrans t)) (find (first t) tm.table) (λ b is u. (λ all. (find-key (first t) tm.table b is, at (first t) b is u, inl (refl, all)), λ none. (find-key (first t) tm.table b is, at (first t) b is u, inr (refl, refl, none))))
     go (EndBranch s) = end_branch_settles (EventSettles tm (EndBranch s)) (find_serial s tm.table)
     go (AbortBranch s why) = abort_branch_settles (EventSettles tm (AbortBranch s why)) why (find_serial s tm.table) (λ b is u. (refl, refl, find_serial-serial s tm.table b is, by_serial s b is u))
     go (Replied s x r) = reply_settles (EventSettles tm (Replied s x r)) s x r (find_serial s tm.table) tm.records (λ b is. (

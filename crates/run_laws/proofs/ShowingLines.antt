@@ -27,7 +27,7 @@ use Rattle.run_model.proofs.NodeLists.{clash, found_name}
 use Rattle.run_model.proofs.Refusing.{not_ready, same_last}
 use Rattle.run_laws.specs.Naming.{IsNamed}
 use Rattle.run_laws.specs.Causes.{HasJoined, WasBegun}
-use Rattle.run_laws.specs.Showing.{HeadedBy, IsBehindAbort, IsItsAbort, IsItsEnd, IsManagerEvent, IsOneCommitment, IsSending, IsToItsBranch, OnceAmong, ShowsThese}
+use Rattle.run_laws.specs.Showing.{HeadedBy, IsBehindAbort, IsItsAbort, IsItsEnd, IsManagerEvent, IsOfEnding, IsOneCommitment, IsSending, IsToItsBranch, OnceAmong, ShowsThese}
 use Rattle.run_laws.specs.Laws.{AbortsShowHold, DirectsShowHold, EndsShowHold}
 use Rattle.run_laws.proofs.Directed.{neither}
 use Rattle.run_laws.proofs.Ending.{Standing, active_is, active_unprepared, end_row, found_serial, named_branch, row_is, standing}
@@ -216,8 +216,8 @@ module _ (es : List Entry) (w : World) (node label : List ℕ) (h : Named es w) 
     begun_so : WasBegun es node label b.key.tid
     begun_so = let a = active_is b active in (named_branch es w node label n b h found is (active_unprepared b a.1)).begun (sym (ap (λ (k : BranchKey). k.serial) a.0))
 
-    to_branch : (kind : Kind) (s : Id) → HasJoined es b.key.tid s → (l : Line) → IsSending (down kind (child b.key.tid s)) l → ToBranch l
-    to_branch kind s j l i = (b.key.tid, begun_so, inl (down kind (child b.key.tid s), i, refl, j))
+    to_branch : (kind : Kind) → IsOfEnding kind → (s : Id) → HasJoined es b.key.tid s → (l : Line) → IsSending (down kind (child b.key.tid s)) l → ToBranch l
+    to_branch kind ending s j l i = (b.key.tid, begun_so, inl (down kind (child b.key.tid s), i, ending, refl, j))
 
     to_manager : (event : RmEvent) (l : Line) → IsManagerEvent event b.key.tid b.key.serial l → ToBranch l
     to_manager event l i = (b.key.tid, begun_so, inr (event, (i.0, i.1 ∙ ap (λ (k : BranchKey). line.ManagerTold event b.key.tid k.serial i.0) (active_is b active).0)))
@@ -238,7 +238,7 @@ module _ (es : List Entry) (w : World) (node label : List ℕ) (h : Named es w) 
     commits_so true =
         inr (
           settles Commit Aborted (rows.owing b.key (yes_of b.accepted) (table.holding (ending b).managers)) (inl refl),
-          say_append ToBranch ItsEnd _ _ (each_say ToBranch ItsEnd message.Commit b.key.tid (yes_of b.accepted) (λ s i. let c = yes_in s b.accepted i in to_branch message.Commit s (subst (HasJoined es b.key.tid) c.2 (of_accepted c.0 c.1))))
+          say_append ToBranch ItsEnd _ _ (each_say ToBranch ItsEnd message.Commit b.key.tid (yes_of b.accepted) (λ s i. let c = yes_in s b.accepted i in to_branch message.Commit tt s (subst (HasJoined es b.key.tid) c.2 (of_accepted c.0 c.1))))
               (say_append ToBranch ItsEnd _ [] (tells_say ToBranch ItsEnd _ b.key _ (to_manager _)) tt),
         )
     commits_so false = tt
@@ -247,7 +247,7 @@ module _ (es : List Entry) (w : World) (node label : List ℕ) (h : Named es w) 
     ending_so =
         inl (
           λ moment m s. tt,
-          is_append ToBranch ItsEnd _ _ (each_say ToBranch ItsEnd message.Prepare b.key.tid (serials b.accepted) (λ s i. let c = accepted_in s b.accepted i in to_branch message.Prepare s (subst (HasJoined es b.key.tid) c.2 (of_accepted c.0 c.1))))
+          is_append ToBranch ItsEnd _ _ (each_say ToBranch ItsEnd message.Prepare b.key.tid (serials b.accepted) (λ s i. let c = accepted_in s b.accepted i in to_branch message.Prepare tt s (subst (HasJoined es b.key.tid) c.2 (of_accepted c.0 c.1))))
               (is_append ToBranch ItsEnd _ _ (tells_say ToBranch ItsEnd _ b.key _ (to_manager _)) (commits_so (all_voted b.accepted && all_replied (ending b).managers))),
         )
 
@@ -255,7 +255,7 @@ module _ (es : List Entry) (w : World) (node label : List ℕ) (h : Named es w) 
     aborts_so =
         inr (
           settles Abort SyncFail None (inr (refl, refl)),
-          say_append ToBranch ItsEnd _ _ (aborts_say ToBranch ItsEnd b.key.tid b.accepted (λ c i. to_branch message.Abort c.serial (of_accepted c i)))
+          say_append ToBranch ItsEnd _ _ (aborts_say ToBranch ItsEnd b.key.tid b.accepted (λ c i. to_branch message.Abort tt c.serial (of_accepted c i)))
               (say_append ToBranch ItsEnd _ _ (tells_say ToBranch ItsEnd _ b.key _ (to_manager _)) (subst (λ (x : State). AllSay ToBranch ItsEnd (rows.ended b x (Some SyncFail))) (sym (active_is b active).1) tt)),
         )
 
@@ -301,7 +301,7 @@ module _ (es : List Entry) (w : World) (node label : List ℕ) (h : Named es w) 
     whole_aborts first_so =
         let own = first_serial first_so in (
           aborted_is None,
-          say_append Behind ItsAbort _ _ (aborts_say Behind ItsAbort b.key.tid b.accepted (λ c i l x. (b.key.tid, b.key.serial, named, inl (own, (down message.Abort (child b.key.tid c.serial), x, refl, (known unprepared).joined c i)))))
+          say_append Behind ItsAbort _ _ (aborts_say Behind ItsAbort b.key.tid b.accepted (λ c i l x. (b.key.tid, b.key.serial, named, inl (own, (down message.Abort (child b.key.tid c.serial), x, refl, refl, (known unprepared).joined c i)))))
               (say_append Behind ItsAbort _ _ (tells_say Behind ItsAbort _ b.key _ of_managers) (ended_say own b.state refl)),
         )
 

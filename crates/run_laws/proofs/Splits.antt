@@ -15,7 +15,7 @@ use Rattle.run_model.specs.Answers.{Row, Hears, outcome_told, refused_before_rea
 use Rattle.run_model.specs.Steps.{Choice, Whole, WithoutMemory, Unpowered, Cut, lines_of_rows, ready_node, task_effect, whole}
 use Rattle.run_laws.specs.Promises.{shown_in}
 use Rattle.run_laws.proofs.EachRow.{ArePlain, is_plain}
-use Rattle.run_laws.proofs.Passing.{acknowledged_passes, append_passes, printed_passes, released_passes}
+use Rattle.run_said.proofs.Passing.{acknowledged_passes, append_passes, printed_passes, released_passes}
 use Rattle.run_laws.proofs.Settling.{ActSettles, AllSettle, tells_settle}
 use Rattle.run_laws.proofs.ShownSettled.{here_in, none_shown}
 

@@ -60,7 +60,9 @@ pub record IsHeir (b x : Branch) : Type 0 where
   pub ends : x.state ≡ Ending → b.state ≡ Ending
   pub asked : x.asked ≡ true → b.asked ≡ true
   pub taken : (bid : Id) → has_bid bid b.accepted ≡ true → has_bid bid x.accepted ≡ true
+  pub given : (bid : Id) → has_bid bid x.accepted ≡ true → has_bid bid b.accepted ≡ true
   pub bids : (bid : Id) → In bid x.bids → In bid b.bids
+  pub kept : (bid : Id) → In bid b.bids → In bid x.bids
 
 pub heir_of_bare : (b x : Branch) → bare x ≡ bare b → IsHeir b x
 heir_of_bare b x same = record {
@@ -70,7 +72,9 @@ heir_of_bare b x same = record {
   ends = λ e. ap (λ (y : Branch). y.state) (sym same) ∙ e;
   asked = λ e. ap (λ (y : Branch). y.asked) (sym same) ∙ e;
   taken = λ bid t. ap (λ (y : Branch). has_bid bid y.accepted) same ∙ t;
+  given = λ bid t. ap (λ (y : Branch). has_bid bid y.accepted) (sym same) ∙ t;
   bids = λ bid i. subst (In bid) (ap (λ (y : Branch). y.bids) same) i;
+  kept = λ bid i. subst (In bid) (ap (λ (y : Branch). y.bids) (sym same)) i;
 }
 
 pub heir_on : (b y x : Branch) → IsHeir b y → IsHeir y x → IsHeir b x
@@ -81,7 +85,9 @@ heir_on b y x f g = record {
   ends = λ e. f.ends (g.ends e);
   asked = λ e. f.asked (g.asked e);
   taken = λ bid t. g.taken bid (f.taken bid t);
+  given = λ bid t. f.given bid (g.given bid t);
   bids = λ bid i. f.bids bid (g.bids bid i);
+  kept = λ bid i. g.kept bid (f.kept bid i);
 }
 
 first_same : (b x : Branch) → x.key ≡ b.key → is_first x ≡ is_first b

@@ -160,6 +160,8 @@ heir_from s n t ls x h u (y, same, inr (inl (ev, is, (b, i, open_b, d)))) = (
     ends = λ q. elim (d.ends q) [ inl e ↦ e | inr by ↦ absurd (never_ends s n t ev b.key.tid h is by.0) ];
     asked = λ q. elim (d.asked q) [ inl a ↦ a | inr by ↦ absurd (never_asks ev is by) ];
     taken = d.taken;
+    given = d.given;
+    kept = d.kept;
     bids = λ bid q. elim (d.bids bid q) [ inl j ↦ j | inr by ↦ absurd (never_authorises s n t ev b.key.tid bid h is by) ];
   }) (heir_of_bare y x same),
 )

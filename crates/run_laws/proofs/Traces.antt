@@ -2,7 +2,7 @@
 use Rattle.std.proofs.Common.{◌≡◌, ◌≤◌, ℕ, suc, ◌⊎◌, List, [], ◌∷◌, ◌++◌, length, drop, take, inl, inr, Bool, true, false, not, Option, Some, None, refl, sym, ◌∙◌, ap, subst}
 use Rattle.std.proofs.lemmas.Bool.{both_ways, cases_Bool}
 use Rattle.std.proofs.lemmas.List.{append_assoc}
-use Rattle.vms_model.specs.Transactions.{Outcome, Commit, Abort, Reason, SegFail}
+use Rattle.vms_model.specs.Transactions.{Outcome, Commit, Abort, Reason, Timeout, CommFail, SegFail}
 use Rattle.transcript_model.specs.Lines as line
 use Rattle.transcript_model.specs.Lines.{Line, Cause}
 use Rattle.commit_protocol.specs.Table.{Key as BranchKey, Settles, Undoes}
@@ -36,6 +36,10 @@ allowed_back u (Asks name serial) other t n after c named found may = go (questi
         subst (AllowedOf u after c) (sym e) (subst (λ (a : TaskAt). Allowed u (Does a.node a.task) after c) (sym same) (here_allowed u other t n after c found may))
     go Unanswered e is = let no : ⊥ = cc in absurd no
     go (Doubtful j) e is = let no : ⊥ = cc in absurd no
+
+-- A commitment, or an abort for a fall: where a failure leaves one under way, its statement ends.
+abbrev pub IsQuick : Settlement → Type 0
+IsQuick s = (s.outcome ≡ Commit) ⊎ (s.reason ≡ Some SegFail)
 
 -- the node of this name has it under way
 abbrev pub IsUnder : List ℕ → Settlement → World → Type 0
@@ -178,16 +182,23 @@ module _ (y : List ℕ) (s : Settlement) (it : Line) (is_line : IsLineOf s it) w
         if_so : Bool → Cause → Line
         if_so b cause = Rattle.std.proofs.Common.if◌then◌else◌ b line.Normal (line.Broken cause)
 
-  module _ (commits : s.outcome ≡ Commit) where
+  module _ (quick : IsQuick s) where
     -- a task with which a statement goes on settles none so
     goes_none : (sh : Shared) (stops : ℕ) (n : Node) (t : Task) (o : Outturn) (j : ℕ) (cause : Cause) → (task_service t).goes_on ≡ true → UnderAt (task_effect sh stops n t (Cut o j true cause)).node s → ⊥
     goes_none sh stops n t o j cause on (act, e, so) = of_task t on e
       where
-        aborts : (P : BranchKey → Outcome → Reason → Type 0) → ((k : BranchKey) (o : Outcome) (reason : Reason) → P k o reason → o ≡ Abort) → (act : Act) → IsCaused P (Some act) → settles_so act ≡ Some s → ⊥
-        aborts P f (Tables (Settles k o reason r) moment) h q = let clash : Commit ≡ Abort = sym (ap (λ (x : Settlement). x.outcome) (some_is (world.settlement k o reason moment) s q) ∙ commits) ∙ f k o reason h in let no : ⊥ = cc in no
-        aborts P f (Tables (Undoes k) moment) h q = let clash : Abort ≡ Commit = ap (λ (x : Settlement). x.outcome) (some_is (world.settlement k Abort SegFail moment) s q) ∙ commits in let no : ⊥ = cc in no
+        never : (k : BranchKey) (o : Outcome) (reason : Reason) (moment : ℕ) → o ≡ Abort → (reason ≡ SegFail → ⊥) → world.settlement k o reason moment ≡ s → ⊥
+        never k Commit reason moment is other e = let no : ⊥ = cc in no
+        never k Abort reason moment is other e = elim quick [
+          | inl commits ↦ (let clash : Abort ≡ Commit = ap (λ (x : Settlement). x.outcome) e ∙ commits in let no : ⊥ = cc in no)
+          | inr fell ↦ other (some_is reason SegFail (ap (λ (x : Settlement). x.reason) e ∙ fell))
+        ]
+
+        aborts : (P : BranchKey → Outcome → Reason → Type 0) → ((k : BranchKey) (o : Outcome) (reason : Reason) → P k o reason → (o ≡ Abort) × (reason ≡ SegFail → ⊥)) → (act : Act) → IsCaused P (Some act) → settles_so act ≡ Some s → ⊥
+        aborts P f (Tables (Settles k o reason r) moment) h q = let a = f k o reason h in never k o reason moment a.0 a.1 (some_is (world.settlement k o reason moment) s q)
+        aborts P f (Tables (Undoes k) moment) h q = (f k Abort SegFail h).1 refl
         aborts P f (Tables _ moment) h q = let no : ⊥ = cc in no
-        aborts P f (Directs file cs x) h q = let clash : Commit ≡ Abort = f _ Commit _ h in let no : ⊥ = cc in no
+        aborts P f (Directs file cs x) h q = let clash : Commit ≡ Abort = (f _ Commit _ h).0 in let no : ⊥ = cc in no
         aborts P f _ h q = let no : ⊥ = cc in no
 
         of_request : (r : Rattle.script_model.specs.Statements.Request) → (Rattle.run_model.specs.Answers.service r).goes_on ≡ true → ⊥
@@ -196,8 +207,8 @@ module _ (y : List ℕ) (s : Settlement) (it : Line) (is_line : IsLineOf s it) w
         of_request _ q = let no : ⊥ = cc in no
 
         of_task : (t : Task) → (task_service t).goes_on ≡ true → act_begun true (drop j (rows_to_cut sh (ready_node o stops (task_service t) n) (task_service t))) ≡ Some act → ⊥
-        of_task Ticks q e = aborts (TaskCause sh n Ticks) (λ k o reason h. h.0) act (cut_cause (TaskCause sh n Ticks) true j ((task_service Ticks).rows sh n) act (task_caused sh n Ticks) e) so
-        of_task (LosesLink other) q e = aborts (TaskCause sh n (LosesLink other)) (λ k o reason h. h.0) act (cut_cause (TaskCause sh n (LosesLink other)) true j ((task_service (LosesLink other)).rows sh n) act (task_caused sh n (LosesLink other)) e) so
+        of_task Ticks q e = aborts (TaskCause sh n Ticks) (λ k o reason h. (h.0, λ fell. let clash : Timeout ≡ SegFail = sym h.1 ∙ fell in let no : ⊥ = cc in no)) act (cut_cause (TaskCause sh n Ticks) true j ((task_service Ticks).rows sh n) act (task_caused sh n Ticks) e) so
+        of_task (LosesLink other) q e = aborts (TaskCause sh n (LosesLink other)) (λ k o reason h. (h.0, λ fell. let clash : CommFail ≡ SegFail = sym h.1 ∙ fell in let no : ⊥ = cc in no)) act (cut_cause (TaskCause sh n (LosesLink other)) true j ((task_service (LosesLink other)).rows sh n) act (task_caused sh n (LosesLink other)) e) so
         of_task (Serves r) q e = of_request r q
         of_task Restarts q e = let no : ⊥ = cc in no
         of_task RunsDown q e = let no : ⊥ = cc in no

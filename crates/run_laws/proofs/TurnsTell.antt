@@ -20,8 +20,8 @@ use Rattle.run_model.proofs.TaskLemmas.{Outcome, First, Late, Success, Lacking, 
 use Rattle.run_model.proofs.PartLemmas.{turn, phases_fold}
 use Rattle.run_model.proofs.PartTasks.{View, Doing, Fixed, view, IsOk, sweep_ok, task_there}
 use Rattle.run_model.proofs.Failing.{once_refuses}
-use Rattle.run_laws.specs.Said.{Said, SaidNode, with_said, lines_said, line_said, request_said, answer_said, said_here, said_of, with_use}
-use Rattle.run_laws.proofs.Views.{node_told, shared_told, told_in, told_put, told_same, is_neutral, neutral_line, said_append, used_then}
+use Rattle.run_said.specs.Said.{Said, SaidNode, with_said, lines_said, line_said, request_said, answer_said, said_here, said_of, with_use}
+use Rattle.run_said.proofs.Views.{node_told, shared_told, told_in, told_put, told_same, is_neutral, neutral_line, said_append, used_then}
 use Rattle.run_laws.proofs.RowsTell.{request_tells, task_tells}
 use Rattle.run_laws.proofs.EffectsTell.{Calm, IsStep, boot_told, calm_told, effect_step, init_told, label_told_so, restart_told}
 

@@ -18,12 +18,12 @@ use Rattle.run_model.proofs.PartTasks.{IsOk, sweep_ok}
 use Rattle.run_model.proofs.Refusing.{same_last}
 use Rattle.run_model.proofs.TaskLemmas as tasks
 use Rattle.run_model.proofs.TaskLemmas.{First, Late, Success, Lacking, Failing, outcome}
-use Rattle.run_laws.specs.Said.{Said, SaidNode, line_said, lines_said, node_in, with_said}
+use Rattle.run_said.specs.Said.{Said, SaidNode, line_said, lines_said, node_in, with_said}
 use Rattle.run_laws.specs.Laws.{UnmadeAreSaid}
 use Rattle.run_laws.proofs.Ending.{standing}
 use Rattle.run_laws.proofs.ToldParts.{IsThinPart, is_thinning, settle_phases}
 use Rattle.run_laws.proofs.TurnsTell.{Good, HaveSteps, legal_told, part_told}
-use Rattle.run_laws.proofs.Views.{node_told, told_in}
+use Rattle.run_said.proofs.Views.{node_told, told_in}
 
 -- a line that is no such refusal
 abbrev is_other : Line → Bool

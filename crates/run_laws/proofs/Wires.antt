@@ -12,7 +12,7 @@ use Rattle.commit_protocol.specs.World.{In}
 use Rattle.run_model.specs.World.{World, Node, DiskCounts, opened}
 use Rattle.run_model.specs.Statements.{message_at}
 use Rattle.run_model.specs.Transcript.{Entry, Legal, AreOpening}
-use Rattle.run_laws.specs.Said.{Said, answer_said, line_said, lines_said, request_said, said_here, said_of, with_sent}
+use Rattle.run_said.specs.Said.{Said, answer_said, line_said, lines_said, request_said, said_here, said_of, with_sent}
 use Rattle.run_laws.specs.Causes.{WasSent}
 use Rattle.run_laws.proofs.TurnsTell.{legal_told}
 

@@ -1,13 +1,13 @@
 -- What is promised of a run besides where the images agree with which it begins.
-use Rattle.std.specs.Prelude.{◌≡◌, ◌⊎◌, ℕ, List, [], ◌∷◌, ◌++◌, Some}
+use Rattle.std.specs.Prelude.{◌≡◌, ◌⊎◌, ℕ, List, [], ◌∷◌, ◌++◌}
 use Rattle.vms_model.specs.Ids.{Id}
 use Rattle.vms_model.specs.Transactions.{Commit as ToCommit, Abort as ToAbort}
 use Rattle.transcript_model.specs.Lines.{Line, Normal}
 use Rattle.script_model.specs.Statements.{At, EndTrans, Settle}
-use Rattle.commit_protocol.specs.Table.{Key, first, home_of}
+use Rattle.commit_protocol.specs.Table.{Key, first}
 use Rattle.commit_protocol.specs.World.{In}
 use Rattle.commit_protocol.specs.Opening.{IsAgreeing}
-use Rattle.run_model.specs.World.{World, Node, find_node}
+use Rattle.run_model.specs.World.{World}
 use Rattle.run_model.specs.Statements.{Step}
 use Rattle.run_model.specs.Transcript.{Entry, Legal}
 use Rattle.run_agreement.specs.Seen.{Resolution}
@@ -25,7 +25,7 @@ pub record AgreedRun (base : World) (since : List Entry) (closing : World) : Typ
       ((j : Key) → j.tid ≡ k.tid → HasOutcome base r closing j ToCommit → ⊥) × (IsCommitted base r closing k.tid → ⊥)
   pub committed : (r : Resolution) (k : Key) → HasOutcome base r closing k ToCommit → IsCommitted base r closing k.tid
   pub leaves : (r : Resolution) → IsAgreeing (next_opening base r closing)
-  pub whole : IsAtRest closing → (r : Resolution) (k : Key) (x : Node) → find_node (home_of k) closing.nodes ≡ Some x → IsBranch base closing k → (k ≡ first k.tid → ⊥) → IsCommitted base r closing k.tid →
+  pub whole : IsAtRest closing → (r : Resolution) (k : Key) → IsBranch base closing k → (k ≡ first k.tid → ⊥) → IsCommitted base r closing k.tid →
       HasOutcome base r closing k ToCommit ⊎ In k closing.shared.read_only
 
 -- An END_TRANS that was answered with its success has committed the transaction of its label, whatever turns out of the acts under way.

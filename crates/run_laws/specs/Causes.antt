@@ -53,6 +53,14 @@ abbrev pub IsMissing : List Entry → Id → Type 0
 IsMissing es tid = (bid : Id) × WasAuthorised es tid bid
     × ((before : List Entry) (s : Statement) (events : List Line) (answer : Line) (serial : Id) → SaidThere es before s events answer → In (line.Joined tid serial) events → (given : Id) × JoinsBy before s tid serial given × (given ≡ bid → ⊥))
 
+-- a branch was told to have joined this transaction, at the delivery of its Join with this identifier
+abbrev pub HasJoinedBy : List Entry → (tid bid : Id) → Type 0
+HasJoinedBy es tid bid = (before : List Entry) × (s : Statement) × (events : List Line) × (answer : Line) × (serial : Id) × SaidThere es before s events answer × In (line.Joined tid serial) events × JoinsBy before s tid serial bid
+
+-- None is missing: by each identifier that was authorised for it one joined this transaction.
+abbrev pub IsWhole : List Entry → Id → Type 0
+IsWhole es tid = (bid : Id) → WasAuthorised es tid bid → HasJoinedBy es tid bid
+
 -- the clock of a node, which the last CLOCK of it set; at first it is 0
 abbrev pub clock_here : List ℕ → Reading → Option Line → ℕ → ℕ
 clock_here node (Says (At n (Clock now))) (Some line.Normal) clock = if bytes_eq node n then now else clock
@@ -87,17 +95,17 @@ abbrev pub Names : List Entry → Named → (tid serial : Id) → Type 0
 Names es (ByLabel label) tid serial = IsNamed es serial.node label tid serial
 Names es (BySerial named) tid serial = named ≡ serial
 
--- a resource manager of this branch replies so
+-- a resource manager replies so for this branch
 abbrev pub Replies : List Entry → Reading → (tid serial : Id) → Reply → Type 0
 Replies es said tid serial reply = (who : Named) × (rm : List ℕ) × (said ≡ Says (At serial.node (AckEvent who rm reply))) × Names es who tid serial
 
 -- Causes.
 
--- What commits a branch, as the statement tells that shows it: an END_TRANS of its transaction, or the last vote or the last reply that was missing since then, for
--- the first branch; for another, that it was told so.
+-- What commits a branch, as the statement tells that shows it: an END_TRANS of its transaction where no branch is missing, or the last vote or the last reply that was
+-- missing since then, for the first branch; for another, that it was told so.
 abbrev pub CommitCause : List Entry → Reading → (front : List Line) → (tid serial : Id) → Type 0
 CommitCause es said front tid serial =
-    ((label : List ℕ) × (said ≡ Says (At tid.node (EndTrans label))) × WasBegun es tid.node label tid × (serial ≡ tid))
+    ((label : List ℕ) × (said ≡ Says (At tid.node (EndTrans label))) × WasBegun es tid.node label tid × (serial ≡ tid) × IsWhole es tid)
     ⊎ ((Votes es said message.Yes tid ⊎ Votes es said message.ReadOnly tid) × WasEnded es tid × (serial ≡ tid))
     ⊎ ((reply : Reply) × Replies es said tid serial reply × (is_veto reply ≡ false) × WasEnded es tid × (serial ≡ tid))
     ⊎ DeliversTo es said message.Commit tid serial
@@ -111,15 +119,15 @@ IsDirect said tid serial = (file : List ℕ) × (op : Operation) × (said ≡ Sa
 abbrev pub IsCutOff : List Entry → (tid serial : Id) → (other : List ℕ) → Type 0
 IsCutOff es tid serial other = ((serial ≡ tid) × (s : Id) × HasJoined es tid s × (s.node ≡ other)) ⊎ (tid.node ≡ other)
 
--- What aborts a branch for this reason: a request to abort it, or a delivered or heard Abort; a delivered No of a branch that joined, or a veto of a resource manager;
--- an END_TRANS, or a delivered refusal to join; its node's clock, once its time is over; a link that failed between its node and one that it needs; or a settling, or a
--- boot of its node.
+-- What aborts a branch for this reason: a request to abort it, or a delivered or heard Abort; a delivered No of a branch that joined, or a veto of a resource
+-- manager; an END_TRANS where a branch is missing, or a delivered refusal to join; its node's clock, once its time is over; a link that failed between its node and one
+-- that it needs; or a settling, or a boot of its node. A veto, a refusal to join and a link that failed abort only a branch that began.
 abbrev pub AbortCause : List Entry → Reading → (front : List Line) → Reason → (tid serial : Id) → Type 0
 AbortCause es said front Aborted tid serial =
     ((label : List ℕ) × (said ≡ Says (At serial.node (AbortTrans label))) × IsNamed es serial.node label tid serial) ⊎ DeliversTo es said message.Abort tid serial ⊎ WasAsked said front tid serial Abort
-AbortCause es said front Vetoed tid serial = (Votes es said message.No tid × (serial ≡ tid)) ⊎ Replies es said tid serial VetoReply
+AbortCause es said front Vetoed tid serial = (Votes es said message.No tid × (serial ≡ tid)) ⊎ (Replies es said tid serial VetoReply × HasBegun es tid serial)
 AbortCause es said front SyncFail tid serial =
-    ((label : List ℕ) × (said ≡ Says (At serial.node (EndTrans label))) × WasBegun es serial.node label tid × (serial ≡ tid)) ⊎ DeliversTo es said message.JoinNo tid serial
+    ((label : List ℕ) × (said ≡ Says (At serial.node (EndTrans label))) × WasBegun es serial.node label tid × (serial ≡ tid) × IsMissing es tid) ⊎ (DeliversTo es said message.JoinNo tid serial × HasBegun es tid serial)
 AbortCause es said front Timeout tid serial = (now : ℕ) × (said ≡ Says (At serial.node (Clock now))) × WasDue es tid now × (serial ≡ tid)
-AbortCause es said front CommFail tid serial = (a : List ℕ) × (b : List ℕ) × (said ≡ Says (LinkDown a b)) × (((serial.node ≡ a) × IsCutOff es tid serial b) ⊎ ((serial.node ≡ b) × IsCutOff es tid serial a))
+AbortCause es said front CommFail tid serial = (a : List ℕ) × (b : List ℕ) × (said ≡ Says (LinkDown a b)) × HasBegun es tid serial × (((serial.node ≡ a) × IsCutOff es tid serial b) ⊎ ((serial.node ≡ b) × IsCutOff es tid serial a))
 AbortCause es said front SegFail tid serial = (said ≡ Says Settle) ⊎ (said ≡ Says (At serial.node Boot))

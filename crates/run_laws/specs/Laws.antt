@@ -16,12 +16,12 @@ use Rattle.commit_protocol.specs.Opening.{IsAgreeing}
 use Rattle.run_agreement.specs.Seen.{IsKnown}
 use Rattle.run_agreement.specs.Following.{opening_of}
 use Rattle.run_agreement.specs.Laws.{IsBase, NamesApart, RunsFrom, opening_told}
-use Rattle.run_laws.specs.Said.{SaidNode, node_in, said_of}
+use Rattle.run_said.specs.Said.{SaidNode, node_in, said_of}
 use Rattle.run_laws.specs.SaidLaws.{SaidThere}
 use Rattle.run_laws.specs.Anew.{AreKnownOrAnew}
 use Rattle.run_laws.specs.Agreed.{AgreedRun, EndsHoldAll, SettlesWhole}
 use Rattle.run_laws.specs.Showing.{AbortsShow, DirectsShow, EndsShow}
-use Rattle.run_laws.specs.Promises.{ShownThere, ReasonFits, WasLast, shown_in, last_in, Descends, SettledOnce, KeptPromises, EndsCommit, EndsAbort, EndedSo, FailsAreMissing, AbortsAbort, DirectsCommit, IdsAreNew, CommitsAreKept, AbortsAreKept, FailuresAreDecided, RestartsDecide, AllAreShown, IsLastApart, LastsAreKept, LastsFirst, FallsWereBegun, BootsShowLast, LastsWereAsked, LastsWereCaused, BootsShowPrepared, PreparedAreTold, ReadOnlyChangedNothing, AbortsStand, AreLastApart, DumpPromises, settlements_of}
+use Rattle.run_laws.specs.Promises.{ShownThere, ReasonFits, WasLast, shown_in, last_in, Descends, SettledOnce, KeptPromises, EndsCommit, EndsAbort, EndedSo, FailsAreMissing, WaitsAreWhole, AbortsAbort, DirectsCommit, IdsAreNew, CommitsAreKept, AbortsAreKept, FailuresAreDecided, RestartsDecide, AllAreShown, IsLastApart, LastsAreKept, LastsFirst, FallsWereBegun, LastFallsWereBegun, BootsShowLast, LastsWereAsked, LastsWereCaused, BootsShowPrepared, PreparedAreTold, ReadOnlyChangedNothing, AbortsStand, AreLastApart, DumpPromises, settlements_of}
 
 -- Each such transcript keeps the promises,
 abbrev pub PromisesAreKept : Type 0
@@ -36,6 +36,9 @@ FailsHold = InAllRuns (λ opening es closing. EndsAbort es closing)
 
 abbrev pub MissingHold : Type 0
 MissingHold = InAllRuns (λ opening es closing. FailsAreMissing es)
+
+abbrev pub WaitsHold : Type 0
+WaitsHold = InAllRuns (λ opening es closing. WaitsAreWhole es)
 
 abbrev pub EndedHold : Type 0
 EndedHold = InAllRuns (λ opening es closing. EndedSo es closing)
@@ -66,6 +69,9 @@ AbortedHold = InAllRuns (λ opening es closing. AbortsAreKept es closing)
 
 abbrev pub FallsBegunHold : Type 0
 FallsBegunHold = InAllRuns (λ opening es closing. FallsWereBegun opening es)
+
+abbrev pub LastFallsBegunHold : Type 0
+LastFallsBegunHold = InAllRuns (λ opening es closing. LastFallsWereBegun opening es)
 
 abbrev pub InterruptedHold : Type 0
 InterruptedHold = InAllRuns (λ opening es closing. FailuresAreDecided es closing)

@@ -1,4 +1,3 @@
-pub mod Said
 pub mod SaidLaws
 pub mod Accounts
 pub mod Naming

@@ -15,7 +15,7 @@ use Rattle.records_model.specs.History.{same_id}
 use Rattle.unit_laws.specs.Journal.{RecoveryUnit, find_unit, units_in}
 use Rattle.unit_laws.specs.JournalLaws.{is_unit}
 use Rattle.commit_protocol.specs.Messages as message
-use Rattle.commit_protocol.specs.Messages.{LogRecord, Reply, VetoReply}
+use Rattle.commit_protocol.specs.Messages.{LogRecord, Message, Reply, VetoReply}
 use Rattle.commit_protocol.specs.Rows.{is_veto}
 use Rattle.commit_protocol.specs.Table.{Key as BranchKey, Settles}
 use Rattle.commit_protocol.specs.World.{In}
@@ -27,7 +27,7 @@ use Rattle.run_model.specs.Statements.{RoseAt, Step}
 use Rattle.run_model.specs.Transcript.{Entry, Legal, Turn}
 use Rattle.run_laws.specs.Accounts.{Account, Tells, broken_id, made_anew}
 use Rattle.run_laws.specs.Naming.{IdsDiffer, IsNamed, ids_told}
-use Rattle.run_laws.specs.Causes.{AbortCause, CommitCause, DeliversTo, HasBegun, IsDirect, IsMissing, Replies, WasAsked, WasBegun, WasEnded}
+use Rattle.run_laws.specs.Causes.{AbortCause, CommitCause, DeliversTo, HasBegun, IsDirect, IsMissing, IsWhole, Replies, WasAsked, WasBegun, WasEnded, WasSent}
 use Rattle.run_laws.specs.SaidLaws.{SaidThere}
 use Rattle.run_laws.specs.Showing.{AbortsShow, DirectsShow, EndsShow}
 
@@ -192,6 +192,11 @@ abbrev pub FailsAreMissing : List Entry → Type 0
 FailsAreMissing es = (before : List Entry) (node label : List ℕ) (events : List Line) (reason : Reason) → SaidThere es before (At node (EndTrans label)) events (line.TransactionAborted reason) →
     (tid : Id) × (moment : ℕ) × WasBegun before node label tid × In (line.Aborted tid tid reason moment) events × IsMissing before tid
 
+-- One that was answered that votes are missing, or replies, found no branch missing: by each identifier that was authorised one had joined.
+abbrev pub WaitsAreWhole : List Entry → Type 0
+WaitsAreWhole es = (before : List Entry) (node label : List ℕ) (events : List Line) (serials : List Id) (rms : List (List ℕ)) → SaidThere es before (At node (EndTrans label)) events (line.Pending serials rms) →
+    (tid : Id) × WasBegun before node label tid × IsWhole before tid
+
 -- these lines show how a transaction ended, and it is so for good
 abbrev pub EndsSo : Id → Option Reason → List Line → World → Type 0
 EndsSo tid None lines closing = (moment : ℕ) × In (line.Committed tid tid moment) lines × IsSettledSo tid tid Commit None moment closing
@@ -234,22 +239,40 @@ abbrev pub FallsWereBegun : World → List Entry → Type 0
 FallsWereBegun opening es = (before : List Entry) (said : Reading) (front behind : List Line) (tid serial : Id) (moment : ℕ) → ShownThere es before said front (line.Aborted tid serial SegFail moment) behind →
     HasBegun before tid serial ⊎ WasLeft tid serial opening
 
--- The nodes that a statement may put down: a request its own, and a link that fails one of its two. Of a delivery and a settling nothing is said here.
-abbrev pub MayPutDown : Reading → List ℕ → Type 0
-MayPutDown (Says (At here request)) node = node ≡ here
-MayPutDown (Says (LinkDown a b)) node = (node ≡ a) ⊎ (node ≡ b)
-MayPutDown said node = Unit {0}
+-- So is one that a boot shows as the last settlement of its disk, unless the disk had it so at the opening.
+abbrev pub LastFallsWereBegun : World → List Entry → Type 0
+LastFallsWereBegun opening es = (before : List Entry) (said : Reading) (front behind : List Line) (tid serial : Id) (moment : ℕ) → ShownThere es before said front (line.LastAborted tid serial SegFail moment) behind →
+    HasBegun before tid serial ⊎ WasLeft tid serial opening ⊎ WasLast serial.node (line.LastAborted tid serial SegFail moment) opening
+
+-- The nodes that a statement may put down: a request its own, a link that fails one of its two, and a delivery the one that its message goes to. Of a settling nothing
+-- is said here.
+abbrev pub MayPutDown : List Entry → Reading → List ℕ → Type 0
+MayPutDown es (Says (At here request)) node = node ≡ here
+MayPutDown es (Says (LinkDown a b)) node = (node ≡ a) ⊎ (node ≡ b)
+MayPutDown es (Says (Deliver number)) node = (m : Message) × WasSent es number m × (m.to ≡ node)
+MayPutDown es said node = Unit {0}
 
 -- A line shows that a node is down only where its disk failed in that statement, or was stopped: between whichever worlds the entries lead, one before the statement
 -- and one behind it, the count of the cause rose at the node's disk; behind it the node is down; and it is one that the statement may put down.
 abbrev pub DownsHaveCauses : World → List Entry → Type 0
 DownsHaveCauses opening es = (before : List Entry) (said : Reading) (front behind : List Line) (node : List ℕ) (cause : Cause) → ShownThere es before said front (line.Down node cause) behind →
-    (w v : World) → Legal opening before w → Turn w said (front ++ line.Down node cause ∷ behind) v → RoseAt w node cause v.disks × (option_map (λ n. n.up) (find_node node v.nodes) ≡ Some false) × MayPutDown said node
+    (w v : World) → Legal opening before w → Turn w said (front ++ line.Down node cause ∷ behind) v → RoseAt w node cause v.disks × (option_map (λ n. n.up) (find_node node v.nodes) ≡ Some false) × MayPutDown before said node
 
 -- A statement is answered that a disk failed, or was stopped, only where it showed last before that answer that a node is down for that cause.
 abbrev pub FailuresShowDown : List Entry → Type 0
 FailuresShowDown es = (before : List Entry) (s : Statement) (events : List Line) (cause : Cause) → SaidThere es before s events (line.Broken cause) →
     (node : List ℕ) × (front : List Line) × (events ≡ front ++ line.Down node cause ∷ [])
+
+-- whether a statement continues where a disk fails in it: a clock that is set, and a link that fails
+abbrev pub continues : Statement → Bool
+continues (At node (Clock now)) = true
+continues (LinkDown a b) = true
+continues s = false
+
+-- Any other that shows so that a node is down shows it last, and is answered with that failure: it never succeeds, and is not refused for another cause.
+abbrev pub DownsEnd : List Entry → Type 0
+DownsEnd es = (before : List Entry) (s : Statement) (events : List Line) (answer : Line) (node : List ℕ) (cause : Cause) → SaidThere es before s events answer → continues s ≡ false → In (line.Down node cause) events →
+    (answer ≡ line.Broken cause) × ((front : List Line) × (events ≡ front ++ line.Down node cause ∷ []))
 
 -- Branches that are prepared.
 
@@ -399,6 +422,7 @@ pub record KeptPromises (opening : World) (es : List Entry) (closing : World) : 
   pub ends : EndsCommit es closing
   pub fails : EndsAbort es closing
   pub missing : FailsAreMissing es
+  pub waits : WaitsAreWhole es
   pub ended : EndedSo es closing
   pub aborts : AbortsAbort es closing
   pub directs : DirectsCommit es closing
@@ -409,6 +433,7 @@ pub record KeptPromises (opening : World) (es : List Entry) (closing : World) : 
   pub commits : CommitsAreKept es closing
   pub undoes : AbortsAreKept es closing
   pub falls : FallsWereBegun opening es
+  pub last_falls : LastFallsWereBegun opening es
   -- What becomes of a transaction where its node fails, and what a restart tells of it.
   pub interrupted : FailuresAreDecided es closing
   pub restarts : RestartsDecide es closing
@@ -418,9 +443,10 @@ pub record KeptPromises (opening : World) (es : List Entry) (closing : World) : 
   pub show_last : BootsShowLast es
   pub asked : LastsWereAsked opening es
   pub caused : LastsWereCaused opening es
-  -- A failure of a disk is shown only where the count of its cause rose.
+  -- A failure of a disk is shown only where the count of its cause rose, and ends its statement.
   pub downs : DownsHaveCauses opening es
   pub broken : FailuresShowDown es
+  pub ending : DownsEnd es
   -- Branches that are prepared, and branches that changed nothing.
   pub prepared : PreparedAreTold opening es
   pub booted : BootsShowPrepared opening es

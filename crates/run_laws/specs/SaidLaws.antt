@@ -5,7 +5,7 @@ use Rattle.script_model.specs.Statements.{Statement, Says}
 use Rattle.script_model.specs.Grammar.{reading}
 use Rattle.run_model.specs.World.{World, Node, DiskCounts, opened}
 use Rattle.run_model.specs.Transcript.{Entry, Legal, AreOpening}
-use Rattle.run_laws.specs.Said.{is_by_lines, refused_by_said, said_of}
+use Rattle.run_said.specs.Said.{is_by_lines, refused_by_said, said_of}
 
 -- an entry of a transcript, between those after it and those before it, said this statement, and these lines were shown, the last of which is its answer
 pub record SaidThere (es : List Entry) (before : List Entry) (s : Statement) (events : List Line) (answer : Line) : Type 0 where

@@ -32,9 +32,19 @@ ShowsThese Shape node events answer = Shape events ⊎ ((xs : List Line) × (cau
 abbrev pub IsSending : Message → Line → Type 0
 IsSending m l = ((number : ℕ) × (l ≡ line.Sent number m)) ⊎ (l ≡ line.Unsent m)
 
--- a line of a message to a branch that joined this transaction
+-- a branch is asked for its vote, or is told the outcome
+abbrev pub IsOfEnding : message.Kind → Type 0
+IsOfEnding message.Prepare = Unit {0}
+IsOfEnding message.Commit = Unit {0}
+IsOfEnding message.Abort = Unit {0}
+IsOfEnding kind = ⊥
+
+-- a line of such a message to a branch that joined this transaction; and of an Abort
 abbrev pub IsToBranch : List Entry → Id → Line → Type 0
-IsToBranch es tid l = (m : Message) × IsSending m l × (m.tid ≡ tid) × HasJoined es tid m.serial
+IsToBranch es tid l = (m : Message) × IsSending m l × IsOfEnding m.kind × (m.tid ≡ tid) × HasJoined es tid m.serial
+
+abbrev pub IsAbortTo : List Entry → Id → Line → Type 0
+IsAbortTo es tid l = (m : Message) × IsSending m l × (m.kind ≡ message.Abort) × (m.tid ≡ tid) × HasJoined es tid m.serial
 
 -- that a transaction which was begun with this label was committed, or aborted since a branch is missing
 abbrev pub IsItsEnd : List Entry → (node label : List ℕ) → Line → Type 0
@@ -44,12 +54,12 @@ IsItsEnd es node label l = (tid : Id) × (moment : ℕ) × WasBegun es node labe
 abbrev pub IsManagerEvent : RmEvent → (tid serial : Id) → Line → Type 0
 IsManagerEvent event tid serial l = (rm : List ℕ) × (l ≡ line.ManagerTold event tid serial rm)
 
--- a message to a branch that joined it, or an event for a resource manager of its first branch
+-- a message by which it ends to a branch that joined it, or an event for a resource manager of its first branch
 abbrev pub IsToItsBranch : List Entry → (node label : List ℕ) → Line → Type 0
 IsToItsBranch es node label l = (tid : Id) × WasBegun es node label tid × (IsToBranch es tid l ⊎ ((event : RmEvent) × IsManagerEvent event tid tid l))
 
--- An END_TRANS shows at most one settlement, of the transaction that was begun with its label, and besides only messages to branches that joined it and events for
--- resource managers of its first branch. So it shows the settlement alone where neither joined.
+-- An END_TRANS shows at most one settlement, of the transaction that was begun with its label, and besides only messages to branches that joined it, which ask for
+-- their votes or tell the outcome, and events for resource managers of its first branch. So it shows the settlement alone where neither joined.
 abbrev pub EndsShow : List Entry → Type 0
 EndsShow es = (before : List Entry) (node label : List ℕ) (events : List Line) (answer : Line) → SaidThere es before (At node (EndTrans label)) events answer →
     ShowsThese (OnceAmong (IsToItsBranch before node label) (IsItsEnd before node label)) node events answer
@@ -58,11 +68,11 @@ EndsShow es = (before : List Entry) (node label : List ℕ) (events : List Line)
 abbrev pub IsItsAbort : List Entry → (node label : List ℕ) → Line → Type 0
 IsItsAbort es node label l = (tid : Id) × (serial : Id) × (moment : ℕ) × IsNamed es node label tid serial × (l ≡ line.Aborted tid serial Aborted moment)
 
--- then, of a transaction, messages to branches that joined it, and that it ended where END_TRANS had been answered that something was missing; of another branch, its No;
+-- then, of a transaction, Aborts to branches that joined it, and that it ended where END_TRANS had been answered that something was missing; of another branch, its No;
 -- and of either, that it aborts, for its resource managers
 abbrev pub IsBehindAbort : List Entry → (node label : List ℕ) → Line → Type 0
 IsBehindAbort es node label l = (tid : Id) × (serial : Id) × IsNamed es node label tid serial
-    × (((serial ≡ tid) × IsToBranch es tid l) ⊎ ((serial ≡ tid) × WasEnded es tid × (l ≡ line.Ended tid (Some Aborted))) ⊎ ((m : Message) × IsSending m l × (m.kind ≡ message.No) × (m.serial ≡ serial) × (serial ≡ tid → ⊥)) ⊎ IsManagerEvent message.AbortEvent tid serial l)
+    × (((serial ≡ tid) × IsAbortTo es tid l) ⊎ ((serial ≡ tid) × WasEnded es tid × (l ≡ line.Ended tid (Some Aborted))) ⊎ ((m : Message) × IsSending m l × (m.kind ≡ message.No) × (m.serial ≡ serial) × (serial ≡ tid → ⊥)) ⊎ IsManagerEvent message.AbortEvent tid serial l)
 
 -- An ABORT_TRANS shows first that what its label names is aborted.
 abbrev pub AbortsShow : List Entry → Type 0

@@ -5,7 +5,7 @@ use Rattle.commit_protocol.specs.World.{In}
 use Rattle.transcript_model.specs.Lines as line
 use Rattle.transcript_model.specs.Lines.{Line}
 use Rattle.script_model.specs.Statements.{At, Boot, Clock, Crash, Fuse, Init, Request, Statement}
-use Rattle.run_laws.specs.Said.{Said, is_of_lines, refused_by_said}
+use Rattle.run_said.specs.Said.{Said, is_of_lines, refused_by_said}
 use Rattle.run_model.specs.Answers.{service, touches}
 use Rattle.said_steps.specs.Answers.{FallsTold, answers_so, ends_boot, ends_turns, goes_on, is_answer, is_broken, is_normal, is_served, is_turn, may_answer}
 use Rattle.said_steps.specs.Calls.{spoken_to}

@@ -12,7 +12,7 @@ use Rattle.transcript_model.specs.Lines.{Cause, Line, Normal}
 use Rattle.emitter_model.specs.Emitting.{Emits, Shown}
 use Rattle.emitter_model.proofs.EmittingLemmas.{emits_nothing, emits_on}
 use Rattle.script_model.specs.Statements.{AddBranch, At, Boot, Clock, Crash, Deliver, Fuse, Init, LinkDown, Request, Says, StartTrans, Statement}
-use Rattle.run_laws.specs.Said.{Said, SaidNode, answer_said, down_said, is_by_lines, line_said, lines_said, node_in, other_said, refused_by_lines, refused_by_said, request_said, said_here}
+use Rattle.run_said.specs.Said.{Said, SaidNode, answer_said, down_said, is_by_lines, line_said, lines_said, node_in, other_said, refused_by_lines, refused_by_said, request_said, said_here}
 use Rattle.run_model.specs.Answers.{LosesLink, Serves, Takes, Task, Ticks, service}
 use Rattle.run_model.specs.Statements.{message_at}
 use Rattle.run_model.proofs.NodeLists.{some_is}

@@ -15,7 +15,7 @@ use Rattle.script_lang.specs.declared.literals.Literals.{Literals}
 use Rattle.vms_base.specs.declared.times.Moment.{Moment}
 use Rattle.script_lang.specs.declared.statement.Request as code
 use Rattle.script_lang.specs.declared.statement.Request.TheVariants as request
-use Rattle.run_laws.specs.Said.{node_in, other_said}
+use Rattle.run_said.specs.Said.{node_in, other_said}
 use Rattle.run_model.specs.World.{Node, World, find_node}
 use Rattle.run_model.specs.Operations.{refused_if}
 use Rattle.run_model.specs.Answers.{LosesLink, Takes, Ticks}

@@ -8,7 +8,7 @@ use Rattle.block_disk.specs.Disk.{CallLog}
 use Rattle.run_model.specs.World.{DiskCounts, Node, Shared, World, disk_of, find_node}
 use Rattle.run_model.proofs.NodeLists.{some_is}
 use Rattle.run_agreement.specs.Laws.{NamesApart}
-use Rattle.run_laws.specs.Said.{node_in, with_said}
+use Rattle.run_said.specs.Said.{node_in, with_said}
 use Rattle.run_shared.specs.Sharing.{IsShared, SharedState}
 use Rattle.node_requests.specs.Standing.{Kept, StandsFor, counts_of, disk_in}
 use Rattle.node_requests.specs.Telling.{said_node}

@@ -14,8 +14,8 @@ use Rattle.transcript_model.specs.Lines.{Cause, Line, Normal}
 use Rattle.emitter_model.specs.Emitting.{Emits, Shown}
 use Rattle.emitter_model.proofs.EmittingLemmas.{emits_nothing, emits_on}
 use Rattle.script_model.specs.Statements.{Crash, Settle}
-use Rattle.run_laws.specs.Said.{Said, SaidNode, SaidShared, down_said, is_by_lines, line_said, lines_said, node_in, with_use}
-use Rattle.run_laws.proofs.Views.{said_append}
+use Rattle.run_said.specs.Said.{Said, SaidNode, SaidShared, down_said, is_by_lines, line_said, lines_said, node_in, with_use}
+use Rattle.run_said.proofs.Views.{said_append}
 use Rattle.run_model.specs.Answers.{Restarts, Serves, Task, task_service}
 use Rattle.run_model.specs.Operations.{refused_if}
 use Rattle.run_model.specs.Steps.{count_of}

@@ -6,7 +6,7 @@ use Rattle.transcript_model.specs.Lines as line
 use Rattle.transcript_model.specs.Lines.{Cause, Line}
 use Rattle.emitter_model.specs.Emitting.{Shown}
 use Rattle.script_model.specs.Statements.{Crash}
-use Rattle.run_laws.specs.Said.{Said, SaidNode, SaidShared, line_said, lines_said, with_said}
+use Rattle.run_said.specs.Said.{Said, SaidNode, SaidShared, line_said, lines_said, with_said}
 use Rattle.run_model.specs.Answers.{Serves, Task, task_service}
 use Rattle.run_shared.specs.Sharing.{SharedState}
 use Rattle.said_steps.specs.Answers.{IsSteady, is_normal}

@@ -10,8 +10,8 @@ use Rattle.commit_protocol.proofs.Lists.{in_parts}
 use Rattle.transcript_model.specs.Lines as line
 use Rattle.transcript_model.specs.Lines.{Cause, Line, Normal}
 use Rattle.emitter_model.specs.Emitting.{Shown}
-use Rattle.run_laws.specs.Said.{Said, SaidNode, line_said, lines_said}
-use Rattle.run_laws.proofs.Views.{said_append}
+use Rattle.run_said.specs.Said.{Said, SaidNode, line_said, lines_said}
+use Rattle.run_said.proofs.Views.{said_append}
 use Rattle.run_model.specs.Answers.{Task}
 use Rattle.run_model.specs.Steps.{count_of}
 use Rattle.run_model.proofs.NodeLists.{some_is}

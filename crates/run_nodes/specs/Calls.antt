@@ -8,7 +8,7 @@ use Rattle.transcript_model.specs.Lines as line
 use Rattle.transcript_model.specs.Lines.{Cause, Line}
 use Rattle.transcript_model.specs.Outside.{Rose}
 use Rattle.script_model.specs.Statements.{At, Bad, Blank, Crash, Reading, Says, Statement}
-use Rattle.run_laws.specs.Said.{Said, is_by_lines, refused_by_said}
+use Rattle.run_said.specs.Said.{Said, is_by_lines, refused_by_said}
 use Rattle.run_model.specs.Steps.{count_of}
 use Rattle.recovery_units.specs.Uses.{IsCounted}
 use Rattle.said_steps.specs.Answers.{FallsTold, answers_so, goes_on, is_answer}

@@ -4,7 +4,7 @@ use Rattle.block_disk.specs.Disk.{CallLog, DiskState}
 use Rattle.transcript_model.specs.Lines.{Line}
 use Rattle.emitter_model.specs.Emitting.{Emits, Shown}
 use Rattle.script_model.specs.Statements.{Says, Statement}
-use Rattle.run_laws.specs.Said.{Said, said_here}
+use Rattle.run_said.specs.Said.{Said, said_here}
 use Rattle.run_model.specs.Statements.{Step}
 use Rattle.run_model.specs.World.{Node, World}
 use Rattle.run_shared.specs.Sharing.{IsShared, SharedState}

@@ -7,7 +7,7 @@ use Rattle.transcript_model.specs.Lines as line
 use Rattle.transcript_model.specs.Lines.{Cause, Line}
 use Rattle.transcript_model.specs.Outside.{Rose}
 use Rattle.emitter_model.specs.Emitting.{Emits, Shown}
-use Rattle.run_laws.specs.Said.{Said, line_said, lines_said}
+use Rattle.run_said.specs.Said.{Said, line_said, lines_said}
 use Rattle.run_model.specs.Steps.{count_of}
 use Rattle.recovery_units.specs.Uses.{IsCounted}
 use Rattle.run_shared.specs.Sharing.{SharedState}

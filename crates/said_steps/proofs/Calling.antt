@@ -10,7 +10,7 @@ use Rattle.block_disk.specs.declared.disk.DiskCall.TheVariants as disk_call
 use Rattle.transcript_model.specs.Lines as line
 use Rattle.transcript_model.specs.Lines.{Line}
 use Rattle.script_model.specs.Statements.{At, Deliver, Fuse, LinkDown, Request, Says, Settle}
-use Rattle.run_laws.specs.Said.{Said, SaidNode, lines_said, line_said, node_in, said_here, with_use}
+use Rattle.run_said.specs.Said.{Said, SaidNode, lines_said, line_said, node_in, said_here, with_use}
 use Rattle.said_steps.specs.Calls.{CameUp, NamesDiffer, armed_by, calls_after, down_names, has_powered, has_used, is_boot_refusal, is_named, is_tried, refuses_boot, restarted, shows_boot, tried_last}
 use Rattle.said_steps.proofs.OwnLines.{here_said, last_is}
 use Rattle.said_steps.proofs.Restarted.{all_restarted, some_restarted}

@@ -7,8 +7,8 @@ use Rattle.transcript_model.specs.Lines as line
 use Rattle.transcript_model.specs.Lines.{Cause, Line}
 use Rattle.commit_protocol.specs.World.{In}
 use Rattle.script_model.specs.Statements.{AddBranch, At, Boot, Init, Request, StartTrans}
-use Rattle.run_laws.specs.Said.{Said, SaidNode, SaidShared, answer_said, line_said, lines_said, node_in, request_said, with_said, with_sent, with_unmade, with_up}
-use Rattle.run_laws.proofs.Views.{said_append, unmade_view, up_view}
+use Rattle.run_said.specs.Said.{Said, SaidNode, SaidShared, answer_said, line_said, lines_said, node_in, request_said, with_said, with_sent, with_unmade, with_up}
+use Rattle.run_said.proofs.Views.{said_append, unmade_view, up_view}
 use Rattle.said_steps.specs.Own.{IsOwn, OwnLinesSay, OwnRequestsSay, alone, among}
 
 -- What is said of a node alone, and of it among all.

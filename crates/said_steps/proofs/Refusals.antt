@@ -9,7 +9,7 @@ use Rattle.commit_protocol.specs.Messages.{Message}
 use Rattle.run_model.specs.Answers.{label_limit}
 use Rattle.run_model.specs.Operations.{first_of, refused_if}
 use Rattle.run_model.specs.Statements.{message_at}
-use Rattle.run_laws.specs.Said.{Said, SaidLabel, SaidNode, SaidShared, at_said, down_said, find_said, is_of_lines, made_said, named_said, new_said, node_in, other_said, refused_by_lines, refused_by_said, there_said}
+use Rattle.run_said.specs.Said.{Said, SaidLabel, SaidNode, SaidShared, at_said, down_said, find_said, is_of_lines, made_said, named_said, new_said, node_in, other_said, refused_by_lines, refused_by_said, there_said}
 
 pub request_said_at : (said : Said) (name : List ℕ) (request : Request) (n : SaidNode) → node_in name said.nodes ≡ Some n → other_said said request ≡ None → refused_by_said said (At name request) ≡ refused_by_lines said.shared n request
 request_said_at said name request n found other = ap (λ (o : Option SaidNode). elim o [ Some x ↦ first_of (other_said said request) (refused_by_lines said.shared x request) | None ↦ Some line.NoSuchNode ]) found ∙ ap (λ o. first_of o (refused_by_lines said.shared n request)) other

@@ -6,7 +6,7 @@ use Rattle.std.proofs.lemmas.Bool.{false_from_ne_true}
 use Rattle.std.proofs.lemmas.Slice.Eq.{bytes_eq-Decides}
 use Rattle.transcript_model.specs.Lines as line
 use Rattle.transcript_model.specs.Lines.{Line}
-use Rattle.run_laws.specs.Said.{SaidNode, node_in}
+use Rattle.run_said.specs.Said.{SaidNode, node_in}
 use Rattle.said_steps.specs.Answers.{stuck_at}
 use Rattle.said_steps.specs.Own.{IsOwn}
 use Rattle.said_steps.specs.Calls.{AllRestarted, CameUp, SomeRestarted, down_names, restarted, shows_boot, tried_last}

@@ -6,7 +6,7 @@ use Rattle.commit_protocol.specs.World.{In}
 use Rattle.transcript_model.specs.Lines as line
 use Rattle.transcript_model.specs.Lines.{Cause, Line}
 use Rattle.script_model.specs.Statements.{At, Boot, Clock, Crash, Deliver, Fuse, Init, LinkDown, Request, Settle, Statement}
-use Rattle.run_laws.specs.Said.{Said, SaidNode}
+use Rattle.run_said.specs.Said.{Said, SaidNode}
 use Rattle.run_model.specs.Answers.{service, touches}
 use Rattle.said_steps.specs.Calls.{is_named, shows_boot}
 

@@ -7,7 +7,7 @@ use Rattle.block_disk.specs.declared.disk.DiskCall.TheVariants as disk_call
 use Rattle.transcript_model.specs.Lines as line
 use Rattle.transcript_model.specs.Lines.{Line}
 use Rattle.script_model.specs.Statements.{At, Boot, Deliver, Fuse, Init, LinkDown, Request, Settle, Statement}
-use Rattle.run_laws.specs.Said.{Said, SaidNode, node_in}
+use Rattle.run_said.specs.Said.{Said, SaidNode, node_in}
 use Rattle.run_model.specs.Statements.{message_at}
 
 -- whether a name is one of these

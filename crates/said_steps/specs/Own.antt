@@ -4,7 +4,7 @@ use Rattle.std.specs.List.{AllByRecursion}
 use Rattle.transcript_model.specs.Lines as line
 use Rattle.transcript_model.specs.Lines.{Line}
 use Rattle.script_model.specs.Statements.{At, Request, Says}
-use Rattle.run_laws.specs.Said.{Said, SaidNode, SaidShared, lines_said, line_said, node_in, request_said, said_here, with_said}
+use Rattle.run_said.specs.Said.{Said, SaidNode, SaidShared, lines_said, line_said, node_in, request_said, said_here, with_said}
 
 -- a line that tells of a node tells of this one
 abbrev pub IsOwn : List ℕ → Line → Type 0

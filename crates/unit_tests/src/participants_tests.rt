@@ -1,11 +1,51 @@
 //! The resource managers of a node: how many are declared, which join a branch, and which reply of which one a branch takes.
 use participants::{RmErr, Rms};
-use std::alloc::Global;
+use std::alloc::{AllocError, Global};
 use std::process::Abort;
 use std::test::Fail;
 use tm_table::Tm;
 use tm_types::{Effects, Event};
 use vms_base::{Id, NodeName, Reply, RmName, Serial, Tid};
+
+// The managers R1, R2 and so on of a node, and its table, whose transactions begin with the branches 1, 2 and so on.
+#[derive(Drop)]
+struct Scene {
+    rms: Rms,
+    tm: Tm,
+    out: Effects,
+    alloc: Global,
+}
+
+// What a node is asked: managers by their numbers, and where it is not the first one, the branch.
+#[derive(Clone, Copy)]
+enum Asked {
+    Declare(u32),
+    Forget(u32),
+    Start,
+    Join(u32),
+    JoinOther(u32, u32),
+    End,
+    Replies(u32, Reply),
+    Clear,
+}
+
+// What is seen of it: something is done, or refused; which replies of a manager are taken; and whether it is declared.
+#[derive(Clone, Copy)]
+enum Seen {
+    Does(Asked),
+    Refuses(Asked, RmErr),
+    Takes(u32, [Option<RmErr>; 5]),
+    Declared(u32, bool),
+}
+
+fn new_scene(alloc: Global) -> Result<Scene, AllocError> {
+    Ok(Scene {
+        rms: Rms::reserve(alloc)?,
+        tm: Tm::reserve(alloc)?,
+        out: Effects::reserve(alloc)?,
+        alloc,
+    })
+}
 
 fn name(number: u32, alloc: Global) -> Result<RmName, Fail> {
     let text = format!(in alloc; "R{number}")?;
@@ -20,99 +60,67 @@ fn serial(seq: u32) -> Serial {
     })
 }
 
-// The table is told an event that it allows.
-fn tell(tm: &mut Tm, out: &mut Effects, event: &Event) -> Result<(), Fail> {
-    if !tm.allows(event) {
-        return Err(Fail::from("an event is not allowed"));
-    }
-    tm.step(event, out);
-    Ok(())
+fn tid() -> Tid {
+    Tid(serial(1).0)
 }
 
-#[test]
-fn sixty_four_managers_are_declared_once_each(rt: HostRuntime) -> Result<(), Fail> {
-    let alloc = rt.alloc();
-    let mut rms = Rms::reserve(alloc)?;
-    for number in 1..65u32 {
-        let rm = name(number, alloc)?;
-        assert!(rt; !rms.is_declared(&rm));
-        assert_eq!(rt; rms.declare(rm), Ok(()), "{number}");
-        assert_eq!(rt; rms.declare(rm), Err(RmErr::State), "{number}");
-        assert!(rt; rms.is_declared(&rm));
-    }
-    assert_eq!(rt; rms.declare(name(65, alloc)?), Err(RmErr::Quota(64)));
-    let tm = Tm::reserve(alloc)?;
-    assert_eq!(rt; rms.forget(&tm, &name(65, alloc)?), Err(RmErr::NoRm));
-    assert_eq!(rt; rms.forget(&tm, &name(7, alloc)?), Ok(()));
-    assert!(rt; !rms.is_declared(&name(7, alloc)?));
-    assert_eq!(rt; rms.forget(&tm, &name(7, alloc)?), Err(RmErr::NoRm));
-    assert_eq!(rt; rms.declare(name(65, alloc)?), Ok(()));
-    assert_eq!(rt; rms.declare(name(7, alloc)?), Err(RmErr::Quota(64)));
-    rms.clear();
-    assert!(rt; !rms.is_declared(&name(1, alloc)?));
-    assert_eq!(rt; rms.declare(name(7, alloc)?), Ok(()));
-    Ok(())
-}
-
-// A manager joins the branch of a serial, and the table is told so; or why it does not.
-fn join(
-    tm: &mut Tm,
-    out: &mut Effects,
-    rms: &Rms,
-    serial: Serial,
-    rm: &RmName,
-) -> Result<Option<RmErr>, Fail> {
-    match rms.join(tm, &serial, rm) {
+// The table is told an event that it allows, or it is said why there is none.
+fn tell(scene: &mut Scene, event: Result<Event, RmErr>) -> Result<Option<RmErr>, Fail> {
+    match event {
         Err(e) => Ok(Some(e)),
         Ok(event) => {
-            tell(tm, out, &event)?;
+            if !scene.tm.allows(&event) {
+                return Err(Fail::from("an event is not allowed"));
+            }
+            scene.tm.step(&event, &mut scene.out);
             Ok(None)
         }
     }
 }
 
-#[test]
-fn eight_managers_join_a_branch(rt: HostRuntime) -> Result<(), Fail> {
-    let alloc = rt.alloc();
-    let mut rms = Rms::reserve(alloc)?;
-    let mut tm = Tm::reserve(alloc)?;
-    let mut out = Effects::reserve(alloc)?;
-    for number in 1..10u32 {
-        assert_eq!(rt; rms.declare(name(number, alloc)?), Ok(()));
+fn join(scene: &mut Scene, seq: u32, number: u32) -> Result<Option<RmErr>, Fail> {
+    let rm = name(number, scene.alloc)?;
+    let event = scene.rms.join(&scene.tm, &serial(seq), &rm);
+    tell(scene, event)
+}
+
+fn replied(scene: &mut Scene, number: u32, reply: Reply) -> Result<Option<RmErr>, Fail> {
+    let rm = name(number, scene.alloc)?;
+    let event = scene.rms.reply(&scene.tm, &serial(1), &rm, reply);
+    tell(scene, event)
+}
+
+fn declare(scene: &mut Scene, number: u32) -> Result<Option<RmErr>, Fail> {
+    let rm = name(number, scene.alloc)?;
+    Ok(scene.rms.declare(rm).err())
+}
+
+fn forget(scene: &mut Scene, number: u32) -> Result<Option<RmErr>, Fail> {
+    let rm = name(number, scene.alloc)?;
+    Ok(scene.rms.forget(&scene.tm, &rm).err())
+}
+
+// Does what is asked, or says why it is refused.
+fn ask(scene: &mut Scene, asked: Asked) -> Result<Option<RmErr>, Fail> {
+    match asked {
+        Asked::Declare(number) => declare(scene, number),
+        Asked::Forget(number) => forget(scene, number),
+        Asked::Start => tell(
+            scene,
+            Ok(Event::Start {
+                tid: tid(),
+                due: None,
+            }),
+        ),
+        Asked::Join(number) => join(scene, 1, number),
+        Asked::JoinOther(seq, number) => join(scene, seq, number),
+        Asked::End => tell(scene, Ok(Event::EndTrans { tid: tid() })),
+        Asked::Replies(number, reply) => replied(scene, number, reply),
+        Asked::Clear => {
+            scene.rms.clear();
+            Ok(None)
+        }
     }
-    let (first, second) = (serial(1), serial(2));
-    let start = Event::Start {
-        tid: Tid(first.0),
-        due: None,
-    };
-    tell(&mut tm, &mut out, &start)?;
-    assert_eq!(rt;
-        join(&mut tm, &mut out, &rms, second, &name(1, alloc)?)?,
-        Some(RmErr::NoTid)
-    );
-    assert_eq!(rt;
-        join(&mut tm, &mut out, &rms, first, &name(10, alloc)?)?,
-        Some(RmErr::NoRm)
-    );
-    for number in 1..9u32 {
-        assert_eq!(rt;
-            join(&mut tm, &mut out, &rms, first, &name(number, alloc)?)?,
-            None,
-            "{number}"
-        );
-        assert_eq!(rt;
-            join(&mut tm, &mut out, &rms, first, &name(number, alloc)?)?,
-            Some(RmErr::State),
-            "{number}"
-        );
-    }
-    assert_eq!(rt;
-        join(&mut tm, &mut out, &rms, first, &name(9, alloc)?)?,
-        Some(RmErr::Quota(8))
-    );
-    assert_eq!(rt; rms.forget(&tm, &name(8, alloc)?), Err(RmErr::State));
-    assert_eq!(rt; rms.forget(&tm, &name(9, alloc)?), Ok(()));
-    Ok(())
 }
 
 const REPLIES: [Reply; 5] = [
@@ -123,22 +131,107 @@ const REPLIES: [Reply; 5] = [
     Reply::Normal,
 ];
 
-// Whether each reply of a manager to the branch of a serial is taken, in the order above, or why not.
-fn all_replies(
-    rt: &impl Abort,
-    tm: &Tm,
-    rms: &Rms,
-    serial: Serial,
-    rm: &RmName,
-    wants: [Option<RmErr>; 5],
-) {
-    for at in 0..5usize {
-        let refused = match rms.reply(tm, &serial, rm, REPLIES[at]) {
-            Ok(_) => None,
-            Err(e) => Some(e),
-        };
-        assert_eq!(rt; refused, wants[at], "{at}");
+// Why a reply of a manager to the first branch would be refused.
+fn why_refused(tm: &Tm, rms: &Rms, rm: &RmName, reply: Reply) -> Option<RmErr> {
+    match rms.reply(tm, &serial(1), rm, reply) {
+        Ok(_) => None,
+        Err(e) => Some(e),
     }
+}
+
+// Whether each reply of a manager to the first branch would be taken, in the order above, or why not.
+fn all_replies(scene: &Scene, number: u32) -> Result<[Option<RmErr>; 5], Fail> {
+    let rm = name(number, scene.alloc)?;
+    let mut seen = [None; 5];
+    for at in 0..5usize {
+        seen[at] = why_refused(&scene.tm, &scene.rms, &rm, REPLIES[at]);
+    }
+    Ok(seen)
+}
+
+fn is_declared(scene: &Scene, number: u32) -> Result<bool, Fail> {
+    Ok(scene.rms.is_declared(&name(number, scene.alloc)?))
+}
+
+// What is wanted is seen.
+fn see(rt: &impl Abort, scene: &mut Scene, wanted: Seen) -> Result<(), Fail> {
+    match wanted {
+        Seen::Does(asked) => assert_eq!(rt; ask(scene, asked)?, None),
+        Seen::Refuses(asked, why) => assert_eq!(rt; ask(scene, asked)?, Some(why)),
+        Seen::Takes(number, wants) => assert_eq!(rt; all_replies(scene, number)?, wants),
+        Seen::Declared(number, is) => assert_eq!(rt; is_declared(scene, number)?, is),
+    }
+    Ok(())
+}
+
+fn see_all(rt: &impl Abort, scene: &mut Scene, wanted: &[Seen]) -> Result<(), Fail> {
+    for seen in wanted {
+        see(rt, scene, *seen)?;
+    }
+    Ok(())
+}
+
+fn declares_once(rt: &impl Abort, scene: &mut Scene, number: u32) -> Result<(), Fail> {
+    see(rt, scene, Seen::Declared(number, false))?;
+    see(rt, scene, Seen::Does(Asked::Declare(number)))?;
+    see(
+        rt,
+        scene,
+        Seen::Refuses(Asked::Declare(number), RmErr::State),
+    )?;
+    see(rt, scene, Seen::Declared(number, true))
+}
+
+const FULL: [Seen; 10] = [
+    Seen::Refuses(Asked::Declare(65), RmErr::Quota(64)),
+    Seen::Refuses(Asked::Forget(65), RmErr::NoRm),
+    Seen::Does(Asked::Forget(7)),
+    Seen::Declared(7, false),
+    Seen::Refuses(Asked::Forget(7), RmErr::NoRm),
+    Seen::Does(Asked::Declare(65)),
+    Seen::Refuses(Asked::Declare(7), RmErr::Quota(64)),
+    Seen::Does(Asked::Clear),
+    Seen::Declared(1, false),
+    Seen::Does(Asked::Declare(7)),
+];
+
+#[test]
+fn sixty_four_managers_are_declared_once_each(rt: HostRuntime) -> Result<(), Fail> {
+    let mut scene = new_scene(rt.alloc())?;
+    for number in 1..65u32 {
+        declares_once(&rt, &mut scene, number)?;
+    }
+    see_all(&rt, &mut scene, &FULL)
+}
+
+const STARTED: [Seen; 3] = [
+    Seen::Does(Asked::Start),
+    Seen::Refuses(Asked::JoinOther(2, 1), RmErr::NoTid),
+    Seen::Refuses(Asked::Join(10), RmErr::NoRm),
+];
+
+const JOINED: [Seen; 3] = [
+    Seen::Refuses(Asked::Join(9), RmErr::Quota(8)),
+    Seen::Refuses(Asked::Forget(8), RmErr::State),
+    Seen::Does(Asked::Forget(9)),
+];
+
+#[test]
+fn eight_managers_join_a_branch(rt: HostRuntime) -> Result<(), Fail> {
+    let mut scene = new_scene(rt.alloc())?;
+    for number in 1..10u32 {
+        see(&rt, &mut scene, Seen::Does(Asked::Declare(number)))?;
+    }
+    see_all(&rt, &mut scene, &STARTED)?;
+    for number in 1..9u32 {
+        see(&rt, &mut scene, Seen::Does(Asked::Join(number)))?;
+        see(
+            &rt,
+            &mut scene,
+            Seen::Refuses(Asked::Join(number), RmErr::State),
+        )?;
+    }
+    see_all(&rt, &mut scene, &JOINED)
 }
 
 const NO_BRANCH: [Option<RmErr>; 5] = [Some(RmErr::NoTid); 5];
@@ -158,60 +251,35 @@ const TO_COMMIT: [Option<RmErr>; 5] = [
     Some(RmErr::State),
 ];
 
+const REPLIED: [Seen; 24] = [
+    Seen::Does(Asked::Declare(1)),
+    Seen::Does(Asked::Declare(2)),
+    Seen::Takes(1, NO_BRANCH),
+    Seen::Does(Asked::Start),
+    Seen::Takes(1, NO_MANAGER),
+    Seen::Does(Asked::Join(1)),
+    Seen::Takes(1, NO_EVENT),
+    Seen::Does(Asked::Join(2)),
+    Seen::Does(Asked::End),
+    Seen::Takes(1, TO_PREPARE),
+    Seen::Takes(3, NO_MANAGER),
+    Seen::Does(Asked::Replies(2, Reply::Forget)),
+    Seen::Takes(2, NO_EVENT),
+    Seen::Takes(1, TO_PREPARE),
+    Seen::Does(Asked::Replies(1, Reply::Prepared)),
+    Seen::Takes(2, NO_MANAGER),
+    Seen::Takes(1, TO_COMMIT),
+    Seen::Does(Asked::Replies(1, Reply::Remember)),
+    Seen::Takes(1, TO_COMMIT),
+    Seen::Does(Asked::Forget(1)),
+    Seen::Takes(1, NO_MANAGER),
+    Seen::Does(Asked::Declare(1)),
+    Seen::Does(Asked::Replies(1, Reply::Forget)),
+    Seen::Takes(1, NO_BRANCH),
+];
+
 #[test]
 fn a_reply_is_taken_where_its_event_waits(rt: HostRuntime) -> Result<(), Fail> {
-    let alloc = rt.alloc();
-    let mut rms = Rms::reserve(alloc)?;
-    let mut tm = Tm::reserve(alloc)?;
-    let mut out = Effects::reserve(alloc)?;
-    let (r, s, unheard) = (name(1, alloc)?, name(2, alloc)?, name(3, alloc)?);
-    assert_eq!(rt; rms.declare(r), Ok(()));
-    assert_eq!(rt; rms.declare(s), Ok(()));
-    let first = serial(1);
-    all_replies(&rt, &tm, &rms, first, &r, NO_BRANCH);
-    let start = Event::Start {
-        tid: Tid(first.0),
-        due: None,
-    };
-    tell(&mut tm, &mut out, &start)?;
-    all_replies(&rt, &tm, &rms, first, &r, NO_MANAGER);
-    assert_eq!(rt; join(&mut tm, &mut out, &rms, first, &r)?, None);
-    all_replies(&rt, &tm, &rms, first, &r, NO_EVENT);
-    assert_eq!(rt; join(&mut tm, &mut out, &rms, first, &s)?, None);
-    tell(&mut tm, &mut out, &Event::EndTrans { tid: Tid(first.0) })?;
-    all_replies(&rt, &tm, &rms, first, &r, TO_PREPARE);
-    all_replies(&rt, &tm, &rms, first, &unheard, NO_MANAGER);
-    replied(&rt, &mut tm, &mut out, &rms, first, &s, Reply::Forget)?;
-    all_replies(&rt, &tm, &rms, first, &s, NO_EVENT);
-    all_replies(&rt, &tm, &rms, first, &r, TO_PREPARE);
-    replied(&rt, &mut tm, &mut out, &rms, first, &r, Reply::Prepared)?;
-    all_replies(&rt, &tm, &rms, first, &s, NO_MANAGER);
-    all_replies(&rt, &tm, &rms, first, &r, TO_COMMIT);
-    replied(&rt, &mut tm, &mut out, &rms, first, &r, Reply::Remember)?;
-    all_replies(&rt, &tm, &rms, first, &r, TO_COMMIT);
-    assert_eq!(rt; rms.forget(&tm, &r), Ok(()));
-    all_replies(&rt, &tm, &rms, first, &r, NO_MANAGER);
-    assert_eq!(rt; rms.declare(r), Ok(()));
-    replied(&rt, &mut tm, &mut out, &rms, first, &r, Reply::Forget)?;
-    all_replies(&rt, &tm, &rms, first, &r, NO_BRANCH);
-    Ok(())
-}
-
-// A manager replies so, and the table is told.
-fn replied(
-    rt: &impl Abort,
-    tm: &mut Tm,
-    out: &mut Effects,
-    rms: &Rms,
-    serial: Serial,
-    rm: &RmName,
-    reply: Reply,
-) -> Result<(), Fail> {
-    match rms.reply(tm, &serial, rm, reply) {
-        Err(_) => Err(Fail::from("a reply is refused")),
-        Ok(event) => {
-            assert!(rt; tm.allows(&event));
-            tell(tm, out, &event)
-        }
-    }
+    let mut scene = new_scene(rt.alloc())?;
+    see_all(&rt, &mut scene, &REPLIED)
 }

@@ -269,51 +269,56 @@ fn run(
     Ok(())
 }
 
+// The same at a new table.
+fn run_anew(rt: &impl Abort, alloc: Global, steps: &[(Told, &str)]) -> Result<(), AllocError> {
+    let mut tm = Tm::reserve(alloc)?;
+    let mut out = Effects::reserve(alloc)?;
+    run(rt, alloc, &mut tm, &mut out, steps)
+}
+
+const COMMITTED: [(Told, &str); 17] = [
+    (Told::Start, ""),
+    (Told::Authorise, ""),
+    (Told::Join, "joined B; JOINOK A; "),
+    (Told::Join, "JOINOK A; "),
+    (Told::Up(Kind::Inquire), ""),
+    (Told::EndFirst, "refused"),
+    (Told::End, "PREPARE A; "),
+    (Told::End, "refused"),
+    (Told::Up(Kind::Inquire), ""),
+    (Told::Up(Kind::Yes), "commit, record A; COMMIT A; ended A; "),
+    (Told::Up(Kind::Yes), ""),
+    (Told::Up(Kind::Inquire), "COMMIT A; "),
+    (Told::Up(Kind::Ack), "forgot A; "),
+    (Told::Up(Kind::Ack), ""),
+    (Told::Up(Kind::Inquire), "ABORT A; "),
+    (Told::Up(Kind::No), ""),
+    (Told::Join, "JOINNO A; "),
+];
+
 #[test]
 fn a_coordinator_commits(rt: HostRuntime) -> Result<(), AllocError> {
-    let mut tm = Tm::reserve(rt.alloc())?;
-    let mut out = Effects::reserve(rt.alloc())?;
-    let steps = [
-        (Told::Start, ""),
-        (Told::Authorise, ""),
-        (Told::Join, "joined B; JOINOK A; "),
-        (Told::Join, "JOINOK A; "),
-        (Told::Up(Kind::Inquire), ""),
-        (Told::EndFirst, "refused"),
-        (Told::End, "PREPARE A; "),
-        (Told::End, "refused"),
-        (Told::Up(Kind::Inquire), ""),
-        (Told::Up(Kind::Yes), "commit, record A; COMMIT A; ended A; "),
-        (Told::Up(Kind::Yes), ""),
-        (Told::Up(Kind::Inquire), "COMMIT A; "),
-        (Told::Up(Kind::Ack), "forgot A; "),
-        (Told::Up(Kind::Ack), ""),
-        (Told::Up(Kind::Inquire), "ABORT A; "),
-        (Told::Up(Kind::No), ""),
-        (Told::Join, "JOINNO A; "),
-    ];
-    run(&rt, rt.alloc(), &mut tm, &mut out, &steps)
+    run_anew(&rt, rt.alloc(), &COMMITTED)
 }
+
+const VOTED: [(Told, &str); 12] = [
+    (Told::Begin, "JOIN B; "),
+    (Told::Down(Kind::JoinOk), "started B; "),
+    (Told::Changed, ""),
+    (Told::EndBranch, ""),
+    (Told::Down(Kind::Prepare), "prepared B; YES B; "),
+    (Told::Down(Kind::Prepare), "YES B; "),
+    (Told::RunDown, ""),
+    (Told::Inquire, "INQUIRE B; "),
+    (Told::Down(Kind::Commit), "commit B; ACK B; "),
+    (Told::Down(Kind::Commit), "ACK B; "),
+    (Told::Down(Kind::Prepare), "NO B; "),
+    (Told::Down(Kind::Abort), ""),
+];
 
 #[test]
 fn a_branch_votes_and_recovers(rt: HostRuntime) -> Result<(), AllocError> {
-    let mut tm = Tm::reserve(rt.alloc())?;
-    let mut out = Effects::reserve(rt.alloc())?;
-    let steps = [
-        (Told::Begin, "JOIN B; "),
-        (Told::Down(Kind::JoinOk), "started B; "),
-        (Told::Changed, ""),
-        (Told::EndBranch, ""),
-        (Told::Down(Kind::Prepare), "prepared B; YES B; "),
-        (Told::Down(Kind::Prepare), "YES B; "),
-        (Told::RunDown, ""),
-        (Told::Inquire, "INQUIRE B; "),
-        (Told::Down(Kind::Commit), "commit B; ACK B; "),
-        (Told::Down(Kind::Commit), "ACK B; "),
-        (Told::Down(Kind::Prepare), "NO B; "),
-        (Told::Down(Kind::Abort), ""),
-    ];
-    run(&rt, rt.alloc(), &mut tm, &mut out, &steps)
+    run_anew(&rt, rt.alloc(), &VOTED)
 }
 
 #[test]
@@ -332,67 +337,65 @@ fn a_prepared_branch_is_restored(rt: HostRuntime) -> Result<(), AllocError> {
     run(&rt, rt.alloc(), &mut tm, &mut out, &steps)
 }
 
+const ABORTED: [(Told, &str); 26] = [
+    (Told::StartTimed, ""),
+    (Told::Clock(999), ""),
+    (Told::Clock(1000), "TIMEOUT A; "),
+    (Told::Start, ""),
+    (Told::Authorise, ""),
+    (Told::End, "SYNC_FAIL A; "),
+    (Told::Start, ""),
+    (Told::Authorise, ""),
+    (Told::Join, "joined B; JOINOK A; "),
+    (Told::LostB, "COMM_FAIL A; ABORT A; "),
+    (Told::Start, ""),
+    (Told::Authorise, ""),
+    (Told::Join, "joined B; JOINOK A; "),
+    (Told::End, "PREPARE A; "),
+    (Told::Up(Kind::No), "VETOED A; ended, abort A; "),
+    (Told::Begin, "JOIN B; "),
+    (Told::Down(Kind::JoinNo), "SYNC_FAIL B; "),
+    (Told::Begin, "JOIN B; "),
+    (Told::Down(Kind::JoinOk), "started B; "),
+    (Told::LostA, "COMM_FAIL B; NO B; "),
+    (Told::Begin, "JOIN B; "),
+    (Told::Down(Kind::Prepare), "started B; "),
+    (Told::EndBranch, "readonly B; READONLY B; "),
+    (Told::Start, ""),
+    (Told::Begin, "JOIN B; "),
+    (Told::RunDown, "SEG_FAIL A; SEG_FAIL B; NO B; "),
+];
+
 #[test]
 fn aborts_have_their_reasons(rt: HostRuntime) -> Result<(), AllocError> {
-    let mut tm = Tm::reserve(rt.alloc())?;
-    let mut out = Effects::reserve(rt.alloc())?;
-    let steps = [
-        (Told::StartTimed, ""),
-        (Told::Clock(999), ""),
-        (Told::Clock(1000), "TIMEOUT A; "),
-        (Told::Start, ""),
-        (Told::Authorise, ""),
-        (Told::End, "SYNC_FAIL A; "),
-        (Told::Start, ""),
-        (Told::Authorise, ""),
-        (Told::Join, "joined B; JOINOK A; "),
-        (Told::LostB, "COMM_FAIL A; ABORT A; "),
-        (Told::Start, ""),
-        (Told::Authorise, ""),
-        (Told::Join, "joined B; JOINOK A; "),
-        (Told::End, "PREPARE A; "),
-        (Told::Up(Kind::No), "VETOED A; ended, abort A; "),
-        (Told::Begin, "JOIN B; "),
-        (Told::Down(Kind::JoinNo), "SYNC_FAIL B; "),
-        (Told::Begin, "JOIN B; "),
-        (Told::Down(Kind::JoinOk), "started B; "),
-        (Told::LostA, "COMM_FAIL B; NO B; "),
-        (Told::Begin, "JOIN B; "),
-        (Told::Down(Kind::Prepare), "started B; "),
-        (Told::EndBranch, "readonly B; READONLY B; "),
-        (Told::Start, ""),
-        (Told::Begin, "JOIN B; "),
-        (Told::RunDown, "SEG_FAIL A; SEG_FAIL B; NO B; "),
-    ];
-    run(&rt, rt.alloc(), &mut tm, &mut out, &steps)
+    run_anew(&rt, rt.alloc(), &ABORTED)
 }
+
+const HEARD: [(Told, &str); 18] = [
+    (Told::Start, ""),
+    (Told::Joins, ""),
+    (Told::Joins, "refused"),
+    (Told::End, "tell onephase A; "),
+    (Told::Replied(Reply::Forget), "refused"),
+    (Told::Replied(Reply::Normal), "commit A; ended A; "),
+    (Told::Start, ""),
+    (Told::Joins, ""),
+    (Told::End, "tell onephase A; "),
+    (Told::Replied(Reply::Veto), "VETOED A; ended, abort A; "),
+    (Told::Start, ""),
+    (Told::Joins, ""),
+    (Told::ChangedFirst, ""),
+    (Told::End, "tell prepare A; "),
+    (
+        Told::Replied(Reply::Prepared),
+        "commit, record A; tell commit A; ended A; ",
+    ),
+    (Told::Replied(Reply::Remember), ""),
+    (Told::Replied(Reply::Forget), "forgot A; "),
+    (Told::Replied(Reply::Forget), "refused"),
+];
 
 #[test]
 fn managers_vote_and_hear(rt: HostRuntime) -> Result<(), AllocError> {
-    let mut tm = Tm::reserve(rt.alloc())?;
-    let mut out = Effects::reserve(rt.alloc())?;
-    let steps = [
-        (Told::Start, ""),
-        (Told::Joins, ""),
-        (Told::Joins, "refused"),
-        (Told::End, "tell onephase A; "),
-        (Told::Replied(Reply::Forget), "refused"),
-        (Told::Replied(Reply::Normal), "commit A; ended A; "),
-        (Told::Start, ""),
-        (Told::Joins, ""),
-        (Told::End, "tell onephase A; "),
-        (Told::Replied(Reply::Veto), "VETOED A; ended, abort A; "),
-        (Told::Start, ""),
-        (Told::Joins, ""),
-        (Told::ChangedFirst, ""),
-        (Told::End, "tell prepare A; "),
-        (
-            Told::Replied(Reply::Prepared),
-            "commit, record A; tell commit A; ended A; ",
-        ),
-        (Told::Replied(Reply::Remember), ""),
-        (Told::Replied(Reply::Forget), "forgot A; "),
-        (Told::Replied(Reply::Forget), "refused"),
-    ];
-    run(&rt, rt.alloc(), &mut tm, &mut out, &steps)
+    run_anew(&rt, rt.alloc(), &HEARD)
 }

@@ -8,6 +8,7 @@ use file_base::{FileHead, NO_MARKS, NO_SAVE, NO_SPAN, Organization, Span};
 use frame_pool::Pool;
 use ru_journal::RuState;
 use std::alloc::{AllocError, Global};
+use std::process::Abort;
 use std::test::Fail;
 use unit_entries::*;
 use unit_table::UnitTable;
@@ -121,69 +122,91 @@ fn positions<'a>(units: &'a UnitTable, serial: &Serial) -> &'a [u64] {
     }
 }
 
+// What journals are read with, on a disk of node A.
+#[derive(Drop)]
+struct Reading {
+    store: Store<Disk1>,
+    state: RuState,
+    units: UnitTable,
+    image: Record,
+}
+
+fn new_reading(alloc: Global, node: NodeName) -> Result<Option<Reading>, AllocError> {
+    let Some(store) = store(alloc, node)? else {
+        return Ok(None);
+    };
+    let state = RuState::reserve(alloc)?;
+    let units = UnitTable::reserve(alloc)?;
+    let image = Record::reserve(alloc)?;
+    Ok(Some(Reading {
+        store,
+        state,
+        units,
+        image,
+    }))
+}
+
+// How many units a journal of these entries tells, with so many bytes behind them.
+fn told(reading: &mut Reading, rows: &[Row], first: usize, more: usize) -> Option<usize> {
+    let mut block = [0; 512];
+    let end = lay(&mut block, rows, first).wrapping_add(more);
+    read(
+        &mut reading.store,
+        &block,
+        (first as u64, end as u64),
+        &mut reading.state,
+        &mut reading.units,
+        &mut reading.image,
+    )
+}
+
+const ROWS: [Row; 5] = [
+    (1, 1, 0, 7, 1),
+    (1, 0, 1, 8, 1),
+    (1, 0, 0, 7, 2),
+    (3, 1, 0, 8, 0),
+    (1, 1, 2, 7, 3),
+];
+
+// Where the journal begins, with how many of the entries, how many units are left and where the changes of A.1.7 begin.
+const TOLD: [(usize, usize, usize, &[u64]); 5] = [
+    (0, 5, 1, &[0, 105, 205]),
+    (300, 5, 1, &[300, 405, 505]),
+    (511, 3, 2, &[511, 616]),
+    (7, 1, 1, &[7]),
+    (9, 0, 0, &[]),
+];
+
 #[test]
 fn a_journal_is_read(rt: HostRuntime) -> Result<(), Fail> {
-    let alloc = rt.alloc();
-    let node = NodeName::new(b"A");
-    assert!(rt; node.is_some());
-    let Some(node) = node else {
-        return Ok(());
-    };
-    let store = store(alloc, node)?;
-    assert!(rt; store.is_some());
-    let Some(mut store) = store else {
-        return Ok(());
-    };
+    let node = NodeName::new(b"A").ok_or("a name")?;
+    let mut reading = new_reading(rt.alloc(), node)?.ok_or("a disk")?;
     let serial = Serial(Id {
         node,
         boot: 1,
         seq: 7,
     });
-    let mut state = RuState::reserve(alloc)?;
-    let mut units = UnitTable::reserve(alloc)?;
-    let mut image = Record::reserve(alloc)?;
-    let rows: [Row; 5] = [
-        (1, 1, 0, 7, 1),
-        (1, 0, 1, 8, 1),
-        (1, 0, 0, 7, 2),
-        (3, 1, 0, 8, 0),
-        (1, 1, 2, 7, 3),
-    ];
-    // Where the journal begins, with how many of the entries, how many units are left and where the changes of A.1.7 begin.
-    let table: [(usize, usize, usize, &[u64]); 5] = [
-        (0, 5, 1, &[0, 105, 205]),
-        (300, 5, 1, &[300, 405, 505]),
-        (511, 3, 2, &[511, 616]),
-        (7, 1, 1, &[7]),
-        (9, 0, 0, &[]),
-    ];
-    for (first, count, many, want) in table {
-        let mut block = [0; 512];
-        let end = lay(&mut block, &rows[..count], first);
-        let told = read(
-            &mut store,
-            &block,
-            (first as u64, end as u64),
-            &mut state,
-            &mut units,
-            &mut image,
-        );
+    let rows: &[Row] = &ROWS;
+    for (first, count, many, want) in TOLD {
+        assert!(rt; count <= 5);
+        let told = told(&mut reading, &rows[..count], first, 0);
         assert!(rt; told == Some(many), "{first}");
-        assert!(rt; positions(&units, &serial) == want, "{first}");
+        assert!(rt; positions(&reading.units, &serial) == want, "{first}");
     }
-    // A branch is not settled twice, and no entry stands in zeros.
-    let twice: [Row; 3] = [(1, 1, 0, 7, 1), (3, 2, 0, 7, 0), (3, 2, 0, 7, 0)];
-    for (count, more, whole) in [(2, 0, true), (3, 0, false), (2, 48, false)] {
-        let mut block = [0; 512];
-        let end = lay(&mut block, &twice[..count], 0).wrapping_add(more);
-        let told = read(
-            &mut store,
-            &block,
-            (0, end as u64),
-            &mut state,
-            &mut units,
-            &mut image,
-        );
+    Ok(())
+}
+
+// A branch that is settled twice.
+const TWICE: [Row; 3] = [(1, 1, 0, 7, 1), (3, 2, 0, 7, 0), (3, 2, 0, 7, 0)];
+
+#[test]
+fn a_branch_is_not_settled_twice_and_no_entry_stands_in_zeros(rt: HostRuntime) -> Result<(), Fail> {
+    let node = NodeName::new(b"A").ok_or("a name")?;
+    let mut reading = new_reading(rt.alloc(), node)?.ok_or("a disk")?;
+    let rows: &[Row] = &TWICE;
+    for (count, more, whole) in [(2usize, 0usize, true), (3, 0, false), (2, 48, false)] {
+        assert!(rt; count <= 3);
+        let told = told(&mut reading, &rows[..count], 0, more);
         assert!(rt; told.is_some() == whole, "{count} {more}");
     }
     Ok(())
@@ -246,52 +269,60 @@ fn collect(
     collect_keys(volume, positions, keys, image).is_ok()
 }
 
-#[test]
-fn keys_are_collected(rt: HostRuntime) -> Result<(), Fail> {
-    let alloc = rt.alloc();
+fn mounted(alloc: Global) -> Result<Option<Volume<Disk1>>, AllocError> {
     let Some(node) = NodeName::new(b"A") else {
-        return Ok(assert!(rt; false));
+        return Ok(None);
     };
     let Some(store) = store(alloc, node)? else {
-        return Ok(assert!(rt; false));
+        return Ok(None);
     };
     if store.blocks() < 4096 {
-        return Ok(assert!(rt; false));
+        return Ok(None);
     }
-    let mut volume = match Volume::mount(store, node) {
-        Ok(volume) => volume,
-        Err(_) => return Ok(assert!(rt; false)),
-    };
-    let mut keys = ChangedKeys::reserve(alloc)?;
-    let mut image = Record::reserve(alloc)?;
-    let rows: [Row; 5] = [
-        (1, 1, 1, 7, 9),
-        (1, 0, 1, 7, 4),
-        (1, 0, 1, 7, 9),
-        (1, 0, 2, 7, 9),
-        (1, 1, 1, 7, 6),
-    ];
+    match Volume::mount(store, node) {
+        Ok(volume) => Ok(Some(volume)),
+        Err(_) => Ok(None),
+    }
+}
+
+const COLLECTED: [Row; 5] = [
+    (1, 1, 1, 7, 9),
+    (1, 0, 1, 7, 4),
+    (1, 0, 1, 7, 9),
+    (1, 0, 2, 7, 9),
+    (1, 1, 1, 7, 6),
+];
+
+// What is told of the keys of file 1 of an organization: how many there are, the lowest that was absent, and the next number from 5 on.
+type KeysTold = (usize, Option<u32>, Option<(usize, u32)>);
+
+fn collected(
+    volume: &mut Volume<Disk1>,
+    organization: Organization,
+    keys: &mut ChangedKeys,
+    image: &mut Record,
+) -> Option<KeysTold> {
     let mut block = [0; 512];
-    let _ = lay(&mut block, &rows, 0);
+    let _ = lay(&mut block, &COLLECTED, 0);
     let positions = [0, 53, 105, 157, 209];
+    if !collect(volume, organization, &block, &positions, keys, image) {
+        return None;
+    }
+    Some((keys.len(), keys.lowest_absent(1), keys.next_number(1, 5)))
+}
+
+#[test]
+fn keys_are_collected(rt: HostRuntime) -> Result<(), Fail> {
+    let mut volume = mounted(rt.alloc())?.ok_or("a volume")?;
+    let mut keys = ChangedKeys::reserve(rt.alloc())?;
+    let mut image = Record::reserve(rt.alloc())?;
     // File 2 is not there. In an indexed file no key is a number.
-    for (organization, lowest, least) in [
-        (Organization::Relative, Some(4), Some((2, 6))),
-        (Organization::Indexed, None, None),
+    for (organization, want) in [
+        (Organization::Relative, (3, Some(4), Some((2, 6)))),
+        (Organization::Indexed, (3, None, None)),
     ] {
-        assert!(rt;
-            collect(
-                &mut volume,
-                organization,
-                &block,
-                &positions,
-                &mut keys,
-                &mut image
-            )
-        );
-        assert!(rt; keys.len() == 3);
-        assert!(rt; keys.lowest_absent(1) == lowest);
-        assert!(rt; keys.next_number(1, 5) == least);
+        let told = collected(&mut volume, organization, &mut keys, &mut image);
+        assert!(rt; told == Some(want));
     }
     Ok(())
 }
@@ -319,14 +350,9 @@ fn note(keys: &mut ChangedKeys, key: ChangedKey) -> bool
     true
 }
 
-#[test]
-fn each_key_is_noted_once(rt: HostRuntime) -> Result<(), Fail> {
-    let mut keys = ChangedKeys::reserve(rt.alloc())?;
-    let Some(text) = KeyText::new(b"ab") else {
-        return Ok(assert!(rt; false));
-    };
-    // A key, whether it had a record, and how many keys there are then.
-    let rows = [
+// A key, whether it had a record, and how many keys there are then.
+fn noted(text: KeyText) -> [(u8, Key, bool, usize); 7] {
+    [
         (0, Key::Number(5), true, 1),
         (0, Key::Number(3), false, 2),
         (1, Key::Number(5), false, 3),
@@ -334,22 +360,20 @@ fn each_key_is_noted_once(rt: HostRuntime) -> Result<(), Fail> {
         (2, Key::Text(text), true, 4),
         (0, Key::Number(3), true, 4),
         (2, Key::Text(text), true, 4),
-    ];
-    for (i, row) in rows.iter().enumerate() {
-        let (file, key, had, count) = *row;
-        assert!(rt; note(&mut keys, key_of(file, key, i as u64, had)), "{i}");
-        assert!(rt; keys.len() == count, "{i}");
-    }
-    // Where the earliest entry of each is, whether the key had a record before it, and whether it had none before one of its changes.
-    for (i, want) in [
-        (0, true, true),
-        (1, false, true),
-        (2, false, true),
-        (4, true, false),
     ]
-    .iter()
-    .enumerate()
-    {
+}
+
+// Where the earliest entry of each is, whether the key had a record before it, and whether it had none before one of its changes.
+const KEYS: [(u64, bool, bool); 4] = [
+    (0, true, true),
+    (1, false, true),
+    (2, false, true),
+    (4, true, false),
+];
+
+// Whether the keys are those.
+fn are_noted(rt: &impl Abort, keys: &ChangedKeys) {
+    for (i, want) in KEYS.iter().enumerate() {
         if i < keys.len() {
             let key = keys.at(i);
             assert!(rt; (key.first, key.had, key.absent) == *want, "{i}");
@@ -359,6 +383,18 @@ fn each_key_is_noted_once(rt: HostRuntime) -> Result<(), Fail> {
     assert!(rt; keys.lowest_absent(2).is_none());
     assert!(rt; keys.next_number(0, 4) == Some((0, 5)));
     assert!(rt; keys.next_number(0, 6).is_none());
+}
+
+#[test]
+fn each_key_is_noted_once(rt: HostRuntime) -> Result<(), Fail> {
+    let mut keys = ChangedKeys::reserve(rt.alloc())?;
+    let text = KeyText::new(b"ab").ok_or("a key")?;
+    for (i, row) in noted(text).iter().enumerate() {
+        let (file, key, had, count) = *row;
+        assert!(rt; note(&mut keys, key_of(file, key, i as u64, had)), "{i}");
+        assert!(rt; keys.len() == count, "{i}");
+    }
+    are_noted(&rt, &keys);
     for n in 4..1_024 {
         assert!(rt; note(&mut keys, key_of(3, Key::Number(n), 9, true)), "{n}");
     }

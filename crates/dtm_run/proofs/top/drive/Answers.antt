@@ -4,7 +4,8 @@ use Rattle.run_nodes.specs.Held.{kept_all, names_of}
 use Rattle.run_nodes.specs.Names.{AreApart}
 use Rattle.run_nodes.specs.Together.{disks_of, said_together}
 use Rattle.run_nodes.proofs.Entries.{more_nodes, same_names}
-use Rattle.dtm_run.proofs.Driving.{going_bad, going_blank, going_cut, going_done, going_first, going_read_fault, going_served, going_too_long, going_too_many, read_bad, read_blank, read_says, runs_as, stands_leaves, timely}
+use Rattle.day_run.proofs.Reading.{read_bad, read_blank, read_says, timely}
+use Rattle.dtm_run.proofs.Driving.{going_bad, going_blank, going_cut, going_done, going_first, going_read_fault, going_served, going_too_long, going_too_many, runs_as, stands_leaves}
 use Rattle.dtm_run.proofs.Leading.{all_stay, go_on, tells_go, way_next}
 use Rattle.dtm_run.proofs.Telling.{answers_in, telling_blank, telling_first, telling_served, tells_as, tells_bad, tells_cut, tells_done, tells_read_fault, tells_too_long, tells_too_many}
 use Rattle.dtm_run.proofs.top.drive.Goals as goal
@@ -163,7 +164,7 @@ serve_statement-requires-clause-nodes g c = (c.loop-number.number, omega (arith,
 pub serve_statement-requires-clause-timely : goal.serve_statement-requires-clause-timely
 serve_statement-requires-clause-timely g c =
     let some = c.in-Ok-Some in
-    timely c.line.result.now (statement_of c.read_statement.new.lit some.statement) (read_says c.read_statement.new.lit some.field-0 some.statement c.line.result.now c.line.result.now some.field-0-is refl some.ensures)
+    timely c.clocks_are_early.ensures c.line.result.now (statement_of c.read_statement.new.lit some.statement) (read_says c.read_statement.new.lit some.field-0 some.statement c.line.result.now c.line.result.now some.field-0-is refl some.ensures)
 
 pub loop-number-init : goal.loop-number-init
 loop-number-init g c =

@@ -1,4 +1,4 @@
-use Rattle.run_laws.proofs.Missing.{missing_hold}
+use Rattle.run_laws.proofs.Missing.{missing_hold, waits_hold}
 use Rattle.run_laws.proofs.EndedHold.{ended_hold}
 use Rattle.run_laws.proofs.Ending.{aborts_hold, ends_hold, fails_hold}
 use Rattle.run_laws.proofs.endings.requests_end.Goals as goal
@@ -17,3 +17,6 @@ returns-clause-ended c = ended_hold
 
 pub returns-clause-missing : goal.returns-clause-missing
 returns-clause-missing c = missing_hold
+
+pub returns-clause-waits : goal.returns-clause-waits
+returns-clause-waits c = waits_hold

@@ -1,6 +1,6 @@
 use Rattle.std.proofs.Common.{◌≡◌, length, take}
 use Rattle.dtm_run.specs.Racks.{names_in}
-use Rattle.dtm_run.proofs.top.is_command.Given as goal
+use Rattle.dtm_run.proofs.command.command_of.Given as goal
 
 abbrev pub invariant-loop-place : goal.invariant-loop-place
 invariant-loop-place g l = record {

@@ -1,8 +1,8 @@
 use Rattle.std.proofs.Common.{◌+◌, ◌<◌, ◌∷◌, ◌++◌, [], length, take, sym, ◌∙◌, ap, arith}
 use Rattle.dtm_run.specs.Racks.{names_in}
 use Rattle.dtm_run.proofs.Taking.{length_set, take_next, take_set, there_some}
-use Rattle.dtm_run.proofs.top.is_command.Goals as goal
-use Rattle.dtm_run.proofs.top.is_command.Goals.{in-Some, in_default}
+use Rattle.dtm_run.proofs.command.command_of.Goals as goal
+use Rattle.dtm_run.proofs.command.command_of.Goals.{in-Some, in_default}
 
 pub loop-place-preserved : goal.loop-place-preserved
 loop-place-preserved g c =

@@ -8,8 +8,8 @@ use Rattle.run_model.specs.World.{World, Shared, Node, Label, find_node, with_no
 use Rattle.run_model.specs.Answers.{Row}
 use Rattle.run_model.specs.Steps.{node_after, shared_then, node_after_rows, shared_after_rows, lines_of_rows}
 use Rattle.run_model.proofs.NodeLists.{put_same}
-use Rattle.run_laws.specs.Said.{Said, SaidNode, SaidShared, SaidLabel, with_said, with_up, with_unmade, with_label, line_said, lines_said}
-use Rattle.run_laws.proofs.Passing.{AllPass}
+use Rattle.run_said.specs.Said.{Said, SaidNode, SaidShared, SaidLabel, with_said, with_up, with_unmade, with_label, line_said, lines_said}
+use Rattle.run_said.proofs.Passing.{AllPass}
 
 -- what is told of a world
 abbrev pub node_told : Node → SaidNode

@@ -1,0 +1,13 @@
+-- What entries tell of the disks, whether or not these tell their content.
+use Rattle.std.specs.Prelude.{◌≡◌, ℕ, List, [], ◌∷◌}
+use Rattle.block_disk.specs.Disk.{DiskState}
+use Rattle.script_model.specs.Grammar.{reading}
+use Rattle.run_said.specs.Said.{said_of}
+use Rattle.run_model.specs.Transcript.{Entry}
+use Rattle.run_nodes.specs.Calls.{LineFollows, LineTellsAll}
+
+-- These entries, the newest first, lead from the disks before to those after, and each follows what those before it said.
+abbrev pub EntriesTell : List (List ℕ) → List DiskState → List Entry → List DiskState → Type 0
+EntriesTell names before [] after = after ≡ before
+EntriesTell names before (e ∷ es) after = (mid : List DiskState) × EntriesTell names before es mid
+    × LineTellsAll names (said_of names es) (reading e.source.text) e.lines mid after × LineFollows (said_of names es) (reading e.source.text) e.lines

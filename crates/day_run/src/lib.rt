@@ -1,0 +1,6 @@
+//! A day of transactions, served line by line by the engine of a run.
+#![tactic(auto)]
+
+mod serving;
+
+pub use serving::serve_day;

@@ -1,0 +1,10 @@
+pub mod Taking
+pub mod TasksTake
+pub mod Worlds
+pub mod Declared
+pub mod Unreplied
+pub mod Replied
+pub mod Ordering
+pub mod Telling
+pub mod Backing
+pub mod Told

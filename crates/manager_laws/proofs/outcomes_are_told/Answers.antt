@@ -1,0 +1,8 @@
+use Rattle.manager_laws.proofs.Told.{aborts_told, commits_told}
+use Rattle.manager_laws.proofs.outcomes_are_told.Goals as goal
+
+pub returns-clause-commits : goal.returns-clause-commits
+returns-clause-commits c = commits_told
+
+pub returns-clause-aborts : goal.returns-clause-aborts
+returns-clause-aborts c = aborts_told

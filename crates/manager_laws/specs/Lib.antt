@@ -1,0 +1,4 @@
+pub mod Joined
+pub mod Replying
+pub mod Telling
+pub mod Promises

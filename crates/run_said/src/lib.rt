@@ -1,0 +1,2 @@
+//! What the lines of a run say by themselves.
+#![tactic(auto)]
