@@ -3,5 +3,5 @@ pub mod Changes
 pub mod Extents
 pub mod Frames
 pub mod Loading
-pub mod NoChain
+pub mod NoLayout
 pub mod NumberKeys

@@ -1,5 +1,5 @@
 -- Where a file lies, and what its calls leave of the store.
-use Rattle.std.specs.Prelude.{◌≡◌, ◌≤◌, ◌⊎◌, ℕ, ◌+◌, ◌-◌, ◌*◌, ◌&&◌, Bool, true, List, [], Option, None, MatchOption, IsSomeAnd, IfSome, length, nat_lt, nat_le, option_map, Result, count_by, is_none}
+use Rattle.std.specs.Prelude.{◌≡◌, ◌≤◌, ◌⊎◌, ℕ, ◌+◌, ◌-◌, ◌*◌, ◌/◌, ◌&&◌, Bool, true, List, [], Option, None, MatchOption, IsSomeAnd, IfSome, length, nat_lt, nat_le, option_map, Result, count_by, is_none}
 use Rattle.block_disk.specs.Blocks.{block_at, has_number}
 use Rattle.block_disk.specs.Disk.{DiskState}
 use Rattle.careful_write.specs.Content.{home}
@@ -10,6 +10,7 @@ use Rattle.careful_write.specs.State.{StoreState, Leaves}
 use Rattle.careful_write.specs.Steps.{AgreesOff}
 use Rattle.change_set.specs.declared.walk.Place.{Place}
 use Rattle.file_base.specs.declared.head.FileHead.{FileHead}
+use Rattle.tree_model.specs.Layouts.{Sizes}
 
 -- the block of the content of this number lies in the file's extent
 abbrev pub in_extent : FileHead → ℕ → Bool
@@ -64,3 +65,7 @@ LeavesOut p old disk = Leaves (λ c. IfSome old (λ before. AgreesOff p before c
 -- the front of a file, before which nothing was passed
 abbrev pub first_place : Place
 first_place = record { bucket = 0; passed = 0 }
+
+-- the bytes of a bucket for slots, and how many entries an index bucket of an indexed file holds
+abbrev pub sizes_of : FileHead → Sizes
+sizes_of h = record { capacity = 512 * h.bucket - 16; fan_out = (512 * h.bucket - 16) / (h.key_size + 4) }

@@ -6,11 +6,11 @@ ghost use Rattle.careful_write.specs.Down.{Counts};
 ghost use Rattle.careful_write.specs.Reads.{SameButReads};
 ghost use Rattle.file_base.specs.declared.head.FileHead.{FileHead};
 ghost use Rattle.vms_model.specs.Keys as model;
-ghost use Rattle.records_model.specs.Slots.{Slot};
-ghost use Rattle.records_model.specs.Chain.{chain_back, chain_set};
+ghost use Rattle.tree_model.specs.Layouts.{Layout};
+ghost use Rattle.tree_model.specs.Setting.{layout_back, layout_set};
 ghost use Rattle.vms_base.specs.Keys.{key_of};
 ghost use Rattle.change_set.specs.Maps.{Map, set_key, empty_map, IsNext, EndsAfter};
-ghost use Rattle.change_set.specs.Files.{IsPlaced, AgreesOn, free_frames, fell, StagesIn, SameFile, in_extent, AgreesOut, LeavesOut, unstaged, first_place};
+ghost use Rattle.change_set.specs.Files.{IsPlaced, AgreesOn, free_frames, fell, StagesIn, SameFile, in_extent, AgreesOut, LeavesOut, unstaged, first_place, sizes_of};
 ghost use Rattle.change_set.specs.declared.walk.Place as declared;
 
 use crate::walk::Place;
@@ -70,11 +70,11 @@ pub trait RecordFile {
     /// The used buckets once the key is set to the value, while these keys are held.
     ghost used_after: { FileHead → List (List ℕ) → (model.Key → Bool) → model.Key → Option (List ℕ) → ℕ };
 
-    /// The used buckets of an indexed file in the order of their chain, each as its slots; none in another file.
-    ghost chain: { FileHead → List (List ℕ) → List (List Slot) };
+    /// The layout of the buckets of an indexed file: its leaves, and the index over them; none in another file.
+    ghost layout: { FileHead → List (List ℕ) → Layout };
 
-    /// Those of a new file.
-    ghost first_chain: { FileHead → List (List Slot) };
+    /// That of a new file.
+    ghost first_layout: { FileHead → Layout };
 
     /// The key may be set back to the value in place.
     ghost restores: { FileHead → List (List ℕ) → model.Key → Option (List ℕ) → Type 0 };
@@ -181,8 +181,8 @@ pub trait RecordFile {
         ensures valid { OnOk result (IfSome store.old.current (λ before. valid head.old before → takes head.old before (key_of key.now) (option_copied value.entry) → IfSome store.new.current (valid head.new))) }
         ensures used { OnOk result (IfSome store.old.current (λ before. valid head.old before → takes head.old before (key_of key.now) (option_copied value.entry) → head.new.used ≡ used_after head.old before (H.held held.now) (key_of key.now) (option_copied value.entry))) }
         ensures rooms { OnOk result (IfSome store.old.current (λ before. valid head.old before → takes head.old before (key_of key.now) (option_copied value.entry) → IfSome store.new.current (λ after. (other : model.Key) → H.held held.now other ≡ true → room head.old before other ≤ room head.new after other))) }
-        ensures chain { OnOk result (IfSome store.old.current (λ before. valid head.old before → takes head.old before (key_of key.now) (option_copied value.entry) →
-            option_map (chain head.new) store.new.current ≡ Some (chain_set (512 * head.old.bucket - 16) (H.held held.now) (key_of key.now) (option_copied value.entry) (chain head.old before)))) }
+        ensures layout { OnOk result (IfSome store.old.current (λ before. valid head.old before → takes head.old before (key_of key.now) (option_copied value.entry) →
+            option_map (layout head.new) store.new.current ≡ Some (layout_set (sizes_of head.old) (H.held held.now) (key_of key.now) (option_copied value.entry) (layout head.old before)))) }
         ensures back { OnOk result (IfSome store.old.current (λ before. valid head.old before → takes head.old before (key_of key.now) (option_copied value.entry) → IfSome store.new.current (λ after. restores head.new after (key_of key.now) (map head.old before (key_of key.now))))) }
         ensures file { OnOk result (SameFile head.old head.new) }
         ensures form { OnOk result (form head.new) }
@@ -212,8 +212,8 @@ pub trait RecordFile {
         ensures valid { OnOk result (IfSome store.old.current (λ before. valid head.old before → takes head.old before (key_of key.now) (option_copied value.entry) → IfSome store.new.current (valid head.new))) }
         ensures used { OnOk result (IfSome store.old.current (λ before. valid head.old before → takes head.old before (key_of key.now) (option_copied value.entry) → head.new.used ≡ used_after head.old before (H.held held.now) (key_of key.now) (option_copied value.entry))) }
         ensures rooms { OnOk result (IfSome store.old.current (λ before. valid head.old before → takes head.old before (key_of key.now) (option_copied value.entry) → IfSome store.new.current (λ after. (other : model.Key) → H.held held.now other ≡ true → room head.old before other ≤ room head.new after other))) }
-        ensures chain { OnOk result (IfSome store.old.current (λ before. valid head.old before → takes head.old before (key_of key.now) (option_copied value.entry) →
-            option_map (chain head.new) store.new.current ≡ Some (chain_set (512 * head.old.bucket - 16) (H.held held.now) (key_of key.now) (option_copied value.entry) (chain head.old before)))) }
+        ensures layout { OnOk result (IfSome store.old.current (λ before. valid head.old before → takes head.old before (key_of key.now) (option_copied value.entry) →
+            option_map (layout head.new) store.new.current ≡ Some (layout_set (sizes_of head.old) (H.held held.now) (key_of key.now) (option_copied value.entry) (layout head.old before)))) }
         ensures back { OnOk result (IfSome store.old.current (λ before. valid head.old before → takes head.old before (key_of key.now) (option_copied value.entry) → IfSome store.new.current (λ after. restores head.new after (key_of key.now) (map head.old before (key_of key.now))))) }
         ensures file { OnOk result (SameFile head.old head.new) }
         ensures form { OnOk result (form head.new) }
@@ -237,8 +237,8 @@ pub trait RecordFile {
         ensures map { OnOk result (IfSome store.old.current (λ before. valid head.old before → restores head.old before (key_of key.now) (option_copied value.entry) → option_map (map head.new) store.new.current ≡ Some (set_key (key_of key.now) (option_copied value.entry) (map head.old before)))) }
         ensures valid { OnOk result (IfSome store.old.current (λ before. valid head.old before → restores head.old before (key_of key.now) (option_copied value.entry) → IfSome store.new.current (valid head.new))) }
         ensures rooms { OnOk result (IfSome store.old.current (λ before. valid head.old before → restores head.old before (key_of key.now) (option_copied value.entry) → IfSome store.new.current (λ after. (other : model.Key) → room head.old before other ≤ room head.new after other))) }
-        ensures chain { OnOk result (IfSome store.old.current (λ before. valid head.old before → restores head.old before (key_of key.now) (option_copied value.entry) →
-            option_map (chain head.new) store.new.current ≡ Some (chain_back (key_of key.now) (option_copied value.entry) (chain head.old before)))) }
+        ensures layout { OnOk result (IfSome store.old.current (λ before. valid head.old before → restores head.old before (key_of key.now) (option_copied value.entry) →
+            option_map (layout head.new) store.new.current ≡ Some (layout_back (key_of key.now) (option_copied value.entry) (layout head.old before)))) }
         ensures file { OnOk result (SameFile head.old head.new) }
         ensures form { OnOk result (form head.new) }
         ensures staged { OnOk result (StagesIn head.old head.old.bucket store.old store.new) }
@@ -264,7 +264,7 @@ pub trait RecordFile {
         requires frames { 32 ≤ free_frames store.old.pool }
         ensures map { OnOk result (IfSome store.new.current (λ blocks. map head.now blocks ≡ empty_map)) }
         ensures valid { OnOk result (IfSome store.new.current (valid head.now)) }
-        ensures chain { OnOk result (IfSome store.new.current (λ blocks. chain head.now blocks ≡ first_chain head.now)) }
+        ensures layout { OnOk result (IfSome store.new.current (λ blocks. layout head.now blocks ≡ first_layout head.now)) }
         ensures idle { OnOk result (IsIdle store.new) }
         ensures outside { OnOk result (AgreesOut (in_extent head.now) store.old.current store.new.current) }
         ensures down { OnErr result (LeavesOut (in_extent head.now) store.old.current store.new.disk) }
@@ -272,17 +272,17 @@ pub trait RecordFile {
         ensures counts { Counts result store.old.disk store.new.disk }
         ensures pool { store.new.pool ≡ store.old.pool };
 
-    /// The map rests on the blocks of the extent alone.
-    ghost local: { (head : FileHead) (a b : List (List ℕ)) → form head → AgreesOn head a b → map head a ≡ map head b };
+    /// Where the blocks are laid out, the map rests on the blocks of the extent alone.
+    ghost local: { (head : FileHead) (a b : List (List ℕ)) → form head → AgreesOn head a b → valid head a → map head a ≡ map head b };
 
-    /// So does the layout.
+    /// So does that they are laid out.
     ghost valid_local: { (head : FileHead) (a b : List (List ℕ)) → form head → AgreesOn head a b → valid head a → valid head b };
 
     /// So do the rooms.
-    ghost room_local: { (head : FileHead) (a b : List (List ℕ)) → form head → AgreesOn head a b → (key : model.Key) → room head a key ≡ room head b key };
+    ghost room_local: { (head : FileHead) (a b : List (List ℕ)) → form head → AgreesOn head a b → valid head a → (key : model.Key) → room head a key ≡ room head b key };
 
-    /// So does the chain.
-    ghost chain_local: { (head : FileHead) (a b : List (List ℕ)) → form head → AgreesOn head a b → chain head a ≡ chain head b };
+    /// So does the layout.
+    ghost layout_local: { (head : FileHead) (a b : List (List ℕ)) → form head → AgreesOn head a b → valid head a → layout head a ≡ layout head b };
 
     /// Any walk may begin at the front.
     ghost begins_first: { (head : FileHead) (blocks : List (List ℕ)) (after : Option model.Key) → form head → begins head blocks after first_place };

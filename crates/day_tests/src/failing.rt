@@ -83,7 +83,7 @@ fn a_day_ends_where_a_call_of_a_fails(rt: HostRuntime) -> Result<(), Fail> {
 }
 
 // The same of B.
-const CALLS_OF_B: [(u32, u32); 3] = [(819, 48), (1_106, 61), (1_209, 69)];
+const CALLS_OF_B: [(u32, u32); 3] = [(819, 48), (1_090, 61), (1_181, 69)];
 
 #[test]
 fn a_day_ends_where_a_call_of_b_fails(rt: HostRuntime) -> Result<(), Fail> {
@@ -103,7 +103,7 @@ fn a_day_ends_where_a_call_of_b_fails(rt: HostRuntime) -> Result<(), Fail> {
 #[test]
 fn a_day_of_which_no_call_fails_shows_its_summary(rt: HostRuntime) -> Result<(), Fail> {
     let alloc = rt.alloc();
-    let rack = pair(alloc, failing(alloc, 1_372)?, failing(alloc, 1_210)?)?;
+    let rack = pair(alloc, failing(alloc, 1_372)?, failing(alloc, 1_182)?)?;
     let text = shown_over(alloc, rack)?;
     assert_eq!(rt; text.as_slice(), SUMMARY);
     Ok(())

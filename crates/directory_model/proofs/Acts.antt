@@ -1,28 +1,32 @@
 -- Heads and files over each act of the world.
-use Rattle.std.proofs.Common.{◌≡◌, ℕ, zero, suc, ◌-◌, ◌*◌, List, [], ◌∷◌, Bool, Option, Some, None, map, replicate, slice_set, slice_index_or, refl, sym, ap, subst, ◌∙◌, arith}
+use Rattle.std.proofs.Common.{◌≡◌, ℕ, zero, suc, ◌-◌, ◌+◌, ◌*◌, ◌/◌, List, [], ◌∷◌, Bool, Option, Some, None, map, replicate, slice_set, slice_index_or, refl, sym, ap, subst, ◌∙◌, arith}
 use Rattle.std.specs.Option.{option_map}
 use Rattle.std.specs.FinMap.{get}
 use Rattle.std.proofs.lemmas.List.{length-map}
 use Rattle.file_base.specs.declared.head.FileHead.{FileHead}
+use Rattle.file_base.specs.declared.head.Organization.{Organization as Kept}
+use Rattle.file_base.specs.declared.head.Organization.TheVariants.{Sequential, Relative, Indexed}
+use Rattle.change_set.specs.Files.{sizes_of as head_sizes}
 use Rattle.change_set.specs.Maps.{Map, applied, map_of_records}
 use Rattle.change_set.specs.Maps as maps
 use Rattle.change_set.proofs.Changes.{agree}
-use Rattle.record_files.specs.Any.{map_of}
+use Rattle.record_files.specs.Any.{map_of, layout_by}
 use Rattle.vms_model.specs.Ids.{Id}
-use Rattle.vms_model.specs.Keys.{Key}
+use Rattle.vms_model.specs.Keys.{Key, Number, Text, End}
 use Rattle.vms_model.specs.Transactions.{Outcome, Commit, Abort}
 use Rattle.records_model.specs.Records.{Records, Change, Found}
 use Rattle.records_model.specs.Records as base
-use Rattle.records_model.specs.Layout.{layout_changed}
+use Rattle.tree_model.specs.Layouts.{Sizes, no_layout}
+use Rattle.tree_model.specs.Setting.{layout_set, layout_changed}
 use Rattle.records_model.specs.History.{current, changed_with, changes_by, settled_at}
 use Rattle.unit_laws.specs.Units.{map_in, with_before_images, IsOrderly}
 use Rattle.unit_laws.specs.Layouts.{layout_restored}
 use Rattle.unit_laws.proofs.HistoryLaws.{aborts_one, changes_more, commits_one}
 use Rattle.run_model.specs.Locks.{is_locked}
-use Rattle.run_model.specs.World.{Durable, Node, File, Settlement, AreUnitsOf, Formats, Marks, Tables, Changes, Directs, acted, capacity, changed_file, directly_changed, settled_layout, settled_file, settlement_of, with_prepared, with_settlement}
+use Rattle.run_model.specs.World.{Durable, Node, File, Settlement, AreUnitsOf, Formats, Marks, Tables, Changes, Directs, acted, key_size_of, sizes_of, changed_file, directly_changed, settled_layout, settled_file, settlement_of, with_prepared, with_settlement}
 use Rattle.commit_protocol.specs.Table as table
 use Rattle.log_laws.specs.Slots.{slots_after}
-use Rattle.directory_model.specs.Files.{IsFile, IsPlace, AreFiles, IsNamed, head_at, file_at, layout_of}
+use Rattle.directory_model.specs.Files.{IsFile, IsPlace, AreFiles, IsNamed, head_at, file_at, layout_of, organized_by}
 use Rattle.directory_model.specs.Restoring.{IsRestored, IsPlaceRestored, AreRestored}
 use Rattle.directory_model.specs.Laws.{KeepsFiles, AreFree, IsChanged, SameBut, marked}
 use Rattle.directory_model.proofs.Places.{file_mapped, places_set, within_list}
@@ -75,10 +79,31 @@ pub found_in : (m : Records) (keys : Map) (cs : List Change) → ((k : Key) → 
 found_in m keys [] same found = tt
 found_in m keys (c ∷ cs) same found = (found.0 ∙ sym (applied_on m keys cs c.key same), found_in m keys cs same found.1)
 
-layout_after : (held : Key → Bool) (file : File) (cs : List Change) (a b : List (List ℕ)) (h new : FileHead) → IsFile a h file → layout_of new b ≡ layout_changed (512 * h.bucket - 16) held cs (layout_of h a) →
-    layout_changed (capacity file) held cs file.layout ≡ layout_of new b
-layout_after held file cs a b h new is layout =
-    ap (λ x. layout_changed (512 * x - 16) held cs file.layout) is.head.bucket ∙ ap (layout_changed (512 * h.bucket - 16) held cs) is.layout ∙ sym layout
+-- a file that is not indexed has no layout after changes
+pub none_changed : (sizes : Sizes) (held : Key → Bool) (cs : List Change) → layout_changed sizes held cs no_layout ≡ no_layout
+none_changed sizes held [] = refl
+none_changed sizes held (c ∷ cs) = ap (layout_set sizes held c.key c.after) (none_changed sizes held cs) ∙ none_set c.key
+  where
+    none_set : (k : Key) → layout_set sizes held k c.after no_layout ≡ no_layout
+    none_set (Text t) = refl
+    none_set (Number n) = refl
+    none_set End = refl
+
+-- the sizes of an indexed file of the world are those of its head
+sizes_are : (a : List (List ℕ)) (h : FileHead) (file : File) → IsFile a h file → h.organization ≡ Indexed → sizes_of file ≡ head_sizes h
+sizes_are a h file is kind =
+    ap (λ b. record { capacity = 512 * b - 16; fan_out = (512 * b - 16) / (key_size_of file.organization + 4) }) is.head.bucket
+    ∙ ap (λ o. record { capacity = 512 * h.bucket - 16; fan_out = (512 * h.bucket - 16) / (key_size_of o + 4) }) (is.head.organization ∙ ap (λ o. organized_by o h) kind)
+
+-- the layout of a file of the world after changes is that of its head
+pub layout_after : (held : Key → Bool) (file : File) (cs : List Change) (a b : List (List ℕ)) (h new : FileHead) → IsFile a h file → layout_of new b ≡ layout_changed (head_sizes h) held cs (layout_of h a) →
+    layout_changed (sizes_of file) held cs file.layout ≡ layout_of new b
+layout_after held file cs a b h new is layout = ap (layout_changed (sizes_of file) held cs) is.layout ∙ go h.organization refl ∙ sym layout
+  where
+    go : (o : Kept) → h.organization ≡ o → layout_changed (sizes_of file) held cs (layout_by o h a) ≡ layout_changed (head_sizes h) held cs (layout_by o h a)
+    go Sequential kind = none_changed (sizes_of file) held cs ∙ sym (none_changed (head_sizes h) held cs)
+    go Relative kind = none_changed (sizes_of file) held cs ∙ sym (none_changed (head_sizes h) held cs)
+    go Indexed kind = ap (λ (sizes : Sizes). layout_changed sizes held cs (layout_by Indexed h a)) (sizes_are a h file is kind)
 
 changes : (a b : List (List ℕ)) (heads : List (Option FileHead)) (n : Node) (f : ℕ) (h new : FileHead) (name : List ℕ) (file : File) (tid serial : Id) (cs : List Change) (keys : List Key) → AreFiles a heads n.durable.directory → AreUnitsOf n →
     IsNamed heads f h name → file_at n.durable.directory f ≡ Some file → AreFree serial file cs → maps.Found cs (map_of h a) → IsChanged (is_locked n.volatile.locks name) cs a h b new → SameBut f heads a b →
@@ -92,7 +117,7 @@ changes a b heads n f h new name file tid serial cs keys are units named there f
     let made = changes_more file.history serial cs (units.tells f file there).notes.orderly free (found_in (current file.history) (map_of h a) cs mine.records found) in
     subst (AreFiles b (slice_set heads f (Some new))) (sym (at.2.changed (changed_file held serial cs) ∙ ap (λ (x : File). slice_set directory f (Some (changed_file held serial cs x))) one))
     (places_moved a b heads directory f h new (changed_file held serial cs file) are named.there
-    (file_moved a b h new file (changed_with serial cs file.history) (layout_changed (capacity file) held cs file.layout) is.same is.form is.laid mine
+    (file_moved a b h new file (changed_with serial cs file.history) (layout_changed (sizes_of file) held cs file.layout) is.same is.form is.laid mine
     (λ key. made.current key ∙ applied_on (current file.history) (map_of h a) cs key mine.records ∙ ap (λ (m : Map). m key) (sym is.map))
     (layout_after held file cs a b h new mine is.layout)) same)
 
@@ -110,7 +135,7 @@ directs a b heads n f h new name file cs s are commit named there none is same =
     ap (λ (o : Outcome). current (settled_at s.serial o s.moment (changed_with s.serial cs file.history))) commit ∙ current_directly s.serial s.moment cs file.history none in
     subst (AreFiles b (slice_set heads f (Some new))) (sym (at.2.changed (directly_changed held s cs) ∙ ap (λ (x : File). slice_set directory f (Some (directly_changed held s cs x))) one))
     (places_moved a b heads directory f h new (directly_changed held s cs file) are named.there
-    (file_moved a b h new file (settled_at s.serial s.outcome s.moment (changed_with s.serial cs file.history)) (layout_changed (capacity file) held cs file.layout) is.same is.form is.laid mine
+    (file_moved a b h new file (settled_at s.serial s.outcome s.moment (changed_with s.serial cs file.history)) (layout_changed (sizes_of file) held cs file.layout) is.same is.form is.laid mine
     (λ key. ap (λ (m : Records). get m key) after ∙ applied_on (current file.history) (map_of h a) cs key mine.records ∙ ap (λ (m : Map). m key) (sym is.map))
     (layout_after held file cs a b h new mine is.layout)) same)
 

@@ -6,14 +6,15 @@ use Rattle.file_base.specs.declared.head.FileHead.{FileHead}
 use Rattle.change_set.specs.Maps.{Map, empty_map}
 use Rattle.relative_file.specs.Cells.{IsRelative, cells_in}
 use Rattle.seq_file.specs.Layout.{IsSequential, IsFresh}
-use Rattle.indexed_file.specs.Chain.{IsIndexed}
+use Rattle.indexed_tree.specs.Files.{IsTreeHead, IsNewHead as IsNewTree}
 use Rattle.record_files.specs.Any as any
-use Rattle.record_files.specs.Any.{map_of, chain_of, first_chain_of, first_by, FormBy, FreshBy, IsLaidOut, IsNew}
+use Rattle.record_files.specs.Any.{map_of, layout_of, first_layout_of, first_by, FormBy, FreshBy, IsLaidOut, IsNew}
 use Rattle.script_model.specs.Statements.{Form}
 use Rattle.script_model.specs.Statements as form
 use Rattle.records_model.specs.Records.{key_cmp}
+use Rattle.tree_model.specs.Layouts.{first_layout as one_leaf}
 use Rattle.run_model.specs.Answers.{created, first_layout, organized}
-use Rattle.directory_model.specs.Files.{IsFile, IsNewHead, laid_in, organized_by}
+use Rattle.directory_model.specs.Files.{IsFile, IsNewHead, organized_by}
 use Rattle.directory_model.specs.Laws.{MakesFiles}
 
 -- a bucket has a cell
@@ -49,24 +50,32 @@ relative records h new = record {
     one : 1 ≤ cells_in h
     one = let room = new.room in one_cell (512 * h.bucket - 16) (h.mrs + 2) (omega arith) (omega arith)
 
-indexed : (buckets position size : ℕ) (h : FileHead) → IsNewHead (form.Indexed buckets position size) h → IsIndexed h
-indexed buckets position size h new = record {
-  organization = new.organized.0;
-  levels = new.organized.4;
-  root = new.root;
-  some = let used = new.organized.3 in omega arith;
-  within = let used = new.organized.3 in let some = new.some in omega arith;
-  key = subst (λ x. 1 ≤ x) (sym new.organized.2) new.organized.5;
-  short = subst (λ x. x ≤ 64) (sym new.organized.2) new.organized.6;
-  holds = let at = new.organized.1 in let long = new.organized.2 in let fits = new.organized.7 in omega arith;
-  count = new.count;
-}
+indexed : (buckets position size : ℕ) (h : FileHead) → IsNewHead (form.Indexed buckets position size) h → IsTreeHead h × IsNewTree h
+indexed buckets position size h new = (
+  record {
+    organization = new.organized.0;
+    root = record {
+      some = let levels = new.organized.4 in omega arith;
+      most = let levels = new.organized.4 in omega arith;
+      root = let used = new.organized.3 in let root = new.root in omega arith;
+      within = let used = new.organized.3 in let some = new.some in omega arith;
+      short = subst (λ x. x ≤ 64) (sym new.organized.2) new.organized.6;
+    };
+    keys = record {
+      key = subst (λ x. 1 ≤ x) (sym new.organized.2) new.organized.5;
+      short = subst (λ x. x ≤ 64) (sym new.organized.2) new.organized.6;
+      holds = let at = new.organized.1 in let long = new.organized.2 in let fits = new.organized.7 in omega arith;
+    };
+    count = new.count;
+  },
+  record { used = new.organized.3; root = new.root; levels = new.organized.4 },
+)
 
 new_form : (f : Form) (h : FileHead) → IsNewHead f h → any.IsFile h × IsNew h
 new_form (form.Sequential buckets) h new = let both = sequential buckets h new in (subst (λ o. FormBy o h) (sym new.organized.0) both.0, subst (λ o. FreshBy o h) (sym new.organized.0) both.1)
 new_form (form.Relative records) h new = (subst (λ o. FormBy o h) (sym new.organized.0) (relative records h new), subst (λ o. FreshBy o h) (sym new.organized.0) tt)
 new_form (form.Indexed buckets position size) h new =
-    (subst (λ o. FormBy o h) (sym new.organized.0) (indexed buckets position size h new), subst (λ o. FreshBy o h) (sym new.organized.0) new.organized.3)
+    let both = indexed buckets position size h new in (subst (λ o. FormBy o h) (sym new.organized.0) both.0, subst (λ o. FreshBy o h) (sym new.organized.0) both.1)
 
 -- The file.
 
@@ -76,13 +85,13 @@ new_organization (form.Relative records) h new = ap (λ n. organized (form.Relat
 new_organization (form.Indexed buckets position size) h new =
     ap (λ p. organized (form.Indexed buckets p size)) (sym new.organized.1) ∙ ap (λ s. organized (form.Indexed buckets h.key_pos s)) (sym new.organized.2) ∙ ap (λ o. organized_by o h) (sym new.organized.0)
 
-new_layout : (f : Form) (h : FileHead) → IsNewHead f h → first_layout f ≡ laid_in (first_chain_of h)
-new_layout (form.Sequential buckets) h new = ap (λ o. laid_in (first_by o h)) (sym new.organized.0)
-new_layout (form.Relative records) h new = ap (λ o. laid_in (first_by o h)) (sym new.organized.0)
-new_layout (form.Indexed buckets position size) h new = ap (λ o. laid_in (first_by o h)) (sym new.organized.0)
+new_layout : (f : Form) (h : FileHead) → IsNewHead f h → first_layout f ≡ first_layout_of h
+new_layout (form.Sequential buckets) h new = ap (λ o. first_by o h) (sym new.organized.0)
+new_layout (form.Relative records) h new = ap (λ o. first_by o h) (sym new.organized.0)
+new_layout (form.Indexed buckets position size) h new = ap one_leaf (sym new.organized.2) ∙ ap (λ o. first_by o h) (sym new.organized.0)
 
-new_file : (content : List (List ℕ)) (f : Form) (h : FileHead) (moment : ℕ) → IsNewHead f h → map_of h content ≡ empty_map → IsLaidOut h content → chain_of h content ≡ first_chain_of h → IsFile content h (created h.name h.bucket h.mrs f h.start moment)
-new_file content f h moment new none laid chain = record {
+new_file : (content : List (List ℕ)) (f : Form) (h : FileHead) (moment : ℕ) → IsNewHead f h → map_of h content ≡ empty_map → IsLaidOut h content → layout_of h content ≡ first_layout_of h → IsFile content h (created h.name h.bucket h.mrs f h.start moment)
+new_file content f h moment new none laid first = record {
   head = record {
     name = refl;
     bucket = refl;
@@ -96,7 +105,7 @@ new_file content f h moment new none laid chain = record {
   };
   laid = laid;
   records = λ key. get-empty key_cmp key ∙ ap (λ (m : Map). m key) (sym none);
-  layout = new_layout f h new ∙ ap laid_in (sym chain);
+  layout = new_layout f h new ∙ sym first;
 }
 
 -- Its blocks.

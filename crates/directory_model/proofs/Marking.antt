@@ -1,36 +1,51 @@
 -- A head that is marked for recovery units, or no more, is that of a file with the same buckets.
-use Rattle.std.proofs.Common.{◌≡◌, ℕ, zero, suc, List, [], ◌∷◌, ◌++◌, length, map, Bool, if◌then◌else◌, nat_lt, refl, sym, ap, subst, ◌∙◌}
+use Rattle.std.proofs.Common.{◌≡◌, ℕ, zero, suc, ◌+◌, List, [], ◌∷◌, ◌++◌, length, map, Bool, refl, sym, ap, subst, ◌∙◌}
 use Rattle.std.specs.Prelude.{◌&&◌}
 use Rattle.file_base.specs.declared.head.FileHead.{FileHead}
 use Rattle.file_base.specs.declared.head.Organization.{Organization as Kept}
 use Rattle.file_base.specs.declared.head.Organization.TheVariants.{Sequential, Relative, Indexed}
 use Rattle.bucket_page.specs.Pages.{slots_of, no_next}
-use Rattle.records_model.specs.Slots.{Slot, lookup, IsOrdered}
+use Rattle.records_model.specs.Slots.{Slot, lookup}
 use Rattle.vms_model.specs.Keys.{Key, Number, Text, End}
 use Rattle.relative_file.specs.Cells as relative
-use Rattle.indexed_file.specs.Chain as indexed
-use Rattle.indexed_file.specs.Chain.{kind_of, slots_in, next_in, chain_from, leaves_of, slots_along, all_slots_of, keeps_record, all_keep, AllDiffer, Leads, IsLeaf, IsChained}
-use Rattle.record_files.specs.Any.{map_by, chain_by, FormBy, LaidOutBy}
+use Rattle.tree_model.specs.Layouts.{Layout, slots_along}
+use Rattle.tree_model.specs.Trees.{IsTree}
+use Rattle.index_model.specs.Indexes.{Entry, entries_along, parent_entry, numbers_of, counts_of, AllDiffer}
+use Rattle.index_model.specs.Trees.{child_of, leaf_at}
+use Rattle.index_bucket.specs.Entries.{sizes_of, IsIndexBucket}
+use Rattle.index_blocks.specs.Buckets.{bucket_at}
+use Rattle.index_blocks.specs.Levels.{entries_in, below_at, levels_above, height, leaf_entries, levels_of, AllAre}
+use Rattle.indexed_file.specs.Chain.{kind_of, slots_in, keeps_record, all_keep, Leads, IsLeaf}
+use Rattle.indexed_tree.specs.Files as indexed
+use Rattle.indexed_tree.specs.Maps.{all_slots}
+use Rattle.indexed_tree.specs.Rooted.{leaf_numbers, layout_in, IsRooted}
+use Rattle.indexed_tree.proofs.StayLaws.{moved}
+use Rattle.record_files.specs.Any.{map_by, layout_by, FormBy, LaidOutBy}
 use Rattle.run_model.specs.World.{File}
-use Rattle.directory_model.specs.Files.{IsHeadOf, IsFile, laid_in, organized_by}
+use Rattle.directory_model.specs.Files.{IsHeadOf, IsFile, organized_by}
 use Rattle.directory_model.specs.Laws.{marked}
 
 module _ (units : Bool) (h : FileHead) (b : List (List ℕ)) where
   -- An indexed file.
 
-  chain_on : (fuel n : ℕ) → chain_from h b fuel n ≡ chain_from (marked units h) b fuel n
-  chain_on zero n = refl
-  chain_on (suc fuel) n = ap (λ ns. n ∷ (if nat_lt (next_in h b n) h.used then ns else [])) (chain_on fuel (next_in h b n))
+  below_on : (steps : ℕ) → below_at h b steps ≡ below_at (marked units h) b steps
+  below_on zero = refl
+  below_on (suc steps) = ap (λ (es : List Entry). entries_along (entries_in h b) (map child_of es)) (below_on steps)
 
-  leaves : leaves_of h b ≡ leaves_of (marked units h) b
-  leaves = chain_on h.used 0
+  above_on : (steps : ℕ) → levels_above h b steps ≡ levels_above (marked units h) b steps
+  above_on zero = refl
+  above_on (suc steps) = ap (λ (es : List Entry). map child_of es ∷ levels_above h b steps) (below_on steps) ∙ ap (λ ls. map child_of (below_at (marked units h) b steps) ∷ ls) (above_on steps)
 
-  along : (ns : List ℕ) → slots_along h b ns ≡ slots_along (marked units h) b ns
-  along [] = refl
-  along (n ∷ ns) = ap (λ ss. slots_in h b n ++ ss) (along ns)
+  leaves : leaf_entries h b ≡ leaf_entries (marked units h) b
+  leaves = below_on (height h)
 
-  all_slots : all_slots_of h b ≡ all_slots_of (marked units h) b
-  all_slots = along (leaves_of h b) ∙ ap (slots_along (marked units h) b) leaves
+  levels : levels_of h b ≡ levels_of (marked units h) b
+  levels = above_on (height h)
+
+  layout : layout_in h b ≡ layout_in (marked units h) b
+  layout =
+      ap (λ (es : List Entry). record { leaves = map (leaf_at (slots_in h b)) es; index = counts_of (entries_in h b) (levels_of h b) }) leaves
+      ∙ ap (λ ls. record { leaves = map (leaf_at (slots_in h b)) (leaf_entries (marked units h) b); index = counts_of (entries_in h b) ls }) levels
 
   leads : (ns : List ℕ) (end : ℕ) → Leads h b ns end → Leads (marked units h) b ns end
   leads [] end is = tt
@@ -43,18 +58,32 @@ module _ (units : Bool) (h : FileHead) (b : List (List ℕ)) where
   leaf : (bytes : List ℕ) → IsLeaf h bytes → IsLeaf (marked units h) bytes
   leaf bytes is = record { bucket = is.bucket; kept = sym (kept (slots_of (kind_of h) bytes)) ∙ is.kept; leads = is.leads }
 
-  chained : IsChained h b → IsChained (marked units h) b
-  chained is = record {
-    leaves = λ n below. leaf (indexed.bucket_at h b n) (is.leaves n below);
-    reached = ap length (sym leaves) ∙ is.reached;
-    once = subst AllDiffer leaves is.once;
-    leads = subst (λ ns. Leads (marked units h) b ns no_next) leaves (leads (leaves_of h b) no_next is.leads);
-    ordered = subst IsOrdered all_slots is.ordered;
+  index_bucket : (bytes : List ℕ) → IsIndexBucket h bytes → IsIndexBucket (marked units h) bytes
+  index_bucket bytes is = record { bucket = is.bucket; some = is.some; used = is.used }
+
+  rooted : IsRooted h b → IsRooted (marked units h) b
+  rooted is = record {
+    index = record {
+      buckets = subst (λ ls. AllAre (λ n. IsIndexBucket (marked units h) (bucket_at h b n)) (numbers_of ls)) levels
+          (moved (λ n. IsIndexBucket h (bucket_at h b n)) (λ n. IsIndexBucket (marked units h) (bucket_at h b n)) (numbers_of (levels_of h b)) (λ n. index_bucket (bucket_at h b n)) is.index.buckets);
+      joins = λ steps less. subst (λ (es : List Entry). map (parent_entry (entries_in h b)) (map child_of es) ≡ es) (below_on steps) (is.index.joins steps less);
+    };
+    leaves = subst (λ (es : List Entry). AllAre (λ n. IsLeaf (marked units h) (bucket_at h b n)) (map child_of es)) leaves
+        (moved (λ n. IsLeaf h (bucket_at h b n)) (λ n. IsLeaf (marked units h) (bucket_at h b n)) (leaf_numbers h b) (λ n. leaf (bucket_at h b n)) is.leaves);
+    chain = subst (λ (es : List Entry). Leads (marked units h) b (map child_of es) no_next) leaves (leads (leaf_numbers h b) no_next is.chain);
+    reached = subst (λ ls. length (leaf_numbers (marked units h) b) + length (numbers_of ls) ≡ h.used) levels
+        (subst (λ (es : List Entry). length (map child_of es) + length (numbers_of (levels_of h b)) ≡ h.used) leaves is.reached);
+    once = subst (λ ls. AllDiffer (leaf_numbers (marked units h) b ++ numbers_of ls)) levels
+        (subst (λ (es : List Entry). AllDiffer (map child_of es ++ numbers_of (levels_of h b))) leaves is.once);
+    tree = subst (IsTree (sizes_of h)) layout is.tree;
   }
+
+  pub marked_slots : all_slots h b ≡ all_slots (marked units h) b
+  marked_slots = ap (λ (l : Layout). slots_along l.leaves) layout
 
   indexed_map : (key : Key) → indexed.map_of h b key ≡ indexed.map_of (marked units h) b key
   indexed_map (Number n) = refl
-  indexed_map (Text k) = ap (λ (ss : List Slot). lookup ss k) all_slots
+  indexed_map (Text k) = ap (λ (ss : List Slot). lookup ss k) marked_slots
   indexed_map End = refl
 
   relative_map : (key : Key) → relative.map_of h b key ≡ relative.map_of (marked units h) b key
@@ -69,30 +98,25 @@ module _ (units : Bool) (h : FileHead) (b : List (List ℕ)) where
   form_marked Relative form = record { organization = form.organization; cells = form.cells; one = form.one; used = form.used; root = form.root; levels = form.levels; count = form.count }
   form_marked Indexed form = record {
     organization = form.organization;
-    levels = form.levels;
-    root = form.root;
-    some = form.some;
-    within = form.within;
-    key = form.key;
-    short = form.short;
-    holds = form.holds;
+    root = record { some = form.root.some; most = form.root.most; root = form.root.root; within = form.root.within; short = form.root.short };
+    keys = record { key = form.keys.key; short = form.keys.short; holds = form.keys.holds };
     count = form.count;
   }
 
   laid_marked : (o : Kept) → LaidOutBy o h b → LaidOutBy o (marked units h) b
   laid_marked Sequential laid = record { buckets = laid.buckets; filled = laid.filled; records = laid.records; count = laid.count }
   laid_marked Relative laid = record { headers = laid.headers; rests = laid.rests; sizes = laid.sizes }
-  laid_marked Indexed laid = chained laid
+  laid_marked Indexed laid = rooted laid
 
   map_marked : (o : Kept) (key : Key) → map_by o h b key ≡ map_by o (marked units h) b key
   map_marked Sequential key = refl
   map_marked Relative key = relative_map key
   map_marked Indexed key = indexed_map key
 
-  chain_marked : (o : Kept) → chain_by o h b ≡ chain_by o (marked units h) b
-  chain_marked Sequential = refl
-  chain_marked Relative = refl
-  chain_marked Indexed = ap (map (slots_in h b)) leaves
+  layout_marked : (o : Kept) → layout_by o h b ≡ layout_by o (marked units h) b
+  layout_marked Sequential = refl
+  layout_marked Relative = refl
+  layout_marked Indexed = layout
 
   organized_marked : (o : Kept) → organized_by o h ≡ organized_by o (marked units h)
   organized_marked Sequential = refl
@@ -117,5 +141,5 @@ module _ (units : Bool) (h : FileHead) (b : List (List ℕ)) where
     head = head_marked file is.head;
     laid = laid_marked h.organization is.laid;
     records = λ key. is.records key ∙ map_marked h.organization key;
-    layout = is.layout ∙ ap laid_in (chain_marked h.organization);
+    layout = is.layout ∙ layout_marked h.organization;
   }

@@ -11,7 +11,7 @@ use Rattle.change_set.specs.Files.{SameFile}
 use Rattle.record_files.specs.Any as any
 use Rattle.record_files.specs.Any.{map_of, IsLaidOut}
 use Rattle.vms_model.specs.Keys.{Key}
-use Rattle.records_model.specs.Layout.{Layout}
+use Rattle.tree_model.specs.Layouts.{Layout}
 use Rattle.records_model.specs.History.{History, current}
 use Rattle.run_model.specs.World as world
 use Rattle.run_model.specs.World.{File}

@@ -1,5 +1,5 @@
 -- The entries of a relative and of an indexed file, and how many records there can be.
-use Rattle.std.proofs.Common.{◌≡◌, ◌⊎◌, ⊎_elim, ℕ, zero, suc, ◌+◌, ◌*◌, ◌<◌, ◌≤◌, List, [], ◌∷◌, length, Bool, true, false, cond, T, Option, Some, None, if◌then◌else◌, nat_le, refl, sym, ap, subst, ◌∙◌, arith, inl, inr, length-append}
+use Rattle.std.proofs.Common.{◌≡◌, ◌⊎◌, ⊎_elim, ℕ, zero, suc, ◌+◌, ◌*◌, ◌<◌, ◌≤◌, List, [], ◌∷◌, length, map, Bool, true, false, cond, T, Option, Some, None, if◌then◌else◌, nat_le, refl, sym, ap, subst, ◌∙◌, arith, inl, inr, length-append}
 use Rattle.std.specs.Prelude.{◌&&◌, ◌==◌}
 use Rattle.std.specs.Cmp.{tied_itself}
 use Rattle.std.specs.Ordering.{is_eq}
@@ -29,9 +29,15 @@ use Rattle.record_files.specs.Any.{map_of, map_by, FormBy, LaidOutBy, IsLaidOut}
 use Rattle.seq_file.specs.Layout as sequential
 use Rattle.seq_file.specs.Layout.{records_in, slots_at, record_of}
 use Rattle.seq_file.specs.Placing.{slots_along}
-use Rattle.indexed_file.specs.Chain as indexed
-use Rattle.indexed_file.specs.Chain.{AllBelow, all_slots_of, leaves_of, slots_in, slot_of, kind_of}
-use Rattle.indexed_file.specs.Local.{chain_used}
+use Rattle.tree_model.specs.Layouts.{slots_along as slots_of_leaves}
+use Rattle.index_model.specs.Indexes.{Entry}
+use Rattle.index_model.specs.Trees.{child_of, leaf_at}
+use Rattle.index_blocks.specs.Buckets.{bucket_at}
+use Rattle.index_blocks.specs.Levels.{AllAre, leaf_entries}
+use Rattle.indexed_file.specs.Chain.{slots_in, slot_of, kind_of, IsLeaf}
+use Rattle.indexed_tree.specs.Files as indexed
+use Rattle.indexed_tree.specs.Maps.{all_slots}
+use Rattle.indexed_tree.specs.Rooted.{IsRooted}
 use Rattle.relative_file.specs.Cells as relative
 use Rattle.relative_file.specs.Cells.{has_cell, record_in, cell_at}
 use Rattle.directory_model.specs.Files.{IsFile}
@@ -161,10 +167,10 @@ slots_end : (ss : List Slot) → find key_cmp End (slot_entries ss) ≡ None
 slots_end [] = refl
 slots_end (s ∷ ss) = find_other End (Text s.key) s.value (slot_entries ss) refl ∙ slots_end ss
 
-slot_find : (h : FileHead) (content : List (List ℕ)) (key : Key) → indexed.IsChained h content → find key_cmp key (slot_entries (all_slots_of h content)) ≡ indexed.map_of h content key
-slot_find h content (Text k) laid = slots_find k (all_slots_of h content) laid.ordered
-slot_find h content (Number n) laid = slots_number n (all_slots_of h content)
-slot_find h content End laid = slots_end (all_slots_of h content)
+slot_find : (h : FileHead) (content : List (List ℕ)) (key : Key) → IsRooted h content → find key_cmp key (slot_entries (all_slots h content)) ≡ indexed.map_of h content key
+slot_find h content (Text k) laid = slots_find k (all_slots h content) laid.tree.ordered
+slot_find h content (Number n) laid = slots_number n (all_slots h content)
+slot_find h content End laid = slots_end (all_slots h content)
 
 -- There are records that the keys have.
 
@@ -176,12 +182,12 @@ pub record Lists (es : Entries) (keys : Map) : Type 0 where
 abbrev entries_by : Kept → FileHead → List (List ℕ) → Entries
 entries_by kept.Sequential h content = numbered 1 (records_in h content)
 entries_by kept.Relative h content = cell_entries h content
-entries_by kept.Indexed h content = slot_entries (all_slots_of h content)
+entries_by kept.Indexed h content = slot_entries (all_slots h content)
 
 lists_by : (o : Kept) (content : List (List ℕ)) (h : FileHead) → FormBy o h → LaidOutBy o h content → Lists (entries_by o h content) (map_by o h content)
 lists_by kept.Sequential content h form laid = record { sorted = sorted_numbered 1 (records_in h content); found = λ key. find_numbered key (records_in h content) }
 lists_by kept.Relative content h form laid = record { sorted = numbers_sorted (λ n. relative.map_of h content (Number n)) h.mrn 1; found = cell_find h content }
-lists_by kept.Indexed content h form laid = record { sorted = slots_sorted (all_slots_of h content) laid.ordered; found = λ key. slot_find h content key laid }
+lists_by kept.Indexed content h form laid = record { sorted = slots_sorted (all_slots h content) laid.tree.ordered; found = λ key. slot_find h content key laid }
 
 some_of : (es : Entries) (keys : Map) → Lists es keys → (m : Records) × ((key : Key) → get m key ≡ keys key)
 some_of es keys lists = (from_sorted es, λ key. get-from_sorted key_cmp es key lists.sorted ∙ lists.found key)
@@ -220,21 +226,22 @@ few_records content h laid small used =
     let slots = few_along (slots_at h content) h.used (λ i below. few_slots Seq h.bucket (sequential.bucket_at h content i) (λ rest. omega arith) small (laid.buckets i below)) in
     let same = length-map (slots_along (slots_at h content) h.used) record_of in omega (arith, slots, same)
 
-few_in_leaves : (content : List (List ℕ)) (h : FileHead) (ns : List ℕ) → indexed.IsChained h content → h.bucket ≤ 16 → AllBelow h.used ns → length (indexed.slots_along h content ns) ≤ length ns * 4088
-few_in_leaves content h [] laid small below = omega arith
-few_in_leaves content h (n ∷ ns) laid small below =
-    let rest = few_in_leaves content h ns laid small below.1 in
-    let one = few_slots (kind_of h) h.bucket (indexed.bucket_at h content n) (λ bytes. omega arith) small (laid.leaves n below.0).bucket in
-    let same = length-map (slots_of (kind_of h) (indexed.bucket_at h content n)) (slot_of h) in
-    omega (arith, length-append (slots_in h content n) (indexed.slots_along h content ns), one, same)
+few_in_leaves : (content : List (List ℕ)) (h : FileHead) (es : List Entry) → h.bucket ≤ 16 → AllAre (λ n. IsLeaf h (bucket_at h content n)) (map child_of es) → length (slots_of_leaves (map (leaf_at (slots_in h content)) es)) ≤ length es * 4088
+few_in_leaves content h [] small leaves = omega arith
+few_in_leaves content h (e ∷ es) small leaves =
+    let rest = few_in_leaves content h es small leaves.1 in
+    let one = few_slots (kind_of h) h.bucket (bucket_at h content e.child) (λ bytes. omega arith) small leaves.0.bucket in
+    let same = length-map (slots_of (kind_of h) (bucket_at h content e.child)) (slot_of h) in
+    omega (arith, length-append (slots_in h content e.child) (slots_of_leaves (map (leaf_at (slots_in h content)) es)), one, same)
 
 few_by : (o : Kept) (content : List (List ℕ)) (h : FileHead) → FormBy o h → LaidOutBy o h content → h.mrn ≤ 4294967295 → h.bucket ≤ 16 → h.used ≤ 65536 → length (entries_by o h content) ≤ 4294967295
 few_by kept.Sequential content h form laid numbers small used = let rs = few_records content h laid small used in let same = length-numbered 1 (records_in h content) in omega arith
 few_by kept.Relative content h form laid numbers small used = let most = numbers_long (λ n. relative.map_of h content (Number n)) h.mrn 1 in omega arith
 few_by kept.Indexed content h form laid numbers small used =
-    let most = slots_long (all_slots_of h content) in
-    let slots = few_in_leaves content h (leaves_of h content) laid small (chain_used h content h.used 0 form.some) in
-    let count = laid.reached in omega (arith, most, slots, count)
+    let most = slots_long (all_slots h content) in
+    let slots = few_in_leaves content h (leaf_entries h content) small laid.leaves in
+    let same = length-map (leaf_entries h content) child_of in
+    let count = laid.reached in omega (arith, most, slots, same, count)
 
 pub few : (content : List (List ℕ)) (h : FileHead) (file : File) → IsFile content h file → h.mrn ≤ 4294967295 → h.bucket ≤ 16 → h.used ≤ 65536 → length (in_order file) ≤ 4294967295
 few content h file of numbers small used =

@@ -5,7 +5,6 @@ use Rattle.std.specs.FinMap.{get}
 use Rattle.std.proofs.lemmas.Bool.{cases_lt}
 use Rattle.std.specs.Prelude.{◌==◌}
 use Rattle.std.proofs.lemmas.Bool.Decides.{nat_tests}
-use Rattle.std.proofs.lemmas.List.{length-map}
 use Rattle.std.proofs.Common.{length-drop}
 use Rattle.seq_file.proofs.RecordLaws.{record_at_past}
 use Rattle.file_base.specs.declared.head.FileHead.{FileHead}
@@ -16,16 +15,17 @@ use Rattle.change_set.proofs.NumberKeys.{same_test, other_test}
 use Rattle.vms_model.specs.Keys.{Key, Number, Text, End}
 use Rattle.records_model.specs.Records.{Change}
 use Rattle.records_model.specs.Placing.{Filled, filled_by, first_bucket}
-use Rattle.records_model.specs.Layout.{used_of}
+use Rattle.tree_model.specs.Layouts.{used_of, levels_of}
 use Rattle.records_model.specs.History.{current}
 use Rattle.run_model.specs.World.{File}
 use Rattle.run_model.specs.Operations.{count_of, in_order, used, used_by, placed, need_of, put_need, update_need, removed}
 use Rattle.script_model.specs.Statements.{Put, Update}
-use Rattle.record_files.specs.Any.{map_of, map_by, FormBy, LaidOutBy, chain_by, asks, asks_by}
+use Rattle.record_files.specs.Any.{map_of, map_by, FormBy, LaidOutBy, layout_by, asks, asks_by}
 use Rattle.seq_file.specs.Layout.{records_in, capacity, last_bytes}
 use Rattle.seq_file.specs.Records.{record_at, map_of_list, cut_from, slot_sizes}
-use Rattle.indexed_file.specs.Chain as indexed
-use Rattle.directory_model.specs.Files.{IsFile, laid_in, organized_by}
+use Rattle.indexed_tree.specs.Rooted.{layout_in}
+use Rattle.indexed_tree.proofs.RootLaws.{layout_tells}
+use Rattle.directory_model.specs.Files.{IsFile, organized_by}
 use Rattle.directory_model.proofs.ReadingLists.{Entries, listed, numbered, length-numbered, sorted_numbered, find_numbered, drop_numbered}
 use Rattle.directory_model.proofs.ReadingPlaces.{placed_are}
 
@@ -60,18 +60,25 @@ placed_is content h file of is =
     ∙ ap (filled_by (capacity h) first_bucket) (sizes_numbered 1 (records_in h content))
     ∙ placed_are h content (form_as kept.Sequential content h file is of).one (laid_as kept.Sequential content h file is of)
 
+-- the layout of an indexed file tells how many buckets it has, and how many levels
+tells : (content : List (List ℕ)) (h : FileHead) (file : File) → IsFile content h file → h.organization ≡ kept.Indexed → (used_of file.layout ≡ h.used) × (levels_of file.layout ≡ h.levels)
+tells content h file of is =
+    let same : file.layout ≡ layout_in h content = of.layout ∙ ap (λ q. layout_by q h content) is in
+    let told = layout_tells h content (form_as kept.Indexed content h file is of).root.some (laid_as kept.Indexed content h file is of) in
+    (ap used_of same ∙ told.used, ap levels_of same ∙ told.levels)
+
 pub used_is : (content : List (List ℕ)) (h : FileHead) (file : File) → IsFile content h file → used file ≡ h.used
 used_is content h file of = ap (λ o. used_by o file) of.head.organization ∙ go h.organization refl
   where
     go : (o : Kept) → h.organization ≡ o → used_by (organized_by o h) file ≡ h.used
     go kept.Sequential is = ap (λ (f : Filled). f.buckets) (placed_is content h file of is)
     go kept.Relative is = of.head.buckets ∙ sym (form_as kept.Relative content h file is of).used
-    go kept.Indexed is = ap used_of (of.layout ∙ ap (λ q. laid_in (chain_by q h content)) is) ∙ length-map (indexed.leaves_of h content) (indexed.slots_in h content) ∙ (laid_as kept.Indexed content h file is of).reached
+    go kept.Indexed is = (tells content h file of is).0
 
 -- What a record wants.
 
-level_asks : (levels : ℕ) → levels ≡ 1 → 3 ≡ (if levels == 12 then 65537 else levels + 2)
-level_asks levels one = sym (ap (λ n. if n == 12 then 65537 else n + 2) one)
+level_asks : (levels asked : ℕ) → levels ≡ asked → (if levels == 12 then 65537 else levels + 2) ≡ (if asked == 12 then 65537 else asked + 2)
+level_asks levels asked same = ap (λ n. if n == 12 then 65537 else n + 2) same
 
 pub put : (content : List (List ℕ)) (h : FileHead) (file : File) (number : Option ℕ) (bytes : List ℕ) → IsFile content h file → need_of file (Put number bytes) ≡ asks h content (length bytes)
 put content h file number bytes of = ap (λ o. put_need o file bytes) of.head.organization ∙ go h.organization refl
@@ -82,11 +89,11 @@ put content h file number bytes of = ap (λ o. put_need o file bytes) of.head.or
         ∙ ap (λ b. if nat_le (last_bytes h content + (length bytes + 2)) (512 * b - 16) then 0 else 1) of.head.bucket
         ∙ sym (ap (λ q. asks_by q h content (length bytes)) is)
     go kept.Relative is = sym (ap (λ q. asks_by q h content (length bytes)) is)
-    go kept.Indexed is = level_asks h.levels (form_as kept.Indexed content h file is of).levels ∙ sym (ap (λ q. asks_by q h content (length bytes)) is)
+    go kept.Indexed is = level_asks (levels_of file.layout) h.levels (tells content h file of is).1 ∙ sym (ap (λ q. asks_by q h content (length bytes)) is)
 
 pub update : (content : List (List ℕ)) (h : FileHead) (file : File) (key : Key) (bytes : List ℕ) → IsFile content h file → h.organization ≡ kept.Indexed → need_of file (Update key bytes) ≡ asks h content (length bytes)
 update content h file key bytes of is =
-    ap (λ o. update_need o file) (of.head.organization ∙ ap (λ o. organized_by o h) is) ∙ level_asks h.levels (form_as kept.Indexed content h file is of).levels ∙ sym (ap (λ q. asks_by q h content (length bytes)) is)
+    ap (λ o. update_need o file) (of.head.organization ∙ ap (λ o. organized_by o h) is) ∙ level_asks (levels_of file.layout) h.levels (tells content h file of is).1 ∙ sym (ap (λ q. asks_by q h content (length bytes)) is)
 
 -- Positions.
 

@@ -13,11 +13,10 @@ use Rattle.script_model.specs.Statements as form
 use Rattle.run_model.specs.Answers.{buckets_for}
 use Rattle.careful_write.specs.State.{EachWhole}
 use Rattle.record_files.specs.Any as any
-use Rattle.record_files.specs.Any.{map_of, chain_of, IsLaidOut}
+use Rattle.record_files.specs.Any.{map_of, IsLaidOut}
 use Rattle.vms_model.specs.Keys.{Key}
 use Rattle.records_model.specs.Records.{Records}
-use Rattle.records_model.specs.Slots.{Slot}
-use Rattle.records_model.specs.Layout.{Layout}
+use Rattle.tree_model.specs.Layouts.{Layout}
 use Rattle.records_model.specs.History.{current}
 use Rattle.run_model.specs.World as world
 use Rattle.run_model.specs.World.{File, Organization, Carried, JournalSpan, SavedCopy, nothing_carried, find_file, with_file}
@@ -52,13 +51,9 @@ carried_of h = record {
   save = saved_copy_of h.save;
 }
 
--- the layout that has this chain
-abbrev pub laid_in : List (List Slot) → Layout
-laid_in chain = record { chain = chain }
-
 -- the layout of a head's file in this content
 abbrev pub layout_of : FileHead → List (List ℕ) → Layout
-layout_of h content = laid_in (chain_of h content)
+layout_of h content = any.layout_of h content
 
 -- how a head says that records are kept, as the world says it
 abbrev pub organized_by : Kept → FileHead → Organization

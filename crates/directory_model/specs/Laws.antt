@@ -12,7 +12,7 @@ use Rattle.change_set.specs.Maps.{Map, IsNext, EndsAfter, Found, applied, empty_
 use Rattle.extents.specs.declared.extent.Extent.{Extent as Area}
 use Rattle.extents.specs.Extents.{IsFreeRun, all_extents, is_used}
 use Rattle.record_files.specs.Any as any
-use Rattle.record_files.specs.Any.{map_of, chain_of, first_chain_of, IsLaidOut, IsNew, asks}
+use Rattle.record_files.specs.Any.{map_of, layout_of as laid, first_layout_of as laid_first, IsLaidOut, IsNew, asks}
 use Rattle.seq_file.specs.Layout.{records_in}
 use Rattle.seq_file.specs.Records.{cut_from}
 use Rattle.script_model.specs.Statements.{Form, Put, Update}
@@ -20,7 +20,8 @@ use Rattle.vms_model.specs.Ids.{Id}
 use Rattle.vms_model.specs.Keys.{Key, Number}
 use Rattle.vms_model.specs.Transactions.{Commit, Abort}
 use Rattle.records_model.specs.Records.{Records, Change}
-use Rattle.records_model.specs.Layout.{layout_changed}
+use Rattle.tree_model.specs.Setting.{layout_changed}
+use Rattle.change_set.specs.Files.{sizes_of}
 use Rattle.unit_laws.specs.Units.{is_free}
 use Rattle.commit_protocol.specs.Table as table
 use Rattle.run_model.specs.Answers.{blocks_for, created}
@@ -76,7 +77,7 @@ pub record IsChanged (held : Key → Bool) (cs : List Change) (a : List (List �
   pub form : any.IsFile new
   pub laid : IsLaidOut new b
   pub map : map_of new b ≡ applied cs (map_of h a)
-  pub layout : layout_of new b ≡ layout_changed (512 * h.bucket - 16) held cs (layout_of h a)
+  pub layout : layout_of new b ≡ layout_changed (sizes_of h) held cs (layout_of h a)
 
 -- the keys of these changes are free for a branch in a file: no other branch changed one of them
 abbrev pub AreFree : Id → File → List Change → Type 0
@@ -174,6 +175,6 @@ pub record KeepsHeads : Type 0 where
 -- The head of a file that is made, and the file that is made with it.
 pub record MakesFiles : Type 0 where
   pub form : (f : Form) (h : FileHead) → IsNewHead f h → any.IsFile h × IsNew h
-  pub file : (content : List (List ℕ)) (f : Form) (h : FileHead) (moment : ℕ) → IsNewHead f h → map_of h content ≡ empty_map → IsLaidOut h content → chain_of h content ≡ first_chain_of h → IsFile content h (created h.name h.bucket h.mrs f h.start moment)
+  pub file : (content : List (List ℕ)) (f : Form) (h : FileHead) (moment : ℕ) → IsNewHead f h → map_of h content ≡ empty_map → IsLaidOut h content → laid h content ≡ laid_first h → IsFile content h (created h.name h.bucket h.mrs f h.start moment)
   pub blocks : (f : Form) (h : FileHead) → IsNewHead f h → h.alloc * h.bucket ≡ blocks_for h.bucket h.mrs f
   pub some : (f : Form) (h : FileHead) → IsNewHead f h → 1 ≤ h.alloc * h.bucket

@@ -9,15 +9,15 @@ use Rattle.record_files.specs.Any as any
 use Rattle.record_files.specs.Any.{map_of, IsLaidOut}
 use Rattle.seq_file.specs.Layout.{records_in}
 use Rattle.sequence_laws.specs.Undoing.{GoesBack}
-use Rattle.indexed_file.specs.Chain as indexed
+use Rattle.indexed_file.specs.Chain as slots
+use Rattle.indexed_tree.specs.Files as indexed
 use Rattle.relative_file.specs.Cells as relative
 use Rattle.change_set.specs.Files.{SameFile}
 use Rattle.vms_model.specs.Ids.{Id}
 use Rattle.vms_model.specs.Keys.{Text}
 use Rattle.records_model.specs.Records.{Change}
 use Rattle.records_model.specs.Slots.{Slot, size_of, lookup, IsOrdered}
-use Rattle.records_model.specs.Parts.{all_slots}
-use Rattle.records_model.specs.Layout.{Layout, no_layout}
+use Rattle.tree_model.specs.Layouts.{Leaf, Layout, no_layout, slots_along}
 use Rattle.records_model.specs.History.{LiveChanges, records, current, changes_by}
 use Rattle.unit_laws.specs.Units.{map_in, earliest_before, with_before_images, HasLatest, Represents, IsUndoGroup}
 use Rattle.unit_laws.specs.Journal.{Journal}
@@ -29,16 +29,24 @@ use Rattle.directory_model.specs.Files.{IsHeadOf, head_at, file_at, layout_of}
 abbrev pub bare : Slot → Slot
 bare s = record s { value = None }
 
--- layouts that are alike but for the records: the same keys in the same buckets, each with the same room
+-- so a leaf but for its records
+abbrev pub bare_leaf : Leaf → Leaf
+bare_leaf b = record b { slots = map bare b.slots }
+
+-- and a layout: the same keys in the same leaves, each with the same room, and the same index
+abbrev pub bare_layout : Layout → Layout
+bare_layout l = record l { leaves = map bare_leaf l.leaves }
+
+-- layouts that are alike but for the records
 abbrev pub AlikeBare : Layout → Layout → Type 0
-AlikeBare a b = map (map bare) a.chain ≡ map (map bare) b.chain
+AlikeBare a b = bare_layout a ≡ bare_layout b
 
 -- the earliest before images of a branch can be set in place
 abbrev pub CanRestoreBy : Kept → FileHead → List (List ℕ) → List Change → Type 0
 CanRestoreBy kept.Sequential h content cs = (back : List (List ℕ)) × GoesBack h cs (records_in h content) back
 CanRestoreBy kept.Relative h content cs = AllByRecursion (λ (c : Change). relative.Suits h c.key (earliest_before cs c.key)) cs
 CanRestoreBy kept.Indexed h content cs =
-    AllByRecursion (λ (c : Change). indexed.Suits h c.key (earliest_before cs c.key) × (size_of (earliest_before cs c.key) ≤ indexed.room_at h content c.key)) cs
+    AllByRecursion (λ (c : Change). slots.Suits h c.key (earliest_before cs c.key) × (size_of (earliest_before cs c.key) ≤ indexed.room_at h content c.key)) cs
 
 -- and so those of each of several branches
 abbrev pub CanRestore : FileHead → List (List ℕ) → List LiveChanges → Type 0
@@ -46,8 +54,8 @@ CanRestore h content ls = AllByRecursion (λ (l : LiveChanges). CanRestoreBy h.o
 
 -- The layout of an indexed file in the world tells the file's current records; other files have none.
 pub record TellsRecords (file : File) : Type 0 where
-  pub ordered : IsOrdered (all_slots file.layout.chain)
-  pub tells : (k : List ℕ) → lookup (all_slots file.layout.chain) k ≡ get (current file.history) (Text k)
+  pub ordered : IsOrdered (slots_along file.layout.leaves)
+  pub tells : (k : List ℕ) → lookup (slots_along file.layout.leaves) k ≡ get (current file.history) (Text k)
 
 abbrev pub IsLayoutOf : Kept → File → Type 0
 IsLayoutOf kept.Sequential file = file.layout ≡ no_layout

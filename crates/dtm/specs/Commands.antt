@@ -13,7 +13,8 @@ use Rattle.script_model.specs.Command.{is_run_form}
 use Rattle.dtm_run.specs.Calls.{TellsOver}
 use Rattle.dtm_run.specs.Headline.{is_command, StandOn, Unread}
 use Rattle.dtm_run.specs.Leading.{RunOver}
-use Rattle.dtm.specs.Images.{Store, IsImageOf, IsFilled, images_of}
+use Rattle.dtm_command.specs.Images.{Store, IsImageOf, images_of}
+use Rattle.dtm.specs.Images.{IsFilled}
 
 -- A command that ended so: a rack was filled with the nodes and images that its words name, and by these nodes the script was run, or the words are no command over
 -- them. The rack that is left has their disks as that left them.

@@ -3,10 +3,10 @@ ghost use Rattle.std.specs.Prelude.{◌≡◌, [], IfOk, IfErr, OnErr, map, stri
 ghost use Rattle.transcript_model.specs.Outside.{Rose};
 ghost use Rattle.dtm.specs.Causes.{WhyUnfilled};
 ghost use Rattle.dtm.specs.Commands.{CommandRan};
-ghost use Rattle.dtm.specs.Images.{images_of as images_said};
+ghost use Rattle.dtm_command.specs.Images.{images_of as images_said};
 
-use crate::images::{ImageFiles, OpenErr, add_images};
-use crate::words::image_words;
+use crate::images::add_images;
+use dtm_command::{ImageFiles, OpenErr, image_words};
 use dtm_run::{Exit, Rack, run};
 use node_units::NodeUnits;
 use std::alloc::Global;

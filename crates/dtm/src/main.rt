@@ -9,22 +9,20 @@ mod command;
 mod day;
 mod help;
 mod images;
-mod system;
-mod watch;
-mod words;
 
 use command::run_command;
 use day::{is_for_a_day, run_day_command};
+use dtm_command::{
+    ImageFiles, OpenErr, SystemFiles, Tail, WatchedSink, WatchedSource, hold_streams,
+    said_of_images,
+};
 use dtm_run::Exit;
-use help::{said_of, said_of_images};
-use images::{ImageFiles, OpenErr};
+use help::said_of;
 use std::alloc::{AllocError, Global};
 use std::env;
 use std::io::{ErrorKind, writer};
 use std::process::ExitCode;
-use system::{SystemFiles, hold_streams};
 use transcript::{ReaderSource, Sink, Source, WriterSink};
-use watch::{Tail, WatchedSink, WatchedSource};
 
 const CANNOT_OPEN: u8 = 7;
 
@@ -125,6 +123,3 @@ fn main(rt: HostRuntime) -> ExitCode {
         }
     }
 }
-
-#[cfg(test)]
-mod tests;

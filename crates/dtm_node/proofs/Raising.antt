@@ -1,5 +1,5 @@
 -- A boot from the volume that is mounted to the one whose boot count is raised.
-use Rattle.std.proofs.Common.{◌≡◌, ⊎_elim, inl, inr, ℕ, zero, suc, ◌+◌, ◌-◌, ◌<◌, ◌≤◌, ◌^◌, List, [], ◌∷◌, Bool, true, false, Option, Some, None, IfSome, if◌then◌else◌, length, take, replicate, slice_set, map, option_map, refl, sym, ap, subst, ◌∙◌, arith, nat_lt, max}
+use Rattle.std.proofs.Common.{◌≡◌, ⊎_elim, inl, inr, ℕ, zero, suc, ◌+◌, ◌-◌, ◌*◌, ◌<◌, ◌≤◌, ◌^◌, List, [], ◌∷◌, Bool, true, false, Option, Some, None, IfSome, if◌then◌else◌, length, take, replicate, slice_set, map, option_map, refl, sym, ap, subst, ◌∙◌, arith, nat_lt, max, min}
 use Rattle.std.specs.Prelude.{◌==◌, ◌&&◌, nat_le}
 use Rattle.std.proofs.lemmas.Bool.Decides.{nat_tests}
 use Rattle.journal_model.specs.Ring.{ring_size}
@@ -9,6 +9,11 @@ use Rattle.careful_write.specs.State.{IsEither, IsIdle, Leaves, content}
 use Rattle.transcript_model.specs.Lines as line
 use Rattle.transcript_model.specs.Lines.{Line}
 use Rattle.file_base.specs.declared.head.FileHead.{FileHead}
+use Rattle.file_base.specs.declared.head.Organization.{Organization as Kept}
+use Rattle.file_base.specs.declared.head.Organization.TheVariants.{Sequential, Relative, Indexed}
+use Rattle.record_files.specs.Any as any
+use Rattle.indexed_tree.specs.Laws.{TellsHead}
+use Rattle.indexed_tree.proofs.RootLaws.{layout_tells}
 use Rattle.volume_format.specs.declared.home.Home.{Home}
 use Rattle.volume_format.specs.Home.{IsHome, home_block_of, home_rows}
 use Rattle.volume_format.proofs.Homes.{home_wide}
@@ -17,13 +22,13 @@ use Rattle.std.proofs.lemmas.List.{length-replicate}
 use Rattle.volume.specs.declared.catalog.Catalog.{Catalog}
 use Rattle.volume.specs.Catalogs.{IsSound, TellsCatalog}
 use Rattle.volume.specs.State.{VolumeState, Holds}
-use Rattle.run_model.specs.World.{Node, File, Carried, Boots, Volume, Sound, Faulty, Barred, Unknown, Bar, NoRing, AllBoots, LateMoment, FarPosition, Shared, acted, booted, fallen, prepared_left}
+use Rattle.run_model.specs.World.{Node, File, Carried, Boots, Volume, Sound, Faulty, Barred, Unknown, Bar, NoRing, NoIndex, AllBoots, LateMoment, FarPosition, Shared, acted, booted, fallen, prepared_left}
 use Rattle.run_model.specs.Answers.{Row, bar_line, bootable, boot_limit, images_end, last_position, left_active, moment_limit, position_limit, table_rows, unit_key}
 use Rattle.run_model.specs.Operations.{first_of, refused_if}
 use Rattle.commit_protocol.specs.World.{undo_all}
 use Rattle.directory_model.specs.Files.{file_at, head_at}
 use Rattle.directory_model.specs.Restoring.{IsPlaceLeft}
-use Rattle.volume_model.specs.Bars.{ends_in, first_bar, is_in_ring}
+use Rattle.volume_model.specs.Bars.{ends_in, first_bar, is_in_ring, lowest_odd_root, no_block, odd_root, odd_root_by}
 use Rattle.volume_model.specs.Volumes.{HasBarred, HasDisk, IsEitherOf, IsLeftBy, LeavesVolume}
 use Rattle.world_laws.specs.Nodes.{AreKept, BootsKeepUp, IsKeptDisk}
 use Rattle.world_laws.proofs.UndoLemmas.{relocked_booted}
@@ -95,29 +100,97 @@ left_in_ring c v n h =
     both_true (nat_le v.ru.first v.ru.end) (nat_le (v.ru.end - v.ru.first) (ring_size v.ru)) (nat_le v.ru.end (2 ^ 62)) (le_true v.ru.first v.ru.end h.journal.is.order)
     (le_true (v.ru.end - v.ru.first) (ring_size v.ru) h.journal.is.room) (le_true v.ru.end (2 ^ 62) h.journal.low)
 
+-- Files that are laid out have the index that their buckets want.
+
+same_number : (m n : ℕ) → (m == n) ≡ true → m ≡ n
+same_number m n e = grind (arith, nat_tests)
+
+other_number : (m n : ℕ) → (m == n) ≡ false → m ≡ n → ⊥
+other_number m n e same = grind (arith, nat_tests)
+
+no_odd_root : (o : Kept) (h : FileHead) (c : Content) → any.FormBy o h → any.LaidOutBy o h c → odd_root_by o h ≡ no_block
+no_odd_root Sequential h c form laid = refl
+no_odd_root Relative h c form laid = refl
+no_odd_root Indexed h c form laid = go (h.levels == 1) (h.used == 1) refl refl
+  where
+    tells : TellsHead h c
+    tells = layout_tells h c form.root.some laid
+
+    go : (a b : Bool) → (h.levels == 1) ≡ a → (h.used == 1) ≡ b → (if a then (if b then no_block else h.start + h.root * h.bucket) else (if b then h.start + h.root * h.bucket else no_block)) ≡ no_block
+    go true true a b = refl
+    go true false a b = absurd (other_number h.used 1 b (tells.one_level (same_number h.levels 1 a)))
+    go false true a b = absurd (other_number h.levels 1 a (tells.one_bucket (same_number h.used 1 b)))
+    go false false a b = refl
+
+no_odd_roots : (c : Content) (hs : List (Option FileHead)) (fs : List (Option File)) → length hs ≡ length fs → ((f : ℕ) → IsPlaceLeft c (head_at hs f) (file_at fs f)) → lowest_odd_root hs ≡ no_block
+no_odd_roots c [] [] long each = refl
+no_odd_roots c [] (g ∷ fs) long each = let none : ⊥ = cc in absurd none
+no_odd_roots c (h ∷ hs) [] long each = let none : ⊥ = cc in absurd none
+no_odd_roots c (None ∷ hs) (None ∷ fs) long each = no_odd_roots c hs fs (omega (arith, long)) (λ f. each (suc f))
+no_odd_roots c (None ∷ hs) (Some g ∷ fs) long each = absurd (each 0)
+no_odd_roots c (Some h ∷ hs) (None ∷ fs) long each = absurd (each 0)
+no_odd_roots c (Some h ∷ hs) (Some g ∷ fs) long each =
+    let left = each 0 in
+    let own = no_odd_root h.organization h c left.head.form left.laid in
+    let rest = no_odd_roots c hs fs (omega (arith, long)) (λ f. each (suc f)) in
+    omega (arith, own, rest)
+
+left_indexed : (c : Content) (v : Catalog) (n : Node) → LeavesVolume c v n → nat_lt (lowest_odd_root v.heads) no_block ≡ false
+left_indexed c v n h = ap (λ x. nat_lt x no_block) (no_odd_roots c v.heads n.durable.directory (h.files.heads_long ∙ sym h.files.directory_long) h.files.each)
+
+-- the roots of a volume, file by file
+abbrev root_at : Option FileHead → ℕ
+root_at None = no_block
+root_at (Some h) = odd_root h
+
+pub roots_more : (hs : List (Option FileHead)) (f : ℕ) → f < length hs → lowest_odd_root (take (suc f) hs) ≡ min (lowest_odd_root (take f hs)) (root_at (head_at hs f))
+roots_more [] f below = absurd (omega (arith, below))
+roots_more (None ∷ hs) zero below = refl
+roots_more (Some h ∷ hs) zero below = omega arith
+roots_more (None ∷ hs) (suc f) below = roots_more hs f (omega (arith, below))
+roots_more (Some h ∷ hs) (suc f) below = ap (λ x. min (odd_root h) x) (roots_more hs f (omega (arith, below))) ∙ min_apart (odd_root h) (lowest_odd_root (take f hs)) (root_at (head_at hs f))
+  where
+    min_apart : (a b c : ℕ) → min a (min b c) ≡ min (min a b) c
+    min_apart a b c = omega arith
+
+pub roots_before : (hs : List (Option FileHead)) (f lowest : ℕ) → f < length hs → head_at hs f ≡ None → lowest ≡ lowest_odd_root (take f hs) → lowest ≤ no_block → lowest ≡ lowest_odd_root (take (f + 1) hs)
+roots_before hs f lowest below none is most =
+    let more = sym (ap (λ x. lowest_odd_root (take x hs)) (one_more f)) ∙ roots_more hs f below ∙ ap (λ (o : Option FileHead). min (lowest_odd_root (take f hs)) (root_at o)) none in omega (arith, more, is, most)
+
+pub roots_with : (hs : List (Option FileHead)) (f lowest : ℕ) (h : FileHead) → f < length hs → head_at hs f ≡ Some h → lowest ≡ lowest_odd_root (take f hs) → min lowest (odd_root h) ≡ lowest_odd_root (take (f + 1) hs)
+roots_with hs f lowest h below there is =
+    let more = sym (ap (λ x. lowest_odd_root (take x hs)) (one_more f)) ∙ roots_more hs f below ∙ ap (λ (o : Option FileHead). min (lowest_odd_root (take f hs)) (root_at o)) there in omega (arith, more, is)
+
+pub roots_whole : (hs : List (Option FileHead)) (f : ℕ) → f ≡ length hs → lowest_odd_root (take f hs) ≡ lowest_odd_root hs
+roots_whole hs f is = ap (λ x. lowest_odd_root (take x hs)) is ∙ ap lowest_odd_root (take-length hs)
+
 -- What refuses the boot: the first of the bars.
 
 abbrev refused_by : (boot greatest last : ℕ) → Option Line
 refused_by boot greatest last = first_of (refused_if (boot == boot_limit) (line.QuotaExceeded line.Boots boot_limit))
     (first_of (refused_if (nat_lt moment_limit greatest) (line.QuotaExceeded line.Moments moment_limit)) (refused_if (nat_lt position_limit last) (line.QuotaExceeded line.Positions position_limit)))
 
-abbrev bar_among : (ring boots late far : Bool) → Option Bar
-bar_among ring boots late far = if ring then (if boots then Some AllBoots else (if late then Some LateMoment else (if far then Some FarPosition else None))) else Some NoRing
+abbrev bar_among : (ring odd : Bool) (root : ℕ) (boots late far : Bool) → Option Bar
+bar_among ring odd root boots late far =
+    if ring then (if odd then Some (NoIndex root) else (if boots then Some AllBoots else (if late then Some LateMoment else (if far then Some FarPosition else None)))) else Some NoRing
 
-bars_refuse : (name : List ℕ) (ring boots late far : Bool) → ring ≡ true → option_map (bar_line name) (bar_among ring boots late far)
+bars_refuse : (name : List ℕ) (ring odd : Bool) (root : ℕ) (boots late far : Bool) → ring ≡ true → odd ≡ false → option_map (bar_line name) (bar_among ring odd root boots late far)
     ≡ first_of (refused_if boots (line.QuotaExceeded line.Boots boot_limit)) (first_of (refused_if late (line.QuotaExceeded line.Moments moment_limit)) (refused_if far (line.QuotaExceeded line.Positions position_limit)))
-bars_refuse name true true late far e = refl
-bars_refuse name true false true far e = refl
-bars_refuse name true false false true e = refl
-bars_refuse name true false false false e = refl
-bars_refuse name false boots late far e = let none : ⊥ = cc in absurd none
+bars_refuse name true false root true late far e k = refl
+bars_refuse name true false root false true far e k = refl
+bars_refuse name true false root false false true e k = refl
+bars_refuse name true false root false false false e k = refl
+bars_refuse name true true root boots late far e k = let none : ⊥ = cc in absurd none
+bars_refuse name false odd root boots late far e k = let none : ⊥ = cc in absurd none
 
 -- which of them is so
-pub bar_of : (v : Catalog) (ring boots late far : Bool) → is_in_ring v.ru ≡ ring → (v.home.boot == boot_limit) ≡ boots → nat_lt moment_limit v.home.greatest_moment.0 ≡ late → nat_lt position_limit (max v.ru.end (ends_in v.heads)) ≡ far → bar_among ring boots late far ≡ first_bar v
-bar_of v ring boots late far r b l f = λ i. bar_among (sym r i) (sym b i) (sym l i) (sym f i)
+pub bar_of : (v : Catalog) (ring odd boots late far : Bool) → is_in_ring v.ru ≡ ring → nat_lt (lowest_odd_root v.heads) no_block ≡ odd → (v.home.boot == boot_limit) ≡ boots → nat_lt moment_limit v.home.greatest_moment.0 ≡ late
+    → nat_lt position_limit (max v.ru.end (ends_in v.heads)) ≡ far → bar_among ring odd (lowest_odd_root v.heads) boots late far ≡ first_bar v
+bar_of v ring odd boots late far r o b l f = λ i. bar_among (sym r i) (sym o i) (lowest_odd_root v.heads) (sym b i) (sym l i) (sym f i)
 
 pub bar_without_ring : (v : Catalog) → is_in_ring v.ru ≡ false → Some NoRing ≡ first_bar v
-bar_without_ring v r = bar_of v false (v.home.boot == boot_limit) (nat_lt moment_limit v.home.greatest_moment.0) (nat_lt position_limit (max v.ru.end (ends_in v.heads))) r refl refl refl
+bar_without_ring v r =
+    bar_of v false (nat_lt (lowest_odd_root v.heads) no_block) (v.home.boot == boot_limit) (nat_lt moment_limit v.home.greatest_moment.0) (nat_lt position_limit (max v.ru.end (ends_in v.heads))) r refl refl refl refl
 
 bootable_sound : (n : Node) → n.durable.volume ≡ Sound → bootable n ≡ refused_by n.durable.boot n.durable.greatest (last_position n)
 bootable_sound n e = rw e refl
@@ -134,7 +207,7 @@ module _ (v : VolumeState) (n : Node) (wide : IsWide v.catalog.ru) (m : IsMounte
           let l = h wide in
           bootable_sound n e
           ∙ (λ i. refused_by (l.home.boot i) (l.home.greatest i) (position_is m.content v.catalog n l i))
-          ∙ sym (bars_refuse v.catalog.home.node (is_in_ring v.catalog.ru) (v.catalog.home.boot == boot_limit) (nat_lt moment_limit v.catalog.home.greatest_moment.0) (nat_lt position_limit (max v.catalog.ru.end (ends_in v.catalog.heads))) (left_in_ring m.content v.catalog n l))
+          ∙ sym (bars_refuse v.catalog.home.node (is_in_ring v.catalog.ru) (nat_lt (lowest_odd_root v.catalog.heads) no_block) (lowest_odd_root v.catalog.heads) (v.catalog.home.boot == boot_limit) (nat_lt moment_limit v.catalog.home.greatest_moment.0) (nat_lt position_limit (max v.catalog.ru.end (ends_in v.catalog.heads))) (left_in_ring m.content v.catalog n l) (left_indexed m.content v.catalog n l))
       go (Faulty condition block) e h = absurd h
       go (Barred bar) e h = bootable_barred n bar e ∙ (λ i. Some (bar_line (m.booting.name_is i) bar)) ∙ sym (ap (option_map (bar_line v.catalog.home.node)) (h wide))
       go Unknown e h = absurd h

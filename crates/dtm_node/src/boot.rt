@@ -4,7 +4,7 @@ ghost use Rattle.careful_write.specs.State.{IsIdle};
 ghost use Rattle.change_set.specs.Files.{free_frames};
 ghost use Rattle.volume.specs.Catalogs.{IsSound};
 ghost use Rattle.volume.specs.State.{Holds};
-ghost use Rattle.volume_model.specs.Bars.{ends_in, first_bar, is_in_ring as is_in_ring_said};
+ghost use Rattle.volume_model.specs.Bars.{ends_in, first_bar, is_in_ring as is_in_ring_said, lowest_odd_root, odd_root as odd_root_said};
 ghost use Rattle.transcript.specs.Forms.{HasTime, line_of};
 ghost use Rattle.std.specs.Option.{IfSome, IfNone};
 ghost use Rattle.run_model.specs.Answers.{bar_line};
@@ -14,7 +14,7 @@ ghost use Rattle.recovery_units.specs.Uses.{Goes};
 
 use block_disk::Disk;
 use careful_write::{Down, Group, OpenErr, Store};
-use file_base::Span;
+use file_base::{FileHead, Organization, Span};
 use frame_pool::Pool;
 use node_files::write_home;
 use node_requests::the_laws;
@@ -36,6 +36,12 @@ const GREATEST_END: u64 = 4_611_686_018_427_387_904;
 const JOURNAL_CONDITION: u32 = 6;
 
 const JOURNAL_BLOCK: u32 = 583;
+
+// What a volume fails with an indexed file that has no index over several buckets, or one over a single bucket.
+const INDEX_CONDITION: u32 = 11;
+
+// More than the number of any block.
+const NO_BLOCK: u64 = 65_536;
 
 const MOST_FILES: u8 = 64;
 
@@ -60,6 +66,37 @@ fn last_position<D: Disk>(volume: &Volume<D>) -> u64
     last
 }
 
+// The block at which the root of a file begins, where that is an indexed one with several buckets and no index, or with an index and one bucket; else no
+// block.
+fn odd_root(head: &FileHead) -> u64
+    ensures { result ≡ odd_root_said head.now }
+{
+    match head.organization {
+        Organization::Indexed => {
+            if (head.levels == 1) == (head.used == 1) {
+                NO_BLOCK
+            } else {
+                u64::from(head.start) + u64::from(head.root) * u64::from(head.bucket)
+            }
+        }
+        _ => NO_BLOCK,
+    }
+}
+
+// The lowest of such blocks of a volume's files.
+fn lowest_root<D: Disk>(volume: &Volume<D>) -> u64
+    ensures lowest { result ≡ lowest_odd_root volume.now.catalog.heads }
+    ensures most { result ≤ 65536 }
+{
+    let mut lowest = NO_BLOCK;
+    for file in 0..MOST_FILES {
+        if let Some(head) = volume.head(file) {
+            lowest = lowest.min(odd_root(head));
+        }
+    }
+    lowest
+}
+
 // Whether the journal's entries lie in its ring, and its positions are low.
 fn is_in_ring(span: &Span) -> bool
     ensures told { result ≡ is_in_ring_said span.now }
@@ -72,8 +109,8 @@ fn is_in_ring(span: &Span) -> bool
         && span.end <= GREATEST_END
 }
 
-// Why a node is not booted with this volume: its journal is none, it was booted as often as may be, its greatest moment is too late, or a journal has come too
-// far.
+// Why a node is not booted with this volume: its journal is none, an indexed file has not the index that its buckets want, it was booted as often as may
+// be, its greatest moment is too late, or a journal has come too far.
 fn refusal<D: Disk>(volume: &Volume<D>) -> Option<Form<'static>>
     ensures refuses { option_map line_of result ≡ option_map (bar_line volume.now.catalog.home.node) (first_bar volume.now.catalog) }
     ensures wide { IsWide volume.now.catalog.ru }
@@ -87,6 +124,10 @@ fn refusal<D: Disk>(volume: &Volume<D>) -> Option<Form<'static>>
     let home = volume.home();
     if !is_in_ring(volume.ru()) {
         return Some(Form::NoVolume(home.node, JOURNAL_CONDITION, JOURNAL_BLOCK));
+    }
+    let root = lowest_root(volume);
+    if root < NO_BLOCK {
+        return Some(Form::NoVolume(home.node, INDEX_CONDITION, root as u32));
     }
     if home.boot == MOST_BOOTS {
         return Some(Form::QuotaExceeded(Quota::Boots, u64::from(MOST_BOOTS)));

@@ -27,8 +27,8 @@ bad_by : (o : Kept) (h : FileHead) (bytes : List ℕ) → FormBy o h → (1 ≤ 
 bad_by kept.Sequential h bytes form none = refl
 bad_by kept.Relative h bytes form none = refl
 bad_by kept.Indexed h bytes form none =
-    let one = form.key in
-    let most = form.short in
+    let one = form.keys.key in
+    let most = form.keys.short in
     ap (λ (b : Bool). refused_if (not b) line.BadParameter) (unlike (length bytes) h.key_size (λ e. none (omega (arith, e, one)) (omega (arith, e, most))))
 
 pub bad_key : (h : FileHead) (file : File) (key : Key) (bytes : List ℕ) → IsHeadOf h file → key ≡ Text bytes → (1 ≤ length bytes → length bytes ≤ 64 → ⊥) → key_refused file.organization key ≡ Some line.BadParameter

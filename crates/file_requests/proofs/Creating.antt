@@ -123,7 +123,7 @@ module _ (name : List ℕ) (bucket size : ℕ) (form : Form) (u : Stored) (o : I
           become : (h : FileHead) (n : Node) → h ≡ new_head name s start → BecomesFile h (file_made n)
           become h n is = subst (λ x. BecomesFile x (file_made n)) (sym is)
               (subst (λ (file : File). BecomesFile (new_head name s start) file) (λ i. created name (buckets i) (records i) (kind i) start n.durable.greatest)
-              (λ content map laid chain. laws.makes.file content (form_of s.form) (new_head name s start) n.durable.greatest (new_head_is name s start fits) map laid chain))
+              (λ content map laid layout. laws.makes.file content (form_of s.form) (new_head name s start) n.durable.greatest (new_head_is name s start fits) map laid layout))
 
           abbrev row_made : Node → ℕ → ℕ → Row
           row_made n place at = silent (Creates place (created name bucket size form at n.durable.greatest))

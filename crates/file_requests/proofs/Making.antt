@@ -11,7 +11,7 @@ use Rattle.change_set.specs.Maps.{empty_map}
 use Rattle.extents.specs.Extents.{IsFreeRun, all_extents}
 use Rattle.file_base.specs.declared.head.FileHead.{FileHead}
 use Rattle.record_files.specs.Any as any
-use Rattle.record_files.specs.Any.{IsLaidOut, chain_of, first_chain_of, map_of}
+use Rattle.record_files.specs.Any.{IsLaidOut, first_layout_of, layout_of, map_of}
 use Rattle.script_lang.specs.declared.statement.Form.{Form as CodeForm}
 use Rattle.script_lang.specs.declared.statement.Form.TheVariants as code_form
 use Rattle.script_lang.specs.Statements.{form_of}
@@ -93,7 +93,7 @@ out_of p (Some b) c h some = h
 pub record MadeRecords (h : FileHead) (old mid : VolumeState) : Type 0 where
   pub map_is : IfSome mid.store.current (λ c. map_of h c ≡ empty_map)
   pub laid : IfSome mid.store.current (IsLaidOut h)
-  pub chain : IfSome mid.store.current (λ c. chain_of h c ≡ first_chain_of h)
+  pub layout : IfSome mid.store.current (λ c. layout_of h c ≡ first_layout_of h)
   pub outside : AgreesOut (in_extent h) old.store.current mid.store.current
   pub each : IfSome mid.store.current EachWhole
   pub idle : IsIdle mid.store
@@ -185,7 +185,7 @@ module _ (f : ℕ) (h : FileHead) (u : Stored) (o : IsInOrder u.units u.volume) 
       kept_mid = laws.nodes.free u.units u.volume mid n h out_mid.0 k o run_here m.catalog m.size m.outside out_mid.1 (subst (λ o. IfSome o EachWhole) out_mid.1 m.each)
 
       file_mid : (file : File) → BecomesFile h file → IsFile out_mid.0 h file
-      file_mid file becomes = becomes out_mid.0 (subst (λ o. IfSome o (λ c. map_of h c ≡ empty_map)) out_mid.1 m.map_is) (subst (λ o. IfSome o (IsLaidOut h)) out_mid.1 m.laid) (subst (λ o. IfSome o (λ c. chain_of h c ≡ first_chain_of h)) out_mid.1 m.chain)
+      file_mid file becomes = becomes out_mid.0 (subst (λ o. IfSome o (λ c. map_of h c ≡ empty_map)) out_mid.1 m.map_is) (subst (λ o. IfSome o (IsLaidOut h)) out_mid.1 m.laid) (subst (λ o. IfSome o (λ c. layout_of h c ≡ first_layout_of h)) out_mid.1 m.layout)
 
     -- and then the head was to be written
     module _ {T : Type 0} (r : Result T Down) (new : Stored) (bytes : List ℕ) (same : new.units ≡ u.units) (doubts : new.in_doubt ≡ u.in_doubt) (wr : WritesHead r f h bytes mid new.volume) (goes : Goes (disk_of u) (disk_of new)) where

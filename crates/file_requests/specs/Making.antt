@@ -6,7 +6,7 @@ use Rattle.extents.specs.Extents.{IsFreeRun, all_extents}
 use Rattle.file_base.specs.declared.head.FileHead.{FileHead}
 use Rattle.node_files.specs.NewFile.{AreSizes, buckets_in, new_head}
 use Rattle.node_files.specs.declared.sizes.Sizes.{Sizes}
-use Rattle.record_files.specs.Any.{IsLaidOut, chain_of, first_chain_of, map_of}
+use Rattle.record_files.specs.Any.{IsLaidOut, first_layout_of, layout_of, map_of}
 use Rattle.emitter_model.specs.Emitting.{Shown}
 use Rattle.transcript_model.specs.Lines as line
 use Rattle.volume.specs.declared.catalog.Catalog.{Catalog}
@@ -36,7 +36,7 @@ pub record IsFresh (f : ℕ) (h : FileHead) (v : Catalog) : Type 0 where
 
 -- a file is that of a head, as soon as its buckets are made
 abbrev pub BecomesFile : FileHead → File → Type 0
-BecomesFile h file = (content : List (List ℕ)) → map_of h content ≡ empty_map → IsLaidOut h content → chain_of h content ≡ first_chain_of h → IsFile content h file
+BecomesFile h file = (content : List (List ℕ)) → map_of h content ≡ empty_map → IsLaidOut h content → layout_of h content ≡ first_layout_of h → IsFile content h file
 
 -- what the making of a file is at a node, behind what refuses it
 abbrev pub making : ℕ → File → ServiceAt

@@ -478,7 +478,7 @@ fn formed(
     Ok(out)
 }
 
-const TURNS: [Turn; 15] = [
+const TURNS: [Turn; 17] = [
     Turn::Used(0),
     Turn::Used(1),
     Turn::Used(4),
@@ -486,6 +486,8 @@ const TURNS: [Turn; 15] = [
     Turn::Root(1),
     Turn::Levels(0),
     Turn::Levels(1),
+    Turn::Levels(12),
+    Turn::Levels(13),
     Turn::Count(1),
     Turn::Cells(17),
     Turn::Longest(495),
@@ -496,26 +498,26 @@ const TURNS: [Turn; 15] = [
     Turn::KeySize(65),
 ];
 
-const FORMED: [(Organization, [bool; 15]); 3] = [
+const FORMED: [(Organization, [bool; 17]); 3] = [
     (
         Organization::Sequential,
         [
-            false, true, true, false, false, true, false, true, true, true, true, true, true, true,
-            true,
+            false, true, true, false, false, true, false, false, false, true, true, true, true,
+            true, true, true, true,
         ],
     ),
     (
         Organization::Relative,
         [
-            false, false, true, false, false, true, false, false, false, false, true, true, true,
-            true, true,
+            false, false, true, false, false, true, false, false, false, false, false, false, true,
+            true, true, true, true,
         ],
     ),
     (
         Organization::Indexed,
         [
-            false, true, true, false, false, false, true, false, true, true, true, false, false,
-            true, false,
+            false, true, true, false, false, false, true, true, false, false, true, true, true,
+            false, false, true, false,
         ],
     ),
 ];

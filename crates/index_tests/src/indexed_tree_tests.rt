@@ -1,21 +1,21 @@
-//! Keys that are set and set back at random in a file under an index of several levels, beside a plain list.
+//! Keys that are set and set back in a file under an index, beside a plain list, and how single leaves are parted.
 ghost use Rattle.std.specs.Prelude.{IfOk, ◌≡◌, ◌≤◌, ◌<◌, ◌+◌, ℕ, true, length, OnOk, IfSome};
 ghost use Rattle.std.specs.Option.{option_copied};
 ghost use Rattle.careful_write.specs.State.{IsIdle};
 ghost use Rattle.change_set.specs.Files.{IsPlaced, free_frames};
 ghost use Rattle.file_base.specs.Bytes.{piece_at};
 ghost use Rattle.index_blocks.specs.Levels.{HasRoot};
-ghost use Rattle.indexed_file.specs.Chain.{HasKeys, IsIndexed, SuitsText};
+ghost use Rattle.indexed_file.specs.Chain.{HasKeys, SuitsText};
 ghost use Rattle.indexed_file.specs.Samples.{is_even_text};
+ghost use Rattle.indexed_tree.specs.Files.{IsTreeHead, IsNewHead};
 ghost use Rattle.indexed_tree.specs.Samples.{HasLongKeys};
 
 use block_disk::{CrashDisk, Disk, MemPlatter};
 use careful_write::{Down, Group, Store};
-use change_set::{Held, RecordFile};
+use change_set::Held;
 use file_base::{FileHead, NO_MARKS, NO_SAVE, NO_SPAN, Organization};
 use frame_pool::Pool;
-use indexed_file::IndexedFile;
-use indexed_tree::{get_key, next_key, restore_key, set_key};
+use indexed_tree::{TreeFile, get_key, next_key, restore_key, set_key};
 use std::alloc::{AllocError, Global};
 use std::test::Fail;
 use vms_base::{FileName, Key, KeyText, Moment, Record};
@@ -36,20 +36,20 @@ impl Held for SomeHeld {
 
 /// What a key has in the plain list: a record of so many bytes that are alike but for the key, or none where the size is 0.
 #[derive(Clone, Copy, Debug, PartialEq, Eq, Drop)]
-struct Plain {
-    key: u16,
-    size: usize,
-    fill: u8,
+pub(crate) struct Plain {
+    pub key: u16,
+    pub size: usize,
+    pub fill: u8,
 }
 
 /// A generator of numbers.
 #[derive(Drop)]
-struct Draws {
-    state: u32,
+pub(crate) struct Draws {
+    pub state: u32,
 }
 
 impl Draws {
-    fn below(&mut self, limit: u32) -> u32
+    pub fn below(&mut self, limit: u32) -> u32
         requires { 1 ≤ limit }
         ensures { result < limit }
     {
@@ -59,40 +59,53 @@ impl Draws {
 }
 
 // The bytes of a key: its number, and zeros.
-fn key_bytes(key: u16) -> [u8; 64] {
+pub(crate) fn key_bytes(key: u16) -> [u8; 64] {
     let mut bytes = [0; 64];
     bytes[0] = (key / 256) as u8;
     bytes[1] = (key % 256) as u8;
     bytes
 }
 
-// The record of a key, which stands at place 1 of it.
-fn fill_record(out: &mut Record, plain: Plain) {
-    let mut bytes = [plain.fill; 480];
-    bytes[1..65].copy_from_slice(&key_bytes(plain.key));
-    if plain.size >= 65 && plain.size <= 480 {
-        out.set(&bytes[..plain.size]);
+// The record of a key, of so many bytes that are alike: the key stands at place 1 of it.
+fn fill_from(out: &mut Record, plain: Plain, bytes: &mut [u8]) {
+    if bytes.len() < 65 || bytes.len() > 8160 || bytes.len() < plain.size {
+        return;
     }
+    bytes[1..65].copy_from_slice(&key_bytes(plain.key));
+    out.set(&bytes[..plain.size]);
 }
 
-// The head of a new file, whose buckets have one block.
-fn head_of(name: FileName) -> FileHead
-    ensures form { IsIndexed result }
+pub(crate) fn fill_record(out: &mut Record, plain: Plain) {
+    if plain.size <= 480 {
+        fill_from(out, plain, &mut [plain.fill; 480]);
+        return;
+    }
+    fill_from(out, plain, &mut [plain.fill; 8160]);
+}
+
+// The head of a new file of so many buckets of so many blocks, whose records have at most so many bytes.
+pub(crate) fn head_of(name: FileName, alloc: u32, bucket: u16, mrs: u16) -> FileHead
+    requires some { 1 ≤ alloc }
+    requires key { 65 ≤ mrs }
+    ensures form { IsTreeHead result }
+    ensures root { HasRoot result }
+    ensures keys { HasKeys result }
+    ensures fresh { IsNewHead result }
     ensures fields { HasLongKeys result }
-    ensures place { (result.start ≡ 600) × (result.alloc ≡ 900) × (result.bucket ≡ 1) × (result.used ≡ 1) }
-    ensures most { result.mrs ≡ 480 }
+    ensures place { (result.start ≡ 600) × (result.alloc ≡ alloc) × (result.bucket ≡ bucket) }
+    ensures most { result.mrs ≡ mrs }
 {
     FileHead {
         name,
         organization: Organization::Indexed,
         marks: NO_MARKS,
-        bucket: 1,
-        mrs: 480,
+        bucket,
+        mrs,
         mrn: 0,
         key_pos: 1,
         key_size: 64,
         start: 600,
-        alloc: 900,
+        alloc,
         used: 1,
         root: 0,
         levels: 1,
@@ -144,12 +157,17 @@ fn fits(head: &FileHead, key: [u8; 64], value: &Record) -> bool
 
 /// What a run found.
 #[derive(Debug, PartialEq, Eq, Drop)]
-enum Found {
-    /// The same as the plain list, in a file of so many levels.
+pub(crate) enum Found {
+    /// The same as in the plain list, in a file of so many levels.
     Alike { levels: u32 },
-    OtherRecord { step: u32 },
+    /// Another record of a key that was set.
+    OtherRecord { key: u16 },
+    /// Another number of buckets or of levels once a key was set.
+    OtherShape { key: u16 },
+    /// Other leaves, or other numbers of slots in them.
+    OtherLeaves,
+    /// Another record than the one of this key in the list, or one behind the last where it is 0.
     OtherList { at: u16 },
-    Down,
 }
 
 // Sets one key in the file, or sets it back, and tells whether it is read again.
@@ -191,7 +209,7 @@ fn set_and_get<D: Disk>(
 }
 
 // Sets one key in the file, and then sets it back where there is something to set it back to.
-fn set_and_back<D: Disk>(
+pub(crate) fn set_and_back<D: Disk>(
     head: &mut FileHead,
     store: &mut Store<D>,
     plain: Plain,
@@ -222,7 +240,7 @@ fn set_and_back<D: Disk>(
 }
 
 // Whether the file lists the records of the plain list, which is in the order of its keys.
-fn lists<D: Disk>(
+pub(crate) fn lists<D: Disk>(
     head: &FileHead,
     store: &mut Store<D>,
     list: &[Plain],
@@ -254,69 +272,8 @@ fn lists<D: Disk>(
     })
 }
 
-// What one step sets.
-fn draw_plain(draws: &mut Draws, key: u16) -> Plain {
-    let size = 65 + draws.below(60) as usize;
-    Plain {
-        key,
-        size: if draws.below(5) == 0 { 0 } else { size },
-        fill: draws.below(256) as u8,
-    }
-}
-
-fn run_on<D: Disk>(
-    alloc: Global,
-    head: &mut FileHead,
-    store: &mut Store<D>,
-    keys: u16,
-    steps: u32,
-) -> Result<Result<Found, Down>, AllocError>
-    requires form { IsIndexed head.old }
-    requires fresh { head.old.used ≡ 1 }
-    requires placed { IsPlaced head.old store.old.disk }
-    requires frames { 32 ≤ free_frames store.old.pool }
-    requires idle { IsIdle store.old }
-    requires fields { HasLongKeys head.old }
-{
-    let mut list = Vec::new(alloc);
-    for key in 0..keys {
-        list.push(Plain {
-            key,
-            size: 0,
-            fill: 0,
-        })?;
-    }
-    let mut value = Record::reserve(alloc)?;
-    let mut out = Record::reserve(alloc)?;
-    let mut draws = Draws { state: 7 };
-    if let Err(down) = IndexedFile::make(head, store) {
-        return Ok(Err(down));
-    }
-    for step in 0..steps {
-        let at = draws.below(1000) as usize;
-        if at >= list.len() {
-            continue;
-        }
-        let plain = draw_plain(&mut draws, list[at].key);
-        let old = if draws.below(4) == 0 {
-            Some(list[at])
-        } else {
-            None
-        };
-        match set_and_back(head, store, plain, old, &mut value, &mut out) {
-            Ok(true) => {}
-            Ok(false) => return Ok(Ok(Found::OtherRecord { step })),
-            Err(down) => return Ok(Err(down)),
-        }
-        if old.is_none() {
-            list[at] = plain;
-        }
-    }
-    Ok(lists(head, store, &list, &mut value, &mut out))
-}
-
 // A store of zeros. None where it did not open.
-fn opened(alloc: Global) -> Result<Option<Store<CrashDisk<MemPlatter>>>, AllocError>
+pub(crate) fn opened(alloc: Global) -> Result<Option<Store<CrashDisk<MemPlatter>>>, AllocError>
     ensures size { IfOk result (λ store. IfSome store (λ s. s.disk.size ≡ 4096)) }
     ensures frames { IfOk result (λ store. IfSome store (λ s. 32 ≤ free_frames s.pool)) }
     ensures idle { IfOk result (λ store. IfSome store IsIdle) }
@@ -338,25 +295,290 @@ fn opened(alloc: Global) -> Result<Option<Store<CrashDisk<MemPlatter>>>, AllocEr
     }
 }
 
-// None where the store did not open.
-fn run(alloc: Global, keys: u16, steps: u32) -> Result<Option<Found>, AllocError> {
+/// Slots of one leaf, by their bytes in the order of their keys; the one at a place is set last. The places behind the last slot have 0 bytes.
+#[derive(Clone, Copy, Debug, Drop)]
+struct Row {
+    bucket: u16,
+    mrs: u16,
+    sizes: [usize; 5],
+    last: usize,
+    /// How many slots the leaves have then.
+    counts: [u16; 3],
+}
+
+// Slots of a leaf of one block.
+fn short_row(sizes: [usize; 5], last: usize, counts: [u16; 3]) -> Row {
+    Row {
+        bucket: 1,
+        mrs: 480,
+        sizes,
+        last,
+        counts,
+    }
+}
+
+// Slots of a leaf of 16 blocks.
+fn long_row(sizes: [usize; 5], last: usize, counts: [u16; 3]) -> Row {
+    Row {
+        bucket: 16,
+        mrs: 8160,
+        ..short_row(sizes, last, counts)
+    }
+}
+
+// The slots of a row, in the order of their keys.
+fn list_of_row(alloc: Global, row: &Row) -> Result<Vec<Plain>, AllocError> {
+    let mut list = Vec::new(alloc);
+    for (i, bytes) in row.sizes.iter().enumerate() {
+        let size = bytes.saturating_sub(4);
+        if size > 0 {
+            list.push(Plain {
+                key: 1 + i as u16,
+                size,
+                fill: 7,
+            })?;
+        }
+    }
+    Ok(list)
+}
+
+// A list with the one at a place behind all others.
+fn with_last(alloc: Global, list: &[Plain], last: usize) -> Result<Vec<Plain>, AllocError> {
+    let mut out = Vec::new(alloc);
+    for (i, plain) in list.iter().enumerate() {
+        if i != last {
+            out.push(*plain)?;
+        }
+    }
+    if let Some(plain) = list.get(last) {
+        out.push(*plain)?;
+    }
+    Ok(out)
+}
+
+// Sets the keys of a list in its order, and tells whether each is read again.
+fn set_all<D: Disk>(
+    head: &mut FileHead,
+    store: &mut Store<D>,
+    list: &[Plain],
+    value: &mut Record,
+    out: &mut Record,
+) -> Result<bool, Down>
+    requires form { HasRoot head.old }
+    requires keys { HasKeys head.old }
+    requires placed { IsPlaced head.old store.old.disk }
+    requires frames { 1 ≤ free_frames store.old.pool }
+    requires idle { IsIdle store.old }
+    requires fields { HasLongKeys head.old }
+    ensures form { IfOk result (λ same. same ≡ true → HasRoot head.new) }
+    ensures keys { IfOk result (λ same. same ≡ true → HasKeys head.new) }
+    ensures placed { IfOk result (λ same. same ≡ true → IsPlaced head.new store.new.disk) }
+    ensures frames { IfOk result (λ same. same ≡ true → 1 ≤ free_frames store.new.pool) }
+    ensures idle { IfOk result (λ same. same ≡ true → IsIdle store.new) }
+    ensures fields { IfOk result (λ same. same ≡ true → HasLongKeys head.new) }
+{
+    for plain in list {
+        if !set_and_get(head, store, *plain, false, value, out)? {
+            return Ok(false);
+        }
+    }
+    Ok(true)
+}
+
+// How many slots bucket n has by its header, and which bucket it leads to.
+pub(crate) fn header<D: Disk>(
+    head: &FileHead,
+    store: &mut Store<D>,
+    n: u32,
+) -> Result<(u16, u32), Down>
+    requires placed { IsPlaced head.now store.old.disk }
+    requires there { n < head.now.alloc }
+    ensures same { OnOk result (store.new ≡ store.old) }
+{
+    let mut block = [0; 512];
+    store.read(head.start + n * head.bucket as u32, &mut block)?;
+    let count = u16::from_le_bytes([block[2], block[3]]);
+    let next = u32::from_le_bytes([block[8], block[9], block[10], block[11]]);
+    Ok((count, next))
+}
+
+// How many slots the first leaves have.
+fn counts<D: Disk>(head: &FileHead, store: &mut Store<D>) -> Result<[u16; 3], Down>
+    requires form { HasRoot head.now }
+    requires placed { IsPlaced head.now store.old.disk }
+    ensures same { OnOk result (store.new ≡ store.old) }
+{
+    let mut counts = [0; 3];
+    let mut n = 0;
+    for i in 0..3 {
+        let (count, next) = header(head, store, n)?;
+        counts[i] = count;
+        if next >= head.used {
+            return Ok(counts);
+        }
+        n = next;
+    }
+    Ok(counts)
+}
+
+// How many slots the first leaves have, where the file lists the records of the plain list; else None.
+fn counts_alike<D: Disk>(
+    head: &FileHead,
+    store: &mut Store<D>,
+    list: &[Plain],
+    value: &mut Record,
+    out: &mut Record,
+) -> Result<Option<[u16; 3]>, Down>
+    requires form { HasRoot head.now }
+    requires keys { HasKeys head.now }
+    requires placed { IsPlaced head.now store.old.disk }
+    requires frames { 1 ≤ free_frames store.old.pool }
+{
+    let counts = counts(head, store)?;
+    match lists(head, store, list, value, out)? {
+        Found::Alike { .. } => Ok(Some(counts)),
+        _ => Ok(None),
+    }
+}
+
+// Makes the first leaf one that is not laid out as a bucket.
+fn spoil<D: Disk>(head: &FileHead, store: &mut Store<D>) -> Result<(), Down>
+    requires form { HasRoot head.now }
+    requires placed { IsPlaced head.now store.old.disk }
+    requires frames { 1 ≤ free_frames store.old.pool }
+    requires idle { IsIdle store.old }
+    ensures placed { OnOk result (IsPlaced head.now store.new.disk) }
+    ensures frames { OnOk result (1 ≤ free_frames store.new.pool) }
+    ensures idle { OnOk result (IsIdle store.new) }
+{
+    let mut block = [0; 512];
+    store.read(head.start, &mut block)?;
+    block[0] = 9;
+    let _ = store.stage(head.start, &block);
+    store.apply()
+}
+
+// Where a key is given, spoils the first leaf and sets that key, and tells whether it is read again.
+fn set_spoiled<D: Disk>(
+    head: &mut FileHead,
+    store: &mut Store<D>,
+    again: Option<Plain>,
+    value: &mut Record,
+    out: &mut Record,
+) -> Result<bool, Down>
+    requires form { HasRoot head.old }
+    requires keys { HasKeys head.old }
+    requires placed { IsPlaced head.old store.old.disk }
+    requires frames { 1 ≤ free_frames store.old.pool }
+    requires idle { IsIdle store.old }
+    requires fields { HasLongKeys head.old }
+    ensures form { IfOk result (λ same. same ≡ true → HasRoot head.new) }
+    ensures keys { IfOk result (λ same. same ≡ true → HasKeys head.new) }
+    ensures placed { IfOk result (λ same. same ≡ true → IsPlaced head.new store.new.disk) }
+    ensures frames { IfOk result (λ same. same ≡ true → 1 ≤ free_frames store.new.pool) }
+    ensures idle { IfOk result (λ same. same ≡ true → IsIdle store.new) }
+    ensures fields { IfOk result (λ same. same ≡ true → HasLongKeys head.new) }
+{
+    match again {
+        Some(again) => {
+            spoil(head, store)?;
+            set_and_get(head, store, again, false, value, out)
+        }
+        None => Ok(true),
+    }
+}
+
+// Sets the keys of a list in a new file. Where a key is given it then spoils the first leaf, and sets that key. Tells how many slots the leaves have.
+// None where a key is not read again, or the file does not list the records that are left.
+fn counts_of<D: Disk>(
+    head: &mut FileHead,
+    store: &mut Store<D>,
+    list: &[Plain],
+    again: Option<Plain>,
+    left: &[Plain],
+    value: &mut Record,
+    out: &mut Record,
+) -> Result<Option<[u16; 3]>, Down>
+    requires form { IsTreeHead head.old }
+    requires root { HasRoot head.old }
+    requires keys { HasKeys head.old }
+    requires fresh { IsNewHead head.old }
+    requires placed { IsPlaced head.old store.old.disk }
+    requires frames { 32 ≤ free_frames store.old.pool }
+    requires idle { IsIdle store.old }
+    requires fields { HasLongKeys head.old }
+{
+    TreeFile::make(head, store)?;
+    if !set_all(head, store, list, value, out)? {
+        return Ok(None);
+    }
+    if !set_spoiled(head, store, again, value, out)? {
+        return Ok(None);
+    }
+    counts_alike(head, store, left, value, out)
+}
+
+// How many slots the leaves have into which a row is parted; where its first leaf is to be spoiled, those that it has once its first slot is set again.
+fn parted(alloc: Global, row: &Row, spoils: bool) -> Result<Option<[u16; 3]>, AllocError> {
     let Some(name) = FileName::new(b"F") else {
         return Ok(None);
     };
-    let mut head = head_of(name);
+    let mut left = list_of_row(alloc, row)?;
+    let order = with_last(alloc, &left, row.last)?;
+    let mut again = None;
+    if spoils && left.len() >= 2 {
+        again = Some(left[0]);
+        let _ = left.remove(1);
+    }
+    let mut value = Record::reserve(alloc)?;
+    let mut out = Record::reserve(alloc)?;
+    if row.bucket == 0
+        || row.bucket > 16
+        || row.mrs < 65
+        || row.mrs > 8160
+        || row.mrs as u32 + 32 > 512 * row.bucket as u32
+    {
+        return Ok(None);
+    }
+    let mut head = head_of(name, 100, row.bucket, row.mrs);
     match opened(alloc)? {
-        Some(mut store) => {
-            Ok(Some(run_on(alloc, &mut head, &mut store, keys, steps)?.unwrap_or(Found::Down)))
-        }
+        Some(mut store) => match counts_of(
+            &mut head, &mut store, &order, again, &left, &mut value, &mut out,
+        ) {
+            Ok(counts) => Ok(counts),
+            Err(_) => Ok(None),
+        },
         None => Ok(None),
     }
 }
 
 #[test]
-fn a_file_of_many_levels_is_a_plain_list(rt: HostRuntime) -> Result<(), Fail> {
-    assert_eq!(rt;
-        run(rt.alloc(), 700, 3000)?,
-        Some(Found::Alike { levels: 5 })
-    );
+fn a_set_in_a_spoiled_leaf_is_read_again(rt: HostRuntime) -> Result<(), Fail> {
+    let row = short_row([124; 5], 4, [1, 3, 0]);
+    assert_eq!(rt; parted(rt.alloc(), &row, true)?, Some(row.counts));
+    Ok(())
+}
+
+#[test]
+fn leaves_are_parted_by_the_rule(rt: HostRuntime) -> Result<(), Fail> {
+    let four = [124; 5];
+    let long = [104, 8164, 104, 0, 0];
+    let rows = [
+        short_row(four, 0, [2, 3, 0]),
+        short_row(four, 1, [2, 3, 0]),
+        short_row(four, 2, [2, 3, 0]),
+        short_row(four, 3, [2, 3, 0]),
+        short_row(four, 4, [2, 3, 0]),
+        short_row([99, 99, 150, 99, 99], 2, [2, 3, 0]),
+        short_row([124, 124, 124, 124, 0], 3, [4, 0, 0]),
+        short_row([124, 124, 124, 125, 0], 3, [2, 2, 0]),
+        short_row([125, 124, 124, 124, 0], 0, [2, 2, 0]),
+        long_row([8164, 104, 104, 0, 0], 0, [1, 2, 0]),
+        long_row(long, 1, [1, 1, 1]),
+        long_row([104, 104, 8164, 0, 0], 2, [2, 1, 0]),
+    ];
+    for row in rows.iter() {
+        assert_eq!(rt; parted(rt.alloc(), row, false)?, Some(row.counts));
+    }
     Ok(())
 }

@@ -1,7 +1,7 @@
-//! Indexed files, tried: chains of buckets, and trees over them.
+//! Indexed files, tried: trees of buckets over their leaves.
 #![tactic(auto)]
 
 #[cfg(test)]
-mod indexed_file_tests;
-#[cfg(test)]
 mod indexed_tree_tests;
+#[cfg(test)]
+mod plain_layouts;

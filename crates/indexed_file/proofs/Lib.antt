@@ -13,11 +13,9 @@ pub mod PartedLaws
 pub mod PlaceLaws
 pub mod RawLaws
 pub mod ReadLaws
-pub mod RestoreLaws
 pub mod SetLaws
 pub mod ShareLaws
 pub mod StoreLaws
 pub mod TargetLaws
 pub mod ThroughLaws
 pub mod TidyLaws
-pub mod WalkLaws

@@ -1,12 +1,12 @@
 -- Slots as bytes: what is written is read back, and tidied bytes are tidied slots.
-use Rattle.std.proofs.Common.{◌≡◌, ⊎_elim, ℕ, zero, suc, ◌<◌, ◌≤◌, ◌+◌, ◌-◌, ◌*◌, ◌/◌, ◌%◌, ◌^◌, ◌==◌, ◌&&◌, ◌||◌, Bool, true, false, List, [], ◌∷◌, ◌++◌, length, take, drop, get_or, map, replicate, Option, Some, None, if◌then◌else◌, nat_le, refl, sym, ap, subst, ◌∙◌, arith, rules, length-append, append_assoc}
+use Rattle.std.proofs.Common.{◌≡◌, ⊎_elim, ℕ, zero, suc, ◌≤◌, ◌+◌, ◌-◌, ◌*◌, ◌/◌, ◌%◌, ◌==◌, ◌&&◌, ◌||◌, Bool, true, false, List, [], ◌∷◌, ◌++◌, length, take, drop, map, replicate, Option, Some, None, if◌then◌else◌, nat_le, refl, sym, ap, subst, ◌∙◌, arith, rules, length-append, append_assoc}
 use Rattle.std.proofs.lemmas.Bool.Decides.{nat_tests}
 use Rattle.std.proofs.lemmas.Bool.{cases_lt}
 use Rattle.std.proofs.lemmas.List.{same_lists, places, take_at, drop-drop, length-replicate, length-take-le, length-take, length-drop, map-append}
 use Rattle.file_base.specs.declared.head.FileHead.{FileHead}
 use Rattle.file_base.specs.Bytes.{piece_at, spliced}
 use Rattle.file_base.proofs.Splices.{take-spliced, length-spliced}
-use Rattle.bucket_page.specs.Pages.{u16_at, u16_bytes, key_in, suits, all_suit, joined}
+use Rattle.bucket_page.specs.Pages.{u16_at, key_in, suits, all_suit, joined}
 use Rattle.bucket_page.proofs.PageLaws.{both_true, all_suit-append}
 use Rattle.records_model.specs.Slots.{size_of, tidied_slot, tidied}
 use Rattle.indexed_file.specs.Chain.{kind_of, slot_of, value_of, keeps_record, all_keep, SuitsText}
@@ -55,10 +55,6 @@ slot_written out b1 b2 b3 piece head room at within holds four first second thir
     ∙ ap (λ b. spliced b 0 head) (ap (take n) first ∙ blank_front out n within)
     ∙ front_over n head four (omega arith) ∙ ap (λ m. head ++ replicate m 0) back)
     ∙ piece_over room at head piece four holds
-
--- a piece that is written at the front of some bytes
-pub written_front : (out p b1 : List ℕ) → b1 ≡ spliced out 0 p → take (length p) b1 ≡ p
-written_front out p b1 is = ap (take (length p)) is ∙ take_at p (drop (0 + length p) out) (length p) refl
 
 suits_of : (m r l p : ℕ) → m ≡ 4 + r → l ≤ r → p ≤ r → ((m == 4 + r) && (nat_le l r && nat_le p r)) ≡ true
 suits_of m r l p a b c = grind (arith, nat_tests)
@@ -270,14 +266,6 @@ one_cons : (x : List ℕ) → 1 ≤ length x → one_of x ≡ x ∷ []
 one_cons [] some = absurd (omega arith)
 one_cons (y ∷ ys) some = refl
 
--- what is written of a slot that is tidied
-
-pub written_whole : (h : FileHead) (b : Bool) (raw x : List ℕ) → 1 ≤ length raw → b ≡ true → x ≡ raw → one_of x ≡ tidied_raw h b raw
-written_whole h b raw x some held same = ap one_of same ∙ one_cons raw some ∙ sym (ap (λ t. tidied_raw h t raw) held)
-
-pub written_none : (h : FileHead) (b : Bool) (raw : List ℕ) → b ≡ false → u16_at raw 2 ≡ 0 → [] ≡ tidied_raw h b raw
-written_none h b raw free none = sym (ap (λ t. tidied_raw h t raw) free ∙ if_true (u16_at raw 2 == 0) [] (shortened h raw ∷ []) (grind (arith, nat_tests)))
-
 if_bytes : (P : List ℕ → Type 0) (t : Bool) (x y : List ℕ) → P x → P y → P (if t then x else y)
 if_bytes P true x y a b = a
 if_bytes P false x y a b = b
@@ -290,9 +278,6 @@ written_short h b raw x some free full same =
 
 pub shortened_long : (h : FileHead) (raw : List ℕ) → h.key_pos + h.key_size ≤ u16_at raw 2 → shortened h raw ≡ slot_bytes (u16_at raw 2) (u16_at raw 2) 0 (piece_at raw 4 (u16_at raw 2))
 shortened_long h raw le = if_true (nat_le (h.key_pos + h.key_size) (u16_at raw 2)) _ _ (grind (arith, nat_tests))
-
-pub shortened_same : (h : FileHead) (raw : List ℕ) → u16_at raw 2 < h.key_pos + h.key_size → shortened h raw ≡ raw
-shortened_same h raw less = if_false (nat_le (h.key_pos + h.key_size) (u16_at raw 2)) _ _ (grind (arith, nat_tests))
 
 pub short_written : (h : FileHead) (raw out : List ℕ) (n : ℕ) → n ≡ u16_at raw 2 → h.key_pos + h.key_size ≤ n → take (4 + n) out ≡ slot_bytes n n 0 (take (4 + n - 4) (drop 4 raw)) → take (4 + n) out ≡ shortened h raw
 short_written h raw out n is le written =

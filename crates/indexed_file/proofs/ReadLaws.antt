@@ -1,12 +1,10 @@
 -- What is read of a bucket.
-use Rattle.std.proofs.Common.{◌≡◌, ℕ, ◌<◌, ◌≤◌, ◌*◌, Bool, List, length, take, map, Option, Some, None, IfSome, IfOk, Result, Ok, Err, sym, ap, subst, ◌∙◌, arith}
+use Rattle.std.proofs.Common.{◌≡◌, ℕ, ◌<◌, ◌≤◌, ◌*◌, Bool, List, length, take, Option, Some, None, IfSome, IfOk, Result, Ok, Err, sym, subst, ◌∙◌, arith}
 use Rattle.std.proofs.lemmas.List.{length-take-le}
 use Rattle.careful_write.specs.declared.down.Down.{Down}
 use Rattle.file_base.specs.declared.head.FileHead.{FileHead}
-use Rattle.bucket_page.specs.Pages.{slots_of, IsBucket}
-use Rattle.records_model.specs.Slots.{value_in, lookup}
-use Rattle.indexed_file.specs.Chain.{kind_of, slot_of, bucket_at, slots_in, target_of, all_slots_of, IsChained, HasSlot, Stands}
-use Rattle.indexed_file.proofs.TargetLaws.{lookup_in_target}
+use Rattle.bucket_page.specs.Pages.{IsBucket}
+use Rattle.indexed_file.specs.Chain.{kind_of, bucket_at, HasSlot, Stands}
 
 abbrev Told : Type 0
 Told = Option (List (List ℕ))

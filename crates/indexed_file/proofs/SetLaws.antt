@@ -1,18 +1,12 @@
 -- What a set does to the slots of the bucket for a key, among those of the whole file.
-use Rattle.std.proofs.Common.{◌≡◌, ⊎_elim, ℕ, ◌<◌, ◌≤◌, Bool, true, false, List, [], ◌∷◌, ◌++◌, length, Option, Some, None, if◌then◌else◌, nat_le, max, refl, sym, ap, ◌∙◌, arith, append_assoc, suc, ◌+◌}
-use Rattle.std.proofs.lemmas.Bool.{cases_Bool}
+use Rattle.std.proofs.Common.{◌≡◌, ℕ, ◌<◌, ◌≤◌, Bool, true, false, List, [], ◌∷◌, ◌++◌, length, Option, Some, None, if◌then◌else◌, nat_le, max, refl, sym, ap, ◌∙◌, arith, append_assoc, suc, ◌+◌}
 use Rattle.std.proofs.lemmas.Bool.Decides.{nat_tests}
-use Rattle.records_model.specs.Slots.{Slot, same_bytes, bytes_before, slot_at, value_in, room_in, lookup, room_of, size_of, with_value, put, tidied_slot, tidied, AllBehind, AllBefore, IsOrdered, IsFor}
+use Rattle.records_model.specs.Slots.{Slot, same_bytes, bytes_before, slot_at, value_in, room_in, lookup, room_of, size_of, with_value, put, tidied_slot, tidied, AllBehind, AllBefore, IsFor}
 use Rattle.records_model.specs.Parts.{bytes_of, added_buckets, added_by, has_place}
 use Rattle.indexed_file.specs.Chain.{slots_set, added_by_set}
-use Rattle.records_model.proofs.SlotLaws.{same_bytes_are, same_self, before_not_same, behind_not_same, or_slot, if_true, if_false, slot_at-append, behind_absent, ordered_parts, target_tells, put_other, put_sets, put_keeps_order, put_keeps_rooms, tidy_keeps_order, tidy_step, tidy_order, tidy_keeps}
+use Rattle.records_model.proofs.SlotLaws.{same_self, before_not_same, behind_not_same, if_true, if_false, put_keeps_order, tidy_keeps_order}
 use Rattle.indexed_file.proofs.NextLaws.{not_before, not_before_itself}
 use Rattle.records_model.specs.Chain.{place_of}
-
--- the place of a key among slots
-
-new_slot : List ℕ → List ℕ → Slot
-new_slot k r = record { key = k; room = length r; value = Some r }
 
 pub put_between : (k r : List ℕ) (a b : List Slot) → AllBefore k a → AllBehind k b → put k (Some r) (a ++ b) ≡ a ++ (record { key = k; room = length r; value = Some r } ∷ b)
 put_between k r [] [] lower higher = refl
@@ -80,63 +74,6 @@ put_tidied held k r room value a c lower higher short holds =
     ap (put k (Some r)) (tidied-append held a (record { key = k; room = room; value = value } ∷ c))
     ∙ tidied_one (held k) k r room value (tidied held a) (tidied held c) lower higher short holds
 
--- the whole file
-
-value_same : (o x y : Option Slot) → value_in x ≡ value_in y → value_in (or_slot o x) ≡ value_in (or_slot o y)
-value_same None x y h = h
-value_same (Some s) x y h = refl
-
-room_same : (o x y : Option Slot) → room_in x ≡ room_in y → room_in (or_slot o x) ≡ room_in (or_slot o y)
-room_same None x y h = h
-room_same (Some s) x y h = refl
-
-pub lookup_behind : (a x y : List Slot) (q : List ℕ) → lookup x q ≡ lookup y q → lookup (a ++ x) q ≡ lookup (a ++ y) q
-lookup_behind a x y q h = ap value_in (slot_at-append q a x) ∙ value_same (slot_at q a) _ _ h ∙ sym (ap value_in (slot_at-append q a y))
-
-pub room_behind : (a x y : List Slot) (q : List ℕ) → room_of x q ≡ room_of y q → room_of (a ++ x) q ≡ room_of (a ++ y) q
-room_behind a x y q h = ap room_in (slot_at-append q a x) ∙ room_same (slot_at q a) _ _ h ∙ sym (ap room_in (slot_at-append q a y))
-
-tidy_along : (held : List ℕ → Bool) (slots more : List Slot) (q : List ℕ) → IsOrdered (slots ++ more) → lookup (tidied held slots ++ more) q ≡ lookup (slots ++ more) q
-tidy_along held [] more q ordered = refl
-tidy_along held (s ∷ ss) more q ordered =
-    ap (λ x. lookup x q) (append_assoc (tidied_slot (held s.key) s) (tidied held ss) more)
-    ∙ tidy_step (held s.key) s.key s.room s.value (ss ++ more) (tidied held ss ++ more) q (behind_absent s.key (ss ++ more) ordered.0) (tidy_along held ss more q ordered.1)
-
--- the room of a held key stays
-pass_over : (b : Bool) (value : Option (List ℕ)) (key : List ℕ) (room : ℕ) (rest' : List Slot) (q : List ℕ) (n : ℕ) → same_bytes q key ≡ false → room_of rest' q ≡ n
-    → room_of (tidied_slot b (record { key = key; room = room; value = value }) ++ rest') q ≡ n
-pass_over true value key room rest' q n other is = ap room_in (if_false (same_bytes q key) _ _ other) ∙ is
-pass_over false None key room rest' q n other is = is
-pass_over false (Some bytes) key room rest' q n other is = ap room_in (if_false (same_bytes q key) _ _ other) ∙ is
-
-kept_here : (b : Bool) (value : Option (List ℕ)) (key : List ℕ) (room : ℕ) (rest' : List Slot) (q : List ℕ) → b ≡ true → same_bytes q key ≡ true
-    → room_of (tidied_slot b (record { key = key; room = room; value = value }) ++ rest') q ≡ room
-kept_here true value key room rest' q h same = ap room_in (if_true (same_bytes q key) _ _ same)
-kept_here false value key room rest' q h same = cc
-
-rooms_along : (held : List ℕ → Bool) (slots more : List Slot) (q : List ℕ) → held q ≡ true → room_of (tidied held slots ++ more) q ≡ room_of (slots ++ more) q
-rooms_along held [] more q is_held = refl
-rooms_along held (s ∷ ss) more q is_held =
-    let later = rooms_along held ss more q is_held in
-    ap (λ x. room_of x q) (append_assoc (tidied_slot (held s.key) s) (tidied held ss) more)
-    ∙ ⊎_elim
-    (λ same. kept_here (held s.key) s.value s.key s.room (tidied held ss ++ more) q (ap held (sym (same_bytes_are q s.key same)) ∙ is_held) same ∙ sym (ap room_in (if_true (same_bytes q s.key) _ _ same)))
-    (λ other. pass_over (held s.key) s.value s.key s.room (tidied held ss ++ more) q (room_of (ss ++ more) q) other later ∙ sym (ap room_in (if_false (same_bytes q s.key) _ _ other)))
-    (cases_Bool (same_bytes q s.key))
-
--- rooms of a file do not fall where a key is put
-put_rooms : (k : List ℕ) (v : Option (List ℕ)) (a target c : List Slot) (q : List ℕ) → IsFor k a target c → room_of (a ++ (target ++ c)) q ≤ room_of (a ++ (put k v target ++ c)) q
-put_rooms k v a target c q is = ⊎_elim
-    (λ same. let key = same_bytes_are q k same in
-    let old : room_of (a ++ (target ++ c)) q ≡ room_of target k = ap (room_of (a ++ (target ++ c))) key ∙ ap room_in (target_tells k a target c is) in
-    let new : room_of (a ++ (put k v target ++ c)) q ≡ room_of (put k v target) k = ap (room_of (a ++ (put k v target ++ c))) key ∙ ap room_in (target_tells k a (put k v target) c (put_keeps_order k v a target c is)) in
-    let grows = (put_keeps_rooms k v target (ordered_parts target c (ordered_parts a (target ++ c) is.ordered).1).0).keeps in
-    omega (arith, old, new, grows))
-    (λ other. let same : room_of (a ++ (put k v target ++ c)) q ≡ room_of (a ++ (target ++ c)) q = room_behind a (put k v target ++ c) (target ++ c) q
-    (ap room_in (slot_at-append q (put k v target) c ∙ ap (λ o. or_slot o (slot_at q c)) (put_other q k v target other) ∙ sym (slot_at-append q target c))) in
-    omega (arith, same))
-    (cases_Bool (same_bytes q k))
-
 if_cases : (P : List Slot → Type 0) (t : Bool) (x y : List Slot) → P x → P y → P (if t then x else y)
 if_cases P true x y a b = a
 if_cases P false x y a b = b
@@ -145,24 +82,6 @@ pub sets_for : (cap : ℕ) (held : List ℕ → Bool) (k : List ℕ) (v : Option
 sets_for cap held k v a target c is = if_cases (λ l. IsFor k a l c) (nat_le (bytes_of (put k v target)) cap) _ _
     (put_keeps_order k v a target c is)
     (put_keeps_order k v a (tidied held target) c (tidy_keeps_order held k a target c is))
-
-same_choice : (t : Bool) (v x y : Option (List ℕ)) → x ≡ y → (if t then v else x) ≡ (if t then v else y)
-same_choice t v x y h = ap (λ o. if t then v else o) h
-
-pub sets_lookup : (cap : ℕ) (held : List ℕ → Bool) (k : List ℕ) (v : Option (List ℕ)) (a target c : List Slot) (q : List ℕ) → IsFor k a target c
-    → lookup (a ++ (slots_set cap held k v target ++ c)) q ≡ (if same_bytes q k then v else lookup (a ++ (target ++ c)) q)
-sets_lookup cap held k v a target c q is = if_cases (λ l. lookup (a ++ (l ++ c)) q ≡ (if same_bytes q k then v else lookup (a ++ (target ++ c)) q)) (nat_le (bytes_of (put k v target)) cap) _ _
-    (put_sets k v a target c is q)
-    (put_sets k v a (tidied held target) c (tidy_keeps_order held k a target c is) q
-    ∙ same_choice (same_bytes q k) v _ _ (lookup_behind a (tidied held target ++ c) (target ++ c) q (tidy_along held target c q (ordered_parts a (target ++ c) is.ordered).1)))
-
-pub sets_rooms : (cap : ℕ) (held : List ℕ → Bool) (k : List ℕ) (v : Option (List ℕ)) (a target c : List Slot) (q : List ℕ) → IsFor k a target c → held q ≡ true
-    → room_of (a ++ (target ++ c)) q ≤ room_of (a ++ (slots_set cap held k v target ++ c)) q
-sets_rooms cap held k v a target c q is is_held = if_cases (λ l. room_of (a ++ (target ++ c)) q ≤ room_of (a ++ (l ++ c)) q) (nat_le (bytes_of (put k v target)) cap) _ _
-    (put_rooms k v a target c q is)
-    (let grows = put_rooms k v a (tidied held target) c q (tidy_keeps_order held k a target c is) in
-    let same : room_of (a ++ (tidied held target ++ c)) q ≡ room_of (a ++ (target ++ c)) q = room_behind a (tidied held target ++ c) (target ++ c) q (rooms_along held target c q is_held) in
-    omega (arith, grows, same))
 
 -- each record is in its slot's room
 abbrev pub AllHold : List Slot → Type 0
@@ -176,35 +95,6 @@ held_here k (s ∷ ss) all = go (same_bytes k s.key) (held_here k ss all.1)
     go : (t : Bool) → size_of (lookup ss k) ≤ room_of ss k → size_of (value_in (if t then Some s else slot_at k ss)) ≤ room_in (if t then Some s else slot_at k ss)
     go true later = all.0
     go false later = later
-
-hold_tidied : (held : List ℕ → Bool) (slots : List Slot) → AllHold slots → AllHold (tidied held slots)
-hold_tidied held [] all = tt
-hold_tidied held (s ∷ ss) all = go (held s.key) s.key s.room s.value all.0 (hold_tidied held ss all.1)
-  where
-    go : (t : Bool) (key : List ℕ) (room : ℕ) (value : Option (List ℕ)) → size_of value ≤ room → AllHold (tidied held ss) → AllHold (tidied_slot t (record { key = key; room = room; value = value }) ++ tidied held ss)
-    go true key room value here later = (here, later)
-    go false key room None here later = later
-    go false key room (Some bytes) here later = (omega arith, later)
-
-if_room : (t : Bool) (x y : List Slot) (n : ℕ) (k : List ℕ) → n ≤ room_of x k → n ≤ room_of y k → n ≤ room_of (if t then x else y) k
-if_room true x y n k a b = a
-if_room false x y n k a b = b
-
--- what a key had is in the room that it has once it is set
-pub sets_back : (cap : ℕ) (held : List ℕ → Bool) (k : List ℕ) (v : Option (List ℕ)) (a target c : List Slot) → IsFor k a target c → AllHold target
-    → size_of (lookup (a ++ (target ++ c)) k) ≤ room_of (a ++ (slots_set cap held k v target ++ c)) k
-sets_back cap held k v a target c is all =
-    let order = (ordered_parts target c (ordered_parts a (target ++ c) is.ordered).1).0 in
-    let old = ap (λ o. size_of (value_in o)) (target_tells k a target c is) in
-    let new = ap room_in (target_tells k a (slots_set cap held k v target) c (sets_for cap held k v a target c is)) in
-    let put_rooms = (put_keeps_rooms k v target order).keeps in
-    let here = held_here k target all in
-    let tidy_rooms = (put_keeps_rooms k v (tidied held target) (tidy_order held target order)).keeps in
-    let tidy_here = held_here k (tidied held target) (hold_tidied held target all) in
-    let same = ap size_of (tidy_keeps held target order k) in
-    let both : size_of (lookup target k) ≤ room_of (slots_set cap held k v target) k =
-    if_room (nat_le (bytes_of (put k v target)) cap) _ _ (size_of (lookup target k)) k (omega (arith, here, put_rooms)) (omega (arith, tidy_here, tidy_rooms, same)) in
-    omega (arith, old, new, both)
 
 added_step : (t : Bool) (x y : List Slot) (cap : ℕ) → nat_le (bytes_of x) cap ≡ t → (if t then 0 else added_buckets cap y) ≡ added_buckets cap (if t then x else y)
 added_step true x y cap fits = ap (λ u. added_by u (has_place cap x (length x))) (sym fits)

@@ -1,44 +1,16 @@
 -- Buckets that are staged through a frame.
-use Rattle.std.proofs.Common.{◌≡◌, ℕ, ◌<◌, ◌≤◌, ◌+◌, ◌-◌, ◌*◌, Bool, List, length, set, IfSome, Option, Some, None, option_map, refl, sym, ap, subst, ◌∙◌, arith}
+use Rattle.std.proofs.Common.{◌≡◌, ℕ, ◌≤◌, ◌+◌, List, length, set, Option, Some, None, option_map, refl, sym, ap, subst, ◌∙◌, arith}
 use Rattle.std.proofs.lemmas.List.{set-set}
-use Rattle.block_disk.specs.Disk.{DiskState}
 use Rattle.careful_write.specs.State.{StoreState}
-use Rattle.frame_pool.specs.Pool.{IsOut}
 use Rattle.file_base.specs.declared.head.FileHead.{FileHead}
-use Rattle.change_set.specs.Buckets.{frame_of, with_frame, with_bucket, with_numbers, LiesInHome, WasFree}
-use Rattle.change_set.specs.Files.{IsPlaced}
-use Rattle.change_set.proofs.Frames.{frame_of-with_frame, Lent, lent_given}
-use Rattle.change_set.proofs.Extents.{ranges_apart}
+use Rattle.change_set.specs.Buckets.{frame_of, with_frame, with_bucket, WasFree}
+use Rattle.change_set.proofs.Frames.{Lent, lent_given}
 use Rattle.change_set.proofs.Loading.{length-with_numbers}
-use Rattle.indexed_file.specs.Chain.{bucket_first, IsChained}
-use Rattle.indexed_file.specs.Sets.{with_parts, with_blocks_of, touched_by, SetsTarget, SetsFile, staged, too_full}
+use Rattle.indexed_file.specs.Chain.{bucket_first}
+use Rattle.indexed_file.specs.Sets.{with_parts, with_blocks_of, touched_by}
 
 abbrev Told : Type 0
 Told = Option (List (List ℕ))
-
--- a bucket of the file is one of the content
-pub bucket_lies : (h : FileHead) (disk disk' : DiskState) (n : ℕ) → IsPlaced h disk → disk' ≡ disk → n < h.alloc → LiesInHome disk' (h.start + n * h.bucket) h.bucket
-bucket_lies h disk disk' n placed same below =
-    let lies = ranges_apart n h.alloc h.bucket below in
-    let size = ap (λ (d : DiskState). d.size) same in
-    record {
-      from = omega (arith, placed.from);
-      to = omega (arith, lies, placed.to, size);
-      fits = omega (arith, lies, placed.to, placed.fits);
-    }
-
--- a bucket that was written into a frame and staged
-pub leaf_staged : (h : FileHead) (f n : ℕ) (bytes : List ℕ) (s0 s1 s2 : StoreState) → IsOut s0.pool f → 518 ≤ h.start → s1 ≡ with_frame f bytes s0
-    → s2 ≡ record s1 { current = option_map (λ b. with_bucket (frame_of s1.pool f) b (h.start + n * h.bucket - 518) h.bucket) s1.current; touched = with_numbers (h.start + n * h.bucket) h.bucket s1.touched }
-    → s2 ≡ with_frame f (frame_of s2.pool f) (record s0 { current = option_map (λ b. with_bucket bytes b (bucket_first h n) h.bucket) s0.current; touched = with_blocks_of h n s0.touched })
-leaf_staged h f n bytes s0 s1 s2 out from filled e =
-    let frame1 : frame_of s1.pool f ≡ bytes = ap (λ (s : StoreState). frame_of s.pool f) filled ∙ frame_of-with_frame f bytes s0.pool out in
-    let frame2 : frame_of s2.pool f ≡ bytes = ap (λ (s : StoreState). frame_of s.pool f) e ∙ frame1 in
-    let at : h.start + n * h.bucket - 518 ≡ bucket_first h n = omega (arith, from) in
-    let is : h.start + n * h.bucket ≡ 518 + bucket_first h n = omega (arith, from) in
-    e
-    ∙ (λ i. record (filled i) { current = option_map (λ (b : List (List ℕ)). with_bucket (frame1 i) b (at i) h.bucket) (filled i).current; touched = with_numbers (is i) h.bucket (filled i).touched })
-    ∙ (λ i. with_frame f (sym frame2 i) (record s0 { current = option_map (λ b. with_bucket bytes b (bucket_first h n) h.bucket) s0.current; touched = with_blocks_of h n s0.touched }))
 
 -- one bucket after the other, through the same frame
 frame_again : (f : ℕ) (t s s' : StoreState) (C : Told → Told) (T : List ℕ → List ℕ) → s ≡ with_frame f (frame_of s.pool f) t → s' ≡ with_frame f (frame_of s'.pool f) (record s { current = C s.current; touched = T s.touched })
@@ -108,15 +80,3 @@ lent_more f s0 s1 s3 was taken kept =
 pub given_after : (f : ℕ) (s0 s1 s3 s4 : StoreState) → WasFree s0.pool f → s1 ≡ with_frame f (frame_of s1.pool f) s0 → s3 ≡ with_frame f (frame_of s3.pool f) (record s3 { pool = s1.pool })
     → s4 ≡ record s3 { pool = set s3.pool f None } → s4 ≡ record s3 { pool = s0.pool }
 given_after f s0 s1 s3 s4 was taken kept gave = lent_given f (record s3 { pool = s0.pool }) s3 s4 (lent_more f s0 s1 s3 was taken kept) gave
-
--- what was done through the frame was done to the store
-pub sets_given : (h h' : FileHead) (held : List ℕ → Bool) (k : List ℕ) (v : Option (List ℕ)) (f : ℕ) (x : List ℕ) (s0 s1 t s4 : StoreState) → s1 ≡ with_frame f x s0 → s4 ≡ record t { pool = s0.pool }
-    → SetsFile h h' held k v s1 t → SetsFile h h' held k v s0 s4
-sets_given h h' held k v f x s0 s1 t s4 taken given (staged n added low mid high below few free head state sets) =
-    staged n added low mid high below few free head
-    (given ∙ (λ i. record (state i) { pool = s0.pool }) ∙ (λ i. record (taken i) { current = option_map (with_parts h n added low mid high) (taken i).current; touched = touched_by h n added (taken i).touched; pool = s0.pool }))
-    (subst (λ (o : Told). IfSome o (λ b. IsChained h b → SetsTarget h held k v b n added low mid high)) (ap (λ (s : StoreState). s.current) taken) sets)
-sets_given h h' held k v f x s0 s1 t s4 taken given (too_full n added low mid high below few full head state sets) =
-    too_full n added low mid high below few full head
-    (given ∙ (λ i. record (state i) { pool = s0.pool }) ∙ (λ i. record (taken i) { pool = s0.pool }))
-    (subst (λ (o : Told). IfSome o (λ b. IsChained h b → SetsTarget h held k v b n added low mid high)) (ap (λ (s : StoreState). s.current) taken) sets)

@@ -1,25 +1,18 @@
--- An indexed file's buckets in a list of blocks, and the map that they mean.
-use Rattle.std.specs.Prelude.{◌≡◌, ◌≤◌, ◌<◌, ◌⊎◌, ℕ, zero, suc, ◌+◌, ◌-◌, ◌*◌, ◌==◌, ◌&&◌, ◌||◌, Bool, true, List, [], ◌∷◌, ◌++◌, length, map, Option, Some, None, IfSome, if◌then◌else◌, nat_le, nat_lt}
+-- The leaves of an indexed file in a list of blocks, and what their slots mean.
+use Rattle.std.specs.Prelude.{◌≡◌, ◌≤◌, ◌<◌, ◌⊎◌, ℕ, ◌+◌, ◌-◌, ◌*◌, ◌==◌, ◌&&◌, ◌||◌, Bool, true, List, [], ◌∷◌, length, map, Option, Some, None, IfSome, if◌then◌else◌, nat_le}
 use Rattle.file_base.specs.declared.head.FileHead.{FileHead}
-use Rattle.file_base.specs.declared.head.Organization.TheVariants.{Indexed}
 use Rattle.file_base.specs.Bytes.{piece_at}
 use Rattle.vms_model.specs.Keys.{Key, Number, Text, End}
 use Rattle.bucket_page.specs.declared.kind.PageKind.{PageKind}
 use Rattle.bucket_page.specs.declared.kind.PageKind.TheVariants.{Data}
 use Rattle.bucket_page.specs.Pages.{u16_at, slots_of, slot_at, next_of, no_next, key_in, IsBucket}
 use Rattle.change_set.specs.Buckets.{bucket_bytes}
-use Rattle.change_set.specs.Maps.{Map}
-use Rattle.records_model.specs.Slots.{Slot, lookup, put, tidied, room_of, size_of, IsOrdered}
+use Rattle.records_model.specs.Slots.{Slot, put, tidied}
 use Rattle.records_model.specs.Parts.{bytes_of, added_buckets}
-use Rattle.records_model.specs.Chain.{begins_by}
 
 -- the kind of its buckets
 abbrev pub kind_of : FileHead → PageKind
 kind_of h = Data h.key_pos h.key_size
-
--- the bytes that a bucket has for slots
-abbrev pub capacity : FileHead → ℕ
-capacity h = 512 * h.bucket - 16
 
 -- the record in a slot's bytes: none where the length is 0 or above the longest
 abbrev pub value_of : ℕ → List ℕ → Option (List ℕ)
@@ -45,53 +38,6 @@ slots_in h blocks n = map (slot_of h) (slots_of (kind_of h) (bucket_at h blocks 
 abbrev pub next_in : FileHead → List (List ℕ) → ℕ → ℕ
 next_in h blocks n = next_of (bucket_at h blocks n)
 
--- the buckets of a chain from one on, each the next of the one before, at most so many; one that is not used ends it
-abbrev pub chain_from : FileHead → List (List ℕ) → ℕ → ℕ → List ℕ
-chain_from h blocks zero n = []
-chain_from h blocks (suc more) n = n ∷ (if nat_lt (next_in h blocks n) h.used then chain_from h blocks more (next_in h blocks n) else [])
-
--- the data buckets in the order of their keys: of all definitions here, a tree changes this one alone
-abbrev pub leaves_of : FileHead → List (List ℕ) → List ℕ
-leaves_of h blocks = chain_from h blocks h.used 0
-
--- the slots of these buckets, one bucket behind the other
-abbrev pub slots_along : FileHead → List (List ℕ) → List ℕ → List Slot
-slots_along h blocks [] = []
-slots_along h blocks (n ∷ ns) = slots_in h blocks n ++ slots_along h blocks ns
-
--- all slots of the file
-abbrev pub all_slots_of : FileHead → List (List ℕ) → List Slot
-all_slots_of h blocks = slots_along h blocks (leaves_of h blocks)
-
--- the slots of each bucket, in the order of the chain
-abbrev pub chain_of : FileHead → List (List ℕ) → List (List Slot)
-chain_of h blocks = map (slots_in h blocks) (leaves_of h blocks)
-
--- a new file has one bucket without slots
-abbrev pub first_chain : FileHead → List (List Slot)
-first_chain h = [] ∷ []
-
--- what each key has
-abbrev pub map_of : FileHead → List (List ℕ) → Map
-map_of h blocks (Text k) = lookup (all_slots_of h blocks) k
-map_of h blocks (Number n) = None
-map_of h blocks End = None
-
--- the length that a key may be set to in place
-abbrev pub room_at : FileHead → List (List ℕ) → Key → ℕ
-room_at h blocks (Text k) = room_of (all_slots_of h blocks) k
-room_at h blocks (Number n) = 0
-room_at h blocks End = 0
-
--- the last of these buckets that begins by the key, or the one before them
-abbrev pub target_in : FileHead → List (List ℕ) → List ℕ → ℕ → List ℕ → ℕ
-target_in h blocks k n [] = n
-target_in h blocks k n (m ∷ ms) = target_in h blocks k (if begins_by k (slots_in h blocks m) then m else n) ms
-
--- the bucket for a key: the last one that begins by it, or the first one
-abbrev pub target_of : FileHead → List (List ℕ) → List ℕ → ℕ
-target_of h blocks k = target_in h blocks k 0 (leaves_of h blocks)
-
 -- the slots of a bucket once a key is set: those that stood there where the slot fits, else the tidied ones
 abbrev pub slots_set : ℕ → (List ℕ → Bool) → List ℕ → Option (List ℕ) → List Slot → List Slot
 slots_set cap held k v slots = if nat_le (bytes_of (put k v slots)) cap then put k v slots else put k v (tidied held slots)
@@ -99,27 +45,6 @@ slots_set cap held k v slots = if nat_le (bytes_of (put k v slots)) cap then put
 -- the buckets that a set adds: none where the slot fits, else those of the tidied slots' parts
 abbrev pub added_by_set : ℕ → (List ℕ → Bool) → List ℕ → Option (List ℕ) → List Slot → ℕ
 added_by_set cap held k v slots = if nat_le (bytes_of (put k v slots)) cap then 0 else added_buckets cap (put k v (tidied held slots))
-
--- the used buckets once the key is set
-abbrev pub used_after : FileHead → List (List ℕ) → (Key → Bool) → Key → Option (List ℕ) → ℕ
-used_after h blocks held (Text k) v = h.used + added_by_set (capacity h) (λ t. held (Text t)) k v (slots_in h blocks (target_of h blocks k))
-used_after h blocks held (Number n) v = h.used
-used_after h blocks held End v = h.used
-
--- the number is none of these
-abbrev pub IsNoneOf : ℕ → List ℕ → Type 0
-IsNoneOf n [] = Unit {0}
-IsNoneOf n (m ∷ ms) = (n ≡ m → ⊥) × IsNoneOf n ms
-
--- no two are alike
-abbrev pub AllDiffer : List ℕ → Type 0
-AllDiffer [] = Unit {0}
-AllDiffer (n ∷ ns) = IsNoneOf n ns × AllDiffer ns
-
--- all are below a bound
-abbrev pub AllBelow : ℕ → List ℕ → Type 0
-AllBelow bound [] = Unit {0}
-AllBelow bound (n ∷ ns) = (n < bound) × AllBelow bound ns
 
 -- a slot is absent, or its record has at most the longest length and has its key
 abbrev pub keeps_record : FileHead → List ℕ → Bool
@@ -164,35 +89,11 @@ abbrev pub Leads : FileHead → List (List ℕ) → List ℕ → ℕ → Type 0
 Leads h blocks [] end = Unit {0}
 Leads h blocks (n ∷ ns) end = (next_in h blocks n ≡ first_or ns end) × Leads h blocks ns end
 
--- the blocks of an indexed file: its used buckets are laid out and reached once each, the last one has no next, and keys ascend along the chain
-pub record IsChained (h : FileHead) (blocks : List (List ℕ)) : Type 0 where
-  pub leaves : (n : ℕ) → n < h.used → IsLeaf h (bucket_at h blocks n)
-  pub reached : length (leaves_of h blocks) ≡ h.used
-  pub once : AllDiffer (leaves_of h blocks)
-  pub leads : Leads h blocks (leaves_of h blocks) no_next
-  pub ordered : IsOrdered (all_slots_of h blocks)
-
--- the head is that of an indexed file
-pub record IsIndexed (h : FileHead) : Type 0 where
-  pub organization : h.organization ≡ Indexed
-  pub levels : h.levels ≡ 1
-  pub root : h.root ≡ 0
-  pub some : 1 ≤ h.used
-  pub within : h.used ≤ h.alloc
-  pub key : 1 ≤ h.key_size
-  pub short : h.key_size ≤ 64
-  pub holds : h.key_pos + h.key_size ≤ h.mrs
-  pub count : h.count ≡ 0
-
 -- the keys of records are not empty, are short, and lie in each record
 pub record HasKeys (h : FileHead) : Type 0 where
   pub key : 1 ≤ h.key_size
   pub short : h.key_size ≤ 64
   pub holds : h.key_pos + h.key_size ≤ h.mrs
-
--- a new file has one bucket
-abbrev pub IsNew : FileHead → Type 0
-IsNew h = h.used ≡ 1
 
 -- a key and a value of an indexed file: the key has its size, and a value has the key at its place and at most the longest length
 pub record SuitsText (h : FileHead) (k : List ℕ) (value : Option (List ℕ)) : Type 0 where
@@ -204,18 +105,6 @@ abbrev pub Suits : FileHead → Key → Option (List ℕ) → Type 0
 Suits h (Text k) value = SuitsText h k value
 Suits h (Number n) value = ⊥
 Suits h End value = ⊥
-
--- the free buckets that a set asks for
-abbrev pub asks : FileHead → List (List ℕ) → ℕ → ℕ
-asks h blocks size = if h.levels == 12 then 65537 else h.levels + 2
-
--- the room of the key's slot holds the value, or enough buckets are free
-abbrev pub Takes : FileHead → List (List ℕ) → Key → Option (List ℕ) → Type 0
-Takes h blocks key value = (size_of value ≤ room_at h blocks key) ⊎ (h.used + asks h blocks (size_of value) ≤ h.alloc)
-
--- the room of the key's slot holds the value
-abbrev pub Restores : FileHead → List (List ℕ) → Key → Option (List ℕ) → Type 0
-Restores h blocks key value = size_of value ≤ room_at h blocks key
 
 pub record Adds (cap : ℕ) (held : List ℕ → Bool) (k : List ℕ) (v : Option (List ℕ)) (slots : List Slot) : Type 0 where
   pub most : added_by_set cap held k v slots ≤ 2

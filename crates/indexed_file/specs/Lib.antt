@@ -1,7 +1,6 @@
 pub mod Backs
 pub mod Behind
 pub mod Chain
-pub mod Local
 pub mod Made
 pub mod Places
 pub mod Raws

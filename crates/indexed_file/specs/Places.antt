@@ -1,5 +1,5 @@
 -- Where a key stands among the slots of a bucket.
-use Rattle.std.specs.Prelude.{◌≡◌, ◌≤◌, ◌<◌, ◌++◌, ℕ, Bool, true, false, List, [], ◌∷◌, length, Option}
+use Rattle.std.specs.Prelude.{◌≡◌, ◌≤◌, ◌<◌, ◌++◌, ℕ, Bool, true, false, List, length, Option}
 use Rattle.file_base.specs.declared.head.FileHead.{FileHead}
 use Rattle.bucket_page.specs.Pages.{key_in, slot_at}
 use Rattle.records_model.specs.Slots.{Slot, bytes_before, lookup, IsOrdered}
@@ -8,11 +8,6 @@ use Rattle.indexed_file.specs.Chain.{kind_of}
 -- the key of slot j
 abbrev pub key_at : FileHead → List (List ℕ) → ℕ → List ℕ
 key_at h raws j = key_in (kind_of h) (slot_at raws j)
-
--- the key of a bucket's first slot is above this one
-abbrev pub begins_above : List ℕ → List Slot → Bool
-begins_above k [] = false
-begins_above k (s ∷ ss) = bytes_before k s.key
 
 -- so many slots have lesser keys, and the next has the key or a greater one
 pub record IsPlace (h : FileHead) (k : List ℕ) (raws : List (List ℕ)) (i : ℕ) (found : Bool) : Type 0 where

@@ -1,12 +1,6 @@
 -- What tests ask of a file and of held keys.
-use Rattle.std.specs.Prelude.{◌≡◌, ◌==◌, ◌%◌, Bool, false, slice_index}
-use Rattle.file_base.specs.declared.head.FileHead.{FileHead}
+use Rattle.std.specs.Prelude.{◌==◌, ◌%◌, Bool, false, slice_index}
 use Rattle.vms_model.specs.Keys.{Key, Number, Text, End}
-
--- its keys have two bytes from the second on
-pub record HasFields (h : FileHead) : Type 0 where
-  pub pos : h.key_pos ≡ 1
-  pub size : h.key_size ≡ 2
 
 -- the first byte of a key is even
 abbrev pub is_even_text : Key → Bool

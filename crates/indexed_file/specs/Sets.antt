@@ -1,10 +1,9 @@
 -- What a set leaves of a file.
-use Rattle.std.specs.Prelude.{◌≡◌, ◌≤◌, ◌<◌, ℕ, zero, suc, ◌+◌, ◌*◌, Bool, true, List, take, Option, IfSome, option_map}
-use Rattle.careful_write.specs.State.{StoreState}
+use Rattle.std.specs.Prelude.{◌≡◌, ℕ, zero, suc, ◌+◌, ◌*◌, Bool, true, List, take, Option}
 use Rattle.file_base.specs.declared.head.FileHead.{FileHead}
 use Rattle.bucket_page.specs.Pages.{slots_of, next_of, replaced, IsBucket, Packs}
-use Rattle.change_set.specs.Buckets.{frame_of, with_frame, with_bucket, with_numbers}
-use Rattle.indexed_file.specs.Chain.{kind_of, bucket_first, bucket_at, target_of, all_keep, IsChained}
+use Rattle.change_set.specs.Buckets.{with_bucket, with_numbers}
+use Rattle.indexed_file.specs.Chain.{kind_of, bucket_first, all_keep}
 use Rattle.indexed_file.specs.Raws.{Means, SetsLeaf}
 
 -- the blocks, bucket n written and as many new ones as were added
@@ -35,24 +34,3 @@ abbrev pub SetsBytes : FileHead → (List ℕ → Bool) → List ℕ → Option 
 SetsBytes h held k v bytes added low mid high =
     IsBucket (kind_of h) (512 * h.bucket) (take (512 * h.bucket) bytes) → all_keep h (slots_of (kind_of h) (take (512 * h.bucket) bytes)) ≡ true
     → SetsLeaf h held k v (512 * h.bucket) h.used (take (512 * h.bucket) bytes) added (take (512 * h.bucket) low) (take (512 * h.bucket) mid) (take (512 * h.bucket) high)
-
--- bucket n is the one for a key, and the key was set in it
-pub record SetsTarget (h : FileHead) (held : List ℕ → Bool) (k : List ℕ) (v : Option (List ℕ)) (blocks : List (List ℕ)) (n added : ℕ) (low mid high : List ℕ) : Type 0 where
-  pub target : n ≡ target_of h blocks k
-  pub leaf : SetsLeaf h held k v (512 * h.bucket) h.used (bucket_at h blocks n) added (take (512 * h.bucket) low) (take (512 * h.bucket) mid) (take (512 * h.bucket) high)
-
--- a key was set in a file, or there were too few free buckets and nothing was done
-pub data SetsFile (h h' : FileHead) (held : List ℕ → Bool) (k : List ℕ) (v : Option (List ℕ)) (s s' : StoreState) : Type 0 where
-  staged : (n added : ℕ) (low mid high : List ℕ) → n < h.used → added ≤ 2 → h.used + added ≤ h.alloc → h' ≡ record h { used = h.used + added }
-      → s' ≡ record s { current = option_map (with_parts h n added low mid high) s.current; touched = touched_by h n added s.touched }
-      → IfSome s.current (λ blocks. IsChained h blocks → SetsTarget h held k v blocks n added low mid high) → SetsFile h h' held k v s s'
-  too_full : (n added : ℕ) (low mid high : List ℕ) → n < h.used → added ≤ 2 → h.alloc < h.used + added → h' ≡ h → s' ≡ s
-      → IfSome s.current (λ blocks. IsChained h blocks → SetsTarget h held k v blocks n added low mid high) → SetsFile h h' held k v s s'
-
--- the bytes of bucket n had this key set, and what they became was staged, or there were too few free buckets
-pub data SetsLoaded (h h' : FileHead) (held : List ℕ → Bool) (k : List ℕ) (v : Option (List ℕ)) (n : ℕ) (bytes : List ℕ) (f : ℕ) (s s' : StoreState) : Type 0 where
-  loaded : (added : ℕ) (low mid high : List ℕ) → added ≤ 2 → h.used + added ≤ h.alloc → h' ≡ record h { used = h.used + added }
-      → s' ≡ with_frame f (frame_of s'.pool f) (record s { current = option_map (with_parts h n added low mid high) s.current; touched = touched_by h n added s.touched })
-      → SetsBytes h held k v bytes added low mid high → SetsLoaded h h' held k v n bytes f s s'
-  no_room : (added : ℕ) (low mid high : List ℕ) → added ≤ 2 → h.alloc < h.used + added → h' ≡ h → s' ≡ s
-      → SetsBytes h held k v bytes added low mid high → SetsLoaded h h' held k v n bytes f s s'

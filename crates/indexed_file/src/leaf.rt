@@ -1,25 +1,15 @@
 //! One bucket of a file, read into a frame.
-ghost use Rattle.std.specs.Prelude.{◌≡◌, ◌≤◌, ◌<◌, ◌+◌, ◌-◌, ◌*◌, ℕ, List, true, false, Some, None, length, take, drop, map, OnOk, IfOk, IfSome, IfNone};
-ghost use Rattle.careful_write.specs.Down.{answered};
-ghost use Rattle.frame_pool.specs.Pool.{IsOut};
-ghost use Rattle.file_base.specs.Bytes.{piece_at};
-ghost use Rattle.byteorder.specs.Endian.{little_number};
-ghost use Rattle.bucket_page.specs.Pages.{slots_of, next_of, key_in, slot_at, IsBucket, IsPacked, reach, u16_at};
-ghost use Rattle.change_set.specs.Buckets.{frame_of, with_frame};
-ghost use Rattle.change_set.specs.Files.{IsPlaced};
+ghost use Rattle.std.specs.Prelude.{◌≡◌, ◌≤◌, ◌<◌, ◌+◌, ◌-◌, ◌*◌, ℕ, true, false, Some, None, length};
+ghost use Rattle.bucket_page.specs.Pages.{slots_of, key_in, slot_at, IsBucket, IsPacked, u16_at};
 ghost use Rattle.records_model.specs.Slots.{bytes_before};
 ghost use Rattle.std.specs.Ordering.{nat_cmp, is_lt, ordering_reverse};
 ghost use Rattle.std.specs.Cmp.Lexicographic.{slice_cmp};
-ghost use Rattle.indexed_file.specs.Chain.{HasKeys, kind_of, bucket_at, value_of, slot_of};
-ghost use Rattle.indexed_file.specs.Places.{IsPlace, key_at};
+ghost use Rattle.indexed_file.specs.Chain.{HasKeys, kind_of, value_of};
+ghost use Rattle.indexed_file.specs.Places.{IsPlace};
 
-use block_disk::Disk;
 use bucket_page::{Page, PageKind};
 use byteorder::{ByteOrder, LittleEndian};
-use careful_write::{Down, Store};
-use change_set::load_bucket;
 use file_base::FileHead;
-use frame_pool::Frame;
 use std::cmp::Ordering;
 use vms_base::{KeyText, Record};
 
@@ -31,36 +21,6 @@ pub(crate) fn kind(head: &FileHead) -> PageKind
         key_pos: head.key_pos,
         key_size: head.key_size,
     }
-}
-
-/// How many bytes a bucket has.
-pub(crate) fn bucket_size(head: &FileHead) -> usize
-    requires { head.now.bucket ≤ 16 }
-    ensures { result ≡ 512 * head.now.bucket }
-{
-    512 * head.bucket as usize
-}
-
-/// Reads bucket n into the front of a frame.
-pub(crate) fn load_leaf<D: Disk>(
-    head: &FileHead,
-    store: &mut Store<D>,
-    frame: &Frame,
-    n: u32,
-) -> Result<(), Down>
-    requires placed { IsPlaced head.now store.old.disk }
-    requires out { IsOut store.old.pool frame.now }
-    requires there { n < head.now.alloc }
-    ensures state { store.new ≡ with_frame frame.now (frame_of store.new.pool frame.now) (record store.old { disk = answered result store.old.disk }) }
-    ensures out { IsOut store.new.pool frame.now }
-    ensures read { OnOk result (IfSome store.old.current (λ blocks. take (512 * head.now.bucket) (frame_of store.new.pool frame.now) ≡ bucket_at head.now blocks n)) }
-{
-    load_bucket(
-        store,
-        frame,
-        head.start + n * head.bucket as u32,
-        head.bucket,
-    )
 }
 
 /// The bytes of slot i.

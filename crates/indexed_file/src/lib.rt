@@ -1,7 +1,6 @@
-//! Indexed files: sorted slots in a chain of buckets.
+//! The leaves of indexed files: buckets of sorted slots, each of which leads to the next one.
 #![tactic(auto)]
 
-mod indexed;
 mod law;
 mod leaf;
 mod make;
@@ -11,10 +10,9 @@ mod read;
 mod restore;
 mod set;
 mod slots;
-mod walk;
 
-pub use indexed::IndexedFile;
 pub use law::{order_law, part_law, put_law, room_law, target_law, tidy_law};
+pub use make::make_file;
 pub use next::next_in_leaf;
 pub use read::read_slot;
 pub use restore::restore_in_leaf;

@@ -1,4 +1,4 @@
-//! The empty indexed file.
+//! The one leaf of an empty indexed file.
 ghost use Rattle.std.specs.Prelude.{◌≡◌, ◌≤◌, ◌<◌, ◌+◌, ◌*◌, ℕ, List, [], Some, None, length, take, OnOk, OnErr, IfSome};
 ghost use Rattle.careful_write.specs.Down.{Counts};
 ghost use Rattle.careful_write.specs.State.{IsIdle};
@@ -6,7 +6,7 @@ ghost use Rattle.frame_pool.specs.Pool.{IsOut};
 ghost use Rattle.bucket_page.specs.Pages.{no_next, Holds};
 ghost use Rattle.change_set.specs.Buckets.{frame_of, with_frame};
 ghost use Rattle.change_set.specs.Files.{IsPlaced, free_frames, in_extent, LeavesOut};
-ghost use Rattle.indexed_file.specs.Chain.{IsIndexed, kind_of};
+ghost use Rattle.indexed_file.specs.Chain.{kind_of};
 ghost use Rattle.indexed_file.specs.Made.{MakesLeaf};
 
 use crate::leaf::kind;
@@ -30,8 +30,8 @@ fn clear_frame<D: Disk>(head: &FileHead, store: &mut Store<D>, frame: &Frame)
 }
 
 /// Writes the one bucket of the empty map.
-pub(crate) fn make_file<D: Disk>(head: &FileHead, store: &mut Store<D>) -> Result<(), Down>
-    requires form { IsIndexed head.now }
+pub fn make_file<D: Disk>(head: &FileHead, store: &mut Store<D>) -> Result<(), Down>
+    requires some { 1 ≤ head.now.alloc }
     requires placed { IsPlaced head.now store.old.disk }
     requires idle { IsIdle store.old }
     requires frames { 1 ≤ free_frames store.old.pool }

@@ -1,12 +1,11 @@
 //! How a bucket that overflows is parted.
-ghost use Rattle.std.specs.Prelude.{◌≡◌, ◌≤◌, ◌<◌, ◌+◌, ◌-◌, ◌*◌, ◌==◌, ◌&&◌, ◌||◌, ℕ, List, Bool, true, false, [], length, take, drop, map, max, nat_lt, nat_le};
+ghost use Rattle.std.specs.Prelude.{◌≡◌, ◌≤◌, ◌<◌, ◌+◌, ◌-◌, ◌==◌, ◌&&◌, ◌||◌, ℕ, true, false, [], length, take, drop, map, max, nat_lt, nat_le, if◌then◌else◌};
 ghost use Rattle.bucket_page.specs.Pages.{slots_of, next_of, joined, suits, reach, inserted, IsPacked, Packs};
 ghost use Rattle.indexed_file.specs.Chain.{kind_of, slot_of};
 ghost use Rattle.records_model.specs.Parts.{bytes_of, fits_at, has_place, IsBest};
 ghost use Rattle.indexed_file.specs.Raws.{Parted};
 
 use crate::leaf::kind;
-use crate::walk::chosen;
 use bucket_page::{Page, clear_front, insert_front, link_front, slot_start, split_front};
 use file_base::FileHead;
 
@@ -43,6 +42,13 @@ fn is_better(greater: u32, capacity: u32, best: u32, least: u32) -> bool
     ensures { result ≡ (nat_le greater capacity && (best == 0 || nat_lt greater least)) }
 {
     greater <= capacity && (best == 0 || greater < least)
+}
+
+// One of two numbers.
+fn chosen(first: bool, one: u32, other: u32) -> u32
+    ensures { result ≡ (if first then one else other) }
+{
+    if first { one } else { other }
 }
 
 // The place that parts the slots of a bucket and one more at place i into two that fit, the greater of which has the

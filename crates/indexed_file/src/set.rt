@@ -1,29 +1,21 @@
 //! A key that is set: the bucket for it is written anew, and parted where it overflows.
-ghost use Rattle.std.specs.Prelude.{◌≡◌, ◌≤◌, ◌<◌, ◌+◌, ◌-◌, ◌*◌, ℕ, List, Bool, true, false, [], Option, Some, None, length, take, drop, map, OnOk, OnErr, IfOk, IfSome, option_map};
+ghost use Rattle.std.specs.Prelude.{◌≡◌, ◌≤◌, ◌<◌, ◌+◌, ◌-◌, ℕ, true, false, [], Option, Some, None, length, take};
 ghost use Rattle.std.specs.Option.{option_copied};
-ghost use Rattle.careful_write.specs.Down.{answered};
-ghost use Rattle.frame_pool.specs.Pool.{IsOut};
 ghost use Rattle.vms_model.specs.Keys.{Text};
-ghost use Rattle.bucket_page.specs.Pages.{slots_of, next_of, slot_at, joined, suits, inserted, page_of, IsPacked, IsBucket, Packs, Holds};
-ghost use Rattle.change_set.specs.Buckets.{frame_of, with_frame, with_bucket};
-ghost use Rattle.change_set.specs.Files.{IsPlaced, free_frames};
+ghost use Rattle.bucket_page.specs.Pages.{slots_of, next_of, slot_at, suits, inserted, page_of, IsPacked, IsBucket, Holds};
 ghost use Rattle.records_model.specs.Slots.{size_of};
-ghost use Rattle.indexed_file.specs.Chain.{HasKeys, IsIndexed, IsChained, kind_of, bucket_first, all_keep, SuitsText};
-ghost use Rattle.indexed_file.specs.Behind.{BeginsAt};
+ghost use Rattle.indexed_file.specs.Chain.{HasKeys, kind_of, all_keep, SuitsText};
 ghost use Rattle.indexed_file.specs.Places.{IsPlace};
 ghost use Rattle.indexed_file.specs.Raws.{slot_bytes, Means, tidied_raws, raws_added, place_added, Parted, SetsLeaf};
-ghost use Rattle.indexed_file.specs.Sets.{ChangesSlot, SetsFile, SetsLoaded, with_parts, with_blocks_of, touched_by};
+ghost use Rattle.indexed_file.specs.Sets.{ChangesSlot};
 
-use crate::leaf::{bucket_size, find_place, kind, load_leaf, number_at, slot};
+use crate::leaf::{find_place, kind, number_at, slot};
 use crate::parts::part;
 use crate::slots::{put_slot, tidy};
-use crate::walk::find_target;
-use block_disk::Disk;
 use bucket_page::{Page, clear_front, insert_front, remove_front, replace_front};
-use careful_write::{Down, Store};
-use change_set::{Held, Place, give_frame, stage_bucket, take_frame};
+use change_set::Held;
 use file_base::FileHead;
-use frame_pool::{FRAME_BYTES, Frame};
+use frame_pool::FRAME_BYTES;
 use vms_base::Record;
 
 // Tidies a bucket and puts a slot at what was place i; where it does not fit, parts the bucket. Answers how many buckets
@@ -342,183 +334,4 @@ pub fn set_in_leaf<H: Held>(
             set_missing(head, size, low, mid, high, 0, 0, key, value, held)
         }
     }
-}
-
-// Writes all bytes of a frame.
-fn fill_frame<D: Disk>(store: &mut Store<D>, frame: &Frame, bytes: &[u8; FRAME_BYTES])
-    requires { IsOut store.old.pool frame.now }
-    ensures put { store.new ≡ with_frame frame.now bytes.now store.old }
-    ensures out { IsOut store.new.pool frame.now }
-{
-    store.pool().bytes_mut(frame).copy_from_slice(bytes);
-}
-
-/// Stages the front of some bytes as bucket n.
-pub(crate) fn stage_leaf<D: Disk>(
-    head: &FileHead,
-    store: &mut Store<D>,
-    frame: &Frame,
-    n: u32,
-    bytes: &[u8; FRAME_BYTES],
-)
-    requires placed { IsPlaced head.now store.old.disk }
-    requires out { IsOut store.old.pool frame.now }
-    requires there { n < head.now.alloc }
-    requires room { length store.old.touched ≤ 496 }
-    ensures state { store.new ≡ with_frame frame.now (frame_of store.new.pool frame.now) (record store.old {
-      current = option_map (λ blocks. with_bucket bytes.now blocks (bucket_first head.now n) head.now.bucket) store.old.current;
-      touched = with_blocks_of head.now n store.old.touched;
-    }) }
-    ensures out { IsOut store.new.pool frame.now }
-{
-    fill_frame(store, frame, bytes);
-    stage_bucket(
-        store,
-        frame,
-        head.start + n * head.bucket as u32,
-        head.bucket,
-    );
-}
-
-// Stages bucket n, and as many others as were added.
-fn stage_parts<D: Disk>(
-    head: &FileHead,
-    store: &mut Store<D>,
-    frame: &Frame,
-    n: u32,
-    added: u32,
-    low: &[u8; FRAME_BYTES],
-    mid: &[u8; FRAME_BYTES],
-    high: &[u8; FRAME_BYTES],
-)
-    requires placed { IsPlaced head.now store.old.disk }
-    requires out { IsOut store.old.pool frame.now }
-    requires there { n < head.now.alloc }
-    requires few { added ≤ 2 }
-    requires free { head.now.used + added ≤ head.now.alloc }
-    requires room { length store.old.touched ≤ 64 }
-    ensures state { store.new ≡ with_frame frame.now (frame_of store.new.pool frame.now) (record store.old {
-      current = option_map (with_parts head.now n added low.now mid.now high.now) store.old.current;
-      touched = touched_by head.now n added store.old.touched;
-    }) }
-    ensures out { IsOut store.new.pool frame.now }
-{
-    stage_leaf(head, store, frame, n, low);
-    if added == 0 {
-        return;
-    }
-    stage_leaf(head, store, frame, head.used, mid);
-    if added == 1 {
-        return;
-    }
-    stage_leaf(head, store, frame, head.used + 1, high);
-}
-
-/// Reads a frame.
-pub(crate) fn read_frame<D: Disk>(
-    store: &mut Store<D>,
-    frame: &Frame,
-    bytes: &mut [u8; FRAME_BYTES],
-)
-    requires { IsOut store.old.pool frame.now }
-    ensures same { store.new ≡ store.old }
-    ensures bytes { bytes.new ≡ frame_of store.old.pool frame.now }
-{
-    bytes.copy_from_slice(store.pool().bytes(frame));
-}
-
-// Reads the bucket for a key, found by a walk from a place, sets the key in it, and stages what it became. Where too few buckets
-// are free, nothing is done.
-fn set_through<D: Disk, H: Held>(
-    head: &mut FileHead,
-    store: &mut Store<D>,
-    frame: &Frame,
-    key: &[u8],
-    value: Option<&Record>,
-    held: &H,
-    place: Place,
-) -> Result<(), Down>
-    requires form { IsIndexed head.old }
-    requires begins { IfSome store.old.current (λ blocks. IsChained head.old blocks → BeginsAt head.old blocks (Some key.now) place) }
-    requires placed { IsPlaced head.old store.old.disk }
-    requires out { IsOut store.old.pool frame.now }
-    requires staged { length store.old.touched ≤ 64 }
-    requires suits { SuitsText head.old key.now (option_copied value) }
-    ensures sets { OnOk result (SetsFile head.old head.new (λ t. H.held held.now (Text t)) key.now (option_copied value.entry) store.old (record store.new { pool = store.old.pool })) }
-    ensures down { OnErr result (record store.new { pool = store.old.pool } ≡ record store.old { disk = answered result store.old.disk }) }
-    ensures head { OnErr result (head.new ≡ head.old) }
-    ensures pool { store.new ≡ with_frame frame.now (frame_of store.new.pool frame.now) (record store.new { pool = store.old.pool }) }
-    ensures out { IsOut store.new.pool frame.now }
-{
-    match find_target(head, store, frame, key, place) {
-        Ok(n) => match load_leaf(head, store, frame, n) {
-            Ok(()) => {
-                set_loaded(head, store, frame, n, key, value, held);
-                Ok(())
-            }
-            Err(down) => Err(down),
-        },
-        Err(down) => Err(down),
-    }
-}
-
-// Sets a key in the bucket that a frame has, and stages what it became. Where too few buckets are free, nothing is done.
-fn set_loaded<D: Disk, H: Held>(
-    head: &mut FileHead,
-    store: &mut Store<D>,
-    frame: &Frame,
-    n: u32,
-    key: &[u8],
-    value: Option<&Record>,
-    held: &H,
-)
-    requires form { IsIndexed head.old }
-    requires placed { IsPlaced head.old store.old.disk }
-    requires out { IsOut store.old.pool frame.now }
-    requires staged { length store.old.touched ≤ 64 }
-    requires suits { SuitsText head.old key.now (option_copied value) }
-    requires there { n < head.old.used }
-    ensures sets { SetsLoaded head.old head.new (λ t. H.held held.now (Text t)) key.now (option_copied value.entry) n (frame_of store.old.pool frame.now) frame.now store.old store.new }
-    ensures out { IsOut store.new.pool frame.now }
-{
-    let mut low = [0; FRAME_BYTES];
-    let mut mid = [0; FRAME_BYTES];
-    let mut high = [0; FRAME_BYTES];
-    read_frame(store, frame, &mut low);
-    let size = bucket_size(head);
-    let added = set_in_leaf(head, size, &mut low, &mut mid, &mut high, key, value, held);
-    let free = head.alloc - head.used;
-    if added > free {
-        return;
-    }
-    stage_parts(head, store, frame, n, added, &low, &mid, &high);
-    head.used += added;
-}
-
-/// Sets a key to a record, or takes its record away. The walk to it begins at a place. Where the bucket for the key would have
-/// to part and too few buckets are free, nothing is done. `Down` says that the disk went down in the call. The store's frames
-/// are as before.
-pub(crate) fn set_key<D: Disk, H: Held>(
-    head: &mut FileHead,
-    store: &mut Store<D>,
-    key: &[u8],
-    value: Option<&Record>,
-    held: &H,
-    place: Place,
-) -> Result<(), Down>
-    requires form { IsIndexed head.old }
-    requires begins { IfSome store.old.current (λ blocks. IsChained head.old blocks → BeginsAt head.old blocks (Some key.now) place) }
-    requires placed { IsPlaced head.old store.old.disk }
-    requires frames { 1 ≤ free_frames store.old.pool }
-    requires staged { length store.old.touched ≤ 64 }
-    requires suits { SuitsText head.old key.now (option_copied value) }
-    ensures sets { OnOk result (SetsFile head.old head.new (λ t. H.held held.now (Text t)) key.now (option_copied value.entry) store.old store.new) }
-    ensures whole { IfSome store.old.current (λ blocks. length blocks + 518 ≡ store.old.disk.size) }
-    ensures down { OnErr result (store.new ≡ record store.old { disk = answered result store.old.disk }) }
-    ensures head { OnErr result (head.new ≡ head.old) }
-{
-    let frame = take_frame(store);
-    let done = set_through(head, store, &frame, key, value, held, place);
-    give_frame(store, frame);
-    done
 }

@@ -1,18 +1,17 @@
 -- The calls on an indexed file, as those on a map from keys to records.
-use Rattle.std.proofs.Common.{◌≡◌, ◌≤◌, ℕ, Bool, true, false, List, [], ◌∷◌, Option, Some, None, IfSome, IsSomeAnd, option_map, map, nat_lt, if◌then◌else◌, refl, sym, ap, subst, ◌∙◌, arith}
+use Rattle.std.proofs.Common.{◌≡◌, ◌≤◌, ℕ, Bool, true, List, [], Option, Some, None, IfSome, IsSomeAnd, option_map, refl, sym, ap, subst, ◌∙◌, arith}
 use Rattle.file_base.specs.declared.head.FileHead.{FileHead}
 use Rattle.vms_model.specs.Keys.{Key, Number, Text, End}
 use Rattle.change_set.specs.Files.{AgreesOn, SameFile}
-use Rattle.bucket_page.specs.Pages.{no_next, slots_of}
 use Rattle.change_set.specs.Maps.{set_key, empty_map, IsNext, EndsAfter, is_after, key_before}
 use Rattle.records_model.specs.Slots.{Slot, lookup, room_of, size_of}
 use Rattle.tree_model.specs.Layouts.{Layout, slots_along, used_of}
 use Rattle.tree_model.specs.Setting.{layout_set, layout_back}
 use Rattle.index_bucket.specs.Entries.{sizes_of}
 use Rattle.index_blocks.specs.Levels.{HasRoot}
-use Rattle.index_blocks.specs.Buckets.{bucket_at}
 use Rattle.indexed_file.specs.Behind.{first_behind, IsFound}
-use Rattle.indexed_file.specs.Chain.{kind_of, slot_of, slots_in, next_in, chain_from, leaves_of, chain_of, first_chain, HasKeys, Leads, IsChained}
+use Rattle.indexed_file.specs.Chain.{HasKeys}
+use Rattle.indexed_file.proofs.MakeLaws as slots
 use Rattle.indexed_file.proofs.ImplLaws.{First, first_is, none_behind, after_text}
 use Rattle.indexed_tree.specs.Backs.{HasSetBack}
 use Rattle.indexed_tree.specs.Files.{IsTreeHead, map_of, room_at, Restores, used_after, first_layout_of, IsNewHead, KeySet, KeyBack}
@@ -196,32 +195,6 @@ end_told (Some b) h = λ is. ends_end h b
 
 -- A new file.
 
-raws_none : (h : FileHead) (raws : List (List ℕ)) → map (slot_of h) raws ≡ [] → raws ≡ []
-raws_none h [] is = refl
-raws_none h (r ∷ rs) is = let wrong : ⊥ = cc in absurd wrong
-
-same_either : (t : Bool) (ns : List ℕ) → (if t then ns else ns) ≡ ns
-same_either true ns = refl
-same_either false ns = refl
-
-first_slots : (bs : List (List Slot)) → List Slot
-first_slots [] = []
-first_slots (b ∷ bs) = b
-
--- a chain of one bucket without slots is a blank file
-made_blank : (h : FileHead) (b : List (List ℕ)) → IsNewHead h → IsChained h b → chain_of h b ≡ first_chain h → IsBlank h b
-unfolding first_slots
-made_blank h b new valid chain =
-    let leaves : leaves_of h b ≡ 0 ∷ [] = ap (λ m. chain_from h b m 0) new.used ∙ ap (λ ns. 0 ∷ ns) (same_either (nat_lt (next_in h b 0) h.used) []) in
-    let slots : slots_in h b 0 ≡ [] = ap first_slots (ap (map (slots_in h b)) (sym leaves) ∙ chain) in
-    let next : next_in h b 0 ≡ no_next = (subst (λ (ns : List ℕ). Leads h b ns no_next) leaves valid.leads).0 in
-    record {
-      levels = new.levels;
-      root = new.root;
-      used = new.used;
-      holds = record { bucket = (valid.leaves 0 (omega (arith, new.used))).bucket; slots_are = raws_none h (slots_of (kind_of h) (bucket_at h b 0)) slots; next_is = next };
-    }
-
 new_map : (h : FileHead) (b : List (List ℕ)) → IsBlank h b → map_of h b ≡ empty_map
 new_map h b blank = λ i key. at_key key i
   where
@@ -239,12 +212,12 @@ pub record MadeTold (h : FileHead) (now : Told) : Type 0 where
   pub valid : IfSome now (IsRooted h)
   pub layout : IfSome now (λ b. layout_in h b ≡ first_layout_of h)
 
-pub made_told : (now : Told) (h : FileHead) → IsNewHead h → IfSome now (IsChained h) → IfSome now (λ b. chain_of h b ≡ first_chain h) → MadeTold h now
-made_told None h new valid chain = record { map_is = tt; valid = tt; layout = tt }
-made_told (Some b) h new valid chain =
-    let blank = made_blank h b new valid chain in
-    let made = blank_is_rooted h b blank in
-    record { map_is = new_map h b blank; valid = made.rooted; layout = made.layout }
+pub made_told : (now : Told) (h : FileHead) → IsNewHead h → IfSome now (slots.IsBlank h) → MadeTold h now
+made_told None h new made = record { map_is = tt; valid = tt; layout = tt }
+made_told (Some b) h new made =
+    let blank : IsBlank h b = record { levels = new.levels; root = new.root; used = new.used; holds = made.holds } in
+    let is = blank_is_rooted h b blank in
+    record { map_is = new_map h b blank; valid = is.rooted; layout = is.layout }
 
 -- The head.
 

@@ -19,9 +19,9 @@ use crate::restore::restore_key;
 use crate::set::set_key;
 use block_disk::Disk;
 use careful_write::{Down, Store};
-use change_set::{Held, RecordFile};
+use change_set::Held;
 use file_base::FileHead;
-use indexed_file::IndexedFile;
+use indexed_file::make_file;
 use vms_base::{Key, KeyText, Record};
 
 /// Indexed files whose records are found by an index of buckets over their leaves. After `Down` nothing is staged.
@@ -188,7 +188,11 @@ impl TreeFile {
         ensures counts { Counts result store.old.disk store.new.disk }
         ensures pool { store.new.pool ≡ store.old.pool }
     {
-        IndexedFile::make(head, store)
+        let done = make_file(head, store);
+        if done.is_err() {
+            store.unstage();
+        }
+        done
     }
 
     /// How many buckets have to be free for `set` to add a record.

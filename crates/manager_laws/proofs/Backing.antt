@@ -1,11 +1,15 @@
 -- Each committed record that waits for a manager is that of a branch which was committed in the run, or stood on the disk before it.
-use Rattle.std.proofs.Common.{◌≡◌, ◌⊎◌, ℕ, zero, suc, Bool, true, false, ◌&&◌, List, [], ◌∷◌, inl, inr, Option, Some, None, if◌then◌else◌, refl, sym, ◌∙◌, ap, subst}
+use Rattle.std.proofs.Common.{◌≡◌, ◌⊎◌, ℕ, zero, suc, Bool, true, false, ◌&&◌, List, [], ◌∷◌, ◌++◌, inl, inr, Option, Some, None, if◌then◌else◌, refl, sym, ◌∙◌, ap, subst}
 use Rattle.std.specs.Prelude.{replicate}
+use Rattle.std.specs.Str.{bytes_eq}
 use Rattle.std.proofs.lemmas.Bool.{both_ways}
 use Rattle.vms_model.specs.Ids.{Id}
 use Rattle.vms_model.specs.Transactions as settles
 use Rattle.vms_model.specs.Transactions.{Aborted, Reason}
-use Rattle.script_model.specs.Statements.{Request, Boot, StartTrans, StartBranch, DeclareRm, JoinRm, AckEvent, ForgetRm}
+use Rattle.transcript_model.specs.Lines as line
+use Rattle.transcript_model.specs.Lines.{Line}
+use Rattle.script_model.specs.Statements.{At, Init, Reading, Says, Request, Boot, StartTrans, StartBranch, DeclareRm, JoinRm, AckEvent, ForgetRm}
+use Rattle.script_model.specs.Grammar.{reading}
 use Rattle.unit_laws.specs.Units.{Map}
 use Rattle.commit_protocol.specs.Messages as message
 use Rattle.commit_protocol.specs.Messages.{LogRecord, Message, Name, same_name}
@@ -17,21 +21,27 @@ use Rattle.commit_protocol.proofs.Lists.{in_parts}
 use Rattle.log_laws.specs.Slots.{committed_of, records_in}
 use Rattle.log_laws.proofs.Reading.{is_committed_one}
 use Rattle.run_model.specs.World as world
-use Rattle.run_model.specs.World.{Act, DiskCounts, Durable, IsOpening, Node, Settlement, Shared, Tables, World, aborted_prepared, acted, find_node, next_moment, opened, settlement_of, settled_more, with_half}
-use Rattle.run_model.specs.Answers.{Hears, Restarts, Row, Serves, Takes, Task, powers, service, task_service}
-use Rattle.run_model.specs.Steps.{node_after}
-use Rattle.run_model.specs.Transcript.{AreOpening, Entry, Legal}
+use Rattle.run_model.specs.World.{Act, DiskCounts, Durable, IsOpening, MayTurnOut, Node, Outturn, Settlement, Shared, Tables, World, aborted_prepared, acted, find_node, next_moment, opened, powered, settlement_of, settled_more, with_half}
+use Rattle.run_model.specs.Answers.{Hears, Restarts, Row, Serves, Takes, Task, powers, refused_before_reading, service, task_service}
+use Rattle.run_model.specs.Statements.{RoseAt, Step, stops_at}
+use Rattle.run_model.specs.StepLaws.{is_refusal}
+use Rattle.run_model.specs.Steps.{Choice, Cut, TaskAllowed, TaskEffect, Unpowered, Whole, WithoutMemory, node_after, ready_node, spoilt, task_effect, whole}
+use Rattle.run_model.specs.Transcript.{AreOpening, Entry, Legal, Turn}
+use Rattle.run_model.proofs.CauseLemmas.{refuses_first}
+use Rattle.run_model.proofs.NodeLists.{put_node, some_is}
+use Rattle.run_model.proofs.Refusing.{same_last}
+use Rattle.run_model.proofs.TaskLemmas.{effect_name}
 use Rattle.world_laws.specs.Nodes.{IsUp}
 use Rattle.world_laws.proofs.WorldLemmas.{each_opening}
+use Rattle.run_laws.specs.Accounts.{made_anew}
 use Rattle.run_laws.specs.Owing.{Waits}
 use Rattle.run_laws.specs.Promises.{commitment}
-use Rattle.run_laws.proofs.Keeping.{AllTake, Kept, Keeps, Scheme, any_effect, closes_plain}
+use Rattle.run_laws.proofs.Keeping.{AllTake, Kept, Keeps, Scheme, any_effect, closes_plain, init_ready}
+use Rattle.run_laws.proofs.MadeAnew.{made_says}
+use Rattle.run_laws.proofs.Named.{Ended, Refused, Turned, ended}
 use Rattle.run_laws.proofs.Owed.{InRecords, in_table}
 use Rattle.run_laws.proofs.RowFits.{Fits}
-use Rattle.run_laws.proofs.SoundWorlds.{IsPlainReading, Tracked, Tracks, legal_sound, opening_sound, turn_tracked, unused}
-use Rattle.script_model.specs.Statements.{At, Reading, Says}
-use Rattle.script_model.specs.Grammar.{reading}
-use Rattle.std.specs.Str.{bytes_eq}
+use Rattle.run_laws.proofs.SoundWorlds.{IsPlainReading, IsSound, IsSoundNode, Tracked, Tracks, legal_sound, opening_sound, sound_node, turn_tracked, unused}
 use Rattle.manager_laws.specs.Telling.{WasOwed}
 use Rattle.manager_laws.proofs.Taking.{HoldsIn, IsSteady, VoteHolds}
 use Rattle.manager_laws.proofs.TasksTake.{RowHolds, RowsHold, TaskHolds, task_holds}
@@ -44,7 +54,7 @@ abbrev AnyNames : List Name → Type 0
 AnyNames rms = Unit {0}
 
 any_steady : IsSteady AnyBranch
-any_steady = record { alike = λ b x u v key managers accepted h. tt; asked = λ b x e asking u v key managers accepted h. tt; accepts = λ b c h. tt; prepares = λ b all h. tt; changed = λ b h. tt }
+any_steady = record { alike = λ b x u v off key managers accepted h. tt; asked = λ b x e asking one u v key managers accepted h. tt; accepts = λ b c h. tt; prepares = λ b all h. tt; changed = λ b h. tt }
 
 any_votes : (bs : List Branch) (m : Message) (k : message.Kind) → VoteHolds AnyBranch bs m k
 any_votes bs m message.Yes = λ b i key h. tt
@@ -134,20 +144,20 @@ module _ (tid serial : Id) (rm : Name) where
   was_before (table.Releases z x) rs q h = inl (was_released z x rs h)
   was_before _ rs q h = inl h
 
-  in_log : (n : Node) → IsUp n → Has n.volatile.records → Waits tid serial rm n.durable
+  pub in_log : (n : Node) → IsUp n → Has n.volatile.records → Waits tid serial rm n.durable
   in_log n up (r, i, s, t, w) = (r, is_committed_one (records_in n.durable.log) r (up.table.log.committed r i) (up.table.limits.records r i).kind, s, t, w)
 
   -- Nodes.
 
-  module _ (opening : World) where
-    -- a record that waits is that of a branch which was committed, or was there at the opening
+  module _ (Else : Type 0) where
+    -- a record that waits is that of a branch which was committed, or there is another reason
     abbrev pub IsBacked : Durable → List Settlement → Type 0
-    IsBacked d ss = Waits tid serial rm d → ((moment : ℕ) × In (commitment tid serial moment) ss) ⊎ WasOwed tid serial rm opening
+    IsBacked d ss = Waits tid serial rm d → ((moment : ℕ) × In (commitment tid serial moment) ss) ⊎ Else
 
     abbrev pub backing : Scheme
     backing = record { Told = Unit {0}; more = λ ls a. a; Up = λ free a n. IsBacked n.durable n.settled; Disk = λ a n. IsBacked n.durable n.settled; Boots = λ a n. IsBacked n.durable n.settled; Ready = λ n. Unit {0}; Takes = λ o. RowHolds AnyBranch AnyNames o; special = λ r. false }
 
-    more_settled : (o : Option Settlement) (ss : List Settlement) → ((moment : ℕ) × In (commitment tid serial moment) ss) ⊎ WasOwed tid serial rm opening → ((moment : ℕ) × In (commitment tid serial moment) (settled_more o ss)) ⊎ WasOwed tid serial rm opening
+    more_settled : (o : Option Settlement) (ss : List Settlement) → ((moment : ℕ) × In (commitment tid serial moment) ss) ⊎ Else → ((moment : ℕ) × In (commitment tid serial moment) (settled_more o ss)) ⊎ Else
     more_settled None ss h = h
     more_settled (Some s) ss (inl (moment, i)) = inl (moment, inr i)
     more_settled (Some s) ss (inr was) = inr was
@@ -192,7 +202,7 @@ module _ (tid serial : Id) (rm : Name) where
       rests = λ a n k h. h;
       none_ready = λ n e. tt;
       same_ready = λ n m e h. tt;
-      comes = λ a n up h. h;
+      comes = λ a n up h closed. h;
     }
 
     none_made : (slots : ℕ) → records_in (replicate slots None) ≡ []
@@ -224,17 +234,90 @@ module _ (tid serial : Id) (rm : Name) where
     plain_so node (Says _) = tt
     plain_so node _ = tt
 
+    pub backed_more : (F : Type 0) → (Else → F) → (d : Durable) (ss : List Settlement) → IsBacked d ss → Waits tid serial rm d → ((moment : ℕ) × In (commitment tid serial moment) ss) ⊎ F
+    backed_more F f d ss h waits = elim (h waits) [ inl c ↦ inl c | inr was ↦ inr (f was) ]
+
+-- New volumes.
+
+-- nothing is known of a node
+any_node : (tid serial : Id) (rm : Name) (n : Node) → Kept (backing tid serial rm (Unit {0})) (backing_keeps tid serial rm (Unit {0})) tt n
+any_node tid serial rm n = record { disk = λ waits. inr tt; way = λ act e waits. inr tt; runs = λ up waits. inr tt }
+
+-- on a new volume no record waits
+made_new : (tid serial : Id) (rm : Name) (Else : Type 0) (w v : World) (slots journal : ℕ) → IsSound w → Step w (At serial.node (Init slots journal)) (line.Normal ∷ []) v → Tracked (backing tid serial rm Else) (backing_keeps tid serial rm Else) serial.node tt v
+made_new tid serial rm Else w v slots journal sound step m now = go (ended w v (At serial.node (Init slots journal)) (line.Normal ∷ []) serial.node (Serves (Init slots journal)) refl step)
+  where
+    Goal : Node → Type 0
+    Goal m = Kept (backing tid serial rm Else) (backing_keeps tid serial rm Else) tt m
+
+    go : Ended w v serial.node (Serves (Init slots journal)) (line.Normal ∷ []) → Goal m
+    go (Refused refusal h shows goes) = let same : line.Normal ≡ refusal = (same_last [] [] line.Normal refusal shows).1 in let clash : false ≡ true = ap is_refusal same ∙ h in let no : ⊥ = cc in absurd no
+    go (Turned n found c allowed shows goes) = subst Goal (some_is e.node m (sym there ∙ now)) (done c allowed shows)
+      where
+        e : TaskEffect
+        e = task_effect w.shared (stops_at serial.node w) n (Serves (Init slots journal)) c
+
+        there : find_node serial.node v.nodes ≡ Some (task_effect w.shared (stops_at serial.node w) n (Serves (Init slots journal)) c).node
+        there = ap (λ (x : World). find_node serial.node x.nodes) goes ∙ put_node serial.node n e.node w.nodes (effect_name w.shared (stops_at serial.node w) n (Serves (Init slots journal)) c) found
+
+        known : IsSoundNode w.shared n
+        known = sound_node w sound serial.node n found
+
+        whole_done : (o : Outturn) → MayTurnOut n o → (q : Option Line) → refused_before_reading w.shared n (service (Init slots journal)) ≡ q → let x = whole w.shared n (ready_node o (stops_at serial.node w) (service (Init slots journal)) n) (service (Init slots journal)) q in line.Normal ∷ [] ≡ x.lines ++ x.answer ∷ [] → Goal x.node
+        whole_done o may (Some refusal) first k =
+            let same : line.Normal ≡ refusal = (same_last [] [] line.Normal refusal k).1 in
+            let clash : true ≡ false = sym ((refuses_first w.shared n (Serves (Init slots journal))).says refusal first) ∙ ap is_refusal (sym same) in let no : ⊥ = cc in absurd no
+        whole_done o may None first k =
+            let r = init_ready (backing tid serial rm (Unit {0})) (backing_keeps tid serial rm (Unit {0})) w.shared (stops_at serial.node w) n (Serves (Init slots journal)) tt known.kept (any_node tid serial rm n) (unused w.shared n known) slots journal o may first in
+            let x = acted (world.Formats slots journal) (spoilt true (powered o (stops_at serial.node w) n)) in
+            let none : IsBacked tid serial rm Else x.durable x.settled = made_backed tid serial rm Else slots journal (spoilt true (powered o (stops_at serial.node w) n)) in
+            record {
+              disk = none;
+              way = λ act is. let clash : ◌≡◌ {A = Option Act} None (Some act) = sym r.1 ∙ is in let no : ⊥ = cc in absurd no;
+              runs = λ up. none;
+            }
+
+        done : (c : Choice) → TaskAllowed w.shared (stops_at serial.node w) n (Serves (Init slots journal)) (λ cause. RoseAt w serial.node cause v.disks) c → line.Normal ∷ [] ≡ (task_effect w.shared (stops_at serial.node w) n (Serves (Init slots journal)) c).lines ++ (task_effect w.shared (stops_at serial.node w) n (Serves (Init slots journal)) c).answer ∷ [] →
+            Goal (task_effect w.shared (stops_at serial.node w) n (Serves (Init slots journal)) c).node
+        done (Whole o) may k = whole_done o may (refused_before_reading w.shared n (service (Init slots journal))) refl k
+        done WithoutMemory may k = let no : ⊥ = cc in absurd no
+        done Unpowered may k = let no : ⊥ = cc in absurd no
+        done (Cut o j b cause) may k = let x = task_effect w.shared (stops_at serial.node w) n (Serves (Init slots journal)) (Cut o j b cause) in let same : line.Normal ≡ line.Broken cause = (same_last [] x.lines line.Normal (line.Broken cause) k).1 in let no : ⊥ = cc in absurd no
+
 -- So it is in each world.
 module _ (nodes : List Node) (disks : List DiskCounts) (opening : AreOpening nodes) (tid serial : Id) (rm : Name) where
-  pub legal_backed : (es : List Entry) (w : World) → Legal (opened nodes disks) es w → Tracked (backing tid serial rm (opened nodes disks)) (backing_keeps tid serial rm (opened nodes disks)) serial.node tt w
-  legal_backed [] w legal = subst (Tracked (backing tid serial rm (opened nodes disks)) (backing_keeps tid serial rm (opened nodes disks)) serial.node tt) (sym legal) (λ n found. at n found (each_opening nodes opening serial.node n found))
+  abbrev Owed : List Entry → Type 0
+  Owed es = WasOwed tid serial rm (opened nodes disks) es
+
+  abbrev pub Backs : List Entry → World → Type 0
+  Backs es w = Tracked (backing tid serial rm (Owed es)) (backing_keeps tid serial rm (Owed es)) serial.node tt w
+
+  pub legal_backed : (es : List Entry) (w : World) → Legal (opened nodes disks) es w → Backs es w
+  legal_backed [] w legal = subst (Backs []) (sym legal) (λ n found. at n found (each_opening nodes opening serial.node n found))
     where
-      at : (n : Node) → find_node serial.node nodes ≡ Some n → IsOpening n → Kept (backing tid serial rm (opened nodes disks)) (backing_keeps tid serial rm (opened nodes disks)) tt n
+      at : (n : Node) → find_node serial.node nodes ≡ Some n → IsOpening n → Kept (backing tid serial rm (Owed [])) (backing_keeps tid serial rm (Owed [])) tt n
       at n found o = record {
-        disk = λ waits. inr (n, found, waits);
+        disk = λ waits. inr (n, found, waits, tt);
         way = λ act e. let no : ◌≡◌ {A = Option Act} None (Some act) = sym o.under_way ∙ e in let none : ⊥ = cc in absurd none;
         runs = λ up. absurd (both_ways n.up o.down up);
       }
-  legal_backed (e ∷ es) w legal =
-      turn_tracked (backing tid serial rm (opened nodes disks)) (backing_keeps tid serial rm (opened nodes disks)) serial.node (backing_tracks tid serial rm (opened nodes disks) serial.node) legal.0 w (λ n found. tt) (reading e.source.text) e.lines tt
-      (plain_so tid serial rm (opened nodes disks) serial.node (reading e.source.text)) legal.2 (legal_sound (opened nodes disks) legal.0 es (opening_sound nodes disks opening) legal.1) (legal_backed es legal.0 legal.1)
+  legal_backed (e ∷ es) w legal = go (legal_backed es legal.0 legal.1) (made_anew serial.node (reading e.source.text) e.lines) refl
+    where
+      sound : IsSound legal.0
+      sound = legal_sound (opened nodes disks) legal.0 es (opening_sound nodes disks opening) legal.1
+
+      go : Backs es legal.0 → (b : Bool) → made_anew serial.node (reading e.source.text) e.lines ≡ b → Backs (e ∷ es) w
+      go before true made =
+          let x = made_says serial.node (reading e.source.text) e.lines made in
+          made_new tid serial rm (Owed (e ∷ es)) legal.0 w x.0 x.1 sound (subst (λ ls. Step legal.0 (At serial.node (Init x.0 x.1)) ls w) x.3 (subst (λ r. Turn legal.0 r e.lines w) x.2 legal.2))
+      go before false kept = λ n found.
+          let h = turn_tracked (backing tid serial rm (Owed es)) (backing_keeps tid serial rm (Owed es)) serial.node (backing_tracks tid serial rm (Owed es) serial.node) legal.0 w (λ n found. tt) (reading e.source.text) e.lines tt
+          (plain_so tid serial rm (Owed es) serial.node (reading e.source.text)) legal.2 sound before n found in
+          record {
+            disk = backed_more tid serial rm (Owed es) (Owed (e ∷ es)) later n.durable n.settled h.disk;
+            way = λ act is. backed_more tid serial rm (Owed es) (Owed (e ∷ es)) later (acted act n).durable (acted act n).settled (h.way act is);
+            runs = λ up. backed_more tid serial rm (Owed es) (Owed (e ∷ es)) later n.durable n.settled (h.runs up);
+          }
+        where
+          later : Owed es → Owed (e ∷ es)
+          later (n, found, waits, none) = (n, found, waits, (kept, none))

@@ -67,8 +67,8 @@ module _ (declared : List Name) where
 
   within_steady : IsSteady Within
   within_steady = record {
-    alike = λ b x u v key managers accepted h p m i. h u m (subst (In m) managers i);
-    asked = λ b x e asking u v key managers accepted h p m i. let y = asked_names e b.managers m (subst (In m) managers i) in subst (IsAmong declared) (sym y.2) (h u y.0 y.1);
+    alike = λ b x u v off key managers accepted h p m i. h u m (subst (In m) managers i);
+    asked = λ b x e asking one u v key managers accepted h p m i. let y = asked_names e b.managers m (subst (In m) managers i) in subst (IsAmong declared) (sym y.2) (h u y.0 y.1);
     accepts = λ b c h. h;
     prepares = λ b all h p. let no : ⊥ = cc in absurd no;
     changed = λ b h. h;

@@ -2,9 +2,13 @@ pub mod Taking
 pub mod TasksTake
 pub mod Worlds
 pub mod Declared
+pub mod Requests
 pub mod Unreplied
 pub mod Replied
+pub mod Unforgotten
+pub mod Forgotten
 pub mod Ordering
 pub mod Telling
 pub mod Backing
 pub mod Told
+pub mod Retelling

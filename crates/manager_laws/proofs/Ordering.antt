@@ -1,48 +1,63 @@
--- A row of the table tells managers an outcome only behind the settlement of their branch.
+-- A row of the table tells managers an outcome only behind the settlement of their branch, and a commitment only those for whom its record waits.
 use Rattle.std.proofs.Common.{◌≡◌, ◌⊎◌, Bool, true, false, not, ◌&&◌, ◌||◌, List, [], ◌∷◌, ◌++◌, inl, inr, Option, Some, None, if◌then◌else◌, refl}
 use Rattle.std.specs.List.{list_any}
 use Rattle.vms_model.specs.Ids.{Id}
 use Rattle.vms_model.specs.Transactions.{Outcome, Commit as ToCommit, Abort as ToAbort, Reason, Vetoed, SyncFail, Timeout, CommFail, SegFail, Aborted}
-use Rattle.commit_protocol.specs.Messages.{Name, Kind, Join, JoinOk, JoinNo, Prepare, Yes, ReadOnly, No, Commit, Abort, Ack, Inquire, Message, RmEvent, PrepareEvent, CommitEvent, AbortEvent, Reply, LogRecord, same_id}
+use Rattle.commit_protocol.specs.Messages.{Name, Kind, Join, JoinOk, JoinNo, Prepare, Yes, ReadOnly, No, Commit, Abort, Ack, Inquire, Message, RmEvent, PrepareEvent, CommitEvent, AbortEvent, Reply, LogRecord, CommittedRecord, same_id}
 use Rattle.commit_protocol.specs.Table.{Key, Branch, State, Joining, Active, Ending, Voting, Prepared, Child, Manager, Act, Notes, Accepts, Prepares, Settles, Leaves, Acknowledges, Releases, Sends, Prints, Told, Tm, first, key_of, is_first, find, find_serial, waits_for, holds, holding}
-use Rattle.commit_protocol.specs.Rows.{down, up, sends_all, to_each, tells, joined, interested, serials, yes_of, all_voted, all_replied, has_bid, has_serial, others, all_taken, joined_as, ended, told_abort, aborts_telling, aborts, undone_quietly, refuses, commits, commits_if_all, refuses_join, grants_join, join_state, join_row, join_ok_state, join_ok_row, join_no_state, join_no_row, which_event, ending, begins_ending, end_trans_state, end_trans_row, abort_by_state, abort_branch_row, authorise_state, authorise_row, lacks_vote, with_vote, vote_state, vote_row, refused, no_state, no_row, answer_state, answer, inquire_row, is_empty, casts, casts_if_all, voting, begins_vote, asked_branch, votes_if_ended, prepare_state, prepare_row, ended_branch, end_branch_state, end_branch_row, commit_state, commit_row, abort_state, abort_row, with_reply, is_veto, is_forget, first_reply, branch_reply, reply_state, reply_row, note_state, has_changed, note_row, with_manager, asks_state, asks_row, aborted_if, sweep, is_due, is_cut_off, is_under, is_other, got, row, Event, Start, Authorise, Begin, JoinRm, Changed, EndTrans, EndBranch, AbortBranch, Replied, Got, Clock, LinkDown, RunDown, InquireBranch}
+use Rattle.commit_protocol.specs.World.{In}
+use Rattle.commit_protocol.specs.Rows.{owing, down, up, sends_all, to_each, tells, joined, interested, serials, yes_of, all_voted, all_replied, has_bid, has_serial, others, all_taken, joined_as, ended, told_abort, aborts_telling, aborts, undone_quietly, refuses, commits, commits_if_all, refuses_join, grants_join, join_state, join_row, join_ok_state, join_ok_row, join_no_state, join_no_row, which_event, ending, begins_ending, end_trans_state, end_trans_row, abort_by_state, abort_branch_row, authorise_state, authorise_row, lacks_vote, with_vote, vote_state, vote_row, refused, no_state, no_row, answer_state, answer, inquire_row, is_empty, casts, casts_if_all, voting, begins_vote, asked_branch, votes_if_ended, prepare_state, prepare_row, ended_branch, end_branch_state, end_branch_row, commit_state, commit_row, abort_state, abort_row, with_reply, is_veto, is_forget, first_reply, branch_reply, reply_state, reply_row, note_state, has_changed, note_row, with_manager, asks_state, asks_row, aborted_if, sweep, is_due, is_cut_off, is_under, is_other, got, row, Event, Start, Authorise, Begin, JoinRm, Changed, EndTrans, EndBranch, AbortBranch, Replied, Got, Clock, LinkDown, RunDown, InquireBranch}
 
--- how branches are known to be settled
+-- how branches are known to be settled, and which committed records were written with that
 abbrev pub Known : Type 1
-Known = Key → Outcome → Type 0
+Known = Key → Outcome → Option LogRecord → Type 0
 
 -- and one more
-abbrev pub With : Known → Key → Outcome → Key → Outcome → Type 0
-With K k o j p = K j p ⊎ ((j ≡ k) × (p ≡ o))
+abbrev pub With : Known → Key → Outcome → Option LogRecord → Key → Outcome → Option LogRecord → Type 0
+With K k o r j p q = K j p q ⊎ ((j ≡ k) × (p ≡ o) × (q ≡ r))
 
--- an event that tells an outcome tells the one that is known
-abbrev pub Announces : Known → RmEvent → Key → Type 0
-Announces K CommitEvent k = K k ToCommit
-Announces K AbortEvent k = K k ToAbort
-Announces K _ k = Unit {0}
+-- a branch is known to be committed, with a record of it that waits for this manager
+pub record IsOwing (K : Known) (k : Key) (x : Name) : Type 0 where
+  pub log : LogRecord
+  pub known : K k ToCommit (Some log)
+  pub serial : log.serial ≡ k.serial
+  pub tid : log.tid ≡ k.tid
+  pub waits : In x log.rms
+
+-- an event that tells an outcome tells the one that is known, and a commitment one that is owed
+abbrev pub Announces : Known → RmEvent → Key → Name → Type 0
+Announces K CommitEvent k x = IsOwing K k x
+Announces K AbortEvent k x = (r : Option LogRecord) × K k ToAbort r
+Announces K _ k x = Unit {0}
 
 -- so it is of these acts, one after another
 abbrev pub Orderly : Known → List Act → Type 0
 Orderly K [] = Unit {0}
-Orderly K (Settles k o reason r ∷ acts) = Orderly (With K k o) acts
-Orderly K (Prints (Told v k x) ∷ acts) = Announces K v k × Orderly K acts
+Orderly K (Settles k o reason r ∷ acts) = Orderly (With K k o r) acts
+Orderly K (Prints (Told v k x) ∷ acts) = Announces K v k x × Orderly K acts
 Orderly K (_ ∷ acts) = Orderly K acts
 
-announced_more : (K M : Known) → ((j : Key) (p : Outcome) → K j p → M j p) → (v : RmEvent) (k : Key) → Announces K v k → Announces M v k
-announced_more K M f CommitEvent k h = f k ToCommit h
-announced_more K M f AbortEvent k h = f k ToAbort h
-announced_more K M f _ k h = tt
+announced_more : (K M : Known) → ((j : Key) (p : Outcome) (q : Option LogRecord) → K j p q → M j p q) → (v : RmEvent) (k : Key) (x : Name) → Announces K v k x → Announces M v k x
+announced_more K M f CommitEvent k x h = record { log = h.log; known = f k ToCommit (Some h.log) h.known; serial = h.serial; tid = h.tid; waits = h.waits }
+announced_more K M f AbortEvent k x h = (h.0, f k ToAbort h.0 h.1)
+announced_more K M f _ k x h = tt
 
-more_known : (K M : Known) → ((j : Key) (p : Outcome) → K j p → M j p) → (acts : List Act) → Orderly K acts → Orderly M acts
+more_known : (K M : Known) → ((j : Key) (p : Outcome) (q : Option LogRecord) → K j p q → M j p q) → (acts : List Act) → Orderly K acts → Orderly M acts
 more_known K M f [] h = tt
-more_known K M f (Settles k o reason r ∷ acts) h = more_known (With K k o) (With M k o) (λ j p x. elim x [ inl a ↦ inl (f j p a) | inr b ↦ inr b ]) acts h
-more_known K M f (Prints (Told v k x) ∷ acts) h = (announced_more K M f v k h.0, more_known K M f acts h.1)
+more_known K M f (Settles k o reason r ∷ acts) h = more_known (With K k o r) (With M k o r) (λ j p q x. elim x [ inl a ↦ inl (f j p q a) | inr b ↦ inr b ]) acts h
+more_known K M f (Prints (Told v k x) ∷ acts) h = (announced_more K M f v k x h.0, more_known K M f acts h.1)
 more_known K M f (Prints _ ∷ acts) h = more_known K M f acts h
 more_known K M f (_ ∷ acts) h = more_known K M f acts h
 
+-- the record that is written with a commitment waits for the managers that are told it
+record_owing : (K : Known) (k : Key) (ss : List Id) (xs : List Name) (x : Name) → In x xs → IsOwing (With K k ToCommit (owing k ss xs)) k x
+record_owing K k [] [] x i = absurd i
+record_owing K k [] (y ∷ ys) x i = record { log = record { kind = CommittedRecord; tid = k.tid; serial = k.serial; waiting = []; rms = y ∷ ys }; known = inr (refl, refl, refl); serial = refl; tid = refl; waits = i }
+record_owing K k (s ∷ ss) xs x i = record { log = record { kind = CommittedRecord; tid = k.tid; serial = k.serial; waiting = s ∷ ss; rms = xs }; known = inr (refl, refl, refl); serial = refl; tid = refl; waits = i }
+
 append_orderly : (K : Known) (xs ys : List Act) → Orderly K xs → Orderly K ys → Orderly K (xs ++ ys)
 append_orderly K [] ys f g = g
-append_orderly K (Settles k o reason r ∷ xs) ys f g = append_orderly (With K k o) xs ys f (more_known K (With K k o) (λ j p x. inl x) ys g)
+append_orderly K (Settles k o reason r ∷ xs) ys f g = append_orderly (With K k o r) xs ys f (more_known K (With K k o r) (λ j p q x. inl x) ys g)
 append_orderly K (Prints (Told v k x) ∷ xs) ys f g = (f.0, append_orderly K xs ys f.1 g)
 append_orderly K (Prints _ ∷ xs) ys f g = append_orderly K xs ys f g
 append_orderly K (_ ∷ xs) ys f g = append_orderly K xs ys f g
@@ -55,9 +70,9 @@ sends_orderly : (K : Known) (ms : List Message) → Orderly K (sends_all ms)
 sends_orderly K [] = tt
 sends_orderly K (m ∷ ms) = sends_orderly K ms
 
-tells_orderly : (K : Known) (v : RmEvent) (k : Key) (xs : List Name) → Announces K v k → Orderly K (tells v k xs)
+tells_orderly : (K : Known) (v : RmEvent) (k : Key) (xs : List Name) → ((x : Name) → In x xs → Announces K v k x) → Orderly K (tells v k xs)
 tells_orderly K v k [] h = tt
-tells_orderly K v k (x ∷ xs) h = (h, tells_orderly K v k xs h)
+tells_orderly K v k (x ∷ xs) h = (h x (inl refl), tells_orderly K v k xs (λ y i. h y (inr i)))
 
 ended_orderly : (K : Known) (b : Branch) (s : State) (reason : Option Reason) → Orderly K (ended b s reason)
 ended_orderly K b Ending reason = tt
@@ -65,28 +80,28 @@ ended_orderly K b _ reason = tt
 
 aborts_orderly : (K : Known) (cs : List Child) (why : Reason) (b : Branch) → Orderly K (aborts_telling cs why b)
 aborts_orderly K cs why b =
-    let M = With K b.key ToAbort in
+    let M = With K b.key ToAbort None in
     append_orderly M (sends_all (told_abort b.key.tid cs)) (tells AbortEvent b.key (interested b.managers) ++ ended b b.state (Some why)) (sends_orderly M (told_abort b.key.tid cs))
-    (append_orderly M (tells AbortEvent b.key (interested b.managers)) (ended b b.state (Some why)) (tells_orderly M AbortEvent b.key (interested b.managers) (inr (refl, refl))) (ended_orderly M b b.state (Some why)))
+    (append_orderly M (tells AbortEvent b.key (interested b.managers)) (ended b b.state (Some why)) (tells_orderly M AbortEvent b.key (interested b.managers) (λ x i. (None, inr (refl, refl, refl)))) (ended_orderly M b b.state (Some why)))
 
 undone_orderly : (K : Known) (why : Reason) (b : Branch) → Orderly K (undone_quietly why b)
-undone_orderly K why b = tells_orderly (With K b.key ToAbort) AbortEvent b.key (interested b.managers) (inr (refl, refl))
+undone_orderly K why b = tells_orderly (With K b.key ToAbort None) AbortEvent b.key (interested b.managers) (λ x i. (None, inr (refl, refl, refl)))
 
 refuses_orderly : (K : Known) (why : Reason) (b : Branch) → Orderly K (refuses why b)
-refuses_orderly K why b = tells_orderly (With K b.key ToAbort) AbortEvent b.key (interested b.managers) (inr (refl, refl))
+refuses_orderly K why b = tells_orderly (With K b.key ToAbort None) AbortEvent b.key (interested b.managers) (λ x i. (None, inr (refl, refl, refl)))
 
 commits_orderly : (K : Known) (b : Branch) (shown : List Act) → ((M : Known) → Orderly M shown) → Orderly K (commits_if_all b shown)
 commits_orderly K b shown h =
-    let M = With K b.key ToCommit in
+    let M = With K b.key ToCommit (owing b.key (yes_of b.accepted) (holding b.managers)) in
     if_orderly K (all_voted b.accepted && all_replied b.managers) (commits b shown) []
     (append_orderly M (sends_all (to_each Commit b.key.tid (yes_of b.accepted))) (tells CommitEvent b.key (holding b.managers) ++ shown) (sends_orderly M (to_each Commit b.key.tid (yes_of b.accepted)))
-    (append_orderly M (tells CommitEvent b.key (holding b.managers)) shown (tells_orderly M CommitEvent b.key (holding b.managers) (inr (refl, refl))) (h M))) tt
+    (append_orderly M (tells CommitEvent b.key (holding b.managers)) shown (tells_orderly M CommitEvent b.key (holding b.managers) (record_owing K b.key (yes_of b.accepted) (holding b.managers))) (h M))) tt
 
 casts_orderly : (K : Known) (b : Branch) → Orderly K (casts_if_all b)
 casts_orderly K b = if_orderly K (all_replied b.managers) (casts b) [] (if_orderly K (b.changed || not (is_empty (holding b.managers))) (Prepares b ∷ (Sends (up Yes b.key) ∷ [])) (Leaves b.key ∷ (Sends (up ReadOnly b.key) ∷ [])) tt tt) tt
 
 votes_orderly : (K : Known) (b : Branch) → Orderly K (begins_vote b)
-votes_orderly K b = append_orderly K (tells PrepareEvent b.key (joined b.managers)) (casts_if_all (voting b)) (tells_orderly K PrepareEvent b.key (joined b.managers) tt) (casts_orderly K (voting b))
+votes_orderly K b = append_orderly K (tells PrepareEvent b.key (joined b.managers)) (casts_if_all (voting b)) (tells_orderly K PrepareEvent b.key (joined b.managers) (λ x i. tt)) (casts_orderly K (voting b))
 
 join_orderly : (K : Known) (m : Message) (o : Option Branch) → Orderly K (join_row m o)
 join_orderly K m None = tt
@@ -162,7 +177,7 @@ commit_orderly K m None = tt
 commit_orderly K m (Some b) = go b.state
   where
     go : (s : State) → Orderly K (commit_state b s)
-    go Prepared = tells_orderly (With K b.key ToCommit) CommitEvent b.key (holding b.managers) (inr (refl, refl))
+    go Prepared = tells_orderly (With K b.key ToCommit (owing b.key [] (holding b.managers))) CommitEvent b.key (holding b.managers) (record_owing K b.key [] (holding b.managers))
     go _ = tt
 
 abort_orderly : (K : Known) (o : Option Branch) → Orderly K (abort_row o)
@@ -192,12 +207,12 @@ authorise_orderly K bid (Some b) = go b.state
     go Active = tt
     go _ = tt
 
-which_announces : (K : Known) (k : Key) (changed : Bool) (cs : List Child) (ms : List Manager) → Announces K (which_event changed cs ms) k
-which_announces K k true cs ms = tt
-which_announces K k false (c ∷ cs) ms = tt
-which_announces K k false [] [] = tt
-which_announces K k false [] (m ∷ []) = tt
-which_announces K k false [] (m ∷ x ∷ ms) = tt
+which_announces : (K : Known) (k : Key) (x : Name) (changed : Bool) (cs : List Child) (ms : List Manager) → Announces K (which_event changed cs ms) k x
+which_announces K k x true cs ms = tt
+which_announces K k x false (c ∷ cs) ms = tt
+which_announces K k x false [] [] = tt
+which_announces K k x false [] (m ∷ []) = tt
+which_announces K k x false [] (m ∷ y ∷ ms) = tt
 
 end_trans_orderly : (K : Known) (o : Option Branch) → Orderly K (end_trans_row o)
 end_trans_orderly K None = tt
@@ -206,7 +221,7 @@ end_trans_orderly K (Some b) = go b.state
     go : (s : State) → Orderly K (end_trans_state b s)
     go Active = if_orderly K (all_taken b.bids b.accepted) (begins_ending b) (aborts SyncFail b)
         (append_orderly K (sends_all (to_each Prepare b.key.tid (serials b.accepted))) (tells (which_event b.changed b.accepted b.managers) b.key (joined b.managers) ++ commits_if_all (ending b) []) (sends_orderly K (to_each Prepare b.key.tid (serials b.accepted)))
-        (append_orderly K (tells (which_event b.changed b.accepted b.managers) b.key (joined b.managers)) (commits_if_all (ending b) []) (tells_orderly K (which_event b.changed b.accepted b.managers) b.key (joined b.managers) (which_announces K b.key b.changed b.accepted b.managers)) (commits_orderly K (ending b) [] (λ M. tt))))
+        (append_orderly K (tells (which_event b.changed b.accepted b.managers) b.key (joined b.managers)) (commits_if_all (ending b) []) (tells_orderly K (which_event b.changed b.accepted b.managers) b.key (joined b.managers) (λ x i. which_announces K b.key x b.changed b.accepted b.managers)) (commits_orderly K (ending b) [] (λ M. tt))))
         (aborts_orderly K b.accepted SyncFail b)
     go _ = tt
 

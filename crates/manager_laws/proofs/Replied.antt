@@ -10,7 +10,7 @@ use Rattle.vms_model.specs.Transactions as settles
 use Rattle.vms_model.specs.Transactions.{Abort, Commit}
 use Rattle.transcript_model.specs.Lines as line
 use Rattle.transcript_model.specs.Lines.{Line, Cause}
-use Rattle.script_model.specs.Statements.{Statement, At, Request, Init, JoinRm, AckEvent, Named as SaidName, Reading, Says, Blank, Bad}
+use Rattle.script_model.specs.Statements.{At, Request, Init, JoinRm, AckEvent, Named as SaidName, Reading, Says, Blank, Bad}
 use Rattle.script_model.specs.Grammar.{reading}
 use Rattle.records_model.specs.History.{same_id}
 use Rattle.commit_protocol.specs.Messages.{Name, Reply, RmEvent, same_name}
@@ -18,11 +18,10 @@ use Rattle.commit_protocol.specs.Table as table
 use Rattle.commit_protocol.specs.Table.{Active, Branch, Key as BranchKey, Manager, Notes, State, branch_serials, child, find_serial, put}
 use Rattle.commit_protocol.specs.Rows as rows
 use Rattle.commit_protocol.specs.Rows.{is_veto, note_row, note_state, row, with_manager}
-use Rattle.commit_protocol.specs.Allowed.{answers_waiting, is_active, is_prepared, is_working, may_reply}
+use Rattle.commit_protocol.specs.Allowed.{answers_waiting, is_active, is_prepared, is_working}
 use Rattle.commit_protocol.specs.World.{In}
 use Rattle.commit_protocol.proofs.Lists.{in_left, in_right, same_name-eq, same_name-true}
-use Rattle.run_model.specs.World as world
-use Rattle.run_model.specs.World.{Act, DiskCounts, Node, Settlement, Shared, Tables, World, acted, find_branch, find_node, opened, next_moment, tm_of, with_node}
+use Rattle.run_model.specs.World.{DiskCounts, Node, Tables, World, acted, find_branch, find_node, opened, next_moment, tm_of}
 use Rattle.run_model.specs.Answers as answers
 use Rattle.run_model.specs.Answers.{Row, Serves, Task, branch_labelled, is_joinable, just, refused_before_reading, serial_named, service, table_rows, task_service, told_rows}
 use Rattle.run_model.specs.Statements.{RoseAt, Step, stops_at}
@@ -33,7 +32,8 @@ use Rattle.run_model.proofs.NodeLists.{put_node, some_is}
 use Rattle.run_model.proofs.Refusing.{same_last}
 use Rattle.run_model.proofs.TaskLemmas.{Failing, First, Lacking, Late, Outcome, Success, effect_name, outcome}
 use Rattle.world_laws.specs.Nodes.{IsUp}
-use Rattle.world_laws.proofs.AnswerLemmas.{neither, not_refused}
+use Rattle.world_laws.specs.Running.{IsDrawn}
+use Rattle.world_laws.proofs.AnswerLemmas.{neither}
 use Rattle.world_laws.proofs.IdLemmas.{id_is, id_itself}
 use Rattle.world_laws.proofs.TableLemmas.{in_serials, one_branch, own_in}
 use Rattle.world_laws.proofs.UpLemmas.{differ}
@@ -53,22 +53,15 @@ use Rattle.run_laws.proofs.Named.{Ended, Refused, Turned, ended}
 use Rattle.run_laws.proofs.Noting.{serial_in}
 use Rattle.run_laws.proofs.NamedRuns.{legal_named}
 use Rattle.run_laws.proofs.Settling.{IsOpen}
-use Rattle.run_laws.proofs.ShownSettled.{answer_voteless, refusal_voteless}
 use Rattle.run_laws.proofs.SoundWorlds.{IsPlainReading, IsSound, Tracked, legal_sound, opening_sound, sound_node, turn_tracked}
 use Rattle.run_laws.proofs.VoteOwners.{step_voter, voter_in}
 use Rattle.manager_laws.specs.Replying.{AnswersAsking, Decides, HasReplied, IsTaken, RepliesHold}
+use Rattle.manager_laws.proofs.Requests.{init_on, reply_fits, request_on}
 use Rattle.manager_laws.proofs.Taking.{IsAsking}
 use Rattle.manager_laws.proofs.Unreplied.{AreAsked, Awaits, joined_asked, IsLate, Missing, NotCommitted, RepliesElse, Unreplied, awaits_steady, own_unreplied, replied_awaits, told_append, told_in, told_steady, told_votes, unreplied, unreplied_keeps, unreplied_tracks, votes_here}
 
-not_so : (b : Bool) → not b ≡ false → b ≡ true
-not_so true e = refl
-not_so false e = let no : ⊥ = cc in absurd no
-
-clash : {X : Type 0} (b : Bool) → b ≡ true → b ≡ false → X
-clash b on off = absurd (both_ways b off on)
-
 -- no branch that is found stands in a table in which none is found
-found_none : (serial : Id) (bs : List Branch) → find_branch serial bs ≡ None → (b : Branch) → In b bs → b.key.serial ≡ serial → ⊥
+pub found_none : (serial : Id) (bs : List Branch) → find_branch serial bs ≡ None → (b : Branch) → In b bs → b.key.serial ≡ serial → ⊥
 found_none serial [] e b i same = i
 found_none serial (x ∷ bs) e b i same = go (same_id serial x.key.serial) refl e i (λ k j. found_none serial bs k b j same)
   where
@@ -77,7 +70,7 @@ found_none serial (x ∷ bs) e b i same = go (same_id serial x.key.serial) refl 
     go false is k (inl one) more = both_ways (same_id serial x.key.serial) is (ap (same_id serial) (ap (λ (y : Branch). y.key.serial) (sym one) ∙ same) ∙ id_itself serial)
     go false is k (inr j) more = more k j
 
-found_branch_in : (serial : Id) (bs : List Branch) (b : Branch) → find_branch serial bs ≡ Some b → In b bs × (b.key.serial ≡ serial)
+pub found_branch_in : (serial : Id) (bs : List Branch) (b : Branch) → find_branch serial bs ≡ Some b → In b bs × (b.key.serial ≡ serial)
 found_branch_in serial bs b e = (serial_in serial bs b (found_serial serial bs b e), Rattle.commit_protocol.proofs.Lists.find_serial-serial serial bs b (found_serial serial bs b e))
 
 -- a reply for which an event of the manager waits is one to an event that asks
@@ -103,63 +96,13 @@ module _ (tid serial : Id) (rm : Name) where
 
   -- One entry.
 
-  -- an answer shows no vote
-  answered : (w v : World) (s : Statement) (lines events : List Line) (answer : Line) → Step w s lines v → lines ≡ events ++ answer ∷ [] → (a : Bool) → more lines a ≡ more events a
-  answered w v s lines events answer step shows a =
-      let same : step.answer ≡ answer = (same_last step.events events step.answer answer (sym step.shows ∙ shows)).1 in
-      ap (λ ls. more ls a) shows ∙ told_append tid serial rm events (answer ∷ []) a ∙ ap (λ x. more (x ∷ []) (more events a)) (sym same)
-      ∙ told_steady tid serial rm (step.answer ∷ []) (more events a) (answer_voteless w v s lines step, tt)
-
-  refused_on : (w v : World) (a : Bool) (lines : List Line) (refusal : Line) → is_refusal refusal ≡ true → lines ≡ refusal ∷ [] → v ≡ record w { disks = v.disks } → On a w → On (more lines a) v
-  refused_on w v a lines refusal is shows goes h n found =
-      subst (λ b. Unreplied tid serial rm b n) (sym (ap (λ ls. more ls a) shows ∙ told_steady tid serial rm (refusal ∷ []) a (refusal_voteless refusal is, tt)))
-      (h n (subst (λ (x : World). find_node serial.node x.nodes ≡ Some n) goes found))
-
-  -- a request at the branch's node, which keeps what is known, or is as Q says
-  request_on : (w v : World) (r : Request) (lines : List Line) (a : Bool) (Q : Type 0) → Rattle.run_model.specs.StepLaws.task_of w (At serial.node r) ≡ Some (record { node = serial.node; task = Serves r }) → Step w (At serial.node r) lines v →
-      ((n : Node) (c : Choice) → find_node serial.node w.nodes ≡ Some n → TaskAllowed w.shared (stops_at serial.node w) n (Serves r) (λ cause. RoseAt w serial.node cause v.disks) c →
-      lines ≡ (task_effect w.shared (stops_at serial.node w) n (Serves r) c).lines ++ (task_effect w.shared (stops_at serial.node w) n (Serves r) c).answer ∷ [] → Unreplied tid serial rm a n →
-      Q ⊎ Unreplied tid serial rm (more (task_effect w.shared (stops_at serial.node w) n (Serves r) c).lines a) (task_effect w.shared (stops_at serial.node w) n (Serves r) c).node) → On a w → Q ⊎ On (more lines a) v
-  request_on w v r lines a Q is step does h = go (ended w v (At serial.node r) lines serial.node (Serves r) is step)
-    where
-      go : Ended w v serial.node (Serves r) lines → Q ⊎ On (more lines a) v
-      go (Refused refusal k shows goes) = inr (refused_on w v a lines refusal k shows goes h)
-      go (Turned n found c allowed shows goes) =
-          let e = task_effect w.shared (stops_at serial.node w) n (Serves r) c in
-          let there : find_node serial.node v.nodes ≡ Some e.node = ap (λ (x : World). find_node serial.node x.nodes) goes ∙ put_node serial.node n e.node w.nodes (effect_name w.shared (stops_at serial.node w) n (Serves r) c) found in
-          elim (does n c found allowed shows (h n found)) [
-            | inl q ↦ inl q
-            | inr k ↦ inr (λ m now. subst (λ b. Unreplied tid serial rm b m) (sym (answered w v (At serial.node r) lines e.lines e.answer step shows a)) (subst (Unreplied tid serial rm (more e.lines a)) (some_is e.node m (sym there ∙ now)) k))
-          ]
-
-  -- An INIT, where no volume may be made any more.
-  init_on : (w v : World) (slots journal : ℕ) (lines : List Line) (a : Bool) → w.shared.in_use ≡ true → Step w (At serial.node (Init slots journal)) lines v → On a w → On (more lines a) v
-  init_on w v slots journal lines a used step h = elim (request_on w v (Init slots journal) lines a ⊥ refl step (λ n c found allowed shows k. inr (kept n c allowed k)) h) [ inl none ↦ absurd none | inr k ↦ k ]
-    where
-      first_of : (n : Node) → refused_before_reading w.shared n (service (Init slots journal)) ≡ None → ⊥
-      first_of n first = both_ways w.shared.in_use (not_refused w.shared.in_use line.VolumeInUse (neither (Rattle.run_model.specs.Operations.refused_if w.shared.in_use line.VolumeInUse) _ (neither (Rattle.run_model.specs.Operations.refused_if (not (n.up || true)) line.NodeDown) _ first).1).0) used
-
-      kept : (n : Node) (c : Choice) → TaskAllowed w.shared (stops_at serial.node w) n (Serves (Init slots journal)) (λ cause. RoseAt w serial.node cause v.disks) c → Unreplied tid serial rm a n →
-          Unreplied tid serial rm (more (task_effect w.shared (stops_at serial.node w) n (Serves (Init slots journal)) c).lines a) (task_effect w.shared (stops_at serial.node w) n (Serves (Init slots journal)) c).node
-      kept n c allowed k = go (outcome w.shared (stops_at serial.node w) n (Serves (Init slots journal)) (λ cause. RoseAt w serial.node cause v.disks) c allowed)
-        where
-          e : TaskEffect
-          e = task_effect w.shared (stops_at serial.node w) n (Serves (Init slots journal)) c
-
-          go : Outcome w.shared (stops_at serial.node w) n (Serves (Init slots journal)) (λ cause. RoseAt w serial.node cause v.disks) e → Unreplied tid serial rm (more e.lines a) e.node
-          go (First refusal first is) = subst (λ (x : TaskEffect). Unreplied tid serial rm (more x.lines a) x.node) (sym is) k
-          go (Late outturn refusal turns first late is) = absurd (first_of n first)
-          go (Success outturn turns first late is) = absurd (first_of n first)
-          go (Lacking first memory is) = absurd (first_of n first)
-          go (Failing cause shown goes_on first rose shows down answers ends) = absurd (first_of n first)
-
   -- A reply of the manager: what is known is kept, or it is a reply for the branch that is taken.
   module _ (es : List Entry) (w v : World) (known : Known es w) (sound : IsSound w) (who : SaidName) (reply : Reply) (plain : is_veto reply ≡ false) where
     abbrev Taken : List Line → Type 0
     Taken lines = (events : List Line) × (answer : Line) × (lines ≡ events ++ answer ∷ []) × Names es who tid serial × AnswersAsking reply × IsTaken answer
 
     reply_on : (lines : List Line) (a : Bool) → Step w (At serial.node (AckEvent who rm reply)) lines v → On a w → Taken lines ⊎ On (more lines a) v
-    reply_on lines a step h = request_on w v (AckEvent who rm reply) lines a (Taken lines) refl step (λ n c found allowed shows k. one n c found allowed shows k) h
+    reply_on lines a step h = request_on (unreplied tid serial rm) (unreplied_keeps tid serial rm) serial.node w v (AckEvent who rm reply) lines a (Taken lines) refl step (λ n c found allowed shows k. one n c found allowed shows k) h
       where
         Effect : Node → Choice → TaskEffect
         Effect n c = task_effect w.shared (stops_at serial.node w) n (Serves (AckEvent who rm reply)) c
@@ -188,14 +131,7 @@ module _ (tid serial : Id) (rm : Name) where
                 fits first =
                     let there = found_branch_in serial n.volatile.branches b at in
                     let asked = ((k.runs (served_up n _ first)).1).branches b there.0 there.1 in
-                    let x = neither (answers.made_name w.shared n who) _ (refused_rest (not (n.up || false)) _ first) in
-                    let y = neither (answers.known_branch (answers.known w.shared n who)) _ x.1 in
-                    let z = neither (answers.declared_manager n rm) _ y.1 in
-                    let q = (neither (answers.known_manager rm (answers.known w.shared n who)) (answers.awaited_reply rm reply (answers.known w.shared n who)) z.1).1 in
-                    let known_is : answers.known w.shared n who ≡ answers.Unsettled b = ap (λ (o : Option Id). elim o as (λ t. answers.Known) [ Some i ↦ answers.known_serial n i | None ↦ answers.Unheard ]) is
-                    ∙ ap (λ (o : Option Branch). elim o as (λ t. answers.Known) [ Some x ↦ answers.Unsettled x | None ↦ elim (world.find_record serial n.volatile.records) as (λ t. answers.Known) [ Some r ↦ answers.Recorded r | None ↦ answers.Unheard ] ]) at in
-                    let may : may_reply rm reply b ≡ true = not_so (may_reply rm reply b) (not_refused (not (may_reply rm reply b)) line.WrongState (subst (λ x. answers.awaited_reply rm reply x ≡ None) known_is q)) in
-                    asked_fits rm reply b.managers asked.3 may
+                    asked_fits rm reply b.managers asked.3 (reply_fits w.shared n who rm reply serial b first is at)
 
                 go : Outcome w.shared (stops_at serial.node w) n (Serves (AckEvent who rm reply)) (λ cause. RoseAt w serial.node cause v.disks) (Effect n c) → Taken lines ⊎ Unreplied tid serial rm (more (Effect n c).lines a) (Effect n c).node
                 go (First refusal first same) = inr (subst (λ (x : TaskEffect). Unreplied tid serial rm (more x.lines a) x.node) (sym same) k)
@@ -277,7 +213,7 @@ module _ (tid serial : Id) (rm : Name) where
 
         go : Kind (reading e.source.text) → Replied (e ∷ es) ⊎ On (told (e ∷ es)) v
         go (Plain p) = inr (turn_tracked (unreplied tid serial rm) (unreplied_keeps tid serial rm) serial.node (unreplied_tracks tid serial rm) w v (λ n found. tt) (reading e.source.text) e.lines (told es) p turn sound h)
-        go (Makes slots journal is) = inr (init_on w v slots journal e.lines (told es) (runs_used base w es legal used).1 (subst (λ r. Turn w r e.lines v) is turn) h)
+        go (Makes slots journal is) = inr (init_on (unreplied tid serial rm) (unreplied_keeps tid serial rm) serial.node w v slots journal e.lines (told es) (runs_used base w es legal used).1 (subst (λ r. Turn w r e.lines v) is turn) h)
         go (Replying who reply plain is) = elim (reply_on (es ++ earlier) w v known sound who reply plain e.lines (told es) (subst (λ r. Turn w r e.lines v) is turn) h) [
           | inl taken ↦ inl (es, who, reply, taken.0, taken.1, record { after = []; entry = e; stands = refl; said = is; shown = taken.2 }, taken.3, taken.4, plain, taken.5)
           | inr k ↦ inr k
@@ -331,11 +267,20 @@ module _ (nodes : List Node) (disks : List DiskCounts) (opening : AreOpening nod
   request = JoinRm label rm
 
   -- what is known of the node behind it
-  record Joins : Type 0 where
-    m : Node
-    there : find_node serial.node v.nodes ≡ Some m
-    up : m.up ≡ true
-    known : Unreplied tid serial rm false m
+  pub record Joins : Type 0 where
+    pub m : Node
+    pub there : find_node serial.node v.nodes ≡ Some m
+    pub up : m.up ≡ true
+    pub known : Unreplied tid serial rm false m
+    -- the branch, and the managers that joined it before
+    pub branch : Branch
+    pub old : List Manager
+    pub one : (x : Branch) → In x m.volatile.branches → x.key.serial ≡ serial → branch ≡ x
+    pub key : branch.key ≡ child tid serial
+    pub active : branch.state ≡ Active
+    pub managers : branch.managers ≡ old ++ record { rm = rm; event = None; reply = None } ∷ []
+    pub others : (x : Manager) → In x old → x.rm ≡ rm → ⊥
+    pub drawn : IsDrawn m.name m.durable.boot m.volatile.drawn serial
 
   joins_at : (n : Node) → find_node serial.node w.nodes ≡ Some n → refused_before_reading w.shared n (service request) ≡ None → find_node serial.node v.nodes ≡ Some (node_after_rows ((service request).rows w.shared n) n) → Joins
   joins_at n found first there = at_branch (there_labelled (branch_labelled w.shared n label) labelled.0)
@@ -344,7 +289,20 @@ module _ (nodes : List Node) (disks : List DiskCounts) (opening : AreOpening nod
       labelled = neither (answers.unsettled_label w.shared n label) _ (neither (answers.made_label w.shared n label) _ (refused_rest (not (n.up || false)) _ first)).1
 
       at_branch : (b : Branch) × (branch_labelled w.shared n label ≡ Some b) → Joins
-      at_branch (b, is) = record { m = m; there = there_m; up = served_up n _ first; known = known }
+      at_branch (b, is) = record {
+        m = m;
+        there = there_m;
+        up = served_up n _ first;
+        known = known;
+        branch = joined;
+        old = b.managers;
+        one = λ x i same. one_branch m.volatile.branches joined x (differ m up.table) standing i (ap (λ (k : BranchKey). k.serial) key ∙ sym same);
+        key = key;
+        active = active;
+        managers = refl;
+        others = λ x i name. none_named rm b.managers unjoined x i name;
+        drawn = late.drawn;
+      }
         where
           active : b.state ≡ Active
           active = working_active rm b (state_holds (is_joinable rm) (branch_labelled w.shared n label) b is (neither (answers.declared_manager n rm) _ labelled.1).1)
@@ -399,7 +357,7 @@ module _ (nodes : List Node) (disks : List DiskCounts) (opening : AreOpening nod
             runs = λ on. (refl, late);
           }
 
-  joins : Joins
+  pub joins : Joins
   joins = go (ended w v (At serial.node request) (events ++ line.Normal ∷ []) serial.node (Serves request) refl step)
     where
       go : Ended w v serial.node (Serves request) (events ++ line.Normal ∷ []) → Joins
@@ -456,7 +414,7 @@ module _ (nodes : List Node) (disks : List DiskCounts) (opening : AreOpening nod
       go (Some n) found j = let no : ◌≡◌ {A = settles.Outcome} Commit Abort = ((k n found).disk).1.settled (commitment tid serial moment) j refl in let none : ⊥ = cc in none
       go None found j = j
 
-  pub decided : (this : Line) → entry.lines ≡ front ++ this ∷ behind → Decides (opened nodes disks) this tid serial → ⊥
+  pub decided : (this : Line) → entry.lines ≡ front ++ this ∷ behind → Decides (opened nodes disks) before this tid serial → ⊥
   decided this shown (inl is) = no_vote this shown (ap voter_in is) (ap (votes_here tid serial rm) is ∙ id_itself serial)
   decided this shown (inr (inl is)) = no_vote this shown (ap voter_in is) (ap (votes_here tid serial rm) is ∙ id_itself serial)
   decided this shown (inr (inr (inl (moment, is)))) =
@@ -465,7 +423,7 @@ module _ (nodes : List Node) (disks : List DiskCounts) (opening : AreOpening nod
   decided this shown (inr (inr (inr (moment, is, never)))) =
       elim (lasts_hold nodes disks (entry ∷ before) v opening legal before said front behind (line.LastCommitted tid serial moment) (commitment tid serial moment) (there_of (line.LastCommitted tid serial moment) (shown ∙ ap (λ l. front ++ l ∷ behind) is)) refl).1 [
         | inl i ↦ no_commitment moment i
-        | inr was ↦ never (subst (λ l. WasLast serial.node l (opened nodes disks)) (sym is) was)
+        | inr was ↦ never (subst (λ l. WasLast serial.node l (opened nodes disks) before) (sym is) was)
       ]
 
 -- The law.

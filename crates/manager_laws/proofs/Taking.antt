@@ -1,5 +1,5 @@
 -- What the rows of the table do to branches of which something holds: what they note and prepare has it too, and what they commit or let go has it and lacks nothing.
-use Rattle.std.proofs.Common.{◌≡◌, ◌⊎◌, Bool, true, false, not, ◌&&◌, ◌||◌, List, [], ◌∷◌, ◌++◌, inl, inr, Option, Some, None, if◌then◌else◌, refl, sym, ap}
+use Rattle.std.proofs.Common.{◌≡◌, ◌⊎◌, Bool, true, false, not, ◌&&◌, ◌||◌, List, [], ◌∷◌, ◌++◌, inl, inr, Option, Some, None, if◌then◌else◌, refl, sym, ◌∙◌, ap}
 use Rattle.std.specs.List.{list_any}
 use Rattle.std.proofs.lemmas.Bool.{and_parts}
 use Rattle.vms_model.specs.Ids.{Id}
@@ -36,11 +36,11 @@ which_asks false [] [] = inl refl
 which_asks false [] (m ∷ []) = inr refl
 which_asks false [] (m ∷ x ∷ ms) = inl refl
 
--- What holds of a branch holds of one that its node notes in its place: where its managers, its accepted serials and its key are the same; where its managers are
--- asked; where a serial is accepted; where it is prepared, for which each manager has replied; and where it has changed something.
+-- What holds of a branch holds of one that its node notes in its place: where its managers, its accepted serials and its key are the same, and it is not ending; where its
+-- managers are asked; where a serial is accepted; where it is prepared, for which each manager has replied; and where it has changed something.
 pub record IsSteady (P : Branch → Type 0) : Type 0 where
-  pub alike : (b x : Branch) → is_prepared b.state ≡ false → is_prepared x.state ≡ false → x.key ≡ b.key → x.managers ≡ b.managers → x.accepted ≡ b.accepted → P b → P x
-  pub asked : (b x : Branch) (e : RmEvent) → IsAsking e → is_prepared b.state ≡ false → is_prepared x.state ≡ false → x.key ≡ b.key → x.managers ≡ asks e b.managers → x.accepted ≡ b.accepted → P b → P x
+  pub alike : (b x : Branch) → is_prepared b.state ≡ false → is_prepared x.state ≡ false → (b.state ≡ Ending → ⊥) → x.key ≡ b.key → x.managers ≡ b.managers → x.accepted ≡ b.accepted → P b → P x
+  pub asked : (b x : Branch) (e : RmEvent) → IsAsking e → (e ≡ OnePhaseEvent → x.state ≡ Ending) → is_prepared b.state ≡ false → is_prepared x.state ≡ false → x.key ≡ b.key → x.managers ≡ asks e b.managers → x.accepted ≡ b.accepted → P b → P x
   pub accepts : (b : Branch) (c : Child) → P b → P (record b { accepted = b.accepted ++ c ∷ [] })
   pub prepares : (b : Branch) → all_replied b.managers ≡ true → P b → P (record b { state = Prepared })
   pub changed : (b : Branch) → P b → P (record b { changed = true })
@@ -58,7 +58,7 @@ module _ (P : Branch → Type 0) where
   HoldsIn (Prepares b) = P b × (all_replied b.managers ≡ true)
   HoldsIn (Settles k ToCommit reason r) = (b : Branch) × P b × (b.key ≡ k) × LacksNothing b × IsRecordOf k r
   HoldsIn (Settles k ToAbort reason r) = r ≡ None
-  HoldsIn (Leaves k) = (b : Branch) × P b × (b.key ≡ k) × (all_replied b.managers ≡ true)
+  HoldsIn (Leaves k) = (b : Branch) × P b × (b.key ≡ k) × (all_replied b.managers ≡ true) × (b.state ≡ Voting) × (is_empty (holding b.managers) ≡ true)
   HoldsIn _ = Unit {0}
 
   abbrev pub AllHold : List Act → Type 0
@@ -83,6 +83,21 @@ owing_of : (k : Key) (ss : List Id) (xs : List Name) → IsRecordOf k (owing k s
 owing_of k [] [] = tt
 owing_of k [] (x ∷ xs) = (refl, refl)
 owing_of k (s ∷ ss) xs = (refl, refl)
+
+-- a branch that joins or is active is not ending
+joining_on : (b : Branch) → b.state ≡ Joining → b.state ≡ Ending → ⊥
+joining_on b e q = let no : Joining ≡ Ending = sym e ∙ q in let none : ⊥ = cc in none
+
+active_on : (b : Branch) → b.state ≡ Active → b.state ≡ Ending → ⊥
+active_on b e q = let no : Active ≡ Ending = sym e ∙ q in let none : ⊥ = cc in none
+
+not_one : {X : Type 0} → PrepareEvent ≡ OnePhaseEvent → X
+not_one e = let no : ⊥ = cc in absurd no
+
+none_held : (a c : Bool) → (a || not c) ≡ false → c ≡ true
+none_held false true e = refl
+none_held false false e = let no : ⊥ = cc in absurd no
+none_held true c e = let no : ⊥ = cc in absurd no
 
 module _ (P : Branch → Type 0) (steady : IsSteady P) where
   abbrev FoundSo : Option Branch → Type 0
@@ -128,11 +143,12 @@ module _ (P : Branch → Type 0) (steady : IsSteady P) where
         (append_hold (tells CommitEvent b.key (holding b.managers)) shown (tells_hold CommitEvent b.key (holding b.managers)) h),
   )) (λ t. tt)
 
-  casts_hold : (b : Branch) → P b → AllHold P (casts_if_all b)
-  casts_hold b h = if_hold (all_replied b.managers) (casts b) [] (λ t. if_hold (b.changed || not (is_empty (holding b.managers))) (Prepares b ∷ (Sends (up Yes b.key) ∷ [])) (Leaves b.key ∷ (Sends (up ReadOnly b.key) ∷ [])) (λ u. ((h, t), (tt, tt))) (λ u. ((b, h, refl, t), (tt, tt)))) (λ t. tt)
+  casts_hold : (b : Branch) → b.state ≡ Voting → P b → AllHold P (casts_if_all b)
+  casts_hold b s h = if_hold (all_replied b.managers) (casts b) [] (λ t. if_hold (b.changed || not (is_empty (holding b.managers))) (Prepares b ∷ (Sends (up Yes b.key) ∷ [])) (Leaves b.key ∷ (Sends (up ReadOnly b.key) ∷ []))
+      (λ u. ((h, t), (tt, tt))) (λ u. ((b, h, refl, t, s, none_held b.changed (is_empty (holding b.managers)) u), (tt, tt)))) (λ t. tt)
 
   votes_hold : (b : Branch) → P (voting b) → AllHold P (begins_vote b)
-  votes_hold b h = (h, append_hold (tells PrepareEvent b.key (joined b.managers)) (casts_if_all (voting b)) (tells_hold PrepareEvent b.key (joined b.managers)) (casts_hold (voting b) h))
+  votes_hold b h = (h, append_hold (tells PrepareEvent b.key (joined b.managers)) (casts_if_all (voting b)) (tells_hold PrepareEvent b.key (joined b.managers)) (casts_hold (voting b) refl h))
 
   join_hold : (m : Message) (o : Option Branch) → FoundSo o → AllHold P (join_row m o)
   join_hold m None h = (tt, tt)
@@ -154,7 +170,7 @@ module _ (P : Branch → Type 0) (steady : IsSteady P) where
   join_ok_hold (Some b) h = go b.state refl
     where
       go : (s : State) → b.state ≡ s → AllHold P (join_ok_state b s)
-      go Joining e = (steady.alike b (record b { state = Active }) (ap is_prepared e) refl refl refl refl (h b refl), (tt, tt))
+      go Joining e = (steady.alike b (record b { state = Active }) (ap is_prepared e) refl (joining_on b e) refl refl refl (h b refl), (tt, tt))
       go _ e = tt
 
   join_no_hold : (o : Option Branch) → AllHold P (join_no_row o)
@@ -172,15 +188,15 @@ module _ (P : Branch → Type 0) (steady : IsSteady P) where
   prepare_hold m None h = (tt, tt)
   prepare_hold m (Some b) h = go b.state refl
     where
-      asked_so : is_prepared b.state ≡ false → P (asked_branch b)
-      asked_so e = steady.alike b (asked_branch b) e refl refl refl refl (h b refl)
+      asked_so : is_prepared b.state ≡ false → (b.state ≡ Ending → ⊥) → P (asked_branch b)
+      asked_so e off = steady.alike b (asked_branch b) e refl off refl refl refl (h b refl)
 
-      asked_votes : is_prepared b.state ≡ false → AllHold P (votes_if_ended b)
-      asked_votes e = if_hold b.ended (begins_vote (asked_branch b)) [] (λ t. votes_hold (asked_branch b) (steady.asked (asked_branch b) (voting (asked_branch b)) PrepareEvent (inl refl) refl refl refl refl refl (asked_so e))) (λ t. tt)
+      asked_votes : is_prepared b.state ≡ false → (b.state ≡ Ending → ⊥) → AllHold P (votes_if_ended b)
+      asked_votes e off = if_hold b.ended (begins_vote (asked_branch b)) [] (λ t. votes_hold (asked_branch b) (steady.asked (asked_branch b) (voting (asked_branch b)) PrepareEvent (inl refl) not_one refl refl refl refl refl (asked_so e off))) (λ t. tt)
 
       go : (s : State) → b.state ≡ s → AllHold P (prepare_state b s)
-      go Joining e = (asked_so (ap is_prepared e), (tt, asked_votes (ap is_prepared e)))
-      go Active e = (asked_so (ap is_prepared e), asked_votes (ap is_prepared e))
+      go Joining e = (asked_so (ap is_prepared e) (joining_on b e), (tt, asked_votes (ap is_prepared e) (joining_on b e)))
+      go Active e = (asked_so (ap is_prepared e) (active_on b e), asked_votes (ap is_prepared e) (active_on b e))
       go Prepared e = (tt, tt)
       go Ending e = tt
       go Voting e = tt
@@ -238,7 +254,7 @@ module _ (P : Branch → Type 0) (steady : IsSteady P) where
   authorise_hold bid (Some b) h = go b.state refl
     where
       go : (s : State) → b.state ≡ s → AllHold P (authorise_state bid b s)
-      go Active e = (steady.alike b (record b { bids = b.bids ++ bid ∷ [] }) (ap is_prepared e) (ap is_prepared e) refl refl refl (h b refl), tt)
+      go Active e = (steady.alike b (record b { bids = b.bids ++ bid ∷ [] }) (ap is_prepared e) (ap is_prepared e) (active_on b e) refl refl refl (h b refl), tt)
       go _ e = tt
 
   end_trans_hold : (o : Option Branch) → FoundSo o → AllHold P (end_trans_row o)
@@ -246,7 +262,7 @@ module _ (P : Branch → Type 0) (steady : IsSteady P) where
   end_trans_hold (Some b) h = go b.state refl
     where
       so : is_prepared b.state ≡ false → P (ending b)
-      so e = steady.asked b (ending b) (which_event b.changed b.accepted b.managers) (which_asks b.changed b.accepted b.managers) e refl refl refl refl (h b refl)
+      so e = steady.asked b (ending b) (which_event b.changed b.accepted b.managers) (which_asks b.changed b.accepted b.managers) (λ q. refl) e refl refl refl refl (h b refl)
 
       go : (s : State) → b.state ≡ s → AllHold P (end_trans_state b s)
       go Active e = if_hold (all_taken b.bids b.accepted) (begins_ending b) (aborts SyncFail b) (λ t. (
@@ -260,31 +276,31 @@ module _ (P : Branch → Type 0) (steady : IsSteady P) where
   end_branch_hold None h = tt
   end_branch_hold (Some b) h = go b.state refl
     where
-      so : is_prepared b.state ≡ false → P (ended_branch b)
-      so e = steady.alike b (ended_branch b) e e refl refl refl (h b refl)
+      so : b.state ≡ Active → P (ended_branch b)
+      so e = steady.alike b (ended_branch b) (ap is_prepared e) (ap is_prepared e) (active_on b e) refl refl refl (h b refl)
 
       go : (s : State) → b.state ≡ s → AllHold P (end_branch_state b s)
       go Active e = (
-        so (ap is_prepared e),
-        if_hold b.asked (begins_vote (ended_branch b)) [] (λ t. votes_hold (ended_branch b) (steady.asked (ended_branch b) (voting (ended_branch b)) PrepareEvent (inl refl) (ap is_prepared e) refl refl refl refl (so (ap is_prepared e)))) (λ t. tt),
+        so e,
+        if_hold b.asked (begins_vote (ended_branch b)) [] (λ t. votes_hold (ended_branch b) (steady.asked (ended_branch b) (voting (ended_branch b)) PrepareEvent (inl refl) not_one (ap is_prepared e) refl refl refl refl (so e))) (λ t. tt),
       )
       go _ e = tt
 
   reply_hold : (s : Id) (x : Name) (r : Reply) (o : Option Branch) (rs : List LogRecord) → ((b : Branch) → o ≡ Some b → is_veto r ≡ false → P (with_reply x r b)) → AllHold P (reply_row s x r o rs)
   reply_hold s x r None rs h = if_hold (is_forget r && list_any (λ q. holds s x q) rs) (Releases s x ∷ []) [] (λ t. (tt, tt)) (λ t. tt)
-  reply_hold s x r (Some b) rs h = go b.state
+  reply_hold s x r (Some b) rs h = go b.state refl
     where
       at_first : AllHold P (first_reply x r b)
       at_first = if_hold (is_veto r) (aborts Vetoed (with_reply x r b)) (Notes (with_reply x r b) ∷ commits_if_all (with_reply x r b) (ended b b.state None)) (λ t. aborts_hold b.accepted Vetoed (with_reply x r b))
           (λ t. (h b refl t, commits_hold (with_reply x r b) (ended b b.state None) (h b refl t) (ended_hold b b.state None)))
 
-      at_other : AllHold P (branch_reply x r b)
-      at_other = if_hold (is_veto r) (refuses Vetoed (with_reply x r b)) (Notes (with_reply x r b) ∷ casts_if_all (with_reply x r b)) (λ t. refuses_hold Vetoed (with_reply x r b)) (λ t. (h b refl t, casts_hold (with_reply x r b) (h b refl t)))
+      at_other : b.state ≡ Voting → AllHold P (branch_reply x r b)
+      at_other e = if_hold (is_veto r) (refuses Vetoed (with_reply x r b)) (Notes (with_reply x r b) ∷ casts_if_all (with_reply x r b)) (λ t. refuses_hold Vetoed (with_reply x r b)) (λ t. (h b refl t, casts_hold (with_reply x r b) e (h b refl t)))
 
-      go : (z : State) → AllHold P (reply_state x r b z)
-      go Ending = if_hold (is_first b) (first_reply x r b) [] (λ t. at_first) (λ t. tt)
-      go Voting = if_hold b.asked (branch_reply x r b) [] (λ t. at_other) (λ t. tt)
-      go _ = tt
+      go : (z : State) → b.state ≡ z → AllHold P (reply_state x r b z)
+      go Ending e = if_hold (is_first b) (first_reply x r b) [] (λ t. at_first) (λ t. tt)
+      go Voting e = if_hold b.asked (branch_reply x r b) [] (λ t. at_other e) (λ t. tt)
+      go _ e = tt
 
   note_hold : (f : Branch → Branch) (o : Option Branch) → ((b : Branch) → o ≡ Some b → b.state ≡ Active → P (f b)) → AllHold P (note_row f o)
   note_hold f None h = tt

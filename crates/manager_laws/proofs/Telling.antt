@@ -108,13 +108,13 @@ seen_more L M f k settles.Commit h = (h.0, f (line.Committed k.tid k.serial h.0)
 seen_more L M f k settles.Abort h = (h.0, h.1, f (line.Aborted k.tid k.serial h.0 h.1) h.2)
 
 -- a settlement more
-seen_with : (K : Known) (L : Earlier) → ((j : BranchKey) (p : settles.Outcome) → K j p → Seen L j p) → (k : BranchKey) (o : settles.Outcome) (l : Line) → Seen (Also L l) k o → (j : BranchKey) (p : settles.Outcome) → With K k o j p → Seen (Also L l) j p
-seen_with K L f k o l new j p (inl old) = seen_more L (Also L l) (λ x y. inl y) j p (f j p old)
-seen_with K L f k o l new j p (inr same) = subst (λ x. Seen (Also L l) x p) (sym same.0) (subst (Seen (Also L l) k) (sym same.1) new)
+seen_with : (K : Known) (L : Earlier) → ((j : BranchKey) (p : settles.Outcome) (q : Option LogRecord) → K j p q → Seen L j p) → (k : BranchKey) (o : settles.Outcome) (r : Option LogRecord) (l : Line) → Seen (Also L l) k o → (j : BranchKey) (p : settles.Outcome) (q : Option LogRecord) → With K k o r j p q → Seen (Also L l) j p
+seen_with K L f k o r l new j p q (inl old) = seen_more L (Also L l) (λ x y. inl y) j p (f j p q old)
+seen_with K L f k o r l new j p q (inr same) = subst (λ x. Seen (Also L l) x p) (sym same.0) (subst (Seen (Also L l) k) (sym same.1) new)
 
-announced_backed : (K : Known) (L : Earlier) → ((j : BranchKey) (p : settles.Outcome) → K j p → Seen L j p) → (v : RmEvent) (k : BranchKey) (x : Name) → Announces K v k → Backed L (line.ManagerTold v k.tid k.serial x)
-announced_backed K L f CommitEvent k x h = f k settles.Commit h
-announced_backed K L f AbortEvent k x h = f k settles.Abort h
+announced_backed : (K : Known) (L : Earlier) → ((j : BranchKey) (p : settles.Outcome) (q : Option LogRecord) → K j p q → Seen L j p) → (v : RmEvent) (k : BranchKey) (x : Name) → Announces K v k x → Backed L (line.ManagerTold v k.tid k.serial x)
+announced_backed K L f CommitEvent k x h = f k settles.Commit (Some h.log) h.known
+announced_backed K L f AbortEvent k x h = f k settles.Abort h.0 h.1
 announced_backed K L f PrepareEvent k x h = tt
 announced_backed K L f OnePhaseEvent k x h = tt
 
@@ -126,16 +126,16 @@ sent_if : (L : Earlier) (m : Message) (k : ℕ) (b : Bool) → Preceded L ((if b
 sent_if L m k true = (tt, tt)
 sent_if L m k false = (tt, tt)
 
-table_preceded : (K : Known) (L : Earlier) → ((j : BranchKey) (p : settles.Outcome) → K j p → Seen L j p) → (todo : List table.Act) (s : Shared) (n : Node) → Orderly K todo → Preceded L (lines_of_rows (table_rows todo s n))
+table_preceded : (K : Known) (L : Earlier) → ((j : BranchKey) (p : settles.Outcome) (q : Option LogRecord) → K j p q → Seen L j p) → (todo : List table.Act) (s : Shared) (n : Node) → Orderly K todo → Preceded L (lines_of_rows (table_rows todo s n))
 table_preceded K L f [] s n h = tt
 table_preceded K L f (Settles k settles.Commit reason r ∷ todo) s n h =
     let l = line.Committed k.tid k.serial (next_moment n) in
     let a = Tables (Settles k settles.Commit reason r) (next_moment n) in
-    (tt, table_preceded (With K k settles.Commit) (Also L l) (seen_with K L f k settles.Commit l (next_moment n, inr refl)) todo (shared_after a s) (acted a n) h)
+    (tt, table_preceded (With K k settles.Commit r) (Also L l) (seen_with K L f k settles.Commit r l (next_moment n, inr refl)) todo (shared_after a s) (acted a n) h)
 table_preceded K L f (Settles k settles.Abort reason r ∷ todo) s n h =
     let l = line.Aborted k.tid k.serial reason (next_moment n) in
     let a = Tables (Settles k settles.Abort reason r) (next_moment n) in
-    (tt, table_preceded (With K k settles.Abort) (Also L l) (seen_with K L f k settles.Abort l (reason, next_moment n, inr refl)) todo (shared_after a s) (acted a n) h)
+    (tt, table_preceded (With K k settles.Abort r) (Also L l) (seen_with K L f k settles.Abort r l (reason, next_moment n, inr refl)) todo (shared_after a s) (acted a n) h)
 table_preceded K L f (Prints (table.Told v k x) ∷ todo) s n h =
     let a = Tables (Prints (table.Told v k x)) (next_moment n) in
     preceded_append L (if is_declared n x then line.ManagerTold v k.tid k.serial x ∷ [] else []) (lines_of_rows (table_rows todo (shared_after a s) (acted a n))) (shown_if L (line.ManagerTold v k.tid k.serial x) (announced_backed K L f v k x h.0) (is_declared n x)) (table_preceded K L f todo (shared_after a s) (acted a n) h.1)
@@ -177,17 +177,17 @@ abbrev pub is_declaring : Task → Bool
 is_declaring (Serves (DeclareRm rm)) = true
 is_declaring _ = false
 
-abbrev Unknown : Known
-Unknown j p = ⊥
+abbrev pub Unknown : Known
+Unknown j p q = ⊥
 
 event_told : (L : Earlier) (n : Node) (e : Event) (u : Shared) (m : Node) → Preceded L (lines_of_rows (table_rows (row (tm_of n) e) u m))
-event_told L n e u m = table_preceded Unknown L (λ j p no. absurd no) (row (tm_of n) e) u m (row_orderly Unknown (tm_of n) e)
+event_told L n e u m = table_preceded Unknown L (λ j p q no. absurd no) (row (tm_of n) e) u m (row_orderly Unknown (tm_of n) e)
 
 undo_orderly : (ks : List BranchKey) → Orderly Unknown (undo_all ks)
 undo_orderly [] = tt
 undo_orderly (k ∷ ks) = undo_orderly ks
 
-lasts_untold : (n : Node) → AllPass is_untold (last_lines n)
+pub lasts_untold : (n : Node) → AllPass is_untold (last_lines n)
 lasts_untold n = go n.durable.last
   where
     at : (x : Settlement) (o : settles.Outcome) (r : Option Reason) → AllPass is_untold (elim o as (λ y. List Line) [ settles.Commit ↦ line.LastCommitted x.tid x.serial x.moment ∷ [] | settles.Abort ↦ elim r as (λ y. List Line) [ Some reason ↦ line.LastAborted x.tid x.serial reason x.moment ∷ [] | None ↦ [] ] ])
@@ -200,7 +200,7 @@ lasts_untold n = go n.durable.last
     go None = tt
 
 boot_told : (L : Earlier) (s : Shared) (n : Node) → Preceded L (lines_of_rows (boot_rows s n))
-boot_told L s n = preceded_append L (last_lines n) _ (untold_preceded L (last_lines n) (lasts_untold n)) (table_preceded Unknown L (λ j p no. absurd no) (undo_all (map answers.unit_key (answers.left_active n))) s (acted world.Boots n) (undo_orderly (map answers.unit_key (answers.left_active n))))
+boot_told L s n = preceded_append L (last_lines n) _ (untold_preceded L (last_lines n) (lasts_untold n)) (table_preceded Unknown L (λ j p q no. absurd no) (undo_all (map answers.unit_key (answers.left_active n))) s (acted world.Boots n) (undo_orderly (map answers.unit_key (answers.left_active n))))
 
 branch_told : (L : Earlier) (o : Option Branch) (does : Branch → List Row) → ((b : Branch) → Preceded L (lines_of_rows (does b))) → Preceded L (lines_of_rows (elim o [ Some b ↦ does b | None ↦ [] ]))
 branch_told L (Some b) does h = h b
@@ -315,7 +315,7 @@ rows_told_if : (L : Earlier) (o : Option Line) (rs : List Row) → Preceded L (l
 rows_told_if L (Some refusal) rs h = tt
 rows_told_if L None rs h = h
 
-effect_told : (L : Earlier) (s : Shared) (stops : ℕ) (n : Node) (t : Task) (c : Choice) → is_declaring t ≡ false → Preceded L (task_effect s stops n t c).lines
+pub effect_told : (L : Earlier) (s : Shared) (stops : ℕ) (n : Node) (t : Task) (c : Choice) → is_declaring t ≡ false → Preceded L (task_effect s stops n t c).lines
 effect_told L s stops n t (Whole o) off = go (refused_before_reading s n (task_service t))
   where
     m : Node

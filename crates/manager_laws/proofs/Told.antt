@@ -22,14 +22,15 @@ use Rattle.run_model.specs.StepLaws.{is_refusal}
 use Rattle.run_model.specs.Transcript.{AreOpening, Entry, Legal, Turn}
 use Rattle.run_model.proofs.CauseLemmas.{is_success, refuses_first, refuses_then, task_succeeds}
 use Rattle.run_model.proofs.Failing.{once_refuses}
-use Rattle.run_model.proofs.NodeLists.{found_name}
+use Rattle.run_model.proofs.NodeLists.{found_name, some_is}
 use Rattle.run_model.proofs.PartLemmas.{phases_fold}
 use Rattle.run_model.proofs.PartTasks.{Doing, Fixed, View, view}
 use Rattle.run_model.proofs.Refusing.{each_phase}
 use Rattle.run_model.proofs.TaskLemmas.{Failing, First, Lacking, Late, Outcome, Success, outcome}
 use Rattle.world_laws.specs.Nodes.{IsUp}
 use Rattle.run_laws.specs.Owing.{Waits}
-use Rattle.run_laws.specs.Promises.{IsSettledSo, ShownThere, commitment}
+use Rattle.run_laws.specs.Promises.{IsSettledSo, IsShown, ShownThere, commitment, settlements_of}
+use Rattle.run_laws.proofs.AllShown.{shown_hold}
 use Rattle.run_laws.proofs.CauseRuns.{aborted_hold, commits_hold}
 use Rattle.run_laws.proofs.Deciding.{join_legal, split_legal}
 use Rattle.run_laws.proofs.Labelling.{served_up}
@@ -67,7 +68,7 @@ part_untold w p c after allowed = go (view w p)
     go (Fixed answer ends (inl h) is) = ap (λ (x : PartEffect). is_untold x.answer) (is c) ∙ refusal_untold answer h
     go (Fixed answer ends (inr h) is) = ap (λ (x : PartEffect). is_untold x.answer) (is c) ∙ ap is_untold h
 
-answer_untold : (w v : World) (s : Statement) (lines : List Line) → (step : Step w s lines v) → is_untold step.answer ≡ true
+pub answer_untold : (w v : World) (s : Statement) (lines : List Line) → (step : Step w s lines v) → is_untold step.answer ≡ true
 answer_untold w v s lines step = go (refused_at_once w s) refl step.does
   where
     go : (o : Option Line) → refused_at_once w s ≡ o → Begins o (Phases (phases_of s) v.disks (begun_with s w) line.Normal) w step.events step.answer step.world → is_untold step.answer ≡ true
@@ -88,9 +89,9 @@ among rm (x ∷ xs) e = go (same_name x rm) refl e (among rm xs)
     go true is k more = inl (sym (same_name-true x rm is))
     go false is k more = inr (more k)
 
-owed_of : (rm : Name) (rs : List LogRecord) (l : Line) → In l (map (owed_line rm) (waiting_for rm rs)) → (r : LogRecord) × In r rs × In rm r.rms × (l ≡ owed_line rm r)
-owed_of rm [] l i = absurd i
-owed_of rm (q ∷ rs) l i = go (list_any (λ x. same_name x rm) q.rms) refl i (owed_of rm rs l)
+pub owed_of_line : (rm : Name) (rs : List LogRecord) (l : Line) → In l (map (owed_line rm) (waiting_for rm rs)) → (r : LogRecord) × In r rs × In rm r.rms × (l ≡ owed_line rm r)
+owed_of_line rm [] l i = absurd i
+owed_of_line rm (q ∷ rs) l i = go (list_any (λ x. same_name x rm) q.rms) refl i (owed_of_line rm rs l)
   where
     go : (b : Bool) → list_any (λ x. same_name x rm) q.rms ≡ b → In l (map (owed_line rm) (if b then q ∷ waiting_for rm rs else waiting_for rm rs)) → (In l (map (owed_line rm) (waiting_for rm rs)) → (r : LogRecord) × In r rs × In rm r.rms × (l ≡ owed_line rm r)) →
         (r : LogRecord) × In r (q ∷ rs) × In rm r.rms × (l ≡ owed_line rm r)
@@ -109,14 +110,14 @@ pub record IsOwedLine (n : Node) (rm : Name) (l : Line) : Type 0 where
 in_front : (l : Line) (ls : List Line) → In l (ls ++ []) → In l ls
 in_front l ls i = elim (in_parts l ls [] i) [ inl j ↦ j | inr none ↦ absurd none ]
 
-declare_lines : (s : Shared) (stops : ℕ) (n : Node) (rm : Name) (c : Choice) (rises : Cause → Type 0) → TaskAllowed s stops n (Serves (DeclareRm rm)) rises c → (l : Line) → In l (task_effect s stops n (Serves (DeclareRm rm)) c).lines → IsOwedLine n rm l
+pub declare_lines : (s : Shared) (stops : ℕ) (n : Node) (rm : Name) (c : Choice) (rises : Cause → Type 0) → TaskAllowed s stops n (Serves (DeclareRm rm)) rises c → (l : Line) → In l (task_effect s stops n (Serves (DeclareRm rm)) c).lines → IsOwedLine n rm l
 declare_lines s stops n rm (Whole o) rises may l i = go (refused_before_reading s n (service (DeclareRm rm))) refl i
   where
     late : refused_before_reading s n (service (DeclareRm rm)) ≡ None → (q : Option Line) → In l (begun s n (service (DeclareRm rm)) q).lines → IsOwedLine n rm l
     late first (Some refusal) j = absurd j
     late first None j =
         let ls = map (owed_line rm) (waiting_for rm (committed_of (records_in n.durable.log))) in
-        let x = owed_of rm (committed_of (records_in n.durable.log)) l (in_front l ls (in_front l (ls ++ []) j)) in
+        let x = owed_of_line rm (committed_of (records_in n.durable.log)) l (in_front l ls (in_front l (ls ++ []) j)) in
         record { up = served_up n _ first; log = x.0; there = x.1; waits = x.2; is = x.3 }
 
     go : (q : Option Line) → refused_before_reading s n (service (DeclareRm rm)) ≡ q → In l (whole s n n (service (DeclareRm rm)) q).lines → IsOwedLine n rm l
@@ -144,7 +145,7 @@ declaring Settle = None_declared tt
 -- Statements.
 
 -- a line that is shown stands between others
-in_split : (l : Line) (ls : List Line) → In l ls → (a : List Line) × (b : List Line) × (ls ≡ a ++ l ∷ b)
+pub in_split : (l : Line) (ls : List Line) → In l ls → (a : List Line) × (b : List Line) × (ls ≡ a ++ l ∷ b)
 in_split l [] i = absurd i
 in_split l (x ∷ ls) (inl same) = ([], ls, ap (λ y. y ∷ ls) (sym same))
 in_split l (x ∷ ls) (inr i) = let r = in_split l ls i in (x ∷ r.0, r.1, ap (λ ys. x ∷ ys) r.2)
@@ -152,7 +153,7 @@ in_split l (x ∷ ls) (inr i) = let r = in_split l ls i in (x ∷ r.0, r.1, ap (
 -- a line that tells a manager something is backed by those in front of it, or shown for a DECLARE_RM
 data Told (w : World) (said : Reading) (front : List Line) (l : Line) : Type 0 where
   Behind : Backed (λ x. Nothing x ⊎ In x front) l → Told w said front l
-  Owed : (node : List ℕ) (rm : Name) (n : Node) → find_node node w.nodes ≡ Some n → IsOwedLine n rm l → Told w said front l
+  Owed : (node : List ℕ) (rm : Name) (n : Node) → said ≡ Says (At node (DeclareRm rm)) → find_node node w.nodes ≡ Some n → IsOwedLine n rm l → Told w said front l
 
 step_tells : (w v : World) (s : Statement) (lines front : List Line) (this : Line) (behind : List Line) → Step w s lines v → lines ≡ front ++ this ∷ behind → is_untold this ≡ false → Told w (Says s) front this
 step_tells w v s lines front this behind step shown told = go (declaring s)
@@ -169,7 +170,7 @@ step_tells w v s lines front this behind step shown told = go (declaring s)
         by (Turned n found c allowed shows goes) =
             let e = task_effect w.shared (stops_at node w) n (Serves (DeclareRm rm)) c in
             elim (in_parts this e.lines (e.answer ∷ []) (subst (In this) shows here)) [
-              | inl i ↦ Owed node rm n found (declare_lines w.shared (stops_at node w) n rm c (λ cause. RoseAt w node cause v.disks) allowed this i)
+              | inl i ↦ Owed node rm n (ap Says is) found (declare_lines w.shared (stops_at node w) n rm c (λ cause. RoseAt w node cause v.disks) allowed this i)
               | inr i ↦ absurd (elim i [ inl same ↦ both_ways (is_untold this) told (ap is_untold same ∙ outcome_untold w.shared (stops_at node w) n (Serves (DeclareRm rm)) (λ cause. RoseAt w node cause v.disks) e (outcome w.shared (stops_at node w) n (Serves (DeclareRm rm)) (λ cause. RoseAt w node cause v.disks) c allowed)) | inr none ↦ none ])
             ]
 
@@ -206,13 +207,13 @@ module _ (nodes : List Node) (disks : List DiskCounts) (es : List Entry) (closin
         stay = subst (λ x. Stay x closing) s.1 s.2;
       }
 
-serial_owed : (tid serial : Id) (x rm : Name) (r : LogRecord) → line.ManagerTold CommitEvent tid serial x ≡ owed_line rm r → r.serial ≡ serial
+pub serial_owed : (tid serial : Id) (x rm : Name) (r : LogRecord) → line.ManagerTold CommitEvent tid serial x ≡ owed_line rm r → r.serial ≡ serial
 serial_owed tid serial x rm r e = cc
 
-tid_owed : (tid serial : Id) (x rm : Name) (r : LogRecord) → line.ManagerTold CommitEvent tid serial x ≡ owed_line rm r → r.tid ≡ tid
+pub tid_owed : (tid serial : Id) (x rm : Name) (r : LogRecord) → line.ManagerTold CommitEvent tid serial x ≡ owed_line rm r → r.tid ≡ tid
 tid_owed tid serial x rm r e = cc
 
-name_owed : (tid serial : Id) (x rm : Name) (r : LogRecord) → line.ManagerTold CommitEvent tid serial x ≡ owed_line rm r → x ≡ rm
+pub name_owed : (tid serial : Id) (x rm : Name) (r : LogRecord) → line.ManagerTold CommitEvent tid serial x ≡ owed_line rm r → x ≡ rm
 name_owed tid serial x rm r e = cc
 
 never_owed : (tid serial : Id) (x rm : Name) (r : LogRecord) → line.ManagerTold AbortEvent tid serial x ≡ owed_line rm r → ⊥
@@ -228,7 +229,7 @@ aborts_told nodes disks es closing opening legal before said front behind tid se
         let e = earlier nodes disks es closing opening legal before said front behind (line.ManagerTold AbortEvent tid serial rm) there (line.Aborted tid serial reason moment) i in
         (reason, moment, i, (aborted_hold nodes disks es closing opening legal before said e.0 e.1 tid serial reason moment e.2).1)
     go (Behind (reason, moment, inl none)) = absurd none
-    go (Owed node x n found owed) = absurd (never_owed tid serial rm x owed.log owed.is)
+    go (Owed node x n is found owed) = absurd (never_owed tid serial rm x owed.log owed.is)
 
 pub commits_told : CommitsToldHold
 commits_told nodes disks es closing opening legal before said front behind tid serial rm there = go (p.told refl)
@@ -236,19 +237,33 @@ commits_told nodes disks es closing opening legal before said front behind tid s
     p : Place nodes disks es closing opening legal before said front behind (line.ManagerTold CommitEvent tid serial rm) there
     p = place nodes disks es closing opening legal before said front behind (line.ManagerTold CommitEvent tid serial rm) there
 
-    go : Told p.w said front (line.ManagerTold CommitEvent tid serial rm) → ((moment : ℕ) × IsSettledSo tid serial settles.Commit None moment closing) ⊎ WasOwed tid serial rm (opened nodes disks)
+    Result : Type 0
+    Result = ((moment : ℕ) × (In (line.Committed tid serial moment) front ⊎ IsShown (commitment tid serial moment) before) × IsSettledSo tid serial settles.Commit None moment closing) ⊎ ((said ≡ Says (At serial.node (DeclareRm rm))) × WasOwed tid serial rm (opened nodes disks) before)
+
+    go : Told p.w said front (line.ManagerTold CommitEvent tid serial rm) → Result
     go (Behind (moment, inr i)) =
         let e = earlier nodes disks es closing opening legal before said front behind (line.ManagerTold CommitEvent tid serial rm) there (line.Committed tid serial moment) i in
-        inl (moment, (commits_hold nodes disks es closing opening legal before said e.0 e.1 tid serial moment e.2).1)
+        inl (moment, inl i, (commits_hold nodes disks es closing opening legal before said e.0 e.1 tid serial moment e.2).1)
     go (Behind (moment, inl none)) = absurd none
-    go (Owed node x n found owed) =
-        let waits : Waits tid serial rm n.durable = (owed.log, owed.there, serial_owed tid serial rm x owed.log owed.is, tid_owed tid serial rm x owed.log owed.is, subst (λ y. In y (owed.log).rms) (sym (name_owed tid serial rm x owed.log owed.is)) owed.waits) in
+    go (Owed node x n is found owed) =
+        let name : rm ≡ x = name_owed tid serial rm x owed.log owed.is in
+        let waits : Waits tid serial rm n.durable = (owed.log, owed.there, serial_owed tid serial rm x owed.log owed.is, tid_owed tid serial rm x owed.log owed.is, subst (λ y. In y (owed.log).rms) (sym name) owed.waits) in
         let sound : IsSound p.w = legal_sound (opened nodes disks) p.w before (opening_sound nodes disks opening) p.path in
         let up : IsUp n = ((sound.kept node n found).runs owed.up).0 in
         let r = in_table tid serial rm n up waits in
         let home : serial.node ≡ node = ap (λ (z : Id). z.node) (sym r.2) ∙ ((up.table.drawn (r.0).serial (in_right (r.0).serial (branch_serials n.volatile.branches) (record_serials n.volatile.records) (in_serial r.0 n.volatile.records r.1))).0 ∙ found_name node (p.w).nodes n found) in
         let at : find_node serial.node (p.w).nodes ≡ Some n = subst (λ y. find_node y (p.w).nodes ≡ Some n) (sym home) found in
         elim ((legal_backed nodes disks opening tid serial rm before p.w p.path n at).disk waits) [
-          | inl c ↦ inl (c.0, (commitment tid serial c.0, p.stay serial.node (commitment tid serial c.0) (subst (In (commitment tid serial c.0)) (sym (found_settled serial.node p.w n at)) c.1), refl))
-          | inr was ↦ inr was
+          | inl c ↦ settled n owed.up at c.0 c.1
+          | inr was ↦ inr (is ∙ (λ i. Says (At (sym home i) (DeclareRm (sym name i)))), was)
         ]
+      where
+        -- while the node is up each settlement of it was shown
+        settled : (n : Node) → n.up ≡ true → find_node serial.node (p.w).nodes ≡ Some n → (moment : ℕ) → In (commitment tid serial moment) n.settled → Result
+        settled n up at moment i = elim (shown_hold nodes disks before p.w opening p.path serial.node (commitment tid serial moment) there_is).1 [
+          | inl shown ↦ inl (moment, inr shown, (commitment tid serial moment, p.stay serial.node (commitment tid serial moment) there_is, refl))
+          | inr (m, found, last, down) ↦ absurd (both_ways m.up down (ap (λ (y : Node). y.up) (some_is m n (sym found ∙ at)) ∙ up))
+        ]
+          where
+            there_is : In (commitment tid serial moment) (settlements_of serial.node p.w)
+            there_is = subst (In (commitment tid serial moment)) (sym (found_settled serial.node p.w n at)) i

@@ -43,7 +43,7 @@ none_holds : (a b : Bool) → (a || b) ≡ false → (a ≡ false) × (b ≡ fal
 none_holds true b e = let no : ⊥ = cc in absurd no
 none_holds false b e = (refl, e)
 
-or_false : (a : Bool) → (a || false) ≡ a
+pub or_false : (a : Bool) → (a || false) ≡ a
 or_false true = refl
 or_false false = refl
 
@@ -134,8 +134,8 @@ module _ (tid serial : Id) (rm : Name) where
 
   pub awaits_steady : IsSteady Awaits
   awaits_steady = record {
-    alike = λ b x u v key managers accepted h same. let y = h (ap (λ (k : BranchKey). k.serial) (sym key) ∙ same) in (key ∙ y.0, v, subst Missing (sym managers) y.2, subst AreAsked (sym managers) y.3);
-    asked = λ b x e asking u v key managers accepted h same. let y = h (ap (λ (k : BranchKey). k.serial) (sym key) ∙ same) in (key ∙ y.0, v, subst Missing (sym managers) (asked_missing e b.managers y.2), subst AreAsked (sym managers) (asked_asked e asking b.managers));
+    alike = λ b x u v off key managers accepted h same. let y = h (ap (λ (k : BranchKey). k.serial) (sym key) ∙ same) in (key ∙ y.0, v, subst Missing (sym managers) y.2, subst AreAsked (sym managers) y.3);
+    asked = λ b x e asking one u v key managers accepted h same. let y = h (ap (λ (k : BranchKey). k.serial) (sym key) ∙ same) in (key ∙ y.0, v, subst Missing (sym managers) (asked_missing e b.managers y.2), subst AreAsked (sym managers) (asked_asked e asking b.managers));
     accepts = λ b c h. h;
     prepares = λ b all h same. absurd (not_all b.managers (h same).2 all);
     changed = λ b h. h;
@@ -319,7 +319,7 @@ module _ (tid serial : Id) (rm : Name) where
 
       tabled : (x : table.Act) (moment : ℕ) → HoldsIn Awaits x → VotesSo (Some (Tables x moment)) ls → told_votes ls a ≡ a
       tabled (table.Prepares b) moment (h, all) w = ap (λ ms. told_votes ms a) w ∙ (ap (λ b. a || b) (not_it b.key.serial (λ same. not_all b.managers (h same).2 all)) ∙ or_false a)
-      tabled (table.Leaves k) moment (b, h, key, all) w =
+      tabled (table.Leaves k) moment (b, h, key, all, voting, none) w =
           ap (λ ms. told_votes ms a) w ∙ (ap (λ b. a || b) (not_it k.serial (λ same. not_all b.managers (h (ap (λ (j : BranchKey). j.serial) key ∙ same)).2 all)) ∙ or_false a)
       tabled (table.Accepts b c) moment h w = ap (λ ms. told_votes ms a) w ∙ or_false a
       tabled (table.Notes b) moment h w = told_steady ls a w
@@ -385,7 +385,7 @@ module _ (tid serial : Id) (rm : Name) where
     rests = λ a n k h. (h.0, record { settled = (h.1).settled; unrecorded = (h.1).unrecorded; of = ((h.1).home, below n.durable.boot (h.1).earlier) });
     none_ready = λ n e. tt;
     same_ready = λ n m e h. tt;
-    comes = λ a n up h. (h.0, record { settled = (h.1).settled; branches = λ b i same. absurd ((h.1).branches b i same); drawn = ((h.1).home, inl (h.1).earlier) });
+    comes = λ a n up h closed. (h.0, record { settled = (h.1).settled; branches = λ b i same. absurd ((h.1).branches b i same); drawn = ((h.1).home, inl (h.1).earlier) });
   }
     where
       later : (boot : ℕ) → serial.boot ≤ boot → serial.boot < boot + 1

@@ -1,4 +1,4 @@
--- Which resource managers are declared: each that has joined a branch.
+-- Which resource managers are declared: each that has joined an unsettled branch which is not prepared.
 use Rattle.std.specs.Prelude.{◌≡◌, true, false}
 use Rattle.commit_protocol.specs.Allowed.{is_prepared}
 use Rattle.commit_protocol.specs.Table.{Branch, Manager}

@@ -5,7 +5,7 @@ use Rattle.transcript_model.specs.Lines as line
 use Rattle.transcript_model.specs.Lines.{Line, Cause}
 use Rattle.script_model.specs.Statements.{At, AckEvent, JoinRm, Named, Reading}
 use Rattle.commit_protocol.specs.Allowed.{answers}
-use Rattle.commit_protocol.specs.Messages.{OnePhaseEvent, PrepareEvent, Reply}
+use Rattle.commit_protocol.specs.Messages.{ForgetReply, OnePhaseEvent, PrepareEvent, Reply}
 use Rattle.commit_protocol.specs.Rows.{is_veto}
 use Rattle.run_model.specs.World.{World}
 use Rattle.run_model.specs.Transcript.{Entry, InAllRuns}
@@ -18,7 +18,7 @@ use Rattle.run_laws.specs.SaidLaws.{SaidThere}
 abbrev pub IsTaken : Line → Type 0
 IsTaken answer = (answer ≡ line.Normal) ⊎ ((cause : Cause) × (answer ≡ line.Broken cause))
 
--- a reply is one to the event PREPARE, or to ONEPHASE
+-- a reply is one that the event PREPARE may have, or ONEPHASE
 abbrev pub AnswersAsking : Reply → Type 0
 AnswersAsking reply = (answers PrepareEvent reply ≡ true) ⊎ (answers OnePhaseEvent reply ≡ true)
 
@@ -29,19 +29,33 @@ HasReplied since earlier tid serial rm = (before : List Entry) × (who : Named) 
     SaidThere since before (At serial.node (AckEvent who rm reply)) events answer × Names (before ++ earlier) who tid serial × AnswersAsking reply × (is_veto reply ≡ false) × IsTaken answer
 
 -- A line that shows that a branch is prepared, has left as read-only, or is committed; or, by a boot, that it is committed, which its disk did not have as its last
--- settlement before the first line.
-abbrev pub Decides : World → Line → (tid serial : Id) → Type 0
-Decides opening this tid serial =
+-- settlement before the first line, or had no more once an INIT had made its volume anew.
+abbrev pub Decides : World → List Entry → Line → (tid serial : Id) → Type 0
+Decides opening before this tid serial =
     (this ≡ line.Prepared tid serial)
     ⊎ (this ≡ line.ReadOnly tid serial)
     ⊎ ((moment : ℕ) × (this ≡ line.Committed tid serial moment))
-    ⊎ ((moment : ℕ) × (this ≡ line.LastCommitted tid serial moment) × (WasLast serial.node this opening → ⊥))
+    ⊎ ((moment : ℕ) × (this ≡ line.LastCommitted tid serial moment) × (WasLast serial.node this opening before → ⊥))
 
--- Where such a line is shown, each resource manager has replied to PREPARE or ONEPHASE, and not with a veto, that joined the branch before by a JOIN_RM which succeeded; and it did so since.
+-- Where such a line is shown, each resource manager that joined the branch before, by a JOIN_RM which succeeded, has given since a reply that PREPARE or ONEPHASE may have, and no veto.
 abbrev pub RepliesComeFirst : World → List Entry → Type 0
-RepliesComeFirst opening es = (before : List Entry) (said : Reading) (front behind : List Line) (this : Line) (tid serial : Id) → (there : ShownThere es before said front this behind) → Decides opening this tid serial →
+RepliesComeFirst opening es = (before : List Entry) (said : Reading) (front behind : List Line) (this : Line) (tid serial : Id) → (there : ShownThere es before said front this behind) → Decides opening before this tid serial →
     (earlier : List Entry) (label rm : List ℕ) (events : List Line) → (join : SaidThere before earlier (At serial.node (JoinRm label rm)) events line.Normal) → IsNamed earlier serial.node label tid serial →
     HasReplied (there.entry ∷ join.after) (join.entry ∷ earlier) tid serial rm
+
+-- in these entries a resource manager replied FORGET for a branch, likewise
+abbrev pub HasForgotten : (since earlier : List Entry) → (tid serial : Id) → (rm : List ℕ) → Type 0
+HasForgotten since earlier tid serial rm = (before : List Entry) × (who : Named) × (events : List Line) × (answer : Line) ×
+    SaidThere since before (At serial.node (AckEvent who rm ForgetReply)) events answer × Names (before ++ earlier) who tid serial × IsTaken answer
+
+-- Where a branch leaves as read-only, each resource manager that joined it before has replied FORGET since: one that replied that it is prepared is owed the outcome.
+abbrev pub LeavesForget : List Entry → Type 0
+LeavesForget es = (before : List Entry) (said : Reading) (front behind : List Line) (tid serial : Id) → (there : ShownThere es before said front (line.ReadOnly tid serial) behind) →
+    (earlier : List Entry) (label rm : List ℕ) (events : List Line) → (join : SaidThere before earlier (At serial.node (JoinRm label rm)) events line.Normal) → IsNamed earlier serial.node label tid serial →
+    HasForgotten (there.entry ∷ join.after) (join.entry ∷ earlier) tid serial rm
+
+abbrev pub LeavesHold : Type 0
+LeavesHold = InAllRuns (λ opening es closing. LeavesForget es)
 
 abbrev pub RepliesHold : Type 0
 RepliesHold = InAllRuns (λ opening es closing. RepliesComeFirst opening es)

@@ -1,39 +1,48 @@
 //! Laws on resource managers, of all legal transcripts.
 //!
-//! The crate has definitions and laws, and nothing that runs. `specs/Promises` has all of them in one record, with those of `run_laws`.
+//! The crate has definitions and laws, and nothing that runs. `specs/Promises` has all of them in one record, with one of `run_laws`.
 #![tactic(auto)]
 
 ghost use Rattle.manager_laws.specs.Joined.{JoinedAreDeclared};
 ghost use Rattle.manager_laws.specs.Promises.{ManagerPromisesHold};
-ghost use Rattle.manager_laws.specs.Replying.{RepliesHold};
-ghost use Rattle.manager_laws.specs.Telling.{AbortsToldHold, CommitsToldHold};
+ghost use Rattle.manager_laws.specs.Replying.{LeavesHold, RepliesHold};
+ghost use Rattle.manager_laws.specs.Telling.{AbortsToldHold, CommitsToldHold, DeclaresHold, RetoldHold};
 
 /// In each world that a legal transcript leads to, each resource manager that has joined an unsettled branch which is not prepared is declared at
-/// the branch's node, while that is up. So what such a branch asks or tells its managers is shown to each of them.
+/// the branch's node, while that is up. So an event of such a branch to a manager that joined it is shown, by what `table_lines` shows.
 pub fn joined_are_declared()
     ensures { JoinedAreDeclared }
 {}
 
 /// In every legal transcript a branch is shown to be prepared, to have left as read-only or to be committed only when no reply of a resource manager
-/// is missing: each manager that joined it before, by a JOIN_RM that succeeded, has replied since to PREPARE or ONEPHASE, by an ACK_EVENT that was
-/// taken, and not with a veto. So it is of a commitment that a boot shows, unless the disk had it before the first line.
+/// is missing: each manager that joined it before, by a JOIN_RM that succeeded, has given since a reply that PREPARE or ONEPHASE may have, by an
+/// ACK_EVENT that was taken, and not a veto. So it is of a commitment that a boot shows, unless the disk had it before the first line and no INIT has
+/// made its volume anew since. Where the branch leaves as read-only, each of them has replied SS$_FORGET.
 pub fn replies_come_first()
-    ensures { RepliesHold }
+    ensures replies { RepliesHold }
+    ensures leaves { LeavesHold }
 {}
 
 /// In every legal transcript what a resource manager is told of the outcome of a branch is its outcome, over all stops and restarts. An event COMMIT
-/// is of a branch that is settled as committed for good, or whose committed record stood on its node's disk before the first line and waited for the
-/// manager. An event ABORT stands in the statement that shows the branch aborted, behind that line, and the branch is aborted so for good.
+/// stands behind a line that shows the commitment, in its statement or an earlier one, and the branch is committed so for good; or it is shown for a
+/// DECLARE_RM, of a branch whose committed record stood on its node's disk before the first line and waited for the manager, where no INIT has made
+/// that volume anew since. Of such a record only that it stood there is said. An event ABORT stands in the statement that shows the branch aborted,
+/// behind that line, and the branch is aborted so for good. A DECLARE_RM shows nothing but events COMMIT to its manager, of branches of its node.
 pub fn outcomes_are_told()
     ensures commits { CommitsToldHold }
     ensures aborts { AbortsToldHold }
+    ensures declares { DeclaresHold }
 {}
 
-/// Every legal transcript keeps the promises of `ManagerPromises`: those of this crate, and those of `run_laws` that a commitment which a manager was
-/// told is told again until it forgets, and that a veto aborts.
+/// In every legal transcript a commitment of which a resource manager was told, by whatever statement, it is told at each later DECLARE_RM of it that
+/// succeeds at the branch's node, over all failures and restarts, until a statement has it reply SS$_FORGET there, or may make the volume anew.
+pub fn commitments_are_retold()
+    ensures { RetoldHold }
+{}
+
+/// Every legal transcript keeps the promises of `ManagerPromises`: those of this crate, and that of `run_laws` that a veto aborts its branch.
 pub fn manager_promises_hold()
     ensures { ManagerPromisesHold }
 {
-    run_laws::owing::commitments_are_owed();
     run_laws::owing::vetoes_abort();
 }

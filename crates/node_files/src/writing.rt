@@ -5,7 +5,7 @@ ghost use Rattle.careful_write.specs.Down.{Counts};
 ghost use Rattle.careful_write.specs.State.{EachWhole, IsIdle, IsReady};
 ghost use Rattle.change_set.specs.Files.{AgreesOut, IsPlaced, LeavesOut, fell, free_frames, in_extent};
 ghost use Rattle.change_set.specs.Maps.{EndsAfter, IsNext, empty_map};
-ghost use Rattle.record_files.specs.Any.{Begins, IsFile, IsLaidOut, IsNew, chain_of, first_chain_of, map_of};
+ghost use Rattle.record_files.specs.Any.{Begins, IsFile, IsLaidOut, IsNew, first_layout_of, layout_of, map_of};
 ghost use Rattle.volume.specs.State.{with_block};
 ghost use Rattle.volume_format.specs.Head.{head_block_of};
 ghost use Rattle.volume_format.specs.Home.{home_block_of};
@@ -65,7 +65,7 @@ pub fn make_records<D: Disk>(volume: &mut Volume<D>, head: &FileHead) -> Result<
     requires frames { 32 ≤ free_frames volume.old.store.pool }
     ensures map { OnOk result (IfSome volume.new.store.current (λ content. map_of head.now content ≡ empty_map)) }
     ensures laid { OnOk result (IfSome volume.new.store.current (IsLaidOut head.now)) }
-    ensures chain { OnOk result (IfSome volume.new.store.current (λ content. chain_of head.now content ≡ first_chain_of head.now)) }
+    ensures layout { OnOk result (IfSome volume.new.store.current (λ content. layout_of head.now content ≡ first_layout_of head.now)) }
     ensures each { OnOk result (IfSome volume.new.store.current EachWhole) }
     ensures idle { OnOk result (IsIdle volume.new.store) }
     ensures outside { OnOk result (AgreesOut (in_extent head.now) volume.old.store.current volume.new.store.current) }

@@ -33,7 +33,7 @@ use Rattle.journal_model.specs.Entries.{Entry, IsEntry, spelling}
 use Rattle.journal_model.specs.Ring.{IsJournal}
 use Rattle.journal_store.proofs.Journals.{keeps_others, written_behind}
 use Rattle.records_model.specs.Records.{Change}
-use Rattle.record_files.specs.Any.{LaidOutBy, chain_by, map_by, map_of}
+use Rattle.record_files.specs.Any.{LaidOutBy, layout_by, map_by, map_of}
 use Rattle.record_operations.specs.Causes.{RecordNotFound, cause_if, first_cause}
 use Rattle.record_operations.specs.declared.ops.RecordOp.TheVariants as op
 use Rattle.seq_file.specs.Layout as sequential
@@ -348,7 +348,7 @@ module _ (s : state.UnitsState) (v : VolumeState) (order : IsInOrder s v) (at : 
     form = cut_is.2.form;
     laid = cut_is.2.laid;
     map = cut_is.2.map ∙ ap (cut_from from) (λ i k. (sym (file_is.records k) ∙ file_p.records k) i);
-    chain = cut_is.2.chain ∙ ap (λ q. chain_by q h a) kind ∙ sym (ap (λ q. chain_by q h p) kind);
+    layout = cut_is.2.layout ∙ ap (λ q. layout_by q h a) kind ∙ sym (ap (λ q. layout_by q h p) kind);
   }
 
   named : IsNamed v.catalog.heads f h h.name

@@ -287,7 +287,7 @@ module _ (o : RecordOp) (bytes : List ℕ) (s : state.UnitsState) (log : Slots) 
       held_world = held_alike v.catalog.heads (once o bytes s log v n h file asked) (file_in o) h asked.named.there n s.locks asked.kept.locks
 
       rest : KeepsRest n (file_in o) new told b v made.commits.set
-      rest = keeps_rest n (file_in o) 65 h new told b v made.commits.set (of_node o bytes s log v n h file asked) asked.named.there made.commits.stages key_set.1 key_set.2.whole
+      rest = keeps_rest n (file_in o) 417 h new told b v made.commits.set (of_node o bytes s log v n h file asked) asked.named.there made.commits.stages key_set.1 key_set.2.whole
 
       module _ (own : tid_of tid ≡ next_id n) (is_id : IsId (tid_of tid)) (ticks : n.clock ≡ clock) (moment : settling.next_moment clock v.catalog.home ≤ 24113056319999)
           (free : locks_refuse None (file_in o) (keys_by.keys_asked h (change_in o) key) s.locks ≡ None)
@@ -318,11 +318,12 @@ module _ (o : RecordOp) (bytes : List ℕ) (s : state.UnitsState) (log : Slots) 
           named = asked.named;
           at = place;
           may = may;
+          limit = 417;
           stages = made.commits.stages;
           now = key_set.1;
           whole = key_set.2.whole;
           changed = subst (λ (held : Key → Bool). IsChanged held (change ∷ []) told h b new) held_world
-              (set_changes (file_in o) 65 h new (λ k. is_some (table.holder s.locks (file_in o) k)) key (record_in file key) (after_change (change_in o) value) told b v made.commits.set made.commits.stages key_set.2);
+              (set_changes (file_in o) 417 h new (λ k. is_some (table.holder s.locks (file_in o) k)) key (record_in file key) (after_change (change_in o) value) told b v made.commits.set made.commits.stages key_set.2);
           restorable = restorable;
           makes = made.commits.settles;
           own = own;
@@ -425,6 +426,7 @@ module _ (g from : ℕ) (bytes : List ℕ) (s : state.UnitsState) (log : Slots) 
           named = asked.named;
           at = cut_place;
           may = subst (MayChange (next_id n) file) is cut_may;
+          limit = 65;
           stages = made.stages;
           now = cut_set.1;
           whole = cut_set.2.whole;

@@ -104,7 +104,8 @@ pub record DirectsFile (n : Node) (f : ℕ) (h : FileHead) (name : List ℕ) (fi
   pub named : IsNamed v.catalog.heads f h name
   pub at : IsFoundAt name n.durable.directory f file
   pub may : MayChange (next_id n) file cs
-  pub stages : StagesFile f h 65 v mid new
+  pub limit : ℕ
+  pub stages : StagesFile f h limit v mid new
   pub now : mid.store.current ≡ Some b
   pub whole : EachWhole b
   pub changed : IsChanged (is_locked n.volatile.locks name) cs a h b new
@@ -172,7 +173,7 @@ module _ (n : Node) (f : ℕ) (h : FileHead) (name : List ℕ) (file : File) (ti
   fresh_here = fresh n has.units up name f file d.at
 
   rest : KeepsRest n f new a b v mid
-  rest = keeps_rest n f 65 h new a b v mid is d.named.there d.stages d.now d.whole
+  rest = keeps_rest n f d.limit h new a b v mid is d.named.there d.stages d.now d.whole
 
   moment_is : next_moment n ≡ settling.next_moment clock v.catalog.home
   moment_is = moment_of n clock v.catalog.home d.ticks has.home.greatest

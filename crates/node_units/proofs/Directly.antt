@@ -1,5 +1,5 @@
 -- Changes without a unit are those of a branch that is drawn for them: no unsettled branch changed their keys, and the files are the world's after them.
-use Rattle.std.proofs.Common.{◌≡◌, ℕ, ◌*◌, ◌-◌, List, [], ◌∷◌, Bool, true, false, Option, Some, None, refl, sym, ◌∙◌, ap, subst, slice_set, inl, inr}
+use Rattle.std.proofs.Common.{◌≡◌, ℕ, List, [], ◌∷◌, Bool, true, false, Option, Some, None, refl, sym, ◌∙◌, ap, subst, slice_set, inl, inr}
 use Rattle.std.specs.Prelude.{is_some}
 use Rattle.std.specs.FinMap.{get}
 use Rattle.std.specs.List.{AllByRecursion}
@@ -14,7 +14,7 @@ use Rattle.vms_model.specs.Transactions.{Outcome, Commit}
 use Rattle.script_model.specs.Statements.{Operation, Put, Update, Delete, Truncate, Get, Next}
 use Rattle.records_model.specs.Records.{Change, Found, Records}
 use Rattle.records_model.specs.Records as base
-use Rattle.records_model.specs.Layout.{layout_changed}
+use Rattle.tree_model.specs.Setting.{layout_changed}
 use Rattle.records_model.specs.History.{LiveChanges, changed_with, current, same_id, settled_at}
 use Rattle.unit_laws.specs.Units.{SerialsDiffer, has_changes, is_free, moves_end}
 use Rattle.unit_laws.specs.Journal.{RecoveryUnit, find_unit, units_in}
@@ -25,7 +25,7 @@ use Rattle.run_model.specs.Answers.{held_against, keys_refused}
 use Rattle.run_model.specs.Locks.{holder, is_locked}
 use Rattle.run_model.specs.Operations.{changes_of, count_of, data_refused, delete_refused, form_refused, key_refused, keys_asked, put_keys, record_in, update_refused}
 use Rattle.run_model.specs.World as world
-use Rattle.run_model.specs.World.{AreUnitsOf, Directs, File, Node, Organization, Settlement, acted, capacity, directly_changed, next_id}
+use Rattle.run_model.specs.World.{AreUnitsOf, Directs, File, Node, Organization, Settlement, acted, directly_changed, next_id, sizes_of}
 use Rattle.world_laws.specs.Nodes.{IsUp}
 use Rattle.world_laws.specs.Restarts.{AreHeld}
 use Rattle.world_laws.proofs.AnswerLemmas.{neither}
@@ -38,9 +38,9 @@ use Rattle.world_laws.proofs.RunningLemmas.{end_is_free_for}
 use Rattle.world_laws.proofs.ServedLemmas.{undrawn}
 use Rattle.world_laws.proofs.TableLemmas.{in_serials}
 use Rattle.world_laws.proofs.UpLemmas.{branch_drawn}
-use Rattle.directory_model.specs.Files.{AreFiles, IsFile, IsFoundAt, IsNamed, file_at, layout_of}
+use Rattle.directory_model.specs.Files.{AreFiles, IsFile, IsFoundAt, IsNamed, file_at}
 use Rattle.directory_model.specs.Laws.{AreFree, IsChanged, SameBut}
-use Rattle.directory_model.proofs.Acts.{same_there}
+use Rattle.directory_model.proofs.Acts.{layout_after, same_there}
 use Rattle.directory_model.proofs.Finding.{finds_files}
 use Rattle.directory_model.proofs.Moving.{file_moved, places_moved}
 use Rattle.restart_laws.specs.Units.{EndIsFree, MayChange}
@@ -127,11 +127,6 @@ applied_on m keys cs key same = ap (λ (x : Map). x key) (agree.applied_alike cs
     all : map_of_records m ≡ keys
     all = λ i k. same k i
 
-layout_after : (held : Key → Bool) (file : File) (cs : List Change) (a b : List (List ℕ)) (h new : FileHead) → IsFile a h file → layout_of new b ≡ layout_changed (512 * h.bucket - 16) held cs (layout_of h a) →
-    layout_changed (capacity file) held cs file.layout ≡ layout_of new b
-layout_after held file cs a b h new is layout =
-    ap (λ x. layout_changed (512 * x - 16) held cs file.layout) is.head.bucket ∙ ap (layout_changed (512 * h.bucket - 16) held cs) is.layout ∙ sym layout
-
 pub files_directed : (a b : List (List ℕ)) (heads : List (Option FileHead)) (n : Node) (f : ℕ) (h new : FileHead) (name : List ℕ) (file : File) (cs : List Change) (s : Settlement) → AreFiles a heads n.durable.directory → AreUnitsOf n → s.outcome ≡ Commit →
     IsNamed heads f h name → file_at n.durable.directory f ≡ Some file → AreFree s.serial file cs → Found cs (current file.history) → IsChanged (is_locked n.volatile.locks name) cs a h b new → SameBut f heads a b →
     AreFiles b (slice_set heads f (Some new)) (acted (Directs name cs s) n).durable.directory
@@ -145,6 +140,6 @@ files_directed a b heads n f h new name file cs s are units commit named there f
     let settled = commits_one (changed_with s.serial cs file.history) s.serial s.moment made.orderly in
     subst (AreFiles b (slice_set heads f (Some new))) (sym (at.2.changed (directly_changed held s cs) ∙ ap (λ (x : File). slice_set directory f (Some (directly_changed held s cs x))) one))
     (places_moved a b heads directory f h new (directly_changed held s cs file) are named.there
-    (file_moved a b h new file (settled_at s.serial s.outcome s.moment (changed_with s.serial cs file.history)) (layout_changed (capacity file) held cs file.layout) is.same is.form is.laid mine
+    (file_moved a b h new file (settled_at s.serial s.outcome s.moment (changed_with s.serial cs file.history)) (layout_changed (sizes_of file) held cs file.layout) is.same is.form is.laid mine
     (λ key. ap (λ (o : Outcome). get (current (settled_at s.serial o s.moment (changed_with s.serial cs file.history))) key) commit ∙ settled.current key ∙ made.current key ∙ applied_on (current file.history) (map_of h a) cs key mine.records ∙ ap (λ (m : Map). m key) (sym is.map))
     (layout_after held file cs a b h new mine is.layout)) same)

@@ -289,7 +289,7 @@ module _ (s : state.UnitsState) (v : VolumeState) (order : IsInOrder s v) (at : 
   }
 
   rest : KeepsRest n f enters.head a c v mid
-  rest = keeps_rest n f 65 h enters.head a c v mid of_node there enters.stages set_is.1 set_is.2.whole
+  rest = keeps_rest n f 417 h enters.head a c v mid of_node there enters.stages set_is.1 set_is.2.whole
 
   within : IsWithin a h
   within = record { from = set_is.2.within.from; to = set_is.2.within.to; whole = set_is.2.within.whole }
@@ -454,7 +454,7 @@ module _ (s : state.UnitsState) (v : VolumeState) (order : IsInOrder s v) (at : 
     held_world = held_alike v.catalog.heads once f h there n s.locks kept.locks
 
     changed_is : IsChanged (is_locked n.volatile.locks h.name) cs a h c enters.head
-    changed_is = subst (λ (held : Key → Bool). IsChanged held cs a h c enters.head) held_world (set_changes f 65 h enters.head (λ k. is_some (table.holder s.locks f k)) key before after a c v mid enters.stages set_is.2)
+    changed_is = subst (λ (held : Key → Bool). IsChanged held cs a h c enters.head) held_world (set_changes f 417 h enters.head (λ k. is_some (table.holder s.locks f k)) key before after a c v mid enters.stages set_is.2)
 
     files_set : AreFiles c V.heads m.durable.directory
     files_set = subst (λ hs. AreFiles c hs m.durable.directory) (sym rest.heads)

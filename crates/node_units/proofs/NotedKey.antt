@@ -13,7 +13,7 @@ use Rattle.seq_file.specs.Layout as sequential
 use Rattle.seq_file.specs.Records.{record_at}
 use Rattle.seq_file.proofs.RecordLaws.{record_at_past}
 use Rattle.relative_file.specs.Cells as relative
-use Rattle.indexed_file.specs.Chain as indexed
+use Rattle.indexed_tree.specs.Files as indexed
 use Rattle.world_laws.specs.Ordered.{IsImageOf, IsKeyOf}
 use Rattle.directory_model.specs.Files.{IsWithin, organized_by}
 use Rattle.restart_laws.proofs.FoundLemmas.{Keeps, cell_suits, record_is, slot_suits}
@@ -72,6 +72,6 @@ noted_by kept.Relative h a (Text t) after form laid within few mrn suits takes =
 noted_by kept.Relative h a End after form laid within few mrn suits takes = absurd suits
 noted_by kept.Indexed h a (Number n) after form laid within few mrn suits takes = absurd suits
 noted_by kept.Indexed h a (Text t) after form laid within few mrn suits takes =
-    let image = indexed_image h t (indexed.map_of h a (Text t)) suits.size form.key (slot_suits a h t form laid) in
+    let image = indexed_image h t (indexed.map_of h a (Text t)) suits.size form.keys.key (slot_suits a h t laid) in
     record { form = suits.size; image = image.0; some = image.1 }
 noted_by kept.Indexed h a End after form laid within few mrn suits takes = absurd suits

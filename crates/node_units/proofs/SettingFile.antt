@@ -15,7 +15,7 @@ use Rattle.volume_files.specs.Staging.{SetsKey, StagesFile, is_of_file}
 use Rattle.records_model.specs.Records.{Change}
 use Rattle.run_model.specs.Locks.{is_locked}
 use Rattle.run_model.specs.World.{Node}
-use Rattle.directory_model.specs.Files.{head_at, laid_in}
+use Rattle.directory_model.specs.Files.{head_at}
 use Rattle.directory_model.specs.Laws.{IsChanged, SameBut}
 use Rattle.volume_model.specs.Homes.{HasHome}
 use Rattle.volume_model.specs.Laws.{KeepsNames}
@@ -98,7 +98,7 @@ module _ (n : Node) (f limit : ℕ) (h new : FileHead) (a b : List (List ℕ)) (
 -- A key was set: the file is changed so, whatever is noted of what it had.
 pub set_changes : (f limit : ℕ) (h new : FileHead) (held : Key → Bool) (key : Key) (before value : Option (List ℕ)) (a b : List (List ℕ)) (v mid : VolumeState) → StagesFile f h limit v mid new → SetsKey h held key value a b new →
     IsChanged held (set_change key before value ∷ []) a h b new
-set_changes f limit h new held key before value a b v mid s k = record { same = s.same; form = k.form; laid = k.laid; map = k.map; layout = ap laid_in k.chain }
+set_changes f limit h new held key before value a b v mid s k = record { same = s.same; form = k.form; laid = k.laid; map = k.map; layout = k.layout }
 
 -- the keys of a file that are held, in the world
 pub held_alike : (heads : List (Option FileHead)) → AreOnce heads → (f : ℕ) (h : FileHead) → head_at heads f ≡ Some h → (n : Node) (ls : List table.Lock) → AreLocks heads ls n.volatile.locks →

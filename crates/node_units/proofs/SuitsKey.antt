@@ -71,7 +71,7 @@ put_by kept.Relative h a (Some (Text t)) r is f few placed number least most fit
 put_by kept.Relative h a (Some End) r is f few placed number least most fits = absurd number
 put_by kept.Indexed h a None r is f few placed number least most fits = (
   record { size = within_long h.key_pos h.key_size r (omega (arith, least)); has = refl; most = most },
-  inr (let used = f.within in omega (arith, used, fits)),
+  inr (let used = f.root.within in omega (arith, used, fits)),
 )
 put_by kept.Indexed h a (Some k) r is f few placed number least most fits = let never : ⊥ = cc in absurd never
 
@@ -97,7 +97,7 @@ update_by kept.Indexed h a (Text t) old r is f right there alike least most fits
     let same : t ≡ key_within h.key_pos h.key_size r = cc in
     let size : length t ≡ h.key_size = (Decides-eqb (length t) h.key_size).0 (not_not (length t == h.key_size) (not_refused (not (length t == h.key_size)) BadParameter right)) in (
       record { size = size; has = sym same; most = most },
-      inr (let used = f.within in let free = fits refl in omega (arith, used, free)),
+      inr (let used = f.root.within in let free = fits refl in omega (arith, used, free)),
     )
 update_by kept.Indexed h a End old r is f right there alike least most fits = let never : ⊥ = cc in absurd never
 

@@ -3,12 +3,13 @@ use Rattle.std.proofs.Common.{◌≡◌, ◌≤◌, ℕ, Bool, true, List, Optio
 use Rattle.file_base.specs.declared.head.FileHead.{FileHead}
 use Rattle.file_base.specs.declared.head.Organization.{Organization}
 use Rattle.vms_model.specs.Keys.{Key}
-use Rattle.records_model.specs.Chain.{chain_set, chain_back}
+use Rattle.tree_model.specs.Layouts.{Sizes}
+use Rattle.tree_model.specs.Setting.{layout_set, layout_back}
 use Rattle.change_set.specs.Maps.{set_key}
 use Rattle.change_set.specs.Files.{SameFile}
 use Rattle.seq_file.specs.Records.{cut_from}
 use Rattle.seq_file.specs.Layout.{capacity, UsedBefore}
-use Rattle.record_files.specs.Any.{map_by, FormBy, LaidOutBy, TakesBy, RestoresBy, room_by, used_by, chain_by, map_of, IsFile, IsLaidOut, Takes, Restores, room_at, used_after, chain_of}
+use Rattle.record_files.specs.Any.{map_by, FormBy, LaidOutBy, TakesBy, RestoresBy, room_by, used_by, layout_by, map_of, IsFile, IsLaidOut, Takes, Restores, room_at, used_after, layout_of}
 
 -- a fact about the organizations of a head and of the same file's later head
 pub both : {T E : Type 0} (P : Organization → Organization → Type 0) (r : Result T E) (o : Organization) (h h' : FileHead) → h.organization ≡ o → OnOk r (SameFile h h') → OnOk r (P o o) → OnOk r (P h.organization h'.organization)
@@ -35,10 +36,10 @@ pub set_rooms : {T E : Type 0} (r : Result T E) (o : Organization) (h h' : FileH
     → OnOk r (IfSome old (λ before. IsLaidOut h before → Takes h before k v → IfSome new (λ after. (other : Key) → held other ≡ true → room_at h before other ≤ room_at h' after other)))
 set_rooms r o h h' held k v old new is same p = both (λ a b. IfSome old (λ before. LaidOutBy a h before → TakesBy a h before k v → IfSome new (λ after. (other : Key) → held other ≡ true → room_by a h before other ≤ room_by b h' after other))) r o h h' is same p
 
-pub set_chain : {T E : Type 0} (r : Result T E) (o : Organization) (h h' : FileHead) (width : ℕ) (held : Key → Bool) (k : Key) (v : Option (List ℕ)) (old new : Option (List (List ℕ))) → h.organization ≡ o → OnOk r (SameFile h h')
-    → OnOk r (IfSome old (λ before. LaidOutBy o h before → TakesBy o h before k v → option_map (chain_by o h') new ≡ Some (chain_set width held k v (chain_by o h before))))
-    → OnOk r (IfSome old (λ before. IsLaidOut h before → Takes h before k v → option_map (chain_of h') new ≡ Some (chain_set width held k v (chain_of h before))))
-set_chain r o h h' width held k v old new is same p = both (λ a b. IfSome old (λ before. LaidOutBy a h before → TakesBy a h before k v → option_map (chain_by b h') new ≡ Some (chain_set width held k v (chain_by a h before)))) r o h h' is same p
+pub set_layout : {T E : Type 0} (r : Result T E) (o : Organization) (h h' : FileHead) (sizes : Sizes) (held : Key → Bool) (k : Key) (v : Option (List ℕ)) (old new : Option (List (List ℕ))) → h.organization ≡ o → OnOk r (SameFile h h')
+    → OnOk r (IfSome old (λ before. LaidOutBy o h before → TakesBy o h before k v → option_map (layout_by o h') new ≡ Some (layout_set sizes held k v (layout_by o h before))))
+    → OnOk r (IfSome old (λ before. IsLaidOut h before → Takes h before k v → option_map (layout_of h') new ≡ Some (layout_set sizes held k v (layout_of h before))))
+set_layout r o h h' sizes held k v old new is same p = both (λ a b. IfSome old (λ before. LaidOutBy a h before → TakesBy a h before k v → option_map (layout_by b h') new ≡ Some (layout_set sizes held k v (layout_by a h before)))) r o h h' is same p
 
 pub set_back : {T E : Type 0} (r : Result T E) (o : Organization) (h h' : FileHead) (k : Key) (v : Option (List ℕ)) (old new : Option (List (List ℕ))) → h.organization ≡ o → OnOk r (SameFile h h')
     → OnOk r (IfSome old (λ before. LaidOutBy o h before → TakesBy o h before k v → IfSome new (λ after. RestoresBy o h' after k (map_by o h before k))))
@@ -60,10 +61,10 @@ pub restore_rooms : {T E : Type 0} (r : Result T E) (o : Organization) (h h' : F
     → OnOk r (IfSome old (λ before. IsLaidOut h before → Restores h before k v → IfSome new (λ after. (other : Key) → room_at h before other ≤ room_at h' after other)))
 restore_rooms r o h h' k v old new is same p = both (λ a b. IfSome old (λ before. LaidOutBy a h before → RestoresBy a h before k v → IfSome new (λ after. (other : Key) → room_by a h before other ≤ room_by b h' after other))) r o h h' is same p
 
-pub restore_chain : {T E : Type 0} (r : Result T E) (o : Organization) (h h' : FileHead) (k : Key) (v : Option (List ℕ)) (old new : Option (List (List ℕ))) → h.organization ≡ o → OnOk r (SameFile h h')
-    → OnOk r (IfSome old (λ before. LaidOutBy o h before → RestoresBy o h before k v → option_map (chain_by o h') new ≡ Some (chain_back k v (chain_by o h before))))
-    → OnOk r (IfSome old (λ before. IsLaidOut h before → Restores h before k v → option_map (chain_of h') new ≡ Some (chain_back k v (chain_of h before))))
-restore_chain r o h h' k v old new is same p = both (λ a b. IfSome old (λ before. LaidOutBy a h before → RestoresBy a h before k v → option_map (chain_by b h') new ≡ Some (chain_back k v (chain_by a h before)))) r o h h' is same p
+pub restore_layout : {T E : Type 0} (r : Result T E) (o : Organization) (h h' : FileHead) (k : Key) (v : Option (List ℕ)) (old new : Option (List (List ℕ))) → h.organization ≡ o → OnOk r (SameFile h h')
+    → OnOk r (IfSome old (λ before. LaidOutBy o h before → RestoresBy o h before k v → option_map (layout_by o h') new ≡ Some (layout_back k v (layout_by o h before))))
+    → OnOk r (IfSome old (λ before. IsLaidOut h before → Restores h before k v → option_map (layout_of h') new ≡ Some (layout_back k v (layout_of h before))))
+restore_layout r o h h' k v old new is same p = both (λ a b. IfSome old (λ before. LaidOutBy a h before → RestoresBy a h before k v → option_map (layout_by b h') new ≡ Some (layout_back k v (layout_by a h before)))) r o h h' is same p
 
 pub set_form : {T E : Type 0} (r : Result T E) (o : Organization) (h h' : FileHead) → h.organization ≡ o → OnOk r (SameFile h h') → OnOk r (FormBy o h') → OnOk r (IsFile h')
 set_form r o h h' is same p = both (λ a b. FormBy b h') r o h h' is same p

@@ -1,16 +1,17 @@
 -- What a file of any organization is: by the head's organization, what its own organization says.
-use Rattle.std.specs.Prelude.{◌≡◌, ℕ, Bool, List, [], Option, Some}
+use Rattle.std.specs.Prelude.{◌≡◌, ℕ, Bool, List, Option, Some}
 use Rattle.file_base.specs.declared.head.FileHead.{FileHead}
 use Rattle.file_base.specs.declared.head.Organization.{Organization}
 use Rattle.file_base.specs.declared.head.Organization.TheVariants.{Sequential, Relative, Indexed}
 use Rattle.vms_model.specs.Keys.{Key}
-use Rattle.records_model.specs.Slots.{Slot}
+use Rattle.tree_model.specs.Layouts.{Layout, no_layout}
 use Rattle.change_set.specs.Maps.{Map}
 use Rattle.change_set.specs.declared.walk.Place.{Place}
 use Rattle.relative_file.specs.Cells as relative
 use Rattle.seq_file.specs.Layout as sequential
-use Rattle.indexed_file.specs.Chain as indexed
-use Rattle.indexed_file.specs.Behind as walks
+use Rattle.indexed_file.specs.Chain as slots
+use Rattle.indexed_tree.specs.Files as indexed
+use Rattle.indexed_tree.specs.Rooted as rooted
 
 -- the map of a file that is kept so
 abbrev pub map_by : Organization → FileHead → List (List ℕ) → Map
@@ -22,31 +23,31 @@ map_by Indexed = indexed.map_of
 abbrev pub FormBy : Organization → FileHead → Type 0
 FormBy Sequential = sequential.IsSequential
 FormBy Relative = relative.IsRelative
-FormBy Indexed = indexed.IsIndexed
+FormBy Indexed = indexed.IsTreeHead
 
 -- the head is that of a new file that is kept so
 abbrev pub FreshBy : Organization → FileHead → Type 0
 FreshBy Sequential = sequential.IsFresh
 FreshBy Relative = λ h. relative.Anything
-FreshBy Indexed = indexed.IsNew
+FreshBy Indexed = indexed.IsNewHead
 
 -- the blocks are laid out as those of a file that is kept so
 abbrev pub LaidOutBy : Organization → FileHead → List (List ℕ) → Type 0
 LaidOutBy Sequential = sequential.IsLaidOut
 LaidOutBy Relative = relative.IsLaidOut
-LaidOutBy Indexed = indexed.IsChained
+LaidOutBy Indexed = rooted.IsRooted
 
 -- a used bucket that is laid out has this record under this key
 abbrev pub StandsBy : Organization → FileHead → List (List ℕ) → Key → List ℕ → Type 0
 StandsBy Sequential = λ h blocks key bytes. sequential.Stands h bytes blocks
 StandsBy Relative = λ h blocks key bytes. relative.map_of h blocks key ≡ Some bytes
-StandsBy Indexed = indexed.StandsAt
+StandsBy Indexed = slots.StandsAt
 
 -- a key and a record of a file that is kept so
 abbrev pub SuitsBy : Organization → FileHead → Key → Option (List ℕ) → Type 0
 SuitsBy Sequential = sequential.Suits
 SuitsBy Relative = relative.Suits
-SuitsBy Indexed = indexed.Suits
+SuitsBy Indexed = slots.Suits
 
 -- the key may be set to the value
 abbrev pub TakesBy : Organization → FileHead → List (List ℕ) → Key → Option (List ℕ) → Type 0
@@ -72,17 +73,17 @@ used_by Sequential = λ h blocks held key value. sequential.used_after h blocks 
 used_by Relative = λ h blocks held key value. h.used
 used_by Indexed = indexed.used_after
 
--- the used buckets in the order of their chain, each as its slots; only an indexed file keeps them in one
-abbrev pub chain_by : Organization → FileHead → List (List ℕ) → List (List Slot)
-chain_by Sequential = λ h blocks. []
-chain_by Relative = λ h blocks. []
-chain_by Indexed = indexed.chain_of
+-- the layout of its buckets; only an indexed file has one
+abbrev pub layout_by : Organization → FileHead → List (List ℕ) → Layout
+layout_by Sequential = λ h blocks. no_layout
+layout_by Relative = λ h blocks. no_layout
+layout_by Indexed = rooted.layout_in
 
--- those of a new file
-abbrev pub first_by : Organization → FileHead → List (List Slot)
-first_by Sequential = λ h. []
-first_by Relative = λ h. []
-first_by Indexed = indexed.first_chain
+-- that of a new file
+abbrev pub first_by : Organization → FileHead → Layout
+first_by Sequential = λ h. no_layout
+first_by Relative = λ h. no_layout
+first_by Indexed = indexed.first_layout_of
 
 -- the key may be set back to the value in place
 abbrev pub RestoresBy : Organization → FileHead → List (List ℕ) → Key → Option (List ℕ) → Type 0
@@ -94,7 +95,7 @@ RestoresBy Indexed = indexed.Restores
 abbrev pub BeginsBy : Organization → FileHead → List (List ℕ) → Option Key → Place → Type 0
 BeginsBy Sequential = λ h blocks key place. sequential.CountsBefore h blocks place
 BeginsBy Relative = λ h blocks key place. relative.Anything
-BeginsBy Indexed = walks.Begins
+BeginsBy Indexed = λ h blocks key place. relative.Anything
 
 -- the map of a file
 abbrev pub map_of : FileHead → List (List ℕ) → Map
@@ -136,13 +137,13 @@ asks h = asks_by h.organization h
 abbrev pub used_after : FileHead → List (List ℕ) → (Key → Bool) → Key → Option (List ℕ) → ℕ
 used_after h = used_by h.organization h
 
--- the chain of a file
-abbrev pub chain_of : FileHead → List (List ℕ) → List (List Slot)
-chain_of h = chain_by h.organization h
+-- the layout of a file
+abbrev pub layout_of : FileHead → List (List ℕ) → Layout
+layout_of h = layout_by h.organization h
 
--- the chain of a new file
-abbrev pub first_chain_of : FileHead → List (List Slot)
-first_chain_of h = first_by h.organization h
+-- the layout of a new file
+abbrev pub first_layout_of : FileHead → Layout
+first_layout_of h = first_by h.organization h
 
 -- a key of the file may be set back to the value in place
 abbrev pub Restores : FileHead → List (List ℕ) → Key → Option (List ℕ) → Type 0

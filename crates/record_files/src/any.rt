@@ -14,11 +14,11 @@ use crate::checks::{
     forms_indexed, forms_relative, forms_sequential, suits_indexed, suits_relative,
     suits_sequential,
 };
+use crate::indexed::IndexedFile;
 use block_disk::Disk;
 use careful_write::{Down, Store};
 use change_set::{Held, Place, RecordFile};
 use file_base::{FileHead, Organization};
-use indexed_file::IndexedFile;
 use relative_file::RelativeFile;
 use seq_file::SeqFile;
 use vms_base::{Key, Record};
@@ -28,8 +28,8 @@ use vms_base::{Key, Record};
 pub struct AnyFile;
 
 impl RecordFile for AnyFile {
-    ghost use Rattle.record_files.specs.Any.{map_of, IsFile, IsNew, IsLaidOut, Stands, Suits, Takes, Restores, room_at, asks, used_after, chain_of, first_chain_of, Begins};
-    ghost use Rattle.record_files.specs.Local.{local_law, valid_local_law, room_local_law, chain_local_law, begins_first_law};
+    ghost use Rattle.record_files.specs.Any.{map_of, IsFile, IsNew, IsLaidOut, Stands, Suits, Takes, Restores, room_at, asks, used_after, layout_of, first_layout_of, Begins};
+    ghost use Rattle.record_files.specs.Local.{local_law, valid_local_law, room_local_law, layout_local_law, begins_first_law};
 
     ghost map = { map_of };
 
@@ -51,9 +51,9 @@ impl RecordFile for AnyFile {
 
     ghost used_after = { used_after };
 
-    ghost chain = { chain_of };
+    ghost layout = { layout_of };
 
-    ghost first_chain = { first_chain_of };
+    ghost first_layout = { first_layout_of };
 
     ghost restores = { Restores };
 
@@ -65,7 +65,7 @@ impl RecordFile for AnyFile {
 
     ghost room_local = { room_local_law };
 
-    ghost chain_local = { chain_local_law };
+    ghost layout_local = { layout_local_law };
 
     ghost begins_first = { begins_first_law };
 

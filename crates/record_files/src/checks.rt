@@ -6,10 +6,10 @@ ghost use Rattle.file_base.specs.Bytes.{piece_at};
 ghost use Rattle.vms_base.specs.Keys.{key_of};
 ghost use Rattle.relative_file.specs.Cells.{IsRelative, cells_in};
 ghost use Rattle.seq_file.specs.Layout.{IsSequential};
-ghost use Rattle.indexed_file.specs.Chain.{IsIndexed};
+ghost use Rattle.indexed_tree.specs.Files.{IsTreeHead};
 ghost use Rattle.relative_file.specs.Cells as relative;
 ghost use Rattle.seq_file.specs.Layout as sequential;
-ghost use Rattle.indexed_file.specs.Chain as indexed;
+ghost use Rattle.indexed_file.specs.Chain as leaf;
 
 use file_base::FileHead;
 use vms_base::{Key, Record};
@@ -45,13 +45,13 @@ pub fn forms_relative(head: &FileHead) -> bool
 /// Whether the numbers of a head are those of an indexed file.
 pub fn forms_indexed(head: &FileHead) -> bool
     requires { head.now.organization ≡ Indexed }
-    ensures formed { result ≡ true → IsIndexed head.now }
-    ensures exact { IsIndexed head.now → result ≡ true }
+    ensures formed { result ≡ true → IsTreeHead head.now }
+    ensures exact { IsTreeHead head.now → result ≡ true }
 {
     let holds = head.key_pos as u32 + head.key_size as u32 <= head.mrs as u32;
     let key = head.key_size >= 1 && head.key_size <= 64 && holds;
-    let plain = head.levels == 1 && head.root == 0 && head.count == 0;
-    head.used >= 1 && head.used <= head.alloc && key && plain
+    let index = head.levels >= 1 && head.levels <= 12 && head.root < head.used;
+    head.used <= head.alloc && key && index && head.count == 0
 }
 
 // Whether a record, where there is one, has a byte at least and at most so many.
@@ -117,8 +117,8 @@ fn keeps_key(head: &FileHead, key: &[u8], value: Option<&Record>) -> bool
 
 /// Whether an indexed file may have this key, and keep this record there.
 pub fn suits_indexed(head: &FileHead, key: &Key, value: Option<&Record>) -> bool
-    ensures suited { result ≡ true → indexed.Suits head.now (key_of key.now) (option_copied value.entry) }
-    ensures exact { indexed.Suits head.now (key_of key.now) (option_copied value.entry) → result ≡ true }
+    ensures suited { result ≡ true → leaf.Suits head.now (key_of key.now) (option_copied value.entry) }
+    ensures exact { leaf.Suits head.now (key_of key.now) (option_copied value.entry) → result ≡ true }
 {
     match key {
         Key::Text(text) => {

@@ -3,5 +3,7 @@
 
 mod any;
 mod checks;
+mod indexed;
 
 pub use any::AnyFile;
+pub use indexed::IndexedFile;

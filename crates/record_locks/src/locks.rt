@@ -162,13 +162,13 @@ impl Locks {
     {
         keep_others(&self.held, &mut self.other, &by);
         std::mem::swap(&mut self.held, &mut self.other);
-        self.other.clear();
+        self.other.truncate(0);
     }
 
     /// Lets go of all keys.
     pub fn clear(&mut self)
         ensures { self.new ≡ record self.old { locks = [] } }
     {
-        self.held.clear();
+        self.held.truncate(0);
     }
 }

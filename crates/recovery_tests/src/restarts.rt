@@ -301,7 +301,7 @@ fn probe(rt: &impl Abort, alloc: Global, ends: &[u8]) -> Result<(), Fail> {
     assert_eq!(rt; wanted.ending, Ending::Done);
     let text = shown(alloc, &lines, Exit::Done)?;
     assert_eq!(rt; text.as_slice(), wanted.text.as_slice());
-    assert!(rt; has(&text, b" RMS$_FUL FILE 2 3\n"));
+    assert!(rt; has(&text, b" RMS$_FUL FILE 3 4\n"));
     Ok(())
 }
 

@@ -14,6 +14,8 @@ struct Stop<'a> {
     blocks: u8,
     undone: &'a [(&'a [u8], usize)],
     whole: &'a [(&'a [u8], usize)],
+    // What else is asked behind the boot.
+    asked: &'a [(&'a [u8], usize)],
 }
 
 const UNMARKED: &[u8] =
@@ -26,6 +28,7 @@ fn stopped(alloc: Global, stop: &Stop<'_>, writes: u32, choice: u64) -> Result<V
     let before = filled(alloc, stop.lines)?;
     let fuse = format!(in alloc; "FUSE A {writes} {choice}\n")?;
     let statement = filled(alloc, stop.statement)?;
+    let asked = filled(alloc, stop.asked)?;
     let lines = joined(
         alloc,
         &[
@@ -34,6 +37,7 @@ fn stopped(alloc: Global, stop: &Stop<'_>, writes: u32, choice: u64) -> Result<V
             fuse.as_bytes(),
             statement.as_slice(),
             BOOTING,
+            asked.as_slice(),
         ],
     )?;
     shown(alloc, &lines, Exit::Done)
@@ -73,6 +77,7 @@ fn a_stop_leaves_each_statement_whole_or_undone(rt: HostRuntime) -> Result<(), F
                 b"10 NODEDOWN\n11 LAST COMMIT A.1.1 A.1.1 \"17-NOV-1858 00:00:00.01\"\n11 SS$_NORMAL 2\n12 RECORD 1 \"a\"\n12 SS$_NORMAL 1\n13 SS$_NORMAL 0\n14 SS$_NORMAL 0\n",
                 0,
             )],
+            asked: &[],
         },
         Stop {
             lines: &[(
@@ -89,6 +94,7 @@ fn a_stop_leaves_each_statement_whole_or_undone(rt: HostRuntime) -> Result<(), F
                 b"13 NODEDOWN\n14 LAST COMMIT A.1.1 A.1.1 \"17-NOV-1858 00:00:00.01\"\n14 SS$_NORMAL 2\n15 RECORD 1 \"a\"\n15 SS$_NORMAL 1\n16 SS$_NORMAL 0\n17 SS$_NORMAL 0\n",
                 0,
             )],
+            asked: &[],
         },
         Stop {
             lines: &[(b"A: PUT - S \"a\"\n", 0)],
@@ -102,6 +108,7 @@ fn a_stop_leaves_each_statement_whole_or_undone(rt: HostRuntime) -> Result<(), F
                 b"11 NODEDOWN\n12 LAST COMMIT A.1.2 A.1.2 \"17-NOV-1858 00:00:00.02\"\n12 SS$_NORMAL 2\n13 SS$_NORMAL 0\n14 RECORD 1 \"a\"\n14 RECORD 2 \"b\"\n14 SS$_NORMAL 2\n15 SS$_NORMAL 0\n",
                 0,
             )],
+            asked: &[],
         },
         Stop {
             lines: &[
@@ -112,7 +119,7 @@ fn a_stop_leaves_each_statement_whole_or_undone(rt: HostRuntime) -> Result<(), F
                 (b"\"\n", 0),
             ],
             statement: &[(b"A: PUT - I \"ee", 118), (b"\"\n", 0)],
-            blocks: 5,
+            blocks: 6,
             undone: &[
                 (
                     b"14 NODEDOWN\n15 LAST COMMIT A.1.4 A.1.4 \"17-NOV-1858 00:00:00.04\"\n15 SS$_NORMAL 2\n16 SS$_NORMAL 0\n17 SS$_NORMAL 0\n18 RECORD \"aa\" \"aa",
@@ -134,6 +141,7 @@ fn a_stop_leaves_each_statement_whole_or_undone(rt: HostRuntime) -> Result<(), F
                 (b"\"\n18 RECORD \"ee\" \"ee", 118),
                 (b"\"\n18 SS$_NORMAL 5\n", 0),
             ],
+            asked: &[],
         },
         Stop {
             lines: &[
@@ -160,6 +168,7 @@ fn a_stop_leaves_each_statement_whole_or_undone(rt: HostRuntime) -> Result<(), F
                 ),
                 (b"\"\n16 SS$_NORMAL 1\n17 SS$_NORMAL 0\n", 0),
             ],
+            asked: &[],
         },
         Stop {
             lines: &[(
@@ -176,10 +185,91 @@ fn a_stop_leaves_each_statement_whole_or_undone(rt: HostRuntime) -> Result<(), F
                 b"17 NODEDOWN\n18 LAST ABORT A.1.1 A.1.1 DDTM$_ABORTED \"17-NOV-1858 00:00:00.01\"\n18 SS$_NORMAL 2\n19 SS$_NORMAL 0\n20 SS$_NORMAL 0\n21 SS$_NORMAL 0\n",
                 0,
             )],
+            asked: &[],
         },
     ];
     for stop in &table {
         stops_whole_or_undone(&rt, rt.alloc(), stop)?;
     }
     Ok(())
+}
+
+// How the records of a file begin that fill their buckets.
+const WIDE: [&[u8]; 32] = [
+    b"10", b"11", b"12", b"13", b"14", b"15", b"16", b"17", b"18", b"19", b"20", b"21", b"22",
+    b"23", b"24", b"25", b"26", b"27", b"28", b"29", b"30", b"31", b"32", b"33", b"34", b"35",
+    b"36", b"37", b"38", b"39", b"40", b"41",
+];
+
+// Lines that put these records.
+fn put_lines<'a>(alloc: Global, records: &[&'a [u8]]) -> Result<Vec<(&'a [u8], usize)>, Fail> {
+    let mut lines = Vec::new(alloc);
+    lines.push((b"A: CREATE J IDX 1 480 99 0 64\n".as_slice(), 0))?;
+    for record in records {
+        lines.push((b"A: PUT - J \"", 0))?;
+        lines.push((*record, 478))?;
+        lines.push((b"\"\n", 0))?;
+    }
+    Ok(lines)
+}
+
+// The lines that show these records between others.
+fn dump_lines<'a>(
+    alloc: Global,
+    front: &'a [u8],
+    records: &[&'a [u8]],
+    end: &[(&'a [u8], usize)],
+) -> Result<Vec<(&'a [u8], usize)>, Fail> {
+    let mut lines = Vec::new(alloc);
+    lines.push((front, 0))?;
+    for record in records {
+        lines.push((b"47 RECORD \"", 0))?;
+        lines.push((*record, 62))?;
+        lines.push((b"\" \"", 0))?;
+        lines.push((*record, 478))?;
+        lines.push((b"\"\n", 0))?;
+    }
+    lines.extend_from_slice(end)?;
+    Ok(lines)
+}
+
+// 31 leaves stand under seven index buckets and a root. One record more parts a leaf, the last index bucket and the root, so that a level comes in.
+#[test]
+fn a_stop_leaves_three_levels_parted_or_not(rt: HostRuntime) -> Result<(), Fail> {
+    let lines = put_lines(rt.alloc(), &WIDE[..31])?;
+    let undone = dump_lines(
+        rt.alloc(),
+        b"42 NODEDOWN\n43 LAST COMMIT A.1.31 A.1.31 \"17-NOV-1858 00:00:00.31\"\n43 SS$_NORMAL 2\n44 SS$_NORMAL 0\n45 SS$_NORMAL 0\n46 SS$_NORMAL 0\n",
+        &WIDE[..31],
+        &[
+            (b"47 SS$_NORMAL 31\n48 RMS$_NORMAL \"40", 478),
+            (b"\"\n49 RMS$_RNF\n", 0),
+        ],
+    )?;
+    let whole = dump_lines(
+        rt.alloc(),
+        b"42 NODEDOWN\n43 LAST COMMIT A.1.32 A.1.32 \"17-NOV-1858 00:00:00.32\"\n43 SS$_NORMAL 2\n44 SS$_NORMAL 0\n45 SS$_NORMAL 0\n46 SS$_NORMAL 0\n",
+        &WIDE,
+        &[
+            (b"47 SS$_NORMAL 32\n48 RMS$_NORMAL \"40", 478),
+            (b"\"\n49 RMS$_NORMAL \"41", 478),
+            (b"\"\n", 0),
+        ],
+    )?;
+    stops_whole_or_undone(
+        &rt,
+        rt.alloc(),
+        &Stop {
+            lines: &lines,
+            statement: &[(b"A: PUT - J \"41", 478), (b"\"\n", 0)],
+            blocks: 10,
+            undone: &undone,
+            whole: &whole,
+            asked: &[
+                (b"A: DUMP J\nA: GET - J \"40", 62),
+                (b"\"\nA: GET - J \"41", 62),
+                (b"\"\n", 0),
+            ],
+        },
+    )
 }

@@ -14,7 +14,8 @@ ghost use Rattle.reference_records.specs.Operations.{asked_of};
 use crate::forms::buckets_for;
 use reference_records::{Asked, changes_asked, keys_held, operation_answer};
 use reference_world::{
-    Bucket, Change, File, Key, Line, Organization, push_front, records_of, rows_shown,
+    Change, File, Key, Layout, Leaf, Line, Organization, no_layout, push_front, records_of,
+    rows_shown,
 };
 use script_lang::{Form, Setting};
 use std::alloc::{AllocError, Global};
@@ -48,16 +49,17 @@ fn organized(form: Form) -> Organization
     }
 }
 
-// The chain of a new file: one bucket without slots, where it is indexed.
-fn first_chain(alloc: Global, form: Form) -> Result<Vec<Bucket>, AllocError>
-    ensures { IfOk result (λ v. layout_of v.items ≡ answers.first_layout (form_of form)) }
+// The layout of a new file: one leaf without slots, where it is indexed. No key of its size comes before the leaf's lowest key, which is zeros.
+fn first_layout(alloc: Global, form: Form) -> Result<Layout, AllocError>
+    ensures { IfOk result (λ l. layout_of l ≡ answers.first_layout (form_of form)) }
 {
-    let mut chain = Vec::new(alloc);
-    if let Form::Indexed { .. } = form {
+    let mut layout = no_layout(alloc);
+    if let Form::Indexed { key_size, .. } = form {
+        let lowest = vec![in alloc; 0u8; key_size as usize]?;
         let slots = Vec::new(alloc);
-        push_front(&mut chain, Bucket { slots })?;
+        push_front(&mut layout.leaves, Leaf { lowest, slots })?;
     }
-    Ok(chain)
+    Ok(layout)
 }
 
 /// A new file that lies from this block on.
@@ -72,7 +74,7 @@ pub fn new_file(
 ) -> Result<File, AllocError>
     ensures { IfOk result (λ f. file_of f ≡ answers.created name bucket size (form_of form) start moment) }
 {
-    let chain = first_chain(alloc, form)?;
+    let layout = first_layout(alloc, form)?;
     Ok(File {
         name,
         bucket,
@@ -84,7 +86,7 @@ pub fn new_file(
         moment,
         settled: Vec::new(alloc),
         live: Vec::new(alloc),
-        chain,
+        layout,
     })
 }
 

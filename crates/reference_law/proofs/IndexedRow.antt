@@ -36,7 +36,7 @@ index_file done live slots = record {
   carried = nothing_carried;
   recovery_units = true;
   history = record { base = empty; moment = 0; settled = done; live = live };
-  layout = record { chain = slots ∷ [] };
+  layout = record { leaves = record { lowest = 0 ∷ 0 ∷ []; slots = slots } ∷ []; index = [] };
 }
 
 abbrev world_idx : (greatest : ℕ) → Option Settlement → Journal → Volatile → List Settlement → List Label → List SettledChanges → List LiveChanges → List Slot → World

@@ -12,7 +12,7 @@ use Rattle.transcript_model.specs.Lines as line
 use Rattle.transcript_model.specs.Lines.{lines_text}
 use Rattle.transcript_model.specs.Script.{ScriptLine, lines_of}
 use Rattle.script_model.specs.Statements as said
-use Rattle.records_model.specs.Layout.{no_layout, first_layout}
+use Rattle.tree_model.specs.Layouts.{no_layout, first_layout}
 use Rattle.unit_laws.specs.Journal.{Journal, ChangeEntry, empty_journal}
 use Rattle.commit_protocol.specs.Messages.{same_id}
 use Rattle.commit_protocol.specs.Table.{Branch, Active, same_key}
@@ -279,7 +279,7 @@ small_file = record {
   carried = nothing_carried;
   recovery_units = true;
   history = record { base = empty; moment = 0; settled = []; live = [] };
-  layout = first_layout;
+  layout = first_layout 2;
 }
 
 abbrev with_small : World

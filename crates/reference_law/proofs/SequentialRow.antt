@@ -12,7 +12,7 @@ use Rattle.records_model.proofs.KeyLemmas.{key_cmp_total}
 use Rattle.transcript_model.specs.Lines as line
 use Rattle.transcript_model.specs.Lines.{Line}
 use Rattle.script_model.specs.Statements as said
-use Rattle.records_model.specs.Layout.{no_layout}
+use Rattle.tree_model.specs.Layouts.{no_layout}
 use Rattle.unit_laws.specs.Journal.{Journal, JournalEntry, ChangeEntry, empty_journal}
 use Rattle.commit_protocol.specs.Messages.{same_id}
 use Rattle.commit_protocol.specs.Table.{Branch, same_key}

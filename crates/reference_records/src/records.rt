@@ -1,15 +1,18 @@
 // What an operation finds in the records that stand, what it changes, and what it is answered.
-ghost use Rattle.std.specs.Prelude.{◌≡◌, ◌+◌, ◌<◌, ◌≤◌, ◌^◌, ℕ, List, [], ◌∷◌, map, option_map, nat_le, take, drop, length, IfOk};
+ghost use Rattle.std.specs.Prelude.{◌≡◌, ◌+◌, ◌-◌, ◌<◌, ◌≤◌, ◌^◌, ℕ, List, [], ◌∷◌, map, option_map, nat_le, take, drop, length, IfOk};
 ghost use Rattle.records_model.specs.Placing as placing;
+ghost use Rattle.tree_model.specs.Layouts as layouts;
+ghost use Rattle.tree_model.specs.Layouts.{index_size};
 ghost use Rattle.run_model.specs.Operations as operations;
 ghost use Rattle.run_model.specs.World.{capacity as capacity_of};
-ghost use Rattle.reference_world.specs.Standing.{lent_key, lent_value, change_of, changes_of, organization_of, file_of, entry_of, line_of};
+ghost use Rattle.reference_world.specs.Standing.{lent_key, lent_value, change_of, changes_of, organization_of, index_of, layout_of, file_of, entry_of, line_of};
 ghost use Rattle.reference_records.specs.Operations.{asked_of, filled_of, AreRowsOf};
 
 use crate::asked::Asked;
 use crate::forms::refused_if;
 use reference_world::{
-    Change, File, Key, KeyRef, Line, Organization, Row, capacity, find_row, own_value, push_front,
+    Change, File, Key, KeyRef, Level, Line, Organization, Row, capacity, find_row, own_value,
+    push_front,
 };
 use std::alloc::{AllocError, Global};
 
@@ -320,16 +323,37 @@ fn placed(f: &File, rows: &[Row<'_>]) -> Filled
     filled_by(capacity(f.bucket), first, rows)
 }
 
-// How many buckets a file has in use.
-fn used(f: &File, rows: &[Row<'_>]) -> u64
+// How many of some buckets are left where each bucket of an index takes one.
+fn left_by(free: u64, index: &[Level]) -> u64
+    ensures { result ≡ free - index_size (index_of index.now) }
+{
+    match index {
+        [] => free,
+        [level, rest @ ..] => left_by(free.saturating_sub(level.children.len() as u64), rest),
+    }
+}
+
+// How many buckets of a file are free.
+fn free_buckets(f: &File, rows: &[Row<'_>]) -> u64
     requires { AreRowsOf f.now rows.now }
-    ensures { result ≡ operations.used (file_of f.now) }
+    ensures { result ≡ operations.free_buckets (file_of f.now) }
 {
     match f.organization {
-        Organization::Sequential => placed(f, rows).buckets,
-        Organization::Relative { .. } => f.buckets,
-        Organization::Indexed { .. } => f.chain.len() as u64,
+        Organization::Sequential => f.buckets.saturating_sub(placed(f, rows).buckets),
+        Organization::Relative { .. } => 0,
+        Organization::Indexed { .. } => {
+            let behind_leaves = f.buckets.saturating_sub(f.layout.leaves.len() as u64);
+            left_by(behind_leaves, f.layout.index.as_slice())
+        }
     }
+}
+
+// How many free buckets a record wants of an indexed file.
+fn layout_need(f: &File) -> u64
+    ensures { result ≡ layouts.need_of (layout_of f.now.layout) }
+{
+    let levels = f.layout.index.len() as u64 + 1;
+    if levels == 12 { 65537 } else { levels + 2 }
 }
 
 // How many free buckets one more record of a sequential file takes.
@@ -353,7 +377,7 @@ fn put_need(f: &File, rows: &[Row<'_>], bytes: &[u8]) -> u64
     match f.organization {
         Organization::Sequential => one_more(f, rows, bytes),
         Organization::Relative { .. } => 0,
-        Organization::Indexed { .. } => 3,
+        Organization::Indexed { .. } => layout_need(f),
     }
 }
 
@@ -364,7 +388,7 @@ fn update_need(f: &File) -> u64
     match f.organization {
         Organization::Sequential => 0,
         Organization::Relative { .. } => 0,
-        Organization::Indexed { .. } => 3,
+        Organization::Indexed { .. } => layout_need(f),
     }
 }
 
@@ -388,7 +412,7 @@ pub fn file_full(f: &File, rows: &[Row<'_>], asked: Asked<'_>) -> Option<Line>
     requires { AreRowsOf f.now rows.now }
     ensures { option_map line_of result ≡ operations.file_full (file_of f.now) (asked_of asked.entry) }
 {
-    let free = f.buckets.saturating_sub(used(f, rows));
+    let free = free_buckets(f, rows);
     let need = need_of(f, rows, asked);
     refused_if(free < need, Line::FileFull(free, need))
 }

@@ -151,12 +151,12 @@ fn a_node_has_64_branches(rt: HostRuntime) -> Result<(), Fail> {
     shows(rt.alloc(), &rt, script.as_slice(), shown.as_slice())
 }
 
-// A line with this beginning and a record of 2,000 letters.
-fn put_letters(script: &mut Vec<u8>, begin: &[u8]) -> Result<(), Fail> {
+// A line with this beginning, and a record of one letter so many times.
+fn put_letters(script: &mut Vec<u8>, begin: &[u8], letter: u8, count: usize) -> Result<(), Fail> {
     script.extend_from_slice(begin)?;
     script.extend_from_slice(b" \"")?;
-    for _ in 0..2_000 {
-        script.push(b'A')?;
+    for _ in 0..count {
+        script.push(letter)?;
     }
     script.extend_from_slice(b"\"\n")?;
     Ok(())
@@ -172,9 +172,9 @@ fn a_journal_of_64_blocks_is_full_of_long_images(rt: HostRuntime) -> Result<(), 
         b"1 SS$_NORMAL\n2 SS$_NORMAL 1\n3 SS$_NORMAL\n4 SS$_NORMAL\n5 SS$_NORMAL A.1.1\n6 RMS$_NORMAL\n".to_vec(
             rt.alloc(),
         )?;
-    put_letters(&mut script, b"A: PUT T G 1")?;
+    put_letters(&mut script, b"A: PUT T G 1", b'A', 2_000)?;
     for n in 7..23u8 {
-        put_letters(&mut script, b"A: UPDATE T G 1")?;
+        put_letters(&mut script, b"A: UPDATE T G 1", b'A', 2_000)?;
         push_number(&mut shown, n)?;
         if n < 22 {
             shown.extend_from_slice(b" RMS$_NORMAL\n")?;
@@ -231,7 +231,7 @@ fn put_long(script: &mut Vec<u8>, key: &[u8]) -> Result<(), Fail> {
 }
 
 #[test]
-fn a_third_long_record_takes_a_bucket(rt: HostRuntime) -> Result<(), Fail> {
+fn a_third_long_record_takes_a_bucket_and_a_root(rt: HostRuntime) -> Result<(), Fail> {
     let mut whole = BASE.to_vec(rt.alloc())?;
     whole.extend_from_slice(b"A: CREATE I IDX 1 240 4 0 2\nA: SET_FILE I RU\nA: START_TRANS T\n")?;
     put_long(&mut whole, b"bb")?;
@@ -242,33 +242,42 @@ fn a_third_long_record_takes_a_bucket(rt: HostRuntime) -> Result<(), Fail> {
     assert_eq!(rt; got.ending, Ending::Done);
     let mut wanted = BASE_SHOWN.to_vec(rt.alloc())?;
     wanted.extend_from_slice(
-        b"5 SS$_NORMAL\n6 SS$_NORMAL\n7 SS$_NORMAL A.1.1\n8 RMS$_NORMAL\n9 RMS$_NORMAL\n10 RMS$_NORMAL\n11 RMS$_FUL FILE 2 3\n",
+        b"5 SS$_NORMAL\n6 SS$_NORMAL\n7 SS$_NORMAL A.1.1\n8 RMS$_NORMAL\n9 RMS$_NORMAL\n10 RMS$_NORMAL\n11 RMS$_FUL FILE 1 4\n",
     )?;
     assert_eq!(rt; got.text.as_slice(), wanted.as_slice());
-    Ok(())
-}
-
-// The bytes of a record of so many capital letters A, behind other words.
-fn put_capitals(script: &mut Vec<u8>, begin: &[u8], count: usize) -> Result<(), Fail> {
-    script.extend_from_slice(begin)?;
-    script.extend_from_slice(b" \"")?;
-    for _ in 0..count {
-        script.push(b'A')?;
-    }
-    script.extend_from_slice(b"\"\n")?;
     Ok(())
 }
 
 #[test]
 fn longest_record_fills_a_bucket(rt: HostRuntime) -> Result<(), Fail> {
     let mut script = b"A: CREATE G REL 16 8160 4\n".to_vec(rt.alloc())?;
-    put_capitals(&mut script, b"A: PUT - G 4", 8_160)?;
-    put_capitals(&mut script, b"A: PUT - G 4", 8_161)?;
+    put_letters(&mut script, b"A: PUT - G 4", b'A', 8_160)?;
+    put_letters(&mut script, b"A: PUT - G 4", b'A', 8_161)?;
     script.extend_from_slice(b"A: START_TRANS T\nA: GET T G 4\nA: PUT - F 1 \"a\"\n")?;
     shows(
         rt.alloc(),
         &rt,
         script.as_slice(),
         b"5 SS$_NORMAL\n6 COMMIT A.1.1 A.1.1 \"17-NOV-1858 00:00:00.01\"\n6 RMS$_NORMAL\n7 RMS$_RSZ\n8 SS$_NORMAL A.1.2\n9 NOTRU\n10 RMS$_NRU\n",
+    )
+}
+
+// Each record fills a leaf, and seven entries an index bucket. So the eighth record is the first that parts the root.
+#[test]
+fn an_index_of_two_levels_stays_behind_an_abort(rt: HostRuntime) -> Result<(), Fail> {
+    let mut script = b"A: CREATE I IDX 1 470 13 0 64\nA: SET_FILE I RU\nA: START_TRANS T\n".to_vec(
+        rt.alloc(),
+    )?;
+    for letter in b'a'..b'j' {
+        put_letters(&mut script, b"A: PUT T I", letter, 470)?;
+    }
+    script.extend_from_slice(b"A: ABORT_TRANS T\nA: START_TRANS U\n")?;
+    put_letters(&mut script, b"A: PUT U I", b'a', 470)?;
+    script.extend_from_slice(b"A: DUMP I\n")?;
+    shows(
+        rt.alloc(),
+        &rt,
+        script.as_slice(),
+        b"5 SS$_NORMAL\n6 SS$_NORMAL\n7 SS$_NORMAL A.1.1\n8 RMS$_NORMAL\n9 RMS$_NORMAL\n10 RMS$_NORMAL\n11 RMS$_NORMAL\n12 RMS$_NORMAL\n13 RMS$_NORMAL\n14 RMS$_NORMAL\n15 RMS$_NORMAL\n16 RMS$_FUL FILE 2 5\n17 ABORT A.1.1 A.1.1 DDTM$_ABORTED \"17-NOV-1858 00:00:00.01\"\n17 SS$_NORMAL\n18 SS$_NORMAL A.1.2\n19 RMS$_FUL FILE 2 5\n20 SS$_NORMAL 0\n",
     )
 }

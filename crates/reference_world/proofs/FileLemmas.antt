@@ -1,40 +1,48 @@
 -- A file after changes.
 use Rattle.std.proofs.Common.{◌≡◌, ◌≤◌, ℕ, List, [], ◌∷◌, Bool, true, false, Some, refl, sym, ap, ◌∙◌, length, get_or}
-use Rattle.std.specs.Prelude.{map, Vec, ◌*◌, ◌-◌, cond}
+use Rattle.std.specs.Prelude.{map, Vec, ◌+◌, ◌*◌, ◌-◌, ◌/◌, cond}
 use Rattle.std.specs.declared.alloc.Global.{Global}
 use Rattle.vms_model.specs.Ids.{Id}
 use Rattle.vms_model.specs.Keys.{Key}
 use Rattle.records_model.specs.Records.{Change}
 use Rattle.vms_base.specs.Ids.{id_of}
 use Rattle.records_model.specs.History.{History, SettledChanges, LiveChanges as ModelChanges, with_changes, changes_by, changed_it, first_to_change, settled_with, without}
-use Rattle.records_model.specs.Chain.{chain_changed}
+use Rattle.tree_model.specs.Layouts as layouts
+use Rattle.tree_model.specs.Setting.{layout_changed}
 use Rattle.records_model.specs.Slots.{Slot}
-use Rattle.unit_laws.specs.Layouts.{slot_restored, chain_restored}
-use Rattle.records_model.specs.Layout.{Layout}
+use Rattle.unit_laws.specs.Layouts.{slot_restored, leaf_restored}
 use Rattle.vms_model.specs.Transactions.{Outcome, Commit, Abort}
 use Rattle.run_model.specs.World as world
 use Rattle.run_model.specs.World.{settled_layout}
 use Rattle.reference_world.specs.declared.world.File.{File}
 use Rattle.reference_world.specs.declared.world.LiveChanges.{LiveChanges}
-use Rattle.reference_world.specs.declared.world.Bucket.{Bucket}
+use Rattle.reference_world.specs.declared.world.Layout.{Layout}
+use Rattle.reference_world.specs.declared.world.Sizes.{Sizes}
 use Rattle.reference_world.specs.declared.world.BranchKey.{BranchKey}
-use Rattle.reference_world.specs.Standing.{live_of, chain_of, history_of, file_of, serials_of}
+use Rattle.reference_world.specs.Standing.{live_of, layout_of, history_of, file_of, serials_of, organization_of, sizes_of}
 use Rattle.reference_world.proofs.ChangeLemmas.{behind_first, parts}
 
-pub set_is : (f : File) (held : Key → Bool) (serial : Id) (cs : List Change) (live : Vec LiveChanges Global) (chain : Vec Bucket Global) →
+pub set_is : (f : File) (held : Key → Bool) (serial : Id) (cs : List Change) (live : Vec LiveChanges Global) (layout : Layout) (sizes : Sizes) →
+    sizes.capacity ≡ 512 * f.bucket - 16 → sizes.fan_out ≡ (512 * f.bucket - 16) / (world.key_size_of (organization_of f.organization) + 4) →
     map live_of live.items ≡ with_changes serial cs (map live_of f.live.items) →
-    chain_of chain.items ≡ chain_changed (512 * f.bucket - 16) held cs (chain_of f.chain.items) →
-    file_of (record f { live = live; chain = chain }) ≡ world.changed_file held serial cs (file_of f)
-set_is f held serial cs live chain l ch = λ i. record (file_of f) { history = record (history_of f) { live = l i }; layout = record { chain = ch i } }
+    layout_of layout ≡ layout_changed (sizes_of sizes) held cs (layout_of f.layout) →
+    file_of (record f { live = live; layout = layout }) ≡ world.changed_file held serial cs (file_of f)
+set_is f held serial cs live layout sizes capacity fan_out l set = λ i. record (file_of f) { history = record (history_of f) { live = l i }; layout = laid i }
+  where
+    same : sizes_of sizes ≡ world.sizes_of (file_of f)
+    same = λ i. record { capacity = capacity i; fan_out = fan_out i }
+
+    laid : layout_of layout ≡ layout_changed (world.sizes_of (file_of f)) held cs (layout_of f.layout)
+    laid = set ∙ ap (λ (s : layouts.Sizes). layout_changed s held cs (layout_of f.layout)) same
 
 slots_stay : (ss : List Slot) → map (slot_restored []) ss ≡ ss
 slots_stay [] = refl
 slots_stay (s ∷ ss) = ap (λ more. s ∷ more) (slots_stay ss)
 
--- a chain stays as it is where nothing is undone
-pub chain_stays : (chain : List (List Slot)) → chain_restored [] chain ≡ chain
-chain_stays [] = refl
-chain_stays (b ∷ bs) = ap (λ x. x ∷ chain_restored [] bs) (slots_stay b) ∙ ap (λ more. b ∷ more) (chain_stays bs)
+-- leaves stay as they are where nothing is undone
+leaves_stay : (bs : List layouts.Leaf) → map (leaf_restored []) bs ≡ bs
+leaves_stay [] = refl
+leaves_stay (b ∷ bs) = λ i. record { lowest = b.lowest; slots = slots_stay b.slots i } ∷ leaves_stay bs i
 
 -- A branch that changed nothing of a file leaves it.
 
@@ -42,12 +50,9 @@ no_changes : (cs : List Change) → (elim cs as (λ _. Bool) [ [] ↦ false | c 
 no_changes [] e = refl
 no_changes (c ∷ cs) e = let none : ⊥ = cc in absurd none
 
-abbrev with_chain : List (List Slot) → Layout
-with_chain chain = record { chain = chain }
-
-layout_stays : (outcome : Outcome) (l : Layout) → settled_layout outcome [] l ≡ l
+layout_stays : (outcome : Outcome) (l : layouts.Layout) → settled_layout outcome [] l ≡ l
 layout_stays Commit l = refl
-layout_stays Abort l = ap with_chain (chain_stays l.chain)
+layout_stays Abort l = λ i. record { leaves = leaves_stay l.leaves i; index = l.index }
 
 abbrev settled_by : (f : world.File) (s : world.Settlement) → List Change → world.File
 settled_by f s cs = record f { history = settled_with s.serial s.outcome s.moment cs f.history; layout = settled_layout s.outcome cs f.layout }
@@ -55,7 +60,7 @@ settled_by f s cs = record f { history = settled_with s.serial s.outcome s.momen
 pub not_changed : (f : File) (s : world.Settlement) → changed_it (history_of f) s.serial ≡ false → file_of f ≡ world.settled_file s (file_of f)
 not_changed f s e =
     let none = no_changes (changes_by s.serial (history_of f).live) e in
-    ap (λ (l : Layout). record (file_of f) { layout = l }) (sym (layout_stays s.outcome (file_of f).layout)) ∙ ap (settled_by (file_of f) s) (sym none)
+    ap (λ (l : layouts.Layout). record (file_of f) { layout = l }) (sym (layout_stays s.outcome (file_of f).layout)) ∙ ap (settled_by (file_of f) s) (sym none)
 
 -- And one that changed something of it joins the settled ones.
 
@@ -76,7 +81,7 @@ joins : (serial : Id) (outcome : Outcome) (moment : ℕ) (cs : List Change) (h :
 joins serial outcome moment [] h e = let none : ⊥ = cc in absurd none
 joins serial outcome moment (c ∷ cs) h e = refl
 
-pub now_settled : (f : File) (s : world.Settlement) (outcome : Outcome) (cs : List Change) (live : List ModelChanges) (layout : Layout) → changed_it (history_of f) s.serial ≡ true →
+pub now_settled : (f : File) (s : world.Settlement) (outcome : Outcome) (cs : List Change) (live : List ModelChanges) (layout : layouts.Layout) → changed_it (history_of f) s.serial ≡ true →
     outcome ≡ s.outcome → cs ≡ changes_by s.serial (history_of f).live → live ≡ without s.serial (history_of f).live → layout ≡ settled_layout outcome cs (file_of f).layout →
     record (file_of f) { history = joined_by (record { serial = s.serial; outcome = outcome; moment = s.moment; changes = cs }) live (history_of f); layout = layout } ≡ world.settled_file s (file_of f)
 now_settled f s outcome cs live layout changed o e w l =

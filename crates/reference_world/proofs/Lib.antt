@@ -3,3 +3,4 @@ pub mod ChangeLemmas
 pub mod RunsLemmas
 pub mod PartLemmas
 pub mod FileLemmas
+pub mod IndexLemmas

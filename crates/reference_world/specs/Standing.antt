@@ -11,7 +11,7 @@ use Rattle.vms_base.specs.Outcomes.{outcome_of, reason_of}
 use Rattle.vms_base.specs.declared.outcomes.Reason.{Reason}
 use Rattle.records_model.specs.Records as records
 use Rattle.records_model.specs.Slots as slots
-use Rattle.records_model.specs.Layout.{Layout}
+use Rattle.tree_model.specs.Layouts as layouts
 use Rattle.records_model.specs.History as history
 use Rattle.transcript_model.specs.Lines as model
 use Rattle.run_model.specs.World as world
@@ -29,6 +29,10 @@ use Rattle.reference_world.specs.declared.world.Organization.{Organization}
 use Rattle.reference_world.specs.declared.world.Organization.TheVariants as organization
 use Rattle.reference_world.specs.declared.world.Slot.{Slot}
 use Rattle.reference_world.specs.declared.world.Bucket.{Bucket}
+use Rattle.reference_world.specs.declared.world.Leaf.{Leaf}
+use Rattle.reference_world.specs.declared.world.Level.{Level}
+use Rattle.reference_world.specs.declared.world.Layout.{Layout}
+use Rattle.reference_world.specs.declared.world.Sizes.{Sizes}
 use Rattle.reference_world.specs.declared.world.LiveChanges.{LiveChanges}
 use Rattle.reference_world.specs.declared.world.SettledChanges.{SettledChanges}
 use Rattle.reference_world.specs.declared.world.Lock.{Lock}
@@ -105,9 +109,20 @@ bucket_of b = slots_of b.slots.items
 abbrev pub chain_of : List Bucket → List (List slots.Slot)
 chain_of bs = map bucket_of bs
 
--- the layout that has these buckets in one chain
-abbrev pub layout_of : List Bucket → Layout
-layout_of bs = record { chain = chain_of bs }
+abbrev pub leaf_of : Leaf → layouts.Leaf
+leaf_of b = record { lowest = b.lowest.items; slots = slots_of b.slots.items }
+
+abbrev pub leaves_of : List Leaf → List layouts.Leaf
+leaves_of bs = map leaf_of bs
+
+abbrev pub index_of : List Level → List (List ℕ)
+index_of ls = map (λ (l : Level). l.children.items) ls
+
+abbrev pub layout_of : Layout → layouts.Layout
+layout_of l = record { leaves = leaves_of l.leaves.items; index = index_of l.index.items }
+
+abbrev pub sizes_of : Sizes → layouts.Sizes
+sizes_of s = record { capacity = s.capacity; fan_out = s.fan_out }
 
 -- a key that a branch holds
 abbrev pub lock_of : Lock → locks.Lock
@@ -128,7 +143,7 @@ file_of f = record {
   carried = world.nothing_carried;
   recovery_units = f.recovery_units;
   history = history_of f;
-  layout = layout_of f.chain.items;
+  layout = layout_of f.layout;
 }
 
 abbrev pub directory_of : List (Option File) → List (Option world.File)

@@ -1,18 +1,18 @@
 // The files of the node, at their places.
-ghost use Rattle.std.specs.Prelude.{◌≡◌, ◌+◌, ◌-◌, ◌*◌, ◌^◌, ◌<◌, ◌≤◌, ℕ, suc, max, nat_le, if◌then◌else◌, List, map, option_map, replicate, length, IfSome, IfOk, Some, None};
+ghost use Rattle.std.specs.Prelude.{◌≡◌, ◌+◌, ◌-◌, ◌*◌, ◌/◌, ◌^◌, ◌<◌, ◌≤◌, ℕ, suc, max, nat_le, if◌then◌else◌, List, map, option_map, replicate, length, IfSome, IfOk, Some, None};
 ghost use Rattle.run_model.specs.World as world;
 ghost use Rattle.run_model.specs.World.{extents_of};
 ghost use Rattle.run_model.specs.Extents as extents;
 ghost use Rattle.run_model.specs.Locks.{is_locked};
 ghost use Rattle.vms_base.specs.Ids.{id_of};
-ghost use Rattle.reference_world.specs.Standing.{changes_of, file_of, directory_of, settlement_of, locks_of};
+ghost use Rattle.reference_world.specs.Standing.{changes_of, file_of, directory_of, organization_of, settlement_of, locks_of};
 ghost use Rattle.reference_world.specs.Directories.{file_change_of, IsRuns};
 
-use crate::chain::chain_changed;
 use crate::history::{settled_file, with_changes};
+use crate::leaves::layout_changed;
 use crate::lists::{push_front, take_first};
 use crate::moment::WrittenMoment;
-use crate::world::{BranchKey, Change, File, Lock, Settlement};
+use crate::world::{BranchKey, Change, File, Lock, Organization, Settlement, Sizes, no_layout};
 use std::alloc::{AllocError, Global};
 use std::cmp::max;
 use std::mem::replace;
@@ -146,6 +146,22 @@ pub fn capacity(bucket: u32) -> u64
     (512 * u64::from(bucket)).saturating_sub(16)
 }
 
+// The bytes of a bucket for slots, and how many entries an index bucket holds, each of which is a key and a number of four bytes.
+fn bucket_sizes(bucket: u32, organization: Organization) -> Sizes
+    ensures capacity { result.capacity ≡ 512 * bucket - 16 }
+    ensures fan_out { result.fan_out ≡ (512 * bucket - 16) / (world.key_size_of (organization_of organization) + 4) }
+{
+    let key_size = match organization {
+        Organization::Indexed { size, .. } => u64::from(size),
+        _ => 0,
+    };
+    let bytes = capacity(bucket);
+    Sizes {
+        capacity: bytes,
+        fan_out: bytes / (key_size + 4),
+    }
+}
+
 // A file after changes of an unsettled branch, where these locks are held on files of this name.
 fn set_file(
     alloc: Global,
@@ -158,9 +174,9 @@ fn set_file(
     ensures { IfOk result (λ f. file_of f ≡ world.changed_file (is_locked (locks_of locks.now) name.now) (id_of serial.now) (changes_of changes.items) (file_of file)) }
 {
     let mut f = file;
-    let cap = capacity(f.bucket);
-    let chain = replace(&mut f.chain, Vec::new(alloc));
-    f.chain = chain_changed(alloc, cap, locks, name, changes.as_slice(), chain)?;
+    let sizes = bucket_sizes(f.bucket, f.organization);
+    let layout = replace(&mut f.layout, no_layout(alloc));
+    f.layout = layout_changed(alloc, sizes, locks, name, changes.as_slice(), layout)?;
     let live = replace(&mut f.live, Vec::new(alloc));
     f.live = with_changes(alloc, live, serial, changes)?;
     Ok(f)

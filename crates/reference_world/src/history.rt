@@ -7,10 +7,12 @@ ghost use Rattle.vms_base.specs.Ids.{id_of};
 ghost use Rattle.reference_world.specs.Standing.{lent_key, change_of, changes_of, live_of, history_of, layout_of, file_of, serials_of, settlement_of};
 ghost use Rattle.reference_world.specs.Histories.{only_live};
 
-use crate::chain::chain_restored;
 use crate::keys::KeyRef;
+use crate::leaves::layout_restored;
 use crate::lists::{push_front, take_first};
-use crate::world::{BranchKey, Bucket, Change, File, LiveChanges, SettledChanges, Settlement};
+use crate::world::{
+    BranchKey, Change, File, Layout, LiveChanges, SettledChanges, Settlement, no_layout,
+};
 use std::alloc::{AllocError, Global};
 use std::mem::replace;
 use vms_base::{Id, Outcome};
@@ -155,18 +157,18 @@ fn part(alloc: Global, live: Vec<LiveChanges>, serial: &Id) -> Result<Parted, Al
     }
 }
 
-// A chain after the branch that made these changes was settled.
-fn settled_chain(
+// A layout after the branch that made these changes was settled.
+fn settled_layout(
     alloc: Global,
     outcome: Outcome,
     changes: &[Change],
-    chain: Vec<Bucket>,
-) -> Result<Vec<Bucket>, AllocError>
-    ensures { IfOk result (λ v. layout_of v.items ≡ world.settled_layout (outcome_of outcome) (changes_of changes.now) (layout_of chain.items)) }
+    layout: Layout,
+) -> Result<Layout, AllocError>
+    ensures { IfOk result (λ l. layout_of l ≡ world.settled_layout (outcome_of outcome) (changes_of changes.now) (layout_of layout)) }
 {
     match outcome {
-        Outcome::Commit => Ok(chain),
-        Outcome::Abort => chain_restored(alloc, changes, chain.as_slice()),
+        Outcome::Commit => Ok(layout),
+        Outcome::Abort => layout_restored(alloc, changes, layout),
     }
 }
 
@@ -180,8 +182,8 @@ fn with_settlement(alloc: Global, file: File, s: Settlement) -> Result<File, All
     let live = replace(&mut settled_one.live, Vec::new(alloc));
     let parted = part(alloc, live, &s.serial)?;
     settled_one.live = parted.others;
-    let chain = replace(&mut settled_one.chain, Vec::new(alloc));
-    settled_one.chain = settled_chain(alloc, outcome, parted.changes.as_slice(), chain)?;
+    let layout = replace(&mut settled_one.layout, no_layout(alloc));
+    settled_one.layout = settled_layout(alloc, outcome, parted.changes.as_slice(), layout)?;
     push_front(
         &mut settled_one.settled,
         SettledChanges {

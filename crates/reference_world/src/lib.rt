@@ -1,11 +1,12 @@
 //! What a plain, slow program keeps of a node: its files with their histories, the records that stand in them, and the lines it shows.
 #![tactic(auto)]
 
-mod chain;
 mod directory;
 mod dump;
 mod history;
+mod index;
 mod keys;
+mod leaves;
 mod line;
 mod lists;
 mod locks;
@@ -27,6 +28,6 @@ pub use locks::{is_lock_of, is_locked};
 pub use moment::WrittenMoment;
 pub use slots::{lend_value, own_value};
 pub use world::{
-    BranchKey, Bucket, Change, DiskCall, File, LabelEntry, Lock, Organization, Row, Settlement,
-    Slot, Volume,
+    BranchKey, Bucket, Change, DiskCall, File, LabelEntry, Layout, Leaf, Level, Lock, Organization,
+    Row, Settlement, Sizes, Slot, Volume, no_layout,
 };

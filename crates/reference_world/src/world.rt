@@ -1,10 +1,12 @@
 // What the statements so far have made of the node.
 ghost use Rattle.std.specs.Prelude.{◌≡◌};
 ghost use Rattle.vms_base.specs.Outcomes.{outcome_of};
-ghost use Rattle.reference_world.specs.Standing.{outcome_by};
+ghost use Rattle.tree_model.specs.Layouts as layouts;
+ghost use Rattle.reference_world.specs.Standing.{layout_of, outcome_by};
 
 use crate::keys::{Key, KeyRef};
 use crate::moment::WrittenMoment;
+use std::alloc::Global;
 use vms_base::{FileName, Id, Label, NodeName, Outcome, Reason};
 
 /// A branch: its transaction, and its serial.
@@ -61,6 +63,43 @@ pub struct Bucket {
     pub slots: Vec<Slot>,
 }
 
+/// A leaf of an indexed file: the lowest key that it may hold, and its slots in the order of their keys.
+#[derive(Drop)]
+pub struct Leaf {
+    pub lowest: Vec<u8>,
+    pub slots: Vec<Slot>,
+}
+
+/// A level of an index: to how many buckets of the level below it each of its buckets leads.
+#[derive(Drop)]
+pub struct Level {
+    pub children: Vec<u64>,
+}
+
+/// The leaves of an indexed file in the order of their keys, and the levels of the index over them, from the lowest one up. Other files have neither.
+#[derive(Drop)]
+pub struct Layout {
+    pub leaves: Vec<Leaf>,
+    pub index: Vec<Level>,
+}
+
+/// The layout of a file that is not indexed.
+pub fn no_layout(alloc: Global) -> Layout
+    ensures { layout_of result ≡ layouts.no_layout }
+{
+    Layout {
+        leaves: Vec::new(alloc),
+        index: Vec::new(alloc),
+    }
+}
+
+/// The bytes of a file's buckets for slots, and how many entries an index bucket holds.
+#[derive(Clone, Copy, Drop)]
+pub struct Sizes {
+    pub capacity: u64,
+    pub fan_out: u64,
+}
+
 /// A key of a file, or a sequential file's end, which an unsettled branch holds.
 #[derive(Drop)]
 pub struct Lock {
@@ -69,7 +108,7 @@ pub struct Lock {
     pub by: Id,
 }
 
-/// A file. Settled branches stand newest first, unsettled ones oldest first. The chain is the used buckets of an indexed file.
+/// A file. Settled branches stand newest first, unsettled ones oldest first.
 #[derive(Drop)]
 pub struct File {
     pub name: FileName,
@@ -82,7 +121,7 @@ pub struct File {
     pub moment: u64,
     pub settled: Vec<SettledChanges>,
     pub live: Vec<LiveChanges>,
-    pub chain: Vec<Bucket>,
+    pub layout: Layout,
 }
 
 /// A label: the node that it was made for, and its transaction. It names the first branch, or one that was authorised by this identifier, and the branch's

@@ -60,7 +60,8 @@ fn set_record<D: Disk>(
 }
 
 impl RecordFile for RelativeFile {
-    ghost use Rattle.std.specs.Prelude.{◌≡◌, ℕ, [], Some, refl};
+    ghost use Rattle.std.specs.Prelude.{◌≡◌, ℕ, Some, refl};
+    ghost use Rattle.tree_model.specs.Layouts.{no_layout};
     ghost use Rattle.relative_file.specs.Cells.{map_of, IsLaidOut, IsRelative, Suits, Anything};
     ghost use Rattle.relative_file.specs.Local.{local_law, valid_local_law};
 
@@ -84,21 +85,21 @@ impl RecordFile for RelativeFile {
 
     ghost used_after = { λ h blocks held key value. h.used };
 
-    ghost chain = { λ h blocks. [] };
+    ghost layout = { λ h blocks. no_layout };
 
-    ghost first_chain = { λ h. [] };
+    ghost first_layout = { λ h. no_layout };
 
     ghost restores = { λ h blocks key value. Anything };
 
     ghost begins = { λ h blocks key place. Anything };
 
-    ghost local = { local_law };
+    ghost local = { λ h a b form agrees laid. local_law h a b form agrees };
 
     ghost valid_local = { valid_local_law };
 
-    ghost room_local = { λ h a b form agrees key. refl };
+    ghost room_local = { λ h a b form agrees laid key. refl };
 
-    ghost chain_local = { λ h a b form agrees. refl };
+    ghost layout_local = { λ h a b form agrees laid. refl };
 
     ghost begins_first = { λ h blocks after form. tt };
 

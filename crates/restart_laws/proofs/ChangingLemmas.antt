@@ -193,7 +193,7 @@ set_by : (o : Kept) (h new : FileHead) (a b : List (List ℕ)) (s : Id) (key : K
 set_by Sequential h new a b s key value ls committed form laid within suits same form_new laid_new sets restores rooms represents latest differ free ends can =
     positions_set h new a b s key value ls committed form laid suits same form_new laid_new sets restores represents latest differ free (ends refl) can
 set_by Relative h new a b s key value ls committed form laid within suits same form_new laid_new sets restores rooms represents latest differ free ends can = cells_set h new a b s key value ls form within suits same differ can
-set_by Indexed h new a b s key value ls committed form laid within suits same form_new laid_new sets restores rooms represents latest differ free ends can = slots_set h new a b s key value ls form laid suits same differ restores rooms can
+set_by Indexed h new a b s key value ls committed form laid within suits same form_new laid_new sets restores rooms represents latest differ free ends can = slots_set h new a b s key value ls laid suits same differ restores rooms can
 
 represents_file : (a : List (List ℕ)) (h : FileHead) (file : File) (j : Journal) → TellsUnits j file → IsFile a h file → Represents file.history.live (map_of h a) (map_in (records file.history))
 represents_file a h file j units is = subst (λ (m : Map). Represents file.history.live m (map_in (records file.history))) (λ i key. is.records key i) units.notes.orderly.represents

@@ -1,38 +1,32 @@
 -- Files after a fall and after groups of an undo.
-use Rattle.std.proofs.Common.{◌≡◌, ℕ, Bool, true, false, cond, List, [], ◌∷◌, ◌++◌, map, Option, Some, None, refl, sym, ◌∙◌, ap, subst}
+use Rattle.std.proofs.Common.{◌≡◌, ℕ, Bool, true, false, cond, List, [], ◌∷◌, map, Option, Some, None, refl, sym, ◌∙◌, ap, subst}
 use Rattle.std.specs.FinMap.{get}
 use Rattle.file_base.specs.declared.head.FileHead.{FileHead}
 use Rattle.file_base.specs.declared.head.Organization.{Organization as Kept}
 use Rattle.file_base.specs.declared.head.Organization.TheVariants.{Sequential, Relative, Indexed}
 use Rattle.record_files.specs.Any as any
 use Rattle.record_files.specs.Any.{map_of}
-use Rattle.indexed_file.specs.Chain as indexed
 use Rattle.vms_model.specs.Keys.{Key, Text}
 use Rattle.records_model.specs.Records.{Change}
 use Rattle.records_model.specs.Slots.{Slot, with_value, lookup, IsOrdered}
-use Rattle.records_model.specs.Parts.{all_slots}
-use Rattle.records_model.specs.Layout.{Layout}
+use Rattle.tree_model.specs.Layouts.{Leaf, Layout, slots_along}
 use Rattle.records_model.specs.History.{records, current, changes_key}
 use Rattle.unit_laws.specs.Units.{Map, map_in, earliest_before, Represents, IsOrderly}
-use Rattle.unit_laws.specs.Layouts.{slot_restored, layout_restored}
+use Rattle.unit_laws.specs.Layouts.{slot_restored, leaf_restored, layout_restored}
 use Rattle.unit_laws.proofs.RepresentLemmas.{group_keeps}
 use Rattle.run_model.specs.World.{File}
-use Rattle.directory_model.specs.Files.{IsFile, IsPlace, head_at, file_at, laid_in}
-use Rattle.directory_model.specs.Restoring.{AlikeBare, bare, IsLeft, IsPlaceLeft, IsPlaceRestorable, CanRestore, IsLayoutOf, IsGrouped, IsPlaceGrouped}
+use Rattle.directory_model.specs.Files.{IsFile, IsPlace, head_at, file_at}
+use Rattle.directory_model.specs.Restoring.{AlikeBare, bare, bare_leaf, bare_layout, IsLeft, IsPlaceLeft, IsPlaceRestorable, CanRestore, IsLayoutOf, IsGrouped, IsPlaceGrouped}
 use Rattle.directory_model.proofs.Moving.{head_moved, same_organization}
 use Rattle.restart_laws.specs.Falls.{FallsLeave, GroupsLeave}
 
 -- The layout of the world's file.
-pub slots_of_chain : (h : FileHead) (b : List (List ℕ)) (ns : List ℕ) → all_slots (map (indexed.slots_in h b) ns) ≡ indexed.slots_along h b ns
-slots_of_chain h b [] = refl
-slots_of_chain h b (n ∷ ns) = ap (λ (ss : List Slot). indexed.slots_in h b n ++ ss) (slots_of_chain h b ns)
-
-layout_told : (o : Kept) (h : FileHead) (content : List (List ℕ)) (file : File) → any.LaidOutBy o h content → ((key : Key) → get (current file.history) key ≡ any.map_by o h content key) → file.layout ≡ laid_in (any.chain_by o h content) → IsLayoutOf o file
+layout_told : (o : Kept) (h : FileHead) (content : List (List ℕ)) (file : File) → any.LaidOutBy o h content → ((key : Key) → get (current file.history) key ≡ any.map_by o h content key) → file.layout ≡ any.layout_by o h content → IsLayoutOf o file
 layout_told Sequential h content file laid records layout = layout
 layout_told Relative h content file laid records layout = layout
 layout_told Indexed h content file laid records layout = record {
-  ordered = subst IsOrdered (sym (slots_of_chain h content (indexed.leaves_of h content)) ∙ sym (ap (λ (l : Layout). all_slots l.chain) layout)) laid.ordered;
-  tells = λ k. ap (λ (l : Layout). lookup (all_slots l.chain) k) layout ∙ ap (λ (ss : List Slot). lookup ss k) (slots_of_chain h content (indexed.leaves_of h content)) ∙ sym (records (Text k));
+  ordered = subst IsOrdered (sym (ap (λ (l : Layout). slots_along l.leaves) layout)) laid.tree.ordered;
+  tells = λ k. ap (λ (l : Layout). lookup (slots_along l.leaves) k) layout ∙ sym (records (Text k));
 }
 
 -- A fall.
@@ -41,7 +35,7 @@ file_left content h file is orderly can = record {
   head = is.head;
   laid = is.laid;
   represents = subst (λ (m : Map). Represents file.history.live m (map_in (records file.history))) same orderly.represents;
-  layout = ap (λ (l : Layout). map (map bare) l.chain) (sym is.layout);
+  layout = ap bare_layout (sym is.layout);
   own = layout_told h.organization h content file is.laid is.records is.layout;
   can = can;
 }
@@ -97,12 +91,18 @@ restored_bare cs s = step (changes_key (Text s.key) cs)
     step false = refl
 
 pub restores_alike : (cs : List Change) (a b : Layout) → AlikeBare a b → AlikeBare (layout_restored cs a) (layout_restored cs b)
-restores_alike cs a b e = twice a.chain ∙ ap (λ (bs : List (List Slot)). map (map bare) (map (map (slot_restored cs)) bs)) e ∙ sym (twice b.chain)
+restores_alike cs a b e = twice a ∙ ap (λ (l : Layout). bare_layout (layout_restored cs l)) e ∙ sym (twice b)
   where
     once : (ss : List Slot) → map bare (map (slot_restored cs) ss) ≡ map bare (map (slot_restored cs) (map bare ss))
     once [] = refl
     once (s ∷ ss) = ap (λ (x : Slot). x ∷ map bare (map (slot_restored cs) ss)) (restored_bare cs s) ∙ ap (λ (xs : List Slot). bare (slot_restored cs (bare s)) ∷ xs) (once ss)
 
-    twice : (bs : List (List Slot)) → map (map bare) (map (map (slot_restored cs)) bs) ≡ map (map bare) (map (map (slot_restored cs)) (map (map bare) bs))
-    twice [] = refl
-    twice (ss ∷ bs) = ap (λ (x : List Slot). x ∷ map (map bare) (map (map (slot_restored cs)) bs)) (once ss) ∙ ap (λ (xs : List (List Slot)). map bare (map (slot_restored cs) (map bare ss)) ∷ xs) (twice bs)
+    leaf : (b : Leaf) → bare_leaf (leaf_restored cs b) ≡ bare_leaf (leaf_restored cs (bare_leaf b))
+    leaf b = λ i. record { lowest = b.lowest; slots = once b.slots i }
+
+    leaves : (bs : List Leaf) → map bare_leaf (map (leaf_restored cs) bs) ≡ map bare_leaf (map (leaf_restored cs) (map bare_leaf bs))
+    leaves [] = refl
+    leaves (b ∷ bs) = ap (λ (x : Leaf). x ∷ map bare_leaf (map (leaf_restored cs) bs)) (leaf b) ∙ ap (λ (xs : List Leaf). bare_leaf (leaf_restored cs (bare_leaf b)) ∷ xs) (leaves bs)
+
+    twice : (l : Layout) → bare_layout (layout_restored cs l) ≡ bare_layout (layout_restored cs (bare_layout l))
+    twice l = λ i. record { leaves = leaves l.leaves i; index = l.index }

@@ -18,9 +18,15 @@ use Rattle.records_model.specs.Slots.{Slot, same_bytes, slot_at, value_in, looku
 use Rattle.records_model.proofs.SlotLaws.{same_bytes_are}
 use Rattle.seq_file.specs.Layout.{IsRecord}
 use Rattle.seq_file.specs.Records.{record_at}
-use Rattle.indexed_file.specs.Chain as indexed
-use Rattle.indexed_file.specs.Chain.{kind_of, slot_of, value_of, keeps_record, all_keep, slots_in, slots_along, leaves_of, AllBelow}
-use Rattle.indexed_file.specs.Local.{chain_used}
+use Rattle.tree_model.specs.Layouts.{slots_along}
+use Rattle.index_model.specs.Indexes.{Entry}
+use Rattle.index_model.specs.Trees.{child_of, leaf_at}
+use Rattle.index_blocks.specs.Buckets.{bucket_at as leaf_bytes}
+use Rattle.index_blocks.specs.Levels.{AllAre, leaf_entries}
+use Rattle.indexed_file.specs.Chain.{kind_of, slot_of, value_of, keeps_record, all_keep, slots_in, IsLeaf}
+use Rattle.indexed_tree.specs.Files as indexed
+use Rattle.indexed_tree.specs.Maps.{all_slots}
+use Rattle.indexed_tree.specs.Rooted.{IsRooted}
 use Rattle.relative_file.specs.Cells as relative
 use Rattle.relative_file.specs.Cells.{IsRelative, has_cell, cells_in, cells_end, first_of, place_of, bucket_at, cell_at, record_in, size_in}
 use Rattle.relative_file.specs.Local.{bucket_within}
@@ -128,9 +134,9 @@ kept_append : (h : FileHead) (a b : List Slot) → AllKept h a → AllKept h b �
 kept_append h [] b first second = second
 kept_append h (s ∷ ss) b first second = (first.0, kept_append h ss b first.1 second)
 
-along_kept : (h : FileHead) (content : List (List ℕ)) (ns : List ℕ) → indexed.IsChained h content → AllBelow h.used ns → AllKept h (slots_along h content ns)
-along_kept h content [] laid below = tt
-along_kept h content (n ∷ ns) laid below = kept_append h (slots_in h content n) (slots_along h content ns) (slots_kept h _ (laid.leaves n below.0).kept) (along_kept h content ns laid below.1)
+along_kept : (h : FileHead) (content : List (List ℕ)) (es : List Entry) → AllAre (λ n. IsLeaf h (leaf_bytes h content n)) (map child_of es) → AllKept h (slots_along (map (leaf_at (slots_in h content)) es))
+along_kept h content [] leaves = tt
+along_kept h content (e ∷ es) leaves = kept_append h (slots_in h content e.child) (slots_along (map (leaf_at (slots_in h content)) es)) (slots_kept h _ leaves.0.kept) (along_kept h content es leaves.1)
 
 found_kept : (h : FileHead) (slots : List Slot) (k : List ℕ) → AllKept h slots → IfSome (lookup slots k) (Keeps h k)
 found_kept h [] k all = tt
@@ -140,5 +146,5 @@ found_kept h (s ∷ ss) k all = go (same_bytes k s.key) refl (found_kept h ss k 
     go true is rest = subst (λ (key : List ℕ). IfSome s.value (Keeps h key)) (sym (same_bytes_are k s.key is)) all.0
     go false is rest = rest
 
-pub slot_suits : (content : List (List ℕ)) (h : FileHead) (k : List ℕ) → indexed.IsIndexed h → indexed.IsChained h content → IfSome (indexed.map_of h content (Text k)) (Keeps h k)
-slot_suits content h k form laid = found_kept h (indexed.all_slots_of h content) k (along_kept h content (leaves_of h content) laid (chain_used h content h.used 0 form.some))
+pub slot_suits : (content : List (List ℕ)) (h : FileHead) (k : List ℕ) → IsRooted h content → IfSome (indexed.map_of h content (Text k)) (Keeps h k)
+slot_suits content h k laid = found_kept h (all_slots h content) k (along_kept h content (leaf_entries h content) laid.leaves)

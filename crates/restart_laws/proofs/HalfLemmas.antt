@@ -12,7 +12,16 @@ use Rattle.file_base.specs.declared.head.Organization.{Organization as Kept}
 use Rattle.file_base.specs.declared.head.Organization.TheVariants.{Sequential, Relative, Indexed}
 use Rattle.record_files.specs.Any as any
 use Rattle.record_files.specs.Any.{map_of}
-use Rattle.indexed_file.specs.Chain as indexed
+use Rattle.tree_model.specs.Layouts.{Leaf, Layout, no_layout, slots_along}
+use Rattle.index_model.specs.Indexes.{Entry}
+use Rattle.index_model.specs.Trees.{child_of, leaf_at}
+use Rattle.index_blocks.specs.Buckets.{bucket_at}
+use Rattle.index_blocks.specs.Levels.{AllAre, leaf_entries}
+use Rattle.indexed_file.specs.Chain as leaf
+use Rattle.indexed_file.specs.Chain.{kind_of, slots_in, IsLeaf}
+use Rattle.indexed_tree.specs.Files as indexed
+use Rattle.indexed_tree.specs.Maps.{all_slots}
+use Rattle.indexed_tree.specs.Rooted.{layout_in}
 use Rattle.relative_file.specs.Cells as relative
 use Rattle.seq_file.specs.Layout.{records_in}
 use Rattle.seq_file.specs.Records.{map_of_list, record_at}
@@ -21,32 +30,28 @@ use Rattle.vms_model.specs.Ids.{Id}
 use Rattle.vms_model.specs.Keys.{Key, Number, Text}
 use Rattle.records_model.specs.Records.{Change}
 use Rattle.bucket_page.specs.Pages.{slots_of}
-use Rattle.indexed_file.proofs.ChainLaws.{leaves_below}
 use Rattle.indexed_file.proofs.FileLaws.{all_hold}
 use Rattle.indexed_file.proofs.SetLaws.{AllHold, held_here}
 use Rattle.records_model.specs.Slots.{Slot, lookup, room_in, room_of, same_bytes, size_of, slot_at, value_in, with_value, IsOrdered}
 use Rattle.records_model.proofs.SlotLaws.{behind_absent, if_false, if_true, same_bytes_are, same_self}
-use Rattle.records_model.specs.Parts.{all_slots}
-use Rattle.records_model.specs.Layout.{Layout}
 use Rattle.records_model.specs.History.{LiveChanges, same_id, changes_by, changes_key, current, records}
 use Rattle.records_model.proofs.RecordsLemmas.{same_key}
 use Rattle.unit_laws.specs.Units.{Map, Apart, HasImages, HasLatest, IsImage, SerialsDiffer, earliest_before, is_of, latest_after, map_in, restored}
-use Rattle.unit_laws.specs.Layouts.{chain_restored, layout_restored, slot_restored}
+use Rattle.unit_laws.specs.Layouts.{leaf_restored, layout_restored, slot_restored}
 use Rattle.unit_laws.proofs.LiveLemmas.{clash, id_is}
 use Rattle.unit_laws.proofs.Tests.{both_ways, or_either, or_first, or_second, passed, picked}
 use Rattle.run_model.specs.World as world
 use Rattle.run_model.specs.World.{AreUnitsOf, File, IsHalfUndone, IsKept, Node, Organization, TellsUnits, half_undone, leaving, live_leaving}
 use Rattle.world_laws.proofs.HalfLemmas.{all_leaving, earliest_leaving, keys_leaving, latest_leaving, now_leaving}
-use Rattle.directory_model.specs.Files.{IsFile, IsPlace, file_at, head_at, laid_in, organized_by}
+use Rattle.directory_model.specs.Files.{IsFile, IsPlace, file_at, head_at, organized_by}
 use Rattle.directory_model.proofs.Places.{file_mapped}
-use Rattle.directory_model.specs.Restoring.{AlikeBare, AreLeft, CanRestoreBy, IsLayoutOf, IsPlaceLeft, IsPlaceRestorable, bare}
+use Rattle.directory_model.specs.Restoring.{AlikeBare, AreLeft, CanRestoreBy, IsLayoutOf, IsPlaceLeft, IsPlaceRestorable, bare, bare_layout, bare_leaf}
 use Rattle.directory_model.proofs.Moving.{head_again}
 use Rattle.directory_model.proofs.ReadingFiles.{order_is}
 use Rattle.directory_model.proofs.ReadingLists.{numbered}
 use Rattle.restart_laws.specs.Halves.{AreHalfFiles, DirectoriesAreHalf, HalvesAreFiles, HalvesStayRestorable, IsPlaceBeside, standing_in}
-use Rattle.restart_laws.proofs.FallLemmas.{slots_of_chain}
 use Rattle.restart_laws.proofs.ListLemmas.{all_as, both_as}
-use Rattle.restart_laws.proofs.RestLemmas.{all_bare, layout_rests, same_now}
+use Rattle.restart_laws.proofs.RestLemmas.{layout_rests, same_now, slots_alike}
 use Rattle.restart_laws.proofs.RestorableLemmas.{none_images, of_one}
 use Rattle.restart_laws.proofs.UndoLemmas.{all_restored, lookup_restored, ordered_restored, slot_bare}
 
@@ -101,10 +106,10 @@ hold_append : (a b : List Slot) → AllHold a → AllHold b → AllHold (a ++ b)
 hold_append [] b p q = q
 hold_append (s ∷ a) b p q = (p.0, hold_append a b p.1 q)
 
-all_along : (h : FileHead) (content : List (List ℕ)) (ns : List ℕ) → indexed.IsChained h content → indexed.AllBelow h.used ns → AllHold (indexed.slots_along h content ns)
-all_along h content [] laid below = tt
-all_along h content (n ∷ ns) laid below =
-    hold_append (indexed.slots_in h content n) (indexed.slots_along h content ns) (all_hold h (slots_of (indexed.kind_of h) (indexed.bucket_at h content n)) (laid.leaves n below.0).bucket.packed.suit) (all_along h content ns laid below.1)
+all_along : (h : FileHead) (content : List (List ℕ)) (es : List Entry) → AllAre (λ n. IsLeaf h (bucket_at h content n)) (map child_of es) → AllHold (slots_along (map (leaf_at (slots_in h content)) es))
+all_along h content [] leaves = tt
+all_along h content (e ∷ es) leaves =
+    hold_append (slots_in h content e.child) (slots_along (map (leaf_at (slots_in h content)) es)) (all_hold h (slots_of (kind_of h) (bucket_at h content e.child)) leaves.0.bucket.packed.suit) (all_along h content es leaves.1)
 
 -- alike slots have the same room for a key
 room_bare : (ss : List Slot) (k : List ℕ) → room_of (map bare ss) k ≡ room_of ss k
@@ -156,44 +161,50 @@ all_parts : {A : Type 0} (P : A → Type 0) (a b : List A) → AllByRecursion P 
 all_parts P [] b all = (tt, all)
 all_parts P (x ∷ a) b all = let more = all_parts P a b all.1 in ((all.0, more.0), more.1)
 
-chain_bare : (standing : Map) (cs : List Change) (bs : List (List Slot)) → AllFit standing (all_slots bs) → map (map bare) (chain_restored (backs standing cs) bs) ≡ map (map bare) bs
-chain_bare standing cs [] fits = refl
-chain_bare standing cs (ss ∷ bs) fits =
-    let parts = all_parts (λ (s : Slot). size_of (standing (Text s.key)) ≤ s.room) ss (all_slots bs) fits in
-    ap (λ (x : List Slot). x ∷ map (map bare) (chain_restored (backs standing cs) bs)) (bucket_bare standing cs ss parts.0) ∙ ap (λ (xs : List (List Slot)). map bare ss ∷ xs) (chain_bare standing cs bs parts.1)
+leaves_bare : (standing : Map) (cs : List Change) (bs : List Leaf) → AllFit standing (slots_along bs) → map bare_leaf (map (leaf_restored (backs standing cs)) bs) ≡ map bare_leaf bs
+leaves_bare standing cs [] fits = refl
+leaves_bare standing cs (b ∷ bs) fits = λ i. record { lowest = b.lowest; slots = bucket_bare standing cs b.slots parts.0 i } ∷ leaves_bare standing cs bs parts.1 i
+  where
+    parts : AllFit standing b.slots × AllFit standing (slots_along bs)
+    parts = all_parts (λ (s : Slot). size_of (standing (Text s.key)) ≤ s.room) b.slots (slots_along bs) fits
+
+layout_bare : (standing : Map) (cs : List Change) (l : Layout) → AllFit standing (slots_along l.leaves) → bare_layout (layout_restored (backs standing cs) l) ≡ bare_layout l
+layout_bare standing cs l fits = λ i. record { leaves = leaves_bare standing cs l.leaves fits i; index = l.index }
 
 module _ (serial : Id) (standing : List ℕ → Map) (content : List (List ℕ)) (h : FileHead) (file : File) (apart : Apart file.history.live) where
   abbrev own_changes : List Change
   own_changes = changes_by serial file.history.live
 
   -- what stands at a key that has no slot
-  no_slot : (k : List ℕ) → standing file.name ≡ indexed.map_of h content → AlikeBare (laid_in (indexed.chain_of h content)) file.layout → slot_at k (all_slots file.layout.chain) ≡ None → standing file.name (Text k) ≡ None
+  no_slot : (k : List ℕ) → standing file.name ≡ indexed.map_of h content → AlikeBare (layout_in h content) file.layout → slot_at k (slots_along file.layout.leaves) ≡ None → standing file.name (Text k) ≡ None
   no_slot k named alike none =
-      let gone : slot_at k (all_slots (indexed.chain_of h content)) ≡ None =
-      slot_bare (all_slots (indexed.chain_of h content)) (all_slots file.layout.chain) k (all_bare (indexed.chain_of h content) ∙ ap all_slots alike ∙ sym (all_bare file.layout.chain)) none in
-      ap (λ (m : Map). m (Text k)) named ∙ ap (λ (ss : List Slot). lookup ss k) (sym (slots_of_chain h content (indexed.leaves_of h content))) ∙ ap value_in gone
+      let gone : slot_at k (all_slots h content) ≡ None = slot_bare (all_slots h content) (slots_along file.layout.leaves) k (slots_alike (layout_in h content) file.layout alike) none in
+      ap (λ (m : Map). m (Text k)) named ∙ ap value_in gone
 
-  alike_half : (o : Kept) → any.FormBy o h → any.LaidOutBy o h content → standing file.name ≡ any.map_by o h content → AlikeBare (laid_in (any.chain_by o h content)) file.layout → IsLayoutOf o file → AlikeBare (laid_in (any.chain_by o h content)) (half_undone serial standing file).layout
-  alike_half Sequential form laid named alike own = alike ∙ ap (λ (l : Layout). map (map bare) l.chain) own ∙ sym (ap (λ (l : Layout). map (map bare) (chain_restored (backs (standing file.name) own_changes) l.chain)) own)
-  alike_half Relative form laid named alike own = alike ∙ ap (λ (l : Layout). map (map bare) l.chain) own ∙ sym (ap (λ (l : Layout). map (map bare) (chain_restored (backs (standing file.name) own_changes) l.chain)) own)
-  alike_half Indexed form laid named alike own = alike ∙ sym (chain_bare (standing file.name) own_changes file.layout.chain (all_fit (standing file.name) (all_slots file.layout.chain) own.ordered fits))
+  -- a file that is not indexed has no layout then either
+  none_half : (layout : Layout) → AlikeBare layout file.layout → file.layout ≡ no_layout → AlikeBare layout (half_undone serial standing file).layout
+  none_half layout alike own = alike ∙ ap bare_layout own ∙ sym (ap (λ (l : Layout). bare_layout (layout_restored (backs (standing file.name) own_changes) l)) own)
+
+  alike_half : (o : Kept) → any.FormBy o h → any.LaidOutBy o h content → standing file.name ≡ any.map_by o h content → AlikeBare (any.layout_by o h content) file.layout → IsLayoutOf o file → AlikeBare (any.layout_by o h content) (half_undone serial standing file).layout
+  alike_half Sequential form laid named alike own = none_half no_layout alike own
+  alike_half Relative form laid named alike own = none_half no_layout alike own
+  alike_half Indexed form laid named alike own = alike ∙ sym (layout_bare (standing file.name) own_changes file.layout (all_fit (standing file.name) (slots_along file.layout.leaves) own.ordered fits))
     where
-      rooms : (k : List ℕ) → room_of (all_slots file.layout.chain) k ≡ room_of (indexed.all_slots_of h content) k
-      rooms k = sym (room_bare (all_slots file.layout.chain) k) ∙ ap (λ (ss : List Slot). room_of ss k) (all_bare file.layout.chain ∙ ap all_slots (sym alike) ∙ sym (all_bare (indexed.chain_of h content))) ∙ room_bare (all_slots (indexed.chain_of h content)) k
-          ∙ ap (λ (ss : List Slot). room_of ss k) (slots_of_chain h content (indexed.leaves_of h content))
+      rooms : (k : List ℕ) → room_of (slots_along file.layout.leaves) k ≡ room_of (all_slots h content) k
+      rooms k = sym (room_bare (slots_along file.layout.leaves) k) ∙ ap (λ (ss : List Slot). room_of ss k) (sym (slots_alike (layout_in h content) file.layout alike)) ∙ room_bare (all_slots h content) k
 
-      fits : (k : List ℕ) → is_some (slot_at k (all_slots file.layout.chain)) ≡ true → size_of (standing file.name (Text k)) ≤ room_of (all_slots file.layout.chain) k
-      fits k there = subst (λ (r : ℕ). size_of (standing file.name (Text k)) ≤ r) (sym (rooms k)) (subst (λ (m : Map). size_of (m (Text k)) ≤ room_of (indexed.all_slots_of h content) k) (sym named)
-          (held_here k (indexed.all_slots_of h content) (all_along h content (indexed.leaves_of h content) laid (leaves_below h content form.some))))
+      fits : (k : List ℕ) → is_some (slot_at k (slots_along file.layout.leaves)) ≡ true → size_of (standing file.name (Text k)) ≤ room_of (slots_along file.layout.leaves) k
+      fits k there = subst (λ (r : ℕ). size_of (standing file.name (Text k)) ≤ r) (sym (rooms k)) (subst (λ (m : Map). size_of (m (Text k)) ≤ room_of (all_slots h content) k) (sym named)
+          (held_here k (all_slots h content) (all_along h content (leaf_entries h content) laid.leaves)))
 
-  layout_half : (o : Kept) → standing file.name ≡ any.map_by o h content → AlikeBare (laid_in (any.chain_by o h content)) file.layout → IsLayoutOf o file → IsLayoutOf o (half_undone serial standing file)
+  layout_half : (o : Kept) → standing file.name ≡ any.map_by o h content → AlikeBare (any.layout_by o h content) file.layout → IsLayoutOf o file → IsLayoutOf o (half_undone serial standing file)
   layout_half Sequential named alike own = ap (layout_restored (backs (standing file.name) own_changes)) own
   layout_half Relative named alike own = ap (layout_restored (backs (standing file.name) own_changes)) own
   layout_half Indexed named alike own = record {
-    ordered = subst IsOrdered (sym (all_restored cs file.layout.chain)) (ordered_restored cs (all_slots file.layout.chain) own.ordered);
+    ordered = subst IsOrdered (sym (all_restored cs file.layout.leaves)) (ordered_restored cs (slots_along file.layout.leaves) own.ordered);
     tells = λ k.
-        ap (λ (ss : List Slot). lookup ss k) (all_restored cs file.layout.chain)
-        ∙ lookup_restored cs (all_slots file.layout.chain) k (λ none here. earliest_back (standing file.name) (Text k) own_changes (sym (keys_back (standing file.name) (Text k) own_changes) ∙ here) ∙ no_slot k named alike none)
+        ap (λ (ss : List Slot). lookup ss k) (all_restored cs file.layout.leaves)
+        ∙ lookup_restored cs (slots_along file.layout.leaves) k (λ none here. earliest_back (standing file.name) (Text k) own_changes (sym (keys_back (standing file.name) (Text k) own_changes) ∙ here) ∙ no_slot k named alike none)
         ∙ ap (λ (v : Option (List ℕ)). cond (changes_key (Text k) cs) (earliest_before cs (Text k)) v) (own.tells k)
         ∙ value k (changes_key (Text k) own_changes) refl
         ∙ sym (now_leaving serial (standing file.name) file.history.live (records file.history) (Text k) apart);
@@ -321,10 +332,10 @@ can_leaving Relative h content serial standing cs named can =
     all_as (λ (c : Change). relative.Suits h c.key (earliest_before cs c.key)) (λ (c : Change). relative.Suits h c.key (earliest_before (leaving standing [] cs) c.key)) (leaving standing [] cs)
     (λ c suits. subst (relative.Suits h c.key) (sym (earliest_leaving serial standing c.key [] cs)) suits) (all_left (λ (key : Key). relative.Suits h key (earliest_before cs key)) standing [] cs can)
 can_leaving Indexed h content serial standing cs named can =
-    all_as (λ (c : Change). indexed.Suits h c.key (earliest_before cs c.key) × (size_of (earliest_before cs c.key) ≤ indexed.room_at h content c.key))
-    (λ (c : Change). indexed.Suits h c.key (earliest_before (leaving standing [] cs) c.key) × (size_of (earliest_before (leaving standing [] cs) c.key) ≤ indexed.room_at h content c.key)) (leaving standing [] cs)
-    (λ c fits. subst (λ (v : Option (List ℕ)). indexed.Suits h c.key v × (size_of v ≤ indexed.room_at h content c.key)) (sym (earliest_leaving serial standing c.key [] cs)) fits)
-    (all_left (λ (key : Key). indexed.Suits h key (earliest_before cs key) × (size_of (earliest_before cs key) ≤ indexed.room_at h content key)) standing [] cs can)
+    all_as (λ (c : Change). leaf.Suits h c.key (earliest_before cs c.key) × (size_of (earliest_before cs c.key) ≤ indexed.room_at h content c.key))
+    (λ (c : Change). leaf.Suits h c.key (earliest_before (leaving standing [] cs) c.key) × (size_of (earliest_before (leaving standing [] cs) c.key) ≤ indexed.room_at h content c.key)) (leaving standing [] cs)
+    (λ c fits. subst (λ (v : Option (List ℕ)). leaf.Suits h c.key v × (size_of v ≤ indexed.room_at h content c.key)) (sym (earliest_leaving serial standing c.key [] cs)) fits)
+    (all_left (λ (key : Key). leaf.Suits h key (earliest_before cs key) × (size_of (earliest_before cs key) ≤ indexed.room_at h content key)) standing [] cs can)
 
 pub halves_stay_restorable : HalvesStayRestorable
 halves_stay_restorable content h file serial standing named can = all_leaving serial (standing file.name) (λ (l : LiveChanges). CanRestoreBy h.organization h content l.changes) file.history.live

@@ -8,11 +8,11 @@ use Rattle.file_base.specs.declared.head.FileHead.{FileHead}
 use Rattle.file_base.specs.declared.head.Organization.{Organization as Kept}
 use Rattle.file_base.specs.declared.head.Organization.TheVariants.{Sequential, Relative, Indexed}
 use Rattle.record_files.specs.Any as any
-use Rattle.record_files.specs.Any.{map_of, chain_of}
-use Rattle.indexed_file.specs.Chain as indexed
+use Rattle.record_files.specs.Any.{map_of}
+use Rattle.indexed_tree.specs.Rooted.{layout_in}
 use Rattle.vms_model.specs.Keys.{Key, Text}
 use Rattle.records_model.specs.Slots.{Slot, same_bytes, slot_at, value_in, lookup, IsOrdered}
-use Rattle.records_model.specs.Parts.{all_slots}
+use Rattle.tree_model.specs.Layouts.{Leaf, Layout, slots_along}
 use Rattle.records_model.specs.History.{LiveChanges, changes_key, current}
 use Rattle.records_model.proofs.SlotLaws.{same_self, same_bytes_are, behind_absent, if_true, if_false}
 use Rattle.unit_laws.specs.Units.{Map, HasLatest, IsOrderly, earliest_before, map_in, restored}
@@ -21,11 +21,10 @@ use Rattle.unit_laws.specs.JournalLaws.{is_unit}
 use Rattle.unit_laws.proofs.Tests.{both_ways}
 use Rattle.vms_model.specs.Ids.{Id}
 use Rattle.run_model.specs.World.{File, IsPreparedUnit}
-use Rattle.directory_model.specs.Files.{IsFile, IsPlace, head_at, file_at, laid_in}
-use Rattle.directory_model.specs.Restoring.{AlikeBare, bare, IsLeft, IsPlaceLeft, IsPlacePrepared, IsLayoutOf}
+use Rattle.directory_model.specs.Files.{IsFile, IsPlace, head_at, file_at}
+use Rattle.directory_model.specs.Restoring.{AlikeBare, bare, bare_leaf, IsLeft, IsPlaceLeft, IsPlacePrepared, IsLayoutOf}
 use Rattle.restart_laws.specs.Falls.{AllPrepared, RestsAsFiles}
 use Rattle.restart_laws.proofs.ListLemmas.{both_as}
-use Rattle.restart_laws.proofs.FallLemmas.{slots_of_chain}
 
 -- Slots that are alike but for their records, and that have the same records at each key, are the same.
 lookup_here : (s : Slot) (ss : List Slot) → lookup (s ∷ ss) s.key ≡ s.value
@@ -67,7 +66,7 @@ slots_same (s ∷ ss) (t ∷ ts) e p q h =
       | inr other ↦ sym (lookup_other s ss k other) ∙ h k ∙ lookup_other t ts k (subst (λ (x : List ℕ). same_bytes k x ≡ false) key other)
     ]
 
--- so are lists of buckets
+-- so are leaves
 parted_same : (x y r q : List Slot) → map bare x ≡ map bare y → x ++ r ≡ y ++ q → (x ≡ y) × (r ≡ q)
 parted_same [] [] r q e h = (refl, h)
 parted_same [] (t ∷ ts) r q e h = let none : ⊥ = cc in absurd none
@@ -76,39 +75,48 @@ parted_same (s ∷ ss) (t ∷ ts) r q e h =
     let more = parted_same ss ts r q (rest_same (bare s) (bare t) (map bare ss) (map bare ts) e) (rest_same s t (ss ++ r) (ts ++ q) h) in
     (ap (λ (x : Slot). x ∷ ss) (first_same s t (ss ++ r) (ts ++ q) h) ∙ ap (λ (xs : List Slot). t ∷ xs) more.0, more.1)
 
-bucket_first : (x y : List Slot) (xs ys : List (List Slot)) → x ∷ xs ≡ y ∷ ys → x ≡ y
-bucket_first x y xs ys e = cc
+leaf_first : (x y : Leaf) (xs ys : List Leaf) → x ∷ xs ≡ y ∷ ys → x ≡ y
+leaf_first x y xs ys e = cc
 
-bucket_rest : (x y : List Slot) (xs ys : List (List Slot)) → x ∷ xs ≡ y ∷ ys → xs ≡ ys
-bucket_rest x y xs ys e = cc
+leaf_rest : (x y : Leaf) (xs ys : List Leaf) → x ∷ xs ≡ y ∷ ys → xs ≡ ys
+leaf_rest x y xs ys e = cc
 
-buckets_same : (a b : List (List Slot)) → map (map bare) a ≡ map (map bare) b → all_slots a ≡ all_slots b → a ≡ b
-buckets_same [] [] e h = refl
-buckets_same [] (y ∷ ys) e h = let none : ⊥ = cc in absurd none
-buckets_same (x ∷ xs) [] e h = let none : ⊥ = cc in absurd none
-buckets_same (x ∷ xs) (y ∷ ys) e h =
-    let parts = parted_same x y (all_slots xs) (all_slots ys) (bucket_first (map bare x) (map bare y) (map (map bare) xs) (map (map bare) ys) e) h in
-    ap (λ (z : List Slot). z ∷ xs) parts.0 ∙ ap (λ (zs : List (List Slot)). y ∷ zs) (buckets_same xs ys (bucket_rest (map bare x) (map bare y) (map (map bare) xs) (map (map bare) ys) e) parts.1)
+leaves_same : (a b : List Leaf) → map bare_leaf a ≡ map bare_leaf b → slots_along a ≡ slots_along b → a ≡ b
+leaves_same [] [] e h = refl
+leaves_same [] (y ∷ ys) e h = let none : ⊥ = cc in absurd none
+leaves_same (x ∷ xs) [] e h = let none : ⊥ = cc in absurd none
+leaves_same (x ∷ xs) (y ∷ ys) e h = λ i. record { lowest = lowest i; slots = parts.0 i } ∷ leaves_same xs ys (leaf_rest (bare_leaf x) (bare_leaf y) (map bare_leaf xs) (map bare_leaf ys) e) parts.1 i
+  where
+    first : bare_leaf x ≡ bare_leaf y
+    first = leaf_first (bare_leaf x) (bare_leaf y) (map bare_leaf xs) (map bare_leaf ys) e
 
-pub all_bare : (a : List (List Slot)) → map bare (all_slots a) ≡ all_slots (map (map bare) a)
+    lowest : x.lowest ≡ y.lowest
+    lowest = ap (λ (b : Leaf). b.lowest) first
+
+    parts : (x.slots ≡ y.slots) × (slots_along xs ≡ slots_along ys)
+    parts = parted_same x.slots y.slots (slots_along xs) (slots_along ys) (ap (λ (b : Leaf). b.slots) first) h
+
+pub all_bare : (a : List Leaf) → map bare (slots_along a) ≡ slots_along (map bare_leaf a)
 all_bare [] = refl
-all_bare (x ∷ xs) = map-append bare x (all_slots xs) ∙ ap (λ (ss : List Slot). map bare x ++ ss) (all_bare xs)
+all_bare (x ∷ xs) = map-append bare x.slots (slots_along xs) ∙ ap (λ (ss : List Slot). map bare x.slots ++ ss) (all_bare xs)
 
-chains_same : (a b : List (List Slot)) → map (map bare) a ≡ map (map bare) b → IsOrdered (all_slots a) → IsOrdered (all_slots b) → ((k : List ℕ) → lookup (all_slots a) k ≡ lookup (all_slots b) k) → a ≡ b
-chains_same a b e p q h = buckets_same a b e (slots_same (all_slots a) (all_slots b) (all_bare a ∙ ap all_slots e ∙ sym (all_bare b)) p q h)
+-- layouts that are alike but for their records have the same slots but for these
+pub slots_alike : (a b : Layout) → AlikeBare a b → map bare (slots_along a.leaves) ≡ map bare (slots_along b.leaves)
+slots_alike a b alike = all_bare a.leaves ∙ ap (λ (l : Layout). slots_along l.leaves) alike ∙ sym (all_bare b.leaves)
 
-nothing_bare : (a : List (List Slot)) → map (map bare) a ≡ [] → a ≡ []
-nothing_bare [] e = refl
-nothing_bare (x ∷ xs) e = let none : ⊥ = cc in absurd none
+layouts_same : (a b : Layout) → AlikeBare a b → IsOrdered (slots_along a.leaves) → IsOrdered (slots_along b.leaves) → ((k : List ℕ) → lookup (slots_along a.leaves) k ≡ lookup (slots_along b.leaves) k) → a ≡ b
+layouts_same a b alike p q h = λ i. record { leaves = leaves i; index = (ap (λ (l : Layout). l.index) alike) i }
+  where
+    leaves : a.leaves ≡ b.leaves
+    leaves = leaves_same a.leaves b.leaves (ap (λ (l : Layout). l.leaves) alike) (slots_same (slots_along a.leaves) (slots_along b.leaves) (slots_alike a b alike) p q h)
 
 -- The layout of a file that has the world's records.
-pub layout_rests : (o : Kept) (h : FileHead) (content : List (List ℕ)) (file : File) → any.LaidOutBy o h content → ((key : Key) → get (current file.history) key ≡ any.map_by o h content key) → AlikeBare (laid_in (any.chain_by o h content)) file.layout →
-    IsLayoutOf o file → file.layout ≡ laid_in (any.chain_by o h content)
+pub layout_rests : (o : Kept) (h : FileHead) (content : List (List ℕ)) (file : File) → any.LaidOutBy o h content → ((key : Key) → get (current file.history) key ≡ any.map_by o h content key) → AlikeBare (any.layout_by o h content) file.layout →
+    IsLayoutOf o file → file.layout ≡ any.layout_by o h content
 layout_rests Sequential h content file laid records alike own = own
 layout_rests Relative h content file laid records alike own = own
-layout_rests Indexed h content file laid records alike own = ap laid_in (sym (chains_same (indexed.chain_of h content) file.layout.chain alike
-    (subst IsOrdered (sym (slots_of_chain h content (indexed.leaves_of h content))) laid.ordered) own.ordered
-    (λ k. ap (λ (ss : List Slot). lookup ss k) (slots_of_chain h content (indexed.leaves_of h content)) ∙ sym (records (Text k)) ∙ sym (own.tells k))))
+layout_rests Indexed h content file laid records alike own =
+    sym (layouts_same (layout_in h content) file.layout alike laid.tree.ordered own.ordered (λ k. sym (records (Text k)) ∙ sym (own.tells k)))
 
 -- what two maps restore alike is the same in both, where both have what the branches left
 pub same_now : (ls : List LiveChanges) (m n : Map) (key : Key) → AllByRecursion (λ (l : LiveChanges). HasLatest m l.changes) ls → AllByRecursion (λ (l : LiveChanges). HasLatest n l.changes) ls → restored ls key (m key) ≡ restored ls key (n key) → m key ≡ n key

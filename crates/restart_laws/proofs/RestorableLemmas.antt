@@ -9,19 +9,21 @@ use Rattle.file_base.specs.declared.head.Organization.TheVariants.{Sequential, R
 use Rattle.change_set.specs.Files.{SameFile}
 use Rattle.record_files.specs.Any as any
 use Rattle.relative_file.specs.Cells as relative
-use Rattle.indexed_file.specs.Chain as indexed
+use Rattle.indexed_file.specs.Chain as leaf
+use Rattle.indexed_tree.specs.Files as indexed
+use Rattle.indexed_tree.specs.Maps.{all_slots}
+use Rattle.indexed_tree.specs.Rooted.{layout_in}
 use Rattle.seq_file.specs.Layout as sequential
 use Rattle.seq_file.proofs.FileLaws.{used_is}
 use Rattle.vms_model.specs.Ids.{Id}
 use Rattle.vms_model.specs.Keys.{Key, Number, Text, End}
 use Rattle.records_model.specs.Records.{Change}
 use Rattle.records_model.specs.Slots.{Slot, same_bytes, slot_at, room_in, room_of, size_of, with_value}
-use Rattle.records_model.specs.Parts.{all_slots}
-use Rattle.records_model.specs.Layout.{Layout}
+use Rattle.tree_model.specs.Layouts.{Layout, slots_along}
 use Rattle.records_model.specs.History.{LiveChanges, same_id, changes_key, changes_by, settled_with, without}
 use Rattle.records_model.proofs.SlotLaws.{if_true, if_false}
 use Rattle.unit_laws.specs.Units.{Map, earliest_before, with_before_images, is_changed, Apart, HasImages, Represents, moves_end, has_changes, OneMovesEnd}
-use Rattle.unit_laws.specs.Layouts.{slot_restored, chain_restored}
+use Rattle.unit_laws.specs.Layouts.{slot_restored, layout_restored}
 use Rattle.unit_laws.proofs.Tests.{both_ways, or_first, or_second}
 use Rattle.unit_laws.proofs.LiveLemmas.{clash, left_so, no_such}
 use Rattle.unit_laws.proofs.RestoredLemmas.{changed_of}
@@ -36,7 +38,6 @@ use Rattle.directory_model.proofs.Acts.{settled_directory}
 use Rattle.directory_model.proofs.Moving.{same_organization}
 use Rattle.directory_model.proofs.Places.{file_mapped}
 use Rattle.restart_laws.specs.Falls.{OthersStayRestorable, UndoesLeave}
-use Rattle.restart_laws.proofs.FallLemmas.{slots_of_chain}
 use Rattle.restart_laws.proofs.UndoLemmas.{key_kept, all_restored, undone_leaves}
 
 -- the unsettled changes of a file once a branch is settled
@@ -109,15 +110,14 @@ room_grows cs (s ∷ ss) k = elim (both_ways (same_bytes k s.key)) [
     grows true = omega arith
     grows false = omega arith
 
-room_after : (h new : FileHead) (a b : List (List ℕ)) (cs : List Change) (key : Key) → indexed.chain_of new b ≡ chain_restored cs (indexed.chain_of h a) → indexed.room_at h a key ≤ indexed.room_at new b key
-room_after h new a b cs (Text k) chain =
-    let old : indexed.room_at h a (Text k) ≡ room_of (all_slots (indexed.chain_of h a)) k = ap (λ (ss : List Slot). room_of ss k) (sym (slots_of_chain h a (indexed.leaves_of h a))) in
-    let now : indexed.room_at new b (Text k) ≡ room_of (map (slot_restored cs) (all_slots (indexed.chain_of h a))) k =
-    ap (λ (ss : List Slot). room_of ss k) (sym (slots_of_chain new b (indexed.leaves_of new b)) ∙ ap all_slots chain ∙ all_restored cs (indexed.chain_of h a)) in
-    let more = room_grows cs (all_slots (indexed.chain_of h a)) k in
-    omega (arith, old, now, more)
-room_after h new a b cs (Number n) chain = omega arith
-room_after h new a b cs End chain = omega arith
+room_after : (h new : FileHead) (a b : List (List ℕ)) (cs : List Change) (key : Key) → layout_in new b ≡ layout_restored cs (layout_in h a) → indexed.room_at h a key ≤ indexed.room_at new b key
+room_after h new a b cs (Text k) layout =
+    let now : indexed.room_at new b (Text k) ≡ room_of (map (slot_restored cs) (all_slots h a)) k =
+    ap (λ (l : Layout). room_of (slots_along l.leaves) k) layout ∙ ap (λ (ss : List Slot). room_of ss k) (all_restored cs (layout_in h a).leaves) in
+    let more = room_grows cs (all_slots h a) k in
+    omega (arith, now, more)
+room_after h new a b cs (Number n) layout = omega arith
+room_after h new a b cs End layout = omega arith
 
 -- The same file's head takes the same.
 pub goes_same : (h new : FileHead) (cs : List Change) (now back : List (List ℕ)) → SameFile h new → GoesBack h cs now back → GoesBack new cs now back
@@ -145,10 +145,10 @@ suits_relative_same h new key v same suits = subst (λ (x : FileHead). relative.
     as_is (Text t) suits = suits
     as_is End suits = suits
 
-pub suits_indexed_same : (h new : FileHead) (key : Key) (v : Option (List ℕ)) → SameFile h new → indexed.Suits h key v → indexed.Suits new key v
-suits_indexed_same h new key v same suits = subst (λ (x : FileHead). indexed.Suits x key v) (sym same.is) (as_is key suits)
+pub suits_indexed_same : (h new : FileHead) (key : Key) (v : Option (List ℕ)) → SameFile h new → leaf.Suits h key v → leaf.Suits new key v
+suits_indexed_same h new key v same suits = subst (λ (x : FileHead). leaf.Suits x key v) (sym same.is) (as_is key suits)
   where
-    as_is : (key : Key) → indexed.Suits h key v → indexed.Suits (record h { used = new.used; root = new.root; levels = new.levels; count = new.count }) key v
+    as_is : (key : Key) → leaf.Suits h key v → leaf.Suits (record h { used = new.used; root = new.root; levels = new.levels; count = new.count }) key v
     as_is (Number n) suits = suits
     as_is (Text t) suits = record { size = suits.size; has = suits.has; most = suits.most }
     as_is End suits = suits
@@ -157,31 +157,31 @@ relative_same : (h new : FileHead) (cs ds : List Change) → SameFile h new → 
 relative_same h new [] ds same all = tt
 relative_same h new (c ∷ cs) ds same all = (suits_relative_same h new c.key (earliest_before ds c.key) same all.0, relative_same h new cs ds same all.1)
 
-indexed_same : (h new : FileHead) (a b : List (List ℕ)) (back cs ds : List Change) → SameFile h new → indexed.chain_of new b ≡ chain_restored back (indexed.chain_of h a)
-    → AllByRecursion (λ (c : Change). indexed.Suits h c.key (earliest_before ds c.key) × (size_of (earliest_before ds c.key) ≤ indexed.room_at h a c.key)) cs
-    → AllByRecursion (λ (c : Change). indexed.Suits new c.key (earliest_before ds c.key) × (size_of (earliest_before ds c.key) ≤ indexed.room_at new b c.key)) cs
-indexed_same h new a b back [] ds same chain all = tt
-indexed_same h new a b back (c ∷ cs) ds same chain all = (
-  (suits_indexed_same h new c.key (earliest_before ds c.key) same all.0.0, (let room = room_after h new a b back c.key chain in let fits = all.0.1 in omega (arith, room, fits))),
-  indexed_same h new a b back cs ds same chain all.1,
+indexed_same : (h new : FileHead) (a b : List (List ℕ)) (back cs ds : List Change) → SameFile h new → layout_in new b ≡ layout_restored back (layout_in h a)
+    → AllByRecursion (λ (c : Change). leaf.Suits h c.key (earliest_before ds c.key) × (size_of (earliest_before ds c.key) ≤ indexed.room_at h a c.key)) cs
+    → AllByRecursion (λ (c : Change). leaf.Suits new c.key (earliest_before ds c.key) × (size_of (earliest_before ds c.key) ≤ indexed.room_at new b c.key)) cs
+indexed_same h new a b back [] ds same layout all = tt
+indexed_same h new a b back (c ∷ cs) ds same layout all = (
+  (suits_indexed_same h new c.key (earliest_before ds c.key) same all.0.0, (let room = room_after h new a b back c.key layout in let fits = all.0.1 in omega (arith, room, fits))),
+  indexed_same h new a b back cs ds same layout all.1,
 )
 
 -- One of the other branches can be restored.
-other_can : (o : Kept) (h new : FileHead) (a b : List (List ℕ)) (cs : List Change) (l : LiveChanges) → SameFile h new → any.FormBy o h → any.LaidOutBy o h a → any.chain_by o new b ≡ chain_restored cs (any.chain_by o h a) → any.map_by o new b ≡ with_before_images cs (any.map_by o h a)
+other_can : (o : Kept) (h new : FileHead) (a b : List (List ℕ)) (cs : List Change) (l : LiveChanges) → SameFile h new → any.FormBy o h → any.LaidOutBy o h a → any.layout_by o new b ≡ layout_restored cs (any.layout_by o h a) → any.map_by o new b ≡ with_before_images cs (any.map_by o h a)
     → CanRestoreBy o h a cs → HasImages (any.map_by o h a) cs → Other o h a (any.map_by o h a) cs l → CanRestoreBy o new b l.changes
-other_can Relative h new a b cs l same form laid chain maps mine images it = relative_same h new l.changes l.changes same it.can
-other_can Indexed h new a b cs l same form laid chain maps mine images it = indexed_same h new a b cs l.changes l.changes same chain it.can
-other_can Sequential h new a b cs l same form laid chain maps mine images it =
+other_can Relative h new a b cs l same form laid layout maps mine images it = relative_same h new l.changes l.changes same it.can
+other_can Indexed h new a b cs l same form laid layout maps mine images it = indexed_same h new a b cs l.changes l.changes same layout it.can
+other_can Sequential h new a b cs l same form laid layout maps mine images it =
     let goes = other_goes_back h cs l.changes (sequential.records_in h a) mine.0 it.can.0 mine.1 it.can.1 images it.images it.keys (it.ends refl) in
     (goes.0, goes_same h new l.changes (sequential.records_in new b) goes.0 same (subst (λ (rs : List (List ℕ)). GoesBack h l.changes rs goes.0) (sym now) goes.1))
   where
     now : sequential.records_in new b ≡ mine.0
     now = same_records (sequential.records_in new b) mine.0 (λ i. ap (λ (m : Map). m (Number (suc i))) maps ∙ sym (mine.1.restored (suc i) (omega arith)))
 
-others_can : (o : Kept) (h new : FileHead) (a b : List (List ℕ)) (cs : List Change) (ls : List LiveChanges) → SameFile h new → any.FormBy o h → any.LaidOutBy o h a → any.chain_by o new b ≡ chain_restored cs (any.chain_by o h a) → any.map_by o new b ≡ with_before_images cs (any.map_by o h a)
+others_can : (o : Kept) (h new : FileHead) (a b : List (List ℕ)) (cs : List Change) (ls : List LiveChanges) → SameFile h new → any.FormBy o h → any.LaidOutBy o h a → any.layout_by o new b ≡ layout_restored cs (any.layout_by o h a) → any.map_by o new b ≡ with_before_images cs (any.map_by o h a)
     → CanRestoreBy o h a cs → HasImages (any.map_by o h a) cs → AllByRecursion (Other o h a (any.map_by o h a) cs) ls → AllByRecursion (λ (l : LiveChanges). CanRestoreBy o new b l.changes) ls
-others_can o h new a b cs [] same form laid chain maps mine images all = tt
-others_can o h new a b cs (l ∷ ls) same form laid chain maps mine images all = (other_can o h new a b cs l same form laid chain maps mine images all.0, others_can o h new a b cs ls same form laid chain maps mine images all.1)
+others_can o h new a b cs [] same form laid layout maps mine images all = tt
+others_can o h new a b cs (l ∷ ls) same form laid layout maps mine images all = (other_can o h new a b cs l same form laid layout maps mine images all.0, others_can o h new a b cs ls same form laid layout maps mine images all.1)
 
 -- All that is wanted of the others.
 wanted : (o : Kept) (h : FileHead) (a : List (List ℕ)) (m committed : Map) (s : Id) (ls : List LiveChanges) → AllByRecursion (λ (l : LiveChanges). CanRestoreBy o h a l.changes) ls → Represents ls m committed → (o ≡ Sequential → OneMovesEnd ls) → AllByRecursion (Other o h a m (changes_by s ls)) (without s ls)
@@ -229,7 +229,7 @@ restored_can a b h new file s left ends made back =
     subst (CanRestore new b) (sym (live_settled file s made))
     (subst (λ (o : Kept). AllByRecursion (λ (l : LiveChanges). CanRestoreBy o new b l.changes) (without s.serial file.history.live)) (sym organization)
     (others_can h.organization h new a b (changes_by s.serial file.history.live) (without s.serial file.history.live) back.same left.head.form left.laid
-    (subst (λ (o : Kept). any.chain_by o new b ≡ chain_restored (changes_by s.serial file.history.live) (any.chain_by h.organization h a)) organization (ap (λ (l : Layout). l.chain) back.layout))
+    (subst (λ (o : Kept). any.layout_by o new b ≡ layout_restored (changes_by s.serial file.history.live) (any.layout_by h.organization h a)) organization back.layout)
     (subst (λ (o : Kept). any.map_by o new b ≡ with_before_images (changes_by s.serial file.history.live) (any.map_by h.organization h a)) organization back.map)
     (of_one (CanRestoreBy h.organization h a) s.serial file.history.live (can_nothing h.organization h a left.head.form left.laid) left.can)
     (of_one (HasImages (any.map_by h.organization h a)) s.serial file.history.live (none_images (any.map_by h.organization h a)) left.represents.images)

@@ -7,7 +7,9 @@ use Rattle.file_base.specs.declared.head.FileHead.{FileHead}
 use Rattle.file_base.specs.declared.head.Organization.TheVariants.{Relative, Indexed}
 use Rattle.change_set.specs.Files.{SameFile}
 use Rattle.relative_file.specs.Cells as relative
-use Rattle.indexed_file.specs.Chain as indexed
+use Rattle.indexed_file.specs.Chain as leaf
+use Rattle.indexed_tree.specs.Files as indexed
+use Rattle.indexed_tree.specs.Rooted.{IsRooted}
 use Rattle.vms_model.specs.Ids.{Id}
 use Rattle.vms_model.specs.Keys.{Key, Number, Text, End}
 use Rattle.records_model.specs.Records.{Change}
@@ -71,21 +73,21 @@ cells_set h new a b s key value ls form within suits same differ can =
 -- Indexed files.
 
 abbrev Fits : FileHead → List (List ℕ) → Key → Option (List ℕ) → Type 0
-Fits h b key v = indexed.Suits h key v × (size_of v ≤ indexed.room_at h b key)
+Fits h b key v = leaf.Suits h key v × (size_of v ≤ indexed.room_at h b key)
 
 slots_moved : (h new : FileHead) (a b : List (List ℕ)) (cs : List Change) → SameFile h new → ((key : Key) → changes_key key cs ≡ true → indexed.room_at h a key ≤ indexed.room_at new b key) →
     AllByRecursion (λ (d : Change). Fits h a d.key (earliest_before cs d.key)) cs → AllByRecursion (λ (d : Change). Fits new b d.key (earliest_before cs d.key)) cs
 slots_moved h new a b cs same rooms all = both_as (λ (d : Change). changes_key d.key cs ≡ true) (λ (d : Change). Fits h a d.key (earliest_before cs d.key)) (λ (d : Change). Fits new b d.key (earliest_before cs d.key)) cs
     (λ d own fits. (suits_indexed_same h new d.key (earliest_before cs d.key) same fits.0, (let room = rooms d.key own in let size = fits.1 in omega arith))) (own_keys cs) all
 
-slot_found : (h : FileHead) (a : List (List ℕ)) (key : Key) (value : Option (List ℕ)) → indexed.IsIndexed h → indexed.IsChained h a → indexed.Suits h key value → indexed.Suits h key (indexed.map_of h a key)
-slot_found h a (Text k) value form laid suits = parts_of (indexed.map_of h a (Text k)) suits.size (slot_suits a h k form laid)
+slot_found : (h : FileHead) (a : List (List ℕ)) (key : Key) (value : Option (List ℕ)) → IsRooted h a → leaf.Suits h key value → leaf.Suits h key (indexed.map_of h a key)
+slot_found h a (Text k) value laid suits = parts_of (indexed.map_of h a (Text k)) suits.size (slot_suits a h k laid)
   where
-    parts_of : (v : Option (List ℕ)) → length k ≡ h.key_size → IfSome v (Keeps h k) → indexed.SuitsText h k v
+    parts_of : (v : Option (List ℕ)) → length k ≡ h.key_size → IfSome v (Keeps h k) → leaf.SuitsText h k v
     parts_of None size keeps = record { size = size; has = tt; most = tt }
     parts_of (Some r) size keeps = record { size = size; has = keeps.has; most = keeps.most }
-slot_found h a (Number n) value form laid suits = absurd suits
-slot_found h a End value form laid suits = absurd suits
+slot_found h a (Number n) value laid suits = absurd suits
+slot_found h a End value laid suits = absurd suits
 
 -- a key that one of several branches changed is changed by them
 changed_each : (ls : List LiveChanges) → AllByRecursion (λ (l : LiveChanges). (key : Key) → changes_key key l.changes ≡ true → is_changed ls key ≡ true) ls
@@ -96,13 +98,13 @@ changed_each (l ∷ ls) = (
       (λ k so key own. or_other (changes_key key l.changes) (is_changed ls key) (so key own)) (changed_each ls),
 )
 
-pub slots_set : (h new : FileHead) (a b : List (List ℕ)) (s : Id) (key : Key) (value : Option (List ℕ)) (ls : List LiveChanges) → indexed.IsIndexed h → indexed.IsChained h a → indexed.Suits h key value → SameFile h new → SerialsDiffer ls →
+pub slots_set : (h new : FileHead) (a b : List (List ℕ)) (s : Id) (key : Key) (value : Option (List ℕ)) (ls : List LiveChanges) → IsRooted h a → leaf.Suits h key value → SameFile h new → SerialsDiffer ls →
     indexed.Restores new b key (indexed.map_of h a key) → ((other : Key) → is_changed ls other ≡ true → indexed.room_at h a other ≤ indexed.room_at new b other) →
     AllByRecursion (λ (l : LiveChanges). CanRestoreBy Indexed h a l.changes) ls → AllByRecursion (λ (l : LiveChanges). CanRestoreBy Indexed new b l.changes) (with_change s (record { key = key; before = indexed.map_of h a key; after = value }) ls)
-slots_set h new a b s key value ls form laid suits same differ restores rooms can =
+slots_set h new a b s key value ls laid suits same differ restores rooms can =
     let c : Change = record { key = key; before = indexed.map_of h a key; after = value } in
     let moved = both_as (λ (l : LiveChanges). (k : Key) → changes_key k l.changes ≡ true → is_changed ls k ≡ true) (λ (l : LiveChanges). CanRestoreBy Indexed h a l.changes) (λ (l : LiveChanges). CanRestoreBy Indexed new b l.changes) ls
     (λ l changed so. slots_moved h new a b l.changes same (λ k own. rooms k (changed k own)) so) (changed_each ls) can in
     change_all (CanRestoreBy Indexed new b) (CanRestoreBy Indexed new b) s c ls differ tt
-    (λ cs so. own_images (Fits new b) c cs (suits_indexed_same h new key (indexed.map_of h a key) same (slot_found h a key value form laid suits), restores) so) moved
+    (λ cs so. own_images (Fits new b) c cs (suits_indexed_same h new key (indexed.map_of h a key) same (slot_found h a key value laid suits), restores) so) moved
     (all_as (λ (l : LiveChanges). CanRestoreBy Indexed new b l.changes) (λ (l : LiveChanges). same_id s l.serial ≡ false → CanRestoreBy Indexed new b l.changes) ls (λ l so other. so) moved)

@@ -12,14 +12,16 @@ use Rattle.change_set.specs.Maps.{Map}
 use Rattle.seq_file.specs.Layout.{records_in}
 use Rattle.seq_file.specs.Local as sequential
 use Rattle.relative_file.specs.Cells as relative
-use Rattle.indexed_file.specs.Chain as indexed
-use Rattle.indexed_file.specs.Local as local
-use Rattle.record_files.specs.Any.{FormBy}
+use Rattle.indexed_file.specs.Chain as leaf
+use Rattle.indexed_tree.specs.Files as indexed
+use Rattle.record_files.specs.Indexed as local
+use Rattle.indexed_tree.specs.Rooted.{IsRooted}
+use Rattle.record_files.specs.Any.{FormBy, LaidOutBy}
 use Rattle.vms_model.specs.Ids.{Id}
 use Rattle.vms_model.specs.Keys.{Key, Number, Text, End}
 use Rattle.vms_model.specs.Transactions.{Outcome, Commit}
 use Rattle.records_model.specs.Records.{Change}
-use Rattle.records_model.specs.Slots.{size_of}
+use Rattle.records_model.specs.Slots.{Slot, room_of, size_of}
 use Rattle.records_model.specs.History.{History, LiveChanges, changed_with, same_id, settled_at, settled_with, with_changes, without}
 use Rattle.unit_laws.specs.Units.{earliest_before}
 use Rattle.unit_laws.proofs.LiveLemmas.{by_changes, left_so}
@@ -34,6 +36,7 @@ use Rattle.directory_model.specs.Restoring.{AreRestorable, CanRestore, CanRestor
 use Rattle.directory_model.specs.Laws.{SameBut, marked}
 use Rattle.directory_model.proofs.Acts.{none_at, quiet_directory, settled_directory}
 use Rattle.directory_model.proofs.Finding.{finds_files}
+use Rattle.directory_model.proofs.Marking.{marked_slots}
 use Rattle.directory_model.proofs.Places.{file_mapped, within_list}
 use Rattle.restart_laws.specs.Restorable.{KeepsRestorable}
 use Rattle.restart_laws.proofs.ListLemmas.{all_as}
@@ -42,21 +45,21 @@ use Rattle.restart_laws.proofs.RestorableLemmas.{live_settled, others_stay_resto
 
 -- Contents that agree on a file.
 
-rooms_stand : (h : FileHead) (a b : List (List ℕ)) (all cs : List Change) → indexed.IsIndexed h → AgreesOn h a b → AllByRecursion (λ (c : Change). indexed.Suits h c.key (earliest_before all c.key) × (size_of (earliest_before all c.key) ≤ indexed.room_at h a c.key)) cs →
-    AllByRecursion (λ (c : Change). indexed.Suits h c.key (earliest_before all c.key) × (size_of (earliest_before all c.key) ≤ indexed.room_at h b c.key)) cs
-rooms_stand h a b all [] form agrees can = tt
-rooms_stand h a b all (c ∷ cs) form agrees can = ((can.0.0, subst (λ r. size_of (earliest_before all c.key) ≤ r) (local.room_local_law h a b form agrees c.key) can.0.1), rooms_stand h a b all cs form agrees can.1)
+rooms_stand : (h : FileHead) (a b : List (List ℕ)) (all cs : List Change) → indexed.IsTreeHead h → AgreesOn h a b → IsRooted h a → AllByRecursion (λ (c : Change). leaf.Suits h c.key (earliest_before all c.key) × (size_of (earliest_before all c.key) ≤ indexed.room_at h a c.key)) cs →
+    AllByRecursion (λ (c : Change). leaf.Suits h c.key (earliest_before all c.key) × (size_of (earliest_before all c.key) ≤ indexed.room_at h b c.key)) cs
+rooms_stand h a b all [] form agrees laid can = tt
+rooms_stand h a b all (c ∷ cs) form agrees laid can = ((can.0.0, subst (λ r. size_of (earliest_before all c.key) ≤ r) (local.room_local_law h a b form agrees laid c.key) can.0.1), rooms_stand h a b all cs form agrees laid can.1)
 
-pub can_stand : (o : Kept) (h : FileHead) (a b : List (List ℕ)) (ls : List LiveChanges) → FormBy o h → AgreesOn h a b → AllByRecursion (λ (l : LiveChanges). CanRestoreBy o h a l.changes) ls → AllByRecursion (λ (l : LiveChanges). CanRestoreBy o h b l.changes) ls
-can_stand Sequential h a b ls form agrees can = all_as (λ (l : LiveChanges). CanRestoreBy Sequential h a l.changes) (λ (l : LiveChanges). CanRestoreBy Sequential h b l.changes) ls
+pub can_stand : (o : Kept) (h : FileHead) (a b : List (List ℕ)) (ls : List LiveChanges) → FormBy o h → AgreesOn h a b → LaidOutBy o h a → AllByRecursion (λ (l : LiveChanges). CanRestoreBy o h a l.changes) ls → AllByRecursion (λ (l : LiveChanges). CanRestoreBy o h b l.changes) ls
+can_stand Sequential h a b ls form agrees laid can = all_as (λ (l : LiveChanges). CanRestoreBy Sequential h a l.changes) (λ (l : LiveChanges). CanRestoreBy Sequential h b l.changes) ls
     (λ l can. (can.0, subst (λ now. GoesBack h l.changes now can.0) (same_records (records_in h a) (records_in h b) (λ k. ap (λ (m : Map). m (Number (suc k))) (sequential.local_law h a b form agrees))) can.1)) can
-can_stand Relative h a b ls form agrees can = can
-can_stand Indexed h a b ls form agrees can = all_as (λ (l : LiveChanges). CanRestoreBy Indexed h a l.changes) (λ (l : LiveChanges). CanRestoreBy Indexed h b l.changes) ls (λ l can. rooms_stand h a b l.changes l.changes form agrees can) can
+can_stand Relative h a b ls form agrees laid can = can
+can_stand Indexed h a b ls form agrees laid can = all_as (λ (l : LiveChanges). CanRestoreBy Indexed h a l.changes) (λ (l : LiveChanges). CanRestoreBy Indexed h b l.changes) ls (λ l can. rooms_stand h a b l.changes l.changes form agrees laid can) can
 
 pub place_stands : (a b : List (List ℕ)) (o : Option FileHead) (p : Option File) → ((h : FileHead) → o ≡ Some h → AgreesOn h a b) → IsPlace a o p → IsPlaceRestorable a o p → IsPlaceRestorable b o p
 place_stands a b None p agree is can = tt
 place_stands a b (Some h) None agree is can = tt
-place_stands a b (Some h) (Some file) agree is can = can_stand h.organization h a b file.history.live is.head.form (agree h refl) can
+place_stands a b (Some h) (Some file) agree is can = can_stand h.organization h a b file.history.live is.head.form (agree h refl) is.laid can
 
 -- One place is set.
 pub restorable_set : (b : List (List ℕ)) (heads : List (Option FileHead)) (directory : List (Option File)) (f : ℕ) (new : FileHead) (file : File) → f < length heads → f < length directory → CanRestore new b file.history.live →
@@ -100,16 +103,16 @@ suits_marked units h (Number n) v suits = suits
 suits_marked units h (Text t) v suits = suits
 suits_marked units h End v suits = suits
 
-fits_marked : (units : Bool) (h : FileHead) (content : List (List ℕ)) (key : Key) (v : Option (List ℕ)) → indexed.Suits h key v × (size_of v ≤ indexed.room_at h content key) → indexed.Suits (marked units h) key v × (size_of v ≤ indexed.room_at (marked units h) content key)
+fits_marked : (units : Bool) (h : FileHead) (content : List (List ℕ)) (key : Key) (v : Option (List ℕ)) → leaf.Suits h key v × (size_of v ≤ indexed.room_at h content key) → leaf.Suits (marked units h) key v × (size_of v ≤ indexed.room_at (marked units h) content key)
 fits_marked units h content (Number n) v fits = absurd fits.0
-fits_marked units h content (Text k) v fits = (record { size = fits.0.size; has = fits.0.has; most = fits.0.most }, fits.1)
+fits_marked units h content (Text k) v fits = (record { size = fits.0.size; has = fits.0.has; most = fits.0.most }, subst (λ (ss : List Slot). size_of v ≤ room_of ss k) (marked_slots units h content) fits.1)
 fits_marked units h content End v fits = absurd fits.0
 
 can_marked : (o : Kept) (units : Bool) (h : FileHead) (content : List (List ℕ)) (cs : List Change) → CanRestoreBy o h content cs → CanRestoreBy o (marked units h) content cs
 can_marked Sequential units h content cs can = (can.0, goes_marked units h cs (records_in h content) can.0 can.1)
 can_marked Relative units h content cs can = all_as (λ (c : Change). relative.Suits h c.key (earliest_before cs c.key)) (λ (c : Change). relative.Suits (marked units h) c.key (earliest_before cs c.key)) cs (λ c suits. suits_marked units h c.key (earliest_before cs c.key) suits) can
-can_marked Indexed units h content cs can = all_as (λ (c : Change). indexed.Suits h c.key (earliest_before cs c.key) × (size_of (earliest_before cs c.key) ≤ indexed.room_at h content c.key))
-    (λ (c : Change). indexed.Suits (marked units h) c.key (earliest_before cs c.key) × (size_of (earliest_before cs c.key) ≤ indexed.room_at (marked units h) content c.key)) cs (λ c fits. fits_marked units h content c.key (earliest_before cs c.key) fits) can
+can_marked Indexed units h content cs can = all_as (λ (c : Change). leaf.Suits h c.key (earliest_before cs c.key) × (size_of (earliest_before cs c.key) ≤ indexed.room_at h content c.key))
+    (λ (c : Change). leaf.Suits (marked units h) c.key (earliest_before cs c.key) × (size_of (earliest_before cs c.key) ≤ indexed.room_at (marked units h) content c.key)) cs (λ c fits. fits_marked units h content c.key (earliest_before cs c.key) fits) can
 
 marks : (content : List (List ℕ)) (heads : List (Option FileHead)) (n : Node) (f : ℕ) (h : FileHead) (name : List ℕ) (units : Bool) → AreFiles content heads n.durable.directory → IsNamed heads f h name →
     AreRestorable content heads n.durable.directory → AreRestorable content (slice_set heads f (Some (marked units h))) (acted (world.Marks name units) n).durable.directory

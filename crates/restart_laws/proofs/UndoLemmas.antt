@@ -8,30 +8,31 @@ use Rattle.file_base.specs.declared.head.Organization.{Organization as Kept}
 use Rattle.file_base.specs.declared.head.Organization.TheVariants.{Sequential, Relative, Indexed}
 use Rattle.record_files.specs.Any as any
 use Rattle.record_files.specs.Any.{map_of}
-use Rattle.indexed_file.specs.Chain as indexed
+use Rattle.indexed_file.specs.Chain as leaf
+use Rattle.indexed_tree.specs.Files as indexed
+use Rattle.indexed_tree.specs.Rooted.{layout_in}
 use Rattle.vms_model.specs.Ids.{Id}
 use Rattle.vms_model.specs.Keys.{Key, Text}
 use Rattle.vms_model.specs.Transactions.{Outcome, Abort}
 use Rattle.records_model.specs.Records.{Change}
-use Rattle.records_model.specs.Slots.{Slot, same_bytes, bytes_before, slot_at, value_in, room_in, room_of, lookup, size_of, with_value, AllBehind, IsOrdered}
-use Rattle.records_model.specs.Parts.{all_slots}
-use Rattle.records_model.specs.Layout.{Layout}
+use Rattle.records_model.specs.Slots.{Slot, same_bytes, bytes_before, slot_at, value_in, room_in, lookup, size_of, with_value, AllBehind, IsOrdered}
+use Rattle.tree_model.specs.Layouts.{Leaf, slots_along}
 use Rattle.records_model.specs.History.{LiveChanges, same_id, records, changes_key, changes_by, settled_at}
 use Rattle.records_model.proofs.RecordsLemmas.{same_key}
 use Rattle.records_model.proofs.SlotLaws.{same_bytes_are, if_true, if_false}
 use Rattle.unit_laws.specs.Units.{Map, map_in, is_of, earliest_before, Represents, IsOrderly}
-use Rattle.unit_laws.specs.Layouts.{slot_restored, chain_restored, layout_restored}
+use Rattle.unit_laws.specs.Layouts.{slot_restored, leaf_restored, layout_restored}
 use Rattle.unit_laws.proofs.Tests.{both_ways}
 use Rattle.unit_laws.proofs.HistoryLaws.{aborts_one, undoes_one}
 use Rattle.commit_protocol.specs.Table as table
 use Rattle.run_model.specs.World.{Node, File, Settlement, AreUnitsOf, Tables, acted, settled_file, settled_layout, settlement_of}
-use Rattle.directory_model.specs.Files.{head_at, file_at, laid_in, layout_of}
-use Rattle.directory_model.specs.Restoring.{AlikeBare, bare, IsLeft, IsPlaceLeft, AreLeft, IsRestored, IsPlaceRestored, AreRestored, IsPlaceRestorable, AreRestorable, CanRestore, CanRestoreBy, IsLayoutOf}
+use Rattle.directory_model.specs.Files.{head_at, file_at, layout_of}
+use Rattle.directory_model.specs.Restoring.{AlikeBare, bare, bare_layout, IsLeft, IsPlaceLeft, AreLeft, IsRestored, IsPlaceRestored, AreRestored, IsPlaceRestorable, AreRestorable, CanRestore, CanRestoreBy, IsLayoutOf}
 use Rattle.directory_model.proofs.Acts.{settled_directory}
 use Rattle.directory_model.proofs.Moving.{head_again, head_moved, same_organization}
 use Rattle.directory_model.proofs.Places.{file_mapped}
-use Rattle.restart_laws.proofs.FallLemmas.{slots_of_chain, restores_alike}
-use Rattle.restart_laws.proofs.RestLemmas.{all_bare}
+use Rattle.restart_laws.proofs.FallLemmas.{restores_alike}
+use Rattle.restart_laws.proofs.RestLemmas.{slots_alike}
 
 -- Slots that are restored keep their keys.
 pub key_kept : (cs : List Change) (s : Slot) → (slot_restored cs s).key ≡ s.key
@@ -41,9 +42,9 @@ key_kept cs s = step (changes_key (Text s.key) cs)
     step true = refl
     step false = refl
 
-pub all_restored : (cs : List Change) (a : List (List Slot)) → all_slots (chain_restored cs a) ≡ map (slot_restored cs) (all_slots a)
+pub all_restored : (cs : List Change) (a : List Leaf) → slots_along (map (leaf_restored cs) a) ≡ map (slot_restored cs) (slots_along a)
 all_restored cs [] = refl
-all_restored cs (x ∷ xs) = ap (λ (ss : List Slot). map (slot_restored cs) x ++ ss) (all_restored cs xs) ∙ sym (map-append (slot_restored cs) x (all_slots xs))
+all_restored cs (x ∷ xs) = ap (λ (ss : List Slot). map (slot_restored cs) x.slots ++ ss) (all_restored cs xs) ∙ sym (map-append (slot_restored cs) x.slots (slots_along xs))
 
 behind_restored : (cs : List Change) (k : List ℕ) (ss : List Slot) → AllBehind k ss → AllBehind k (map (slot_restored cs) ss)
 behind_restored cs k [] h = tt
@@ -115,7 +116,7 @@ of_branch h content s (l ∷ ls) is can = step (same_id s l.serial) (subst (λ (
     step false here later = later
 
 -- a record that suits a key is not empty, so it has no place where there is no slot
-no_record : (h : FileHead) (k : List ℕ) (v : Option (List ℕ)) → 1 ≤ h.key_size → indexed.SuitsText h k v → size_of v ≤ 0 → v ≡ None
+no_record : (h : FileHead) (k : List ℕ) (v : Option (List ℕ)) → 1 ≤ h.key_size → leaf.SuitsText h k v → size_of v ≤ 0 → v ≡ None
 no_record h k None one suits small = refl
 no_record h k (Some []) one suits small =
     let none : length k ≡ 0 = ap length (sym suits.has) ∙ nothing h.key_pos h.key_size in
@@ -128,35 +129,35 @@ no_record h k (Some []) one suits small =
     nothing (suc at) (suc count) = refl
 no_record h k (Some (b ∷ bs)) one suits small = absurd (omega (arith, small))
 
--- a key that has no slot in the world's chain had no record before
-had_none : (h : FileHead) (a : List (List ℕ)) (file : File) (cs : List Change) (k : List ℕ) → 1 ≤ h.key_size → AlikeBare (laid_in (indexed.chain_of h a)) file.layout → CanRestoreBy Indexed h a cs → slot_at k (all_slots file.layout.chain) ≡ None → changes_key (Text k) cs ≡ true → earliest_before cs (Text k) ≡ None
+-- a key that has no slot in the world's layout had no record before
+had_none : (h : FileHead) (a : List (List ℕ)) (file : File) (cs : List Change) (k : List ℕ) → 1 ≤ h.key_size → AlikeBare (layout_in h a) file.layout → CanRestoreBy Indexed h a cs → slot_at k (slots_along file.layout.leaves) ≡ None → changes_key (Text k) cs ≡ true → earliest_before cs (Text k) ≡ None
 had_none h a file cs k one alike can none ck = no_record h k (earliest_before cs (Text k)) one facts.0 (subst (λ (n : ℕ). size_of (earliest_before cs (Text k)) ≤ n) empty facts.1)
   where
-    facts : indexed.Suits h (Text k) (earliest_before cs (Text k)) × (size_of (earliest_before cs (Text k)) ≤ indexed.room_at h a (Text k))
-    facts = of_key (λ (key : Key). indexed.Suits h key (earliest_before cs key) × (size_of (earliest_before cs key) ≤ indexed.room_at h a key)) cs (Text k) can ck
+    facts : leaf.Suits h (Text k) (earliest_before cs (Text k)) × (size_of (earliest_before cs (Text k)) ≤ indexed.room_at h a (Text k))
+    facts = of_key (λ (key : Key). leaf.Suits h key (earliest_before cs key) × (size_of (earliest_before cs key) ≤ indexed.room_at h a key)) cs (Text k) can ck
 
-    gone : slot_at k (all_slots (indexed.chain_of h a)) ≡ None
-    gone = slot_bare (all_slots (indexed.chain_of h a)) (all_slots file.layout.chain) k (all_bare (indexed.chain_of h a) ∙ ap all_slots alike ∙ sym (all_bare file.layout.chain)) none
+    gone : slot_at k (slots_along (layout_in h a).leaves) ≡ None
+    gone = slot_bare (slots_along (layout_in h a).leaves) (slots_along file.layout.leaves) k (slots_alike (layout_in h a) file.layout alike) none
 
     empty : indexed.room_at h a (Text k) ≡ 0
-    empty = ap (λ (ss : List Slot). room_of ss k) (sym (slots_of_chain h a (indexed.leaves_of h a))) ∙ ap room_in gone
+    empty = ap room_in gone
 
 -- The file of the world once the branch was aborted.
 abbrev aborted_file : Id → ℕ → File → File
 aborted_file s moment f = record f { history = settled_at s Abort moment f.history; layout = layout_restored (changes_by s f.history.live) f.layout }
 
-layout_aborted : (o : Kept) (h : FileHead) (a : List (List ℕ)) (file : File) (s : Id) (moment : ℕ) → o ≡ h.organization → any.FormBy o h → IsOrderly file.history → AlikeBare (laid_in (any.chain_by o h a)) file.layout → CanRestore h a file.history.live →
+layout_aborted : (o : Kept) (h : FileHead) (a : List (List ℕ)) (file : File) (s : Id) (moment : ℕ) → o ≡ h.organization → any.FormBy o h → IsOrderly file.history → AlikeBare (any.layout_by o h a) file.layout → CanRestore h a file.history.live →
     IsLayoutOf o file → IsLayoutOf o (aborted_file s moment file)
 layout_aborted Sequential h a file s moment is form orderly alike can own = ap (layout_restored (changes_by s file.history.live)) own
 layout_aborted Relative h a file s moment is form orderly alike can own = ap (layout_restored (changes_by s file.history.live)) own
 layout_aborted Indexed h a file s moment is form orderly alike can own =
     let cs = changes_by s file.history.live in
-    let slots = all_slots file.layout.chain in
+    let slots = slots_along file.layout.leaves in
     record {
-      ordered = subst IsOrdered (sym (all_restored cs file.layout.chain)) (ordered_restored cs slots own.ordered);
+      ordered = subst IsOrdered (sym (all_restored cs file.layout.leaves)) (ordered_restored cs slots own.ordered);
       tells = λ k.
-          ap (λ (ss : List Slot). lookup ss k) (all_restored cs file.layout.chain)
-          ∙ lookup_restored cs slots k (had_none h a file cs k form.key alike (of_branch h a s file.history.live (sym is) can))
+          ap (λ (ss : List Slot). lookup ss k) (all_restored cs file.layout.leaves)
+          ∙ lookup_restored cs slots k (had_none h a file cs k form.keys.key alike (of_branch h a s file.history.live (sym is) can))
           ∙ ap (λ (v : Option (List ℕ)). cond (changes_key (Text k) cs) (earliest_before cs (Text k)) v) (own.tells k)
           ∙ sym ((aborts_one file.history s moment orderly).current (Text k));
     }
@@ -171,7 +172,7 @@ file_aborted a b h new file s moment left orderly back can =
       head = head_again new file history (layout_restored cs file.layout) (head_moved h new file back.same back.form left.head);
       laid = back.laid;
       represents = subst (λ (m : Map). Represents history.live m (map_in (records history))) (sym back.map) one.represents;
-      layout = ap (λ (l : Layout). map (map bare) l.chain) back.layout ∙ restores_alike cs (layout_of h a) file.layout left.layout;
+      layout = ap bare_layout back.layout ∙ restores_alike cs (layout_of h a) file.layout left.layout;
       own = subst (λ (o : Kept). IsLayoutOf o (aborted_file s moment file)) (sym (same_organization h new back.same)) (layout_aborted h.organization h a file s moment refl left.head.form orderly left.layout left.can left.own);
       can = can;
     }

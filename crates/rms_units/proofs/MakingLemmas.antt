@@ -27,10 +27,10 @@ use Rattle.unit_journal.proofs.Settled.{IsStaged, makes}
 
 -- What is staged and entered is a key's change.
 
-ru_same : (file : ℕ) (h : FileHead) (v mid : VolumeState) (head : FileHead) → StagesFile file h 65 v mid head → mid.catalog.ru ≡ v.catalog.ru
+ru_same : (file : ℕ) (h : FileHead) (v mid : VolumeState) (head : FileHead) → StagesFile file h 417 v mid head → mid.catalog.ru ≡ v.catalog.ru
 ru_same file h v mid head stages = ap (λ (c : Catalog). c.ru) stages.catalog
 
-pub enters_key : (file : ℕ) (h head : FileHead) (held : Key → Bool) (key : Key) (after : Option (List ℕ)) (e : Entry) (bytes : List ℕ) (v mid made : VolumeState) → IsEntry e → StagesFile file h 65 v mid head → TellsSet h held key after v mid head → bytes ≡ spelling e →
+pub enters_key : (file : ℕ) (h head : FileHead) (held : Key → Bool) (key : Key) (after : Option (List ℕ)) (e : Entry) (bytes : List ℕ) (v mid made : VolumeState) → IsEntry e → StagesFile file h 417 v mid head → TellsSet h held key after v mid head → bytes ≡ spelling e →
     made.store.current ≡ option_map (entered mid.catalog.ru bytes) mid.store.current → made.catalog ≡ record mid.catalog { ru = longer (length bytes) mid.catalog.ru } → EntersKey file h held key after e v made
 enters_key file h head held key after e bytes v mid made entry stages sets spelled current catalog = record {
   entry = entry;
@@ -55,7 +55,7 @@ as_it_was : (ru : Span) (o : Option (List (List ℕ))) → o ≡ option_map (con
 as_it_was ru None = refl
 as_it_was ru (Some c) = refl
 
-pub commits_key : (file : ℕ) (h head : FileHead) (held : Key → Bool) (key : Key) (after : Option (List ℕ)) (tid : Tid) (moment : ℕ) (left : List (Option OpenUnit)) (v mid made : VolumeState) → StagesFile file h 65 v mid head → TellsSet h held key after v mid head →
+pub commits_key : (file : ℕ) (h head : FileHead) (held : Key → Bool) (key : Key) (after : Option (List ℕ)) (tid : Tid) (moment : ℕ) (left : List (Option OpenUnit)) (v mid made : VolumeState) → StagesFile file h 417 v mid head → TellsSet h held key after v mid head →
     IsStaged tid (record { 0 = tid.0 }) ending.Commit moment None left v mid made → made.catalog ≡ record mid.catalog { home = settled_home tid (record { 0 = tid.0 }) ending.Commit moment mid.catalog.home; ru = from_earliest left mid.catalog.ru } →
     CommitsKey file h held key after tid moment left v made
 commits_key file h head held key after tid moment left v mid made stages sets staged catalog = record {

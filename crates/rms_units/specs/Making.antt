@@ -23,7 +23,7 @@ pub record EntersKey (file : ℕ) (h : FileHead) (held : Key → Bool) (key : Ke
   pub entry : IsEntry e
   pub set : VolumeState
   pub head : FileHead
-  pub stages : StagesFile file h 65 old set head
+  pub stages : StagesFile file h 417 old set head
   pub sets : TellsSet h held key after old set head
   pub current : new.store.current ≡ option_map (entered old.catalog.ru (spelling e)) set.store.current
   pub catalog : new.catalog ≡ record set.catalog { ru = longer (length (spelling e)) old.catalog.ru }
@@ -33,6 +33,6 @@ pub record EntersKey (file : ℕ) (h : FileHead) (held : Key → Bool) (key : Ke
 pub record CommitsKey (file : ℕ) (h : FileHead) (held : Key → Bool) (key : Key) (after : Option (List ℕ)) (tid : Tid) (moment : ℕ) (left : List (Option OpenUnit)) (old new : VolumeState) : Type 0 where
   pub set : VolumeState
   pub head : FileHead
-  pub stages : StagesFile file h 65 old set head
+  pub stages : StagesFile file h 417 old set head
   pub sets : TellsSet h held key after old set head
   pub settles : MakesSettlement tid (record { 0 = tid.0 }) ending.Commit moment None left set new

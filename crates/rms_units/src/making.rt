@@ -49,7 +49,7 @@ pub(crate) fn stage_key<D: Disk, H: Held>(
     requires most { volume.old.store.disk.size ≤ 65536 }
     requires frames { 32 ≤ free_frames volume.old.store.pool }
     requires staged { length volume.old.store.touched ≤ 64 }
-    ensures stages { IfOk result (λ head. StagesFile asked.now.file asked.now.head 65 volume.old volume.new head) }
+    ensures stages { IfOk result (λ head. StagesFile asked.now.file asked.now.head 417 volume.old volume.new head) }
     ensures sets { IfOk result (λ head. TellsSet asked.now.head (H.held held.now) (key_of asked.now.key) (option_copied after.entry) volume.old volume.new head) }
     ensures down { IfErr result (λ down. FellIn down volume.old volume.new) }
 {

@@ -194,7 +194,7 @@ impl RuState {
         ensures { self.new ≡ nothing_told }
     {
         self.units.clear();
-        self.settled.clear();
+        self.settled.truncate(0);
         self.taken = 0;
     }
 

@@ -16,7 +16,7 @@ use Rattle.commit_protocol.specs.World.{In, run}
 use Rattle.commit_protocol.specs.Agreement.{view, Agrees}
 use Rattle.commit_protocol.specs.Opening.{Opening, Image, IsAgreeing, no_image, opened, settled_in, accepted_in, commits_in}
 use Rattle.run_model.specs.World as world
-use Rattle.run_model.specs.World.{World, DiskCounts, Node, Settlement, Sound, Faulty, Barred, NoRing, AllBoots, LateMoment, FarPosition, IsLogInOrder, find_node}
+use Rattle.run_model.specs.World.{World, DiskCounts, Node, Settlement, Sound, Faulty, Barred, NoRing, NoIndex, AllBoots, LateMoment, FarPosition, IsLogInOrder, find_node}
 use Rattle.run_model.specs.Answers.{boot_limit, branch_labelled, last_position, moment_limit, position_limit}
 use Rattle.run_model.specs.Statements.{RoseAt, Step}
 use Rattle.run_model.specs.Transcript.{Entry, Turn, Legal, AreOpening}
@@ -143,7 +143,9 @@ EndsFor w u events (QuotaExceeded Boots limit) = (limit ≡ boot_limit) × HasNo
 EndsFor w u events (QuotaExceeded Moments limit) = (limit ≡ moment_limit) × HasNode u (λ x. (nat_lt limit x.durable.greatest ≡ true) ⊎ (x.durable.volume ≡ Barred LateMoment))
 EndsFor w u events (QuotaExceeded Positions limit) = (limit ≡ position_limit) × HasNode u (λ x. (nat_lt limit (last_position x) ≡ true) ⊎ (x.durable.volume ≡ Barred FarPosition))
 EndsFor w u events (NotInitializedAt n) = (x : Node) × (find_node n u.nodes ≡ Some x) × (x.unmade ≡ true)
-EndsFor w u events (NoVolume n condition block) = (x : Node) × (find_node n u.nodes ≡ Some x) × ((x.durable.volume ≡ Faulty condition block) ⊎ ((condition ≡ 6) × (block ≡ 583) × (x.durable.volume ≡ Barred NoRing)))
+EndsFor w u events (NoVolume n condition block) =
+    (x : Node) × (find_node n u.nodes ≡ Some x)
+    × ((x.durable.volume ≡ Faulty condition block) ⊎ (((condition ≡ 6) × (block ≡ 583) × (x.durable.volume ≡ Barred NoRing)) ⊎ ((condition ≡ 11) × (x.durable.volume ≡ Barred (NoIndex block)))))
 EndsFor w u events (InDoubt serial n) =
     (find_node n u.nodes ≡ None) × HasNode u (λ x. (b : Branch) × In b x.volatile.branches × (b.key.serial ≡ serial) × (coordinator_of b.key ≡ n) × (is_prepared b.state ≡ true))
 EndsFor w u events _ = ⊥

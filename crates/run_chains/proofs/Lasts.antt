@@ -268,7 +268,7 @@ lasts_keep = record {
   rests = λ a n k h. h.disk;
   none_ready = λ n e. tt;
   same_ready = λ n m e h. tt;
-  comes = λ a n up h. comes_last n up h;
+  comes = λ a n up h closed. comes_last n up h;
 }
 
 -- Worlds.

@@ -31,7 +31,7 @@ use Rattle.run_laws.proofs.CauseRuns.{IsLink, IsSettling, abort_of, fails, heard
 use Rattle.run_laws.proofs.Deciding.{split_legal}
 use Rattle.run_laws.proofs.Labelling.{served_up}
 use Rattle.run_laws.proofs.LastBoots.{lasts_hold, plain_one}
-use Rattle.run_laws.proofs.LastSettled.{AllLast, legal_lasts}
+use Rattle.run_laws.proofs.LastSettled.{AllLast, left, legal_lasts}
 use Rattle.run_laws.proofs.Named.{Ended, Refused, Turned, ended}
 use Rattle.run_laws.proofs.Reasons.{heard_kind}
 use Rattle.run_laws.proofs.ShownSettled.{answer_plain, here_in, in_append}
@@ -280,7 +280,7 @@ module _ (tid serial : Id) (reason : Reason) (moment : ℕ) where
 -- What a boot shows so stood at the node in the world before, or was under way there; or it was the last of the disk at the opening.
 pub last_known : (nodes : List Node) (disks : List DiskCounts) (es : List Entry) (closing : World) → AreOpening nodes → Legal (opened nodes disks) es closing → (before : List Entry) (said : Reading) (front behind : List Line) (tid serial : Id) (reason : Reason) (moment : ℕ) →
     ShownThere es before said front (line.LastAborted tid serial reason moment) behind → (Known : Type 0) → ((w : World) (n : Node) → Legal (opened nodes disks) before w → find_node serial.node w.nodes ≡ Some n → HasIt tid serial reason moment n → Known) →
-    WasLast serial.node (line.LastAborted tid serial reason moment) (opened nodes disks) ⊎ Known
+    WasLast serial.node (line.LastAborted tid serial reason moment) (opened nodes disks) before ⊎ Known
 last_known nodes disks es closing opening legal before said front behind tid serial reason moment there Known known = elim kind [ inl boot ↦ of_boot boot | inr settle ↦ of_settle settle ]
   where
     r : (v : World) × Legal (opened nodes disks) (there.entry ∷ before) v × Legal v there.after closing
@@ -289,7 +289,7 @@ last_known nodes disks es closing opening legal before said front behind tid ser
     kind : (said ≡ Says (At serial.node Boot)) ⊎ (said ≡ Says Settle)
     kind = (lasts_hold nodes disks (there.entry ∷ before) r.0 opening r.1 before said front behind (line.LastAborted tid serial reason moment) (abort tid serial reason moment) (record { after = []; entry = there.entry; stands = refl; read = there.read; shown = there.shown }) refl).0
 
-    last : AllLast (opened nodes disks) (r.1).0
+    last : AllLast (left before (opened nodes disks)) (r.1).0
     last = legal_lasts (opened nodes disks) (r.1).0 before (r.1).1
 
     sound : IsSound (r.1).0
@@ -301,24 +301,24 @@ last_known nodes disks es closing opening legal before said front behind tid ser
       | inr i ↦ elim i [ inl same ↦ absurd (plain_one step.answer (abort tid serial reason moment) (answer_plain (r.1).0 r.0 st there.entry.lines step) (ap last_in (sym same))) | inr none ↦ absurd none ]
     ]
 
-    of_boot : said ≡ Says (At serial.node Boot) → WasLast serial.node (line.LastAborted tid serial reason moment) (opened nodes disks) ⊎ Known
+    of_boot : said ≡ Says (At serial.node Boot) → WasLast serial.node (line.LastAborted tid serial reason moment) (opened nodes disks) before ⊎ Known
     of_boot boot = go (ended (r.1).0 r.0 (At serial.node Boot) there.entry.lines serial.node (Serves Boot) refl step)
       where
         step : Step (r.1).0 (At serial.node Boot) there.entry.lines r.0
         step = subst (λ x. Turn (r.1).0 x there.entry.lines r.0) (there.read ∙ boot) (r.1).2
 
-        go : Ended (r.1).0 r.0 serial.node (Serves Boot) there.entry.lines → WasLast serial.node (line.LastAborted tid serial reason moment) (opened nodes disks) ⊎ Known
+        go : Ended (r.1).0 r.0 serial.node (Serves Boot) there.entry.lines → WasLast serial.node (line.LastAborted tid serial reason moment) (opened nodes disks) before ⊎ Known
         go (Refused refusal is shows goes) = absurd (subst (In (line.LastAborted tid serial reason moment)) (same_last step.events [] step.answer refusal (sym step.shows ∙ shows)).0 (among (At serial.node Boot) step))
         go (Turned n found c allowed shows goes) =
             let e = task_effect ((r.1).0).shared (stops_at serial.node (r.1).0) n (Serves Boot) c in
-            let seen = task_seen tid serial reason moment (opened nodes disks) (r.1).0 serial.node n (Serves Boot) c (λ cause. RoseAt (r.1).0 serial.node cause (r.0).disks) last sound found allowed
+            let seen = task_seen tid serial reason moment (left before (opened nodes disks)) (r.1).0 serial.node n (Serves Boot) c (λ cause. RoseAt (r.1).0 serial.node cause (r.0).disks) last sound found allowed
             (subst (In (line.LastAborted tid serial reason moment)) (same_last step.events e.lines step.answer e.answer (sym step.shows ∙ shows)).0 (among (At serial.node Boot) step)) in
             elim seen.has [ inl has ↦ inr (known (r.1).0 n (r.1).1 found has) | inr was ↦ inl was ]
 
-    of_settle : said ≡ Says Settle → WasLast serial.node (line.LastAborted tid serial reason moment) (opened nodes disks) ⊎ Known
+    of_settle : said ≡ Says Settle → WasLast serial.node (line.LastAborted tid serial reason moment) (opened nodes disks) before ⊎ Known
     of_settle settle =
         let step : Step (r.1).0 Settle there.entry.lines r.0 = subst (λ x. Turn (r.1).0 x there.entry.lines r.0) (there.read ∙ settle) (r.1).2 in
-        elim (settle_seen tid serial reason moment (opened nodes disks) Known (r.1).0 r.0 there.entry.lines step last sound (λ n found down has. known (r.1).0 n (r.1).1 found has) (among Settle step)) [ inl asked ↦ inr asked | inr was ↦ inl was ]
+        elim (settle_seen tid serial reason moment (left before (opened nodes disks)) Known (r.1).0 r.0 there.entry.lines step last sound (λ n found down has. known (r.1).0 n (r.1).1 found has) (among Settle step)) [ inl asked ↦ inr asked | inr was ↦ inl was ]
 
 -- what a node has stands in its world, or is under way there
 pub stands_at : (tid serial : Id) (reason : Reason) (moment : ℕ) (w : World) (n : Node) → find_node serial.node w.nodes ≡ Some n → HasIt tid serial reason moment n → Stands tid serial reason moment w

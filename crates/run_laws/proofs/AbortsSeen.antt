@@ -15,8 +15,8 @@ use Rattle.run_model.proofs.NodeLists.{found_name}
 use Rattle.run_model.proofs.PartLemmas.{phases_fold}
 use Rattle.run_model.proofs.PartTasks.{View, Doing, Fixed, view}
 use Rattle.run_model.proofs.TaskLemmas.{effect_name}
-use Rattle.run_laws.specs.Promises.{WasLast, abort}
-use Rattle.run_laws.proofs.LastSettled.{AllLast, begins_last, lines_of_last, only_line, part_lasts, powered_last}
+use Rattle.run_laws.specs.Promises.{abort}
+use Rattle.run_laws.proofs.LastSettled.{AllLast, IsLastOf, begins_last, lines_of_last, only_line, part_lasts, powered_last}
 use Rattle.run_laws.proofs.OwnLines.{line_in, task_owns}
 use Rattle.run_laws.proofs.Restarting.{last_seen}
 use Rattle.run_laws.proofs.SettlingUp.{IsSettling, each_settling, settle_task, settle_up}
@@ -51,14 +51,14 @@ module _ (tid serial : Id) (reason : Reason) (moment : ℕ) where
   HasIt n = In (abort tid serial reason moment) n.settled ⊎ UnderAt n (abort tid serial reason moment)
 
   -- of the node at which it is shown
-  pub record SeenAt (opening : World) (node : List ℕ) (n : Node) : Type 0 where
+  pub record SeenAt (o : List ℕ → Option Node) (node : List ℕ) (n : Node) : Type 0 where
     pub home : node ≡ serial.node
     pub down : n.up ≡ false
-    pub has : HasIt n ⊎ WasLast serial.node (line.LastAborted tid serial reason moment) opening
+    pub has : HasIt n ⊎ IsLastOf o serial.node (line.LastAborted tid serial reason moment)
 
-  pub task_seen : (opening u : World) (node : List ℕ) (n : Node) (t : Task) (c : Choice) (rises : Cause → Type 0) → AllLast opening u → IsSound u → find_node node u.nodes ≡ Some n → TaskAllowed u.shared (stops_at node u) n t rises c →
-      In (line.LastAborted tid serial reason moment) (task_effect u.shared (stops_at node u) n t c).lines → SeenAt opening node n
-  task_seen opening u node n t c rises last sound found may i = record { home = home; down = seen.down; has = go (powered seen.outturn (stops_at node u) n).durable.last refl seen.there }
+  pub task_seen : (o : List ℕ → Option Node) (u : World) (node : List ℕ) (n : Node) (t : Task) (c : Choice) (rises : Cause → Type 0) → AllLast o u → IsSound u → find_node node u.nodes ≡ Some n → TaskAllowed u.shared (stops_at node u) n t rises c →
+      In (line.LastAborted tid serial reason moment) (task_effect u.shared (stops_at node u) n t c).lines → SeenAt o node n
+  task_seen o u node n t c rises last sound found may i = record { home = home; down = seen.down; has = go (powered seen.outturn (stops_at node u) n).durable.last refl seen.there }
     where
       at : Rattle.run_laws.proofs.SoundWorlds.IsSoundNode u.shared n
       at = sound_node u sound node n found
@@ -69,34 +69,33 @@ module _ (tid serial : Id) (reason : Reason) (moment : ℕ) where
       home : node ≡ serial.node
       home = sym (task_owns u.shared (stops_at node u) n t c rises at may (abort tid serial reason moment) (line_in _ (line.LastAborted tid serial reason moment) (abort tid serial reason moment) [] i refl) ∙ found_name node u.nodes n found)
 
-      go : (o : Option Settlement) → (powered seen.outturn (stops_at node u) n).durable.last ≡ o → In (line.LastAborted tid serial reason moment) (elim o [ Some x ↦ last_line x | None ↦ [] ]) → HasIt n ⊎ WasLast serial.node (line.LastAborted tid serial reason moment) opening
+      go : (q : Option Settlement) → (powered seen.outturn (stops_at node u) n).durable.last ≡ q → In (line.LastAborted tid serial reason moment) (elim q [ Some x ↦ last_line x | None ↦ [] ]) → HasIt n ⊎ IsLastOf o serial.node (line.LastAborted tid serial reason moment)
       go None is j = absurd j
       go (Some x) is j =
-          let o = find_node node opening.nodes in
-          let only = only_line o x (line.LastAborted tid serial reason moment) j in
+          let only = only_line (o node) x (line.LastAborted tid serial reason moment) j in
           let same = told_by x only in
-          elim (powered_last o seen.outturn (stops_at node u) n (last node n found) x is) [
+          elim (powered_last (o node) seen.outturn (stops_at node u) n (last node n found) x is) [
             | inl k ↦ inl (powered_in (abort tid serial reason moment) (line.Aborted tid serial reason moment) (abort_line tid serial reason moment) seen.outturn (stops_at node u) n (subst (λ y. In y (powered seen.outturn (stops_at node u) n).settled) same k))
-            | inr k ↦ inr (k.0, subst (λ y. find_node y opening.nodes ≡ Some k.0) home k.1, lines_of_last o k.0 x k.2 ∙ only)
+            | inr k ↦ inr (k.0, subst (λ y. o y ≡ Some k.0) home k.1, lines_of_last (o node) k.0 x k.2 ∙ only)
           ]
 
   -- In a settling.
 
-  module _ (opening : World) (Known : Type 0) where
+  module _ (o : List ℕ → Option Node) (Known : Type 0) where
     -- at a node that is down it was known
     abbrev pub Down : World → Type 0
     Down u = (n : Node) → find_node serial.node u.nodes ≡ Some n → n.up ≡ false → HasIt n → Known
 
     abbrev Goal : Type 0
-    Goal = Known ⊎ WasLast serial.node (line.LastAborted tid serial reason moment) opening
+    Goal = Known ⊎ IsLastOf o serial.node (line.LastAborted tid serial reason moment)
 
-    part_seen : (after : List DiskCounts) (u : World) (p : Part) (c : Choice) → Allowed u p after c → AllLast opening u → IsSound u → Down u → In (line.LastAborted tid serial reason moment) (part_effect u p c).lines → Goal
+    part_seen : (after : List DiskCounts) (u : World) (p : Part) (c : Choice) → Allowed u p after c → AllLast o u → IsSound u → Down u → In (line.LastAborted tid serial reason moment) (part_effect u p c).lines → Goal
     part_seen after u p c allowed last sound known i = go (view u p)
       where
         go : View u p → Goal
         go (Fixed answer ends kind is) = absurd (subst (λ (e : PartEffect). In (line.LastAborted tid serial reason moment) e.lines) (is c) i)
         go (Doing other t n named found does may) =
-            let r = task_seen opening u other n t c (λ cause. RoseAt u other cause after) last sound found (may after c allowed) (subst (λ (e : PartEffect). In (line.LastAborted tid serial reason moment) e.lines) (does c) i) in
+            let r = task_seen o u other n t c (λ cause. RoseAt u other cause after) last sound found (may after c allowed) (subst (λ (e : PartEffect). In (line.LastAborted tid serial reason moment) e.lines) (does c) i) in
             elim r.has [ inl has ↦ inl (known n (subst (λ y. find_node y u.nodes ≡ Some n) r.home found) r.down has) | inr was ↦ inr was ]
 
     -- with which it goes on
@@ -111,15 +110,15 @@ module _ (tid serial : Id) (reason : Reason) (moment : ℕ) where
             at (Beside apart there) = known m there down has
             at (Here same there) = absurd (both_ways m.up down (ap (λ (k : Node). k.up) there ∙ settle_up u.shared (stops_at other u) n t c (settle_task u p other t ok named) (sym (ap (λ (e : PartEffect). e.ends) (does c)) ∙ on)))
 
-    pub settle_seen : (w v : World) (lines : List Line) → (step : Step w Settle lines v) → AllLast opening w → IsSound w → Down w → In (line.LastAborted tid serial reason moment) step.events → Goal
-    settle_seen w v lines step last sound known i = phases_fold v.disks IsSettling (λ g. Unit {0}) (λ u rest a x. AllLast opening u → IsSound u → Down u → In (line.LastAborted tid serial reason moment) rest → Goal)
+    pub settle_seen : (w v : World) (lines : List Line) → (step : Step w Settle lines v) → AllLast o w → IsSound w → Down w → In (line.LastAborted tid serial reason moment) step.events → Goal
+    settle_seen w v lines step last sound known i = phases_fold v.disks IsSettling (λ g. Unit {0}) (λ u rest a x. AllLast o u → IsSound u → Down u → In (line.LastAborted tid serial reason moment) rest → Goal)
         (λ u g q last sound known j. absurd j)
         (λ u p c ok allowed ends last sound known j. part_seen v.disks u p c allowed last sound known j)
         (λ u p c ok allowed on. (
           tt,
           λ rest a x more last sound known j. elim (in_append (line.LastAborted tid serial reason moment) (part_effect u p c).lines rest j) [
             | inl k ↦ part_seen v.disks u p c allowed last sound known k
-            | inr k ↦ more (part_lasts opening u p c last).0 (part_sound u p c v.disks allowed sound) (goes_down u p c ok on known) k
+            | inr k ↦ more (part_lasts o u p c last).0 (part_sound u p c v.disks allowed sound) (goes_down u p c ok on known) k
           ],
         ))
-        (phases_of Settle) each_settling (begun_with Settle w) line.Normal step.events step.answer step.world tt step.does (begins_last opening Settle w last) (begins_sound Settle w sound) known i
+        (phases_of Settle) each_settling (begun_with Settle w) line.Normal step.events step.answer step.world tt step.does (begins_last o Settle w last) (begins_sound Settle w sound) known i

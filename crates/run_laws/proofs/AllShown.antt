@@ -193,7 +193,7 @@ shown_keeps = record {
   rests = λ a n k h. up_disk a n h;
   none_ready = λ n e. tt;
   same_ready = λ n m e h. tt;
-  comes = λ a n up h. h;
+  comes = λ a n up h closed. h;
 }
 
 -- Transcripts.

@@ -26,7 +26,7 @@ use Rattle.run_laws.proofs.Asking.{IsAsked, StandsAt, UnderIt, asked_so}
 use Rattle.run_laws.proofs.CauseRuns.{commits_hold}
 use Rattle.run_laws.proofs.Deciding.{in_split, split_legal}
 use Rattle.run_laws.proofs.LastBoots.{boots, lasts_hold, line_of, opening_own, plain_one, settled_own}
-use Rattle.run_laws.proofs.LastSettled.{AllLast, begins_last, legal_lasts, part_lasts}
+use Rattle.run_laws.proofs.LastSettled.{AllLast, begins_last, left, legal_lasts, part_lasts}
 use Rattle.run_laws.proofs.Leaving.{step_in}
 use Rattle.run_laws.proofs.OwnLines.{line_in, task_owns}
 use Rattle.run_laws.proofs.Restarting.{last_seen}
@@ -115,18 +115,18 @@ module _ (nodes : List Node) (disks : List DiskCounts) (opening : AreOpening nod
 
   -- a settling
   settle_asked : (lines : List Line) → (step : Step w Settle lines v) → ((node : List ℕ) (t : Settlement) → In t (settlements_of node v) → last_line t ≡ line.LastCommitted tid serial moment ∷ [] → In (commitment tid serial moment) (settlements_of serial.node v) → (t ≡ commitment tid serial moment) × (node ≡ serial.node)) →
-      In (commitment tid serial moment) (settlements_of serial.node v) → In (line.LastCommitted tid serial moment) step.events → Asked ⊎ ((node : List ℕ) × WasLast node (line.LastCommitted tid serial moment) (opened nodes disks))
-  settle_asked lines step final stands i = r.1 (begins_last (opened nodes disks) Settle w (legal_lasts (opened nodes disks) w before legal)) (begins_sound Settle w (legal_sound (opened nodes disks) w before (opening_sound nodes disks opening) legal)) (λ n found down h. asked_so tid serial moment nodes disks before w opening legal h) i
+      In (commitment tid serial moment) (settlements_of serial.node v) → In (line.LastCommitted tid serial moment) step.events → Asked ⊎ ((node : List ℕ) × WasLast node (line.LastCommitted tid serial moment) (opened nodes disks) before)
+  settle_asked lines step final stands i = r.1 (begins_last (left before (opened nodes disks)) Settle w (legal_lasts (opened nodes disks) w before legal)) (begins_sound Settle w (legal_sound (opened nodes disks) w before (opening_sound nodes disks opening) legal)) (λ n found down h. asked_so tid serial moment nodes disks before w opening legal h) i
       (λ node t k e. final node t (subst (λ (x : World). In t (settlements_of node x)) (sym step.goes) k) e stands)
     where
       Goal : World → List Line → Line → World → Type 0
-      Goal u rest answer x = Stay u x × (AllLast (opened nodes disks) u → IsSound u → Down u → In (line.LastCommitted tid serial moment) rest → ((node : List ℕ) (t : Settlement) → In t (settlements_of node x) → last_line t ≡ line.LastCommitted tid serial moment ∷ [] → (t ≡ commitment tid serial moment) × (node ≡ serial.node)) →
-          Asked ⊎ ((node : List ℕ) × WasLast node (line.LastCommitted tid serial moment) (opened nodes disks)))
+      Goal u rest answer x = Stay u x × (AllLast (left before (opened nodes disks)) u → IsSound u → Down u → In (line.LastCommitted tid serial moment) rest → ((node : List ℕ) (t : Settlement) → In t (settlements_of node x) → last_line t ≡ line.LastCommitted tid serial moment ∷ [] → (t ≡ commitment tid serial moment) × (node ≡ serial.node)) →
+          Asked ⊎ ((node : List ℕ) × WasLast node (line.LastCommitted tid serial moment) (opened nodes disks) before))
 
-      here : (u x : World) (p : Part) (c : Choice) → IsSettling p → Allowed u p v.disks c → Stay (part_effect u p c).world x → AllLast (opened nodes disks) u → IsSound u → Down u → In (line.LastCommitted tid serial moment) (part_effect u p c).lines → ((node : List ℕ) (t : Settlement) → In t (settlements_of node x) → last_line t ≡ line.LastCommitted tid serial moment ∷ [] → (t ≡ commitment tid serial moment) × (node ≡ serial.node)) →
-          Asked ⊎ ((node : List ℕ) × WasLast node (line.LastCommitted tid serial moment) (opened nodes disks))
+      here : (u x : World) (p : Part) (c : Choice) → IsSettling p → Allowed u p v.disks c → Stay (part_effect u p c).world x → AllLast (left before (opened nodes disks)) u → IsSound u → Down u → In (line.LastCommitted tid serial moment) (part_effect u p c).lines → ((node : List ℕ) (t : Settlement) → In t (settlements_of node x) → last_line t ≡ line.LastCommitted tid serial moment ∷ [] → (t ≡ commitment tid serial moment) × (node ≡ serial.node)) →
+          Asked ⊎ ((node : List ℕ) × WasLast node (line.LastCommitted tid serial moment) (opened nodes disks) before)
       here u x p c ok allowed stay last sound known i final =
-          let k = (part_lasts (opened nodes disks) u p c last).1 (line.LastCommitted tid serial moment) (commitment tid serial moment) i refl in
+          let k = (part_lasts (left before (opened nodes disks)) u p c last).1 (line.LastCommitted tid serial moment) (commitment tid serial moment) i refl in
           elim k.1 [
             | inl q ↦ (let f = final k.0 q.0 (stay k.0 q.0 q.1) q.2 in inl (shows_asked v.disks u p c ok allowed sound known i (subst (λ name. In (commitment tid serial moment) (settlements_of name (part_effect u p c).world)) f.1 (subst (λ t. In t (settlements_of k.0 (part_effect u p c).world)) f.0 q.1))))
             | inr was ↦ inr (k.0, was)
@@ -142,7 +142,7 @@ module _ (nodes : List Node) (disks : List DiskCounts) (opening : AreOpening nod
               λ node t k. more.0 node t (part_stays u p c node t k),
               λ last sound known j final. elim (in_append (line.LastCommitted tid serial moment) (part_effect u p c).lines rest j) [
                 | inl k ↦ here u x p c ok allowed more.0 last sound known k final
-                | inr k ↦ more.1 (part_lasts (opened nodes disks) u p c last).0 (part_sound u p c v.disks allowed sound) (goes_down v.disks u p c ok allowed sound on known) k final
+                | inr k ↦ more.1 (part_lasts (left before (opened nodes disks)) u p c last).0 (part_sound u p c v.disks allowed sound) (goes_down v.disks u p c ok allowed sound on known) k final
               ],
             ),
           ))
@@ -172,20 +172,20 @@ asked_hold nodes disks es closing opening legal before said front behind tid ser
     r : (v : World) × Legal (opened nodes disks) (there.entry ∷ before) v × Legal v there.after closing
     r = split_legal (opened nodes disks) closing there.after (there.entry ∷ before) (subst (λ es. Legal (opened nodes disks) es closing) there.stands legal)
 
-    lasts : ((said ≡ Says (At serial.node Boot)) ⊎ (said ≡ Says Settle)) × (In (commitment tid serial moment) (settlements_of serial.node r.0) ⊎ WasLast serial.node (line.LastCommitted tid serial moment) (opened nodes disks))
+    lasts : ((said ≡ Says (At serial.node Boot)) ⊎ (said ≡ Says Settle)) × (In (commitment tid serial moment) (settlements_of serial.node r.0) ⊎ WasLast serial.node (line.LastCommitted tid serial moment) (opened nodes disks) before)
     lasts =
         let h = lasts_hold nodes disks (there.entry ∷ before) r.0 opening r.1 before said front behind (line.LastCommitted tid serial moment) (commitment tid serial moment) (record { after = []; entry = there.entry; stands = refl; read = there.read; shown = there.shown }) refl in
         (h.0, h.1)
 
     Result : Type 0
-    Result = WasLast serial.node (line.LastCommitted tid serial moment) (opened nodes disks) ⊎ IsShown (commitment tid serial moment) before ⊎ WasEnding before tid serial ⊎ WasChanging (opened nodes disks) before serial
+    Result = WasLast serial.node (line.LastCommitted tid serial moment) (opened nodes disks) before ⊎ IsShown (commitment tid serial moment) before ⊎ WasEnding before tid serial ⊎ WasChanging (opened nodes disks) before serial
 
-    told : IsAsked tid serial moment (opened nodes disks) before → WasLast serial.node (line.LastCommitted tid serial moment) (opened nodes disks) ⊎ IsShown (commitment tid serial moment) before ⊎ WasEnding before tid serial ⊎ WasChanging (opened nodes disks) before serial
+    told : IsAsked tid serial moment (opened nodes disks) before → WasLast serial.node (line.LastCommitted tid serial moment) (opened nodes disks) before ⊎ IsShown (commitment tid serial moment) before ⊎ WasEnding before tid serial ⊎ WasChanging (opened nodes disks) before serial
     told (inl (e, i, j)) = inr (inl (e, line.Committed tid serial moment, i, j, refl))
     told (inr (inl ending)) = inr (inr (inl ending))
     told (inr (inr changing)) = inr (inr (inr changing))
 
-    of_boot : said ≡ Says (At serial.node Boot) → In (commitment tid serial moment) (settlements_of serial.node r.0) → WasLast serial.node (line.LastCommitted tid serial moment) (opened nodes disks) ⊎ IsShown (commitment tid serial moment) before ⊎ WasEnding before tid serial ⊎ WasChanging (opened nodes disks) before serial
+    of_boot : said ≡ Says (At serial.node Boot) → In (commitment tid serial moment) (settlements_of serial.node r.0) → WasLast serial.node (line.LastCommitted tid serial moment) (opened nodes disks) before ⊎ IsShown (commitment tid serial moment) before ⊎ WasEnding before tid serial ⊎ WasChanging (opened nodes disks) before serial
     of_boot boot stands =
         let step : Step (r.1).0 (At serial.node Boot) there.entry.lines r.0 = subst (λ x. Turn (r.1).0 x there.entry.lines r.0) (there.read ∙ boot) (r.1).2 in
         elim (step_in serial.node (commitment tid serial moment) (line.Committed tid serial moment) (commit_line tid serial moment) (inl refl) (r.1).0 r.0 (At serial.node Boot) there.entry.lines step stands) [
@@ -199,10 +199,10 @@ asked_hold nodes disks es closing opening legal before said front behind tid ser
           ]
         ]
 
-    of_settle : said ≡ Says Settle → In (commitment tid serial moment) (settlements_of serial.node r.0) → WasLast serial.node (line.LastCommitted tid serial moment) (opened nodes disks) ⊎ IsShown (commitment tid serial moment) before ⊎ WasEnding before tid serial ⊎ WasChanging (opened nodes disks) before serial
+    of_settle : said ≡ Says Settle → In (commitment tid serial moment) (settlements_of serial.node r.0) → WasLast serial.node (line.LastCommitted tid serial moment) (opened nodes disks) before ⊎ IsShown (commitment tid serial moment) before ⊎ WasEnding before tid serial ⊎ WasChanging (opened nodes disks) before serial
     of_settle settle stands = elim (settle_asked nodes disks opening before (r.1).0 r.0 (r.1).1 tid serial moment there.entry.lines step final stands there_in) [
       | inl asked ↦ told asked
-      | inr (node, was) ↦ inl (subst (λ name. WasLast name (line.LastCommitted tid serial moment) (opened nodes disks)) (sym (opening_own nodes disks node (commitment tid serial moment) (line.LastCommitted tid serial moment) opening was refl)) was)
+      | inr (node, was) ↦ inl (subst (λ name. WasLast name (line.LastCommitted tid serial moment) (opened nodes disks) before) (sym (opening_own nodes disks node (commitment tid serial moment) (line.LastCommitted tid serial moment) before opening was refl)) was)
     ]
       where
         step : Step (r.1).0 Settle there.entry.lines r.0

@@ -10,7 +10,7 @@ use Rattle.records_model.specs.Records.{Change}
 use Rattle.commit_protocol.specs.Messages as message
 use Rattle.commit_protocol.specs.Messages.{Message, Name, Reply}
 use Rattle.commit_protocol.specs.Table as table
-use Rattle.commit_protocol.specs.Table.{Branch, Prepares}
+use Rattle.commit_protocol.specs.Table.{Branch, Leaves, Prepares}
 use Rattle.commit_protocol.specs.Rows as rows
 use Rattle.commit_protocol.specs.Rows.{Event, row}
 use Rattle.log_laws.specs.Slots.{slot_records}
@@ -21,9 +21,10 @@ use Rattle.run_model.specs.Answers.{Row, Task, Serves, Ticks, Takes, Hears, Lose
 use Rattle.run_laws.proofs.Preparing.{AllTell, CastsBy, PreparesBy, SendsBy, Tells, row_tells}
 use Rattle.run_laws.proofs.ToldParts.{IsThinning}
 
--- what an act prepares is so
+-- what an act prepares is so, and what leaves as read-only comes of a branch that is
 abbrev pub CastsIn : (Branch → Type 0) → Option Act → Type 0
 CastsIn R (Some (Tables (Prepares b) moment)) = R b
+CastsIn R (Some (Tables (Leaves k) moment)) = (b : Branch) × R b × (b.key ≡ k)
 CastsIn R _ = Unit {0}
 
 abbrev pub AllCast : (Branch → Type 0) → List Row → Type 0
@@ -36,6 +37,7 @@ casts_table R (a ∷ todo) u m S h = (one a h.0, casts_table R todo (shared_afte
   where
     one : (a : table.Act) → Tells S R a → CastsIn R (Some (Tables a (next_moment m)))
     one (Prepares b) q = q
+    one (Leaves k) q = q
     one _ q = tt
 
 event_casts : (n : Node) (e : Event) (u : Shared) (m : Node) → AllCast (PreparesBy n.volatile.branches e) (table_rows (row (tm_of n) e) u m)
@@ -47,6 +49,7 @@ casts_as R Q (r ∷ rs) f h = (one r.act h.0, casts_as R Q rs f h.1)
   where
     one : (o : Option Act) → CastsIn R o → CastsIn Q o
     one (Some (Tables (Prepares b) moment)) q = f b q
+    one (Some (Tables (Leaves k) moment)) q = (q.0, f q.0 q.1, q.2)
     one _ q = tt
 
 abbrev Never : Branch → Type 0

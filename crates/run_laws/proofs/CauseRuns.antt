@@ -125,7 +125,7 @@ module _ (es : List Entry) (w : World) (known : Known es w) where
   fails front k o reason is why = subst (λ out. LineCause es (Says Settle) front k out reason) (sym is) (subst (λ y. AbortCause es (Says Settle) front y k.tid k.serial) (sym why) (inl refl))
 
   pub heard_cause : (n : Node) (m : Message) (front : List Line) (k : BranchKey) (o : Outcome) (reason : Reason) → (kind : message.Kind) → m.kind ≡ kind → (kind ≡ message.Commit) ⊎ (kind ≡ message.Abort) → front ≡ line.Asked m.tid m.serial (outcome_told kind) ∷ [] → MessageSettles (tm_of n) kind m k o reason → LineCause es (Says Settle) front k o reason
-  heard_cause n m front k o reason message.Commit is kind at (commit, key) =
+  heard_cause n m front k o reason message.Commit is kind at (commit, key, ready) =
       subst (λ out. LineCause es (Says Settle) front k out reason) (sym commit) (inl (inr (inr (inr (inr (refl, [], at ∙ (λ i. line.Asked (sym (ap (λ (j : BranchKey). j.tid) key) i) (sym (ap (λ (j : BranchKey). j.serial) key) i) Commit ∷ [])))))))
   heard_cause n m front k o reason message.Abort is kind at (abort, why, key) =
       subst (λ out. LineCause es (Says Settle) front k out reason) (sym abort) (subst (λ y. AbortCause es (Says Settle) front y k.tid k.serial) (sym why) (inr (inr (refl, [], at ∙ (λ i. line.Asked (sym (ap (λ (j : BranchKey). j.tid) key) i) (sym (ap (λ (j : BranchKey). j.serial) key) i) Abort ∷ [])))))

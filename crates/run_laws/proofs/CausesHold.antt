@@ -237,7 +237,7 @@ module _ (es : List Entry) (w : World) (known : Known es w) (node : List ℕ) (n
       go : (kind : message.Kind) → m.kind ≡ kind → MessageSettles (tm_of n) kind m k o reason → LineCause es (Says (Deliver number)) front k o reason
       go message.Yes is (commit, key, x, q, acc) = commit_so commit (inr (inl (inl (votes message.Yes is key x acc), ends x q, same key)))
       go message.ReadOnly is (commit, key, x, q, acc) = commit_so commit (inr (inl (inr (votes message.ReadOnly is key x acc), ends x q, same key)))
-      go message.Commit is (commit, key) = commit_so commit (inr (inr (inr (inl (to k.tid k.serial (sym (ap (λ (j : BranchKey). j.tid) key)) (sym (ap (λ (j : BranchKey). j.serial) key)) message.Commit is)))))
+      go message.Commit is (commit, key, _) = commit_so commit (inr (inr (inr (inl (to k.tid k.serial (sym (ap (λ (j : BranchKey). j.tid) key)) (sym (ap (λ (j : BranchKey). j.serial) key)) message.Commit is)))))
       go message.Abort is (ab, why, key) = abort_so Aborted ab why (inr (inl (to k.tid k.serial (sym (ap (λ (j : BranchKey). j.tid) key)) (sym (ap (λ (j : BranchKey). j.serial) key)) message.Abort is)))
       go message.JoinNo is (ab, why, key, x) = abort_so SyncFail ab why (inr (to k.tid k.serial (sym (ap (λ (j : BranchKey). j.tid) key)) (sym (ap (λ (j : BranchKey). j.serial) key)) message.JoinNo is, known.named.born node n found k (x.branch, x.there, x.unprepared, x.key)))
       go message.No is (ab, why, key, x, acc) = abort_so Vetoed ab why (inl (votes message.No is key x acc, same key))

@@ -218,7 +218,7 @@ module _ (node : List ℕ) (K : BranchKey → Type 0) where
     rests = λ a n k h. (h.0, h.1);
     none_ready = λ n e. tt;
     same_ready = λ n m e h. tt;
-    comes = λ a n up h. (h.0, λ k o. absurd (both_ways _ o.2 (h.2 o.0 o.1)));
+    comes = λ a n up h closed. (h.0, λ k o. absurd (both_ways _ o.2 (h.2 o.0 o.1)));
   }
 
   -- Rows that it takes.

@@ -778,7 +778,7 @@ module _ (node file : List ℕ) (D : Id → Type 0) where
     rests = λ a n k h. or_else (λ b. b) (λ x. inr ((rests_told a n x).1)) h;
     none_ready = λ n none k reason r moment e. let clash : ◌≡◌ {A = Option Act} None (Some (Tables (Settles k Abort reason r) moment)) = sym none ∙ e in let no : ⊥ = cc in absurd no;
     same_ready = λ n m under doomed k reason r moment e. doomed k reason r moment (sym under ∙ e);
-    comes = λ a n up h. or_else (λ b. b) (λ x. inr (comes_told a n up x)) h;
+    comes = λ a n up h closed. or_else (λ b. b) (λ x. inr (comes_told a n up x)) h;
   }
     where
       fits_act : (free : Bool) (r : Row) (n : Node) (act : Act) → r.act ≡ Some act → RowFits free r n → RowFits free (record { act = Some act; lines = r.lines }) n

@@ -28,6 +28,8 @@ use Rattle.run_laws.proofs.LastFalls.{last_falls_begun}
 use Rattle.run_laws.proofs.LastFirst.{lasts_first}
 use Rattle.run_laws.proofs.Missing.{missing_hold, waits_hold}
 use Rattle.run_laws.proofs.NewIds.{directs_hold, ids_are_new}
+use Rattle.run_laws.proofs.OthersPrepared.{others_hold}
+use Rattle.run_laws.proofs.PreparedCaused.{leaves_caused_hold, votes_caused_hold}
 use Rattle.run_laws.proofs.PreparedRuns.{prepared_hold}
 use Rattle.run_laws.proofs.ReadOnlyRuns.{read_only_hold}
 use Rattle.run_laws.proofs.RestartsDecide.{restarts_hold}
@@ -64,6 +66,9 @@ kept_promises nodes disks es closing opening legal = record {
   ending = downs_end nodes disks es closing opening legal;
   prepared = prepared_hold nodes disks es closing opening legal;
   booted = booted_hold nodes disks es closing opening legal;
+  others = others_hold nodes disks es closing opening legal;
+  votes = votes_caused_hold nodes disks es closing opening legal;
+  leaves = leaves_caused_hold nodes disks es closing opening legal;
   read_only = read_only_hold nodes disks es closing opening legal;
   once = settles_once nodes disks es closing opening legal;
 }

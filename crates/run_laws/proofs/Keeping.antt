@@ -64,6 +64,13 @@ pub record IsNextUnit (n : Node) (u : RecoveryUnit) : Type 0 where
   pub unprepared : IsUnprepared n.durable.units u.serial
   pub of : IsOf n.name n.durable.boot u.serial
 
+-- the branches that a boot of this node found prepared on its disk are told
+pub record IsClosed (t : Scheme) (a : t.Told) (n : Node) : Type 0 where
+  pub before : t.Told
+  pub found : Node
+  pub log : n.durable.log ≡ found.durable.log
+  pub told : a ≡ t.more (prepared_lines found) before
+
 -- what is known is kept act by act
 pub record Keeps (t : Scheme) : Type 0 where
   pub none : (a : t.Told) → t.more [] a ≡ a
@@ -90,7 +97,7 @@ pub record Keeps (t : Scheme) : Type 0 where
   pub same_ready : (n m : Node) → m.under_way ≡ n.under_way → t.Ready n → t.Ready m
   -- the branches that a boot found prepared on the disk are shown behind its rows
   pub closes : (a : t.Told) (n m : Node) → m.durable.log ≡ n.durable.log → IsUp (acted ComesUp m) → t.Boots a m → t.Boots (t.more (prepared_lines n) a) m
-  pub comes : (a : t.Told) (n : Node) → IsUp (acted ComesUp n) → t.Boots a n → t.Up false a (acted ComesUp n)
+  pub comes : (a : t.Told) (n : Node) → IsUp (acted ComesUp n) → t.Boots a n → IsClosed t a n → t.Up false a (acted ComesUp n)
 
 -- the units that a boot is still to undo
 record AreLeft (us : List RecoveryUnit) (units : Journal) : Type 0 where
@@ -511,7 +518,7 @@ module _ (t : Scheme) (k : Keeps t) where
             let b = t.more (prepared_lines r) c in
             let x = shows r in
             let up = come_up s r r_ready.disk in
-            let now = k.comes b m up (k.closes c r m (boot_log s r) up (boot_whole s r r_ready.disk a r_kept.0)) in
+            let now = k.comes b m up (k.closes c r m (boot_log s r) up (boot_whole s r r_ready.disk a r_kept.0)) (record { before = c; found = r; log = boot_log s r; told = refl }) in
             let all : t.more (lines_of_rows (boot_rows s r) ++ e.closing_lines r) a ≡ b =
             k.append (lines_of_rows (boot_rows s r)) (e.closing_lines r) a ∙ ap (λ ls. t.more ls c) x.1 ∙ k.append (prepared_lines r) x.0 c ∙ k.plain x.0 b x.2 x.3 in
             subst (λ rs. Kept (t.more (lines_of_rows rs ++ e.closing_lines r) a) (node_after e.closing (node_after_rows rs r))) (sym (boots s r))

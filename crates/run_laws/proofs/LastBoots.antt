@@ -30,7 +30,7 @@ use Rattle.run_laws.specs.Promises.{WasLast, WasShownSo, abort, commitment, last
 use Rattle.run_laws.specs.Laws.{LastsHold}
 use Rattle.run_laws.proofs.AllShown.{IsFormed, legal_shown}
 use Rattle.run_laws.proofs.EachRow.{ArePlain, closing_plain, is_plain}
-use Rattle.run_laws.proofs.LastSettled.{lasts_settled}
+use Rattle.run_laws.proofs.LastSettled.{lasts_settled, left_found}
 use Rattle.run_laws.proofs.NewestLast.{newest_last}
 use Rattle.run_laws.proofs.OwnLines.{line_in, task_owns}
 use Rattle.run_laws.proofs.RowFits.{EachFits, Fits, RowFits, TellsAct, free_after, task_fits}
@@ -339,16 +339,19 @@ serial_of t s l e f = go t.outcome t.reason e
     go Abort None q = let no : ⊥ = cc in absurd no
 
 -- the node of the branch of a last settlement of an opening disk
-pub opening_own : (nodes : List Node) (disks : List DiskCounts) (node : List ℕ) (s : Settlement) (l : Line) → AreOpening nodes → WasLast node l (opened nodes disks) → last_in l ≡ Some s → s.serial.node ≡ node
-opening_own nodes disks node s l opening was f = go (was.0).durable.last refl was.2
+pub opening_own : (nodes : List Node) (disks : List DiskCounts) (node : List ℕ) (s : Settlement) (l : Line) → (es : List Entry) → AreOpening nodes → WasLast node l (opened nodes disks) es → last_in l ≡ Some s → s.serial.node ≡ node
+opening_own nodes disks node s l es opening was f = go (was.0).durable.last refl was.2
   where
+    found : find_node node nodes ≡ Some was.0
+    found = left_found node es (opened nodes disks) was.0 was.1
+
     of : IsOpening was.0
-    of = each_opening nodes opening node was.0 was.1
+    of = each_opening nodes opening node was.0 found
 
     go : (o : Option Settlement) → (was.0).durable.last ≡ o → (elim o as (λ x. List Line) [ Some t ↦ last_line t | None ↦ [] ]) ≡ l ∷ [] → s.serial.node ≡ node
     go (Some t) e q =
         let reached : LastIsReached was.0 (Some t) = subst (LastIsReached was.0) e of.last in
-        ap (λ (x : Id). x.node) (serial_of t s l q f) ∙ reached.0 ∙ found_name node nodes was.0 was.1
+        ap (λ (x : Id). x.node) (serial_of t s l q f) ∙ reached.0 ∙ found_name node nodes was.0 found
     go None e q = let no : ⊥ = cc in absurd no
 
 -- that of one that a node settled
@@ -376,11 +379,11 @@ lasts_hold nodes disks es closing opening legal before said front behind this s 
     newest : (node : List ℕ) → s.serial.node ≡ node → Has node closing → (t : Settlement) → WasShownSo t before front → t.serial.node ≡ s.serial.node → t.moment ≤ s.moment
     newest node own has t was mine = newest_last node nodes disks es there.after before there.entry closing opening legal has.0 has.1 there.stands front behind this s there.shown is own t was (mine ∙ own)
 
-    settled : ((node : List ℕ) × (((t : Settlement) × In t (settlements_of node closing) × (last_line t ≡ this ∷ [])) ⊎ WasLast node this (opened nodes disks))) →
-        (In s (settlements_of s.serial.node closing) ⊎ WasLast s.serial.node this (opened nodes disks)) × ((t : Settlement) → WasShownSo t before front → t.serial.node ≡ s.serial.node → t.moment ≤ s.moment)
+    settled : ((node : List ℕ) × (((t : Settlement) × In t (settlements_of node closing) × (last_line t ≡ this ∷ [])) ⊎ WasLast node this (opened nodes disks) before)) →
+        (In s (settlements_of s.serial.node closing) ⊎ WasLast s.serial.node this (opened nodes disks) before) × ((t : Settlement) → WasShownSo t before front → t.serial.node ≡ s.serial.node → t.moment ≤ s.moment)
     settled (node, (inl k)) =
         let o = settled_own nodes disks es closing node s k.0 this opening legal k.1 k.2 is in
         (inl (subst (λ x. In s (settlements_of x closing)) (sym o.0) o.1), newest node o.0 o.2)
     settled (node, (inr was)) =
-        let own = opening_own nodes disks node s this opening was is in
-        (inr (subst (λ x. WasLast x this (opened nodes disks)) (sym own) was), newest node own (legal_has node (opened nodes disks) closing es legal (was.0, was.1)))
+        let own = opening_own nodes disks node s this before opening was is in
+        (inr (subst (λ x. WasLast x this (opened nodes disks) before) (sym own) was), newest node own (legal_has node (opened nodes disks) closing es legal (was.0, left_found node before (opened nodes disks) was.0 was.1)))

@@ -66,5 +66,5 @@ module _ (x : Id) where
     rests = λ a n k h. h;
     none_ready = λ n e. tt;
     same_ready = λ n m e h. tt;
-    comes = λ a n up h. h;
+    comes = λ a n up h closed. h;
   }

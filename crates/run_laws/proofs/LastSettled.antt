@@ -22,9 +22,11 @@ use Rattle.run_model.proofs.TaskLemmas.{effect_name}
 use Rattle.run_model.proofs.PartLemmas.{phases_fold}
 use Rattle.run_model.proofs.PartTasks.{View, Doing, Fixed, view}
 use Rattle.run_model.proofs.Refusing.{each_phase}
-use Rattle.run_laws.specs.Promises.{WasLast, settlements_of, last_in}
+use Rattle.run_laws.specs.Accounts.{made_anew}
+use Rattle.run_laws.specs.Promises.{left_at, settlements_of, last_in}
 use Rattle.run_laws.specs.Laws.{LastsAreSettled}
 use Rattle.run_laws.proofs.EachRow.{ArePlain, EachRow, closing_plain, cut_each, is_plain, take_each, task_each}
+use Rattle.run_laws.proofs.MadeAnew.{made_last}
 use Rattle.run_laws.proofs.Staying.{Grows, Stay, find_put, found_settled, part_stays, rows_grow, after_grows, stays}
 use Rattle.run_laws.proofs.ShownSettled.{in_append, answer_plain, here_in}
 
@@ -196,92 +198,115 @@ module _ (o : Option Node) where
 
 -- In worlds.
 
+-- the nodes at an opening, by their names, but for those whose volumes these entries made anew
+abbrev pub left : List Entry → World → List ℕ → Option Node
+left es opening node = left_at node es opening
+
+pub left_found : (node : List ℕ) (es : List Entry) (opening : World) (n : Node) → left_at node es opening ≡ Some n → find_node node opening.nodes ≡ Some n
+left_found node [] opening n e = e
+left_found node (x ∷ es) opening n e = go (made_anew node (reading x.source.text) x.lines) e (left_found node es opening n)
+  where
+    go : (b : Bool) → ◌≡◌ {A = Option Node} (if b then None else left_at node es opening) (Some n) → (left_at node es opening ≡ Some n → find_node node opening.nodes ≡ Some n) → find_node node opening.nodes ≡ Some n
+    go true k more = let no : ⊥ = cc in absurd no
+    go false k more = more k
+
 -- each node has such a last settlement
-abbrev pub AllLast : World → World → Type 0
-AllLast opening w = (node : List ℕ) (n : Node) → find_node node w.nodes ≡ Some n → HasLast (find_node node opening.nodes) n
+abbrev pub AllLast : (List ℕ → Option Node) → World → Type 0
+AllLast o w = (node : List ℕ) (n : Node) → find_node node w.nodes ≡ Some n → HasLast (o node) n
+
+-- the line of the last settlement of such a node
+abbrev pub IsLastOf : (List ℕ → Option Node) → List ℕ → Line → Type 0
+IsLastOf o node l = (m : Node) × (o node ≡ Some m) × (last_lines m ≡ l ∷ [])
 
 -- each last settlement that these lines show is known so of a node
-abbrev pub AreKnown : World → List Line → World → Type 0
-AreKnown opening lines v = (l : Line) (x : Settlement) → In l lines → last_in l ≡ Some x → (node : List ℕ) × (((t : Settlement) × In t (settlements_of node v) × (last_line t ≡ l ∷ [])) ⊎ WasLast node l opening)
+abbrev pub AreKnown : (List ℕ → Option Node) → List Line → World → Type 0
+AreKnown o lines v = (l : Line) (x : Settlement) → In l lines → last_in l ≡ Some x → (node : List ℕ) × (((t : Settlement) × In t (settlements_of node v) × (last_line t ≡ l ∷ [])) ⊎ IsLastOf o node l)
 
-known_stays : (opening w v : World) (lines : List Line) → Stay w v → AreKnown opening lines w → AreKnown opening lines v
-known_stays opening w v lines stay h l x i e = let r = h l x i e in (r.0, elim r.1 [ inl k ↦ inl (k.0, stay r.0 k.0 k.1, k.2) | inr k ↦ inr k ])
+known_stays : (o : List ℕ → Option Node) (w v : World) (lines : List Line) → Stay w v → AreKnown o lines w → AreKnown o lines v
+known_stays o w v lines stay h l x i e = let r = h l x i e in (r.0, elim r.1 [ inl k ↦ inl (k.0, stay r.0 k.0 k.1, k.2) | inr k ↦ inr k ])
 
-pub part_lasts : (opening w : World) (p : Part) (c : Choice) → AllLast opening w → AllLast opening (part_effect w p c).world × AreKnown opening (part_effect w p c).lines (part_effect w p c).world
-part_lasts opening w p c all = go (view w p)
+pub part_lasts : (o : List ℕ → Option Node) (w : World) (p : Part) (c : Choice) → AllLast o w → AllLast o (part_effect w p c).world × AreKnown o (part_effect w p c).lines (part_effect w p c).world
+part_lasts o w p c all = go (view w p)
   where
-    go : View w p → AllLast opening (part_effect w p c).world × AreKnown opening (part_effect w p c).lines (part_effect w p c).world
-    go (Fixed answer ends kind is) = subst (λ (y : PartEffect). AllLast opening y.world × AreKnown opening y.lines y.world) (sym (is c)) (all, λ l x i e. absurd i)
+    go : View w p → AllLast o (part_effect w p c).world × AreKnown o (part_effect w p c).lines (part_effect w p c).world
+    go (Fixed answer ends kind is) = subst (λ (y : PartEffect). AllLast o y.world × AreKnown o y.lines y.world) (sym (is c)) (all, λ l x i e. absurd i)
     go (Doing node t n named found does may) =
         let e = task_effect w.shared (stops_at node w) n t c in
         let v = (put_into w node e).world in
         let name = effect_name w.shared (stops_at node w) n t c in
-        subst (λ (y : PartEffect). AllLast opening y.world × AreKnown opening y.lines y.world) (sym (does c)) (
+        subst (λ (y : PartEffect). AllLast o y.world × AreKnown o y.lines y.world) (sym (does c)) (
           λ other m there. elim (find_put other node n e.node w.nodes name found) [
             | inl same ↦ all other m (sym same ∙ there)
-            | inr both ↦ subst (HasLast (find_node other opening.nodes)) (some_is e.node m (sym both.0 ∙ there)) (effect_last (find_node other opening.nodes) w.shared (stops_at node w) n t c (all other n both.1))
+            | inr both ↦ subst (HasLast (o other)) (some_is e.node m (sym both.0 ∙ there)) (effect_last (o other) w.shared (stops_at node w) n t c (all other n both.1))
           ],
           λ l x i shown. (
             node,
-            elim (effect_shows (find_node node opening.nodes) w.shared (stops_at node w) n t c (all node n found) l x i shown) [
+            elim (effect_shows (o node) w.shared (stops_at node w) n t c (all node n found) l x i shown) [
               | inl k ↦ inl (k.0, subst (In k.0) (sym (found_settled node v e.node (put_node node n e.node w.nodes name found))) k.1, k.2)
               | inr k ↦ inr (k.0, k.1, k.2)
             ],
           ),
         )
 
-abbrev Leads : World → World → List Line → Line → World → Type 0
-Leads opening w lines answer v = AllLast opening w → AllLast opening v × AreKnown opening lines v × Stay w v
+abbrev Leads : (List ℕ → Option Node) → World → List Line → Line → World → Type 0
+Leads o w lines answer v = AllLast o w → AllLast o v × AreKnown o lines v × Stay w v
 
-then_lasts : (opening w u : World) (front rest : List Line) (answer : Line) (v : World) → (AllLast opening w → AllLast opening u × AreKnown opening front u) → Stay w u → Leads opening u rest answer v → Leads opening w (front ++ rest) answer v
-then_lasts opening w u front rest answer v shown stay more all =
+then_lasts : (o : List ℕ → Option Node) (w u : World) (front rest : List Line) (answer : Line) (v : World) → (AllLast o w → AllLast o u × AreKnown o front u) → Stay w u → Leads o u rest answer v → Leads o w (front ++ rest) answer v
+then_lasts o w u front rest answer v shown stay more all =
     let one = shown all in
     let two = more one.0 in (
       two.0,
-      λ l x i e. elim (in_append l front rest i) [ inl j ↦ known_stays opening u v front two.2 one.1 l x j e | inr j ↦ two.1 l x j e ],
+      λ l x i e. elim (in_append l front rest i) [ inl j ↦ known_stays o u v front two.2 one.1 l x j e | inr j ↦ two.1 l x j e ],
       λ node t i. two.2 node t (stay node t i),
     )
 
-pub begins_last : (opening : World) (s : Statement) (w : World) → AllLast opening w → AllLast opening (begun_with s w)
-begins_last opening Settle w all = all
-begins_last opening (At node request) w all = all
-begins_last opening (Deliver number) w all = all
-begins_last opening (LinkDown a b) w all = all
+pub begins_last : (o : List ℕ → Option Node) (s : Statement) (w : World) → AllLast o w → AllLast o (begun_with s w)
+begins_last o Settle w all = all
+begins_last o (At node request) w all = all
+begins_last o (Deliver number) w all = all
+begins_last o (LinkDown a b) w all = all
 
-step_lasts : (opening w v : World) (s : Statement) (lines : List Line) → AllLast opening w → (step : Step w s lines v) → AllLast opening v × AreKnown opening step.events v
-step_lasts opening w v s lines all step = subst (λ x. AllLast opening x × AreKnown opening step.events x) (sym step.goes) (go (refused_at_once w s) step.does)
+step_lasts : (o : List ℕ → Option Node) (w v : World) (s : Statement) (lines : List Line) → AllLast o w → (step : Step w s lines v) → AllLast o v × AreKnown o step.events v
+step_lasts o w v s lines all step = subst (λ x. AllLast o x × AreKnown o step.events x) (sym step.goes) (go (refused_at_once w s) step.does)
   where
-    go : (o : Option Line) → Begins o (Phases (phases_of s) v.disks (begun_with s w) line.Normal) w step.events step.answer step.world → AllLast opening step.world × AreKnown opening step.events step.world
-    go (Some refusal) d = (subst (AllLast opening) (sym d.2) all, subst (λ ls. AreKnown opening ls step.world) (sym d.0) (λ l x i e. absurd i))
+    go : (q : Option Line) → Begins q (Phases (phases_of s) v.disks (begun_with s w) line.Normal) w step.events step.answer step.world → AllLast o step.world × AreKnown o step.events step.world
+    go (Some refusal) d = (subst (AllLast o) (sym d.2) all, subst (λ ls. AreKnown o ls step.world) (sym d.0) (λ l x i e. absurd i))
     go None d =
-        let r = phases_fold v.disks (λ p. Unit {0}) (λ given. Unit {0}) (Leads opening)
+        let r = phases_fold v.disks (λ p. Unit {0}) (λ given. Unit {0}) (Leads o)
         (λ u given q h. (h, λ l x i e. absurd i, λ node t i. i))
-        (λ u p c ok allowed ends h. let k = part_lasts opening u p c h in (k.0, k.1, part_stays u p c))
-        (λ u p c ok allowed on. (tt, λ rest answer x more. then_lasts opening u (part_effect u p c).world (part_effect u p c).lines rest answer x (part_lasts opening u p c) (part_stays u p c) more))
-        (phases_of s) (each_phase s) (begun_with s w) line.Normal step.events step.answer step.world tt d (begins_last opening s w all) in
+        (λ u p c ok allowed ends h. let k = part_lasts o u p c h in (k.0, k.1, part_stays u p c))
+        (λ u p c ok allowed on. (tt, λ rest answer x more. then_lasts o u (part_effect u p c).world (part_effect u p c).lines rest answer x (part_lasts o u p c) (part_stays u p c) more))
+        (phases_of s) (each_phase s) (begun_with s w) line.Normal step.events step.answer step.world tt d (begins_last o s w all) in
         (r.0, r.1)
 
-turn_lasts : (opening w v : World) (r : Reading) (lines : List Line) → AllLast opening w → LineTurn w r lines v → AllLast opening v × AreKnown opening lines v
-turn_lasts opening w v Blank lines all t = (subst (AllLast opening) (sym t.1) all, subst (λ ls. AreKnown opening ls v) (sym t.0) (λ l x i e. absurd i))
-turn_lasts opening w v (Bad column) lines all t = absurd t
-turn_lasts opening w v (Says s) lines all t =
-    let r = step_lasts opening w v s lines all t in
+turn_lasts : (o : List ℕ → Option Node) (w v : World) (r : Reading) (lines : List Line) → AllLast o w → LineTurn w r lines v → AllLast o v × AreKnown o lines v
+turn_lasts o w v Blank lines all t = (subst (AllLast o) (sym t.1) all, subst (λ ls. AreKnown o ls v) (sym t.0) (λ l x i e. absurd i))
+turn_lasts o w v (Bad column) lines all t = absurd t
+turn_lasts o w v (Says s) lines all t =
+    let r = step_lasts o w v s lines all t in
     let plain = answer_plain w v s lines t in (
       r.0,
-      subst (λ ls. AreKnown opening ls v) (sym t.shows) (λ l x i e. elim (in_append l t.events (t.answer ∷ []) i) [
+      subst (λ ls. AreKnown o ls v) (sym t.shows) (λ l x i e. elim (in_append l t.events (t.answer ∷ []) i) [
         | inl j ↦ r.1 l x j e
         | inr j ↦ absurd (none_shown None (t.answer ∷ []) (plain, tt) l x j e)
       ]),
     )
 
-pub legal_lasts : (opening w : World) (es : List Entry) → Legal opening es w → AllLast opening w
-legal_lasts opening w [] legal = subst (AllLast opening) (sym legal) (λ node n found t e. inr (n, found, e))
-legal_lasts opening w (e ∷ es) legal = (turn_lasts opening legal.0 w (reading e.source.text) e.lines (legal_lasts opening legal.0 es legal.1) legal.2).0
+pub legal_lasts : (opening w : World) (es : List Entry) → Legal opening es w → AllLast (left es opening) w
+legal_lasts opening w [] legal = subst (AllLast (left [] opening)) (sym legal) (λ node n found t e. inr (n, found, e))
+legal_lasts opening w (e ∷ es) legal = behind (turn_lasts (left es opening) legal.0 w (reading e.source.text) e.lines (legal_lasts opening legal.0 es legal.1) legal.2).0
+  where
+    behind : AllLast (left es opening) w → AllLast (left (e ∷ es) opening) w
+    behind h node n found = go (made_anew node (reading e.source.text) e.lines) refl
+      where
+        go : (b : Bool) → made_anew node (reading e.source.text) e.lines ≡ b → HasLast (left_at node (e ∷ es) opening) n
+        go false off = subst (λ b. HasLast (if b then None else left_at node es opening) n) (sym off) (h node n found)
+        go true on = λ t is. let clash : ◌≡◌ {A = Option Settlement} None (Some t) = sym (made_last legal.0 w node (reading e.source.text) e.lines legal.2 on n found) ∙ is in let no : ⊥ = cc in absurd no
 
 pub lasts_settled : LastsAreSettled
 lasts_settled nodes disks es closing areopening legal before said front behind this s there is =
     let opening = opened nodes disks in
     let r = stays opening closing there.after (there.entry ∷ before) (subst (λ es. Legal opening es closing) there.stands legal) in
     let l = r.1 in
-    let here = (turn_lasts opening l.0 r.0 (reading there.entry.source.text) there.entry.lines (legal_lasts opening l.0 before l.1) l.2).1 in
-    known_stays opening r.0 closing there.entry.lines r.2 here this s (subst (In this) (sym there.shown) (here_in front this behind)) is
+    let here = (turn_lasts (left before opening) l.0 r.0 (reading there.entry.source.text) there.entry.lines (legal_lasts opening l.0 before l.1) l.2).1 in
+    known_stays (left before opening) r.0 closing there.entry.lines r.2 here this s (subst (In this) (sym there.shown) (here_in front this behind)) is

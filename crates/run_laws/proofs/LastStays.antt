@@ -72,5 +72,5 @@ lasted_keeps = record {
   rests = λ a n k h. h;
   none_ready = λ n e. tt;
   same_ready = λ n m e h. tt;
-  comes = λ a n up h. h;
+  comes = λ a n up h closed. h;
 }

@@ -172,7 +172,7 @@ module _ (node : List ℕ) (K : BranchKey → Type 0) where
     none_ready = λ n e. tt;
     same_ready = λ n m e h. tt;
     closes = λ a n m log up h. (subst NoneOf (sym (prepared_left_none node (booted n.durable).branches a)) h.0, h.1);
-    comes = λ a n up h. (h.0, λ b i u k. absurd (both_ways (is_prepared b.state) u (h.1 b i)));
+    comes = λ a n up h closed. (h.0, λ b i u k. absurd (both_ways (is_prepared b.state) u (h.1 b i)));
   }
 
   -- Rows that it takes.

@@ -5,6 +5,7 @@ pub mod SaidProof
 pub mod EachRow
 pub mod Staying
 pub mod ShownSettled
+pub mod MadeAnew
 pub mod LastSettled
 pub mod Directed
 pub mod Reasons
@@ -72,6 +73,8 @@ pub mod Owed
 pub mod Recorded
 pub mod RecordedTasks
 pub mod RecordedRuns
+pub mod OthersPrepared
+pub mod PreparedCaused
 pub mod Headline
 pub mod Absent
 pub mod AgreedRuns

@@ -267,7 +267,7 @@ module _ (node : List ℕ) where
     rests = λ a n k h. h;
     none_ready = λ n e. tt;
     same_ready = λ n m e h. tt;
-    comes = λ a n up h. rests_newest a n (acted ComesUp n) refl refl refl h;
+    comes = λ a n up h closed. rests_newest a n (acted ComesUp n) refl refl refl h;
   }
 
   -- Transcripts.

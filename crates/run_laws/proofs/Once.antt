@@ -358,5 +358,5 @@ once_keeps = record {
   rests = λ a n k h. h.disk;
   none_ready = λ n e. tt;
   same_ready = λ n m e h. tt;
-  comes = λ a n up h. comes_once n up h;
+  comes = λ a n up h closed. comes_once n up h;
 }

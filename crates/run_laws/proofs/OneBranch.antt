@@ -285,5 +285,5 @@ module _ (x : Id) (K P : Id → Type 0) (C : Settlement → Type 0) where
       rests = λ a n k h. h.disk;
       none_ready = λ n e. tt;
       same_ready = λ n m e h. tt;
-      comes = λ a n up h. comes n h;
+      comes = λ a n up h closed. comes n h;
     }

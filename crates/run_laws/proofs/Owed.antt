@@ -186,7 +186,7 @@ module _ (tid serial : Id) (rm : Name) where
     rests = λ a n k h. h;
     none_ready = λ n e. tt;
     same_ready = λ n m e h. tt;
-    comes = λ a n up h. h;
+    comes = λ a n up h closed. h;
   }
 
   not_init : (task : Task) → is_special owed task ≡ false → is_init task ≡ false
@@ -194,13 +194,13 @@ module _ (tid serial : Id) (rm : Name) where
   not_init _ e = refl
 
   -- no such task takes the manager out
-  leaves : (s : Shared) (n : Node) (task : Task) → is_special owed task ≡ false → (z : Id) (x : Name) → TaskReleases s n task z x → z ≡ serial → x ≡ rm → ⊥
+  pub leaves : (s : Shared) (n : Node) (task : Task) → is_special owed task ≡ false → (z : Id) (x : Name) → TaskReleases s n task z x → z ≡ serial → x ≡ rm → ⊥
   leaves s n (Serves (AckEvent who y reply)) e z x q at is =
       both_ways (same_name y rm && is_forget reply) e (both_hold (same_name y rm) (is_forget reply) (subst (λ v. same_name y v ≡ true) (sym q.0 ∙ is) (same_name-refl y)) q.1)
   leaves s n (Serves _) e z x q at is = q
   leaves s n _ e z x q at is = q
 
-  takes_of : (R : Id → Name → Type 0) (rs : List Row) → ((z : Id) (x : Name) → R z x → z ≡ serial → x ≡ rm → ⊥) → AllTakeOut R rs → AllTake owed rs
+  pub takes_of : (R : Id → Name → Type 0) (rs : List Row) → ((z : Id) (x : Name) → R z x → z ≡ serial → x ≡ rm → ⊥) → AllTakeOut R rs → AllTake owed rs
   takes_of R [] f h = tt
   takes_of R (r ∷ rs) f h = (one r.act h.0, takes_of R rs f h.1)
     where

@@ -114,7 +114,7 @@ owned_keeps = record {
   rests = λ a n k h. (once_keeps.rests tt n k h.0, h.1);
   none_ready = λ n e. tt;
   same_ready = λ n m e h. tt;
-  comes = λ a n up h. (once_keeps.comes tt n up h.0, h.1);
+  comes = λ a n up h closed. (once_keeps.comes tt n up h.0 (record { before = tt; found = n; log = refl; told = refl }), h.1);
 }
   where
     after_name : (o : Option Act) (n : Node) → (node_after o n).name ≡ n.name

@@ -13,10 +13,11 @@ use Rattle.commit_protocol.specs.World.{In}
 use Rattle.commit_protocol.proofs.Lists.{find-key, find_serial-serial}
 use Rattle.run_laws.proofs.Noting.{find_in, serial_in}
 
--- what an act sends and prepares is so; so is all that these acts do
+-- what an act sends and prepares is so, and what leaves as read-only comes of a branch that is; so is all that these acts do
 abbrev pub Tells : (Message → Type 0) → (Branch → Type 0) → Act → Type 0
 Tells S Q (Sends m) = S m
 Tells S Q (Prepares b) = Q b
+Tells S Q (Leaves k) = (b : Branch) × Q b × (b.key ≡ k)
 Tells S Q _ = Unit {0}
 
 abbrev pub AllTell : (Message → Type 0) → (Branch → Type 0) → List Act → Type 0
@@ -90,7 +91,7 @@ module _ (S : Message → Type 0) (Q : Branch → Type 0) (other : (m : Message)
       )) (λ t. tt)
 
   casts_tell : (b : Branch) → Q b → AllTell S Q (casts_if_all b)
-  casts_tell b h = if_tells (all_replied b.managers) (casts b) [] (λ t. if_tells (b.changed || not (is_empty (holding b.managers))) (Prepares b ∷ (Sends (up Yes b.key) ∷ [])) (Leaves b.key ∷ (Sends (up ReadOnly b.key) ∷ [])) (λ u. (h, (other (up Yes b.key) refl, tt))) (λ u. (tt, (other (up ReadOnly b.key) refl, tt)))) (λ t. tt)
+  casts_tell b h = if_tells (all_replied b.managers) (casts b) [] (λ t. if_tells (b.changed || not (is_empty (holding b.managers))) (Prepares b ∷ (Sends (up Yes b.key) ∷ [])) (Leaves b.key ∷ (Sends (up ReadOnly b.key) ∷ [])) (λ u. (h, (other (up Yes b.key) refl, tt))) (λ u. ((b, h, refl), (other (up ReadOnly b.key) refl, tt)))) (λ t. tt)
 
   votes_tell : (b : Branch) → Q (voting b) → AllTell S Q (begins_vote b)
   votes_tell b h = (tt, append_tells (tells PrepareEvent b.key (joined b.managers)) (casts_if_all (voting b)) (tells_tell PrepareEvent b.key (joined b.managers)) (casts_tell (voting b) h))

@@ -13,7 +13,7 @@ use Rattle.commit_protocol.specs.World.{In}
 use Rattle.log_laws.specs.Slots.{prepared_of, records_in}
 use Rattle.log_laws.proofs.Reading.{is_prepared_one}
 use Rattle.run_model.specs.World as world
-use Rattle.run_model.specs.World.{Node, Act, Boots, ComesUp, Durable, Settlement, Tables, acted, aborted_prepared, booted, next_moment, settlement, with_half}
+use Rattle.run_model.specs.World.{Node, Act, Boots, ComesUp, Durable, Settlement, Tables, acted, aborted_prepared, booted, next_moment, prepared_left, prepared_serials, settlement, with_half}
 use Rattle.run_model.specs.Answers.{Row, Serves, last_line, last_lines, prepared_line, settled_line, unit_key}
 use Rattle.run_model.specs.Steps.{lines_of_rows, node_after, node_after_rows}
 use Rattle.world_laws.specs.Nodes.{IsUp}
@@ -21,7 +21,8 @@ use Rattle.world_laws.proofs.IdLemmas.{id_is, id_itself}
 use Rattle.world_laws.proofs.LogLemmas.{branch_of, record_there}
 use Rattle.run_laws.specs.Promises.{prepared_by}
 use Rattle.run_laws.proofs.EachRow.{ArePlain, AreVoteless, VotesSo}
-use Rattle.run_laws.proofs.Keeping.{Keeps, Kept, Scheme, first_up, is_init}
+use Rattle.run_laws.proofs.BootsPrepared.{in_ordered}
+use Rattle.run_laws.proofs.Keeping.{IsClosed, Keeps, Kept, Scheme, first_up, is_init}
 use Rattle.run_laws.proofs.LastSettled.{HasLast, acted_last, after_last}
 use Rattle.run_laws.proofs.Moving.{in_cut, in_put}
 use Rattle.run_laws.proofs.Once.{IsOnceBoot, IsOnceDisk, IsOnceUp, once, once_keeps}
@@ -46,7 +47,7 @@ module _ (tid serial : Id) where
       let b = branch_of n up.table r i in
       (b.branch, b.there, b.state, (λ j. record { tid = (sym (ap (λ (q : LogRecord). q.tid) b.is) ∙ t) j; serial = (sym (ap (λ (q : LogRecord). q.serial) b.is) ∙ s) j }))
 
-  in_log : (n : Node) → IsUp n → IsIn n.volatile.branches → HasIt n.durable
+  pub in_log : (n : Node) → IsUp n → IsIn n.volatile.branches → HasIt n.durable
   in_log n up (x, i, state, key) =
       (prepared_record x, is_prepared_one (records_in n.durable.log) (prepared_record x) (up.table.log.prepared (prepared_record x) (record_there n.volatile.branches x i state)) refl, ap (λ (k : BranchKey). k.serial) key, ap (λ (k : BranchKey). k.tid) key)
 
@@ -79,8 +80,8 @@ module _ (tid serial : Id) where
   act_record free (Some (world.Formats slots journal)) n f up is h = absurd f
   act_record free (Some _) n f up is h = inl h
 
-  -- Why a record is there that is not told of: what the disk had at the opening is one reason.
-  module _ (W : Type 0) (o : Option Node) (late : (s : Settlement) → (m : Node) → o ≡ Some m → m.durable.last ≡ Some s → s.serial ≡ serial → W) where
+  -- Why a record is there that is not told of.
+  module _ (W : Type 0) where
     abbrev pub Why : Bool → Type 0
     Why a = (a ≡ true) ⊎ W
 
@@ -103,17 +104,10 @@ module _ (tid serial : Id) where
         go true same = absurd (never (sym (id_is serial id same)))
         go false same = ap (λ b. b && true) is
 
-    abbrev pub recorded : Scheme
-    recorded = record {
-      Told = Bool;
-      more = λ ls a. prepared_by serial ls a;
-      Up = λ free a n. IsOnceUp free n × HasLast o n × Fact a n.durable;
-      Disk = λ a n. IsOnceDisk n.name n.durable n.settled × HasLast o n × Fact a n.durable;
-      Boots = λ a n. IsOnceBoot n × HasLast o n × Fact a n.durable;
-      Ready = λ n. Unit {0};
-      Takes = λ act. PreparesIt act → W;
-      special = λ r. is_init (Serves r);
-    }
+    -- what is told of while the node is up needs no reason
+    told_why : (a : Bool) → (a ≡ true) ⊎ ⊥ → Why a
+    told_why a (inl is) = inl is
+    told_why a (inr none) = absurd none
 
     -- none that is settled has a record
     gone : (n : Node) (s : Settlement) → IsOnceDisk n.name n.durable n.settled → In s n.settled → HasIt n.durable → s.serial ≡ serial → ⊥
@@ -166,33 +160,61 @@ module _ (tid serial : Id) where
         go (Some (world.Declares rms)) g t v up once has w = steady t v (by w (λ e. e))
         go (Some world.Falls) g t v up once has w = steady t v (by w (λ e. e))
 
-    under_fact : (free : Bool) (act : Act) (n : Node) (a : Bool) → Fits free (Some act) n → IsUp n → IsUp (acted act n) → (PreparesIt (Some act) → W) → Fact a n.durable → Fact a (acted act n).durable
-    under_fact free act n a f up is q h has = elim (act_record free (Some act) n f up is has) [ inl old ↦ h old | inr new ↦ inr (q new) ]
+  -- the lines of branches that a boot found tell each
+  tells_on : (ps : List LogRecord) → prepared_by serial (map prepared_line (table.branches_of ps)) true ≡ true
+  tells_on [] = refl
+  tells_on (q ∷ ps) = tells_on ps
 
-    lasts_fact : (n : Node) (a : Bool) → IsOnceDisk n.name n.durable n.settled → HasLast o n → Fact a n.durable → Fact (prepared_by serial (last_lines n) a) n.durable
+  tells_it : (ps : List LogRecord) (a : Bool) (r : LogRecord) → In r ps → r.serial ≡ serial → prepared_by serial (map prepared_line (table.branches_of ps)) a ≡ true
+  tells_it [] a r i same = absurd i
+  tells_it (q ∷ ps) a r (inl is) same = ap (λ b. prepared_by serial (map prepared_line (table.branches_of ps)) b) (either a (same_id serial q.serial) (ap (λ (x : LogRecord). same_id serial x.serial) (sym is) ∙ (ap (same_id serial) same ∙ id_itself serial))) ∙ tells_on ps
+    where
+      either : (a b : Bool) → b ≡ true → (a || b) ≡ true
+      either true b e = refl
+      either false b e = e
+  tells_it (q ∷ ps) a r (inr i) same = tells_it ps (a || same_id serial q.serial) r i same
+
+  -- What the disk had at the opening is one reason.
+  module _ (W : Type 0) (o : Option Node) (late : (s : Settlement) → (m : Node) → o ≡ Some m → m.durable.last ≡ Some s → s.serial ≡ serial → W) where
+    abbrev pub recorded : Scheme
+    recorded = record {
+      Told = Bool;
+      more = λ ls a. prepared_by serial ls a;
+      Up = λ free a n. IsOnceUp free n × HasLast o n × Fact ⊥ a n.durable;
+      Disk = λ a n. IsOnceDisk n.name n.durable n.settled × HasLast o n × Fact W a n.durable;
+      Boots = λ a n. IsOnceBoot n × HasLast o n × Fact W a n.durable;
+      Ready = λ n. Unit {0};
+      Takes = λ act. PreparesIt act → W;
+      special = λ r. is_init (Serves r);
+    }
+
+    under_fact : (free : Bool) (act : Act) (n : Node) (a : Bool) → Fits free (Some act) n → IsUp n → IsUp (acted act n) → (PreparesIt (Some act) → W) → Fact ⊥ a n.durable → Fact W a (acted act n).durable
+    under_fact free act n a f up is q h has = elim (act_record free (Some act) n f up is has) [ inl old ↦ told_why W a (h old) | inr new ↦ inr (q new) ]
+
+    lasts_fact : (n : Node) (a : Bool) → IsOnceDisk n.name n.durable n.settled → HasLast o n → Fact W a n.durable → Fact W (prepared_by serial (last_lines n) a) n.durable
     lasts_fact n a once last h has = go n.durable.last refl
       where
-        at : (s : Settlement) → ((s.serial ≡ serial → ⊥) ⊎ W) → (out : Outcome) (r : Option Reason) → Why (prepared_by serial (elim out as (λ y. List Line) [ Commit ↦ line.LastCommitted s.tid s.serial s.moment ∷ [] | Abort ↦ elim r as (λ y. List Line) [ Some reason ↦ line.LastAborted s.tid s.serial reason s.moment ∷ [] | None ↦ [] ] ]) a)
+        at : (s : Settlement) → ((s.serial ≡ serial → ⊥) ⊎ W) → (out : Outcome) (r : Option Reason) → Why W (prepared_by serial (elim out as (λ y. List Line) [ Commit ↦ line.LastCommitted s.tid s.serial s.moment ∷ [] | Abort ↦ elim r as (λ y. List Line) [ Some reason ↦ line.LastAborted s.tid s.serial reason s.moment ∷ [] | None ↦ [] ] ]) a)
         at s (inr w) Commit r = inr w
         at s (inr w) Abort (Some reason) = inr w
         at s (inr w) Abort None = inr w
-        at s (inl never) Commit r = cleared a s.serial never (h has)
-        at s (inl never) Abort (Some reason) = cleared a s.serial never (h has)
+        at s (inl never) Commit r = cleared W a s.serial never (h has)
+        at s (inl never) Abort (Some reason) = cleared W a s.serial never (h has)
         at s (inl never) Abort None = h has
 
         apart : (s : Settlement) → n.durable.last ≡ Some s → (b : Bool) → same_id serial s.serial ≡ b → (s.serial ≡ serial → ⊥) ⊎ W
         apart s is false off = inl (λ same. both_ways (same_id serial s.serial) off (ap (same_id serial) same ∙ id_itself serial))
-        apart s is true on = elim (last s is) [ inl i ↦ inl (λ same. gone n s once i has same) | inr m ↦ inr (late s m.0 m.1 m.2 (sym (id_is serial s.serial on))) ]
+        apart s is true on = elim (last s is) [ inl i ↦ inl (λ same. gone W n s once i has same) | inr m ↦ inr (late s m.0 m.1 m.2 (sym (id_is serial s.serial on))) ]
 
-        go : (x : Option Settlement) → n.durable.last ≡ x → Why (prepared_by serial (elim x as (λ y. List Line) [ Some s ↦ last_line s | None ↦ [] ]) a)
+        go : (x : Option Settlement) → n.durable.last ≡ x → Why W (prepared_by serial (elim x as (λ y. List Line) [ Some s ↦ last_line s | None ↦ [] ]) a)
         go (Some s) is = at s (apart s is (same_id serial s.serial) refl) s.outcome s.reason
         go None is = h has
 
-    closes_fact : (bs : List Branch) (a : Bool) → Why a → Why (prepared_by serial (map prepared_line bs) a)
+    closes_fact : (bs : List Branch) (a : Bool) → Why W a → Why W (prepared_by serial (map prepared_line bs) a)
     closes_fact [] a w = w
-    closes_fact (b ∷ bs) a w = closes_fact bs (a || same_id serial b.key.serial) (added a (same_id serial b.key.serial) w)
+    closes_fact (b ∷ bs) a w = closes_fact bs (a || same_id serial b.key.serial) (added W a (same_id serial b.key.serial) w)
 
-    half_fact : (x : Option Id) (standing : List ℕ → Rattle.unit_laws.specs.Units.Map) (d : Durable) (a : Bool) → Fact a d → Fact a (with_half x standing d)
+    half_fact : (x : Option Id) (standing : List ℕ → Rattle.unit_laws.specs.Units.Map) (d : Durable) (a : Bool) → Fact W a d → Fact W a (with_half x standing d)
     half_fact None standing d a h = h
     half_fact (Some id) standing d a h = h
 
@@ -200,20 +222,24 @@ module _ (tid serial : Id) where
     half_last None standing d = refl
     half_last (Some id) standing d = refl
 
-    pub row_up : (free : Bool) (r : Row) (n : Node) (a : Bool) → RowFits free r n → IsUp (node_after r.act n) → IsOnceUp free n × HasLast o n × Fact a n.durable →
-        IsOnceUp (free_after free r.act) (node_after r.act n) × HasLast o (node_after r.act n) × Fact (prepared_by serial r.lines a) (node_after r.act n).durable
+    pub row_up : (free : Bool) (r : Row) (n : Node) (a : Bool) → RowFits free r n → IsUp (node_after r.act n) → IsOnceUp free n × HasLast o n × Fact ⊥ a n.durable →
+        IsOnceUp (free_after free r.act) (node_after r.act n) × HasLast o (node_after r.act n) × Fact ⊥ (prepared_by serial r.lines a) (node_after r.act n).durable
     row_up free r n a f up h =
         let once = once_keeps.row free r n tt tt f up h.0 in
-        (once, after_last o r.act n h.1, row_fact free r n a f up (once_keeps.falls (free_after free r.act) tt (node_after r.act n) up once) h.2)
+        (once, after_last o r.act n h.1, row_fact ⊥ free r n a f up (once_keeps.falls (free_after free r.act) tt (node_after r.act n) up once) h.2)
 
     -- the same of rows, whatever they prepare
-    pub rows_up : (free : Bool) (rs : List Row) (n : Node) (a : Bool) → EachFits free rs n → IsOnceUp free n × HasLast o n × Fact a n.durable →
-        IsUp (node_after_rows rs n) × IsOnceUp false (node_after_rows rs n) × HasLast o (node_after_rows rs n) × Fact (prepared_by serial (lines_of_rows rs) a) (node_after_rows rs n).durable
+    pub rows_up : (free : Bool) (rs : List Row) (n : Node) (a : Bool) → EachFits free rs n → IsOnceUp free n × HasLast o n × Fact ⊥ a n.durable →
+        IsUp (node_after_rows rs n) × IsOnceUp false (node_after_rows rs n) × HasLast o (node_after_rows rs n) × Fact ⊥ (prepared_by serial (lines_of_rows rs) a) (node_after_rows rs n).durable
     rows_up free [] n a f h = (f, once_keeps.weaken free tt n h.0, h.1, h.2)
     rows_up free (r ∷ rs) n a f h =
         let m = node_after r.act n in
         let more = rows_up (free_after free r.act) rs m (prepared_by serial r.lines a) f.1 (row_up free r n a f.0 (first_up (free_after free r.act) rs m f.1) h) in
-        (more.0, more.1, more.2, subst (λ b. Fact b (node_after_rows rs m).durable) (sym (told_append serial r.lines (lines_of_rows rs) a)) more.3)
+        (more.0, more.1, more.2, subst (λ b. Fact ⊥ b (node_after_rows rs m).durable) (sym (told_append serial r.lines (lines_of_rows rs) a)) more.3)
+
+    told_here : (a : Bool) (n : Node) → IsClosed recorded a n → HasIt n.durable → a ≡ true
+    told_here a n closed (r, i, s, t) = closed.told
+        ∙ tells_it (prepared_left (closed.found).durable) closed.before r (in_ordered (prepared_serials (closed.found).durable.units.entries) (prepared_of (records_in (closed.found).durable.log)) r (subst (λ ss. In r (prepared_of (records_in ss))) closed.log i)) s
 
     pub recorded_keeps : Keeps recorded
     recorded_keeps = record {
@@ -223,11 +249,11 @@ module _ (tid serial : Id) where
       same = λ a n m name durable settled h. (
         once_keeps.same tt n m name durable settled h.0,
         λ t e. elim (h.1 t (ap (λ (d : Durable). d.last) (sym durable) ∙ e)) [ inl i ↦ inl (subst (In t) (sym settled) i) | inr was ↦ inr was ],
-        subst (Fact a) (sym durable) h.2,
+        subst (Fact W a) (sym durable) h.2,
       );
       row = λ free r n a q f up h. row_up free r n a f up h;
       under = λ free r n a act q f is d up h. (once_keeps.under free r n tt act tt f is d up h.0, acted_last o act n h.1, under_fact free act n a (subst (λ x. Fits free x n) is f.fits) f.up up (subst (λ x. PreparesIt x → W) is q) h.2);
-      falls = λ free a n up h. (once_keeps.falls free tt n up h.0, h.1, h.2);
+      falls = λ free a n up h. (once_keeps.falls free tt n up h.0, h.1, λ has. told_why W a (h.2 has));
       weaken = λ free a n h. (once_keeps.weaken free tt n h.0, h.1, h.2);
       half = λ a n standing k ready may h. (
         once_keeps.half tt n standing k tt may h.0,
@@ -239,13 +265,13 @@ module _ (tid serial : Id) where
       booting = λ a n k h. (once_keeps.booting tt n k h.0, h.1, h.2);
       undoes = λ a n u next h.
           let once = once_keeps.undoes tt n u next h.0 in
-          (once, acted_last o (Tables (table.Undoes (unit_key u)) (next_moment n)) n h.1, λ has. cleared a u.serial (λ same. gone (acted (Tables (table.Undoes (unit_key u)) (next_moment n)) n) (settlement (unit_key u) Abort SegFail (next_moment n)) once.disk (inl refl) has same) (h.2 has));
+          (once, acted_last o (Tables (table.Undoes (unit_key u)) (next_moment n)) n h.1, λ has. cleared W a u.serial (λ same. gone W (acted (Tables (table.Undoes (unit_key u)) (next_moment n)) n) (settlement (unit_key u) Abort SegFail (next_moment n)) once.disk (inl refl) has same) (h.2 has));
       undoing = λ a n u next h. (once_keeps.undoing tt n u next h.0, acted_last o (Tables (table.Undoes (unit_key u)) (next_moment n)) n h.1, h.2);
       rests = λ a n k h. (once_keeps.rests tt n k h.0, h.1, h.2);
       none_ready = λ n e. tt;
       same_ready = λ n m e h. tt;
       closes = λ a n m log up h. (h.0, h.1, λ has. closes_fact (booted n.durable).branches a (h.2 has));
-      comes = λ a n up h. (once_keeps.comes tt n up h.0, h.1, h.2);
+      comes = λ a n up h closed. (once_keeps.comes tt n up h.0 (record { before = tt; found = n; log = refl; told = refl }), h.1, λ has. inl (told_here a n closed has));
     }
 
 -- A reason for another.
@@ -254,7 +280,7 @@ pub kept_for : (tid serial : Id) (o : Option Node) (V W : Type 0) (f : (s : Sett
 kept_for tid serial o V W f g a n gives h = record {
   disk = (h.disk.0, h.disk.1, λ has. on (h.disk.2 has));
   way = λ act e. let d = h.way act e in (d.0, d.1, λ has. on (d.2 has));
-  runs = λ up. let d = h.runs up in (d.0, d.1, λ has. on (d.2 has));
+  runs = λ up. h.runs up;
 }
   where
     on : (a ≡ true) ⊎ V → (a ≡ true) ⊎ W

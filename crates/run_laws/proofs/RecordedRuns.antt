@@ -11,7 +11,6 @@ use Rattle.transcript_model.specs.Lines.{Line, Cause}
 use Rattle.script_model.specs.Statements.{Statement, At, AckEvent, Clock, Deliver, EndBranch, Init, LinkDown, Settle, Request, Reading, Blank, Says, Bad, Named as SaidName}
 use Rattle.script_model.specs.Grammar.{reading}
 use Rattle.records_model.specs.History.{same_id}
-use Rattle.commit_protocol.specs.Messages as message
 use Rattle.commit_protocol.specs.Messages.{LogRecord, Message, Name, Reply}
 use Rattle.commit_protocol.specs.Table.{Branch, Key as BranchKey, child, key_of}
 use Rattle.commit_protocol.specs.Rows as rows
@@ -36,10 +35,9 @@ use Rattle.world_laws.proofs.TableLemmas.{one_branch}
 use Rattle.world_laws.proofs.UpLemmas.{differ}
 use Rattle.world_laws.proofs.WorldLemmas.{each_opening}
 use Rattle.run_laws.specs.Accounts.{made_anew}
-use Rattle.run_laws.specs.Causes.{DeliversTo, Replies}
 use Rattle.run_laws.specs.Laws.{BootedHold}
 use Rattle.run_laws.specs.Naming.{IsNamed}
-use Rattle.run_laws.specs.Promises.{Boots, WasItsLast, WasPreparing, is_left_prepared, is_told_prepared, prepared_by}
+use Rattle.run_laws.specs.Promises.{Boots, IsPreparing, WasItsLast, WasPreparing, is_left_prepared, is_told_prepared, prepared_by}
 use Rattle.run_laws.proofs.BootsPrepared.{boots_find, disk_then, in_ordered, told_shown}
 use Rattle.run_laws.proofs.Casting.{TaskCasts}
 use Rattle.run_laws.proofs.CauseRuns.{known_before}
@@ -76,10 +74,10 @@ module _ (nodes : List Node) (disks : List DiskCounts) (opening : AreOpening nod
   abbrev start : World
   start = opened nodes disks
 
-  abbrev Reason : List Entry → Type 0
+  abbrev pub Reason : List Entry → Type 0
   Reason es = WasPreparing es tid serial ⊎ WasItsLast serial (opened nodes disks)
 
-  late : (es : List Entry) (s : Settlement) (m : Node) → find_node serial.node nodes ≡ Some m → m.durable.last ≡ Some s → s.serial ≡ serial → Reason es
+  pub late : (es : List Entry) (s : Settlement) (m : Node) → find_node serial.node nodes ≡ Some m → m.durable.last ≡ Some s → s.serial ≡ serial → Reason es
   late es s m is last same = inr (m, is, s, last, same)
 
   later_reason : (e : Entry) (es : List Entry) → Reason es → Reason (e ∷ es)
@@ -89,7 +87,7 @@ module _ (nodes : List Node) (disks : List DiskCounts) (opening : AreOpening nod
   abbrev Keeps : List Entry → Bool → Node → Type 0
   Keeps es a n = KeptNode tid serial (Reason es) (find_node serial.node nodes) (late es) a n
 
-  abbrev Known : List Entry → Bool → World → Type 0
+  abbrev pub Known : List Entry → Bool → World → Type 0
   Known es a w = IsKnown tid serial (Reason es) (find_node serial.node nodes) (late es) a w
 
   opening_known : (n : Node) → find_node serial.node nodes ≡ Some n → IsOpening n → Keeps [] (is_left_prepared serial start) n
@@ -102,6 +100,36 @@ module _ (nodes : List Node) (disks : List DiskCounts) (opening : AreOpening nod
       left : HasIt tid serial n.durable → is_left_prepared serial (opened nodes disks) ≡ true
       left (r, i, s, t) = ap (λ (x : Option Node). elim x as (λ y. Bool) [ Some m ↦ list_any (λ (q : LogRecord). same_id serial q.serial) (prepared_left m.durable) | None ↦ false ]) found
           ∙ in_any (λ (q : LogRecord). same_id serial q.serial) r (prepared_left n.durable) (in_ordered (prepared_serials n.durable.units.entries) (prepared_of (records_in n.durable.log)) r i) (ap (same_id serial) s ∙ id_itself serial)
+
+  -- What a task prepares tells what prepares it.
+  module _ (es : List Entry) (w : World) (legal : Legal (opened nodes disks) es w) where
+    pub deliver_prepares : (number : ℕ) (m : Message) (n : Node) → message_at number w.shared.wire ≡ Some m → (b : Branch) → PreparesBy n.volatile.branches (rows.Got m) b → b.key ≡ child tid serial → IsPreparing es (Deliver number) tid serial
+    deliver_prepares number m n is b q same =
+        let key : key_of m ≡ child tid serial = q.4.1 ∙ sym q.3 ∙ same in
+        inl (number, m, refl, was_sent nodes disks es w number m opening legal is, q.4.0, ap (λ (k : BranchKey). k.tid) key, ap (λ (k : BranchKey). k.serial) key)
+
+    pub end_prepares : (other label : List ℕ) (n : Node) → n.up ≡ true → other ≡ serial.node → find_node other w.nodes ≡ Some n → (b : Branch) → TaskCasts w.shared n (Serves (EndBranch label)) b → b.key ≡ child tid serial → IsPreparing es (At other (EndBranch label)) tid serial
+    end_prepares other label n up home found b (c, is, q) same =
+        let up_n : IsUp n = ((sound_node w (legal_sound (opened nodes disks) w es (opening_sound nodes disks opening) legal) other n found).kept.runs up).0 in
+        let l : LabelOf w.shared n label c = label_of w.shared n label c is in
+        let one : c ≡ q.0 = one_branch n.volatile.branches c q.0 (differ n up_n.table) l.branch q.1 (sym q.4.1) in
+        let key : c.key ≡ child tid serial = ap (λ (y : Branch). y.key) one ∙ sym q.3 ∙ same in
+        let nb : NamedBranch es other label c = named_branch es w other label n c (legal_named nodes disks es w opening legal) found is (ap (λ (y : Branch). is_prepared y.state) one ∙ q.2) in
+        inr (inl (label, ap (λ y. At y (EndBranch label)) home, subst (λ y. IsNamed es y label tid serial) home (subst (λ (k : BranchKey). IsNamed es other label k.tid k.serial) key nb.named)))
+
+    pub reply_prepares : (other : List ℕ) (who : SaidName) (rm : Name) (reply : Reply) (n : Node) → other ≡ serial.node → find_node other w.nodes ≡ Some n → (b : Branch) → TaskCasts w.shared n (Serves (AckEvent who rm reply)) b → b.key ≡ child tid serial → IsPreparing es (At other (AckEvent who rm reply)) tid serial
+    reply_prepares other who rm reply n home found b (x, is, q) same =
+        let key : (q.0).key ≡ child tid serial = sym q.3 ∙ same in
+        inr (inr (
+          reply,
+          (
+            who,
+            rm,
+            ap (λ y. Says (At y (AckEvent who rm reply))) home,
+            named_so es w (known_before nodes disks es w opening legal) other n found who x (child tid serial) is (record { branch = q.0; there = q.1; key = key; unprepared = q.2 }) (ap (λ (k : BranchKey). k.serial) (sym key) ∙ q.4.3),
+          ),
+          q.4.1,
+        ))
 
   -- One entry more.
   module _ (es : List Entry) (e : Entry) (w v : World) (legal : Legal (opened nodes disks) es w) where
@@ -118,24 +146,18 @@ module _ (nodes : List Node) (disks : List DiskCounts) (opening : AreOpening nod
     plainly r off k = subst (λ b. Known (e ∷ es) (not b && prepared_by serial e.lines told) v) (sym off) k
 
     -- a failure ended it that was to prepare the branch
-    broken : (s : Statement) → reading e.source.text ≡ Says s → (events : List Line) (cause : Cause) → e.lines ≡ events ++ line.Broken cause ∷ [] →
-        DeliversTo es (Says s) message.Prepare tid serial ⊎ ((label : List ℕ) × (s ≡ At serial.node (EndBranch label)) × IsNamed es serial.node label tid serial) ⊎ ((reply : Reply) × Replies es (Says s) tid serial reply × (is_veto reply ≡ false)) → Reason (e ∷ es)
+    broken : (s : Statement) → reading e.source.text ≡ Says s → (events : List Line) (cause : Cause) → e.lines ≡ events ++ line.Broken cause ∷ [] → IsPreparing es s tid serial → Reason (e ∷ es)
     broken s read events cause shown why = inl (es, s, events, cause, record { after = []; entry = e; stands = refl; said = read; shown = shown }, why)
 
     -- a delivery
     deliver_known : (number : ℕ) → reading e.source.text ≡ Says (Deliver number) → Step w (Deliver number) e.lines v → Known (e ∷ es) told w → Known (e ∷ es) (prepared_by serial e.lines told) v
     deliver_known number read step h = go (message_at number w.shared.wire) refl
       where
-        asks : (m : Message) (n : Node) (cause : Cause) (events : List Line) → message_at number w.shared.wire ≡ Some m → e.lines ≡ events ++ line.Broken cause ∷ [] → (b : Branch) → PreparesBy n.volatile.branches (rows.Got m) b → b.key ≡ child tid serial → Reason (e ∷ es)
-        asks m n cause events is shown b q same =
-            let key : key_of m ≡ child tid serial = q.4.1 ∙ sym q.3 ∙ same in
-            broken (Deliver number) read events cause shown (inl (number, m, refl, was_sent nodes disks es w number m opening legal is, q.4.0, ap (λ (k : BranchKey). k.tid) key, ap (λ (k : BranchKey). k.serial) key))
-
         go : (x : Option Message) → message_at number w.shared.wire ≡ x → Known (e ∷ es) (prepared_by serial e.lines told) v
         go (Some m) is = one_known tid serial (Reason (e ∷ es)) (find_node serial.node nodes) (late (e ∷ es)) w v (Deliver number) e.lines m.to (Takes m) told (ap (option_map {U = TaskAt} (λ (x : Message). record { node = x.to; task = Takes x })) is) step sound
             (λ n c home found allowed shows k. own_whole tid serial (Reason (e ∷ es)) (find_node serial.node nodes) (late (e ∷ es)) w.shared (stops_at m.to w) n (Takes m) c (λ cause. RoseAt w m.to cause v.disks) told (sound_node w sound m.to n found) refl refl
-            (λ up outturn j b cause cut x q same. asks m n cause (task_effect w.shared (stops_at m.to w) n (Takes m) (Cut outturn j b cause)).lines is
-            (shows ∙ ap (λ y. (task_effect w.shared (stops_at m.to w) n (Takes m) y).lines ++ (task_effect w.shared (stops_at m.to w) n (Takes m) y).answer ∷ []) cut) x q same) allowed k) h
+            (λ up outturn j b cause cut x q same. broken (Deliver number) read (task_effect w.shared (stops_at m.to w) n (Takes m) (Cut outturn j b cause)).lines cause
+            (shows ∙ ap (λ y. (task_effect w.shared (stops_at m.to w) n (Takes m) y).lines ++ (task_effect w.shared (stops_at m.to w) n (Takes m) y).answer ∷ []) cut) (deliver_prepares es w legal number m n is x q same)) allowed k) h
         go None is =
             let r = refusals.0 w v (Deliver number) e.lines line.NoSuchMessage step (ap (λ (x : Option Message). elim x as (λ y. Option Line) [ Some m ↦ named_node w m.to | None ↦ Some line.NoSuchMessage ]) is) in
             subst (λ ls. Known (e ∷ es) (prepared_by serial ls told) v) (sym r.0) (subst (Known (e ∷ es) told) (sym r.1) h)
@@ -144,40 +166,15 @@ module _ (nodes : List Node) (disks : List DiskCounts) (opening : AreOpening nod
     end_known : (other label : List ℕ) → reading e.source.text ≡ Says (At other (EndBranch label)) → Step w (At other (EndBranch label)) e.lines v → Known (e ∷ es) told w → Known (e ∷ es) (prepared_by serial e.lines told) v
     end_known other label read step h = one_known tid serial (Reason (e ∷ es)) (find_node serial.node nodes) (late (e ∷ es)) w v (At other (EndBranch label)) e.lines other (Serves (EndBranch label)) told refl step sound
         (λ n c home found allowed shows k. own_whole tid serial (Reason (e ∷ es)) (find_node serial.node nodes) (late (e ∷ es)) w.shared (stops_at other w) n (Serves (EndBranch label)) c (λ cause. RoseAt w other cause v.disks) told (sound_node w sound other n found) refl refl
-        (λ up outturn j b cause cut x q same. ends n cause (task_effect w.shared (stops_at other w) n (Serves (EndBranch label)) (Cut outturn j b cause)).lines up home found
-        (shows ∙ ap (λ y. (task_effect w.shared (stops_at other w) n (Serves (EndBranch label)) y).lines ++ (task_effect w.shared (stops_at other w) n (Serves (EndBranch label)) y).answer ∷ []) cut) x q same) allowed k) h
-      where
-        ends : (n : Node) (cause : Cause) (events : List Line) → n.up ≡ true → other ≡ serial.node → find_node other w.nodes ≡ Some n → e.lines ≡ events ++ line.Broken cause ∷ [] → (b : Branch) → TaskCasts w.shared n (Serves (EndBranch label)) b → b.key ≡ child tid serial → Reason (e ∷ es)
-        ends n cause events up home found shown b (c, is, q) same =
-            let up_n : IsUp n = ((sound_node w sound other n found).kept.runs up).0 in
-            let l : LabelOf w.shared n label c = label_of w.shared n label c is in
-            let one : c ≡ q.0 = one_branch n.volatile.branches c q.0 (differ n up_n.table) l.branch q.1 (sym q.4.1) in
-            let key : c.key ≡ child tid serial = ap (λ (y : Branch). y.key) one ∙ sym q.3 ∙ same in
-            let nb : NamedBranch es other label c = named_branch es w other label n c (legal_named nodes disks es w opening legal) found is (ap (λ (y : Branch). is_prepared y.state) one ∙ q.2) in
-            broken (At other (EndBranch label)) read events cause shown
-            (inr (inl (label, ap (λ y. At y (EndBranch label)) home, subst (λ y. IsNamed es y label tid serial) home (subst (λ (k : BranchKey). IsNamed es other label k.tid k.serial) key nb.named))))
+        (λ up outturn j b cause cut x q same. broken (At other (EndBranch label)) read (task_effect w.shared (stops_at other w) n (Serves (EndBranch label)) (Cut outturn j b cause)).lines cause
+        (shows ∙ ap (λ y. (task_effect w.shared (stops_at other w) n (Serves (EndBranch label)) y).lines ++ (task_effect w.shared (stops_at other w) n (Serves (EndBranch label)) y).answer ∷ []) cut) (end_prepares es w legal other label n up home found x q same)) allowed k) h
 
     -- a reply of a resource manager
     reply_known : (other : List ℕ) (who : SaidName) (rm : Name) (reply : Reply) → reading e.source.text ≡ Says (At other (AckEvent who rm reply)) → Step w (At other (AckEvent who rm reply)) e.lines v → Known (e ∷ es) told w → Known (e ∷ es) (prepared_by serial e.lines told) v
     reply_known other who rm reply read step h = one_known tid serial (Reason (e ∷ es)) (find_node serial.node nodes) (late (e ∷ es)) w v (At other (AckEvent who rm reply)) e.lines other (Serves (AckEvent who rm reply)) told refl step sound
         (λ n c home found allowed shows k. own_whole tid serial (Reason (e ∷ es)) (find_node serial.node nodes) (late (e ∷ es)) w.shared (stops_at other w) n (Serves (AckEvent who rm reply)) c (λ cause. RoseAt w other cause v.disks) told (sound_node w sound other n found) refl refl
-        (λ up outturn j b cause cut x q same. ends n cause (task_effect w.shared (stops_at other w) n (Serves (AckEvent who rm reply)) (Cut outturn j b cause)).lines home found
-        (shows ∙ ap (λ y. (task_effect w.shared (stops_at other w) n (Serves (AckEvent who rm reply)) y).lines ++ (task_effect w.shared (stops_at other w) n (Serves (AckEvent who rm reply)) y).answer ∷ []) cut) x q same) allowed k) h
-      where
-        ends : (n : Node) (cause : Cause) (events : List Line) → other ≡ serial.node → find_node other w.nodes ≡ Some n → e.lines ≡ events ++ line.Broken cause ∷ [] → (b : Branch) → TaskCasts w.shared n (Serves (AckEvent who rm reply)) b → b.key ≡ child tid serial → Reason (e ∷ es)
-        ends n cause events home found shown b (x, is, q) same =
-            let key : (q.0).key ≡ child tid serial = sym q.3 ∙ same in
-            broken (At other (AckEvent who rm reply)) read events cause shown
-            (inr (inr (
-              reply,
-              (
-                who,
-                rm,
-                ap (λ y. Says (At y (AckEvent who rm reply))) home,
-                named_so es w (known_before nodes disks es w opening legal) other n found who x (child tid serial) is (record { branch = q.0; there = q.1; key = key; unprepared = q.2 }) (ap (λ (k : BranchKey). k.serial) (sym key) ∙ q.4.3),
-              ),
-              q.4.1,
-            )))
+        (λ up outturn j b cause cut x q same. broken (At other (AckEvent who rm reply)) read (task_effect w.shared (stops_at other w) n (Serves (AckEvent who rm reply)) (Cut outturn j b cause)).lines cause
+        (shows ∙ ap (λ y. (task_effect w.shared (stops_at other w) n (Serves (AckEvent who rm reply)) y).lines ++ (task_effect w.shared (stops_at other w) n (Serves (AckEvent who rm reply)) y).answer ∷ []) cut) (reply_prepares es w legal other who rm reply n home found x q same)) allowed k) h
 
     -- a request, but an INIT of the node
     request_known : (other : List ℕ) (request : Request) → (bytes_eq other serial.node && is_init (Serves request)) ≡ false → reading e.source.text ≡ Says (At other request) → Step w (At other request) e.lines v → Known (e ∷ es) told w → Known (e ∷ es) (prepared_by serial e.lines told) v
@@ -271,7 +268,7 @@ module _ (nodes : List Node) (disks : List DiskCounts) (opening : AreOpening nod
         go (Says (LinkDown x y)) is t = plainly (Says (LinkDown x y)) refl (phases_known tid serial (Reason (e ∷ es)) (find_node serial.node nodes) (late (e ∷ es)) w v (LinkDown x y) e.lines told (link_suits tid serial (Reason (e ∷ es)) (find_node serial.node nodes) (late (e ∷ es)) x y) t sound h)
         go (Says Settle) is t = plainly (Says Settle) refl (phases_known tid serial (Reason (e ∷ es)) (find_node serial.node nodes) (late (e ∷ es)) w v Settle e.lines told (settle_suits tid serial (Reason (e ∷ es)) (find_node serial.node nodes) (late (e ∷ es))) t sound h)
 
-  legal_known : (es : List Entry) (w : World) → Legal (opened nodes disks) es w → Known es (is_told_prepared serial (opened nodes disks) es) w
+  pub legal_known : (es : List Entry) (w : World) → Legal (opened nodes disks) es w → Known es (is_told_prepared serial (opened nodes disks) es) w
   legal_known [] w legal = subst (Known [] (is_left_prepared serial (opened nodes disks))) (sym legal) (λ n found. opening_known n found (each_opening nodes opening serial.node n found))
   legal_known (e ∷ es) w legal = turn_known es e legal.0 w legal.1 legal.2 (legal_known es legal.0 legal.1)
 

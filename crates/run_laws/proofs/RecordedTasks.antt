@@ -120,10 +120,10 @@ module _ (tid serial : Id) (W : Type 0) (o : Option Node) (late : (s : Settlemen
           (put_known w node n task c (λ cause. RoseAt w node cause v.disks) a found allowed sound (λ home k. does n c home found allowed shows k) h m (subst (λ (x : World). find_node serial.node x.nodes ≡ Some m) goes now))
 
   -- one of more parts, by which nothing is prepared
-  abbrev Suits : Part → Type 0
+  abbrev pub Suits : Part → Type 0
   Suits p = (u : World) (other : List ℕ) (task : Task) → task_of_part u p ≡ Some (record { node = other; task = task }) → (is_init task ≡ false) × ((s : Shared) (n : Node) (b : Branch) → TaskCasts s n task b → ⊥)
 
-  part_known : (u : World) (p : Part) (c : Choice) (after : List DiskCounts) (a : Bool) → Allowed u p after c → IsSound u → Suits p → IsKnown a u → IsKnown (prepared_by serial (part_effect u p c).lines a) (part_effect u p c).world
+  pub part_known : (u : World) (p : Part) (c : Choice) (after : List DiskCounts) (a : Bool) → Allowed u p after c → IsSound u → Suits p → IsKnown a u → IsKnown (prepared_by serial (part_effect u p c).lines a) (part_effect u p c).world
   part_known u p c after a allowed sound suits h = go (view u p)
     where
       go : View u p → IsKnown (prepared_by serial (part_effect u p c).lines a) (part_effect u p c).world
@@ -139,7 +139,7 @@ module _ (tid serial : Id) (W : Type 0) (o : Option Node) (late : (s : Settlemen
   thin_suits : (other : List ℕ) (task : Task) → IsThinning task → Suits (Does other task)
   thin_suits other task thin = does_suits other task (thin_init task thin) (λ s n b q. thin_casts s n task thin b q)
 
-  asks_suits : (other : List ℕ) (x : Id) → Suits (Asks other x)
+  pub asks_suits : (other : List ℕ) (x : Id) → Suits (Asks other x)
   asks_suits other x u y t is = go (question u other x) refl is
     where
       go : (q : Question) → question u other x ≡ q → asked_by q ≡ Some (record { node = y; task = t }) → (is_init t ≡ false) × ((s : Shared) (n : Node) (b : Branch) → TaskCasts s n t b → ⊥)

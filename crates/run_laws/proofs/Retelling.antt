@@ -102,7 +102,7 @@ module _ (rm : Name) where
         of j = let x = told_owed (committed_of (records_in declared.n.durable.log)) (line.ManagerTold CommitEvent tid serial rm) (only (lines declared.n) j) in (x.0, x.1, serial_told tid serial x.0 x.3, tid_told tid serial x.0 x.3, x.2)
 
 -- The record of a node that is up is of a branch of that node.
-record_home : (n : Node) → IsUp n → (r : LogRecord) → In r n.volatile.records → r.serial.node ≡ n.name
+pub record_home : (n : Node) → IsUp n → (r : LogRecord) → In r n.volatile.records → r.serial.node ≡ n.name
 record_home n up r i = (up.table.drawn r.serial (in_right r.serial (branch_serials n.volatile.branches) (record_serials n.volatile.records) (in_serial r n.volatile.records i))).0
 
 not_forgetting : (node other : List ℕ) (rm : Name) → MayForget node rm (Says (At other (DeclareRm rm))) → ⊥

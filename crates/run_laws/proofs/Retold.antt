@@ -171,7 +171,7 @@ module _ (x : Id) where
     rests = λ a n k h. ((gone_keeps Any).rests tt n k h.0, told_last a n.durable.last n.settled h.1);
     none_ready = λ n e. tt;
     same_ready = λ n m e h. tt;
-    comes = λ a n up h. ((gone_keeps Any).comes tt n up h.0, h.1);
+    comes = λ a n up h closed. ((gone_keeps Any).comes tt n up h.0 (record { before = tt; found = n; log = refl; told = refl }), h.1);
   }
 
   -- What is told stays so, and what was told of others may be forgotten.

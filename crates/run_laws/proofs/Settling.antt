@@ -24,11 +24,17 @@ pub record IsOpen (bs : List Branch) (k : Key) : Type 0 where
 abbrev pub HasAccepted : Branch → Id → Type 0
 HasAccepted b s = (c : Child) × In c b.accepted × (c.serial ≡ s)
 
+-- the branch of a message stands there and is prepared
+pub record IsReady (bs : List Branch) (m : Message) : Type 0 where
+  pub branch : Branch
+  pub there : find (key_of m) bs ≡ Some branch
+  pub prepared : branch.state ≡ Prepared
+
 -- by a message: a vote commits the first branch that is ending, a Commit its branch; a refused Join, an Abort and a No of an accepted serial abort
 abbrev pub MessageSettles : Tm → Kind → Message → Key → Outcome → Reason → Type 0
 MessageSettles tm Yes m k o reason = (o ≡ settles.Commit) × (k ≡ first m.tid) × (x : IsOpen tm.table k) × (x.branch.state ≡ Ending) × HasAccepted x.branch m.serial
 MessageSettles tm ReadOnly m k o reason = (o ≡ settles.Commit) × (k ≡ first m.tid) × (x : IsOpen tm.table k) × (x.branch.state ≡ Ending) × HasAccepted x.branch m.serial
-MessageSettles tm Commit m k o reason = (o ≡ settles.Commit) × (k ≡ key_of m)
+MessageSettles tm Commit m k o reason = (o ≡ settles.Commit) × (k ≡ key_of m) × IsReady tm.table m
 MessageSettles tm Abort m k o reason = (o ≡ settles.Abort) × (reason ≡ Aborted) × (k ≡ key_of m)
 MessageSettles tm JoinNo m k o reason = (o ≡ settles.Abort) × (reason ≡ SyncFail) × (k ≡ key_of m) × IsOpen tm.table k
 MessageSettles tm No m k o reason = (o ≡ settles.Abort) × (reason ≡ Vetoed) × (k ≡ first m.tid) × (x : IsOpen tm.table k) × HasAccepted x.branch m.serial
@@ -198,13 +204,13 @@ module _ (P : Key → Outcome → Reason → Type 0) where
       go Active e = tt
       go Prepared e = tt
 
-  commit_settles : (m : Message) (o : Option Branch) → FoundSo o (λ b. P b.key settles.Commit Aborted) → AllSettle P (commit_row m o)
+  commit_settles : (m : Message) (o : Option Branch) → FoundSo o (λ b. b.state ≡ Prepared → P b.key settles.Commit Aborted) → AllSettle P (commit_row m o)
   commit_settles m None h = (tt, tt)
-  commit_settles m (Some b) h = go b.state
+  commit_settles m (Some b) h = go b.state refl
     where
-      go : (s : State) → AllSettle P (commit_state b s)
-      go Prepared = (h b refl, (tt, tells_settle CommitEvent b.key (holding b.managers)))
-      go _ = tt
+      go : (s : State) → b.state ≡ s → AllSettle P (commit_state b s)
+      go Prepared e = (h b refl e, (tt, tells_settle CommitEvent b.key (holding b.managers)))
+      go _ e = tt
 
   abort_settles : (o : Option Branch) → FoundSo o (λ b. P b.key settles.Abort Aborted) → AllSettle P (abort_row o)
   abort_settles None h = tt
@@ -323,7 +329,7 @@ row_settles tm e = go e
     message m Yes = vote_settles (MessageSettles tm Yes m) m.serial Yes (find (first m.tid) tm.table) (λ b is e t. (refl, find-key (first m.tid) tm.table b is, at (first m.tid) b is (ap is_prepared e), e, voted m.serial b t))
     message m ReadOnly = vote_settles (MessageSettles tm ReadOnly m) m.serial ReadOnly (find (first m.tid) tm.table) (λ b is e t. (refl, find-key (first m.tid) tm.table b is, at (first m.tid) b is (ap is_prepared e), e, voted m.serial b t))
     message m No = no_settles (MessageSettles tm No m) m.serial (find (first m.tid) tm.table) (λ b is u t. (refl, refl, find-key (first m.tid) tm.table b is, at (first m.tid) b is u, accepted_in (λ c. same_id c.serial m.serial) m.serial b.accepted (λ c x. same_id-true c.serial m.serial x) t))
-    message m Commit = commit_settles (MessageSettles tm Commit m) m (find (key_of m) tm.table) (λ b is. (refl, find-key (key_of m) tm.table b is))
+    message m Commit = commit_settles (MessageSettles tm Commit m) m (find (key_of m) tm.table) (λ b is e. (refl, find-key (key_of m) tm.table b is, record { branch = b; there = is; prepared = e }))
     message m Abort = abort_settles (MessageSettles tm Abort m) (find (key_of m) tm.table) (λ b is. (refl, refl, find-key (key_of m) tm.table b is))
     message m Ack = if_settles (MessageSettles tm Ack m) (list_any (λ r. waits_for (key_of m) r) tm.records) (Acknowledges (key_of m) ∷ []) [] (λ t. (tt, tt)) (λ t. tt)
     message m Inquire = inquire_settles (MessageSettles tm Inquire m) m (find (first m.tid) tm.table) tm.records

@@ -216,7 +216,7 @@ module _ (t : Scheme) (k : Keeps t) (node : List ℕ) where
   special_part (Does other task) = bytes_eq other node && is_special t task
   special_part (Asks other serial) = false
 
-  plain_task : (w : World) (p : Part) (task : Task) → task_of_part w p ≡ Some (record { node = node; task = task }) → special_part p ≡ false → is_special t task ≡ false
+  pub plain_task : (w : World) (p : Part) (task : Task) → task_of_part w p ≡ Some (record { node = node; task = task }) → special_part p ≡ false → is_special t task ≡ false
   plain_task w (Does other u) task e off = subst (λ (x : TaskAt). is_special t x.task ≡ false) (some_is _ _ e) (go (bytes_eq other node) ((bytes_eq-Decides other node).1 (ap (λ (x : TaskAt). x.node) (some_is _ _ e))) off)
     where
       go : (b : Bool) → b ≡ true → (b && is_special t u) ≡ false → is_special t u ≡ false

@@ -11,7 +11,7 @@ use Rattle.commit_protocol.specs.Rows as rows
 use Rattle.commit_protocol.specs.Rows.{got, row, Got}
 use Rattle.commit_protocol.specs.World.{In}
 use Rattle.run_model.specs.World.{Shared, Node, Settlement, Tables, acted, message_limit, next_moment, shared_after, tm_of}
-use Rattle.run_model.specs.Answers.{Row, Hears, outcome_told, refused_before_reading, shown_by, table_rows, task_service}
+use Rattle.run_model.specs.Answers.{Row, Hears, Takes, outcome_told, refused_before_reading, shown_by, table_rows, task_service}
 use Rattle.run_model.specs.Steps.{Choice, Whole, WithoutMemory, Unpowered, Cut, lines_of_rows, ready_node, task_effect, whole}
 use Rattle.run_laws.specs.Promises.{shown_in}
 use Rattle.run_laws.proofs.EachRow.{ArePlain, is_plain}
@@ -160,3 +160,23 @@ heard_front s stops n m (Whole outturn) kind front this behind x e shown = go (r
 heard_front s stops n m WithoutMemory kind front this behind x e shown = absurd (plain_split [] front this behind x tt e shown)
 heard_front s stops n m Unpowered kind front this behind x e shown = absurd (plain_split (line.Down n.name line.Failed ∷ []) front this behind x (refl, tt) e shown)
 heard_front s stops n m (Cut outturn done started cause) kind front this behind x e shown = let ready = ready_node outturn stops (task_service (Hears m)) n in heard_rows s ready m done (line.Down ready.name cause ∷ []) kind (refl, tt) front this behind x e shown
+
+-- What one that takes such a message shows to be settled stands first of all.
+pub taken_front : (s : Shared) (stops : ℕ) (n : Node) (m : Message) (c : Choice) → (m.kind ≡ message.Commit) ⊎ (m.kind ≡ message.Abort) → (front : List Line) (this : Line) (behind : List Line) (x : Settlement) → (task_effect s stops n (Takes m) c).lines ≡ front ++ this ∷ behind → shown_in this ≡ Some x →
+    front ≡ []
+taken_front s stops n m (Whole outturn) kind front this behind x e shown = go (refused_before_reading s n (task_service (Takes m))) e
+  where
+    ready : Node
+    ready = ready_node outturn stops (task_service (Takes m)) n
+
+    rs : List Row
+    rs = (task_service (Takes m)).rows s ready
+
+    go : (o : Option Line) → (whole s n ready (task_service (Takes m)) o).lines ≡ front ++ this ∷ behind → front ≡ []
+    go (Some refusal) f = absurd (plain_split [] front this behind x tt f shown)
+    go None f = first_head (row (tm_of ready) (Got m)) s ready (length rs) [] (heard_first ready m kind) tt front this behind x (ap (λ qs. lines_of_rows qs ++ []) (take_whole rs) ∙ f) shown
+taken_front s stops n m WithoutMemory kind front this behind x e shown = absurd (plain_split [] front this behind x tt e shown)
+taken_front s stops n m Unpowered kind front this behind x e shown = absurd (plain_split (line.Down n.name line.Failed ∷ []) front this behind x (refl, tt) e shown)
+taken_front s stops n m (Cut outturn done started cause) kind front this behind x e shown =
+    let ready = ready_node outturn stops (task_service (Takes m)) n in
+    first_head (row (tm_of ready) (Got m)) s ready done (line.Down ready.name cause ∷ []) (heard_first ready m kind) (refl, tt) front this behind x e shown

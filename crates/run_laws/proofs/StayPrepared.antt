@@ -354,7 +354,7 @@ module _ (serial : Id) where
       | inl is ↦ h is
       | inr q ↦ (let l = left_record n q.0 serial q.1 in (l.record_, subst (λ ss. In l.record_ (prepared_of (records_in ss))) (sym log) l.there, l.serial_is))
     ];
-    comes = λ a n up h. (λ e. to_table (acted ComesUp n) up (h e), λ e i. let no : ⊥ = cc in no);
+    comes = λ a n up h closed. (λ e. to_table (acted ComesUp n) up (h e), λ e i. let no : ⊥ = cc in no);
   }
 
   pub kept_false : (n : Node) → Kept preparing preparing_keeps false n

@@ -107,7 +107,7 @@ waiting_keeps = record {
   rests = λ a n k h. tt;
   none_ready = λ n e. tt;
   same_ready = λ n m e h. tt;
-  comes = λ a n up h. h;
+  comes = λ a n up h closed. h;
 }
 
 takes_of : (rs : List Row) → RowsHold rs → AllTake waiting rs

@@ -182,7 +182,7 @@ voted_keeps = record {
   none_ready = λ n e. tt;
   same_ready = λ n m e h. tt;
   closes = closes_of;
-  comes = λ a n up h. h;
+  comes = λ a n up h closed. h;
 }
   where
     after_name : (o : Option Act) (n : Node) → (node_after o n).name ≡ n.name

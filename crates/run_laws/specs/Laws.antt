@@ -21,7 +21,7 @@ use Rattle.run_laws.specs.SaidLaws.{SaidThere}
 use Rattle.run_laws.specs.Anew.{AreKnownOrAnew}
 use Rattle.run_laws.specs.Agreed.{AgreedRun, EndsHoldAll, SettlesWhole}
 use Rattle.run_laws.specs.Showing.{AbortsShow, DirectsShow, EndsShow}
-use Rattle.run_laws.specs.Promises.{ShownThere, ReasonFits, WasLast, shown_in, last_in, Descends, SettledOnce, KeptPromises, EndsCommit, EndsAbort, EndedSo, FailsAreMissing, WaitsAreWhole, AbortsAbort, DirectsCommit, IdsAreNew, CommitsAreKept, AbortsAreKept, FailuresAreDecided, RestartsDecide, AllAreShown, IsLastApart, LastsAreKept, LastsFirst, FallsWereBegun, LastFallsWereBegun, BootsShowLast, LastsWereAsked, LastsWereCaused, BootsShowPrepared, PreparedAreTold, ReadOnlyChangedNothing, AbortsStand, AreLastApart, DumpPromises, settlements_of}
+use Rattle.run_laws.specs.Promises.{ShownThere, ReasonFits, WasLast, shown_in, last_in, Descends, SettledOnce, KeptPromises, EndsCommit, EndsAbort, EndedSo, FailsAreMissing, WaitsAreWhole, AbortsAbort, DirectsCommit, IdsAreNew, CommitsAreKept, AbortsAreKept, FailuresAreDecided, RestartsDecide, AllAreShown, IsLastApart, LastsAreKept, LastsFirst, FallsWereBegun, LastFallsWereBegun, BootsShowLast, LastsWereAsked, LastsWereCaused, BootsShowPrepared, OthersWerePrepared, PreparedAreTold, VotesWereCaused, LeavesWereCaused, ReadOnlyChangedNothing, AbortsStand, AreLastApart, DumpPromises, settlements_of}
 
 -- Each such transcript keeps the promises,
 abbrev pub PromisesAreKept : Type 0
@@ -100,6 +100,15 @@ CausedHold = InAllRuns (λ opening es closing. LastsWereCaused opening es)
 abbrev pub PreparedHold : Type 0
 PreparedHold = InAllRuns (λ opening es closing. PreparedAreTold opening es)
 
+abbrev pub OthersHold : Type 0
+OthersHold = InAllRuns (λ opening es closing. OthersWerePrepared opening es)
+
+abbrev pub VotesCausedHold : Type 0
+VotesCausedHold = InAllRuns (λ opening es closing. VotesWereCaused es)
+
+abbrev pub LeavesCausedHold : Type 0
+LeavesCausedHold = InAllRuns (λ opening es closing. LeavesWereCaused es)
+
 abbrev pub BootedHold : Type 0
 BootedHold = InAllRuns (λ opening es closing. BootsShowPrepared opening es)
 
@@ -176,11 +185,11 @@ ShownAreSettled = (nodes : List Node) (disks : List DiskCounts) (es : List Entry
     (before : List Entry) (said : Reading) (front behind : List Line) (this : Line) (s : Settlement) → ShownThere es before said front this behind → shown_in this ≡ Some s → (node : List ℕ) × In s (settlements_of node closing)
 
 -- What a line shows as the last settlement of a disk is shown of one that a node settled, from then on and for good, or of the last one that its disk had at the
--- opening.
+-- opening, where no INIT made its volume anew before.
 abbrev pub LastsAreSettled : Type 0
 LastsAreSettled = (nodes : List Node) (disks : List DiskCounts) (es : List Entry) (closing : World) → AreOpening nodes → Legal (opened nodes disks) es closing →
     (before : List Entry) (said : Reading) (front behind : List Line) (this : Line) (s : Settlement) → ShownThere es before said front this behind → last_in this ≡ Some s →
-    (node : List ℕ) × (((t : Settlement) × In t (settlements_of node closing) × (last_line t ≡ this ∷ [])) ⊎ WasLast node this (opened nodes disks))
+    (node : List ℕ) × (((t : Settlement) × In t (settlements_of node closing) × (last_line t ≡ this ∷ [])) ⊎ WasLast node this (opened nodes disks) before)
 
 -- The reason of an abort that a line shows comes only with a statement that it names.
 abbrev pub ReasonsComeSo : Type 0

@@ -1,5 +1,5 @@
 -- What a run promises of its transcript, in the words of those who keep records in its files.
-use Rattle.std.specs.Prelude.{◌≡◌, ℕ, ◌≤◌, ◌<◌, ◌⊎◌, List, [], ◌∷◌, ◌++◌, Bool, true, false, not, ◌&&◌, ◌||◌, Option, Some, None, map, length}
+use Rattle.std.specs.Prelude.{◌≡◌, ℕ, ◌≤◌, ◌<◌, ◌⊎◌, List, [], ◌∷◌, ◌++◌, Bool, true, false, not, ◌&&◌, ◌||◌, Option, Some, None, if◌then◌else◌, map, length}
 use Rattle.std.specs.List.{list_any}
 use Rattle.std.specs.Option.{option_map}
 use Rattle.std.specs.Str.{bytes_eq}
@@ -114,9 +114,14 @@ ReasonFits Timeout said = (node : List ℕ) × (now : ℕ) × (said ≡ Says (At
 ReasonFits CommFail said = (a : List ℕ) × (b : List ℕ) × (said ≡ Says (LinkDown a b))
 ReasonFits SegFail said = (said ≡ Says Settle) ⊎ ((node : List ℕ) × (said ≡ Says (At node Boot)))
 
--- this is the line of the last settlement that the disk of this node had
-abbrev pub WasLast : List ℕ → Line → World → Type 0
-WasLast node this opening = (n : Node) × (find_node node opening.nodes ≡ Some n) × (last_lines n ≡ this ∷ [])
+-- the node of this name at the opening, unless one of these entries made its volume anew
+abbrev pub left_at : List ℕ → List Entry → World → Option Node
+left_at node [] opening = find_node node opening.nodes
+left_at node (e ∷ es) opening = if made_anew node (reading e.source.text) e.lines then None else left_at node es opening
+
+-- this is the line of the last settlement that the disk of this node had at the opening, and none of these entries made its volume anew
+abbrev pub WasLast : List ℕ → Line → World → List Entry → Type 0
+WasLast node this opening es = (n : Node) × (left_at node es opening ≡ Some n) × (last_lines n ≡ this ∷ [])
 
 -- A failure of the disk of this branch's node ended a statement that was to commit it, or a settling right behind the line that it is told so. The lines of the
 -- statement need not tell it otherwise; what it asks for does.
@@ -242,7 +247,7 @@ FallsWereBegun opening es = (before : List Entry) (said : Reading) (front behind
 -- So is one that a boot shows as the last settlement of its disk, unless the disk had it so at the opening.
 abbrev pub LastFallsWereBegun : World → List Entry → Type 0
 LastFallsWereBegun opening es = (before : List Entry) (said : Reading) (front behind : List Line) (tid serial : Id) (moment : ℕ) → ShownThere es before said front (line.LastAborted tid serial SegFail moment) behind →
-    HasBegun before tid serial ⊎ WasLeft tid serial opening ⊎ WasLast serial.node (line.LastAborted tid serial SegFail moment) opening
+    HasBegun before tid serial ⊎ WasLeft tid serial opening ⊎ WasLast serial.node (line.LastAborted tid serial SegFail moment) opening before
 
 -- The nodes that a statement may put down: a request its own, a link that fails one of its two, and a delivery the one that its message goes to. Of a settling nothing
 -- is said here.
@@ -309,15 +314,33 @@ abbrev pub PreparedAreTold : World → List Entry → Type 0
 PreparedAreTold opening es = (before : List Entry) (said : Reading) (front behind : List Line) (this : Line) (s : Settlement) → ShownThere es before said front this behind → shown_in this ≡ Some s →
     prepared_by s.serial front (is_told_prepared s.serial opening before) ≡ true → IsTold before said front s.tid s.serial s.outcome
 
+-- A branch that is not the first of its transaction is committed only where it is told to be prepared.
+abbrev pub OthersWerePrepared : World → List Entry → Type 0
+OthersWerePrepared opening es = (before : List Entry) (said : Reading) (front behind : List Line) (tid serial : Id) (moment : ℕ) → ShownThere es before said front (line.Committed tid serial moment) behind → (serial ≡ tid → ⊥) →
+    prepared_by serial front (is_told_prepared serial opening before) ≡ true
+
+-- What prepares a branch: a delivery of the message that asks for its vote, an END_BRANCH of it, or a reply of a resource manager that is no veto.
+abbrev pub IsPreparing : List Entry → Statement → (tid serial : Id) → Type 0
+IsPreparing es s tid serial = DeliversTo es (Says s) message.Prepare tid serial ⊎ ((label : List ℕ) × (s ≡ At serial.node (EndBranch label)) × IsNamed es serial.node label tid serial)
+    ⊎ ((reply : Reply) × Replies es (Says s) tid serial reply × (is_veto reply ≡ false))
+
+-- A branch is shown to be prepared only where that is so, or by a boot of its node, or in a settling.
+abbrev pub VotesWereCaused : List Entry → Type 0
+VotesWereCaused es = (before : List Entry) (said : Reading) (front behind : List Line) (tid serial : Id) → ShownThere es before said front (line.Prepared tid serial) behind →
+    (said ≡ Says (At serial.node Boot)) ⊎ (said ≡ Says Settle) ⊎ ((s : Statement) × (said ≡ Says s) × IsPreparing before s tid serial)
+
+-- One leaves as read-only only where it might have been prepared.
+abbrev pub LeavesWereCaused : List Entry → Type 0
+LeavesWereCaused es = (before : List Entry) (said : Reading) (front behind : List Line) (tid serial : Id) → ShownThere es before said front (line.ReadOnly tid serial) behind →
+    (s : Statement) × (said ≡ Says s) × IsPreparing before s tid serial
+
 -- it is shown to be prepared, or as the last settlement of its disk
 abbrev pub ShowsPrepared : Id → List Line → Type 0
 ShowsPrepared serial shown = ((tid : Id) × In (line.Prepared tid serial) shown) ⊎ ((l : Line) × (t : Settlement) × In l shown × (last_in l ≡ Some t) × (t.serial ≡ serial))
 
--- A failure cut short what was to prepare it: a delivery of the message that asks for its vote, an END_BRANCH of it, or a reply of a resource manager that is no veto.
+-- A failure cut short what was to prepare it.
 abbrev pub WasPreparing : List Entry → (tid serial : Id) → Type 0
-WasPreparing es tid serial = (before : List Entry) × (s : Statement) × (events : List Line) × (cause : Cause) × SaidThere es before s events (line.Broken cause)
-    × (DeliversTo before (Says s) message.Prepare tid serial ⊎ ((label : List ℕ) × (s ≡ At serial.node (EndBranch label)) × IsNamed before serial.node label tid serial)
-    ⊎ ((reply : Reply) × Replies before (Says s) tid serial reply × (is_veto reply ≡ false)))
+WasPreparing es tid serial = (before : List Entry) × (s : Statement) × (events : List Line) × (cause : Cause) × SaidThere es before s events (line.Broken cause) × IsPreparing before s tid serial
 
 -- its disk had it as its last settlement at the opening
 abbrev pub WasItsLast : Id → World → Type 0
@@ -356,10 +379,10 @@ abbrev pub AllAreShown : List Entry → World → Type 0
 AllAreShown es closing = (node : List ℕ) (s : Settlement) → In s (settlements_of node closing) → (s.serial.node ≡ node) × (IsShown s es ⊎ IsLastWhileDown node s closing)
 
 -- The line of a last settlement is shown by a BOOT of its node, or by a settling. It is a settlement of that node, and is so from then on and for good; or the last
--- one that the disk had at the opening. None of that node is later that was shown in its statement before.
+-- one that the disk had at the opening, where no INIT made its volume anew before. None of that node is later that was shown in its statement before.
 abbrev pub LastsAreKept : World → List Entry → World → Type 0
 LastsAreKept opening es closing = (before : List Entry) (said : Reading) (front behind : List Line) (this : Line) (s : Settlement) → ShownThere es before said front this behind → last_in this ≡ Some s →
-    ((said ≡ Says (At s.serial.node Boot)) ⊎ (said ≡ Says Settle)) × (In s (settlements_of s.serial.node closing) ⊎ WasLast s.serial.node this opening)
+    ((said ≡ Says (At s.serial.node Boot)) ⊎ (said ≡ Says Settle)) × (In s (settlements_of s.serial.node closing) ⊎ WasLast s.serial.node this opening before)
     × ((t : Settlement) → WasShownSo t before front → t.serial.node ≡ s.serial.node → t.moment ≤ s.moment)
 
 -- A BOOT shows it before all else.
@@ -375,7 +398,7 @@ BootsShowLast es = (before : List Entry) (node : List ℕ) (s : Statement) (show
 -- was to make it; or the disk had it as its last at the opening.
 abbrev pub LastsWereAsked : World → List Entry → Type 0
 LastsWereAsked opening es = (before : List Entry) (said : Reading) (front behind : List Line) (tid serial : Id) (moment : ℕ) → ShownThere es before said front (line.LastCommitted tid serial moment) behind →
-    WasLast serial.node (line.LastCommitted tid serial moment) opening ⊎ IsShown (commitment tid serial moment) before ⊎ WasEnding before tid serial ⊎ WasChanging opening before serial
+    WasLast serial.node (line.LastCommitted tid serial moment) opening before ⊎ IsShown (commitment tid serial moment) before ⊎ WasEnding before tid serial ⊎ WasChanging opening before serial
 
 -- A failure of the disk of this branch's node came in a statement that was to abort it for this reason.
 abbrev pub WasAborting : List Entry → Reason → (tid serial : Id) → Type 0
@@ -385,7 +408,7 @@ WasAborting es reason tid serial = (before : List Entry) × (said : Reading) × 
 -- the opening.
 abbrev pub LastsWereCaused : World → List Entry → Type 0
 LastsWereCaused opening es = (before : List Entry) (said : Reading) (front behind : List Line) (tid serial : Id) (reason : Reason) (moment : ℕ) → ShownThere es before said front (line.LastAborted tid serial reason moment) behind →
-    WasLast serial.node (line.LastAborted tid serial reason moment) opening ⊎ IsShown (abort tid serial reason moment) before ⊎ WasAborting before reason tid serial
+    WasLast serial.node (line.LastAborted tid serial reason moment) opening before ⊎ IsShown (abort tid serial reason moment) before ⊎ WasAborting before reason tid serial
 
 -- What dumps show of records needs more of a run than its transcript: that no branch is committed whose abort was begun; so it is where the volumes agree with
 -- which the run begins. And that no last settlement of a disk at the opening is of a
@@ -443,12 +466,15 @@ pub record KeptPromises (opening : World) (es : List Entry) (closing : World) : 
   pub show_last : BootsShowLast es
   pub asked : LastsWereAsked opening es
   pub caused : LastsWereCaused opening es
-  -- A failure of a disk is shown only where the count of its cause rose, and ends its statement.
+  -- A failure of a disk is shown only where the count of its cause rose, and ends its statement, but for CLOCK and LINKDOWN.
   pub downs : DownsHaveCauses opening es
   pub broken : FailuresShowDown es
   pub ending : DownsEnd es
   -- Branches that are prepared, and branches that changed nothing.
   pub prepared : PreparedAreTold opening es
+  pub others : OthersWerePrepared opening es
+  pub votes : VotesWereCaused es
+  pub leaves : LeavesWereCaused es
   pub booted : BootsShowPrepared opening es
   pub read_only : ReadOnlyChangedNothing es
   -- No branch is settled twice, so none is both committed and aborted, and moments ascend.

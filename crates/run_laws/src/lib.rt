@@ -24,8 +24,8 @@ pub fn lines_tell_refusals()
 /// In every legal transcript of nodes that were down at first, what is settled stays so, at whichever of its statements and restarts: a committed
 /// branch is never undone, and an aborted one is never committed. What a line shows to be committed or aborted in its statement, with its reason and
 /// its moment, is settled so then and for good; and so is what a boot shows as the last settlement of its disk, unless the disk had that before the
-/// first line. No branch of a node is settled twice, and each settlement comes at a later moment than all before it, also over restarts and where one
-/// was under way at a fall.
+/// first line and no INIT has made its volume anew since. No branch of a node is settled twice, and each settlement comes at a later moment than all
+/// before it, also over restarts and where one was under way at a fall.
 pub fn settlements_last()
     ensures stay { SettlementsStay }
     ensures shown { ShownAreSettled }

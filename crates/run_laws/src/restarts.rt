@@ -4,7 +4,8 @@ ghost use Rattle.run_laws.specs.Laws.{AskedHold, BootsShowLastHold, CausedHold, 
 
 /// In every legal transcript each settlement is of a branch of its node, and is shown as it is: in its statement, or by a later boot as the last of
 /// the disk; but for the last of a node that is down, which its next boot shows. What is shown as the last of a disk is so: it is shown by a boot of
-/// its node alone, is settled there or was the last at the opening, and no settlement of that node is later that was shown before. A BOOT that
+/// its node alone, is settled there or was the last at the opening (and no INIT has made the volume anew since, here and below), and no settlement of
+/// that node is later that was shown before. A BOOT that
 /// succeeded, and a settling that booted a node, showed one of it, where a settlement of that node was shown before; and decide each transaction that
 /// was begun there before: where a line has shown by then that its first branch is committed, it is so for good, and else it never is. Where a
 /// failure ended an END_TRANS, the first BOOT of its node behind it, or settling, that comes past raising its boot count tells what became of its

@@ -5,7 +5,7 @@ use Rattle.std.specs.FinMap.{empty, get-empty, get-insert}
 use Rattle.vms_model.specs.Ids.{Id}
 use Rattle.vms_model.specs.Keys.{Number}
 use Rattle.vms_model.specs.Transactions.{Commit}
-use Rattle.records_model.specs.Layout.{first_layout}
+use Rattle.tree_model.specs.Layouts.{first_layout}
 use Rattle.records_model.proofs.KeyLemmas.{key_cmp_total}
 use Rattle.unit_laws.specs.Journal.{empty_journal}
 use Rattle.commit_protocol.specs.Messages.{same_name, same_id}
@@ -96,7 +96,7 @@ file_i = record {
   carried = nothing_carried;
   recovery_units = false;
   history = record { base = empty; moment = 0; settled = []; live = [] };
-  layout = first_layout;
+  layout = first_layout 2;
 }
 
 abbrev two_files : World

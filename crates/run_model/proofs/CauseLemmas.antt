@@ -17,7 +17,7 @@ use Rattle.commit_protocol.specs.Table.{Branch, Notes, Settles}
 use Rattle.commit_protocol.specs.Rows.{row}
 use Rattle.commit_protocol.specs.Rows as rows
 use Rattle.commit_protocol.specs.Allowed.{is_working, may_end}
-use Rattle.run_model.specs.World.{Shared, Node, File, Organization, Sequential, Relative, Indexed, Volume, Sound, Faulty, Barred, Unknown, NoRing, AllBoots, LateMoment, FarPosition, Label, find_file, find_label, labelled, serial_labelled, serials_of, tm_of}
+use Rattle.run_model.specs.World.{Shared, Node, File, Organization, Sequential, Relative, Indexed, Volume, Sound, Faulty, Barred, Unknown, NoRing, NoIndex, AllBoots, LateMoment, FarPosition, Label, find_file, find_label, labelled, serial_labelled, serials_of, tm_of}
 use Rattle.run_model.specs.Locks.{holder}
 use Rattle.run_model.specs.Operations.{first_of, refused_if, first_behind, in_order, record_in, standing_of, count_of, key_refused, place_refused, delete_refused, truncate_refused, after_refused, form_refused, keys_asked, keys_found, put_refused, other_refused, update_refused, missing, at_end, data_refused, put_answer, found_answer, next_answer, operation_answer}
 use Rattle.run_model.specs.Answers.{bar_line, Task, Serves, Restarts, service, task_service, Known, Unsettled, Recorded, Unheard, known, known_branch, known_manager, awaited_reply, declared_manager, is_declared, has_joined, is_joinable, more_managers, authorised, boot_limit, bootable, branch_labelled, branch_named, changes_at, end_answer, found_refused, held_against, in_state, is_file_form, is_first_active, is_in_doubt, is_marked, is_open, is_volume_form, journal_full, keys_refused, last_position, made_label, made_name, moment_limit, more_bids, more_branches, more_changes, needs_unit, new_file, new_label, of_file, of_label, operation_told, position_limit, refused_before_reading, seconds_refused, there_is_file, unchanged_file, unsettled, unsettled_label}
@@ -59,6 +59,7 @@ module _ (test : Line → Bool) where
       go Sound = says_first _ _ (says_if _ _ h) (says_first _ _ (says_if _ _ k) (says_if _ _ p))
       go (Faulty condition block) = says_some _ (f condition block)
       go (Barred NoRing) = says_some _ (f 6 583)
+      go (Barred (NoIndex block)) = says_some _ (f 11 block)
       go (Barred AllBoots) = says_some _ h
       go (Barred LateMoment) = says_some _ k
       go (Barred FarPosition) = says_some _ p

@@ -7,7 +7,7 @@ use Rattle.vms_model.specs.Transactions.{Commit}
 use Rattle.commit_protocol.specs.Messages.{same_name, same_id}
 use Rattle.commit_protocol.specs.Table.{same_key}
 use Rattle.records_model.specs.History.{SettledChanges}
-use Rattle.records_model.specs.Layout.{no_layout}
+use Rattle.tree_model.specs.Layouts.{no_layout}
 use Rattle.unit_laws.specs.Journal.{empty_journal}
 use Rattle.transcript_model.specs.Lines as line
 use Rattle.transcript_model.specs.Lines.{Line}

@@ -8,7 +8,7 @@ use Rattle.vms_model.specs.Keys.{Key, Number}
 use Rattle.vms_model.specs.Transactions.{SegFail}
 use Rattle.records_model.specs.Records.{Change, key_cmp}
 use Rattle.records_model.specs.History.{LiveChanges}
-use Rattle.records_model.specs.Layout.{no_layout}
+use Rattle.tree_model.specs.Layouts.{no_layout}
 use Rattle.unit_laws.specs.Journal.{Journal, ChangeEntry, empty_journal}
 use Rattle.commit_protocol.specs.Messages.{same_name, same_id}
 use Rattle.commit_protocol.specs.Table.{Branch, Active, same_key}

@@ -11,7 +11,7 @@ use Rattle.transcript_model.specs.Lines as line
 use Rattle.transcript_model.specs.Lines.{Line, Standing, ActiveBranch, EndingBranch, PreparedBranch, CommittedBranch, UnknownBranch}
 use Rattle.script_model.specs.Statements.{Request, Init, Boot, Create, SetFile, StartTrans, AddBranch, StartBranch, Records, Direct, EndBranch, EndTrans, AbortTrans, Inquire, DeclareRm, JoinRm, AckEvent, ForgetRm, GetDti, LmcpShow, LmcpDump, Dump, DumpJournal, Fuse, Crash, Clock, Named, ByLabel, BySerial, Form, Sequential, Relative, Indexed, Setting, Operation, RecoveryUnits, NoRecoveryUnits}
 use Rattle.records_model.specs.Records.{Change}
-use Rattle.records_model.specs.Layout.{Layout, no_layout, first_layout as one_bucket}
+use Rattle.tree_model.specs.Layouts.{Layout, no_layout, first_layout as one_leaf}
 use Rattle.records_model.specs.History.{first_to_change, same_id}
 use Rattle.unit_laws.specs.Journal as journal
 use Rattle.unit_laws.specs.Journal.{JournalEntry, RecoveryUnit, entry_size, entries_size, entries_for, end_of, owed, units_in, find_unit, active_units}
@@ -27,7 +27,7 @@ use Rattle.commit_protocol.specs.World.{undo_all}
 use Rattle.log_laws.specs.Slots.{records_in, committed_of, prepared_of, waiting_for, slot_records, free_slots}
 use Rattle.run_model.specs.Locks.{holder, not_locked}
 use Rattle.run_model.specs.World as world
-use Rattle.run_model.specs.World.{Shared, Node, File, Organization, Label, Settlement, Volume, Sound, Faulty, Barred, Unknown, Bar, NoRing, AllBoots, LateMoment, FarPosition, Act, Formats, Boots, ComesUp, Creates, Marks, Draws, Labels, Numbers, Tables, Changes, Holds, Directs, Arms, Clocks, Declares, Falls, acted, shared_after, tm_of, booted, message_limit, nothing_carried, find_file, free_place, find_label, labelled, serial_labelled, find_branch, find_record, changes_made, serials_of, longest_free, lowest_free, next_id, next_moment}
+use Rattle.run_model.specs.World.{Shared, Node, File, Organization, Label, Settlement, Volume, Sound, Faulty, Barred, Unknown, Bar, NoRing, NoIndex, AllBoots, LateMoment, FarPosition, Act, Formats, Boots, ComesUp, Creates, Marks, Draws, Labels, Numbers, Tables, Changes, Holds, Directs, Arms, Clocks, Declares, Falls, acted, shared_after, tm_of, booted, message_limit, nothing_carried, find_file, free_place, find_label, labelled, serial_labelled, find_branch, find_record, changes_made, serials_of, longest_free, lowest_free, next_id, next_moment}
 use Rattle.run_model.specs.Operations.{first_of, refused_if, in_order, form_refused, data_refused, changes_of, file_full, operation_answer, is_change, keys_asked, keys_found, keys_held}
 
 -- how many labels a run makes, at the most
@@ -354,9 +354,10 @@ images_end (Some f ∷ fs) = max (max f.carried.after.end f.carried.before.end) 
 abbrev pub last_position : Node → ℕ
 last_position n = max (end_of n.durable.units) (images_end n.durable.directory)
 
--- what is answered where a boot is barred: that a journal's block fails a condition of volumes, or a quota
+-- what is answered where a boot is barred: that a journal's block or an indexed file's root fails a condition of volumes, or a quota
 abbrev pub bar_line : (node : List ℕ) → Bar → Line
 bar_line node NoRing = line.NoVolume node 6 583
+bar_line node (NoIndex block) = line.NoVolume node 11 block
 bar_line node AllBoots = line.QuotaExceeded line.Boots boot_limit
 bar_line node LateMoment = line.QuotaExceeded line.Moments moment_limit
 bar_line node FarPosition = line.QuotaExceeded line.Positions position_limit
@@ -381,11 +382,11 @@ organized (Sequential buckets) = world.Sequential
 organized (Relative records) = world.Relative records
 organized (Indexed buckets position key_size) = world.Indexed position key_size
 
--- the layout of a new file: one bucket without slots, where it is indexed
+-- the layout of a new file: one leaf without slots, where it is indexed
 abbrev pub first_layout : Form → Layout
 first_layout (Sequential buckets) = no_layout
 first_layout (Relative records) = no_layout
-first_layout (Indexed buckets position key_size) = one_bucket
+first_layout (Indexed buckets position key_size) = one_leaf key_size
 
 -- a new file, which lies from this block on, without records; its history begins at this moment
 abbrev pub created : List ℕ → ℕ → ℕ → Form → ℕ → ℕ → File

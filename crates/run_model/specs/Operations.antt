@@ -8,7 +8,7 @@ use Rattle.transcript_model.specs.Lines as line
 use Rattle.transcript_model.specs.Lines.{Line}
 use Rattle.script_model.specs.Statements.{Operation, Put, Update, Delete, Truncate, Get, Next}
 use Rattle.records_model.specs.Records.{Records, Change, key_cmp}
-use Rattle.records_model.specs.Layout.{used_of, need_of as need_of_layout}
+use Rattle.tree_model.specs.Layouts.{used_of, need_of as need_of_layout}
 use Rattle.records_model.specs.History.{current}
 use Rattle.records_model.specs.Placing.{Filled, filled_by, first_bucket}
 use Rattle.run_model.specs.World.{File, Organization, Sequential, Relative, Indexed, capacity}

@@ -1,5 +1,5 @@
 -- The world of a run: what the statements so far have made of the nodes.
-use Rattle.std.specs.Prelude.{◌≡◌, ◌≤◌, ℕ, zero, suc, ◌+◌, ◌-◌, ◌*◌, List, [], ◌∷◌, Bool, true, false, ◌||◌, Option, Some, None, if◌then◌else◌, map, option_map, ◌++◌, length, nat_le, nat_lt, replicate, slice_set, slice_index_or}
+use Rattle.std.specs.Prelude.{◌≡◌, ◌≤◌, ℕ, zero, suc, ◌+◌, ◌-◌, ◌*◌, ◌/◌, List, [], ◌∷◌, Bool, true, false, ◌||◌, Option, Some, None, if◌then◌else◌, map, option_map, ◌++◌, length, nat_le, nat_lt, replicate, slice_set, slice_index_or}
 use Rattle.std.specs.Str.{bytes_eq}
 use Rattle.std.specs.List.{AllByRecursion, list_any}
 use Rattle.std.specs.Option.{option_and_then, is_none}
@@ -9,7 +9,8 @@ use Rattle.vms_model.specs.Ids.{Id}
 use Rattle.vms_model.specs.Keys.{Key, Number, End}
 use Rattle.vms_model.specs.Transactions.{Outcome, Commit, Abort, Reason, SegFail}
 use Rattle.records_model.specs.Records.{Change, key_cmp}
-use Rattle.records_model.specs.Layout.{Layout, layout_changed}
+use Rattle.tree_model.specs.Layouts.{Layout, Sizes}
+use Rattle.tree_model.specs.Setting.{layout_changed}
 use Rattle.records_model.specs.History.{History, LiveChanges, same_id, changes_by, changes_key, changed_with, current, settled_at}
 use Rattle.unit_laws.specs.Units.{OneMovesEnd}
 use Rattle.unit_laws.specs.Layouts.{layout_restored}
@@ -123,10 +124,11 @@ nothing_carried = record {
   save = record { start = 0; buckets = 0; position = 0; moment = 0; used = 0; root = 0; levels = 0; count = 0 };
 }
 
--- What bars each boot of a volume: its journal of recovery units does not lie in its ring; it was booted as often as may be; its greatest moment is too late; or a
--- journal has come too far.
+-- What bars each boot of a volume: its journal of recovery units does not lie in its ring; an indexed file, whose root begins at this block, has several buckets
+-- and no index, or an index and one bucket; it was booted as often as may be; its greatest moment is too late; or a journal has come too far.
 pub data Bar : Type 0 where
   NoRing : Bar
+  NoIndex : (block : ℕ) → Bar
   AllBoots : Bar
   LateMoment : Bar
   FarPosition : Bar
@@ -352,6 +354,16 @@ next_moment n = if nat_le n.clock (n.durable.greatest + 1) then n.durable.greate
 abbrev pub capacity : File → ℕ
 capacity f = 512 * f.bucket - 16
 
+-- how many bytes a key of a file has: none but in an indexed one
+abbrev pub key_size_of : Organization → ℕ
+key_size_of Sequential = 0
+key_size_of (Relative greatest) = 0
+key_size_of (Indexed position size) = size
+
+-- the bytes of a leaf for slots, and how many entries an index bucket holds, each of which is a key and a number of four bytes
+abbrev pub sizes_of : File → Sizes
+sizes_of f = record { capacity = capacity f; fan_out = capacity f / (key_size_of f.organization + 4) }
+
 -- how many changes a branch made: as many as the journal tells of its unit
 abbrev pub changes_made : Id → Journal → ℕ
 changes_made serial units = elim (find_unit serial (units_in units.entries)) [ Some u ↦ u.changes | None ↦ 0 ]
@@ -359,11 +371,11 @@ changes_made serial units = elim (find_unit serial (units_in units.entries)) [ S
 -- A file after changes of an unsettled branch. In its layout the rooms of keys that unsettled branches hold stay, so that each of them can be set back in
 -- place.
 abbrev pub changed_file : (held : Key → Bool) → Id → List Change → File → File
-changed_file held serial cs f = record f { history = changed_with serial cs f.history; layout = layout_changed (capacity f) held cs f.layout }
+changed_file held serial cs f = record f { history = changed_with serial cs f.history; layout = layout_changed (sizes_of f) held cs f.layout }
 
 -- and after changes of a branch of its own, which was committed at once
 abbrev pub directly_changed : (held : Key → Bool) → Settlement → List Change → File → File
-directly_changed held s cs f = record f { history = settled_at s.serial s.outcome s.moment (changed_with s.serial cs f.history); layout = layout_changed (capacity f) held cs f.layout }
+directly_changed held s cs f = record f { history = settled_at s.serial s.outcome s.moment (changed_with s.serial cs f.history); layout = layout_changed (sizes_of f) held cs f.layout }
 
 -- a layout after the branch that made these changes was settled: an abort restores what its keys had
 abbrev pub settled_layout : Outcome → List Change → Layout → Layout

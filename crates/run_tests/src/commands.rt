@@ -28,6 +28,22 @@ fn a_last_line_needs_no_line_feed(rt: HostRuntime) -> Result<(), Fail> {
     Ok(())
 }
 
+#[test]
+fn scripts_need_not_open_a_node(rt: HostRuntime) -> Result<(), Fail> {
+    for (script, want) in [
+        (b"".as_slice(), b"".as_slice()),
+        (b"A: PUT T F 1 \"a\"\n", b"1 NODEDOWN\n"),
+    ] {
+        let mut source = MemSource::new(rt.alloc(), script.to_vec(rt.alloc())?);
+        let mut sink = MemSink::new(rt.alloc(), 100)?;
+        let platter = MemPlatter::new(rt.alloc(), 8_192)?;
+        let exit = run_over(rt.alloc(), platter, &mut source, &mut sink)?;
+        assert_eq!(rt; exit, Exit::Done);
+        assert_eq!(rt; sink.bytes(), want);
+    }
+    Ok(())
+}
+
 // Gives at most so many bytes at a time.
 #[derive(Drop)]
 struct Pieces<'a> {

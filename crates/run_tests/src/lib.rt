@@ -6,4 +6,6 @@ mod commands;
 #[cfg(test)]
 mod limits;
 #[cfg(test)]
+mod trees;
+#[cfg(test)]
 mod worked;

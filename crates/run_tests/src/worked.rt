@@ -261,7 +261,7 @@ fn long_records_show_their_transcripts(rt: HostRuntime) -> Result<(), Fail> {
             ],
             &[
                 (
-                    b"5 SS$_NORMAL\n6 SS$_NORMAL\n7 SS$_NORMAL A.1.1\n8 RMS$_NORMAL\n9 RMS$_NORMAL\n10 RMS$_NORMAL\n11 RMS$_NORMAL\n12 RMS$_NORMAL\n13 RMS$_FUL FILE 2 3\n14 RMS$_DUP\n15 RMS$_RNF\n16 RMS$_CHG\n17 RMS$_NORMAL\n18 RMS$_RNF\n19 RMS$_FUL FILE 2 3\n20 RMS$_NORMAL \"bb\" \"bb",
+                    b"5 SS$_NORMAL\n6 SS$_NORMAL\n7 SS$_NORMAL A.1.1\n8 RMS$_NORMAL\n9 RMS$_NORMAL\n10 RMS$_NORMAL\n11 RMS$_NORMAL\n12 RMS$_NORMAL\n13 RMS$_FUL FILE 1 4\n14 RMS$_DUP\n15 RMS$_RNF\n16 RMS$_CHG\n17 RMS$_NORMAL\n18 RMS$_RNF\n19 RMS$_FUL FILE 1 4\n20 RMS$_NORMAL \"bb\" \"bb",
                     118,
                 ),
                 (b"\"\n21 SS$_BADPARAM\n", 0),
@@ -291,13 +291,13 @@ fn long_records_show_their_transcripts(rt: HostRuntime) -> Result<(), Fail> {
             ],
             &[
                 (
-                    b"5 SS$_NORMAL\n6 SS$_NORMAL\n7 SS$_NORMAL A.1.1\n8 RMS$_NORMAL\n9 RMS$_NORMAL\n10 RMS$_NORMAL\n11 RMS$_NORMAL\n12 COMMIT A.1.1 A.1.1 \"17-NOV-1858 00:00:00.01\"\n12 SS$_NORMAL\n13 SS$_NORMAL A.1.2\n14 RMS$_NORMAL\n15 COMMIT A.1.2 A.1.2 \"17-NOV-1858 00:00:00.02\"\n15 SS$_NORMAL\n16 SS$_NORMAL A.1.3\n17 RMS$_NORMAL\n18 RMS$_NORMAL\n19 RMS$_FUL FILE 2 3\n20 ABORT A.1.3 A.1.3 DDTM$_ABORTED \"17-NOV-1858 00:00:00.03\"\n20 SS$_NORMAL\n21 RECORD \"bb\" \"bb",
+                    b"5 SS$_NORMAL\n6 SS$_NORMAL\n7 SS$_NORMAL A.1.1\n8 RMS$_NORMAL\n9 RMS$_NORMAL\n10 RMS$_NORMAL\n11 RMS$_NORMAL\n12 COMMIT A.1.1 A.1.1 \"17-NOV-1858 00:00:00.01\"\n12 SS$_NORMAL\n13 SS$_NORMAL A.1.2\n14 RMS$_NORMAL\n15 COMMIT A.1.2 A.1.2 \"17-NOV-1858 00:00:00.02\"\n15 SS$_NORMAL\n16 SS$_NORMAL A.1.3\n17 RMS$_NORMAL\n18 RMS$_NORMAL\n19 RMS$_FUL FILE 1 4\n20 ABORT A.1.3 A.1.3 DDTM$_ABORTED \"17-NOV-1858 00:00:00.03\"\n20 SS$_NORMAL\n21 RECORD \"bb\" \"bb",
                     118,
                 ),
                 (b"\"\n21 RECORD \"cc\" \"cc", 118),
                 (b"\"\n21 RECORD \"dd\" \"dd", 118),
                 (
-                    b"\"\n21 SS$_NORMAL 3\n22 SS$_NORMAL A.1.4\n23 RMS$_FUL FILE 2 3\n",
+                    b"\"\n21 SS$_NORMAL 3\n22 SS$_NORMAL A.1.4\n23 RMS$_FUL FILE 1 4\n",
                     0,
                 ),
             ],
@@ -321,7 +321,7 @@ fn long_records_show_their_transcripts(rt: HostRuntime) -> Result<(), Fail> {
             ],
             &[
                 (
-                    b"5 SS$_NORMAL\n6 SS$_NORMAL\n7 SS$_NORMAL A.1.1\n8 RMS$_NORMAL\n9 RMS$_NORMAL\n10 RMS$_NORMAL\n11 RMS$_NORMAL\n12 COMMIT A.1.1 A.1.1 \"17-NOV-1858 00:00:00.01\"\n12 SS$_NORMAL\n13 SS$_NORMAL A.1.2\n14 RMS$_NORMAL\n15 RMS$_NORMAL\n16 RMS$_FUL FILE 2 3\n17 ABORT A.1.2 A.1.2 DDTM$_ABORTED \"17-NOV-1858 00:00:00.02\"\n17 SS$_NORMAL\n18 RECORD \"aa\" \"aa",
+                    b"5 SS$_NORMAL\n6 SS$_NORMAL\n7 SS$_NORMAL A.1.1\n8 RMS$_NORMAL\n9 RMS$_NORMAL\n10 RMS$_NORMAL\n11 RMS$_NORMAL\n12 COMMIT A.1.1 A.1.1 \"17-NOV-1858 00:00:00.01\"\n12 SS$_NORMAL\n13 SS$_NORMAL A.1.2\n14 RMS$_NORMAL\n15 RMS$_NORMAL\n16 RMS$_FUL FILE 1 4\n17 ABORT A.1.2 A.1.2 DDTM$_ABORTED \"17-NOV-1858 00:00:00.02\"\n17 SS$_NORMAL\n18 RECORD \"aa\" \"aa",
                     118,
                 ),
                 (b"\"\n18 RECORD \"bb\" \"bb", 118),
@@ -346,7 +346,7 @@ fn long_records_show_their_transcripts(rt: HostRuntime) -> Result<(), Fail> {
             ],
             &[
                 (
-                    b"5 SS$_NORMAL\n6 SS$_NORMAL\n7 SS$_NORMAL A.1.1\n8 RMS$_NORMAL\n9 RMS$_NORMAL\n10 RMS$_NORMAL\n11 RMS$_FUL FILE 2 3\n12 RMS$_NORMAL \"aa\" \"aa",
+                    b"5 SS$_NORMAL\n6 SS$_NORMAL\n7 SS$_NORMAL A.1.1\n8 RMS$_NORMAL\n9 RMS$_NORMAL\n10 RMS$_NORMAL\n11 RMS$_FUL FILE 1 4\n12 RMS$_NORMAL \"aa\" \"aa",
                     198,
                 ),
                 (b"\"\n13 RMS$_NORMAL \"bb\" \"bb", 478),

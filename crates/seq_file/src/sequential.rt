@@ -62,7 +62,8 @@ fn set_record<D: Disk>(
 impl RecordFile for SeqFile {
     ghost use Rattle.seq_file.specs.Layout.{map_of, IsSequential, IsFresh, IsLaidOut, Stands, Suits, Takes, asks, used_after, CountsBefore};
     ghost use Rattle.seq_file.specs.Local.{local_law, valid_local_law};
-    ghost use Rattle.std.specs.Prelude.{ℕ, [], refl};
+    ghost use Rattle.std.specs.Prelude.{ℕ, refl};
+    ghost use Rattle.tree_model.specs.Layouts.{no_layout};
 
     ghost map = { map_of };
 
@@ -84,21 +85,21 @@ impl RecordFile for SeqFile {
 
     ghost used_after = { λ h blocks held key value. used_after h blocks key value };
 
-    ghost chain = { λ h blocks. [] };
+    ghost layout = { λ h blocks. no_layout };
 
-    ghost first_chain = { λ h. [] };
+    ghost first_layout = { λ h. no_layout };
 
     ghost restores = { Takes };
 
     ghost begins = { λ h blocks key place. CountsBefore h blocks place };
 
-    ghost local = { local_law };
+    ghost local = { λ h a b form agrees laid. local_law h a b form agrees };
 
     ghost valid_local = { valid_local_law };
 
-    ghost room_local = { λ h a b form agrees key. refl };
+    ghost room_local = { λ h a b form agrees laid key. refl };
 
-    ghost chain_local = { λ h a b form agrees. refl };
+    ghost layout_local = { λ h a b form agrees laid. refl };
 
     ghost begins_first = { λ h blocks after form. refl };
 

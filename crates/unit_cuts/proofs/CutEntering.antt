@@ -14,8 +14,8 @@ use Rattle.journal_model.specs.Entries.{Entry, IsEntry, spelling}
 use Rattle.journal_model.specs.Ring.{IsJournal, put_byte, put_stream, ring_size}
 use Rattle.journal_store.proofs.Journals.{appended, keeps_others, written_behind}
 use Rattle.journal_store.proofs.Streams.{put_stream-append}
-use Rattle.record_files.specs.Any.{IsFile, IsLaidOut, chain_of, map_of}
-use Rattle.record_files.specs.Local.{chain_local_law, local_law, valid_local_law}
+use Rattle.record_files.specs.Any.{IsFile, IsLaidOut, layout_of, map_of}
+use Rattle.record_files.specs.Local.{layout_local_law, local_law, valid_local_law}
 use Rattle.unit_journal.specs.Entries.{change_entry}
 use Rattle.unit_journal.specs.Spans.{longer}
 use Rattle.vms_model.specs.Ids.{Id}
@@ -45,14 +45,14 @@ module _ (h : FileHead) (s : Span) (past : LiesPast h s) (some : 0 < s.blocks) (
   file_stays : AgreesOn h a (with_entries s es a)
   file_stays n is = sym ((keeps_others (flat_map spelling es) a s s.end some).others n (inr (past n is)))
 
-  pub map_stays : IsFile h → map_of h a ≡ map_of h (with_entries s es a)
+  pub map_stays : IsFile h → IsLaidOut h a → map_of h a ≡ map_of h (with_entries s es a)
   map_stays form = local_law h a (with_entries s es a) form file_stays
 
   pub laid_stays : IsFile h → IsLaidOut h a → IsLaidOut h (with_entries s es a)
   laid_stays form = valid_local_law h a (with_entries s es a) form file_stays
 
-  pub chain_stays : IsFile h → chain_of h a ≡ chain_of h (with_entries s es a)
-  chain_stays form = chain_local_law h a (with_entries s es a) form file_stays
+  pub layout_stays : IsFile h → IsLaidOut h a → layout_of h a ≡ layout_of h (with_entries s es a)
+  layout_stays form = layout_local_law h a (with_entries s es a) form file_stays
 
   file_back : AgreesOn h (with_entries s es a) a
   file_back n is = sym (file_stays n is)

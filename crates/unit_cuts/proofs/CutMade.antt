@@ -28,7 +28,7 @@ use Rattle.volume_files.specs.Staging.{StagesFile, TellsCut}
 use Rattle.volume_format.specs.Home.{ru_block_of}
 use Rattle.volume_format.specs.declared.home.Ending.TheVariants as ending
 use Rattle.unit_cuts.specs.Truncating.{AreBegun, BreaksCut, CommitsCut, CutsBehind, Entering, EntersCut, IsPlaceOf, IsTold, with_entries}
-use Rattle.unit_cuts.proofs.CutEntering.{LiesPast, chain_stays, laid_back, laid_stays, map_stays, place_stays}
+use Rattle.unit_cuts.proofs.CutEntering.{LiesPast, laid_back, laid_stays, layout_stays, map_stays, place_stays}
 use Rattle.unit_cuts.proofs.CutSofar.{leaves_told, told_of}
 
 abbrev Content : Type 0
@@ -69,8 +69,8 @@ module _ (file : ℕ) (h : FileHead) (from limit : ℕ) (v w : VolumeState) (s :
           whole = is.2.whole;
           form = is.2.form;
           laid = is.2.laid;
-          map = is.2.map ∙ ap (cut_from from) (sym (map_stays h ru past some a es form));
-          chain = is.2.chain ∙ sym (chain_stays h ru past some a es form);
+          map = is.2.map ∙ ap (cut_from from) (sym (map_stays h ru past some a es form laid));
+          layout = is.2.layout ∙ sym (layout_stays h ru past some a es form laid);
         },
       )
 

@@ -112,7 +112,7 @@ module _ (tid serial : Id) (file : ℕ) (h : FileHead) (from limit : ℕ) (v : V
     module _ (e : Entry) (is : IsEntry e) (tells : OfRecords h w (λ m. e ≡ change_entry tid serial file k (m k))) where
       -- it is the entry of the next record
       next_is : (a : Content) → v.store.current ≡ Some a → IsFile h → IsLaidOut h a → e ≡ change_entry tid serial file k (map_of h a k)
-      next_is a told form laid = tells (with_entries ru es a) (now_at a told) form (laid_stays h ru past some a es form laid) ∙ ap (λ m. change_entry tid serial file k (m k)) (sym (map_stays h ru past some a es form))
+      next_is a told form laid = tells (with_entries ru es a) (now_at a told) form (laid_stays h ru past some a es form laid) ∙ ap (λ m. change_entry tid serial file k (m k)) (sym (map_stays h ru past some a es form laid))
 
       more_is : (a : Content) → v.store.current ≡ Some a → IsFile h → IsLaidOut h a → es ≡ cut_entries tid serial file (map_of h a) (keys_down h.count behind) → es ++ e ∷ [] ≡ cut_entries tid serial file (map_of h a) (keys_down h.count (behind + 1))
       more_is a told form laid before =

@@ -135,7 +135,7 @@ impl ChangedKeys {
         ensures { self.new ≡ [] }
     {
         self.keys.clear();
-        self.places.clear();
+        self.places.truncate(0);
     }
 
     /// How many keys there are.

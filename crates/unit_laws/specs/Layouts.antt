@@ -3,7 +3,7 @@ use Rattle.std.specs.Prelude.{List, map, if◌then◌else◌}
 use Rattle.vms_model.specs.Keys.{Text}
 use Rattle.records_model.specs.Records.{Change}
 use Rattle.records_model.specs.Slots.{Slot, with_value}
-use Rattle.records_model.specs.Layout.{Layout}
+use Rattle.tree_model.specs.Layouts.{Leaf, Layout}
 use Rattle.records_model.specs.History.{changes_key}
 use Rattle.unit_laws.specs.Units.{earliest_before}
 
@@ -11,10 +11,10 @@ use Rattle.unit_laws.specs.Units.{earliest_before}
 abbrev pub slot_restored : List Change → Slot → Slot
 slot_restored cs s = if changes_key (Text s.key) cs then with_value (earliest_before cs (Text s.key)) s else s
 
--- The slots of a chain each so. Which key is set back first makes no difference, nor does one that was set back before.
-abbrev pub chain_restored : List Change → List (List Slot) → List (List Slot)
-chain_restored cs chain = map (map (slot_restored cs)) chain
+-- The slots of a leaf each so. Which key is set back first makes no difference, nor does one that was set back before.
+abbrev pub leaf_restored : List Change → Leaf → Leaf
+leaf_restored cs b = record b { slots = map (slot_restored cs) b.slots }
 
--- and the layout of a file
+-- and the layout of a file, whose leaves keep their lowest keys, and its index stays
 abbrev pub layout_restored : List Change → Layout → Layout
-layout_restored cs l = record { chain = chain_restored cs l.chain }
+layout_restored cs l = record l { leaves = map (leaf_restored cs) l.leaves }

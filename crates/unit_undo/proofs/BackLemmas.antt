@@ -7,17 +7,19 @@ use Rattle.vms_model.specs.Keys.{Key, Number, Text, End}
 use Rattle.records_model.specs.Records.{Change}
 use Rattle.records_model.specs.Slots.{Slot, same_bytes, size_of, with_value}
 use Rattle.records_model.specs.Chain as chain
+use Rattle.tree_model.specs.Layouts.{Leaf, Layout}
+use Rattle.tree_model.specs.Setting as setting
 use Rattle.records_model.specs.History.{changes_key}
 use Rattle.records_model.proofs.RecordsLemmas as records
 use Rattle.records_model.proofs.SlotLaws.{same_bytes_are}
 use Rattle.change_set.specs.Files.{SameFile}
 use Rattle.change_set.specs.Maps.{same_key, set_key}
 use Rattle.record_files.specs.Any as any
-use Rattle.record_files.specs.Any.{map_of, chain_of, room_at, IsLaidOut}
+use Rattle.record_files.specs.Any.{map_of, layout_of, room_at, IsLaidOut}
 use Rattle.unit_laws.specs.Units.{earliest_before, with_before_images}
-use Rattle.unit_laws.specs.Layouts.{slot_restored, chain_restored}
+use Rattle.unit_laws.specs.Layouts.{slot_restored, layout_restored}
 use Rattle.unit_laws.proofs.Tests.{never, or_either}
-use Rattle.unit_undo.specs.Steps.{has_key, slot_back, AreSetBack}
+use Rattle.unit_undo.specs.Steps.{has_key, slot_back, slots_back, AreSetBack}
 use Rattle.unit_entries.proofs.KeyLemmas.{itself}
 
 pub same_through : (h mid new : FileHead) → SameFile h mid → SameFile mid new → SameFile h new
@@ -28,25 +30,33 @@ pub map_alike : (f g : Slot → Slot) → ((s : Slot) → f s ≡ g s) → (ss :
 map_alike f g same [] = refl
 map_alike f g same (s ∷ ss) = ap (λ (x : Slot). x ∷ map f ss) (same s) ∙ ap (λ (xs : List Slot). g s ∷ xs) (map_alike f g same ss)
 
-maps_alike : (f g : Slot → Slot) → ((s : Slot) → f s ≡ g s) → (chain : List (List Slot)) → map (map f) chain ≡ map (map g) chain
-maps_alike f g same [] = refl
-maps_alike f g same (b ∷ bs) = ap (λ (x : List Slot). x ∷ map (map f) bs) (map_alike f g same b) ∙ ap (λ (xs : List (List Slot)). map g b ∷ xs) (maps_alike f g same bs)
+-- so leaves, slot by slot
+abbrev over : (Slot → Slot) → Leaf → Leaf
+over f b = record b { slots = map f b.slots }
+
+leaves_alike : (f g : Slot → Slot) → ((s : Slot) → f s ≡ g s) → (bs : List Leaf) → map (over f) bs ≡ map (over g) bs
+leaves_alike f g same [] = refl
+leaves_alike f g same (b ∷ bs) = λ i. record { lowest = b.lowest; slots = map_alike f g same b.slots i } ∷ leaves_alike f g same bs i
 
 map_twice : (f g : Slot → Slot) (ss : List Slot) → map f (map g ss) ≡ map (λ s. f (g s)) ss
 map_twice f g [] = refl
 map_twice f g (s ∷ ss) = ap (λ (xs : List Slot). f (g s) ∷ xs) (map_twice f g ss)
 
-maps_twice : (f g : Slot → Slot) (chain : List (List Slot)) → map (map f) (map (map g) chain) ≡ map (map (λ s. f (g s))) chain
-maps_twice f g [] = refl
-maps_twice f g (b ∷ bs) = ap (λ (x : List Slot). x ∷ map (map f) (map (map g) bs)) (map_twice f g b) ∙ ap (λ (xs : List (List Slot)). map (λ s. f (g s)) b ∷ xs) (maps_twice f g bs)
+leaves_twice : (f g : Slot → Slot) (bs : List Leaf) → map (over f) (map (over g) bs) ≡ map (over (λ s. f (g s))) bs
+leaves_twice f g [] = refl
+leaves_twice f g (b ∷ bs) = λ i. record { lowest = b.lowest; slots = map_twice f g b.slots i } ∷ leaves_twice f g bs i
 
 map_nothing : (ss : List Slot) → map (λ (s : Slot). s) ss ≡ ss
 map_nothing [] = refl
 map_nothing (s ∷ ss) = ap (λ (xs : List Slot). s ∷ xs) (map_nothing ss)
 
-pub maps_nothing : (chain : List (List Slot)) → map (map (λ (s : Slot). s)) chain ≡ chain
-maps_nothing [] = refl
-maps_nothing (b ∷ bs) = ap (λ (x : List Slot). x ∷ map (map (λ (s : Slot). s)) bs) (map_nothing b) ∙ ap (λ (xs : List (List Slot)). b ∷ xs) (maps_nothing bs)
+leaves_nothing : (bs : List Leaf) → map (over (λ (s : Slot). s)) bs ≡ bs
+leaves_nothing [] = refl
+leaves_nothing (b ∷ bs) = λ i. record { lowest = b.lowest; slots = map_nothing b.slots i } ∷ leaves_nothing bs i
+
+-- where no key is set back, a layout is as it was
+pub layout_nothing : (cs : List Change) (l : Layout) → slots_back cs [] l ≡ l
+layout_nothing cs l = λ i. record { leaves = leaves_nothing l.leaves i; index = l.index }
 
 -- the bytes of two keys are the same where the keys are
 same_turned : (k t : List ℕ) → (b : Bool) → same_bytes k t ≡ b → same_key (Text t) (Text k) ≡ b
@@ -83,20 +93,23 @@ slot_more cs keys k v is s = step (same_bytes k s.key) (has_key (Text s.key) key
         ap (λ (b : Bool). cond b (with_value v (slot_back cs keys s)) (slot_back cs keys s)) (ap (same_bytes k) (kept (has_key (Text s.key) keys)) ∙ other)
         ∙ ap (λ (b : Bool). cond (b || has_key (Text s.key) keys) (with_value (earliest_before cs (Text s.key)) s) s) (sym (same_turned k s.key false other))
 
-chain_more : (cs : List Change) (keys : List Key) (key : Key) (v : Option (List ℕ)) (slots : List (List Slot)) → v ≡ earliest_before cs key → chain.chain_back key v (map (map (slot_back cs keys)) slots) ≡ map (map (slot_back cs (key ∷ keys))) slots
-chain_more cs keys (Text k) v slots is = maps_twice (chain.slot_back k v) (slot_back cs keys) slots ∙ maps_alike (λ s. chain.slot_back k v (slot_back cs keys s)) (slot_back cs (Text k ∷ keys)) (slot_more cs keys k v is) slots
-chain_more cs keys (Number n) v slots is = refl
-chain_more cs keys End v slots is = refl
+layout_more : (cs : List Change) (keys : List Key) (key : Key) (v : Option (List ℕ)) (l : Layout) → v ≡ earliest_before cs key → setting.layout_back key v (slots_back cs keys l) ≡ slots_back cs (key ∷ keys) l
+layout_more cs keys (Text k) v l is = λ i. record { leaves = leaves i; index = l.index }
+  where
+    leaves : map (over (chain.slot_back k v)) (map (over (slot_back cs keys)) l.leaves) ≡ map (over (slot_back cs (Text k ∷ keys))) l.leaves
+    leaves = leaves_twice (chain.slot_back k v) (slot_back cs keys) l.leaves ∙ leaves_alike (λ s. chain.slot_back k v (slot_back cs keys s)) (slot_back cs (Text k ∷ keys)) (slot_more cs keys k v is) l.leaves
+layout_more cs keys (Number n) v l is = refl
+layout_more cs keys End v l is = refl
 
 pub one_back : (a b c : List (List ℕ)) (h mid new : FileHead) (cs : List Change) (keys : List Key) (key : Key) (v : Option (List ℕ)) → AreSetBack a h cs keys b mid → v ≡ earliest_before cs key → changes_key key cs ≡ true
-    → SameFile mid new → any.IsFile new → IsLaidOut new c → map_of new c ≡ set_key key v (map_of mid b) → chain_of new c ≡ chain.chain_back key v (chain_of mid b) → ((other : Key) → room_at mid b other ≤ room_at new c other)
+    → SameFile mid new → any.IsFile new → IsLaidOut new c → map_of new c ≡ set_key key v (map_of mid b) → layout_of new c ≡ setting.layout_back key v (layout_of mid b) → ((other : Key) → room_at mid b other ≤ room_at new c other)
     → AreSetBack a h cs (key ∷ keys) c new
-one_back a b c h mid new cs keys key v t is changed same form laid maps chains rooms = record {
+one_back a b c h mid new cs keys key v t is changed same form laid maps layouts rooms = record {
   same = same_through h mid new t.same same;
   form = form;
   laid = laid;
   map = at;
-  chain = chains ∙ ap (chain.chain_back key v) t.chain ∙ chain_more cs keys key v (chain_of h a) is;
+  layout = layouts ∙ ap (setting.layout_back key v) t.layout ∙ layout_more cs keys key v (layout_of h a) is;
   rooms = λ other. let first = t.rooms other in let second = rooms other in omega (arith, first, second);
   own = (changed, t.own);
 }
@@ -129,5 +142,8 @@ module _ (a b : List (List ℕ)) (h new : FileHead) (cs : List Change) (keys : L
   pub map_back : map_of new b ≡ with_before_images cs (map_of h a)
   map_back = λ i key. (t.map key ∙ ap (λ (x : Bool). cond x (earliest_before cs key) (map_of h a key)) (as_changed cs keys t.own all key)) i
 
-  pub chain_is_back : chain_of new b ≡ chain_restored cs (chain_of h a)
-  chain_is_back = t.chain ∙ maps_alike (slot_back cs keys) (slot_restored cs) (λ s. ap (λ (x : Bool). cond x (with_value (earliest_before cs (Text s.key)) s) s) (as_changed cs keys t.own all (Text s.key))) (chain_of h a)
+  pub layout_is_back : layout_of new b ≡ layout_restored cs (layout_of h a)
+  layout_is_back = t.layout ∙ (λ i. record (layout_of h a) { leaves = leaves i })
+    where
+      leaves : map (over (slot_back cs keys)) (layout_of h a).leaves ≡ map (over (slot_restored cs)) (layout_of h a).leaves
+      leaves = leaves_alike (slot_back cs keys) (slot_restored cs) (λ s. ap (λ (x : Bool). cond x (with_value (earliest_before cs (Text s.key)) s) s) (as_changed cs keys t.own all (Text s.key))) (layout_of h a).leaves

@@ -17,21 +17,22 @@ use Rattle.unit_entries.proofs.KeyLemmas.{itself}
 use Rattle.records_model.specs.History.{LiveChanges, same_id, changes_key, changes_by}
 use Rattle.change_set.specs.Files.{SameFile}
 use Rattle.record_files.specs.Any as any
-use Rattle.record_files.specs.Any.{map_of, map_by, chain_of, chain_by, room_at, room_by, IsLaidOut}
+use Rattle.record_files.specs.Any.{map_of, map_by, layout_of, layout_by, room_at, room_by}
 use Rattle.seq_file.specs.Layout.{records_in}
 use Rattle.seq_file.specs.Records.{map_of_list}
-use Rattle.indexed_file.specs.Chain as indexed
+use Rattle.indexed_file.specs.Chain as leaf
+use Rattle.indexed_tree.specs.Files as indexed
+use Rattle.indexed_tree.specs.Maps.{all_slots}
 use Rattle.relative_file.specs.Cells as relative
-use Rattle.records_model.specs.Layout.{Layout}
+use Rattle.tree_model.specs.Layouts.{Leaf, Layout, no_layout, slots_along}
 use Rattle.unit_laws.specs.Layouts.{layout_restored}
 use Rattle.unit_laws.specs.Units.{Map, IsImage, Represents, HasImages, earliest_before, with_before_images}
 use Rattle.unit_laws.proofs.Tests.{never, or_either, passed}
 use Rattle.sequence_laws.specs.Undoing.{GoesBack}
 use Rattle.sequence_laws.proofs.SequenceLemmas.{earliest_is_one}
-use Rattle.directory_model.specs.Files.{laid_in}
-use Rattle.directory_model.specs.Restoring.{bare, CanRestoreBy, CanRestore, IsGrouped, IsRestored}
-use Rattle.unit_undo.specs.Steps.{has_key, slot_back, slots_back, AreSetBack, ArePositionsBack, ArePositions}
-use Rattle.unit_undo.proofs.BackLemmas.{map_back, chain_is_back, owned}
+use Rattle.directory_model.specs.Restoring.{bare, bare_leaf, bare_layout, CanRestoreBy, CanRestore, IsGrouped, IsRestored}
+use Rattle.unit_undo.specs.Steps.{has_key, slot_back, leaf_back, slots_back, AreSetBack, ArePositionsBack, ArePositions}
+use Rattle.unit_undo.proofs.BackLemmas.{map_back, layout_is_back, owned}
 use Rattle.unit_undo.proofs.PositionLemmas.{sizes_alike, goes_as, positions_back}
 use Rattle.unit_undo.proofs.BranchLemmas.{IsOwnOr, own_or, images_still, own_images, not_by}
 
@@ -45,10 +46,10 @@ suits_relative h new key v same suits = subst (λ (x : FileHead). relative.Suits
     go (Text t) suits = suits
     go End suits = suits
 
-pub suits_indexed : (h new : FileHead) (key : Key) (v : Option (List ℕ)) → SameFile h new → indexed.Suits h key v → indexed.Suits new key v
-suits_indexed h new key v same suits = subst (λ (x : FileHead). indexed.Suits x key v) (sym same.is) (go key suits)
+pub suits_indexed : (h new : FileHead) (key : Key) (v : Option (List ℕ)) → SameFile h new → leaf.Suits h key v → leaf.Suits new key v
+suits_indexed h new key v same suits = subst (λ (x : FileHead). leaf.Suits x key v) (sym same.is) (go key suits)
   where
-    go : (key : Key) → indexed.Suits h key v → indexed.Suits (record h { used = new.used; root = new.root; levels = new.levels; count = new.count }) key v
+    go : (key : Key) → leaf.Suits h key v → leaf.Suits (record h { used = new.used; root = new.root; levels = new.levels; count = new.count }) key v
     go (Text t) suits = record { size = suits.size; has = suits.has; most = suits.most }
     go (Number n) suits = suits
     go End suits = suits
@@ -74,7 +75,7 @@ can_kept kept.Sequential a b h new cs other same rooms can = absurd (other refl)
 can_kept kept.Relative a b h new cs other same rooms can =
     all_so (λ (c : Change). relative.Suits h c.key (earliest_before cs c.key)) (λ (c : Change). relative.Suits new c.key (earliest_before cs c.key)) cs (λ c suits. suits_relative h new c.key (earliest_before cs c.key) same suits) can
 can_kept kept.Indexed a b h new cs other same rooms can =
-    all_so (λ (c : Change). indexed.Suits h c.key (earliest_before cs c.key) × (size_of (earliest_before cs c.key) ≤ indexed.room_at h a c.key)) (λ (c : Change). indexed.Suits new c.key (earliest_before cs c.key) × (size_of (earliest_before cs c.key) ≤ indexed.room_at new b c.key)) cs
+    all_so (λ (c : Change). leaf.Suits h c.key (earliest_before cs c.key) × (size_of (earliest_before cs c.key) ≤ indexed.room_at h a c.key)) (λ (c : Change). leaf.Suits new c.key (earliest_before cs c.key) × (size_of (earliest_before cs c.key) ≤ indexed.room_at new b c.key)) cs
     (λ c is. (suits_indexed h new c.key (earliest_before cs c.key) same is.0, (let was = is.1 in let room = rooms c.key in omega (arith, was, room)))) can
 
 -- how the records are kept is the same in the head of the same file
@@ -98,10 +99,6 @@ bares_back : (cs : List Change) (keys : List Key) (ss : List Slot) → AllByRecu
 bares_back cs keys [] own room = refl
 bares_back cs keys (s ∷ ss) own room = ap (λ (x : Slot). x ∷ map bare (map (slot_back cs keys) ss)) (bare_back cs keys s (λ has. room.0 (owned cs keys (Text s.key) own has))) ∙ ap (λ (xs : List Slot). bare s ∷ xs) (bares_back cs keys ss own room.1)
 
-chains_bare : (cs : List Change) (keys : List Key) (chain : List (List Slot)) → AllByRecursion (λ key. changes_key key cs ≡ true) keys → AllByRecursion (HaveRoom cs) chain → map (map bare) (slots_back cs keys chain) ≡ map (map bare) chain
-chains_bare cs keys [] own room = refl
-chains_bare cs keys (b ∷ bs) own room = ap (λ (x : List Slot). x ∷ map (map bare) (slots_back cs keys bs)) (bares_back cs keys b own room.0) ∙ ap (λ (xs : List (List Slot)). map bare b ∷ xs) (chains_bare cs keys bs own room.1)
-
 -- in ascending slots each has the room that its key has
 behind_each : (t : Slot) (ts ss : List Slot) → AllBehind t.key ss → AllByRecursion (λ (s : Slot). room_of ts s.key ≡ s.room) ss → AllByRecursion (λ (s : Slot). room_of (t ∷ ts) s.key ≡ s.room) ss
 behind_each t ts [] behind rooms = tt
@@ -115,19 +112,24 @@ split_each : (P : Slot → Type 0) (xs ys : List Slot) → AllByRecursion P (xs 
 split_each P [] ys all = (tt, all)
 split_each P (x ∷ xs) ys all = let rest = split_each P xs ys all.1 in ((all.0, rest.0), rest.1)
 
-along_each : (h : FileHead) (a : List (List ℕ)) (P : Slot → Type 0) (ns : List ℕ) → AllByRecursion P (indexed.slots_along h a ns) → AllByRecursion (λ (ss : List Slot). AllByRecursion P ss) (map (indexed.slots_in h a) ns)
-along_each h a P [] all = tt
-along_each h a P (n ∷ ns) all = let parts = split_each P (indexed.slots_in h a n) (indexed.slots_along h a ns) all in (parts.0, along_each h a P ns parts.1)
+leaves_bare : (cs : List Change) (keys : List Key) (bs : List Leaf) → AllByRecursion (λ key. changes_key key cs ≡ true) keys → HaveRoom cs (slots_along bs) → map bare_leaf (map (leaf_back cs keys) bs) ≡ map bare_leaf bs
+leaves_bare cs keys [] own room = refl
+leaves_bare cs keys (b ∷ bs) own room = λ i. record { lowest = b.lowest; slots = bares_back cs keys b.slots own parts.0 i } ∷ leaves_bare cs keys bs own parts.1 i
+  where
+    parts : HaveRoom cs b.slots × HaveRoom cs (slots_along bs)
+    parts = split_each (λ (s : Slot). changes_key (Text s.key) cs ≡ true → size_of (earliest_before cs (Text s.key)) ≤ s.room) b.slots (slots_along bs) room
+
+layout_bare : (cs : List Change) (keys : List Key) (l : Layout) → AllByRecursion (λ key. changes_key key cs ≡ true) keys → HaveRoom cs (slots_along l.leaves) → bare_layout (slots_back cs keys l) ≡ bare_layout l
+layout_bare cs keys l own room = λ i. record { leaves = leaves_bare cs keys l.leaves own room i; index = l.index }
 
 -- so in a file in which what a branch changed can be restored
-rooms_for : (o : Kept) (h : FileHead) (a : List (List ℕ)) (cs : List Change) → (o ≡ kept.Sequential → ⊥) → any.LaidOutBy o h a → CanRestoreBy o h a cs → AllByRecursion (HaveRoom cs) (chain_by o h a)
+rooms_for : (o : Kept) (h : FileHead) (a : List (List ℕ)) (cs : List Change) → (o ≡ kept.Sequential → ⊥) → any.LaidOutBy o h a → CanRestoreBy o h a cs → HaveRoom cs (slots_along (layout_by o h a).leaves)
 rooms_for kept.Sequential h a cs other laid can = absurd (other refl)
 rooms_for kept.Relative h a cs other laid can = tt
 rooms_for kept.Indexed h a cs other laid can =
-    along_each h a (λ (s : Slot). changes_key (Text s.key) cs ≡ true → size_of (earliest_before cs (Text s.key)) ≤ s.room) (indexed.leaves_of h a)
-    (all_so (λ (s : Slot). room_of (indexed.all_slots_of h a) s.key ≡ s.room) (λ (s : Slot). changes_key (Text s.key) cs ≡ true → size_of (earliest_before cs (Text s.key)) ≤ s.room) (indexed.all_slots_of h a)
-    (λ s room changed. let fits = (of_key (λ (k : Key). indexed.Suits h k (earliest_before cs k) × (size_of (earliest_before cs k) ≤ indexed.room_at h a k)) cs (Text s.key) can changed).1 in omega (arith, fits, room))
-    (own_rooms (indexed.all_slots_of h a) laid.ordered))
+    all_so (λ (s : Slot). room_of (all_slots h a) s.key ≡ s.room) (λ (s : Slot). changes_key (Text s.key) cs ≡ true → size_of (earliest_before cs (Text s.key)) ≤ s.room) (all_slots h a)
+    (λ s room changed. let fits = (of_key (λ (k : Key). leaf.Suits h k (earliest_before cs k) × (size_of (earliest_before cs k) ≤ indexed.room_at h a k)) cs (Text s.key) can changed).1 in omega (arith, fits, room))
+    (own_rooms (all_slots h a) laid.tree.ordered)
 
 -- nothing was changed, or what was can be restored
 own_can : (serial : Id) (ls : List LiveChanges) (P : List Change → Type 0) → P [] → AllByRecursion (λ (l : LiveChanges). P l.changes) ls → P (changes_by serial ls)
@@ -169,7 +171,7 @@ module _ (a b : List (List ℕ)) (h new : FileHead) (serial : Id) (ls : List Liv
       others = λ key none. kept_others key (not_by serial ls key none);
       images = images_still own ls (map_of h a) (map_of new b) (own_or serial ls represents.apart) represents.images has_own kept_others;
     };
-    layout = ap (map (map bare)) t.chain ∙ chains_bare own keys (chain_of h a) t.own
+    layout = ap bare_layout t.layout ∙ layout_bare own keys (layout_of h a) t.own
         (rooms_for h.organization h a own other laid (own_can serial ls (λ (xs : List Change). CanRestoreBy h.organization h a xs) (can_nothing h.organization h a other) can));
     can = subst (λ (o : Kept). AllByRecursion (λ (l : LiveChanges). CanRestoreBy o new b l.changes) ls) (sym (kept_so h new t.same))
         (all_so (λ (l : LiveChanges). CanRestoreBy h.organization h a l.changes) (λ (l : LiveChanges). CanRestoreBy h.organization new b l.changes) ls
@@ -182,7 +184,7 @@ module _ (a b : List (List ℕ)) (h new : FileHead) (serial : Id) (ls : List Liv
     form = t.form;
     laid = t.laid;
     map = map_back a b h new own keys t all;
-    layout = ap laid_in (chain_is_back a b h new own keys t all);
+    layout = layout_is_back a b h new own keys t all;
   }
 
 -- Sequential files.
@@ -191,8 +193,8 @@ module _ (h : FileHead) (c : List (List ℕ)) (sequential : h.organization ≡ k
   pub map_is : map_of h c ≡ map_of_list (records_in h c)
   map_is = ap (λ o. map_by o h c) sequential
 
-  chain_is : chain_of h c ≡ []
-  chain_is = ap (λ o. chain_by o h c) sequential
+  none_is : layout_of h c ≡ no_layout
+  none_is = ap (λ o. layout_by o h c) sequential
 
 module _ (a b : List (List ℕ)) (h new : FileHead) (serial : Id) (ls : List LiveChanges) (committed : Map) (from : ℕ) (sequential : h.organization ≡ kept.Sequential) (represents : Represents ls (map_of h a) committed)
     (t : ArePositionsBack a h (changes_by serial ls) from b new) where
@@ -223,7 +225,7 @@ module _ (a b : List (List ℕ)) (h new : FileHead) (serial : Id) (ls : List Liv
       others = λ key none. kept_still key (not_by serial ls key none);
       images = still_images (own_or serial ls represents.apart);
     };
-    layout = ap (map (map bare)) (chain_is new b new_sequential) ∙ sym (ap (map (map bare)) (chain_is h a sequential));
+    layout = ap bare_layout (none_is new b new_sequential) ∙ sym (ap bare_layout (none_is h a sequential));
     can = subst (λ (o : Kept). AllByRecursion (λ (l : LiveChanges). CanRestoreBy o new b l.changes) ls) (sym new_sequential)
         (all_so (λ (l : LiveChanges). (other : List (List ℕ)) × GoesBack h l.changes (records_in new b) other) (λ (l : LiveChanges). (other : List (List ℕ)) × GoesBack new l.changes (records_in new b) other) ls
         (λ l is. (is.0, goes_as h new l.changes (records_in new b) is.0 (sizes_alike h new t.same) is.1)) go_back);
@@ -235,5 +237,5 @@ module _ (a b : List (List ℕ)) (h new : FileHead) (serial : Id) (ls : List Liv
     form = subst (λ (o : Kept). any.FormBy o new) (sym new_sequential) t.form;
     laid = subst (λ (o : Kept). any.LaidOutBy o new b) (sym new_sequential) t.laid;
     map = map_is new b new_sequential ∙ positions_back a b h new own' from t positions none ∙ ap (with_before_images own') (sym (map_is h a sequential));
-    layout = ap laid_in (chain_is new b new_sequential) ∙ sym (ap (λ (l : Layout). layout_restored own' l) (ap laid_in (chain_is h a sequential)));
+    layout = none_is new b new_sequential ∙ sym (ap (layout_restored own') (none_is h a sequential));
   }

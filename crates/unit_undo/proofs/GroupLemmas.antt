@@ -11,18 +11,19 @@ use Rattle.records_model.specs.Records.{Change}
 use Rattle.records_model.specs.Slots.{size_of}
 use Rattle.records_model.specs.History.{LiveChanges}
 use Rattle.change_set.specs.Files.{AgreesOn}
-use Rattle.record_files.specs.Any.{map_of, FormBy}
+use Rattle.record_files.specs.Any.{map_of, FormBy, LaidOutBy}
 use Rattle.record_files.specs.Local as local
 use Rattle.seq_file.specs.Layout.{records_in}
 use Rattle.seq_file.specs.Local as sequential_local
 use Rattle.seq_file.proofs.RecordLaws.{one_list}
-use Rattle.indexed_file.specs.Chain as indexed
-use Rattle.indexed_file.specs.Local as indexed_local
+use Rattle.indexed_file.specs.Chain as leaf
+use Rattle.indexed_tree.specs.Files as indexed
+use Rattle.record_files.specs.Indexed as indexed_local
 use Rattle.unit_laws.specs.Units.{Map, IsUndoGroup, earliest_before}
 use Rattle.sequence_laws.specs.Undoing.{GoesBack}
 use Rattle.run_model.specs.World.{File}
 use Rattle.directory_model.specs.Files.{head_at, file_at}
-use Rattle.directory_model.specs.Restoring.{bare, CanRestoreBy, IsLeft, IsPlaceLeft, AreLeft, IsGrouped, IsPlaceGrouped, AreGrouped}
+use Rattle.directory_model.specs.Restoring.{bare_layout, CanRestoreBy, IsLeft, IsPlaceLeft, AreLeft, IsGrouped, IsPlaceGrouped, AreGrouped}
 use Rattle.unit_undo.specs.Way.{AreKeptBeside, IsPlaceKept, KeepsBeside}
 
 all_so : {X : Type 0} (P Q : X → Type 0) (xs : List X) → ((x : X) → P x → Q x) → AllByRecursion P xs → AllByRecursion Q xs
@@ -52,21 +53,21 @@ grouped_itself a heads directory left = record { long = refl; each = λ f. group
 
 -- a file in whose blocks nothing changes
 
-can_local : (o : Kept) (b c : List (List ℕ)) (h : FileHead) (cs : List Change) → FormBy o h → AgreesOn h b c → CanRestoreBy o h b cs → CanRestoreBy o h c cs
-can_local kept.Sequential b c h cs form agrees can = (can.0, subst (λ (rs : List (List ℕ)). GoesBack h cs rs can.0) (one_list (records_in h b) (records_in h c) (sequential_local.local_law h b c form agrees)) can.1)
-can_local kept.Relative b c h cs form agrees can = can
-can_local kept.Indexed b c h cs form agrees can =
-    all_so (λ (x : Change). indexed.Suits h x.key (earliest_before cs x.key) × (size_of (earliest_before cs x.key) ≤ indexed.room_at h b x.key)) (λ (x : Change). indexed.Suits h x.key (earliest_before cs x.key) × (size_of (earliest_before cs x.key) ≤ indexed.room_at h c x.key)) cs
-    (λ x is. (is.0, subst (λ (r : ℕ). size_of (earliest_before cs x.key) ≤ r) (indexed_local.room_local_law h b c form agrees x.key) is.1)) can
+can_local : (o : Kept) (b c : List (List ℕ)) (h : FileHead) (cs : List Change) → FormBy o h → AgreesOn h b c → LaidOutBy o h b → CanRestoreBy o h b cs → CanRestoreBy o h c cs
+can_local kept.Sequential b c h cs form agrees laid can = (can.0, subst (λ (rs : List (List ℕ)). GoesBack h cs rs can.0) (one_list (records_in h b) (records_in h c) (sequential_local.local_law h b c form agrees)) can.1)
+can_local kept.Relative b c h cs form agrees laid can = can
+can_local kept.Indexed b c h cs form agrees laid can =
+    all_so (λ (x : Change). leaf.Suits h x.key (earliest_before cs x.key) × (size_of (earliest_before cs x.key) ≤ indexed.room_at h b x.key)) (λ (x : Change). leaf.Suits h x.key (earliest_before cs x.key) × (size_of (earliest_before cs x.key) ≤ indexed.room_at h c x.key)) cs
+    (λ x is. (is.0, subst (λ (r : ℕ). size_of (earliest_before cs x.key) ≤ r) (indexed_local.room_local_law h b c form agrees laid x.key) is.1)) can
 
 pub grouped_local : (a b c : List (List ℕ)) (first h : FileHead) (ls : List LiveChanges) → AgreesOn h b c → IsGrouped a first ls b h → IsGrouped a first ls c h
 grouped_local a b c first h ls agrees is = record {
   same = is.same;
   form = is.form;
   laid = local.valid_local_law h b c is.form agrees is.laid;
-  group = subst (λ (m : Map). IsUndoGroup ls (map_of first a) m) (local.local_law h b c is.form agrees) is.group;
-  layout = ap (λ chain. map (map bare) chain) (sym (local.chain_local_law h b c is.form agrees)) ∙ is.layout;
-  can = all_so (λ (l : LiveChanges). CanRestoreBy h.organization h b l.changes) (λ (l : LiveChanges). CanRestoreBy h.organization h c l.changes) ls (λ l can. can_local h.organization b c h l.changes is.form agrees can) is.can;
+  group = subst (λ (m : Map). IsUndoGroup ls (map_of first a) m) (local.local_law h b c is.form agrees is.laid) is.group;
+  layout = ap bare_layout (sym (local.layout_local_law h b c is.form agrees is.laid)) ∙ is.layout;
+  can = all_so (λ (l : LiveChanges). CanRestoreBy h.organization h b l.changes) (λ (l : LiveChanges). CanRestoreBy h.organization h c l.changes) ls (λ l can. can_local h.organization b c h l.changes is.form agrees is.laid can) is.can;
 }
 
 local_place : (a b c : List (List ℕ)) (o : Option FileHead) (p : Option File) (m : Option FileHead) → ((h : FileHead) → m ≡ Some h → AgreesOn h b c) → IsPlaceGrouped a o p b m → IsPlaceGrouped a o p c m
@@ -114,7 +115,7 @@ beside_local : (serial : Id) (a b c : List (List ℕ)) (o : Option FileHead) (p 
 beside_local serial a b c None p m agrees is k = tt
 beside_local serial a b c (Some first) None m agrees is k = tt
 beside_local serial a b c (Some first) (Some file) None agrees is k = tt
-beside_local serial a b c (Some first) (Some file) (Some h) agrees is k = λ key other. ap (λ (m : Map). m key) (sym (local.local_law h b c is.form (agrees h refl))) ∙ k key other
+beside_local serial a b c (Some first) (Some file) (Some h) agrees is k = λ key other. ap (λ (m : Map). m key) (sym (local.local_law h b c is.form (agrees h refl) is.laid)) ∙ k key other
 
 beside_set : (serial : Id) (a c : List (List ℕ)) (o : Option FileHead) (p : Option File) (first new : FileHead) (file : File) → o ≡ Some first → p ≡ Some file → KeepsBeside serial a first file c new → IsPlaceKept serial a o p c (Some new)
 beside_set serial a c o p first new file there named k = subst (λ x. IsPlaceKept serial a x p c (Some new)) (sym there) (subst (λ x. IsPlaceKept serial a (Some first) x c (Some new)) (sym named) k)

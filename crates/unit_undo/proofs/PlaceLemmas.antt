@@ -93,7 +93,7 @@ module _ (u : Undo) (f : ℕ) (first : FileHead) (file : File) (ks : List KeyTol
   laid = subst (λ (o : Kept). any.LaidOutBy o first u.content) sequential s.left.laid
 
   same_map : map_of first u.content ≡ map_of first s.way.now
-  same_map = local.local_law first u.content s.way.now s.left.head.form s.agrees
+  same_map = local.local_law first u.content s.way.now s.left.head.form s.agrees s.left.laid
 
   same_records : records_in first s.way.now ≡ records_in first u.content
   same_records = one_list (records_in first s.way.now) (records_in first u.content) (sym (map_is first s.way.now sequential) ∙ sym same_map ∙ map_is first u.content sequential)

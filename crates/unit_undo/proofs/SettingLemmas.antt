@@ -17,9 +17,10 @@ use Rattle.records_model.specs.History.{LiveChanges, same_id, changes_key, chang
 use Rattle.records_model.proofs.RecordsLemmas as record_lemmas
 use Rattle.change_set.specs.Files.{SameFile}
 use Rattle.change_set.specs.Maps.{same_key}
-use Rattle.record_files.specs.Any.{chain_of, room_by, SuitsBy, RestoresBy, Suits, Restores}
+use Rattle.record_files.specs.Any.{layout_of, room_by, SuitsBy, RestoresBy, Suits, Restores}
 use Rattle.record_files.specs.Local as local
-use Rattle.indexed_file.specs.Chain as indexed
+use Rattle.indexed_file.specs.Chain as leaf
+use Rattle.indexed_tree.specs.Files as indexed
 use Rattle.relative_file.specs.Cells as relative
 use Rattle.journal_model.specs.Entries.{Entry, spelling}
 use Rattle.journal_model.specs.Ring.{block_of, place_of, byte_at, stream}
@@ -38,7 +39,7 @@ use Rattle.unit_undo.specs.Steps.{has_key, AreSetBack}
 use Rattle.unit_undo.specs.Undoing.{ChangesFile, SetsToEntry}
 use Rattle.unit_undo.specs.FileWays.{Undo, changes_in, IsStill, IsPartlyBack, IsBack}
 use Rattle.unit_entries.proofs.KeyLemmas.{itself}
-use Rattle.unit_undo.proofs.BackLemmas.{one_back, maps_nothing}
+use Rattle.unit_undo.proofs.BackLemmas.{one_back, layout_nothing}
 use Rattle.unit_undo.proofs.FileLemmas.{of_key, suits_relative, suits_indexed, kept_so, grouped_back, kept_others, restored_back}
 use Rattle.unit_undo.proofs.StepLemmas.{still_going}
 
@@ -76,7 +77,7 @@ may_by kept.Sequential a b first h cs key other same can changed room = absurd (
 may_by kept.Relative a b first h cs key other same can changed room =
     (suits_relative first h key (earliest_before cs key) same (of_key (λ (k : Key). relative.Suits first k (earliest_before cs k)) cs key can changed), tt)
 may_by kept.Indexed a b first h cs key other same can changed room =
-    let is = of_key (λ (k : Key). indexed.Suits first k (earliest_before cs k) × (size_of (earliest_before cs k) ≤ indexed.room_at first a k)) cs key can changed in
+    let is = of_key (λ (k : Key). leaf.Suits first k (earliest_before cs k) × (size_of (earliest_before cs k) ≤ indexed.room_at first a k)) cs key can changed in
     (suits_indexed first h key (earliest_before cs key) same is.0, (let fits = is.1 in omega (arith, fits, room)))
 
 -- A key told at a place.
@@ -110,9 +111,9 @@ module _ (u : Undo) (f : ℕ) (first : FileHead) (file : File) (ks : List KeyTol
       same = record { is = refl };
       form = s.left.head.form;
       laid = local.valid_local_law first u.content s.way.now s.left.head.form s.agrees s.left.laid;
-      map = λ key. sym (ap (λ (m : Map). m key) (local.local_law first u.content s.way.now s.left.head.form s.agrees));
-      chain = sym (local.chain_local_law first u.content s.way.now s.left.head.form s.agrees) ∙ sym (maps_nothing (chain_of first u.content));
-      rooms = λ key. let same = local.room_local_law first u.content s.way.now s.left.head.form s.agrees key in omega (arith, same);
+      map = λ key. sym (ap (λ (m : Map). m key) (local.local_law first u.content s.way.now s.left.head.form s.agrees s.left.laid));
+      layout = sym (local.layout_local_law first u.content s.way.now s.left.head.form s.agrees s.left.laid) ∙ sym (layout_nothing cs (layout_of first u.content));
+      rooms = λ key. let same = local.room_local_law first u.content s.way.now s.left.head.form s.agrees s.left.laid key in omega (arith, same);
       own = tt;
     };
     each = λ i k below at is. absurd (omega (arith, below));
@@ -149,7 +150,7 @@ module _ (u : Undo) (f : ℕ) (first : FileHead) (file : File) (ks : List KeyTol
         done = sets p.way.now told.entry p.way.told stands p.back.form p.back.laid may.0 may.1
 
         back : AreSetBack u.content first cs (k.key ∷ p.done) done.0 new
-        back = one_back u.content p.way.now done.0 first h new cs p.done k.key (before_in told.entry) p.back (sym told.earliest) told.changed changes.same done.2.form done.2.laid done.2.map done.2.chain done.2.rooms
+        back = one_back u.content p.way.now done.0 first h new cs p.done k.key (before_in told.entry) p.back (sym told.earliest) told.changed changes.same done.2.form done.2.laid done.2.map done.2.layout done.2.rooms
 
         pub keys_more : IsPartlyBack u f first file ks (i + 1) x new
         unfolding done back still_going

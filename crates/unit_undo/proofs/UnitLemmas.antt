@@ -11,7 +11,7 @@ use Rattle.records_model.specs.History.{changes_by}
 use Rattle.change_set.specs.Files.{AgreesOn, AgreesOut}
 use Rattle.record_files.specs.Local as local
 use Rattle.run_model.specs.World.{File}
-use Rattle.directory_model.specs.Files.{head_at, file_at, laid_in}
+use Rattle.directory_model.specs.Files.{head_at, file_at}
 use Rattle.directory_model.specs.Restoring.{IsLeft, IsPlaceLeft, IsRestored, IsPlaceRestored, AreGrouped}
 use Rattle.journal_model.specs.Entries.{Entry}
 use Rattle.volume.specs.declared.catalog.Catalog.{Catalog}
@@ -33,8 +33,8 @@ restored_local a b c first h cs agrees is = record {
   same = is.same;
   form = is.form;
   laid = local.valid_local_law h b c is.form agrees is.laid;
-  map = sym (local.local_law h b c is.form agrees) ∙ is.map;
-  layout = ap laid_in (sym (local.chain_local_law h b c is.form agrees)) ∙ is.layout;
+  map = sym (local.local_law h b c is.form agrees is.laid) ∙ is.map;
+  layout = sym (local.layout_local_law h b c is.form agrees is.laid) ∙ is.layout;
 }
 
 local_place : (serial : Id) (a b c : List (List ℕ)) (o : Option FileHead) (p : Option File) (m : Option FileHead) → ((h : FileHead) → m ≡ Some h → AgreesOn h b c) → IsPlaceRestored serial a o p b m → IsPlaceRestored serial a o p c m

@@ -5,11 +5,12 @@ use Rattle.file_base.specs.declared.head.FileHead.{FileHead}
 use Rattle.vms_model.specs.Keys.{Key, Number, Text}
 use Rattle.records_model.specs.Records.{Change}
 use Rattle.records_model.specs.Slots.{Slot, with_value}
+use Rattle.tree_model.specs.Layouts.{Leaf, Layout}
 use Rattle.records_model.specs.History.{changes_key}
 use Rattle.change_set.specs.Files.{SameFile}
 use Rattle.change_set.specs.Maps.{same_key}
 use Rattle.record_files.specs.Any as any
-use Rattle.record_files.specs.Any.{map_of, chain_of, room_at, IsLaidOut}
+use Rattle.record_files.specs.Any.{map_of, layout_of, room_at, IsLaidOut}
 use Rattle.seq_file.specs.Layout as sequential
 use Rattle.seq_file.specs.Layout.{IsSequential, records_in}
 use Rattle.seq_file.specs.Records.{record_at, map_of_list}
@@ -24,9 +25,13 @@ has_key key keys = list_any (same_key key) keys
 abbrev pub slot_back : List Change → List Key → Slot → Slot
 slot_back cs keys s = if has_key (Text s.key) keys then with_value (earliest_before cs (Text s.key)) s else s
 
--- and the slots of a chain
-abbrev pub slots_back : List Change → List Key → List (List Slot) → List (List Slot)
-slots_back cs keys chain = map (map (slot_back cs keys)) chain
+-- and the slots of a leaf
+abbrev pub leaf_back : List Change → List Key → Leaf → Leaf
+leaf_back cs keys b = record b { slots = map (slot_back cs keys) b.slots }
+
+-- and those of all leaves
+abbrev pub slots_back : List Change → List Key → Layout → Layout
+slots_back cs keys l = record l { leaves = map (leaf_back cs keys) l.leaves }
 
 -- Of the keys that a branch changed in a relative or indexed file these have their earliest before images again, and nothing else is changed.
 pub record AreSetBack (a : List (List ℕ)) (h : FileHead) (cs : List Change) (keys : List Key) (b : List (List ℕ)) (new : FileHead) : Type 0 where
@@ -34,7 +39,7 @@ pub record AreSetBack (a : List (List ℕ)) (h : FileHead) (cs : List Change) (k
   pub form : any.IsFile new
   pub laid : IsLaidOut new b
   pub map : (key : Key) → map_of new b key ≡ (if has_key key keys then earliest_before cs key else map_of h a key)
-  pub chain : chain_of new b ≡ slots_back cs keys (chain_of h a)
+  pub layout : layout_of new b ≡ slots_back cs keys (layout_of h a)
   pub rooms : (key : Key) → room_at h a key ≤ room_at new b key
   pub own : AllByRecursion (λ key. changes_key key cs ≡ true) keys
 

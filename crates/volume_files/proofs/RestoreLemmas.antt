@@ -13,8 +13,8 @@ use Rattle.seq_file.specs.Layout as sequential
 use Rattle.seq_file.specs.Layout.{IsSequential, capacity, record_of, records_in, slots_at}
 use Rattle.seq_file.specs.Local.{along_same}
 use Rattle.seq_file.specs.Records.{record_at}
-use Rattle.indexed_file.specs.Local as indexed
-use Rattle.record_files.specs.Any.{FormBy, IsFile, Restores, RestoresBy}
+use Rattle.record_files.specs.Indexed as indexed
+use Rattle.record_files.specs.Any.{FormBy, IsFile, IsLaidOut, LaidOutBy, Restores, RestoresBy}
 
 slots_same : (h : FileHead) (a b : List (List ℕ)) (i : ℕ) → IsSequential h → AgreesOn h a b → i < h.used → slots_at h a i ≡ slots_at h b i
 slots_same h a b i form agrees below = ap (slots_of Seq) (extent_bucket h a b i (omega (arith, form.used, below)) agrees)
@@ -34,10 +34,10 @@ takes_same h a b form agrees (Number n) None takes = takes
 takes_same h a b form agrees (Text t) value takes = absurd takes
 takes_same h a b form agrees End value takes = absurd takes
 
-restores_by : (o : Organization) (h : FileHead) (a b : List (List ℕ)) → FormBy o h → AgreesOn h a b → (key : Key) (value : Option (List ℕ)) → RestoresBy o h a key value → RestoresBy o h b key value
-restores_by Sequential h a b form agrees key value was = takes_same h a b form agrees key value was
-restores_by Relative h a b form agrees key value was = was
-restores_by Indexed h a b form agrees key value was = let e = indexed.room_local_law h a b form agrees key in omega (arith, was, e)
+restores_by : (o : Organization) (h : FileHead) (a b : List (List ℕ)) → FormBy o h → AgreesOn h a b → LaidOutBy o h a → (key : Key) (value : Option (List ℕ)) → RestoresBy o h a key value → RestoresBy o h b key value
+restores_by Sequential h a b form agrees laid key value was = takes_same h a b form agrees key value was
+restores_by Relative h a b form agrees laid key value was = was
+restores_by Indexed h a b form agrees laid key value was = let e = indexed.room_local_law h a b form agrees laid key in omega (arith, was, e)
 
-pub restores_local : (h : FileHead) (a b : List (List ℕ)) → IsFile h → AgreesOn h a b → (key : Key) (value : Option (List ℕ)) → Restores h a key value → Restores h b key value
+pub restores_local : (h : FileHead) (a b : List (List ℕ)) → IsFile h → AgreesOn h a b → IsLaidOut h a → (key : Key) (value : Option (List ℕ)) → Restores h a key value → Restores h b key value
 restores_local h = restores_by h.organization h

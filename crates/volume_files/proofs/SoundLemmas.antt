@@ -103,7 +103,7 @@ buckets_moved : (o : Organization) (h : FileHead) (used root levels count : ℕ)
     (1 ≤ used) × (used ≤ h.alloc) × RootFits o (moved h used root levels count) (file_buckets (moved h used root levels count))
 buckets_moved Sequential h used root levels count form is some f = (form.one, form.used, (is.0, is.1))
 buckets_moved Relative h used root levels count form is some f = ((let e = form.used in omega (arith, e, some)), (let e = form.used in omega (arith, e)), (is.0, is.1, is.2, f.3, form.used ∙ f.3))
-buckets_moved Indexed h used root levels count form is some f = (form.some, form.within, ((let e = form.root in let one = form.some in omega (arith, e, one)), is))
+buckets_moved Indexed h used root levels count form is some f = ((let e = form.root.root in omega (arith, e)), form.root.within, (form.root.root, is))
 
 fits_moved : (g : ℕ) (h : FileHead) (used root levels count : ℕ) → any.IsFile (moved h used root levels count) → RootIs h.organization (moved h used root levels count) → FileFits g h → FileFits g (moved h used root levels count)
 fits_moved g h used root levels count form is f =

@@ -4,11 +4,11 @@ use Rattle.careful_write.specs.State.{EachWhole}
 use Rattle.careful_write.specs.Steps.{AgreesOff}
 use Rattle.file_base.specs.declared.head.FileHead.{FileHead}
 use Rattle.vms_model.specs.Keys.{Key}
-use Rattle.records_model.specs.Chain.{chain_back, chain_set}
-use Rattle.change_set.specs.Files.{SameFile, in_extent}
+use Rattle.tree_model.specs.Setting.{layout_back, layout_set}
+use Rattle.change_set.specs.Files.{SameFile, in_extent, sizes_of}
 use Rattle.change_set.specs.Maps.{set_key}
 use Rattle.record_files.specs.Any as any
-use Rattle.record_files.specs.Any.{map_of, chain_of, room_at, IsLaidOut, Suits, Takes, Restores}
+use Rattle.record_files.specs.Any.{map_of, layout_of, room_at, IsLaidOut, Suits, Takes, Restores}
 use Rattle.seq_file.specs.Records.{cut_from}
 use Rattle.volume.specs.Catalogs.{IsSound}
 use Rattle.volume.specs.State.{VolumeState, Holds}
@@ -41,7 +41,7 @@ pub record SetsKey (h : FileHead) (held : Key → Bool) (key : Key) (value : Opt
   pub form : any.IsFile new
   pub laid : IsLaidOut new b
   pub map : map_of new b ≡ set_key key value (map_of h a)
-  pub chain : chain_of new b ≡ chain_set (512 * h.bucket - 16) held key value (chain_of h a)
+  pub layout : layout_of new b ≡ layout_set (sizes_of h) held key value (layout_of h a)
   pub back : Restores new b key (map_of h a key)
   pub rooms : (other : Key) → held other ≡ true → room_at h a other ≤ room_at new b other
 
@@ -56,7 +56,7 @@ pub record CutsFile (h : FileHead) (from : ℕ) (a b : List (List ℕ)) (new : F
   pub form : any.IsFile new
   pub laid : IsLaidOut new b
   pub map : map_of new b ≡ cut_from from (map_of h a)
-  pub chain : chain_of new b ≡ chain_of h a
+  pub layout : layout_of new b ≡ layout_of h a
 
 -- so they did where the content is told, and the file is one that is laid out
 abbrev pub TellsCut : FileHead → ℕ → VolumeState → VolumeState → FileHead → Type 0
@@ -67,7 +67,7 @@ pub record SetsBack (h : FileHead) (key : Key) (value : Option (List ℕ)) (a b 
   pub form : any.IsFile new
   pub laid : IsLaidOut new b
   pub map : map_of new b ≡ set_key key value (map_of h a)
-  pub chain : chain_of new b ≡ chain_back key value (chain_of h a)
+  pub layout : layout_of new b ≡ layout_back key value (layout_of h a)
   pub rooms : (other : Key) → room_at h a other ≤ room_at new b other
 
 -- so it was where the content is told, the file is one that is laid out, and the key may be set back so

@@ -60,7 +60,7 @@ pub fn stage_value<D: Disk, H: Held>(
     requires most { volume.old.store.disk.size ≤ 65536 }
     requires frames { 32 ≤ free_frames volume.old.store.pool }
     requires staged { length volume.old.store.touched ≤ 64 }
-    ensures stages { OnOk result (StagesFile file head.old 65 volume.old volume.new head.new) }
+    ensures stages { OnOk result (StagesFile file head.old 417 volume.old volume.new head.new) }
     ensures sets { OnOk result (TellsSet head.old (H.held held.now) (key_of key.now) (option_copied value.entry) volume.old volume.new head.new) }
     ensures unformed { (IsFile head.old → ⊥) → (result ≡ Ok tt) × (volume.new ≡ volume.old) × (head.new ≡ head.old) }
     ensures down { OnErr result (volume.new ≡ record volume.old { store = fell result volume.old.store }) }

@@ -1,10 +1,12 @@
 -- What bars a boot of a volume whose blocks are in order.
-use Rattle.std.specs.Prelude.{◌-◌, ◌^◌, ◌&&◌, ◌==◌, ℕ, List, [], ◌∷◌, Bool, Option, Some, None, if◌then◌else◌, max, nat_le, nat_lt}
+use Rattle.std.specs.Prelude.{◌+◌, ◌-◌, ◌*◌, ◌^◌, ◌&&◌, ◌==◌, ℕ, List, [], ◌∷◌, Bool, Option, Some, None, if◌then◌else◌, max, min, nat_le, nat_lt}
 use Rattle.file_base.specs.declared.head.FileHead.{FileHead}
+use Rattle.file_base.specs.declared.head.Organization.{Organization}
+use Rattle.file_base.specs.declared.head.Organization.TheVariants.{Sequential, Relative, Indexed}
 use Rattle.file_base.specs.declared.head.Span.{Span}
 use Rattle.journal_model.specs.Ring.{ring_size}
 use Rattle.run_model.specs.Answers.{boot_limit, moment_limit, position_limit}
-use Rattle.run_model.specs.World.{Bar, NoRing, AllBoots, LateMoment, FarPosition}
+use Rattle.run_model.specs.World.{Bar, NoRing, NoIndex, AllBoots, LateMoment, FarPosition}
 use Rattle.volume.specs.declared.catalog.Catalog.{Catalog}
 
 -- the greatest end of a journal of images of these heads, whether or not it is marked
@@ -17,11 +19,31 @@ ends_in (Some h ∷ hs) = max (max h.ai.end h.bi.end) (ends_in hs)
 abbrev pub is_in_ring : Span → Bool
 is_in_ring s = nat_le s.first s.end && (nat_le (s.end - s.first) (ring_size s) && nat_le s.end (2 ^ 62))
 
+-- more than the number of any block
+abbrev pub no_block : ℕ
+no_block = 65536
+
+-- the block at which the root of a file begins, where that is an indexed one with several buckets and no index, or with an index and one bucket
+abbrev pub odd_root_by : Organization → FileHead → ℕ
+odd_root_by Sequential h = no_block
+odd_root_by Relative h = no_block
+odd_root_by Indexed h = if h.levels == 1 then (if h.used == 1 then no_block else h.start + h.root * h.bucket) else (if h.used == 1 then h.start + h.root * h.bucket else no_block)
+
+abbrev pub odd_root : FileHead → ℕ
+odd_root h = odd_root_by h.organization h
+
+-- the lowest of such blocks
+abbrev pub lowest_odd_root : List (Option FileHead) → ℕ
+lowest_odd_root [] = no_block
+lowest_odd_root (None ∷ hs) = lowest_odd_root hs
+lowest_odd_root (Some h ∷ hs) = min (odd_root h) (lowest_odd_root hs)
+
 -- the first of the bars that is so of a volume
 abbrev pub first_bar : Catalog → Option Bar
 first_bar v =
     if is_in_ring v.ru then (
-    if v.home.boot == boot_limit then Some AllBoots
+    if nat_lt (lowest_odd_root v.heads) no_block then Some (NoIndex (lowest_odd_root v.heads))
+    else (if v.home.boot == boot_limit then Some AllBoots
     else (if nat_lt moment_limit v.home.greatest_moment.0 then Some LateMoment
-    else (if nat_lt position_limit (max v.ru.end (ends_in v.heads)) then Some FarPosition else None))
+    else (if nat_lt position_limit (max v.ru.end (ends_in v.heads)) then Some FarPosition else None)))
     ) else Some NoRing

@@ -1,6 +1,6 @@
 use Rattle.std.proofs.Common.{◌≡◌, ◌∙◌, ap, map, rules, string_bytes}
 use Rattle.dtm_run.specs.Racks.{names_in, disks_in}
-use Rattle.dtm.specs.Images.{images_of}
+use Rattle.dtm_command.specs.Images.{images_of}
 use Rattle.dtm.proofs.ImageLemmas.{none_read, filled_from_none, why_from_none}
 use Rattle.dtm.proofs.command.run_command.Goals as goal
 

@@ -37,7 +37,7 @@ returns-in-Err-write_head-clause-makes g c =
     let now = new.volume.store.disk in
     let first = goes_counts c.make_records.result old mid e.counts in
     made_fell c.args.file c.args.head.now u c.requires.order c.the_laws.ensures c.requires.fresh c.make_records.new.volume
-    (record { map_is = m.map; laid = m.laid; chain = m.chain; each = m.each; outside = m.outside; idle = m.idle; catalog = e.catalog; size = e.counts.size; pool = e.pool })
+    (record { map_is = m.map; laid = m.laid; layout = m.layout; each = m.each; outside = m.outside; idle = m.idle; catalog = e.catalog; size = e.counts.size; pool = e.pool })
     c.write_head.result new (head_block_of c.args.head.now) refl refl c.write_head.ensures (goes_on old mid now first (goes_counts c.write_head.result mid now c.write_head.ensures.counts)) c.in-Err-write_head.down _ c.in-Err-write_head.is
     (subst (λ x. Caused (down_of x) old now) c.in-Err-write_head.is (caused_on (down_of c.write_head.result) old mid now first (caused_counts c.write_head.result mid now c.write_head.ensures.counts)))
 
@@ -52,5 +52,5 @@ returns-in-Ok-write_head-clause-makes g c =
     let now = new.volume.store.disk in
     let first = goes_counts c.make_records.result old mid e.counts in
     made_done c.args.file c.args.head.now u c.requires.order c.the_laws.ensures c.requires.fresh c.make_records.new.volume
-    (record { map_is = m.map; laid = m.laid; chain = m.chain; each = m.each; outside = m.outside; idle = m.idle; catalog = e.catalog; size = e.counts.size; pool = e.pool })
+    (record { map_is = m.map; laid = m.laid; layout = m.layout; each = m.each; outside = m.outside; idle = m.idle; catalog = e.catalog; size = e.counts.size; pool = e.pool })
     c.write_head.result new (head_block_of c.args.head.now) refl refl c.write_head.ensures (goes_on old mid now first (goes_counts c.write_head.result mid now c.write_head.ensures.counts)) c.in-Ok-write_head.field-0 _ _ c.in-Ok-write_head.is c.emit.ensures.emits

@@ -34,7 +34,7 @@ returns-clause-down g c =
     let after = ap (λ (s : StoreState). s.current) end ∙ ap (λ (m : ℕ). option_map (λ (b : List (List ℕ)). with_bucket bytes b m h.bucket) s0.current) at in
     on_err_then c.apply.result (λ leaves. λ image left. (
       (leaves image left).0,
-      either_out h 0 bytes s0.current c.give_frame.new.store.current _ (omega (arith, c.requires.form.some, c.requires.form.within)) after
+      either_out h 0 bytes s0.current c.give_frame.new.store.current _ c.requires.some after
           (subst (λ (o : Option (List (List ℕ))). IsEither o c.give_frame.new.store.current (content_of image)) before (leaves image left).1),
     ))
     c.apply.ensures.err

@@ -22,7 +22,7 @@ returns c =
     c.in_ok-parted.ensures.changes ∙ ap (λ (v : Vec LiveChanges Global). changes_by serial (map live_of v.items)) c.replace-live.ensures.value in
     let others : map live_of parted.others.items ≡ without serial (map live_of f.live.items) =
     c.in_ok-parted.ensures.others ∙ ap (λ (v : Vec LiveChanges Global). without serial (map live_of v.items)) c.replace-live.ensures.value in
-    let layout : layout_of c.in_ok-settled_one.field-0.items ≡ settled_layout by (changes_of parted.changes.items) (layout_of f.chain.items) =
-    c.in_ok-settled_one.ensures ∙ (λ i. settled_layout by (changes_of (c.as_slice.ensures.value i)) (layout_of (c.replace-chain.ensures.value i).items)) in
-    ap (λ (ss : List SettledChanges). record (file_of f) { history = record (history_of f) { settled = map done_of ss; live = map live_of parted.others.items }; layout = layout_of c.in_ok-settled_one.field-0.items }) c.in_ok-push_front.ensures
-    ∙ now_settled f (settlement_of c.args.s) by (changes_of parted.changes.items) (map live_of parted.others.items) (layout_of c.in_ok-settled_one.field-0.items) c.requires outcome changes others layout
+    let layout : layout_of c.in_ok-settled_one.field-0 ≡ settled_layout by (changes_of parted.changes.items) (layout_of f.layout) =
+    c.in_ok-settled_one.ensures ∙ (λ i. settled_layout by (changes_of (c.as_slice.ensures.value i)) (layout_of (c.replace-layout.ensures.value i))) in
+    ap (λ (ss : List SettledChanges). record (file_of f) { history = record (history_of f) { settled = map done_of ss; live = map live_of parted.others.items }; layout = layout_of c.in_ok-settled_one.field-0 }) c.in_ok-push_front.ensures
+    ∙ now_settled f (settlement_of c.args.s) by (changes_of parted.changes.items) (map live_of parted.others.items) (layout_of c.in_ok-settled_one.field-0) c.requires outcome changes others layout

@@ -31,4 +31,4 @@ returns-clause-back g c =
     told_back c.args.file h c.restore.new.head v.store c.restore.new.store c.stage_moved.new.volume.store (head_below v.catalog.heads c.args.file h c.requires.whole c.requires.there) (behind_front c.requires.sound.0 v.store.disk.size v.catalog c.args.file h c.requires.whole c.requires.sound.1 c.requires.there)
     c.in_ok-restore.ensures.file c.in_ok-restore.ensures.form c.stage_moved.ensures.store (key_of c.args.key.now) (option_copied c.args.value) a
     (subst (λ (x : StoreState). BackIn h (key_of c.args.key.now) (option_copied c.args.value) x c.restore.new.store c.restore.new.head) c.store.ensures.value
-    (record { map = c.in_ok-restore.ensures.map; valid = c.in_ok-restore.ensures.valid; rooms = c.in_ok-restore.ensures.rooms; chain = c.in_ok-restore.ensures.chain })) told laid restores
+    (record { map = c.in_ok-restore.ensures.map; valid = c.in_ok-restore.ensures.valid; rooms = c.in_ok-restore.ensures.rooms; layout = c.in_ok-restore.ensures.layout })) told laid restores

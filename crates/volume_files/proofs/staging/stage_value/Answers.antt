@@ -37,8 +37,8 @@ returns-clause-stages g c =
     let lies = placed c.requires.sound.0 v.catalog c.args.file h v.store.disk c.requires.whole c.requires.sound.1 c.requires.most c.requires.there in
     let few = set_few h (c.is_formed.ensures.formed c.if-not-is_formed.false) lies.blocks in
     let same = c.blocks_are_whole.ensures.same in
-    subst (λ (u : VolumeState). StagesFile c.args.file h 65 v u c.set_from.new.head) (sym c.blocks_are_whole-2.ensures.same)
-    (stages_moved c.args.file h c.set_from.new.head ((2 * h.levels + 2) * h.bucket) 65 v c.stage_moved.new.volume c.set_from.new.store c.requires.whole c.requires.there c.catalogs_stand_on_the_front.ensures (behind_front c.requires.sound.0 v.store.disk.size v.catalog c.args.file h c.requires.whole c.requires.sound.1 c.requires.there)
+    subst (λ (u : VolumeState). StagesFile c.args.file h 417 v u c.set_from.new.head) (sym c.blocks_are_whole-2.ensures.same)
+    (stages_moved c.args.file h c.set_from.new.head ((2 * h.levels + 2) * h.bucket) 417 v c.stage_moved.new.volume c.set_from.new.store c.requires.whole c.requires.there c.catalogs_stand_on_the_front.ensures (behind_front c.requires.sound.0 v.store.disk.size v.catalog c.args.file h c.requires.whole c.requires.sound.1 c.requires.there)
     (subst (λ (x : StoreState). StagesIn h ((2 * h.levels + 2) * h.bucket) x c.set_from.new.store) (c.store.ensures.value ∙ ap (λ (u : VolumeState). u.store) same) c.in_ok-set_from.ensures.staged) (omega (arith, few))
     c.in_ok-set_from.ensures.file c.in_ok-set_from.ensures.form c.stage_moved.ensures.store
     (subst (λ (u : VolumeState). c.stage_moved.new.volume.catalog ≡ record u.catalog { heads = slice_set u.catalog.heads c.args.file (Some c.set_from.new.head) }) same c.stage_moved.ensures.catalog)
@@ -55,7 +55,7 @@ returns-clause-sets g c =
     told_set c.args.file h c.set_from.new.head v.store c.set_from.new.store c.stage_moved.new.volume.store (head_below v.catalog.heads c.args.file h c.requires.whole c.requires.there) (behind_front c.requires.sound.0 v.store.disk.size v.catalog c.args.file h c.requires.whole c.requires.sound.1 c.requires.there)
     c.in_ok-set_from.ensures.file c.in_ok-set_from.ensures.form c.stage_moved.ensures.store holds key value a
     (subst (λ (x : StoreState). SetIn h holds key value x c.set_from.new.store c.set_from.new.head) (c.store.ensures.value ∙ ap (λ (u : VolumeState). u.store) c.blocks_are_whole.ensures.same)
-    (record { map = c.in_ok-set_from.ensures.map; valid = c.in_ok-set_from.ensures.valid; rooms = c.in_ok-set_from.ensures.rooms; chain = c.in_ok-set_from.ensures.chain; back = c.in_ok-set_from.ensures.back }))
+    (record { map = c.in_ok-set_from.ensures.map; valid = c.in_ok-set_from.ensures.valid; rooms = c.in_ok-set_from.ensures.rooms; layout = c.in_ok-set_from.ensures.layout; back = c.in_ok-set_from.ensures.back }))
     (within_of h v.store a (placed c.requires.sound.0 v.catalog c.args.file h v.store.disk c.requires.whole c.requires.sound.1 c.requires.most c.requires.there) told c.blocks_are_whole.ensures.whole c.blocks_are_whole.ensures.each) c.blocks_are_whole-2.ensures.each told laid takes)
 
 pub set_from-requires-clause-begins : goal.set_from-requires-clause-begins

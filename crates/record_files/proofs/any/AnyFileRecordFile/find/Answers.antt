@@ -50,7 +50,7 @@ returns-in-Relative-clause-begins g c =
 
 pub returns-in-Indexed-clause-begins : goal.returns-in-Indexed-clause-begins
 returns-in-Indexed-clause-begins g c =
-    subst (λ (o : Organization). OnOk c.find-in-Indexed.result (IfSome c.args.store.now.current (λ b. LaidOutBy o c.args.head.now b → BeginsBy o c.args.head.now b (Some (key_of c.args.key.now)) c.find-in-Indexed.new.place))) (sym c.in-Indexed.is) c.find-in-Indexed.ensures.begins
+    subst (λ (o : Organization). OnOk c.find-in-Indexed.result (IfSome c.args.store.now.current (λ b. LaidOutBy o c.args.head.now b → BeginsBy o c.args.head.now b (Some (key_of c.args.key.now)) c.find-in-Indexed.new._place))) (sym c.in-Indexed.is) c.find-in-Indexed.ensures.begins
 
 pub find-requires-clause-begins : goal.find-requires-clause-begins
 find-requires-clause-begins g c =

@@ -64,4 +64,4 @@ next_from-requires-in-Indexed-clause-begins g c =
 
 pub returns-in-Indexed-clause-begins : goal.returns-in-Indexed-clause-begins
 returns-in-Indexed-clause-begins g c =
-    subst (λ (o : Organization). IfOk c.next_from-in-Indexed.result (λ found. found ≡ true → IfSome c.args.store.now.current (λ b. LaidOutBy o c.args.head.now b → BeginsBy o c.args.head.now b (Some (key_of c.next_from-in-Indexed.new.found)) c.next_from-in-Indexed.new.place))) (sym c.in-Indexed.is) c.next_from-in-Indexed.ensures.begins
+    subst (λ (o : Organization). IfOk c.next_from-in-Indexed.result (λ found. found ≡ true → IfSome c.args.store.now.current (λ b. LaidOutBy o c.args.head.now b → BeginsBy o c.args.head.now b (Some (key_of c.next_from-in-Indexed.new.found)) c.next_from-in-Indexed.new._place))) (sym c.in-Indexed.is) c.next_from-in-Indexed.ensures.begins

@@ -4,7 +4,7 @@ use Rattle.file_base.specs.declared.head.Organization.{Organization}
 use Rattle.file_base.specs.declared.head.Organization.TheVariants.{Sequential, Relative, Indexed}
 use Rattle.vms_base.specs.Keys.{key_of}
 use Rattle.record_files.specs.Any.{FormBy}
-use Rattle.record_files.proofs.Cases.{restore_map, restore_valid, restore_rooms, restore_chain, set_form}
+use Rattle.record_files.proofs.Cases.{restore_map, restore_valid, restore_rooms, restore_layout, set_form}
 use Rattle.record_files.proofs.any.AnyFileRecordFile.restore.Goals as goal
 
 pub restore-requires-clause-form : goal.restore-requires-clause-form
@@ -50,9 +50,9 @@ pub returns-in-Indexed-clause-rooms : goal.returns-in-Indexed-clause-rooms
 returns-in-Indexed-clause-rooms g c =
     restore_rooms c.restore-in-Indexed.result Indexed c.args.head.now c.restore-in-Indexed.new.head (key_of c.args.key.now) (option_copied c.args.value) c.args.store.now.current c.restore-in-Indexed.new.store.current c.in-Indexed.is c.restore-in-Indexed.ensures.file c.restore-in-Indexed.ensures.rooms
 
-pub returns-in-Indexed-clause-chain : goal.returns-in-Indexed-clause-chain
-returns-in-Indexed-clause-chain g c =
-    restore_chain c.restore-in-Indexed.result Indexed c.args.head.now c.restore-in-Indexed.new.head (key_of c.args.key.now) (option_copied c.args.value) c.args.store.now.current c.restore-in-Indexed.new.store.current c.in-Indexed.is c.restore-in-Indexed.ensures.file c.restore-in-Indexed.ensures.chain
+pub returns-in-Indexed-clause-layout : goal.returns-in-Indexed-clause-layout
+returns-in-Indexed-clause-layout g c =
+    restore_layout c.restore-in-Indexed.result Indexed c.args.head.now c.restore-in-Indexed.new.head (key_of c.args.key.now) (option_copied c.args.value) c.args.store.now.current c.restore-in-Indexed.new.store.current c.in-Indexed.is c.restore-in-Indexed.ensures.file c.restore-in-Indexed.ensures.layout
 
 pub returns-in-Indexed-clause-form : goal.returns-in-Indexed-clause-form
 returns-in-Indexed-clause-form g c = set_form c.restore-in-Indexed.result Indexed c.args.head.now c.restore-in-Indexed.new.head c.in-Indexed.is c.restore-in-Indexed.ensures.file c.restore-in-Indexed.ensures.form

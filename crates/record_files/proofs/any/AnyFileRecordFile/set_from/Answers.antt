@@ -1,10 +1,11 @@
-use Rattle.std.proofs.Common.{◌-◌, ◌*◌, Some, IfSome, subst}
+use Rattle.std.proofs.Common.{Some, IfSome, subst}
 use Rattle.file_base.specs.declared.head.Organization.{Organization}
 use Rattle.file_base.specs.declared.head.Organization.TheVariants.{Sequential, Relative, Indexed}
 use Rattle.std.specs.Option.{option_copied}
 use Rattle.vms_model.specs.Keys.{Key}
 use Rattle.vms_base.specs.Keys.{key_of}
-use Rattle.record_files.proofs.Cases.{set_map, set_valid, set_used, set_rooms, set_chain, set_back, set_form}
+use Rattle.change_set.specs.Files.{sizes_of}
+use Rattle.record_files.proofs.Cases.{set_map, set_valid, set_used, set_rooms, set_layout, set_back, set_form}
 use Rattle.record_files.specs.Any.{BeginsBy, FormBy, LaidOutBy, SuitsBy}
 use Rattle.record_files.proofs.any.AnyFileRecordFile.set_from.Goals as goal
 
@@ -100,9 +101,9 @@ pub returns-in-Indexed-clause-back : goal.returns-in-Indexed-clause-back
 returns-in-Indexed-clause-back g c =
     set_back c.set_from-in-Indexed.result Indexed c.args.head.now c.set_from-in-Indexed.new.head (key_of c.args.key.now) (option_copied c.args.value) c.args.store.now.current c.set_from-in-Indexed.new.store.current c.in-Indexed.is c.set_from-in-Indexed.ensures.file c.set_from-in-Indexed.ensures.back
 
-pub returns-in-Indexed-clause-chain : goal.returns-in-Indexed-clause-chain
-returns-in-Indexed-clause-chain g c =
-    set_chain c.set_from-in-Indexed.result Indexed c.args.head.now c.set_from-in-Indexed.new.head (512 * c.args.head.now.bucket - 16) (λ (k : Key). g.H.Held.held c.args.held.now k) (key_of c.args.key.now) (option_copied c.args.value) c.args.store.now.current c.set_from-in-Indexed.new.store.current c.in-Indexed.is c.set_from-in-Indexed.ensures.file c.set_from-in-Indexed.ensures.chain
+pub returns-in-Indexed-clause-layout : goal.returns-in-Indexed-clause-layout
+returns-in-Indexed-clause-layout g c =
+    set_layout c.set_from-in-Indexed.result Indexed c.args.head.now c.set_from-in-Indexed.new.head (sizes_of c.args.head.now) (λ (k : Key). g.H.Held.held c.args.held.now k) (key_of c.args.key.now) (option_copied c.args.value) c.args.store.now.current c.set_from-in-Indexed.new.store.current c.in-Indexed.is c.set_from-in-Indexed.ensures.file c.set_from-in-Indexed.ensures.layout
 
 pub set_from-requires-clause-begins : goal.set_from-requires-clause-begins
 set_from-requires-clause-begins g c =

@@ -1,4 +1,4 @@
-use Rattle.std.proofs.Common.{◌≤◌, ◌+◌, List, length, subst, sym, ap, ◌∙◌}
+use Rattle.std.proofs.Common.{◌≡◌, ◌≤◌, ◌+◌, List, [], length, subst, sym, ap, ◌∙◌, arith}
 use Rattle.std.specs.List.{IsDistinct}
 use Rattle.std.specs.Map.{keys_of}
 use Rattle.indexmap.specs.IndexMap.{IndexMap, spare}
@@ -13,9 +13,12 @@ use Rattle.record_locks.proofs.locks.Locks.release_all.Goals as goal
 pub invariant_of-self : goal.invariant_of-self
 invariant_of-self c =
     let left = c.keep_others.ensures in
-    subst (λ (m : IndexMap Place Serial _). IsTable m c.clear.new.self c.self.inside.most) (sym c.swap.ensures.x_after)
-    (released_table c.self.inside.held c.self.inside.other c.keep_others.new.other c.clear.new.self c.self.inside.most (serial_of c.args.by) c.self.invariant left.entries left.unique left.room c.clear.ensures.empty
-    (subst (λ (m : IndexMap Place Serial _). length m.entries + spare m ≤ spare c.clear.new.self) c.swap.ensures.y_after c.clear.ensures.capacity))
+    let empty : c.truncate.new.self.entries ≡ [] = c.truncate.ensures.entries in
+    let none : length c.truncate.new.self.entries ≡ 0 = ap length empty in
+    let kept = subst (λ (m : IndexMap Place Serial _). length m.entries + spare m ≤ length c.truncate.new.self.entries + spare c.truncate.new.self) c.swap.ensures.y_after (c.truncate.ensures.capacity (omega arith)) in
+    subst (λ (m : IndexMap Place Serial _). IsTable m c.truncate.new.self c.self.inside.most) (sym c.swap.ensures.x_after)
+    (released_table c.self.inside.held c.self.inside.other c.keep_others.new.other c.truncate.new.self c.self.inside.most (serial_of c.args.by) c.self.invariant left.entries left.unique left.room empty
+    (omega (arith, none, kept)))
 
 pub returns-clause-locks : goal.returns-clause-locks
 returns-clause-locks c =

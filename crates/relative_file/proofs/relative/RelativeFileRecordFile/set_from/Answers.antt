@@ -2,9 +2,9 @@ use Rattle.std.proofs.Common.{◌-◌, ◌*◌, Result, Ok, Err, OnOk}
 use Rattle.std.specs.Option.{option_copied}
 use Rattle.vms_base.specs.Keys.{key_of}
 use Rattle.vms_model.specs.Keys.{Key}
-use Rattle.change_set.specs.Files.{StagesIn}
+use Rattle.change_set.specs.Files.{StagesIn, sizes_of}
 use Rattle.change_set.specs.Maps.{set_key}
-use Rattle.change_set.proofs.NoChain.{none_set}
+use Rattle.change_set.proofs.NoLayout.{none_set}
 use Rattle.relative_file.specs.Cells.{map_of, IsLaidOut, Anything}
 use Rattle.relative_file.proofs.MapLaws.{stages_two, told_map, told_valid}
 use Rattle.relative_file.proofs.relative.RelativeFileRecordFile.set_from.Goals as goal
@@ -16,9 +16,9 @@ on_ok_then (Err e) f a = tt
 pub returns-clause-staged : goal.returns-clause-staged
 returns-clause-staged g c = on_ok_then c.set_record.result (λ (s : StagesIn c.args.head.now c.args.head.now.bucket c.args.store.now c.set_record.new.store). stages_two c.args.head.now c.args.store.now c.set_record.new.store s) c.set_record.ensures.staged
 
-pub returns-clause-chain : goal.returns-clause-chain
-returns-clause-chain g c =
-    none_set (IsLaidOut c.args.head.now) (λ b. Anything) c.set_record.result c.args.head.now c.args.head.now.bucket c.args.store.now c.set_record.new.store (512 * c.args.head.now.bucket - 16) (λ (k : Key). g.H.Held.held c.args._held.now k)
+pub returns-clause-layout : goal.returns-clause-layout
+returns-clause-layout g c =
+    none_set (IsLaidOut c.args.head.now) (λ b. Anything) c.set_record.result c.args.head.now c.args.head.now.bucket c.args.store.now c.set_record.new.store (sizes_of c.args.head.now) (λ (k : Key). g.H.Held.held c.args._held.now k)
     (key_of c.args.key.now) (option_copied c.args.value) c.set_record.ensures.staged
 
 pub returns-clause-map : goal.returns-clause-map

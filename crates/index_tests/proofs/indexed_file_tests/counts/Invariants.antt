@@ -1,9 +1,0 @@
-use Rattle.std.proofs.Common.{◌≡◌, ◌<◌}
-use Rattle.index_tests.proofs.indexed_file_tests.counts.Given as goal
-
--- the store is as it was, and the next bucket is used
-abbrev pub invariant-loop-i : goal.invariant-loop-i
-invariant-loop-i g l = record {
-  same : l.store ≡ l.fn.store;
-  there : l.n < l.head.used;
-}
