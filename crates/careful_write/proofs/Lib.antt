@@ -4,5 +4,6 @@ pub mod Home
 pub mod Images
 mod Intents
 mod Loading
+pub mod Reading
 pub mod Touched
 mod Written

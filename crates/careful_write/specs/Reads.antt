@@ -2,6 +2,10 @@
 use Rattle.std.specs.Prelude.{◌≡◌}
 use Rattle.careful_write.specs.State.{StoreState}
 
--- the store is the same but for what tells of reads; no field of the state does so today, so all of it is the same
+-- a store, with what another one tells of reads
+abbrev pub as_read_by : StoreState → StoreState → StoreState
+as_read_by other s = record s { reads = other.reads }
+
+-- the store is the same but for what tells of reads
 abbrev pub SameButReads : StoreState → StoreState → Type 0
-SameButReads old new = new ≡ old
+SameButReads old new = new ≡ as_read_by new old

@@ -1,5 +1,5 @@
 -- A store as its callers see it.
-use Rattle.std.specs.Prelude.{◌≡◌, ℕ, ◌<◌, ◌≤◌, ◌⊎◌, Bool, true, false, List, [], length, Option, Some, IfSome, IsSomeAnd, option_map}
+use Rattle.std.specs.Prelude.{◌≡◌, ℕ, ◌+◌, min, ◌<◌, ◌≤◌, ◌⊎◌, Bool, true, false, List, [], length, Option, Some, IfSome, IsSomeAnd, option_map}
 use Rattle.block_disk.specs.Blocks.{AllWhole, Table, ascends, block_at, has_number, numbers_of}
 use Rattle.block_disk.specs.Disk.{DiskState, IsPowered, MayLeave}
 use Rattle.careful_write.specs.Content.{content_of, gate_open}
@@ -16,6 +16,12 @@ pub record StoreState : Type 0 where
   pub pool : List (Option (List ℕ))
   -- false exactly where the gate was open and the index did not fit
   pub fits : Bool
+  -- how many reads were asked for; the greatest number of 64 bits stands for more
+  pub reads : ℕ
+
+-- one read more
+abbrev pub raised : ℕ → ℕ
+raised n = min (n + 1) 18446744073709551615
 
 -- a block of the content
 abbrev pub InHome : DiskState → ℕ → Type 0

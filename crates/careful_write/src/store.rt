@@ -5,7 +5,8 @@ ghost use Rattle.block_disk.specs.Disk.{armed};
 ghost use Rattle.careful_write.specs.Content.{home, content_of, gate_open, IsFront};
 ghost use Rattle.careful_write.specs.Down.{answered, Counts, CountsDown, went_down};
 ghost use Rattle.careful_write.specs.Load.{fitting};
-ghost use Rattle.careful_write.specs.State.{EachWhole, InHome, IsEither, IsIdle, IsReady, Leaves, LeavesAsItWas, content};
+ghost use Rattle.careful_write.specs.Reads.{SameButReads};
+ghost use Rattle.careful_write.specs.State.{EachWhole, InHome, IsEither, IsIdle, IsReady, Leaves, LeavesAsItWas, content, raised};
 ghost use Rattle.careful_write.specs.Steps.{Quiet, Touches};
 ghost use Rattle.careful_write.specs.Parts.{written_by, DataFirst};
 ghost use Rattle.std.specs.Borrow.{Lends, sem};
@@ -59,6 +60,7 @@ pub struct Store<D: Disk> {
     staged: BlockTable,
     pool: Pool,
     fits: bool,
+    reads: u64,
 }
 
 impl<D: Disk> Model for Store<D> {
@@ -74,6 +76,7 @@ impl<D: Disk> Model for Store<D> {
       touched = numbers_of s.staged.entries;
       pool = s.pool;
       fits = s.fits;
+      reads = s.reads;
     } };
 
     ghost invariant = { λ s. IsStaged (D.state s.disk).size s.staged };
@@ -97,6 +100,7 @@ impl<D: Disk> Store<D> {
         ensures current { IfOk result (λ store. store.current ≡ option_map content_of (D.state disk).seen) }
         ensures touched { IfOk result (λ store. store.touched ≡ []) }
         ensures pool { IfOk result (λ store. store.pool ≡ pool) }
+        ensures reads { IfOk result (λ store. store.reads ≡ 0) }
         ensures ready { IfOk result (λ store. store.fits ≡ true → IsReady store) }
         ensures idle { IfOk result (λ store. store.fits ≡ true → IsIdle store) }
         ensures fits { IfOk result (λ store. IfSome (D.state disk).seen (λ blocks. store.fits ≡ fitting blocks)) }
@@ -117,6 +121,7 @@ impl<D: Disk> Store<D> {
                     staged,
                     pool,
                     fits,
+                    reads: 0,
                 })
             }
             Err(err) => Err(OpenErr {
@@ -134,6 +139,7 @@ impl<D: Disk> Store<D> {
         ensures disk { IfOk result (λ store. store.disk ≡ D.state disk) }
         ensures current { IfOk result (λ store. store.current ≡ content store) }
         ensures pool { IfOk result (λ store. store.pool ≡ pool) }
+        ensures reads { IfOk result (λ store. store.reads ≡ 0) }
         ensures fits { IfOk result (λ store. IfSome (D.state disk).seen (λ blocks. store.fits ≡ fitting blocks)) }
         ensures err { IfErr result (λ e. D.state e.disk ≡ went_down e.down (D.state disk)) }
         ensures pool_back { IfErr result (λ e. e.pool ≡ pool) }
@@ -146,6 +152,7 @@ impl<D: Disk> Store<D> {
                 staged,
                 pool,
                 fits,
+                reads: 0,
             }),
             Err(err) => Err(OpenErr {
                 down: Down::from(err),
@@ -180,6 +187,13 @@ impl<D: Disk> Store<D> {
         self.fits
     }
 
+    /// How many times `read` was called since the store was made. At the greatest number it stays.
+    pub fn reads(&self) -> u64
+        ensures { result ≡ self.now.reads }
+    {
+        self.reads
+    }
+
     /// Drops what was staged.
     pub fn into_parts(self) -> (D, Group, Pool)
         ensures disk { D.state result.0 ≡ self.disk }
@@ -190,6 +204,7 @@ impl<D: Disk> Store<D> {
             staged,
             pool,
             fits: _,
+            reads: _,
         } = self;
         (disk, Group { staged }, pool)
     }
@@ -198,11 +213,13 @@ impl<D: Disk> Store<D> {
     pub fn read(&mut self, n: u32, out: &mut [u8; 512]) -> Result<(), Down>
         requires { InHome self.old.disk n }
         ensures read { OnOk result (IfSome self.old.current (λ blocks. out.new ≡ block_at blocks (n - 518))) }
-        ensures state { self.new ≡ record self.old { disk = answered result self.old.disk } }
+        ensures state { SameButReads (record self.old { disk = answered result self.old.disk }) self.new }
+        ensures reads { self.new.reads ≡ raised self.old.reads }
         ensures staged { has_number n self.old.touched ≡ true → IsOk result }
         ensures whole { IfSome self.new.current (λ blocks. length blocks + 518 ≡ self.new.disk.size) }
         ensures each { IfSome self.new.current EachWhole }
     {
+        self.reads = self.reads.saturating_add(1);
         match self.staged.get(n) {
             Some(bytes) => *out = *bytes,
             None => self.disk.read(n, out)?,
@@ -248,6 +265,7 @@ impl<D: Disk> Store<D> {
         ensures counts { Counts result self.old.disk self.new.disk }
         ensures pool { self.new.pool ≡ self.old.pool }
         ensures fits { self.new.fits ≡ self.old.fits }
+        ensures reads { self.new.reads ≡ self.old.reads }
     {
         if self.staged.is_empty() {
             return Ok(());

@@ -5,6 +5,7 @@ use Rattle.std.proofs.lemmas.Nat.{mul-le}
 use Rattle.block_disk.specs.Blocks.{block_at, has_number}
 use Rattle.block_disk.specs.Disk.{DiskState}
 use Rattle.block_disk.proofs.Laid.{has_number-with_number}
+use Rattle.careful_write.specs.Reads.{SameButReads}
 use Rattle.careful_write.specs.State.{StoreState, IsEither}
 use Rattle.careful_write.specs.Steps.{AgreesOff}
 use Rattle.file_base.specs.declared.head.FileHead.{FileHead}
@@ -49,15 +50,15 @@ has_with_numbers k first (suc n) ns has =
 
 -- a bucket of the extent is staged
 pub bucket_staged : (h : FileHead) (i : ℕ) (bytes : List ℕ) (old new : StoreState) → i < h.alloc
-    → new ≡ record old {
+    → SameButReads (record old {
       current = option_map (λ b. with_bucket bytes b (h.start - 518 + i * h.bucket) h.bucket) old.current;
       touched = with_numbers (518 + (h.start - 518 + i * h.bucket)) h.bucket old.touched;
-    }
+    }) new
     → StagesIn h h.bucket old new
 bucket_staged h i bytes old new below state =
     let lies = ranges_apart i h.alloc h.bucket below in
     record {
-      rest = state ∙ (λ k. record old { current = sym current k; touched = sym touched k });
+      rest = state ∙ (λ k. record old { current = sym current k; touched = sym touched k; reads = new.reads });
       blocks = subst (λ (now : Option (List (List ℕ))). MatchOption old.current (now ≡ None) (λ before. IsSomeAnd now (AgreesOff (in_extent h) before))) (sym current) (told old.current);
       touched = λ k has. ⊎_elim inl (λ in_it. inr (in_extent_is (h.start - 518) (h.alloc * h.bucket) (k - 518) (omega (arith, in_it.0)) (omega (arith, in_it.0, in_it.1, lies))))
           (has_with_numbers k (518 + (h.start - 518 + i * h.bucket)) h.bucket old.touched (subst (λ (ns : List ℕ). has_number k ns ≡ true) touched has));
@@ -77,6 +78,10 @@ bucket_staged h i bytes old new below state =
 
 pub stages_more : (h : FileHead) (few many : ℕ) (old new : StoreState) → few ≤ many → StagesIn h few old new → StagesIn h many old new
 stages_more h few many old new le stages = record { rest = stages.rest; blocks = stages.blocks; touched = stages.touched; few = let count = stages.few in omega arith }
+
+-- and whatever was read besides
+pub stages_read : (h : FileHead) (limit reads : ℕ) (old new : StoreState) → StagesIn h limit old new → StagesIn h limit old (record new { reads = reads })
+stages_read h limit reads old new stages = record { rest = λ i. record (stages.rest i) { reads = reads }; blocks = stages.blocks; touched = stages.touched; few = stages.few }
 
 -- the blocks are the same but in the extent, before and after a bucket was written
 pub either_out : (h : FileHead) (i : ℕ) (bytes : List ℕ) (told now : Option (List (List ℕ))) (c : List (List ℕ)) → i < h.alloc

@@ -2,6 +2,7 @@
 ghost use Rattle.std.specs.Prelude.{◌≡◌, ◌≤◌, ◌<◌, ◌+◌, ◌-◌, ◌*◌, ℕ, take, length, Some, None, OnOk, IfSome, slice_set, option_map};
 ghost use Rattle.frame_pool.specs.Pool.{IsOut};
 ghost use Rattle.careful_write.specs.Down.{answered};
+ghost use Rattle.careful_write.specs.Reads.{SameButReads};
 ghost use Rattle.file_base.specs.Bytes.{piece_at, spliced};
 ghost use Rattle.change_set.specs.Buckets.{frame_of, with_frame, bucket_bytes, with_bucket, with_numbers, LiesInHome, WasFree};
 ghost use Rattle.change_set.specs.Files.{free_frames};
@@ -44,7 +45,8 @@ pub fn load_bucket<D: Disk>(
     requires out { IsOut store.old.pool frame.now }
     requires in_home { LiesInHome store.old.disk first count }
     requires within { count ≤ 16 }
-    ensures state { store.new ≡ with_frame frame.now (frame_of store.new.pool frame.now) (record store.old { disk = answered result store.old.disk }) }
+    ensures state { SameButReads (with_frame frame.now (frame_of store.new.pool frame.now) (record store.old { disk = answered result store.old.disk })) store.new }
+    ensures reads { store.new.reads ≤ store.old.reads + count }
     ensures out { IsOut store.new.pool frame.now }
     ensures read { OnOk result (IfSome store.old.current (λ blocks. take (512 * count) (frame_of store.new.pool frame.now) ≡ bucket_bytes blocks (first - 518) count)) }
 {

@@ -79,6 +79,9 @@ pub trait RecordFile {
     /// The key may be set back to the value in place.
     ghost restores: { FileHead → List (List ℕ) → model.Key → Option (List ℕ) → Type 0 };
 
+    /// How many blocks a walk to a key reads at most.
+    ghost reads: { FileHead → ℕ };
+
     /// A walk to a key or to what is behind it, or to the first key where none is said, may begin at this place.
     ghost begins: { FileHead → List (List ℕ) → Option model.Key → declared.Place → Type 0 };
 
@@ -95,6 +98,7 @@ pub trait RecordFile {
         ensures found { IfOk result (λ found. found ≡ true → IfSome store.old.current (λ blocks. valid head.now blocks → map head.now blocks (key_of key.now) ≡ Some out.new)) }
         ensures stands { IfOk result (λ found. found ≡ true → IfSome store.old.current (λ blocks. stands head.now blocks (key_of key.now) out.new)) }
         ensures absent { IfOk result (λ found. found ≡ false → IfSome store.old.current (λ blocks. valid head.now blocks → map head.now blocks (key_of key.now) ≡ None)) }
+        ensures reads { store.new.reads ≤ store.old.reads + reads head.now }
         ensures same { OnOk result (SameButReads store.old store.new) }
         ensures down { OnErr result (SameButReads (fell result store.old) store.new) }
     {
@@ -118,6 +122,7 @@ pub trait RecordFile {
         ensures stands { IfOk result (λ found. found ≡ true → IfSome store.old.current (λ blocks. stands head.now blocks (key_of key.now) out.new)) }
         ensures absent { IfOk result (λ found. found ≡ false → IfSome store.old.current (λ blocks. valid head.now blocks → map head.now blocks (key_of key.now) ≡ None)) }
         ensures begins { OnOk result (IfSome store.old.current (λ blocks. valid head.now blocks → begins head.now blocks (Some (key_of key.now)) place.new)) }
+        ensures reads { store.new.reads ≤ store.old.reads + reads head.now }
         ensures same { OnOk result (SameButReads store.old store.new) }
         ensures down { OnErr result (SameButReads (fell result store.old) store.new) };
 

@@ -161,6 +161,24 @@ fn wrong_failures(alloc: Global, calls: u32) -> Result<u32, AllocError> {
     Ok(wrong)
 }
 
+// How many reads a store tells of when it is opened, and after four of them.
+fn told_reads(alloc: Global) -> Result<[u64; 2], AllocError> {
+    match open(make_parts(alloc, None)?) {
+        Ok(mut store) => {
+            let first = store.reads();
+            let _ = byte_of(&mut store, 3);
+            Ok([first, store.reads()])
+        }
+        Err(_) => Ok([u64::MAX; 2]),
+    }
+}
+
+#[test]
+fn reads_are_counted(rt: HostRuntime) -> Result<(), Fail> {
+    assert_eq!(rt; told_reads(rt.alloc())?, [0, 4]);
+    Ok(())
+}
+
 #[test]
 fn a_stop_leaves_one_block_before_or_after(rt: HostRuntime) -> Result<(), Fail> {
     assert_eq!(rt; wrong_stops(rt.alloc(), 1)?, 0);

@@ -7,6 +7,7 @@ use Rattle.block_disk.specs.Blocks.{block_at}
 use Rattle.block_disk.specs.Disk.{DiskState}
 use Rattle.careful_write.specs.Content.{content_of}
 use Rattle.careful_write.specs.Load.{fitting}
+use Rattle.careful_write.specs.Reads.{SameButReads}
 use Rattle.careful_write.specs.State.{EachWhole, IsIdle, LeavesAsItWas, StoreState}
 use Rattle.careful_write.proofs.GroupParts.{stop_reading}
 use Rattle.transcript_model.specs.Lines as line
@@ -75,7 +76,7 @@ left_wide c v n h = let order = h.journal.is.order in let low = h.journal.low in
 abbrev pub MountedBy : Node → Content → VolumeState → Volume → Type 0
 MountedBy n c v x = elim x [ Sound ↦ (IsWide v.catalog.ru → LeavesVolume c v.catalog n) | Faulty condition block ↦ ⊥ | Barred bar ↦ (IsWide v.catalog.ru → first_bar v.catalog ≡ Some bar) | Unknown ↦ ⊥ ]
 
-pub mounted : (name : List ℕ) (s : StoreState) (v : VolumeState) (n : Node) → v.store ≡ s → 4096 ≤ s.disk.size → IfSome s.current (λ c. length c + 518 ≡ s.disk.size) → IfSome s.current EachWhole → Holds v → IsSound name s.disk.size v.catalog → IfSome s.current (TellsOnly v.catalog) →
+pub mounted : (name : List ℕ) (s : StoreState) (v : VolumeState) (n : Node) → SameButReads s v.store → 4096 ≤ s.disk.size → IfSome s.current (λ c. length c + 518 ≡ s.disk.size) → IfSome s.current EachWhole → Holds v → IsSound name s.disk.size v.catalog → IfSome s.current (TellsOnly v.catalog) →
     IfSome s.current (IsValid name s.fits) → IsOpened name s n → IsMounted v n
 mounted name s v n store least whole each holds sound only valid o = record {
   booting = record { name_is = o.booting.name_is ∙ sym sound.home.owner; blocks = o.booting.blocks ∙ sym (ap (λ (t : StoreState). t.disk.size) store); under_way = o.booting.under_way; kept = o.booting.kept };

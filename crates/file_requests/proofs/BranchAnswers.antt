@@ -18,8 +18,9 @@ use Rattle.node_table.specs.Standing.{Stored}
 use Rattle.file_requests.specs.Acting.{ActsFor, branch_service}
 use Rattle.file_requests.specs.Asking.{ShowsCause}
 use Rattle.file_requests.specs.Replying.{IsPlain, RepliesIf}
-use Rattle.file_requests.specs.Serving.{disk_of}
+use Rattle.file_requests.specs.Serving.{SameStored, disk_of}
 use Rattle.file_requests.proofs.Operating.{act_shares, branch_up}
+use Rattle.file_requests.proofs.Reading.{order_still}
 use Rattle.file_requests.proofs.Replied.{replies_one, since_emits}
 use Rattle.file_requests.proofs.Served.{broken_comes, refusal_comes, served}
 
@@ -57,24 +58,24 @@ module _ (serial : Id) (f : ℕ) (op : Operation) (u new : Stored) (o : IsInOrde
     works = works;
     acts = λ s n name file branch q up.
         let d = done n name file branch q (branch_up n branch name file op up) in
-        served (branch_service n branch name file op) s n a b (new ≡ u) (IsKept new.units new.volume) (disk_of new) (Unit {0}) tt (unit_act branch name file op) [] d.allowed refl (act_shares branch name (changes_of file op) (keys_held file op) s) d.kept
+        served (branch_service n branch name file op) s n a b (SameStored u new) (IsKept new.units new.volume) (disk_of new) (Unit {0}) tt (unit_act branch name file op) [] d.allowed refl (act_shares branch name (changes_of file op) (keys_held file op) s) d.kept
         (subst (λ (l : Line). Emits a (l ∷ []) b) (sym d.answers) m);
   }
 
   -- it was not
-  pub asked_err : (e : RecErr) (r : Result (Unit {0}) Down) (a b : Shown) → (down_in e ≡ None → new ≡ u) → Caused (down_in e) (disk_of u) (disk_of new) → RepliesIf r a b → ShowsCause e r a b →
+  pub asked_err : (e : RecErr) (r : Result (Unit {0}) Down) (a b : Shown) → (down_in e ≡ None → SameStored u new) → Caused (down_in e) (disk_of u) (disk_of new) → RepliesIf r a b → ShowsCause e r a b →
       ForAsked serial f op u (λ n early late act file. IsNotDone e early late act n (disk_of new)) → ActsFor r serial f op u new a b
   asked_err e (Ok tt) a b same caused replies shows not_done =
       let is = same (no_down e shows.0 shows.1) in
       record {
-        keeps = record { order = subst (λ (v : Stored). IsInOrder v.units v.volume) (sym is) o; in_doubt = doubts; grows = grows; cause = tt; since = since_emits a b _ shows.2; replies = replies };
+        keeps = record { order = order_still u new is o; in_doubt = doubts; grows = grows; cause = tt; since = since_emits a b _ shows.2; replies = replies };
         works = works;
         acts = λ s n name file branch q up.
-            refusal_comes (branch_service n branch name file op) s n a b (new ≡ u) (IsKept new.units new.volume) (disk_of new) (Unit {0}) tt e shows.0 (unit_act branch name file op) (disk_of new) shows.1 (not_done n name file branch q (branch_up n branch name file op up)) is shows.2;
+            refusal_comes (branch_service n branch name file op) s n a b (SameStored u new) (IsKept new.units new.volume) (disk_of new) (Unit {0}) tt e shows.0 (unit_act branch name file op) (disk_of new) shows.1 (not_done n name file branch q (branch_up n branch name file op up)) is shows.2;
       }
   asked_err e (Err down) a b same caused replies shows not_done = record {
     keeps = record { order = tt; in_doubt = doubts; grows = grows; cause = subst (λ o. Caused o (disk_of u) (disk_of new)) shows.1 caused; since = since_emits a b _ shows.2; replies = replies };
     works = works;
     acts = λ s n name file branch q up.
-        broken_comes (branch_service n branch name file op) s n a b (new ≡ u) (IsKept new.units new.volume) (disk_of new) (Unit {0}) down e (unit_act branch name file op) [] shows.0 (not_done n name file branch q (branch_up n branch name file op up)) (λ none. refl) shows.2;
+        broken_comes (branch_service n branch name file op) s n a b (SameStored u new) (IsKept new.units new.volume) (disk_of new) (Unit {0}) down e (unit_act branch name file op) [] shows.0 (not_done n name file branch q (branch_up n branch name file op up)) (λ none. refl) shows.2;
   }

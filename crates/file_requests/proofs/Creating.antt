@@ -26,7 +26,7 @@ use Rattle.node_table.specs.Serving.{ServiceAt, service_at}
 use Rattle.node_table.specs.Standing.{Stored}
 use Rattle.file_requests.specs.Making.{BecomesFile, IsFresh, MakesFile, making}
 use Rattle.file_requests.specs.Replying.{IsPlain}
-use Rattle.file_requests.specs.Serving.{DoesThere, ServesFile, disk_of}
+use Rattle.file_requests.specs.Serving.{DoesThere, SameStored, ServesFile, disk_of}
 use Rattle.file_requests.specs.TheLaws.{TheLaws}
 use Rattle.file_requests.proofs.FileLemmas.{file_at_name, no_file}
 use Rattle.file_requests.proofs.Kept.{keeps_same}
@@ -61,7 +61,7 @@ module _ (name : List ℕ) (bucket size : ℕ) (form : Form) (u : Stored) (o : I
   refused_by l a b plain m is = record {
     keeps = keeps_same tt u u a b l o refl plain m;
     units = refl;
-    serves = λ s n r. refused (service_at asks s n) s n a b (u ≡ u) (IsKept u.units u.volume) (disk_of u) (Unit {0}) tt l (is s n r.kept) refl m;
+    serves = λ s n r. refused (service_at asks s n) s n a b (SameStored u u) (IsKept u.units u.volume) (disk_of u) (Unit {0}) tt l (is s n r.kept) refl m;
   }
 
   pub create_exists : (f : ℕ) (head : FileHead) (a b : Shown) → IsNamed u.volume.catalog.heads f head name → Emits a (line.FileExists ∷ []) b → ServesFile {T = Unit {0}} (Ok tt) asks u u a b

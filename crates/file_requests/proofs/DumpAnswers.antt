@@ -31,18 +31,19 @@ use Rattle.node_table.specs.Standing.{Stored}
 use Rattle.node_files.proofs.CatalogLemmas.{fits_at, head_below, placed}
 use Rattle.file_requests.specs.Listing.{Lists, Shows, ShowsJournal, record_line}
 use Rattle.file_requests.specs.Replying.{RepliesIf}
-use Rattle.file_requests.specs.Serving.{DoesThere, KeepsStored, ServesFile, disk_of, name_of}
+use Rattle.file_requests.specs.Serving.{DoesThere, KeepsStored, SameStored, ServesFile, disk_of, name_of}
 use Rattle.file_requests.specs.TheLaws.{TheLaws}
 use Rattle.file_requests.proofs.Calls.{caused_read, goes_read, grows_still, on_ok_then}
 use Rattle.file_requests.proofs.Filing.{dump_absent, dump_early, locked_by}
 use Rattle.file_requests.proofs.FileLemmas.{file_at_name, no_file}
 use Rattle.file_requests.proofs.HeadWrites.{disk_sound, fallen_as, idle_leaves, kept_left}
 use Rattle.file_requests.proofs.Kept.{keeps_same}
+use Rattle.file_requests.proofs.Reading.{kept_still, order_still}
 use Rattle.file_requests.proofs.Served.{first_is, listed, refused, unlisted}
 
 -- what reads alone come to
 pub record Looked (r : Result (Unit {0}) Down) (u new : Stored) (a b : Shown) : Type 0 where
-  pub same : OnOk r (new ≡ u)
+  pub same : OnOk r (SameStored u new)
   pub catalog : new.volume.catalog ≡ u.volume.catalog
   pub units : new.units ≡ u.units
   pub in_doubt : new.in_doubt ≡ u.in_doubt
@@ -53,7 +54,7 @@ pub record Looked (r : Result (Unit {0}) Down) (u new : Stored) (a b : Shown) : 
 
 keeps_looked : (r : Result (Unit {0}) Down) (u new : Stored) (a b : Shown) → IsInOrder u.units u.volume → Looked r u new a b → KeepsStored 0 0 r u new a b
 keeps_looked r u new a b o l = record {
-  order = on_ok_then r (λ e. subst (λ (v : Stored). IsInOrder v.units v.volume) (sym e) o) l.same;
+  order = on_ok_then r (λ e. order_still u new e o) l.same;
   in_doubt = l.in_doubt;
   grows = grows_still u.volume new.volume (ap (λ (k : Catalog). k.home) l.catalog) (ap (λ (k : Catalog). k.ru) l.catalog) l.pool (goes_read r (disk_of u) (disk_of new) l.disk);
   cause = caused_read r (disk_of u) (disk_of new) l.disk;
@@ -80,9 +81,9 @@ pub record ListsAt (e : Service) (s : Shared) (n : Node) (r : Result (Unit {0}) 
 
 lists_serve : (e : Service) (s : Shared) (n : Node) (u : Stored) (k : IsKept u.units u.volume n) (r : Result (Unit {0}) Down) (new : Stored) (a b : Shown) → IsInOrder u.units u.volume → TheLaws → Looked r u new a b → ListsAt e s n r a b → DoesThere r (service_at e s n) s n u new a b
 lists_serve e s n u k (Ok tt) new a b o laws l at =
-    listed (service_at e s n) s n a b (new ≡ u) (IsKept new.units new.volume) (disk_of new) at.lines at.answer at.early at.late at.rows at.told (subst (λ (v : Stored). IsKept v.units v.volume n) (sym l.same) k) at.lists
+    listed (service_at e s n) s n a b (SameStored u new) (IsKept new.units new.volume) (disk_of new) at.lines at.answer at.early at.late at.rows at.told (kept_still u new l.same n k) at.lists
 lists_serve e s n u k (Err down) new a b o laws l at =
-    unlisted (service_at e s n) s n a b (new ≡ u) (IsKept new.units new.volume) (disk_of new) at.lines at.answer at.early at.late at.rows at.told down (read_fell n u k (Err down) (disk_of new) o laws l.disk) at.lists
+    unlisted (service_at e s n) s n a b (SameStored u new) (IsKept new.units new.volume) (disk_of new) at.lines at.answer at.early at.late at.rows at.told down (read_fell n u k (Err down) (disk_of new) o laws l.disk) at.lists
 
 pub lists_up : (e : Service) (u new : Stored) (r : Result (Unit {0}) Down) (a b : Shown) → IsInOrder u.units u.volume → TheLaws → Looked r u new a b → ((s : Shared) (n : Node) → IsKept u.units u.volume n → ListsAt e s n r a b) → ServesFile r e u new a b
 lists_up e u new r a b o laws l at = record {
@@ -116,7 +117,7 @@ module _ (name : List ℕ) (u : Stored) (o : IsInOrder u.units u.volume) (laws :
   show_absent a b none m = record {
     keeps = keeps_same tt u u a b line.FileNotFound o refl (refl, refl) m;
     units = refl;
-    serves = λ s n r. let q = service_at (service (Dump name)) s n in refused q s n a b (u ≡ u) (IsKept u.units u.volume) (disk_of u) (Unit {0}) tt line.FileNotFound (first_is q.early q.late line.FileNotFound (dump_absent s n name (no_file n u r.kept laws name none))) refl m;
+    serves = λ s n r. let q = service_at (service (Dump name)) s n in refused q s n a b (SameStored u u) (IsKept u.units u.volume) (disk_of u) (Unit {0}) tt line.FileNotFound (first_is q.early q.late line.FileNotFound (dump_absent s n name (no_file n u r.kept laws name none))) refl m;
   }
 
   module _ (f : ℕ) (head : FileHead) (there : IsNamed u.volume.catalog.heads f head name) where
@@ -124,7 +125,7 @@ module _ (name : List ℕ) (u : Stored) (o : IsInOrder u.units u.volume) (laws :
     show_locked serial a b by m = record {
       keeps = keeps_same tt u u a b (line.FileLocked serial) o refl (refl, refl) m;
       units = refl;
-      serves = λ s n r. let q = service_at (service (Dump name)) s n in refused q s n a b (u ≡ u) (IsKept u.units u.volume) (disk_of u) (Unit {0}) tt (line.FileLocked serial) (first_is q.early q.late (line.FileLocked serial) (dump_early n u r.kept laws f head name there s ∙ ap locked_by by)) refl m;
+      serves = λ s n r. let q = service_at (service (Dump name)) s n in refused q s n a b (SameStored u u) (IsKept u.units u.volume) (disk_of u) (Unit {0}) tt (line.FileLocked serial) (first_is q.early q.late (line.FileLocked serial) (dump_early n u r.kept laws f head name there s ∙ ap locked_by by)) refl m;
     }
 
     -- as many records as numbers of 32 bits tell

@@ -13,7 +13,7 @@ use Rattle.emitter_model.specs.Emitting.{Shown, Emits}
 use Rattle.transcript_model.specs.Lines as line
 use Rattle.transcript_model.specs.Lines.{Line}
 use Rattle.emitter_model.proofs.EmittingLemmas.{emits_nothing, emits_on}
-use Rattle.volume.specs.State.{VolumeState}
+use Rattle.volume.specs.State.{SameVolume, VolumeState}
 use Rattle.unit_laws.specs.Journal.{Journal, JournalEntry, ChangeEntry, PreparedEntry, SettledEntry, end_of, entries_size, entry_size}
 use Rattle.unit_laws.proofs.TrimLemmas.{size_append}
 use Rattle.run_model.specs.Answers.{entry_line, entry_lines}
@@ -152,7 +152,7 @@ entry_shown law s v n k r position a b d h below shows =
 shown_still : (j : Journal) (position : ℕ) (a b d : Shown) → HasShown j position a b → Emits b [] d → HasShown j position a d
 shown_still j position a b d h m = record { front = h.front; back = h.back; split = h.split; place = h.place; emits = subst (λ ls. Emits a ls d) (append-nil (entry_lines j.first h.front)) (emits_on a b d _ _ h.emits m) }
 
-module _ (law : KeepsNodes) (s : UnitsState) (v w : VolumeState) (same : w ≡ v) (n : Node) (k : IsKept s v n) (position : ℕ) (a b d : Shown) (h : HasShown n.durable.units position a b) (below : position < v.catalog.ru.end) where
+module _ (law : KeepsNodes) (s : UnitsState) (v w : VolumeState) (same : SameVolume v w) (n : Node) (k : IsKept s v n) (position : ℕ) (a b d : Shown) (h : HasShown n.durable.units position a b) (below : position < v.catalog.ru.end) where
   pub entry_done : (o : Option ℕ) (next : ℕ) → o ≡ Some next → ShowsEntry (Ok o) position w b d → HasShown n.durable.units next a d
   entry_done o next is shows =
       let x = shown_next law s v n k position a b h below in

@@ -14,5 +14,6 @@ pub mod Kept
 pub mod Making
 pub mod Marking
 pub mod Operating
+pub mod Reading
 pub mod Replied
 pub mod Served

@@ -36,7 +36,7 @@ use Rattle.file_requests.specs.Making.{BecomesFile, IsFresh, MakesFile, making}
 use Rattle.world_laws.specs.Nodes.{IsUp}
 use Rattle.recovery_units.specs.Uses.{Caused, Goes, Grows}
 use Rattle.node_table.specs.Standing.{Stored}
-use Rattle.file_requests.specs.Serving.{disk_of, name_of}
+use Rattle.file_requests.specs.Serving.{SameStored, disk_of, name_of}
 use Rattle.file_requests.specs.TheLaws.{TheLaws}
 use Rattle.file_requests.proofs.Calls.{grows_still}
 use Rattle.file_requests.proofs.HeadWrites.{Content, WritesHead, catalog_with, disk_sound, each_after, fallen_as, told_after, told_new, head_fell, head_is_written, kept_left, left_down, order_written, same_some, volume_is_written, volume_with}
@@ -208,14 +208,14 @@ module _ (f : ℕ) (h : FileHead) (u : Stored) (o : IsInOrder u.units u.volume) 
           replies = replies_one a b line.Normal shown (refl, refl);
         };
         units = same;
-        acts = λ s n file k up live becomes. served (making f file) s n a b (new ≡ u) (IsKept new.units new.volume) (disk_of new) (Unit {0}) tt (Creates f file) [] refl refl refl (made_now x n file is k up live becomes) shown;
+        acts = λ s n file k up live becomes. served (making f file) s n a b (SameStored u new) (IsKept new.units new.volume) (disk_of new) (Unit {0}) tt (Creates f file) [] refl refl refl (made_now x n file is k up live becomes) shown;
       }
 
       pub made_fell : (e : Down) (a : Shown) → r ≡ Err e → Caused (Some e) (disk_of u) (disk_of new) → MakesFile {T = Unit {0}} (Err e) f h u new a a
       made_fell e a is caused = record {
         keeps = record { order = tt; in_doubt = doubts; grows = made_grows; cause = caused; since = since_same a; replies = quiet_none a a (emits_nothing a) };
         units = same;
-        acts = λ s n file k up live becomes. cut_act (making f file) s n a a (new ≡ u) (IsKept new.units new.volume) (disk_of new) (Unit {0}) e (Creates f file) [] refl refl refl refl (has n file k up live becomes) (emits_nothing a);
+        acts = λ s n file k up live becomes. cut_act (making f file) s n a a (SameStored u new) (IsKept new.units new.volume) (disk_of new) (Unit {0}) e (Creates f file) [] refl refl refl refl (has n file k up live becomes) (emits_nothing a);
       }
         where
           has : (n : Node) (file : File) → IsKept u.units u.volume n → IsUp n → file.history.live ≡ [] → BecomesFile h file → HasDisk (fallen (Some (Creates f file)) n) (disk_of new)
@@ -246,7 +246,7 @@ module _ (f : ℕ) (h : FileHead) (u : Stored) (o : IsInOrder u.units u.volume) 
     made_first e a goes caused = record {
       keeps = record { order = tt; in_doubt = doubts; grows = grows_still u.volume new.volume (ap (λ (k : Catalog). k.home) catalog) (ap (λ (k : Catalog). k.ru) catalog) pool goes; cause = caused; since = since_same a; replies = quiet_none a a (emits_nothing a) };
       units = same;
-      acts = λ s n file k up live becomes. cut_first (making f file) s n a a (new ≡ u) (IsKept new.units new.volume) (disk_of new) (Unit {0}) e refl (has n k) (emits_nothing a);
+      acts = λ s n file k up live becomes. cut_first (making f file) s n a a (SameStored u new) (IsKept new.units new.volume) (disk_of new) (Unit {0}) e refl (has n k) (emits_nothing a);
     }
       where
         has : (n : Node) → IsKept u.units u.volume n → HasDisk (fallen None n) (disk_of new)

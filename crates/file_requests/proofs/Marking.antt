@@ -21,7 +21,7 @@ use Rattle.recovery_units.specs.Uses.{Caused, down_of}
 use Rattle.node_table.specs.Serving.{service_at}
 use Rattle.node_table.specs.Standing.{Stored}
 use Rattle.node_files.proofs.CatalogLemmas.{sound_marked}
-use Rattle.file_requests.specs.Serving.{ServesFile, disk_of, name_of}
+use Rattle.file_requests.specs.Serving.{SameStored, ServesFile, disk_of, name_of}
 use Rattle.file_requests.specs.TheLaws.{TheLaws}
 use Rattle.file_requests.proofs.Calls.{caused_counts}
 use Rattle.file_requests.proofs.Filing.{locked_by, set_file_absent, set_file_early}
@@ -39,7 +39,7 @@ module _ (name : List ℕ) (setting : Setting) (u : Stored) (o : IsInOrder u.uni
   mark_absent a b none m = record {
     keeps = keeps_same tt u u a b line.FileNotFound o refl (refl, refl) m;
     units = refl;
-    serves = λ s n r. let q = service_at (service (SetFile name setting)) s n in refused q s n a b (u ≡ u) (IsKept u.units u.volume) (disk_of u) (Unit {0}) tt line.FileNotFound (first_is q.early q.late line.FileNotFound (set_file_absent s n name (no_file n u r.kept laws name none) setting)) refl m;
+    serves = λ s n r. let q = service_at (service (SetFile name setting)) s n in refused q s n a b (SameStored u u) (IsKept u.units u.volume) (disk_of u) (Unit {0}) tt line.FileNotFound (first_is q.early q.late line.FileNotFound (set_file_absent s n name (no_file n u r.kept laws name none) setting)) refl m;
   }
 
   module _ (f : ℕ) (head : FileHead) (there : IsNamed u.volume.catalog.heads f head name) where
@@ -47,7 +47,7 @@ module _ (name : List ℕ) (setting : Setting) (u : Stored) (o : IsInOrder u.uni
     mark_locked serial a b by m = record {
       keeps = keeps_same tt u u a b (line.FileLocked serial) o refl (refl, refl) m;
       units = refl;
-      serves = λ s n r. let q = service_at (service (SetFile name setting)) s n in refused q s n a b (u ≡ u) (IsKept u.units u.volume) (disk_of u) (Unit {0}) tt (line.FileLocked serial) (first_is q.early q.late (line.FileLocked serial) (set_file_early n u r.kept laws f head name there s setting ∙ ap locked_by by)) refl m;
+      serves = λ s n r. let q = service_at (service (SetFile name setting)) s n in refused q s n a b (SameStored u u) (IsKept u.units u.volume) (disk_of u) (Unit {0}) tt (line.FileLocked serial) (first_is q.early q.late (line.FileLocked serial) (set_file_early n u r.kept laws f head name there s setting ∙ ap locked_by by)) refl m;
     }
 
     module _ (free : units.first_to_change f u.units.begun ≡ None) {T : Type 0} (r : Result T Down) (new : Stored) (bytes : List ℕ) (same : new.units ≡ u.units) (doubts : new.in_doubt ≡ u.in_doubt) (wr : WritesHead r f (marked (is_for_units setting) head) bytes u.volume new.volume) where
@@ -70,7 +70,7 @@ module _ (name : List ℕ) (setting : Setting) (u : Stored) (o : IsInOrder u.uni
         keeps = record { order = in_order x is; in_doubt = doubts; grows = head_grows r f (marked (is_for_units setting) head) bytes u.volume new.volume wr; cause = tt; since = since_emits a b _ m; replies = replies_one a b line.Normal m (refl, refl) };
         units = same;
         serves = λ s n k. let q = service_at (service (SetFile name setting)) s n in
-            served q s n a b (new ≡ u) (IsKept new.units new.volume) (disk_of new) (Unit {0}) tt act [] (ap (λ o. first_of o None) (set_file_early n u k.kept laws f head name there s setting ∙ ap locked_by free)) refl refl (marks_now x n is k.kept k.up) m;
+            served q s n a b (SameStored u new) (IsKept new.units new.volume) (disk_of new) (Unit {0}) tt act [] (ap (λ o. first_of o None) (set_file_early n u k.kept laws f head name there s setting ∙ ap locked_by free)) refl refl (marks_now x n is k.kept k.up) m;
       }
 
       pub mark_fell : (e : Down) (a : Shown) → r ≡ Err e → ServesFile {T = Unit {0}} (Err e) (service (SetFile name setting)) u new a a
@@ -85,7 +85,7 @@ module _ (name : List ℕ) (setting : Setting) (u : Stored) (o : IsInOrder u.uni
         };
         units = same;
         serves = λ s n k. let q = service_at (service (SetFile name setting)) s n in
-            cut_act q s n a a (new ≡ u) (IsKept new.units new.volume) (disk_of new) (Unit {0}) e act [] (set_file_early n u k.kept laws f head name there s setting ∙ ap locked_by free) refl refl refl (has n k.kept k.up) (emits_nothing a);
+            cut_act q s n a a (SameStored u new) (IsKept new.units new.volume) (disk_of new) (Unit {0}) e act [] (set_file_early n u k.kept laws f head name there s setting ∙ ap locked_by free) refl refl refl (has n k.kept k.up) (emits_nothing a);
       }
         where
           has : (n : Node) → IsKept u.units u.volume n → IsUp n → HasDisk (fallen (Some act) n) (disk_of new)

@@ -13,7 +13,7 @@ use Rattle.recovery_units.specs.Calls.{IsAsked, IsAskedAlone, alone_early, alone
 use Rattle.recovery_units.specs.State.{IsKept, WorksFor}
 use Rattle.node_table.specs.Serving.{DoesService, ServiceAt}
 use Rattle.node_table.specs.Standing.{Stored}
-use Rattle.file_requests.specs.Serving.{DoesThere, KeepsStored, disk_of}
+use Rattle.file_requests.specs.Serving.{DoesThere, KeepsStored, SameStored, disk_of}
 
 -- what an operation of a branch on a file is at a node, behind what refuses it by label, file and branch
 abbrev pub branch_service : Node → Branch → (name : List ℕ) → File → Operation → ServiceAt
@@ -38,11 +38,11 @@ pub record ActsAlone (r : Result Bool Down) (id : Id) (clock f : ℕ) (op : Oper
   pub keeps : KeepsStored 1 clock r old new a b
   pub units : new.units ≡ old.units
   pub acts : (s : Shared) (n : Node) (name : List ℕ) (file : File) → IsAskedAlone f old.units old.volume n name file → next_id n ≡ id → n.clock ≡ clock → StaysUp (alone_service n name file op) n →
-      DoesService r (alone_service n name file op) s n a b ((new ≡ old) × IfOk r (λ made. made ≡ false)) (λ t. t ≡ s) (λ m. IsKept new.units new.volume m × IfOk r (λ made. made ≡ true)) (disk_of new)
+      DoesService r (alone_service n name file op) s n a b (SameStored old new × IfOk r (λ made. made ≡ false)) (λ t. t ≡ s) (λ m. IsKept new.units new.volume m × IfOk r (λ made. made ≡ true)) (disk_of new)
 
 -- A read was asked for by no branch.
 pub record LooksAlone {T : Type 0} (r : Result T Down) (f : ℕ) (op : Operation) (old new : Stored) (a b : Shown) : Type 0 where
   pub keeps : KeepsStored 0 0 r old new a b
-  pub same : OnOk r (new ≡ old)
+  pub same : OnOk r (SameStored old new)
   pub units : new.units ≡ old.units
   pub acts : (s : Shared) (n : Node) (name : List ℕ) (file : File) → IsAskedAlone f old.units old.volume n name file → DoesThere r (alone_service n name file op) s n old new a b

@@ -1,6 +1,7 @@
 -- What a request on files of a node that is up comes to.
 use Rattle.std.specs.Prelude.{◌≡◌, ℕ, List, Some, Result, OnOk}
 use Rattle.block_disk.specs.Disk.{DiskState}
+use Rattle.careful_write.specs.Reads.{as_read_by}
 use Rattle.careful_write.specs.declared.down.Down.{Down}
 use Rattle.directory_model.specs.Files.{head_at}
 use Rattle.file_base.specs.declared.head.FileHead.{FileHead}
@@ -21,6 +22,10 @@ disk_of r = r.volume.store.disk
 abbrev pub name_of : Stored → List ℕ
 name_of r = r.volume.catalog.home.node
 
+-- what is stored is the same but for what the volume's store tells of reads
+abbrev pub SameStored : Stored → Stored → Type 0
+SameStored old new = new ≡ record old { volume = record old.volume { store = as_read_by new.volume.store old.volume.store } }
+
 -- a file of this number is there
 abbrev pub HasFile : ℕ → Stored → Type 0
 HasFile f r = (h : FileHead) × (head_at r.volume.catalog.heads f ≡ Some h)
@@ -40,9 +45,9 @@ pub record IsReady (r : Stored) (n : Node) : Type 0 where
   pub kept : IsKept r.units r.volume n
   pub up : IsUp n
 
--- A service was done there, which leaves what nodes share: refused, all is as it was; done, what is stored stands for the node behind its rows.
+-- A service was done there, which leaves what nodes share: refused, all is as it was but for reads; done, what is stored stands for the node behind its rows.
 abbrev pub DoesThere : {T : Type 0} → Result T Down → ServiceAt → Shared → Node → (old new : Stored) → (a b : Shown) → Type 0
-DoesThere r q s n old new a b = DoesService r q s n a b (new ≡ old) (λ t. t ≡ s) (IsKept new.units new.volume) (disk_of new)
+DoesThere r q s n old new a b = DoesService r q s n a b (SameStored old new) (λ t. t ≡ s) (IsKept new.units new.volume) (disk_of new)
 
 -- A request was served, whose service is this: units are as they were, and at each such node of the world the service was done.
 pub record ServesFile {T : Type 0} (r : Result T Down) (e : Service) (old new : Stored) (a b : Shown) : Type 0 where

@@ -16,7 +16,7 @@ ghost use Rattle.node_table.specs.Code.{stored_of};
 ghost use Rattle.file_requests.specs.Listing.{Shows};
 ghost use Rattle.file_requests.specs.Making.{IsFresh, MakesFile};
 ghost use Rattle.file_requests.specs.Replying.{RepliesIf};
-ghost use Rattle.file_requests.specs.Serving.{ServesFile};
+ghost use Rattle.file_requests.specs.Serving.{SameStored, ServesFile};
 
 use crate::finding::find_file;
 use crate::law::the_laws;
@@ -172,7 +172,7 @@ fn show_records<D: Disk, U: RecoveryUnits, E: Emit>(
 ) -> Result<(), Down>
     requires order { IsInOrder (U.state stored.old.units) stored.old.volume }
     requires there { (f : ℕ) × (head_at stored.old.volume.catalog.heads f ≡ Some head.now) }
-    ensures same { OnOk result (stored_of U.state stored.new ≡ stored_of U.state stored.old) }
+    ensures same { OnOk result (SameStored (stored_of U.state stored.old) (stored_of U.state stored.new)) }
     ensures catalog { stored.new.volume.catalog ≡ stored.old.volume.catalog }
     ensures units { U.state stored.new.units ≡ U.state stored.old.units }
     ensures in_doubt { map serial_of stored.new.room.in_doubt.items ≡ map serial_of stored.old.room.in_doubt.items }

@@ -17,7 +17,7 @@ ghost use Rattle.recovery_units.specs.State.{IsEarly, IsInOrder, IsKept, IsShowa
 ghost use Rattle.node_table.specs.Code.{stored_of};
 ghost use Rattle.file_requests.specs.Listing.{ShowsEntry, ShowsJournal, change_shown, key_by};
 ghost use Rattle.file_requests.specs.Replying.{IsQuiet, RepliesIf, ShowsQuietly};
-ghost use Rattle.file_requests.specs.Serving.{ServesFile};
+ghost use Rattle.file_requests.specs.Serving.{SameStored, ServesFile};
 
 use crate::law::the_laws;
 use block_disk::Disk;
@@ -113,7 +113,7 @@ fn show_entries<D: Disk, U: RecoveryUnits, E: Emit>(
 ) -> Result<(), Down>
     requires order { IsInOrder (U.state stored.old.units) stored.old.volume }
     requires early { IsEarly stored.old.volume }
-    ensures same { OnOk result (stored_of U.state stored.new ≡ stored_of U.state stored.old) }
+    ensures same { OnOk result (SameStored (stored_of U.state stored.old) (stored_of U.state stored.new)) }
     ensures catalog { stored.new.volume.catalog ≡ stored.old.volume.catalog }
     ensures units { U.state stored.new.units ≡ U.state stored.old.units }
     ensures in_doubt { map serial_of stored.new.room.in_doubt.items ≡ map serial_of stored.old.room.in_doubt.items }
@@ -150,7 +150,7 @@ fn show_entry<D: Disk, U: RecoveryUnits, E: Emit>(
     requires order { IsInOrder (U.state stored.old.units) stored.old.volume }
     requires early { IsEarly stored.old.volume }
     requires low { position < stored.old.volume.catalog.ru.end }
-    ensures same { OnOk result (stored_of U.state stored.new ≡ stored_of U.state stored.old) }
+    ensures same { OnOk result (SameStored (stored_of U.state stored.old) (stored_of U.state stored.new)) }
     ensures catalog { stored.new.volume.catalog ≡ stored.old.volume.catalog }
     ensures units { U.state stored.new.units ≡ U.state stored.old.units }
     ensures in_doubt { map serial_of stored.new.room.in_doubt.items ≡ map serial_of stored.old.room.in_doubt.items }

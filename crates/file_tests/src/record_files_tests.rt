@@ -1,5 +1,6 @@
 //! The same records in a file of each organization, and tables of heads and keys that are those of a file or not.
 ghost use Rattle.std.specs.Prelude.{◌≡◌, ◌≤◌, Bool, true, length, OnOk};
+ghost use Rattle.careful_write.specs.Reads.{SameButReads};
 ghost use Rattle.careful_write.specs.State.{IsIdle};
 ghost use Rattle.change_set.specs.Files.{IsPlaced, free_frames};
 ghost use Rattle.record_files.specs.Any.{IsFile, IsNew};
@@ -127,7 +128,7 @@ fn has<D: Disk>(
     requires form { IsFile head.now }
     requires placed { IsPlaced head.now store.old.disk }
     requires frames { 32 ≤ free_frames store.old.pool }
-    ensures same { OnOk result (store.new ≡ store.old) }
+    ensures same { OnOk result (SameButReads store.old store.new) }
 {
     Ok(AnyFile::get(head, store, key, out)? && out.bytes() == bytes)
 }
@@ -144,7 +145,7 @@ fn goes_on<D: Disk>(
     requires form { IsFile head.now }
     requires placed { IsPlaced head.now store.old.disk }
     requires frames { 32 ≤ free_frames store.old.pool }
-    ensures same { OnOk result (store.new ≡ store.old) }
+    ensures same { OnOk result (SameButReads store.old store.new) }
 {
     let mut found = Key::End;
     Ok(AnyFile::next(head, store, after, &mut found, out)? && found == *key && out.bytes() == bytes)
@@ -160,7 +161,7 @@ fn ends<D: Disk>(
     requires form { IsFile head.now }
     requires placed { IsPlaced head.now store.old.disk }
     requires frames { 32 ≤ free_frames store.old.pool }
-    ensures same { OnOk result (store.new ≡ store.old) }
+    ensures same { OnOk result (SameButReads store.old store.new) }
 {
     let mut found = Key::End;
     Ok(!AnyFile::next(head, store, after, &mut found, out)?)
@@ -256,7 +257,7 @@ fn is_seen<D: Disk>(
     requires form { IsFile head.now }
     requires placed { IsPlaced head.now store.old.disk }
     requires frames { 32 ≤ free_frames store.old.pool }
-    ensures same { OnOk result (store.new ≡ store.old) }
+    ensures same { OnOk result (SameButReads store.old store.new) }
 {
     match step {
         Step::Follows(after, i) if i < 3 => {
@@ -331,7 +332,7 @@ fn told_of<D: Disk>(head: &FileHead, store: &mut Store<D>) -> Result<[u32; 3], D
     requires form { IsFile head.now }
     requires placed { IsPlaced head.now store.old.disk }
     requires frames { 32 ≤ free_frames store.old.pool }
-    ensures same { OnOk result (store.new ≡ store.old) }
+    ensures same { OnOk result (SameButReads store.old store.new) }
 {
     let need = AnyFile::need(head, store, 100)?;
     Ok([head.used, head.count, need])

@@ -1,6 +1,7 @@
 //! Two files beside each other: records are set, found, listed and removed.
 ghost use Rattle.std.specs.Prelude.{◌≡◌, ◌≤◌, ◌<◌, ◌*◌, ◌+◌, ◌/◌, ℕ, Bool, List, false, true, length, OnOk, IfOk, IfSome, Some, None, option_map, replicate};
 ghost use Rattle.std.specs.Option.{option_copied};
+ghost use Rattle.careful_write.specs.Reads.{SameButReads};
 ghost use Rattle.careful_write.specs.State.{InHome, IsIdle, IsReady};
 ghost use Rattle.vms_base.specs.Keys.{key_of};
 ghost use Rattle.change_set.specs.Maps.{set_key};
@@ -139,7 +140,7 @@ fn has_two<D: Disk>(
     requires form { IsRelative head.now }
     requires placed { IsPlaced head.now store.old.disk }
     requires frames { 32 ≤ free_frames store.old.pool }
-    ensures same { OnOk result (store.new ≡ store.old) }
+    ensures same { OnOk result (SameButReads store.old store.new) }
 {
     let [first, second] = [Key::Number(numbers[0]), Key::Number(numbers[1])];
     let mut found = Key::End;
@@ -163,7 +164,7 @@ fn has_one<D: Disk>(
     requires placed { IsPlaced head.now store.old.disk }
     requires frames { 32 ≤ free_frames store.old.pool }
     requires small { number < 80 }
-    ensures same { OnOk result (store.new ≡ store.old) }
+    ensures same { OnOk result (SameButReads store.old store.new) }
 {
     let first = Key::Number(number);
     let mut found = Key::End;

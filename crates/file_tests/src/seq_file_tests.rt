@@ -1,6 +1,7 @@
 //! Records come and go at the end of a file, and its buckets are filled to the last byte.
 ghost use Rattle.std.specs.Prelude.{◌≡◌, ◌≤◌, ◌<◌, ◌+◌, ◌*◌, ℕ, Bool, List, false, true, length, OnOk, IfSome, Some, None};
 ghost use Rattle.std.specs.Option.{option_copied};
+ghost use Rattle.careful_write.specs.Reads.{SameButReads};
 ghost use Rattle.careful_write.specs.State.{IsIdle};
 ghost use Rattle.vms_model.specs.Keys.{Number};
 ghost use Rattle.change_set.specs.Files.{IsPlaced, free_frames};
@@ -149,7 +150,7 @@ fn ends_with<D: Disk>(
     requires form { IsSequential head.now }
     requires placed { IsPlaced head.now store.old.disk }
     requires frames { 32 ≤ free_frames store.old.pool }
-    ensures same { OnOk result (store.new ≡ store.old) }
+    ensures same { OnOk result (SameButReads store.old store.new) }
 {
     let mut found = Key::End;
     let last = SeqFile::get(head, store, &Key::Number(count), out)? && out.bytes() == bytes;
@@ -170,7 +171,7 @@ fn begins_with<D: Disk>(
     requires form { IsSequential head.now }
     requires placed { IsPlaced head.now store.old.disk }
     requires frames { 32 ≤ free_frames store.old.pool }
-    ensures same { OnOk result (store.new ≡ store.old) }
+    ensures same { OnOk result (SameButReads store.old store.new) }
 {
     let mut found = Key::End;
     let one = SeqFile::next(head, store, None, &mut found, out)?
@@ -193,7 +194,7 @@ fn is_bounded<D: Disk>(
     requires form { IsSequential head.now }
     requires placed { IsPlaced head.now store.old.disk }
     requires frames { 32 ≤ free_frames store.old.pool }
-    ensures same { OnOk result (store.new ≡ store.old) }
+    ensures same { OnOk result (SameButReads store.old store.new) }
 {
     if bytes.len() < 2 || bytes.len() > head.mrs as usize {
         return Ok(false);

@@ -2,7 +2,9 @@
 use Rattle.std.proofs.Common.{◌≡◌, ◌≤◌, ◌<◌, ◌+◌, ◌-◌, ◌*◌, ℕ, Bool, true, false, List, [], ◌∷◌, length, take, Option, Some, None, IfSome, is_some, option_map, refl, sym, ap, subst, ◌∙◌, arith, ◌⊎◌, ⊎_elim, inl, inr, zero, suc, MatchOption, IsSomeAnd}
 use Rattle.std.proofs.lemmas.List.{set-set, length-take-le}
 use Rattle.block_disk.specs.Disk.{DiskState}
+use Rattle.careful_write.specs.Reads.{SameButReads, as_read_by}
 use Rattle.careful_write.specs.State.{StoreState}
+use Rattle.careful_write.proofs.Reading.{same_as}
 use Rattle.frame_pool.specs.Pool.{IsOut}
 use Rattle.file_base.specs.declared.head.FileHead.{FileHead}
 use Rattle.change_set.specs.Buckets.{frame_of, with_frame, with_bucket, with_numbers, LiesInHome}
@@ -10,7 +12,7 @@ use Rattle.change_set.specs.Files.{IsPlaced, StagesIn, in_extent}
 use Rattle.change_set.proofs.Frames.{frame_of-with_frame}
 use Rattle.std.proofs.lemmas.Nat.{mul-le}
 use Rattle.careful_write.specs.Steps.{AgreesOff}
-use Rattle.change_set.proofs.Extents.{ranges_apart, bucket_staged as extent_staged, agrees_trans, stages_more}
+use Rattle.change_set.proofs.Extents.{ranges_apart, bucket_staged as extent_staged, agrees_trans, stages_more, stages_read}
 use Rattle.change_set.proofs.Loading.{length-with_numbers}
 use Rattle.bucket_page.specs.Pages.{slots_of, IsBucket}
 use Rattle.index_model.specs.Indexes.{Entry, first_separator}
@@ -41,13 +43,6 @@ block_fits h disk n placed below = let lies = ranges_apart n h.alloc h.bucket be
 -- what is told of the blocks is told of the same blocks
 pub told_same : (a b : Told) (P : List (List ℕ) → Type 0) → a ≡ b → IfSome a P → IfSome b P
 told_same a b P is h = subst (λ (o : Told). IfSome o P) is h
-
--- a frame that is read into again
-pub read_again : (f : ℕ) (s0 s1 s2 : StoreState) (D : DiskState → DiskState) → s1 ≡ with_frame f (frame_of s1.pool f) s0 → s2 ≡ with_frame f (frame_of s2.pool f) (record s1 { disk = D s1.disk })
-    → s2 ≡ with_frame f (frame_of s2.pool f) (record s0 { disk = D s0.disk })
-read_again f s0 s1 s2 D was is =
-    is ∙ (λ i. with_frame f (frame_of s2.pool f) (record (was i) { disk = D (was i).disk }))
-    ∙ (λ i. record s0 { disk = D s0.disk; pool = set-set s0.pool f (Some (frame_of s1.pool f)) (Some (frame_of s2.pool f)) i })
 
 -- a bucket that was written into a frame and staged
 pub bucket_staged : (h : FileHead) (f n : ℕ) (bytes : List ℕ) (s0 s1 s2 : StoreState) → IsOut s0.pool f → 518 ≤ h.start → s1 ≡ with_frame f bytes s0
@@ -123,7 +118,7 @@ match_trans p (Some x) (Some y) (Some z) first second = agrees_trans p x y z fir
 -- what is staged in two steps
 pub stages_both : (h : FileHead) (x y : ℕ) (s0 s1 s2 : StoreState) → StagesIn h x s0 s1 → StagesIn h y s1 s2 → StagesIn h (x + y) s0 s2
 stages_both h x y s0 s1 s2 first second = record {
-  rest = second.rest ∙ (λ i. record (first.rest i) { current = s2.current; touched = s2.touched });
+  rest = second.rest ∙ (λ i. record (first.rest i) { current = s2.current; touched = s2.touched; reads = s2.reads });
   blocks = match_trans (in_extent h) s0.current s1.current s2.current first.blocks second.blocks;
   touched = λ n has. ⊎_elim (λ one. first.touched n one) inr (second.touched n has);
   few = let a = first.few in let b = second.few in omega arith;
@@ -178,7 +173,7 @@ pub record HandedIn (h : FileHead) (k : List ℕ) (added : List Entry) (n fresh 
   pub stages : StagesIn h (2 * h.bucket) s0 (record s { pool = s0.pool })
 
 pub handed_in : (h : FileHead) (k : List ℕ) (added : List Entry) (n fresh : ℕ) (up : Option Handed) (f : ℕ) (x : List ℕ) (s0 t s : StoreState) (parted : Bool) (bytes low high : List ℕ) → h.bucket ≤ 16 → n < h.alloc → fresh < h.alloc → is_some up ≡ parted
-    → t ≡ with_frame f x s0
+    → SameButReads (with_frame f x s0) t
     → s ≡ with_frame f (frame_of s.pool f) (record t { current = option_map (with_halves h n fresh parted low high) t.current; touched = with_blocks_of_halves h n fresh parted t.touched })
     → bytes ≡ x → IfSome s0.current (λ b. take (512 * h.bucket) x ≡ bucket_at h b n)
     → (IsBucket (index_kind h) (512 * h.bucket) (take (512 * h.bucket) bytes) → 1 ≤ length (slots_of (index_kind h) (take (512 * h.bucket) bytes)) → TakesIn h (512 * h.bucket) k added (take (512 * h.bucket) bytes) parted (take (512 * h.bucket) low) (take (512 * h.bucket) high))
@@ -188,8 +183,9 @@ handed_in h k added n fresh up f x s0 t s parted bytes low high most there free 
     let T : List ℕ → List ℕ = with_blocks_of_halves h n fresh (is_some up) in
     let staged' : s ≡ with_frame f (frame_of s.pool f) (record t { current = C t.current; touched = T t.touched }) =
     subst (λ (p : Bool). s ≡ with_frame f (frame_of s.pool f) (record t { current = option_map (with_halves h n fresh p low high) t.current; touched = with_blocks_of_halves h n fresh p t.touched })) (sym is) staged in
-    let after : StoreState = record s0 { current = C s0.current; touched = T s0.touched } in
-    let whole : s ≡ with_frame f (frame_of s.pool f) after = staged_so f x s0 t s C T was staged' in
+    let staged0 : StoreState = record s0 { current = C s0.current; touched = T s0.touched } in
+    let after : StoreState = as_read_by t staged0 in
+    let whole : s ≡ with_frame f (frame_of s.pool f) after = staged_so f x (as_read_by t s0) t s C T was staged' in
     let P : List ℕ → Type 0 = λ y. IsBucket (index_kind h) (512 * h.bucket) y → 1 ≤ length (entries_at h y) → TakesIn h (512 * h.bucket) k added y (is_some up) (take (512 * h.bucket) low) (take (512 * h.bucket) high) in
     let here : P (take (512 * h.bucket) bytes) = λ laid some. subst (λ (p : Bool). TakesIn h (512 * h.bucket) k added (take (512 * h.bucket) bytes) p (take (512 * h.bucket) low) (take (512 * h.bucket) high)) (sym is)
     (takes laid (let count = length_entries h (slots_of (index_kind h) (take (512 * h.bucket) bytes)) in omega (arith, count, some))) in
@@ -197,26 +193,26 @@ handed_in h k added n fresh up f x s0 t s parted bytes low high most there free 
       hands = record {
         low = low;
         high = high;
-        state = beside_frame f s0 after s refl whole;
+        state = same_as (record s { pool = s0.pool }) staged0 t.reads (beside_frame f s0 after s refl whole);
         takes = taken s0.current h n x bytes P same read here;
         leads = leads;
       };
       pool = frame_beside f s0 after s refl whole;
       few = let many = halves_few h n fresh (is_some up) s0.touched most in omega (arith, many, ap (λ (y : StoreState). length y.touched) whole);
-      stages = subst (λ (y : StoreState). StagesIn h (2 * h.bucket) s0 y) (sym (beside_frame f s0 after s refl whole)) (stages_halves h n fresh (is_some up) low high s0 there free);
+      stages = subst (λ (y : StoreState). StagesIn h (2 * h.bucket) s0 y) (sym (beside_frame f s0 after s refl whole)) (stages_read h (2 * h.bucket) t.reads s0 staged0 (stages_halves h n fresh (is_some up) low high s0 there free));
     }
 
 -- the store beside a frame that was read, after an error
-pub err_beside : (f : ℕ) (s0 s : StoreState) (d : DiskState) → s ≡ with_frame f (frame_of s.pool f) (record s0 { disk = d }) → record s { pool = s0.pool } ≡ record s0 { disk = d }
+pub err_beside : (f : ℕ) (s0 s : StoreState) (d : DiskState) → SameButReads (with_frame f (frame_of s.pool f) (record s0 { disk = d })) s → SameButReads (record s0 { disk = d }) (record s { pool = s0.pool })
 err_beside f s0 s d is = λ i. record (is i) { pool = s0.pool }
 
-pub err_pool : (f : ℕ) (s0 s : StoreState) (d : DiskState) → s ≡ with_frame f (frame_of s.pool f) (record s0 { disk = d }) → s ≡ with_frame f (frame_of s.pool f) (record s { pool = s0.pool })
+pub err_pool : (f : ℕ) (s0 s : StoreState) (d : DiskState) → SameButReads (with_frame f (frame_of s.pool f) (record s0 { disk = d })) s → s ≡ with_frame f (frame_of s.pool f) (record s { pool = s0.pool })
 err_pool f s0 s d is = λ i. record s { pool = ap (λ (t : StoreState). t.pool) is i }
 
 -- a store that was read, and then staged into, is the old one but for the disk and what was staged
-pub rest_again : (f : ℕ) (s0 s1 s2 : StoreState) (C : Told) (T : List ℕ) (D : DiskState → DiskState) → record s1 { pool = s0.pool } ≡ record s0 { current = C; touched = T } → s1 ≡ with_frame f (frame_of s1.pool f) (record s1 { pool = s0.pool })
-    → s2 ≡ with_frame f (frame_of s2.pool f) (record s1 { disk = D s1.disk; current = s2.current; touched = s2.touched }) → s2 ≡ with_frame f (frame_of s2.pool f) (record s0 { disk = D s0.disk; current = s2.current; touched = s2.touched })
+pub rest_again : (f : ℕ) (s0 s1 s2 : StoreState) (C : Told) (T : List ℕ) (D : DiskState → DiskState) → SameButReads (record s0 { current = C; touched = T }) (record s1 { pool = s0.pool }) → s1 ≡ with_frame f (frame_of s1.pool f) (record s1 { pool = s0.pool })
+    → SameButReads (with_frame f (frame_of s2.pool f) (record s1 { disk = D s1.disk; current = s2.current; touched = s2.touched })) s2 → SameButReads (with_frame f (frame_of s2.pool f) (record s0 { disk = D s0.disk; current = s2.current; touched = s2.touched })) s2
 rest_again f s0 s1 s2 C T D state pool is =
-    let was : s1 ≡ with_frame f (frame_of s1.pool f) (record s0 { current = C; touched = T }) = pool ∙ (λ i. with_frame f (frame_of s1.pool f) (state i)) in
-    is ∙ (λ i. with_frame f (frame_of s2.pool f) (record (was i) { disk = D (was i).disk; current = s2.current; touched = s2.touched }))
-    ∙ (λ i. record s0 { disk = D s0.disk; current = s2.current; touched = s2.touched; pool = set-set s0.pool f (Some (frame_of s1.pool f)) (Some (frame_of s2.pool f)) i })
+    let was : s1 ≡ with_frame f (frame_of s1.pool f) (as_read_by s1 (record s0 { current = C; touched = T })) = pool ∙ (λ i. with_frame f (frame_of s1.pool f) (state i)) in
+    is ∙ (λ i. as_read_by s2 (with_frame f (frame_of s2.pool f) (record (was i) { disk = D (was i).disk; current = s2.current; touched = s2.touched })))
+    ∙ (λ i. record s0 { disk = D s0.disk; current = s2.current; touched = s2.touched; pool = set-set s0.pool f (Some (frame_of s1.pool f)) (Some (frame_of s2.pool f)) i; reads = s2.reads })

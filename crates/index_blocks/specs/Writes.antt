@@ -1,5 +1,6 @@
 -- Index buckets that are written.
 use Rattle.std.specs.Prelude.{◌≡◌, ◌≤◌, ◌*◌, ◌/◌, ℕ, Bool, true, false, List, [], ◌∷◌, length, take, drop, IfSome, Option, is_some, option_map}
+use Rattle.careful_write.specs.Reads.{SameButReads}
 use Rattle.careful_write.specs.State.{StoreState}
 use Rattle.file_base.specs.declared.head.FileHead.{FileHead}
 use Rattle.bucket_page.specs.Pages.{IsBucket}
@@ -30,6 +31,6 @@ with_blocks_of_halves h n fresh true touched = with_blocks_of h fresh (with_bloc
 pub record HandsIn (h : FileHead) (k : List ℕ) (added : List Entry) (n fresh : ℕ) (up : Option Handed) (s s' : StoreState) : Type 0 where
   pub low : List ℕ
   pub high : List ℕ
-  pub state : s' ≡ record s { current = option_map (with_halves h n fresh (is_some up) low high) s.current; touched = with_blocks_of_halves h n fresh (is_some up) s.touched }
+  pub state : SameButReads (record s { current = option_map (with_halves h n fresh (is_some up) low high) s.current; touched = with_blocks_of_halves h n fresh (is_some up) s.touched }) s'
   pub takes : IfSome s.current (λ b. IsBucket (index_kind h) (512 * h.bucket) (bucket_at h b n) → 1 ≤ length (entries_in h b n) → TakesIn h (512 * h.bucket) k added (bucket_at h b n) (is_some up) (take (512 * h.bucket) low) (take (512 * h.bucket) high))
   pub leads : IfSome up (λ handed. entries_of h handed ≡ record { separator = first_separator (entries_at h (take (512 * h.bucket) high)); child = fresh } ∷ [])

@@ -1,6 +1,7 @@
 //! The way from the root to a leaf.
 ghost use Rattle.std.specs.Prelude.{◌≡◌, ◌≤◌, ◌<◌, ◌+◌, ◌-◌, ◌*◌, ℕ, List, length, take, OnOk, IfOk, IfSome, slice_index_or};
 ghost use Rattle.careful_write.specs.Down.{answered};
+ghost use Rattle.careful_write.specs.Reads.{SameButReads};
 ghost use Rattle.frame_pool.specs.Pool.{IsOut};
 ghost use Rattle.change_set.specs.Buckets.{frame_of, with_frame};
 ghost use Rattle.change_set.specs.Files.{IsPlaced};
@@ -32,7 +33,8 @@ pub fn load_index<D: Disk>(
     requires placed { IsPlaced head.now store.old.disk }
     requires out { IsOut store.old.pool frame.now }
     requires there { n < head.now.alloc }
-    ensures state { store.new ≡ with_frame frame.now (frame_of store.new.pool frame.now) (record store.old { disk = answered result store.old.disk }) }
+    ensures state { SameButReads (with_frame frame.now (frame_of store.new.pool frame.now) (record store.old { disk = answered result store.old.disk })) store.new }
+    ensures reads { store.new.reads ≤ store.old.reads + head.now.bucket }
     ensures out { IsOut store.new.pool frame.now }
     ensures read { OnOk result (IfSome store.old.current (λ blocks. take (512 * head.now.bucket) (frame_of store.new.pool frame.now) ≡ bucket_at head.now blocks n)) }
 {
@@ -56,7 +58,8 @@ fn visit<D: Disk>(
     requires placed { IsPlaced head.now store.old.disk }
     requires out { IsOut store.old.pool frame.now }
     requires there { n < head.now.used }
-    ensures state { store.new ≡ with_frame frame.now (frame_of store.new.pool frame.now) (record store.old { disk = answered result store.old.disk }) }
+    ensures state { SameButReads (with_frame frame.now (frame_of store.new.pool frame.now) (record store.old { disk = answered result store.old.disk })) store.new }
+    ensures reads { store.new.reads ≤ store.old.reads + head.now.bucket }
     ensures out { IsOut store.new.pool frame.now }
     ensures child { IfOk result (λ to. IfSome store.old.current (λ blocks. IsIndexBucket head.now (bucket_at head.now blocks n) → to ≡ child_for key.now (entries_in head.now blocks n))) }
     ensures used { IfOk result (λ to. to < head.now.used) }
@@ -78,7 +81,8 @@ pub fn descend<D: Disk>(
     requires form { HasRoot head.now }
     requires placed { IsPlaced head.now store.old.disk }
     requires out { IsOut store.old.pool frame.now }
-    ensures state { store.new ≡ with_frame frame.now (frame_of store.new.pool frame.now) (record store.old { disk = answered result store.old.disk }) }
+    ensures state { SameButReads (with_frame frame.now (frame_of store.new.pool frame.now) (record store.old { disk = answered result store.old.disk })) store.new }
+    ensures reads { store.new.reads ≤ store.old.reads + height head.now * head.now.bucket }
     ensures out { IsOut store.new.pool frame.now }
     ensures leaf { IfOk result (λ n. IfSome store.old.current (λ blocks. IsWay head.now blocks key.now → n ≡ way head.now blocks key.now (height head.now))) }
     ensures used { IfOk result (λ n. n < head.now.used) }

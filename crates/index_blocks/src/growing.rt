@@ -1,6 +1,7 @@
 //! Entries that are handed up from level to level, and the new root where the old one is parted.
 ghost use Rattle.std.specs.Prelude.{◌≡◌, ◌≤◌, ◌<◌, ◌+◌, ◌-◌, ◌*◌, ℕ, List, [], Some, length, OnOk, OnErr, IfOk, IfSome, slice_index_or, IsSomeAnd};
 ghost use Rattle.careful_write.specs.Down.{answered};
+ghost use Rattle.careful_write.specs.Reads.{SameButReads};
 ghost use Rattle.frame_pool.specs.Pool.{IsOut};
 ghost use Rattle.change_set.specs.Buckets.{frame_of, with_frame};
 ghost use Rattle.change_set.specs.Files.{IsPlaced, StagesIn};
@@ -71,11 +72,11 @@ pub fn climb<D: Disk>(
     requires path { (steps : ℕ) → steps < depth → slice_index_or path.now steps 0 < head.now.alloc }
     requires free { used + depth < head.now.alloc }
     requires room { length store.old.touched + 32 * depth ≤ 480 }
-    ensures rest { store.new ≡ with_frame frame.now (frame_of store.new.pool frame.now) (record store.old {
+    ensures rest { SameButReads (with_frame frame.now (frame_of store.new.pool frame.now) (record store.old {
       disk = answered result store.old.disk;
       current = store.new.current;
       touched = store.new.touched;
-    }) }
+    })) store.new }
     ensures few { length store.new.touched ≤ length store.old.touched + 32 * depth + 16 }
     ensures stages { OnOk result (StagesIn head.now ((2 * depth + 1) * head.now.bucket) store.old (record store.new { pool = store.old.pool })) }
     ensures used { IfOk result (λ growth. (used ≤ growth.used) × (growth.used ≤ used + depth + 1)) }

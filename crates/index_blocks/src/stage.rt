@@ -1,6 +1,7 @@
 //! Buckets that are staged through a frame, and entries that come into one of them.
 ghost use Rattle.std.specs.Prelude.{◌≡◌, ◌≤◌, ◌<◌, ◌+◌, ◌-◌, ◌*◌, ℕ, List, true, false, length, take, drop, option_map, OnOk, IfOk, IfSome, OnErr};
 ghost use Rattle.careful_write.specs.Down.{answered};
+ghost use Rattle.careful_write.specs.Reads.{SameButReads};
 ghost use Rattle.frame_pool.specs.Pool.{IsOut};
 ghost use Rattle.change_set.specs.Buckets.{frame_of, with_frame, with_bucket};
 ghost use Rattle.change_set.specs.Files.{IsPlaced, StagesIn};
@@ -113,7 +114,7 @@ pub fn hand_in<D: Disk>(
     ensures whole { OnOk result (IfSome store.old.current (λ blocks. length blocks + 518 ≡ store.old.disk.size)) }
     ensures few { length store.new.touched ≤ length store.old.touched + 32 }
     ensures stages { OnOk result (StagesIn head.now (2 * head.now.bucket) store.old (record store.new { pool = store.old.pool })) }
-    ensures down { OnErr result (record store.new { pool = store.old.pool } ≡ record store.old { disk = answered result store.old.disk }) }
+    ensures down { OnErr result (SameButReads (record store.old { disk = answered result store.old.disk }) (record store.new { pool = store.old.pool })) }
     ensures pool { store.new ≡ with_frame frame.now (frame_of store.new.pool frame.now) (record store.new { pool = store.old.pool }) }
     ensures out { IsOut store.new.pool frame.now }
 {

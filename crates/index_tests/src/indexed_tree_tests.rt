@@ -1,6 +1,7 @@
 //! Keys that are set and set back in a file under an index, beside a plain list, and how single leaves are parted.
 ghost use Rattle.std.specs.Prelude.{IfOk, ◌≡◌, ◌≤◌, ◌<◌, ◌+◌, ℕ, true, length, OnOk, IfSome};
 ghost use Rattle.std.specs.Option.{option_copied};
+ghost use Rattle.careful_write.specs.Reads.{SameButReads};
 ghost use Rattle.careful_write.specs.State.{IsIdle};
 ghost use Rattle.change_set.specs.Files.{IsPlaced, free_frames};
 ghost use Rattle.file_base.specs.Bytes.{piece_at};
@@ -160,7 +161,7 @@ fn fits(head: &FileHead, key: [u8; 64], value: &Record) -> bool
 pub(crate) enum Found {
     /// The same as in the plain list, in a file of so many levels.
     Alike { levels: u32 },
-    /// Another record of a key that was set.
+    /// Another record of a key that was set, or more or fewer buckets read for it than one of each level.
     OtherRecord { key: u16 },
     /// Another number of buckets or of levels once a key was set.
     OtherShape { key: u16 },
@@ -170,7 +171,28 @@ pub(crate) enum Found {
     OtherList { at: u16 },
 }
 
-// Sets one key in the file, or sets it back, and tells whether it is read again.
+// Whether a key has a record. None where other than one bucket of each level is read.
+fn get_by_levels<D: Disk>(
+    head: &FileHead,
+    store: &mut Store<D>,
+    key: &[u8],
+    out: &mut Record,
+) -> Result<Option<bool>, Down>
+    requires form { HasRoot head.now }
+    requires placed { IsPlaced head.now store.old.disk }
+    requires frames { 1 ≤ free_frames store.old.pool }
+    ensures same { OnOk result (SameButReads store.old store.new) }
+{
+    let before = store.reads();
+    let found = get_key(head, store, key, out)?;
+    let read = store.reads().saturating_sub(before);
+    if read != u64::from(head.levels).saturating_mul(u64::from(head.bucket)) {
+        return Ok(None);
+    }
+    Ok(Some(found))
+}
+
+// Sets one key in the file, or sets it back, and tells whether it is read again by one bucket of each level.
 fn set_and_get<D: Disk>(
     head: &mut FileHead,
     store: &mut Store<D>,
@@ -198,14 +220,15 @@ fn set_and_get<D: Disk>(
     };
     if plain.size == 0 {
         put(head, store, text, None, back)?;
-        return Ok(!get_key(head, store, text.bytes(), out)?);
+        return Ok(get_by_levels(head, store, text.bytes(), out)? == Some(false));
     }
     fill_record(value, plain);
     if !fits(head, key, value) {
         return Ok(false);
     }
     put(head, store, text, Some(value), back)?;
-    Ok(get_key(head, store, text.bytes(), out)? && out.bytes() == value.bytes())
+    let found = get_by_levels(head, store, text.bytes(), out)?;
+    Ok(found == Some(true) && out.bytes() == value.bytes())
 }
 
 // Sets one key in the file, and then sets it back where there is something to set it back to.
@@ -393,7 +416,7 @@ pub(crate) fn header<D: Disk>(
 ) -> Result<(u16, u32), Down>
     requires placed { IsPlaced head.now store.old.disk }
     requires there { n < head.now.alloc }
-    ensures same { OnOk result (store.new ≡ store.old) }
+    ensures same { OnOk result (SameButReads store.old store.new) }
 {
     let mut block = [0; 512];
     store.read(head.start + n * head.bucket as u32, &mut block)?;
@@ -406,7 +429,7 @@ pub(crate) fn header<D: Disk>(
 fn counts<D: Disk>(head: &FileHead, store: &mut Store<D>) -> Result<[u16; 3], Down>
     requires form { HasRoot head.now }
     requires placed { IsPlaced head.now store.old.disk }
-    ensures same { OnOk result (store.new ≡ store.old) }
+    ensures same { OnOk result (SameButReads store.old store.new) }
 {
     let mut counts = [0; 3];
     let mut n = 0;

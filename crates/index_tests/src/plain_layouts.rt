@@ -1,5 +1,6 @@
 //! Files under an index beside the plain program: after each change a file has as many buckets and levels as the plain program gives it.
-ghost use Rattle.std.specs.Prelude.{◌≡◌, ◌≤◌, OnOk};
+ghost use Rattle.std.specs.Prelude.{◌≤◌, OnOk};
+ghost use Rattle.careful_write.specs.Reads.{SameButReads};
 ghost use Rattle.careful_write.specs.State.{IsIdle};
 ghost use Rattle.change_set.specs.Files.{IsPlaced, free_frames};
 ghost use Rattle.index_blocks.specs.Levels.{HasRoot};
@@ -14,9 +15,9 @@ use block_disk::Disk;
 use careful_write::{Down, Store};
 use file_base::FileHead;
 use indexed_tree::TreeFile;
+use reference_index::{Change, Key, Layout, Leaf, Lock};
 use reference_world::{
-    Change, File, FileChange, Key, Layout, Leaf, Lock, Organization, Settlement, WrittenMoment,
-    settled_files, with_file,
+    File, FileChange, Organization, Settlement, WrittenMoment, settled_files, with_file,
 };
 use std::alloc::{AllocError, Global};
 use std::mem::replace;
@@ -164,7 +165,7 @@ fn has_shape(head: &FileHead, layout: Option<&Layout>) -> bool {
 fn has_leaves<D: Disk>(head: &FileHead, store: &mut Store<D>, leaves: &[Leaf]) -> Result<bool, Down>
     requires form { HasRoot head.now }
     requires placed { IsPlaced head.now store.old.disk }
-    ensures same { OnOk result (store.new ≡ store.old) }
+    ensures same { OnOk result (SameButReads store.old store.new) }
 {
     let mut n = 0;
     for leaf in leaves {

@@ -2,6 +2,7 @@
 use Rattle.std.proofs.Common.{◌≡◌, ℕ, ◌≤◌, ◌+◌, List, length, set, Option, Some, None, option_map, refl, sym, ap, subst, ◌∙◌, arith}
 use Rattle.std.proofs.lemmas.List.{set-set}
 use Rattle.careful_write.specs.State.{StoreState}
+use Rattle.careful_write.proofs.Reading.{same_all, same_so}
 use Rattle.file_base.specs.declared.head.FileHead.{FileHead}
 use Rattle.change_set.specs.Buckets.{frame_of, with_frame, with_bucket, WasFree}
 use Rattle.change_set.proofs.Frames.{Lent, lent_given}
@@ -74,9 +75,9 @@ lent_more f s0 s1 s3 was taken kept =
     let pool1 : s1.pool ≡ set s0.pool f (Some (frame_of s1.pool f)) = ap (λ (s : StoreState). s.pool) taken in
     record {
       was = was;
-      is = kept ∙ (λ i. record s3 { pool = set (pool1 i) f (Some (frame_of s3.pool f)) }) ∙ (λ i. record s3 { pool = set-set s0.pool f (Some (frame_of s1.pool f)) (Some (frame_of s3.pool f)) i });
+      is = same_so _ s3 (kept ∙ (λ i. record s3 { pool = set (pool1 i) f (Some (frame_of s3.pool f)) }) ∙ (λ i. record s3 { pool = set-set s0.pool f (Some (frame_of s1.pool f)) (Some (frame_of s3.pool f)) i }));
     }
 
 pub given_after : (f : ℕ) (s0 s1 s3 s4 : StoreState) → WasFree s0.pool f → s1 ≡ with_frame f (frame_of s1.pool f) s0 → s3 ≡ with_frame f (frame_of s3.pool f) (record s3 { pool = s1.pool })
     → s4 ≡ record s3 { pool = set s3.pool f None } → s4 ≡ record s3 { pool = s0.pool }
-given_after f s0 s1 s3 s4 was taken kept gave = lent_given f (record s3 { pool = s0.pool }) s3 s4 (lent_more f s0 s1 s3 was taken kept) gave
+given_after f s0 s1 s3 s4 was taken kept gave = same_all (record s3 { pool = s0.pool }) s4 (lent_given f (record s3 { pool = s0.pool }) s3 s4 (lent_more f s0 s1 s3 was taken kept) gave) (ap (λ (s : StoreState). s.reads) gave)

@@ -3,7 +3,9 @@ use Rattle.std.proofs.Common.{◌≡◌, ◌≤◌, ◌<◌, ◌+◌, ◌-◌, �
 use Rattle.std.proofs.lemmas.List.{set-set}
 use Rattle.std.proofs.lemmas.Nat.{mul-le}
 use Rattle.block_disk.specs.Disk.{DiskState}
+use Rattle.careful_write.specs.Reads.{SameButReads, as_read_by}
 use Rattle.careful_write.specs.State.{StoreState}
+use Rattle.careful_write.proofs.Reading.{more_read}
 use Rattle.file_base.specs.declared.head.FileHead.{FileHead}
 use Rattle.frame_pool.specs.Pool.{IsOut}
 use Rattle.change_set.specs.Buckets.{frame_of, with_frame, with_bucket, WasFree}
@@ -115,10 +117,10 @@ stages_all h added s0 s1 s2 some few first second =
 
 -- a store that was staged into, and then read and staged into
 pub rest_staged : (f : ℕ) (s0 s1 s2 : StoreState) (C : Told) (T : List ℕ) (D : DiskState → DiskState) → s1 ≡ with_frame f (frame_of s1.pool f) (record s0 { current = C; touched = T })
-    → s2 ≡ with_frame f (frame_of s2.pool f) (record s1 { disk = D s1.disk; current = s2.current; touched = s2.touched }) → s2 ≡ with_frame f (frame_of s2.pool f) (record s0 { disk = D s0.disk; current = s2.current; touched = s2.touched })
+    → SameButReads (with_frame f (frame_of s2.pool f) (record s1 { disk = D s1.disk; current = s2.current; touched = s2.touched })) s2 → SameButReads (with_frame f (frame_of s2.pool f) (record s0 { disk = D s0.disk; current = s2.current; touched = s2.touched })) s2
 rest_staged f s0 s1 s2 C T D was is =
-    is ∙ (λ i. with_frame f (frame_of s2.pool f) (record (was i) { disk = D (was i).disk; current = s2.current; touched = s2.touched }))
-    ∙ (λ i. record s0 { disk = D s0.disk; current = s2.current; touched = s2.touched; pool = set-set s0.pool f (Some (frame_of s1.pool f)) (Some (frame_of s2.pool f)) i })
+    is ∙ (λ i. as_read_by s2 (with_frame f (frame_of s2.pool f) (record (was i) { disk = D (was i).disk; current = s2.current; touched = s2.touched })))
+    ∙ (λ i. record s0 { disk = D s0.disk; current = s2.current; touched = s2.touched; pool = set-set s0.pool f (Some (frame_of s1.pool f)) (Some (frame_of s2.pool f)) i; reads = s2.reads })
 
 -- What is promised.
 
@@ -176,35 +178,41 @@ sets_back (Some b) now h disk n bytes form placed whole is =
 -- Stores that were read through a frame.
 
 -- and then staged into
-pub rest_read : (f : ℕ) (s0 s2 s3 : StoreState) (D : DiskState → DiskState) → s2 ≡ with_frame f (frame_of s2.pool f) s0 → s3 ≡ with_frame f (frame_of s3.pool f) (record s2 { disk = D s2.disk; current = s3.current; touched = s3.touched })
-    → s3 ≡ with_frame f (frame_of s3.pool f) (record s0 { disk = D s0.disk; current = s3.current; touched = s3.touched })
+pub rest_read : (f : ℕ) (s0 s2 s3 : StoreState) (D : DiskState → DiskState) → SameButReads (with_frame f (frame_of s2.pool f) s0) s2 → SameButReads (with_frame f (frame_of s3.pool f) (record s2 { disk = D s2.disk; current = s3.current; touched = s3.touched })) s3
+    → SameButReads (with_frame f (frame_of s3.pool f) (record s0 { disk = D s0.disk; current = s3.current; touched = s3.touched })) s3
 rest_read f s0 s2 s3 D was is =
-    is ∙ (λ i. with_frame f (frame_of s3.pool f) (record (was i) { disk = D (was i).disk; current = s3.current; touched = s3.touched }))
-    ∙ (λ i. record s0 { disk = D s0.disk; current = s3.current; touched = s3.touched; pool = set-set s0.pool f (Some (frame_of s2.pool f)) (Some (frame_of s3.pool f)) i })
+    is ∙ (λ i. as_read_by s3 (with_frame f (frame_of s3.pool f) (record (was i) { disk = D (was i).disk; current = s3.current; touched = s3.touched })))
+    ∙ (λ i. record s0 { disk = D s0.disk; current = s3.current; touched = s3.touched; pool = set-set s0.pool f (Some (frame_of s2.pool f)) (Some (frame_of s3.pool f)) i; reads = s3.reads })
 
 -- and no more
-pub rest_same : (f : ℕ) (s0 s : StoreState) (d : DiskState) → s ≡ with_frame f (frame_of s.pool f) (record s0 { disk = d }) → s ≡ with_frame f (frame_of s.pool f) (record s0 { disk = d; current = s.current; touched = s.touched })
-rest_same f s0 s d is = is ∙ (λ i. with_frame f (frame_of s.pool f) (record s0 { disk = d; current = ap (λ (t : StoreState). t.current) (sym is) i; touched = ap (λ (t : StoreState). t.touched) (sym is) i }))
+pub rest_same : (f : ℕ) (s0 s : StoreState) (d : DiskState) → SameButReads (with_frame f (frame_of s.pool f) (record s0 { disk = d })) s → SameButReads (with_frame f (frame_of s.pool f) (record s0 { disk = d; current = s.current; touched = s.touched })) s
+rest_same f s0 s d is = is ∙ (λ i. as_read_by s (with_frame f (frame_of s.pool f) (record s0 { disk = d; current = ap (λ (t : StoreState). t.current) (sym is) i; touched = ap (λ (t : StoreState). t.touched) (sym is) i })))
 
 -- a store that is the same, beside its frame
 pub rest_own : (f : ℕ) (s0 s : StoreState) → IsOut s0.pool f → s ≡ s0 → s ≡ with_frame f (frame_of s.pool f) (record s0 { current = s.current; touched = s.touched })
 rest_own f s0 s out same = same ∙ with_frame_own f s0 out ∙ (λ i. with_frame f (frame_of (sym same i).pool f) (record s0 { current = (sym same i).current; touched = (sym same i).touched }))
 
+-- How many blocks are read.
+
+-- a bucket of each level
+pub levels_read : (above levels bucket at found now : ℕ) → above + 1 ≡ levels → found ≤ at + above * bucket → now ≤ found + bucket → now ≤ at + levels * bucket
+levels_read above levels bucket at found now is first second = subst (λ (l : ℕ). now ≤ at + l * bucket) is (more_read above bucket at found now first second)
+
 -- A frame that was taken, and given back.
 
 abbrev pub Kept : ℕ → (DiskState → DiskState) → StoreState → StoreState → Type 0
-Kept f D s1 s3 = s3 ≡ with_frame f (frame_of s3.pool f) (record s1 { disk = D s1.disk; current = s3.current; touched = s3.touched })
+Kept f D s1 s3 = SameButReads (with_frame f (frame_of s3.pool f) (record s1 { disk = D s1.disk; current = s3.current; touched = s3.touched })) s3
 
 given : (f : ℕ) (D : DiskState → DiskState) (s0 s1 s3 s4 : StoreState) → WasFree s0.pool f → s1 ≡ with_frame f (frame_of s1.pool f) s0 → Kept f D s1 s3 → s4 ≡ record s3 { pool = set s3.pool f None } → s4 ≡ record s3 { pool = s0.pool }
 given f D s0 s1 s3 s4 was taken kept gave = given_after f s0 s1 s3 s4 was taken (λ i. record s3 { pool = ap (λ (s : StoreState). s.pool) kept i }) gave
 
 pub rest_given : (f : ℕ) (D : DiskState → DiskState) (s0 s1 s3 s4 : StoreState) → WasFree s0.pool f → s1 ≡ with_frame f (frame_of s1.pool f) s0 → Kept f D s1 s3 → s4 ≡ record s3 { pool = set s3.pool f None }
-    → s4 ≡ record s0 { disk = D s0.disk; current = s4.current; touched = s4.touched }
+    → SameButReads (record s0 { disk = D s0.disk; current = s4.current; touched = s4.touched }) s4
 rest_given f D s0 s1 s3 s4 was taken kept gave =
     let gives = given f D s0 s1 s3 s4 was taken kept gave in
     gives ∙ (λ i. record (kept i) { pool = s0.pool })
-    ∙ (λ i. record (taken i) { disk = D (taken i).disk; current = s3.current; touched = s3.touched; pool = s0.pool })
-    ∙ (λ i. record s0 { disk = D s0.disk; current = ap (λ (t : StoreState). t.current) (sym gives) i; touched = ap (λ (t : StoreState). t.touched) (sym gives) i })
+    ∙ (λ i. record (taken i) { disk = D (taken i).disk; current = s3.current; touched = s3.touched; pool = s0.pool; reads = s3.reads })
+    ∙ (λ i. record s0 { disk = D s0.disk; current = ap (λ (t : StoreState). t.current) (sym gives) i; touched = ap (λ (t : StoreState). t.touched) (sym gives) i; reads = ap (λ (t : StoreState). t.reads) (sym gives) i })
 
 pub stages_given : (h : FileHead) (limit f : ℕ) (D : DiskState → DiskState) (s0 s1 s3 s4 : StoreState) → WasFree s0.pool f → s1 ≡ with_frame f (frame_of s1.pool f) s0 → Kept f D s1 s3 → s4 ≡ record s3 { pool = set s3.pool f None }
     → StagesIn h limit s1 (record s3 { pool = s1.pool }) → StagesIn h limit s0 s4

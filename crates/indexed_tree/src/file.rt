@@ -71,6 +71,7 @@ impl TreeFile {
         ensures found { IfOk result (λ found. found ≡ true → IfSome store.old.current (λ blocks. IsRooted head.now blocks → map_of head.now blocks (key_of key.now) ≡ Some out.new)) }
         ensures stands { IfOk result (λ found. found ≡ true → IfSome store.old.current (λ blocks. StandsAt head.now blocks (key_of key.now) out.new)) }
         ensures absent { IfOk result (λ found. found ≡ false → IfSome store.old.current (λ blocks. IsRooted head.now blocks → map_of head.now blocks (key_of key.now) ≡ None)) }
+        ensures reads { store.new.reads ≤ store.old.reads + head.now.levels * head.now.bucket }
         ensures same { OnOk result (SameButReads store.old store.new) }
         ensures down { OnErr result (SameButReads (fell result store.old) store.new) }
     {

@@ -1,6 +1,7 @@
 //! The leaf for a key.
-ghost use Rattle.std.specs.Prelude.{◌≡◌, ◌≤◌, ◌<◌, ◌-◌, ℕ, List, OnOk, IfOk, IfSome, slice_index_or};
+ghost use Rattle.std.specs.Prelude.{◌≡◌, ◌≤◌, ◌<◌, ◌+◌, ◌-◌, ◌*◌, ℕ, List, OnOk, IfOk, IfSome, slice_index_or};
 ghost use Rattle.careful_write.specs.Down.{answered};
+ghost use Rattle.careful_write.specs.Reads.{SameButReads};
 ghost use Rattle.frame_pool.specs.Pool.{IsOut};
 ghost use Rattle.change_set.specs.Buckets.{frame_of, with_frame};
 ghost use Rattle.change_set.specs.Files.{IsPlaced};
@@ -26,7 +27,8 @@ pub fn find_leaf<D: Disk>(
     requires form { HasRoot head.now }
     requires placed { IsPlaced head.now store.old.disk }
     requires out { IsOut store.old.pool frame.now }
-    ensures state { store.new ≡ with_frame frame.now (frame_of store.new.pool frame.now) (record store.old { disk = answered result store.old.disk }) }
+    ensures state { SameButReads (with_frame frame.now (frame_of store.new.pool frame.now) (record store.old { disk = answered result store.old.disk })) store.new }
+    ensures reads { store.new.reads ≤ store.old.reads + height head.now * head.now.bucket }
     ensures out { IsOut store.new.pool frame.now }
     ensures leaf { IfOk result (λ n. IfSome store.old.current (λ blocks. IsRooted head.now blocks → n ≡ leaf_for head.now blocks key.now)) }
     ensures used { IfOk result (λ n. n < head.now.used) }

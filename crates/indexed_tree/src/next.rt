@@ -2,6 +2,7 @@
 ghost use Rattle.std.specs.Prelude.{◌≡◌, ◌≤◌, ◌<◌, ◌+◌, ◌-◌, ◌*◌, ℕ, List, true, false, Some, None, length, take, drop, IfOk, IfSome, IfNone};
 ghost use Rattle.std.specs.Option.{option_copied};
 ghost use Rattle.careful_write.specs.Down.{answered};
+ghost use Rattle.careful_write.specs.Reads.{SameButReads};
 ghost use Rattle.frame_pool.specs.Pool.{IsOut};
 ghost use Rattle.change_set.specs.Buckets.{frame_of, with_frame};
 ghost use Rattle.change_set.specs.Files.{IsPlaced, free_frames};
@@ -37,7 +38,7 @@ fn visit_next<D: Disk>(
     requires placed { IsPlaced head.now store.old.disk }
     requires out { IsOut store.old.pool frame.now }
     requires there { n < head.now.used }
-    ensures state { store.new ≡ with_frame frame.now (frame_of store.new.pool frame.now) (record store.old { disk = answered result store.old.disk }) }
+    ensures state { SameButReads (with_frame frame.now (frame_of store.new.pool frame.now) (record store.old { disk = answered result store.old.disk })) store.new }
     ensures out { IsOut store.new.pool frame.now }
     ensures found { IfOk result (λ to. IfSome to.0 (λ k. IfSome store.old.current (λ blocks. IsLeaf head.now (bucket_at head.now blocks n) → IsFound (first_behind (option_copied after.entry) (slots_in head.now blocks n)) k out.new))) }
     ensures stands { IfOk result (λ to. IfSome to.0 (λ k. IfSome store.old.current (Stands head.now k out.new))) }
@@ -61,7 +62,7 @@ fn start_leaf<D: Disk>(
     requires form { HasRoot head.now }
     requires placed { IsPlaced head.now store.old.disk }
     requires out { IsOut store.old.pool frame.now }
-    ensures state { store.new ≡ with_frame frame.now (frame_of store.new.pool frame.now) (record store.old { disk = answered result store.old.disk }) }
+    ensures state { SameButReads (with_frame frame.now (frame_of store.new.pool frame.now) (record store.old { disk = answered result store.old.disk })) store.new }
     ensures out { IsOut store.new.pool frame.now }
     ensures start { IfOk result (λ n. IfSome store.old.current (λ blocks. IsRooted head.now blocks → n ≡ starts_at head.now blocks (option_copied after.entry))) }
     ensures used { IfOk result (λ n. n < head.now.used) }
@@ -92,7 +93,7 @@ fn find_next<D: Disk>(
     requires keys { HasKeys head.now }
     requires placed { IsPlaced head.now store.old.disk }
     requires out { IsOut store.old.pool frame.now }
-    ensures state { store.new ≡ with_frame frame.now (frame_of store.new.pool frame.now) (record store.old { disk = answered result store.old.disk }) }
+    ensures state { SameButReads (with_frame frame.now (frame_of store.new.pool frame.now) (record store.old { disk = answered result store.old.disk })) store.new }
     ensures out { IsOut store.new.pool frame.now }
     ensures found { IfOk result (λ found. IfSome found (λ k. IfSome store.old.current (λ blocks. IsRooted head.now blocks → IsFound (first_behind (option_copied after.entry) (all_slots head.now blocks)) k out.new))) }
     ensures stands { IfOk result (λ found. IfSome found (λ k. IfSome store.old.current (Stands head.now k out.new))) }
@@ -125,7 +126,7 @@ pub fn next_key<D: Disk>(
     requires keys { HasKeys head.now }
     requires placed { IsPlaced head.now store.old.disk }
     requires frames { 1 ≤ free_frames store.old.pool }
-    ensures state { store.new ≡ record store.old { disk = answered result store.old.disk } }
+    ensures state { SameButReads (record store.old { disk = answered result store.old.disk }) store.new }
     ensures found { IfOk result (λ found. IfSome found (λ k. IfSome store.old.current (λ blocks. IsRooted head.now blocks → IsFound (first_behind (option_copied after.entry) (all_slots head.now blocks)) k out.new))) }
     ensures stands { IfOk result (λ found. IfSome found (λ k. IfSome store.old.current (Stands head.now k out.new))) }
     ensures none { IfOk result (λ found. IfNone found (IfSome store.old.current (λ blocks. IsRooted head.now blocks → first_behind (option_copied after.entry) (all_slots head.now blocks) ≡ None))) }

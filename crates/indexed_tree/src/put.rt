@@ -1,6 +1,7 @@
 //! A leaf that is staged with those that it was parted in, and the entries of these, which are handed up.
 ghost use Rattle.std.specs.Prelude.{◌≡◌, ◌≤◌, ◌<◌, ◌+◌, ◌-◌, ◌*◌, ℕ, List, true, false, Some, None, length, take, option_map, OnOk, OnErr, IfOk, IfSome, IsSomeAnd, slice_index_or};
 ghost use Rattle.careful_write.specs.Down.{answered};
+ghost use Rattle.careful_write.specs.Reads.{SameButReads};
 ghost use Rattle.frame_pool.specs.Pool.{IsOut};
 ghost use Rattle.change_set.specs.Buckets.{frame_of, with_frame};
 ghost use Rattle.change_set.specs.Files.{IsPlaced, StagesIn};
@@ -97,11 +98,11 @@ fn stage_set<D: Disk>(
     ensures sets { IfOk result (λ growth. IfSome store.old.current (λ old. IsSomeAnd store.new.current (PutsLeaf head.now (grown_head head.now growth) key.now path.now n added low.now mid.now high.now old))) }
     ensures stages { OnOk result (StagesIn head.now ((2 * head.now.levels + 2) * head.now.bucket) store.old (record store.new { pool = store.old.pool })) }
     ensures form { IfOk result (λ growth. HasRoot (grown_head head.now growth)) }
-    ensures rest { store.new ≡ with_frame frame.now (frame_of store.new.pool frame.now) (record store.old {
+    ensures rest { SameButReads (with_frame frame.now (frame_of store.new.pool frame.now) (record store.old {
       disk = answered result store.old.disk;
       current = store.new.current;
       touched = store.new.touched;
-    }) }
+    })) store.new }
     ensures out { IsOut store.new.pool frame.now }
 {
     stage_leaves(head, store, frame, n, added, low, mid, high);
@@ -152,11 +153,11 @@ pub fn put_leaf<D: Disk>(
     ensures form { OnOk result (HasRoot head.new) }
     ensures file { OnOk result (SameButIndex head.old head.new) }
     ensures head { OnErr result (head.new ≡ head.old) }
-    ensures rest { store.new ≡ with_frame frame.now (frame_of store.new.pool frame.now) (record store.old {
+    ensures rest { SameButReads (with_frame frame.now (frame_of store.new.pool frame.now) (record store.old {
       disk = answered result store.old.disk;
       current = store.new.current;
       touched = store.new.touched;
-    }) }
+    })) store.new }
     ensures out { IsOut store.new.pool frame.now }
 {
     match stage_set(head, store, frame, key, path, n, added, low, mid, high) {

@@ -1,6 +1,7 @@
 //! The record of a key.
 ghost use Rattle.std.specs.Prelude.{◌≡◌, ◌≤◌, ◌<◌, ◌+◌, ◌-◌, ◌*◌, ℕ, List, true, false, Some, None, length, take, drop, IfOk, IfSome, IfNone};
 ghost use Rattle.careful_write.specs.Down.{answered};
+ghost use Rattle.careful_write.specs.Reads.{SameButReads};
 ghost use Rattle.frame_pool.specs.Pool.{IsOut};
 ghost use Rattle.bucket_page.specs.Pages.{slots_of, IsBucket};
 ghost use Rattle.change_set.specs.Buckets.{frame_of, with_frame};
@@ -37,7 +38,8 @@ fn read_leaf<D: Disk>(
     requires placed { IsPlaced head.now store.old.disk }
     requires out { IsOut store.old.pool frame.now }
     requires there { n < head.now.used }
-    ensures state { store.new ≡ with_frame frame.now (frame_of store.new.pool frame.now) (record store.old { disk = answered result store.old.disk }) }
+    ensures state { SameButReads (with_frame frame.now (frame_of store.new.pool frame.now) (record store.old { disk = answered result store.old.disk })) store.new }
+    ensures reads { store.new.reads ≤ store.old.reads + head.now.bucket }
     ensures out { IsOut store.new.pool frame.now }
     ensures found { IfOk result (λ found. found ≡ true → IfSome store.old.current (λ blocks. IsLeaf head.now (bucket_at head.now blocks n) → IsOrdered (slots_in head.now blocks n) → lookup (slots_in head.now blocks n) key.now ≡ Some out.new)) }
     ensures stands { IfOk result (λ found. found ≡ true → IfSome store.old.current (Stands head.now key.now out.new)) }
@@ -64,7 +66,8 @@ fn read_key<D: Disk>(
     requires form { HasRoot head.now }
     requires placed { IsPlaced head.now store.old.disk }
     requires out { IsOut store.old.pool frame.now }
-    ensures state { store.new ≡ with_frame frame.now (frame_of store.new.pool frame.now) (record store.old { disk = answered result store.old.disk }) }
+    ensures state { SameButReads (with_frame frame.now (frame_of store.new.pool frame.now) (record store.old { disk = answered result store.old.disk })) store.new }
+    ensures reads { store.new.reads ≤ store.old.reads + head.now.levels * head.now.bucket }
     ensures out { IsOut store.new.pool frame.now }
     ensures found { IfOk result (λ found. found ≡ true → IfSome store.old.current (λ blocks. IsRooted head.now blocks → lookup (all_slots head.now blocks) key.now ≡ Some out.new)) }
     ensures stands { IfOk result (λ found. found ≡ true → IfSome store.old.current (Stands head.now key.now out.new)) }
@@ -88,7 +91,8 @@ pub fn get_key<D: Disk>(
     requires form { HasRoot head.now }
     requires placed { IsPlaced head.now store.old.disk }
     requires frames { 1 ≤ free_frames store.old.pool }
-    ensures state { store.new ≡ record store.old { disk = answered result store.old.disk } }
+    ensures state { SameButReads (record store.old { disk = answered result store.old.disk }) store.new }
+    ensures reads { store.new.reads ≤ store.old.reads + head.now.levels * head.now.bucket }
     ensures found { IfOk result (λ found. found ≡ true → IfSome store.old.current (λ blocks. IsRooted head.now blocks → lookup (all_slots head.now blocks) key.now ≡ Some out.new)) }
     ensures stands { IfOk result (λ found. found ≡ true → IfSome store.old.current (Stands head.now key.now out.new)) }
     ensures absent { IfOk result (λ found. found ≡ false → IfSome store.old.current (λ blocks. IsRooted head.now blocks → lookup (all_slots head.now blocks) key.now ≡ None)) }

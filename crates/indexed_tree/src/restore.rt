@@ -2,6 +2,7 @@
 ghost use Rattle.std.specs.Prelude.{◌≡◌, ◌≤◌, ◌<◌, ◌+◌, ◌*◌, ℕ, List, true, false, length, take, OnOk, OnErr, IfSome, IsSomeAnd};
 ghost use Rattle.std.specs.Option.{option_copied};
 ghost use Rattle.careful_write.specs.Down.{answered};
+ghost use Rattle.careful_write.specs.Reads.{SameButReads};
 ghost use Rattle.frame_pool.specs.Pool.{IsOut};
 ghost use Rattle.change_set.specs.Buckets.{frame_of, with_frame};
 ghost use Rattle.change_set.specs.Files.{IsPlaced, StagesIn, free_frames};
@@ -70,11 +71,11 @@ fn restore_through<D: Disk>(
     requires suits { SuitsText head.now key.now (option_copied value) }
     ensures back { OnOk result (IfSome store.old.current (λ old. IsRooted head.now old → size_of (option_copied value.entry) ≤ room_of (all_slots head.now old) key.now → IsSomeAnd store.new.current (HasSetBack head.now key.now (option_copied value.entry) old))) }
     ensures stages { OnOk result (StagesIn head.now head.now.bucket store.old (record store.new { pool = store.old.pool })) }
-    ensures rest { store.new ≡ with_frame frame.now (frame_of store.new.pool frame.now) (record store.old {
+    ensures rest { SameButReads (with_frame frame.now (frame_of store.new.pool frame.now) (record store.old {
       disk = answered result store.old.disk;
       current = store.new.current;
       touched = store.new.touched;
-    }) }
+    })) store.new }
     ensures out { IsOut store.new.pool frame.now }
 {
     let mut path = [0; MAX_HEIGHT];
@@ -106,7 +107,7 @@ pub fn restore_key<D: Disk>(
     requires suits { SuitsText head.now key.now (option_copied value) }
     ensures back { OnOk result (IfSome store.old.current (λ old. IsRooted head.now old → size_of (option_copied value.entry) ≤ room_of (all_slots head.now old) key.now → IsSomeAnd store.new.current (HasSetBack head.now key.now (option_copied value.entry) old))) }
     ensures stages { OnOk result (StagesIn head.now head.now.bucket store.old store.new) }
-    ensures rest { store.new ≡ record store.old { disk = answered result store.old.disk; current = store.new.current; touched = store.new.touched } }
+    ensures rest { SameButReads (record store.old { disk = answered result store.old.disk; current = store.new.current; touched = store.new.touched }) store.new }
 {
     let frame = take_frame(store);
     let done = restore_through(head, store, &frame, key, value);

@@ -3,6 +3,7 @@ ghost use Rattle.std.specs.Prelude.{◌≡◌, ◌≤◌, ◌<◌, ◌+◌, ◌-
 ghost use Rattle.std.specs.Option.{option_copied};
 ghost use Rattle.vms_model.specs.Keys.{Text};
 ghost use Rattle.careful_write.specs.Down.{answered};
+ghost use Rattle.careful_write.specs.Reads.{SameButReads};
 ghost use Rattle.frame_pool.specs.Pool.{IsOut};
 ghost use Rattle.bucket_page.specs.Pages.{slots_of, IsBucket};
 ghost use Rattle.change_set.specs.Buckets.{frame_of, with_frame};
@@ -62,11 +63,11 @@ fn set_loaded<D: Disk, H: Held>(
     ensures form { OnOk result (HasRoot head.new) }
     ensures file { OnOk result (SameButIndex head.old head.new) }
     ensures head { OnErr result (head.new ≡ head.old) }
-    ensures rest { store.new ≡ with_frame frame.now (frame_of store.new.pool frame.now) (record store.old {
+    ensures rest { SameButReads (with_frame frame.now (frame_of store.new.pool frame.now) (record store.old {
       disk = answered result store.old.disk;
       current = store.new.current;
       touched = store.new.touched;
-    }) }
+    })) store.new }
     ensures out { IsOut store.new.pool frame.now }
 {
     let mut low = [0; FRAME_BYTES];
@@ -102,11 +103,11 @@ fn set_through<D: Disk, H: Held>(
     ensures form { OnOk result (HasRoot head.new) }
     ensures file { OnOk result (SameButIndex head.old head.new) }
     ensures head { OnErr result (head.new ≡ head.old) }
-    ensures rest { store.new ≡ with_frame frame.now (frame_of store.new.pool frame.now) (record store.old {
+    ensures rest { SameButReads (with_frame frame.now (frame_of store.new.pool frame.now) (record store.old {
       disk = answered result store.old.disk;
       current = store.new.current;
       touched = store.new.touched;
-    }) }
+    })) store.new }
     ensures out { IsOut store.new.pool frame.now }
 {
     let mut path = [0; MAX_HEIGHT];
@@ -141,7 +142,7 @@ pub fn set_key<D: Disk, H: Held>(
     ensures form { OnOk result (HasRoot head.new) }
     ensures file { OnOk result (SameButIndex head.old head.new) }
     ensures head { OnErr result (head.new ≡ head.old) }
-    ensures rest { store.new ≡ record store.old { disk = answered result store.old.disk; current = store.new.current; touched = store.new.touched } }
+    ensures rest { SameButReads (record store.old { disk = answered result store.old.disk; current = store.new.current; touched = store.new.touched }) store.new }
 {
     let frame = take_frame(store);
     let done = set_through(head, store, &frame, key, value, held);

@@ -64,6 +64,7 @@ fn write_stream<D: Disk>(
     requires position { at ≤ 2 ^ 62 }
     ensures current { OnOk result (store.new.current ≡ option_map (λ c. put_stream c span.now at bytes.now) store.old.current) }
     ensures touched { OnOk result (length store.new.touched ≤ length store.old.touched + 18) }
+    ensures few { OnOk result (512 * length store.new.touched ≤ 512 * length store.old.touched + length bytes.now + 1022) }
     ensures disk { store.new.disk ≡ answered result store.old.disk }
     ensures pool { store.new.pool ≡ store.old.pool }
     ensures fits { store.new.fits ≡ store.old.fits }
@@ -104,6 +105,7 @@ pub fn append<D: Disk>(
     ensures free { OnOk result (span.old.end - span.old.first + length entry.now ≤ ring_size span.old) }
     ensures span { OnOk result (span.new ≡ record span.old { end = span.old.end + length entry.now }) }
     ensures touched { OnOk result (length store.new.touched ≤ length store.old.touched + 18) }
+    ensures few { OnOk result (512 * length store.new.touched ≤ 512 * length store.old.touched + length entry.now + 1022) }
     ensures disk { OnOk result (store.new.disk ≡ store.old.disk) }
     ensures err { IfErr result (λ e. Refuses e (ring_size span.old - (span.old.end - span.old.first)) (length entry.now) store.old store.new) }
     ensures kept { OnErr result (span.new ≡ span.old) }

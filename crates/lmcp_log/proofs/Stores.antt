@@ -5,22 +5,23 @@ use Rattle.block_disk.specs.Blocks.{with_number}
 use Rattle.block_disk.specs.Disk.{DiskState}
 use Rattle.careful_write.specs.declared.down.Down.{Down}
 use Rattle.careful_write.specs.Down.{answered, Counts}
+use Rattle.careful_write.specs.Reads.{SameButReads}
 use Rattle.careful_write.specs.State.{StoreState}
 use Rattle.lmcp_log.specs.Log.{SameDisk, OnlyRead}
 
 pub same_disk : (s : StoreState) (current : Option (List (List ℕ))) (touched : List ℕ) → (let t : StoreState = record s { current = current; touched = touched } in SameDisk s t)
 same_disk s current touched = record { content = refl; images = λ image m. m; size = refl; fits = refl; ready = λ h. record { fitting = h.fitting; settled = h.settled; closed = h.closed }; pool = refl }
 
-pub only_read : {T : Type 0} (r : Result T Down) (s : StoreState) → (let t : StoreState = record s { disk = answered r s.disk } in OnlyRead s t)
-only_read r s = record {
+pub only_read : {T : Type 0} (r : Result T Down) (s : StoreState) (reads : ℕ) → (let t : StoreState = record s { disk = answered r s.disk; reads = reads } in OnlyRead s t)
+only_read r s reads = record {
   disk = record { content = refl; images = λ image m. m; size = refl; fits = refl; ready = λ h. record { fitting = h.fitting; settled = h.settled; closed = h.closed }; pool = refl };
   current = refl;
   touched = refl;
 }
 
-pub none_read : (s t : StoreState) → t ≡ s → OnlyRead s t
+pub none_read : (s t : StoreState) → SameButReads s t → OnlyRead s t
 none_read s t e = let P : StoreState → Type 0 = λ x. OnlyRead s x in subst P (sym e) (record {
-  disk = record { content = refl; images = λ image m. m; size = refl; fits = refl; ready = λ h. h; pool = refl };
+  disk = record { content = refl; images = λ image m. m; size = refl; fits = refl; ready = λ h. record { fitting = h.fitting; settled = h.settled; closed = h.closed }; pool = refl };
   current = refl;
   touched = refl;
 })

@@ -6,7 +6,7 @@ ghost use Rattle.careful_write.specs.State.{EachWhole, IsIdle, IsReady};
 ghost use Rattle.change_set.specs.Files.{AgreesOut, IsPlaced, LeavesOut, fell, free_frames, in_extent};
 ghost use Rattle.change_set.specs.Maps.{EndsAfter, IsNext, empty_map};
 ghost use Rattle.record_files.specs.Any.{Begins, IsFile, IsLaidOut, IsNew, first_layout_of, layout_of, map_of};
-ghost use Rattle.volume.specs.State.{with_block};
+ghost use Rattle.volume.specs.State.{SameVolume, with_block};
 ghost use Rattle.volume_format.specs.Head.{head_block_of};
 ghost use Rattle.volume_format.specs.Home.{home_block_of};
 ghost use Rattle.vms_base.specs.Keys.{key_of};
@@ -39,8 +39,8 @@ pub fn next_record_from<D: Disk>(
     ensures none { IfOk result (λ there. there ≡ false → IfSome volume.old.store.current (λ content. IsFile head.now → IsLaidOut head.now content → EndsAfter (map_of head.now content) (option_map key_of (option_copied after.entry)))) }
     ensures begins { IfOk result (λ there. there ≡ true → IfSome volume.old.store.current (λ content. IsFile head.now → IsLaidOut head.now content → Begins head.now content (Some (key_of key.new)) place.new)) }
     ensures unformed { (IsFile head.now → ⊥) → result ≡ Ok false }
-    ensures same { OnOk result (volume.new ≡ volume.old) }
-    ensures down { OnErr result (volume.new ≡ record volume.old { store = fell result volume.old.store }) }
+    ensures same { OnOk result (SameVolume volume.old volume.new) }
+    ensures down { OnErr result (SameVolume (record volume.old { store = fell result volume.old.store }) volume.new) }
 {
     if !AnyFile::is_formed(head) {
         return Ok(false);

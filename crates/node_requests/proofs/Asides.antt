@@ -18,7 +18,8 @@ use Rattle.row_laws.specs.May.{IsTold}
 use Rattle.recovery_units.specs.State.{AreOfBranches, IsInOrder, IsKept, UnitsState}
 use Rattle.recovery_units.specs.Uses.{Goes}
 use Rattle.world_laws.specs.Running.{IsDrawn}
-use Rattle.file_requests.specs.Serving.{KeepsStored}
+use Rattle.file_requests.specs.Serving.{KeepsStored, SameStored}
+use Rattle.file_requests.proofs.Reading.{kept_still}
 use Rattle.node_table.specs.Growing.{end_to_come, groups_left, moment_to_come}
 use Rattle.node_table.specs.Serving.{DoesService, ServiceAt}
 use Rattle.node_table.specs.Standing.{AreInDoubt, Follows, IsUp, NamesPrepared, StandsUp, Stored, Up, standing}
@@ -124,6 +125,24 @@ stands_aside clock old new more n m doubts h aside kept = record {
   preparation = λ k i.
       let d = drawn_more n.name n.durable.boot n.volatile.drawn more k (h.preparation k (subst (λ ks. In k ks) aside.preparation i)) in
       subst (λ z. IsDrawn z m.durable.boot m.volatile.drawn k.serial) (sym aside.name) (subst (λ z. IsDrawn n.name z m.volatile.drawn k.serial) (sym aside.boot) (subst (λ z. IsDrawn n.name n.durable.boot z k.serial) (sym aside.drawn) d));
+}
+
+-- what is stored is the same but for reads
+pub stands_still : (clock : ℕ) (old : Up) (new : Stored) (n : Node) → SameStored old.stored new → StandsUp clock old n → StandsUp clock (record { stored = new; tm = old.tm; drawn = old.drawn; declared = old.declared }) n
+stands_still clock old new n same h = record {
+  stands = record {
+    kept = kept_still old.stored new same n h.stands.kept;
+    table = h.stands.table;
+    clock_is = h.stands.clock_is;
+    doubt = h.stands.doubt ∙ sym (ap (λ (s : Stored). s.in_doubt) same);
+    names = h.stands.names;
+    up = h.stands.up;
+    was_up = h.stands.was_up;
+    under_way = h.stands.under_way;
+  };
+  drawn = h.drawn;
+  declared = h.declared;
+  preparation = h.preparation;
 }
 
 -- A service, by what it comes to.

@@ -15,14 +15,14 @@ use Rattle.run_shared.specs.Sharing.{IsShared, SharedState}
 use Rattle.recovery_units.specs.State.{IsEarly, IsKept}
 use Rattle.world_laws.specs.Nodes as laws
 use Rattle.world_laws.specs.Nodes.{IsKeptNode}
-use Rattle.file_requests.specs.Serving.{DoesThere, IsReady, ServesFile}
+use Rattle.file_requests.specs.Serving.{DoesThere, IsReady, SameStored, ServesFile}
 use Rattle.node_table.specs.Growing.{end_to_come, moment_to_come}
 use Rattle.node_table.specs.Serving.{DoesService, service_at}
 use Rattle.node_table.specs.Standing.{IsUp, StandsUp, Stored, Up}
 use Rattle.node_requests.specs.Requests.{DoesRequest, KeepsRequest, MayServe, SaysRequest, ServesUp, node_up}
 use Rattle.node_requests.specs.Standing.{disk_of}
 use Rattle.node_requests.specs.Telling.{said_shared}
-use Rattle.node_requests.proofs.Asides.{AreAside, IsAside, aside_create, aside_lines, aside_records, aside_rows, keeps_beside, service_as, stands_aside}
+use Rattle.node_requests.proofs.Asides.{AreAside, IsAside, aside_create, aside_lines, aside_records, aside_rows, keeps_beside, service_as, stands_aside, stands_still}
 use Rattle.node_requests.proofs.Saying.{IsStillRequest, says_replies}
 
 -- what was asked of a node before a request is what a call asks of its volume
@@ -48,8 +48,8 @@ serves_files {T} r request clock old new shared a b may still none touched rows 
   serves = λ s n stands share kept.
       let q = service_at (service request) s n in
       let new' : Up = record { stored = new; tm = old.tm; drawn = old.drawn; declared = old.declared } in
-      let same : new ≡ old.stored → StandsUp clock new' n × IsShared shared s = λ e. (subst (λ (x : Stored). StandsUp clock (record { stored = x; tm = old.tm; drawn = old.drawn; declared = old.declared }) n) (sym e) stands, share) in
-      service_as r q s n a b (new ≡ old.stored) (StandsUp clock new' n × IsShared shared s) (λ t. t ≡ s) (IsShared shared) (IsKept new.units new.volume) (StandsUp clock new') (disk_of new')
+      let same : SameStored old.stored new → StandsUp clock new' n × IsShared shared s = λ e. (stands_still clock old new n e stands, share) in
+      service_as r q s n a b (SameStored old.stored new) (StandsUp clock new' n × IsShared shared s) (λ t. t ≡ s) (IsShared shared) (IsKept new.units new.volume) (StandsUp clock new') (disk_of new')
       same
       (λ t e. subst (IsShared shared) (sym e) share)
       (λ k. drawn_as clock old new (node_after_rows q.rows n) (stands_aside clock old new 0 n (node_after_rows q.rows n) h.keeps.in_doubt stands (aside_rows q.rows n (rows s n)) k))

@@ -32,14 +32,14 @@ use Rattle.unit_table.specs.Units.{OpenUnit}
 use Rattle.recovery_units.specs.Calls.{IsAsked, IsAskedAlone, alone_early, alone_late, change_said, direct_act, read_said}
 use Rattle.recovery_units.specs.State.{AreOfBranches, IsInOrder, IsKept, unit_of}
 use Rattle.file_requests.specs.Acting.{ActsAlone, ActsFor, LooksAlone, StaysUp, alone_service, branch_service}
-use Rattle.file_requests.specs.Serving.{KeepsStored}
+use Rattle.file_requests.specs.Serving.{KeepsStored, SameStored}
 use Rattle.file_requests.proofs.Operating.{alone_row, looks_row}
 use Rattle.node_table.specs.Growing.{end_to_come, groups_left, moment_to_come}
 use Rattle.node_table.specs.Standing.{AreInDoubt, Follows, IsUp, NamesPrepared, StandsUp, Stored, Up, standing}
 use Rattle.node_requests.specs.Operating.{DoesUp, OperatesAlone, OperatesFor}
 use Rattle.node_requests.specs.Requests.{HasMoved, KeepsRequest, MayServe, noted, with_noted}
 use Rattle.node_requests.specs.Standing.{disk_of}
-use Rattle.node_requests.proofs.Asides.{IsAside, aside_directs, keeps_beside, service_as, stands_aside}
+use Rattle.node_requests.proofs.Asides.{IsAside, aside_directs, keeps_beside, service_as, stands_aside, stands_still}
 use Rattle.node_table.proofs.Branching.{told_serial}
 use Rattle.node_requests.proofs.Noted.{alike_noted, doubt_alike, later_branches, later_groups, names_alike, noted_changed, noted_same, standing_alike, told_alike, within_noted}
 
@@ -139,14 +139,14 @@ module _ (serial : Id) (f : ℕ) (op : Operation) (clock : ℕ) (old : Up) (new 
     }
 
     module _ (n : Node) (name : List ℕ) (file : File) (branch : Branch) (stands : StandsUp clock old n) (q : IsAsked serial f old.stored.units old.stored.volume n name file branch) where
-      -- refused, all is as it was
-      refused_behind : new ≡ old.stored → StandsUp clock behind n
+      -- refused, all is as it was but for reads
+      refused_behind : SameStored old.stored new → StandsUp clock behind n
       refused_behind e =
           let same : with_noted serial old.stored.units.begun n.volatile.branches ≡ n.volatile.branches = noted_same serial old.stored.units.begun n.volatile.branches branch q.kept.branches q.branch q.unprepared in
           let table : n.volatile.branches ≡ old.tm.table = ap (λ (t : Tm). t.table) stands.stands.table in
           let noted_is : with_noted serial old.stored.units.begun old.tm.table ≡ old.tm.table = subst (λ bs. with_noted serial old.stored.units.begun bs ≡ bs) table same in
           let tm_is : noted serial new.units.begun old.tm ≡ old.tm = ap (λ (s : Stored). noted serial s.units.begun old.tm) e ∙ ap (λ bs. record old.tm { table = bs }) noted_is in
-          subst (λ (t : Tm). StandsUp clock (record { stored = new; tm = t; drawn = old.drawn; declared = old.declared }) n) (sym tm_is) (subst (λ (s : Stored). StandsUp clock (record { stored = s; tm = old.tm; drawn = old.drawn; declared = old.declared }) n) (sym e) stands)
+          subst (λ (t : Tm). StandsUp clock (record { stored = new; tm = t; drawn = old.drawn; declared = old.declared }) n) (sym tm_is) (stands_still clock old new n e stands)
 
       -- done, by what it changed
       done_behind : (cs : List Change) (ks : List keys.Key) → IsKept new.units new.volume (world.acted (operation_act branch name cs ks) n) → StandsUp clock behind (world.acted (operation_act branch name cs ks) n)
@@ -193,7 +193,7 @@ module _ (serial : Id) (f : ℕ) (op : Operation) (clock : ℕ) (old : Up) (new 
       keeps = keeps_behind;
       replies = h.keeps.replies;
       acts = λ s n name file branch stands q stays.
-          service_as {T = Unit {0}} (Ok tt) (branch_service n branch name file op) s n a b (new ≡ old.stored) (StandsUp clock behind n) (λ t. t ≡ s) (λ t. t ≡ s) (IsKept new.units new.volume) (StandsUp clock behind) (disk_of behind)
+          service_as {T = Unit {0}} (Ok tt) (branch_service n branch name file op) s n a b (SameStored old.stored new) (StandsUp clock behind n) (λ t. t ≡ s) (λ t. t ≡ s) (IsKept new.units new.volume) (StandsUp clock behind) (disk_of behind)
           (refused_behind n name file branch stands q)
           (λ t e. e)
           (done_behind n name file branch stands q (changes_of file op) (keys_held file op))
@@ -224,9 +224,9 @@ module _ (f : ℕ) (op : Operation) (clock : ℕ) (old : Up) (new : Stored) (a b
   abbrev pub at_ids : ℕ → Up
   at_ids drawn = record { stored = new; tm = old.tm; drawn = drawn; declared = old.declared }
 
-  -- all is as it was
-  as_before : (n : Node) → new ≡ old.stored → StandsUp clock old n → StandsUp clock (at_ids old.drawn) n
-  as_before n e stands = subst (λ (x : Stored). StandsUp clock (record { stored = x; tm = old.tm; drawn = old.drawn; declared = old.declared }) n) (sym e) stands
+  -- all is as it was but for reads
+  as_before : (n : Node) → SameStored old.stored new → StandsUp clock old n → StandsUp clock (at_ids old.drawn) n
+  as_before n e stands = stands_still clock old new n e stands
 
   -- a record was looked at
   pub looked : is_change op ≡ false → (r : Result (Unit {0}) Down) → LooksAlone r f op old.stored new a b → OperatesAlone r f op clock old (at_ids old.drawn) a b

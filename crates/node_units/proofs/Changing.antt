@@ -9,7 +9,7 @@ use Rattle.unit_table.specs.Places.{AreInOrder}
 use Rattle.unit_table.specs.Units.{OpenUnit, unit_at}
 use Rattle.vms_model.specs.Keys.{Number}
 use Rattle.volume.specs.declared.catalog.Catalog.{Catalog}
-use Rattle.volume.specs.State.{VolumeState}
+use Rattle.volume.specs.State.{SameVolume, VolumeState}
 use Rattle.script_model.specs.Statements.{Truncate}
 use Rattle.run_model.specs.Operations.{operation_answer}
 use Rattle.run_model.specs.World.{find_file}
@@ -47,7 +47,7 @@ module _ (place : ℕ) (u : OpenUnit) (bytes : List ℕ) (s : state.UnitsState) 
       let kept_up = subst (λ (x : List ℕ). KeepsUp (unit_early n b x file (Truncate from)) (unit_late n b x file (Truncate from)) (unit_act b x file (Truncate from)) n) (sym asked.named.called) keeps in
       subst (λ (x : List ℕ). IsNotDone e (unit_early n b x file (Truncate from)) (unit_late n b x file (Truncate from)) (unit_act b x file (Truncate from)) n w.store.disk) asked.named.called
       (not_done e (unit_early n b h.name file (Truncate from)) (unit_late n b h.name file (Truncate from)) (unit_act b h.name file (Truncate from)) n w.store.disk
-      (λ c. rms.ChangeRefused u h (op.Truncate f from) [] c s v × (w ≡ v)) (λ down. rms.ChangeBroke u h (op.Truncate f from) [] s v w) (r h there).1
+      (λ c. rms.ChangeRefused u h (op.Truncate f from) [] c s v × SameVolume v w) (λ down. rms.ChangeBroke u h (op.Truncate f from) [] s v w) (r h there).1
       (λ c k. cut_cause s v order at place u at_place n file b h log asked.up asked.unprepared asked.kept f from there found asked.branch c k.0)
       (λ down k. cut_broken s v order at place u at_place n file b h log asked.up asked.unprepared asked.kept f from there found asked.branch k.allowed low w (k.cut f from refl) kept_up))
 

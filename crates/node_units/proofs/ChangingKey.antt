@@ -6,7 +6,7 @@ use Rattle.record_operations.specs.declared.errors.RecErr.{RecErr}
 use Rattle.record_operations.specs.declared.ops.RecordOp.{RecordOp}
 use Rattle.unit_table.specs.Places.{AreInOrder}
 use Rattle.unit_table.specs.Units.{OpenUnit, unit_at}
-use Rattle.volume.specs.State.{VolumeState}
+use Rattle.volume.specs.State.{SameVolume, VolumeState}
 use Rattle.run_model.specs.Operations.{operation_answer}
 use Rattle.run_model.specs.World.{find_file}
 use Rattle.directory_model.specs.Files.{head_at}
@@ -45,6 +45,6 @@ module _ (place : ℕ) (u : OpenUnit) (o : RecordOp) (bytes : List ℕ) (s : sta
       let kept_up = subst (λ (x : List ℕ). KeepsUp (unit_early n b x file (change_said o bytes)) (unit_late n b x file (change_said o bytes)) (unit_act b x file (change_said o bytes)) n) (sym asked.named.called) keeps in
       subst (λ (x : List ℕ). IsNotDone e (unit_early n b x file (change_said o bytes)) (unit_late n b x file (change_said o bytes)) (unit_act b x file (change_said o bytes)) n w.store.disk) asked.named.called
       (not_done e (unit_early n b h.name file (change_said o bytes)) (unit_late n b h.name file (change_said o bytes)) (unit_act b h.name file (change_said o bytes)) n w.store.disk
-      (λ c. rms.ChangeRefused u h o (written o bytes) c s v × (w ≡ v)) (λ down. rms.ChangeBroke u h o (written o bytes) s v w) (r h there).1
+      (λ c. rms.ChangeRefused u h o (written o bytes) c s v × SameVolume v w) (λ down. rms.ChangeBroke u h o (written o bytes) s v w) (r h there).1
       (λ c k. key_refused s v order at place u at_place n file b h log asked.up asked.unprepared asked.kept o bytes there found asked.branch one number c k.0)
       (λ down k. key_broken s v order at place u at_place n file b h log asked.up asked.unprepared asked.kept o bytes there found asked.branch one number low k.allowed w (k.key one) kept_up))

@@ -4,7 +4,7 @@ use Rattle.file_base.specs.declared.head.FileHead.{FileHead}
 use Rattle.vms_model.specs.Ids.{IsId}
 use Rattle.vms_base.specs.Ids.{tid_of}
 use Rattle.vms_base.specs.declared.ids.Tid.{Tid}
-use Rattle.volume.specs.State.{VolumeState}
+use Rattle.volume.specs.State.{SameVolume, VolumeState}
 use Rattle.record_operations.specs.Asking.{file_in, written}
 use Rattle.record_operations.specs.Causes.{Cause}
 use Rattle.record_operations.specs.declared.errors.RecErr.{RecErr}
@@ -112,5 +112,5 @@ directs_err tid clock o bytes e s log v w may r n name file asked own ticks keep
     let h = asked.head in
     let of = asked_of tid clock o s log v may n name file asked in
     subst (λ (x : List ℕ). IsNotDone e (alone_early n x file said) (alone_late n x file said) (direct_act n x file said) n w.store.disk) asked.named.called
-    (not_done e (alone_early n h.name file said) (alone_late n h.name file said) (direct_act n h.name file said) n w.store.disk (λ c. rms.DirectRefused h o (written o bytes) c s v × (w ≡ v)) (λ down. rms.DirectBroke tid clock h o (written o bytes) s v w) (r h asked.named.there)
+    (not_done e (alone_early n h.name file said) (alone_late n h.name file said) (direct_act n h.name file said) n w.store.disk (λ c. rms.DirectRefused h o (written o bytes) c s v × SameVolume v w) (λ down. rms.DirectBroke tid clock h o (written o bytes) s v w) (r h asked.named.there)
     (λ c k. refused_by tid clock o bytes s log v w n h file of c k.0) (λ down broke. broken_by tid clock o bytes s log v w n h file of broke (sym own) may.is_id ticks (moment_low tid clock o s log v may) (renamed o bytes n name file asked.head asked.named.called keeps)))

@@ -8,7 +8,7 @@ use Rattle.transcript_model.specs.Lines as line
 use Rattle.transcript_model.specs.Lines.{Line}
 use Rattle.commit_protocol.specs.Table.{Branch}
 use Rattle.vms_model.specs.Ids.{Id}
-use Rattle.volume.specs.State.{VolumeState}
+use Rattle.volume.specs.State.{SameVolume, VolumeState}
 use Rattle.log_laws.specs.Slots.{Slots}
 use Rattle.unit_table.specs.Units.{OpenUnit}
 use Rattle.record_operations.specs.Asking.{read_file_in}
@@ -120,14 +120,14 @@ module _ (u : OpenUnit) (op : ReadOp) (e : RecErr) (s : state.UnitsState) (v w :
       (locks_alike v.catalog.heads once (read_file_in op) h there n s.locks kept.locks (Some b.key.serial) (read_keys op)) (subst (λ (x : Id). locks_refuse (Some x) (read_file_in op) (read_keys op) s.locks ≡ None) own fell.0.1) in
       record { begun = (λ i. first_of (p.0 i) (first_of (p.1 i) (locks i))); disk = inl (fell_kept (seen s log) v w n down kept order.sound order.holds order.idle fell.1) }
 
-  pub read_not_done : IfRefused e (λ c. rms.ReadRefused u h op c s v × (w ≡ v)) (λ down. MayRead u h op s × FellIn down v w) →
+  pub read_not_done : IfRefused e (λ c. rms.ReadRefused u h op c s v × SameVolume v w) (λ down. MayRead u h op s × FellIn down v w) →
       IsNotDone e (unit_early n b h.name file (read_said op)) (unit_late n b h.name file (read_said op)) (unit_act b h.name file (read_said op)) n w.store.disk
   read_not_done r =
-      not_done e (unit_early n b h.name file (read_said op)) (unit_late n b h.name file (read_said op)) (unit_act b h.name file (read_said op)) n w.store.disk (λ c. rms.ReadRefused u h op c s v × (w ≡ v)) (λ down. MayRead u h op s × FellIn down v w) r
+      not_done e (unit_early n b h.name file (read_said op)) (unit_late n b h.name file (read_said op)) (unit_act b h.name file (read_said op)) n w.store.disk (λ c. rms.ReadRefused u h op c s v × SameVolume v w) (λ down. MayRead u h op s × FellIn down v w) r
       (λ c k. refused c k.0) broken
 
 pub reads_err : (u : OpenUnit) (op : ReadOp) (e : RecErr) (s : state.UnitsState) (v w : VolumeState) (log : Slots) → IsInOrder s v →
-    ((h : FileHead) → head_at v.catalog.heads (read_file_in op) ≡ Some h → IfRefused e (λ c. rms.ReadRefused u h op c s v × (w ≡ v)) (λ down. MayRead u h op s × FellIn down v w)) → calls.ReadsErr u.serial op e (seen s log) v w
+    ((h : FileHead) → head_at v.catalog.heads (read_file_in op) ≡ Some h → IfRefused e (λ c. rms.ReadRefused u h op c s v × SameVolume v w) (λ down. MayRead u h op s × FellIn down v w)) → calls.ReadsErr u.serial op e (seen s log) v w
 reads_err u op e s v w log order r n name file b asked =
     subst (λ (x : List ℕ). IsNotDone e (unit_early n b x file (read_said op)) (unit_late n b x file (read_said op)) (unit_act b x file (read_said op)) n w.store.disk) asked.named.called
     (read_not_done u op e s v w log order n file b asked.head asked.kept asked.named.there (ap (λ x. find_file x n.durable.directory) asked.named.called ∙ asked.found) (found_serial u.serial n.volatile.branches b asked.branch)
@@ -138,7 +138,7 @@ abbrev LookBy : (early late : Option Line) → Type 0 → Option Line → Type 0
 LookBy early late broken o = elim o [ Some l ↦ first_of early late ≡ Some l | None ↦ broken ]
 
 pub looks_err : (op : ReadOp) (e : RecErr) (s : state.UnitsState) (v w : VolumeState) (log : Slots) → IsInOrder s v →
-    ((h : FileHead) → head_at v.catalog.heads (read_file_in op) ≡ Some h → IfRefused e (λ c. rms.LookRefused h op c s v × (w ≡ v)) (λ down. MayLook h op s × FellIn down v w)) → calls.LooksErr op e (seen s log) v w
+    ((h : FileHead) → head_at v.catalog.heads (read_file_in op) ≡ Some h → IfRefused e (λ c. rms.LookRefused h op c s v × SameVolume v w) (λ down. MayLook h op s × FellIn down v w)) → calls.LooksErr op e (seen s log) v w
 looks_err op e s v w log order r n name file asked =
     subst (λ (x : List ℕ). LookBy (alone_early n x file (read_said op)) (alone_late n x file (read_said op)) ((alone_early n x file (read_said op) ≡ None) × HasDisk (fallen None n) w.store.disk) (calls.refusal_of e)) asked.named.called here
   where
@@ -181,7 +181,7 @@ looks_err op e s v w log order r n name file asked =
         ((λ i. first_of (one i) (first_of (alone_may file op i) (locks i))), fell_kept (seen s log) v w n down asked.kept order.sound order.holds order.idle fell.1)
 
     here : LookBy early (first_of F rest) ((early ≡ None) × HasDisk (fallen None n) w.store.disk) (calls.refusal_of e)
-    here = elim (refused_cases e (λ c. rms.LookRefused h op c s v × (w ≡ v)) (λ down. MayLook h op s × FellIn down v w) (r h asked.named.there)) [
+    here = elim (refused_cases e (λ c. rms.LookRefused h op c s v × SameVolume v w) (λ down. MayLook h op s × FellIn down v w) (r h asked.named.there)) [
       | inl x ↦ subst (LookBy early (first_of F rest) ((early ≡ None) × HasDisk (fallen None n) w.store.disk)) (sym (ap (option_map cause_line) x.1)) (refused x.0 x.2.0)
       | inr x ↦ subst (LookBy early (first_of F rest) ((early ≡ None) × HasDisk (fallen None n) w.store.disk)) (sym (ap (option_map cause_line) x.1)) (broken x.0 x.2)
     ]

@@ -3,6 +3,8 @@ use Rattle.std.proofs.Common.{◌≡◌, ℕ, ◌+◌, ◌≤◌, List, [], ◌�
 use Rattle.std.proofs.lemmas.Bool.Decides.{nat_tests}
 use Rattle.std.specs.Prelude.{option_map}
 use Rattle.file_base.specs.declared.head.FileHead.{FileHead}
+use Rattle.file_base.specs.declared.head.Organization.{Organization}
+use Rattle.record_files.specs.Any.{reads_by}
 use Rattle.transcript_model.specs.Lines as line
 use Rattle.transcript_model.specs.Lines.{Line}
 use Rattle.commit_protocol.specs.Table.{Branch}
@@ -29,6 +31,7 @@ use Rattle.recovery_units.specs.Calls as calls
 use Rattle.recovery_units.specs.Calls.{IsAsked, IsAskedAlone, IsDone, IsSeen, alone_early, alone_late, cause_line, read_said, record_line, unit_act, unit_early, unit_late}
 use Rattle.recovery_units.specs.State.{IsKept, UnitsState}
 use Rattle.recovery_units.proofs.FormLemmas.{forms}
+use Rattle.recovery_units.proofs.ReadLemmas.{kept_read}
 use Rattle.unit_world.proofs.Found.{found_by}
 use Rattle.rms_units.specs.Calls as rms
 use Rattle.rms_units.specs.State as state
@@ -137,7 +140,7 @@ module _ (place : ℕ) (u : OpenUnit) (op : ReadOp) (key : Key) (bytes : List �
       let act : Holds b.key.serial h.name (key ∷ []) ≡ unit_act b h.name file (read_said op) = ap (Holds b.key.serial h.name) (sym reads.held) ∙ sym (act_is b h.name file op) in
       let units : record (seen s log) { locks = table.with_locks b.key.serial (read_file_in op) (key ∷ []) s.locks } ≡ seen t log =
       ap (λ (x : Id). seen (rms.holding x (read_file_in op) (key ∷ []) s) log) (sym own) ∙ ap (λ (x : state.UnitsState). seen x log) (sym r.held) in
-      subst (λ (x : VolumeState). IsKept (seen t log) x (acted (unit_act b h.name file (read_said op)) n)) (sym r.same)
+      kept_read v w r.same (seen t log) (acted (unit_act b h.name file (read_said op)) n)
       (subst (λ (x : UnitsState). IsKept x v (acted (unit_act b h.name file (read_said op)) n)) units
       (subst (λ (a : Act). IsKept (record (seen s log) { locks = table.with_locks b.key.serial (read_file_in op) (key ∷ []) s.locks }) v (acted a n)) act after))
 
@@ -150,6 +153,11 @@ reads_ok place u op key bytes s v t w log order r n name file b asked =
     subst (λ (x : List ℕ). IsDone (unit_early n b x file (read_said op)) (unit_late n b x file (read_said op)) (unit_act b x file (read_said op)) (operation_answer file (read_said op)) (record_line op key bytes) n (seen t log) w) asked.named.called
     (read_done place u op key bytes s v t w log order n file b asked.head (r asked.head asked.named.there) asked.kept asked.named.there (ap (λ x. find_file x n.durable.directory) asked.named.called ∙ asked.found)
     (found_serial u.serial n.volatile.branches b asked.branch))
+
+-- A read of a key of an indexed file reads no more blocks than there are in one bucket of each level.
+pub reads_few : (op : ReadOp) (v w : VolumeState) → ((h : FileHead) → head_at v.catalog.heads (read_file_in op) ≡ Some h → rms.ReadsFew h op v w) → calls.ReadsFew op v w
+reads_few (read.Get f key) v w few = λ h there indexed. subst (λ (o : Organization). w.store.reads ≤ v.store.reads + reads_by o h) indexed (few h there)
+reads_few (read.Next f after) v w few = tt
 
 -- A record was looked at.
 pub looks_ok : (op : ReadOp) (key : Key) (bytes : List ℕ) (s : state.UnitsState) (v w : VolumeState) (log : Slots) → IsInOrder s v → ((h : FileHead) → head_at v.catalog.heads (read_file_in op) ≡ Some h → rms.LooksOk h op key bytes s v w) →

@@ -48,7 +48,7 @@ use Rattle.node_units.proofs.Earliest.{first_by}
 use Rattle.node_units.proofs.Falling.{same_some}
 use Rattle.node_units.proofs.Standing.{entries_stand}
 use Rattle.node_units.proofs.Telling.{AreTold, IsTold, unit_shown, units_told}
-use Rattle.node_units.proofs.Undoing.{AreWhere, IsOfPrepared, Stage, active_next, active_none, all_next, counted, earliest_told, entered, fails_before, fails_last, fails_on_the_way, next_stage, nobody, relocked_next, rows_for, stay_next}
+use Rattle.node_units.proofs.Undoing.{AreWhere, IsOfPrepared, Stage, active_next, active_none, all_next, counted, earliest_told, entered, fails_before, fails_last, fails_on_the_way, next_stage, nobody, relocked_next, rows_for, stage_read, stay_next}
 
 -- The nodes and the settlements of a restart.
 
@@ -229,7 +229,7 @@ module _ (clock most size : ℕ) (us : List UnitTold) (v : VolumeState) (n : Nod
   taken_on zero mid out h =
       let none : most ≡ most + 0 = omega arith in (
         record {
-          stage = subst (λ (k : ℕ). Stage clock k size n us mid n) none (subst (λ (x : VolumeState). Stage clock most size n us x n) (sym h.0) begun);
+          stage = subst (λ (k : ℕ). Stage clock k size n us mid n) none (stage_read clock most size n us v mid n h.0 begun);
           told = ap (map told_of) h.1;
           rest = refl;
           places = where_first n us;

@@ -4,7 +4,9 @@ use Rattle.std.specs.Prelude.{is_some, nat_le, option_map, unwrap_or}
 use Rattle.std.specs.Option.{IfSome}
 use Rattle.std.specs.List.{AllByRecursion}
 use Rattle.std.proofs.lemmas.Bool.{both_ways, false_from_ne_true, leb-false}
+use Rattle.careful_write.specs.Reads.{as_read_by}
 use Rattle.careful_write.specs.State.{IsEither, IsIdle, Leaves, content}
+use Rattle.careful_write.proofs.Reading.{idle_read}
 use Rattle.file_base.specs.declared.head.Span.{Span}
 use Rattle.vms_model.specs.Ids.{Id}
 use Rattle.vms_model.specs.Transactions as model
@@ -20,7 +22,7 @@ use Rattle.journal_store.proofs.Journals.{keeps_others}
 use Rattle.ru_journal.specs.Told.{UnitTold, find_unit as find_told}
 use Rattle.volume.specs.declared.catalog.Catalog.{Catalog}
 use Rattle.volume.specs.Catalogs.{IsSound, TellsCatalog}
-use Rattle.volume.specs.State.{Holds, VolumeState}
+use Rattle.volume.specs.State.{Holds, SameVolume, VolumeState}
 use Rattle.volume_format.specs.declared.home.Ending.TheVariants as ending
 use Rattle.volume_format.specs.declared.home.Home.{Home}
 use Rattle.unit_aborts.specs.Aborting.{MakesAbort, has_changes}
@@ -412,6 +414,27 @@ pub record Stage (clock most disk : ℕ) (n : Node) (us : List UnitTold) (v : Vo
   pub moment : v.catalog.home.greatest_moment.0 ≤ most
   pub low : v.catalog.ru.end + 48 * length us ≤ 2 ^ 62
   pub rows : AreKept (rows_for (active_units (map unit_shown us)) (counted m)) (counted m)
+
+-- it stands so on a volume that is the same but for reads
+pub stage_read : (clock most disk : ℕ) (n : Node) (us : List UnitTold) (v w : VolumeState) (m : Node) → SameVolume v w → Stage clock most disk n us v m → Stage clock most disk n us w m
+stage_read clock most disk n us v w m same s = subst (λ (x : VolumeState). Stage clock most disk n us x m) (sym same) (record {
+  content = s.content;
+  idle = idle_read v.store (as_read_by w.store v.store) refl s.idle;
+  told = s.told;
+  tells = s.tells;
+  sound = s.sound;
+  long = s.long;
+  size = s.size;
+  blocks = s.blocks;
+  leaves = s.leaves;
+  same = s.same;
+  volatile = s.volatile;
+  log = s.log;
+  units = s.units;
+  moment = s.moment;
+  low = s.low;
+  rows = s.rows;
+})
 
 -- the changes of these branches begin here in the journal of a node
 abbrev pub AreWhere : (Id → List ℕ) → Node → List UnitTold → Type 0

@@ -11,7 +11,7 @@ ghost use Rattle.unit_table.specs.Units.{OpenUnit};
 ghost use Rattle.unit_votes.specs.Logging.{HasLog, MayHave};
 ghost use Rattle.volume.specs.Catalogs.{head_at};
 ghost use Rattle.rms_units.specs.Aborting.{AbortsNot, AbortsUnit};
-ghost use Rattle.rms_units.specs.Calls.{ChangesErr, ChangesOk, ReadsErr, ReadsOk};
+ghost use Rattle.rms_units.specs.Calls.{ChangesErr, ChangesOk, ReadsErr, ReadsFew, ReadsOk};
 ghost use Rattle.rms_units.specs.State.{IsEarly, IsInOrder, unit_of};
 ghost use Rattle.rms_units.specs.Voting.{AbortsPrepared, AbortsPreparedNot, CommitsLogged, CommitsLoggedNot};
 ghost use Rattle.node_units.specs.Tokens.{is_active, is_held, is_waiting, place_in};
@@ -83,6 +83,7 @@ pub(crate) fn read_held<D: Disk>(
     ensures order { OnOk result (IsInOrder units.new volume.new) }
     ensures done { OnOk result ((u : OpenUnit) (h : HeadSaid) → unit_of (place_in token.old) units.old ≡ Some u → head_at volume.old.catalog.heads (read_file_in op.now) ≡ Some h → ReadsOk u h op.now (key_of found.new) out.new units.old volume.old units.new volume.new) }
     ensures err { IfErr result (λ e. (u : OpenUnit) (h : HeadSaid) → unit_of (place_in token.old) units.old ≡ Some u → head_at volume.old.catalog.heads (read_file_in op.now) ≡ Some h → ReadsErr u h op.now e units.old volume.old units.new volume.new) }
+    ensures reads { (h : HeadSaid) → head_at volume.old.catalog.heads (read_file_in op.now) ≡ Some h → ReadsFew h op.now volume.old volume.new }
     ensures grows { Grows 0 0 volume.old volume.new }
     ensures goes { Goes volume.old.store.disk volume.new.store.disk }
     ensures cause { IfErr result (λ e. Caused (down_in e) volume.old.store.disk volume.new.store.disk) }

@@ -1,5 +1,5 @@
 -- What a file of any organization is: by the head's organization, what its own organization says.
-use Rattle.std.specs.Prelude.{◌≡◌, ℕ, Bool, List, Option, Some}
+use Rattle.std.specs.Prelude.{◌≡◌, ℕ, ◌*◌, Bool, List, Option, Some}
 use Rattle.file_base.specs.declared.head.FileHead.{FileHead}
 use Rattle.file_base.specs.declared.head.Organization.{Organization}
 use Rattle.file_base.specs.declared.head.Organization.TheVariants.{Sequential, Relative, Indexed}
@@ -67,6 +67,12 @@ asks_by Sequential = sequential.asks
 asks_by Relative = λ h blocks size. 0
 asks_by Indexed = indexed.asks
 
+-- how many blocks a walk to a key reads at most
+abbrev pub reads_by : Organization → FileHead → ℕ
+reads_by Sequential = λ h. h.used * h.bucket
+reads_by Relative = λ h. h.bucket
+reads_by Indexed = λ h. h.levels * h.bucket
+
 -- the used buckets once the key is set to the value, while these keys are held
 abbrev pub used_by : Organization → FileHead → List (List ℕ) → (Key → Bool) → Key → Option (List ℕ) → ℕ
 used_by Sequential = λ h blocks held key value. sequential.used_after h blocks key value
@@ -132,6 +138,10 @@ room_at h = room_by h.organization h
 -- the free buckets that a record of this length asks for in the file
 abbrev pub asks : FileHead → List (List ℕ) → ℕ → ℕ
 asks h = asks_by h.organization h
+
+-- how many blocks a walk to a key of the file reads at most
+abbrev pub reads_of : FileHead → ℕ
+reads_of h = reads_by h.organization h
 
 -- the used buckets of the file once the key is set to the value, while these keys are held
 abbrev pub used_after : FileHead → List (List ℕ) → (Key → Bool) → Key → Option (List ℕ) → ℕ

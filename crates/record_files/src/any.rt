@@ -28,7 +28,7 @@ use vms_base::{Key, Record};
 pub struct AnyFile;
 
 impl RecordFile for AnyFile {
-    ghost use Rattle.record_files.specs.Any.{map_of, IsFile, IsNew, IsLaidOut, Stands, Suits, Takes, Restores, room_at, asks, used_after, layout_of, first_layout_of, Begins};
+    ghost use Rattle.record_files.specs.Any.{map_of, IsFile, IsNew, IsLaidOut, Stands, Suits, Takes, Restores, room_at, asks, used_after, reads_of, layout_of, first_layout_of, Begins};
     ghost use Rattle.record_files.specs.Local.{local_law, valid_local_law, room_local_law, layout_local_law, begins_first_law};
 
     ghost map = { map_of };
@@ -50,6 +50,8 @@ impl RecordFile for AnyFile {
     ghost asks = { asks };
 
     ghost used_after = { used_after };
+
+    ghost reads = { reads_of };
 
     ghost layout = { layout_of };
 

@@ -11,6 +11,7 @@ use vms_base::{Key, Record};
 pub struct IndexedFile;
 
 impl RecordFile for IndexedFile {
+    ghost use Rattle.std.specs.Prelude.{◌*◌};
     ghost use Rattle.indexed_file.specs.Chain.{StandsAt, Suits};
     ghost use Rattle.indexed_tree.specs.Files.{map_of, IsTreeHead, IsNewHead, Takes, Restores, room_at, asks, used_after, first_layout_of};
     ghost use Rattle.indexed_tree.specs.Rooted.{IsRooted, layout_in};
@@ -36,6 +37,8 @@ impl RecordFile for IndexedFile {
     ghost asks = { asks };
 
     ghost used_after = { used_after };
+
+    ghost reads = { λ h. h.levels * h.bucket };
 
     ghost layout = { layout_in };
 

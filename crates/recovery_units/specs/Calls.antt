@@ -1,7 +1,8 @@
 -- What the calls promise, in the words of the world: each is an act of its node, or one of the refusals of the world.
-use Rattle.std.specs.Prelude.{◌≡◌, ◌⊎◌, ℕ, zero, suc, List, [], ◌∷◌, ◌++◌, true, false, length, map, nat_lt, Option, Some, None, option_map}
+use Rattle.std.specs.Prelude.{◌≡◌, ◌⊎◌, ◌≤◌, ◌+◌, ◌*◌, ℕ, zero, suc, List, [], ◌∷◌, ◌++◌, true, false, length, map, nat_lt, Option, Some, None, option_map}
 use Rattle.block_disk.specs.Disk.{DiskState}
 use Rattle.file_base.specs.declared.head.FileHead.{FileHead}
+use Rattle.file_base.specs.declared.head.Organization.TheVariants.{Indexed}
 use Rattle.transcript_model.specs.Lines as line
 use Rattle.transcript_model.specs.Lines.{Line}
 use Rattle.script_model.specs.Statements.{Operation, Put, Update, Delete, Truncate, Get, Next}
@@ -25,7 +26,7 @@ use Rattle.unit_laws.specs.Journal.{RecoveryUnit}
 use Rattle.run_model.specs.World.{Node, File, Act, Settlement, Tables, Directs, acted, booted, fallen, find_branch, find_file, is_durable, next_id, next_moment, prepared_left, reason_of, settlement, settlement_of}
 use Rattle.run_model.specs.Operations.{first_of, refused_if, form_refused, file_full, keys_asked, keys_held, changes_of, operation_answer}
 use Rattle.run_model.specs.Answers.{is_marked, needs_unit, keys_refused, found_refused, more_changes, more_locks, journal_full, operation_act, change_limit, lock_limit, commit_settlement, left_active, unit_key}
-use Rattle.directory_model.specs.Files.{IsNamed}
+use Rattle.directory_model.specs.Files.{IsNamed, head_at}
 use Rattle.volume_model.specs.Volumes.{HasDisk, LeavesVolume}
 use Rattle.record_operations.specs.declared.ops.RecordOp.{RecordOp}
 use Rattle.record_operations.specs.declared.ops.RecordOp.TheVariants as change
@@ -198,6 +199,11 @@ LooksErr op e s v w = (n : Node) (name : List ℕ) (file : File) → IsAskedAlon
       | Some l ↦ first_of (alone_early n name file (read_said op)) (alone_late n name file (read_said op)) ≡ Some l
       | None ↦ (alone_early n name file (read_said op) ≡ None) × HasDisk (fallen None n) w.store.disk
     ]
+
+-- A read of a key of an indexed file reads no more blocks than there are in one bucket of each level of the file's tree.
+abbrev pub ReadsFew : ReadOp → VolumeState → VolumeState → Type 0
+ReadsFew (read.Get file key) v w = (h : FileHead) → head_at v.catalog.heads file ≡ Some h → h.organization ≡ Indexed → w.store.reads ≤ v.store.reads + h.levels * h.bucket
+ReadsFew (read.Next file after) v w = Unit {0}
 
 -- made and committed at once, under the id that is drawn next
 abbrev pub direct_act : Node → (name : List ℕ) → File → Operation → Act

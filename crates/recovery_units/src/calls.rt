@@ -17,10 +17,10 @@ ghost use Rattle.unit_table.specs.Units.{first_to_change};
 ghost use Rattle.std.specs.List.{AllByRecursion};
 ghost use Rattle.recovery_units.specs.declared.settled.SettledUnit.{SettledUnit as SettledSaid};
 ghost use Rattle.recovery_units.specs.State.{UnitsState, AreOfBranches, HasNoUnit, IsInOrder, IsEarly, IsNew, MayLeave, MayLog, MayVote, WorksFor, aborted, committed, has_changed_by, is_begun, serials_in, unit_of, voted, with_begun, without_begun};
-ghost use Rattle.recovery_units.specs.Calls.{ChangesOk, ChangesErr, ReadsOk, ReadsErr, LooksOk, LooksErr, DirectsOk, DirectsErr, VotesOk, VotesErr, Leaves, SettlesOk, SettlesErr, KeepsRecord, KeepsRecordNot, ForgetsRecord, ForgetsRecordNot, MayBegin, ReopensOk, ReopensErr, IsNumbered};
+ghost use Rattle.recovery_units.specs.Calls.{ChangesOk, ChangesErr, ReadsOk, ReadsErr, LooksOk, LooksErr, ReadsFew, DirectsOk, DirectsErr, VotesOk, VotesErr, Leaves, SettlesOk, SettlesErr, KeepsRecord, KeepsRecordNot, ForgetsRecord, ForgetsRecordNot, MayBegin, ReopensOk, ReopensErr, IsNumbered};
 ghost use Rattle.recovery_units.specs.Told.{nothing_told};
 ghost use Rattle.vms_model.specs.Transactions.{Reason as ReasonSaid};
-ghost use Rattle.volume.specs.State.{VolumeState as VolumeSaid};
+ghost use Rattle.volume.specs.State.{SameVolume, VolumeState as VolumeSaid};
 ghost use Rattle.recovery_units.specs.Uses.{Caused, Grows, down_of};
 
 use crate::settled::{Reopened, SettledUnit};
@@ -86,7 +86,7 @@ pub trait RecoveryUnits: Drop {
         ensures order { OnOk result (IsInOrder (state self.new) volume.new) }
         ensures serials { serials_in (state self.new) ≡ serials_in (state self.old) }
         ensures works { WorksFor (serial_of serial.now) (state self.old) (state self.new) }
-        ensures same { IfErr result (λ e. down_in e ≡ None → (state self.new ≡ state self.old) × (volume.new ≡ volume.old)) }
+        ensures same { IfErr result (λ e. down_in e ≡ None → (state self.new ≡ state self.old) × SameVolume volume.old volume.new) }
         ensures grows { Grows 0 0 volume.old volume.new }
         ensures cause { IfErr result (λ e. Caused (down_in e) volume.old.store.disk volume.new.store.disk) }
         ensures done { IfOk result (λ position. ChangesOk (serial_of serial.now) op.now bytes.now position (state self.old) volume.old (state self.new) volume.new) }
@@ -108,9 +108,10 @@ pub trait RecoveryUnits: Drop {
         ensures order { OnOk result (IsInOrder (state self.new) volume.new) }
         ensures serials { serials_in (state self.new) ≡ serials_in (state self.old) }
         ensures works { WorksFor (serial_of serial.now) (state self.old) (state self.new) }
-        ensures same { IfErr result (λ e. down_in e ≡ None → (state self.new ≡ state self.old) × (volume.new ≡ volume.old)) }
+        ensures same { IfErr result (λ e. down_in e ≡ None → (state self.new ≡ state self.old) × SameVolume volume.old volume.new) }
         ensures grows { Grows 0 0 volume.old volume.new }
         ensures cause { IfErr result (λ e. Caused (down_in e) volume.old.store.disk volume.new.store.disk) }
+        ensures reads { ReadsFew op.now volume.old volume.new }
         ensures done { OnOk result (ReadsOk (serial_of serial.now) op.now (key_of found.new) out.new (state self.old) volume.old (state self.new) volume.new) }
         ensures err { IfErr result (λ e. ReadsErr (serial_of serial.now) op.now e (state self.old) volume.old volume.new) };
 
@@ -124,10 +125,11 @@ pub trait RecoveryUnits: Drop {
     ) -> Result<(), RecErr>
         requires order { IsInOrder (state self.now) volume.old }
         requires file { (h : HeadSaid) × (head_at volume.old.catalog.heads (read_file_in op.now) ≡ Some h) }
-        ensures same { OnOk result (volume.new ≡ volume.old) }
-        ensures refused { IfErr result (λ e. down_in e ≡ None → volume.new ≡ volume.old) }
+        ensures same { OnOk result (SameVolume volume.old volume.new) }
+        ensures refused { IfErr result (λ e. down_in e ≡ None → SameVolume volume.old volume.new) }
         ensures grows { Grows 0 0 volume.old volume.new }
         ensures cause { IfErr result (λ e. Caused (down_in e) volume.old.store.disk volume.new.store.disk) }
+        ensures reads { ReadsFew op.now volume.old volume.new }
         ensures done { OnOk result (LooksOk op.now (key_of found.new) out.new (state self.now) volume.old) }
         ensures err { IfErr result (λ e. LooksErr op.now e (state self.now) volume.old volume.new) };
 
@@ -148,7 +150,7 @@ pub trait RecoveryUnits: Drop {
         requires number { IsNumbered op.now }
         ensures units { state self.new ≡ state self.old }
         ensures order { OnOk result (IsInOrder (state self.new) volume.new) }
-        ensures same { IfErr result (λ e. down_in e ≡ None → volume.new ≡ volume.old) }
+        ensures same { IfErr result (λ e. down_in e ≡ None → SameVolume volume.old volume.new) }
         ensures grows { Grows 1 clock.0 volume.old volume.new }
         ensures cause { IfErr result (λ e. Caused (down_in e) volume.old.store.disk volume.new.store.disk) }
         ensures moment { IfOk result (λ told. told.1.0 ≡ volume.new.catalog.home.greatest_moment.0) }

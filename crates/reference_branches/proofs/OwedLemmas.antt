@@ -6,7 +6,7 @@ use Rattle.log_laws.specs.Slots.{waiting_for}
 use Rattle.run_model.specs.Answers.{owed_line}
 use Rattle.tm_types.specs.Parts.{log_record_of}
 use Rattle.vms_base.specs.declared.protocol.LogRec.{LogRec}
-use Rattle.reference_world.proofs.ChangeLemmas.{behind_first, parts}
+use Rattle.reference_index.proofs.ListLemmas.{behind_first, parts}
 
 module _ (rm : Name) (rs : List LogRec) (r : LogRec) (some : 1 ≤ length rs) (is : r ≡ get_or rs 0 r) where
   by_first : (t : Bool) → list_any (λ x. same_name x rm) (log_record_of r).rms ≡ t →

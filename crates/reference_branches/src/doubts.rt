@@ -13,7 +13,8 @@ ghost use Rattle.reference_branches.specs.Branches.{sent_alone as sent_alone_sai
 
 use crate::states::is_prepared;
 use net_wire::Message;
-use reference_world::{BranchKey, push_front, take_first};
+use reference_index::{push_front, take_first};
+use reference_world::BranchKey;
 use std::alloc::{AllocError, Global};
 use tm_types::{BranchState, Effect, same_id};
 use vms_base::{Id, Kind, Serial, Tid};

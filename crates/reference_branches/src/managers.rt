@@ -12,8 +12,9 @@ ghost use Rattle.reference_world.specs.Standing.{line_of, standing_of};
 ghost use Rattle.reference_branches.specs.Managers.{known_of};
 
 use crate::states::is_working;
+use reference_index::{push_front, take_first};
 use reference_records::refused_if;
-use reference_world::{BranchKey, Line, Quota, Standing, push_front, take_first};
+use reference_world::{BranchKey, Line, Quota, Standing};
 use std::alloc::{AllocError, Global};
 use tm_types::{BranchState, State, answers as is_answer, has_rm, same_rm};
 use vms_base::{LogRec, Reply, RmEvent, RmName};

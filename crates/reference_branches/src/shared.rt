@@ -12,7 +12,8 @@ ghost use Rattle.reference_world.specs.Standing.{branch_key_of, label_of, line_o
 ghost use Rattle.reference_branches.specs.Branches.{shared_of, nothing_shared};
 
 use net_wire::Message;
-use reference_world::{BranchKey, LabelEntry, Line, push_back, push_front, take_first};
+use reference_index::{push_back, push_front, take_first};
+use reference_world::{BranchKey, LabelEntry, Line};
 use script_lang::Request;
 use std::alloc::{AllocError, Global};
 use std::mem::replace;

@@ -10,7 +10,7 @@ use Rattle.vms_base.specs.declared.protocol.LogRec.{LogRec}
 use Rattle.tm_types.specs.Parts.{log_record_of}
 use Rattle.reference_world.specs.declared.world.File.{File}
 use Rattle.reference_world.specs.Standing.{directory_of}
-use Rattle.reference_world.proofs.ChangeLemmas.{behind_first, parts}
+use Rattle.reference_index.proofs.ListLemmas.{behind_first, parts}
 use Rattle.reference_disk.specs.Disks.{log_records_of}
 
 -- the files that are kept have no journals of images

@@ -10,17 +10,18 @@ ghost use Rattle.run_model.specs.Answers as answers;
 ghost use Rattle.run_model.specs.World as world;
 ghost use Rattle.vms_base.specs.Ids.{id_of};
 ghost use Rattle.tm_types.specs.Parts.{log_record_of};
-ghost use Rattle.reference_world.specs.Standing.{branch_key_of, key_of, lent_value, value_of, history_of, file_of, directory_of, locks_of, settlement_of, line_of};
+ghost use Rattle.reference_index.specs.Standing.{key_of, lent_value, value_of, locks_of};
+ghost use Rattle.reference_world.specs.Standing.{branch_key_of, history_of, file_of, directory_of, settlement_of, line_of};
 ghost use Rattle.reference_units.specs.Entries.{entry_of, entries_of, units_of};
 ghost use Rattle.run_model.specs.Locks.{with_locks as with_locks_said};
 ghost use Rattle.reference_disk.specs.Disks.{durable_of, disk_node, key_with, log_records_of, slots_of, one_line};
 
 use crate::disk::Durable;
 use crate::log::{committed_in, count_committed, prepared_in};
+use reference_index::{Key, Lock, push_front, take_first};
 use reference_units::{JournalEntry, Unit, active_units, units_in, with_locks};
 use reference_world::{
-    BranchKey, File, Key, Line, Lock, Organization, Settlement, find_file, find_row, push_front,
-    records_of, same_id, take_first,
+    BranchKey, File, Line, Organization, Settlement, find_file, find_row, records_of, same_id,
 };
 use std::alloc::{AllocError, Global};
 use vms_base::{FileName, Id, LogRec};

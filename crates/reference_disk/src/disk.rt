@@ -13,7 +13,8 @@ ghost use Rattle.run_model.specs.Rows.{zeros};
 ghost use Rattle.run_model.specs.Steps.{lines_of_rows, node_after_rows};
 ghost use Rattle.vms_base.specs.Ids.{id_of};
 ghost use Rattle.tm_types.specs.Parts.{log_record_of};
-ghost use Rattle.reference_world.specs.Standing.{branch_key_of, key_of, changes_of, settlement_of, file_of, locks_of, line_of};
+ghost use Rattle.reference_index.specs.Standing.{key_of, changes_of, locks_of};
+ghost use Rattle.reference_world.specs.Standing.{branch_key_of, settlement_of, file_of, line_of};
 ghost use Rattle.reference_units.specs.Entries.{journal_of};
 ghost use Rattle.reference_records.specs.Operations.{asked_of};
 ghost use Rattle.reference_disk.specs.Disks.{durable_of, node_on, disk_node, after_creation, holding, logged_tid, slots_of};
@@ -21,14 +22,15 @@ ghost use Rattle.reference_disk.specs.Disks.{durable_of, node_on, disk_node, aft
 use crate::files::{Told, is_for_units, new_file, show_records, told_of};
 use crate::forms::blocks_for;
 use crate::log::{empty_log, forgotten, tid_of, with_record};
+use reference_index::{Change, Lock};
 use reference_records::Asked;
 use reference_units::{
     Journal, empty_journal, journal_shown, with_changes, with_prepared, with_settled,
     without_settled,
 };
 use reference_world::{
-    BranchKey, Change, File, FileChange, Line, Lock, Settlement, Volume, empty_places, find_file,
-    free_place, one, settled_files, with_file,
+    BranchKey, File, FileChange, Line, Settlement, Volume, empty_places, find_file, free_place,
+    one, settled_files, with_file,
 };
 use script_lang::{Form, Setting};
 use std::alloc::{AllocError, Global};

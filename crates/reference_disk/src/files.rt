@@ -8,15 +8,14 @@ ghost use Rattle.run_model.specs.Answers as answers;
 ghost use Rattle.run_model.specs.Answers.{shown_record};
 ghost use Rattle.run_model.specs.Operations as operations;
 ghost use Rattle.run_model.specs.Steps.{lines_of_rows};
-ghost use Rattle.reference_world.specs.Standing.{key_of, changes_of, history_of, organization_of, layout_of, file_of, line_of};
+ghost use Rattle.reference_index.specs.Standing.{key_of, changes_of, layout_of};
+ghost use Rattle.reference_world.specs.Standing.{history_of, organization_of, file_of, line_of};
 ghost use Rattle.reference_records.specs.Operations.{asked_of};
 
 use crate::forms::buckets_for;
+use reference_index::{Change, Key, Layout, Leaf, no_layout, push_front};
 use reference_records::{Asked, changes_asked, keys_held, operation_answer};
-use reference_world::{
-    Change, File, Key, Layout, Leaf, Line, Organization, no_layout, push_front, records_of,
-    rows_shown,
-};
+use reference_world::{File, Line, Organization, records_of, rows_shown};
 use script_lang::{Form, Setting};
 use std::alloc::{AllocError, Global};
 use vms_base::FileName;

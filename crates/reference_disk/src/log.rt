@@ -8,7 +8,8 @@ ghost use Rattle.tm_types.specs.Parts.{log_kind_of, log_record_of};
 ghost use Rattle.reference_world.specs.Standing.{line_of};
 ghost use Rattle.reference_disk.specs.Disks.{logged_tid, slots_of};
 
-use reference_world::{Line, push_front, take_first};
+use reference_index::{push_front, take_first};
+use reference_world::Line;
 use std::alloc::{AllocError, Global};
 use tm_types::same_id;
 use vms_base::{Id, LogKind, LogRec};

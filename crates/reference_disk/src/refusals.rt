@@ -4,13 +4,15 @@ ghost use Rattle.unit_laws.specs.Journal.{end_of as end_said};
 ghost use Rattle.run_model.specs.Answers as answers;
 ghost use Rattle.run_model.specs.Operations as operations;
 ghost use Rattle.run_model.specs.World as world;
-ghost use Rattle.reference_world.specs.Standing.{branch_key_of, changes_of, is_unmade as is_unmade_of, serials_of, line_of};
+ghost use Rattle.reference_index.specs.Standing.{changes_of};
+ghost use Rattle.reference_world.specs.Standing.{branch_key_of, is_unmade as is_unmade_of, serials_of, line_of};
 ghost use Rattle.reference_units.specs.Entries.{entries_of, journal_of};
 ghost use Rattle.reference_records.specs.Operations.{asked_of};
 ghost use Rattle.reference_disk.specs.Disks.{durable_of, node_on, disk_node, branch_with, first_changed, need_of};
 
 use crate::disk::Durable;
 use crate::forms::{area_size, area_start};
+use reference_index::Change;
 use reference_records::{
     Asked, changes_asked, file_full, first_of, form_refused, is_change, refused_if,
 };
@@ -18,8 +20,8 @@ use reference_units::{
     JournalEntry, changes_made, end_of, entries_for, entries_size, free_bytes, owed_first, units_in,
 };
 use reference_world::{
-    BranchKey, Change, Line, Quota, Runs, Volume, find_file, first_to_change, free_place,
-    free_runs, records_of,
+    BranchKey, Line, Quota, Runs, Volume, find_file, first_to_change, free_place, free_runs,
+    records_of,
 };
 use std::alloc::{AllocError, Global};
 use vms_base::{FileName, Id, NodeName};

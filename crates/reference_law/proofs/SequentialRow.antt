@@ -29,7 +29,7 @@ use Rattle.reference_law.specs.Rows.{alone, fed, base_shown, SequentialFileIsTru
 use Rattle.reference_law.proofs.DigitLemmas.{digit_1, digit_2, digit_3, digit_4, digit_5, digit_6, digit_7, digit_8, digit_9, ten, eleven, twelve, thirteen, fourteen, fifteen, sixteen, seventeen, first_moment, second_moment}
 use Rattle.reference_world.proofs.EntryLemmas.{no_entries, one_entry}
 use Rattle.reference_world.proofs.ChangeLemmas.{entries_removed}
-use Rattle.reference_world.specs.Lists.{is_other}
+use Rattle.reference_world.specs.Rows.{is_other}
 use Rattle.reference_law.proofs.RunLemmas.{says, told}
 use Rattle.reference_law.proofs.RowLemmas.{told_first, first_id, first_branch, first_label, one_drawn, ended_at, file_at, node_at, world_of, line_said, rest, done, settlement, second_id, second_branch, both_labels, two_drawn}
 

@@ -20,7 +20,7 @@ use Rattle.reference_world.specs.Standing.{line_of}
 use Rattle.reference_world.specs.declared.line.Line.{Line}
 use Rattle.reference_disk.specs.Disks.{one_line}
 use Rattle.reference_node.specs.Telling.{AllTellable, Applies, AppliesAll, HasTime, IsTellable, MayApply, Tells, done_by, with_records, with_tm}
-use Rattle.reference_world.proofs.ChangeLemmas.{behind_first, parts}
+use Rattle.reference_index.proofs.ListLemmas.{behind_first, parts}
 use Rattle.reference_node.proofs.KeyLemmas.{after_as, row_as}
 use Rattle.reference_node.proofs.Viewing.{acknowledge_still, release_still}
 

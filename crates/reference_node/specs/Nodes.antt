@@ -7,7 +7,8 @@ use Rattle.run_model.specs.Answers.{Service}
 use Rattle.run_model.specs.Steps.{lines_of_rows, node_after, node_after_rows, shared_then, shared_after_rows}
 use Rattle.run_model.specs.World as world
 use Rattle.run_model.specs.Locks.{released}
-use Rattle.reference_world.specs.Standing.{branch_key_of, locks_of, settlement_of, is_unmade, call_of, line_of}
+use Rattle.reference_index.specs.Standing.{locks_of}
+use Rattle.reference_world.specs.Standing.{branch_key_of, settlement_of, is_unmade, call_of, line_of}
 use Rattle.reference_disk.specs.Disks.{durable_of}
 use Rattle.reference_world.specs.declared.line.Line.{Line}
 use Rattle.script_lang.specs.declared.statement.Request.{Request}

@@ -17,8 +17,9 @@ ghost use Rattle.reference_node.specs.Telling.{HasTime, Restarts};
 use crate::node::Node;
 use crate::table::with_line;
 use reference_disk::keys_of_records;
+use reference_index::{append, push_back, push_front};
 use reference_units::Unit;
-use reference_world::{BranchKey, Line, append, push_back, push_front};
+use reference_world::{BranchKey, Line};
 use std::alloc::{AllocError, Global};
 use world_laws::nodes_stay_kept;
 

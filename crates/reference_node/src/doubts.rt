@@ -17,7 +17,8 @@ ghost use Rattle.reference_branches.specs.Branches.{sent_alone as sent_alone_sai
 use crate::node::Node;
 use net_wire::Message;
 use reference_branches::{arranged, is_prepared, key_of, prepared_serials, question, sent_alone};
-use reference_world::{BranchKey, push_front};
+use reference_index::push_front;
+use reference_world::BranchKey;
 use std::alloc::{AllocError, Global};
 use tm_types::{BranchState, Effects, Event};
 use vms_base::Id;

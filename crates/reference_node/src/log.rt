@@ -7,7 +7,8 @@ ghost use Rattle.reference_node.specs.Nodes.{Does, node_of};
 
 use crate::node::Node;
 use reference_disk::{count_free, count_prepared, record_lines};
-use reference_world::{Line, one, push_back};
+use reference_index::push_back;
+use reference_world::{Line, one};
 use std::alloc::{AllocError, Global};
 
 impl Node {

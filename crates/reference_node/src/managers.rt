@@ -22,8 +22,9 @@ use reference_branches::{
     Known, Shared, awaited_reply, has_joined, is_among, join_refused, known_branch, known_manager,
     names_without, owed_lines, standing,
 };
+use reference_index::push_back;
 use reference_records::{first_of, refused_if};
-use reference_world::{Line, Quota, one, push_back};
+use reference_world::{Line, Quota, one};
 use script_lang::Named;
 use std::alloc::{AllocError, Global};
 use std::mem::replace;

@@ -10,7 +10,8 @@ ghost use Rattle.reference_node.specs.Telling.{HasTime};
 
 use reference_branches::key_of;
 use reference_disk::Durable;
-use reference_world::{BranchKey, DiskCall, Lock, Settlement, push_front};
+use reference_index::{Lock, push_front};
+use reference_world::{BranchKey, DiskCall, Settlement};
 use std::alloc::{AllocError, Global};
 use tm_table::Tm;
 use vms_base::{Id, NodeName, RmName};

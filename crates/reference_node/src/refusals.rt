@@ -12,7 +12,8 @@ ghost use Rattle.run_model.specs.Operations as operations;
 ghost use Rattle.run_model.specs.World as world;
 ghost use Rattle.vms_base.specs.Ids.{id_of};
 ghost use Rattle.tm_types.specs.Branches.{branch_of as branch_said};
-ghost use Rattle.reference_world.specs.Standing.{key_of as key_said, serials_of, line_of};
+ghost use Rattle.reference_index.specs.Standing.{key_of as key_said};
+ghost use Rattle.reference_world.specs.Standing.{serials_of, line_of};
 ghost use Rattle.reference_units.specs.Entries.{journal_of};
 ghost use Rattle.reference_records.specs.Operations.{asked_of};
 ghost use Rattle.reference_node.specs.Nodes.{node_of, IsPlain};
@@ -23,11 +24,12 @@ use reference_branches::{
     Shared, Wanted, held_against, key_of, more_managers, new_label, unsettled, wrong_state,
 };
 use reference_disk::{blocks_for, is_file_form, is_volume_form, is_within};
+use reference_index::Key;
 use reference_records::{
     Asked, asked_by, data_refused, first_of, keys_asked, keys_found, keys_held, refused_if,
 };
 use reference_units::{holder, new_locks};
-use reference_world::{BranchKey, Key, Line, Quota, find_file, records_of};
+use reference_world::{BranchKey, Line, Quota, find_file, records_of};
 use script_lang::{Form, Literals, Named, Request};
 use std::alloc::{AllocError, Global};
 use tm_types::BranchState;

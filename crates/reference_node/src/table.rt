@@ -25,8 +25,9 @@ ghost use Rattle.reference_node.specs.Telling.{AllTellable, Applies, AppliesAll,
 
 use crate::node::Node;
 use reference_branches::Shared;
+use reference_index::{push_back, push_front};
 use reference_units::released;
-use reference_world::{BranchKey, Line, Settlement, WrittenMoment, push_back, push_front, same_id};
+use reference_world::{BranchKey, Line, Settlement, WrittenMoment, same_id};
 use std::alloc::{AllocError, Global};
 use std::mem::replace;
 use tm_types::{Effect, Effects, Event};

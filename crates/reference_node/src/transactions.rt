@@ -22,7 +22,8 @@ ghost use Rattle.reference_node.specs.Telling.{CanTell, HasTime, TellsThen, answ
 
 use crate::node::Node;
 use reference_branches::Shared;
-use reference_world::{LabelEntry, Line, one, push_back, push_front};
+use reference_index::{push_back, push_front};
+use reference_world::{LabelEntry, Line, one};
 use script_lang::Named;
 use std::alloc::{AllocError, Global};
 use tm_types::{BranchState, Child, Event, Manager};

@@ -5,7 +5,8 @@ use Rattle.records_model.specs.Placing as placing
 use Rattle.run_model.specs.Operations.{in_order}
 use Rattle.reference_world.specs.declared.world.File.{File}
 use Rattle.reference_world.specs.declared.world.Row.{Row}
-use Rattle.reference_world.specs.Standing.{lent_key, file_of, entry_of}
+use Rattle.reference_index.specs.Standing.{lent_key}
+use Rattle.reference_world.specs.Standing.{file_of, entry_of}
 use Rattle.reference_records.specs.declared.asked.Asked.{Asked}
 use Rattle.reference_records.specs.declared.asked.Asked.TheVariants as asked
 use Rattle.reference_records.specs.declared.records.Filled.{Filled}

@@ -1,10 +1,10 @@
 // What a statement asks of the records of a file, with its bytes.
 ghost use Rattle.std.specs.Prelude.{◌≡◌, ℕ, List};
 ghost use Rattle.script_lang.specs.Statements.{key_in, operation_of};
-ghost use Rattle.reference_world.specs.Standing.{lent_key};
+ghost use Rattle.reference_index.specs.Standing.{lent_key};
 ghost use Rattle.reference_records.specs.Operations.{asked_of};
 
-use reference_world::KeyRef;
+use reference_index::KeyRef;
 use script_lang::{KeyWord, Literals, Operation};
 
 /// What is asked of the records of a file.

@@ -5,15 +5,14 @@ ghost use Rattle.tree_model.specs.Layouts as layouts;
 ghost use Rattle.tree_model.specs.Layouts.{index_size};
 ghost use Rattle.run_model.specs.Operations as operations;
 ghost use Rattle.run_model.specs.World.{capacity as capacity_of};
-ghost use Rattle.reference_world.specs.Standing.{lent_key, lent_value, change_of, changes_of, organization_of, index_of, layout_of, file_of, entry_of, line_of};
+ghost use Rattle.reference_index.specs.Standing.{lent_key, lent_value, change_of, changes_of, index_of, layout_of};
+ghost use Rattle.reference_world.specs.Standing.{organization_of, file_of, entry_of, line_of};
 ghost use Rattle.reference_records.specs.Operations.{asked_of, filled_of, AreRowsOf};
 
 use crate::asked::Asked;
 use crate::forms::refused_if;
-use reference_world::{
-    Change, File, Key, KeyRef, Level, Line, Organization, Row, capacity, find_row, own_value,
-    push_front,
-};
+use reference_index::{Change, Key, KeyRef, Level, own_value, push_front};
+use reference_world::{File, Line, Organization, Row, capacity, find_row};
 use std::alloc::{AllocError, Global};
 
 /// The elements behind the first so many.

@@ -24,9 +24,10 @@ ghost use Rattle.reference_run.specs.Served.{AllHave, AreTimely, IsDone, IsFit, 
 
 use net_wire::Message;
 use reference_branches::Shared;
+use reference_index::{append, push_back, push_front, take_first};
 use reference_node::Node;
 use reference_tasks::{Task, TaskShown, perform, serve};
-use reference_world::{BranchKey, Line, append, one, push_back, push_front, take_first};
+use reference_world::{BranchKey, Line, one};
 use script_lang::{Literals, Request, Statement};
 use std::alloc::{AllocError, Global};
 use std::mem::replace;

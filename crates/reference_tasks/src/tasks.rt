@@ -15,8 +15,9 @@ ghost use Rattle.reference_tasks.specs.Serving.{HasUnits};
 
 use net_wire::Message;
 use reference_branches::Shared;
+use reference_index::{append, push_back};
 use reference_node::Node;
-use reference_world::{BranchKey, Line, append, one, push_back};
+use reference_world::{BranchKey, Line, one};
 use std::alloc::{AllocError, Global};
 use tm_types::Event;
 use vms_base::{Kind, Moment, NodeName, Outcome};

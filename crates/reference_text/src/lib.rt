@@ -11,12 +11,14 @@ ghost use Rattle.transcript_model.specs.Lines as model;
 ghost use Rattle.net_wire.specs.Messages.{kind_of, message_of};
 ghost use Rattle.transcript_model.specs.Lines.{branch_text, message_text, kind_text, bid_text, ids_text, quoted_time, quota_text, image_text, outcome_text, list_text, event_text, record_text, standing_text, line_words, line_text, lines_text};
 ghost use Rattle.vms_base.specs.Ids.{id_of, serial_of};
-ghost use Rattle.reference_world.specs.Standing.{key_of, value_of, line_of, quota_of, standing_of};
+ghost use Rattle.reference_index.specs.Standing.{key_of, value_of};
+ghost use Rattle.reference_world.specs.Standing.{line_of, quota_of, standing_of};
 ghost use Rattle.tm_types.specs.Parts.{log_record_of, rm_event_of};
 
 use itoa::Buffer;
 use net_wire::Message;
-use reference_world::{BranchKey, Key, Line, Quota, Standing, WrittenMoment};
+use reference_index::Key;
+use reference_world::{BranchKey, Line, Quota, Standing, WrittenMoment};
 use std::alloc::AllocError;
 use vms_base::{
     FileName, Id, Kind, LogKind, LogRec, Moment, NodeName, Outcome, Reason, RmEvent, RmName,

@@ -4,9 +4,9 @@ use Rattle.std.specs.Prelude.{ℕ, map, cond}
 use Rattle.vms_model.specs.Ids.{Id}
 use Rattle.vms_model.specs.Keys.{Key}
 use Rattle.run_model.specs.Locks.{Lock, is_locked, not_locked}
-use Rattle.reference_world.specs.declared.keys.Key.{Key as Owned}
-use Rattle.reference_world.specs.Standing.{key_of}
-use Rattle.reference_world.proofs.ChangeLemmas.{behind_first, parts}
+use Rattle.reference_index.specs.declared.keys.Key.{Key as Owned}
+use Rattle.reference_index.specs.Standing.{key_of}
+use Rattle.reference_index.proofs.ListLemmas.{behind_first, parts}
 
 -- the lock of a key
 abbrev pub taken : (file : List ℕ) → (serial : Id) → Key → Lock

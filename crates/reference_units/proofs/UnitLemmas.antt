@@ -2,7 +2,7 @@
 use Rattle.std.proofs.Common.{◌≡◌, ◌≤◌, List, [], ◌∷◌, Bool, false, sym, ap, ◌∙◌, length, get_or}
 use Rattle.std.specs.Prelude.{cond}
 use Rattle.unit_laws.specs.Journal.{RecoveryUnit, active_units}
-use Rattle.reference_world.proofs.ChangeLemmas.{behind_first, parts}
+use Rattle.reference_index.proofs.ListLemmas.{behind_first, parts}
 use Rattle.reference_units.specs.declared.units.Unit.{Unit}
 use Rattle.reference_units.specs.Entries.{unit_of, units_of}
 

@@ -5,7 +5,7 @@ use Rattle.vms_model.specs.Transactions.{Outcome}
 use Rattle.vms_base.specs.Outcomes.{outcome_of}
 use Rattle.unit_laws.specs.Journal as model
 use Rattle.vms_base.specs.Ids.{id_of}
-use Rattle.reference_world.specs.Standing.{key_of, value_of}
+use Rattle.reference_index.specs.Standing.{key_of, value_of}
 use Rattle.reference_units.specs.declared.journal.JournalEntry.{JournalEntry}
 use Rattle.reference_units.specs.declared.journal.JournalEntry.TheVariants as entry
 use Rattle.reference_units.specs.declared.journal.Journal.{Journal}

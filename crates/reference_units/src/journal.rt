@@ -3,15 +3,16 @@ ghost use Rattle.std.specs.Prelude.{◌≡◌, ◌+◌, ◌^◌, ◌≤◌, ◌<
 ghost use Rattle.unit_laws.specs.Journal as model;
 ghost use Rattle.vms_base.specs.Outcomes.{outcome_of};
 ghost use Rattle.vms_base.specs.Ids.{id_of};
-ghost use Rattle.reference_world.specs.Standing.{key_of, value_of, changes_of, outcome_by};
+ghost use Rattle.reference_index.specs.Standing.{key_of, value_of, changes_of};
+ghost use Rattle.reference_world.specs.Standing.{outcome_by};
 ghost use Rattle.reference_units.specs.Entries.{entry_of, entries_of, journal_of, units_of, entered, prepared_in};
 
 use crate::sizes::entries_size;
 use crate::units::{Unit, find_unit, units_in};
-use reference_world::{
-    BranchKey, Change, Key, Settlement, WrittenMoment, append, lend_value, own_value, push_back,
-    push_front, take_first,
+use reference_index::{
+    Change, Key, append, lend_value, own_value, push_back, push_front, take_first,
 };
+use reference_world::{BranchKey, Settlement, WrittenMoment};
 use std::alloc::{AllocError, Global};
 use vms_base::{FileName, Outcome};
 

@@ -2,11 +2,10 @@
 ghost use Rattle.std.specs.Prelude.{◌≡◌, ◌≤◌, List, map, length, option_map, IfOk};
 ghost use Rattle.run_model.specs.Locks as locks;
 ghost use Rattle.vms_base.specs.Ids.{id_of};
-ghost use Rattle.reference_world.specs.Standing.{key_of, lent_key, lock_of as lock_said, locks_of};
+ghost use Rattle.reference_index.specs.Standing.{key_of, lent_key, lock_of as lock_said, locks_of};
 
-use reference_world::{
-    Key, KeyRef, Lock, append, is_lock_of, is_locked, push_front, same_id, take_first,
-};
+use reference_index::{Key, KeyRef, Lock, append, is_lock_of, is_locked, push_front, take_first};
+use reference_world::same_id;
 use std::alloc::{AllocError, Global};
 use vms_base::{FileName, Id};
 

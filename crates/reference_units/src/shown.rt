@@ -8,7 +8,8 @@ ghost use Rattle.reference_units.specs.Entries.{entry_of, entries_of, journal_of
 
 use crate::journal::{Journal, JournalEntry};
 use crate::sizes::entry_size;
-use reference_world::{Line, lend_value, one, own_value, push_front};
+use reference_index::{lend_value, own_value, push_front};
+use reference_world::{Line, one};
 use std::alloc::{AllocError, Global};
 
 // The line of an entry.

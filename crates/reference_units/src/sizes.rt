@@ -4,12 +4,12 @@ ghost use Rattle.records_model.specs.Slots.{size_of};
 ghost use Rattle.unit_laws.specs.Journal as model;
 ghost use Rattle.run_model.specs.Answers as answers;
 ghost use Rattle.vms_base.specs.Ids.{id_of};
-ghost use Rattle.reference_world.specs.Standing.{key_of, value_of};
+ghost use Rattle.reference_index.specs.Standing.{key_of, value_of};
 ghost use Rattle.reference_units.specs.Entries.{entry_of, entries_of, journal_of, unit_of, units_of};
 
 use crate::journal::{Journal, JournalEntry};
 use crate::units::{Unit, find_unit};
-use reference_world::Key;
+use reference_index::Key;
 use vms_base::Id;
 
 fn key_size(key: &Key) -> u64

@@ -6,7 +6,8 @@ ghost use Rattle.vms_base.specs.Ids.{id_of};
 ghost use Rattle.reference_units.specs.Entries.{entry_of, entries_of, unit_of, units_of, counted};
 
 use crate::journal::JournalEntry;
-use reference_world::{BranchKey, push_front, same_id, take_first};
+use reference_index::{push_front, take_first};
+use reference_world::{BranchKey, same_id};
 use std::alloc::{AllocError, Global};
 use vms_base::Id;
 

@@ -1,7 +1,6 @@
 -- Changes of records, and what stands after them.
-use Rattle.std.proofs.Common.{◌≡◌, ℕ, ◌≤◌, List, [], ◌∷◌, Bool, true, false, Some, None, refl, sym, ◌∙◌, ap, arith, length, get_or, drop, Result, Ok, Err, IfOk}
-use Rattle.std.specs.Prelude.{◌-◌, take, cond, not}
-use Rattle.std.proofs.lemmas.Grind.{common_steps}
+use Rattle.std.proofs.Common.{◌≡◌, ℕ, ◌≤◌, List, Bool, true, false, Some, None, refl, sym, ◌∙◌, ap, length, get_or}
+use Rattle.std.specs.Prelude.{cond, not}
 use Rattle.std.specs.Ordering.{eq_by_cmp, is_eq}
 use Rattle.std.specs.Cmp.{alike_right, eq_by_cmp_equiv}
 use Rattle.std.specs.FinMap.{get-remove, remove, entries, entries-insert, entries_sorted, get-entries}
@@ -9,9 +8,10 @@ use Rattle.std.specs.FinMap.Entries.{put, find, where_key, is_sorted-where_key, 
 use Rattle.vms_model.specs.Keys.{Key}
 use Rattle.records_model.specs.Records.{Records, key_cmp, applied, set_key}
 use Rattle.records_model.proofs.KeyLemmas.{key_cmp_total, key_cmp-IsAntisymmetric}
-use Rattle.reference_world.specs.declared.world.Change.{Change}
-use Rattle.reference_world.specs.Lists.{is_other}
-use Rattle.reference_world.specs.Standing.{changes_of, key_of, value_of}
+use Rattle.reference_index.specs.declared.changes.Change.{Change}
+use Rattle.reference_index.specs.Standing.{changes_of, key_of, value_of}
+use Rattle.reference_index.proofs.ListLemmas.{behind_first, parts}
+use Rattle.reference_world.specs.Rows.{is_other}
 
 turned : {A : Type 0} (b : Bool) (x y : A) → cond (not b) x y ≡ cond b y x
 turned true x y = refl
@@ -29,23 +29,7 @@ entries_removed m k = same_entries key_cmp key_cmp_total key_cmp-IsAntisymmetric
 pub entries_put : (m : Records) (k : Key) (v : List ℕ) → put key_cmp k v (entries m) ≡ entries (set_key m k (Some v))
 entries_put m k v = sym (entries-insert key_cmp_total m k v)
 
--- what is behind the first of a list
-abbrev pub behind_first : {A : Type 0} → List A → List A
-behind_first xs = take (length xs - 1) (drop 1 xs)
-
-behind_is : {A : Type 0} (x : A) (xs : List A) → behind_first (x ∷ xs) ≡ xs
-behind_is x xs = grind (arith, common_steps)
-
--- a list with a first element
-pub parts : {A : Type 0} (xs : List A) (x : A) → 1 ≤ length xs → x ≡ get_or xs 0 x → xs ≡ x ∷ behind_first xs
-parts [] x some is = absurd (omega arith)
-parts (y ∷ xs) x some is = ap (λ z. z ∷ xs) (sym is) ∙ ap (λ ys. x ∷ ys) (sym (behind_is y xs))
-
 -- records after changes, by the first of them
 pub first_set : (cs : List Change) (c : Change) (m : Records) → 1 ≤ length cs → c ≡ get_or cs 0 c →
     set_key (applied (changes_of (behind_first cs)) m) (key_of c.key) (value_of c.after) ≡ applied (changes_of cs) m
 first_set cs c m some is = ap (λ xs. applied (changes_of xs) m) (sym (parts cs c some is))
-
-pub if_ok_so : {T E : Type 0} {P Q : T → Type 0} (r : Result T E) → IfOk r P → ((x : T) → P x → Q x) → IfOk r Q
-if_ok_so (Ok x) p f = f x p
-if_ok_so (Err e) p f = tt

@@ -16,11 +16,12 @@ use Rattle.run_model.specs.World as world
 use Rattle.run_model.specs.World.{settled_layout}
 use Rattle.reference_world.specs.declared.world.File.{File}
 use Rattle.reference_world.specs.declared.world.LiveChanges.{LiveChanges}
-use Rattle.reference_world.specs.declared.world.Layout.{Layout}
-use Rattle.reference_world.specs.declared.world.Sizes.{Sizes}
+use Rattle.reference_index.specs.declared.layouts.Layout.{Layout}
+use Rattle.reference_index.specs.declared.layouts.Sizes.{Sizes}
 use Rattle.reference_world.specs.declared.world.BranchKey.{BranchKey}
-use Rattle.reference_world.specs.Standing.{live_of, layout_of, history_of, file_of, serials_of, organization_of, sizes_of}
-use Rattle.reference_world.proofs.ChangeLemmas.{behind_first, parts}
+use Rattle.reference_index.specs.Standing.{layout_of, sizes_of}
+use Rattle.reference_world.specs.Standing.{live_of, history_of, file_of, serials_of, organization_of}
+use Rattle.reference_index.proofs.ListLemmas.{behind_first, parts}
 
 pub set_is : (f : File) (held : Key → Bool) (serial : Id) (cs : List Change) (live : Vec LiveChanges Global) (layout : Layout) (sizes : Sizes) →
     sizes.capacity ≡ 512 * f.bucket - 16 → sizes.fan_out ≡ (512 * f.bucket - 16) / (world.key_size_of (organization_of f.organization) + 4) →

@@ -7,7 +7,8 @@ use Rattle.reference_world.specs.declared.directory.FileChange.{FileChange}
 use Rattle.reference_world.specs.declared.directory.FileChange.TheVariants as change
 use Rattle.reference_world.specs.declared.directory.Runs.{Runs}
 use Rattle.vms_base.specs.Ids.{id_of}
-use Rattle.reference_world.specs.Standing.{changes_of, settlement_of}
+use Rattle.reference_index.specs.Standing.{changes_of}
+use Rattle.reference_world.specs.Standing.{settlement_of}
 
 -- the change of a file, while these keys of it are held
 abbrev pub file_change_of : (held : Key → Bool) → FileChange → world.File → world.File

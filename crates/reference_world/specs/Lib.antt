@@ -1,4 +1,4 @@
-pub mod Lists
+pub mod Rows
 pub mod Histories
 pub mod Standing
 pub mod Directories

@@ -1,7 +1,5 @@
 -- What the code's values stand for.
-use Rattle.std.specs.Prelude.{ℕ, Bool, true, false, List, Option, Some, None, map, option_map, Vec}
-use Rattle.std.specs.Borrow.{Bor}
-use Rattle.std.specs.declared.alloc.Global.{Global}
+use Rattle.std.specs.Prelude.{ℕ, Bool, true, false, List, Option, Some, None, map, option_map}
 use Rattle.std.specs.FinMap.{empty}
 use Rattle.vms_model.specs.Ids.{Id}
 use Rattle.vms_model.specs.Keys as key
@@ -9,33 +7,18 @@ use Rattle.vms_model.specs.Transactions as settled
 use Rattle.vms_base.specs.Ids.{id_of}
 use Rattle.vms_base.specs.Outcomes.{outcome_of, reason_of}
 use Rattle.vms_base.specs.declared.outcomes.Reason.{Reason}
-use Rattle.records_model.specs.Records as records
-use Rattle.records_model.specs.Slots as slots
-use Rattle.tree_model.specs.Layouts as layouts
 use Rattle.records_model.specs.History as history
 use Rattle.transcript_model.specs.Lines as model
 use Rattle.run_model.specs.World as world
-use Rattle.run_model.specs.Locks as locks
 use Rattle.commit_protocol.specs.Table as table
 use Rattle.net_wire.specs.Messages.{message_of}
 use Rattle.tm_types.specs.Parts.{rm_event_of, log_record_of}
+use Rattle.reference_index.specs.Standing.{value_of, key_of, lent_key, changes_of, layout_of}
 use Rattle.reference_world.specs.declared.world.BranchKey.{BranchKey}
-use Rattle.reference_world.specs.declared.keys.Key.{Key}
-use Rattle.reference_world.specs.declared.keys.Key.TheVariants as owned
-use Rattle.reference_world.specs.declared.keys.KeyRef.{KeyRef}
-use Rattle.reference_world.specs.declared.keys.KeyRef.TheVariants as lent
-use Rattle.reference_world.specs.declared.world.Change.{Change}
 use Rattle.reference_world.specs.declared.world.Organization.{Organization}
 use Rattle.reference_world.specs.declared.world.Organization.TheVariants as organization
-use Rattle.reference_world.specs.declared.world.Slot.{Slot}
-use Rattle.reference_world.specs.declared.world.Bucket.{Bucket}
-use Rattle.reference_world.specs.declared.world.Leaf.{Leaf}
-use Rattle.reference_world.specs.declared.world.Level.{Level}
-use Rattle.reference_world.specs.declared.world.Layout.{Layout}
-use Rattle.reference_world.specs.declared.world.Sizes.{Sizes}
 use Rattle.reference_world.specs.declared.world.LiveChanges.{LiveChanges}
 use Rattle.reference_world.specs.declared.world.SettledChanges.{SettledChanges}
-use Rattle.reference_world.specs.declared.world.Lock.{Lock}
 use Rattle.reference_world.specs.declared.world.File.{File}
 use Rattle.reference_world.specs.declared.world.LabelEntry.{LabelEntry}
 use Rattle.reference_world.specs.declared.world.Settlement.{Settlement}
@@ -58,30 +41,6 @@ branch_key_of k = record { tid = id_of k.tid; serial = id_of k.serial }
 abbrev pub serials_of : List BranchKey → List Id
 serials_of ks = map (λ (k : BranchKey). id_of k.serial) ks
 
--- the bytes of a record, where there is one
-abbrev pub value_of : Option (Vec ℕ Global) → Option (List ℕ)
-value_of v = option_map (λ bytes. bytes.items) v
-
--- the same, where they lie elsewhere
-abbrev pub lent_value : Option (Bor (List ℕ)) → Option (List ℕ)
-lent_value v = option_map (λ bytes. bytes.now) v
-
-abbrev pub key_of : Key → key.Key
-key_of (owned.Number n) = key.Number n
-key_of (owned.Text bytes) = key.Text bytes.items
-key_of owned.End = key.End
-
-abbrev pub lent_key : KeyRef → key.Key
-lent_key (lent.Number n) = key.Number n
-lent_key (lent.Text bytes) = key.Text bytes.now
-lent_key lent.End = key.End
-
-abbrev pub change_of : Change → records.Change
-change_of c = record { key = key_of c.key; before = value_of c.before; after = value_of c.after }
-
-abbrev pub changes_of : List Change → List records.Change
-changes_of cs = map change_of cs
-
 abbrev pub live_of : LiveChanges → history.LiveChanges
 live_of l = record { serial = id_of l.serial; changes = changes_of l.changes.items }
 
@@ -96,40 +55,6 @@ abbrev pub organization_of : Organization → world.Organization
 organization_of organization.Sequential = world.Sequential
 organization_of (organization.Relative greatest) = world.Relative greatest
 organization_of (organization.Indexed position size) = world.Indexed position size
-
-abbrev pub slot_of : Slot → slots.Slot
-slot_of s = record { key = s.key.items; room = s.room; value = value_of s.value }
-
-abbrev pub slots_of : List Slot → List slots.Slot
-slots_of ss = map slot_of ss
-
-abbrev pub bucket_of : Bucket → List slots.Slot
-bucket_of b = slots_of b.slots.items
-
-abbrev pub chain_of : List Bucket → List (List slots.Slot)
-chain_of bs = map bucket_of bs
-
-abbrev pub leaf_of : Leaf → layouts.Leaf
-leaf_of b = record { lowest = b.lowest.items; slots = slots_of b.slots.items }
-
-abbrev pub leaves_of : List Leaf → List layouts.Leaf
-leaves_of bs = map leaf_of bs
-
-abbrev pub index_of : List Level → List (List ℕ)
-index_of ls = map (λ (l : Level). l.children.items) ls
-
-abbrev pub layout_of : Layout → layouts.Layout
-layout_of l = record { leaves = leaves_of l.leaves.items; index = index_of l.index.items }
-
-abbrev pub sizes_of : Sizes → layouts.Sizes
-sizes_of s = record { capacity = s.capacity; fan_out = s.fan_out }
-
--- a key that a branch holds
-abbrev pub lock_of : Lock → locks.Lock
-lock_of l = record { file = l.file; key = key_of l.key; by = id_of l.by }
-
-abbrev pub locks_of : List Lock → List locks.Lock
-locks_of ls = map lock_of ls
 
 -- a file carries nothing for its recovery
 abbrev pub file_of : File → world.File

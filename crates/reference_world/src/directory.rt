@@ -5,14 +5,14 @@ ghost use Rattle.run_model.specs.World.{extents_of};
 ghost use Rattle.run_model.specs.Extents as extents;
 ghost use Rattle.run_model.specs.Locks.{is_locked};
 ghost use Rattle.vms_base.specs.Ids.{id_of};
-ghost use Rattle.reference_world.specs.Standing.{changes_of, file_of, directory_of, organization_of, settlement_of, locks_of};
+ghost use Rattle.reference_index.specs.Standing.{changes_of, locks_of};
+ghost use Rattle.reference_world.specs.Standing.{file_of, directory_of, organization_of, settlement_of};
 ghost use Rattle.reference_world.specs.Directories.{file_change_of, IsRuns};
 
 use crate::history::{settled_file, with_changes};
-use crate::leaves::layout_changed;
-use crate::lists::{push_front, take_first};
 use crate::moment::WrittenMoment;
-use crate::world::{BranchKey, Change, File, Lock, Organization, Settlement, Sizes, no_layout};
+use crate::world::{BranchKey, File, Organization, Settlement};
+use reference_index::{Change, Lock, Sizes, layout_changed, no_layout, push_front, take_first};
 use std::alloc::{AllocError, Global};
 use std::cmp::max;
 use std::mem::replace;

@@ -4,15 +4,12 @@ ghost use Rattle.vms_base.specs.Outcomes.{outcome_of};
 ghost use Rattle.records_model.specs.History as history;
 ghost use Rattle.run_model.specs.World as world;
 ghost use Rattle.vms_base.specs.Ids.{id_of};
-ghost use Rattle.reference_world.specs.Standing.{lent_key, change_of, changes_of, live_of, history_of, layout_of, file_of, serials_of, settlement_of};
+ghost use Rattle.reference_index.specs.Standing.{change_of, changes_of, layout_of};
+ghost use Rattle.reference_world.specs.Standing.{live_of, history_of, file_of, serials_of, settlement_of};
 ghost use Rattle.reference_world.specs.Histories.{only_live};
 
-use crate::keys::KeyRef;
-use crate::leaves::layout_restored;
-use crate::lists::{push_front, take_first};
-use crate::world::{
-    BranchKey, Change, File, Layout, LiveChanges, SettledChanges, Settlement, no_layout,
-};
+use crate::world::{BranchKey, File, LiveChanges, SettledChanges, Settlement};
+use reference_index::{Change, Layout, layout_restored, no_layout, push_front, take_first};
 use std::alloc::{AllocError, Global};
 use std::mem::replace;
 use vms_base::{Id, Outcome};
@@ -23,16 +20,6 @@ pub fn same_id(a: &Id, b: &Id) -> bool
     ensures one { result ≡ true → a.now ≡ b.now }
 {
     a.node.bytes() == b.node.bytes() && a.boot == b.boot && a.seq == b.seq
-}
-
-/// Whether one of these changes is of this key.
-pub fn changes_key(changes: &[Change], key: KeyRef<'_>) -> bool
-    ensures { result ≡ history.changes_key (lent_key key.entry) (changes_of changes.now) }
-{
-    match changes {
-        [] => false,
-        [c, rest @ ..] => key.is(c.key.lend()) || changes_key(rest, key),
-    }
 }
 
 // Whether an unsettled branch made changes.

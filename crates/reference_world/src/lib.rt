@@ -4,15 +4,8 @@
 mod directory;
 mod dump;
 mod history;
-mod index;
-mod keys;
-mod leaves;
 mod line;
-mod lists;
-mod locks;
 mod moment;
-mod parts;
-mod slots;
 mod world;
 
 pub use directory::{
@@ -21,13 +14,6 @@ pub use directory::{
 };
 pub use dump::{find_row, records_of, rows_shown};
 pub use history::{first_to_change, same_id};
-pub use keys::{Key, KeyRef};
 pub use line::{Line, Quota, Standing, one};
-pub use lists::{append, push_back, push_front, take_first};
-pub use locks::{is_lock_of, is_locked};
 pub use moment::WrittenMoment;
-pub use slots::{lend_value, own_value};
-pub use world::{
-    BranchKey, Bucket, Change, DiskCall, File, LabelEntry, Layout, Leaf, Level, Lock, Organization,
-    Row, Settlement, Sizes, Slot, Volume, no_layout,
-};
+pub use world::{BranchKey, DiskCall, File, LabelEntry, Organization, Row, Settlement, Volume};

@@ -2,10 +2,10 @@
 ghost use Rattle.std.specs.Prelude.{◌≡◌, List, [], ◌∷◌, map, IfOk};
 ghost use Rattle.reference_world.specs.Standing.{line_of};
 
-use crate::keys::Key;
 use crate::moment::WrittenMoment;
 use crate::world::BranchKey;
 use net_wire::Message;
+use reference_index::Key;
 use std::alloc::{AllocError, Global};
 use vms_base::{FileName, Id, LogRec, NodeName, Outcome, Reason, RmEvent, RmName};
 

@@ -1,12 +1,10 @@
 // What the statements so far have made of the node.
 ghost use Rattle.std.specs.Prelude.{◌≡◌};
 ghost use Rattle.vms_base.specs.Outcomes.{outcome_of};
-ghost use Rattle.tree_model.specs.Layouts as layouts;
-ghost use Rattle.reference_world.specs.Standing.{layout_of, outcome_by};
+ghost use Rattle.reference_world.specs.Standing.{outcome_by};
 
-use crate::keys::{Key, KeyRef};
 use crate::moment::WrittenMoment;
-use std::alloc::Global;
+use reference_index::{Change, KeyRef, Layout};
 use vms_base::{FileName, Id, Label, NodeName, Outcome, Reason};
 
 /// A branch: its transaction, and its serial.
@@ -14,14 +12,6 @@ use vms_base::{FileName, Id, Label, NodeName, Outcome, Reason};
 pub struct BranchKey {
     pub tid: Id,
     pub serial: Id,
-}
-
-/// A key that was set from one record to another; None is no record.
-#[derive(Drop)]
-pub struct Change {
-    pub key: Key,
-    pub before: Option<Vec<u8>>,
-    pub after: Option<Vec<u8>>,
 }
 
 /// What an unsettled branch changed of a file, the newest first.
@@ -47,65 +37,6 @@ pub enum Organization {
     Sequential,
     Relative { greatest: u32 },
     Indexed { position: u32, size: u32 },
-}
-
-/// A slot of an indexed file: its key, its room in bytes, and its record where it has one.
-#[derive(Drop)]
-pub struct Slot {
-    pub key: Vec<u8>,
-    pub room: usize,
-    pub value: Option<Vec<u8>>,
-}
-
-/// The slots of a bucket, in the order of their keys.
-#[derive(Drop)]
-pub struct Bucket {
-    pub slots: Vec<Slot>,
-}
-
-/// A leaf of an indexed file: the lowest key that it may hold, and its slots in the order of their keys.
-#[derive(Drop)]
-pub struct Leaf {
-    pub lowest: Vec<u8>,
-    pub slots: Vec<Slot>,
-}
-
-/// A level of an index: to how many buckets of the level below it each of its buckets leads.
-#[derive(Drop)]
-pub struct Level {
-    pub children: Vec<u64>,
-}
-
-/// The leaves of an indexed file in the order of their keys, and the levels of the index over them, from the lowest one up. Other files have neither.
-#[derive(Drop)]
-pub struct Layout {
-    pub leaves: Vec<Leaf>,
-    pub index: Vec<Level>,
-}
-
-/// The layout of a file that is not indexed.
-pub fn no_layout(alloc: Global) -> Layout
-    ensures { layout_of result ≡ layouts.no_layout }
-{
-    Layout {
-        leaves: Vec::new(alloc),
-        index: Vec::new(alloc),
-    }
-}
-
-/// The bytes of a file's buckets for slots, and how many entries an index bucket holds.
-#[derive(Clone, Copy, Drop)]
-pub struct Sizes {
-    pub capacity: u64,
-    pub fan_out: u64,
-}
-
-/// A key of a file, or a sequential file's end, which an unsettled branch holds.
-#[derive(Drop)]
-pub struct Lock {
-    pub file: FileName,
-    pub key: Key,
-    pub by: Id,
 }
 
 /// A file. Settled branches stand newest first, unsettled ones oldest first.

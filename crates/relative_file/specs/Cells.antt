@@ -1,5 +1,6 @@
 -- The cells of a relative file, and the map that they mean.
 use Rattle.std.specs.Prelude.{◌≡◌, ◌≤◌, ◌<◌, ℕ, ◌+◌, ◌-◌, ◌*◌, ◌/◌, ◌%◌, ◌&&◌, ◌++◌, Bool, true, List, [], ◌∷◌, length, take, drop, replicate, Option, Some, None, IfSome, option_map, if◌then◌else◌, nat_le, min, slice_index, bytes_eq}
+use Rattle.careful_write.specs.Reads.{SameButReads}
 use Rattle.careful_write.specs.State.{StoreState}
 use Rattle.file_base.specs.declared.head.FileHead.{FileHead}
 use Rattle.file_base.specs.declared.head.Organization.TheVariants.{Relative}
@@ -104,10 +105,10 @@ pub record WritesCell (h : FileHead) (n : ℕ) (value : List ℕ) (old new : Sto
   pub bytes : List ℕ
   pub is : IfSome old.current (λ b. take (512 * h.bucket) bytes ≡ spliced (bucket_at h b (first_of h n)) (place_of h n) (cell_of h.mrs value))
   pub long : IfSome old.current (λ b. length (bucket_at h b (first_of h n)) ≡ 512 * h.bucket)
-  pub state : new ≡ record old {
+  pub state : SameButReads (record old {
     current = option_map (λ b. with_bucket bytes b (first_of h n) h.bucket) old.current;
     touched = with_numbers (518 + first_of h n) h.bucket old.touched;
-  }
+  }) new
 
 -- a key and a value of a relative file
 abbrev pub Suits : FileHead → Key → Option (List ℕ) → Type 0

@@ -1,6 +1,7 @@
 //! A bucket of a file: a header, and cells behind it.
 ghost use Rattle.std.specs.Prelude.{◌↔◌, ◌≡◌, ◌≤◌, ◌+◌, ◌-◌, ◌*◌, List, IsTrue, Some, OnOk, IfSome, length, take};
 ghost use Rattle.careful_write.specs.Down.{answered};
+ghost use Rattle.careful_write.specs.Reads.{SameButReads};
 ghost use Rattle.frame_pool.specs.Pool.{IsOut};
 ghost use Rattle.change_set.specs.Buckets.{frame_of, with_frame, LiesInHome};
 ghost use Rattle.byteorder.specs.Endian.{little_bytes};
@@ -96,7 +97,8 @@ pub(crate) fn read_bucket<D: Disk>(
     requires one { 1 ≤ head.now.bucket }
     requires blocks { head.now.bucket ≤ 16 }
     requires records { head.now.mrs + 32 ≤ 512 * head.now.bucket }
-    ensures state { store.new ≡ with_frame frame.now (frame_of store.new.pool frame.now) (record store.old { disk = answered result store.old.disk }) }
+    ensures state { SameButReads (with_frame frame.now (frame_of store.new.pool frame.now) (record store.old { disk = answered result store.old.disk })) store.new }
+    ensures reads { store.new.reads ≤ store.old.reads + head.now.bucket }
     ensures out { IsOut store.new.pool frame.now }
     ensures read { OnOk result (IfSome store.old.current (λ blocks. take (512 * head.now.bucket) (frame_of store.new.pool frame.now) ≡ bucket_at head.now blocks (first - 518))) }
 {

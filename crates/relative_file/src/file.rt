@@ -2,6 +2,7 @@
 ghost use Rattle.std.specs.Prelude.{◌≡◌, ◌≤◌, ◌<◌, ◌+◌, ◌-◌, ◌*◌, ◌/◌, ◌^◌, ℕ, List, Bool, true, false, Option, Some, None, length, OnOk, OnErr, IfOk, IfSome, IfNone, option_map, unwrap_or, slice_set};
 ghost use Rattle.std.specs.Option.{option_copied};
 ghost use Rattle.careful_write.specs.Down.{answered};
+ghost use Rattle.careful_write.specs.Reads.{SameButReads};
 ghost use Rattle.frame_pool.specs.Pool.{IsOut};
 ghost use Rattle.file_base.specs.Bytes.{piece_at, spliced};
 ghost use Rattle.change_set.specs.Buckets.{frame_of, with_frame, bucket_bytes, with_bucket, with_numbers};
@@ -50,7 +51,8 @@ pub(crate) fn get_cell<D: Disk>(
     requires frames { 1 ≤ free_frames store.old.pool }
     ensures found { IfOk result (λ found. found ≡ true → IfSome store.old.current (λ blocks. record_in head.now.mrs (cell_at head.now blocks n) ≡ Some out.new)) }
     ensures absent { IfOk result (λ found. found ≡ false → IfSome store.old.current (λ blocks. record_in head.now.mrs (cell_at head.now blocks n) ≡ None)) }
-    ensures state { store.new ≡ record store.old { disk = answered result store.old.disk } }
+    ensures state { SameButReads (record store.old { disk = answered result store.old.disk }) store.new }
+    ensures reads { store.new.reads ≤ store.old.reads + head.now.bucket }
 {
     let (first, place) = cell_place(head, n);
     let frame = take_frame(store);
@@ -90,7 +92,7 @@ pub(crate) fn set_cell<D: Disk>(
     requires holds { length value.now ≤ head.now.mrs }
     requires room { length store.old.touched + head.now.bucket ≤ 512 }
     ensures ok { OnOk result (WritesCell head.now n value.now store.old store.new) }
-    ensures err { OnErr result (store.new ≡ record store.old { disk = answered result store.old.disk }) }
+    ensures err { OnErr result (SameButReads (record store.old { disk = answered result store.old.disk }) store.new) }
     ensures whole { IfSome store.old.current (λ blocks. length blocks + 518 ≡ store.old.disk.size) }
 {
     let (first, place) = cell_place(head, n);
@@ -136,7 +138,7 @@ fn next_in_bucket<D: Disk>(
     ensures found { IfOk result (λ found. IfSome found (λ m. IfSome store.old.current (FindsCell head.now (n - 1) m out.new))) }
     ensures none { IfOk result (λ found. IfNone found (IfSome store.old.current (λ b. NoneFrom head.now b (n - 1) (last_in head.now n)))) }
     ensures there { IfOk result (λ found. IfSome found (λ m. (n ≤ m) × (m ≤ head.now.mrn))) }
-    ensures state { store.new ≡ record store.old { disk = answered result store.old.disk } }
+    ensures state { SameButReads (record store.old { disk = answered result store.old.disk }) store.new }
 {
     let (first, _) = cell_place(head, n);
     let from = (n - 1) % cells(head);
@@ -173,7 +175,7 @@ pub(crate) fn next_cell<D: Disk>(
     ensures found { IfOk result (λ found. IfSome found (λ n. IfSome store.old.current (FindsCell head.now after n out.new))) }
     ensures none { IfOk result (λ found. IfNone found (IfSome store.old.current (λ b. NoneFrom head.now b after head.now.mrn))) }
     ensures there { IfOk result (λ found. IfSome found (λ n. (after + 1 ≤ n) × (n ≤ head.now.mrn))) }
-    ensures state { store.new ≡ record store.old { disk = answered result store.old.disk } }
+    ensures state { SameButReads (record store.old { disk = answered result store.old.disk }) store.new }
 {
     let mut n = after;
     while n < head.mrn {

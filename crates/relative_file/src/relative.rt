@@ -85,6 +85,8 @@ impl RecordFile for RelativeFile {
 
     ghost used_after = { λ h blocks held key value. h.used };
 
+    ghost reads = { λ h. h.bucket };
+
     ghost layout = { λ h blocks. no_layout };
 
     ghost first_layout = { λ h. no_layout };

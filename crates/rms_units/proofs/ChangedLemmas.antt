@@ -1,9 +1,10 @@
 -- A change of one key, from what refuses it not and what is made.
-use Rattle.std.proofs.Common.{◌≡◌, ℕ, List, [], Option, Some, None, true, refl, ap, subst, ◌∙◌, inl}
+use Rattle.std.proofs.Common.{◌≡◌, ℕ, Bool, List, [], Option, Some, None, true, length, option_map, refl, ap, subst, ◌∙◌, inl}
 use Rattle.std.specs.Prelude.{is_some, unwrap_or}
-use Rattle.careful_write.specs.State.{IsReady, OneContent}
+use Rattle.careful_write.specs.State.{IsReady, OneContent, content}
 use Rattle.careful_write.specs.declared.down.Down.{Down}
 use Rattle.file_base.specs.declared.head.FileHead.{FileHead}
+use Rattle.journal_model.specs.Entries.{Entry, spelling}
 use Rattle.record_files.specs.Any.{IsFile, IsLaidOut}
 use Rattle.record_locks.specs.Locks.{Lock, holder, with_locks}
 use Rattle.record_operations.specs.declared.errors.RecErr.{RecErr}
@@ -11,6 +12,7 @@ use Rattle.record_operations.specs.Causes.{Cause, IfRefused, down_in}
 use Rattle.unit_journal.specs.Groups.{Breaks, Caused, Goes, Grows}
 use Rattle.unit_journal.specs.Leaving.{FellIn}
 use Rattle.unit_journal.specs.Settling.{next_moment}
+use Rattle.unit_journal.specs.Spans.{entered, longer}
 use Rattle.unit_journal.proofs.Breaking.{fell_old}
 use Rattle.unit_journal.proofs.Falling.{fell_caused, fell_goes, same_goes}
 use Rattle.unit_journal.proofs.Growing.{fell_grows, grows_nowhere}
@@ -18,39 +20,72 @@ use Rattle.unit_table.specs.Units.{OpenUnit, has_changed, with_position, with_un
 use Rattle.vms_base.specs.declared.ids.Tid.{Tid}
 use Rattle.vms_model.specs.Ids.{Id}
 use Rattle.vms_model.specs.Keys.{Key}
-use Rattle.volume.specs.State.{VolumeState}
+use Rattle.volume.specs.State.{SameVolume, VolumeState}
+use Rattle.volume_files.specs.Staging.{TellsSet}
+use Rattle.volume_files.proofs.StagingLemmas.{stages_read}
+use Rattle.unit_votes.proofs.Settled.{breaks_from}
 use Rattle.rms_units.specs.declared.asked.KeyChange.{KeyChange}
 use Rattle.rms_units.specs.Calls.{ChangesKey, CommitsChange, KeyBroke, MakesEntry, MakesKey, change_late, direct_late}
+use Rattle.unit_journal.specs.Entries.{change_entry}
 use Rattle.rms_units.specs.Changing.{after_change, before_change, keys_asked, locks_refuse}
-use Rattle.rms_units.specs.Making.{CommitsKey}
+use Rattle.rms_units.specs.Making.{CommitsKey, EntersKey}
 use Rattle.unit_cuts.specs.Records.{OfRecords}
 use Rattle.rms_units.specs.State.{UnitsState}
-use Rattle.unit_cuts.proofs.Outcomes.{breaks_so}
 use Rattle.rms_units.proofs.Refusing.{either_way, refused_so}
 
 -- What a call leaves that was refused, or in which the disk went down before anything was written.
-module _ (e : RecErr) (P : Cause → Type 0) (E : Type 0) (v w : VolumeState) (is : IfRefused e (λ cause. P cause × (w ≡ v)) (λ down. E × FellIn down v w)) where
+module _ (e : RecErr) (P : Cause → Type 0) (E : Type 0) (v w : VolumeState) (is : IfRefused e (λ cause. P cause × SameVolume v w) (λ down. E × FellIn down v w)) where
   pub refused_grows : (settlements clock : ℕ) → Grows settlements clock v w
-  refused_grows settlements clock = either_way e (λ cause. P cause × (w ≡ v)) (λ down. E × FellIn down v w) (λ _. Grows settlements clock v w) is
+  refused_grows settlements clock = either_way e (λ cause. P cause × SameVolume v w) (λ down. E × FellIn down v w) (λ _. Grows settlements clock v w) is
       (λ cause x. grows_nowhere settlements clock v w (ap (λ (y : VolumeState). y.catalog) x.1)) (λ down x. fell_grows settlements clock down v w x.1)
 
   pub refused_goes : Goes v.store.disk w.store.disk
-  refused_goes = either_way e (λ cause. P cause × (w ≡ v)) (λ down. E × FellIn down v w) (λ _. Goes v.store.disk w.store.disk) is (λ cause x. same_goes v w x.1) (λ down x. fell_goes down v w x.1)
+  refused_goes = either_way e (λ cause. P cause × SameVolume v w) (λ down. E × FellIn down v w) (λ _. Goes v.store.disk w.store.disk) is (λ cause x. same_goes v w x.1) (λ down x. fell_goes down v w x.1)
 
   pub refused_caused : Caused (down_in e) v.store.disk w.store.disk
-  refused_caused = either_way e (λ cause. P cause × (w ≡ v)) (λ down. E × FellIn down v w) (λ d. Caused d v.store.disk w.store.disk) is (λ cause x. tt) (λ down x. fell_caused down v w x.1)
+  refused_caused = either_way e (λ cause. P cause × SameVolume v w) (λ down. E × FellIn down v w) (λ d. Caused d v.store.disk w.store.disk) is (λ cause x. tt) (λ down x. fell_caused down v w x.1)
 
   pub refused_pool : w.store.pool ≡ v.store.pool
-  refused_pool = either_way e (λ cause. P cause × (w ≡ v)) (λ down. E × FellIn down v w) (λ _. w.store.pool ≡ v.store.pool) is (λ cause x. ap (λ (y : VolumeState). y.store.pool) x.1) (λ down x. ap (λ (y : VolumeState). y.store.pool) x.1)
+  refused_pool = either_way e (λ cause. P cause × SameVolume v w) (λ down. E × FellIn down v w) (λ _. w.store.pool ≡ v.store.pool) is (λ cause x. ap (λ (y : VolumeState). y.store.pool) x.1) (λ down x. ap (λ (y : VolumeState). y.store.pool) x.1)
 
   -- nothing was made then
-  pub refused_breaks : (Q : Cause → Type 0) (M : VolumeState → Type 0) (B : Type 0) → OneContent → IsReady v.store → ((cause : Cause) → P cause → Q cause) → (E → Breaks M v w → B) → IfRefused e (λ cause. Q cause × (w ≡ v)) (λ down. B)
-  refused_breaks Q M B one ready so broke = refused_so e (λ cause. P cause × (w ≡ v)) (λ cause. Q cause × (w ≡ v)) (λ down. E × FellIn down v w) (λ down. B) is
+  pub refused_breaks : (Q : Cause → Type 0) (M : VolumeState → Type 0) (B : Type 0) → OneContent → IsReady v.store → ((cause : Cause) → P cause → Q cause) → (E → Breaks M v w → B) → IfRefused e (λ cause. Q cause × SameVolume v w) (λ down. B)
+  refused_breaks Q M B one ready so broke = refused_so e (λ cause. P cause × SameVolume v w) (λ cause. Q cause × SameVolume v w) (λ down. E × FellIn down v w) (λ down. B) is
       (λ cause x. (so cause x.0, x.1)) (λ down x. broke x.0 (inl (fell_old down v v w one ready refl x.1)))
 
+-- What is made of a volume is made of one that is the same but for reads.
+module _ (v x : VolumeState) (same : SameVolume v x) where
+  same_content : content x.store ≡ content v.store
+  same_content = ap (λ (y : VolumeState). content y.store) same
+
+  enters_from : (file : ℕ) (h : FileHead) (held : Key → Bool) (key : Key) (after : Option (List ℕ)) (e : Entry) (w : VolumeState) → EntersKey file h held key after e x w → EntersKey file h held key after e v w
+  enters_from file h held key after e w m = record {
+    entry = m.entry;
+    set = m.set;
+    head = m.head;
+    stages = stages_read file h m.head 417 v x m.set same m.stages;
+    sets = subst (λ (y : VolumeState). TellsSet h held key after y m.set m.head) same m.sets;
+    current = subst (λ (y : VolumeState). w.store.current ≡ option_map (entered y.catalog.ru (spelling e)) m.set.store.current) same m.current;
+    catalog = subst (λ (y : VolumeState). w.catalog ≡ record m.set.catalog { ru = longer (length (spelling e)) y.catalog.ru }) same m.catalog;
+  }
+
+  commits_from : (file : ℕ) (h : FileHead) (held : Key → Bool) (key : Key) (after : Option (List ℕ)) (tid : Tid) (moment : ℕ) (left : List (Option OpenUnit)) (w : VolumeState) →
+      CommitsKey file h held key after tid moment left x w → CommitsKey file h held key after tid moment left v w
+  commits_from file h held key after tid moment left w m = record {
+    set = m.set;
+    head = m.head;
+    stages = stages_read file h m.head 417 v x m.set same m.stages;
+    sets = subst (λ (y : VolumeState). TellsSet h held key after y m.set m.head) same m.sets;
+    settles = m.settles;
+  }
+
 -- A change by a unit. What is written and where it is made are told by what they are equal to.
-module _ (u : OpenUnit) (file : ℕ) (h : FileHead) (how : KeyChange) (key : Key) (value told found : List ℕ) (s : UnitsState) (v x w : VolumeState) (is : told ≡ value) (same : x ≡ v)
+module _ (u : OpenUnit) (file : ℕ) (h : FileHead) (how : KeyChange) (key : Key) (value told found : List ℕ) (s : UnitsState) (v x w : VolumeState) (is : told ≡ value) (same : SameVolume v x)
     (had : OfRecords h v (λ m. before_change how (unwrap_or (m key) []) ≡ before_change how found)) where
+  entry : (made : VolumeState) → MakesEntry u file h how key told found s.locks x made → MakesEntry u file h how key value found s.locks v made
+  entry made m = subst (λ (b : List ℕ). MakesEntry u file h how key b found s.locks v made) is
+      (enters_from v x same file h (λ k. is_some (holder s.locks file k)) key (after_change how told) (change_entry u.tid u.serial file key (before_change how found)) made m)
+
   pub changed : (place : ℕ) (by : Id) (t : UnitsState) → by ≡ u.serial → locks_refuse (Some by) file (keys_asked h how key) s.locks ≡ None →
       ((a : List (List ℕ)) → v.store.current ≡ Some a → IsFile h → IsLaidOut h a → change_late u file h how key value s v a ≡ None) → MakesEntry u file h how key told found s.locks x w →
       t.units ≡ with_unit place (with_position x.catalog.ru.end file u) s.units → has_changed (with_position x.catalog.ru.end file u) file ≡ true → t.locks ≡ with_locks by file (keys_asked h how key) s.locks → ChangesKey place u file h how key value s v t w
@@ -60,7 +95,7 @@ module _ (u : OpenUnit) (file : ℕ) (h : FileHead) (how : KeyChange) (key : Key
       late = late;
       found = found;
       had = had;
-      enters = subst (λ (b : List ℕ). MakesEntry u file h how key b found s.locks v w) is (subst (λ (y : VolumeState). MakesEntry u file h how key told found s.locks y w) same makes);
+      enters = entry w makes;
     };
     units = units ∙ (λ i. with_unit place (with_position (same i).catalog.ru.end file u) s.units);
     changed = subst (λ (y : VolumeState). has_changed (with_position y.catalog.ru.end file u) file ≡ true) same noted;
@@ -71,12 +106,12 @@ module _ (u : OpenUnit) (file : ℕ) (h : FileHead) (how : KeyChange) (key : Key
       ((a : List (List ℕ)) → v.store.current ≡ Some a → IsFile h → IsLaidOut h a → change_late u file h how key value s v a ≡ None) → Breaks (MakesEntry u file h how key told found s.locks x) x w → KeyBroke u file h how key value s v w
   broken by serial early late breaks = record {
     early = subst (λ (b : Id). locks_refuse (Some b) file (keys_asked h how key) s.locks ≡ None) serial early;
-    breaks = breaks_so (MakesEntry u file h how key value found s.locks v) (MakesKey u file h how key value s v) v w (λ made m. record { late = late; found = found; had = had; enters = m })
-        (subst (λ (b : List ℕ). Breaks (MakesEntry u file h how key b found s.locks v) v w) is (subst (λ (y : VolumeState). Breaks (MakesEntry u file h how key told found s.locks y) y w) same breaks));
+    breaks = breaks_from (MakesEntry u file h how key told found s.locks x) (MakesKey u file h how key value s v) v x w (same_content v x same)
+        (λ made m. record { late = late; found = found; had = had; enters = entry made m }) breaks;
   }
 
 -- A change without one.
-module _ (tid : Tid) (clock moment : ℕ) (file : ℕ) (h : FileHead) (how : KeyChange) (key : Key) (value told : List ℕ) (s : UnitsState) (v x w : VolumeState) (is : told ≡ value) (same : x ≡ v) (next : moment ≡ next_moment clock x.catalog.home) where
+module _ (tid : Tid) (clock moment : ℕ) (file : ℕ) (h : FileHead) (how : KeyChange) (key : Key) (value told : List ℕ) (s : UnitsState) (v x w : VolumeState) (is : told ≡ value) (same : SameVolume v x) (next : moment ≡ next_moment clock x.catalog.home) where
   abbrev Told : List ℕ → ℕ → VolumeState → VolumeState → Type 0
   Told b m from made = CommitsKey file h (λ k. is_some (holder s.locks file k)) key (after_change how b) tid m s.units.places from made
 
@@ -86,9 +121,15 @@ module _ (tid : Tid) (clock moment : ℕ) (file : ℕ) (h : FileHead) (how : Key
   abbrev Late : Type 0
   Late = (a : List (List ℕ)) → v.store.current ≡ Some a → IsFile h → IsLaidOut h a → direct_late h how key value a ≡ None
 
+  commits : Late → (made : VolumeState) → Told told moment x made → CommitsChange tid clock file h how key value s v made
+  commits late made m = record {
+    late = late;
+    commits = subst (λ (n : ℕ). Told value n v made) at (subst (λ (b : List ℕ). Told b moment v made) is
+        (commits_from v x same file h (λ k. is_some (holder s.locks file k)) key (after_change how told) tid moment s.units.places made m));
+  }
+
   pub committed : Late → Told told moment x w → CommitsChange tid clock file h how key value s v w
-  committed late m = record { late = late; commits = subst (λ (n : ℕ). Told value n v w) at (subst (λ (b : List ℕ). Told b moment v w) is (subst (λ (y : VolumeState). Told told moment y w) same m)) }
+  committed late m = commits late w m
 
   pub uncommitted : Late → Breaks (Told told moment x) x w → Breaks (CommitsChange tid clock file h how key value s v) v w
-  uncommitted late b = breaks_so (Told value (next_moment clock v.catalog.home) v) (CommitsChange tid clock file h how key value s v) v w (λ made m. record { late = late; commits = m })
-      (subst (λ (n : ℕ). Breaks (Told value n v) v w) at (subst (λ (c : List ℕ). Breaks (Told c moment v) v w) is (subst (λ (y : VolumeState). Breaks (Told told moment y) y w) same b)))
+  uncommitted late b = breaks_from (Told told moment x) (CommitsChange tid clock file h how key value s v) v x w (same_content v x same) (commits late) b

@@ -2,6 +2,7 @@ pub mod AbortLemmas
 pub mod ChangedLemmas
 pub mod CutLocks
 pub mod CutOrder
+mod CutReads
 pub mod CutUnits
 pub mod Holding
 pub mod LateLemmas

@@ -1,9 +1,9 @@
 -- What the calls on records promise, by the units, the volume and the records that stand.
-use Rattle.std.specs.Prelude.{◌≡◌, ◌⊎◌, ◌≤◌, ℕ, ◌+◌, List, [], ◌∷◌, Bool, true, false, not, Option, Some, None, IfSome, length, option_map, slice_set, is_some, unwrap_or, Result, Err, nat_le, min, if◌then◌else◌}
+use Rattle.std.specs.Prelude.{◌≡◌, ◌⊎◌, ◌≤◌, ℕ, ◌+◌, List, [], ◌∷◌, Bool, true, false, not, Option, Some, None, IfSome, length, option_map, slice_set, is_some, unwrap_or, Result, Err, nat_le, min, if◌then◌else◌, ⊤}
 use Rattle.file_base.specs.declared.head.FileHead.{FileHead}
 use Rattle.file_base.specs.declared.head.Organization.{Organization}
 use Rattle.file_base.specs.declared.head.Organization.TheVariants.{Sequential, Relative, Indexed}
-use Rattle.record_files.specs.Any.{IsFile, IsLaidOut, map_of}
+use Rattle.record_files.specs.Any.{IsFile, IsLaidOut, map_of, reads_of}
 use Rattle.record_locks.specs.Locks.{Lock, holder, with_locks}
 use Rattle.unit_table.specs.Units.{OpenUnit, has_changed, with_position, with_unit, unit_at, earliest}
 use Rattle.vms_base.specs.Keys.{key_of}
@@ -13,7 +13,7 @@ use Rattle.vms_base.specs.declared.ids.Tid.{Tid}
 use Rattle.vms_model.specs.Ids.{Id}
 use Rattle.vms_model.specs.Keys.{Key, Number, Text, End}
 use Rattle.vms_model.specs.Transactions.{Outcome, Commit, Abort}
-use Rattle.volume.specs.State.{VolumeState}
+use Rattle.volume.specs.State.{SameVolume, VolumeState}
 use Rattle.volume_format.specs.declared.home.Ending.TheVariants as ending
 use Rattle.record_operations.specs.declared.ops.RecordOp.{RecordOp}
 use Rattle.record_operations.specs.declared.ops.RecordOp.TheVariants as op
@@ -55,13 +55,18 @@ ReadRefused u h op cause s v =
     ⊎ ((read_early h op ≡ None) × OfRecords h v (FindsNone op (Some u.serial) s.locks cause))
     ⊎ ((read_early h op ≡ None) × ((key : Key) × (bytes : List ℕ) × OfRecords h v (Finds op (Some u.serial) s.locks key bytes) × (keys_refused (read_file_in op) (key ∷ []) s.locks ≡ Some cause)))
 
+-- A read of a key reads as many blocks at the most as a walk to it in the file.
+abbrev pub ReadsFew : FileHead → ReadOp → VolumeState → VolumeState → Type 0
+ReadsFew h (read.Get file key) v w = w.store.reads ≤ v.store.reads + reads_of h
+ReadsFew h (read.Next file after) v w = ⊤
+
 -- A unit has read a record, which it holds from then on.
 pub record ReadsOk (u : OpenUnit) (h : FileHead) (op : ReadOp) (key : Key) (bytes : List ℕ) (s : UnitsState) (v : VolumeState) (t : UnitsState) (w : VolumeState) : Type 0 where
   pub early : read_early h op ≡ None
   pub finds : OfRecords h v (Finds op (Some u.serial) s.locks key bytes)
   pub few : keys_refused (read_file_in op) (key ∷ []) s.locks ≡ None
   pub held : t ≡ holding u.serial (read_file_in op) (key ∷ []) s
-  pub same : w ≡ v
+  pub same : SameVolume v w
 
 -- nothing refuses a read for a unit before a record is read
 abbrev pub MayRead : OpenUnit → FileHead → ReadOp → UnitsState → Type 0
@@ -69,7 +74,7 @@ MayRead u h op s = (read_early h op ≡ None) × (locks_refuse (Some u.serial) (
 
 -- A read was refused, and nothing changed; or the disk went down in one that nothing had refused.
 abbrev pub ReadsErr : OpenUnit → FileHead → ReadOp → RecErr → UnitsState → VolumeState → UnitsState → VolumeState → Type 0
-ReadsErr u h op e s v t w = (t ≡ s) × IfRefused e (λ cause. ReadRefused u h op cause s v × (w ≡ v)) (λ down. MayRead u h op s × FellIn down v w)
+ReadsErr u h op e s v t w = (t ≡ s) × IfRefused e (λ cause. ReadRefused u h op cause s v × SameVolume v w) (λ down. MayRead u h op s × FellIn down v w)
 
 -- a read for no unit
 abbrev pub LookRefused : FileHead → ReadOp → Cause → UnitsState → VolumeState → Type 0
@@ -78,13 +83,13 @@ LookRefused h op cause s v = (read_form_refused h op ≡ Some cause) ⊎ ((read_
 pub record LooksOk (h : FileHead) (op : ReadOp) (key : Key) (bytes : List ℕ) (s : UnitsState) (v w : VolumeState) : Type 0 where
   pub early : read_form_refused h op ≡ None
   pub finds : OfRecords h v (Finds op None s.locks key bytes)
-  pub same : w ≡ v
+  pub same : SameVolume v w
 
 abbrev pub MayLook : FileHead → ReadOp → UnitsState → Type 0
 MayLook h op s = (read_form_refused h op ≡ None) × (locks_refuse None (read_file_in op) (read_keys op) s.locks ≡ None)
 
 abbrev pub LooksErr : FileHead → ReadOp → RecErr → UnitsState → VolumeState → VolumeState → Type 0
-LooksErr h op e s v w = IfRefused e (λ cause. LookRefused h op cause s v × (w ≡ v)) (λ down. MayLook h op s × FellIn down v w)
+LooksErr h op e s v w = IfRefused e (λ cause. LookRefused h op cause s v × SameVolume v w) (λ down. MayLook h op s × FellIn down v w)
 
 -- Changes of one key.
 
@@ -131,7 +136,7 @@ pub record KeyBroke (u : OpenUnit) (file : ℕ) (h : FileHead) (how : KeyChange)
 
 -- A change of one key was refused, and nothing changed; or the disk went down.
 abbrev pub ChangesKeyErr : OpenUnit → (file : ℕ) → FileHead → KeyChange → Key → (value : List ℕ) → RecErr → UnitsState → VolumeState → UnitsState → VolumeState → Type 0
-ChangesKeyErr u file h how key value e s v t w = (t ≡ s) × IfRefused e (λ cause. KeyRefused u file h how key value cause s v × (w ≡ v)) (λ down. KeyBroke u file h how key value s v w)
+ChangesKeyErr u file h how key value e s v t w = (t ≡ s) × IfRefused e (λ cause. KeyRefused u file h how key value cause s v × SameVolume v w) (λ down. KeyBroke u file h how key value s v w)
 
 -- A change that a unit asked for is made, of a key or of the records from a position on, and its position is told: that of a record that was put into a
 -- sequential file, else 0.
@@ -158,7 +163,7 @@ pub record ChangeBroke (u : OpenUnit) (h : FileHead) (o : RecordOp) (value : Lis
 
 -- It was refused, and nothing changed; or the disk went down.
 abbrev pub ChangesErr : OpenUnit → FileHead → RecordOp → (bytes : List ℕ) → RecErr → UnitsState → VolumeState → UnitsState → VolumeState → Type 0
-ChangesErr u h o bytes e s v t w = (t ≡ s) × IfRefused e (λ cause. ChangeRefused u h o (written o bytes) cause s v × (w ≡ v)) (λ down. ChangeBroke u h o (written o bytes) s v w)
+ChangesErr u h o bytes e s v t w = (t ≡ s) × IfRefused e (λ cause. ChangeRefused u h o (written o bytes) cause s v × SameVolume v w) (λ down. ChangeBroke u h o (written o bytes) s v w)
 
 -- Changes without a unit.
 
@@ -193,7 +198,7 @@ pub record DirectKeyBroke (tid : Tid) (clock : ℕ) (file : ℕ) (h : FileHead) 
 
 -- It was refused, and nothing changed; or the disk went down.
 abbrev pub DirectsKeyErr : (tid : Tid) → (clock : ℕ) → (file : ℕ) → FileHead → KeyChange → Key → (value : List ℕ) → RecErr → UnitsState → VolumeState → VolumeState → Type 0
-DirectsKeyErr tid clock file h how key value e s v w = IfRefused e (λ cause. DirectKeyRefused file h how key value cause s.locks v × (w ≡ v)) (λ down. DirectKeyBroke tid clock file h how key value s v w)
+DirectsKeyErr tid clock file h how key value e s v w = IfRefused e (λ cause. DirectKeyRefused file h how key value cause s.locks v × SameVolume v w) (λ down. DirectKeyBroke tid clock file h how key value s v w)
 
 -- A change without a unit is made, and its position is told as that of a unit's change.
 pub record DirectsOk (tid : Tid) (clock : ℕ) (h : FileHead) (o : RecordOp) (bytes : List ℕ) (told : ℕ) (s : UnitsState) (v w : VolumeState) : Type 0 where
@@ -218,7 +223,7 @@ pub record DirectBroke (tid : Tid) (clock : ℕ) (h : FileHead) (o : RecordOp) (
   pub cut : (file from : ℕ) → o ≡ op.Truncate file from → DirectCutBroke tid clock file h from s v w
 
 abbrev pub DirectsErr : (tid : Tid) → (clock : ℕ) → FileHead → RecordOp → (bytes : List ℕ) → RecErr → UnitsState → VolumeState → VolumeState → Type 0
-DirectsErr tid clock h o bytes e s v w = IfRefused e (λ cause. DirectRefused h o (written o bytes) cause s v × (w ≡ v)) (λ down. DirectBroke tid clock h o (written o bytes) s v w)
+DirectsErr tid clock h o bytes e s v w = IfRefused e (λ cause. DirectRefused h o (written o bytes) cause s v × SameVolume v w) (λ down. DirectBroke tid clock h o (written o bytes) s v w)
 
 -- Settlements.
 

@@ -11,7 +11,7 @@ use Rattle.unit_journal.specs.Settling.{next_moment}
 use Rattle.unit_table.specs.Units.{OpenUnit, with_position, with_unit}
 use Rattle.vms_base.specs.declared.ids.Tid.{Tid}
 use Rattle.vms_model.specs.Keys.{Key, End}
-use Rattle.volume.specs.State.{VolumeState}
+use Rattle.volume.specs.State.{SameVolume, VolumeState}
 use Rattle.rms_units.specs.Changing.{keys_refused, locks_refuse}
 use Rattle.rms_units.specs.State.{UnitsState}
 use Rattle.unit_cuts.specs.Records.{OfRecords}
@@ -78,7 +78,7 @@ pub record CutBroke (u : OpenUnit) (file : ℕ) (h : FileHead) (from : ℕ) (s :
 
 -- It was refused, and nothing changed; or the disk went down.
 abbrev pub ChangesCutErr : OpenUnit → (file : ℕ) → FileHead → (from : ℕ) → RecErr → UnitsState → VolumeState → UnitsState → VolumeState → Type 0
-ChangesCutErr u file h from e s v t w = (t ≡ s) × IfRefused e (λ cause. CutRefused u file h from cause s v × (w ≡ v)) (λ down. CutBroke u file h from s v w)
+ChangesCutErr u file h from e s v t w = (t ≡ s) × IfRefused e (λ cause. CutRefused u file h from cause s v × SameVolume v w) (λ down. CutBroke u file h from s v w)
 
 -- Truncations for no unit.
 
@@ -98,4 +98,4 @@ pub record DirectCutBroke (tid : Tid) (clock : ℕ) (file : ℕ) (h : FileHead) 
 
 -- It was refused, and nothing changed; or the disk went down.
 abbrev pub DirectsCutErr : Tid → (clock : ℕ) → (file : ℕ) → FileHead → (from : ℕ) → RecErr → UnitsState → VolumeState → VolumeState → Type 0
-DirectsCutErr tid clock file h from e s v w = IfRefused e (λ cause. (direct_cut_refused file h from s.locks ≡ Some cause) × (w ≡ v)) (λ down. DirectCutBroke tid clock file h from s v w)
+DirectsCutErr tid clock file h from e s v w = IfRefused e (λ cause. (direct_cut_refused file h from s.locks ≡ Some cause) × SameVolume v w) (λ down. DirectCutBroke tid clock file h from s v w)

@@ -10,6 +10,7 @@ ghost use Rattle.vms_base.specs.Keys.{key_of};
 ghost use Rattle.vms_model.specs.Keys.{Text};
 ghost use Rattle.record_operations.specs.Asking.{file_in, is_of_key};
 ghost use Rattle.unit_journal.specs.Leaving.{FellIn};
+ghost use Rattle.volume.specs.State.{SameVolume};
 ghost use Rattle.rms_units.specs.Keys.{change_in, key_in, key_put as put_said};
 ghost use Rattle.record_operations.specs.Causes.{IfRefused, IsRefusal, cause_of};
 ghost use Rattle.rms_units.specs.Changing.{IsFormed, before_change, exists_by, file_refused, found_refused, key_within as within_said, other_refused_by};
@@ -161,8 +162,8 @@ pub(crate) fn read_before<D: Disk>(
     ensures had { OnOk result (OfRecords asked.now.head volume.old (λ m. before_change asked.now.change (unwrap_or (m (key_of asked.now.key)) []) ≡ before_change asked.now.change found.new)) }
     ensures allowed { OnOk result (OfRecords asked.now.head volume.old (λ m. found_refused asked.now.head asked.now.change (key_of asked.now.key) (m (key_of asked.now.key)) new.now ≡ None)) }
     ensures begins { IfOk result (MayBegin asked.now.head volume.old (key_of asked.now.key)) }
-    ensures same { OnOk result (volume.new ≡ volume.old) }
-    ensures err { IfErr result (λ e. IfRefused e (λ cause. OfRecords asked.now.head volume.old (λ m. found_refused asked.now.head asked.now.change (key_of asked.now.key) (m (key_of asked.now.key)) new.now ≡ Some cause) × (volume.new ≡ volume.old)) (λ down. FellIn down volume.old volume.new)) }
+    ensures same { OnOk result (SameVolume volume.old volume.new) }
+    ensures err { IfErr result (λ e. IfRefused e (λ cause. OfRecords asked.now.head volume.old (λ m. found_refused asked.now.head asked.now.change (key_of asked.now.key) (m (key_of asked.now.key)) new.now ≡ Some cause) × SameVolume volume.old volume.new) (λ down. FellIn down volume.old volume.new)) }
 {
     let mut place = Place::first();
     match find_record(volume, &asked.head, &asked.key, &mut place, found) {
@@ -184,8 +185,8 @@ pub(crate) fn room_in_file<D: Disk>(
     requires frames { 32 ≤ free_frames volume.old.store.pool }
     requires size { size ≤ 8160 }
     ensures room { OnOk result ((a : List (List ℕ)) → volume.old.store.current ≡ Some a → IsFile asked.now.head → IsLaidOut asked.now.head a → file_refused asked.now.head (need_of asked.now.head a asked.now.change size) ≡ None) }
-    ensures same { OnOk result (volume.new ≡ volume.old) }
-    ensures err { IfErr result (λ e. IfRefused e (λ cause. ((a : List (List ℕ)) → volume.old.store.current ≡ Some a → IsFile asked.now.head → IsLaidOut asked.now.head a → file_refused asked.now.head (need_of asked.now.head a asked.now.change size) ≡ Some cause) × (volume.new ≡ volume.old)) (λ down. FellIn down volume.old volume.new)) }
+    ensures same { OnOk result (SameVolume volume.old volume.new) }
+    ensures err { IfErr result (λ e. IfRefused e (λ cause. ((a : List (List ℕ)) → volume.old.store.current ≡ Some a → IsFile asked.now.head → IsLaidOut asked.now.head a → file_refused asked.now.head (need_of asked.now.head a asked.now.change size) ≡ Some cause) × SameVolume volume.old volume.new) (λ down. FellIn down volume.old volume.new)) }
 {
     if !asked.change.asks(asked.head.organization) {
         return Ok(());

@@ -9,6 +9,7 @@ ghost use Rattle.volume.specs.Catalogs.{head_at};
 ghost use Rattle.record_operations.specs.Causes.{IfRefused};
 ghost use Rattle.unit_journal.specs.Groups.{Breaks, Grows};
 ghost use Rattle.unit_journal.specs.Leaving.{FellIn};
+ghost use Rattle.volume.specs.State.{SameVolume};
 ghost use Rattle.rms_units.specs.Calls.{DirectKeyRefused, direct_late};
 ghost use Rattle.rms_units.specs.Changing.{IsFormed, after_change, keys_asked, locks_refuse};
 ghost use Rattle.rms_units.specs.Making.{CommitsKey};
@@ -42,9 +43,9 @@ pub(crate) fn refuse_directly<D: Disk>(
     ensures early { OnOk result (locks_refuse None asked.now.file (keys_asked asked.now.head asked.now.change (key_of asked.now.key)) locks.now.locks ≡ None) }
     ensures late { OnOk result ((a : List (List ℕ)) → volume.old.store.current ≡ Some a → IsFile asked.now.head → IsLaidOut asked.now.head a → direct_late asked.now.head asked.now.change (key_of asked.now.key) value.now a ≡ None) }
     ensures begins { IfOk result (MayBegin asked.now.head volume.old (key_of asked.now.key)) }
-    ensures same { OnOk result (volume.new ≡ volume.old) }
+    ensures same { OnOk result (SameVolume volume.old volume.new) }
     ensures err { IfErr result (λ e. IfRefused e
-        (λ cause. DirectKeyRefused asked.now.file asked.now.head asked.now.change (key_of asked.now.key) value.now cause locks.now.locks volume.old × (volume.new ≡ volume.old))
+        (λ cause. DirectKeyRefused asked.now.file asked.now.head asked.now.change (key_of asked.now.key) value.now cause locks.now.locks volume.old × SameVolume volume.old volume.new)
         (λ down. (locks_refuse None asked.now.file (keys_asked asked.now.head asked.now.change (key_of asked.now.key)) locks.now.locks ≡ None) × FellIn down volume.old volume.new)) }
 {
     match locks_refusal(locks, &None, asked) {

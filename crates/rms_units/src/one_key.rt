@@ -11,6 +11,7 @@ ghost use Rattle.vms_base.specs.Ids.{serial_of, tid_of};
 ghost use Rattle.vms_base.specs.Keys.{key_of};
 ghost use Rattle.vms_model.specs.Keys.{End};
 ghost use Rattle.volume.specs.Catalogs.{head_at};
+ghost use Rattle.volume.specs.State.{SameVolume};
 ghost use Rattle.rms_units.specs.Calls.{KeyRefused, MakesEntry, change_late};
 ghost use Rattle.record_operations.specs.Causes.{IfRefused, IsRefusal, cause_of, first_cause};
 ghost use Rattle.rms_units.specs.Changing.{IsFormed, after_change, before_change, changes_refused, keys_asked, keys_refused, locks_refuse};
@@ -80,9 +81,9 @@ pub(crate) fn refuse_key<D: Disk>(
         change_late u asked.now.file asked.now.head asked.now.change (key_of asked.now.key) value.now (record { units = table.now; locks = locks.now.locks }) volume.old a ≡ None) }
     ensures fits { OnOk result (IfSome (unit_at table.now.places place) (λ u. journal_refused volume.old.catalog.ru table.now.places u (entry_said (key_of asked.now.key) (before_change asked.now.change found.new)) ≡ None)) }
     ensures begins { IfOk result (MayBegin asked.now.head volume.old (key_of asked.now.key)) }
-    ensures same { OnOk result (volume.new ≡ volume.old) }
+    ensures same { OnOk result (SameVolume volume.old volume.new) }
     ensures err { IfErr result (λ e. (u : OpenUnit) → unit_at table.now.places place ≡ Some u → IfRefused e
-        (λ cause. KeyRefused u asked.now.file asked.now.head asked.now.change (key_of asked.now.key) value.now cause (record { units = table.now; locks = locks.now.locks }) volume.old × (volume.new ≡ volume.old))
+        (λ cause. KeyRefused u asked.now.file asked.now.head asked.now.change (key_of asked.now.key) value.now cause (record { units = table.now; locks = locks.now.locks }) volume.old × SameVolume volume.old volume.new)
         (λ down. (locks_refuse (Some (serial_of serial)) asked.now.file (keys_asked asked.now.head asked.now.change (key_of asked.now.key)) locks.now.locks ≡ None) × FellIn down volume.old volume.new)) }
 {
     match locks_refusal(locks, &Some(serial), asked) {

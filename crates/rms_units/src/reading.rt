@@ -1,5 +1,5 @@
 // Records that are looked for.
-ghost use Rattle.std.specs.Prelude.{◌≡◌, ◌≤◌, ◌∷◌, [], None, Some, OnOk, IfErr, option_map};
+ghost use Rattle.std.specs.Prelude.{◌≡◌, ◌≤◌, ◌+◌, ◌∷◌, [], None, Some, OnOk, IfErr, option_map};
 ghost use Rattle.std.specs.Option.{option_copied};
 ghost use Rattle.change_set.specs.Files.{IsPlaced, free_frames};
 ghost use Rattle.change_set.specs.Maps.{IsNext};
@@ -9,6 +9,9 @@ ghost use Rattle.record_locks.specs.Locks.{holder};
 ghost use Rattle.record_operations.specs.Asking.{read_file_in};
 ghost use Rattle.unit_journal.specs.Leaving.{FellIn};
 ghost use Rattle.record_operations.specs.Causes.{IfRefused, first_cause};
+ghost use Rattle.volume.specs.State.{SameVolume};
+ghost use Rattle.record_files.specs.Any.{reads_of};
+ghost use Rattle.rms_units.specs.Calls.{ReadsFew};
 ghost use Rattle.rms_units.specs.Changing.{held_against, locks_refuse};
 ghost use Rattle.rms_units.specs.Reading.{Finds, FindsNone, NextIsNot, missing, read_keys};
 ghost use Rattle.unit_cuts.specs.Records.{OfRecords};
@@ -36,8 +39,9 @@ fn find_key<D: Disk>(
     requires frames { 32 ≤ free_frames volume.old.store.pool }
     ensures found { OnOk result (OfRecords head.now volume.old (λ m. m (key_of key.now) ≡ Some out.new)) }
     ensures free { OnOk result (held_against (option_map serial_of by.now) (holder locks.now.locks file (key_of key.now)) ≡ None) }
-    ensures same { OnOk result (volume.new ≡ volume.old) }
-    ensures err { IfErr result (λ e. IfRefused e (λ cause. OfRecords head.now volume.old (λ m. first_cause (held_against (option_map serial_of by.now) (holder locks.now.locks file (key_of key.now))) (missing (m (key_of key.now))) ≡ Some cause) × (volume.new ≡ volume.old))
+    ensures reads { volume.new.store.reads ≤ volume.old.store.reads + reads_of head.now }
+    ensures same { OnOk result (SameVolume volume.old volume.new) }
+    ensures err { IfErr result (λ e. IfRefused e (λ cause. OfRecords head.now volume.old (λ m. first_cause (held_against (option_map serial_of by.now) (holder locks.now.locks file (key_of key.now))) (missing (m (key_of key.now))) ≡ Some cause) × SameVolume volume.old volume.new)
         (λ down. (locks_refuse (option_map serial_of by.now) file (key_of key.now ∷ []) locks.now.locks ≡ None) × FellIn down volume.old volume.new)) }
 {
     match lock_refusal(locks, by, file, key) {
@@ -66,8 +70,8 @@ fn find_next<D: Disk>(
     requires frames { 32 ≤ free_frames volume.old.store.pool }
     ensures found { OnOk result (OfRecords head.now volume.old (λ m. IsNext m (option_map key_of (option_copied after.entry)) (key_of found.new) out.new)) }
     ensures free { OnOk result (held_against (option_map serial_of by.now) (holder locks.now.locks file (key_of found.new)) ≡ None) }
-    ensures same { OnOk result (volume.new ≡ volume.old) }
-    ensures err { IfErr result (λ e. IfRefused e (λ cause. OfRecords head.now volume.old (NextIsNot (option_map key_of (option_copied after.entry)) (option_map serial_of by.now) file locks.now.locks cause) × (volume.new ≡ volume.old)) (λ down. FellIn down volume.old volume.new)) }
+    ensures same { OnOk result (SameVolume volume.old volume.new) }
+    ensures err { IfErr result (λ e. IfRefused e (λ cause. OfRecords head.now volume.old (NextIsNot (option_map key_of (option_copied after.entry)) (option_map serial_of by.now) file locks.now.locks cause) × SameVolume volume.old volume.new) (λ down. FellIn down volume.old volume.new)) }
 {
     match next_record(volume, head, after, found, out) {
         Err(down) => return Err(RecErr::Down(down)),
@@ -94,8 +98,9 @@ pub(crate) fn find<D: Disk>(
     requires frames { 32 ≤ free_frames volume.old.store.pool }
     ensures finds { OnOk result (OfRecords head.now volume.old (Finds op.now (option_map serial_of by.now) locks.now.locks (key_of found.new) out.new)) }
     ensures free { OnOk result (held_against (option_map serial_of by.now) (holder locks.now.locks (read_file_in op.now) (key_of found.new)) ≡ None) }
-    ensures same { OnOk result (volume.new ≡ volume.old) }
-    ensures err { IfErr result (λ e. IfRefused e (λ cause. OfRecords head.now volume.old (FindsNone op.now (option_map serial_of by.now) locks.now.locks cause) × (volume.new ≡ volume.old))
+    ensures reads { ReadsFew head.now op.now volume.old volume.new }
+    ensures same { OnOk result (SameVolume volume.old volume.new) }
+    ensures err { IfErr result (λ e. IfRefused e (λ cause. OfRecords head.now volume.old (FindsNone op.now (option_map serial_of by.now) locks.now.locks cause) × SameVolume volume.old volume.new)
         (λ down. (locks_refuse (option_map serial_of by.now) (read_file_in op.now) (read_keys op.now) locks.now.locks ≡ None) × FellIn down volume.old volume.new)) }
 {
     match op {

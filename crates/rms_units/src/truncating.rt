@@ -16,6 +16,7 @@ ghost use Rattle.unit_table.specs.Units.{OpenUnit, owed, unit_at, with_unit};
 ghost use Rattle.vms_base.specs.Ids.{serial_of, tid_of};
 ghost use Rattle.vms_base.specs.Keys.{key_of};
 ghost use Rattle.vms_model.specs.Keys.{Number};
+ghost use Rattle.volume.specs.State.{SameVolume};
 ghost use Rattle.rms_units.specs.Changing.{keys_refused, locks_refuse};
 ghost use Rattle.unit_cuts.specs.Records.{OfRecords};
 ghost use Rattle.rms_units.specs.State.{IsEarly, IsInOrder};
@@ -128,9 +129,9 @@ pub(crate) fn refuse_cut<D: Disk>(
     ensures fits { IfOk result (λ size. IfSome (unit_at table.now.places place) (λ u. journal_refused volume.old.catalog.ru table.now.places u size ≡ None)) }
     ensures places { OnOk result (AreBegun cut.now.head volume.old room.new.places) }
     ensures none { OnOk result (room.new.positions ≡ []) }
-    ensures same { OnOk result (volume.new ≡ volume.old) }
+    ensures same { OnOk result (SameVolume volume.old volume.new) }
     ensures err { IfErr result (λ e. (u : OpenUnit) → unit_at table.now.places place ≡ Some u → IfRefused e
-        (λ cause. CutRefused u cut.now.file cut.now.head cut.now.from cause (record { units = table.now; locks = locks.now.locks }) volume.old × (volume.new ≡ volume.old))
+        (λ cause. CutRefused u cut.now.file cut.now.head cut.now.from cause (record { units = table.now; locks = locks.now.locks }) volume.old × SameVolume volume.old volume.new)
         (λ down. (cut_early u cut.now.file cut.now.head cut.now.from locks.now.locks ≡ None) × FellIn down volume.old volume.new)) }
 {
     match cut_lock_refusal(locks, &Some(*serial), cut) {

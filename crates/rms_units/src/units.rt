@@ -15,8 +15,9 @@ ghost use Rattle.vms_base.specs.declared.outcomes.Outcome.TheVariants as outcome
 ghost use Rattle.volume.specs.Catalogs.{head_at};
 ghost use Rattle.record_operations.specs.Asking.{file_in, read_file_in};
 ghost use Rattle.unit_aborts.specs.Growing.{AreTold};
+ghost use Rattle.volume.specs.State.{SameVolume};
 ghost use Rattle.rms_units.specs.Aborting.{AbortsNot, AbortsUnit};
-ghost use Rattle.rms_units.specs.Calls.{ChangesErr, ChangesKey, ChangesKeyErr, ChangesOk, Commits, CommitsNot, DirectsErr, DirectsKey, DirectsKeyErr, DirectsOk, LooksErr, LooksOk, ReadsErr, ReadsOk};
+ghost use Rattle.rms_units.specs.Calls.{ChangesErr, ChangesKey, ChangesKeyErr, ChangesOk, Commits, CommitsNot, DirectsErr, DirectsKey, DirectsKeyErr, DirectsOk, LooksErr, LooksOk, ReadsErr, ReadsFew, ReadsOk};
 ghost use Rattle.rms_units.specs.Keys.{position_by};
 ghost use Rattle.rms_units.specs.Changing.{IsFormed};
 ghost use Rattle.record_operations.specs.Causes.{IfRefused, down_in};
@@ -235,6 +236,7 @@ impl Units {
         ensures order { OnOk result (IsInOrder self.new volume.new) }
         ensures done { OnOk result ((u : OpenUnit) (h : HeadSaid) → unit_of unit.old self.old ≡ Some u → head_at volume.old.catalog.heads (read_file_in op.now) ≡ Some h → ReadsOk u h op.now (key_of found.new) out.new self.old volume.old self.new volume.new) }
         ensures err { IfErr result (λ e. (u : OpenUnit) (h : HeadSaid) → unit_of unit.old self.old ≡ Some u → head_at volume.old.catalog.heads (read_file_in op.now) ≡ Some h → ReadsErr u h op.now e self.old volume.old self.new volume.new) }
+        ensures reads { (h : HeadSaid) → head_at volume.old.catalog.heads (read_file_in op.now) ≡ Some h → ReadsFew h op.now volume.old volume.new }
         ensures grows { Grows 0 0 volume.old volume.new }
         ensures goes { Goes volume.old.store.disk volume.new.store.disk }
         ensures cause { IfErr result (λ e. Caused (down_in e) volume.old.store.disk volume.new.store.disk) }
@@ -270,6 +272,7 @@ impl Units {
         ensures order { OnOk result (IsInOrder self.now volume.new) }
         ensures done { OnOk result ((h : HeadSaid) → head_at volume.old.catalog.heads (read_file_in op.now) ≡ Some h → LooksOk h op.now (key_of found.new) out.new self.now volume.old volume.new) }
         ensures err { IfErr result (λ e. (h : HeadSaid) → head_at volume.old.catalog.heads (read_file_in op.now) ≡ Some h → LooksErr h op.now e self.now volume.old volume.new) }
+        ensures reads { (h : HeadSaid) → head_at volume.old.catalog.heads (read_file_in op.now) ≡ Some h → ReadsFew h op.now volume.old volume.new }
         ensures grows { Grows 0 0 volume.old volume.new }
         ensures goes { Goes volume.old.store.disk volume.new.store.disk }
         ensures cause { IfErr result (λ e. Caused (down_in e) volume.old.store.disk volume.new.store.disk) }
@@ -398,7 +401,7 @@ impl Units {
         ensures done { OnOk result ((u : OpenUnit) → unit_of place self.old ≡ Some u → ChangesCut place u cut.now.file cut.now.head cut.now.from self.old volume.old self.new volume.new) }
         ensures position { IfOk result (λ position. position ≡ 0) }
         ensures err { IfErr result (λ e. (u : OpenUnit) → unit_of place self.old ≡ Some u → ChangesCutErr u cut.now.file cut.now.head cut.now.from e self.old volume.old self.new volume.new) }
-        ensures refused { IfErr result (λ e. IfRefused e (λ _. volume.new ≡ volume.old) (λ _. Unit {0})) }
+        ensures refused { IfErr result (λ e. IfRefused e (λ _. SameVolume volume.old volume.new) (λ _. Unit {0})) }
         ensures grows { Grows 0 0 volume.old volume.new }
         ensures goes { Goes volume.old.store.disk volume.new.store.disk }
         ensures cause { IfErr result (λ e. Caused (down_in e) volume.old.store.disk volume.new.store.disk) }

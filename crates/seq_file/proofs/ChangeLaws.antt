@@ -1,37 +1,40 @@
 -- A file once the bucket that was made in a frame is staged, and the frame given back.
 use Rattle.std.proofs.Common.{◌≡◌, inl, ℕ, ◌≤◌, ◌+◌, ◌*◌, List, length, take, set, Bool, Option, Some, None, IfSome, IfNone, IsSomeAnd, MatchOption, option_map, refl, sym, ap, subst, ◌∙◌, arith}
+use Rattle.careful_write.specs.Reads.{SameButReads}
 use Rattle.careful_write.specs.State.{StoreState}
+use Rattle.careful_write.proofs.Reading.{same_as}
 use Rattle.careful_write.specs.Steps.{AgreesOff}
 use Rattle.block_disk.specs.Disk.{DiskState}
 use Rattle.file_base.specs.declared.head.FileHead.{FileHead}
 use Rattle.change_set.specs.Buckets.{frame_of, with_frame, with_bucket, with_numbers, WasFree}
 use Rattle.change_set.specs.Files.{IsPlaced, StagesIn, SameFile, in_extent}
-use Rattle.change_set.proofs.Extents.{ranges_apart, bucket_staged}
+use Rattle.change_set.proofs.Extents.{ranges_apart, bucket_staged, stages_read}
 use Rattle.change_set.proofs.Frames.{Lent, lent_taken, lent_read, lent_given, given_back}
 use Rattle.seq_file.specs.declared.spot.Rewrite.{Rewrite}
 use Rattle.seq_file.specs.Layout.{bucket_first, head_with, records_in, IsSequential, Becomes}
-use Rattle.seq_file.specs.Frames.{page_in, InFrame, Leads, MayWrite, Changes, Written}
+use Rattle.seq_file.specs.Frames.{page_in, ReadsInFrame, Leads, MayWrite, Changes, Written}
 use Rattle.seq_file.proofs.FileLaws.{changed}
 
 abbrev Blocks : Type 0
 Blocks = List (List ℕ)
 
 -- a store whose frame was taken and made into a bucket
-lent_made : (f : ℕ) (s0 s1 s2 : StoreState) → WasFree s0.pool f → s1 ≡ with_frame f (frame_of s1.pool f) s0 → InFrame f s1 s2 → Lent f s0 s2
+lent_made : (f : ℕ) (s0 s1 s2 : StoreState) → WasFree s0.pool f → s1 ≡ with_frame f (frame_of s1.pool f) s0 → ReadsInFrame f s1 s2 → Lent f s0 s2
 lent_made f s0 s1 s2 was taken made = lent_read f s0 s1 s2 (λ (d : DiskState). d) (lent_taken f s0 s1 was taken) made
 
 -- only a bucket was staged
 staged_whole : (h : FileHead) (w : Rewrite) (f : ℕ) (s0 s2 s3 : StoreState) → Lent f s0 s2 → Written h w f s2 s3
-    → s3 ≡ record s0 {
+    → SameButReads (record s0 {
       current = option_map (λ b. with_bucket (frame_of s2.pool f) b (bucket_first h w.bucket) h.bucket) s0.current;
       touched = with_numbers (518 + bucket_first h w.bucket) h.bucket s0.touched;
-    }
+    }) s3
 staged_whole h w f s0 s2 s3 lent written =
     let bytes = frame_of s2.pool f in
     let W : Option Blocks → Option Blocks = option_map (λ b. with_bucket bytes b (bucket_first h w.bucket) h.bucket) in
     let N : List ℕ → List ℕ = with_numbers (518 + bucket_first h w.bucket) h.bucket in
-    written.is ∙ (λ i. record (lent.is i) { current = W (lent.is i).current; touched = N (lent.is i).touched; pool = set (lent.is i).pool f None })
-    ∙ (λ i. record s0 { current = W s0.current; touched = N s0.touched; pool = given_back s0.pool f bytes lent.was i })
+    same_as s3 (record s0 { current = W s0.current; touched = N s0.touched }) s2.reads
+    (written.is ∙ (λ i. record (lent.is i) { current = W (lent.is i).current; touched = N (lent.is i).touched; pool = set (lent.is i).pool f None })
+    ∙ (λ i. record s0 { current = W s0.current; touched = N s0.touched; pool = given_back s0.pool f bytes lent.was i; reads = s2.reads }))
 
 becomes_told : (h : FileHead) (w : Rewrite) (bytes : List ℕ) (size : ℕ) (given : Blocks → Type 0) (after : Blocks → Blocks) (told : Option Blocks) → bucket_first h w.bucket + h.bucket + 518 ≤ size
     → IfSome told (λ b. length b + 518 ≡ size) → IfSome told (Leads h w (take (512 * h.bucket) bytes) given after)
@@ -73,18 +76,18 @@ never_becomes h h' given after (Some b) now never = λ holds. absurd (never hold
 
 changed_none : (h h' : FileHead) (given : Blocks → Type 0) (after : Blocks → Blocks) (f : ℕ) (s0 s2 s3 : StoreState) → IsSequential h → Lent f s0 s2 → IfSome s0.current (λ b. given b → ⊥) → s3 ≡ record s2 { pool = set s2.pool f None } → h' ≡ h → Changes h h' given after s0 s3
 changed_none h h' given after f s0 s2 s3 form lent never gave same =
-    let end : s3 ≡ s0 = lent_given f s0 s2 s3 lent gave in
+    let end : SameButReads s0 s3 = lent_given f s0 s2 s3 lent gave in
     let none : StagesIn h h.bucket s0 s0 = record { rest = refl; blocks = stays (in_extent h) s0.current; touched = λ k has. inl has; few = omega arith } in
     record {
       becomes = never_becomes h h' given after s0.current s3.current never;
-      staged = subst (λ (s : StoreState). StagesIn h h.bucket s0 s) (sym end) none;
+      staged = subst (λ (s : StoreState). StagesIn h h.bucket s0 s) (sym end) (stages_read h h.bucket s3.reads s0 s0 none);
       file = subst (SameFile h) (sym same) (record { is = refl });
       form = subst IsSequential (sym same) form;
     }
 
 -- whichever bucket was to be written, if any
 pub changed_by : (o : Option Rewrite) (h h' : FileHead) (given : Blocks → Type 0) (after : Blocks → Blocks) (f : ℕ) (s0 s1 s2 s3 : StoreState) → IsPlaced h s0.disk → IsSequential h → IfSome s0.current (λ b. length b + 518 ≡ s0.disk.size)
-    → WasFree s0.pool f → s1 ≡ with_frame f (frame_of s1.pool f) s0 → InFrame f s1 s2 → IfSome o (MayWrite h) → IfSome o (λ w. IfSome s1.current (Leads h w (page_in h s2 f) given after)) → IfNone o (IfSome s1.current (λ b. given b → ⊥))
+    → WasFree s0.pool f → s1 ≡ with_frame f (frame_of s1.pool f) s0 → ReadsInFrame f s1 s2 → IfSome o (MayWrite h) → IfSome o (λ w. IfSome s1.current (Leads h w (page_in h s2 f) given after)) → IfNone o (IfSome s1.current (λ b. given b → ⊥))
     → IfSome o (λ w. Written h w f s2 s3) → IfSome o (λ w. h' ≡ head_with h w.used w.count) → IfNone o (s3 ≡ record s2 { pool = set s2.pool f None }) → IfNone o (h' ≡ h) → Changes h h' given after s0 s3
 changed_by (Some w) h h' given after f s0 s1 s2 s3 placed form whole was taken made may leads never written tells gave same =
     changed_some h h' w given after f s0 s2 s3 placed form whole (lent_made f s0 s1 s2 was taken made) may

@@ -3,6 +3,7 @@ use Rattle.std.proofs.Common.{◌≡◌, ℕ, ◌<◌, ◌≤◌, suc, ◌+◌, 
 use Rattle.std.proofs.lemmas.List.{set-set, set_split, take_all, drop_all, take-take, drop-drop, drop-take, take_more}
 use Rattle.block_disk.specs.Disk.{DiskState}
 use Rattle.careful_write.specs.State.{StoreState}
+use Rattle.careful_write.proofs.Reading.{same_so}
 use Rattle.frame_pool.specs.Pool.{IsOut}
 use Rattle.file_base.specs.declared.head.FileHead.{FileHead}
 use Rattle.change_set.specs.Buckets.{frame_of, with_frame}
@@ -12,7 +13,7 @@ use Rattle.bucket_page.specs.Frames.{bucket_in, slots_in, next_in}
 use Rattle.bucket_page.specs.Pages.{slots_of, slot_at, joined, precedes_all, ascend, inserted, removed, replaced, Holds}
 use Rattle.seq_file.proofs.PlacingLaws.{joined_push}
 use Rattle.seq_file.specs.Layout.{bucket_at, slot_of}
-use Rattle.seq_file.specs.Frames.{HasSlots, InFrame, Reads, Settles}
+use Rattle.seq_file.specs.Frames.{HasSlots, InFrame, ReadsInFrame, Reads, Settles}
 
 abbrev Frames : Type 0
 Frames = List (Option (List ℕ))
@@ -72,6 +73,9 @@ fewer_slots h bytes slots now i j is le has = record { bucket = has.bucket; are 
 -- a frame that is lent and read into again
 pub in_frame_own : (f : ℕ) (s : StoreState) → IsOut s.pool f → InFrame f s s
 in_frame_own f s out = with_frame_own f s out
+
+pub reads_own : (f : ℕ) (s : StoreState) → IsOut s.pool f → ReadsInFrame f s s
+reads_own f s out = same_so _ s (with_frame_own f s out)
 
 pub in_frame_more : (f : ℕ) (s0 s s' : StoreState) (D : DiskState → DiskState) → InFrame f s0 s → InFrame f (record s { disk = D s.disk }) s' → InFrame f (record s0 { disk = D s0.disk }) s'
 in_frame_more f s0 s s' D lent is =

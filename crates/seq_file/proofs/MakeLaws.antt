@@ -2,6 +2,7 @@
 use Rattle.std.proofs.Common.{◌≡◌, ℕ, ◌≤◌, ◌+◌, ◌-◌, ◌*◌, List, [], length, take, map, set, Option, Some, None, IfSome, option_map, sym, ap, subst, ◌∙◌, arith}
 use Rattle.std.specs.List.{All}
 use Rattle.careful_write.specs.State.{StoreState}
+use Rattle.careful_write.proofs.Reading.{same_all, same_so}
 use Rattle.block_disk.specs.Disk.{DiskState}
 use Rattle.file_base.specs.declared.head.FileHead.{FileHead}
 use Rattle.change_set.specs.Buckets.{frame_of, with_frame, with_bucket, with_numbers, WasFree}
@@ -26,9 +27,9 @@ pub staged_first : (h : FileHead) (f : ℕ) (s0 s1 s2 s3 s4 : StoreState) → 51
 staged_first h f s0 s1 s2 s3 s4 from was taken filled staged gave =
     let at : h.start - 518 ≡ bucket_first h 0 = omega arith in
     let lent1 = lent_taken f s0 s1 was taken in
-    let lent2 = lent_read f s0 s1 s2 (λ (d : DiskState). d) lent1 filled in
+    let lent2 = lent_read f s0 s1 s2 (λ (d : DiskState). d) lent1 (same_so _ s2 filled) in
     let lent3 = lent_staged f s0 s2 s3 (option_map (λ (b : Blocks). with_bucket (frame_of s2.pool f) b (h.start - 518) h.bucket)) (with_numbers h.start h.bucket) lent2 staged in
-    lent_given f _ s3 s4 lent3 gave ∙ (λ i. record s0 { current = option_map (λ (b : Blocks). with_bucket (frame_of s2.pool f) b (at i) h.bucket) s0.current; touched = with_numbers h.start h.bucket s0.touched })
+    same_all _ s4 (lent_given f _ s3 s4 lent3 gave) (ap (λ (s : StoreState). s.reads) gave ∙ ap (λ (s : StoreState). s.reads) staged ∙ ap (λ (s : StoreState). s.reads) filled ∙ ap (λ (s : StoreState). s.reads) taken) ∙ (λ i. record s0 { current = option_map (λ (b : Blocks). with_bucket (frame_of s2.pool f) b (at i) h.bucket) s0.current; touched = with_numbers h.start h.bucket s0.touched })
 
 empty_file : (h : FileHead) (c : Blocks) (bytes : List ℕ) → IsFresh h → bucket_at h c 0 ≡ bytes → HasSlots h bytes [] → Becomes h c []
 empty_file h c bytes fresh here page =

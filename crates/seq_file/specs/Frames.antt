@@ -1,5 +1,6 @@
 -- A bucket of a file in a frame, and what the file becomes once it is written.
 use Rattle.std.specs.Prelude.{◌≡◌, ◌⊎◌, ◌≤◌, ◌<◌, ℕ, ◌+◌, ◌*◌, ◌++◌, List, [], ◌∷◌, length, slice_set, None, option_map, IfSome, IsSomeAnd}
+use Rattle.careful_write.specs.Reads.{SameButReads}
 use Rattle.careful_write.specs.State.{StoreState}
 use Rattle.file_base.specs.declared.head.FileHead.{FileHead}
 use Rattle.change_set.specs.Buckets.{frame_of, with_frame, with_bucket, with_numbers}
@@ -23,6 +24,10 @@ pub record HasSlots (h : FileHead) (bytes : List ℕ) (slots : List (List ℕ)) 
 -- a frame is lent, and nothing else of the store is other
 abbrev pub InFrame : ℕ → StoreState → StoreState → Type 0
 InFrame f old new = new ≡ with_frame f (frame_of new.pool f) old
+
+-- and only what tells of reads
+abbrev pub ReadsInFrame : ℕ → StoreState → StoreState → Type 0
+ReadsInFrame f old new = SameButReads (with_frame f (frame_of new.pool f) old) new
 
 -- a bucket of records stays as it is, and other bytes become one without slots
 abbrev pub Settles : ℕ → List ℕ → List ℕ → Type 0

@@ -7,7 +7,7 @@ ghost use Rattle.byteorder.specs.Endian.{little_bytes};
 ghost use Rattle.bucket_page.specs.declared.kind.PageKind.TheVariants.{Seq};
 ghost use Rattle.bucket_page.specs.Pages.{slots_of, slot_at, joined, IsBucket};
 ghost use Rattle.seq_file.specs.Layout.{slot_of, record_of, IsRecord};
-ghost use Rattle.seq_file.specs.Frames.{page_in, HasSlots, InFrame, Reads, Settles};
+ghost use Rattle.seq_file.specs.Frames.{page_in, HasSlots, InFrame, Reads, Settles, ReadsInFrame};
 
 use block_disk::Disk;
 use bucket_page::{Page, PageKind};
@@ -39,7 +39,8 @@ pub fn load_slots<D: Disk>(
     requires placed { IsPlaced head.now store.old.disk }
     requires there { i < head.now.alloc }
     requires out { IsOut store.old.pool frame.now }
-    ensures state { InFrame frame.now (record store.old { disk = answered result store.old.disk }) store.new }
+    ensures state { ReadsInFrame frame.now (record store.old { disk = answered result store.old.disk }) store.new }
+    ensures reads { store.new.reads ≤ store.old.reads + head.now.bucket }
     ensures out { IsOut store.new.pool frame.now }
     ensures bucket { OnOk result (IsBucket Seq (512 * head.now.bucket) (page_in head.now store.new frame.now)) }
     ensures number { IfOk result (λ n. n ≡ length (slots_of Seq (page_in head.now store.new frame.now))) }

@@ -2,12 +2,13 @@
 ghost use Rattle.std.specs.Prelude.{◌≡◌, ◌≤◌, ◌<◌, ◌+◌, ◌-◌, ◌*◌, ℕ, List, true, false, Some, None, length, take, OnOk, OnErr, IfOk, IfSome, IfNone, slice_set};
 ghost use Rattle.std.specs.Option.{option_copied};
 ghost use Rattle.careful_write.specs.Down.{answered};
+ghost use Rattle.careful_write.specs.Reads.{SameButReads};
 ghost use Rattle.frame_pool.specs.Pool.{IsOut};
 ghost use Rattle.vms_model.specs.Keys.{Number};
 ghost use Rattle.change_set.specs.Files.{IsPlaced, free_frames};
 ghost use Rattle.seq_file.specs.Records.{list_set, record_at};
 ghost use Rattle.seq_file.specs.Layout.{records_in, asks, head_with, IsRecord, CountsBefore, IsSequential, IsLaidOut, Stands, Suits, TakesAt};
-ghost use Rattle.seq_file.specs.Frames.{InFrame, Changes, MayWrite, Written};
+ghost use Rattle.seq_file.specs.Frames.{Changes, MayWrite, Written, ReadsInFrame};
 
 use crate::bucket::{load_slots, read_record, slots_end};
 use crate::rewrite::{cut_off, set_at};
@@ -41,7 +42,8 @@ fn read_in_frame<D: Disk>(
     ensures stands { IfOk result (λ found. found ≡ true → IfSome store.old.current (Stands head.now out.new)) }
     ensures before { IfOk result (λ found. IfSome store.old.current (λ b. IsLaidOut head.now b → CountsBefore head.now b place.new)) }
     ensures record { IfOk result (λ found. found ≡ true → IsRecord head.now.mrs out.new) }
-    ensures state { InFrame frame.now (record store.old { disk = answered result store.old.disk }) store.new }
+    ensures state { ReadsInFrame frame.now (record store.old { disk = answered result store.old.disk }) store.new }
+    ensures reads { store.new.reads ≤ store.old.reads + head.now.used * head.now.bucket }
     ensures lent { IsOut store.new.pool frame.now }
 {
     match locate(head, store, frame, n, place) {
@@ -71,7 +73,8 @@ pub fn read_position<D: Disk>(
     ensures stands { IfOk result (λ found. found ≡ true → IfSome store.old.current (Stands head.now out.new)) }
     ensures before { IfOk result (λ found. IfSome store.old.current (λ b. IsLaidOut head.now b → CountsBefore head.now b place.new)) }
     ensures record { IfOk result (λ found. found ≡ true → IsRecord head.now.mrs out.new) }
-    ensures state { store.new ≡ record store.old { disk = answered result store.old.disk } }
+    ensures state { SameButReads (record store.old { disk = answered result store.old.disk }) store.new }
+    ensures reads { store.new.reads ≤ store.old.reads + head.now.used * head.now.bucket }
 {
     let frame = take_frame(store);
     let found = read_in_frame(head, store, &frame, n, place, out);
@@ -90,7 +93,7 @@ fn need_in_frame<D: Disk>(
     requires placed { IsPlaced head.now store.old.disk }
     requires lent { IsOut store.old.pool frame.now }
     ensures need { IfOk result (λ free. IfSome store.old.current (λ b. IsLaidOut head.now b → free ≡ asks head.now b size)) }
-    ensures state { InFrame frame.now (record store.old { disk = answered result store.old.disk }) store.new }
+    ensures state { ReadsInFrame frame.now (record store.old { disk = answered result store.old.disk }) store.new }
     ensures lent { IsOut store.new.pool frame.now }
 {
     match load_slots(head, store, frame, head.used - 1) {
@@ -111,7 +114,7 @@ pub fn need_of<D: Disk>(head: &FileHead, store: &mut Store<D>, size: u16) -> Res
     requires placed { IsPlaced head.now store.old.disk }
     requires frames { 1 ≤ free_frames store.old.pool }
     ensures need { IfOk result (λ free. IfSome store.old.current (λ b. IsLaidOut head.now b → free ≡ asks head.now b size)) }
-    ensures state { store.new ≡ record store.old { disk = answered result store.old.disk } }
+    ensures state { SameButReads (record store.old { disk = answered result store.old.disk }) store.new }
 {
     let frame = take_frame(store);
     let need = need_in_frame(head, store, &frame, size);
@@ -161,7 +164,7 @@ pub fn set_position<D: Disk>(
     requires suits { Suits head.old (Number n) (option_copied value) }
     ensures done { OnOk result (Changes head.old head.new (TakesAt head.old n (option_copied value.entry)) (list_set n (option_copied value.entry)) store.old store.new) }
     ensures head { OnErr result (head.new ≡ head.old) }
-    ensures down { OnErr result (store.new ≡ record store.old { disk = answered result store.old.disk }) }
+    ensures down { OnErr result (SameButReads (record store.old { disk = answered result store.old.disk }) store.new) }
 {
     let frame = take_frame(store);
     match set_at(head, store, &frame, n, value, place) {
@@ -192,7 +195,7 @@ pub fn cut_positions<D: Disk>(
     requires to { n ≤ head.old.count }
     ensures done { OnOk result (Changes head.old head.new (IsLaidOut head.old) (take (n - 1)) store.old store.new) }
     ensures head { OnErr result (head.new ≡ head.old) }
-    ensures down { OnErr result (store.new ≡ record store.old { disk = answered result store.old.disk }) }
+    ensures down { OnErr result (SameButReads (record store.old { disk = answered result store.old.disk }) store.new) }
 {
     let frame = take_frame(store);
     match cut_off(head, store, &frame, n, place) {

@@ -9,7 +9,7 @@ ghost use Rattle.bucket_page.specs.declared.kind.PageKind.TheVariants.{Seq};
 ghost use Rattle.bucket_page.specs.Pages.{slots_of, slot_at, joined, IsBucket};
 ghost use Rattle.seq_file.specs.Records.{list_set};
 ghost use Rattle.seq_file.specs.Layout.{capacity, used_left, CountsBefore, IsRecord, IsSequential, IsLaidOut, Suits, TakesAt};
-ghost use Rattle.seq_file.specs.Frames.{page_in, InFrame, PutBehind, PutAnew, PutOver, Leads, MayWrite};
+ghost use Rattle.seq_file.specs.Frames.{page_in, InFrame, PutBehind, PutAnew, PutOver, Leads, MayWrite, ReadsInFrame};
 
 use crate::bucket::{clear_page, keep_slots, load_slots, push_slot, replace_slot};
 use crate::spot::{Rewrite, Spot};
@@ -80,7 +80,7 @@ fn append<D: Disk>(
     ensures leads { IfOk result (λ found. IfSome found (λ w. IfSome store.old.current (Leads head.now w (page_in head.now store.new frame.now) (TakesAt head.now n (Some value.now)) (list_set n (Some value.now))))) }
     ensures none { IfOk result (λ found. IfNone found (IfSome store.old.current (λ b. TakesAt head.now n (Some value.now) b → ⊥))) }
     ensures may { IfOk result (λ found. IfSome found (MayWrite head.now)) }
-    ensures state { InFrame frame.now (record store.old { disk = answered result store.old.disk }) store.new }
+    ensures state { ReadsInFrame frame.now (record store.old { disk = answered result store.old.disk }) store.new }
     ensures out { IsOut store.new.pool frame.now }
 {
     match load_slots(head, store, frame, head.used - 1) {
@@ -108,7 +108,7 @@ fn overwrite<D: Disk>(
     ensures leads { IfOk result (λ found. IfSome found (λ w. IfSome store.old.current (Leads head.now w (page_in head.now store.new frame.now) (TakesAt head.now n (Some value.now)) (list_set n (Some value.now))))) }
     ensures none { IfOk result (λ found. IfNone found (IfSome store.old.current (λ b. TakesAt head.now n (Some value.now) b → ⊥))) }
     ensures may { IfOk result (λ found. IfSome found (MayWrite head.now)) }
-    ensures state { InFrame frame.now (record store.old { disk = answered result store.old.disk }) store.new }
+    ensures state { ReadsInFrame frame.now (record store.old { disk = answered result store.old.disk }) store.new }
     ensures out { IsOut store.new.pool frame.now }
 {
     match locate(head, store, frame, n, &mut place) {
@@ -176,7 +176,7 @@ pub fn cut_off<D: Disk>(
     ensures leads { IfOk result (λ found. IfSome found (λ w. IfSome store.old.current (Leads head.now w (page_in head.now store.new frame.now) (IsLaidOut head.now) (take (n - 1))))) }
     ensures none { IfOk result (λ found. IfNone found (IfSome store.old.current (λ b. IsLaidOut head.now b → ⊥))) }
     ensures may { IfOk result (λ found. IfSome found (MayWrite head.now)) }
-    ensures state { InFrame frame.now (record store.old { disk = answered result store.old.disk }) store.new }
+    ensures state { ReadsInFrame frame.now (record store.old { disk = answered result store.old.disk }) store.new }
     ensures out { IsOut store.new.pool frame.now }
 {
     match locate(head, store, frame, n, &mut place) {
@@ -211,7 +211,7 @@ pub fn set_at<D: Disk>(
     ensures leads { IfOk result (λ found. IfSome found (λ w. IfSome store.old.current (Leads head.now w (page_in head.now store.new frame.now) (TakesAt head.now n (option_copied value.entry)) (list_set n (option_copied value.entry))))) }
     ensures none { IfOk result (λ found. IfNone found (IfSome store.old.current (λ b. TakesAt head.now n (option_copied value.entry) b → ⊥))) }
     ensures may { IfOk result (λ found. IfSome found (MayWrite head.now)) }
-    ensures state { InFrame frame.now (record store.old { disk = answered result store.old.disk }) store.new }
+    ensures state { ReadsInFrame frame.now (record store.old { disk = answered result store.old.disk }) store.new }
     ensures out { IsOut store.new.pool frame.now }
 {
     match value {

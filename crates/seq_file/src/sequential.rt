@@ -62,7 +62,7 @@ fn set_record<D: Disk>(
 impl RecordFile for SeqFile {
     ghost use Rattle.seq_file.specs.Layout.{map_of, IsSequential, IsFresh, IsLaidOut, Stands, Suits, Takes, asks, used_after, CountsBefore};
     ghost use Rattle.seq_file.specs.Local.{local_law, valid_local_law};
-    ghost use Rattle.std.specs.Prelude.{ℕ, refl};
+    ghost use Rattle.std.specs.Prelude.{ℕ, ◌*◌, refl};
     ghost use Rattle.tree_model.specs.Layouts.{no_layout};
 
     ghost map = { map_of };
@@ -84,6 +84,8 @@ impl RecordFile for SeqFile {
     ghost asks = { asks };
 
     ghost used_after = { λ h blocks held key value. used_after h blocks key value };
+
+    ghost reads = { λ h. h.used * h.bucket };
 
     ghost layout = { λ h blocks. no_layout };
 

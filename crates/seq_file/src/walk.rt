@@ -6,7 +6,7 @@ ghost use Rattle.change_set.specs.Files.{IsPlaced, first_place};
 ghost use Rattle.bucket_page.specs.declared.kind.PageKind.TheVariants.{Seq};
 ghost use Rattle.bucket_page.specs.Pages.{slots_of, IsBucket};
 ghost use Rattle.seq_file.specs.Layout.{IsSequential, IsLaidOut, CountsBefore};
-ghost use Rattle.seq_file.specs.Frames.{page_in, InFrame, IsAt, IsRead};
+ghost use Rattle.seq_file.specs.Frames.{page_in, IsAt, IsRead, ReadsInFrame};
 
 use crate::bucket::load_slots;
 use crate::spot::Spot;
@@ -32,7 +32,8 @@ pub fn locate<D: Disk>(
     requires from { 1 ≤ n }
     requires to { n ≤ head.now.count }
     requires before { IfSome store.old.current (λ b. IsLaidOut head.now b → CountsBefore head.now b place.old) }
-    ensures state { InFrame frame.now (record store.old { disk = answered result store.old.disk }) store.new }
+    ensures state { ReadsInFrame frame.now (record store.old { disk = answered result store.old.disk }) store.new }
+    ensures reads { store.new.reads ≤ store.old.reads + head.now.used * head.now.bucket }
     ensures out { IsOut store.new.pool frame.now }
     ensures bucket { IfOk result (λ found. IfSome found (λ spot. IsBucket Seq (512 * head.now.bucket) (page_in head.now store.new frame.now))) }
     ensures slots { IfOk result (λ found. IfSome found (λ spot. spot.slots ≡ length (slots_of Seq (page_in head.now store.new frame.now)))) }
@@ -60,7 +61,8 @@ fn last_spot<D: Disk>(
     requires placed { IsPlaced head.now store.old.disk }
     requires out { IsOut store.old.pool frame.now }
     requires some { 1 ≤ head.now.count }
-    ensures state { InFrame frame.now (record store.old { disk = answered result store.old.disk }) store.new }
+    ensures state { ReadsInFrame frame.now (record store.old { disk = answered result store.old.disk }) store.new }
+    ensures reads { store.new.reads ≤ store.old.reads + head.now.used * head.now.bucket }
     ensures out { IsOut store.new.pool frame.now }
     ensures bucket { IfOk result (λ found. IfSome found (λ spot. IsBucket Seq (512 * head.now.bucket) (page_in head.now store.new frame.now))) }
     ensures slots { IfOk result (λ found. IfSome found (λ spot. spot.slots ≡ length (slots_of Seq (page_in head.now store.new frame.now)))) }
@@ -115,7 +117,8 @@ fn walk<D: Disk>(
     requires from { 1 ≤ n }
     requires to { n ≤ head.now.count }
     requires before { IfSome store.old.current (λ b. IsLaidOut head.now b → CountsBefore head.now b place.old) }
-    ensures state { InFrame frame.now (record store.old { disk = answered result store.old.disk }) store.new }
+    ensures state { ReadsInFrame frame.now (record store.old { disk = answered result store.old.disk }) store.new }
+    ensures reads { store.new.reads ≤ store.old.reads + head.now.used * head.now.bucket }
     ensures out { IsOut store.new.pool frame.now }
     ensures bucket { IfOk result (λ found. IfSome found (λ spot. IsBucket Seq (512 * head.now.bucket) (page_in head.now store.new frame.now))) }
     ensures slots { IfOk result (λ found. IfSome found (λ spot. spot.slots ≡ length (slots_of Seq (page_in head.now store.new frame.now)))) }

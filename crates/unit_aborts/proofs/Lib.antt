@@ -1,3 +1,4 @@
 pub mod AbortLemmas
 pub mod GrowLemmas
 pub mod TakeLemmas
+pub mod ReadLemmas

@@ -8,6 +8,7 @@ use Rattle.std.proofs.lemmas.List.Elements.{All-head, All-weaker}
 use Rattle.block_disk.specs.Disk.{DiskState}
 use Rattle.careful_write.specs.State.{IsIdle}
 use Rattle.careful_write.specs.Steps.{Quiet}
+use Rattle.careful_write.proofs.Reading.{idle_read}
 use Rattle.change_set.specs.Files.{free_frames}
 use Rattle.file_base.specs.declared.head.FileHead.{FileHead}
 use Rattle.file_base.specs.declared.head.Span.{Span}
@@ -29,7 +30,8 @@ use Rattle.vms_base.specs.declared.outcomes.Reason.TheVariants as reason
 use Rattle.volume.specs.declared.catalog.Catalog.{Catalog}
 use Rattle.volume.specs.Catalogs.{IsSound, head_at}
 use Rattle.volume.specs.Limits.{EntryFits, SaveFits}
-use Rattle.volume.specs.State.{VolumeState, Holds}
+use Rattle.volume.specs.State.{VolumeState, Holds, SameVolume}
+use Rattle.volume.proofs.Reading.{store_of_same}
 use Rattle.volume_format.specs.declared.home.Ending.{Ending}
 use Rattle.volume_format.specs.declared.home.Ending.TheVariants as ending
 use Rattle.volume_format.specs.declared.home.Home.{Home}
@@ -418,3 +420,23 @@ quiet_there d = record { size = refl; calls = refl; faults = refl; stops = refl;
 
 pub quiet_on : (a b c : DiskState) → Quiet a b → Quiet b c → Quiet a c
 quiet_on a b c p q = record { size = q.size ∙ p.size; calls = q.calls ∙ p.calls; faults = q.faults ∙ p.faults; stops = q.stops ∙ p.stops; told = q.told ∙ p.told }
+
+-- units may be taken on a volume that is the same but for reads
+pub take_read : (start : ℕ) (us : List OpenUnit) (clock : ℕ) (v w : VolumeState) → SameVolume v w → MayTake start us clock v → MayTake start us clock w
+take_read start us clock v w same may = record {
+  idle = idle_read v.store w.store (store_of_same v w same) may.idle;
+  holds = subst Holds (sym same) may.holds;
+  node = may.node;
+  sound = subst (λ (x : VolumeState). IsSound may.node x.store.disk.size x.catalog) (sym same) may.sound;
+  least = subst (λ (x : VolumeState). 4096 ≤ x.store.disk.size) (sym same) may.least;
+  most = subst (λ (x : VolumeState). x.store.disk.size ≤ 65536) (sym same) may.most;
+  frames = subst (λ (x : VolumeState). 32 ≤ free_frames x.store.pool) (sym same) may.frames;
+  behind = subst (λ (x : VolumeState). start ≤ x.catalog.ru.first) (sym same) may.behind;
+  ascends = subst (λ (x : VolumeState). x.catalog.ru.first ≤ x.catalog.ru.end) (sym same) may.ascends;
+  room = subst (λ (x : VolumeState). x.catalog.ru.end + 48 * length us ≤ start + ring_size x.catalog.ru) (sym same) may.room;
+  low = subst (λ (x : VolumeState). x.catalog.ru.end + 48 * length us ≤ 2 ^ 62) (sym same) may.low;
+  moment = subst (λ (x : VolumeState). x.catalog.home.greatest_moment.0 + length us ≤ 24000001000066) (sym same) may.moment;
+  clock_bound = may.clock_bound;
+  within = subst (λ (x : VolumeState). AllByRecursion (λ (u : OpenUnit). All (λ p. (start ≤ p) × (p ≤ x.catalog.ru.end)) u.positions) us) (sym same) may.within;
+  positions = subst (λ (x : VolumeState). AscendWithin x.catalog.ru.first x.catalog.ru.end us) (sym same) may.positions;
+}

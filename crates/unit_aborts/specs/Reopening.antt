@@ -17,7 +17,7 @@ use Rattle.vms_base.specs.declared.ids.Tid.{Tid}
 use Rattle.vms_base.specs.declared.outcomes.Reason.TheVariants as reason
 use Rattle.vms_model.specs.Ids.{Id}
 use Rattle.volume.specs.Catalogs.{IsSound}
-use Rattle.volume.specs.State.{VolumeState, Holds}
+use Rattle.volume.specs.State.{Holds, SameVolume, VolumeState}
 use Rattle.unit_aborts.specs.declared.reopening.AbortedUnit.{AbortedUnit}
 use Rattle.unit_aborts.specs.Aborting.{Abortion, Aborts, BreaksOff, MayAbort}
 
@@ -71,7 +71,7 @@ pub record UndoesOne (clock : ℕ) (u : UnitTold) (left : List (Option OpenUnit)
 
 -- So many of the units were aborted, one after another, and these settlements were made.
 abbrev pub HasTaken : (clock : ℕ) → List UnitTold → ℕ → (v w : VolumeState) → List AbortedUnit → Type 0
-HasTaken clock us zero v w out = (w ≡ v) × (out ≡ [])
+HasTaken clock us zero v w out = SameVolume v w × (out ≡ [])
 HasTaken clock us (suc k) v w out =
     (mid : VolumeState) × (before : List AbortedUnit) × (u : UnitTold) × (t : AbortedUnit) × HasTaken clock us k v mid before × (next_of (left_after k us) ≡ Some u) × UndoesOne clock u (left_units (left_after (suc k) us)) t v mid w × (out ≡ before ++ t ∷ [])
 
@@ -148,8 +148,8 @@ pub record AreLeft (us : List UnitTold) (many : ℕ) (v : VolumeState) (left : L
 
 -- Nothing was done, since the journal is not in order or has not the room, and no unit is told; or all of its units were taken that are not prepared, and these are left.
 pub data Reopens (clock : ℕ) (v w : VolumeState) (out : List AbortedUnit) (left : List OpenUnit) : Type 0 where
-  broken : IsOutOfOrder v → w ≡ v → out ≡ [] → left ≡ [] → Reopens clock v w out left
-  full : (us : List UnitTold) → AreUnits us v → IsTooFull us v → w ≡ v → out ≡ [] → left ≡ [] → Reopens clock v w out left
+  broken : IsOutOfOrder v → SameVolume v w → out ≡ [] → left ≡ [] → Reopens clock v w out left
+  full : (us : List UnitTold) → AreUnits us v → IsTooFull us v → SameVolume v w → out ≡ [] → left ≡ [] → Reopens clock v w out left
   taken : (us : List UnitTold) (many : ℕ) → AreUnits us v → HasTaken clock us many v w out → next_of (left_after many us) ≡ None → AreLeft us many v left → Reopens clock v w out left
 
 -- The disk went down before anything was made; or so many of the units were taken, and then it did, at the next one.

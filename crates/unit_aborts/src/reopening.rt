@@ -7,6 +7,7 @@ ghost use Rattle.unit_journal.specs.Groups.{LeavesOld};
 ghost use Rattle.journal_model.specs.Ring.{ring_size};
 ghost use Rattle.unit_entries.specs.Opening.{AreAlike, AscendWithin, BeginWithin};
 ghost use Rattle.unit_table.specs.Units.{IsFirst, OpenUnit, begun, first_that, is_active, without_first};
+ghost use Rattle.volume.specs.State.{SameVolume};
 ghost use Rattle.unit_aborts.specs.Reopening.{AreFoundIn, AreUnits, BreaksOne, IsOutOfOrder, MayReopen, MayTake, Reopens, ReopensNot, UndoesUnit};
 ghost use Rattle.unit_aborts.specs.Growing.{AreTold, GrowsBy};
 ghost use Rattle.unit_aborts.specs.Aborting.{MayAbort};
@@ -100,7 +101,7 @@ fn read_units<D: Disk>(
     ensures found { IfOk result (λ whole. whole ≡ true → AreFoundIn volume.old (begun units.new)) }
     ensures within { IfOk result (λ whole. whole ≡ true → BeginWithin volume.old.catalog.ru (begun units.new)) }
     ensures ascends { IfOk result (λ whole. whole ≡ true → AscendWithin volume.old.catalog.ru.first volume.old.catalog.ru.end (begun units.new)) }
-    ensures same { OnOk result (volume.new ≡ volume.old) }
+    ensures same { OnOk result (SameVolume volume.old volume.new) }
     ensures down { OnErr result (LeavesOld volume.old volume.new.store.disk) }
     ensures kept { volume.new.catalog ≡ volume.old.catalog }
     ensures counts { Counts result volume.old.store.disk volume.new.store.disk }

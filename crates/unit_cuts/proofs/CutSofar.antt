@@ -25,6 +25,7 @@ use Rattle.vms_model.specs.Keys.{Key, Number}
 use Rattle.volume.specs.State.{VolumeState}
 use Rattle.unit_cuts.specs.Records.{OfRecords}
 use Rattle.unit_cuts.specs.Truncating.{AreBegun, CutRoomState, EntersIfFits, EntersOne, Entering, IsBehind, IsPlaceOf, IsTold, TellsFirst, TellsSame, Writes, cut_entries, entry_sizes, keys_cut, keys_down, removed_from, with_entries}
+use Rattle.unit_cuts.proofs.Reading.{entering_to}
 use Rattle.unit_cuts.proofs.CutLemmas.{keys_back, keys_split}
 use Rattle.unit_cuts.proofs.EntrySizes.{spelled_size}
 use Rattle.unit_cuts.proofs.CutEntering.{LiesPast, begins_more, current_more, current_none, each_more, entries_long, entries_more, laid_back, laid_stays, map_stays, places_stay, same_entries, same_none, sizes_append, span_more, span_none}
@@ -158,7 +159,7 @@ module _ (tid serial : Id) (file : ℕ) (h : FileHead) (from limit : ℕ) (v : V
       }
       sofar_more x t next below places (inr pa) = record {
         entries = es;
-        entering = subst (λ (ps : List ℕ). Entering limit v x t ps es) (sym pa.positions) (subst (λ (u : Span). Entering limit v x u room.positions es) (sym pa.span) (subst (λ (y : VolumeState). Entering limit v y s room.positions es) (sym pa.same) sofar.entering));
+        entering = subst (λ (ps : List ℕ). Entering limit v x t ps es) (sym pa.positions) (subst (λ (u : Span). Entering limit v x u room.positions es) (sym pa.span) (entering_to w x pa.same limit v s room.positions es sofar.entering));
         tells = λ a told form laid all. let fits = fits_so below a told form laid all (sofar.tells a told form laid all) in let long = pa.long in let no : ⊥ = omega (arith, fits, long) in absurd no;
         staged = let before = sofar.staged in let same = ap (λ (y : VolumeState). length y.store.touched) pa.same in omega (arith, before, same);
         many = let before = sofar.many in let long = ap length pa.positions in omega (arith, before, long);

@@ -4,3 +4,4 @@ pub mod CutMade
 pub mod CutSofar
 pub mod EntrySizes
 pub mod Outcomes
+pub mod Reading

@@ -1,7 +1,8 @@
 -- The records of a sequential file that a truncation takes, their entries, and what taking them makes of a volume.
-use Rattle.std.specs.Prelude.{◌≡◌, ◌≤◌, ◌<◌, ◌⊎◌, ℕ, zero, suc, ◌+◌, ◌-◌, ◌==◌, ◌&&◌, ◌++◌, List, [], ◌∷◌, Option, Some, None, MatchOption, IsSomeAnd, length, option_map, slice_set, nat_le, if◌then◌else◌}
+use Rattle.std.specs.Prelude.{◌≡◌, ◌≤◌, ◌<◌, ◌⊎◌, ℕ, zero, suc, ◌+◌, ◌-◌, ◌&&◌, ◌++◌, List, [], ◌∷◌, Option, Some, None, MatchOption, IsSomeAnd, length, option_map, slice_set, nat_le, if◌then◌else◌}
 use Rattle.std.specs.List.{AllByRecursion, flat_map}
 use Rattle.block_disk.specs.Disk.{DiskState}
+use Rattle.careful_write.specs.Reads.{SameButReads}
 use Rattle.careful_write.specs.State.{IsReady, Leaves, content}
 use Rattle.careful_write.specs.Steps.{Quiet}
 use Rattle.change_set.specs.Maps.{Map}
@@ -19,7 +20,7 @@ use Rattle.unit_table.specs.Units.{OpenUnit}
 use Rattle.vms_base.specs.declared.ids.Tid.{Tid}
 use Rattle.vms_model.specs.Ids.{Id}
 use Rattle.vms_model.specs.Keys.{Key, Number}
-use Rattle.volume.specs.State.{VolumeState}
+use Rattle.volume.specs.State.{SameVolume, VolumeState}
 use Rattle.volume_files.specs.Staging.{StagesFile, TellsCut}
 use Rattle.volume_format.specs.declared.home.Ending.TheVariants as ending
 use Rattle.volume_format.specs.Home.{ru_block_of}
@@ -96,7 +97,7 @@ pub record EntersOne (bytes : List ℕ) (limit : ℕ) (s t : Span) (ps qs : List
   pub span : t ≡ longer (length bytes) s
   pub positions : qs ≡ ps ++ s.end ∷ []
   pub current : w.store.current ≡ option_map (λ c. put_stream c s s.end bytes) v.store.current
-  pub rest : w.store ≡ record v.store { current = w.store.current; touched = w.store.touched }
+  pub rest : SameButReads (record v.store { current = w.store.current; touched = w.store.touched }) w.store
   pub catalog : w.catalog ≡ v.catalog
   pub few : length w.store.touched ≤ length v.store.touched + 18
 
@@ -105,7 +106,7 @@ pub record PassesOne (bytes : List ℕ) (limit : ℕ) (s t : Span) (ps qs : List
   pub long : limit < s.end + length bytes
   pub span : t ≡ s
   pub positions : qs ≡ ps
-  pub same : w ≡ v
+  pub same : SameVolume v w
 
 abbrev pub EntersIfFits : (bytes : List ℕ) → (limit : ℕ) → (s t : Span) → (ps qs : List ℕ) → (v w : VolumeState) → Type 0
 EntersIfFits bytes limit s t ps qs v w = EntersOne bytes limit s t ps qs v w ⊎ PassesOne bytes limit s t ps qs v w

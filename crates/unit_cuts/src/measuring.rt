@@ -6,6 +6,7 @@ ghost use Rattle.file_base.specs.declared.head.Organization.TheVariants as organ
 ghost use Rattle.record_files.specs.Any.{Begins, IsFile, IsLaidOut};
 ghost use Rattle.unit_journal.specs.Leaving.{FellIn};
 ghost use Rattle.unit_journal.specs.Room.{entry_size as size_said};
+ghost use Rattle.volume.specs.State.{SameVolume};
 ghost use Rattle.vms_model.specs.Keys.{Number};
 ghost use Rattle.vms_model.specs.Keys as model;
 ghost use Rattle.unit_cuts.specs.Records.{OfRecords};
@@ -139,7 +140,7 @@ fn measure_record<D: Disk>(
     ensures more { OnOk result (length room.new.places ≡ length room.old.places + 1) }
     ensures places { OnOk result (AreBegun cut.now.head volume.old room.new.places) }
     ensures positions { room.new.positions ≡ room.old.positions }
-    ensures same { OnOk result (volume.new ≡ volume.old) }
+    ensures same { OnOk result (SameVolume volume.old volume.new) }
     ensures down { IfErr result (λ down. FellIn down volume.old volume.new) }
 {
     let key = Key::Number(n);
@@ -166,7 +167,7 @@ pub fn measure<D: Disk>(
     ensures most { IfOk result (λ size. size ≤ 8272 * 1024) }
     ensures places { OnOk result (AreBegun cut.now.head volume.old room.new.places) }
     ensures positions { room.new.positions ≡ [] }
-    ensures same { OnOk result (volume.new ≡ volume.old) }
+    ensures same { OnOk result (SameVolume volume.old volume.new) }
     ensures down { IfErr result (λ down. FellIn down volume.old volume.new) }
 {
     room.clear();

@@ -1,6 +1,7 @@
 -- Groups of which the disk went down.
 use Rattle.std.proofs.Common.{◌≡◌, ℕ, List, Option, sym, ap, subst, ◌∙◌, inr}
 use Rattle.careful_write.specs.Down.{went_down}
+use Rattle.careful_write.specs.Reads.{SameButReads}
 use Rattle.careful_write.specs.State.{IsEither, IsReady, Leaves, OneContent, StoreState, content}
 use Rattle.careful_write.specs.declared.down.Down.{Down}
 use Rattle.volume.specs.State.{VolumeState}
@@ -13,7 +14,7 @@ went_old : (down : Down) (v : VolumeState) → OneContent → IsReady v.store �
 went_old down v one ready = one (record v.store { disk = went_down down v.store.disk }) (record { fitting = ready.fitting; settled = ready.settled; closed = ready.closed })
 
 -- the disk of a store of which only other blocks were staged
-pub staged_disk : (v mid : VolumeState) → mid.store ≡ record v.store { current = mid.store.current; touched = mid.store.touched } → mid.store.disk ≡ v.store.disk
+pub staged_disk : (v mid : VolumeState) → SameButReads (record v.store { current = mid.store.current; touched = mid.store.touched }) mid.store → mid.store.disk ≡ v.store.disk
 staged_disk v mid rest = ap (λ (s : StoreState). s.disk) rest
 
 pub fell_disk : (down : Down) (v w : VolumeState) → FellIn down v w → w.store.disk ≡ went_down down v.store.disk

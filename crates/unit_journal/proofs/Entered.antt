@@ -28,7 +28,7 @@ with_span s bs (Some c) = refl
 
 -- a store of which the disk went down in a call that left nothing staged
 pub fell_store : (down : Down) (v : VolumeState) (s : StoreState) → Fell down v.store s → FellIn down v (record v { store = s })
-fell_store down v s fell = λ i. record v { store = record { disk = fell.disk i; current = fell.current i; touched = fell.touched i; pool = fell.pool i; fits = fell.fits i } }
+fell_store down v s fell = λ i. record v { store = record { disk = fell.disk i; current = fell.current i; touched = fell.touched i; pool = fell.pool i; fits = fell.fits i; reads = s.reads } }
 
 -- nothing is entered
 pub same_content : (s : Span) (old : Option (List (List ℕ))) → old ≡ option_map (content_with None s) old

@@ -9,7 +9,7 @@ use Rattle.careful_write.specs.declared.down.Down.{Down}
 use Rattle.careful_write.specs.declared.down.Down.TheVariants as down
 use Rattle.change_set.specs.Files.{fell}
 use Rattle.transcript_model.specs.Outside.{Rose}
-use Rattle.volume.specs.State.{VolumeState}
+use Rattle.volume.specs.State.{SameVolume, VolumeState}
 use Rattle.unit_journal.specs.Leaving.{FellIn}
 use Rattle.unit_journal.specs.Groups.{Caused, Goes, HasRisen}
 
@@ -63,10 +63,10 @@ fell_goes down v w is = subst (λ (x : VolumeState). Goes v.store.disk x.store.d
 pub fell_caused : (down : Down) (v w : VolumeState) → FellIn down v w → Caused (Some down) v.store.disk w.store.disk
 fell_caused down v w is = subst (λ (x : VolumeState). HasRisen down v.store.disk x.store.disk) (sym is) (counts_cause (Unit {0}) down v.store.disk (went_down down v.store.disk) (counts_answered down v.store.disk))
 
-pub same_goes : (v w : VolumeState) → w ≡ v → Goes v.store.disk w.store.disk
+pub same_goes : (v w : VolumeState) → SameVolume v w → Goes v.store.disk w.store.disk
 same_goes v w is = subst (λ (x : VolumeState). Goes v.store.disk x.store.disk) (sym is) (goes_nowhere v.store.disk)
 
 -- a call that read went down
-pub fell_in : (T : Type 0) (down : Down) (v w : VolumeState) → (let r : Result T Down = Err down in w ≡ record v { store = fell r v.store }) → FellIn down v w
+pub fell_in : (T : Type 0) (down : Down) (v w : VolumeState) → (let r : Result T Down = Err down in SameVolume (record v { store = fell r v.store }) w) → FellIn down v w
 fell_in T down.Failed v w is = is
 fell_in T down.Stopped v w is = is

@@ -1,5 +1,6 @@
 -- A settlement, from what is entered and what is staged behind that.
 use Rattle.std.proofs.Common.{◌≡◌, ℕ, List, Option, Some, None, option_map, slice_set, refl, sym, ap, subst, ◌∙◌}
+use Rattle.careful_write.specs.Reads.{SameButReads}
 use Rattle.careful_write.specs.State.{StoreState, content}
 use Rattle.journal_model.specs.Entries.{Entry}
 use Rattle.unit_table.specs.Units.{OpenUnit, earliest}
@@ -33,7 +34,7 @@ module _ (tid : Tid) (serial : Serial) (ending : Ending) (moment : ℕ) (e : Opt
   }
 
   -- and the disk's content is as it was
-  pub unmoved : mid.store ≡ record v.store { current = mid.store.current; touched = mid.store.touched } → IsStaged → content made.store ≡ content v.store
+  pub unmoved : SameButReads (record v.store { current = mid.store.current; touched = mid.store.touched }) mid.store → IsStaged → content made.store ≡ content v.store
   unmoved rest staged = ap content staged ∙ ap content rest
 
   -- so from the position on that is the earliest
@@ -47,7 +48,7 @@ module _ (tid : Tid) (serial : Serial) (ending : Ending) (moment : ℕ) (e : Opt
       MakesSettlement tid serial ending moment e left v made
   makes_from first is entered span staged catalog = makes entered span (subst IsStagedFrom (sym is) staged) (subst StartsFrom (sym is) catalog)
 
-  pub unmoved_from : (first : Option ℕ) → mid.store ≡ record v.store { current = mid.store.current; touched = mid.store.touched } → IsStagedFrom first → content made.store ≡ content v.store
+  pub unmoved_from : (first : Option ℕ) → SameButReads (record v.store { current = mid.store.current; touched = mid.store.touched }) mid.store → IsStagedFrom first → content made.store ≡ content v.store
   unmoved_from first rest staged = ap content staged ∙ ap content rest
 
   pub starts_from : (first : Option ℕ) → mid.catalog ≡ record v.catalog { ru = span_with e v.catalog.ru } → StartsFrom first → made.catalog ≡ record v.catalog { home = settled_home tid serial ending moment v.catalog.home; ru = starting first (span_with e v.catalog.ru) }

@@ -1,6 +1,7 @@
 // Entries that are entered in the journal.
 ghost use Rattle.std.specs.Prelude.{◌≡◌, ◌≤◌, ◌<◌, ◌+◌, ◌-◌, ◌^◌, OnOk, IfErr, IfSome, IsSome, length, option_map};
 ghost use Rattle.std.specs.Option.{option_and_then};
+ghost use Rattle.careful_write.specs.Reads.{SameButReads};
 ghost use Rattle.careful_write.specs.State.{IsReady};
 ghost use Rattle.journal_model.specs.Ring.{ring_size};
 ghost use Rattle.journal_store.specs.Rings.{IsRing};
@@ -63,7 +64,7 @@ pub fn enter<D: Disk>(volume: &mut Volume<D>, entry: &EntryBuf) -> Result<(), Do
     requires room { volume.old.catalog.ru.end - volume.old.catalog.ru.first + length entry.now ≤ ring_size volume.old.catalog.ru }
     requires staged { length volume.old.store.touched ≤ 480 }
     ensures current { OnOk result (volume.new.store.current ≡ option_map (entered volume.old.catalog.ru entry.now) volume.old.store.current) }
-    ensures rest { OnOk result (volume.new.store ≡ record volume.old.store { current = volume.new.store.current; touched = volume.new.store.touched }) }
+    ensures rest { OnOk result (SameButReads (record volume.old.store { current = volume.new.store.current; touched = volume.new.store.touched }) volume.new.store) }
     ensures catalog { OnOk result (volume.new.catalog ≡ record volume.old.catalog { ru = longer (length entry.now) volume.old.catalog.ru }) }
     ensures few { OnOk result (length volume.new.store.touched ≤ length volume.old.store.touched + 19) }
     ensures holds { OnOk result (Holds volume.old → Holds volume.new) }

@@ -1,6 +1,7 @@
 // Settlements.
 ghost use Rattle.std.specs.Prelude.{◌≡◌, ◌≤◌, ◌<◌, ◌+◌, ◌-◌, true, List, Option, OnOk, OnErr, IfErr, length, option_map, if◌then◌else◌};
 ghost use Rattle.careful_write.specs.Down.{Counts};
+ghost use Rattle.careful_write.specs.Reads.{SameButReads};
 ghost use Rattle.careful_write.specs.State.{IsIdle, IsReady, OneContent};
 ghost use Rattle.journal_model.specs.Ring.{ring_size};
 ghost use Rattle.journal_store.specs.Rings.{IsRing};
@@ -120,7 +121,7 @@ fn enter_settled<D: Disk>(
     requires room { has_changed ≡ true → volume.old.catalog.ru.end - volume.old.catalog.ru.first + 48 ≤ ring_size volume.old.catalog.ru }
     requires staged { length volume.old.store.touched ≤ 450 }
     ensures current { OnOk result (volume.new.store.current ≡ option_map (content_with (entry_if has_changed (settled_entry (tid_of branch.now.tid) (serial_of branch.now.serial) (outcome_of outcome) moment.0)) volume.old.catalog.ru) volume.old.store.current) }
-    ensures rest { OnOk result (volume.new.store ≡ record volume.old.store { current = volume.new.store.current; touched = volume.new.store.touched }) }
+    ensures rest { OnOk result (SameButReads (record volume.old.store { current = volume.new.store.current; touched = volume.new.store.touched }) volume.new.store) }
     ensures catalog { OnOk result (volume.new.catalog ≡ record volume.old.catalog { ru = span_with (entry_if has_changed (settled_entry (tid_of branch.now.tid) (serial_of branch.now.serial) (outcome_of outcome) moment.0)) volume.old.catalog.ru }) }
     ensures end { OnOk result (volume.new.catalog.ru.end ≡ volume.old.catalog.ru.end + (if has_changed then 48 else 0)) }
     ensures few { OnOk result (length volume.new.store.touched ≤ length volume.old.store.touched + 19) }

@@ -14,6 +14,7 @@ ghost use Rattle.unit_entries.specs.Opening.{AscendWithin};
 ghost use Rattle.unit_journal.specs.Groups.{LeavesOld};
 ghost use Rattle.unit_returns.specs.Arranging.{AreArranged};
 ghost use Rattle.unit_table.specs.Units.{begun, no_units, owed};
+ghost use Rattle.volume.specs.State.{SameVolume};
 ghost use Rattle.unit_restarts.specs.Restarting.{Restarts, RestartsNot};
 
 use crate::restarted::Restarted;
@@ -70,7 +71,7 @@ fn list_records<D: Disk>(
     ensures listed_room { 64 ≤ vec_capacity listed.new }
     ensures prepared_room { 64 ≤ vec_capacity prepared.new }
     ensures committed_room { 512 ≤ vec_capacity committed.new }
-    ensures same { OnOk result (volume.new ≡ volume.old) }
+    ensures same { OnOk result (SameVolume volume.old volume.new) }
     ensures down { OnErr result (LeavesOld volume.old volume.new.store.disk) }
     ensures kept { volume.new.catalog ≡ volume.old.catalog }
     ensures counts { Counts result volume.old.store.disk volume.new.store.disk }

@@ -1,14 +1,10 @@
 -- Keys are locked one after another.
-use Rattle.std.proofs.Common.{◌≡◌, ℕ, suc, ◌+◌, ◌<◌, ◌≤◌, ◌==◌, ◌&&◌, ◌||◌, nat_le, Bool, true, false, List, [], ◌∷◌, ◌++◌, Option, Some, None, Result, Ok, Err, OnOk, OnErr, if◌then◌else◌, length, map, refl, sym, ap, subst, ◌∙◌, arith, length-append}
-use Rattle.std.specs.List.{list_any}
+use Rattle.std.proofs.Common.{◌≡◌, ℕ, suc, ◌≤◌, ◌==◌, ◌&&◌, ◌||◌, nat_le, Bool, true, false, List, [], ◌∷◌, ◌++◌, Option, Some, None, Result, Ok, Err, OnOk, OnErr, if◌then◌else◌, length, map, refl, sym, ap, subst, ◌∙◌, arith, length-append}
 use Rattle.std.proofs.lemmas.Bool.{leb-false, leb-true}
-use Rattle.std.proofs.lemmas.Bool.Decides.{nat_tests}
 use Rattle.std.specs.Ordering.{eq_by_cmp}
 use Rattle.file_base.specs.declared.head.FileHead.{FileHead}
 use Rattle.file_base.specs.declared.head.Organization.{Organization}
 use Rattle.file_base.specs.declared.head.Organization.TheVariants.{Indexed, Relative, Sequential}
-use Rattle.journal_format.specs.Heads.{entry_of}
-use Rattle.journal_format.specs.declared.head.EntryHead.{EntryHead}
 use Rattle.journal_model.specs.Entries.{Entry}
 use Rattle.record_locks.specs.Locks.{Full, Held, Lock, LockTable, Refusal, holder, is_lock_of, is_locked, lock_refused, not_locked, with_locks}
 use Rattle.record_locks.specs.Refusals.{refusal_of}
@@ -16,7 +12,6 @@ use Rattle.record_locks.specs.declared.locks.LockErr.{LockErr}
 use Rattle.record_locks.specs.declared.locks.LockErr.TheVariants as refused
 use Rattle.record_locks.proofs.LockLemmas.{locked_already, locked_now}
 use Rattle.records_model.specs.Records.{key_cmp}
-use Rattle.records_model.specs.History.{same_id}
 use Rattle.vms_model.specs.Ids.{Id}
 use Rattle.vms_model.specs.Keys.{End, Key, Number, Text}
 use Rattle.volume.specs.Catalogs.{head_at}

@@ -2,12 +2,11 @@
 use Rattle.std.proofs.Common.{◌≡◌, ℕ, zero, suc, ◌+◌, ◌<◌, ◌≤◌, ◌==◌, Bool, true, false, List, [], ◌∷◌, ◌++◌, Option, Some, None, IfSome, if◌then◌else◌, length, map, remove, get_or, slice_get, refl, sym, ap, subst, ◌∙◌, arith, append-nil, append_assoc}
 use Rattle.std.proofs.lemmas.List.{map-append}
 use Rattle.commit_protocol.specs.Messages.{LogRecord}
-use Rattle.file_base.specs.declared.head.Span.{Span}
 use Rattle.journal_format.specs.Heads.{entry_of}
 use Rattle.journal_format.specs.declared.head.EntryHead.{EntryHead}
 use Rattle.journal_model.specs.Entries.{Entry}
 use Rattle.journal_model.specs.Ring.{IsJournal}
-use Rattle.journal_store.specs.Reading.{ReadsAt, Stands}
+use Rattle.journal_store.specs.Reading.{ReadsAt}
 use Rattle.records_model.specs.History.{same_id}
 use Rattle.run_model.specs.World.{find_record, records_by, without_record}
 use Rattle.tm_types.specs.Parts.{log_record_of}

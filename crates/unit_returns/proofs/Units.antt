@@ -1,26 +1,25 @@
 -- Units that come back, entry by entry and unit by unit.
-use Rattle.std.proofs.Common.{◌≡◌, ℕ, zero, suc, ◌+◌, ◌-◌, ◌<◌, ◌≤◌, ◌^◌, true, List, [], ◌∷◌, ◌++◌, Option, Some, None, Result, Ok, Err, OnOk, length, take, drop, get_or, refl, sym, ap, subst, ◌∙◌, arith, append-nil, append_assoc, get_or-set_same, length-set}
+use Rattle.std.proofs.Common.{◌≡◌, ℕ, ◌-◌, ◌<◌, ◌≤◌, true, List, [], ◌∷◌, ◌++◌, Option, Some, None, Result, Ok, Err, OnOk, length, take, drop, get_or, refl, sym, ap, subst, ◌∙◌, arith, append-nil, append_assoc, get_or-set_same, length-set}
 use Rattle.std.specs.Prelude.{IfSome, IsSome, slice_set}
 use Rattle.std.specs.List.{AllByRecursion}
 use Rattle.std.proofs.lemmas.Bool.Decides.{nat_tests}
 use Rattle.std.proofs.lemmas.List.{set-get_or, set-set, take_all}
 use Rattle.commit_protocol.specs.Messages.{LogRecord}
 use Rattle.file_base.specs.declared.head.FileHead.{FileHead}
-use Rattle.file_base.specs.declared.head.Span.{Span}
 use Rattle.journal_format.specs.Heads.{entry_of}
 use Rattle.journal_format.specs.declared.head.EntryHead.{EntryHead}
 use Rattle.journal_model.specs.Entries.{Entry, is_key}
-use Rattle.journal_store.specs.Reading.{ReadsAt, Stands}
+use Rattle.journal_store.specs.Reading.{ReadsAt}
 use Rattle.record_locks.specs.Locks.{Lock, LockTable, with_locks}
 use Rattle.unit_entries.specs.Collecting.{AreChangesAt}
-use Rattle.unit_entries.proofs.StoreLemmas.{of_any, of_both}
+use Rattle.unit_entries.proofs.StoreLemmas.{of_any, of_both, of_content}
 use Rattle.unit_table.proofs.OrderLemmas.{at_below}
 use Rattle.unit_table.specs.Units.{OpenUnit, Units, begun, first_that, is_of, new_unit, prepared_unit, unit_at, unit_back, with_begun, with_file, with_unit, without_first}
 use Rattle.vms_model.specs.Ids.{Id}
 use Rattle.volume.specs.Catalogs.{head_at}
-use Rattle.volume.specs.State.{VolumeState}
+use Rattle.volume.specs.State.{SameVolume, VolumeState}
 use Rattle.unit_returns.specs.Locking.{Holds, files_in, files_onto, keys_left, relocked_by}
-use Rattle.unit_returns.specs.Returning.{AreAllChangesAt, AreOfRecords, AreTakenUp, HoldChanges, HoldsUnit, IsTakenUp, StayFew, TakeChanges, positions_left, relocked}
+use Rattle.unit_returns.specs.Returning.{AreAllChangesAt, AreTakenUp, HoldChanges, HoldsUnit, IsTakenUp, StayFew, TakeChanges, positions_left, relocked}
 use Rattle.unit_returns.proofs.Locks.{relocked_longer}
 
 pub if_some : {T : Type 0} (o : Option T) {P : T → Type 0} → ((x : T) → o ≡ Some x → P x) → IfSome o P
@@ -94,6 +93,25 @@ held_nothing v by place s ls = if_some (unit_at s.places place) (λ u at. record
     go : (u : OpenUnit) (c : List (List ℕ)) (es : List Entry) → AreChangesAt v.catalog.ru [] es c → (u.files ≡ files_onto u.files es) × (length (relocked_by v.catalog.heads by es ls.locks) ≤ ls.most → ls.locks ≡ relocked_by v.catalog.heads by es ls.locks)
     go u c [] changes = (refl, λ room. refl)
     go u c (e ∷ es) changes = absurd changes
+
+-- what is said of a volume is said of one that is the same but for reads
+pub holds_read : (v w : VolumeState) (ps : List ℕ) (by : Id) (place : ℕ) (s t : Units) (ls ms : LockTable) → SameVolume v w → IfSome (unit_at s.places place) (λ (u : OpenUnit). HoldsUnit w ps by place u s t ls ms) →
+    IfSome (unit_at s.places place) (λ (u : OpenUnit). HoldsUnit v ps by place u s t ls ms)
+holds_read v w ps by place s t ls ms same = of_content (unit_at s.places place) (λ u (h : HoldsUnit w ps by place u s t ls ms). record {
+  files = h.files;
+  table = h.table;
+  told = subst (λ (x : VolumeState). IfSome x.store.current (λ c. (es : List Entry) → AreChangesAt x.catalog.ru ps es c →
+      (h.files ≡ files_onto u.files es) × (length (relocked_by x.catalog.heads by es ls.locks) ≤ ls.most → ms.locks ≡ relocked_by x.catalog.heads by es ls.locks))) same h.told;
+})
+
+pub taken_read : (rs : List LogRecord) (left : List OpenUnit) (v w : VolumeState) (old new : List OpenUnit) (ls ms : LockTable) → SameVolume v w → AreTakenUp rs left w old new ls ms → AreTakenUp rs left v old new ls ms
+taken_read rs left v w old new ls ms same taken = record {
+  units = taken.units;
+  behind = taken.behind;
+  records = taken.records;
+  changes = taken.changes;
+  hold = subst (λ (x : VolumeState). IfSome x.store.current (λ c. (ess : List (List Entry)) → AreAllChangesAt x.catalog.ru taken.units ess c → HoldChanges x.catalog.heads ls.most taken.units ess ls.locks ms.locks)) same taken.hold;
+}
 
 module _ (v : VolumeState) (p : ℕ) (ps : List ℕ) (by : Id) (place : ℕ) (s t1 t2 : Units) (l0 l1 l2 : LockTable) where
   -- an entry is read

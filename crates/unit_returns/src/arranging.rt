@@ -10,6 +10,7 @@ ghost use Rattle.tm_types.specs.Parts.{log_record_of};
 ghost use Rattle.unit_journal.specs.Groups.{LeavesOld};
 ghost use Rattle.vms_base.specs.Ids.{serial_of};
 ghost use Rattle.vms_model.specs.Ids.{Id};
+ghost use Rattle.volume.specs.State.{SameVolume};
 ghost use Rattle.unit_returns.specs.Arranging.{AreArranged, IsPlaceOf, IsVoted, votes_in};
 
 use crate::reading::read_entry;
@@ -88,7 +89,7 @@ fn take_votes<D: Disk>(
     ensures count { length out.new.items + length rest.new.items ≡ length out.old.items + length rest.old.items }
     ensures room { vec_capacity out.old ≤ vec_capacity out.new }
     ensures left { vec_capacity rest.old ≤ vec_capacity rest.new }
-    ensures same { OnOk result (volume.new ≡ volume.old) }
+    ensures same { OnOk result (SameVolume volume.old volume.new) }
     ensures down { OnErr result (LeavesOld volume.old volume.new.store.disk) }
     ensures kept { volume.new.catalog ≡ volume.old.catalog }
     ensures counts { Counts result volume.old.store.disk volume.new.store.disk }
@@ -142,7 +143,7 @@ pub fn arrange<D: Disk>(
     ensures count { OnOk result (length out.new.items ≡ length records.old.items) }
     ensures room { vec_capacity out.old ≤ vec_capacity out.new }
     ensures left { vec_capacity records.old ≤ vec_capacity records.new }
-    ensures same { OnOk result (volume.new ≡ volume.old) }
+    ensures same { OnOk result (SameVolume volume.old volume.new) }
     ensures down { OnErr result (LeavesOld volume.old volume.new.store.disk) }
     ensures kept { volume.new.catalog ≡ volume.old.catalog }
     ensures counts { Counts result volume.old.store.disk volume.new.store.disk }

@@ -9,6 +9,7 @@ ghost use Rattle.unit_journal.specs.Groups.{LeavesOld};
 ghost use Rattle.unit_table.specs.Units.{unit_at};
 ghost use Rattle.vms_base.specs.Ids.{serial_of};
 ghost use Rattle.vms_base.specs.Keys.{key_of};
+ghost use Rattle.volume.specs.State.{SameVolume};
 ghost use Rattle.unit_returns.specs.Locking.{Holds, keys_left, keys_with_end, moves_end as moves_end_said};
 ghost use Rattle.unit_returns.specs.Returning.{HoldsUnit, StayFew};
 
@@ -78,7 +79,7 @@ pub(crate) fn hold_changes<D: Disk>(
     requires there { IsSome (unit_at table.old.places place) }
     ensures held { OnOk result (IfSome (unit_at table.old.places place) (λ u. HoldsUnit volume.old positions.now (serial_of by.now) place u table.old table.new locks.old locks.new)) }
     ensures few { StayFew locks.old locks.new }
-    ensures same { OnOk result (volume.new ≡ volume.old) }
+    ensures same { OnOk result (SameVolume volume.old volume.new) }
     ensures down { OnErr result (LeavesOld volume.old volume.new.store.disk) }
     ensures kept { volume.new.catalog ≡ volume.old.catalog }
     ensures counts { Counts result volume.old.store.disk volume.new.store.disk }

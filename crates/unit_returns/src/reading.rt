@@ -5,6 +5,7 @@ ghost use Rattle.careful_write.specs.State.{IsReady};
 ghost use Rattle.journal_store.specs.Reading.{ReadsAt};
 ghost use Rattle.journal_store.specs.Rings.{IsRing};
 ghost use Rattle.unit_journal.specs.Groups.{LeavesOld};
+ghost use Rattle.volume.specs.State.{SameVolume};
 
 use block_disk::Disk;
 use careful_write::{Down, one_content};
@@ -24,7 +25,7 @@ pub(crate) fn read_entry<D: Disk>(
     requires low { position ≤ 2 ^ 62 }
     ensures entry { IfOk result (λ r. IfSome volume.old.store.current (ReadsAt volume.old.catalog.ru position r image.new)) }
     ensures on { IfOk result (λ r. IfSome r (λ e. position < e.1)) }
-    ensures same { OnOk result (volume.new ≡ volume.old) }
+    ensures same { OnOk result (SameVolume volume.old volume.new) }
     ensures down { OnErr result (LeavesOld volume.old volume.new.store.disk) }
     ensures kept { volume.new.catalog ≡ volume.old.catalog }
     ensures counts { Counts result volume.old.store.disk volume.new.store.disk }

@@ -8,6 +8,7 @@ ghost use Rattle.tm_types.specs.Parts.{log_record_of};
 ghost use Rattle.unit_journal.specs.Groups.{LeavesOld};
 ghost use Rattle.unit_table.specs.Units.{begun, is_of, without_first};
 ghost use Rattle.vms_base.specs.Ids.{serial_of};
+ghost use Rattle.volume.specs.State.{SameVolume};
 ghost use Rattle.unit_returns.specs.Returning.{AreLow, AreTakenUp, IsTakenUp, StayFew};
 
 use crate::locking::hold_changes;
@@ -37,7 +38,7 @@ fn take_unit<D: Disk>(
     ensures place { IfOk result (λ place. place < 64) }
     ensures left { OnOk result (begun left.new ≡ without_first (is_of (serial_of r.now.serial)) (begun left.old)) }
     ensures few { StayFew locks.old locks.new }
-    ensures same { OnOk result (volume.new ≡ volume.old) }
+    ensures same { OnOk result (SameVolume volume.old volume.new) }
     ensures down { OnErr result (LeavesOld volume.old volume.new.store.disk) }
     ensures kept { volume.new.catalog ≡ volume.old.catalog }
     ensures counts { Counts result volume.old.store.disk volume.new.store.disk }
@@ -84,7 +85,7 @@ pub fn take_units<D: Disk>(
     ensures below { AllByRecursion (λ p. p < 64) places.new.items }
     ensures room { vec_capacity places.old ≤ vec_capacity places.new }
     ensures few { StayFew locks.old locks.new }
-    ensures same { OnOk result (volume.new ≡ volume.old) }
+    ensures same { OnOk result (SameVolume volume.old volume.new) }
     ensures down { OnErr result (LeavesOld volume.old volume.new.store.disk) }
     ensures kept { volume.new.catalog ≡ volume.old.catalog }
     ensures counts { Counts result volume.old.store.disk volume.new.store.disk }

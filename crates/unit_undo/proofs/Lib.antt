@@ -4,6 +4,7 @@ pub mod BranchLemmas
 pub mod FileLemmas
 pub mod GroupLemmas
 pub mod ApartLemmas
+pub mod ReadLemmas
 pub mod StepLemmas
 pub mod StagedLemmas
 pub mod OffLemmas

@@ -10,6 +10,7 @@ use Rattle.unit_entries.specs.Keys.{KeyTold, IsLeast, NoneFrom}
 use Rattle.unit_entries.proofs.KeyLemmas.{number_is}
 use Rattle.unit_undo.specs.Undoing.{ChangesFile, MayUndo, IsFew, SetsToEntry}
 use Rattle.unit_undo.specs.FileWays.{ChangesOnly, CutsOff, cut, stays, HasSet, HasPlaced, SetsOne, own, off, PlacesOne, had, gone, TellsBackFile, TellsFailed}
+use Rattle.unit_undo.proofs.ReadLemmas.{only_to}
 use Rattle.unit_undo.proofs.StepLemmas.{only_same, only_through, only_of, may_on, head_now, fails_going, failed_since}
 use Rattle.unit_undo.proofs.SettingLemmas.{keys_begin, keys_skip, keys_more, keys_end}
 use Rattle.unit_undo.proofs.PlaceLemmas.{number_key, positions_begin, positions_skip, positions_more, positions_end}
@@ -69,7 +70,7 @@ module _ (f steps0 : ℕ) (first : FileHead) (ks : List KeyTold) (v : VolumeStat
 
   cut_only : (w : VolumeState) (h : FileHead) → CutsOff f first ks v w h → ChangesOnly f first v w h
   cut_only w h (cut from finds changes cuts) = only_of f first h v w changes
-  cut_only w h (stays found finds far_off same_v same_h) = subst (λ (x : VolumeState). ChangesOnly f first v x h) (sym same_v) (subst (λ (x : FileHead). ChangesOnly f first v v x) (sym same_h) (only_same f first v may.ready may.there))
+  cut_only w h (stays found finds far_off same_v same_h) = only_to v w same_v f first h v (subst (λ (x : FileHead). ChangesOnly f first v v x) (sym same_h) (only_same f first v may.ready may.there))
 
   module _ (sequential : first.organization ≡ kept.Sequential) where
     pub place_begins : (w : VolumeState) (h : FileHead) (steps : ℕ) → CutsOff f first ks v w h → IsFew steps w → HasPlaced f 0 first ks v w steps h

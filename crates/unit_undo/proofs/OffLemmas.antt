@@ -3,7 +3,8 @@ use Rattle.std.proofs.Common.{◌≡◌, ⊎_elim, ℕ, ◌+◌, true, false, Li
 use Rattle.std.specs.Prelude.{slice_get}
 use Rattle.std.proofs.lemmas.Bool.{cases_lt}
 use Rattle.file_base.specs.declared.head.FileHead.{FileHead}
-use Rattle.volume.specs.State.{VolumeState}
+use Rattle.volume.specs.State.{SameVolume, VolumeState}
+use Rattle.volume.proofs.Reading.{volume_on}
 use Rattle.unit_entries.specs.Keys.{KeyTold, IsLeast, NoneFrom, lowest_in, number_for}
 use Rattle.unit_undo.specs.Undoing.{TellsInPlace}
 use Rattle.unit_undo.specs.FileWays.{FindsOff, FitsAt, HasFound, found_at, none_off}
@@ -28,9 +29,9 @@ module _ (f lowest : ℕ) (h : FileHead) (ks : List KeyTold) (v : VolumeState) w
           found_at lowest i n k low refl at number (let behind = l.behind in let least = so.least in omega (arith, behind, least)) (subst (λ (x : VolumeState). TellsInPlace h k.key k.first x false) so.same off)
           (λ j m other there is le lt. so.fit j m other there is le (⊎_elim (λ before. before) (λ behind. absurd (let least = l.least j m other there is behind in omega (arith, lt, least))) (cases_lt m from)))
 
-      pub found_more : (x : VolumeState) → x ≡ w → TellsInPlace h k.key k.first w true → HasFound f lowest (n + 1) h ks v x
+      pub found_more : (x : VolumeState) → SameVolume w x → TellsInPlace h k.key k.first w true → HasFound f lowest (n + 1) h ks v x
       found_more x same fits = record {
-        same = same ∙ so.same;
+        same = volume_on v w x so.same same;
         least = let behind = l.behind in let least = so.least in omega (arith, behind, least);
         fit = λ j m other there is le lt. ⊎_elim (λ before. so.fit j m other there is le before) (λ behind. here m (let least = l.least j m other there is behind in omega (arith, lt, least))) (cases_lt m from);
       }

@@ -31,7 +31,7 @@ use Rattle.sequence_laws.proofs.SequenceLemmas.{behind, in_place_none, is_there,
 use Rattle.sequence_laws.proofs.OthersLemmas.{quiet_goes, replaced}
 use Rattle.sequence_laws.proofs.ChangeLemmas.{nothing_goes_back}
 use Rattle.volume.specs.Catalogs.{IsSound}
-use Rattle.volume.specs.State.{VolumeState}
+use Rattle.volume.specs.State.{SameVolume, VolumeState}
 use Rattle.run_model.specs.World.{File}
 use Rattle.directory_model.specs.Files.{head_at}
 use Rattle.directory_model.specs.Restoring.{CanRestoreBy}
@@ -43,6 +43,7 @@ use Rattle.unit_undo.specs.Steps.{ArePositionsBack}
 use Rattle.unit_undo.specs.Undoing.{ChangesFile, SetsToEntry, CutsFrom, TellsInPlace}
 use Rattle.unit_undo.specs.FileWays.{Undo, changes_in, IsStill, IsBackUpTo, IsBack, AreInPlace, FindsOff, found_at, none_off, end_still, CutsOff, cut, stays}
 use Rattle.unit_entries.proofs.KeyLemmas.{number_is, number_itself}
+use Rattle.unit_undo.proofs.ReadLemmas.{back_to}
 use Rattle.unit_undo.proofs.BranchLemmas.{IsOwnOrBeside, own_or, own_or_beside, own_images}
 use Rattle.unit_undo.proofs.PositionLemmas.{AlikeSizes, sizes_alike, fits_as, alike_turned, taken_moves, nothing_cut, are_cut, position_suits, position_takes, is_set_back, set_beside, is_gone}
 use Rattle.unit_undo.proofs.FileLemmas.{kept_so, map_is, grouped_positions, kept_still, restored_positions, still_images}
@@ -204,9 +205,9 @@ module _ (u : Undo) (f : ℕ) (first : FileHead) (file : File) (ks : List KeyTol
 
   module _ (w : VolumeState) (h : FileHead) (node : List ℕ) (long : length v.catalog.heads ≡ 64) (sound : IsSound node v.store.disk.size v.catalog) (there : head_at v.catalog.heads f ≡ Some first) (ring : 0 < v.catalog.ru.blocks) (far : 584 ≤ v.catalog.ru.start) where
     -- nothing had to be taken away
-    quiet_begin : w ≡ v → h ≡ first → AllInPlace cs (records_in first s.way.now) goes.0 → IsBackUpTo u f first file 0 w h
+    quiet_begin : SameVolume v w → h ≡ first → AllInPlace cs (records_in first s.way.now) goes.0 → IsBackUpTo u f first file 0 w h
     quiet_begin same_v same_h all =
-        subst (λ (x : VolumeState). IsBackUpTo u f first file 0 x h) (sym same_v) (subst (λ (x : FileHead). IsBackUpTo u f first file 0 v x) (sym same_h) (record {
+        back_to v w same_v u f first file 0 h (subst (λ (x : FileHead). IsBackUpTo u f first file 0 v x) (sym same_h) (record {
           way = s.way;
           back = rebased s.way.now u.content s.way.now first first cs 0 same_records (nothing_cut s.way.now s.way.now first first cs form laid_now goes.0 goes.1 images_now all);
           others = each_goes;

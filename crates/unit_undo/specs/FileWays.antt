@@ -15,7 +15,7 @@ use Rattle.unit_laws.specs.Units.{OneMovesEnd}
 use Rattle.run_model.specs.World.{File}
 use Rattle.directory_model.specs.Files.{head_at, file_at}
 use Rattle.directory_model.specs.Restoring.{IsLeft, IsRestored}
-use Rattle.volume.specs.State.{VolumeState}
+use Rattle.volume.specs.State.{SameVolume, VolumeState}
 use Rattle.volume_files.specs.Staging.{is_of_file}
 use Rattle.unit_entries.specs.Keys.{KeyTold, lowest_in, number_for}
 use Rattle.unit_entries.specs.Told.{TellsKeys}
@@ -109,14 +109,14 @@ pub data FindsOff (f : ℕ) (h : FileHead) (ks : List KeyTold) (v : VolumeState)
 
 -- so far none was found from the lowest one on
 pub record HasFound (f lowest until : ℕ) (h : FileHead) (ks : List KeyTold) (v w : VolumeState) : Type 0 where
-  pub same : w ≡ v
+  pub same : SameVolume v w
   pub least : lowest ≤ until
   pub fit : AreInPlace f lowest until h ks v
 
 -- Positions were taken away from that one on, or none stands there.
 pub data CutsOff (f : ℕ) (h : FileHead) (ks : List KeyTold) (v w : VolumeState) (new : FileHead) : Type 0 where
   cut : (from : ℕ) → FindsOff f h ks v (Some from) → ChangesFile f h v w new → CutsFrom h from v w new → CutsOff f h ks v w new
-  stays : (found : Option ℕ) → FindsOff f h ks v found → ((from : ℕ) → found ≡ Some from → 1 ≤ from → h.count < from) → w ≡ v → new ≡ h → CutsOff f h ks v w new
+  stays : (found : Option ℕ) → FindsOff f h ks v found → ((from : ℕ) → found ≡ Some from → 1 ≤ from → h.count < from) → SameVolume v w → new ≡ h → CutsOff f h ks v w new
 
 -- So far in a file: this was changed, it is told so, and so many steps are staged.
 pub record HasSet (f count : ℕ) (first : FileHead) (ks : List KeyTold) (v w : VolumeState) (steps : ℕ) (h : FileHead) : Type 0 where

@@ -9,6 +9,7 @@ ghost use Rattle.file_base.specs.declared.head.Organization.TheVariants as organ
 ghost use Rattle.journal_store.specs.Rings.{IsRing};
 ghost use Rattle.record_files.specs.Any.{IsFile};
 ghost use Rattle.vms_base.specs.Keys.{key_of};
+ghost use Rattle.volume.specs.State.{SameVolume};
 ghost use Rattle.volume.specs.Catalogs.{IsSound};
 ghost use Rattle.sequence_laws.specs.Undoing.{is_as_long};
 ghost use Rattle.std.specs.Option.{option_copied};
@@ -79,7 +80,7 @@ fn read_change<D: Disk>(
     requires ring { IsRing volume.old.catalog.ru volume.old.store.disk }
     requires low { position ≤ 2 ^ 62 }
     ensures entry { IfOk result (λ e. IfSome volume.old.store.current (ReadsChange volume.old.catalog.ru position e image.new)) }
-    ensures same { OnOk result (volume.new ≡ volume.old) }
+    ensures same { OnOk result (SameVolume volume.old volume.new) }
     ensures catalog { volume.new.catalog ≡ volume.old.catalog }
     ensures down { OnErr result (Leaves (λ c. Some c ≡ content volume.old.store) volume.new.store.disk) }
     ensures counts { Counts result volume.old.store.disk volume.new.store.disk }
@@ -187,7 +188,7 @@ fn is_in_place<D: Disk>(
     requires ring { IsRing volume.old.catalog.ru volume.old.store.disk }
     requires low { key.now.first ≤ 2 ^ 62 }
     ensures told { IfOk result (TellsInPlace head.now (key_of key.now.key) key.now.first volume.old) }
-    ensures same { OnOk result (volume.new ≡ volume.old) }
+    ensures same { OnOk result (SameVolume volume.old volume.new) }
     ensures catalog { volume.new.catalog ≡ volume.old.catalog }
     ensures down { OnErr result (Leaves (λ c. Some c ≡ content volume.old.store) volume.new.store.disk) }
     ensures counts { Counts result volume.old.store.disk volume.new.store.disk }
@@ -217,7 +218,7 @@ fn first_off<D: Disk>(
     requires frames { 32 ≤ free_frames volume.old.store.pool }
     requires ring { IsRing volume.old.catalog.ru volume.old.store.disk }
     ensures finds { IfOk result (FindsOff file head.now keys.now volume.old) }
-    ensures same { OnOk result (volume.new ≡ volume.old) }
+    ensures same { OnOk result (SameVolume volume.old volume.new) }
     ensures catalog { volume.new.catalog ≡ volume.old.catalog }
     ensures down { OnErr result (Leaves (λ c. Some c ≡ content volume.old.store) volume.new.store.disk) }
     ensures counts { Counts result volume.old.store.disk volume.new.store.disk }
@@ -431,7 +432,7 @@ fn read_keys<D: Disk>(
     requires few { length positions.now ≤ 1024 }
     requires low { All (λ p. p ≤ 2 ^ 62) positions.now }
     ensures keys { OnOk result (TellsUnit positions.now keys.new volume.old) }
-    ensures same { OnOk result (volume.new ≡ volume.old) }
+    ensures same { OnOk result (SameVolume volume.old volume.new) }
     ensures down { OnErr result (Leaves (IsEither (content volume.old.store) volume.old.store.current) volume.new.store.disk) }
     ensures kept { volume.new.catalog ≡ volume.old.catalog }
     ensures counts { Counts result volume.old.store.disk volume.new.store.disk }

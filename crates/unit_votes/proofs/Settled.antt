@@ -3,13 +3,14 @@ use Rattle.std.proofs.Common.{◌≡◌, ℕ, ◌+◌, ◌≤◌, ◌^◌, Bool,
 use Rattle.std.specs.Prelude.{◌⊎◌, if◌then◌else◌, max}
 use Rattle.journal_model.specs.Entries.{Entry}
 use Rattle.unit_journal.specs.Settling.{span_with}
+use Rattle.careful_write.specs.Reads.{SameButReads}
 use Rattle.careful_write.specs.State.{IsEither, Leaves, content}
 use Rattle.unit_journal.specs.Groups.{Breaks, Grows, GrowsOnce}
 use Rattle.volume.specs.State.{VolumeState}
 use Rattle.volume.specs.declared.catalog.Catalog.{Catalog}
 
 -- the disk's content is as it was, where only other blocks were staged
-pub same_content : (v mid : VolumeState) → mid.store ≡ record v.store { current = mid.store.current; touched = mid.store.touched } → content mid.store ≡ content v.store
+pub same_content : (v mid : VolumeState) → SameButReads (record v.store { current = mid.store.current; touched = mid.store.touched }) mid.store → content mid.store ≡ content v.store
 same_content v mid rest = ap content rest
 
 -- what broke from there on broke from the start

@@ -1,6 +1,7 @@
 // A branch is prepared.
 ghost use Rattle.std.specs.Prelude.{◌≡◌, ◌≤◌, ◌<◌, ◌+◌, ◌-◌, ℕ, true, false, Option, Some, None, IfSome, IfErr, OnOk, OnErr, length, option_map, if◌then◌else◌};
 ghost use Rattle.careful_write.specs.Down.{Counts};
+ghost use Rattle.careful_write.specs.Reads.{SameButReads};
 ghost use Rattle.careful_write.specs.State.{IsIdle, IsReady};
 ghost use Rattle.journal_model.specs.Ring.{ring_size};
 ghost use Rattle.journal_store.specs.Rings.{IsRing};
@@ -51,7 +52,7 @@ fn enter_prepared<D: Disk>(
     requires room { has_changed ≡ true → volume.old.catalog.ru.end - volume.old.catalog.ru.first + 48 ≤ ring_size volume.old.catalog.ru }
     requires staged { length volume.old.store.touched ≤ 450 }
     ensures current { OnOk result (volume.new.store.current ≡ option_map (content_with (vote_entry has_changed (tid_of branch.now.tid) (serial_of branch.now.serial)) volume.old.catalog.ru) volume.old.store.current) }
-    ensures rest { OnOk result (volume.new.store ≡ record volume.old.store { current = volume.new.store.current; touched = volume.new.store.touched }) }
+    ensures rest { OnOk result (SameButReads (record volume.old.store { current = volume.new.store.current; touched = volume.new.store.touched }) volume.new.store) }
     ensures catalog { OnOk result (volume.new.catalog ≡ record volume.old.catalog { ru = span_with (vote_entry has_changed (tid_of branch.now.tid) (serial_of branch.now.serial)) volume.old.catalog.ru }) }
     ensures end { OnOk result (volume.new.catalog.ru.end ≡ volume.old.catalog.ru.end + (if has_changed then 48 else 0)) }
     ensures few { OnOk result (length volume.new.store.touched ≤ length volume.old.store.touched + 19) }

@@ -4,6 +4,7 @@ pub mod Entries
 pub mod FirstFindings
 pub mod Listings
 pub mod Places
+pub mod Reading
 pub mod Listed
 pub mod Staging
 pub mod Soundness

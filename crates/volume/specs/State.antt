@@ -1,6 +1,7 @@
 -- A volume as its callers see it.
-use Rattle.std.specs.Prelude.{ℕ, ◌-◌, List, IfSome, option_map, slice_set}
+use Rattle.std.specs.Prelude.{◌≡◌, ℕ, ◌-◌, List, IfSome, option_map, slice_set}
 use Rattle.block_disk.specs.Blocks.{with_number}
+use Rattle.careful_write.specs.Reads.{as_read_by}
 use Rattle.careful_write.specs.State.{StoreState}
 use Rattle.volume.specs.declared.catalog.Catalog.{Catalog}
 use Rattle.volume.specs.Catalogs.{TellsCatalog}
@@ -13,6 +14,10 @@ pub record VolumeState : Type 0 where
 -- what it keeps is what the content tells, with the staged blocks
 abbrev pub Holds : VolumeState → Type 0
 Holds v = IfSome v.store.current (TellsCatalog v.catalog)
+
+-- the volume is the same but for what its store tells of reads
+abbrev pub SameVolume : VolumeState → VolumeState → Type 0
+SameVolume old new = new ≡ record old { store = as_read_by new.store old.store }
 
 -- the store with one block staged
 abbrev pub with_block : ℕ → List ℕ → StoreState → StoreState

@@ -2,6 +2,7 @@
 ghost use Rattle.std.specs.Prelude.{◌≡◌, ◌<◌, ◌≤◌, ◌+◌, ◌*◌, ℕ, [], true, false, OnOk, IfSome, length};
 ghost use Rattle.block_disk.specs.Blocks.{block_at};
 ghost use Rattle.careful_write.specs.Down.{answered};
+ghost use Rattle.careful_write.specs.Reads.{SameButReads};
 ghost use Rattle.extents.specs.Extents.{FitsAt};
 ghost use Rattle.volume.specs.Load.{HeadsFound, HomeFound};
 ghost use Rattle.volume.specs.Listing.{HeadsTried, IsEntered, LiesApart, ListsFindings, ListsTo, TakesEntry};
@@ -48,7 +49,7 @@ fn list_entries<D: Disk>(
 ) -> Result<(), Down>
     requires size { 4096 ≤ store.old.disk.size }
     requires empty { out.old ≡ [] }
-    ensures state { store.new ≡ record store.old { disk = answered result store.old.disk } }
+    ensures state { SameButReads (record store.old { disk = answered result store.old.disk }) store.new }
     ensures count { length heads.new ≡ 64 }
     ensures lists { OnOk result (IfSome store.old.current (λ c. ListsTo 4 (IsEntered greatest.0 c) 64 out.new)) }
     ensures tried { OnOk result (IfSome store.old.current (HeadsTried greatest.0 heads.new 64)) }
@@ -100,7 +101,7 @@ fn list_files<D: Disk>(
     requires size { 4096 ≤ store.old.disk.size }
     requires empty { out.old ≡ [] }
     requires home { IfSome store.old.current (λ c. HomeFound node.now store.old.fits (length c + 518) (block_at c 0) home.now) }
-    ensures state { store.new ≡ record store.old { disk = answered result store.old.disk } }
+    ensures state { SameButReads (record store.old { disk = answered result store.old.disk }) store.new }
     ensures lists { OnOk result (IfSome store.old.current (λ c. ListsFindings node.now store.old.fits c out.new)) }
 {
     let mut heads = [None; 64];
@@ -120,7 +121,7 @@ pub fn conditions<D: Disk>(
     out: &mut Findings,
 ) -> Result<(), Down>
     requires size { 4096 ≤ store.old.disk.size }
-    ensures state { store.new ≡ record store.old { disk = answered result store.old.disk } }
+    ensures state { SameButReads (record store.old { disk = answered result store.old.disk }) store.new }
     ensures lists { OnOk result (IfSome store.old.current (λ c. ListsFindings node store.old.fits c out.new)) }
 {
     out.clear();

@@ -2,6 +2,7 @@
 ghost use Rattle.std.specs.Prelude.{◌≡◌, ◌≤◌, ◌<◌, ◌+◌, ℕ, Option, Some, None, true, false, IfOk, IfErr, IfSome, IfNone, OnOk, length};
 ghost use Rattle.block_disk.specs.Blocks.{block_at};
 ghost use Rattle.careful_write.specs.Down.{answered};
+ghost use Rattle.careful_write.specs.Reads.{SameButReads};
 ghost use Rattle.careful_write.specs.State.{EachWhole};
 ghost use Rattle.volume_format.specs.Home.{HasRu};
 ghost use Rattle.volume.specs.Load.{EntryFound, EntryMisses, HeadsFound, HeadsSound, HomeFound, HomeMisses, HomeSound, Loaded, LoadFinds, after_load};
@@ -103,7 +104,7 @@ pub(crate) fn entry_in(
 
 pub(crate) fn load_home<D: Disk>(store: &mut Store<D>, node: &NodeName) -> Result<Home, LoadErr>
     requires size { 4096 ≤ store.old.disk.size }
-    ensures state { store.new ≡ record store.old { disk = after_load result store.old.disk } }
+    ensures state { SameButReads (record store.old { disk = after_load result store.old.disk }) store.new }
     ensures ok { IfOk result (λ home. IfSome store.old.current (λ c. HomeFound node.now store.old.fits (length c + 518) (block_at c 0) home)) }
     ensures sound { IfOk result (HomeSound node.now store.old.disk.size) }
     ensures fits { OnOk result (store.old.fits ≡ true) }
@@ -129,7 +130,7 @@ fn load_heads<D: Disk>(
     heads: &mut [Option<FileHead>; 64],
 ) -> Result<Option<u32>, Down>
     requires size { 4096 ≤ store.old.disk.size }
-    ensures state { store.new ≡ record store.old { disk = answered result store.old.disk } }
+    ensures state { SameButReads (record store.old { disk = answered result store.old.disk }) store.new }
     ensures all { IfOk result (λ found. IfNone found (IfSome store.old.current (HeadsFound greatest.0 heads.new 64))) }
     ensures sound { IfOk result (λ found. IfNone found (HeadsSound greatest.0 heads.new 64)) }
     ensures count { length heads.new ≡ 64 }
@@ -149,7 +150,7 @@ fn load_heads<D: Disk>(
 fn load_ru<D: Disk>(store: &mut Store<D>, home: &Home) -> Result<Span, Down>
     requires size { 4096 ≤ store.old.disk.size }
     requires slots { home.now.slots ≤ 512 }
-    ensures state { store.new ≡ record store.old { disk = answered result store.old.disk } }
+    ensures state { SameButReads (record store.old { disk = answered result store.old.disk }) store.new }
     ensures ru { IfOk result (λ ru. IfSome store.old.current (λ c. HasRu (block_at c 65) ru)) }
     ensures start { IfOk result (λ ru. ru.start ≡ 584 + home.now.slots) }
     ensures blocks { IfOk result (λ ru. ru.blocks ≡ home.now.ru_blocks) }
@@ -162,7 +163,7 @@ fn load_ru<D: Disk>(store: &mut Store<D>, home: &Home) -> Result<Span, Down>
 /// What the content tells, or the first of the five conditions that fails.
 pub(crate) fn load<D: Disk>(store: &mut Store<D>, node: &NodeName) -> Result<Catalog, LoadErr>
     requires size { 4096 ≤ store.old.disk.size }
-    ensures state { store.new ≡ record store.old { disk = after_load result store.old.disk } }
+    ensures state { SameButReads (record store.old { disk = after_load result store.old.disk }) store.new }
     ensures ok { IfOk result (λ v. IfSome store.old.current (Loaded node.now store.old.fits v)) }
     ensures sound { IfOk result (IsSound node.now store.old.disk.size) }
     ensures fits { OnOk result (store.old.fits ≡ true) }

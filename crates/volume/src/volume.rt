@@ -3,6 +3,7 @@ ghost use Rattle.std.specs.Prelude.{◌≡◌, ◌≤◌, ◌<◌, ◌+◌, ◌-
 ghost use Rattle.std.specs.Option.{option_copied};
 ghost use Rattle.std.specs.Borrow.{Lends, sem};
 ghost use Rattle.block_disk.specs.Blocks.{has_number};
+ghost use Rattle.careful_write.specs.Reads.{SameButReads};
 ghost use Rattle.careful_write.specs.State.{EachWhole, IsReady};
 ghost use Rattle.careful_write.specs.contracts.store.Store.{the_row as store_row};
 ghost use Rattle.file_base.specs.declared.head.FileHead.{FileHead as HeadSaid};
@@ -68,7 +69,7 @@ impl<D: Disk> Volume<D> {
     /// Mounts the volume of a node. It writes nothing.
     pub fn mount(mut store: Store<D>, node: NodeName) -> Result<Volume<D>, MountErr<D>>
         requires size { 4096 ≤ store.disk.size }
-        ensures store { IfOk result (λ v. v.store ≡ store) }
+        ensures store { IfOk result (λ v. SameButReads store v.store) }
         ensures whole { IfSome store.current (λ c. length c + 518 ≡ store.disk.size) }
         ensures each { IfSome store.current EachWhole }
         ensures fits { OnOk result (store.fits ≡ true) }

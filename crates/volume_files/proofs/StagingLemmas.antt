@@ -2,6 +2,7 @@
 use Rattle.std.proofs.Common.{◌≡◌, ◌≢◌, ⊎_elim, inl, ℕ, ◌+◌, ◌-◌, ◌<◌, ◌≤◌, Bool, true, false, List, [], length, Option, Some, None, IfSome, IsSomeAnd, MatchOption, option_map, slice_set, refl, sym, ap, subst, ◌∙◌, arith, get_or-set_other, length-set}
 use Rattle.std.specs.Prelude.{◌⊎◌, ◌||◌, ◌==◌}
 use Rattle.std.proofs.lemmas.Bool.Decides.{nat_tests}
+use Rattle.careful_write.specs.Reads.{SameButReads}
 use Rattle.careful_write.specs.State.{StoreState, EachWhole}
 use Rattle.careful_write.specs.Steps.{AgreesOff}
 use Rattle.careful_write.proofs.Touched.{length-with_number}
@@ -10,7 +11,7 @@ use Rattle.change_set.specs.Files.{AgreesOn, IsPlaced, SameFile, StagesIn, in_ex
 use Rattle.record_files.specs.Any as any
 use Rattle.volume.specs.declared.catalog.Catalog.{Catalog}
 use Rattle.volume.specs.Catalogs.{IsSound, StandsOnTheFront, TellsCatalog, head_at}
-use Rattle.volume.specs.State.{VolumeState, Holds, with_block}
+use Rattle.volume.specs.State.{VolumeState, Holds, SameVolume, with_block}
 use Rattle.volume_format.specs.Head.{head_block_of}
 use Rattle.volume_files.specs.Staging.{IsWithin, StagesFile, is_of_file}
 use Rattle.volume_files.proofs.SoundLemmas.{sound_changed}
@@ -20,13 +21,13 @@ use Rattle.volume_files.proofs.SoundLemmas.{sound_changed}
 abbrev pub Moved : ℕ → FileHead → StoreState → StoreState → Type 0
 Moved f new s t = (t ≡ s) ⊎ (t ≡ with_block (519 + f) (head_block_of new) s)
 
-rest_block : (old s t : StoreState) (n : ℕ) (bytes : List ℕ) → s ≡ record old { current = s.current; touched = s.touched } → t ≡ with_block n bytes s → t ≡ record old { current = t.current; touched = t.touched }
+rest_block : (old s t : StoreState) (n : ℕ) (bytes : List ℕ) → SameButReads (record old { current = s.current; touched = s.touched }) s → t ≡ with_block n bytes s → SameButReads (record old { current = t.current; touched = t.touched }) t
 rest_block old s t n bytes e is =
-    is ∙ (λ k. with_block n bytes (e k)) ∙ (λ k. record old { current = sym (ap (λ (x : StoreState). x.current) is) k; touched = sym (ap (λ (x : StoreState). x.touched) is) k })
+    is ∙ (λ k. with_block n bytes (e k)) ∙ (λ k. record old { current = sym (ap (λ (x : StoreState). x.current) is) k; touched = sym (ap (λ (x : StoreState). x.touched) is) k; reads = sym (ap (λ (x : StoreState). x.reads) is) k })
 
-pub moved_rest : (f : ℕ) (new : FileHead) (old s t : StoreState) → Moved f new s t → s ≡ record old { current = s.current; touched = s.touched } → t ≡ record old { current = t.current; touched = t.touched }
+pub moved_rest : (f : ℕ) (new : FileHead) (old s t : StoreState) → Moved f new s t → SameButReads (record old { current = s.current; touched = s.touched }) s → SameButReads (record old { current = t.current; touched = t.touched }) t
 moved_rest f new old s t moved rest =
-    ⊎_elim (λ same. subst (λ (x : StoreState). x ≡ record old { current = x.current; touched = x.touched }) (sym same) rest) (λ is. rest_block old s t (519 + f) (head_block_of new) rest is) moved
+    ⊎_elim (λ same. subst (λ (x : StoreState). SameButReads (record old { current = x.current; touched = x.touched }) x) (sym same) rest) (λ is. rest_block old s t (519 + f) (head_block_of new) rest is) moved
 
 pub moved_few : (f : ℕ) (new : FileHead) (s t : StoreState) → Moved f new s t → length t.touched ≤ length s.touched + 1
 moved_few f new s t moved =
@@ -94,6 +95,19 @@ stages_moved f h new few limit old mid s long there front behind stages le same 
   sound = λ node sound. subst (IsSound node old.store.disk.size) (sym catalog) (sound_changed node old.store.disk.size old.catalog f h new long there same (inl form) sound);
   holds = λ held. holds (still_told old.catalog h old.store.current s.current front behind stages.blocks held);
   blocks = moved_out f h new old.store.current s mid.store moved stages.blocks;
+}
+
+-- what is staged is so from a volume that is the same but for reads
+pub stages_read : (f : ℕ) (h new : FileHead) (limit : ℕ) (v w mid : VolumeState) → SameVolume v w → StagesFile f h limit w mid new → StagesFile f h limit v mid new
+stages_read f h new limit v w mid same s = record {
+  same = s.same;
+  fits = s.fits;
+  rest = subst (λ (x : VolumeState). SameButReads (record x.store { current = mid.store.current; touched = mid.store.touched }) mid.store) same s.rest;
+  catalog = subst (λ (x : VolumeState). mid.catalog ≡ record x.catalog { heads = slice_set x.catalog.heads f (Some new) }) same s.catalog;
+  few = subst (λ (x : VolumeState). length mid.store.touched ≤ length x.store.touched + limit) same s.few;
+  holds = subst (λ (x : VolumeState). Holds x → Holds mid) same s.holds;
+  sound = subst (λ (x : VolumeState). (node : List ℕ) → IsSound node x.store.disk.size x.catalog → IsSound node x.store.disk.size mid.catalog) same s.sound;
+  blocks = subst (λ (x : VolumeState). OutOf (is_of_file f h) x.store.current mid.store.current) same s.blocks;
 }
 
 -- The file's blocks are those that were staged.

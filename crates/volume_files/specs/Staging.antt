@@ -1,5 +1,6 @@
 -- Changes of a file that are staged: with the blocks of its buckets its directory block, where its head changes.
 use Rattle.std.specs.Prelude.{◌≡◌, ◌⊎◌, ℕ, ◌+◌, ◌-◌, ◌*◌, ◌≤◌, ◌==◌, ◌||◌, Bool, true, List, [], Option, Some, None, IsSomeAnd, MatchOption, length, slice_set}
+use Rattle.careful_write.specs.Reads.{SameButReads}
 use Rattle.careful_write.specs.State.{EachWhole}
 use Rattle.careful_write.specs.Steps.{AgreesOff}
 use Rattle.file_base.specs.declared.head.FileHead.{FileHead}
@@ -21,7 +22,7 @@ is_of_file f h n = in_extent h n || (n == 1 + f)
 pub record StagesFile (f : ℕ) (h : FileHead) (limit : ℕ) (old mid : VolumeState) (new : FileHead) : Type 0 where
   pub same : SameFile h new
   pub fits : any.IsFile new ⊎ (new ≡ h)
-  pub rest : mid.store ≡ record old.store { current = mid.store.current; touched = mid.store.touched }
+  pub rest : SameButReads (record old.store { current = mid.store.current; touched = mid.store.touched }) mid.store
   pub catalog : mid.catalog ≡ record old.catalog { heads = slice_set old.catalog.heads f (Some new) }
   pub few : length mid.store.touched ≤ length old.store.touched + limit
   pub holds : Holds old → Holds mid

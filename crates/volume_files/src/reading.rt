@@ -1,10 +1,11 @@
 //! Records of a volume's files that are read.
-ghost use Rattle.std.specs.Prelude.{◌≡◌, ◌<◌, ◌≤◌, ℕ, List, true, false, Option, Some, None, Ok, length, OnOk, OnErr, IfOk, IfSome, if◌then◌else◌, option_map};
+ghost use Rattle.std.specs.Prelude.{◌≡◌, ◌<◌, ◌≤◌, ◌+◌, ℕ, List, true, false, Option, Some, None, Ok, length, OnOk, OnErr, IfOk, IfSome, if◌then◌else◌, option_map};
 ghost use Rattle.std.specs.Option.{option_copied};
 ghost use Rattle.change_set.specs.Files.{IsPlaced, fell, free_frames};
 ghost use Rattle.file_base.specs.declared.head.Organization.TheVariants as organization;
 ghost use Rattle.change_set.specs.Maps.{EndsAfter, IsNext};
-ghost use Rattle.record_files.specs.Any.{Begins, IsFile, IsLaidOut, asks, map_of};
+ghost use Rattle.record_files.specs.Any.{Begins, IsFile, IsLaidOut, asks, map_of, reads_of};
+ghost use Rattle.volume.specs.State.{SameVolume};
 ghost use Rattle.vms_base.specs.Keys.{key_of};
 ghost use Rattle.vms_model.specs.Keys as model;
 
@@ -31,8 +32,9 @@ pub fn read_record<D: Disk>(
     requires frames { 32 ≤ free_frames volume.old.store.pool }
     ensures found { IfOk result (λ there. IfSome volume.old.store.current (λ content. IsFile head.now → IsLaidOut head.now content → map_of head.now content (key_of key.now) ≡ (if there then Some found.new else None))) }
     ensures unformed { (IsFile head.now → ⊥) → result ≡ Ok false }
-    ensures same { OnOk result (volume.new ≡ volume.old) }
-    ensures down { OnErr result (volume.new ≡ record volume.old { store = fell result volume.old.store }) }
+    ensures same { OnOk result (SameVolume volume.old volume.new) }
+    ensures reads { volume.new.store.reads ≤ volume.old.store.reads + reads_of head.now }
+    ensures down { OnErr result (SameVolume (record volume.old { store = fell result volume.old.store }) volume.new) }
 {
     if !AnyFile::is_formed(head) {
         return Ok(false);
@@ -54,8 +56,9 @@ pub fn find_record<D: Disk>(
     ensures found { IfOk result (λ there. IfSome volume.old.store.current (λ content. IsFile head.now → IsLaidOut head.now content → map_of head.now content (key_of key.now) ≡ (if there then Some found.new else None))) }
     ensures begins { OnOk result (IfSome volume.old.store.current (λ content. IsFile head.now → IsLaidOut head.now content → Begins head.now content (Some (key_of key.now)) place.new)) }
     ensures unformed { (IsFile head.now → ⊥) → result ≡ Ok false }
-    ensures same { OnOk result (volume.new ≡ volume.old) }
-    ensures down { OnErr result (volume.new ≡ record volume.old { store = fell result volume.old.store }) }
+    ensures same { OnOk result (SameVolume volume.old volume.new) }
+    ensures reads { volume.new.store.reads ≤ volume.old.store.reads + reads_of head.now }
+    ensures down { OnErr result (SameVolume (record volume.old { store = fell result volume.old.store }) volume.new) }
 {
     if !AnyFile::is_formed(head) {
         return Ok(false);
@@ -75,8 +78,8 @@ pub fn place_of<D: Disk>(
     requires frames { 32 ≤ free_frames volume.old.store.pool }
     requires sequential { head.now.organization ≡ organization.Sequential }
     ensures begins { IfOk result (λ place. IfSome volume.old.store.current (λ content. IsFile head.now → IsLaidOut head.now content → (key : Option model.Key) → Begins head.now content key place)) }
-    ensures same { OnOk result (volume.new ≡ volume.old) }
-    ensures down { OnErr result (volume.new ≡ record volume.old { store = fell result volume.old.store }) }
+    ensures same { OnOk result (SameVolume volume.old volume.new) }
+    ensures down { OnErr result (SameVolume (record volume.old { store = fell result volume.old.store }) volume.new) }
 {
     if position >= head.count {
         return Ok(Place::first());
@@ -102,8 +105,8 @@ pub fn next_record<D: Disk>(
     ensures found { IfOk result (λ there. there ≡ true → IfSome volume.old.store.current (λ content. IsFile head.now → IsLaidOut head.now content → IsNext (map_of head.now content) (option_map key_of (option_copied after.entry)) (key_of key.new) found.new)) }
     ensures none { IfOk result (λ there. there ≡ false → IfSome volume.old.store.current (λ content. IsFile head.now → IsLaidOut head.now content → EndsAfter (map_of head.now content) (option_map key_of (option_copied after.entry)))) }
     ensures unformed { (IsFile head.now → ⊥) → result ≡ Ok false }
-    ensures same { OnOk result (volume.new ≡ volume.old) }
-    ensures down { OnErr result (volume.new ≡ record volume.old { store = fell result volume.old.store }) }
+    ensures same { OnOk result (SameVolume volume.old volume.new) }
+    ensures down { OnErr result (SameVolume (record volume.old { store = fell result volume.old.store }) volume.new) }
 {
     if !AnyFile::is_formed(head) {
         return Ok(false);
@@ -122,8 +125,8 @@ pub fn need_buckets<D: Disk>(
     requires frames { 32 ≤ free_frames volume.old.store.pool }
     ensures need { IfOk result (λ need. IfSome volume.old.store.current (λ content. IsFile head.now → IsLaidOut head.now content → need ≡ asks head.now content size)) }
     ensures unformed { (IsFile head.now → ⊥) → result ≡ Ok 65537 }
-    ensures same { OnOk result (volume.new ≡ volume.old) }
-    ensures down { OnErr result (volume.new ≡ record volume.old { store = fell result volume.old.store }) }
+    ensures same { OnOk result (SameVolume volume.old volume.new) }
+    ensures down { OnErr result (SameVolume (record volume.old { store = fell result volume.old.store }) volume.new) }
 {
     if !AnyFile::is_formed(head) {
         return Ok(NO_BUCKETS);

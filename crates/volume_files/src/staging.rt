@@ -6,7 +6,7 @@ ghost use Rattle.change_set.specs.Files.{SameFile, fell, free_frames};
 ghost use Rattle.file_base.specs.declared.head.Organization.TheVariants as organization;
 ghost use Rattle.record_files.specs.Any.{Begins, IsFile, IsLaidOut};
 ghost use Rattle.volume.specs.Catalogs.{IsSound, head_at};
-ghost use Rattle.volume.specs.State.{Holds, with_block};
+ghost use Rattle.volume.specs.State.{Holds, SameVolume, with_block};
 ghost use Rattle.volume_format.specs.Head.{head_block_of};
 ghost use Rattle.vms_base.specs.Keys.{key_of};
 ghost use Rattle.vms_model.specs.Keys.{Number};
@@ -63,7 +63,7 @@ pub fn stage_value<D: Disk, H: Held>(
     ensures stages { OnOk result (StagesFile file head.old 417 volume.old volume.new head.new) }
     ensures sets { OnOk result (TellsSet head.old (H.held held.now) (key_of key.now) (option_copied value.entry) volume.old volume.new head.new) }
     ensures unformed { (IsFile head.old → ⊥) → (result ≡ Ok tt) × (volume.new ≡ volume.old) × (head.new ≡ head.old) }
-    ensures down { OnErr result (volume.new ≡ record volume.old { store = fell result volume.old.store }) }
+    ensures down { OnErr result (SameVolume (record volume.old { store = fell result volume.old.store }) volume.new) }
 {
     catalogs_stand_on_the_front();
     blocks_are_whole(volume);
@@ -100,7 +100,7 @@ pub fn stage_cut<D: Disk>(
     ensures stages { OnOk result (StagesFile file head.old 65 volume.old volume.new head.new) }
     ensures cuts { OnOk result (TellsCut head.old from volume.old volume.new head.new) }
     ensures unformed { (IsFile head.old → ⊥) → (result ≡ Ok tt) × (volume.new ≡ volume.old) × (head.new ≡ head.old) }
-    ensures down { OnErr result (volume.new ≡ record volume.old { store = fell result volume.old.store }) }
+    ensures down { OnErr result (SameVolume (record volume.old { store = fell result volume.old.store }) volume.new) }
 {
     catalogs_stand_on_the_front();
     let old = *head;
@@ -132,7 +132,7 @@ pub fn stage_back<D: Disk>(
     ensures stages { OnOk result (StagesFile file head.old 17 volume.old volume.new head.new) }
     ensures back { OnOk result (TellsBack head.old (key_of key.now) (option_copied value.entry) volume.old volume.new head.new) }
     ensures unformed { (IsFile head.old → ⊥) → (result ≡ Ok tt) × (volume.new ≡ volume.old) × (head.new ≡ head.old) }
-    ensures down { OnErr result (volume.new ≡ record volume.old { store = fell result volume.old.store }) }
+    ensures down { OnErr result (SameVolume (record volume.old { store = fell result volume.old.store }) volume.new) }
 {
     catalogs_stand_on_the_front();
     let old = *head;

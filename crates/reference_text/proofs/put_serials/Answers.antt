@@ -5,7 +5,7 @@ use Rattle.vms_model.specs.Texts.{id_text}
 use Rattle.transcript_model.specs.Lines.{ids_text}
 use Rattle.vms_base.specs.Ids.{serial_of}
 use Rattle.vms_base.specs.declared.ids.Serial.{Serial}
-use Rattle.reference_world.proofs.ChangeLemmas.{behind_first, parts}
+use Rattle.reference_index.proofs.ListLemmas.{behind_first, parts}
 use Rattle.reference_text.proofs.put_serials.Goals as goal
 
 pub returns-in_ok-put_id-in-len1-up : goal.returns-in_ok-put_id-in-len1-up

@@ -13,6 +13,7 @@ use Rattle.node_table.specs.Code.{stored_of}
 use Rattle.node_table.specs.Standing.{Stored}
 use Rattle.node_files.proofs.CatalogLemmas.{placed}
 use Rattle.file_requests.proofs.Dumping.{begins_anew, emits_next, shown_few, shows_all, shows_most}
+use Rattle.file_requests.proofs.Reading.{stored_of_volume, stored_on}
 use Rattle.file_requests.proofs.Replied.{quiet_more, quiet_none, replies_after}
 use Rattle.file_requests.proofs.files.show_records.Goals as goal
 
@@ -30,7 +31,7 @@ next_record_from-requires-clause-begins g c =
 
 pub loop-count-init : goal.loop-count-init
 loop-count-init g c = record {
-  same = search rules;
+  same = refl;
   place = search rules;
   since = search rules;
   quiet = quiet_none _ _ (emits_nothing _);
@@ -43,8 +44,10 @@ loop-count-init g c = record {
 pub loop-count-preserved : goal.loop-count-preserved
 loop-count-preserved g c =
     let head = c.args.head.now in
+    let was = stored_of g.U.RecoveryUnits.state c.loop-count.stored in
+    let now : Stored = record was { volume = c.next_record_from.new.volume } in
     record {
-      same = (λ i. record (stored_of g.U.RecoveryUnits.state c.loop-count.stored) { volume = c.in-Ok-true.ensures.same i }) ∙ c.loop-count.invariant.same;
+      same = stored_on (stored_of g.U.RecoveryUnits.state c.args.stored.now) was now c.loop-count.invariant.same (stored_of_volume was now c.in-Ok-true.ensures.same refl refl);
       place = c.emit.ensures.same_place ∙ c.loop-count.invariant.place;
       since = since_on _ _ _ c.loop-count.invariant.since c.emit.ensures.since;
       quiet = quiet_more _ _ _ _ c.loop-count.invariant.quiet c.emit.ensures.emits refl;
@@ -60,6 +63,12 @@ loop-count-preserved g c =
           let n = c.the_laws.ensures.shows.next m (map_of head content) c.loop-count.count (option_map key_of c.loop-count.after) (key_of c.next_record_from.new.key) c.next_record_from.new.found same s.0 next in
           (n.0, emits_next m c.loop-count.count (key_of c.next_record_from.new.key) c.next_record_from.new.found _ _ _ n.1 s.1 c.emit.ensures.emits);
     }
+
+pub returns-in-Ok-false-clause-same : goal.returns-in-Ok-false-clause-same
+returns-in-Ok-false-clause-same g c =
+    let was = stored_of g.U.RecoveryUnits.state c.loop-count.stored in
+    let now : Stored = record was { volume = c.next_record_from.new.volume } in
+    stored_on (stored_of g.U.RecoveryUnits.state c.args.stored.now) was now c.loop-count.invariant.same (stored_of_volume was now c.in-Ok-false.ensures.same refl refl)
 
 pub returns-in-Ok-false-clause-shows : goal.returns-in-Ok-false-clause-shows
 returns-in-Ok-false-clause-shows g c = λ content m told form laid few same.

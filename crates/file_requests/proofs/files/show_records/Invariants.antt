@@ -9,12 +9,13 @@ use Rattle.record_files.specs.Any.{Begins, IsFile, IsLaidOut, map_of}
 use Rattle.directory_model.specs.Files.{IsShown}
 use Rattle.node_table.specs.Code.{stored_of}
 use Rattle.file_requests.specs.Replying.{ShowsQuietly}
+use Rattle.file_requests.specs.Serving.{SameStored}
 use Rattle.file_requests.proofs.Dumping.{ShowsSome}
 use Rattle.file_requests.proofs.files.show_records.Given as goal
 
 abbrev pub invariant-loop-count : goal.invariant-loop-count
 invariant-loop-count g l = record {
-  same : stored_of g.U.RecoveryUnits.state l.stored ≡ stored_of g.U.RecoveryUnits.state l.fn.stored;
+  same : SameStored (stored_of g.U.RecoveryUnits.state l.fn.stored) (stored_of g.U.RecoveryUnits.state l.stored);
   place : g.E.Emit.place l.out ≡ g.E.Emit.place l.fn.out;
   since : Since (g.E.Emit.shows l.fn.out) (g.E.Emit.shows l.out);
   quiet : ShowsQuietly (g.E.Emit.shows l.fn.out) (g.E.Emit.shows l.out);

@@ -6,6 +6,7 @@ use Rattle.transcript_model.specs.Lines.{Line}
 use Rattle.emitter_model.proofs.EmittingLemmas.{emits_nothing, since_on}
 use Rattle.node_table.specs.Code.{stored_of}
 use Rattle.node_table.specs.Standing.{Stored}
+use Rattle.file_requests.proofs.Reading.{stored_on, volume_of_stored}
 use Rattle.file_requests.proofs.Replied.{quiet_none, quiet_on, replies_after}
 use Rattle.file_requests.proofs.JournalShown.{HasShown, entry_cut, entry_done, entry_there, shown_all, shown_none}
 use Rattle.file_requests.proofs.journal.show_entries.Goals as goal
@@ -28,7 +29,11 @@ pub returns-in-Err-clause-shows : goal.returns-in-Err-clause-shows
 returns-in-Err-clause-shows g c = λ n k.
     let end = ap (λ (s : Span). s.end) c.ru-span.ensures in
     let lt = c.loop-position-test.true in
-    entry_cut c.the_laws.ensures.nodes (g.U.RecoveryUnits.state c.args.stored.now.units) c.args.stored.now.volume _ (ap (λ (u : Stored). u.volume) c.loop-position.invariant.same) n k c.loop-position.position _ _ _ (c.loop-position.invariant.shows n k) (omega (arith, end, lt)) c.in-Err.down c.in-Err.ensures.shows
+    entry_cut c.the_laws.ensures.nodes (g.U.RecoveryUnits.state c.args.stored.now.units) c.args.stored.now.volume _ (volume_of_stored (stored_of g.U.RecoveryUnits.state c.args.stored.now) (stored_of g.U.RecoveryUnits.state c.loop-position.stored) c.loop-position.invariant.same) n k c.loop-position.position _ _ _ (c.loop-position.invariant.shows n k) (omega (arith, end, lt)) c.in-Err.down c.in-Err.ensures.shows
+
+pub returns-in-Ok-None-clause-same : goal.returns-in-Ok-None-clause-same
+returns-in-Ok-None-clause-same g c =
+    stored_on (stored_of g.U.RecoveryUnits.state c.args.stored.now) (stored_of g.U.RecoveryUnits.state c.loop-position.stored) (stored_of g.U.RecoveryUnits.state c.show_entry.new.stored) c.loop-position.invariant.same c.in-Ok-None.ensures.same
 
 pub returns-in-Ok-None-clause-replies : goal.returns-in-Ok-None-clause-replies
 returns-in-Ok-None-clause-replies g c = replies_after _ _ _ _ (quiet_on _ _ _ c.loop-position.invariant.quiet c.show_entry.ensures.quiet) c.emit.ensures.emits (refl, refl)
@@ -37,21 +42,20 @@ pub returns-in-Ok-None-clause-shows : goal.returns-in-Ok-None-clause-shows
 returns-in-Ok-None-clause-shows g c = λ n k.
     let end = ap (λ (s : Span). s.end) c.ru-span.ensures in
     let lt = c.loop-position-test.true in
-    absurd (entry_there c.the_laws.ensures.nodes (g.U.RecoveryUnits.state c.args.stored.now.units) c.args.stored.now.volume _ (ap (λ (u : Stored). u.volume) c.loop-position.invariant.same) n k c.loop-position.position _ _ _ (c.loop-position.invariant.shows n k) (omega (arith, end, lt)) c.in-Ok-None.field-0 c.in-Ok-None.field-0-is
+    absurd (entry_there c.the_laws.ensures.nodes (g.U.RecoveryUnits.state c.args.stored.now.units) c.args.stored.now.volume _ (volume_of_stored (stored_of g.U.RecoveryUnits.state c.args.stored.now) (stored_of g.U.RecoveryUnits.state c.loop-position.stored) c.loop-position.invariant.same) n k c.loop-position.position _ _ _ (c.loop-position.invariant.shows n k) (omega (arith, end, lt)) c.in-Ok-None.field-0 c.in-Ok-None.field-0-is
     c.in-Ok-None.ensures.shows)
 
 pub loop-position-preserved : goal.loop-position-preserved
 loop-position-preserved g c =
-    let still : stored_of g.U.RecoveryUnits.state c.show_entry.new.stored ≡ stored_of g.U.RecoveryUnits.state c.loop-position.stored = c.in-Ok-Some.ensures.same in
     record {
-      same = still ∙ c.loop-position.invariant.same;
+      same = stored_on (stored_of g.U.RecoveryUnits.state c.args.stored.now) (stored_of g.U.RecoveryUnits.state c.loop-position.stored) (stored_of g.U.RecoveryUnits.state c.show_entry.new.stored) c.loop-position.invariant.same c.in-Ok-Some.ensures.same;
       place = c.show_entry.ensures.place ∙ c.loop-position.invariant.place;
       since = since_on _ _ _ c.loop-position.invariant.since c.show_entry.ensures.since;
       quiet = quiet_on _ _ _ c.loop-position.invariant.quiet c.show_entry.ensures.quiet;
       shows = λ n k.
           let end = ap (λ (s : Span). s.end) c.ru-span.ensures in
           let lt = c.loop-position-test.true in
-          entry_done c.the_laws.ensures.nodes (g.U.RecoveryUnits.state c.args.stored.now.units) c.args.stored.now.volume _ (ap (λ (u : Stored). u.volume) c.loop-position.invariant.same) n k c.loop-position.position _ _ _ (c.loop-position.invariant.shows n k) (omega (arith, end, lt)) c.in-Ok-Some.field-0 c.in-Ok-Some.next c.in-Ok-Some.field-0-is
+          entry_done c.the_laws.ensures.nodes (g.U.RecoveryUnits.state c.args.stored.now.units) c.args.stored.now.volume _ (volume_of_stored (stored_of g.U.RecoveryUnits.state c.args.stored.now) (stored_of g.U.RecoveryUnits.state c.loop-position.stored) c.loop-position.invariant.same) n k c.loop-position.position _ _ _ (c.loop-position.invariant.shows n k) (omega (arith, end, lt)) c.in-Ok-Some.field-0 c.in-Ok-Some.next c.in-Ok-Some.field-0-is
           c.in-Ok-Some.ensures.shows;
     }
 

@@ -4,12 +4,13 @@ use Rattle.run_model.specs.World.{Node}
 use Rattle.recovery_units.specs.State.{IsKept}
 use Rattle.node_table.specs.Code.{stored_of}
 use Rattle.file_requests.specs.Replying.{ShowsQuietly}
+use Rattle.file_requests.specs.Serving.{SameStored}
 use Rattle.file_requests.proofs.JournalShown.{HasShown}
 use Rattle.file_requests.proofs.journal.show_entries.Given as goal
 
 abbrev pub invariant-loop-position : goal.invariant-loop-position
 invariant-loop-position g l = record {
-  same : stored_of g.U.RecoveryUnits.state l.stored ≡ stored_of g.U.RecoveryUnits.state l.fn.stored;
+  same : SameStored (stored_of g.U.RecoveryUnits.state l.fn.stored) (stored_of g.U.RecoveryUnits.state l.stored);
   place : g.E.Emit.place l.out ≡ g.E.Emit.place l.fn.out;
   since : Since (g.E.Emit.shows l.fn.out) (g.E.Emit.shows l.out);
   quiet : ShowsQuietly (g.E.Emit.shows l.fn.out) (g.E.Emit.shows l.out);

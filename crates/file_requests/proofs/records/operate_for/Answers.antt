@@ -10,6 +10,7 @@ use Rattle.file_requests.specs.Replying.{IsPlain}
 use Rattle.node_table.specs.Code.{stored_of}
 use Rattle.node_table.specs.Standing.{Stored}
 use Rattle.file_requests.proofs.BranchAnswers.{asked_done, asked_err}
+use Rattle.file_requests.proofs.Reading.{stored_of_volume}
 use Rattle.file_requests.proofs.records.operate_for.Goals as goal
 
 pub returns-in-Err-clause-acts : goal.returns-in-Err-clause-acts
@@ -20,7 +21,7 @@ returns-in-Err-clause-acts g c =
     let e = c.in-Err.ensures in
     subst (λ a. ActsFor c.refuse.result (serial_of c.args.serial.now) (number_in a) (said_of a c.args.bytes.now) u new (g.E.Emit.shows c.args.out.now) (g.E.Emit.shows c.refuse.new.out)) (sym c.in-Change.is)
     (asked_err (serial_of c.args.serial.now) (file_in op) (change_said op c.args.bytes.now) u new c.requires.order refl e.works e.grows c.in-Err.cause c.refuse.result _ _
-    (λ d. λ i. record { volume = (e.same d).1 i; units = (e.same d).0 i; in_doubt = u.in_doubt }) e.cause c.refuse.ensures.replies c.refuse.ensures.shows e.err)
+    (λ d. stored_of_volume u new (e.same d).1 (e.same d).0 refl) e.cause c.refuse.ensures.replies c.refuse.ensures.shows e.err)
 
 pub returns-in-Ok-clause-acts : goal.returns-in-Ok-clause-acts
 returns-in-Ok-clause-acts g c =
@@ -41,7 +42,7 @@ returns-in-Err-read-clause-acts g c =
     let e = c.in-Err-read.ensures in
     subst (λ a. ActsFor c.refuse-in-Err-read.result (serial_of c.args.serial.now) (number_in a) (said_of a c.args.bytes.now) u new (g.E.Emit.shows c.args.out.now) (g.E.Emit.shows c.refuse-in-Err-read.new.out)) (sym c.in-Read.is)
     (asked_err (serial_of c.args.serial.now) (read_file_in op) (read_said op) u new c.requires.order refl e.works e.grows c.in-Err-read.cause c.refuse-in-Err-read.result _ _
-    (λ d. λ i. record { volume = (e.same d).1 i; units = (e.same d).0 i; in_doubt = u.in_doubt }) e.cause c.refuse-in-Err-read.ensures.replies c.refuse-in-Err-read.ensures.shows (λ n name file branch q up. e.err n name file branch q))
+    (λ d. stored_of_volume u new (e.same d).1 (e.same d).0 refl) e.cause c.refuse-in-Err-read.ensures.replies c.refuse-in-Err-read.ensures.shows (λ n name file branch q up. e.err n name file branch q))
 
 pub returns-in-Ok-read-clause-acts : goal.returns-in-Ok-read-clause-acts
 returns-in-Ok-read-clause-acts g c =

@@ -7,6 +7,7 @@ use Rattle.node_table.specs.Code.{stored_of}
 use Rattle.node_table.specs.Standing.{Stored}
 use Rattle.file_requests.specs.Replying.{IsPlain}
 use Rattle.file_requests.proofs.AloneAnswers.{looked_done, looked_err, read_reads}
+use Rattle.file_requests.proofs.Reading.{stored_of_volume}
 use Rattle.file_requests.proofs.records.read_alone.Goals as goal
 
 pub returns-in-Err-clause-acts : goal.returns-in-Err-clause-acts
@@ -24,5 +25,5 @@ returns-in-Ok-clause-acts g c =
     let told = record_line c.args.op.now (key_of c.look.new.found) c.look.new.out in
     let a = g.E.Emit.shows c.args.out.now in
     let b = g.E.Emit.shows c.emit.new.self in
-    looked_done (read_file_in c.args.op.now) (read_said c.args.op.now) u new c.requires.order (read_reads c.args.op.now) refl refl e.grows told a b (λ i. record { volume = e.same i; units = u.units; in_doubt = u.in_doubt }) (subst (λ l. IsPlain l) c.read_form.ensures.line c.read_form.ensures.plain)
+    looked_done (read_file_in c.args.op.now) (read_said c.args.op.now) u new c.requires.order (read_reads c.args.op.now) refl refl e.grows told a b (stored_of_volume u new e.same refl refl) (subst (λ l. IsPlain l) c.read_form.ensures.line c.read_form.ensures.plain)
     (subst (λ l. Emits a (l ∷ []) b) c.read_form.ensures.line c.emit.ensures.emits) e.done

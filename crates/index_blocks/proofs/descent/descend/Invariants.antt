@@ -1,4 +1,5 @@
-use Rattle.std.proofs.Common.{◌≡◌, ◌<◌, ℕ, IfSome, slice_index_or}
+use Rattle.std.proofs.Common.{◌≡◌, ◌≤◌, ◌<◌, ◌+◌, ◌*◌, ℕ, IfSome, slice_index_or}
+use Rattle.careful_write.specs.Reads.{SameButReads}
 use Rattle.frame_pool.specs.Pool.{IsOut}
 use Rattle.change_set.specs.Buckets.{frame_of, with_frame}
 use Rattle.index_blocks.specs.Levels.{IsWay, way}
@@ -6,7 +7,8 @@ use Rattle.index_blocks.proofs.descent.descend.Given as goal
 
 abbrev pub invariant-loop-i : goal.invariant-loop-i
 invariant-loop-i g l = record {
-  state : l.store ≡ with_frame l.frame (frame_of l.store.pool l.frame) l.initial.store;
+  state : SameButReads (with_frame l.frame (frame_of l.store.pool l.frame) l.initial.store) l.store;
+  reads : l.store.reads ≤ l.initial.store.reads + l.i * l.head.bucket;
   out : IsOut l.store.pool l.frame;
   there : l.n < l.head.used;
   here : IfSome l.initial.store.current (λ blocks. IsWay l.head blocks l.key → l.n ≡ way l.head blocks l.key l.i);

@@ -1,6 +1,7 @@
 use Rattle.std.proofs.Common.{◌-◌, ℕ, Option, Some, None, Result, Ok, Err, IfOk, slice_index_or, refl, ap, subst, arith, ◌+◌, ◌*◌, OnOk}
 use Rattle.careful_write.specs.State.{StoreState}
 use Rattle.careful_write.specs.Down.{answered}
+use Rattle.careful_write.proofs.Reading.{same_so}
 use Rattle.change_set.specs.Files.{StagesIn}
 use Rattle.index_bucket.specs.declared.hand.Handed.{Handed}
 use Rattle.index_bucket.specs.Takes.{entries_of}
@@ -17,6 +18,9 @@ pub returns-then-depth-eq0-clause-climbs : goal.returns-then-depth-eq0-clause-cl
 returns-then-depth-eq0-clause-climbs g t c =
     let h = c.args.head.now in
     at_root c.args.store.now.current c.stage_root.new.store.current h c.args.key.now (entries_of h c.args.handed.now) c.args.depth c.args.path.now c.args.used _ (omega (arith, c.if-depth-eq0.true)) c.stage_root.ensures.climbs
+
+pub returns-then-depth-eq0-clause-rest : goal.returns-then-depth-eq0-clause-rest
+returns-then-depth-eq0-clause-rest g t c = same_so _ c.stage_root.new.store c.stage_root.ensures.rest
 
 pub returns-in-Some-clause-rest : goal.returns-in-Some-clause-rest
 returns-in-Some-clause-rest g t c =

@@ -1,3 +1,5 @@
+use Rattle.std.proofs.Common.{ap, arith}
+use Rattle.careful_write.specs.State.{StoreState}
 use Rattle.careful_write.specs.Down.{answered}
 use Rattle.change_set.proofs.Frames.{lent_taken, lent_read, lent_given}
 use Rattle.indexed_tree.proofs.read.get_key.Goals as goal
@@ -9,3 +11,8 @@ returns-clause-state g c =
     let lent = lent_taken f s0 c.take_frame-frame.new.store c.take_frame-frame.ensures.free c.take_frame-frame.ensures.state in
     let read = lent_read f s0 c.take_frame-frame.new.store c.read_key-found.new.store (answered c.read_key-found.result) lent c.read_key-found.ensures.state in
     lent_given f _ c.read_key-found.new.store c.give_frame.new.store read c.give_frame.ensures
+
+pub returns-clause-reads : goal.returns-clause-reads
+returns-clause-reads g c =
+    let taken = ap (λ (s : StoreState). s.reads) c.take_frame-frame.ensures.state in
+    let given = ap (λ (s : StoreState). s.reads) c.give_frame.ensures in omega (arith, taken, given, c.read_key-found.ensures.reads)

@@ -2,7 +2,8 @@ use Rattle.std.proofs.Common.{ℕ, Result, Err}
 use Rattle.block_disk.specs.Disk.{DiskState}
 use Rattle.careful_write.specs.Down.{answered}
 use Rattle.careful_write.specs.declared.down.Down.{Down}
-use Rattle.index_blocks.proofs.StageLaws.{read_again}
+use Rattle.careful_write.proofs.Reading.{same_so}
+use Rattle.change_set.proofs.Frames.{read_again}
 use Rattle.indexed_tree.proofs.StoreLaws.{rest_read, rest_same}
 use Rattle.indexed_tree.proofs.restore.restore_through.Goals as goal
 
@@ -11,7 +12,7 @@ returns-in-Ok-load_index-clause-rest g c =
     let f = c.args.frame.now in
     let s0 = c.args.store.now in
     rest_read f s0 c.load_index.new.store c.restore_loaded.new.store (λ (d : DiskState). d)
-    (read_again f s0 c.find_leaf.new.store c.load_index.new.store (λ (d : DiskState). d) c.in-Ok.ensures.state c.in-Ok-load_index.ensures.state) c.restore_loaded.ensures.rest
+    (read_again f s0 c.find_leaf.new.store c.load_index.new.store (λ (d : DiskState). d) c.in-Ok.ensures.state c.in-Ok-load_index.ensures.state) (same_so _ c.restore_loaded.new.store c.restore_loaded.ensures.rest)
 
 pub returns-in-Err-load_index-clause-rest : goal.returns-in-Err-load_index-clause-rest
 returns-in-Err-load_index-clause-rest g c =

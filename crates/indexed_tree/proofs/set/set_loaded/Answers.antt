@@ -2,6 +2,7 @@ use Rattle.std.proofs.Common.{◌≤◌, ◌*◌, ℕ, List, Result, Ok, Err, On
 use Rattle.std.proofs.lemmas.Nat.{mul-le}
 use Rattle.std.specs.Option.{option_copied}
 use Rattle.careful_write.specs.State.{StoreState}
+use Rattle.careful_write.proofs.Reading.{same_so}
 use Rattle.vms_model.specs.Keys.{Text}
 use Rattle.change_set.specs.Buckets.{frame_of, with_frame}
 use Rattle.change_set.proofs.Frames.{with_frame_own}
@@ -37,7 +38,7 @@ returns-then-not-may_part-clause-rest g c =
     let s0 = c.args.store.now in
     let s1 = c.read_frame.new.store in
     let same = c.read_frame.ensures.same in
-    same ∙ with_frame_own f s0 c.requires.out ∙ (λ i. with_frame f (frame_of (sym same i).pool f) (record s0 { current = (sym same i).current; touched = (sym same i).touched }))
+    same_so _ s1 (same ∙ with_frame_own f s0 c.requires.out ∙ (λ i. with_frame f (frame_of (sym same i).pool f) (record s0 { current = (sym same i).current; touched = (sym same i).touched })))
 
 pub returns-clause-sets : goal.returns-clause-sets
 returns-clause-sets g c =

@@ -10,7 +10,7 @@ invariant-loop-done g l = record {
   at : l.done < length l.bytes → (l.at + l.done) % ring_size l.span ≡ 512 * l.block + l.place;
   first : (l.done ≡ 0) ⊎ (l.place ≡ 0);
   touched : l.done < length l.bytes → 512 * length l.store.touched ≤ 512 * length l.fn.store.touched + l.done + 511;
-  all : length l.store.touched ≤ length l.fn.store.touched + 18;
+  all : 512 * length l.store.touched ≤ 512 * length l.fn.store.touched + length l.bytes + 1022;
   current : option_map (λ (c : List (List ℕ)). put_stream c l.span (l.at + l.done) (drop l.done l.bytes)) l.store.current ≡ option_map (λ (c : List (List ℕ)). put_stream c l.span l.at l.bytes) l.fn.store.current;
   disk : l.store.disk ≡ l.fn.store.disk;
   pool : l.store.pool ≡ l.fn.store.pool;

@@ -3,6 +3,7 @@ use Rattle.std.proofs.Common.{◌≡◌, ℕ, ◌+◌, ◌-◌, List, [], ◌∷
 use Rattle.std.proofs.lemmas.List.{length_push}
 use Rattle.block_disk.specs.Blocks.{block_at}
 use Rattle.careful_write.specs.State.{StoreState}
+use Rattle.careful_write.proofs.Reading.{same_on}
 use Rattle.commit_protocol.specs.Messages.{LogRecord}
 use Rattle.commit_protocol.specs.Table.{record_serials}
 use Rattle.commit_protocol.specs.World.{In}
@@ -35,7 +36,7 @@ loop-i-preserved g c =
     let Q : Slots → Type 0 = λ ts. (r : LogRecord) → In r (records_in ts) → IsRecord r in
     let D : Slots → Type 0 = λ ts. Distinct (record_serials (records_in ts)) in
     record {
-      same = c.in_ok-read.ensures.state ∙ before.same;
+      same = same_on c.args.store.now c.loop-i.store c.read.new.self before.same c.in_ok-read.ensures.state;
       count = ap length c.push_reserved.ensures.items ∙ (length_push items c.entry_in-entry.result ∙ ap (λ (m : ℕ). m + 1) before.count);
       within = (let lt = c.loop-i-test.true in omega (arith, lt));
       room = let q = c.push_reserved.ensures.capacity in let r = before.room in omega arith;

@@ -4,13 +4,14 @@ use Rattle.commit_protocol.specs.Table.{record_serials}
 use Rattle.commit_protocol.specs.World.{In}
 use Rattle.commit_protocol.specs.Agreement.{Distinct}
 use Rattle.log_laws.specs.Slots.{records_in}
+use Rattle.careful_write.specs.Reads.{SameButReads}
 use Rattle.lmcp_log.specs.Slot.{IsRecord}
 use Rattle.lmcp_log.specs.Log.{slot_of, IsReading}
 use Rattle.lmcp_log.proofs.log.load_slots.Given as goal
 
 abbrev pub invariant-loop-i : goal.invariant-loop-i
 invariant-loop-i g l = record {
-  same : l.store ≡ l.fn.store;
+  same : SameButReads l.fn.store l.store;
   count : length l.slots.items ≡ l.i;
   within : l.i ≤ l.count;
   room : 512 ≤ vec_capacity l.slots;

@@ -6,7 +6,8 @@ use Rattle.records_model.specs.Records.{key_cmp}
 use Rattle.records_model.specs.History.{current}
 use Rattle.run_model.specs.World as world
 use Rattle.reference_world.specs.declared.world.Row.{Row}
-use Rattle.reference_world.specs.Standing.{key_of, lent_key, value_of, entry_of, history_of}
+use Rattle.reference_index.specs.Standing.{key_of, lent_key, value_of}
+use Rattle.reference_world.specs.Standing.{entry_of, history_of}
 use Rattle.reference_disk.proofs.boot.moved_end.Goals as goal
 
 pub returns : goal.returns

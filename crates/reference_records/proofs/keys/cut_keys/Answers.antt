@@ -2,7 +2,7 @@ use Rattle.std.proofs.Common.{◌≤◌, ◌-◌, ap, ◌∙◌, sym, arith, dro
 use Rattle.std.specs.Prelude.{map}
 use Rattle.std.proofs.lemmas.List.{drop-map}
 use Rattle.reference_world.specs.Standing.{entry_of, file_of}
-use Rattle.reference_world.proofs.ChangeLemmas.{if_ok_so}
+use Rattle.reference_index.proofs.ListLemmas.{if_ok_so}
 use Rattle.reference_records.proofs.CutLemmas.{keys_back, cut_is}
 use Rattle.reference_records.proofs.keys.cut_keys.Goals as goal
 

@@ -4,7 +4,8 @@ use Rattle.vms_model.specs.Keys as key
 use Rattle.reference_world.specs.declared.line.Line.TheVariants as line
 use Rattle.run_model.specs.Operations as operations
 use Rattle.run_model.specs.Operations.{standing_of}
-use Rattle.reference_world.specs.Standing.{file_of, lent_value, line_of, organization_of}
+use Rattle.reference_index.specs.Standing.{lent_value}
+use Rattle.reference_world.specs.Standing.{file_of, line_of, organization_of}
 use Rattle.reference_world.specs.declared.world.Organization.{Organization}
 use Rattle.reference_records.proofs.records.put_refused.Goals as goal
 

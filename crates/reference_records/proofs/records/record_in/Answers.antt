@@ -3,7 +3,8 @@ use Rattle.std.specs.FinMap.{get-entries}
 use Rattle.std.specs.FinMap.Entries.{find}
 use Rattle.records_model.specs.Records.{key_cmp}
 use Rattle.run_model.specs.Operations.{standing_of}
-use Rattle.reference_world.specs.Standing.{lent_key, file_of}
+use Rattle.reference_index.specs.Standing.{lent_key}
+use Rattle.reference_world.specs.Standing.{file_of}
 use Rattle.reference_records.proofs.records.record_in.Goals as goal
 
 pub returns : goal.returns

@@ -2,8 +2,8 @@ use Rattle.std.proofs.Common.{◌≡◌, ◌∷◌, ◌∙◌, List, ap, sym, fa
 use Rattle.std.specs.Prelude.{map}
 use Rattle.run_model.specs.Locks as locks
 use Rattle.vms_base.specs.Ids.{id_of}
-use Rattle.reference_world.specs.declared.world.Lock.{Lock}
-use Rattle.reference_world.specs.Standing.{key_of, locks_of}
+use Rattle.reference_index.specs.declared.locks.Lock.{Lock}
+use Rattle.reference_index.specs.Standing.{key_of, locks_of}
 use Rattle.reference_units.proofs.LockLemmas.{first_taken}
 use Rattle.reference_units.proofs.locks.+locks_for.Goals as goal
 

@@ -1,6 +1,6 @@
 use Rattle.run_model.specs.Locks.{is_locked}
 use Rattle.vms_base.specs.Ids.{id_of}
-use Rattle.reference_world.specs.Standing.{changes_of, locks_of}
+use Rattle.reference_index.specs.Standing.{changes_of, locks_of}
 use Rattle.reference_world.proofs.FileLemmas.{set_is}
 use Rattle.reference_world.proofs.directory.set_file.Goals as goal
 

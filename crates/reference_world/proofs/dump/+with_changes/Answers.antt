@@ -2,8 +2,10 @@ use Rattle.std.proofs.Common.{ap, ◌∙◌, ◌≡◌}
 use Rattle.std.specs.Prelude.{map}
 use Rattle.std.specs.FinMap.{entries}
 use Rattle.records_model.specs.Records.{applied, set_key}
-use Rattle.reference_world.specs.Standing.{changes_of, key_of, lent_value, entry_of}
-use Rattle.reference_world.proofs.ChangeLemmas.{first_set, if_ok_so, behind_first}
+use Rattle.reference_index.specs.Standing.{changes_of, key_of, lent_value}
+use Rattle.reference_world.specs.Standing.{entry_of}
+use Rattle.reference_index.proofs.ListLemmas.{if_ok_so, behind_first}
+use Rattle.reference_world.proofs.ChangeLemmas.{first_set}
 use Rattle.reference_world.proofs.dump.+with_changes.Goals as goal
 
 pub returns-in_ok-before-in-len1-up : goal.returns-in_ok-before-in-len1-up

@@ -2,9 +2,10 @@ use Rattle.std.proofs.Common.{ap, ◌∙◌, sym}
 use Rattle.std.specs.FinMap.{entries}
 use Rattle.std.specs.FinMap.Entries.{put, where_key}
 use Rattle.records_model.specs.Records.{key_cmp, set_key}
-use Rattle.reference_world.specs.Lists.{is_other}
-use Rattle.reference_world.specs.Standing.{lent_key, lent_value}
-use Rattle.reference_world.proofs.ChangeLemmas.{entries_put, entries_removed, if_ok_so}
+use Rattle.reference_world.specs.Rows.{is_other}
+use Rattle.reference_index.specs.Standing.{lent_key, lent_value}
+use Rattle.reference_index.proofs.ListLemmas.{if_ok_so}
+use Rattle.reference_world.proofs.ChangeLemmas.{entries_put, entries_removed}
 use Rattle.reference_world.proofs.dump.set_row.Goals as goal
 
 pub returns-in-Some : goal.returns-in-Some

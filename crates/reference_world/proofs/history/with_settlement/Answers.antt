@@ -7,7 +7,8 @@ use Rattle.vms_base.specs.Ids.{id_of}
 use Rattle.vms_base.specs.Outcomes.{outcome_of}
 use Rattle.reference_world.specs.declared.world.LiveChanges.{LiveChanges}
 use Rattle.reference_world.specs.declared.world.SettledChanges.{SettledChanges}
-use Rattle.reference_world.specs.Standing.{live_of, done_of, changes_of, layout_of, outcome_by, history_of, settlement_of, file_of}
+use Rattle.reference_index.specs.Standing.{changes_of, layout_of}
+use Rattle.reference_world.specs.Standing.{live_of, done_of, outcome_by, history_of, settlement_of, file_of}
 use Rattle.reference_world.proofs.FileLemmas.{now_settled}
 use Rattle.reference_world.proofs.history.with_settlement.Goals as goal
 

@@ -50,3 +50,13 @@ returns-in-Ok-clause-absent g c = λ is.
     subst (λ (told : Option (List (List ℕ))). IfSome told (λ (blocks : List (List ℕ)). record_in h.mrs (cell_at h blocks c.args.n) ≡ None)) current
     (cell_told _ (bucket_at h) h.mrs _ (first_of h c.args.n) (512 * h.bucket) _ (place_of h c.args.n) c.bytes.result.now (None) read
     (cell_within c.args.n h.bucket h.mrs c.requires.form.one c.requires.placed.records) (omega (arith, c.bytes.ensures.size, c.requires.placed.blocks)) (omega (arith, c.cell_place-first.ensures.first)) c.cell_place-first.ensures.place (c.read_cell-found.ensures.none is))
+
+pub returns-in-Ok-clause-reads : goal.returns-in-Ok-clause-reads
+returns-in-Ok-clause-reads g c =
+    let taken = ap (λ (s : StoreState). s.reads) c.take_frame-frame.ensures.state in
+    let given = ap (λ (s : StoreState). s.reads) c.give_frame.ensures in omega (arith, taken, given, c.read_bucket-loaded.ensures.reads)
+
+pub returns-in-Err-clause-reads : goal.returns-in-Err-clause-reads
+returns-in-Err-clause-reads g c =
+    let taken = ap (λ (s : StoreState). s.reads) c.take_frame-frame.ensures.state in
+    let given = ap (λ (s : StoreState). s.reads) c.give_frame.ensures in omega (arith, taken, given, c.read_bucket-loaded.ensures.reads)

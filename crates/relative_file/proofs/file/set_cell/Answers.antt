@@ -67,5 +67,6 @@ returns-in-Ok-clause-ok g c =
       state = given ∙ (λ k. record s0 {
         current = option_map (λ (b : List (List ℕ)). with_bucket bytes b (at k) h.bucket) s0.current;
         touched = with_numbers (c.cell_place-first.ensures.first k) h.bucket s0.touched;
+        reads = c.give_frame.new.store.reads;
       });
     }

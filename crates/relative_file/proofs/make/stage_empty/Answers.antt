@@ -1,6 +1,7 @@
 use Rattle.std.proofs.Common.{◌≡◌, ◌+◌, ◌-◌, ◌*◌, Option, option_map, None, set, length, List, ℕ, sym, ap, ◌∙◌, arith}
 use Rattle.block_disk.specs.Disk.{DiskState}
 use Rattle.careful_write.specs.State.{StoreState}
+use Rattle.careful_write.proofs.Reading.{same_all, same_so}
 use Rattle.file_base.specs.declared.head.FileHead.{FileHead}
 use Rattle.change_set.specs.Buckets.{frame_of, with_frame, with_bucket, with_numbers, WasFree}
 use Rattle.change_set.proofs.Frames.{lent_taken, lent_read, lent_staged, lent_given}
@@ -14,9 +15,9 @@ given : (h : FileHead) (f n : ℕ) (s0 s1 s2 s3 s4 : StoreState) → WasFree s0.
     → s4 ≡ record s0 { current = option_map (λ b. with_bucket (frame_of s2.pool f) b (n - 518) h.bucket) s0.current; touched = with_numbers n h.bucket s0.touched }
 given h f n s0 s1 s2 s3 s4 was taken filled staged gave =
     let lent1 = lent_taken f s0 s1 was taken in
-    let lent2 = lent_read f s0 s1 s2 (λ (d : DiskState). d) lent1 filled in
+    let lent2 = lent_read f s0 s1 s2 (λ (d : DiskState). d) lent1 (same_so _ s2 filled) in
     let lent3 = lent_staged f s0 s2 s3 (option_map (λ (b : List (List ℕ)). with_bucket (frame_of s2.pool f) b (n - 518) h.bucket)) (with_numbers n h.bucket) lent2 staged in
-    lent_given f _ s3 s4 lent3 gave
+    same_all _ s4 (lent_given f _ s3 s4 lent3 gave) (ap (λ (s : StoreState). s.reads) gave ∙ ap (λ (s : StoreState). s.reads) staged ∙ ap (λ (s : StoreState). s.reads) filled ∙ ap (λ (s : StoreState). s.reads) taken)
 
 only_these : (old new : StoreState) (current : Option (List (List ℕ))) (touched : List ℕ) → new ≡ record old { current = current; touched = touched } → new ≡ record old { current = new.current; touched = new.touched }
 only_these old new current touched is = is ∙ (λ k. let back = sym is in record old { current = (back k).current; touched = (back k).touched })

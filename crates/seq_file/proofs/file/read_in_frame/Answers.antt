@@ -1,4 +1,5 @@
-use Rattle.std.proofs.Common.{subst, sym, arith}
+use Rattle.std.proofs.Common.{ap, subst, sym, arith}
+use Rattle.careful_write.specs.State.{StoreState}
 use Rattle.seq_file.specs.Layout.{IsRecord}
 use Rattle.seq_file.specs.Frames.{page_in}
 use Rattle.seq_file.proofs.RewriteLaws.{read_found, read_none}
@@ -28,3 +29,6 @@ returns-in-Ok-Some-clause-stands g c = λ is.
     let slots = rw c.in-Ok-Some.field-0-is at c.in-Ok-Some.ensures.slots in
     let kept = subst (IsRecord h.mrs) (sym (c.read_record.ensures.read is)) (c.read_record.ensures.found.0 is) in
     stands_so c.args.store.now.current h c.in-Ok-Some.spot.bucket c.in-Ok-Some.spot.slot (page_in h c.locate.new.store c.args.frame.now) c.read_record.new.out stands below (omega (arith, there, slots)) (c.read_record.ensures.read is) kept
+
+pub returns-in-Ok-Some-clause-reads : goal.returns-in-Ok-Some-clause-reads
+returns-in-Ok-Some-clause-reads g c = let same = ap (λ (s : StoreState). s.reads) c.read_record.ensures.same in omega (arith, same, c.locate.ensures.reads)

@@ -1,4 +1,4 @@
-use Rattle.std.proofs.Common.{◌≡◌, ℕ, List, true, false, Option, Some, IfOk, IfSome, refl, sym, ap, subst}
+use Rattle.std.proofs.Common.{◌≡◌, ℕ, List, true, false, Option, Some, IfOk, IfSome, refl, sym, ap, subst, arith}
 use Rattle.careful_write.specs.Down.{answered}
 use Rattle.careful_write.specs.State.{StoreState}
 use Rattle.change_set.specs.Files.{IsPlaced}
@@ -38,3 +38,8 @@ pub returns-clause-before : goal.returns-clause-before
 returns-clause-before g c =
     subst (λ (told : Option (List (List ℕ))). IfOk c.read_in_frame-found.result (λ found. IfSome told (λ (b : List (List ℕ)). IsLaidOut c.args.head.now b → CountsBefore c.args.head.now b c.read_in_frame-found.new.place)))
     (ap (λ (s : StoreState). s.current) c.take_frame-frame.ensures.state) c.read_in_frame-found.ensures.before
+
+pub returns-clause-reads : goal.returns-clause-reads
+returns-clause-reads g c =
+    let taken = ap (λ (s : StoreState). s.reads) c.take_frame-frame.ensures.state in
+    let given = ap (λ (s : StoreState). s.reads) c.give_frame.ensures in omega (arith, taken, given, c.read_in_frame-found.ensures.reads)

@@ -1,7 +1,8 @@
 use Rattle.std.proofs.Common.{◌-◌, arith}
 use Rattle.block_disk.specs.Disk.{DiskState}
+use Rattle.careful_write.proofs.Reading.{same_so}
+use Rattle.change_set.proofs.Frames.{read_again}
 use Rattle.seq_file.specs.Frames.{page_in}
-use Rattle.seq_file.proofs.FrameSteps.{in_frame_more}
 use Rattle.seq_file.proofs.RewriteLaws.{append_leads, append_none, append_may}
 use Rattle.seq_file.proofs.rewrite.append.Goals as goal
 
@@ -19,7 +20,7 @@ returns-in-Ok-clause-none g c =
     (omega (arith, c.requires.form.one)) c.requires.behind c.in-Ok.ensures.read c.place_behind.ensures.none
 
 pub returns-in-Ok-clause-state : goal.returns-in-Ok-clause-state
-returns-in-Ok-clause-state g c = in_frame_more c.args.frame.now c.args.store.now c.load_slots.new.store c.place_behind.new.store (λ (d : DiskState). d) c.in-Ok.ensures.state c.place_behind.ensures.state
+returns-in-Ok-clause-state g c = read_again c.args.frame.now c.args.store.now c.load_slots.new.store c.place_behind.new.store (λ (d : DiskState). d) c.in-Ok.ensures.state (same_so _ c.place_behind.new.store c.place_behind.ensures.state)
 
 pub returns-in-Ok-clause-may : goal.returns-in-Ok-clause-may
 returns-in-Ok-clause-may g c =

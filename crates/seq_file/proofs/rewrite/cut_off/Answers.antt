@@ -1,6 +1,7 @@
 use Rattle.block_disk.specs.Disk.{DiskState}
+use Rattle.careful_write.proofs.Reading.{same_so}
+use Rattle.change_set.proofs.Frames.{read_again}
 use Rattle.seq_file.specs.Frames.{page_in}
-use Rattle.seq_file.proofs.FrameSteps.{in_frame_more}
 use Rattle.seq_file.proofs.RewriteLaws.{cut_leads, cut_may}
 use Rattle.seq_file.proofs.rewrite.cut_off.Goals as goal
 
@@ -18,4 +19,4 @@ returns-in-Ok-Some-clause-may g c =
     cut_may c.args.head.now c.args.n c.in-Ok-Some.spot.bucket c.in-Ok-Some.spot.slot c.used_before.result below c.requires.form c.used_before.ensures
 
 pub returns-in-Ok-Some-clause-state : goal.returns-in-Ok-Some-clause-state
-returns-in-Ok-Some-clause-state g c = in_frame_more c.args.frame.now c.args.store.now c.locate.new.store c.keep_slots.new.store (λ (d : DiskState). d) c.in-Ok-Some.ensures.state c.keep_slots.ensures.state
+returns-in-Ok-Some-clause-state g c = read_again c.args.frame.now c.args.store.now c.locate.new.store c.keep_slots.new.store (λ (d : DiskState). d) c.in-Ok-Some.ensures.state (same_so _ c.keep_slots.new.store c.keep_slots.ensures.state)

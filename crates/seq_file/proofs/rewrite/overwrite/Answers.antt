@@ -1,7 +1,8 @@
 use Rattle.std.proofs.Common.{Some}
 use Rattle.block_disk.specs.Disk.{DiskState}
+use Rattle.careful_write.proofs.Reading.{same_so}
+use Rattle.change_set.proofs.Frames.{read_again}
 use Rattle.seq_file.specs.Frames.{page_in}
-use Rattle.seq_file.proofs.FrameSteps.{in_frame_more}
 use Rattle.seq_file.proofs.RewriteLaws.{overwrite_leads, overwrite_none, overwrite_may, never_laid_out}
 use Rattle.seq_file.proofs.rewrite.overwrite.Goals as goal
 
@@ -28,7 +29,7 @@ returns-in-Ok-Some-clause-may g c =
     overwrite_may c.write_over.result c.args.head.now c.in-Ok-Some.spot.bucket below c.requires.form c.write_over.ensures.rewrites
 
 pub returns-in-Ok-Some-clause-state : goal.returns-in-Ok-Some-clause-state
-returns-in-Ok-Some-clause-state g c = in_frame_more c.args.frame.now c.args.store.now c.locate.new.store c.write_over.new.store (λ (d : DiskState). d) c.in-Ok-Some.ensures.state c.write_over.ensures.state
+returns-in-Ok-Some-clause-state g c = read_again c.args.frame.now c.args.store.now c.locate.new.store c.write_over.new.store (λ (d : DiskState). d) c.in-Ok-Some.ensures.state (same_so _ c.write_over.new.store c.write_over.ensures.state)
 
 pub returns-in-Ok-None-clause-none : goal.returns-in-Ok-None-clause-none
 returns-in-Ok-None-clause-none g c =

@@ -1,26 +1,29 @@
-use Rattle.std.proofs.Common.{◌∙◌, ℕ, List, Option, IfSome, Result, Err, refl, ap, sym, subst, arith}
+use Rattle.std.proofs.Common.{◌+◌, ◌∙◌, ℕ, List, Option, IfSome, Result, Err, refl, ap, sym, subst, arith}
 use Rattle.block_disk.specs.Disk.{DiskState}
 use Rattle.careful_write.specs.Down.{answered}
 use Rattle.careful_write.specs.declared.down.Down.{Down}
 use Rattle.careful_write.specs.State.{StoreState}
+use Rattle.careful_write.proofs.Reading.{more_read, all_read}
 use Rattle.change_set.specs.Files.{IsPlaced}
+use Rattle.change_set.proofs.Frames.{read_again}
 use Rattle.seq_file.specs.Frames.{page_in, Reads}
-use Rattle.seq_file.proofs.FrameSteps.{in_frame_more, in_frame_own}
+use Rattle.seq_file.proofs.FrameSteps.{reads_own}
 use Rattle.seq_file.proofs.WalkLaws.{walk_begins, walk_more, walk_leaves, is_read}
 use Rattle.seq_file.proofs.walk.walk.Goals as goal
 
 pub returns-then-left-slots-clause-state : goal.returns-then-left-slots-clause-state
 returns-then-left-slots-clause-state g c =
-    in_frame_more c.args.frame.now c.args.store.now c.loop-bucket.store c.load_slots.new.store (λ (d : DiskState). d) c.loop-bucket.invariant.frame c.in-Ok.ensures.state
+    read_again c.args.frame.now c.args.store.now c.loop-bucket.store c.load_slots.new.store (λ (d : DiskState). d) c.loop-bucket.invariant.frame c.in-Ok.ensures.state
 
 pub returns-in-Err-clause-state : goal.returns-in-Err-clause-state
 returns-in-Err-clause-state g c =
     let r : Result (Unit {0}) Down = Err c.in-Err.down in
-    in_frame_more c.args.frame.now c.args.store.now c.loop-bucket.store c.load_slots.new.store (answered r) c.loop-bucket.invariant.frame c.in-Err.ensures.state
+    read_again c.args.frame.now c.args.store.now c.loop-bucket.store c.load_slots.new.store (answered r) c.loop-bucket.invariant.frame c.in-Err.ensures.state
 
 pub loop-bucket-init : goal.loop-bucket-init
 loop-bucket-init g c = record {
-  frame = in_frame_own c.args.frame.now c.args.store.now c.requires.out;
+  frame = reads_own c.args.frame.now c.args.store.now c.requires.out;
+  reads = omega arith;
   out = c.requires.out;
   placed = c.requires.placed;
   within = omega (arith, c.start_for-start.ensures.used);
@@ -35,7 +38,8 @@ loop-bucket-preserved g c =
     let page = page_in h c.load_slots.new.store c.args.frame.now in
     let read = subst (λ (told : Option (List (List ℕ))). IfSome told (Reads h c.loop-bucket.bucket page)) c.loop-bucket.invariant.current c.in-Ok.ensures.read in
     record {
-      frame = in_frame_more c.args.frame.now c.args.store.now c.loop-bucket.store c.load_slots.new.store (λ (d : DiskState). d) c.loop-bucket.invariant.frame c.in-Ok.ensures.state;
+      frame = read_again c.args.frame.now c.args.store.now c.loop-bucket.store c.load_slots.new.store (λ (d : DiskState). d) c.loop-bucket.invariant.frame c.in-Ok.ensures.state;
+      reads = more_read c.loop-bucket.bucket h.bucket c.args.store.now.reads c.loop-bucket.store.reads c.load_slots.new.store.reads c.loop-bucket.invariant.reads c.load_slots.ensures.reads;
       out = c.in-Ok.ensures.out;
       placed = subst (λ (s : StoreState). IsPlaced h s.disk) (sym c.in-Ok.ensures.state) c.loop-bucket.invariant.placed;
       within = omega (arith, c.loop-bucket-test.true);
@@ -53,3 +57,20 @@ returns-then-left-slots-clause-stands g c =
 
 pub returns-then-left-slots-clause-before : goal.returns-then-left-slots-clause-before
 returns-then-left-slots-clause-before g c = walk_leaves c.args.store.now.current c.args.head.now c.loop-bucket.bucket c.args.n c.loop-bucket.left c.loop-bucket.invariant.place
+
+pub returns-then-left-slots-clause-reads : goal.returns-then-left-slots-clause-reads
+returns-then-left-slots-clause-reads g c =
+    let h = c.args.head.now in
+    all_read (c.loop-bucket.bucket + 1) h.used h.bucket c.args.store.now.reads c.load_slots.new.store.reads (omega (arith, c.loop-bucket-test.true))
+    (more_read c.loop-bucket.bucket h.bucket c.args.store.now.reads c.loop-bucket.store.reads c.load_slots.new.store.reads c.loop-bucket.invariant.reads c.load_slots.ensures.reads)
+
+pub returns-in-Err-clause-reads : goal.returns-in-Err-clause-reads
+returns-in-Err-clause-reads g c =
+    let h = c.args.head.now in
+    all_read (c.loop-bucket.bucket + 1) h.used h.bucket c.args.store.now.reads c.load_slots.new.store.reads (omega (arith, c.loop-bucket-test.true))
+    (more_read c.loop-bucket.bucket h.bucket c.args.store.now.reads c.loop-bucket.store.reads c.load_slots.new.store.reads c.loop-bucket.invariant.reads c.load_slots.ensures.reads)
+
+pub returns-clause-reads : goal.returns-clause-reads
+returns-clause-reads g c =
+    let h = c.args.head.now in
+    all_read c.loop-bucket.bucket h.used h.bucket c.args.store.now.reads c.loop-bucket.store.reads c.loop-bucket.invariant.within c.loop-bucket.invariant.reads

@@ -9,9 +9,9 @@ use Rattle.unit_table.specs.Units.{OpenUnit, begun, is_active}
 use Rattle.vms_model.specs.Ids.{Id}
 use Rattle.volume.specs.State.{VolumeState}
 use Rattle.unit_aborts.specs.Growing.{AreTold, GrowsBy}
-use Rattle.unit_aborts.specs.Reopening.{AreFound, AreFoundIn, AreUnits, HasTaken, MayTake, aborting, full, left_after, left_units, taken}
+use Rattle.unit_aborts.specs.Reopening.{AreFound, AreFoundIn, AreUnits, HasTaken, aborting, full, left_after, left_units, taken}
 use Rattle.unit_aborts.proofs.GrowLemmas.{by_more, by_most, by_none}
-use Rattle.unit_aborts.proofs.TakeLemmas.{left_begins, may_abort, may_begin, next_alike, none_alike, one_fewer, quiet_on, quiet_there, rest_alike}
+use Rattle.unit_aborts.proofs.TakeLemmas.{left_begins, may_abort, may_begin, next_alike, none_alike, one_fewer, quiet_on, quiet_there, rest_alike, take_read}
 use Rattle.unit_aborts.proofs.reopening.reopen_units.Goals as goal
 
 pub returns-then-not-has_room-clause-reopens : goal.returns-then-not-has_room-clause-reopens
@@ -41,7 +41,7 @@ loop-place-init g c =
       taken = subst (λ (n : ℕ). HasTaken c.args.clock.0 us n v c.read_units.new.volume c.clear.new.self.items) (sym none) (same, c.clear.ensures.items);
       alike = subst (λ (n : ℕ). AreAlike (left_after n us) (begun c.read_units.new.units)) (sym none) alike;
       found = c.in-Ok-true.ensures.found c.in-Ok-true.field-0-test;
-      may = subst (MayTake v.catalog.ru.first (begun c.read_units.new.units) c.args.clock.0) (sym same)
+      may = take_read v.catalog.ru.first (begun c.read_units.new.units) c.args.clock.0 v c.read_units.new.volume same
           (may_begin (begun c.read_units.new.units) c.args.clock.0 v c.requires.may (c.in-Ok-true.ensures.within c.in-Ok-true.field-0-test) (c.in-Ok-true.ensures.ascends c.in-Ok-true.field-0-test) (omega (arith, long, few)) (omega (arith, yes, long, count)));
       places = omega (arith, places, wide);
       few = omega (arith, none, long, few);

@@ -4,7 +4,8 @@ use Rattle.std.proofs.lemmas.Result.{on_err_weaker, on_ok_weaker}
 use Rattle.careful_write.specs.State.{IsEither, Leaves, StoreState, content}
 use Rattle.vms_base.specs.declared.ids.Serial.{Serial}
 use Rattle.volume.specs.State.{VolumeState}
-use Rattle.volume_files.specs.Staging.{StagesFile, TellsCut}
+use Rattle.volume_files.specs.Staging.{TellsCut}
+use Rattle.volume_files.proofs.StagingLemmas.{stages_read}
 use Rattle.volume_format.specs.declared.home.Ending.TheVariants as ending
 use Rattle.unit_journal.proofs.Breaking.{breaks_made}
 use Rattle.unit_journal.proofs.Settled.{unmoved}
@@ -19,7 +20,7 @@ returns-clause-makes g c =
     let made = c.stage_settlement.new.volume in
     let a = c.args.cut.now in
     let left = c.args.units.now.places in
-    let stages = subst (λ (x : VolumeState). StagesFile a.file a.head 65 x mid c.stage_cut.new.head) c.in-Ok.ensures.same c.in-Ok-stage_cut.ensures.stages in
+    let stages = stages_read a.file a.head c.stage_cut.new.head 65 v c.place_of.new.volume mid c.in-Ok.ensures.same c.in-Ok-stage_cut.ensures.stages in
     let cuts = subst (λ (x : VolumeState). TellsCut a.head a.from x mid c.stage_cut.new.head) c.in-Ok.ensures.same c.in-Ok-stage_cut.ensures.cuts in
     on_ok_weaker c.apply.result
     (λ current. commits_as a.file a.head a.from c.args.tid c.args.moment.0 left v made (record made { store = c.apply.new.self }) (current ∙ ap (λ (s : StoreState). s.current) c.store.ensures.value) refl
@@ -36,7 +37,7 @@ returns-clause-breaks g c =
     let moment = c.args.moment.0 in
     let left = c.args.units.now.places in
     let serial : Serial = record { 0 = tid.0 } in
-    let stages = subst (λ (x : VolumeState). StagesFile a.file a.head 65 x mid c.stage_cut.new.head) c.in-Ok.ensures.same c.in-Ok-stage_cut.ensures.stages in
+    let stages = stages_read a.file a.head c.stage_cut.new.head 65 v c.place_of.new.volume mid c.in-Ok.ensures.same c.in-Ok-stage_cut.ensures.stages in
     let cuts = subst (λ (x : VolumeState). TellsCut a.head a.from x mid c.stage_cut.new.head) c.in-Ok.ensures.same c.in-Ok-stage_cut.ensures.cuts in
     on_err_weaker c.apply.result
     (λ leaves. breaks_made (CommitsCut a.file a.head a.from tid moment left v) v made (record made { store = c.apply.new.self })

@@ -1,6 +1,7 @@
 use Rattle.std.proofs.Common.{◌≡◌, ◌≤◌, ◌+◌, ◌-◌, ◌*◌, [], Option, IfSome, length}
 use Rattle.record_files.specs.Any.{Begins, IsFile, IsLaidOut}
 use Rattle.vms_model.specs.Keys.{Key}
+use Rattle.volume.specs.State.{SameVolume}
 use Rattle.unit_cuts.specs.Records.{OfRecords}
 use Rattle.unit_cuts.specs.Truncating.{AreBegun, entry_sizes, keys_down}
 use Rattle.unit_cuts.proofs.measuring.measure.Given as goal
@@ -13,5 +14,5 @@ invariant-loop-i g l = record {
   many : length l.room.places ≡ l.i;
   places : AreBegun l.cut.head l.fn.volume l.room.places;
   positions : l.room.positions ≡ [];
-  same : l.volume ≡ l.fn.volume;
+  same : SameVolume l.fn.volume l.volume;
 }

@@ -20,6 +20,7 @@ use Rattle.unit_table.specs.Units.{OpenUnit, Units, begun, owed}
 use Rattle.vms_base.specs.declared.protocol.LogRec.{LogRec}
 use Rattle.vms_model.specs.Ids.{Id}
 use Rattle.volume.specs.State.{VolumeState}
+use Rattle.unit_aborts.proofs.ReadLemmas.{may_reopen_to, reopens_from, reopens_not_from, reopens_to}
 use Rattle.unit_restarts.specs.Restarting.{returning, undoing}
 use Rattle.unit_restarts.proofs.RestartLemmas.{all_low, as_many, have_changes, owed_by, owed_order, taken_ascends, taken_owed}
 use Rattle.unit_restarts.proofs.RoomLemmas.{few_twice, reopened_far, told_on}
@@ -45,7 +46,7 @@ returns-clause-log g c =
 
 pub returns-in-Err-undone-clause-err : goal.returns-in-Err-undone-clause-err
 returns-in-Err-undone-clause-err g c =
-    undoing (subst (λ (x : VolumeState). ReopensNot c.args.clock.0 x c.reopen_units-undone.new.volume c.reopen_units-undone.new.out.items) c.in-Ok.ensures.same c.in-Err-undone.ensures.fails)
+    undoing (reopens_not_from c.args.volume.now c.list_records.new.volume c.in-Ok.ensures.same c.args.clock.0 c.reopen_units-undone.new.volume c.reopen_units-undone.new.out.items c.in-Err-undone.ensures.fails)
 
 pub take_units-requires-clause-low : goal.take_units-requires-clause-low
 take_units-requires-clause-low g c =
@@ -55,7 +56,7 @@ take_units-requires-clause-low g c =
 pub returns-in-Err-take_units-clause-err : goal.returns-in-Err-take_units-clause-err
 returns-in-Err-take_units-clause-err g c =
     let left = begun c.reopen_units-undone.new.units in
-    returning c.reopen_units-undone.new.volume left (subst (λ (x : VolumeState). Reopens c.args.clock.0 x c.reopen_units-undone.new.volume c.reopen_units-undone.new.out.items left) c.in-Ok.ensures.same c.in-Ok-undone.ensures.reopens) c.in-Err-take_units.ensures.down
+    returning c.reopen_units-undone.new.volume left (reopens_from c.args.volume.now c.list_records.new.volume c.in-Ok.ensures.same c.args.clock.0 c.reopen_units-undone.new.volume c.reopen_units-undone.new.out.items left c.in-Ok-undone.ensures.reopens) c.in-Err-take_units.ensures.down
 
 pub returns-in-Err-take_units-clause-moments : goal.returns-in-Err-take_units-clause-moments
 returns-in-Err-take_units-clause-moments g c = told_on c.reopen_units-undone.new.volume c.take_units.new.volume c.reopen_units-undone.new.out.items c.in-Err-take_units.ensures.kept c.reopen_units-undone.ensures.told
@@ -89,7 +90,7 @@ returns-clause-room g c =
     let mid = c.reopen_units-undone.new.volume in
     let out = c.reopen_units-undone.new.out.items in
     let is : begun t ≡ taken.units = taken.behind ∙ ap (λ (x : Units). begun x ++ taken.units) c.requires.none in
-    let reopens = subst (λ (x : VolumeState). Reopens c.args.clock.0 x mid out (begun c.reopen_units-undone.new.units)) c.in-Ok.ensures.same c.in-Ok-undone.ensures.reopens in
+    let reopens = reopens_from c.args.volume.now c.list_records.new.volume c.in-Ok.ensures.same c.args.clock.0 mid out (begun c.reopen_units-undone.new.units) c.in-Ok-undone.ensures.reopens in
     let far = reopened_far c.args.clock.0 c.args.volume.now mid out (begun c.reopen_units-undone.new.units) reopens in
     let greatest = ap (λ (x : VolumeState). x.catalog.home.greatest_moment.0) c.in-Ok-take_units.ensures.same in
     let many = ap length is ∙ as_many (map log_record_of c.deref.result.now) taken.units taken.records ∙ length-map c.deref.result.now log_record_of ∙ ap length c.deref.ensures.value in
@@ -139,7 +140,7 @@ returns-clause-done g c =
           (subst (λ (ss : Slots). IfSome v.store.current (λ k. (es : List Entry) → IsJournal k v.catalog.ru es → map log_record_of c.list_records.new.prepared.items ≡ records_by (votes_in es) (prepared_of (records_in ss)))) (sym stays.1) c.in-Ok.ensures.arranged.told);
       few = let few = c.list_few.ensures.few in let most = c.reopen_units-undone.ensures.few in let undone = c.len.ensures in omega (arith, few, most, undone);
       left = left;
-      reopens = subst (λ (x : VolumeState). Reopens c.args.clock.0 v x out left) (sym same) (subst (λ (x : VolumeState). Reopens c.args.clock.0 x mid out left) c.in-Ok.ensures.same c.in-Ok-undone.ensures.reopens);
+      reopens = reopens_to mid c.take_units.new.volume same c.args.clock.0 v out left (reopens_from v c.list_records.new.volume c.in-Ok.ensures.same c.args.clock.0 mid out left c.in-Ok-undone.ensures.reopens);
       records = subst (AreOfRecords (map log_record_of prepared)) (sym is) records;
       changes = λ apart. subst (HaveChanges left) (sym is) (have_changes (map log_record_of prepared) left taken.units records taken.changes apart);
       hold = subst (λ (x : VolumeState). IfSome x.store.current (λ k. (ess : List (List Entry)) → AreAllChangesAt x.catalog.ru (begun t) ess k → HoldChanges x.catalog.heads 4096 (begun t) ess [] locks)) (sym same)
@@ -147,3 +148,6 @@ returns-clause-done g c =
           (subst (λ (ls : List Lock). IfSome mid.store.current (λ k. (ess : List (List Entry)) → AreAllChangesAt mid.catalog.ru taken.units ess k → HoldChanges mid.catalog.heads 4096 taken.units ess ls locks)) c.requires.free
           (subst (λ (most : ℕ). IfSome mid.store.current (λ k. (ess : List (List Entry)) → AreAllChangesAt mid.catalog.ru taken.units ess k → HoldChanges mid.catalog.heads most taken.units ess c.args.locks.now.locks locks)) c.requires.locks taken.hold)));
     }
+
+pub reopen_units-undone-requires-clause-may : goal.reopen_units-undone-requires-clause-may
+reopen_units-undone-requires-clause-may g c = may_reopen_to c.args.volume.now c.list_records.new.volume c.in-Ok.ensures.same c.args.clock.0 c.requires.may

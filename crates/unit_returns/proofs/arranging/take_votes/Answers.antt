@@ -1,10 +1,11 @@
-use Rattle.std.proofs.Common.{◌≡◌, ◌+◌, ◌<◌, ◌≤◌, Some, None, IfSome, List, length, map, refl, ap, subst, sym, ◌∙◌, arith}
+use Rattle.std.proofs.Common.{Some, None, IfSome, map, refl, ap, subst, sym, ◌∙◌, arith}
 use Rattle.file_base.specs.declared.head.Span.{Span}
 use Rattle.journal_store.specs.Reading.{ReadsAt}
 use Rattle.std.proofs.lemmas.List.{length-map}
-use Rattle.commit_protocol.specs.Messages.{LogRecord}
 use Rattle.tm_types.specs.Parts.{log_record_of}
+use Rattle.careful_write.proofs.Reading.{ready_read}
 use Rattle.volume.specs.State.{VolumeState}
+use Rattle.volume.proofs.Reading.{store_of_same, volume_on}
 use Rattle.unit_returns.proofs.Orders.{IsVoting, few_voted, none_voted, voted_all, voted_broken, voted_more}
 use Rattle.unit_returns.proofs.arranging.take_votes.Goals as goal
 
@@ -25,9 +26,13 @@ returns-in-Ok-None-clause-voted g c =
     voted_broken c.args.volume.now (map log_record_of c.args.rest.now.items) (map log_record_of c.loop-position.rest.items) (map log_record_of c.args.out.now.items) (map log_record_of c.loop-position.out.items) position c.loop-position.invariant.voting
     (omega (arith, on, span)) image reads
 
+pub returns-in-Ok-None-clause-same : goal.returns-in-Ok-None-clause-same
+returns-in-Ok-None-clause-same g c = volume_on c.args.volume.now c.loop-position.volume c.read_entry.new.volume c.loop-position.invariant.same c.in-Ok-None.ensures.same
+
 pub loop-position-init : goal.loop-position-init
 loop-position-init g c = record {
   same = refl;
+  ready = c.requires.ready;
   voting = subst (λ (s : Span). IsVoting c.args.volume.now (map log_record_of c.args.rest.now.items) (map log_record_of c.args.rest.now.items) (map log_record_of c.args.out.now.items) (map log_record_of c.args.out.now.items) s.first) (sym c.ru-span.ensures)
       (none_voted c.args.volume.now (map log_record_of c.args.rest.now.items) (map log_record_of c.args.out.now.items));
   count = refl;
@@ -48,7 +53,8 @@ loop-position-preserved g c =
     let room = before.room in
     let wide = c.take_vote.ensures.room in
     record {
-      same = c.in-Ok-Some.ensures.same ∙ before.same;
+      same = volume_on c.args.volume.now c.loop-position.volume c.read_entry.new.volume before.same c.in-Ok-Some.ensures.same;
+      ready = ready_read c.loop-position.volume.store c.read_entry.new.volume.store (store_of_same c.loop-position.volume c.read_entry.new.volume c.in-Ok-Some.ensures.same) before.ready;
       voting = voted_more c.args.volume.now (map log_record_of c.args.rest.now.items) (map log_record_of c.loop-position.rest.items) (map log_record_of c.take_vote.new.rest.items) (map log_record_of c.args.out.now.items)
           (map log_record_of c.loop-position.out.items) (map log_record_of c.take_vote.new.out.items) position h c.take_vote.ensures.moved before.voting (omega (arith, on, span)) next image reads;
       count = c.take_vote.ensures.count ∙ before.count;

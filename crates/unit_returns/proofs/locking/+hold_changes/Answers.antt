@@ -1,20 +1,18 @@
-use Rattle.std.proofs.Common.{◌≡◌, ◌-◌, ◌^◌, ◌≤◌, ℕ, List, [], ◌∷◌, Option, Some, None, IfSome, length, take, drop, get_or, refl, ap, subst, sym, ◌∙◌, arith}
+use Rattle.std.proofs.Common.{◌≡◌, ◌-◌, ◌^◌, ◌≤◌, ℕ, List, [], ◌∷◌, Option, IfSome, length, take, drop, get_or, refl, ap, subst, sym, ◌∙◌, arith}
 use Rattle.std.specs.Prelude.{IsSome, option_copied}
-use Rattle.std.specs.List.{AllByRecursion}
-use Rattle.careful_write.specs.State.{IsReady}
+use Rattle.careful_write.proofs.Reading.{ready_read}
 use Rattle.file_base.specs.declared.head.FileHead.{FileHead}
 use Rattle.journal_format.specs.Heads.{entry_of}
-use Rattle.journal_format.specs.declared.head.EntryHead.{EntryHead}
-use Rattle.journal_store.specs.Reading.{ReadsAt}
 use Rattle.journal_store.specs.Rings.{IsRing}
 use Rattle.record_locks.specs.Locks.{LockTable}
 use Rattle.unit_table.specs.Units.{OpenUnit, Units, unit_at}
 use Rattle.vms_base.specs.Ids.{serial_of}
 use Rattle.volume.specs.Catalogs.{head_at}
 use Rattle.volume.specs.State.{VolumeState}
+use Rattle.volume.proofs.Reading.{store_of_same, volume_on}
 use Rattle.unit_returns.specs.Locking.{Holds, keys_left}
 use Rattle.unit_returns.specs.Returning.{HoldsUnit}
-use Rattle.unit_returns.proofs.Units.{held_less, held_more, held_nothing, if_ok, none_there, rest_all, shorter, split, still_there}
+use Rattle.unit_returns.proofs.Units.{held_less, held_more, held_nothing, holds_read, if_ok, none_there, rest_all, shorter, split, still_there}
 use Rattle.unit_returns.proofs.locking.+hold_changes.Goals as goal
 use Rattle.unit_returns.proofs.locking.+hold_changes.Goals.{in-Some, in_default}
 
@@ -33,7 +31,7 @@ hold_changes-requires g t c κs within =
       (
         within,
         (
-          subst (λ (x : VolumeState). IsReady x.store) (sym same) c.requires.ready,
+          ready_read c.args.volume.now.store c.read_entry.new.volume.store (store_of_same c.args.volume.now c.read_entry.new.volume same) c.requires.ready,
           (
             subst (λ (x : VolumeState). IsRing x.catalog.ru x.store.disk) (sym same) c.requires.ring,
             (
@@ -53,6 +51,10 @@ returns-in-empty-clause-held g t c =
     subst (λ (ps : List ℕ). IfSome (unit_at c.args.table.now.places c.args.place) (λ (u : OpenUnit). HoldsUnit c.args.volume.now ps (serial_of c.args.by.now) c.args.place u c.args.table.now c.args.table.now c.args.locks.now c.args.locks.now))
     (sym (none_there c.args.positions.now c.in-empty.len_below)) (held_nothing c.args.volume.now (serial_of c.args.by.now) c.args.place c.args.table.now c.args.locks.now)
 
+pub returns-after-entry-clause-same : goal.returns-after-entry-clause-same
+returns-after-entry-clause-same g t c =
+    if_ok c.hold_changes.result c.hold_changes.ensures.same (λ later. volume_on c.args.volume.now c.read_entry.new.volume c.hold_changes.new.volume c.in-Ok.ensures.same later)
+
 pub returns-after-entry-clause-held : goal.returns-after-entry-clause-held
 returns-after-entry-clause-held g t c =
     let v = c.args.volume.now in
@@ -70,7 +72,7 @@ returns-after-entry-clause-held g t c =
     if_ok c.hold_changes.result c.hold_changes.ensures.held (λ later.
     subst (λ (qs : List ℕ). IfSome (unit_at s.places place) (λ (u : OpenUnit). HoldsUnit v qs by place u s last c.args.locks.now held)) (sym parts)
     (let rest_held : IfSome (unit_at c.match-entry.table.places place) (λ (u : OpenUnit). HoldsUnit v rest by place u c.match-entry.table last c.match-entry.locks held) =
-    subst (λ (x : VolumeState). IfSome (unit_at c.match-entry.table.places place) (λ (u : OpenUnit). HoldsUnit x rest by place u c.match-entry.table last c.match-entry.locks held)) same later in
+    holds_read v c.read_entry.new.volume rest by place c.match-entry.table last c.match-entry.locks held same later in
     elim c.match-entry.branch [
       | in-Some w ↦
           let h = w.in-Some.e in

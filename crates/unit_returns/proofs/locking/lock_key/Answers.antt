@@ -1,2 +1,0 @@
-use Rattle.unit_returns.proofs.Locks.{held_end, held_key}
-use Rattle.unit_returns.proofs.locking.lock_key.Goals as goal

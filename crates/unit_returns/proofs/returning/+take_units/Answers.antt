@@ -1,6 +1,6 @@
-use Rattle.std.proofs.Common.{◌≡◌, ◌++◌, ◌∷◌, [], ◌+◌, ◌-◌, ◌^◌, ◌<◌, ◌≤◌, ℕ, List, length, length-append, take, drop, map, ap, subst, sym, ◌∙◌, arith}
+use Rattle.std.proofs.Common.{◌++◌, ◌∷◌, [], ◌-◌, ◌^◌, ◌<◌, ◌≤◌, ℕ, List, length, length-append, take, drop, map, ap, subst, sym, ◌∙◌, arith}
 use Rattle.std.specs.List.{AllByRecursion}
-use Rattle.careful_write.specs.State.{IsReady}
+use Rattle.careful_write.proofs.Reading.{ready_read}
 use Rattle.commit_protocol.specs.Messages.{LogRecord}
 use Rattle.journal_store.specs.Rings.{IsRing}
 use Rattle.tm_types.specs.Parts.{log_record_of}
@@ -8,8 +8,9 @@ use Rattle.unit_entries.proofs.OpenLemmas.{all_less}
 use Rattle.unit_table.specs.Units.{OpenUnit, begun, is_of}
 use Rattle.vms_base.specs.Ids.{serial_of}
 use Rattle.volume.specs.State.{VolumeState}
+use Rattle.volume.proofs.Reading.{store_of_same, volume_on}
 use Rattle.unit_returns.specs.Returning.{AreLow, AreTakenUp}
-use Rattle.unit_returns.proofs.Units.{all_push, if_ok, shorter, split, taken_more}
+use Rattle.unit_returns.proofs.Units.{all_push, if_ok, shorter, split, taken_more, taken_read}
 use Rattle.unit_returns.proofs.returning.+take_units.Goals as goal
 
 pub take_units-requires : goal.take_units-requires
@@ -28,7 +29,7 @@ take_units-requires g t c κs within =
       (
         within,
         (
-          subst (λ (x : VolumeState). IsReady x.store) (sym same) c.requires.ready,
+          ready_read c.args.volume.now.store c.take_unit.new.volume.store (store_of_same c.args.volume.now c.take_unit.new.volume same) c.requires.ready,
           (
             subst (λ (x : VolumeState). IsRing x.catalog.ru x.store.disk) (sym same) c.requires.ring,
             (
@@ -49,6 +50,10 @@ take_units-requires g t c κs within =
       ),
     )
 
+pub returns-in-Ok-clause-same : goal.returns-in-Ok-clause-same
+returns-in-Ok-clause-same g t c =
+    if_ok c.take_units.result c.take_units.ensures.same (λ later. volume_on c.args.volume.now c.take_unit.new.volume c.take_units.new.volume c.in-Ok.ensures.same later)
+
 pub returns-in-Ok-clause-taken : goal.returns-in-Ok-clause-taken
 returns-in-Ok-clause-taken g t c =
     let rs = c.args.records.now in
@@ -59,4 +64,4 @@ returns-in-Ok-clause-taken g t c =
     subst (λ (xs : List LogRecord). AreTakenUp xs (begun c.args.left.now) c.args.volume.now (begun c.args.table.now) (begun c.take_units.new.table) c.args.locks.now c.take_units.new.locks) (sym (ap (map log_record_of) parts))
     (taken_more (log_record_of r) (map log_record_of rest) (begun c.args.left.now) c.args.volume.now (begun c.args.table.now) (begun c.take_unit.new.table) (begun c.take_units.new.table) c.args.locks.now c.take_unit.new.locks c.take_units.new.locks c.in-Ok.ensures.taken
     (subst (λ (us : List OpenUnit). AreTakenUp (map log_record_of rest) us c.args.volume.now (begun c.take_unit.new.table) (begun c.take_units.new.table) c.take_unit.new.locks c.take_units.new.locks) c.in-Ok.ensures.left
-    (subst (λ (x : VolumeState). AreTakenUp (map log_record_of rest) (begun c.take_unit.new.left) x (begun c.take_unit.new.table) (begun c.take_units.new.table) c.take_unit.new.locks c.take_units.new.locks) c.in-Ok.ensures.same taken)) c.take_unit.ensures.few))
+    (taken_read (map log_record_of rest) (begun c.take_unit.new.left) c.args.volume.now c.take_unit.new.volume (begun c.take_unit.new.table) (begun c.take_units.new.table) c.take_unit.new.locks c.take_units.new.locks c.in-Ok.ensures.same taken)) c.take_unit.ensures.few))

@@ -1,8 +1,8 @@
-use Rattle.std.proofs.Common.{◌≡◌, ◌<◌, ◌≤◌, ◌^◌, ℕ, List, Option, Some, None, IfSome, length, ap, subst, sym, ◌∙◌, arith}
+use Rattle.std.proofs.Common.{◌≡◌, ◌≤◌, ◌^◌, Option, IfSome, subst, sym, arith}
 use Rattle.std.specs.List.{AllByRecursion}
 use Rattle.tm_types.specs.Parts.{log_record_of}
 use Rattle.unit_entries.proofs.OpenLemmas.{first_holds, less_none}
-use Rattle.unit_table.specs.Units.{OpenUnit, begun, is_of, unit_at}
+use Rattle.unit_table.specs.Units.{OpenUnit, begun, is_of}
 use Rattle.vms_base.specs.Ids.{serial_of}
 use Rattle.unit_returns.proofs.Units.{left_by, taken_with}
 use Rattle.unit_returns.proofs.returning.take_unit.Goals as goal

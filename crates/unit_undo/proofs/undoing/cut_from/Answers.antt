@@ -1,6 +1,6 @@
 use Rattle.std.proofs.Common.{sym, subst}
 use Rattle.volume.specs.State.{VolumeState}
-use Rattle.volume_files.specs.Staging.{StagesFile}
+use Rattle.volume_files.proofs.StagingLemmas.{stages_read}
 use Rattle.volume_files.proofs.Places.{placed}
 use Rattle.unit_undo.specs.Undoing.{ChangesFile}
 use Rattle.unit_undo.proofs.StagedLemmas.{placed_on, staged_changes}
@@ -18,6 +18,6 @@ returns-clause-changes g c =
     let h = c.args.head.now in
     let v = c.args.volume.now in
     let made = c.in_ok-make_room.ensures in
-    let stages = subst (λ (x : VolumeState). StagesFile c.args.file h 65 x c.stage_cut.new.volume c.stage_cut.new.head) c.in_ok-place.ensures.same c.in_ok-stage_cut.ensures.stages in
+    let stages = stages_read c.args.file h c.stage_cut.new.head 65 c.make_room.new.volume c.place_of.new.volume c.stage_cut.new.volume c.in_ok-place.ensures.same c.in_ok-stage_cut.ensures.stages in
     subst (λ (x : VolumeState). ChangesFile c.args.file h v x c.stage_cut.new.head) (sym c.blocks_are_whole.ensures.same)
     (staged_changes c.args.file 65 h c.stage_cut.new.head v c.make_room.new.volume c.stage_cut.new.volume made.goes made.catalog made.same made.applied c.requires.may.whole c.requires.may.there stages c.blocks_are_whole.ensures.each)

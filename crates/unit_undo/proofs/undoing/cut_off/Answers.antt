@@ -3,6 +3,7 @@ use Rattle.volume.specs.State.{VolumeState}
 use Rattle.volume_files.proofs.Places.{placed}
 use Rattle.unit_undo.specs.Undoing.{ChangesFile, CutsFrom}
 use Rattle.unit_undo.specs.FileWays.{CutsOff, FindsOff, cut, stays}
+use Rattle.unit_undo.proofs.ReadLemmas.{changes_from, few_to, may_to}
 use Rattle.unit_undo.proofs.StagedLemmas.{on_both}
 use Rattle.unit_undo.proofs.undoing.cut_off.Goals as goal
 
@@ -30,7 +31,7 @@ returns-in-Some-clause-cuts g c =
     on_both (ChangesFile c.args.file h c.first_off.new.volume w new) (CutsFrom h from c.first_off.new.volume w new) (CutsOff c.args.file h c.args.keys.now v w new) c.cut_from.result
     (λ changes cuts.
     let same = c.in_ok-from.ensures.same in
-    cut from finds (subst (λ (x : VolumeState). ChangesFile c.args.file h x w new) same changes) (subst (λ (x : VolumeState). CutsFrom h from x w new) same cuts)) c.cut_from.ensures.changes c.cut_from.ensures.cuts
+    cut from finds (changes_from v c.first_off.new.volume same c.args.file h new w changes) (subst (λ (x : VolumeState). CutsFrom h from x w new) same cuts)) c.cut_from.ensures.changes c.cut_from.ensures.cuts
 
 pub returns-in_default-clause-cuts : goal.returns-in_default-clause-cuts
 returns-in_default-clause-cuts g c =
@@ -44,3 +45,15 @@ returns-in_default-2-clause-cuts g c =
 
 pub returns-in_default-3-clause-cuts : goal.returns-in_default-3-clause-cuts
 returns-in_default-3-clause-cuts g c = stays c.in_ok-from.field-0 c.in_ok-from.ensures.finds (λ n is one. let none : None ≡ Some n = sym c.in_default.is ∙ is in absurd cc) c.in_ok-from.ensures.same refl
+
+pub cut_from-requires-clause-may : goal.cut_from-requires-clause-may
+cut_from-requires-clause-may g c = may_to c.args.volume.now c.first_off.new.volume c.in_ok-from.ensures.same c.args.file c.args.head.now c.args.steps.now c.requires.may
+
+pub returns-in_default-clause-few : goal.returns-in_default-clause-few
+returns-in_default-clause-few g c = few_to c.args.volume.now c.first_off.new.volume c.in_ok-from.ensures.same c.args.steps.now c.requires.may.few
+
+pub returns-in_default-2-clause-few : goal.returns-in_default-2-clause-few
+returns-in_default-2-clause-few g c = few_to c.args.volume.now c.first_off.new.volume c.in_ok-from.ensures.same c.args.steps.now c.requires.may.few
+
+pub returns-in_default-3-clause-few : goal.returns-in_default-3-clause-few
+returns-in_default-3-clause-few g c = few_to c.args.volume.now c.first_off.new.volume c.in_ok-from.ensures.same c.args.steps.now c.requires.may.few

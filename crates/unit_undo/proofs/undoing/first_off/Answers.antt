@@ -1,8 +1,13 @@
 use Rattle.std.proofs.Common.{sym, subst}
 use Rattle.vms_base.specs.Keys.{key_of}
+use Rattle.careful_write.proofs.Reading.{ready_read}
+use Rattle.volume.proofs.Reading.{store_of_same}
 use Rattle.unit_undo.specs.Undoing.{TellsInPlace}
 use Rattle.unit_undo.proofs.OffLemmas.{found_more, found_none, found_one}
 use Rattle.unit_undo.proofs.undoing.first_off.Goals as goal
+
+pub is_in_place-requires-clause-ready : goal.is_in_place-requires-clause-ready
+is_in_place-requires-clause-ready g c = ready_read c.args.volume.now.store c.loop-i.volume.store (store_of_same c.args.volume.now c.loop-i.volume c.loop-i.invariant.same) c.requires.ready
 
 pub returns-in-Ok-false-clause-finds : goal.returns-in-Ok-false-clause-finds
 returns-in-Ok-false-clause-finds g c =

@@ -2,7 +2,8 @@ use Rattle.std.proofs.Common.{ℕ, List, Option, IfSome, sym, subst}
 use Rattle.vms_base.specs.Keys.{key_of}
 use Rattle.journal_format.specs.Heads.{entry_of}
 use Rattle.volume.specs.State.{VolumeState}
-use Rattle.volume_files.specs.Staging.{StagesFile, TellsBack}
+use Rattle.volume_files.specs.Staging.{TellsBack}
+use Rattle.volume_files.proofs.StagingLemmas.{stages_read}
 use Rattle.unit_entries.specs.Told.{before_in}
 use Rattle.unit_undo.specs.Undoing.{ChangesFile, ReadsChange, SetsToEntry}
 use Rattle.unit_undo.proofs.StagedLemmas.{staged_changes, entry_sets}
@@ -13,7 +14,7 @@ returns-clause-changes g c =
     let h = c.args.head.now in
     let v = c.args.volume.now in
     let made = c.in_ok-make_room.ensures in
-    let stages = subst (λ (x : VolumeState). StagesFile c.args.key.now.file h 17 x c.stage_back.new.volume c.stage_back.new.head) c.in_ok-e.ensures.same c.in_ok-stage_back.ensures.stages in
+    let stages = stages_read c.args.key.now.file h c.stage_back.new.head 17 c.make_room.new.volume c.read_change.new.volume c.stage_back.new.volume c.in_ok-e.ensures.same c.in_ok-stage_back.ensures.stages in
     subst (λ (x : VolumeState). ChangesFile c.args.key.now.file h v x c.stage_back.new.head) (sym c.blocks_are_whole-2.ensures.same)
     (staged_changes c.args.key.now.file 17 h c.stage_back.new.head v c.make_room.new.volume c.stage_back.new.volume made.goes made.catalog made.same made.applied c.requires.may.whole c.requires.may.there stages c.blocks_are_whole-2.ensures.each)
 

@@ -1,8 +1,10 @@
 use Rattle.std.proofs.Common.{◌≡◌, ℕ, ap, arith, refl, sym, ◌∙◌, subst}
 use Rattle.careful_write.specs.State.{IsEither, Leaves, content}
 use Rattle.volume.specs.State.{VolumeState}
+use Rattle.volume.proofs.Reading.{volume_on, volume_so}
 use Rattle.unit_undo.specs.UnitWays.{HasUndone, TellsUnit}
 use Rattle.unit_undo.proofs.NumberLemmas.{may_number, number_fails, reading_fails, undone_begins, undone_ends, undone_more}
+use Rattle.unit_undo.proofs.ReadLemmas.{has_undone_to}
 use Rattle.unit_undo.proofs.StepLemmas.{heads_kept, heads_through}
 use Rattle.unit_undo.proofs.undoing.undo_unit.Goals as goal
 
@@ -13,7 +15,10 @@ returns-in-Err-clause-down g c =
 
 pub loop-file-init : goal.loop-file-init
 loop-file-init g c =
-    subst (λ (x : VolumeState). HasUndone c.args.positions.now 0 c.args.volume.now x 0) (sym (c.in-Ok.ensures.same ∙ c.blocks_are_whole.ensures.same))
+    let v = c.args.volume.now in
+    let mid = c.blocks_are_whole.new.volume in
+    let w = c.read_keys.new.volume in
+    has_undone_to v w (volume_on v mid w (volume_so v mid c.blocks_are_whole.ensures.same) c.in-Ok.ensures.same) c.args.positions.now 0 0 v
     (undone_begins c.args.positions.now c.read_keys.new.keys c.args.volume.now c.requires.sound.0 c.requires.idle c.requires.sound.1 c.blocks_are_whole.ensures.whole c.blocks_are_whole.ensures.each)
 
 pub undo_number-requires : goal.undo_number-requires

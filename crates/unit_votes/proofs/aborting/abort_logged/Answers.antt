@@ -2,6 +2,7 @@
 use Rattle.std.proofs.Common.{◌<◌, ℕ, Bool, List, Option, None, not, subst, sym, ap, ◌∙◌, inl, inr}
 use Rattle.std.proofs.lemmas.Result.{on_err_weaker, on_ok_weaker}
 use Rattle.journal_model.specs.Entries.{Entry}
+use Rattle.careful_write.proofs.Reading.{same_so}
 use Rattle.unit_aborts.specs.Aborting.{Abortion}
 use Rattle.unit_aborts.proofs.AbortLemmas.{is_changed}
 use Rattle.unit_aborts.proofs.GrowLemmas.{grows_behind, once_behind, undone_grows, undone_once}
@@ -64,7 +65,7 @@ returns-clause-breaks g c =
       goes = c.in-Ok.ensures.goes;
       undoes = subst (λ (ps : List ℕ). Undoes ps v mid) value c.in-Ok.ensures.undoes;
       breaks = breaks_from (MakesSettlement b.tid b.serial (ending.Abort c.args.reason) c.args.moment.0 (entry_if (not c.is_empty-has_changed.result) settled) left logged) (MakesLogged (abort_settlement x) None c.args.log.now c.set_record.new.log mid) mid logged w
-          (same_content mid logged c.set_record.ensures.rest)
+          (same_content mid logged (same_so _ c.set_record.new.volume.store c.set_record.ensures.rest))
           (λ made makes. record { logged = logged; log = c.set_record.ensures.sets; makes = subst (λ (e : Option Entry). MakesSettlement b.tid b.serial (ending.Abort c.args.reason) c.args.moment.0 e left logged made) same makes })
           (breaks left (sym c.earliest.ensures));
     }) c.positions.ensures.value c.positions-2.ensures.value)

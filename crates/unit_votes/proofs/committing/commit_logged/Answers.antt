@@ -3,6 +3,7 @@ use Rattle.std.proofs.Common.{◌<◌, sym, subst}
 use Rattle.std.proofs.lemmas.Result.{on_err_weaker, on_ok_weaker}
 use Rattle.std.specs.Prelude.{option_copied}
 use Rattle.lmcp_log.specs.Log.{slot_of}
+use Rattle.careful_write.proofs.Reading.{same_so}
 use Rattle.unit_journal.specs.Entries.{settled_entry}
 use Rattle.unit_journal.specs.Settling.{MakesSettlement, entry_if}
 use Rattle.vms_base.specs.Ids.{serial_of, tid_of}
@@ -32,7 +33,7 @@ returns-clause-breaks g c =
     let rec = slot_of (option_copied c.args.logged) in
     on_err_weaker c.settle_staged.result
     (λ breaks. breaks_from (MakesSettlement b.tid b.serial ending.Commit c.args.moment.0 e left logged) (MakesLogged x rec c.args.log.now c.set_record.new.log v) v logged c.settle_staged.new.volume
-    (same_content v logged c.set_record.ensures.rest)
+    (same_content v logged (same_so _ c.set_record.new.volume.store c.set_record.ensures.rest))
     (λ made makes. record { logged = logged; log = c.set_record.ensures.sets; makes = makes })
     (breaks left (sym c.earliest.ensures)))
     c.settle_staged.ensures.breaks

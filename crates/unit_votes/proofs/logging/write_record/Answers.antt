@@ -2,6 +2,7 @@
 use Rattle.std.proofs.Common.{◌∙◌, ℕ, List, Option, IfSome, ap, refl, subst, sym}
 use Rattle.std.specs.Prelude.{option_copied}
 use Rattle.std.proofs.lemmas.Result.{on_err_weaker, on_ok_weaker}
+use Rattle.careful_write.proofs.Reading.{same_so}
 use Rattle.careful_write.specs.State.{IsEither, Leaves, StoreState, content}
 use Rattle.lmcp_log.specs.Keeping.{Keeps}
 use Rattle.lmcp_log.specs.Log.{slot_of}
@@ -25,7 +26,7 @@ returns-clause-breaks g c =
     let mid = c.set_record.new.volume in
     on_err_weaker c.apply.result
     (λ leaves. breaks_made (SetsRecord (serial_of c.args.serial) (slot_of (option_copied c.args.logged)) c.args.log.now c.set_record.new.log v) v mid (record mid { store = c.apply.new.self }) c.set_record.ensures.sets
-    (same_content v mid c.set_record.ensures.rest)
+    (same_content v mid (same_so _ c.set_record.new.volume.store c.set_record.ensures.rest))
     (subst (λ (s : StoreState). Leaves (IsEither (content s) s.current) c.apply.new.self.disk) c.store.ensures.value leaves))
     c.apply.ensures.err
 

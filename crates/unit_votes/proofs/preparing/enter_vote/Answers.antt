@@ -1,6 +1,7 @@
 -- A branch is prepared in one group.
 use Rattle.std.proofs.Common.{◌<◌, ◌+◌, ◌∙◌, Some, option_map, if◌then◌else◌, sym, ap, subst, inl}
 use Rattle.std.proofs.lemmas.Result.{on_err_weaker, on_ok_weaker}
+use Rattle.careful_write.proofs.Reading.{same_so}
 use Rattle.careful_write.specs.State.{IsEither, Leaves, StoreState, content}
 use Rattle.unit_journal.specs.Settling.{content_with, span_with}
 use Rattle.unit_journal.proofs.Breaking.{breaks_made, fell_old, staged_disk}
@@ -17,7 +18,7 @@ pub returns-in-Err-clause-breaks : goal.returns-in-Err-clause-breaks
 returns-in-Err-clause-breaks g c =
     let v = c.args.volume.now in
     let logged = c.set_record.new.volume in
-    inl (fell_old c.in-Err.down v logged c.enter_prepared.new.volume c.one_content.ensures c.requires.idle.ready (staged_disk v logged c.set_record.ensures.rest) c.in-Err.ensures.down)
+    inl (fell_old c.in-Err.down v logged c.enter_prepared.new.volume c.one_content.ensures c.requires.idle.ready (staged_disk v logged (same_so _ c.set_record.new.volume.store c.set_record.ensures.rest)) c.in-Err.ensures.down)
 
 pub returns-clause-makes : goal.returns-clause-makes
 returns-clause-makes g c =
@@ -53,7 +54,7 @@ returns-clause-breaks g c =
       current = c.in-Ok.ensures.current ∙ ap (λ (k : Catalog). option_map (content_with e k.ru) logged.store.current) same;
       catalog = c.in-Ok.ensures.catalog ∙ ap (λ (k : Catalog). record k { ru = span_with e k.ru }) same;
     })
-    (same_content logged voted c.in-Ok.ensures.rest ∙ same_content v logged c.set_record.ensures.rest)
+    (same_content logged voted c.in-Ok.ensures.rest ∙ same_content v logged (same_so _ c.set_record.new.volume.store c.set_record.ensures.rest))
     (subst (λ (s : StoreState). Leaves (IsEither (content s) s.current) c.apply.new.self.disk) c.store.ensures.value leaves))
     c.apply.ensures.err
 

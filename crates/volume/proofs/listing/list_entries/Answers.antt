@@ -1,6 +1,7 @@
 use Rattle.std.proofs.Common.{◌≡◌, ◌≤◌, ◌<◌, ◌+◌, ◌-◌, ℕ, List, IfSome, length, subst, sym, ◌∙◌, arith}
 use Rattle.block_disk.specs.Blocks.{block_at}
 use Rattle.careful_write.specs.State.{StoreState}
+use Rattle.careful_write.proofs.Reading.{same_on}
 use Rattle.volume.proofs.Listed.{lists_taken, tried_taken, count_taken}
 use Rattle.volume.proofs.listing.list_entries.Goals as goal
 
@@ -12,7 +13,7 @@ loop-f-preserved g c =
     let count = before.count in
     let within : c.loop-f.f < length c.loop-f.heads = omega arith in
     record {
-      same = c.in_ok-read.ensures.state ∙ before.same;
+      same = same_on c.args.store.now c.loop-f.store c.read.new.self before.same c.in_ok-read.ensures.state;
       count = count_taken c.args.greatest.0 c.loop-f.f c.read.new.out c.loop-f.heads c.take_entry.new.heads c.loop-f.out c.take_entry.new.out c.take_entry.ensures ∙ before.count;
       size = subst (λ (s : StoreState). 4096 ≤ s.disk.size) (sym c.in_ok-read.ensures.state) before.size;
       lists = lists_taken c.args.greatest.0 c.loop-f.heads c.take_entry.new.heads c.loop-f.f c.args.store.now.current c.read.new.out c.loop-f.out c.take_entry.new.out (omega arith) before.lists before.tried read c.take_entry.ensures;

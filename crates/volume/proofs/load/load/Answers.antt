@@ -1,6 +1,7 @@
 use Rattle.std.proofs.Common.{◌≡◌, ◌<◌, ◌+◌, ℕ, List, IfSome, length, ap, subst, ◌∙◌, arith, rules}
 use Rattle.block_disk.specs.Blocks.{block_at}
 use Rattle.careful_write.specs.State.{StoreState}
+use Rattle.careful_write.proofs.Reading.{same_on}
 use Rattle.volume_format.specs.Home.{HasRu}
 use Rattle.extents.specs.Extents.{FitsAt}
 use Rattle.volume.specs.Limits.{data_area}
@@ -36,7 +37,7 @@ returns-clause-ok g c =
     let area = c.data_area.ensures ∙ ap data_area c.sizes.ensures in
     let long : length c.all_extents.result ≡ 256 = search rules in
     let fit : (k : ℕ) → k < length c.all_extents.result → FitsAt c.data_area.result c.all_extents.result k = search rules in
-    let ru = subst (λ (s : StoreState). IfSome s.current (λ (b : List (List ℕ)). HasRu (block_at b 65) c.in_ok-ru.ru)) (c.in_ok-f.ensures.state ∙ c.in_ok-home.ensures.state) c.in_ok-ru.ensures.ru in
+    let ru = subst (λ (s : StoreState). IfSome s.current (λ (b : List (List ℕ)). HasRu (block_at b 65) c.in_ok-ru.ru)) (same_on c.args.store.now c.load_home.new.store c.load_heads.new.store c.in_ok-home.ensures.state c.in_ok-f.ensures.state) c.in_ok-ru.ensures.ru in
     loaded_told c.args.store.now.current c.args.node.now c.args.store.now.fits (record { home = c.in_ok-home.home; heads = c.load_heads.new.heads; ru = c.in_ok-ru.ru }) c.in_ok-home.ensures.ok found c.load_heads.ensures.count
     (fit_all c.data_area.result c.all_extents.result c.in_ok-home.home c.load_heads.new.heads area c.all_extents.ensures long fit) ru
 

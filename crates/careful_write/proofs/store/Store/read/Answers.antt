@@ -19,14 +19,10 @@ returns-in_ok-read-in-None-clause-read g c =
     (read_home c.args.n c.read.new.out c.self.inside.staged.entries (g.D.Disk.state c.self.inside.disk).seen (sym c.in-None.ensures) in_home.0 c.in_ok-read-in-None.ensures.read)
 
 pub returns-in-Some-clause-whole : goal.returns-in-Some-clause-whole
-returns-in-Some-clause-whole g c =
-    subst (λ (s : StoreState). IfSome s.current (λ (b : List (List ℕ)). length b + 518 ≡ s.disk.size)) c.self.view_is
-    (content_size c.self.inside.staged.entries _ _ (g.met.D.Disk.whole c.self.inside.disk) c.self.invariant.big)
+returns-in-Some-clause-whole g c = content_size c.self.inside.staged.entries _ _ (g.met.D.Disk.whole c.self.inside.disk) c.self.invariant.big
 
 pub returns-in-Some-clause-each : goal.returns-in-Some-clause-each
-returns-in-Some-clause-each g c =
-    subst (λ (s : StoreState). IfSome s.current EachWhole) c.self.view_is
-    (content_whole c.self.inside.staged.entries _ _ (g.met.D.Disk.whole c.self.inside.disk) c.self.invariant.whole)
+returns-in-Some-clause-each g c = content_whole c.self.inside.staged.entries _ _ (g.met.D.Disk.whole c.self.inside.disk) c.self.invariant.whole
 
 pub returns-in_ok-read-in-None-clause-whole : goal.returns-in_ok-read-in-None-clause-whole
 returns-in_ok-read-in-None-clause-whole g c =

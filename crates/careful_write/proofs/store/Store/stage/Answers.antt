@@ -14,7 +14,7 @@ returns-clause-ok g c =
     let in_home : InHome disk c.args.n = subst (λ (s : StoreState). InHome s.disk c.args.n) (sym c.self.view_is) c.requires in
     let current = ap (λ (t : Table). laid_home t.entries disk.seen) c.put.ensures ∙ laid_home-upsert c.args.n c.args.bytes.now entries disk.seen in_home.0 in
     let touched = ap (λ (t : Table). numbers_of t.entries) c.put.ensures ∙ numbers_of-upsert c.args.n c.args.bytes.now entries in
-    (λ i. record { disk = disk; current = current i; touched = touched i; pool = c.self.inside.pool; fits = c.self.inside.fits })
+    (λ i. record { disk = disk; current = current i; touched = touched i; pool = c.self.inside.pool; fits = c.self.inside.fits; reads = c.self.inside.reads })
     ∙ ap (λ (s : StoreState). record s { current = option_map (λ (blocks : List (List ℕ)). set blocks (c.args.n - 518) c.args.bytes.now) s.current; touched = with_number c.args.n s.touched }) c.self.view_is
 
 pub returns-then-not-has_room-clause-full : goal.returns-then-not-has_room-clause-full

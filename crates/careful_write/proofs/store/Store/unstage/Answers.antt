@@ -11,7 +11,7 @@ returns-clause-state g c =
     let disk = g.D.Disk.state c.self.inside.disk in
     let current = ap (λ (t : Table). laid_home t.entries disk.seen) c.clear.ensures ∙ laid_home-none disk.seen in
     let touched = ap (λ (t : Table). numbers_of t.entries) c.clear.ensures in
-    (λ i. record { disk = disk; current = current i; touched = touched i; pool = c.self.inside.pool; fits = c.self.inside.fits })
+    (λ i. record { disk = disk; current = current i; touched = touched i; pool = c.self.inside.pool; fits = c.self.inside.fits; reads = c.self.inside.reads })
     ∙ ap (λ (s : StoreState). record s { current = option_map home s.disk.seen; touched = [] }) c.self.view_is
 
 pub returns-clause-idle : goal.returns-clause-idle

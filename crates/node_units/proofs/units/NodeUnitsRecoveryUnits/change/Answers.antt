@@ -14,6 +14,7 @@ use Rattle.recovery_units.specs.State.{AreLater, UnitsState, WorksFor, is_begun,
 use Rattle.rms_units.specs.Calls.{ChangeBroke, ChangeRefused}
 use Rattle.rms_units.specs.State as rms
 use Rattle.rms_units.specs.State.{unit_of}
+use Rattle.volume.specs.State.{SameVolume}
 use Rattle.node_units.specs.declared.begun.BegunUnit.{BegunUnit}
 use Rattle.node_units.specs.Seen.{seen}
 use Rattle.node_units.specs.Tokens.{StandFor, is_of, place_in}
@@ -129,7 +130,7 @@ returns-clause-same g c =
     err_as _ _ c.change_held-done.result
     (λ e k none. let r = k u h (own g c).there c.requires.file.1 in (
       ap (λ (z : rms.UnitsState). seen z c.self.inside.log) r.0 ∙ c.self.view_is,
-      refused_same e (λ cause. ChangeRefused u h o value cause (s g c) v) (w ≡ v) (λ down. ChangeBroke u h o value (s g c) v w) none r.1,
+      refused_same e (λ cause. ChangeRefused u h o value cause (s g c) v) (SameVolume v w) (λ down. ChangeBroke u h o value (s g c) v w) none r.1,
     )) c.change_held-done.ensures.err
 
 pub returns-clause-done : goal.returns-clause-done

@@ -8,6 +8,7 @@ use Rattle.recovery_units.specs.State as calls_state
 use Rattle.recovery_units.specs.State.{UnitsState}
 use Rattle.rms_units.specs.Calls.{DirectBroke, DirectRefused}
 use Rattle.rms_units.specs.State as rms
+use Rattle.volume.specs.State.{SameVolume}
 use Rattle.node_units.proofs.Answering.{err_as, ok_and, ok_both, ok_of, refused_same}
 use Rattle.node_units.proofs.Directing.{MayDirect, directs_err, directs_ok}
 use Rattle.node_units.proofs.DirectMoment.{direct_moment, direct_start}
@@ -34,7 +35,7 @@ returns-clause-same g c =
     let o = c.args.op.now in
     let value = written o c.args.bytes.now in
     err_as _ _ c.direct.result
-    (λ e k none. refused_same e (λ cause. DirectRefused h o value cause s v) (w ≡ v) (λ down. DirectBroke c.args.tid c.args.clock.0 h o value s v w) none (k h c.requires.file.1)) c.direct.ensures.err
+    (λ e k none. refused_same e (λ cause. DirectRefused h o value cause s v) (SameVolume v w) (λ down. DirectBroke c.args.tid c.args.clock.0 h o value s v w) none (k h c.requires.file.1)) c.direct.ensures.err
 
 pub returns-clause-moment : goal.returns-clause-moment
 returns-clause-moment g c =

@@ -6,9 +6,10 @@ use Rattle.recovery_units.specs.State as calls_state
 use Rattle.recovery_units.specs.State.{UnitsState}
 use Rattle.rms_units.specs.Calls.{LookRefused, MayLook}
 use Rattle.unit_journal.specs.Leaving.{FellIn}
+use Rattle.volume.specs.State.{SameVolume}
 use Rattle.node_units.proofs.Answering.{err_as, ok_as, refused_same}
 use Rattle.node_units.proofs.ReadErrors.{looks_err}
-use Rattle.node_units.proofs.ReadLemmas.{looks_ok}
+use Rattle.node_units.proofs.ReadLemmas.{looks_ok, reads_few}
 use Rattle.node_units.proofs.Seeing.{order_unseen}
 use Rattle.node_units.proofs.units.NodeUnitsRecoveryUnits.look.Goals as goal
 
@@ -25,7 +26,10 @@ returns-clause-refused g c =
     let h = c.requires.file.0 in
     let o = c.args.op.now in
     err_as _ _ c.look.result
-    (λ e k none. refused_same e (λ cause. LookRefused h o cause s v) (c.look.new.volume ≡ v) (λ down. MayLook h o s × FellIn down v c.look.new.volume) none (k h c.requires.file.1)) c.look.ensures.err
+    (λ e k none. refused_same e (λ cause. LookRefused h o cause s v) (SameVolume v c.look.new.volume) (λ down. MayLook h o s × FellIn down v c.look.new.volume) none (k h c.requires.file.1)) c.look.ensures.err
+
+pub returns-clause-reads : goal.returns-clause-reads
+returns-clause-reads g c = reads_few c.args.op.now c.args.volume.now c.look.new.volume c.look.ensures.reads
 
 pub returns-clause-done : goal.returns-clause-done
 returns-clause-done g c =

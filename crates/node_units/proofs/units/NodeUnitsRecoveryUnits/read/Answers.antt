@@ -3,7 +3,7 @@ use Rattle.std.proofs.Common.{◌≡◌, ◌∙◌, ◌+◌, ◌<◌, ◌≤◌,
 use Rattle.std.specs.Prelude.{IsSome, map, slice_set}
 use Rattle.std.specs.List.{position}
 use Rattle.std.proofs.lemmas.List.Quantifiers.{position-Some}
-use Rattle.volume.specs.State.{VolumeState}
+use Rattle.volume.specs.State.{SameVolume, VolumeState}
 use Rattle.unit_table.specs.Units.{OpenUnit, Units, begun}
 use Rattle.vms_base.specs.Ids.{serial_of}
 use Rattle.vms_base.specs.Keys.{key_of}
@@ -22,7 +22,7 @@ use Rattle.node_units.specs.Tokens.{is_of, place_in}
 use Rattle.unit_cuts.proofs.Outcomes.{of_some}
 use Rattle.node_units.proofs.Answering.{both_as, err_as, ok_and, ok_as, refused_same}
 use Rattle.node_units.proofs.ReadErrors.{reads_err}
-use Rattle.node_units.proofs.ReadLemmas.{reads_ok}
+use Rattle.node_units.proofs.ReadLemmas.{reads_few, reads_ok}
 use Rattle.node_units.proofs.Seeing.{order_seen, order_unseen}
 use Rattle.node_units.proofs.TokenLemmas.{HasUnit, active_of, is_found, own_unit, stand_as, stand_set}
 use Rattle.node_units.proofs.Working.{all_later, holds_apart}
@@ -93,8 +93,8 @@ invariant_of-self g c =
       c.self.invariant.1,
     )
 
--- the volume stays
-same_volume : (g : _) (c : After-stand_in_order-2 g) → OnOk c.read_held-done.result (c.read_held-done.new.volume ≡ c.args.volume.now)
+-- the volume stays but for reads
+same_volume : (g : _) (c : After-stand_in_order-2 g) → OnOk c.read_held-done.result (SameVolume c.args.volume.now c.read_held-done.new.volume)
 same_volume g c = ok_as _ _ c.read_held-done.result (λ d. (d (own g c).unit c.requires.file.0 (own g c).there c.requires.file.1).same) c.read_held-done.ensures.done
 
 pub returns-clause-order : goal.returns-clause-order
@@ -125,8 +125,11 @@ returns-clause-same g c =
     err_as _ _ c.read_held-done.result
     (λ e k none. let r = k u h (own g c).there c.requires.file.1 in (
       ap (λ (z : rms.UnitsState). seen z c.self.inside.log) r.0 ∙ c.self.view_is,
-      refused_same e (λ cause. ReadRefused u h c.args.op.now cause (s g c) v) (c.read_held-done.new.volume ≡ v) (λ down. MayRead u h c.args.op.now (s g c) × FellIn down v c.read_held-done.new.volume) none r.1,
+      refused_same e (λ cause. ReadRefused u h c.args.op.now cause (s g c) v) (SameVolume v c.read_held-done.new.volume) (λ down. MayRead u h c.args.op.now (s g c) × FellIn down v c.read_held-done.new.volume) none r.1,
     )) c.read_held-done.ensures.err
+
+pub returns-clause-reads : goal.returns-clause-reads
+returns-clause-reads g c = reads_few c.args.op.now c.args.volume.now c.read_held-done.new.volume c.read_held-done.ensures.reads
 
 pub returns-clause-done : goal.returns-clause-done
 returns-clause-done g c =

@@ -1,7 +1,7 @@
-use Rattle.std.proofs.Common.{◌≡◌, true, false, Some, None, OnOk, IfOk, IfSome, sym, subst}
+use Rattle.std.proofs.Common.{◌≡◌, ◌≤◌, ◌+◌, true, false, Some, None, OnOk, IfOk, IfSome, sym, subst}
 use Rattle.file_base.specs.declared.head.Organization.{Organization}
 use Rattle.vms_base.specs.Keys.{key_of}
-use Rattle.record_files.specs.Any.{BeginsBy, FormBy, LaidOutBy, map_by}
+use Rattle.record_files.specs.Any.{BeginsBy, FormBy, LaidOutBy, map_by, reads_by}
 use Rattle.record_files.proofs.any.AnyFileRecordFile.find.Goals as goal
 
 pub find-requires-clause-form : goal.find-requires-clause-form
@@ -63,3 +63,12 @@ find-requires-in-Relative-clause-begins g c =
 pub find-requires-in-Indexed-clause-begins : goal.find-requires-in-Indexed-clause-begins
 find-requires-in-Indexed-clause-begins g c =
     subst (λ (o : Organization). IfSome c.args.store.now.current (λ b. LaidOutBy o c.args.head.now b → BeginsBy o c.args.head.now b (Some (key_of c.args.key.now)) c.args.place.now)) c.in-Indexed.is c.requires.begins
+
+pub returns-in-Sequential-clause-reads : goal.returns-in-Sequential-clause-reads
+returns-in-Sequential-clause-reads g c = subst (λ (o : Organization). c.find.new.store.reads ≤ c.args.store.now.reads + reads_by o c.args.head.now) (sym c.in-Sequential.is) c.find.ensures.reads
+
+pub returns-in-Relative-clause-reads : goal.returns-in-Relative-clause-reads
+returns-in-Relative-clause-reads g c = subst (λ (o : Organization). c.find-in-Relative.new.store.reads ≤ c.args.store.now.reads + reads_by o c.args.head.now) (sym c.in-Relative.is) c.find-in-Relative.ensures.reads
+
+pub returns-in-Indexed-clause-reads : goal.returns-in-Indexed-clause-reads
+returns-in-Indexed-clause-reads g c = subst (λ (o : Organization). c.find-in-Indexed.new.store.reads ≤ c.args.store.now.reads + reads_by o c.args.head.now) (sym c.in-Indexed.is) c.find-in-Indexed.ensures.reads

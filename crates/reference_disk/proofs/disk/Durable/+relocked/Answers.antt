@@ -3,9 +3,10 @@ use Rattle.std.proofs.lemmas.Result.{IfOk-weaker}
 use Rattle.run_model.specs.World as world
 use Rattle.run_model.specs.Locks.{Lock}
 use Rattle.tm_types.specs.Parts.{log_record_of}
-use Rattle.reference_world.specs.Standing.{directory_of, locks_of}
+use Rattle.reference_index.specs.Standing.{locks_of}
+use Rattle.reference_world.specs.Standing.{directory_of}
 use Rattle.reference_units.specs.Entries.{entries_of}
-use Rattle.reference_world.proofs.ChangeLemmas.{behind_first}
+use Rattle.reference_index.proofs.ListLemmas.{behind_first}
 use Rattle.reference_disk.specs.Disks.{durable_of, log_records_of}
 use Rattle.reference_disk.proofs.DiskLemmas.{first_relocked}
 use Rattle.reference_disk.proofs.disk.Durable.+relocked.Goals as goal

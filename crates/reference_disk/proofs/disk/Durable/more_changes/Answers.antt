@@ -6,7 +6,7 @@ use Rattle.unit_laws.specs.Journal.{units_in}
 use Rattle.run_model.specs.Operations.{refused_if}
 use Rattle.run_model.specs.World.{changes_made}
 use Rattle.vms_base.specs.Ids.{id_of}
-use Rattle.reference_world.specs.Standing.{change_of}
+use Rattle.reference_index.specs.Standing.{change_of}
 use Rattle.reference_units.specs.Entries.{entries_of, journal_of, units_of}
 use Rattle.reference_disk.proofs.disk.Durable.more_changes.Goals as goal
 

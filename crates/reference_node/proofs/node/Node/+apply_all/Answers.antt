@@ -6,7 +6,7 @@ use Rattle.tm_types.specs.Effects.{effect_of}
 use Rattle.vms_base.specs.Ids.{id_of}
 use Rattle.reference_world.specs.Standing.{branch_key_of}
 use Rattle.reference_world.specs.declared.line.Line.{Line}
-use Rattle.reference_world.proofs.ChangeLemmas.{behind_first, parts}
+use Rattle.reference_index.proofs.ListLemmas.{behind_first, parts}
 use Rattle.reference_node.specs.Nodes.{node_of}
 use Rattle.reference_branches.specs.Branches.{shared_of}
 use Rattle.reference_node.specs.Telling.{AppliesAll, HasTime, MayApply}

@@ -4,7 +4,7 @@ use Rattle.commit_protocol.specs.World.{undo_all}
 use Rattle.run_model.specs.Answers.{table_rows, unit_key}
 use Rattle.run_model.specs.Steps.{lines_of_rows, node_after_rows}
 use Rattle.reference_world.specs.Standing.{branch_key_of, line_of}
-use Rattle.reference_world.proofs.ChangeLemmas.{behind_first, parts}
+use Rattle.reference_index.proofs.ListLemmas.{behind_first, parts}
 use Rattle.reference_units.specs.Entries.{units_of}
 use Rattle.reference_units.specs.declared.units.Unit.{Unit as UnitKept}
 use Rattle.reference_node.specs.Nodes.{AreUnknown, node_of}

@@ -6,7 +6,8 @@ use Rattle.transcript_model.specs.Lines as model
 use Rattle.commit_protocol.specs.Table.{first}
 use Rattle.run_model.specs.Answers.{commit_settlement}
 use Rattle.run_model.specs.World.{next_id, next_moment}
-use Rattle.reference_world.specs.Standing.{branch_key_of, change_of, changes_of, settlement_of, line_of}
+use Rattle.reference_index.specs.Standing.{change_of, changes_of}
+use Rattle.reference_world.specs.Standing.{branch_key_of, settlement_of, line_of}
 use Rattle.reference_records.specs.Operations.{asked_of}
 use Rattle.reference_node.specs.Nodes.{node_of}
 use Rattle.reference_node.proofs.ActLemmas.{directs}

@@ -2,7 +2,8 @@ use Rattle.std.specs.Prelude.{map}
 use Rattle.run_model.specs.World.{serial_labelled}
 use Rattle.run_model.specs.Answers.{branch_labelled}
 use Rattle.tm_types.specs.Branches.{branch_of}
-use Rattle.reference_world.specs.Standing.{key_of, changes_of, line_of}
+use Rattle.reference_index.specs.Standing.{key_of, changes_of}
+use Rattle.reference_world.specs.Standing.{line_of}
 use Rattle.reference_records.specs.Operations.{asked_of}
 use Rattle.reference_node.specs.Nodes.{node_of}
 use Rattle.reference_branches.specs.Branches.{shared_of}

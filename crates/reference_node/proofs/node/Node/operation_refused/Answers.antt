@@ -5,7 +5,8 @@ use Rattle.run_model.specs.Answers.{journal_full, more_changes, of_file, found_r
 use Rattle.run_model.specs.Operations.{first_of}
 use Rattle.vms_base.specs.Ids.{id_of}
 use Rattle.tm_types.specs.Branches.{branch_of}
-use Rattle.reference_world.specs.Standing.{changes_of, line_of}
+use Rattle.reference_index.specs.Standing.{changes_of}
+use Rattle.reference_world.specs.Standing.{line_of}
 use Rattle.reference_records.specs.Operations.{asked_of}
 use Rattle.reference_disk.specs.Disks.{branch_with}
 use Rattle.reference_node.specs.Nodes.{node_of}

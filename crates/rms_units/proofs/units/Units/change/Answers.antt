@@ -10,6 +10,7 @@ use Rattle.record_operations.specs.declared.errors.RecErr.{RecErr}
 use Rattle.vms_base.specs.Keys.{key_of}
 use Rattle.vms_model.specs.Keys.{Key}
 use Rattle.volume.specs.Catalogs.{head_at}
+use Rattle.volume.specs.State.{SameVolume}
 use Rattle.rms_units.specs.declared.asked.KeyChange.{KeyChange}
 use Rattle.rms_units.specs.Keys.{change_in, key_in, position_by}
 use Rattle.unit_table.specs.Units.{OpenUnit}
@@ -73,7 +74,7 @@ returns-in-Truncate-clause-err g c =
     let told = err u (ap (λ (p : ℕ). unit_of p s) c.unit.view_is ∙ at) in
     subst (λ (x : FileHead). ChangesErr u x o bytes e s v t w) same_head (
       told.0,
-      refused_so e (λ cause. CutRefused u file head from cause s v × (w ≡ v)) (λ cause. ChangeRefused u head o (written o bytes) cause s v × (w ≡ v))
+      refused_so e (λ cause. CutRefused u file head from cause s v × SameVolume v w) (λ cause. ChangeRefused u head o (written o bytes) cause s v × SameVolume v w)
           (λ down. CutBroke u file head from s v w) (λ down. ChangeBroke u head o (written o bytes) s v w) told.1
           (λ cause x. (
             inr record {
@@ -169,7 +170,7 @@ returns-clause-err g c =
     c.asked_by-asked.ensures.file c.asked_by-asked.ensures.head c.asked_by-asked.ensures.change key c.written-value.ensures (err u (ap (λ (p : ℕ). unit_of p s) c.unit.view_is ∙ at)) in
     subst (λ (x : FileHead). ChangesErr u x o bytes e s v t w) same_head (
       told.0,
-      refused_so e (λ cause. KeyRefused u (file_in o) head (change_in o) (key_in head o (written o bytes)) (written o bytes) cause s v × (w ≡ v)) (λ cause. ChangeRefused u head o (written o bytes) cause s v × (w ≡ v))
+      refused_so e (λ cause. KeyRefused u (file_in o) head (change_in o) (key_in head o (written o bytes)) (written o bytes) cause s v × SameVolume v w) (λ cause. ChangeRefused u head o (written o bytes) cause s v × SameVolume v w)
           (λ down. KeyBroke u (file_in o) head (change_in o) (key_in head o (written o bytes)) (written o bytes) s v w) (λ down. ChangeBroke u head o (written o bytes) s v w) told.1
           (λ cause x. (
             inr record {

@@ -10,6 +10,7 @@ use Rattle.record_operations.specs.declared.errors.RecErr.{RecErr}
 use Rattle.vms_base.specs.Keys.{key_of}
 use Rattle.vms_model.specs.Keys.{Key}
 use Rattle.volume.specs.Catalogs.{head_at}
+use Rattle.volume.specs.State.{SameVolume}
 use Rattle.rms_units.specs.declared.asked.KeyChange.{KeyChange}
 use Rattle.rms_units.specs.Keys.{change_in, key_in, position_by}
 use Rattle.vms_base.specs.declared.times.Moment.{Moment}
@@ -68,7 +69,7 @@ returns-in-Truncate-clause-err g c =
     let both : Some head ≡ Some h = sym at_head ∙ there in
     let same_head : head ≡ h = cc in
     subst (λ (x : FileHead). DirectsErr tid clock x o bytes e s v w) same_head
-    (refused_so e (λ cause. (direct_cut_refused file head from s.locks ≡ Some cause) × (w ≡ v)) (λ cause. DirectRefused head o (written o bytes) cause s v × (w ≡ v))
+    (refused_so e (λ cause. (direct_cut_refused file head from s.locks ≡ Some cause) × SameVolume v w) (λ cause. DirectRefused head o (written o bytes) cause s v × SameVolume v w)
     (λ down. DirectCutBroke tid clock file head from s v w) (λ down. DirectBroke tid clock head o (written o bytes) s v w) err
     (λ cause x. (
       inr record {
@@ -160,7 +161,7 @@ returns-clause-err g c =
     retold (λ f q how k b. DirectsKeyErr tid clock f q how k b e s v w) a.file (file_in o) a.head head a.change (change_in o) (key_of a.key) (key_in head o (written o bytes)) value (written o bytes)
     c.asked_by-asked.ensures.file c.asked_by-asked.ensures.head c.asked_by-asked.ensures.change key c.written-value.ensures err in
     subst (λ (x : FileHead). DirectsErr tid clock x o bytes e s v w) same_head
-    (refused_so e (λ cause. DirectKeyRefused (file_in o) head (change_in o) (key_in head o (written o bytes)) (written o bytes) cause s.locks v × (w ≡ v)) (λ cause. DirectRefused head o (written o bytes) cause s v × (w ≡ v))
+    (refused_so e (λ cause. DirectKeyRefused (file_in o) head (change_in o) (key_in head o (written o bytes)) (written o bytes) cause s.locks v × SameVolume v w) (λ cause. DirectRefused head o (written o bytes) cause s v × SameVolume v w)
     (λ down. DirectKeyBroke tid clock (file_in o) head (change_in o) (key_in head o (written o bytes)) (written o bytes) s v w) (λ down. DirectBroke tid clock head o (written o bytes) s v w) told
     (λ cause x. (
       inr record {

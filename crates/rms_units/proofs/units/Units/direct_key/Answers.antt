@@ -3,6 +3,7 @@ use Rattle.std.proofs.Common.{◌≡◌, ℕ, List, None, ap, subst, ◌∙◌}
 use Rattle.record_operations.specs.Causes.{IfRefused}
 use Rattle.unit_journal.specs.Settling.{next_moment}
 use Rattle.vms_base.specs.Keys.{key_of}
+use Rattle.volume.specs.State.{SameVolume}
 use Rattle.rms_units.specs.Calls.{CommitsChange, DirectKeyBroke, DirectKeyRefused, DirectsKey}
 use Rattle.rms_units.specs.Changing.{keys_asked, locks_refuse}
 use Rattle.rms_units.specs.State.{UnitsState}
@@ -19,7 +20,7 @@ returns-in-Err-clause-err g c =
     let a = c.args.asked.now in
     let s : UnitsState = record { units = c.self.inside.table; locks = c.self.inside.locks.locks } in
     let w = c.refuse_directly.new.volume in
-    subst (λ (y : UnitsState). IfRefused c.in-Err.e (λ cause. DirectKeyRefused a.file a.head a.change (key_of a.key) c.args.value.now cause y.locks v × (w ≡ v)) (λ down. DirectKeyBroke c.args.tid c.args.clock.0 a.file a.head a.change (key_of a.key) c.args.value.now y v w)) c.self.view_is
+    subst (λ (y : UnitsState). IfRefused c.in-Err.e (λ cause. DirectKeyRefused a.file a.head a.change (key_of a.key) c.args.value.now cause y.locks v × SameVolume v w) (λ down. DirectKeyBroke c.args.tid c.args.clock.0 a.file a.head a.change (key_of a.key) c.args.value.now y v w)) c.self.view_is
     (refused_breaks c.in-Err.e (λ cause. DirectKeyRefused a.file a.head a.change (key_of a.key) c.args.value.now cause s.locks v) (locks_refuse None a.file (keys_asked a.head a.change (key_of a.key)) s.locks ≡ None) v w c.in-Err.ensures.err
     (λ cause. DirectKeyRefused a.file a.head a.change (key_of a.key) c.args.value.now cause s.locks v) (CommitsChange c.args.tid c.args.clock.0 a.file a.head a.change (key_of a.key) c.args.value.now s v)
     (DirectKeyBroke c.args.tid c.args.clock.0 a.file a.head a.change (key_of a.key) c.args.value.now s v w) c.one_content.ensures c.requires.order.idle.ready (λ cause x. x) (λ early breaks. record { early = early; breaks = breaks }))

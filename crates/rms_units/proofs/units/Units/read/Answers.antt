@@ -9,6 +9,7 @@ use Rattle.unit_table.specs.Units.{OpenUnit}
 use Rattle.vms_base.specs.Ids.{serial_of, tid_of}
 use Rattle.vms_base.specs.Keys.{key_of}
 use Rattle.vms_model.specs.Ids.{Id}
+use Rattle.volume.specs.State.{SameVolume}
 use Rattle.rms_units.specs.Calls.{MayRead, ReadRefused, ReadsErr}
 use Rattle.rms_units.specs.Changing.{keys_refused}
 use Rattle.rms_units.specs.Reading.{Finds}
@@ -51,6 +52,6 @@ returns-in-Some-hold_key-clause-err g c = λ u h there is.
     let t : UnitsState = record { units = c.self.inside.table; locks = c.hold_key.new.locks.locks } in
     subst (λ (x : FileHead). ReadsErr u x o e c.args.self.now v t w) same_head (
       (λ i. record { units = c.self.inside.table; locks = (kept i).locks }) ∙ c.self.view_is,
-      subst (λ (x : UnitsState). IfRefused e (λ cause. ReadRefused u head o cause x v × (w ≡ v)) (λ down. MayRead u head o x × FellIn down v w)) c.self.view_is
+      subst (λ (x : UnitsState). IfRefused e (λ cause. ReadRefused u head o cause x v × SameVolume v w) (λ down. MayRead u head o x × FellIn down v w)) c.self.view_is
           (hold_refused e u head o key bytes s v w (λ down. MayRead u head o s × FellIn down v w) early finds why some c.in_ok-find.ensures.same),
     )

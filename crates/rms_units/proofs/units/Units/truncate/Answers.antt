@@ -7,12 +7,13 @@ use Rattle.unit_journal.proofs.Breaking.{fell_old}
 use Rattle.unit_journal.proofs.Falling.{fell_caused, fell_goes, same_goes}
 use Rattle.unit_journal.proofs.Growing.{fell_grows, grows_nowhere}
 use Rattle.unit_table.specs.Units.{OpenUnit}
-use Rattle.volume.specs.State.{VolumeState}
+use Rattle.volume.specs.State.{SameVolume, VolumeState}
 use Rattle.rms_units.specs.State.{UnitsState, unit_of}
-use Rattle.rms_units.specs.Truncating.{ChangesCutErr, CutBroke, CutRefused, IsCut, cut_early}
-use Rattle.unit_cuts.specs.Truncating.{BreaksCut, IsTold}
+use Rattle.rms_units.specs.Truncating.{ChangesCutErr, CutBroke, CutRefused, cut_early}
+use Rattle.unit_cuts.specs.Truncating.{IsTold}
 use Rattle.unit_cuts.proofs.CutEntering.{same_none}
 use Rattle.unit_cuts.proofs.CutSofar.{leaves_told, told_of}
+use Rattle.rms_units.proofs.CutReads.{breaks_cut_from}
 use Rattle.rms_units.proofs.OrderLemmas.{placed_in}
 use Rattle.unit_cuts.proofs.Outcomes.{of_some, the_one}
 use Rattle.rms_units.proofs.Refusing.{either_way, refused_so}
@@ -30,7 +31,7 @@ returns-in-Err-clause-refused g c =
     let s : UnitsState = record { units = c.self.inside.table; locks = c.self.inside.locks.locks } in
     let one = the_one (unit_of c.args.place c.args.self.now) c.requires.unit in
     let at : unit_of c.args.place s ≡ Some one.0 = ap (unit_of c.args.place) c.self.view_is ∙ one.1 in
-    refused_so c.in-Err.e (λ cause. CutRefused one.0 a.file a.head a.from cause s v × (w ≡ v)) (λ cause. w ≡ v) (λ down. (cut_early one.0 a.file a.head a.from s.locks ≡ None) × FellIn down v w) (λ down. Unit {0}) (c.in-Err.ensures.err one.0 at) (λ cause p. p.1) (λ down q. tt)
+    refused_so c.in-Err.e (λ cause. CutRefused one.0 a.file a.head a.from cause s v × SameVolume v w) (λ cause. SameVolume v w) (λ down. (cut_early one.0 a.file a.head a.from s.locks ≡ None) × FellIn down v w) (λ down. Unit {0}) (c.in-Err.ensures.err one.0 at) (λ cause p. p.1) (λ down q. tt)
 
 pub returns-in-Err-clause-grows : goal.returns-in-Err-clause-grows
 returns-in-Err-clause-grows g c =
@@ -40,7 +41,7 @@ returns-in-Err-clause-grows g c =
     let s : UnitsState = record { units = c.self.inside.table; locks = c.self.inside.locks.locks } in
     let one = the_one (unit_of c.args.place c.args.self.now) c.requires.unit in
     let at : unit_of c.args.place s ≡ Some one.0 = ap (unit_of c.args.place) c.self.view_is ∙ one.1 in
-    either_way c.in-Err.e (λ cause. CutRefused one.0 a.file a.head a.from cause s v × (w ≡ v)) (λ down. (cut_early one.0 a.file a.head a.from s.locks ≡ None) × FellIn down v w) (λ o. Grows 0 0 v w) (c.in-Err.ensures.err one.0 at)
+    either_way c.in-Err.e (λ cause. CutRefused one.0 a.file a.head a.from cause s v × SameVolume v w) (λ down. (cut_early one.0 a.file a.head a.from s.locks ≡ None) × FellIn down v w) (λ o. Grows 0 0 v w) (c.in-Err.ensures.err one.0 at)
     (λ cause p. grows_nowhere 0 0 v w (ap (λ (x : VolumeState). x.catalog) p.1)) (λ down q. fell_grows 0 0 down v w q.1)
 
 pub returns-in-Err-clause-goes : goal.returns-in-Err-clause-goes
@@ -51,7 +52,7 @@ returns-in-Err-clause-goes g c =
     let s : UnitsState = record { units = c.self.inside.table; locks = c.self.inside.locks.locks } in
     let one = the_one (unit_of c.args.place c.args.self.now) c.requires.unit in
     let at : unit_of c.args.place s ≡ Some one.0 = ap (unit_of c.args.place) c.self.view_is ∙ one.1 in
-    either_way c.in-Err.e (λ cause. CutRefused one.0 a.file a.head a.from cause s v × (w ≡ v)) (λ down. (cut_early one.0 a.file a.head a.from s.locks ≡ None) × FellIn down v w) (λ o. Goes v.store.disk w.store.disk) (c.in-Err.ensures.err one.0 at)
+    either_way c.in-Err.e (λ cause. CutRefused one.0 a.file a.head a.from cause s v × SameVolume v w) (λ down. (cut_early one.0 a.file a.head a.from s.locks ≡ None) × FellIn down v w) (λ o. Goes v.store.disk w.store.disk) (c.in-Err.ensures.err one.0 at)
     (λ cause p. same_goes v w p.1) (λ down q. fell_goes down v w q.1)
 
 pub returns-in-Err-clause-cause : goal.returns-in-Err-clause-cause
@@ -62,7 +63,7 @@ returns-in-Err-clause-cause g c =
     let s : UnitsState = record { units = c.self.inside.table; locks = c.self.inside.locks.locks } in
     let one = the_one (unit_of c.args.place c.args.self.now) c.requires.unit in
     let at : unit_of c.args.place s ≡ Some one.0 = ap (unit_of c.args.place) c.self.view_is ∙ one.1 in
-    either_way c.in-Err.e (λ cause. CutRefused one.0 a.file a.head a.from cause s v × (w ≡ v)) (λ down. (cut_early one.0 a.file a.head a.from s.locks ≡ None) × FellIn down v w) (λ o. Caused o v.store.disk w.store.disk) (c.in-Err.ensures.err one.0 at)
+    either_way c.in-Err.e (λ cause. CutRefused one.0 a.file a.head a.from cause s v × SameVolume v w) (λ down. (cut_early one.0 a.file a.head a.from s.locks ≡ None) × FellIn down v w) (λ o. Caused o v.store.disk w.store.disk) (c.in-Err.ensures.err one.0 at)
     (λ cause p. tt) (λ down q. fell_caused down v w q.1)
 
 pub returns-in-Err-clause-pool : goal.returns-in-Err-clause-pool
@@ -73,7 +74,7 @@ returns-in-Err-clause-pool g c =
     let s : UnitsState = record { units = c.self.inside.table; locks = c.self.inside.locks.locks } in
     let one = the_one (unit_of c.args.place c.args.self.now) c.requires.unit in
     let at : unit_of c.args.place s ≡ Some one.0 = ap (unit_of c.args.place) c.self.view_is ∙ one.1 in
-    either_way c.in-Err.e (λ cause. CutRefused one.0 a.file a.head a.from cause s v × (w ≡ v)) (λ down. (cut_early one.0 a.file a.head a.from s.locks ≡ None) × FellIn down v w) (λ o. w.store.pool ≡ v.store.pool) (c.in-Err.ensures.err one.0 at)
+    either_way c.in-Err.e (λ cause. CutRefused one.0 a.file a.head a.from cause s v × SameVolume v w) (λ down. (cut_early one.0 a.file a.head a.from s.locks ≡ None) × FellIn down v w) (λ o. w.store.pool ≡ v.store.pool) (c.in-Err.ensures.err one.0 at)
     (λ cause p. ap (λ (x : VolumeState). x.store.pool) p.1) (λ down q. ap (λ (x : VolumeState). x.store.pool) q.1)
 
 pub returns-in-Err-clause-err : goal.returns-in-Err-clause-err
@@ -84,7 +85,7 @@ returns-in-Err-clause-err g c = λ u is.
     let s : UnitsState = record { units = c.self.inside.table; locks = c.self.inside.locks.locks } in
     let at : unit_of c.args.place s ≡ Some u = ap (unit_of c.args.place) c.self.view_is ∙ is in (
       c.self.view_is,
-      refused_so c.in-Err.e (λ cause. CutRefused u a.file a.head a.from cause s v × (w ≡ v)) (λ cause. CutRefused u a.file a.head a.from cause c.args.self.now v × (w ≡ v)) (λ down. (cut_early u a.file a.head a.from s.locks ≡ None) × FellIn down v w)
+      refused_so c.in-Err.e (λ cause. CutRefused u a.file a.head a.from cause s v × SameVolume v w) (λ cause. CutRefused u a.file a.head a.from cause c.args.self.now v × SameVolume v w) (λ down. (cut_early u a.file a.head a.from s.locks ≡ None) × FellIn down v w)
           (λ down. CutBroke u a.file a.head a.from c.args.self.now v w) (c.in-Err.ensures.err u at)
           (λ cause p. (subst (λ (x : UnitsState). CutRefused u a.file a.head a.from cause x v) c.self.view_is p.0, p.1))
           (λ down q. record {
@@ -109,7 +110,7 @@ returns-clause-err g c =
           let same : t ≡ s = λ i. record { units = spared.0 i; locks = (spared.1 i).locks } in
           let early = of_some (λ (x : OpenUnit). cut_early x a.file a.head a.from s.locks ≡ None) (unit_of c.args.place s) u at c.in-Ok.ensures.early in (
             same ∙ c.self.view_is,
-            subst (λ (y : UnitsState). CutBroke u a.file a.head a.from y v w) c.self.view_is record { early = early; breaks = subst (λ (x : VolumeState). BreaksCut (IsCut u a.file a.head a.from s x) x w) c.in-Ok.ensures.same (e.in-Err-make_cut.ensures.breaks u at) },
+            subst (λ (y : UnitsState). CutBroke u a.file a.head a.from y v w) c.self.view_is record { early = early; breaks = breaks_cut_from v c.refuse_cut.new.volume c.in-Ok.ensures.same u a.file a.head a.from s w (e.in-Err-make_cut.ensures.breaks u at) },
           ))
       | in-Ok-make_cut k ↦ subst (λ r. IfErr r (λ x. (u : OpenUnit) → unit_of c.args.place c.args.self.now ≡ Some u → ChangesCutErr u a.file a.head a.from x c.args.self.now v t w)) (sym k.result-is) tt
     ]

@@ -1,0 +1,25 @@
+mod Examples
+pub mod Images
+pub mod Covering
+pub mod ImageLemmas
+pub mod RollLemmas
+pub mod BranchLemmas
+pub mod TieLemmas
+pub mod TimelineLemmas
+pub mod CoverLemmas
+pub mod PositionLemmas
+pub mod FileLemmas
+pub mod OldestLemmas
+pub mod LockedLemmas
+pub mod OpeningLemmas
+pub mod TellingLemmas
+pub mod HalfLemmas
+pub mod RoomLemmas
+pub mod OrderLemmas
+pub mod ActLemmas
+pub mod LeftLemmas
+pub mod HoldLemmas
+pub mod StatementLemmas
+pub mod PlaceLemmas
+pub mod Recoveries
+pub mod MapLemmas

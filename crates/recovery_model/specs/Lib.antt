@@ -1,0 +1,10 @@
+pub mod Images
+pub mod Journal
+pub mod Timeline
+pub mod File
+pub mod Room
+pub mod Acts
+pub mod Opening
+pub mod Recovery
+pub mod Places
+pub mod Laws

@@ -1,5 +1,0 @@
-use Rattle.std.proofs.Common.{length}
-use Rattle.reference_world.proofs.leaves.+earliest_before.Given as goal
-
-abbrev pub decreases-earliest_before : goal.decreases-earliest_before
-decreases-earliest_before l = length l.changes.now

@@ -1,4 +1,0 @@
-use Rattle.reference_world.proofs.parts.+best_below.Given as goal
-
-abbrev pub decreases-best_below : goal.decreases-best_below
-decreases-best_below l = l.bound

@@ -1,5 +1,0 @@
-use Rattle.std.proofs.Common.{length}
-use Rattle.reference_world.proofs.parts.+bytes_within.Given as goal
-
-abbrev pub decreases-bytes_within : goal.decreases-bytes_within
-decreases-bytes_within l = length l.all.now

@@ -1,0 +1,5 @@
+pub mod Moves
+pub mod Relatives
+pub mod Sequences
+pub mod Trees
+pub mod Copies
