@@ -1,0 +1,23 @@
+use Rattle.std.proofs.Common.{◌+◌, ◌-◌, ◌*◌, ℕ, map, sym, ap, ◌∙◌, List}
+use Rattle.file_base.specs.declared.head.Organization.{Organization}
+use Rattle.tree_model.specs.Layouts.{index_size}
+use Rattle.tree_model.specs.Loads.{index_over}
+use Rattle.seq_file.specs.Placing.{buckets_for}
+use Rattle.load_laws.specs.Loads.{buckets_by}
+use Rattle.load_pages.specs.Given.{keyed}
+use Rattle.load_pages.proofs.TreeCounts.{seq_sizes, tree_counted}
+use Rattle.load_pages.proofs.counts.buckets.Goals as goal
+
+pub returns-in-Sequential : goal.returns-in-Sequential
+returns-in-Sequential c =
+    let h = c.args.head.now in
+    c.chain_length.ensures.is ∙ ap (λ (ns : List ℕ). buckets_for (512 * h.bucket - 16) ns) (seq_sizes c.args.records.now)
+    ∙ sym (ap (λ (o : Organization). buckets_by o h (map keyed c.args.records.now)) c.in-Sequential.is)
+
+pub returns-in-Indexed : goal.returns-in-Indexed
+returns-in-Indexed c =
+    let h = c.args.head.now in
+    let leaves = c.chain_length-leaves.result in
+    ap (λ n. leaves + n) (c.index_counts.ensures.buckets ∙ ap (λ f. index_size (index_over f leaves leaves)) c.fan_out.ensures.is)
+    ∙ tree_counted h c.args.records.now leaves c.chain_length-leaves.ensures.is
+    ∙ sym (ap (λ (o : Organization). buckets_by o h (map keyed c.args.records.now)) c.in-Indexed.is)
