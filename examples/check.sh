@@ -50,6 +50,7 @@ transcript more A=second.img
 transcript orders A=orders.img
 transcript stopped A=stopped.img
 transcript undone A=undone.img
+transcript recovered A=recovered.img
 transcript doubt A=here.img B=there.img
 transcript manager A=manager.img
 

@@ -1,8 +1,8 @@
 -- A line that says a statement, by the texts of its words.
-use Rattle.std.proofs.Common.{◌≡◌, ℕ, ◌+◌, ◌==◌, List, [], ◌∷◌, Bool, true, false, Option, Some, None, map, refl, sym, ◌∙◌, ap, subst, if◌then◌else◌}
-use Rattle.script_model.specs.LineWords.{Word, Place, Between, Inside, Quoted, place_after, word_rest, words_from, words_of}
+use Rattle.std.proofs.Common.{◌≡◌, ℕ, ◌+◌, ◌==◌, List, [], ◌∷◌, Bool, true, false, Option, Some, None, ◌&&◌, map, refl, sym, ◌∙◌, ap, subst, if◌then◌else◌}
+use Rattle.script_model.specs.LineWords.{Word, is_empty, Place, Between, Inside, Quoted, place_after, word_rest, words_from, words_of}
 use Rattle.script_model.specs.Statements.{Reading, Says, Bad, Statement}
-use Rattle.script_model.specs.Grammar.{Shape, Ends, Then, EndsOr, Meaning, is_skipped, line_shape, meaning, reading, reads}
+use Rattle.script_model.specs.Grammar.{Shape, Ends, Then, EndsOr, ThenMore, Meaning, is_skipped, line_shape, meaning, reading, reads}
 
 -- the texts of the words that begin in these bytes
 abbrev pub texts_from : Place → List ℕ → List (List ℕ)
@@ -35,6 +35,12 @@ heard (Then k next) [] = None
 heard (Then k next) (t ∷ ts) = elim (meaning k t) [ Some m ↦ heard (next m) ts | None ↦ None ]
 heard (EndsOr s shape) [] = Some s
 heard (EndsOr s shape) (t ∷ ts) = heard shape (t ∷ ts)
+heard (ThenMore k not_last next) [] = None
+heard (ThenMore k not_last next) (t ∷ ts) = elim (meaning k t) [ Some m ↦ (if is_empty ts && not_last m then None else heard (next m) ts) | None ↦ None ]
+
+none_are : (ws : List Word) → is_empty (texts ws) ≡ is_empty ws
+none_are [] = refl
+none_are (w ∷ ws) = refl
 
 heard_reads : (shape : Shape) (ws : List Word) (end : ℕ) (s : Statement) → heard shape (texts ws) ≡ Some s → reads shape ws end ≡ Says s
 heard_reads (Ends x) [] end s e = let same : x ≡ s = cc in ap Says same
@@ -47,6 +53,18 @@ heard_reads (Then k next) (w ∷ ws) end s e = by (meaning k w.text) (λ m. hear
     by (Some m) more f = more m f
 heard_reads (EndsOr x shape) [] end s e = let same : x ≡ s = cc in ap Says same
 heard_reads (EndsOr x shape) (w ∷ ws) end s e = heard_reads shape (w ∷ ws) end s e
+heard_reads (ThenMore k not_last next) [] end s e = let none : ⊥ = cc in absurd none
+heard_reads (ThenMore k not_last next) (w ∷ ws) end s e =
+    by (meaning k w.text) (λ m. heard_reads (next m) ws end s) (subst (λ c. ◌≡◌ {A = Option Statement} (elim (meaning k w.text) [ Some m ↦ (if c && not_last m then None else heard (next m) (texts ws)) | None ↦ None ]) (Some s)) (none_are ws) e)
+  where
+    behind : (m : Meaning k) (c : Bool) → (heard (next m) (texts ws) ≡ Some s → reads (next m) ws end ≡ Says s) → ◌≡◌ {A = Option Statement} (if c then None else heard (next m) (texts ws)) (Some s) → ◌≡◌ {A = Reading} (if c then Bad w.column else reads (next m) ws end) (Says s)
+    behind m true more f = let none : ⊥ = cc in absurd none
+    behind m false more f = more f
+
+    by : (o : Option (Meaning k)) → ((m : Meaning k) → heard (next m) (texts ws) ≡ Some s → reads (next m) ws end ≡ Says s) →
+        ◌≡◌ {A = Option Statement} (elim o [ Some m ↦ (if is_empty ws && not_last m then None else heard (next m) (texts ws)) | None ↦ None ]) (Some s) → ◌≡◌ {A = Reading} (elim o [ Some m ↦ (if is_empty ws && not_last m then Bad w.column else reads (next m) ws end) | None ↦ Bad w.column ]) (Says s)
+    by None more f = let none : ⊥ = cc in absurd none
+    by (Some m) more f = behind m (is_empty ws && not_last m) (more m) f
 
 not_skipped : (ws : List Word) (b : ℕ) (bs : List ℕ) (ts : List (List ℕ)) → texts ws ≡ (b ∷ bs) ∷ ts → (b == 33) ≡ false → is_skipped ws ≡ false
 not_skipped [] b bs ts e f = let none : ⊥ = cc in absurd none

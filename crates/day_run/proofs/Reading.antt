@@ -1,6 +1,6 @@
 -- What a line was read to say.
 use Rattle.std.proofs.Common.{◌≡◌, ℕ, List, Option, Some, None, Ok, sym, ◌∙◌, ap, arith}
-use Rattle.script_model.specs.Statements.{At, Bad, Blank, Clock, Deliver, LinkDown, Says, Settle, Statement}
+use Rattle.script_model.specs.Statements.{At, Backward, Bad, Blank, Clock, Deliver, Forward, LinkDown, Recover, Says, Settle, Statement}
 use Rattle.script_model.specs.Grammar.{reading}
 use Rattle.script_lang.specs.Statements.{reading_of, statement_of}
 use Rattle.script_lang.specs.declared.literals.Literals.{Literals}
@@ -25,12 +25,15 @@ not_skipped line s says blank = let same : Says s ≡ Blank = sym says ∙ blank
 pub not_bad : (line : List ℕ) (s : Statement) (column : ℕ) → reading line ≡ Says s → reading line ≡ Bad column → ⊥
 not_bad line s column says bad = let same : Says s ≡ Bad column = sym says ∙ bad in let none : ⊥ = cc in none
 
--- a clock that is set is set to a moment that can be read
+-- a clock that is set is set to a moment that can be read, and so is the moment up to which a file is recovered
 pub timely : ClocksAreEarly → (line : List ℕ) (s : Statement) → reading line ≡ Says s → IsTimely s
 timely law line s says = by s (law line s says)
   where
     by : (x : Statement) → IsEarly x → IsTimely x
     by (At node (Clock now)) h = omega (arith, h)
+    by (At node (Recover file (Forward None))) h = tt
+    by (At node (Recover file (Forward (Some until)))) h = omega (arith, h)
+    by (At node (Recover file (Backward until))) h = omega (arith, h)
     by (At node _) h = tt
     by (Deliver number) h = tt
     by (LinkDown a b) h = tt

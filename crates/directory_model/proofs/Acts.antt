@@ -23,16 +23,16 @@ use Rattle.unit_laws.specs.Units.{map_in, with_before_images, IsOrderly}
 use Rattle.unit_laws.specs.Layouts.{layout_restored}
 use Rattle.unit_laws.proofs.HistoryLaws.{aborts_one, changes_more, commits_one}
 use Rattle.run_model.specs.Locks.{is_locked}
-use Rattle.run_model.specs.World.{Durable, Node, File, Settlement, AreUnitsOf, Formats, Marks, Tables, Changes, Directs, acted, key_size_of, sizes_of, changed_file, directly_changed, settled_layout, settled_file, settlement_of, with_prepared, with_settlement}
+use Rattle.run_model.specs.World.{Durable, Node, File, Settlement, AreUnitsOf, Formats, Tables, Changes, Directs, acted, key_size_of, sizes_of, changed_file, directly_changed, settled_layout, settled_file, settlement_of, with_prepared, with_settlement}
 use Rattle.commit_protocol.specs.Table as table
 use Rattle.log_laws.specs.Slots.{slots_after}
-use Rattle.directory_model.specs.Files.{IsFile, IsPlace, AreFiles, IsNamed, head_at, file_at, layout_of, organized_by}
+use Rattle.directory_model.specs.Files.{IsCarried, IsFile, IsPlace, AreFiles, StandsCarried, IsNamed, head_at, file_at, layout_of, organized_by}
 use Rattle.directory_model.specs.Restoring.{IsRestored, IsPlaceRestored, AreRestored}
-use Rattle.directory_model.specs.Laws.{KeepsFiles, AreFree, IsChanged, SameBut, marked}
+use Rattle.directory_model.specs.Laws.{KeepsFiles, AreFree, IsChanged, SameBut, carrying, changed_buckets, directly_buckets, settled_buckets}
 use Rattle.directory_model.proofs.Places.{file_mapped, places_set, within_list}
 use Rattle.directory_model.proofs.Finding.{finds_files}
-use Rattle.directory_model.proofs.Marking.{file_marked}
-use Rattle.directory_model.proofs.Moving.{file_moved, files_mapped, places_moved}
+use Rattle.directory_model.proofs.Dressing.{begins, ends, marks, saves}
+use Rattle.directory_model.proofs.Moving.{carried_moved, file_moved, files_mapped, places_moved}
 use Rattle.directory_model.proofs.Directly.{current_directly}
 
 -- INIT
@@ -45,18 +45,8 @@ formats : (content : List (List ℕ)) (n : Node) (slots journal : ℕ) → AreFi
 formats content n slots journal = record {
   heads_long = refl;
   directory_long = refl;
-  each = λ f. subst (λ x. IsPlace content x (file_at (acted (Formats slots journal) n).durable.directory f)) (sym (none_at {A = FileHead} 64 f)) (subst (λ x. IsPlace content None x) (sym (none_at {A = File} 64 f)) tt);
+  each = λ f. subst (λ x. IsPlace content f x (file_at (acted (Formats slots journal) n).durable.directory f)) (sym (none_at {A = FileHead} 64 f)) (subst (λ x. IsPlace content f None x) (sym (none_at {A = File} 64 f)) tt);
 }
-
--- SET_FILE
-marks : (content : List (List ℕ)) (heads : List (Option FileHead)) (n : Node) (f : ℕ) (h : FileHead) (name : List ℕ) (units : Bool) → AreFiles content heads n.durable.directory → IsNamed heads f h name →
-    AreFiles content (slice_set heads f (Some (marked units h))) (acted (Marks name units) n).durable.directory
-marks content heads n f h name units are named =
-    let found = finds_files.found content heads n.durable.directory f h name are named in
-    let below = within_list heads f h named.there in
-    let long = are.heads_long in
-    subst (AreFiles content (slice_set heads f (Some (marked units h)))) (sym (found.2.changed (λ file. record file { recovery_units = units })))
-    (places_set content heads n.durable.directory f (marked units h) (record found.0 { recovery_units = units }) are (omega arith) (file_marked units h content found.0 found.1))
 
 -- PUT, UPDATE, DELETE, TRUNCATE
 
@@ -105,39 +95,39 @@ layout_after held file cs a b h new is layout = ap (layout_changed (sizes_of fil
     go Relative kind = none_changed (sizes_of file) held cs ∙ sym (none_changed (head_sizes h) held cs)
     go Indexed kind = ap (λ (sizes : Sizes). layout_changed sizes held cs (layout_by Indexed h a)) (sizes_are a h file is kind)
 
-changes : (a b : List (List ℕ)) (heads : List (Option FileHead)) (n : Node) (f : ℕ) (h new : FileHead) (name : List ℕ) (file : File) (tid serial : Id) (cs : List Change) (keys : List Key) → AreFiles a heads n.durable.directory → AreUnitsOf n →
-    IsNamed heads f h name → file_at n.durable.directory f ≡ Some file → AreFree serial file cs → maps.Found cs (map_of h a) → IsChanged (is_locked n.volatile.locks name) cs a h b new → SameBut f heads a b →
-    AreFiles b (slice_set heads f (Some new)) (acted (Changes tid serial name cs keys) n).durable.directory
-changes a b heads n f h new name file tid serial cs keys are units named there free found is same =
+changes : (a b : List (List ℕ)) (heads : List (Option FileHead)) (n : Node) (f : ℕ) (h new : FileHead) (name : List ℕ) (file : File) (tid serial : Id) (cs : List Change) → AreFiles a heads n.durable.directory → AreUnitsOf n →
+    IsNamed heads f h name → file_at n.durable.directory f ≡ Some file → AreFree serial file cs → maps.Found cs (map_of h a) → IsChanged (is_locked n.volatile.locks name) cs a h b new → StandsCarried h a b → SameBut f heads a b →
+    AreFiles b (slice_set heads f (Some new)) (changed_buckets (is_locked n.volatile.locks name) tid serial cs f file n.durable.directory)
+changes a b heads n f h new name file tid serial cs are units named there free found is stands same =
     let directory = n.durable.directory in
     let held = is_locked n.volatile.locks name in
     let at = finds_files.found a heads directory f h name are named in
     let one : at.0 ≡ file = same_there directory f at.0 file at.2.there there in
     let mine : IsFile a h file = subst (IsFile a h) one at.1 in
+    let carried : IsCarried a f h file.carried = subst (λ (x : File). IsCarried a f h x.carried) one at.3 in
     let made = changes_more file.history serial cs (units.tells f file there).notes.orderly free (found_in (current file.history) (map_of h a) cs mine.records found) in
-    subst (AreFiles b (slice_set heads f (Some new))) (sym (at.2.changed (changed_file held serial cs) ∙ ap (λ (x : File). slice_set directory f (Some (changed_file held serial cs x))) one))
-    (places_moved a b heads directory f h new (changed_file held serial cs file) are named.there
+    places_moved a b heads directory f h new (carrying file.carried (changed_file held tid serial cs file)) are named.there
     (file_moved a b h new file (changed_with serial cs file.history) (layout_changed (sizes_of file) held cs file.layout) is.same is.form is.laid mine
     (λ key. made.current key ∙ applied_on (current file.history) (map_of h a) cs key mine.records ∙ ap (λ (m : Map). m key) (sym is.map))
-    (layout_after held file cs a b h new mine is.layout)) same)
+    (layout_after held file cs a b h new mine is.layout)) (carried_moved a b f h new file.carried is.same stands carried) same
 
 -- PUT, UPDATE, DELETE, TRUNCATE without a label
 directs : (a b : List (List ℕ)) (heads : List (Option FileHead)) (n : Node) (f : ℕ) (h new : FileHead) (name : List ℕ) (file : File) (cs : List Change) (s : Settlement) → AreFiles a heads n.durable.directory → s.outcome ≡ Commit →
-    IsNamed heads f h name → file_at n.durable.directory f ≡ Some file → file.history.live ≡ [] → IsChanged (is_locked n.volatile.locks name) cs a h b new → SameBut f heads a b →
-    AreFiles b (slice_set heads f (Some new)) (acted (Directs name cs s) n).durable.directory
-directs a b heads n f h new name file cs s are commit named there none is same =
+    IsNamed heads f h name → file_at n.durable.directory f ≡ Some file → file.history.live ≡ [] → IsChanged (is_locked n.volatile.locks name) cs a h b new → StandsCarried h a b → SameBut f heads a b →
+    AreFiles b (slice_set heads f (Some new)) (directly_buckets (is_locked n.volatile.locks name) s cs f file n.durable.directory)
+directs a b heads n f h new name file cs s are commit named there none is stands same =
     let directory = n.durable.directory in
     let held = is_locked n.volatile.locks name in
     let at = finds_files.found a heads directory f h name are named in
     let one : at.0 ≡ file = same_there directory f at.0 file at.2.there there in
     let mine : IsFile a h file = subst (IsFile a h) one at.1 in
+    let carried : IsCarried a f h file.carried = subst (λ (x : File). IsCarried a f h x.carried) one at.3 in
     let after : current (settled_at s.serial s.outcome s.moment (changed_with s.serial cs file.history)) ≡ base.applied cs (current file.history) =
     ap (λ (o : Outcome). current (settled_at s.serial o s.moment (changed_with s.serial cs file.history))) commit ∙ current_directly s.serial s.moment cs file.history none in
-    subst (AreFiles b (slice_set heads f (Some new))) (sym (at.2.changed (directly_changed held s cs) ∙ ap (λ (x : File). slice_set directory f (Some (directly_changed held s cs x))) one))
-    (places_moved a b heads directory f h new (directly_changed held s cs file) are named.there
+    places_moved a b heads directory f h new (carrying file.carried (directly_changed held s cs file)) are named.there
     (file_moved a b h new file (settled_at s.serial s.outcome s.moment (changed_with s.serial cs file.history)) (layout_changed (sizes_of file) held cs file.layout) is.same is.form is.laid mine
     (λ key. ap (λ (m : Records). get m key) after ∙ applied_on (current file.history) (map_of h a) cs key mine.records ∙ ap (λ (m : Map). m key) (sym is.map))
-    (layout_after held file cs a b h new mine is.layout)) same)
+    (layout_after held file cs a b h new mine is.layout)) (carried_moved a b f h new file.carried is.same stands carried) same
 
 -- The table.
 
@@ -155,15 +145,16 @@ tables : (content : List (List ℕ)) (heads : List (Option FileHead)) (n : Node)
 tables content heads n a moment none are = subst (AreFiles content heads) (sym (quiet_directory n a moment none)) are
 
 -- END_TRANS
-commits : (content : List (List ℕ)) (heads : List (Option FileHead)) (n : Node) (a : table.Act) (moment : ℕ) (s : Settlement) → settlement_of a moment ≡ Some s → AreFiles content heads n.durable.directory → AreUnitsOf n → s.outcome ≡ Commit →
-    AreFiles content heads (acted (Tables a moment) n).durable.directory
-commits content heads n a moment s settles are units commit = subst (AreFiles content heads) (sym (settled_directory n a moment s settles)) (files_mapped content content heads n.durable.directory (settled_file s) are (λ f h file head there is.
-    subst (λ (o : Outcome). IsFile content h (record file { history = settled_at s.serial o s.moment file.history; layout = settled_layout o (changes_by s.serial file.history.live) file.layout })) (sym commit)
-    (file_moved content content h h file (settled_at s.serial Commit s.moment file.history) file.layout (record { is = refl }) is.head.form is.laid is
-    (λ key. (commits_one file.history s.serial s.moment (units.tells f file there).notes.orderly).current key ∙ is.records key) is.layout)))
+commits : (content : List (List ℕ)) (heads : List (Option FileHead)) (n : Node) (s : Settlement) → AreFiles content heads n.durable.directory → AreUnitsOf n → s.outcome ≡ Commit → AreFiles content heads (settled_buckets s n.durable.directory)
+commits content heads n s are units commit = files_mapped content content heads n.durable.directory (λ file. carrying file.carried (settled_file s file)) are (λ f h file head there is carried. (
+  subst (λ (o : Outcome). IsFile content h (record file { history = settled_at s.serial o s.moment file.history; layout = settled_layout o (changes_by s.serial file.history.live) file.layout })) (sym commit)
+      (file_moved content content h h file (settled_at s.serial Commit s.moment file.history) file.layout (record { is = refl }) is.head.form is.laid is
+      (λ key. (commits_one file.history s.serial s.moment (units.tells f file there).notes.orderly).current key ∙ is.records key) is.layout),
+  carried,
+))
 
 -- ABORT_TRANS
-file_aborted : (a b : List (List ℕ)) (h new : FileHead) (file : File) (s : Settlement) → s.outcome ≡ Abort → IsOrderly file.history → IsRestored a h (changes_by s.serial file.history.live) b new → IsFile a h file → IsFile b new (settled_file s file)
+file_aborted : (a b : List (List ℕ)) (h new : FileHead) (file : File) (s : Settlement) → s.outcome ≡ Abort → IsOrderly file.history → IsRestored a h (changes_by s.serial file.history.live) b new → IsFile a h file → IsFile b new (carrying file.carried (settled_file s file))
 file_aborted a b h new file s abort orderly back is =
     let cs = changes_by s.serial file.history.live in
     subst (λ (o : Outcome). IsFile b new (record file { history = settled_at s.serial o s.moment file.history; layout = settled_layout o cs file.layout })) (sym abort)
@@ -174,22 +165,23 @@ file_aborted a b h new file s abort orderly back is =
     all : map_in (current file.history) ≡ map_of h a
     all = λ i key. is.records key i
 
-place_aborted : (a b : List (List ℕ)) (o o' : Option FileHead) (p : Option File) (s : Settlement) → s.outcome ≡ Abort → ((file : File) → p ≡ Some file → IsOrderly file.history) → IsPlaceRestored s.serial a o p b o' → IsPlace a o p → IsPlace b o' (option_map (settled_file s) p)
-place_aborted a b None None None s abort orderly back is = tt
-place_aborted a b None (Some new) None s abort orderly back is = absurd back
-place_aborted a b None o' (Some file) s abort orderly back is = absurd is
-place_aborted a b (Some h) o' None s abort orderly back is = absurd is
-place_aborted a b (Some h) None (Some file) s abort orderly back is = absurd back
-place_aborted a b (Some h) (Some new) (Some file) s abort orderly back is = file_aborted a b h new file s abort (orderly file refl) back is
+place_aborted : (a b : List (List ℕ)) (f : ℕ) (o o' : Option FileHead) (p : Option File) (s : Settlement) → s.outcome ≡ Abort → ((file : File) → p ≡ Some file → IsOrderly file.history) → IsPlaceRestored s.serial a o p b o' → ((h : FileHead) → o ≡ Some h → StandsCarried h a b) → IsPlace a f o p →
+    IsPlace b f o' (option_map (λ file. carrying file.carried (settled_file s file)) p)
+place_aborted a b f None None None s abort orderly back stands is = tt
+place_aborted a b f None (Some new) None s abort orderly back stands is = absurd back
+place_aborted a b f None o' (Some file) s abort orderly back stands is = absurd is
+place_aborted a b f (Some h) o' None s abort orderly back stands is = absurd is
+place_aborted a b f (Some h) None (Some file) s abort orderly back stands is = absurd back
+place_aborted a b f (Some h) (Some new) (Some file) s abort orderly back stands is = (file_aborted a b h new file s abort (orderly file refl) back is.0, carried_moved a b f h new file.carried back.same (stands h refl) is.1)
 
-aborts : (b c : List (List ℕ)) (heads new : List (Option FileHead)) (n : Node) (a : table.Act) (moment : ℕ) (s : Settlement) → settlement_of a moment ≡ Some s → AreFiles b heads n.durable.directory → AreUnitsOf n → s.outcome ≡ Abort →
-    AreRestored s.serial b heads n.durable.directory c new → AreFiles c new (acted (Tables a moment) n).durable.directory
-aborts b c heads new n a moment s settles are units abort back = subst (AreFiles c new) (sym (settled_directory n a moment s settles)) (record {
+aborts : (b c : List (List ℕ)) (heads new : List (Option FileHead)) (n : Node) (s : Settlement) → AreFiles b heads n.durable.directory → AreUnitsOf n → s.outcome ≡ Abort → AreRestored s.serial b heads n.durable.directory c new →
+    AreFiles c new (settled_buckets s n.durable.directory)
+aborts b c heads new n s are units abort back = record {
   heads_long = back.long ∙ are.heads_long;
-  directory_long = length-map n.durable.directory (option_map (settled_file s)) ∙ are.directory_long;
-  each = λ f. subst (λ x. IsPlace c (head_at new f) x) (sym (file_mapped (settled_file s) n.durable.directory f))
-      (place_aborted b c (head_at heads f) (head_at new f) (file_at n.durable.directory f) s abort (λ file there. (units.tells f file there).notes.orderly) (back.each f) (are.each f));
-})
+  directory_long = length-map n.durable.directory (option_map (λ file. carrying file.carried (settled_file s file))) ∙ are.directory_long;
+  each = λ f. subst (λ x. IsPlace c f (head_at new f) x) (sym (file_mapped (λ file. carrying file.carried (settled_file s file)) n.durable.directory f))
+      (place_aborted b c f (head_at heads f) (head_at new f) (file_at n.durable.directory f) s abort (λ file there. (units.tells f file there).notes.orderly) (back.each f) (back.carried f) (are.each f));
+}
 
 pub keeps_files : KeepsFiles
 keeps_files = record {
@@ -197,8 +189,11 @@ keeps_files = record {
   boots = λ content heads n are. are;
   draws = λ content heads n are. are;
   holds = λ content heads n serial name keys are. are;
-  creates = λ content heads n f h file are within is. places_set content heads n.durable.directory f h file are within is;
+  creates = λ content heads n f h file are within is carried. places_set content heads n.durable.directory f h file are within is carried;
   marks = marks;
+  begins = begins;
+  ends = ends;
+  saves = saves;
   changes = changes;
   directs = directs;
   tables = tables;

@@ -62,7 +62,7 @@ pub finds_files : FindsFiles
 finds_files = record {
   found = λ content heads directory f h name are named.
       let file = file_there content heads directory f h are named.there in
-      (file.0, file.2, found_at name directory f file.0 file.1 (file.2.head.name ∙ named.called) (none_called content heads directory f name are named.lowest));
+      (file.0, file.2, found_at name directory f file.0 file.1 (file.2.head.name ∙ named.called) (none_called content heads directory f name are named.lowest), file.3);
   none = λ content heads directory name are none.
       none_found name directory (none_called content heads directory (length directory) name are (λ g other below. none g other (let long = are.directory_long in omega arith)));
 }

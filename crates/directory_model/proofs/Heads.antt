@@ -2,17 +2,18 @@
 use Rattle.std.proofs.Common.{◌≡◌, ◌⊎◌, ℕ, zero, suc, ◌+◌, ◌*◌, ◌<◌, List, [], ◌∷◌, ◌++◌, length, take, Bool, true, false, Option, Some, None, nat_le, nat_lt, slice_set, slice_index_or, refl, sym, ap, subst, ◌∙◌, arith, inl, inr, ⊎_elim}
 use Rattle.std.specs.Prelude.{◌&&◌}
 use Rattle.std.proofs.lemmas.Bool.Decides.{nat_tests}
-use Rattle.std.proofs.lemmas.List.{get_or-take, length-set, length-take}
+use Rattle.std.proofs.lemmas.Bool.{cases_eq}
+use Rattle.std.proofs.lemmas.List.{get_or-set_other, get_or-set_same, get_or-take, length-set, length-take}
 use Rattle.file_base.specs.declared.head.FileHead.{FileHead}
 use Rattle.extents.specs.declared.extent.Extent.{Extent as Area}
-use Rattle.extents.specs.Extents.{IsFreeRun, FitsAt, all_extents, covers, extents_of, is_used, nowhere}
+use Rattle.extents.specs.Extents.{IsFreeRun, FitsAt, all_extents, covers, extents_of, is_free, is_used, nowhere}
 use Rattle.extents.proofs.Used.{covered, free_is, used_at, not_both, either_false}
 use Rattle.script_model.specs.Statements.{Form}
-use Rattle.run_model.specs.World.{Carried}
+use Rattle.file_base.specs.declared.head.Span.{Span}
 use Rattle.directory_model.specs.Files.{AreNamedOnce, NoneNamed, Fit, IsNewHead, head_at}
 use Rattle.directory_model.specs.Laws.{KeepsHeads, marked}
 use Rattle.directory_model.proofs.Places.{within_list}
-use Rattle.directory_model.proofs.Apart.{own, four_each}
+use Rattle.directory_model.proofs.Apart.{long, own, pair}
 
 -- What stands at a number once a file is there.
 
@@ -94,9 +95,9 @@ new_covers (o ∷ heads) zero i n form h new has = at i has
 
     at : (i : ℕ) → covers (slice_index_or (all_extents (Some h ∷ heads)) i nowhere) n ≡ true → (covers (slice_index_or (all_extents (o ∷ heads)) i nowhere) n ≡ true) ⊎ ((i ≡ 0) × (covers (own h) n ≡ true))
     at zero has = inr (refl, has)
-    at (suc zero) has = absurd (empty_extent h.ai.start h.ai.blocks n (ap (λ (c : Carried). c.after.blocks) new.carried) has)
-    at (suc (suc zero)) has = absurd (empty_extent h.bi.start h.bi.blocks n (ap (λ (c : Carried). c.before.blocks) new.carried) has)
-    at (suc (suc (suc zero))) has = absurd (empty_extent h.save.start (h.save.alloc * h.bucket) n (none_of h.save.alloc h.bucket (ap (λ (c : Carried). c.save.buckets) new.carried)) has)
+    at (suc zero) has = absurd (empty_extent h.ai.start h.ai.blocks n (ap (λ (s : Span). s.blocks) new.carried.after) has)
+    at (suc (suc zero)) has = absurd (empty_extent h.bi.start h.bi.blocks n (ap (λ (s : Span). s.blocks) new.carried.before) has)
+    at (suc (suc (suc zero))) has = absurd (empty_extent h.save.start (h.save.alloc * h.bucket) n (none_of h.save.alloc h.bucket new.carried.save_buckets) has)
     at (suc (suc (suc (suc i)))) has = inl (ap (λ e. covers e n) (rest_of o i) ∙ has)
 new_covers (o ∷ heads) (suc f) i n form h new has = at o i (λ j. new_covers heads f j n form h new) has
   where
@@ -116,54 +117,88 @@ new_covers (o ∷ heads) (suc f) i n form h new has = at o i (λ j. new_covers h
     at (Some x) (suc (suc (suc zero))) more has = inl has
     at (Some x) (suc (suc (suc (suc j)))) more has = ⊎_elim (λ old. inl old) (λ it. inr (after f j it.0, it.1)) (more j has)
 
-module _ (area : Area) (heads : List (Option FileHead)) (f : ℕ) (form : Form) (h : FileHead) (fit : Fit area heads) (new : IsNewHead form h) (run : IsFreeRun area (all_extents heads) h.start (h.alloc * h.bucket)) where
-  long : length (all_extents heads) ≡ 256
-  long = let all = four_each heads in let count = fit.heads_long in omega arith
-
-  -- of two extents that fit, no block is one of both
-  pair : (i j n : ℕ) → j < i → i < 256 → covers (slice_index_or (all_extents heads) i nowhere) n ≡ true → covers (slice_index_or (all_extents heads) j nowhere) n ≡ true → ⊥
-  pair i j n below within has has_too =
-      let count = long in
-      let front : length (take i (all_extents heads)) ≡ i = omega (arith, length-take i (all_extents heads), count) in
-      let at : slice_index_or (take i (all_extents heads)) j nowhere ≡ slice_index_or (all_extents heads) j nowhere = get_or-take i (all_extents heads) j nowhere below in
-      not_both (is_used (take i (all_extents heads)) n) (used_at (take i (all_extents heads)) j n nowhere (omega (arith, front)) (ap (λ e. covers e n) at ∙ has_too)) ((fit.each i within).apart n has)
-
-  -- a block of the free run is free
-  run_is : (n : ℕ) → covers (own h) n ≡ true → (covers area n ≡ true) × (is_used (all_extents heads) n ≡ false)
-  run_is n has = let lies = covered (own h) n has in free_is area (all_extents heads) n (run.all n lies.0 lies.1)
-
-  run_apart : (i n : ℕ) → i < 256 → covers (slice_index_or (all_extents heads) i nowhere) n ≡ true → covers (own h) n ≡ true → ⊥
-  run_apart i n within has has_too = let count = long in not_both (is_used (all_extents heads) n) (used_at (all_extents heads) i n nowhere (omega arith) has) (run_is n has_too).1
-
-  abbrev made : List Area
-  made = all_extents (slice_set heads f (Some h))
+-- Extents of which one is another, whose blocks are free.
+module _ (area : Area) (heads : List (Option FileHead)) (fit : Fit area heads) (made : List Area) (place : ℕ) (fresh : Area)
+    (split : (i n : ℕ) → covers (slice_index_or made i nowhere) n ≡ true → (covers (slice_index_or (all_extents heads) i nowhere) n ≡ true) ⊎ ((i ≡ place) × (covers fresh n ≡ true)))
+    (unused : (n : ℕ) → covers fresh n ≡ true → (covers area n ≡ true) × (is_used (all_extents heads) n ≡ false)) where
+  fresh_apart : (i n : ℕ) → i < 256 → covers (slice_index_or (all_extents heads) i nowhere) n ≡ true → covers fresh n ≡ true → ⊥
+  fresh_apart i n within has has_too = let count = long area heads fit in not_both (is_used (all_extents heads) n) (used_at (all_extents heads) i n nowhere (omega arith) has) (unused n has_too).1
 
   made_pair : (i j n : ℕ) → j < i → i < 256 → covers (slice_index_or made i nowhere) n ≡ true → covers (slice_index_or made j nowhere) n ≡ true → ⊥
   made_pair i j n below within has has_too =
       ⊎_elim
-      (λ old. ⊎_elim (λ old_too. pair i j n below within old old_too) (λ it. run_apart i n within old it.1) (new_covers heads f j n form h new has_too))
-      (λ it. ⊎_elim (λ old_too. run_apart j n (omega arith) old_too it.1) (λ it_too. let a = it.0 in let b = it_too.0 in absurd (omega arith)) (new_covers heads f j n form h new has_too))
-      (new_covers heads f i n form h new has)
+      (λ old. ⊎_elim (λ old_too. pair area heads fit i j n below within old old_too) (λ it. fresh_apart i n within old it.1) (split j n has_too))
+      (λ it. ⊎_elim (λ old_too. fresh_apart j n (omega arith) old_too it.1) (λ it_too. let a = it.0 in let b = it_too.0 in absurd (omega arith)) (split j n has_too))
+      (split i n has)
 
-  creates : Fit area (slice_set heads f (Some h))
-  creates = record {
-    heads_long = length-set heads f (Some h) ∙ fit.heads_long;
-    behind = fit.behind;
-    each = λ i within. record {
-      inside = λ n has. ⊎_elim (λ old. (fit.each i within).inside n old) (λ it. (run_is n it.1).0) (new_covers heads f i n form h new has);
-      apart = λ n has. unused_all (take i made) n (λ j below has_too.
-          let few = length-take i made in
-          let before : j < i = omega (arith, few) in
-          made_pair i j n before within has (sym (ap (λ e. covers e n) (get_or-take i made j nowhere before)) ∙ has_too));
-    };
+  made_fit : (i : ℕ) → i < 256 → FitsAt area made i
+  made_fit i within = record {
+    inside = λ n has. ⊎_elim (λ old. (fit.each i within).inside n old) (λ it. (unused n it.1).0) (split i n has);
+    apart = λ n has. unused_all (take i made) n (λ j below has_too.
+        let few = length-take i made in
+        let before : j < i = omega (arith, few) in
+        made_pair i j n before within has (sym (ap (λ e. covers e n) (get_or-take i made j nowhere before)) ∙ has_too));
   }
+
+creates : (area : Area) (heads : List (Option FileHead)) (f : ℕ) (form : Form) (h : FileHead) → Fit area heads → f < 64 → IsNewHead form h → IsFreeRun area (all_extents heads) h.start (h.alloc * h.bucket) → Fit area (slice_set heads f (Some h))
+creates area heads f form h fit low new run = record {
+  heads_long = length-set heads f (Some h) ∙ fit.heads_long;
+  behind = fit.behind;
+  each = made_fit area heads fit (all_extents (slice_set heads f (Some h))) (4 * f) (own h) (λ i n. new_covers heads f i n form h new)
+      (λ n has. let lies = covered (own h) n has in free_is area (all_extents heads) n (run.all n lies.0 lies.1));
+}
+
+-- One extent of a file is another.
+
+set_four : (x : FileHead) (rest : List Area) (k : ℕ) (e : Area) → k < 4 → slice_set (extents_of (Some x)) k e ++ rest ≡ slice_set (extents_of (Some x) ++ rest) (4 * zero + k) e
+set_four x rest zero e less = refl
+set_four x rest (suc zero) e less = refl
+set_four x rest (suc (suc zero)) e less = refl
+set_four x rest (suc (suc (suc zero))) e less = refl
+set_four x rest (suc (suc (suc (suc k)))) e less = absurd (omega arith)
+
+behind_four : (o : Option FileHead) (rest : List Area) (j : ℕ) (e : Area) → extents_of o ++ slice_set rest j e ≡ slice_set (extents_of o ++ rest) (suc (suc (suc (suc j)))) e
+behind_four None rest j e = refl
+behind_four (Some x) rest j e = refl
+
+one_set : (heads : List (Option FileHead)) (f k : ℕ) (h new : FileHead) (e : Area) → head_at heads f ≡ Some h → k < 4 → extents_of (Some new) ≡ slice_set (extents_of (Some h)) k e → all_extents (slice_set heads f (Some new)) ≡ slice_set (all_extents heads) (4 * f + k) e
+one_set [] f k h new e there less is = let no : ⊥ = cc in absurd no
+one_set (None ∷ heads) zero k h new e there less is = let no : ⊥ = cc in absurd no
+one_set (Some first ∷ heads) zero k h new e there less is =
+    let same : h ≡ first = let it : first ≡ h = cc in sym it in
+    ap (λ es. es ++ all_extents heads) (is ∙ ap (λ (x : FileHead). slice_set (extents_of (Some x)) k e) same) ∙ set_four first (all_extents heads) k e less
+one_set (o ∷ heads) (suc f) k h new e there less is =
+    ap (λ es. extents_of o ++ es) (one_set heads f k h new e there less is)
+    ∙ behind_four o (all_extents heads) (4 * f + k) e
+    ∙ ap (λ i. slice_set (all_extents (o ∷ heads)) i e) (let same : suc (suc (suc (suc (4 * f + k)))) ≡ 4 * suc f + k = omega arith in same)
+
+replaces : (area : Area) (heads : List (Option FileHead)) (f k : ℕ) (h new : FileHead) (e : Area) → Fit area heads → head_at heads f ≡ Some h → k < 4 → extents_of (Some new) ≡ slice_set (extents_of (Some h)) k e →
+    ((n : ℕ) → covers e n ≡ true → is_free area (all_extents heads) n ≡ true) → Fit area (slice_set heads f (Some new))
+replaces area heads f k h new e fit there less is unused = record {
+  heads_long = length-set heads f (Some new) ∙ fit.heads_long;
+  behind = fit.behind;
+  each = subst (λ es. (i : ℕ) → i < 256 → FitsAt area es i) (sym (one_set heads f k h new e there less is))
+      (made_fit area heads fit (slice_set (all_extents heads) (4 * f + k) e) (4 * f + k) e split (λ n has. free_is area (all_extents heads) n (unused n has)));
+}
+  where
+    within : 4 * f + k < length (all_extents heads)
+    within = let below = within_list heads f h there in let count = fit.heads_long in let all = long area heads fit in omega arith
+
+    split : (i n : ℕ) → covers (slice_index_or (slice_set (all_extents heads) (4 * f + k) e) i nowhere) n ≡ true → (covers (slice_index_or (all_extents heads) i nowhere) n ≡ true) ⊎ ((i ≡ 4 * f + k) × (covers e n ≡ true))
+    split i n has = elim (cases_eq i (4 * f + k)) [
+      | inl here ↦ inr (here, sym (ap (λ x. covers x n) (ap (λ j. slice_index_or (slice_set (all_extents heads) (4 * f + k) e) j nowhere) here ∙ get_or-set_same (all_extents heads) (4 * f + k) e nowhere within)) ∙ has)
+      | inr other ↦ inl (sym (ap (λ x. covers x n) (get_or-set_other (all_extents heads) (4 * f + k) i e nowhere other)) ∙ has)
+    ]
 
 pub keeps_heads : KeepsHeads
 keeps_heads = record {
-  creates = λ area heads f form h fit within new run. creates area heads f form h fit new run;
+  creates = creates;
   creates_named = creates_named;
   marks = λ area heads f h units fit there. fit_still area heads f h (marked units h) fit there refl;
   marks_named = λ heads f h units once there. named_still heads f h (marked units h) once there refl;
   changes = λ area heads f h new fit there same. fit_still area heads f h new fit there (ap (λ (x : FileHead). extents_of (Some x)) (sym same.is));
+  stays = fit_still;
+  replaces = replaces;
   changes_named = λ heads f h new once there same. named_still heads f h new once there (ap (λ (x : FileHead). x.name) same.is);
+  stays_named = named_still;
 }

@@ -2,6 +2,8 @@ pub mod Acts
 pub mod Apart
 pub mod Blocks
 pub mod Directly
+pub mod Dressing
+pub mod Entering
 pub mod Finding
 pub mod Heads
 pub mod Making

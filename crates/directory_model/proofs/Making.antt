@@ -1,8 +1,11 @@
 -- The head of a file that is made, and the file that is made with it.
-use Rattle.std.proofs.Common.{◌≡◌, ℕ, ◌+◌, ◌-◌, ◌*◌, ◌/◌, ◌≤◌, List, refl, sym, ap, subst, ◌∙◌, arith, inl, inr}
+use Rattle.std.proofs.Common.{◌≡◌, ℕ, ◌+◌, ◌-◌, ◌*◌, ◌/◌, ◌≤◌, Bool, true, false, List, None, refl, sym, ap, subst, ◌∙◌, arith, inl, inr}
 use Rattle.std.specs.FinMap.{get-empty}
 use Rattle.std.proofs.lemmas.Bool.{cases_lt}
 use Rattle.file_base.specs.declared.head.FileHead.{FileHead}
+use Rattle.file_base.specs.declared.head.Span.{Span}
+use Rattle.file_images.specs.Files.{HasSide, HasSave, form_of}
+use Rattle.recovery_model.specs.File.{no_images}
 use Rattle.change_set.specs.Maps.{Map, empty_map}
 use Rattle.relative_file.specs.Cells.{IsRelative, cells_in}
 use Rattle.seq_file.specs.Layout.{IsSequential, IsFresh}
@@ -14,7 +17,8 @@ use Rattle.script_model.specs.Statements as form
 use Rattle.records_model.specs.Records.{key_cmp}
 use Rattle.tree_model.specs.Layouts.{first_layout as one_leaf}
 use Rattle.run_model.specs.Answers.{created, first_layout, organized}
-use Rattle.directory_model.specs.Files.{IsFile, IsNewHead, organized_by}
+use Rattle.run_model.specs.World.{nothing_carried}
+use Rattle.directory_model.specs.Files.{IsCarried, IsFile, IsNewHead, organized_by}
 use Rattle.directory_model.specs.Laws.{MakesFiles}
 
 -- a bucket has a cell
@@ -99,13 +103,34 @@ new_file content f h moment new none laid first = record {
     organization = new_organization f h new;
     start = refl;
     buckets = sym new.buckets;
-    carried = sym new.carried;
     units = sym new.unmarked;
     form = (new_form f h new).0;
   };
   laid = laid;
   records = λ key. get-empty key_cmp key ∙ ap (λ (m : Map). m key) (sym none);
   layout = new_layout f h new ∙ sym first;
+}
+
+-- it carries nothing
+no_side : (content : List (List ℕ)) (number : ℕ) (form : FileHead) (marked : Bool) (s : Span) → marked ≡ false → s ≡ record { start = 0; blocks = 0; first = 0; end = 0 } → HasSide content marked s number form no_images
+no_side content number form marked s off none = record {
+  on = sym off;
+  start = ap (λ (x : Span). x.start) none;
+  blocks = ap (λ (x : Span). x.blocks) none;
+  first = ap (λ (x : Span). x.first) none;
+  end = ap (λ (x : Span). x.end) none;
+  images = λ on. let both : true ≡ false = sym on ∙ off in let no : ⊥ = cc in absurd no;
+  bare = λ none. refl;
+  of = tt;
+  suited = tt;
+}
+
+new_carried : (content : List (List ℕ)) (number : ℕ) (f : Form) (h : FileHead) → IsNewHead f h → IsCarried content number h nothing_carried
+new_carried content number f h new = record {
+  after = no_side content number (form_of h) h.marks.ai h.ai new.carried.no_after new.carried.after;
+  before = no_side content number (form_of h) h.marks.bi h.bi new.carried.no_before new.carried.before;
+  since = sym new.carried.since;
+  save = subst (λ (m : Bool). HasSave content m h None) (sym new.carried.no_save) (new.carried.save_start, new.carried.save_buckets);
 }
 
 -- Its blocks.
@@ -117,4 +142,4 @@ some : (f : Form) (h : FileHead) → IsNewHead f h → 1 ≤ h.alloc * h.bucket
 some f h new = some_product h.alloc h.bucket new.some (let room = new.room in omega arith)
 
 pub makes_files : MakesFiles
-makes_files = record { form = new_form; file = new_file; blocks = λ f h new. ap (λ x. x * h.bucket) new.buckets; some = some }
+makes_files = record { form = new_form; file = new_file; carried = new_carried; blocks = λ f h new. ap (λ x. x * h.bucket) new.buckets; some = some }

@@ -1,5 +1,5 @@
 -- Files whose content, head or history becomes another.
-use Rattle.std.proofs.Common.{◌≡◌, ℕ, List, Option, Some, None, map, slice_set, refl, sym, ap, subst, ◌∙◌, arith, inl, inr}
+use Rattle.std.proofs.Common.{◌≡◌, ℕ, List, Bool, Option, Some, None, map, slice_set, refl, sym, ap, subst, ◌∙◌, arith, inl, inr}
 use Rattle.std.specs.Option.{option_map}
 use Rattle.std.specs.FinMap.{get}
 use Rattle.std.proofs.lemmas.Bool.{cases_eq}
@@ -10,12 +10,15 @@ use Rattle.file_base.specs.declared.head.Organization.TheVariants.{Sequential, R
 use Rattle.change_set.specs.Files.{SameFile}
 use Rattle.record_files.specs.Any as any
 use Rattle.record_files.specs.Any.{map_of, IsLaidOut}
+use Rattle.save_laws.specs.Saves.{KeepsSave}
+use Rattle.file_images.specs.Files.{HasSide, HasSave, form_of}
+use Rattle.file_images.proofs.Sides.{saves_follow, sides_follow}
 use Rattle.vms_model.specs.Keys.{Key}
 use Rattle.tree_model.specs.Layouts.{Layout}
 use Rattle.records_model.specs.History.{History, current}
 use Rattle.run_model.specs.World as world
-use Rattle.run_model.specs.World.{File}
-use Rattle.directory_model.specs.Files.{IsHeadOf, IsFile, IsPlace, AreFiles, head_at, file_at, carried_of, layout_of, organized_by}
+use Rattle.run_model.specs.World.{Carried, File}
+use Rattle.directory_model.specs.Files.{IsCarried, IsHeadOf, IsFile, IsPlace, AreFiles, StandsCarried, head_at, file_at, layout_of, organized_by}
 use Rattle.directory_model.specs.Laws.{SameBut}
 use Rattle.directory_model.proofs.Places.{file_mapped, within_list}
 use Rattle.directory_model.proofs.Standing.{place_stands}
@@ -38,7 +41,6 @@ head_moved h new file same form is = record {
   organization = is.organization ∙ organized_same h.organization h new same ∙ ap (λ (o : Kept). organized_by o new) (sym (same_organization h new same));
   start = is.start ∙ sym (ap (λ (x : FileHead). x.start) same.is);
   buckets = is.buckets ∙ sym (ap (λ (x : FileHead). x.alloc) same.is);
-  carried = is.carried ∙ ap carried_of (sym same.is);
   units = is.units ∙ sym (ap (λ (x : FileHead). x.marks.ru) same.is);
   form = form;
 }
@@ -52,7 +54,6 @@ head_again h file history layout is = record {
   organization = is.organization;
   start = is.start;
   buckets = is.buckets;
-  carried = is.carried;
   units = is.units;
   form = is.form;
 }
@@ -67,35 +68,66 @@ file_moved a b h new file history layout same form laid is records laid_so = rec
   layout = laid_so;
 }
 
-place_mapped : (a b : List (List ℕ)) (change : File → File) (o : Option FileHead) (p : Option File) → ((h : FileHead) (file : File) → o ≡ Some h → p ≡ Some file → IsFile a h file → IsFile b h (change file)) → IsPlace a o p → IsPlace b o (option_map change p)
-place_mapped a b change None None so is = tt
-place_mapped a b change None (Some file) so is = absurd is
-place_mapped a b change (Some h) None so is = absurd is
-place_mapped a b change (Some h) (Some file) so is = so h file refl refl is
+-- a file that carries something else
+pub file_carried : (content : List (List ℕ)) (h : FileHead) (file : File) (r : Carried) → IsFile content h file → IsFile content h (record file { carried = r })
+file_carried content h file r is = record {
+  head = record { name = is.head.name; bucket = is.head.bucket; record_size = is.head.record_size; organization = is.head.organization; start = is.head.start; buckets = is.head.buckets; units = is.head.units; form = is.head.form };
+  laid = is.laid;
+  records = is.records;
+  layout = is.layout;
+}
+
+-- a head that is the same file's has the same save
+save_kept : (h new : FileHead) → SameFile h new → KeepsSave h new
+save_kept h new same = record {
+  organization = ap (λ (x : FileHead). x.organization) same.is;
+  bucket = ap (λ (x : FileHead). x.bucket) same.is;
+  mrs = ap (λ (x : FileHead). x.mrs) same.is;
+  mrn = ap (λ (x : FileHead). x.mrn) same.is;
+  key_pos = ap (λ (x : FileHead). x.key_pos) same.is;
+  key_size = ap (λ (x : FileHead). x.key_size) same.is;
+  save = ap (λ (x : FileHead). x.save) same.is;
+}
+
+-- and carries the same, where that stands
+pub carried_moved : (a b : List (List ℕ)) (f : ℕ) (h new : FileHead) (r : Carried) → SameFile h new → StandsCarried h a b → IsCarried a f h r → IsCarried b f new r
+carried_moved a b f h new r same stands is = record {
+  after = subst (λ (k : FileHead). HasSide b k.marks.ai k.ai f (form_of k) r.after) (sym same.is) (sides_follow.stays a b h.marks.ai h.ai f (form_of h) r.after is.after stands.after);
+  before = subst (λ (k : FileHead). HasSide b k.marks.bi k.bi f (form_of k) r.before) (sym same.is) (sides_follow.stays a b h.marks.bi h.bi f (form_of h) r.before is.before stands.before);
+  since = is.since ∙ sym (ap (λ (x : FileHead). x.bi_since.0) same.is);
+  save = subst (λ (m : Bool). HasSave b m new r.save) (sym (ap (λ (x : FileHead). x.marks.save) same.is)) (saves_follow.stays a b h.marks.save h new r.save is.save (save_kept h new same) stands.save);
+}
+
+place_mapped : (a b : List (List ℕ)) (f : ℕ) (change : File → File) (o : Option FileHead) (p : Option File) → ((h : FileHead) (file : File) → o ≡ Some h → p ≡ Some file → IsFile a h file → IsCarried a f h file.carried → IsFile b h (change file) × IsCarried b f h (change file).carried) →
+    IsPlace a f o p → IsPlace b f o (option_map change p)
+place_mapped a b f change None None so is = tt
+place_mapped a b f change None (Some file) so is = absurd is
+place_mapped a b f change (Some h) None so is = absurd is
+place_mapped a b f change (Some h) (Some file) so is = so h file refl refl is.0 is.1
 
 -- the files of a directory in which each file was changed
 pub files_mapped : (a b : List (List ℕ)) (heads : List (Option FileHead)) (directory : List (Option File)) (change : File → File) → AreFiles a heads directory →
-    ((f : ℕ) (h : FileHead) (file : File) → head_at heads f ≡ Some h → file_at directory f ≡ Some file → IsFile a h file → IsFile b h (change file)) → AreFiles b heads (map (option_map change) directory)
+    ((f : ℕ) (h : FileHead) (file : File) → head_at heads f ≡ Some h → file_at directory f ≡ Some file → IsFile a h file → IsCarried a f h file.carried → IsFile b h (change file) × IsCarried b f h (change file).carried) → AreFiles b heads (map (option_map change) directory)
 files_mapped a b heads directory change are so = record {
   heads_long = are.heads_long;
   directory_long = length-map directory (option_map change) ∙ are.directory_long;
-  each = λ f. subst (λ x. IsPlace b (head_at heads f) x) (sym (file_mapped change directory f)) (place_mapped a b change (head_at heads f) (file_at directory f) (so f) (are.each f));
+  each = λ f. subst (λ x. IsPlace b f (head_at heads f) x) (sym (file_mapped change directory f)) (place_mapped a b f change (head_at heads f) (file_at directory f) (so f) (are.each f));
 }
 
 -- the files of one in which the file at a place was changed
-pub places_moved : (a b : List (List ℕ)) (heads : List (Option FileHead)) (directory : List (Option File)) (f : ℕ) (h new : FileHead) (file : File) → AreFiles a heads directory → head_at heads f ≡ Some h → IsFile b new file → SameBut f heads a b →
-    AreFiles b (slice_set heads f (Some new)) (slice_set directory f (Some file))
-places_moved a b heads directory f h new file are there is same = record {
+pub places_moved : (a b : List (List ℕ)) (heads : List (Option FileHead)) (directory : List (Option File)) (f : ℕ) (h new : FileHead) (file : File) → AreFiles a heads directory → head_at heads f ≡ Some h → IsFile b new file → IsCarried b f new file.carried →
+    SameBut f heads a b → AreFiles b (slice_set heads f (Some new)) (slice_set directory f (Some file))
+places_moved a b heads directory f h new file are there is carried same = record {
   heads_long = length-set heads f (Some new) ∙ are.heads_long;
   directory_long = length-set directory f (Some file) ∙ are.directory_long;
   each = λ g. elim (cases_eq g f) [
     | inl here ↦ let below = within_list heads f h there in let long = are.heads_long in let long_too = are.directory_long in
         let head : head_at (slice_set heads f (Some new)) f ≡ Some new = get_or-set_same heads f (Some new) None below in
         let now : file_at (slice_set directory f (Some file)) f ≡ Some file = get_or-set_same directory f (Some file) None (omega arith) in
-        subst (λ x. IsPlace b (head_at (slice_set heads f (Some new)) x) (file_at (slice_set directory f (Some file)) x)) (sym here)
-        (subst (λ o. IsPlace b o (file_at (slice_set directory f (Some file)) f)) (sym head) (subst (λ o. IsPlace b (Some new) o) (sym now) is))
-    | inr other ↦ subst (λ o. IsPlace b o (file_at (slice_set directory f (Some file)) g)) (sym (get_or-set_other heads f g (Some new) None other))
-        (subst (λ o. IsPlace b (head_at heads g) o) (sym (get_or-set_other directory f g (Some file) None other))
-        (place_stands a b (head_at heads g) (file_at directory g) (λ o head. same g o other head) (are.each g)))
+        subst (λ x. IsPlace b x (head_at (slice_set heads f (Some new)) x) (file_at (slice_set directory f (Some file)) x)) (sym here)
+        (subst (λ o. IsPlace b f o (file_at (slice_set directory f (Some file)) f)) (sym head) (subst (λ o. IsPlace b f (Some new) o) (sym now) (is, carried)))
+    | inr other ↦ subst (λ o. IsPlace b g o (file_at (slice_set directory f (Some file)) g)) (sym (get_or-set_other heads f g (Some new) None other))
+        (subst (λ o. IsPlace b g (head_at heads g) o) (sym (get_or-set_other directory f g (Some file) None other))
+        (place_stands a b g (head_at heads g) (file_at directory g) (λ o head. same g o other head) (are.each g)))
   ];
 }

@@ -5,6 +5,7 @@ use Rattle.file_base.specs.declared.head.FileHead.{FileHead}
 use Rattle.extents.specs.Extents.{IsFreeRun, all_extents, is_used, is_free}
 use Rattle.extents.proofs.Used.{covered, covering, free_is, is_free_block}
 use Rattle.run_model.specs.Extents.{Extent, is_taken, run_from, longest_run, lowest_run}
+use Rattle.extents.specs.declared.extent.Extent.{Extent as Area}
 use Rattle.run_model.specs.World.{Node, area_start, extents_of, longest_free, lowest_free}
 use Rattle.directory_model.specs.Files.{AreFiles}
 use Rattle.directory_model.specs.Laws.{FindsRuns, area_of}
@@ -154,3 +155,9 @@ finds_runs = record {
   none = λ content heads n area blocks are is one none. lowest_free_none content heads n are blocks one (subst (λ x. (start : ℕ) → IsFreeRun x (all_extents heads) start blocks → ⊥) is none);
   there = λ content heads n area blocks are is one few. subst (λ x. (start : ℕ) × IsFreeRun x (all_extents heads) start blocks) (sym is) (run_there content heads n are blocks one few);
 }
+
+-- a free run is no longer than the longest
+pub run_enough : (content : List (List ℕ)) (heads : List (Option FileHead)) (n : Node) (area : Area) (start blocks : ℕ) → AreFiles content heads n.durable.directory → area ≡ area_of n → IsFreeRun area (all_extents heads) start blocks → blocks ≤ longest_free n
+run_enough content heads n area start blocks are is run =
+    let lies = run_lies content heads n are start blocks (subst (λ x. IsFreeRun x (all_extents heads) start blocks) is run) in
+    longest_most (extents_of n.durable.directory) (area_start n) (n.blocks - area_start n) start blocks lies.0 lies.2 lies.3

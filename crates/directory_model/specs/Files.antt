@@ -1,17 +1,18 @@
 -- Which file of the world each file of a volume is.
-use Rattle.std.specs.Prelude.{◌≡◌, ℕ, ◌+◌, ◌<◌, ◌≤◌, ◌*◌, List, [], ◌∷◌, false, Option, Some, None, length, slice_set, slice_index_or, take}
+use Rattle.std.specs.Prelude.{◌≡◌, ℕ, ◌+◌, ◌<◌, ◌≤◌, ◌*◌, List, [], ◌∷◌, true, false, Option, Some, None, length, slice_set, slice_index_or, take}
 use Rattle.std.specs.FinMap.{get, entries}
 use Rattle.file_base.specs.declared.head.FileHead.{FileHead}
 use Rattle.file_base.specs.declared.head.Organization.{Organization as Kept}
 use Rattle.file_base.specs.declared.head.Organization.TheVariants as kept
-use Rattle.file_base.specs.declared.head.Span.{Span}
-use Rattle.file_base.specs.declared.head.Save.{Save}
 use Rattle.extents.specs.declared.extent.Extent.{Extent as Area}
 use Rattle.extents.specs.Extents.{FitsAt, all_extents}
 use Rattle.script_model.specs.Statements.{Form}
 use Rattle.script_model.specs.Statements as form
 use Rattle.run_model.specs.Answers.{buckets_for}
 use Rattle.careful_write.specs.State.{EachWhole}
+use Rattle.change_set.specs.Files.{AgreesOn}
+use Rattle.file_images.specs.Files.{HasSide, HasSave, SameRing, form_of}
+use Rattle.save_laws.specs.Saves.{save_head}
 use Rattle.record_files.specs.Any as any
 use Rattle.record_files.specs.Any.{map_of, IsLaidOut}
 use Rattle.vms_model.specs.Keys.{Key}
@@ -19,7 +20,7 @@ use Rattle.records_model.specs.Records.{Records}
 use Rattle.tree_model.specs.Layouts.{Layout}
 use Rattle.records_model.specs.History.{current}
 use Rattle.run_model.specs.World as world
-use Rattle.run_model.specs.World.{File, Organization, Carried, JournalSpan, SavedCopy, nothing_carried, find_file, with_file}
+use Rattle.run_model.specs.World.{File, Organization, Carried, find_file, with_file}
 
 -- Files of a volume and files of the world.
 
@@ -31,26 +32,6 @@ head_at heads f = slice_index_or heads f None
 abbrev pub file_at : List (Option File) → ℕ → Option File
 file_at directory f = slice_index_or directory f None
 
--- a journal of a head, as the world says it
-abbrev pub journal_of : Span → JournalSpan
-journal_of s = record { start = s.start; blocks = s.blocks; first = s.first; end = s.end }
-
--- a head's saved copy, as the world says it
-abbrev pub saved_copy_of : Save → SavedCopy
-saved_copy_of s = record { start = s.start; buckets = s.alloc; position = s.position; moment = s.moment.0; used = s.used; root = s.root; levels = s.levels; count = s.count }
-
--- what a head carries for its file's recovery, as the world says it
-abbrev pub carried_of : FileHead → Carried
-carried_of h = record {
-  keeps_after = h.marks.ai;
-  keeps_before = h.marks.bi;
-  is_saved = h.marks.save;
-  after = journal_of h.ai;
-  before = journal_of h.bi;
-  since = h.bi_since.0;
-  save = saved_copy_of h.save;
-}
-
 -- the layout of a head's file in this content
 abbrev pub layout_of : FileHead → List (List ℕ) → Layout
 layout_of h content = any.layout_of h content
@@ -61,7 +42,7 @@ organized_by kept.Sequential h = world.Sequential
 organized_by kept.Relative h = world.Relative h.mrn
 organized_by kept.Indexed h = world.Indexed h.key_pos h.key_size
 
--- A file of the world is the file of a head: it has its name, its sizes, its blocks and its mark, and carries for its recovery what the head does.
+-- A file of the world is the file of a head: it has its name, its sizes, its blocks and its mark.
 pub record IsHeadOf (h : FileHead) (file : File) : Type 0 where
   pub name : file.name ≡ h.name
   pub bucket : file.bucket ≡ h.bucket
@@ -69,7 +50,6 @@ pub record IsHeadOf (h : FileHead) (file : File) : Type 0 where
   pub organization : file.organization ≡ organized_by h.organization h
   pub start : file.start ≡ h.start
   pub buckets : file.buckets ≡ h.alloc
-  pub carried : file.carried ≡ carried_of h
   pub units : file.recovery_units ≡ h.marks.ru
   pub form : any.IsFile h
 
@@ -81,18 +61,36 @@ pub record IsFile (content : List (List ℕ)) (h : FileHead) (file : File) : Typ
   pub records : (key : Key) → get (current file.history) key ≡ map_of h content key
   pub layout : file.layout ≡ layout_of h content
 
+-- It carries for its recovery what the head of this number does: the rings have its journals, and the save's blocks its save.
+pub record IsCarried (content : List (List ℕ)) (f : ℕ) (h : FileHead) (r : Carried) : Type 0 where
+  pub after : HasSide content h.marks.ai h.ai f (form_of h) r.after
+  pub before : HasSide content h.marks.bi h.bi f (form_of h) r.before
+  pub since : r.since ≡ h.bi_since.0
+  pub save : HasSave content h.marks.save h r.save
+
 -- so of one file number: both have a file there, or neither has
-abbrev pub IsPlace : List (List ℕ) → Option FileHead → Option File → Type 0
-IsPlace content None None = Unit {0}
-IsPlace content None (Some file) = ⊥
-IsPlace content (Some h) None = ⊥
-IsPlace content (Some h) (Some file) = IsFile content h file
+abbrev pub IsPlace : List (List ℕ) → ℕ → Option FileHead → Option File → Type 0
+IsPlace content f None None = Unit {0}
+IsPlace content f None (Some file) = ⊥
+IsPlace content f (Some h) None = ⊥
+IsPlace content f (Some h) (Some file) = IsFile content h file × IsCarried content f h file.carried
 
 -- so of each of the 64 file numbers
 pub record AreFiles (content : List (List ℕ)) (heads : List (Option FileHead)) (directory : List (Option File)) : Type 0 where
   pub heads_long : length heads ≡ 64
   pub directory_long : length directory ≡ 64
-  pub each : (f : ℕ) → IsPlace content (head_at heads f) (file_at directory f)
+  pub each : (f : ℕ) → IsPlace content f (head_at heads f) (file_at directory f)
+
+-- What a head's file carries stands in another content, of whole blocks: the rings of its journals, and its save.
+pub record StandsCarried (h : FileHead) (a b : List (List ℕ)) : Type 0 where
+  pub after : h.marks.ai ≡ true → SameRing h.ai a b
+  pub before : h.marks.bi ≡ true → SameRing h.bi a b
+  pub save : h.marks.save ≡ true → AgreesOn (save_head h) a b
+
+-- and its buckets too
+pub record StandsIn (h : FileHead) (a b : List (List ℕ)) : Type 0 where
+  pub own : AgreesOn h a b
+  pub carried : StandsCarried h a b
 
 -- no file of a lower number has this name
 abbrev pub NoneNamed : List (Option FileHead) → ℕ → List ℕ → Type 0
@@ -120,6 +118,17 @@ IsOrganized (form.Sequential buckets) h = (h.organization ≡ kept.Sequential) �
 IsOrganized (form.Relative records) h = (h.organization ≡ kept.Relative) × (h.mrn ≡ records) × (h.used ≡ h.alloc) × (h.levels ≡ 0)
 IsOrganized (form.Indexed buckets position size) h = (h.organization ≡ kept.Indexed) × (h.key_pos ≡ position) × (h.key_size ≡ size) × (h.used ≡ 1) × (h.levels ≡ 1) × (1 ≤ size) × (size ≤ 64) × (position + size ≤ h.mrs)
 
+-- a head carries nothing for its file's recovery
+pub record CarriesNothing (h : FileHead) : Type 0 where
+  pub no_after : h.marks.ai ≡ false
+  pub no_before : h.marks.bi ≡ false
+  pub no_save : h.marks.save ≡ false
+  pub after : h.ai ≡ record { start = 0; blocks = 0; first = 0; end = 0 }
+  pub before : h.bi ≡ record { start = 0; blocks = 0; first = 0; end = 0 }
+  pub since : h.bi_since.0 ≡ 0
+  pub save_start : h.save.start ≡ 0
+  pub save_buckets : h.save.alloc ≡ 0
+
 -- The head of a file that is made by a form: it has the buckets that the form takes, is not marked for recovery units, and carries nothing for its recovery.
 pub record IsNewHead (f : Form) (h : FileHead) : Type 0 where
   pub organized : IsOrganized f h
@@ -130,7 +139,7 @@ pub record IsNewHead (f : Form) (h : FileHead) : Type 0 where
   pub root : h.root ≡ 0
   pub count : h.count ≡ 0
   pub unmarked : h.marks.ru ≡ false
-  pub carried : carried_of h ≡ nothing_carried
+  pub carried : CarriesNothing h
 
 -- each extent of the heads lies in an area behind block 518, and apart from those before it
 pub record Fit (area : Area) (heads : List (Option FileHead)) : Type 0 where

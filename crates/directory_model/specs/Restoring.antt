@@ -23,7 +23,7 @@ use Rattle.unit_laws.specs.Units.{map_in, earliest_before, with_before_images, H
 use Rattle.unit_laws.specs.Journal.{Journal}
 use Rattle.unit_laws.specs.Layouts.{layout_restored}
 use Rattle.run_model.specs.World.{File, IsPreparedUnit}
-use Rattle.directory_model.specs.Files.{IsHeadOf, head_at, file_at, layout_of}
+use Rattle.directory_model.specs.Files.{IsCarried, IsHeadOf, StandsCarried, head_at, file_at, layout_of}
 
 -- a slot but for its record
 abbrev pub bare : Slot → Slot
@@ -72,17 +72,18 @@ pub record IsLeft (content : List (List ℕ)) (h : FileHead) (file : File) : Typ
   pub own : IsLayoutOf h.organization file
   pub can : CanRestore h content file.history.live
 
-abbrev pub IsPlaceLeft : List (List ℕ) → Option FileHead → Option File → Type 0
-IsPlaceLeft content None None = Unit {0}
-IsPlaceLeft content None (Some file) = ⊥
-IsPlaceLeft content (Some h) None = ⊥
-IsPlaceLeft content (Some h) (Some file) = IsLeft content h file
+-- Its journals of images and its save are as they were.
+abbrev pub IsPlaceLeft : List (List ℕ) → ℕ → Option FileHead → Option File → Type 0
+IsPlaceLeft content f None None = Unit {0}
+IsPlaceLeft content f None (Some file) = ⊥
+IsPlaceLeft content f (Some h) None = ⊥
+IsPlaceLeft content f (Some h) (Some file) = IsLeft content h file × IsCarried content f h file.carried
 
 -- so of each of the 64 file numbers
 pub record AreLeft (content : List (List ℕ)) (heads : List (Option FileHead)) (directory : List (Option File)) : Type 0 where
   pub heads_long : length heads ≡ 64
   pub directory_long : length directory ≡ 64
-  pub each : (f : ℕ) → IsPlaceLeft content (head_at heads f) (file_at directory f)
+  pub each : (f : ℕ) → IsPlaceLeft content f (head_at heads f) (file_at directory f)
 
 -- what branches that are prepared changed in a file stands there as they left it
 abbrev pub StandsPrepared : Journal → List (List ℕ) → FileHead → File → Type 0
@@ -120,10 +121,11 @@ IsPlaceRestored serial a (Some h) (Some file) b (Some new) = IsRestored a h (cha
 IsPlaceRestored serial a None None b None = Unit {0}
 IsPlaceRestored serial a h file b new = ⊥
 
--- so in each file
+-- so in each file; what it carries for its recovery stands
 pub record AreRestored (serial : Id) (a : List (List ℕ)) (heads : List (Option FileHead)) (directory : List (Option File)) (b : List (List ℕ)) (new : List (Option FileHead)) : Type 0 where
   pub long : length new ≡ length heads
   pub each : (f : ℕ) → IsPlaceRestored serial a (head_at heads f) (file_at directory f) b (head_at new f)
+  pub carried : (f : ℕ) (h : FileHead) → head_at heads f ≡ Some h → StandsCarried h a b
 
 -- A group of an undo was applied to a file: each key that an unsettled branch changed has one of the images of its changes, all others have what they had,
 -- slots and rooms stay, and what is not restored yet can be.
@@ -140,6 +142,8 @@ IsPlaceGrouped a (Some h) (Some file) b (Some new) = IsGrouped a h file.history.
 IsPlaceGrouped a None None b None = Unit {0}
 IsPlaceGrouped a h file b new = ⊥
 
+-- so in each file; what it carries for its recovery stands
 pub record AreGrouped (a : List (List ℕ)) (heads : List (Option FileHead)) (directory : List (Option File)) (b : List (List ℕ)) (new : List (Option FileHead)) : Type 0 where
   pub long : length new ≡ length heads
   pub each : (f : ℕ) → IsPlaceGrouped a (head_at heads f) (file_at directory f) b (head_at new f)
+  pub carried : (f : ℕ) (h : FileHead) → head_at heads f ≡ Some h → StandsCarried h a b

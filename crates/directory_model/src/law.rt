@@ -1,5 +1,5 @@
 //! What the definitions promise.
-ghost use Rattle.directory_model.specs.Laws.{FindsFiles, FindsPlaces, FindsRuns, KeepsFiles, KeepsHeads, LieApart, MakesFiles, ReadsFiles, ShowsRecords, StandsOnExtents, TakesBlocks, WritesApart};
+ghost use Rattle.directory_model.specs.Laws.{EntersImages, FindsFiles, FindsPlaces, FindsRuns, KeepsFiles, KeepsHeads, LieApart, MakesFiles, ReadsFiles, ShowsRecords, StandsOnExtents, TakesBlocks, WritesApart};
 
 /// The world finds by a name the file that the volume finds by it: the one of the lowest number. Where the volume finds none, so does the world.
 pub fn files_are_found_by_name()
@@ -26,6 +26,12 @@ pub fn acts_keep_files()
     ensures { KeepsFiles }
 {}
 
+/// With an entry of images at the end of a file's journal the volume's file is the world's with that entry; so each act of the world is followed once its
+/// images are in the journals.
+pub fn images_are_entered()
+    ensures { EntersImages }
+{}
+
 /// The world's file tells what is asked of its records as the volume's file does.
 pub fn records_are_read_alike()
     ensures { ReadsFiles }
@@ -46,7 +52,8 @@ pub fn files_lie_apart()
     ensures { LieApart }
 {}
 
-/// What is written in one file's extent leaves the other files, and what is written in a free run or before the area leaves all.
+/// What is written in one file's buckets, journals or save leaves the other files and the rest of its own, and what is written in a free run or before the
+/// area leaves all.
 pub fn writes_stay_apart()
     ensures { WritesApart }
 {}

@@ -6,6 +6,7 @@ mod law;
 
 pub use law::{
     acts_keep_files, acts_keep_heads, blocks_are_taken_alike, files_are_found_by_name,
-    files_lie_apart, files_stand_on_their_extents, free_runs_are_found_alike, new_files_are_alike,
-    places_are_found_alike, records_are_read_alike, records_are_shown_in_order, writes_stay_apart,
+    files_lie_apart, files_stand_on_their_extents, free_runs_are_found_alike, images_are_entered,
+    new_files_are_alike, places_are_found_alike, records_are_read_alike,
+    records_are_shown_in_order, writes_stay_apart,
 };

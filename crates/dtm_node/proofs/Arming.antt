@@ -124,7 +124,7 @@ armed_order writes choice r h =
     let o = h.follows.order in
     record {
       follows = record {
-        order = record { idle = record { ready = record { fitting = o.idle.ready.fitting; settled = o.idle.ready.settled; closed = o.idle.ready.closed }; unstaged = o.idle.unstaged; current = o.idle.current }; frames = o.frames; heads = o.heads; sound = o.sound; holds = o.holds; least = o.least; most = o.most; ascends = o.ascends; room = o.room; within = o.within; few = o.few; slots = o.slots };
+        order = record { idle = record { ready = record { fitting = o.idle.ready.fitting; settled = o.idle.ready.settled; closed = o.idle.ready.closed }; unstaged = o.idle.unstaged; current = o.idle.current }; frames = o.frames; heads = o.heads; sound = o.sound; holds = o.holds; least = o.least; most = o.most; ascends = o.ascends; room = o.room; within = o.within; few = o.few; slots = o.slots; images = o.images };
         node = h.follows.node;
         branches = h.follows.branches;
         told = h.follows.told;

@@ -27,6 +27,7 @@ pub mod Reopening
 pub mod RequestTasks
 pub mod Requested
 pub mod Restarting
+pub mod RingRoom
 pub mod Rising
 pub mod SameNodes
 pub mod Simple

@@ -22,14 +22,14 @@ use Rattle.dtm_node.specs.declared.node.Place.TheVariants as code_place
 use Rattle.dtm_node.specs.Causes.{cause_of}
 use Rattle.node_requests.specs.Keeping.{PerformsRequest}
 use Rattle.dtm_node.specs.Nodes.{IsNode, IsPlaceOf, MayFall, fallen_place, kept_of}
-use Rattle.node_requests.specs.Requests.{DoesRequest, IsForUp, MayServe, SaysRequest, said_up}
+use Rattle.node_requests.specs.Requests.{DoesRequest, IsForUp, LacksMemory, MayServe, SaysRequest, said_up}
 use Rattle.node_requests.specs.Running.{name_of}
 use Rattle.node_requests.specs.Standing.{Kept, disk_of}
 use Rattle.node_requests.specs.Telling.{TellsTask}
 use Rattle.dtm_node.proofs.Falling.{told_up}
 use Rattle.dtm_node.proofs.NodeLemmas.{grown_more, kept_is_down, kept_is_up, may_serve, moved_grown}
 use Rattle.dtm_node.proofs.Performing.{kept_fallen, kept_up}
-use Rattle.dtm_node.proofs.RequestTasks.{down_answers, down_tells, request_breaks, request_fails, request_performs, request_tells}
+use Rattle.dtm_node.proofs.RequestTasks.{down_answers, down_tells, request_breaks, request_fails, request_lacks, request_performs, request_starves, request_tells}
 use Rattle.node_requests.proofs.SaysLemmas.{lines_calm}
 
 -- By no such request a volume may be made again that could not be made before.
@@ -105,6 +105,27 @@ module _ {D U : Type 0} (state : D → DiskState) (units : U → UnitsState) whe
 
         pub served_performs : (count : ℕ) → IsNode state units count s n → PerformsRequest request (kept_of state units n) s a b (kept_of state units (record n { place = code_place.Up new })) t
         served_performs count h = kept_so count h (λ k l. PerformsRequest request k s a b l t) (request_performs request asks n.clock.0 (up_of units r) (up_of units new) s t a b (told count h) does)
+
+      -- memory was lacking for it
+      module _ (lacks : LacksMemory request n.clock.0 (up_of units r) (up_of units new) s t a b) where
+        pub lacking_use : s.in_use ≡ true → t.in_use ≡ true
+        lacking_use used = ap (λ (x : SharedState). x.in_use) lacks.shared ∙ used
+
+        pub lacking_node : (count : ℕ) → IsNode state units count s n → IsNode state units (count + 1) t (record n { place = code_place.Up new })
+        lacking_node count h =
+            let p = at count h in
+            let up : IsUp (up_of units new) = lacks.keeps.up in
+            record {
+              place = (up, p.1 ∙ p.0.follows.node ∙ sym lacks.keeps.node ∙ sym up.follows.node, lacking_use p.2, p.3, moved_grown n.clock.0 count (up_of units r) (up_of units new) h.clock lacks.keeps.moved lacks.keeps.drawn.1 p.4);
+              clock = h.clock;
+            }
+
+        module _ (c : Shown) (shows : Emits b (line.NoMemory ∷ []) c) where
+          pub lacking_tells : (count : ℕ) → IsNode state units count s n → (ends : Bool) × TellsTask (Serves request) true ends (kept_of state units n) s a c (kept_of state units (record n { place = code_place.Up new })) t
+          lacking_tells count h = (true, kept_so count h (λ k l. TellsTask (Serves request) true true k s a c l t) (request_lacks request asks n.clock.0 (up_of units r) (up_of units new) s t a b c lacks shows))
+
+          pub lacking_performs : (count : ℕ) → IsNode state units count s n → PerformsRequest request (kept_of state units n) s a c (kept_of state units (record n { place = code_place.Up new })) t
+          lacking_performs count h = kept_so count h (λ k l. PerformsRequest request k s a c l t) (request_starves request asks n.clock.0 (up_of units r) (up_of units new) s t a b (told count h) c lacks shows)
 
       -- the disk went down in it
       module _ (e : Down) (does : DoesRequest {T = Unit {0}} (Err e) request n.clock.0 (up_of units r) (up_of units new) s t a b) where

@@ -10,7 +10,7 @@ use Rattle.transcript_model.specs.Outside.{Rose}
 use Rattle.transcript_model.specs.Lines as line
 use Rattle.transcript_model.specs.Lines.{Cause, Line}
 use Rattle.emitter_model.proofs.EmittingLemmas.{emits_on}
-use Rattle.run_model.specs.World.{Act, Arms, Boots, Changes, Clocks, ComesUp, Creates, Declares, Directs, Draws, Falls, Formats, Holds, Labels, Marks, Node, Numbers, Shared, Tables, acted, fallen}
+use Rattle.run_model.specs.World.{Act, Arms, Boots, Changes, Clocks, ComesUp, Creates, Declares, Directs, Draws, Falls, Formats, Holds, Labels, Marks, Node, Numbers, Recovers, Saves, Shared, Tables, acted, fallen}
 use Rattle.run_model.specs.Answers.{Row, Service, Task, refused_before_reading, task_service, touches}
 use Rattle.run_model.specs.Operations.{first_of, refused_if}
 use Rattle.run_model.specs.Steps.{NodeStep, act_begun, count_of, lines_of_rows, node_after, node_after_rows, rows_if, shared_after_rows}
@@ -23,7 +23,7 @@ use Rattle.dtm_node.specs.Causes.{cause_of}
 use Rattle.node_requests.specs.Keeping.{Performs}
 use Rattle.node_requests.specs.Running.{name_of}
 use Rattle.node_requests.specs.Standing.{IsDown, IsRunning, Kept, StandsFor, counts_of, disk_of, noted_all}
-use Rattle.dtm_node.proofs.Stepping.{IsPlain, step_cut, step_done, step_early, step_late}
+use Rattle.dtm_node.proofs.Stepping.{IsPlain, step_cut, step_done, step_early, step_lacking, step_late}
 
 -- what is kept of a node that is up, and of one that went down
 abbrev pub kept_up : List ℕ → ℕ → Up → Kept
@@ -59,7 +59,9 @@ acted_same (Clocks now) n l = let f : ⊥ = cc in absurd f
 acted_same Boots n l = record { name = refl; blocks = refl; clock = refl; unmade = refl; calls = refl }
 acted_same ComesUp n l = record { name = refl; blocks = refl; clock = refl; unmade = refl; calls = refl }
 acted_same (Creates place file) n l = record { name = refl; blocks = refl; clock = refl; unmade = refl; calls = refl }
-acted_same (Marks file units) n l = record { name = refl; blocks = refl; clock = refl; unmade = refl; calls = refl }
+acted_same (Marks file mark) n l = record { name = refl; blocks = refl; clock = refl; unmade = refl; calls = refl }
+acted_same (Saves file start) n l = record { name = refl; blocks = refl; clock = refl; unmade = refl; calls = refl }
+acted_same (Recovers file start buckets m) n l = record { name = refl; blocks = refl; clock = refl; unmade = refl; calls = refl }
 acted_same Draws n l = record { name = refl; blocks = refl; clock = refl; unmade = refl; calls = refl }
 acted_same (Labels label) n l = record { name = refl; blocks = refl; clock = refl; unmade = refl; calls = refl }
 acted_same (Numbers label serial) n l = record { name = refl; blocks = refl; clock = refl; unmade = refl; calls = refl }
@@ -150,6 +152,19 @@ module _ (log : CallLog) (s : Shared) (n : Node) (name : List ℕ) (clock : ℕ)
             → NodeStep s n (counts_of (disk_of old)) t [] w.refusal true n s (counts_of (disk_of new))
         go (inl early) = step_early s n t (counts_of (disk_of old)) (counts_of (disk_of new)) faults stops goes_on p w.refusal (before_here (task_service t) ∙ early)
         go (inr late) = step_late s n t (counts_of (disk_of old)) (counts_of (disk_of new)) faults stops goes_on p (before_here (task_service t) ∙ late.0) w.refusal late.1
+
+    -- memory was lacking
+    pub lacking_performs : (a b : Shown) → (task_service t).refused_before_reading s n ≡ None → (task_service t).takes_memory n ≡ true → StandsUp clock new n → IsShared after s → Emits a (line.NoMemory ∷ []) b → Performs log s n (counts_of (disk_of old)) t true true a b (kept_up name clock new) after
+    lacking_performs a b early takes up alike shows = record {
+      lines = [];
+      answer = line.NoMemory;
+      node = n;
+      shared = s;
+      step = step_lacking s n t (counts_of (disk_of old)) (counts_of (disk_of new)) faults stops goes_on p (before_here (task_service t) ∙ early) takes;
+      emits = shows;
+      alike = alike;
+      stands = stands_then n up (same_itself n);
+    }
 
     module _ (rest : AllByRecursion LeavesRest ((task_service t).rows s n)) where
       -- it was done whole, and answered so

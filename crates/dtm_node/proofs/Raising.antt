@@ -23,12 +23,16 @@ use Rattle.volume.specs.declared.catalog.Catalog.{Catalog}
 use Rattle.volume.specs.Catalogs.{IsSound, TellsCatalog}
 use Rattle.volume.specs.State.{VolumeState, Holds}
 use Rattle.run_model.specs.World.{Node, File, Carried, Boots, Volume, Sound, Faulty, Barred, Unknown, Bar, NoRing, NoIndex, AllBoots, LateMoment, FarPosition, Shared, acted, booted, fallen, prepared_left}
-use Rattle.run_model.specs.Answers.{Row, bar_line, bootable, boot_limit, images_end, last_position, left_active, moment_limit, position_limit, table_rows, unit_key}
+use Rattle.run_model.specs.Answers.{Row, bar_line, bootable, boot_limit, images_end as files_end, last_position, left_active, moment_limit, position_limit, table_rows, unit_key}
 use Rattle.run_model.specs.Operations.{first_of, refused_if}
 use Rattle.commit_protocol.specs.World.{undo_all}
+use Rattle.file_base.specs.declared.head.Span.{Span}
+use Rattle.file_images.specs.Files.{HasSide}
+use Rattle.recovery_model.specs.File.{ImageJournal}
 use Rattle.directory_model.specs.Files.{file_at, head_at}
 use Rattle.directory_model.specs.Restoring.{IsPlaceLeft}
-use Rattle.volume_model.specs.Bars.{ends_in, first_bar, is_in_ring, lowest_odd_root, no_block, odd_root, odd_root_by}
+use Rattle.image_room.specs.Room.{images_end}
+use Rattle.volume_model.specs.Bars.{first_bar, is_in_ring, lowest_odd_root, no_block, odd_root, odd_root_by, lowest_by, lowest_odd_ring, odd_span, units_block}
 use Rattle.volume_model.specs.Volumes.{HasBarred, HasDisk, IsEitherOf, IsLeftBy, LeavesVolume}
 use Rattle.world_laws.specs.Nodes.{AreKept, BootsKeepUp, IsKeptDisk}
 use Rattle.world_laws.proofs.UndoLemmas.{relocked_booted}
@@ -49,41 +53,41 @@ abbrev end_at : Option FileHead → ℕ
 end_at None = 0
 end_at (Some h) = max h.ai.end h.bi.end
 
-ends_more : (hs : List (Option FileHead)) (f : ℕ) → f < length hs → ends_in (take (suc f) hs) ≡ max (ends_in (take f hs)) (end_at (head_at hs f))
+ends_more : (hs : List (Option FileHead)) (f : ℕ) → f < length hs → images_end (take (suc f) hs) ≡ max (images_end (take f hs)) (end_at (head_at hs f))
 ends_more [] f below = absurd (omega (arith, below))
 ends_more (None ∷ hs) zero below = refl
 ends_more (Some h ∷ hs) zero below = omega arith
 ends_more (None ∷ hs) (suc f) below = ends_more hs f (omega (arith, below))
-ends_more (Some h ∷ hs) (suc f) below = ap (λ x. max (max h.ai.end h.bi.end) x) (ends_more hs f (omega (arith, below))) ∙ max_apart (max h.ai.end h.bi.end) (ends_in (take f hs)) (end_at (head_at hs f))
+ends_more (Some h ∷ hs) (suc f) below = ap (λ x. max (max h.ai.end h.bi.end) x) (ends_more hs f (omega (arith, below))) ∙ max_apart (max h.ai.end h.bi.end) (images_end (take f hs)) (end_at (head_at hs f))
 
 one_more : (f : ℕ) → suc f ≡ f + 1
 one_more f = omega arith
 
-pub ends_before : (hs : List (Option FileHead)) (f last end : ℕ) → f < length hs → head_at hs f ≡ None → last ≡ max end (ends_in (take f hs)) → last ≡ max end (ends_in (take (f + 1) hs))
-ends_before hs f last end below none is = let more = sym (ap (λ x. ends_in (take x hs)) (one_more f)) ∙ ends_more hs f below ∙ ap (λ (o : Option FileHead). max (ends_in (take f hs)) (end_at o)) none in omega (arith, more, is)
+pub ends_before : (hs : List (Option FileHead)) (f last end : ℕ) → f < length hs → head_at hs f ≡ None → last ≡ max end (images_end (take f hs)) → last ≡ max end (images_end (take (f + 1) hs))
+ends_before hs f last end below none is = let more = sym (ap (λ x. images_end (take x hs)) (one_more f)) ∙ ends_more hs f below ∙ ap (λ (o : Option FileHead). max (images_end (take f hs)) (end_at o)) none in omega (arith, more, is)
 
-pub ends_with : (hs : List (Option FileHead)) (f last end : ℕ) (h : FileHead) → f < length hs → head_at hs f ≡ Some h → last ≡ max end (ends_in (take f hs)) → max (max last h.ai.end) h.bi.end ≡ max end (ends_in (take (f + 1) hs))
-ends_with hs f last end h below there is = let more = sym (ap (λ x. ends_in (take x hs)) (one_more f)) ∙ ends_more hs f below ∙ ap (λ (o : Option FileHead). max (ends_in (take f hs)) (end_at o)) there in omega (arith, more, is)
+pub ends_with : (hs : List (Option FileHead)) (f last end : ℕ) (h : FileHead) → f < length hs → head_at hs f ≡ Some h → last ≡ max end (images_end (take f hs)) → max (max last h.ai.end) h.bi.end ≡ max end (images_end (take (f + 1) hs))
+ends_with hs f last end h below there is = let more = sym (ap (λ x. images_end (take x hs)) (one_more f)) ∙ ends_more hs f below ∙ ap (λ (o : Option FileHead). max (images_end (take f hs)) (end_at o)) there in omega (arith, more, is)
 
-pub ends_whole : (hs : List (Option FileHead)) (f : ℕ) → f ≡ length hs → ends_in (take f hs) ≡ ends_in hs
-ends_whole hs f is = ap (λ x. ends_in (take x hs)) is ∙ ap ends_in (take-length hs)
+pub ends_whole : (hs : List (Option FileHead)) (f : ℕ) → f ≡ length hs → images_end (take f hs) ≡ images_end hs
+ends_whole hs f is = ap (λ x. images_end (take x hs)) is ∙ ap images_end (take-length hs)
 
 -- the files carry what their heads do
-ends_same : (c : Content) (hs : List (Option FileHead)) (fs : List (Option File)) → length hs ≡ length fs → ((f : ℕ) → IsPlaceLeft c (head_at hs f) (file_at fs f)) → images_end fs ≡ ends_in hs
-ends_same c [] [] long each = refl
-ends_same c [] (g ∷ fs) long each = let none : ⊥ = cc in absurd none
-ends_same c (h ∷ hs) [] long each = let none : ⊥ = cc in absurd none
-ends_same c (None ∷ hs) (None ∷ fs) long each = ends_same c hs fs (omega (arith, long)) (λ f. each (suc f))
-ends_same c (None ∷ hs) (Some g ∷ fs) long each = absurd (each 0)
-ends_same c (Some h ∷ hs) (None ∷ fs) long each = absurd (each 0)
-ends_same c (Some h ∷ hs) (Some g ∷ fs) long each =
-    let carried = (each 0).head.carried in
-    let rest = ends_same c hs fs (omega (arith, long)) (λ f. each (suc f)) in
-    ap (λ (k : Carried). max (max k.after.end k.before.end) (images_end fs)) carried ∙ ap (λ x. max (max h.ai.end h.bi.end) x) rest
+ends_same : (c : Content) (number : ℕ → ℕ) (hs : List (Option FileHead)) (fs : List (Option File)) → length hs ≡ length fs → ((f : ℕ) → IsPlaceLeft c (number f) (head_at hs f) (file_at fs f)) → files_end fs ≡ images_end hs
+ends_same c number [] [] long each = refl
+ends_same c number [] (g ∷ fs) long each = let none : ⊥ = cc in absurd none
+ends_same c number (h ∷ hs) [] long each = let none : ⊥ = cc in absurd none
+ends_same c number (None ∷ hs) (None ∷ fs) long each = ends_same c (λ f. number (suc f)) hs fs (omega (arith, long)) (λ f. each (suc f))
+ends_same c number (None ∷ hs) (Some g ∷ fs) long each = absurd (each 0)
+ends_same c number (Some h ∷ hs) (None ∷ fs) long each = absurd (each 0)
+ends_same c number (Some h ∷ hs) (Some g ∷ fs) long each =
+    let carried = (each 0).1 in
+    let rest = ends_same c (λ f. number (suc f)) hs fs (omega (arith, long)) (λ f. each (suc f)) in
+    λ i. max (max (sym carried.after.end i) (sym carried.before.end i)) (rest i)
 
-pub position_is : (c : Content) (v : Catalog) (n : Node) → LeavesVolume c v n → last_position n ≡ max v.ru.end (ends_in v.heads)
+pub position_is : (c : Content) (v : Catalog) (n : Node) → LeavesVolume c v n → last_position n ≡ max v.ru.end (images_end v.heads)
 position_is c v n h =
-    λ i. max (sym h.journal.end i) (ends_same c v.heads n.durable.directory (h.files.heads_long ∙ sym h.files.directory_long) h.files.each i)
+    λ i. max (sym h.journal.end i) (ends_same c (λ f. f) v.heads n.durable.directory (h.files.heads_long ∙ sym h.files.directory_long) h.files.each i)
 
 -- the journal of a volume that a node left lies in its ring
 both_true : (a b c : Bool) → a ≡ true → b ≡ true → c ≡ true → (a && (b && c)) ≡ true
@@ -122,47 +126,79 @@ no_odd_root Indexed h c form laid = go (h.levels == 1) (h.used == 1) refl refl
     go false true a b = absurd (other_number h.levels 1 a (tells.one_bucket (same_number h.used 1 b)))
     go false false a b = refl
 
-no_odd_roots : (c : Content) (hs : List (Option FileHead)) (fs : List (Option File)) → length hs ≡ length fs → ((f : ℕ) → IsPlaceLeft c (head_at hs f) (file_at fs f)) → lowest_odd_root hs ≡ no_block
-no_odd_roots c [] [] long each = refl
-no_odd_roots c [] (g ∷ fs) long each = let none : ⊥ = cc in absurd none
-no_odd_roots c (h ∷ hs) [] long each = let none : ⊥ = cc in absurd none
-no_odd_roots c (None ∷ hs) (None ∷ fs) long each = no_odd_roots c hs fs (omega (arith, long)) (λ f. each (suc f))
-no_odd_roots c (None ∷ hs) (Some g ∷ fs) long each = absurd (each 0)
-no_odd_roots c (Some h ∷ hs) (None ∷ fs) long each = absurd (each 0)
-no_odd_roots c (Some h ∷ hs) (Some g ∷ fs) long each =
-    let left = each 0 in
+no_odd_roots : (c : Content) (number : ℕ → ℕ) (hs : List (Option FileHead)) (fs : List (Option File)) → length hs ≡ length fs → ((f : ℕ) → IsPlaceLeft c (number f) (head_at hs f) (file_at fs f)) → lowest_odd_root hs ≡ no_block
+no_odd_roots c number [] [] long each = refl
+no_odd_roots c number [] (g ∷ fs) long each = let none : ⊥ = cc in absurd none
+no_odd_roots c number (h ∷ hs) [] long each = let none : ⊥ = cc in absurd none
+no_odd_roots c number (None ∷ hs) (None ∷ fs) long each = no_odd_roots c (λ f. number (suc f)) hs fs (omega (arith, long)) (λ f. each (suc f))
+no_odd_roots c number (None ∷ hs) (Some g ∷ fs) long each = absurd (each 0)
+no_odd_roots c number (Some h ∷ hs) (None ∷ fs) long each = absurd (each 0)
+no_odd_roots c number (Some h ∷ hs) (Some g ∷ fs) long each =
+    let left = (each 0).0 in
     let own = no_odd_root h.organization h c left.head.form left.laid in
-    let rest = no_odd_roots c hs fs (omega (arith, long)) (λ f. each (suc f)) in
+    let rest = no_odd_roots c (λ f. number (suc f)) hs fs (omega (arith, long)) (λ f. each (suc f)) in
     omega (arith, own, rest)
 
 left_indexed : (c : Content) (v : Catalog) (n : Node) → LeavesVolume c v n → nat_lt (lowest_odd_root v.heads) no_block ≡ false
-left_indexed c v n h = ap (λ x. nat_lt x no_block) (no_odd_roots c v.heads n.durable.directory (h.files.heads_long ∙ sym h.files.directory_long) h.files.each)
+left_indexed c v n h = ap (λ x. nat_lt x no_block) (no_odd_roots c (λ f. f) v.heads n.durable.directory (h.files.heads_long ∙ sym h.files.directory_long) h.files.each)
 
--- the roots of a volume, file by file
-abbrev root_at : Option FileHead → ℕ
-root_at None = no_block
-root_at (Some h) = odd_root h
+-- The journals of images that files have lie in their rings.
 
-pub roots_more : (hs : List (Option FileHead)) (f : ℕ) → f < length hs → lowest_odd_root (take (suc f) hs) ≡ min (lowest_odd_root (take f hs)) (root_at (head_at hs f))
-roots_more [] f below = absurd (omega (arith, below))
-roots_more (None ∷ hs) zero below = refl
-roots_more (Some h ∷ hs) zero below = omega arith
-roots_more (None ∷ hs) (suc f) below = roots_more hs f (omega (arith, below))
-roots_more (Some h ∷ hs) (suc f) below = ap (λ x. min (odd_root h) x) (roots_more hs f (omega (arith, below))) ∙ min_apart (odd_root h) (lowest_odd_root (take f hs)) (root_at (head_at hs f))
-  where
-    min_apart : (a b c : ℕ) → min a (min b c) ≡ min (min a b) c
-    min_apart a b c = omega arith
+both_within : (a b : Bool) → a ≡ true → b ≡ true → (a && b) ≡ true
+both_within true true p q = refl
+both_within true false p q = q
+both_within false b p q = let none : ⊥ = cc in absurd none
 
-pub roots_before : (hs : List (Option FileHead)) (f lowest : ℕ) → f < length hs → head_at hs f ≡ None → lowest ≡ lowest_odd_root (take f hs) → lowest ≤ no_block → lowest ≡ lowest_odd_root (take (f + 1) hs)
-roots_before hs f lowest below none is most =
-    let more = sym (ap (λ x. lowest_odd_root (take x hs)) (one_more f)) ∙ roots_more hs f below ∙ ap (λ (o : Option FileHead). min (lowest_odd_root (take f hs)) (root_at o)) none in omega (arith, more, is, most)
+no_odd_span : (c : Content) (marked : Bool) (s : Span) (f : ℕ) (k : FileHead) (j : ImageJournal) → HasSide c marked s f k j → odd_span marked s ≡ no_block
+no_odd_span c false s f k j h = refl
+no_odd_span c true s f k j h =
+    let spelled = (h.images refl).spelled in
+    ap (λ t. if t then no_block else s.start) (both_within (nat_le s.first s.end) (nat_le (s.end - s.first) (ring_size s)) (le_true s.first s.end spelled.order) (le_true (s.end - s.first) (ring_size s) spelled.room))
 
-pub roots_with : (hs : List (Option FileHead)) (f lowest : ℕ) (h : FileHead) → f < length hs → head_at hs f ≡ Some h → lowest ≡ lowest_odd_root (take f hs) → min lowest (odd_root h) ≡ lowest_odd_root (take (f + 1) hs)
-roots_with hs f lowest h below there is =
-    let more = sym (ap (λ x. lowest_odd_root (take x hs)) (one_more f)) ∙ roots_more hs f below ∙ ap (λ (o : Option FileHead). min (lowest_odd_root (take f hs)) (root_at o)) there in omega (arith, more, is)
+no_odd_rings : (c : Content) (number : ℕ → ℕ) (hs : List (Option FileHead)) (fs : List (Option File)) → length hs ≡ length fs → ((f : ℕ) → IsPlaceLeft c (number f) (head_at hs f) (file_at fs f)) → lowest_odd_ring hs ≡ no_block
+no_odd_rings c number [] [] long each = refl
+no_odd_rings c number [] (g ∷ fs) long each = let none : ⊥ = cc in absurd none
+no_odd_rings c number (h ∷ hs) [] long each = let none : ⊥ = cc in absurd none
+no_odd_rings c number (None ∷ hs) (None ∷ fs) long each = no_odd_rings c (λ f. number (suc f)) hs fs (omega (arith, long)) (λ f. each (suc f))
+no_odd_rings c number (None ∷ hs) (Some g ∷ fs) long each = absurd (each 0)
+no_odd_rings c number (Some h ∷ hs) (None ∷ fs) long each = absurd (each 0)
+no_odd_rings c number (Some h ∷ hs) (Some g ∷ fs) long each =
+    let carried = (each 0).1 in
+    let a = no_odd_span c h.marks.ai h.ai (number 0) _ _ carried.after in
+    let b = no_odd_span c h.marks.bi h.bi (number 0) _ _ carried.before in
+    let rest = no_odd_rings c (λ f. number (suc f)) hs fs (omega (arith, long)) (λ f. each (suc f)) in
+    omega (arith, a, b, rest)
 
-pub roots_whole : (hs : List (Option FileHead)) (f : ℕ) → f ≡ length hs → lowest_odd_root (take f hs) ≡ lowest_odd_root hs
-roots_whole hs f is = ap (λ x. lowest_odd_root (take x hs)) is ∙ ap lowest_odd_root (take-length hs)
+left_within : (c : Content) (v : Catalog) (n : Node) → LeavesVolume c v n → nat_lt (lowest_odd_ring v.heads) no_block ≡ false
+left_within c v n h = ap (λ x. nat_lt x no_block) (no_odd_rings c (λ f. f) v.heads n.durable.directory (h.files.heads_long ∙ sym h.files.directory_long) h.files.each)
+
+-- The lowest of some blocks of a volume's files, file by file.
+
+module _ (block : FileHead → ℕ) where
+  abbrev block_at : Option FileHead → ℕ
+  block_at None = no_block
+  block_at (Some h) = block h
+
+  lowest_more : (hs : List (Option FileHead)) (f : ℕ) → f < length hs → lowest_by block (take (suc f) hs) ≡ min (lowest_by block (take f hs)) (block_at (head_at hs f))
+  lowest_more [] f below = absurd (omega (arith, below))
+  lowest_more (None ∷ hs) zero below = refl
+  lowest_more (Some h ∷ hs) zero below = omega arith
+  lowest_more (None ∷ hs) (suc f) below = lowest_more hs f (omega (arith, below))
+  lowest_more (Some h ∷ hs) (suc f) below = ap (λ x. min (block h) x) (lowest_more hs f (omega (arith, below))) ∙ min_apart (block h) (lowest_by block (take f hs)) (block_at (head_at hs f))
+    where
+      min_apart : (a b c : ℕ) → min a (min b c) ≡ min (min a b) c
+      min_apart a b c = omega arith
+
+  pub lowest_before : (hs : List (Option FileHead)) (f lowest : ℕ) → f < length hs → head_at hs f ≡ None → lowest ≡ lowest_by block (take f hs) → lowest ≤ no_block → lowest ≡ lowest_by block (take (f + 1) hs)
+  lowest_before hs f lowest below none is most =
+      let more = sym (ap (λ x. lowest_by block (take x hs)) (one_more f)) ∙ lowest_more hs f below ∙ ap (λ (o : Option FileHead). min (lowest_by block (take f hs)) (block_at o)) none in omega (arith, more, is, most)
+
+  pub lowest_with : (hs : List (Option FileHead)) (f lowest : ℕ) (h : FileHead) → f < length hs → head_at hs f ≡ Some h → lowest ≡ lowest_by block (take f hs) → min lowest (block h) ≡ lowest_by block (take (f + 1) hs)
+  lowest_with hs f lowest h below there is =
+      let more = sym (ap (λ x. lowest_by block (take x hs)) (one_more f)) ∙ lowest_more hs f below ∙ ap (λ (o : Option FileHead). min (lowest_by block (take f hs)) (block_at o)) there in omega (arith, more, is)
+
+  pub lowest_whole : (hs : List (Option FileHead)) (f : ℕ) → f ≡ length hs → lowest_by block (take f hs) ≡ lowest_by block hs
+  lowest_whole hs f is = ap (λ x. lowest_by block (take x hs)) is ∙ ap (lowest_by block) (take-length hs)
 
 -- What refuses the boot: the first of the bars.
 
@@ -170,27 +206,28 @@ abbrev refused_by : (boot greatest last : ℕ) → Option Line
 refused_by boot greatest last = first_of (refused_if (boot == boot_limit) (line.QuotaExceeded line.Boots boot_limit))
     (first_of (refused_if (nat_lt moment_limit greatest) (line.QuotaExceeded line.Moments moment_limit)) (refused_if (nat_lt position_limit last) (line.QuotaExceeded line.Positions position_limit)))
 
-abbrev bar_among : (ring odd : Bool) (root : ℕ) (boots late far : Bool) → Option Bar
-bar_among ring odd root boots late far =
-    if ring then (if odd then Some (NoIndex root) else (if boots then Some AllBoots else (if late then Some LateMoment else (if far then Some FarPosition else None)))) else Some NoRing
+abbrev bar_among : (ring loose : Bool) (journal : ℕ) (odd : Bool) (root : ℕ) (boots late far : Bool) → Option Bar
+bar_among ring loose journal odd root boots late far =
+    if ring then (if loose then Some (NoRing journal) else (if odd then Some (NoIndex root) else (if boots then Some AllBoots else (if late then Some LateMoment else (if far then Some FarPosition else None))))) else Some (NoRing units_block)
 
-bars_refuse : (name : List ℕ) (ring odd : Bool) (root : ℕ) (boots late far : Bool) → ring ≡ true → odd ≡ false → option_map (bar_line name) (bar_among ring odd root boots late far)
+bars_refuse : (name : List ℕ) (ring loose : Bool) (journal : ℕ) (odd : Bool) (root : ℕ) (boots late far : Bool) → ring ≡ true → loose ≡ false → odd ≡ false → option_map (bar_line name) (bar_among ring loose journal odd root boots late far)
     ≡ first_of (refused_if boots (line.QuotaExceeded line.Boots boot_limit)) (first_of (refused_if late (line.QuotaExceeded line.Moments moment_limit)) (refused_if far (line.QuotaExceeded line.Positions position_limit)))
-bars_refuse name true false root true late far e k = refl
-bars_refuse name true false root false true far e k = refl
-bars_refuse name true false root false false true e k = refl
-bars_refuse name true false root false false false e k = refl
-bars_refuse name true true root boots late far e k = let none : ⊥ = cc in absurd none
-bars_refuse name false odd root boots late far e k = let none : ⊥ = cc in absurd none
+bars_refuse name true false journal false root true late far e l k = refl
+bars_refuse name true false journal false root false true far e l k = refl
+bars_refuse name true false journal false root false false true e l k = refl
+bars_refuse name true false journal false root false false false e l k = refl
+bars_refuse name true false journal true root boots late far e l k = let none : ⊥ = cc in absurd none
+bars_refuse name true true journal odd root boots late far e l k = let none : ⊥ = cc in absurd none
+bars_refuse name false loose journal odd root boots late far e l k = let none : ⊥ = cc in absurd none
 
 -- which of them is so
-pub bar_of : (v : Catalog) (ring odd boots late far : Bool) → is_in_ring v.ru ≡ ring → nat_lt (lowest_odd_root v.heads) no_block ≡ odd → (v.home.boot == boot_limit) ≡ boots → nat_lt moment_limit v.home.greatest_moment.0 ≡ late
-    → nat_lt position_limit (max v.ru.end (ends_in v.heads)) ≡ far → bar_among ring odd (lowest_odd_root v.heads) boots late far ≡ first_bar v
-bar_of v ring odd boots late far r o b l f = λ i. bar_among (sym r i) (sym o i) (lowest_odd_root v.heads) (sym b i) (sym l i) (sym f i)
+pub bar_of : (v : Catalog) (ring loose odd boots late far : Bool) → is_in_ring v.ru ≡ ring → nat_lt (lowest_odd_ring v.heads) no_block ≡ loose → nat_lt (lowest_odd_root v.heads) no_block ≡ odd → (v.home.boot == boot_limit) ≡ boots → nat_lt moment_limit v.home.greatest_moment.0 ≡ late
+    → nat_lt position_limit (max v.ru.end (images_end v.heads)) ≡ far → bar_among ring loose (lowest_odd_ring v.heads) odd (lowest_odd_root v.heads) boots late far ≡ first_bar v
+bar_of v ring loose odd boots late far r j o b l f = λ i. bar_among (sym r i) (sym j i) (lowest_odd_ring v.heads) (sym o i) (lowest_odd_root v.heads) (sym b i) (sym l i) (sym f i)
 
-pub bar_without_ring : (v : Catalog) → is_in_ring v.ru ≡ false → Some NoRing ≡ first_bar v
+pub bar_without_ring : (v : Catalog) → is_in_ring v.ru ≡ false → Some (NoRing units_block) ≡ first_bar v
 bar_without_ring v r =
-    bar_of v false (nat_lt (lowest_odd_root v.heads) no_block) (v.home.boot == boot_limit) (nat_lt moment_limit v.home.greatest_moment.0) (nat_lt position_limit (max v.ru.end (ends_in v.heads))) r refl refl refl refl
+    bar_of v false (nat_lt (lowest_odd_ring v.heads) no_block) (nat_lt (lowest_odd_root v.heads) no_block) (v.home.boot == boot_limit) (nat_lt moment_limit v.home.greatest_moment.0) (nat_lt position_limit (max v.ru.end (images_end v.heads))) r refl refl refl refl refl
 
 bootable_sound : (n : Node) → n.durable.volume ≡ Sound → bootable n ≡ refused_by n.durable.boot n.durable.greatest (last_position n)
 bootable_sound n e = rw e refl
@@ -207,7 +244,7 @@ module _ (v : VolumeState) (n : Node) (wide : IsWide v.catalog.ru) (m : IsMounte
           let l = h wide in
           bootable_sound n e
           ∙ (λ i. refused_by (l.home.boot i) (l.home.greatest i) (position_is m.content v.catalog n l i))
-          ∙ sym (bars_refuse v.catalog.home.node (is_in_ring v.catalog.ru) (nat_lt (lowest_odd_root v.catalog.heads) no_block) (lowest_odd_root v.catalog.heads) (v.catalog.home.boot == boot_limit) (nat_lt moment_limit v.catalog.home.greatest_moment.0) (nat_lt position_limit (max v.catalog.ru.end (ends_in v.catalog.heads))) (left_in_ring m.content v.catalog n l) (left_indexed m.content v.catalog n l))
+          ∙ sym (bars_refuse v.catalog.home.node (is_in_ring v.catalog.ru) (nat_lt (lowest_odd_ring v.catalog.heads) no_block) (lowest_odd_ring v.catalog.heads) (nat_lt (lowest_odd_root v.catalog.heads) no_block) (lowest_odd_root v.catalog.heads) (v.catalog.home.boot == boot_limit) (nat_lt moment_limit v.catalog.home.greatest_moment.0) (nat_lt position_limit (max v.catalog.ru.end (images_end v.catalog.heads))) (left_in_ring m.content v.catalog n l) (left_within m.content v.catalog n l) (left_indexed m.content v.catalog n l))
       go (Faulty condition block) e h = absurd h
       go (Barred bar) e h = bootable_barred n bar e ∙ (λ i. Some (bar_line (m.booting.name_is i) bar)) ∙ sym (ap (option_map (bar_line v.catalog.home.node)) (h wide))
       go Unknown e h = absurd h

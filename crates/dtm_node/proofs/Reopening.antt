@@ -17,7 +17,7 @@ use Rattle.run_model.specs.World.{Node}
 use Rattle.recovery_units.specs.Calls.{MayBegin, ReopensErr, ReopensOk}
 use Rattle.recovery_units.specs.State.{AreOfBranches, HasNoUnit, IsEarly, IsInOrder, UnitsState}
 use Rattle.recovery_units.specs.Told.{ReopenedTold}
-use Rattle.recovery_units.specs.Uses.{Caused, Grows}
+use Rattle.recovery_units.specs.Uses.{Caused, Grows, ImagesGrow}
 use Rattle.recovery_units.specs.declared.settled.SettledUnit.{SettledUnit}
 use Rattle.node_table.specs.Growing.{groups_left}
 use Rattle.node_table.specs.Running.{IsBooted}
@@ -29,7 +29,7 @@ use Rattle.change_set.specs.Files.{free_frames}
 
 -- its numbers that only grow are low
 pub raised_early : (name : List ℕ) (v : VolumeState) → IsRaised name v → IsEarly v
-raised_early name v h = let greatest = h.greatest in let end = h.end in record { low = omega (arith, end); moment = omega (arith, greatest) }
+raised_early name v h = let greatest = h.greatest in let end = h.end in let images = h.images in record { low = omega (arith, end); moment = omega (arith, greatest); images = omega (arith, images) }
 
 -- the moments of what was undone can be shown
 times_by : (us : List SettledUnit) (most : ℕ) → most < 24000001000067 → AllByRecursion (λ (u : SettledUnit). u.moment.0 ≤ most) us → AllByRecursion (λ (u : SettledUnit). u.moment.0 < 24000001000067) us
@@ -63,11 +63,11 @@ three_shown a b c d x y z f g h = emits_on a b d x (y ++ z) f (emits_on b c d y 
 
 module _ (name : List ℕ) (clock : ℕ) (v w : VolumeState) (t : UnitsState) (told : ReopenedTold) (raised : IsRaised name v) (early : clock ≤ 24000000000000) (grows : Grows 64 (clock + 64) v w) where
   -- the node is up
-  pub reopened_up : (doubt ids : List Id) (st : Stored) (tm : Tm) (drawn : ℕ) (rms : List Name) (boot : ℕ) (a b : Shown) → w.catalog.home.greatest_moment.0 + length t.begun ≤ max v.catalog.home.greatest_moment.0 clock + 64 → IsInOrder t w → AreOfBranches t.begun (branches_of (map log_record_of told.prepared)) → MayBegin told t.log → ReopensOk clock told v t w
+  pub reopened_up : (doubt ids : List Id) (st : Stored) (tm : Tm) (drawn : ℕ) (rms : List Name) (boot : ℕ) (a b : Shown) → w.catalog.home.greatest_moment.0 + length t.begun ≤ max v.catalog.home.greatest_moment.0 clock + 64 → ImagesGrow v w → IsInOrder t w → AreOfBranches t.begun (branches_of (map log_record_of told.prepared)) → MayBegin told t.log → ReopensOk clock told v t w
       → st ≡ record { volume = w; units = t; in_doubt = ids } → drawn ≡ 0 → boot ≡ st.volume.catalog.home.boot → IsUp (record { stored = st; tm = tm; drawn = drawn; declared = rms })
       → ((c : ℕ) (n : Node) → IsBooted c told (record { volume = w; units = t; in_doubt = doubt }) n → StandsUp c (record { stored = st; tm = tm; drawn = drawn; declared = rms }) n)
       → Emits a (last_lines_of v.catalog.home ++ (map undone_line told.settled ++ map prepared_told told.prepared)) b → ReopensUp clock v boot (record { stored = st; tm = tm; drawn = drawn; declared = rms }) a b
-  reopened_up doubt ids st tm drawn rms boot a b room order units begins done is none boot_is up stands shows =
+  reopened_up doubt ids st tm drawn rms boot a b room images order units begins done is none boot_is up stands shows =
       subst (λ (x : Stored). boot ≡ x.volume.catalog.home.boot → IsUp (record { stored = x; tm = tm; drawn = drawn; declared = rms }) → ((c : ℕ) (n : Node) → IsBooted c told (record { volume = w; units = t; in_doubt = doubt }) n → StandsUp c (record { stored = x; tm = tm; drawn = drawn; declared = rms }) n)
       → ReopensUp clock v boot (record { stored = x; tm = tm; drawn = drawn; declared = rms }) a b) (sym is) here boot_is up stands
     where
@@ -82,9 +82,10 @@ module _ (name : List ℕ) (clock : ℕ) (v w : VolumeState) (t : UnitsState) (t
             let greatest = raised.greatest in
             let end = raised.end in
             let more = grows.end in
+            let far = raised.images in
             let groups = groups_few t.begun in
             let few = order.few in
-            record { moment = omega (arith, room, greatest, early); end = omega (arith, end, more, groups, few); drawn = omega (arith, none) };
+            record { moment = omega (arith, room, greatest, early); end = omega (arith, end, far, more, images, groups, few); drawn = omega (arith, none) };
         drawn = none;
         goes = grows.goes;
         node = grows.node;

@@ -8,9 +8,9 @@ use Rattle.transcript_model.specs.Lines as line
 use Rattle.transcript_model.specs.Lines.{Cause, Line}
 use Rattle.transcript_model.specs.Outside.{Rose}
 use Rattle.emitter_model.proofs.EmittingLemmas.{emits_on}
-use Rattle.script_model.specs.Statements.{AbortTrans, AckEvent, AddBranch, Boot, Clock, Crash, Create, DeclareRm, Direct, Dump, DumpJournal, EndBranch, EndTrans, ForgetRm, Fuse, GetDti, Init, Inquire, JoinRm, LmcpDump, LmcpShow, Records, Request, SetFile, StartBranch, StartTrans}
+use Rattle.script_model.specs.Statements.{AbortTrans, AckEvent, AddBranch, Backup, Boot, Clock, Crash, Create, DeclareRm, Direct, Dump, DumpImages, DumpJournal, EndBranch, EndTrans, ForgetRm, Fuse, GetDti, Init, Inquire, JoinRm, LmcpDump, LmcpShow, Records, Recover, Request, SetFile, StartBranch, StartTrans}
 use Rattle.run_said.specs.Said.{Said, SaidShared, line_said, lines_said, refused_by_lines, request_said}
-use Rattle.said_steps.specs.Answers.{is_broken, is_served, may_answer}
+use Rattle.said_steps.specs.Answers.{is_broken, is_lacking, is_served, may_answer}
 use Rattle.said_steps.proofs.Refusals.{refusal_of_lines}
 use Rattle.said_steps.specs.Own.{IsOwn}
 use Rattle.run_model.specs.Operations.{first_of, refused_if}
@@ -22,7 +22,7 @@ use Rattle.node_table.specs.Serving.{DoesService, service_at}
 use Rattle.node_table.specs.Standing.{StandsUp, Up}
 use Rattle.dtm_node.specs.Causes.{cause_of}
 use Rattle.node_requests.specs.Keeping.{Performs, PerformsRequest}
-use Rattle.node_requests.specs.Requests.{DoesRequest, IsForUp, node_up, said_up}
+use Rattle.node_requests.specs.Requests.{DoesRequest, IsForUp, LacksMemory, node_up, said_up}
 use Rattle.node_requests.specs.Running.{name_of}
 use Rattle.node_requests.specs.Standing.{IsDown, Kept, StandsFor, counts_of, disk_of}
 use Rattle.node_requests.specs.Telling.{TellsTask, calls_after_task, said_alone, said_shared}
@@ -30,7 +30,7 @@ use Rattle.dtm_node.proofs.Answered.{calm_answers, fell_answers, may_of, refused
 use Rattle.dtm_node.proofs.Held.{holds_is}
 use Rattle.dtm_node.proofs.Coming.{down_performs}
 use Rattle.dtm_node.proofs.EventTasks.{passes_of}
-use Rattle.dtm_node.proofs.Performing.{cut_performs, kept_fallen, kept_up, refused_performs, rose_of, served_performs}
+use Rattle.dtm_node.proofs.Performing.{cut_performs, kept_fallen, kept_up, lacking_performs, refused_performs, rose_of, served_performs}
 use Rattle.dtm_node.proofs.Requested.{rows_rest}
 use Rattle.node_requests.proofs.SaysLemmas.{all_on, alone_down, calm_not_down, down_behind, lines_on, own_calm}
 use Rattle.dtm_node.proofs.Stepping.{IsPlain}
@@ -47,6 +47,10 @@ pub record IsUpRequest (request : Request) : Type 0 where
   pub no_crash : Serves request ≡ Serves Crash → ⊥
   pub may : (answer : Line) → is_served answer ≡ true → may_answer request answer ≡ true
   pub may_break : (cause : Cause) → touches (service request) ≡ true → may_answer request (line.Broken cause) ≡ true
+
+second_of : (a b : Bool) → b ≡ true → (a || b) ≡ true
+second_of true b e = refl
+second_of false b e = e
 
 pub request_is : (request : Request) → IsForUp request → IsUpRequest request
 request_is (Init slots journal) h = absurd h
@@ -74,6 +78,9 @@ request_is LmcpShow h = record { plain = record { powers = refl; occupies = refl
 request_is LmcpDump h = record { plain = record { powers = refl; occupies = refl; closing = refl; closing_lines = λ n. refl; goes = refl }; while_down = refl; calls = λ ends l stops calls. refl; no_fuse = λ w c q. (let f : ⊥ = cc in f); down = λ s name unmade. refl; broken = λ name cause s. refl; refused_down = λ name s. refl; no_crash = λ q. (let f : ⊥ = cc in f); may = λ answer e. may_of (is_served answer) (is_broken answer && touches (service LmcpDump)) e; may_break = λ cause t. t }
 request_is (Dump file) h = record { plain = record { powers = refl; occupies = refl; closing = refl; closing_lines = λ n. refl; goes = refl }; while_down = refl; calls = λ ends l stops calls. refl; no_fuse = λ w c q. (let f : ⊥ = cc in f); down = λ s name unmade. refl; broken = λ name cause s. refl; refused_down = λ name s. refl; no_crash = λ q. (let f : ⊥ = cc in f); may = λ answer e. may_of (is_served answer) (is_broken answer && touches (service (Dump file))) e; may_break = λ cause t. t }
 request_is DumpJournal h = record { plain = record { powers = refl; occupies = refl; closing = refl; closing_lines = λ n. refl; goes = refl }; while_down = refl; calls = λ ends l stops calls. refl; no_fuse = λ w c q. (let f : ⊥ = cc in f); down = λ s name unmade. refl; broken = λ name cause s. refl; refused_down = λ name s. refl; no_crash = λ q. (let f : ⊥ = cc in f); may = λ answer e. may_of (is_served answer) (is_broken answer && touches (service DumpJournal)) e; may_break = λ cause t. t }
+request_is (DumpImages file side) h = record { plain = record { powers = refl; occupies = refl; closing = refl; closing_lines = λ n. refl; goes = refl }; while_down = refl; calls = λ ends l stops calls. refl; no_fuse = λ w c q. (let f : ⊥ = cc in f); down = λ s name unmade. refl; broken = λ name cause s. refl; refused_down = λ name s. refl; no_crash = λ q. (let f : ⊥ = cc in f); may = λ answer e. may_of (is_served answer) (is_broken answer && touches (service (DumpImages file side))) e; may_break = λ cause t. t }
+request_is (Backup file) h = record { plain = record { powers = refl; occupies = refl; closing = refl; closing_lines = λ n. refl; goes = refl }; while_down = refl; calls = λ ends l stops calls. refl; no_fuse = λ w c q. (let f : ⊥ = cc in f); down = λ s name unmade. refl; broken = λ name cause s. refl; refused_down = λ name s. refl; no_crash = λ q. (let f : ⊥ = cc in f); may = λ answer e. may_of (is_served answer) (is_broken answer && touches (service (Backup file))) e; may_break = λ cause t. t }
+request_is (Recover file way) h = record { plain = record { powers = refl; occupies = refl; closing = refl; closing_lines = λ n. refl; goes = refl }; while_down = refl; calls = λ ends l stops calls. refl; no_fuse = λ w c q. (let f : ⊥ = cc in f); down = λ s name unmade. refl; broken = λ name cause s. refl; refused_down = λ name s. refl; no_crash = λ q. (let f : ⊥ = cc in f); may = λ answer e. second_of (is_lacking answer) (is_served answer || (is_broken answer && touches (service (Recover file way)))) (may_of (is_served answer) (is_broken answer && touches (service (Recover file way))) e); may_break = λ cause t. t }
 
 no_restart : (request : Request) → Serves request ≡ Restarts → ⊥
 no_restart request q = let f : ⊥ = cc in f
@@ -105,6 +112,28 @@ module _ (request : Request) (asks : IsForUp request) (clock : ℕ) (old new : U
       unbroken : (o : Option Line) → refused_by_lines (said_shared before) (node_up (name_of old)) request ≡ o → is_broken d.says.answer ≡ false
       unbroken None e = served_unbroken d.says.answer (d.says.others e)
       unbroken (Some refusal) e = ap is_broken (d.says.refused refusal e).1 ∙ refused_unbroken refusal (refusal_of_lines (said_shared before) (node_up (name_of old)) request refusal e)
+
+  -- or memory was lacking, and that was answered;
+  pub request_lacks : (c : Shown) → LacksMemory request clock old new before after a b → Emits b (line.NoMemory ∷ []) c → TellsTask (Serves request) true true (kept_up (name_of old) clock old) before a c (kept_up (name_of old) clock new) after
+  request_lacks c d shows =
+      let is = request_is request asks in
+      record {
+        lines = [];
+        answer = line.NoMemory;
+        emits = subst (λ x. Emits x (line.NoMemory ∷ []) c) d.shown shows;
+        own = tt;
+        refused = λ refusal r. absurd (let q : None ≡ Some refusal = sym d.unrefused ∙ r in (let f : ⊥ = cc in f));
+        others = λ none. refl;
+        says = d.still (said_up (name_of old) before) ∙ ap (said_up (name_of old)) (sym d.shared);
+        calls = d.keeps.goes.calls ∙ sym (is.calls true line.NoMemory (disk_of old).stops (disk_of old).calls);
+        failures = λ cause i counted. absurd i;
+        passes = passes_of (disk_of old) (disk_of new) d.keeps.goes;
+        quiet = λ s. refl;
+        fused = λ writes choice q. absurd (is.no_fuse writes choice q);
+        boots = λ q. absurd (no_restart request q);
+        answered = calm_answers (Serves request) (name_of old) (refused_by_lines (said_shared before) (node_up (name_of old)) request) [] line.NoMemory true tt refl (λ q none. is.no_crash q) (λ none. d.may);
+        held = λ down unused. (let f : ⊥ = cc in absurd f);
+      }
 
   -- or the disk went down in it, which was shown and answered;
   pub request_fails : (e : Down) (c : Shown) (d : DoesRequest {T = Unit {0}} (Err e) request clock old new before after a b) → Emits b (line.Down (name_of old) (cause_of e) ∷ line.Broken (cause_of e) ∷ []) c
@@ -141,6 +170,13 @@ module _ (request : Request) (asks : IsForUp request) (clock : ℕ) (old new : U
             → (ends : Bool) × Performs log s n (counts_of (disk_of old)) (Serves request) true ends a b (kept_up (name_of old) clock new) after
         go log n s h (inl refused) = (true, refused_performs log s n (name_of old) clock old h refl (told n h.place) (Serves request) false (request_is request asks).plain new d.keeps.goes d.keeps.node after a b refused)
         go log n s h (inr served) = (false, served_performs log s n (name_of old) clock old h refl (told n h.place) (Serves request) false (request_is request asks).plain new d.keeps.goes d.keeps.node after (rows_rest request asks s n) a b served)
+
+    pub request_starves : (c : Shown) → LacksMemory request clock old new before after a b → Emits b (line.NoMemory ∷ []) c → PerformsRequest request (kept_up (name_of old) clock old) before a c (kept_up (name_of old) clock new) after
+    request_starves c d shows = λ log n s h share kept promised. (
+      true,
+      (let at = d.serves s n h.place share kept in
+          lacking_performs log s n (name_of old) clock old h refl (told n h.place) (Serves request) false (request_is request asks).plain new d.keeps.goes d.keeps.node after a c at.0 (d.takes n) at.1 at.2 (subst (λ x. Emits x (line.NoMemory ∷ []) c) d.shown shows)),
+    )
 
     pub request_breaks : (e : Down) (c : Shown) → DoesRequest {T = Unit {0}} (Err e) request clock old new before after a b → Emits b (line.Down (name_of old) (cause_of e) ∷ line.Broken (cause_of e) ∷ []) c
         → PerformsRequest request (kept_up (name_of old) clock old) before a c (kept_fallen (name_of old) clock (disk_of new)) after

@@ -1,5 +1,5 @@
 -- The acts of a request leave of their node what is no part of its disk and its table.
-use Rattle.std.proofs.Common.{◌≡◌, ℕ, List, [], ◌∷◌, ◌++◌, true, Option, Some, None, map, refl, subst}
+use Rattle.std.proofs.Common.{◌≡◌, ℕ, List, [], ◌∷◌, ◌++◌, true, false, Option, Some, None, map, refl, subst}
 use Rattle.std.specs.Option.{option_and_then, option_map}
 use Rattle.std.specs.List.{AllByRecursion}
 use Rattle.vms_model.specs.Keys.{Key}
@@ -11,11 +11,11 @@ use Rattle.log_laws.specs.Slots.{slot_records}
 use Rattle.transcript_model.specs.Lines as line
 use Rattle.transcript_model.specs.Lines.{Line}
 use Rattle.records_model.specs.Records.{Change}
-use Rattle.script_model.specs.Statements.{AbortTrans, AckEvent, AddBranch, Boot, Clock, Crash, Create, DeclareRm, Direct, Dump, DumpJournal, EndBranch, EndTrans, ForgetRm, Fuse, GetDti, Init, Inquire, JoinRm, LmcpDump, LmcpShow, Records, Request, SetFile, StartBranch, StartTrans}
-use Rattle.run_model.specs.World.{Act, Creates, Declares, Draws, File, Label, Marks, Node, Numbers, Shared, free_place, labelled, lowest_free, next_id, tm_of}
+use Rattle.script_model.specs.Statements.{AbortTrans, AckEvent, AddBranch, Backup, Boot, Clock, Crash, Create, DeclareRm, Direct, Dump, DumpImages, DumpJournal, EndBranch, EndTrans, ForgetRm, Fuse, GetDti, Images, Init, Inquire, JoinRm, LmcpDump, LmcpShow, NoImages, NoRecoveryUnits, Records, Recover, RecoveryUnits, Request, SetFile, Setting, StartBranch, StartTrans}
+use Rattle.run_model.specs.World.{Act, BeginsImages, Creates, Declares, Draws, EndsImages, File, ForUnits, Label, Marks, Node, Numbers, Recovers, Saves, Shared, buckets_loaded, find_file, free_place, labelled, lowest_free, next_id, tm_of}
 use Rattle.vms_model.specs.Ids.{Id}
 use Rattle.vms_model.specs.Transactions.{Aborted}
-use Rattle.run_model.specs.Answers.{Row, Telling, adds, all_acted, all_shared, begins, blocks_for, branch_labelled, branch_named, changes_at, created, creates, directed, entry_lines, is_for_units, just, keys_at, log_line, operated, operation_act, records_of, serial_named, service, shown_line, shown_record, silent, starts, table_rows, told_if, told_rows}
+use Rattle.run_model.specs.Answers.{Row, Telling, adds, all_acted, all_shared, begins, blocks_for, blocks_of, blocks_recovered, branch_labelled, branch_named, changes_at, created, creates, directed, entry_lines, image_lines, journal_at, just, keys_at, log_line, on_free, operated, operation_act, records_of, records_recovered, recovers, serial_named, service, sets, shown_line, shown_record, silent, start_of, starts, table_rows, to_file, told_if, told_rows}
 use Rattle.node_requests.specs.Requests.{IsForUp}
 use Rattle.dtm_node.proofs.EventSteps.{rest_some, table_rest}
 use Rattle.dtm_node.proofs.Performing.{LeavesRest, leaves_rest}
@@ -77,6 +77,19 @@ replied_rest : (o : Option Id) (rm : Name) (reply : Reply) (t : Telling) → opt
 replied_rest None rm reply t q = let f : ⊥ = cc in absurd f
 replied_rest (Some serial) rm reply t q = let P : Option Telling → Type 0 = λ o. elim o [ Some u ↦ AllByRecursion (λ act. leaves_rest act ≡ true) u.before | None ↦ Unit {0} ] in subst P q tt
 
+sets_rest : (n : Node) (file : List ℕ) (setting : Setting) → AllByRecursion LeavesRest (sets n file setting)
+sets_rest n file RecoveryUnits = (act_rest (Marks file (ForUnits true)) refl, tt)
+sets_rest n file NoRecoveryUnits = (act_rest (Marks file (ForUnits false)) refl, tt)
+sets_rest n file (Images side blocks) = (act_rest (Marks file (BeginsImages side (start_of (lowest_free n blocks)) blocks)) refl, tt)
+sets_rest n file (NoImages side) = (act_rest (Marks file (EndsImages side)) refl, tt)
+
+file_rest : (n : Node) (file : List ℕ) (does : File → List Row) → ((f : File) → AllByRecursion LeavesRest (does f)) → AllByRecursion LeavesRest (to_file n file does)
+file_rest n file does each = go (find_file file n.durable.directory)
+  where
+    go : (o : Option File) → AllByRecursion LeavesRest (elim o [ Some f ↦ does f | None ↦ [] ])
+    go None = tt
+    go (Some f) = each f
+
 pub rows_rest : (request : Request) → IsForUp request → (s : Shared) (n : Node) → AllByRecursion LeavesRest ((service request).rows s n)
 rows_rest (Init slots journal) h s n = absurd h
 rows_rest Boot h s n = absurd h
@@ -84,7 +97,7 @@ rows_rest (Fuse writes choice) h s n = absurd h
 rows_rest Crash h s n = absurd h
 rows_rest (Clock now) h s n = absurd h
 rows_rest (Create file bucket size form) h s n = create_rest n (λ start. created file bucket size form start n.durable.greatest) (blocks_for bucket size form)
-rows_rest (SetFile file setting) h s n = (act_rest (Marks file (is_for_units setting)) refl, tt)
+rows_rest (SetFile file setting) h s n = sets_rest n file setting
 rows_rest (StartTrans label seconds) h s n = told_rest (starts n label seconds) s n (refl, (refl, tt))
 rows_rest (AddBranch label other new) h s n = branch_rest (branch_labelled s n label) (λ b. told_rows s n (adds n other new b)) (λ b. told_rest (adds n other new b) s n (refl, (refl, tt)))
 rows_rest (StartBranch label) h s n = if_rest s n (option_and_then (begins n) (labelled n.name label s.labels)) (begin_rest n (labelled n.name label s.labels))
@@ -103,3 +116,6 @@ rows_rest LmcpShow h s n = tt
 rows_rest LmcpDump h s n = shown_rest shown_line (λ l. none_rest (l ∷ [])) (map log_line (slot_records 0 n.durable.log))
 rows_rest (Dump file) h s n = shown_rest shown_record (λ e. none_rest (line.Record e.0 e.1 ∷ [])) (records_of n file)
 rows_rest DumpJournal h s n = shown_rest shown_line (λ l. none_rest (l ∷ [])) (entry_lines n.durable.units.first n.durable.units.entries)
+rows_rest (DumpImages file side) h s n = file_rest n file (λ f. map shown_line (image_lines file (journal_at side f).entries)) (λ f. shown_rest shown_line (λ l. none_rest (l ∷ [])) (image_lines file (journal_at side f).entries))
+rows_rest (Backup file) h s n = file_rest n file (λ f. on_free n (blocks_of f) (Saves file)) (λ f. (act_rest (Saves file (start_of (lowest_free n (blocks_of f)))) refl, tt))
+rows_rest (Recover file way) h s n = file_rest n file (recovers n file way) (λ f. (act_rest (Recovers file (start_of (lowest_free n (blocks_recovered way f))) (buckets_loaded f (records_recovered way f)) (records_recovered way f)) refl, tt))

@@ -6,7 +6,7 @@ use Rattle.transcript_model.specs.Lines as line
 use Rattle.transcript_model.specs.Lines.{Line, Cause}
 use Rattle.run_model.specs.World.{DiskCounts, Lost, Node, Shared, fallen}
 use Rattle.run_model.specs.Answers.{Row, Service, Task, occupies, powers, refused_before_reading, task_service, touches}
-use Rattle.run_model.specs.Steps.{Cut, NodeStep, Whole, act_begun, count_of, lines_of_rows, node_after_rows, occupied, rows_if, shared_after_rows}
+use Rattle.run_model.specs.Steps.{Cut, NodeStep, Whole, WithoutMemory, act_begun, count_of, lines_of_rows, node_after_rows, occupied, rows_if, shared_after_rows}
 
 -- Such a task does all in its rows, and its statement goes on where the disk goes down, or ends.
 pub record IsPlain (e : Service) (goes_on : Bool) : Type 0 where
@@ -35,6 +35,10 @@ module _ (s : Shared) (n : Node) (t : Task) (old new : DiskCounts) (faults : old
     -- refused by what the disk has, or by a quota
     pub step_late : (refusal : Line) → (task_service t).refused_after_reading s n ≡ Some refusal → NodeStep s n old t [] refusal true n s new
     step_late refusal late = record { choice = Whole Lost; allowed = tt; faults = faults; stops = stops; shows = rw (early, p.powers, late) refl; answers = rw (early, p.powers, late) refl; over = rw (early, p.powers, late) refl; node = rw (early, p.powers, late) refl; shared = rw (early, p.powers, late) refl }
+
+    -- memory is lacking
+    pub step_lacking : (task_service t).takes_memory n ≡ true → NodeStep s n old t [] line.NoMemory true n s new
+    step_lacking takes = record { choice = WithoutMemory; allowed = (early, takes); faults = faults; stops = stops; shows = refl; answers = refl; over = refl; node = refl; shared = refl }
 
     -- done whole
     pub step_done : (task_service t).refused_after_reading s n ≡ None → NodeStep s n old t (lines_of_rows ((task_service t).rows s n)) ((task_service t).answer s n) false (node_after_rows ((task_service t).rows s n) n) (shared_after_rows ((task_service t).rows s n) s) new

@@ -5,6 +5,7 @@ use Rattle.careful_write.specs.Content.{content_of}
 use Rattle.careful_write.specs.Load.{fitting}
 use Rattle.careful_write.specs.State.{StoreState}
 use Rattle.file_base.specs.declared.head.Span.{Span}
+use Rattle.image_room.specs.Room.{images_end}
 use Rattle.journal_model.specs.Ring.{ring_size}
 use Rattle.transcript.specs.Forms.{line_of, HasTime}
 use Rattle.transcript_model.specs.Lines.{Line}
@@ -103,6 +104,7 @@ pub record IsRaised (name : List ℕ) (v : VolumeState) : Type 0 where
   pub order : (s : UnitsState) → HasNoUnit s → IsInOrder (record s { log = [] }) v
   pub greatest : v.catalog.home.greatest_moment.0 ≤ 24000000000000
   pub end : v.catalog.ru.end ≤ 2 ^ 61
+  pub images : images_end v.catalog.heads ≤ 2 ^ 61
 
 -- a journal lies in its ring, and its positions are low
 pub record IsInRing (s : Span) : Type 0 where

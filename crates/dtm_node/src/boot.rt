@@ -1,10 +1,11 @@
 //! A boot: a disk that runs is brought to a volume whose boot count is raised.
-ghost use Rattle.std.specs.Prelude.{◌≡◌, ◌<◌, ◌≤◌, ◌^◌, [], true, false, max, option_map};
+ghost use Rattle.std.specs.Prelude.{◌≡◌, ◌<◌, ◌≤◌, ◌^◌, [], true, false, max, option_map, nat_lt};
 ghost use Rattle.careful_write.specs.State.{IsIdle};
 ghost use Rattle.change_set.specs.Files.{free_frames};
 ghost use Rattle.volume.specs.Catalogs.{IsSound};
 ghost use Rattle.volume.specs.State.{Holds};
-ghost use Rattle.volume_model.specs.Bars.{ends_in, first_bar, is_in_ring as is_in_ring_said, lowest_odd_root, odd_root as odd_root_said};
+ghost use Rattle.image_room.specs.Room.{images_end};
+ghost use Rattle.volume_model.specs.Bars.{first_bar, is_in_ring as is_in_ring_said, is_within as is_within_said, lowest_odd_ring, lowest_odd_root, no_block, odd_ring as odd_ring_said, odd_root as odd_root_said, odd_span as odd_span_said};
 ghost use Rattle.transcript.specs.Forms.{HasTime, line_of};
 ghost use Rattle.std.specs.Option.{IfSome, IfNone};
 ghost use Rattle.run_model.specs.Answers.{bar_line};
@@ -32,7 +33,7 @@ const LAST_POSITION: u64 = 2_305_843_009_213_693_952;
 
 const GREATEST_END: u64 = 4_611_686_018_427_387_904;
 
-// What a volume fails whose journal does not lie in its ring, and where.
+// What a volume fails with a journal that does not lie in its ring, and where that of recovery units is.
 const JOURNAL_CONDITION: u32 = 6;
 
 const JOURNAL_BLOCK: u32 = 583;
@@ -55,7 +56,7 @@ pub(crate) enum Booted<D: Disk> {
 
 // The greatest position of a journal of a volume.
 fn last_position<D: Disk>(volume: &Volume<D>) -> u64
-    ensures { result ≡ max volume.now.catalog.ru.end (ends_in volume.now.catalog.heads) }
+    ensures { result ≡ max volume.now.catalog.ru.end (images_end volume.now.catalog.heads) }
 {
     let mut last = volume.ru().end;
     for file in 0..MOST_FILES {
@@ -83,18 +84,52 @@ fn odd_root(head: &FileHead) -> u64
     }
 }
 
-// The lowest of such blocks of a volume's files.
-fn lowest_root<D: Disk>(volume: &Volume<D>) -> u64
-    ensures lowest { result ≡ lowest_odd_root volume.now.catalog.heads }
-    ensures most { result ≤ 65536 }
+// Whether a journal's entries lie in its ring.
+fn is_within(span: &Span) -> bool
+    ensures { result ≡ is_within_said span.now }
 {
-    let mut lowest = NO_BLOCK;
+    span.first <= span.end && span.end - span.first <= 512 * u64::from(span.blocks)
+}
+
+// The first block of a journal of images that a file has and that does not lie in its ring; else no block.
+fn odd_span(marked: bool, span: &Span) -> u64
+    ensures { result ≡ odd_span_said marked span.now }
+{
+    if marked && !is_within(span) {
+        u64::from(span.start)
+    } else {
+        NO_BLOCK
+    }
+}
+
+// The lower of such blocks of a file's two journals.
+fn odd_ring(head: &FileHead) -> u64
+    ensures { result ≡ odd_ring_said head.now }
+{
+    odd_span(head.marks.ai, &head.ai).min(odd_span(head.marks.bi, &head.bi))
+}
+
+// The lowest blocks of a volume's files at which a journal of images or a root is odd.
+#[derive(Drop)]
+struct Lowest {
+    ring: u64,
+    root: u64,
+}
+
+fn lowest_odd<D: Disk>(volume: &Volume<D>) -> Lowest
+    ensures ring { result.ring ≡ lowest_odd_ring volume.now.catalog.heads }
+    ensures root { result.root ≡ lowest_odd_root volume.now.catalog.heads }
+    ensures most { (result.ring ≤ 65536) × (result.root ≤ 65536) }
+{
+    let mut ring = NO_BLOCK;
+    let mut root = NO_BLOCK;
     for file in 0..MOST_FILES {
         if let Some(head) = volume.head(file) {
-            lowest = lowest.min(odd_root(head));
+            ring = ring.min(odd_ring(head));
+            root = root.min(odd_root(head));
         }
     }
-    lowest
+    Lowest { ring, root }
 }
 
 // Whether the journal's entries lie in its ring, and its positions are low.
@@ -109,25 +144,30 @@ fn is_in_ring(span: &Span) -> bool
         && span.end <= GREATEST_END
 }
 
-// Why a node is not booted with this volume: its journal is none, an indexed file has not the index that its buckets want, it was booted as often as may
-// be, its greatest moment is too late, or a journal has come too far.
+// Why a node is not booted with this volume: its journal is none, or one of a file's images is none, an indexed file has not the index that its buckets want,
+// it was booted as often as may be, its greatest moment is too late, or a journal has come too far.
 fn refusal<D: Disk>(volume: &Volume<D>) -> Option<Form<'static>>
     ensures refuses { option_map line_of result ≡ option_map (bar_line volume.now.catalog.home.node) (first_bar volume.now.catalog) }
     ensures wide { IsWide volume.now.catalog.ru }
     ensures time { IfSome result HasTime }
     ensures boot { IfSome result (λ form. IsBootRefusal (line_of form)) }
     ensures ring { IfNone result (IsInRing volume.now.catalog.ru) }
+    ensures rings { IfNone result (nat_lt (lowest_odd_ring volume.now.catalog.heads) no_block ≡ false) }
     ensures boots { IfNone result (volume.now.catalog.home.boot < 4294967295) }
     ensures moments { IfNone result (volume.now.catalog.home.greatest_moment.0 ≤ 24000000000000) }
     ensures end { IfNone result (volume.now.catalog.ru.end ≤ 2 ^ 61) }
+    ensures images { IfNone result (images_end volume.now.catalog.heads ≤ 2 ^ 61) }
 {
     let home = volume.home();
     if !is_in_ring(volume.ru()) {
         return Some(Form::NoVolume(home.node, JOURNAL_CONDITION, JOURNAL_BLOCK));
     }
-    let root = lowest_root(volume);
-    if root < NO_BLOCK {
-        return Some(Form::NoVolume(home.node, INDEX_CONDITION, root as u32));
+    let lowest = lowest_odd(volume);
+    if lowest.ring < NO_BLOCK {
+        return Some(Form::NoVolume(home.node, JOURNAL_CONDITION, lowest.ring as u32));
+    }
+    if lowest.root < NO_BLOCK {
+        return Some(Form::NoVolume(home.node, INDEX_CONDITION, lowest.root as u32));
     }
     if home.boot == MOST_BOOTS {
         return Some(Form::QuotaExceeded(Quota::Boots, u64::from(MOST_BOOTS)));

@@ -28,10 +28,10 @@ ghost use Rattle.recovery_units.specs.declared.settled.SettledUnit.{SettledUnit 
 ghost use Rattle.recovery_units.specs.Calls.{MayBegin, ReopensErr, ReopensOk};
 ghost use Rattle.recovery_units.specs.State.{AreOfBranches, HasNoUnit, IsEarly, IsInOrder};
 ghost use Rattle.recovery_units.specs.Told.{nothing_told};
-ghost use Rattle.recovery_units.specs.Uses.{Caused, Grows, down_of};
+ghost use Rattle.recovery_units.specs.Uses.{Caused, Grows, ImagesGrow, down_of};
 ghost use Rattle.node_table.specs.Code.{up_of};
 ghost use Rattle.dtm_node.specs.Asking.{answer_in_place, in_doubt_in, is_over, question_in};
-ghost use Rattle.node_requests.specs.Requests.{IsForUp};
+ghost use Rattle.node_requests.specs.Requests.{CanBeTold, IsForUp};
 ghost use Rattle.node_requests.specs.Running.{ComesFreely, TellsEvent};
 ghost use Rattle.node_requests.specs.Standing.{IsDown, is_up as is_up_in};
 ghost use Rattle.node_requests.specs.Telling.{TellsTask};
@@ -42,7 +42,7 @@ use careful_write::{Down, Group};
 use core::mem::replace_with;
 use frame_pool::Pool;
 use net_wire::Message;
-use node_requests::{serve_up, the_laws};
+use node_requests::{Reply, serve_up, the_laws};
 use node_table::{Room, Running, Stored};
 use participants::Rms;
 use recovery_units::{RecoveryUnits, SettledUnit};
@@ -208,6 +208,7 @@ impl<D: Disk + Drop, U: RecoveryUnits> Node<D, U> {
         out: &mut E,
     )
         requires answered { (now : ℕ) → request_of lit.now request.now ≡ said.Clock now → ⊥ }
+        requires times { CanBeTold (request_of lit.now request.now) }
         requires node { (count : ℕ) × (count < 1000002) × IsNode D.state U.state count shared.old self.old }
         ensures node { (count : ℕ) → IsNode D.state U.state count shared.old self.old → IsNode D.state U.state (count + 1) shared.new self.new }
         ensures name { self.new.name ≡ self.old.name }
@@ -223,19 +224,21 @@ impl<D: Disk + Drop, U: RecoveryUnits> Node<D, U> {
             Request::Boot => self.boot(alloc, shared, out),
             Request::Fuse { writes, choice } => self.fuse(*writes, *choice, shared, out),
             Request::Crash => self.crash(shared, out),
-            _ => self.serve_up(request, lit, shared, out),
+            _ => self.serve_up(alloc, request, lit, shared, out),
         }
     }
 
     // Serves a statement that a node has to be up for.
     fn serve_up<E: Emit>(
         &mut self,
+        alloc: Global,
         request: &Request,
         lit: &Literals,
         shared: &mut Shared,
         out: &mut E,
     )
         requires asks { IsForUp (request_of lit.now request.now) }
+        requires times { CanBeTold (request_of lit.now request.now) }
         requires node { (count : ℕ) × (count < 1000002) × IsNode D.state U.state count shared.old self.old }
         ensures node { (count : ℕ) → IsNode D.state U.state count shared.old self.old → IsNode D.state U.state (count + 1) shared.new self.new }
         ensures name { self.new.name ≡ self.old.name }
@@ -247,8 +250,11 @@ impl<D: Disk + Drop, U: RecoveryUnits> Node<D, U> {
         ensures performs { PerformsRequest (request_of lit.now request.now) (kept_of D.state U.state self.old) shared.old (E.shows out.old) (E.shows out.new) (kept_of D.state U.state self.new) shared.new }
     {
         match &mut self.place {
-            Place::Up(running) => match serve_up(running, request, lit, self.clock, shared, out) {
-                Ok(()) => {}
+            Place::Up(running) => match serve_up(
+                alloc, running, request, lit, self.clock, shared, out,
+            ) {
+                Ok(Reply::Told) => {}
+                Ok(Reply::NoMemory) => out.emit(&Form::NoMemory),
                 Err(down) => {
                     self.go_down(down, out);
                     out.emit(&Form::Broken(cause_of(down)));
@@ -919,6 +925,7 @@ fn reopen_units<D: Disk, U: RecoveryUnits>(
     ensures begins { OnOk result (MayBegin stored.new.room.told (U.state stored.new.units).log) }
     ensures order { OnOk result (IsInOrder (U.state stored.new.units) stored.new.volume) }
     ensures grows { Grows 64 (clock.0 + 64) stored.old.volume stored.new.volume }
+    ensures images { OnOk result (ImagesGrow stored.old.volume stored.new.volume) }
     ensures room { OnOk result (stored.new.volume.catalog.home.greatest_moment.0 + length (U.state stored.new.units).begun ≤ max stored.old.volume.catalog.home.greatest_moment.0 clock.0 + 64) }
     ensures moments { AllByRecursion (λ (u : SettledSaid). u.moment.0 ≤ stored.new.volume.catalog.home.greatest_moment.0) stored.new.room.told.settled }
     ensures cause { Caused (down_of result) stored.old.volume.store.disk stored.new.volume.store.disk }

@@ -23,6 +23,7 @@ use Rattle.run_model.proofs.PartLemmas.{turn}
 use Rattle.run_laws.specs.Anew.{IsMadeFirst, Makes}
 use Rattle.run_laws.specs.Promises.{KeptPromises}
 use Rattle.manager_laws.specs.Promises.{ManagerPromises}
+use Rattle.recovery_runs.specs.Promises.{RecoveryPromises}
 use Rattle.statement_steps.proofs.Stepping.{request_missing, request_there}
 use Rattle.run_nodes.specs.Untold.{BootsUnknown, IsUntold}
 use Rattle.world_laws.proofs.Induction.{acts_name}
@@ -148,7 +149,7 @@ nowhere_made first last full later (e ∷ f ∷ left) es since w sure parts led 
 
 -- what is so since a beginning
 abbrev KeptSince : Beginning → List Entry → World → Type 0
-KeptSince b since w = Legal (world_at b) since w × KeptPromises (world_at b) since w × ManagerPromises (world_at b) since w × KeepsAgreed (world_at b) b.nodes since w
+KeptSince b since w = Legal (world_at b) since w × KeptPromises (world_at b) since w × ManagerPromises (world_at b) since w × RecoveryPromises (world_at b) since w × KeepsAgreed (world_at b) b.nodes since w
 
 whole : (names : List (List ℕ)) (nodes : List Node) (before after : List DiskState) (script old new : Option (List ℕ)) (ended : Exit) (r : RunOver names nodes before after script old new ended) →
     Sure (record { nodes = nodes; disks = before }) (r.run.left_over ++ r.run.led) → WholeRun nodes before after script old new ended
@@ -162,7 +163,7 @@ whole names nodes before after script old new ended r sure = go r.run.left_over 
 
     since : KeptSince (record { nodes = nodes; disks = before }) r.run.led r.run.closing
     since = subst (λ (b : Beginning). KeptSince b r.run.led r.run.closing) led.same
-        (subst (λ (es : List Entry). KeptSince r.run.last es r.run.closing) led.all (since_legal names (record { nodes = nodes; disks = before }) r.run.last r.run.led r.run.since r.run.closing r.run.leads, r.promises, r.managers, r.agreed))
+        (subst (λ (es : List Entry). KeptSince r.run.last es r.run.closing) led.all (since_legal names (record { nodes = nodes; disks = before }) r.run.last r.run.led r.run.since r.run.closing r.run.leads, r.promises, r.managers, r.recoveries, r.agreed))
 
     go : (left : List Entry) → r.run.left_over ≡ left → LeavesOver r.run.last r.run.closing left after → WholeRun nodes before after script old new ended
     go (e ∷ es) is leaves = absurd (nowhere_made (record { nodes = nodes; disks = before }) r.run.last (r.run.left_over ++ r.run.led) [] (e ∷ es) r.run.led r.run.since r.run.closing sure (ap (λ (l : List Entry). l ++ r.run.led) is) led leaves)
@@ -181,7 +182,8 @@ whole names nodes before after script old new ended r sure = go r.run.left_over 
       };
       promises = since.1;
       managers = since.2;
-      agreed = since.3;
+      recoveries = since.3;
+      agreed = since.4;
     }
 
 found_made : (name : List ℕ) (ns : List Node) (n : Node) (es : List Entry) → AreMadeFirst ns es → find_node name ns ≡ Some n → (n.durable.volume ≡ Unknown → IsMadeFirst n.name es) × (name ≡ n.name)

@@ -58,6 +58,7 @@ nothing_opening name blocks v = record {
     slots = omega arith;
   };
   ends = tt;
+  images = tt;
   named = λ file none. refl;
   few_locks = omega arith;
 }

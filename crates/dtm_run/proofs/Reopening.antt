@@ -22,7 +22,7 @@ use Rattle.run_model.specs.Locks.{Lock, with_locks}
 use Rattle.journal_model.specs.Entries.{Entry}
 use Rattle.volume_model.specs.Entries.{AreEntries, IsFileOf}
 use Rattle.unit_laws.specs.Journal.{is_of_file, Journal, JournalEntry, ChangeEntry, PreparedEntry, SettledEntry}
-use Rattle.run_model.specs.World.{Durable, FollowOneAnother, HasPlainEnd, HavePlainEnds, IsLogInOrder, keys_left, prepared_left, relocked, relocked_by, relocked_for, AreUnitsOf, File, IsOpening, LastIsReached, Node, Settlement, TellsUnits, AreResting, find_file}
+use Rattle.run_model.specs.World.{Durable, FollowOneAnother, HasPlainEnd, HavePlainEnds, IsLogInOrder, keys_left, prepared_left, relocked, relocked_by, relocked_for, AreUnitsOf, File, IsOpening, LastIsReached, Node, Settlement, TellsUnits, AreResting, find_file, KeepAllImages, KeepsImages}
 use Rattle.world_laws.specs.Ordered.{IsJournalInOrder, IsNoteOf, Suits}
 use Rattle.world_laws.proofs.EntryLemmas.{all_more}
 use Rattle.world_laws.specs.Nodes.{IsKeptDisk}
@@ -63,10 +63,10 @@ module _ (moment : ℕ) where
   all_rest (Some f ∷ fs) = (refl, all_rest fs)
 
   -- the file that one was
-  record Was (o : Option File) (f : File) : Type 0 where
-    file : File
-    there : o ≡ Some file
-    is : f ≡ rebased_file moment file
+  pub record Was (o : Option File) (f : File) : Type 0 where
+    pub file : File
+    pub there : o ≡ Some file
+    pub is : f ≡ rebased_file moment file
 
   was : (o : Option File) (f : File) → option_map (rebased_file moment) o ≡ Some f → Was o f
   was None f e = let none : ⊥ = cc in absurd none
@@ -75,7 +75,7 @@ module _ (moment : ℕ) where
   was_at : (fs : List (Option File)) (place : ℕ) (f : File) → file_at (rebased_files moment fs) place ≡ Some f → Was (file_at fs place) f
   was_at fs place f there = was (file_at fs place) f (sym (at_place fs place) ∙ there)
 
-  was_named : (fs : List (Option File)) (name : List ℕ) (f : File) → find_file name (rebased_files moment fs) ≡ Some f → Was (find_file name fs) f
+  pub was_named : (fs : List (Option File)) (name : List ℕ) (f : File) → find_file name (rebased_files moment fs) ≡ Some f → Was (find_file name fs) f
   was_named fs name f there = was (find_file name fs) f (sym (by_name name fs) ∙ there)
 
   own_again : (o : Kept) (file : File) → IsLayoutOf o file → IsLayoutOf o (rebased_file moment file)
@@ -85,7 +85,7 @@ module _ (moment : ℕ) where
 
   left_again : (content : List (List ℕ)) (h : FileHead) (file : File) → IsLeft content h file → IsLeft content h (rebased_file moment file)
   left_again content h file l = record {
-    head = record { name = l.head.name; bucket = l.head.bucket; record_size = l.head.record_size; organization = l.head.organization; start = l.head.start; buckets = l.head.buckets; carried = l.head.carried; units = l.head.units; form = l.head.form };
+    head = record { name = l.head.name; bucket = l.head.bucket; record_size = l.head.record_size; organization = l.head.organization; start = l.head.start; buckets = l.head.buckets; units = l.head.units; form = l.head.form };
     laid = l.laid;
     represents = l.represents;
     layout = l.layout;
@@ -93,17 +93,17 @@ module _ (moment : ℕ) where
     can = l.can;
   }
 
-  place_again : (content : List (List ℕ)) (o : Option FileHead) (p : Option File) → IsPlaceLeft content o p → IsPlaceLeft content o (option_map (rebased_file moment) p)
-  place_again content None None l = tt
-  place_again content None (Some file) l = absurd l
-  place_again content (Some h) None l = absurd l
-  place_again content (Some h) (Some file) l = left_again content h file l
+  place_again : (content : List (List ℕ)) (f : ℕ) (o : Option FileHead) (p : Option File) → IsPlaceLeft content f o p → IsPlaceLeft content f o (option_map (rebased_file moment) p)
+  place_again content f None None l = tt
+  place_again content f None (Some file) l = absurd l
+  place_again content f (Some h) None l = absurd l
+  place_again content f (Some h) (Some file) l = (left_again content h file l.0, l.1)
 
   files_again : (content : List (List ℕ)) (heads : List (Option FileHead)) (fs : List (Option File)) → AreLeft content heads fs → AreLeft content heads (rebased_files moment fs)
   files_again content heads fs l = record {
     heads_long = l.heads_long;
     directory_long = as_many fs ∙ l.directory_long;
-    each = λ f. subst (IsPlaceLeft content (head_at heads f)) (sym (at_place fs f)) (place_again content (head_at heads f) (file_at fs f) (l.each f));
+    each = λ f. subst (IsPlaceLeft content f (head_at heads f)) (sym (at_place fs f)) (place_again content f (head_at heads f) (file_at fs f) (l.each f));
   }
 
   tells_again : (units : Journal) (f : File) → TellsUnits units f → TellsUnits units (rebased_file moment f)
@@ -197,7 +197,29 @@ module _ (moment : ℕ) where
   ends_again : (fs : List (Option File)) → ((p : ℕ) (f : File) → file_at fs p ≡ Some f → HasPlainEnd f) → HavePlainEnds (rebased_files moment fs)
   ends_again [] h = tt
   ends_again (None ∷ fs) h = ends_again fs (λ p f e. h (suc p) f e)
-  ends_again (Some f ∷ fs) h = let k = h zero f refl in (record { follow = k.follow; absent = k.absent }, ends_again fs (λ p g e. h (suc p) g e))
+  ends_again (Some f ∷ fs) h = let k = h zero f refl in (record { follow = k.follow; absent = k.absent; carried = k.carried }, ends_again fs (λ p g e. h (suc p) g e))
+
+  images_again : (m : Node) (fs : List (Option File)) → ((p : ℕ) (f : File) → file_at fs p ≡ Some f → KeepsImages m.name m.durable.boot m.durable.greatest f) → KeepAllImages m (rebased_files moment fs)
+  images_again m [] h = tt
+  images_again m (None ∷ fs) h = images_again m fs (λ p f e. h (suc p) f e)
+  images_again m (Some f ∷ fs) h =
+      let k = h zero f refl in (
+        record {
+          after_order = k.after_order;
+          before_order = k.before_order;
+          after_room = k.after_room;
+          before_room = k.before_room;
+          after_branches = k.after_branches;
+          before_branches = k.before_branches;
+          keys = k.keys;
+          found = k.found;
+          begun = k.begun;
+          saved = k.saved;
+          after_reached = k.after_reached;
+          before_reached = k.before_reached;
+        },
+        images_again m fs (λ p g e. h (suc p) g e),
+      )
 
 -- The node.
 
@@ -257,10 +279,10 @@ module _ (content : List (List ℕ)) (v : Catalog) (n : Node) (l : LeavesVolume 
   entry_named name none (e ∷ es) [] h = absurd h
   entry_named name none (e ∷ es) (d ∷ ds) h = ap (λ b. b || list_any (is_of_file name) es) (by e h.1) ∙ entry_named name none es ds h.3
     where
-      no_file : (o : Option FileHead) (p : Option File) (x : FileHead) → o ≡ Some x → IsPlaceLeft content o p → (file : File) × (p ≡ Some file) × (file.name ≡ x.name)
+      no_file : (o : Option FileHead) (p : Option File) (x : FileHead) → o ≡ Some x → IsPlaceLeft content h.0 o p → (file : File) × (p ≡ Some file) × (file.name ≡ x.name)
       no_file None p x e k = let never : ⊥ = cc in absurd never
       no_file (Some y) None x e k = absurd k
-      no_file (Some y) (Some file) x e k = (file, refl, k.head.name ∙ ap (λ (z : FileHead). z.name) (let same : y ≡ x = cc in same))
+      no_file (Some y) (Some file) x e k = (file, refl, k.0.head.name ∙ ap (λ (z : FileHead). z.name) (let same : y ≡ x = cc in same))
 
       by : (x : JournalEntry) → IsFileOf v.heads x h.0 → is_of_file name x ≡ false
       by (ChangeEntry tid serial file key before) k = go (bytes_eq name file) refl
@@ -291,7 +313,21 @@ module _ (content : List (List ℕ)) (v : Catalog) (n : Node) (l : LeavesVolume 
       let place : p ≡ r.place = l.units.names p r.place f r.file e r.at r.named in
       let same : f ≡ r.file = file_is f r.file (sym e ∙ ap (file_at n.durable.directory) place ∙ r.at) in
       let plain = k.filed.plain f.name f (r.found ∙ ap (λ (x : File). Some x) (sym same)) in
-      record { follow = each_follows n.durable.greatest f.history.live (l.units.tells p f e).notes.differ plain.follow; absent = plain.absent }
+      record {
+        follow = each_follows n.durable.greatest f.history.live (l.units.tells p f e).notes.differ plain.follow;
+        absent = plain.absent;
+        carried = k.filed.carries f.name f (r.found ∙ ap (λ (x : File). Some x) (sym same));
+      }
+    where
+      file_is : (x y : File) → ◌≡◌ {A = Option File} (Some x) (Some y) → x ≡ y
+      file_is x y q = cc
+
+  images_at : IsKeptDisk n → (p : ℕ) (f : File) → file_at n.durable.directory p ≡ Some f → KeepsImages n.name n.durable.boot n.durable.greatest f
+  images_at k p f e =
+      let r = found_named n.durable.greatest n.durable.directory p f e in
+      let place : p ≡ r.place = l.units.names p r.place f r.file e r.at r.named in
+      let same : f ≡ r.file = file_is f r.file (sym e ∙ ap (file_at n.durable.directory) place ∙ r.at) in
+      k.filed.images f.name f (r.found ∙ ap (λ (x : File). Some x) (sym same))
     where
       file_is : (x y : File) → ◌≡◌ {A = Option File} (Some x) (Some y) → x ≡ y
       file_is x y q = cc
@@ -315,6 +351,7 @@ module _ (content : List (List ℕ)) (v : Catalog) (n : Node) (l : LeavesVolume 
     units = units_again;
     log = told_again;
     ends = ends_again n.durable.greatest n.durable.directory (plain_at kept);
+    images = images_again n.durable.greatest (reopened n) n.durable.directory (images_at kept);
     named = named_again;
     few_locks = subst (λ (ls : List Lock). length ls ≤ 4096) (sym (locks_again n.durable.greatest (prepared_left n.durable) n.durable [])) kept.few;
   }

@@ -37,11 +37,11 @@ record HeadOf (heads : List (Option FileHead)) (f : ℕ) (name : List ℕ) : Typ
   named : name ≡ head.name
 
 head_for : (c : List (List ℕ)) (heads : List (Option FileHead)) (directory : List (Option File)) (f : ℕ) (file : File) → AreFiles c heads directory → file_at directory f ≡ Some file → HeadOf heads f file.name
-head_for c heads directory f file are there = go (head_at heads f) refl (subst (IsPlace c (head_at heads f)) there (are.each f))
+head_for c heads directory f file are there = go (head_at heads f) refl (subst (IsPlace c f (head_at heads f)) there (are.each f))
   where
-    go : (o : Option FileHead) → head_at heads f ≡ o → IsPlace c o (Some file) → HeadOf heads f file.name
+    go : (o : Option FileHead) → head_at heads f ≡ o → IsPlace c f o (Some file) → HeadOf heads f file.name
     go None e is = absurd is
-    go (Some h) e is = record { head = h; there = e; named = is.head.name }
+    go (Some h) e is = record { head = h; there = e; named = is.0.head.name }
 
 names_differ : (c : List (List ℕ)) (v : Catalog) (name : List ℕ) (size : ℕ) (directory : List (Option File)) → IsSound name size v → AreFiles c v.heads directory → (p q : ℕ) (f g : File) → file_at directory p ≡ Some f → file_at directory q ≡ Some g → f.name ≡ g.name → p < q → ⊥
 names_differ c v name size directory sound are p q f g at_p at_q same less =

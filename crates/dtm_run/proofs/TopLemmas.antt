@@ -11,6 +11,7 @@ use Rattle.run_model.specs.Transcript.{AreOpening, Entry}
 use Rattle.run_model.proofs.NodeLists.{some_is}
 use Rattle.run_laws.specs.Laws.{AgreedPromisesAreKept, PromisesAreKept}
 use Rattle.manager_laws.specs.Promises.{ManagerPromisesHold}
+use Rattle.recovery_runs.specs.Promises.{RecoveryPromisesHold}
 use Rattle.node_requests.specs.Standing.{counts_of, noted_all}
 use Rattle.run_nodes.specs.Names.{AreApart}
 use Rattle.run_nodes.proofs.Places.{apart_nodes}
@@ -88,7 +89,7 @@ pub stand_apart : (names : List (List ℕ)) (ds : List DiskState) (ns : List Nod
 stand_apart names ds ns apart h = apart_nodes ns (subst AreApart (stand_names names ds ns h) apart)
 
 -- The whole run keeps its promises.
-pub run_over : (names : List (List ℕ)) (nodes : List Node) (before after : List DiskState) (script old new old' new' : Option (List ℕ)) (x : Exit) → PromisesAreKept × ManagerPromisesHold → AgreedPromisesAreKept → AreApart names → AreOpening nodes → StandOn names before nodes → old' ≡ old → new' ≡ new →
+pub run_over : (names : List (List ℕ)) (nodes : List Node) (before after : List DiskState) (script old new old' new' : Option (List ℕ)) (x : Exit) → PromisesAreKept × ManagerPromisesHold × RecoveryPromisesHold → AgreedPromisesAreKept → AreApart names → AreOpening nodes → StandOn names before nodes → old' ≡ old → new' ≡ new →
     RunsFrom names (record { nodes = nodes; disks = before }) (option_map lines_of script) old new x after → RunOver names nodes before after script old' new' x
 run_over names nodes before after script old new old' new' x law agreed apart opening stand e f r =
     let first : Beginning = record { nodes = nodes; disks = before } in
@@ -100,6 +101,7 @@ run_over names nodes before after script old new old' new' x law agreed apart op
       run = r;
       promises = law.0 r.last.nodes (map counts_of r.last.disks) r.since r.closing begins legal;
       managers = law.1 r.last.nodes (map counts_of r.last.disks) r.since r.closing begins legal;
+      recoveries = law.2 r.last.nodes (map counts_of r.last.disks) r.since r.closing begins legal;
       agreed = λ known agree. agreed r.last.nodes (map counts_of r.last.disks) r.since r.closing begins differ known agree legal;
     })
 

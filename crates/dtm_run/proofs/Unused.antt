@@ -57,6 +57,7 @@ opening_fresh n o = record {
     units = record { tells = o.units.tells; marked = λ up. let none : ⊥ = cc in absurd none; reached = o.units.reached; names = o.units.names };
     log = record { distinct = o.log.distinct; reached = o.log.reached; prepared_within = o.log.prepared_within; committed_within = o.log.committed_within; prepared = o.log.prepared; active = o.log.active; transactions = o.log.transactions; unsettled = o.log.unsettled; few = o.log.few; slots = o.log.slots };
     ends = o.ends;
+    images = o.images;
     named = o.named;
     few_locks = o.few_locks;
   };
@@ -90,6 +91,7 @@ unknown_first n o = record {
   units = record { tells = o.units.tells; marked = λ up. let none : ⊥ = cc in absurd none; reached = o.units.reached; names = o.units.names };
   log = record { distinct = o.log.distinct; reached = o.log.reached; prepared_within = o.log.prepared_within; committed_within = o.log.committed_within; prepared = o.log.prepared; active = o.log.active; transactions = o.log.transactions; unsettled = o.log.unsettled; few = o.log.few; slots = o.log.slots };
   ends = o.ends;
+  images = o.images;
   named = o.named;
   few_locks = subst (λ (ls : List Lock). length ls ≤ 4096) (sym (same_locks (prepared_left n.durable) n.durable [])) o.few_locks;
 }
@@ -122,6 +124,7 @@ made_first n slots journal few =
       units = record { tells = λ place f there. absurd (no_file 64 place f there); marked = λ up. let none : ⊥ = cc in absurd none; reached = tt; names = λ p q f g there other same. absurd (no_file 64 p f there) };
       log = record { distinct = log.distinct; reached = log.reached; prepared_within = log.prepared_within; committed_within = log.committed_within; prepared = log.prepared; active = log.active; transactions = log.transactions; unsettled = log.unsettled; few = log.few; slots = log.slots };
       ends = tt;
+      images = tt;
       named = λ file none. refl;
       few_locks = subst (λ rs. length (relocked (prepared_of rs) (made_volume slots journal) []) ≤ lock_limit) (sym (none_in slots)) (omega arith);
     }
@@ -233,6 +236,9 @@ request_stays said.LmcpShow = plain_task (Serves said.LmcpShow) refl
 request_stays said.LmcpDump = plain_task (Serves said.LmcpDump) refl
 request_stays (said.Dump file) = plain_task (Serves (said.Dump file)) refl
 request_stays said.DumpJournal = plain_task (Serves said.DumpJournal) refl
+request_stays (said.DumpImages file side) = plain_task (Serves (said.DumpImages file side)) refl
+request_stays (said.Backup file) = plain_task (Serves (said.Backup file)) refl
+request_stays (said.Recover file way) = plain_task (Serves (said.Recover file way)) refl
 request_stays said.Crash = plain_task (Serves said.Crash) refl
 
 task_stays : (t : Task) → TaskStays t

@@ -16,6 +16,7 @@ use Rattle.run_laws.specs.Anew.{AreKnownOrAnew}
 use Rattle.run_laws.specs.Laws.{AgreedPromises}
 use Rattle.run_laws.specs.Promises.{KeptPromises}
 use Rattle.manager_laws.specs.Promises.{ManagerPromises}
+use Rattle.recovery_runs.specs.Promises.{RecoveryPromises}
 use Rattle.node_requests.specs.Telling.{Passes}
 use Rattle.volume.specs.declared.catalog.Catalog.{Catalog}
 use Rattle.volume.specs.Catalogs.{IsSound, TellsCatalog}
@@ -114,6 +115,7 @@ pub record WholeRun (nodes : List Node) (before after : List DiskState) (script 
   pub run : RunsTo (opened nodes (map counts_of before)) before (option_map lines_of script) old new ended after
   pub promises : KeptPromises (opened nodes (map counts_of before)) run.ran.entries run.ran.closing
   pub managers : ManagerPromises (opened nodes (map counts_of before)) run.ran.entries run.ran.closing
+  pub recoveries : RecoveryPromises (opened nodes (map counts_of before)) run.ran.entries run.ran.closing
   pub agreed : KeepsAgreed (opened nodes (map counts_of before)) nodes run.ran.entries run.ran.closing
 
 -- the answer to words that are no command, and what was shown for it

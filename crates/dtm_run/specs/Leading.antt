@@ -13,6 +13,7 @@ use Rattle.run_model.specs.Transcript.{AreInLimits, AreOpening, Ends, Entry, Tur
 use Rattle.run_laws.specs.Anew.{IsMadeFirst}
 use Rattle.run_laws.specs.Promises.{KeptPromises}
 use Rattle.manager_laws.specs.Promises.{ManagerPromises}
+use Rattle.recovery_runs.specs.Promises.{RecoveryPromises}
 use Rattle.run_said.specs.Said.{Said, SaidNode, is_settling, said_here}
 use Rattle.node_requests.specs.Standing.{counts_of}
 use Rattle.node_requests.specs.Telling.{said_label}
@@ -131,6 +132,7 @@ pub record RunOver (names : List (List ℕ)) (nodes : List Node) (before after :
   pub run : RunsFrom names (record { nodes = nodes; disks = before }) (option_map lines_of script) old new ended after
   pub promises : KeptPromises (world_at run.last) run.since run.closing
   pub managers : ManagerPromises (world_at run.last) run.since run.closing
+  pub recoveries : RecoveryPromises (world_at run.last) run.since run.closing
   pub agreed : KeepsAgreed (world_at run.last) run.last.nodes run.since run.closing
 
 -- something is known of the disk of each of these nodes

@@ -1,5 +1,5 @@
 -- The nodes that a run may begin with.
-use Rattle.std.specs.Prelude.{◌≡◌, ◌⊎◌, ◌<◌, ◌≤◌, ◌^◌, ℕ, List, [], ◌∷◌, true, false, Option, Some, IfSome, is_some, length}
+use Rattle.std.specs.Prelude.{◌≡◌, ◌⊎◌, ◌<◌, ◌≤◌, ◌^◌, ℕ, List, [], ◌∷◌, Bool, true, false, Option, Some, IfSome, is_some, length}
 use Rattle.std.specs.List.{All}
 use Rattle.block_disk.specs.Blocks.{IsWhole, block_at}
 use Rattle.block_disk.specs.Disk.{DiskState}
@@ -10,10 +10,13 @@ use Rattle.volume.specs.declared.catalog.Catalog.{Catalog}
 use Rattle.volume.specs.Catalogs.{IsSound, TellsCatalog}
 use Rattle.log_laws.specs.Slots.{Slots, records_in}
 use Rattle.lmcp_log.specs.Keeping.{IsWhole as IsWholeLog, Keeps}
-use Rattle.run_model.specs.World.{Node, IsOpening, LastIsReached}
+use Rattle.vms_model.specs.Ids.{Id}
+use Rattle.recovery_model.specs.Opening.{IsLawful, IsOpening as IsTellingOpening, as_found}
+use Rattle.run_model.specs.World.{Carried, File, IsOpening, KeepsImages, LastIsReached, Node, state_of}
+use Rattle.world_laws.specs.Running.{AllFound}
 use Rattle.run_model.specs.Transcript.{AreOpening}
 use Rattle.world_laws.specs.Nodes.{IsKeptDisk}
-use Rattle.directory_model.specs.Files.{head_at}
+use Rattle.directory_model.specs.Files.{IsCarried, IsFile as IsFileOf, head_at}
 use Rattle.volume_model.specs.Homes.{last_of}
 use Rattle.volume_model.specs.Volumes.{LeavesVolume}
 use Rattle.recovery_units.specs.Uses.{IsCounted}
@@ -23,13 +26,22 @@ use Rattle.run_chains.specs.Chains.{IsNew}
 use Rattle.dtm_run.specs.Headline.{StandOn, StandsOn, is_known}
 use Rattle.dtm_run.specs.Leading.{AreKnown}
 
--- a head is one of a file of its organization, whose buckets are laid out
-abbrev pub HasLayout : List (List ℕ) → FileHead → Type 0
-HasLayout content h = IsFile h × IsLaidOut h content
+-- What the head of this number carries for its file's recovery, on a disk of this node, boot count and greatest moment: its rings and the save's blocks have journals and
+-- a save that a run may find, where no unsettled branch changed the file.
+pub record IsCarriedWell (content : List (List ℕ)) (node : List ℕ) (boot greatest : ℕ) (f : ℕ) (h : FileHead) : Type 0 where
+  pub carried : Carried
+  pub is : IsCarried content f h carried
+  pub keeps : (file : File) → file.carried ≡ carried → file.history.live ≡ [] → KeepsImages node boot greatest file
+
+-- a head is one of a file of its organization, whose buckets are laid out, and what it carries stands
+pub record HasLayout (content : List (List ℕ)) (node : List ℕ) (boot greatest : ℕ) (f : ℕ) (h : FileHead) : Type 0 where
+  pub form : IsFile h
+  pub laid : IsLaidOut h content
+  pub carries : IsCarriedWell content node boot greatest f h
 
 -- so is each head
-abbrev pub AreLaidOut : List (List ℕ) → List (Option FileHead) → Type 0
-AreLaidOut content heads = (f : ℕ) (h : FileHead) → head_at heads f ≡ Some h → HasLayout content h
+abbrev pub AreLaidOut : List (List ℕ) → (node : List ℕ) → (boot greatest : ℕ) → List (Option FileHead) → Type 0
+AreLaidOut content node boot greatest heads = (f : ℕ) (h : FileHead) → head_at heads f ≡ Some h → HasLayout content node boot greatest f h
 
 -- the slots of a log that has no record, as they stand in a volume
 pub record HasNoRecord (content : List (List ℕ)) (v : Catalog) : Type 0 where
@@ -40,11 +52,12 @@ pub record HasNoRecord (content : List (List ℕ)) (v : Catalog) : Type 0 where
   pub keeps : Keeps slots content
   pub whole : IsWholeLog slots content
 
--- What an earlier run left of a volume whose units are all settled: its files are laid out, its log has no record, its journal of recovery units has no entry and did
--- not come far, and the last settlement, where there is one, is of a branch of this node, of a boot that was counted.
+-- What an earlier run left of a volume whose units are all settled: its files are laid out, with journals of images and saves that agree with that, its log has no
+-- record, its journal of recovery units has no entry and did not come far, and the last settlement, where there is one, is of a branch of this node, of a boot that was
+-- counted.
 pub record Rests (content : List (List ℕ)) (v : Catalog) : Type 0 where
   pub log : HasNoRecord content v
-  pub files : AreLaidOut content v.heads
+  pub files : AreLaidOut content v.home.node v.home.boot v.home.greatest_moment.0 v.heads
   pub empty : v.ru.first ≡ v.ru.end
   pub low : v.ru.end ≤ 2 ^ 62
   pub last : IfSome (last_of v.home) (λ s. (s.serial.node ≡ v.home.node) × (s.serial.boot ≤ v.home.boot))
@@ -64,6 +77,29 @@ pub record IsLeftByOne (name : List ℕ) (size : ℕ) (content : List (List ℕ)
 abbrev pub HasKnownVolume : List ℕ → ℕ → List (List ℕ) → Type 0
 HasKnownVolume name size content = (catalog : Catalog) → TellsCatalog catalog content → length catalog.heads ≡ 64 → IsSound name size catalog → Rests content catalog ⊎ IsLeftByOne name size content catalog
 
+-- What the journals of images and the save of a file tell of earlier moments.
+
+-- Of a file of this head that no unsettled branch changed they agree with the file's records and with one another, whichever branches may yet commit.
+abbrev pub TellsMoments : List (List ℕ) → (greatest : ℕ) → (f : ℕ) → FileHead → Type 0
+TellsMoments content greatest f h = (waits : Id → Bool) (file : File) → IsFileOf content h file → IsCarried content f h file.carried → file.history.settled ≡ [] → file.history.live ≡ [] → IsLawful waits greatest (state_of file)
+
+-- so of each file of a volume that rests
+pub record RestsWhole (content : List (List ℕ)) (v : Catalog) : Type 0 where
+  pub rests : Rests content v
+  pub tells : (f : ℕ) (h : FileHead) → head_at v.heads f ≡ Some h → TellsMoments content v.home.greatest_moment.0 f h
+
+-- and of each that a node left as it fell, where of unsettled branches these may yet commit
+pub record IsLeftWhole (waits : Id → Bool) (name : List ℕ) (size : ℕ) (content : List (List ℕ)) (v : Catalog) : Type 0 where
+  pub left : IsLeftByOne name size content v
+  pub tells : AllFound (λ file f. IsTellingOpening waits left.node.durable.greatest (as_found left.node.durable.greatest (state_of f))) left.node.durable.directory
+
+abbrev pub HasWholeVolume : (waits : Id → Bool) → List ℕ → ℕ → List (List ℕ) → Type 0
+HasWholeVolume waits name size content = (catalog : Catalog) → TellsCatalog catalog content → length catalog.heads ≡ 64 → IsSound name size catalog → RestsWhole content catalog ⊎ IsLeftWhole waits name size content catalog
+
+-- the files of a node that a run finds agree so with their journals and saves
+abbrev pub AreTelling : (waits : Id → Bool) → Node → Type 0
+AreTelling waits n = AllFound (λ file f. IsTellingOpening waits n.durable.greatest (state_of f)) n.durable.directory
+
 -- A disk that tells its content, on which nothing is pending. It has 4,096 blocks or more, as a rack asks, and each is of 512 bytes, as every disk
 -- tells. Where it has a volume of the node of this name, that rests, or a node left it so.
 pub record IsMade (name : List ℕ) (d : DiskState) : Type 0 where
@@ -75,6 +111,11 @@ pub record IsMade (name : List ℕ) (d : DiskState) : Type 0 where
   pub whole : IsWhole d.size image
   pub bytes : (n : ℕ) → n < d.size → All (λ b. b < 256) (block_at image n)
   pub volume : HasKnownVolume name d.size (content_of image)
+
+-- So made, and the files of its volume agree with their journals and saves.
+pub record IsMadeWhole (waits : Id → Bool) (name : List ℕ) (d : DiskState) : Type 0 where
+  pub made : IsMade name d
+  pub volume : HasWholeVolume waits name d.size (content_of made.image)
 
 -- so of the disks of a rack
 abbrev pub AreMade : List (List ℕ) → List DiskState → Type 0
@@ -94,9 +135,11 @@ AreTold names ds = ⊥
 
 -- On each disk that tells its content there stands a node as before the first line. Where an earlier run is known to have left its volume, or it has none, so is
 -- what the node's disk has; and the premises of what more is promised where images agree can be met: its last settlement is of no branch that stands unsettled, and where
--- it has no volume nothing ever happened on it. And so for all disks of a rack.
+-- it has no volume nothing ever happened on it. Where the volume's files agree with their journals and saves, so do the node's, and what a run promises of
+-- recoveries can be met. And so for all disks of a rack.
 pub record OpeningsExist : Type 0 where
   pub one : (name : List ℕ) (d : DiskState) → IsTold d → (n : Node) × IsOpening n × StandsOn name d n
   pub all : (names : List (List ℕ)) (ds : List DiskState) → AreTold names ds → (nodes : List Node) × AreOpening nodes × StandOn names ds nodes
   pub one_known : (name : List ℕ) (d : DiskState) → IsMade name d → (n : Node) × IsOpening n × StandsOn name d n × (is_known n.durable.volume ≡ true) × IsLastApart n × (has_volume n ≡ false → IsNew n)
   pub all_known : (names : List (List ℕ)) (ds : List DiskState) → AreMade names ds → (nodes : List Node) × AreOpening nodes × StandOn names ds nodes × AreKnown nodes × AreLastApart nodes
+  pub one_whole : (waits : Id → Bool) (name : List ℕ) (d : DiskState) → IsMadeWhole waits name d → (n : Node) × IsOpening n × StandsOn name d n × (is_known n.durable.volume ≡ true) × IsLastApart n × AreTelling waits n

@@ -31,6 +31,7 @@ use day_script::Day;
 use day_tally::{Counts, LineCounter, write_end};
 use dtm_node::{Node, Shared};
 use manager_laws::manager_promises_hold;
+use recovery_runs::recovery_promises_hold;
 use recovery_units::RecoveryUnits;
 use run_laws::promises::promises_hold;
 use run_nodes::{Nodes, serve_statement};
@@ -71,7 +72,8 @@ pub fn run<S: Source, K: Sink, D: Disk + Drop, U: RecoveryUnits>(
     rack: &mut Rack<D>,
 ) -> Exit
     requires rack { IsRack D.state rack.old }
-    // Where the words are a command for a script: from all nodes that stand on the disks before the first line, the transcript is legal and keeps its promises,
+    // Where the words are a command for a script: from all nodes that stand on the disks before the first line, the transcript is legal and keeps its promises, also
+    // those of recoveries,
     // and the disks have what its nodes have. Where nothing is known of a disk, this is so up to a statement that may bring its node up, and anew
     // behind a BOOT that was refused while nothing else had come of the nodes, of which those of whose disks something is known are kept.
     ensures runs { is_run_form_of (names_in rack.old) (map string_bytes words.now) ≡ true → (nodes : List NodeSaid) → AreOpening nodes → StandOn (names_in rack.old) (states_in D.state rack.old) nodes →
@@ -102,6 +104,7 @@ pub fn run<S: Source, K: Sink, D: Disk + Drop, U: RecoveryUnits>(
 {
     promises_hold();
     manager_promises_hold();
+    recovery_promises_hold();
     let Ok(buffer) = LineBuffer::reserve(alloc) else {
         return Exit::Memory;
     };

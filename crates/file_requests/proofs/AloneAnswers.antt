@@ -20,7 +20,7 @@ use Rattle.volume.specs.State.{SameVolume}
 use Rattle.volume_model.specs.Volumes.{HasDisk}
 use Rattle.recovery_units.specs.Calls.{IsAskedAlone, IsDone, IsNotDone, IsSeen, KeepsUp, alone_early, alone_late, change_said, direct_act, read_said, refusal_of}
 use Rattle.recovery_units.specs.State.{IsInOrder, IsKept, UnitsState}
-use Rattle.recovery_units.specs.Uses.{Caused, Grows}
+use Rattle.recovery_units.specs.Uses.{Caused, Grows, ImagesGrow}
 use Rattle.node_table.specs.Standing.{Stored}
 use Rattle.file_requests.specs.Acting.{ActsAlone, LooksAlone, alone_service}
 use Rattle.file_requests.specs.Asking.{ShowsCause}
@@ -29,6 +29,7 @@ use Rattle.file_requests.specs.Serving.{SameStored, disk_of}
 use Rattle.file_requests.proofs.BranchAnswers.{no_down}
 use Rattle.file_requests.proofs.Kept.{keeps_same}
 use Rattle.file_requests.proofs.Operating.{alone_row, alone_up, looks_row}
+use Rattle.file_requests.proofs.Calls.{images_same}
 use Rattle.file_requests.proofs.Reading.{kept_still, order_still, stored_of_volume}
 use Rattle.file_requests.proofs.Replied.{since_emits}
 use Rattle.file_requests.proofs.Served.{both_none, broken_comes, cut_first, listed, refusal_comes, refused, served}
@@ -50,10 +51,10 @@ ForAlone id clock f op u P = (n : Node) (name : List ℕ) (file : File) → IsAs
 
 module _ (id : Id) (clock f : ℕ) (op : Operation) (u new : Stored) (o : IsInOrder u.units u.volume) (changes : is_change op ≡ true) (units : new.units ≡ u.units) (doubts : new.in_doubt ≡ u.in_doubt) (grows : Grows 1 clock u.volume new.volume) where
   -- it was done under this id
-  pub alone_done : (moment : ℕ) (told : Line) (a b : Shown) → IsInOrder new.units new.volume → IsPlain told → Emits a (line.Committed id id moment ∷ told ∷ []) b →
+  pub alone_done : (moment : ℕ) (told : Line) (a b : Shown) → ImagesGrow u.volume new.volume → IsInOrder new.units new.volume → IsPlain told → Emits a (line.Committed id id moment ∷ told ∷ []) b →
       ForAlone id clock f op u (λ n early late act file. IsDone early late act (operation_answer file op) told n u.units new.volume × (moment ≡ next_moment n)) → ActsAlone (Ok true) id clock f op u new a b
-  alone_done moment told a b order plain m done = record {
-    keeps = record { order = order; in_doubt = doubts; grows = grows; cause = tt; since = since_emits a b _ m; replies = record { lines = line.Committed id id moment ∷ []; answer = told; shows = m; quiet = (refl, tt); plain = plain } };
+  alone_done moment told a b far order plain m done = record {
+    keeps = record { order = order; in_doubt = doubts; grows = grows; images = far; cause = tt; since = since_emits a b _ m; replies = record { lines = line.Committed id id moment ∷ []; answer = told; shows = m; quiet = (refl, tt); plain = plain } };
     units = units;
     acts = λ s n name file q next at up.
         let d = done n name file q next at (alone_up n name file op changes up) in
@@ -68,7 +69,7 @@ module _ (id : Id) (clock f : ℕ) (op : Operation) (u new : Stored) (o : IsInOr
       let still = same (no_down e l is) in
       let all = stored_of_volume u new still units doubts in
       record {
-        keeps = record { order = order_still u new all o; in_doubt = doubts; grows = grows; cause = tt; since = since_emits a b _ m; replies = replies };
+        keeps = record { order = order_still u new all o; in_doubt = doubts; grows = grows; images = images_same u.volume new.volume still; cause = tt; since = since_emits a b _ m; replies = replies };
         units = units;
         acts = λ s n name file q next at up.
             refusal_comes (alone_service n name file op) s n a b (SameStored u new × (false ≡ false)) (λ m. IsKept new.units new.volume m × (false ≡ true)) (disk_of new) Bool false e l (direct_act n name file op) (disk_of new) is (not_done n name file q next at (alone_up n name file op changes up)) (all, refl) m;
@@ -78,7 +79,7 @@ module _ (id : Id) (clock f : ℕ) (op : Operation) (u new : Stored) (o : IsInOr
   pub alone_fell : (e : RecErr) (down : Down) (a b : Shown) → Caused (down_in e) (disk_of u) (disk_of new) → RepliesIf {T = Unit {0}} (Err down) a b → refusal_of e ≡ None → down_in e ≡ Some down → Emits a [] b → ForAlone id clock f op u (λ n early late act file. IsNotDone e early late act n (disk_of new)) →
       ActsAlone (Err down) id clock f op u new a b
   alone_fell e down a b caused replies is fell m not_done = record {
-    keeps = record { order = tt; in_doubt = doubts; grows = grows; cause = subst (λ o. Caused o (disk_of u) (disk_of new)) fell caused; since = since_emits a b _ m; replies = replies };
+    keeps = record { order = tt; in_doubt = doubts; grows = grows; images = tt; cause = subst (λ o. Caused o (disk_of u) (disk_of new)) fell caused; since = since_emits a b _ m; replies = replies };
     units = units;
     acts = λ s n name file q next at up.
         broken_comes (alone_service n name file op) s n a b (SameStored u new × (Unit {0})) (λ m. IsKept new.units new.volume m × (Unit {0})) (disk_of new) Bool down e (direct_act n name file op) (line.Committed (next_id n) (next_id n) (next_moment n) ∷ []) is
@@ -111,7 +112,7 @@ module _ (f : ℕ) (op : Operation) (u new : Stored) (o : IsInOrder u.units u.vo
       let still = same (no_down e shows.0 shows.1) in
       let is = stored_of_volume u new still units doubts in
       record {
-        keeps = record { order = order_still u new is o; in_doubt = doubts; grows = grows; cause = tt; since = since_emits a b _ shows.2; replies = replies };
+        keeps = record { order = order_still u new is o; in_doubt = doubts; grows = grows; images = images_same u.volume new.volume still; cause = tt; since = since_emits a b _ shows.2; replies = replies };
         same = is;
         units = units;
         acts = λ s n name file q. refused (alone_service n name file op) s n a b (SameStored u new) (IsKept new.units new.volume) (disk_of new) (Unit {0}) tt shows.0 (refusal n name file q) is shows.2;
@@ -120,7 +121,7 @@ module _ (f : ℕ) (op : Operation) (u new : Stored) (o : IsInOrder u.units u.vo
       refusal : (n : Node) (name : List ℕ) (file : File) → IsAskedAlone f u.units u.volume n name file → first_of (alone_early n name file op) (alone_late n name file op) ≡ Some shows.0
       refusal n name file q = let k = not_seen n name file q in let is = shows.1 in rw (is, IsNotSeen) at k
   looked_err e (Err down) a b same caused replies shows not_seen = record {
-    keeps = record { order = tt; in_doubt = doubts; grows = grows; cause = subst (λ o. Caused o (disk_of u) (disk_of new)) shows.1 caused; since = since_emits a b _ shows.2; replies = replies };
+    keeps = record { order = tt; in_doubt = doubts; grows = grows; images = tt; cause = subst (λ o. Caused o (disk_of u) (disk_of new)) shows.1 caused; since = since_emits a b _ shows.2; replies = replies };
     same = tt;
     units = units;
     acts = λ s n name file q. cut_first (alone_service n name file op) s n a b (SameStored u new) (IsKept new.units new.volume) (disk_of new) (Unit {0}) down (broken n name file q).0 (broken n name file q).1 shows.2;

@@ -11,7 +11,7 @@ use Rattle.run_model.specs.Operations.{changes_of, keys_held, operation_answer}
 use Rattle.record_operations.specs.Causes.{down_in}
 use Rattle.recovery_units.specs.Calls.{IsAsked, IsDone, IsNotDone, KeepsUp, refusal_of, unit_act, unit_early, unit_late}
 use Rattle.recovery_units.specs.State.{IsInOrder, IsKept, WorksFor}
-use Rattle.recovery_units.specs.Uses.{Caused, Grows}
+use Rattle.recovery_units.specs.Uses.{Caused, Grows, ImagesGrow}
 use Rattle.record_operations.specs.declared.errors.RecErr.{RecErr}
 use Rattle.record_operations.specs.declared.errors.RecErr.TheVariants as err
 use Rattle.node_table.specs.Standing.{Stored}
@@ -20,7 +20,8 @@ use Rattle.file_requests.specs.Asking.{ShowsCause}
 use Rattle.file_requests.specs.Replying.{IsPlain, RepliesIf}
 use Rattle.file_requests.specs.Serving.{SameStored, disk_of}
 use Rattle.file_requests.proofs.Operating.{act_shares, branch_up}
-use Rattle.file_requests.proofs.Reading.{order_still}
+use Rattle.file_requests.proofs.Calls.{images_same}
+use Rattle.file_requests.proofs.Reading.{order_still, volume_of_stored}
 use Rattle.file_requests.proofs.Replied.{replies_one, since_emits}
 use Rattle.file_requests.proofs.Served.{broken_comes, refusal_comes, served}
 
@@ -43,6 +44,8 @@ no_down err.Changes l h = refl
 no_down err.Locks l h = refl
 no_down (err.FileFull free need) l h = refl
 no_down (err.JournalFull free need) l h = refl
+no_down (err.AfterImagesFull free need) l h = refl
+no_down (err.BeforeImagesFull free need) l h = refl
 
 -- what the units answered, at each node of the world that is asked so and is up behind the act too
 abbrev pub ForAsked : (serial : Id) (f : ℕ) (op : Operation) (u : Stored) → ((n : Node) (early late : Option Line) (act : Act) (file : File) → Type 0) → Type 0
@@ -51,10 +54,10 @@ ForAsked serial f op u P = (n : Node) (name : List ℕ) (file : File) (branch : 
 
 module _ (serial : Id) (f : ℕ) (op : Operation) (u new : Stored) (o : IsInOrder u.units u.volume) (doubts : new.in_doubt ≡ u.in_doubt) (works : WorksFor serial u.units new.units) (grows : Grows 0 0 u.volume new.volume) where
   -- it was done, and this was shown
-  pub asked_done : (told : Line) (a b : Shown) → IsInOrder new.units new.volume → IsPlain told → Emits a (told ∷ []) b →
+  pub asked_done : (told : Line) (a b : Shown) → ImagesGrow u.volume new.volume → IsInOrder new.units new.volume → IsPlain told → Emits a (told ∷ []) b →
       ForAsked serial f op u (λ n early late act file. IsDone early late act (operation_answer file op) told n new.units new.volume) → ActsFor {T = Unit {0}} (Ok tt) serial f op u new a b
-  asked_done told a b order plain m done = record {
-    keeps = record { order = order; in_doubt = doubts; grows = grows; cause = tt; since = since_emits a b _ m; replies = replies_one a b told m plain };
+  asked_done told a b far order plain m done = record {
+    keeps = record { order = order; in_doubt = doubts; grows = grows; images = far; cause = tt; since = since_emits a b _ m; replies = replies_one a b told m plain };
     works = works;
     acts = λ s n name file branch q up.
         let d = done n name file branch q (branch_up n branch name file op up) in
@@ -68,13 +71,13 @@ module _ (serial : Id) (f : ℕ) (op : Operation) (u new : Stored) (o : IsInOrde
   asked_err e (Ok tt) a b same caused replies shows not_done =
       let is = same (no_down e shows.0 shows.1) in
       record {
-        keeps = record { order = order_still u new is o; in_doubt = doubts; grows = grows; cause = tt; since = since_emits a b _ shows.2; replies = replies };
+        keeps = record { order = order_still u new is o; in_doubt = doubts; grows = grows; images = images_same u.volume new.volume (volume_of_stored u new is); cause = tt; since = since_emits a b _ shows.2; replies = replies };
         works = works;
         acts = λ s n name file branch q up.
             refusal_comes (branch_service n branch name file op) s n a b (SameStored u new) (IsKept new.units new.volume) (disk_of new) (Unit {0}) tt e shows.0 (unit_act branch name file op) (disk_of new) shows.1 (not_done n name file branch q (branch_up n branch name file op up)) is shows.2;
       }
   asked_err e (Err down) a b same caused replies shows not_done = record {
-    keeps = record { order = tt; in_doubt = doubts; grows = grows; cause = subst (λ o. Caused o (disk_of u) (disk_of new)) shows.1 caused; since = since_emits a b _ shows.2; replies = replies };
+    keeps = record { order = tt; in_doubt = doubts; grows = grows; images = tt; cause = subst (λ o. Caused o (disk_of u) (disk_of new)) shows.1 caused; since = since_emits a b _ shows.2; replies = replies };
     works = works;
     acts = λ s n name file branch q up.
         broken_comes (branch_service n branch name file op) s n a b (SameStored u new) (IsKept new.units new.volume) (disk_of new) (Unit {0}) down e (unit_act branch name file op) [] shows.0 (not_done n name file branch q (branch_up n branch name file op up)) (λ none. refl) shows.2;

@@ -1,17 +1,19 @@
 -- Calls of the store, one after another, and what they leave of a volume.
-use Rattle.std.proofs.Common.{◌≡◌, ℕ, ◌+◌, ◌<◌, ◌≤◌, ◌^◌, Bool, true, false, Option, Some, None, Result, Ok, Err, OnOk, refl, sym, subst, ◌∙◌, arith, inl, inr}
+use Rattle.std.proofs.Common.{◌≡◌, ℕ, ◌+◌, ◌<◌, ◌≤◌, ◌^◌, Bool, true, false, Option, Some, None, Result, Ok, Err, OnOk, refl, sym, subst, ◌∙◌, arith, inl, inr, List, ap}
 use Rattle.std.specs.Prelude.{nat_lt}
 use Rattle.std.proofs.Math.Nat.{max-zero}
 use Rattle.std.proofs.lemmas.Bool.{ltb-true, ltb-false}
 use Rattle.block_disk.specs.Counts.{counted}
 use Rattle.block_disk.specs.Disk.{DiskState}
+use Rattle.image_room.specs.Room.{images_end}
 use Rattle.careful_write.specs.Down.{Counts, answered, is_failed, is_stopped}
 use Rattle.careful_write.specs.declared.down.Down.{Down}
 use Rattle.careful_write.specs.declared.down.Down.TheVariants as down
 use Rattle.transcript_model.specs.Outside.{Rose}
 use Rattle.transcript_model.proofs.OutsideLemmas.{rose_earlier}
-use Rattle.volume.specs.State.{VolumeState}
-use Rattle.recovery_units.specs.Uses.{Caused, Goes, Grows, down_of}
+use Rattle.volume.specs.declared.catalog.Catalog.{Catalog}
+use Rattle.volume.specs.State.{SameVolume, VolumeState}
+use Rattle.recovery_units.specs.Uses.{Caused, Goes, Grows, ImagesGrow, down_of}
 
 up : (b : Bool) (n : ℕ) → n < 2 ^ 64 → (n ≤ counted b n) × (counted b n < 2 ^ 64)
 up true n h = (omega arith, omega arith)
@@ -76,6 +78,18 @@ caused_on (Some down.Failed) a b c g k = λ h. rose_earlier _ _ _ (g.faults h) (
 caused_on (Some down.Stopped) a b c g k = λ h. rose_earlier _ _ _ (g.stops h) (k (g.counted h))
 
 -- The volume.
+
+-- so are the ends of the rings where the catalog is
+pub images_still : (v w : VolumeState) → w.catalog ≡ v.catalog → ImagesGrow v w
+images_still v w same = let e = ap (λ (k : Catalog). images_end k.heads) same in omega (arith, e)
+
+pub images_same : (v w : VolumeState) → SameVolume v w → ImagesGrow v w
+images_same v w same = images_still v w (ap (λ (x : VolumeState). x.catalog) same)
+
+-- what holds anyway holds of a success
+pub on_ok_any : {T E A : Type 0} (r : Result T E) → A → OnOk r A
+on_ok_any (Ok x) a = a
+on_ok_any (Err e) a = tt
 
 -- its numbers that only grow are as they were
 pub grows_still : (v w : VolumeState) → w.catalog.home ≡ v.catalog.home → w.catalog.ru ≡ v.catalog.ru → w.store.pool ≡ v.store.pool → Goes v.store.disk w.store.disk → Grows 0 0 v w

@@ -144,5 +144,5 @@ module _ (name : List ℕ) (bucket size : ℕ) (form : Form) (u : Stored) (o : I
             keeps = makes.keeps;
             units = makes.units;
             serves = λ shared n ready.
-                subst (λ (q : ServiceAt). DoesThere r q shared n u new a b) (sym (create_is shared n ready.kept)) (makes.acts shared n (file_made n) ready.kept ready.up refl (become h n is));
+                subst (λ (q : ServiceAt). DoesThere r q shared n u new a b) (sym (create_is shared n ready.kept)) (makes.acts shared n (file_made n) ready.kept ready.up refl refl (become h n is));
           }

@@ -24,7 +24,8 @@ use Rattle.unit_laws.specs.Journal.{JournalEntry, ChangeEntry, PreparedEntry, Se
 use Rattle.run_model.specs.Answers.{entry_line}
 use Rattle.directory_model.specs.Files.{head_at}
 use Rattle.volume.specs.State.{VolumeState}
-use Rattle.volume_model.specs.Entries.{IsFileOf, entry_for, image_bytes, key_bytes}
+use Rattle.file_images.specs.Images.{image_bytes, key_bytes}
+use Rattle.volume_model.specs.Entries.{IsFileOf, entry_for}
 use Rattle.volume_model.proofs.EntryLemmas.{entries_follow}
 use Rattle.recovery_units.specs.State.{IsKeyBy, IsShowable}
 use Rattle.file_requests.specs.Listing.{change_shown, key_by}
@@ -91,10 +92,10 @@ spelled_long heads e f file is =
     let alone = ap length (append-nil (spelling (entry_for f e))) in
     sym alone ∙ one ∙ omega arith
 
-module _ (v : VolumeState) (position : ℕ) (content : List (List ℕ)) (e : JournalEntry) (f : ℕ) (told : v.store.current ≡ Some content) (file : IsFileOf v.catalog.heads e f) (is : IsEntry (entry_for f e)) (stands : StandsAt v.catalog.ru position (entry_for f e) content)
-    (s : Span) (now : Option (List (List ℕ))) (o : Option (EntryHead × ℕ)) (image : List ℕ) (ring : s ≡ v.catalog.ru) (same : now ≡ v.store.current) (reads : IfSome now (ReadsAt s position o image)) where
-  at_here : (p : Option (EntryHead × ℕ)) → o ≡ p → ReadsAt v.catalog.ru position p image content
-  at_here p at = subst (λ (x : Option (List (List ℕ))). IfSome x (ReadsAt v.catalog.ru position p image)) (same ∙ told) (subst (λ x. IfSome now (ReadsAt x position p image)) ring (subst (λ x. IfSome now (ReadsAt s position x image)) at reads))
+module _ (v : VolumeState) (s : Span) (position : ℕ) (content : List (List ℕ)) (e : JournalEntry) (f : ℕ) (told : v.store.current ≡ Some content) (file : IsFileOf v.catalog.heads e f) (is : IsEntry (entry_for f e)) (stands : StandsAt s position (entry_for f e) content)
+    (now : Option (List (List ℕ))) (o : Option (EntryHead × ℕ)) (image : List ℕ) (same : now ≡ v.store.current) (reads : IfSome now (ReadsAt s position o image)) where
+  at_here : (p : Option (EntryHead × ℕ)) → o ≡ p → ReadsAt s position p image content
+  at_here p at = subst (λ (x : Option (List (List ℕ))). IfSome x (ReadsAt s position p image)) (same ∙ told) (subst (λ x. IfSome now (ReadsAt s position x image)) at reads)
 
   pub reads_some : o ≡ None → ⊥
   reads_some none = at_here None none (entry_for f e) is stands

@@ -4,7 +4,7 @@ use Rattle.file_base.specs.declared.head.FileHead.{FileHead}
 use Rattle.transcript_model.specs.Lines as line
 use Rattle.transcript_model.specs.Lines.{Line}
 use Rattle.run_model.specs.World.{File, Node, find_file}
-use Rattle.directory_model.specs.Files.{IsFile, IsFoundAt, IsNamed, NoneNamed}
+use Rattle.directory_model.specs.Files.{IsCarried, IsFile, IsFoundAt, IsNamed, NoneNamed}
 use Rattle.recovery_units.specs.State.{IsKept}
 use Rattle.node_table.specs.Standing.{Stored}
 use Rattle.file_requests.specs.TheLaws.{TheLaws}
@@ -13,12 +13,13 @@ pub record FileAt (n : Node) (u : Stored) (k : IsKept u.units u.volume n) (f : �
   pub file : File
   pub is : IsFile k.content head file
   pub at : IsFoundAt name n.durable.directory f file
+  pub carried : IsCarried k.content f head file.carried
 
 module _ (n : Node) (u : Stored) (k : IsKept u.units u.volume n) (laws : TheLaws) where
   pub file_at_name : (f : ℕ) (head : FileHead) (name : List ℕ) → IsNamed u.volume.catalog.heads f head name → FileAt n u k f head name
   file_at_name f head name named =
       let x = laws.finds.found k.content u.volume.catalog.heads n.durable.directory f head name k.has.files named in
-      record { file = x.0; is = x.1; at = x.2 }
+      record { file = x.0; is = x.1; at = x.2; carried = x.3 }
 
   pub no_file : (name : List ℕ) → NoneNamed u.volume.catalog.heads 64 name → find_file name n.durable.directory ≡ None
   no_file name none = laws.finds.none k.content u.volume.catalog.heads n.durable.directory name k.has.files none

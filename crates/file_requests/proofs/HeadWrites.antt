@@ -1,5 +1,5 @@
 -- The directory block of a file is written in one group.
-use Rattle.std.proofs.Common.{◌≡◌, ⊎_elim, inl, inr, ℕ, ◌+◌, ◌-◌, ◌≤◌, List, false, Option, Some, None, IfSome, Result, Ok, Err, length, slice_set, option_map, refl, sym, ap, subst, ◌∙◌}
+use Rattle.std.proofs.Common.{◌≡◌, ⊎_elim, inl, inr, ℕ, ◌+◌, ◌-◌, ◌≤◌, List, false, Option, Some, None, IfSome, Result, Ok, Err, length, slice_set, option_map, refl, sym, ap, subst, ◌∙◌, map, ◌^◌}
 use Rattle.std.specs.List.{AllByRecursion}
 use Rattle.block_disk.specs.Disk.{DiskState}
 use Rattle.careful_write.specs.declared.down.Down.{Down}
@@ -16,8 +16,9 @@ use Rattle.unit_table.specs.Units.{Ascend, OpenUnit}
 use Rattle.run_model.specs.World.{Act, Node, Volume, Sound, Faulty, Barred, Unknown, acted, fallen}
 use Rattle.volume_model.specs.Volumes.{BarsBoots, FailsFirst, HasDisk, IsEitherOf, IsLeftBy}
 use Rattle.recovery_units.specs.Laws.{HeadWritten, KeepsNodes}
+use Rattle.image_room.specs.Room.{AllSettlementsFit, images_end}
 use Rattle.recovery_units.specs.State.{IsInOrder, IsKept, UnitsState, owed}
-use Rattle.recovery_units.specs.Uses.{Grows}
+use Rattle.recovery_units.specs.Uses.{Grows, ImagesGrow}
 use Rattle.file_requests.proofs.Calls.{goes_counts, grows_still}
 
 abbrev pub Content : Type 0
@@ -93,9 +94,12 @@ module _ {T : Type 0} (r : Result T Down) (f : ℕ) (h : FileHead) (bytes : List
   pub each_after : (c : Content) → v.store.current ≡ Some c → EachWhole (slice_set c (519 + f - 518) bytes)
   each_after c told = subst (λ o. IfSome o EachWhole) (told_after c told) wr.each
 
+  pub sized_after : (c : Content) → v.store.current ≡ Some c → length (slice_set c (519 + f - 518) bytes) + 518 ≡ v.store.disk.size
+  sized_after c told = subst (λ o. IfSome o (λ x. length x + 518 ≡ v.store.disk.size)) (told_after c told) wr.sized
+
   -- units and volume stay in order
-  pub order_written : (x : T) (s : UnitsState) → r ≡ Ok x → length (slice_set v.catalog.heads f (Some h)) ≡ 64 → IsSound v.catalog.home.node v.store.disk.size (catalog_with f h v.catalog) → IsInOrder s v → IsInOrder s w
-  order_written x s is long sound o = record {
+  pub order_written : (x : T) (s : UnitsState) → r ≡ Ok x → length (slice_set v.catalog.heads f (Some h)) ≡ 64 → IsSound v.catalog.home.node v.store.disk.size (catalog_with f h v.catalog) → AllSettlementsFit (map Some s.begun) (slice_set v.catalog.heads f (Some h)) → IsInOrder s v → IsInOrder s w
+  order_written x s is long sound rings o = record {
     idle = rw is at wr.idle;
     frames = subst (λ p. 32 ≤ free_frames p) (sym wr.pool) o.frames;
     heads = ap (λ (k : Catalog). length k.heads) wr.catalog ∙ long;
@@ -108,6 +112,7 @@ module _ {T : Type 0} (r : Result T Down) (f : ℕ) (h : FileHead) (bytes : List
     within = subst (λ (k : Catalog). AllByRecursion (λ (u : OpenUnit). Ascend k.ru.first k.ru.end u.positions) s.begun) (sym wr.catalog) o.within;
     few = o.few;
     slots = subst (λ (k : Catalog). 584 + length s.log ≤ k.ru.start) (sym wr.catalog) o.slots;
+    images = subst (λ (k : Catalog). AllSettlementsFit (map Some s.begun) k.heads) (sym wr.catalog) rings;
   }
     where
       now : w.store.current ≡ (with_block (519 + f) bytes v.store).current
@@ -135,6 +140,10 @@ module _ {T : Type 0} (r : Result T Down) (f : ℕ) (h : FileHead) (bytes : List
         leaves = λ whole. nodes.falls kept.content (catalog_with f h v.catalog) (acted act n) kept.has;
       }
 
-  -- numbers that only grow are as they were
+  -- the ends of the rings have grown no further than the head's
+  pub head_far : images_end (slice_set v.catalog.heads f (Some h)) ≤ images_end v.catalog.heads + 2 ^ 24 → ImagesGrow v w
+  head_far far = subst (λ (k : Catalog). images_end k.heads ≤ images_end v.catalog.heads + 2 ^ 24) (sym wr.catalog) far
+
+  -- other numbers that only grow are as they were
   pub head_grows : Grows 0 0 v w
   head_grows = grows_still v w (ap (λ (k : Catalog). k.home) wr.catalog) (ap (λ (k : Catalog). k.ru) wr.catalog) wr.pool (goes_counts r v.store.disk w.store.disk wr.counts)

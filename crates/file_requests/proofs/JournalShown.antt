@@ -17,16 +17,14 @@ use Rattle.volume.specs.State.{SameVolume, VolumeState}
 use Rattle.unit_laws.specs.Journal.{Journal, JournalEntry, ChangeEntry, PreparedEntry, SettledEntry, end_of, entries_size, entry_size}
 use Rattle.unit_laws.proofs.TrimLemmas.{size_append}
 use Rattle.run_model.specs.Answers.{entry_line, entry_lines}
-use Rattle.run_model.specs.World.{Node}
 use Rattle.volume_model.specs.Entries.{AreEntries, IsFileOf, entry_for}
 use Rattle.volume_model.proofs.EntryLemmas.{entries_follow}
-use Rattle.recovery_units.specs.Laws.{KeepsNodes}
-use Rattle.recovery_units.specs.State.{IsKept, IsShowable, UnitsState}
-use Rattle.file_requests.specs.Listing.{ShowsEntry, ShowsJournal}
+use Rattle.recovery_units.specs.State.{IsShowable}
+use Rattle.file_requests.specs.Listing.{HasShowable, ShowsEntry, ShowsJournal}
 
 -- Lines.
 
-lines_more : (position : ℕ) (es fs : List JournalEntry) → entry_lines position (es ++ fs) ≡ entry_lines position es ++ entry_lines (position + entries_size es) fs
+pub lines_more : (position : ℕ) (es fs : List JournalEntry) → entry_lines position (es ++ fs) ≡ entry_lines position es ++ entry_lines (position + entries_size es) fs
 lines_more position [] fs = ap (λ (p : ℕ). entry_lines p fs) (omega arith)
 lines_more position (e ∷ es) fs =
     let place : position + entry_size e + entries_size es ≡ position + (entry_size e + entries_size es) = omega arith in
@@ -106,30 +104,29 @@ all_of : {A : Type 0} (P : A → Type 0) (xs : List A) (y : A) (ys : List A) →
 all_of P [] y ys h = (tt, h.0)
 all_of P (x ∷ xs) y ys h = let rest = all_of P xs y ys h.1 in ((h.0, rest.0), rest.1)
 
-next_at : (law : KeepsNodes) (s : UnitsState) (v : VolumeState) (n : Node) (k : IsKept s v n) (front back : List JournalEntry) → n.durable.units.entries ≡ front ++ back → n.durable.units.first + entries_size front < end_of n.durable.units →
-    Next v.catalog.heads v.catalog.home.greatest_moment.0 v.catalog.ru k.content n.durable.units front
-next_at law s v n k front [] split below = let whole = ap entries_size split ∙ size_append front [] in absurd (omega (arith, whole, below))
-next_at law s v n k front (e ∷ rest) split below =
-    let journal = k.has.journal in
-    let p = parted v.catalog.heads front e rest journal.entries (subst (λ es. AreEntries v.catalog.heads es journal.entries) split journal.alike) in
-    let each = all_of IsEntry p.before p.here p.behind (subst (λ ds. AllByRecursion IsEntry ds) p.split journal.is.each) in
-    let is : IsEntry (entry_for p.number e) = subst IsEntry p.is each.1 in
-    let size = entries_follow.sized v.catalog.heads front p.before p.alike each.0 in
-    let stands = stands_in k.content v.catalog.ru journal.entries (v.catalog.ru.first + entries_size front) p.here journal.is (record { front = p.before; back = p.behind; split = p.split; place = ap (λ (x : ℕ). v.catalog.ru.first + x) (sym size) }) in
-    record {
-      entry = e;
-      rest = rest;
-      number = p.number;
-      split = split;
-      file = p.file;
-      showable = (all_of (IsShowable v.catalog.heads v.catalog.home.greatest_moment.0) front e rest (subst (λ es. AllByRecursion (IsShowable v.catalog.heads v.catalog.home.greatest_moment.0) es) split (law.shows s v n k))).1;
-      is = is;
-      stands = subst (λ (d : Entry). StandsAt v.catalog.ru (v.catalog.ru.first + entries_size front) d k.content) p.is stands;
-    }
+module _ (v : VolumeState) (s : Span) (content : List (List ℕ)) (j : Journal) (h : HasShowable v s content j) where
+  next_at : (front back : List JournalEntry) → j.entries ≡ front ++ back → j.first + entries_size front < end_of j → Next v.catalog.heads v.catalog.home.greatest_moment.0 s content j front
+  next_at front [] split below = let whole = ap entries_size split ∙ size_append front [] in absurd (omega (arith, whole, below))
+  next_at front (e ∷ rest) split below =
+      let p = parted v.catalog.heads front e rest h.entries (subst (λ es. AreEntries v.catalog.heads es h.entries) split h.alike) in
+      let each = all_of IsEntry p.before p.here p.behind (subst (λ ds. AllByRecursion IsEntry ds) p.split h.is.each) in
+      let is : IsEntry (entry_for p.number e) = subst IsEntry p.is each.1 in
+      let size = entries_follow.sized v.catalog.heads front p.before p.alike each.0 in
+      let stands = stands_in content s h.entries (s.first + entries_size front) p.here h.is (record { front = p.before; back = p.behind; split = p.split; place = ap (λ (x : ℕ). s.first + x) (sym size) }) in
+      record {
+        entry = e;
+        rest = rest;
+        number = p.number;
+        split = split;
+        file = p.file;
+        showable = (all_of (IsShowable v.catalog.heads v.catalog.home.greatest_moment.0) front e rest (subst (λ es. AllByRecursion (IsShowable v.catalog.heads v.catalog.home.greatest_moment.0) es) split h.showable)).1;
+        is = is;
+        stands = subst (λ (d : Entry). StandsAt s (s.first + entries_size front) d content) p.is stands;
+      }
 
--- the next entry, where not all were shown
-pub shown_next : (law : KeepsNodes) (s : UnitsState) (v : VolumeState) (n : Node) (k : IsKept s v n) (position : ℕ) (a b : Shown) (h : HasShown n.durable.units position a b) → position < v.catalog.ru.end → Next v.catalog.heads v.catalog.home.greatest_moment.0 v.catalog.ru k.content n.durable.units h.front
-shown_next law s v n k position a b h below = next_at law s v n k h.front h.back h.split (let end = k.has.journal.end in let place = h.place in omega (arith, end, place, below))
+  -- the next entry, where not all were shown
+  pub shown_next : (position : ℕ) (a b : Shown) (shown : HasShown j position a b) → position < s.end → Next v.catalog.heads v.catalog.home.greatest_moment.0 s content j shown.front
+  shown_next position a b shown below = next_at shown.front shown.back shown.split (let end = h.end in let place = shown.place in omega (arith, end, place, below))
 
 pub shown_more : (heads : List (Option FileHead)) (greatest : ℕ) (s : Span) (content : List (List ℕ)) (j : Journal) (position next : ℕ) (a b d : Shown) (h : HasShown j position a b) (x : Next heads greatest s content j h.front) → next ≡ position + entry_size x.entry →
     Emits b (entry_line position x.entry ∷ []) d → HasShown j next a d
@@ -142,32 +139,32 @@ shown_more heads greatest s content j position next a b d h x is m = record {
 }
 
 -- an entry was read and shown where one stands
-pub entry_shown : (law : KeepsNodes) (s : UnitsState) (v : VolumeState) (n : Node) (k : IsKept s v n) (r : Result (Option ℕ) Down) (position : ℕ) (a b d : Shown) (h : HasShown n.durable.units position a b) (below : position < v.catalog.ru.end) → ShowsEntry r position v b d →
-    MatchResult r (λ next. (next ≡ Some (position + entry_size (shown_next law s v n k position a b h below).entry)) × Emits b (entry_line position (shown_next law s v n k position a b h below).entry ∷ []) d) (λ down. Emits b [] d)
-entry_shown law s v n k r position a b d h below shows =
-    let x = shown_next law s v n k position a b h below in
-    shows k.content x.entry x.number k.told x.file x.showable x.is (subst (λ p. StandsAt v.catalog.ru p (entry_for x.number x.entry) k.content) (ap (λ (p : ℕ). p + entries_size h.front) k.has.journal.first ∙ sym h.place) x.stands)
+pub entry_shown : (v : VolumeState) (s : Span) (content : List (List ℕ)) (j : Journal) (h : HasShowable v s content j) (r : Result (Option ℕ) Down) (position : ℕ) (a b d : Shown) (shown : HasShown j position a b) (below : position < s.end) → v.store.current ≡ Some content → ShowsEntry r position s v b d →
+    MatchResult r (λ next. (next ≡ Some (position + entry_size (shown_next v s content j h position a b shown below).entry)) × Emits b (entry_line position (shown_next v s content j h position a b shown below).entry ∷ []) d) (λ down. Emits b [] d)
+entry_shown v s content j h r position a b d shown below told shows =
+    let x = shown_next v s content j h position a b shown below in
+    shows content x.entry x.number told x.file x.showable x.is (subst (λ p. StandsAt s p (entry_for x.number x.entry) content) (ap (λ (p : ℕ). p + entries_size shown.front) h.first ∙ sym shown.place) x.stands)
 
 -- nothing more was shown
 shown_still : (j : Journal) (position : ℕ) (a b d : Shown) → HasShown j position a b → Emits b [] d → HasShown j position a d
 shown_still j position a b d h m = record { front = h.front; back = h.back; split = h.split; place = h.place; emits = subst (λ ls. Emits a ls d) (append-nil (entry_lines j.first h.front)) (emits_on a b d _ _ h.emits m) }
 
-module _ (law : KeepsNodes) (s : UnitsState) (v w : VolumeState) (same : SameVolume v w) (n : Node) (k : IsKept s v n) (position : ℕ) (a b d : Shown) (h : HasShown n.durable.units position a b) (below : position < v.catalog.ru.end) where
-  pub entry_done : (o : Option ℕ) (next : ℕ) → o ≡ Some next → ShowsEntry (Ok o) position w b d → HasShown n.durable.units next a d
+module _ (v w : VolumeState) (same : SameVolume v w) (s : Span) (content : List (List ℕ)) (j : Journal) (x : HasShowable v s content j) (told : v.store.current ≡ Some content) (position : ℕ) (a b d : Shown) (h : HasShown j position a b) (below : position < s.end) where
+  pub entry_done : (o : Option ℕ) (next : ℕ) → o ≡ Some next → ShowsEntry (Ok o) position s w b d → HasShown j next a d
   entry_done o next is shows =
-      let x = shown_next law s v n k position a b h below in
-      let m = entry_shown law s v n k (Ok o) position a b d h below (subst (λ y. ShowsEntry (Ok o) position y b d) same shows) in
-      let at : Some next ≡ Some (position + entry_size x.entry) = sym is ∙ m.0 in
-      shown_more v.catalog.heads v.catalog.home.greatest_moment.0 v.catalog.ru k.content n.durable.units position next a b d h x (some_number at) m.1
+      let y = shown_next v s content j x position a b h below in
+      let m = entry_shown v s content j x (Ok o) position a b d h below told (subst (λ y. ShowsEntry (Ok o) position s y b d) same shows) in
+      let at : Some next ≡ Some (position + entry_size y.entry) = sym is ∙ m.0 in
+      shown_more v.catalog.heads v.catalog.home.greatest_moment.0 s content j position next a b d h y (some_number at) m.1
     where
       some_number : {p q : ℕ} → ◌≡◌ {A = Option ℕ} (Some p) (Some q) → p ≡ q
       some_number e = cc
 
-  pub entry_there : (o : Option ℕ) → o ≡ None → ShowsEntry (Ok o) position w b d → ⊥
+  pub entry_there : (o : Option ℕ) → o ≡ None → ShowsEntry (Ok o) position s w b d → ⊥
   entry_there o is shows =
-      let m = entry_shown law s v n k (Ok o) position a b d h below (subst (λ y. ShowsEntry (Ok o) position y b d) same shows) in
-      let at : None ≡ Some (position + entry_size (shown_next law s v n k position a b h below).entry) = sym is ∙ m.0 in
+      let m = entry_shown v s content j x (Ok o) position a b d h below told (subst (λ y. ShowsEntry (Ok o) position s y b d) same shows) in
+      let at : None ≡ Some (position + entry_size (shown_next v s content j x position a b h below).entry) = sym is ∙ m.0 in
       cc
 
-  pub entry_cut : (e : Down) → ShowsEntry (Err e) position w b d → ShowsJournal (Err e) n.durable.units a d
-  entry_cut e shows = shown_some e n.durable.units position a d (shown_still n.durable.units position a b d h (entry_shown law s v n k (Err e) position a b d h below (subst (λ y. ShowsEntry (Err e) position y b d) same shows)))
+  pub entry_cut : (e : Down) → ShowsEntry (Err e) position s w b d → ShowsJournal (Err e) j a d
+  entry_cut e shows = shown_some e j position a d (shown_still j position a b d h (entry_shown v s content j x (Err e) position a b d h below told (subst (λ y. ShowsEntry (Err e) position s y b d) same shows)))

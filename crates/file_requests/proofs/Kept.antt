@@ -7,7 +7,7 @@ use Rattle.recovery_units.specs.State.{IsInOrder}
 use Rattle.node_table.specs.Standing.{Stored}
 use Rattle.file_requests.specs.Replying.{IsPlain}
 use Rattle.file_requests.specs.Serving.{KeepsStored, SameStored, disk_of}
-use Rattle.file_requests.proofs.Calls.{goes_nowhere, grows_still}
+use Rattle.file_requests.proofs.Calls.{goes_nowhere, grows_still, images_still}
 use Rattle.file_requests.proofs.Reading.{order_still}
 use Rattle.file_requests.proofs.Replied.{replies_one, since_emits}
 
@@ -19,6 +19,7 @@ keeps_same x u new a b l o same plain m =
       order = order_still u now refl o;
       in_doubt = refl;
       grows = grows_still u.volume now.volume refl refl refl (goes_nowhere (disk_of u));
+      images = images_still u.volume now.volume refl;
       cause = tt;
       since = since_emits a b _ m;
       replies = replies_one a b l m plain;

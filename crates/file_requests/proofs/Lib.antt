@@ -2,6 +2,7 @@ pub mod AloneAnswers
 pub mod AskingLemmas
 pub mod BranchAnswers
 pub mod Calls
+pub mod CauseTimes
 pub mod Creating
 pub mod DumpAnswers
 pub mod Dumping
@@ -17,3 +18,9 @@ pub mod Operating
 pub mod Reading
 pub mod Replied
 pub mod Served
+pub mod SettingHeads
+pub mod RingHeads
+pub mod FreeWrites
+pub mod Saving
+pub mod Recovering
+pub mod ImagesShown

@@ -1,6 +1,6 @@
 -- A file is made, from what the code knows.
-use Rattle.std.proofs.Common.{◌≡◌, inl, ℕ, ◌+◌, ◌-◌, ◌*◌, ◌<◌, ◌≤◌, List, [], ◌∷◌, Bool, true, false, Option, Some, None, IfSome, Result, Ok, Err, is_some, slice_set, nat_le, nat_lt, refl, sym, ap, subst, ◌∙◌, arith}
-use Rattle.std.specs.Prelude.{◌&&◌}
+use Rattle.std.proofs.Common.{◌≡◌, inl, ℕ, ◌+◌, ◌-◌, ◌*◌, ◌^◌, ◌<◌, ◌≤◌, List, [], ◌∷◌, Bool, true, false, Option, Some, None, IfSome, Result, Ok, Err, is_some, slice_set, nat_le, nat_lt, refl, sym, ap, subst, ◌∙◌, arith}
+use Rattle.std.specs.Prelude.{◌&&◌, map}
 use Rattle.std.proofs.lemmas.Bool.Decides.{nat_tests}
 use Rattle.careful_write.specs.Content.{content_of}
 use Rattle.careful_write.specs.State.{EachWhole, IsIdle}
@@ -25,8 +25,8 @@ use Rattle.volume.specs.State.{VolumeState}
 use Rattle.volume_format.specs.Home.{sizes_of}
 use Rattle.volume_model.specs.Volumes.{HasDisk, IsLeftBy, LeavesVolume}
 use Rattle.run_model.specs.Answers.{is_file_form}
-use Rattle.run_model.specs.World.{Creates, File, Node, acted, fallen}
-use Rattle.directory_model.specs.Files.{IsFile, IsNewHead, IsOrganized, NoneNamed}
+use Rattle.run_model.specs.World.{Creates, File, Node, acted, fallen, nothing_carried}
+use Rattle.directory_model.specs.Files.{IsCarried, IsFile, IsNewHead, IsOrganized, NoneNamed}
 use Rattle.node_files.specs.declared.sizes.Sizes.{Sizes}
 use Rattle.node_files.specs.NewFile.{AreSizes, buckets_in, kept_by, new_head}
 use Rattle.node_files.proofs.CatalogLemmas.{fit_of, holds_out, named_once, off_front, out_some, sound_set}
@@ -38,7 +38,11 @@ use Rattle.recovery_units.specs.Uses.{Caused, Goes, Grows}
 use Rattle.node_table.specs.Standing.{Stored}
 use Rattle.file_requests.specs.Serving.{SameStored, disk_of, name_of}
 use Rattle.file_requests.specs.TheLaws.{TheLaws}
+use Rattle.image_room.specs.Room.{AllSettlementsFit, images_end}
 use Rattle.file_requests.proofs.Calls.{grows_still}
+use Rattle.file_requests.proofs.FreeWrites as free
+use Rattle.file_requests.proofs.FreeWrites.{WrittenFree}
+use Rattle.file_requests.proofs.RingHeads.{all_fit_new, end_set}
 use Rattle.file_requests.proofs.HeadWrites.{Content, WritesHead, catalog_with, disk_sound, each_after, fallen_as, told_after, told_new, head_fell, head_is_written, kept_left, left_down, order_written, same_some, volume_is_written, volume_with}
 use Rattle.file_requests.proofs.Marking.{long_set}
 use Rattle.file_requests.proofs.Replied.{quiet_none, replies_one, since_emits}
@@ -81,14 +85,6 @@ new_fits greatest name s start a =
       save = refl;
     }
 
-in_extent_from : (start size n : ℕ) → 584 ≤ start → (nat_le (start - 518) n && nat_lt n (start - 518 + size)) ≡ true → 66 ≤ n
-in_extent_from start size n from e = grind (arith, nat_tests)
-
--- a content that agrees with an old one but there
-out_of : (p : ℕ → Bool) (o : Option Content) (c : Content) → IfSome o (λ before. AgreesOff p before c) → is_some o ≡ true → AgreesOut p o (Some c)
-out_of p None c h some = let none : ⊥ = cc in absurd none
-out_of p (Some b) c h some = h
-
 -- the buckets of the new file are made
 pub record MadeRecords (h : FileHead) (old mid : VolumeState) : Type 0 where
   pub map_is : IfSome mid.store.current (λ c. map_of h c ≡ empty_map)
@@ -114,6 +110,9 @@ module _ (f : ℕ) (h : FileHead) (u : Stored) (o : IsInOrder u.units u.volume) 
   pub file_new : any.IsNew h
   file_new = (laws.makes.form (form_of fresh.sizes.form) h new_here).1
 
+  carried_here : (file : File) → file.carried ≡ nothing_carried → (content : List (List ℕ)) → IsCarried content f h file.carried
+  carried_here file bare content = subst (IsCarried content f h) (sym bare) (laws.makes.carried content f (form_of fresh.sizes.form) h new_here)
+
   run_here : IsFreeRun (data_area (sizes_of here.home)) (all_extents here.heads) h.start (h.alloc * h.bucket)
   run_here = subst (λ (x : FileHead). IsFreeRun (data_area (sizes_of here.home)) (all_extents here.heads) x.start (x.alloc * x.bucket)) (sym fresh.is) fresh.run
 
@@ -126,11 +125,15 @@ module _ (f : ℕ) (h : FileHead) (u : Stored) (o : IsInOrder u.units u.volume) 
   some_here : 1 ≤ h.alloc * h.bucket
   some_here = laws.makes.some (form_of fresh.sizes.form) h new_here
 
-  front_off : (n : ℕ) → n < 66 → in_extent h n ≡ false
-  front_off n below =
-      let lies = laws.apart.run_lies (data_area (sizes_of here.home)) here.heads h.start (h.alloc * h.bucket) run_here some_here in
-      let from : 584 ≤ h.start = omega (arith, lies.0) in
-      off_front h n below (λ t. in_extent_from h.start (h.alloc * h.bucket) n from t)
+  -- the new file has no rings
+  rings_new : AllSettlementsFit (map Some u.units.begun) (slice_set here.heads f (Some h))
+  rings_new = all_fit_new here.heads f h (map Some u.units.begun) o.heads fresh.below o.images (ap (λ (x : FileHead). x.marks.ai) fresh.is) (ap (λ (x : FileHead). x.marks.bi) fresh.is)
+
+  far_new : images_end (slice_set here.heads f (Some h)) ≤ images_end here.heads + 2 ^ 24
+  far_new =
+      let a : h.ai.end ≡ 0 = ap (λ (x : FileHead). x.ai.end) fresh.is in
+      let b : h.bi.end ≡ 0 = ap (λ (x : FileHead). x.bi.end) fresh.is in
+      end_set here.heads f h (images_end here.heads + 2 ^ 24) (omega arith) (omega (arith, a)) (omega (arith, b))
 
   sound_new : IsSound (name_of u) (disk_of u).size (catalog_with f h here)
   sound_new =
@@ -155,21 +158,14 @@ module _ (f : ℕ) (h : FileHead) (u : Stored) (o : IsInOrder u.units u.volume) 
   -- The buckets were made.
 
   module _ (mid : VolumeState) (m : MadeRecords h u.volume mid) where
+    written : WrittenFree h u.volume mid
+    written = record { outside = m.outside; each = m.each; idle = m.idle; catalog = m.catalog; size = m.size; pool = m.pool }
+
     order_mid : IsInOrder u.units mid
-    order_mid = record {
-      idle = m.idle;
-      frames = rw m.pool o.frames;
-      heads = rw m.catalog o.heads;
-      sound = rw (m.catalog, m.size) o.sound;
-      holds = subst (λ k. IfSome mid.store.current (TellsCatalog k)) (sym m.catalog) (holds_out (in_extent h) here u.volume.store.current mid.store.current laws.front front_off m.outside o.holds);
-      least = rw m.size o.least;
-      most = rw m.size o.most;
-      ascends = rw m.catalog o.ascends;
-      room = rw m.catalog o.room;
-      within = rw m.catalog o.within;
-      few = o.few;
-      slots = rw m.catalog o.slots;
-    }
+    order_mid = free.order_mid h u o laws run_here some_here mid written
+
+    rings_mid : AllSettlementsFit (map Some u.units.begun) (slice_set mid.catalog.heads f (Some h))
+    rings_mid = subst (λ (k : Catalog). AllSettlementsFit (map Some u.units.begun) (slice_set k.heads f (Some h))) (sym m.catalog) rings_new
 
     sound_mid : IsSound mid.catalog.home.node mid.store.disk.size (catalog_with f h mid.catalog)
     sound_mid = subst (λ (k : Catalog). IsSound k.home.node mid.store.disk.size (catalog_with f h k)) (sym m.catalog) (subst (λ k. IsSound (name_of u) k (catalog_with f h here)) (sym m.size) sound_new)
@@ -179,10 +175,10 @@ module _ (f : ℕ) (h : FileHead) (u : Stored) (o : IsInOrder u.units u.volume) 
 
     module _ (n : Node) (k : IsKept u.units u.volume n) where
       abbrev out_mid : (c : Content) × (mid.store.current ≡ Some c) × AgreesOff (in_extent h) k.content c
-      out_mid = out_some (in_extent h) u.volume.store.current mid.store.current k.content k.told m.outside
+      out_mid = free.out_mid h u o laws run_here some_here mid written n k
 
       kept_mid : IsKept u.units mid n
-      kept_mid = laws.nodes.free u.units u.volume mid n h out_mid.0 k o run_here m.catalog m.size m.outside out_mid.1 (subst (λ o. IfSome o EachWhole) out_mid.1 m.each)
+      kept_mid = free.kept_mid h u o laws run_here some_here mid written n k
 
       file_mid : (file : File) → BecomesFile h file → IsFile out_mid.0 h file
       file_mid file becomes = becomes out_mid.0 (subst (λ o. IfSome o (λ c. map_of h c ≡ empty_map)) out_mid.1 m.map_is) (subst (λ o. IfSome o (IsLaidOut h)) out_mid.1 m.laid) (subst (λ o. IfSome o (λ c. layout_of h c ≡ first_layout_of h)) out_mid.1 m.layout)
@@ -192,64 +188,50 @@ module _ (f : ℕ) (h : FileHead) (u : Stored) (o : IsInOrder u.units u.volume) 
       made_grows : Grows 0 0 u.volume new.volume
       made_grows = grows_still u.volume new.volume (ap (λ (k : Catalog). k.home) (wr.catalog ∙ ap (catalog_with f h) m.catalog)) (ap (λ (k : Catalog). k.ru) (wr.catalog ∙ ap (catalog_with f h) m.catalog)) (wr.pool ∙ m.pool) goes
 
-      made_now : (x : T) (n : Node) (file : File) → r ≡ Ok x → IsKept u.units u.volume n → IsUp n → file.history.live ≡ [] → BecomesFile h file → IsKept new.units new.volume (acted (Creates f file) n)
-      made_now x n file is k up live becomes = subst (λ (s : UnitsState). IsKept s new.volume (acted (Creates f file) n)) (sym same)
-          (laws.nodes.creates u.units mid new.volume n f h file (out_mid n k).0 (slice_set (out_mid n k).0 (519 + f - 518) bytes) (kept_mid n k) order_mid fresh.below (rw m.catalog fresh.free) (rw m.catalog fresh.lowest) (rw m.catalog none_here) run_mid live (out_mid n k).1 (file_mid n k file becomes)
+      made_now : (x : T) (n : Node) (file : File) → r ≡ Ok x → IsKept u.units u.volume n → IsUp n → file.history.live ≡ [] → file.carried ≡ nothing_carried → BecomesFile h file → IsKept new.units new.volume (acted (Creates f file) n)
+      made_now x n file is k up live bare becomes = subst (λ (s : UnitsState). IsKept s new.volume (acted (Creates f file) n)) (sym same)
+          (laws.nodes.creates u.units mid new.volume n f h file (out_mid n k).0 (slice_set (out_mid n k).0 (519 + f - 518) bytes) (kept_mid n k) order_mid fresh.below (rw m.catalog fresh.free) (rw m.catalog fresh.lowest) (rw m.catalog none_here) run_mid live (out_mid n k).1 (file_mid n k file becomes) (carried_here file bare)
           (head_is_written r f h bytes mid new.volume wr x is) (told_new r f h bytes mid new.volume wr x (out_mid n k).0 is (out_mid n k).1) (each_after r f h bytes mid new.volume wr (out_mid n k).0 (out_mid n k).1))
 
       pub made_done : (x : T) (a b : Shown) → r ≡ Ok x → Emits a (line.Normal ∷ []) b → MakesFile {T = Unit {0}} (Ok tt) f h u new a b
       made_done x a b is shown = record {
         keeps = record {
-          order = subst (λ (s : UnitsState). IsInOrder s new.volume) (sym same) (order_written r f h bytes mid new.volume wr x u.units is (long_set mid.catalog.heads f _ ∙ order_mid.heads) sound_mid order_mid);
+          order = subst (λ (s : UnitsState). IsInOrder s new.volume) (sym same) (order_written r f h bytes mid new.volume wr x u.units is (long_set mid.catalog.heads f _ ∙ order_mid.heads) sound_mid rings_mid order_mid);
           in_doubt = doubts;
           grows = made_grows;
+          images = subst (λ (k : Catalog). images_end k.heads ≤ images_end here.heads + 2 ^ 24) (sym (wr.catalog ∙ ap (catalog_with f h) m.catalog)) far_new;
           cause = tt;
           since = since_emits a b _ shown;
           replies = replies_one a b line.Normal shown (refl, refl);
         };
         units = same;
-        acts = λ s n file k up live becomes. served (making f file) s n a b (SameStored u new) (IsKept new.units new.volume) (disk_of new) (Unit {0}) tt (Creates f file) [] refl refl refl (made_now x n file is k up live becomes) shown;
+        acts = λ s n file k up live bare becomes. served (making f file) s n a b (SameStored u new) (IsKept new.units new.volume) (disk_of new) (Unit {0}) tt (Creates f file) [] refl refl refl (made_now x n file is k up live bare becomes) shown;
       }
 
       pub made_fell : (e : Down) (a : Shown) → r ≡ Err e → Caused (Some e) (disk_of u) (disk_of new) → MakesFile {T = Unit {0}} (Err e) f h u new a a
       made_fell e a is caused = record {
-        keeps = record { order = tt; in_doubt = doubts; grows = made_grows; cause = caused; since = since_same a; replies = quiet_none a a (emits_nothing a) };
+        keeps = record { order = tt; in_doubt = doubts; grows = made_grows; images = tt; cause = caused; since = since_same a; replies = quiet_none a a (emits_nothing a) };
         units = same;
-        acts = λ s n file k up live becomes. cut_act (making f file) s n a a (SameStored u new) (IsKept new.units new.volume) (disk_of new) (Unit {0}) e (Creates f file) [] refl refl refl refl (has n file k up live becomes) (emits_nothing a);
+        acts = λ s n file k up live bare becomes. cut_act (making f file) s n a a (SameStored u new) (IsKept new.units new.volume) (disk_of new) (Unit {0}) e (Creates f file) [] refl refl refl refl (has n file k up live bare becomes) (emits_nothing a);
       }
         where
-          has : (n : Node) (file : File) → IsKept u.units u.volume n → IsUp n → file.history.live ≡ [] → BecomesFile h file → HasDisk (fallen (Some (Creates f file)) n) (disk_of new)
-          has n file k up live becomes =
+          has : (n : Node) (file : File) → IsKept u.units u.volume n → IsUp n → file.history.live ≡ [] → file.carried ≡ nothing_carried → BecomesFile h file → HasDisk (fallen (Some (Creates f file)) n) (disk_of new)
+          has n file k up live bare becomes =
               let act = Creates f file in
               let kept = kept_mid n k in
               head_fell r f h bytes mid new.volume wr e u.units n act kept.content is laws.nodes kept.has.home.volume kept.blocks kept.name sound_mid order_mid.holds (sym order_mid.idle.current ∙ kept.told)
               (kept_left u.units mid n (fallen (Some act) n) kept order_mid laws.nodes (fallen_as (Some act) n)) (record { name = refl; blocks = refl; durable = refl; down = refl }) refl refl
-              (laws.nodes.creates u.units mid (volume_with f h bytes mid) n f h file (out_mid n k).0 (slice_set (out_mid n k).0 (519 + f - 518) bytes) kept order_mid fresh.below (rw m.catalog fresh.free) (rw m.catalog fresh.lowest) (rw m.catalog none_here) run_mid live (out_mid n k).1 (file_mid n k file becomes)
+              (laws.nodes.creates u.units mid (volume_with f h bytes mid) n f h file (out_mid n k).0 (slice_set (out_mid n k).0 (519 + f - 518) bytes) kept order_mid fresh.below (rw m.catalog fresh.free) (rw m.catalog fresh.lowest) (rw m.catalog none_here) run_mid live (out_mid n k).1 (file_mid n k file becomes) (carried_here file bare)
               (volume_is_written f h bytes mid) (told_after r f h bytes mid new.volume wr (out_mid n k).0 (out_mid n k).1) (each_after r f h bytes mid new.volume wr (out_mid n k).0 (out_mid n k).1))
 
   -- The buckets were not all made: the disk went down.
   module _ (new : Stored) (same : new.units ≡ u.units) (doubts : new.in_doubt ≡ u.in_doubt) (catalog : new.volume.catalog ≡ here) (pool : new.volume.store.pool ≡ u.volume.store.pool) (leaves : LeavesOut (in_extent h) u.volume.store.current (disk_of new)) where
-    image_left : (n : Node) (k : IsKept u.units u.volume n) (c : Content) → IfSome u.volume.store.current (λ before. AgreesOff (in_extent h) before c) → IsLeftBy c n
-    image_left n k c l =
-        let off = subst (λ o. IfSome o (λ before. AgreesOff (in_extent h) before c)) k.told l in
-        let w : VolumeState = record u.volume { store = record u.volume.store { current = Some c } } in
-        record {
-          catalog = here;
-          tells = laws.front here k.content c (λ j below. sym (off.others j (front_off j below))) (subst (λ o. IfSome o (TellsCatalog here)) k.told o.holds);
-          sound = rw (k.name, k.blocks) o.sound;
-          leaves = λ whole.
-              let kept = laws.nodes.free u.units u.volume w n h c k o run_here refl refl (out_of (in_extent h) u.volume.store.current c l (ap is_some k.told)) refl whole in
-              subst (λ x. LeavesVolume x here n) (sym (same_some c kept.content kept.told)) (laws.nodes.falls kept.content here n kept.has);
-        }
-
     pub made_first : (e : Down) (a : Shown) → Goes (disk_of u) (disk_of new) → Caused (Some e) (disk_of u) (disk_of new) → MakesFile {T = Unit {0}} (Err e) f h u new a a
     made_first e a goes caused = record {
-      keeps = record { order = tt; in_doubt = doubts; grows = grows_still u.volume new.volume (ap (λ (k : Catalog). k.home) catalog) (ap (λ (k : Catalog). k.ru) catalog) pool goes; cause = caused; since = since_same a; replies = quiet_none a a (emits_nothing a) };
+      keeps = record { order = tt; in_doubt = doubts; grows = grows_still u.volume new.volume (ap (λ (k : Catalog). k.home) catalog) (ap (λ (k : Catalog). k.ru) catalog) pool goes; images = tt; cause = caused; since = since_same a; replies = quiet_none a a (emits_nothing a) };
       units = same;
-      acts = λ s n file k up live becomes. cut_first (making f file) s n a a (SameStored u new) (IsKept new.units new.volume) (disk_of new) (Unit {0}) e refl (has n k) (emits_nothing a);
+      acts = λ s n file k up live bare becomes. cut_first (making f file) s n a a (SameStored u new) (IsKept new.units new.volume) (disk_of new) (Unit {0}) e refl (has n k) (emits_nothing a);
     }
       where
         has : (n : Node) → IsKept u.units u.volume n → HasDisk (fallen None n) (disk_of new)
-        has n k = disk_sound (fallen None n) (disk_of new) k.has.home.volume (λ image left.
-            let l = leaves image left in
-            (l.0, inl (left_down laws.nodes (content_of image) (fallen None n) n (fallen_as None n) (image_left n k (content_of image) l.1))))
+        has n k = free.free_fell h u o laws run_here some_here new leaves n k

@@ -5,3 +5,5 @@ pub mod Acting
 pub mod Listing
 pub mod Making
 pub mod TheLaws
+pub mod Settings
+pub mod Recovering

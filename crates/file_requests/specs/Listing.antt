@@ -14,12 +14,15 @@ use Rattle.transcript_model.specs.Lines.{Line}
 use Rattle.vms_model.specs.Keys.{Key, Number, Text}
 use Rattle.vms_base.specs.Ids.{tid_of, serial_of}
 use Rattle.records_model.specs.Records.{Records}
-use Rattle.journal_model.specs.Entries.{IsEntry}
-use Rattle.journal_model.specs.Ring.{StandsAt}
+use Rattle.file_base.specs.declared.head.Span.{Span}
+use Rattle.std.specs.List.{AllByRecursion}
+use Rattle.journal_model.specs.Entries.{Entry, IsEntry}
+use Rattle.journal_model.specs.Ring.{IsJournal, StandsAt}
 use Rattle.unit_laws.specs.Journal.{Journal, JournalEntry, end_of, entry_size}
 use Rattle.run_model.specs.Answers.{entry_line, entry_lines}
+use Rattle.script_model.specs.Statements.{Side, AfterImages, BeforeImages}
 use Rattle.volume.specs.State.{VolumeState}
-use Rattle.volume_model.specs.Entries.{IsFileOf, entry_for}
+use Rattle.volume_model.specs.Entries.{AreEntries, IsFileOf, entry_for}
 use Rattle.recovery_units.specs.State.{IsShowable}
 
 -- Lines one after another and an answer, or so many of them before a call of the disk failed.
@@ -51,7 +54,21 @@ change_shown position e None image = None
 change_shown position e (Some h) image =
     option_and_then (λ bytes. option_map (λ key. line.ChangeEntry position (tid_of e.tid) (serial_of e.serial) h.name key (if e.present then Some image else None)) (key_by h.organization bytes)) e.key
 
+-- The ring of a span has the entries of a journal, each of which can be shown.
+pub record HasShowable (v : VolumeState) (s : Span) (content : List (List ℕ)) (j : Journal) : Type 0 where
+  pub entries : List Entry
+  pub is : IsJournal content s entries
+  pub alike : AreEntries v.catalog.heads j.entries entries
+  pub first : s.first ≡ j.first
+  pub end : s.end ≡ end_of j
+  pub showable : AllByRecursion (IsShowable v.catalog.heads v.catalog.home.greatest_moment.0) j.entries
+
 -- Where an entry of the world's journal stands at a position, it was shown, and the position behind it is told; or a call of the disk failed.
-abbrev pub ShowsEntry : Result (Option ℕ) Down → (position : ℕ) → VolumeState → Shown → Shown → Type 0
-ShowsEntry r position v a b = (content : List (List ℕ)) (e : JournalEntry) (f : ℕ) → v.store.current ≡ Some content → IsFileOf v.catalog.heads e f → IsShowable v.catalog.heads v.catalog.home.greatest_moment.0 e → IsEntry (entry_for f e) →
-    StandsAt v.catalog.ru position (entry_for f e) content → MatchResult r (λ next. (next ≡ Some (position + entry_size e)) × Emits a (entry_line position e ∷ []) b) (λ down. Emits a [] b)
+abbrev pub ShowsEntry : Result (Option ℕ) Down → (position : ℕ) → Span → VolumeState → Shown → Shown → Type 0
+ShowsEntry r position s v a b = (content : List (List ℕ)) (e : JournalEntry) (f : ℕ) → v.store.current ≡ Some content → IsFileOf v.catalog.heads e f → IsShowable v.catalog.heads v.catalog.home.greatest_moment.0 e → IsEntry (entry_for f e) →
+    StandsAt s position (entry_for f e) content → MatchResult r (λ next. (next ≡ Some (position + entry_size e)) × Emits a (entry_line position e ∷ []) b) (λ down. Emits a [] b)
+
+-- the ring of the journal of a side, where a head has it
+abbrev pub span_at : Side → FileHead → Option Span
+span_at AfterImages h = if h.marks.ai then Some h.ai else None
+span_at BeforeImages h = if h.marks.bi then Some h.bi else None

@@ -13,7 +13,7 @@ use Rattle.volume.specs.declared.catalog.Catalog.{Catalog}
 use Rattle.volume.specs.Limits.{data_area}
 use Rattle.volume_format.specs.Home.{sizes_of}
 use Rattle.run_model.specs.Answers.{silent}
-use Rattle.run_model.specs.World.{Creates, File, Node, Shared}
+use Rattle.run_model.specs.World.{Creates, File, Node, Shared, nothing_carried}
 use Rattle.world_laws.specs.Nodes.{IsUp}
 use Rattle.directory_model.specs.Files.{IsFile, NoneNamed, head_at}
 use Rattle.recovery_units.specs.State.{IsKept}
@@ -46,4 +46,4 @@ making f file = record { early = None; late = None; rows = silent (Creates f fil
 pub record MakesFile {T : Type 0} (r : Result T Down) (f : ℕ) (h : FileHead) (old new : Stored) (a b : Shown) : Type 0 where
   pub keeps : KeepsStored 0 0 r old new a b
   pub units : new.units ≡ old.units
-  pub acts : (s : Shared) (n : Node) (file : File) → IsKept old.units old.volume n → IsUp n → file.history.live ≡ [] → BecomesFile h file → DoesThere r (making f file) s n old new a b
+  pub acts : (s : Shared) (n : Node) (file : File) → IsKept old.units old.volume n → IsUp n → file.history.live ≡ [] → file.carried ≡ nothing_carried → BecomesFile h file → DoesThere r (making f file) s n old new a b

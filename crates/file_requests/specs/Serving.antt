@@ -10,7 +10,7 @@ use Rattle.run_model.specs.Answers.{Service}
 use Rattle.run_model.specs.World.{Node, Shared}
 use Rattle.world_laws.specs.Nodes.{IsUp}
 use Rattle.recovery_units.specs.State.{IsInOrder, IsKept}
-use Rattle.recovery_units.specs.Uses.{Caused, Grows, down_of}
+use Rattle.recovery_units.specs.Uses.{Caused, Grows, ImagesGrow, down_of}
 use Rattle.node_table.specs.Serving.{DoesService, ServiceAt, service_at}
 use Rattle.node_table.specs.Standing.{Stored}
 use Rattle.file_requests.specs.Replying.{RepliesIf}
@@ -36,6 +36,7 @@ pub record KeepsStored {T : Type 0} (settlements clock : ℕ) (r : Result T Down
   pub order : OnOk r (IsInOrder new.units new.volume)
   pub in_doubt : new.in_doubt ≡ old.in_doubt
   pub grows : Grows settlements clock old.volume new.volume
+  pub images : OnOk r (ImagesGrow old.volume new.volume)
   pub cause : Caused (down_of r) (disk_of old) (disk_of new)
   pub since : Since a b
   pub replies : RepliesIf r a b

@@ -1,7 +1,9 @@
 -- The laws that requests on files rest on.
 use Rattle.volume.specs.Catalogs.{StandsOnTheFront}
 use Rattle.directory_model.specs.Laws.{FindsFiles, FindsPlaces, FindsRuns, KeepsHeads, LieApart, MakesFiles, ReadsFiles, ShowsRecords}
+use Rattle.file_images.specs.Laws.{ImagesStand}
 use Rattle.recovery_units.specs.Laws.{KeepsNodes}
+use Rattle.recovered_nodes.specs.Laws.{RecoversNodes}
 
 pub record TheLaws : Type 0 where
   pub finds : FindsFiles
@@ -14,3 +16,5 @@ pub record TheLaws : Type 0 where
   pub makes : MakesFiles
   pub front : StandsOnTheFront
   pub nodes : KeepsNodes
+  pub recoveries : RecoversNodes
+  pub images : ImagesStand

@@ -113,6 +113,8 @@ pub(crate) fn refusal_form(cause: RecErr) -> Result<Form<'static>, Down>
         RecErr::Locks => Form::QuotaExceeded(Quota::Locks, MOST_LOCKS),
         RecErr::FileFull { free, need } => Form::FileFull(free, need),
         RecErr::JournalFull { free, need } => Form::JournalFull(free, need),
+        RecErr::AfterImagesFull { free, need } => Form::AftersFull(free, need),
+        RecErr::BeforeImagesFull { free, need } => Form::BeforesFull(free, need),
         RecErr::Down(down) => return Err(down),
     };
     Ok(form)

@@ -5,11 +5,11 @@ ghost use Rattle.careful_write.specs.Down.{answered};
 ghost use Rattle.records_model.specs.Records.{Records};
 ghost use Rattle.record_files.specs.Any.{IsFile, IsLaidOut, map_of};
 ghost use Rattle.script_model.specs.Statements as said;
-ghost use Rattle.script_lang.specs.Statements.{form_of, setting_of};
+ghost use Rattle.script_lang.specs.Statements.{form_of};
 ghost use Rattle.emitter_model.specs.Emitting.{Since};
 ghost use Rattle.vms_model.specs.Keys.{Key as KeySaid};
 ghost use Rattle.vms_base.specs.Ids.{serial_of};
-ghost use Rattle.run_model.specs.Answers.{is_for_units as units_said, service};
+ghost use Rattle.run_model.specs.Answers.{service};
 ghost use Rattle.directory_model.specs.Files.{head_at};
 ghost use Rattle.recovery_units.specs.State.{IsEarly, IsInOrder};
 ghost use Rattle.node_table.specs.Code.{stored_of};
@@ -27,22 +27,12 @@ use file_base::FileHead;
 use node_files::{make_records, next_record_from, sizes_of, write_head};
 use node_table::Stored;
 use recovery_units::RecoveryUnits;
-use script_lang::{Form as FileForm, Setting};
+use script_lang::Form as FileForm;
 use transcript::{Emit, Form, Quota};
 use vms_base::{FileName, Key};
 
 // How many files a volume has, at the most.
 const MOST_FILES: u64 = 64;
-
-// Whether a setting marks a file for recovery units.
-fn is_for_units(setting: Setting) -> bool
-    ensures { result ≡ units_said (setting_of setting) }
-{
-    match setting {
-        Setting::RecoveryUnits => true,
-        Setting::NoRecoveryUnits => false,
-    }
-}
 
 /// CREATE: a file without records takes the lowest free number and the lowest free run of blocks.
 pub fn create<D: Disk, U: RecoveryUnits, E: Emit>(
@@ -102,37 +92,6 @@ fn make_file<D: Disk, U: RecoveryUnits, E: Emit>(
         Ok(()) => {}
     }
     match write_head(&mut stored.volume, file, head) {
-        Err(down) => Err(down),
-        Ok(()) => {
-            out.emit(&Form::Normal);
-            Ok(())
-        }
-    }
-}
-
-/// SET_FILE: a file is marked for recovery units, or no more.
-pub fn set_file<D: Disk, U: RecoveryUnits, E: Emit>(
-    stored: &mut Stored<D, U>,
-    name: &FileName,
-    setting: Setting,
-    out: &mut E,
-) -> Result<(), Down>
-    requires order { IsInOrder (U.state stored.old.units) stored.old.volume }
-    requires early { IsEarly stored.old.volume }
-    ensures place { E.place out.new ≡ E.place out.old }
-    ensures serves { ServesFile result (service (said.SetFile name.now (setting_of setting))) (stored_of U.state stored.old) (stored_of U.state stored.new) (E.shows out.old) (E.shows out.new) }
-{
-    the_laws();
-    let Some((file, mut head)) = find_file(stored, name) else {
-        out.emit(&Form::FileNotFound);
-        return Ok(());
-    };
-    if let Some(serial) = stored.units.changed_by(file) {
-        out.emit(&Form::FileLocked(serial));
-        return Ok(());
-    }
-    head.marks.ru = is_for_units(setting);
-    match write_head(&mut stored.volume, file, &head) {
         Err(down) => Err(down),
         Ok(()) => {
             out.emit(&Form::Normal);

@@ -6,29 +6,32 @@ ghost use Rattle.journal_format.specs.Heads.{entry_of};
 ghost use Rattle.journal_model.specs.Entries.{IsEntry};
 ghost use Rattle.emitter_model.specs.Emitting.{Since};
 ghost use Rattle.transcript.specs.Forms.{HasTime, line_of};
-ghost use Rattle.unit_laws.specs.Journal.{JournalEntry};
+ghost use Rattle.unit_laws.specs.Journal.{Journal, JournalEntry};
+ghost use Rattle.journal_store.specs.Rings.{IsRing};
+ghost use Rattle.script_lang.specs.Statements.{side_of};
 ghost use Rattle.vms_base.specs.Keys.{key_of};
 ghost use Rattle.vms_base.specs.Ids.{serial_of};
 ghost use Rattle.run_model.specs.Answers.{entry_line, service};
-ghost use Rattle.run_model.specs.World.{Node as NodeSaid};
 ghost use Rattle.script_model.specs.Statements as said;
 ghost use Rattle.volume_model.specs.Entries.{IsFileOf, entry_for};
-ghost use Rattle.recovery_units.specs.State.{IsEarly, IsInOrder, IsKept, IsShowable};
+ghost use Rattle.recovery_units.specs.State.{IsEarly, IsInOrder, IsShowable};
 ghost use Rattle.node_table.specs.Code.{stored_of};
-ghost use Rattle.file_requests.specs.Listing.{ShowsEntry, ShowsJournal, change_shown, key_by};
+ghost use Rattle.file_requests.specs.Listing.{HasShowable, ShowsEntry, ShowsJournal, change_shown, key_by, span_at};
 ghost use Rattle.file_requests.specs.Replying.{IsQuiet, RepliesIf, ShowsQuietly};
 ghost use Rattle.file_requests.specs.Serving.{SameStored, ServesFile};
 
+use crate::finding::find_file;
 use crate::law::the_laws;
 use block_disk::Disk;
 use careful_write::Down;
-use file_base::{FileHead, Organization};
+use file_base::{FileHead, Organization, Span};
 use journal_format::{EntryHead, EntryKind, key_number};
 use journal_store::entry_at;
 use node_table::Stored;
 use recovery_units::RecoveryUnits;
+use script_lang::Side;
 use transcript::{Emit, Form};
-use vms_base::{Key, KeyText, Record};
+use vms_base::{FileName, Key, KeyText, Record};
 
 // The key that an entry has of a file so organized.
 fn key_in(organization: Organization, key: &KeyText) -> Option<Key>
@@ -103,16 +106,54 @@ pub fn dump_journal<D: Disk, U: RecoveryUnits, E: Emit>(
     ensures serves { ServesFile result (service said.DumpJournal) (stored_of U.state stored.old) (stored_of U.state stored.new) (E.shows out.old) (E.shows out.new) }
 {
     the_laws();
-    show_entries(stored, out)
+    let span = *stored.volume.ru();
+    show_entries(stored, &span, out)
 }
 
-// Shows the entries and between which positions they lie.
-fn show_entries<D: Disk, U: RecoveryUnits, E: Emit>(
+// The journal of images of a side, where the file has one.
+fn images_at(head: &FileHead, side: Side) -> Option<Span>
+    ensures { result ≡ span_at (side_of side) head.now }
+{
+    match side {
+        Side::AfterImages if head.marks.ai => Some(head.ai),
+        Side::BeforeImages if head.marks.bi => Some(head.bi),
+        _ => None,
+    }
+}
+
+/// DUMP_JOURNAL of a file: the entries of its journal of after images, or of before images.
+pub fn dump_images<D: Disk, U: RecoveryUnits, E: Emit>(
     stored: &mut Stored<D, U>,
+    name: &FileName,
+    side: Side,
     out: &mut E,
 ) -> Result<(), Down>
     requires order { IsInOrder (U.state stored.old.units) stored.old.volume }
     requires early { IsEarly stored.old.volume }
+    ensures place { E.place out.new ≡ E.place out.old }
+    ensures serves { ServesFile result (service (said.DumpImages name.now (side_of side))) (stored_of U.state stored.old) (stored_of U.state stored.new) (E.shows out.old) (E.shows out.new) }
+{
+    the_laws();
+    let Some((_, head)) = find_file(stored, name) else {
+        out.emit(&Form::FileNotFound);
+        return Ok(());
+    };
+    let Some(span) = images_at(&head, side) else {
+        out.emit(&Form::NoJournal);
+        return Ok(());
+    };
+    show_entries(stored, &span, out)
+}
+
+// Shows the entries of a ring and between which positions they lie.
+fn show_entries<D: Disk, U: RecoveryUnits, E: Emit>(
+    stored: &mut Stored<D, U>,
+    span: &Span,
+    out: &mut E,
+) -> Result<(), Down>
+    requires order { IsInOrder (U.state stored.old.units) stored.old.volume }
+    requires early { IsEarly stored.old.volume }
+    requires ring { IsRing span.now stored.old.volume.store.disk }
     ensures same { OnOk result (SameStored (stored_of U.state stored.old) (stored_of U.state stored.new)) }
     ensures catalog { stored.new.volume.catalog ≡ stored.old.volume.catalog }
     ensures units { U.state stored.new.units ≡ U.state stored.old.units }
@@ -122,13 +163,12 @@ fn show_entries<D: Disk, U: RecoveryUnits, E: Emit>(
     ensures place { E.place out.new ≡ E.place out.old }
     ensures since { Since (E.shows out.old) (E.shows out.new) }
     ensures replies { RepliesIf result (E.shows out.old) (E.shows out.new) }
-    ensures shows { (n : NodeSaid) → IsKept (U.state stored.old.units) stored.old.volume n → ShowsJournal result n.durable.units (E.shows out.old) (E.shows out.new) }
+    ensures shows { (content : List (List ℕ)) (j : Journal) → stored.old.volume.store.current ≡ Some content → HasShowable stored.old.volume span.now content j → ShowsJournal result j (E.shows out.old) (E.shows out.new) }
 {
     the_laws();
-    let span = *stored.volume.ru();
     let mut position = span.first;
     while position < span.end {
-        match show_entry(stored, position, out) {
+        match show_entry(stored, span, position, out) {
             Err(down) => return Err(down),
             Ok(None) => {
                 out.emit(&Form::NormalSpan(span.first, span.end));
@@ -144,12 +184,14 @@ fn show_entries<D: Disk, U: RecoveryUnits, E: Emit>(
 // Shows the entry at a position, and tells the position behind it; None where none stands there that is of this volume.
 fn show_entry<D: Disk, U: RecoveryUnits, E: Emit>(
     stored: &mut Stored<D, U>,
+    span: &Span,
     position: u64,
     out: &mut E,
 ) -> Result<Option<u64>, Down>
     requires order { IsInOrder (U.state stored.old.units) stored.old.volume }
     requires early { IsEarly stored.old.volume }
-    requires low { position < stored.old.volume.catalog.ru.end }
+    requires ring { IsRing span.now stored.old.volume.store.disk }
+    requires low { position < span.now.end }
     ensures same { OnOk result (SameStored (stored_of U.state stored.old) (stored_of U.state stored.new)) }
     ensures catalog { stored.new.volume.catalog ≡ stored.old.volume.catalog }
     ensures units { U.state stored.new.units ≡ U.state stored.old.units }
@@ -160,12 +202,11 @@ fn show_entry<D: Disk, U: RecoveryUnits, E: Emit>(
     ensures since { Since (E.shows out.old) (E.shows out.new) }
     ensures quiet { ShowsQuietly (E.shows out.old) (E.shows out.new) }
     ensures on { IfOk result (λ next. IfSome next (λ behind. position < behind)) }
-    ensures shows { ShowsEntry result position stored.old.volume (E.shows out.old) (E.shows out.new) }
+    ensures shows { ShowsEntry result position span.now stored.old.volume (E.shows out.old) (E.shows out.new) }
 {
-    let span = *stored.volume.ru();
     match entry_at(
         stored.volume.store(),
-        &span,
+        span,
         position,
         &mut stored.room.found,
     ) {

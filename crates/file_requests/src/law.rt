@@ -6,6 +6,8 @@ use directory_model::{
     new_files_are_alike, places_are_found_alike, records_are_read_alike,
     records_are_shown_in_order,
 };
+use file_images::rings_follow;
+use recovered_nodes::recoveries_keep_nodes;
 use unit_world::nodes_are_kept;
 use volume::catalogs_stand_on_the_front;
 
@@ -23,4 +25,6 @@ pub(crate) fn the_laws()
     new_files_are_alike();
     catalogs_stand_on_the_front();
     nodes_are_kept();
+    recoveries_keep_nodes();
+    rings_follow();
 }

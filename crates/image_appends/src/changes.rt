@@ -3,7 +3,7 @@ ghost use Rattle.std.specs.Prelude.{◌≡◌, ◌≤◌, ◌<◌, ◌+◌, ◌*
 ghost use Rattle.std.specs.Option.{option_copied};
 ghost use Rattle.careful_write.specs.Reads.{SameButReads};
 ghost use Rattle.careful_write.specs.State.{IsReady};
-ghost use Rattle.journal_model.specs.Entries.{spelling};
+ghost use Rattle.journal_model.specs.Entries.{IsEntry, spelling};
 ghost use Rattle.vms_base.specs.Ids.{serial_of, tid_of};
 ghost use Rattle.vms_base.specs.Keys.{key_of};
 ghost use Rattle.volume.specs.State.{Holds};
@@ -41,6 +41,7 @@ fn append_side<D: Disk>(
     ensures current { OnOk result (volume.new.store.current ≡ option_map (content_with file side (spelling (change_entry (tid_of branch.now.tid) (serial_of branch.now.serial) file (key_of key.now) (option_copied image.entry))) volume.old.catalog.heads) volume.old.store.current) }
     ensures rest { OnOk result (SameButReads (record volume.old.store { current = volume.new.store.current; touched = volume.new.store.touched }) volume.new.store) }
     ensures catalog { OnOk result (volume.new.catalog ≡ record volume.old.catalog { heads = heads_with file side (entry_size (key_of key.now) (option_copied image.entry)) volume.old.catalog.heads }) }
+    ensures is { IsEntry (change_entry (tid_of branch.now.tid) (serial_of branch.now.serial) file (key_of key.now) (option_copied image.entry)) }
     ensures size { length (spelling (change_entry (tid_of branch.now.tid) (serial_of branch.now.serial) file (key_of key.now) (option_copied image.entry))) ≡ entry_size (key_of key.now) (option_copied image.entry) }
     ensures few { OnOk result (length volume.new.store.touched ≤ length volume.old.store.touched + 19) }
     ensures holds { OnOk result (Holds volume.old → Holds volume.new) }
@@ -71,6 +72,7 @@ pub fn append_change<D: Disk>(
     ensures current { OnOk result (volume.new.store.current ≡ option_map (content_with_both file (spelling (change_entry (tid_of branch.now.tid) (serial_of branch.now.serial) file (key_of key.now) (option_copied after.entry))) (spelling (change_entry (tid_of branch.now.tid) (serial_of branch.now.serial) file (key_of key.now) (option_copied before.entry))) volume.old.catalog.heads) volume.old.store.current) }
     ensures rest { OnOk result (SameButReads (record volume.old.store { current = volume.new.store.current; touched = volume.new.store.touched }) volume.new.store) }
     ensures catalog { OnOk result (volume.new.catalog ≡ record volume.old.catalog { heads = heads_with_both file (entry_size (key_of key.now) (option_copied after.entry)) (entry_size (key_of key.now) (option_copied before.entry)) volume.old.catalog.heads }) }
+    ensures images { OnOk result (IsEntry (change_entry (tid_of branch.now.tid) (serial_of branch.now.serial) file (key_of key.now) (option_copied after.entry)) × IsEntry (change_entry (tid_of branch.now.tid) (serial_of branch.now.serial) file (key_of key.now) (option_copied before.entry))) }
     ensures few { OnOk result (length volume.new.store.touched ≤ length volume.old.store.touched + 38) }
     ensures holds { OnOk result (Holds volume.old → Holds volume.new) }
     ensures ready { OnOk result (IsReady volume.old.store → IsReady volume.new.store) }

@@ -1,53 +1,22 @@
--- Entries of images on the disk, and their heads.
-use Rattle.std.proofs.Common.{◌≡◌, ℕ, ◌+◌, ◌<◌, ◌≤◌, Bool, true, false, List, [], ◌∷◌, ◌++◌, length, map, Option, Some, None, refl, sym, ◌∙◌, ap, subst, arith}
+-- The heads of entries of images on the disk.
+use Rattle.std.proofs.Common.{◌≡◌, ℕ, Bool, List, Option, Some, None, refl, ◌∙◌, ap}
 use Rattle.vms_model.specs.Ids.{Id}
-use Rattle.vms_model.specs.Keys.{Key, Number, Text, End}
 use Rattle.vms_model.specs.Transactions as model
 use Rattle.vms_base.specs.Ids.{serial_of}
 use Rattle.vms_base.specs.declared.outcomes.Outcome.{Outcome}
 use Rattle.vms_base.specs.declared.outcomes.Outcome.TheVariants.{Commit, Abort}
-use Rattle.records_model.specs.Slots.{size_of}
-use Rattle.unit_laws.specs.Journal.{key_size}
-use Rattle.journal_model.specs.Entries.{Entry, IsEntry, spelling}
-use Rattle.journal_format.proofs.Decoding.{total_is}
+use Rattle.journal_model.specs.Entries.{Entry}
 use Rattle.journal_format.specs.Heads.{entry_of, kind_code, outcome_code, flag_of}
 use Rattle.journal_format.specs.declared.head.EntryKind.{EntryKind}
 use Rattle.journal_format.specs.declared.head.EntryKind.TheVariants as kind
 use Rattle.journal_format.specs.declared.head.EntryHead.{EntryHead}
-use Rattle.recovery_model.specs.Journal.{Changed, Settled, entry_length}
+use Rattle.recovery_model.specs.Journal.{Changed, Settled}
 use Rattle.recovery_model.specs.Journal as model_entry
 use Rattle.recovery_model.specs.Places.{Header, ChangeBy, SettlementOf, header_of}
 use Rattle.recovery_model.specs.File.{Placed}
 use Rattle.image_journals.specs.Headers.{header_by, header_told}
-use Rattle.image_laws.specs.Images.{key_bytes, image_bytes, disk_entry}
-use Rattle.image_laws.specs.Images as disk
-
--- Sizes.
-
-key_long : (key : Key) → length (key_bytes key) ≡ key_size key
-key_long (Number n) = refl
-key_long (Text bytes) = refl
-key_long End = refl
-
-image_long : (image : Option (List ℕ)) → length (image_bytes image) ≡ size_of image
-image_long None = refl
-image_long (Some bytes) = refl
-
-pub entry_long : (f : ℕ) (x : Placed) → IsEntry (disk_entry f x) → length (spelling (disk_entry f x)) ≡ entry_length x.entry
-entry_long f x is = by_entry x.at x.tid x.entry is
-  where
-    by_entry : (at : ℕ) (tid : Id) (e : model_entry.Entry) → IsEntry (disk_entry f (record { at = at; tid = tid; entry = e })) → length (spelling (disk_entry f (record { at = at; tid = tid; entry = e }))) ≡ entry_length e
-    by_entry at tid (Changed s k v) is = let whole = total_is (disk_entry f (record { at = at; tid = tid; entry = Changed s k v })) is in omega (arith, whole, key_long k, image_long v)
-    by_entry at tid (Settled s outcome t) is = total_is (disk_entry f (record { at = at; tid = tid; entry = Settled s outcome t })) is
-
-pub entry_counts : (x : Placed) → 0 < entry_length x.entry
-entry_counts x = by_entry x.entry
-  where
-    by_entry : (e : model_entry.Entry) → 0 < entry_length e
-    by_entry (Changed s k v) = omega arith
-    by_entry (Settled s outcome t) = omega arith
-
--- Heads.
+use Rattle.file_images.specs.Images.{disk_entry}
+use Rattle.file_images.specs.Images as disk
 
 change_kind : (k : EntryKind) (r : Id) (o : Option Outcome) (m : ℕ) → kind_code k ≡ 1 → header_by k r o m ≡ ChangeBy r
 change_kind kind.Change r o m e = refl

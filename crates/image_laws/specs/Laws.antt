@@ -1,35 +1,16 @@
--- How the bytes of a ring follow a journal of images.
-use Rattle.std.specs.Prelude.{◌≡◌, ℕ, ◌+◌, ◌-◌, ◌*◌, ◌/◌, ◌≤◌, List, ◌++◌, ◌∷◌, length, map, reverse}
+-- How the entries of a journal of images are read from the bytes of its ring.
+use Rattle.std.specs.Prelude.{◌≡◌, ℕ, ◌+◌, ◌≤◌, List, ◌++◌, map, reverse}
 use Rattle.std.specs.List.{AllByRecursion}
 use Rattle.file_base.specs.declared.head.Span.{Span}
-use Rattle.vms_model.specs.Ids.{Id}
-use Rattle.journal_model.specs.Entries.{IsEntry, spelling}
-use Rattle.journal_model.specs.Ring.{ring_size, put_stream, HasRing, StandsAt}
+use Rattle.journal_model.specs.Entries.{IsEntry}
+use Rattle.journal_model.specs.Ring.{StandsAt}
 use Rattle.journal_format.specs.declared.head.EntryHead.{EntryHead}
 use Rattle.unit_entries.specs.Reading.{AreRead, placed}
-use Rattle.recovery_model.specs.Journal.{Entry, entry_length}
 use Rattle.recovery_model.specs.Places.{header_of}
-use Rattle.recovery_model.specs.File.{Placed, ImageJournal, all_of, since, append, renewed, entries_length, IsInOrder}
+use Rattle.recovery_model.specs.File.{Placed, ImageJournal, all_of, since, entries_length}
 use Rattle.image_journals.specs.Headers.{header_told}
 use Rattle.image_entries.specs.Entries.{AreHeadsOf}
-use Rattle.image_laws.specs.Images.{disk_entry, disk_entries, HasImageJournal}
-
--- the next entry of a journal
-abbrev pub next_placed : ImageJournal → Id → Entry → Placed
-next_placed j tid e = record { at = j.end; tid = tid; entry = e }
-
--- where the spelling of an entry is put at the end, and the end behind it, there is one entry more
-abbrev pub ImagesGrow : Type 0
-ImagesGrow = (c : List (List ℕ)) (s : Span) (f : ℕ) (j : ImageJournal) (tid : Id) (e : Entry) → HasImageJournal c s f j → IsEntry (disk_entry f (next_placed j tid e)) → s.end - s.first + entry_length e ≤ ring_size s →
-    HasImageJournal (put_stream c s s.end (spelling (disk_entry f (next_placed j tid e)))) (record s { end = s.end + length (spelling (disk_entry f (next_placed j tid e))) }) f (append tid e j)
-
--- an empty journal in a ring, at the next whole block behind the end of the one before
-abbrev pub ImagesBegin : Type 0
-ImagesBegin = (c : List (List ℕ)) (s : Span) (f : ℕ) (j : ImageJournal) → HasRing c s → s.first ≡ 512 * (j.end / 512 + 1) → s.end ≡ s.first → HasImageJournal c s f (renewed s.start s.blocks j)
-
--- where the ring has a journal, its entries stand in order
-abbrev pub ImagesStand : Type 0
-ImagesStand = (c : List (List ℕ)) (s : Span) (f : ℕ) (j : ImageJournal) → HasImageJournal c s f j → IsInOrder j
+use Rattle.file_images.specs.Images.{disk_entry, disk_entries, HasImageJournal}
 
 -- Heads and positions are those of these entries, the oldest first: what the heads say of branches, where the entries begin, and each head with the image of its
 -- entry.

@@ -1,17 +1,14 @@
-//! A file's journal of images in the blocks of its ring.
+//! What is read of a file's journal of images from the blocks of its ring.
 //!
-//! The crate has definitions and laws, and nothing that runs. `specs/Images` says which bytes of a ring are a journal of images, and `specs/Laws`
-//! how they follow it.
+//! The crate has definitions and laws, and nothing that runs. `file_images` says which bytes of a ring are a journal of images, and `specs/Laws` how
+//! its entries are read from them.
 #![tactic(auto)]
 
-ghost use Rattle.image_laws.specs.Laws.{ImagesStand, ImagesGrow, ImagesBegin, ImagesAreRead, ImagesArePlaced};
+ghost use Rattle.image_laws.specs.Laws.{ImagesAreRead, ImagesArePlaced};
 
-/// The entries in a ring follow a file's journal of images: they stand in order; with one entry more at the end; anew behind a whole block; as
-/// they are read from a position on, each with where it begins; and each at its own position.
+/// The entries of a file's journal of images are those that are read from its ring, from a position on, each with where it begins; and each stands at its
+/// own position.
 pub fn images_follow()
-    ensures stand { ImagesStand }
-    ensures grow { ImagesGrow }
-    ensures begin { ImagesBegin }
     ensures read { ImagesAreRead }
     ensures placed { ImagesArePlaced }
 {}

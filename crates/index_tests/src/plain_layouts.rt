@@ -17,7 +17,8 @@ use file_base::FileHead;
 use indexed_tree::TreeFile;
 use reference_index::{Change, Key, Layout, Leaf, Lock};
 use reference_world::{
-    File, FileChange, Organization, Settlement, WrittenMoment, settled_files, with_file,
+    BranchKey, File, FileChange, Organization, Settlement, WrittenMoment, nothing_carried,
+    settled_files, with_file,
 };
 use std::alloc::{AllocError, Global};
 use std::mem::replace;
@@ -68,6 +69,8 @@ fn plain_files(alloc: Global, name: FileName) -> Result<Vec<Option<File>>, Alloc
         start: 600,
         buckets: 2_000,
         recovery_units: true,
+        carried: nothing_carried(alloc),
+        base: Vec::new(alloc),
         moment: 0,
         settled: Vec::new(alloc),
         live: Vec::new(alloc),
@@ -122,11 +125,15 @@ fn step_plainly(
         after: bytes_of(alloc, step.plain, value)?,
     })?;
     let before = replace(files, Vec::new(alloc));
-    let set = FileChange::Set(Id::default(), changes);
-    let changed = with_file(alloc, before, locks, name, set)?;
-    let settlement = Settlement {
+    let branch = BranchKey {
         tid: Id::default(),
         serial: Id::default(),
+    };
+    let set = FileChange::Set(branch, changes);
+    let changed = with_file(alloc, before, locks, name, set)?;
+    let settlement = Settlement {
+        tid: branch.tid,
+        serial: branch.serial,
         reason: if step.is_undone {
             Some(Reason::Aborted)
         } else {

@@ -155,10 +155,49 @@ const FILES: [(&[u8], u32, u32, Form); 4] = [
     ),
 ];
 
-const SETTINGS: [(&[u8], Setting); 3] = [
+const SETTINGS: [(&[u8], Setting); 7] = [
     (b"A: SET_FILE F RU", Setting::RecoveryUnits),
     (b"A: set_file f ru", Setting::RecoveryUnits),
     (b"A: SET_FILE F noru", Setting::NoRecoveryUnits),
+    (
+        b"A: SET_FILE F ai 0064",
+        Setting::Images(Side::AfterImages, 64),
+    ),
+    (
+        b"A: SET_FILE F BI 0",
+        Setting::Images(Side::BeforeImages, 0),
+    ),
+    (b"A: SET_FILE F NOAI", Setting::NoImages(Side::AfterImages)),
+    (
+        b"A: SET_FILE F nobi ",
+        Setting::NoImages(Side::BeforeImages),
+    ),
+];
+
+// Recoveries of a file.
+const RECOVERIES: [(&[u8], Recovery); 4] = [
+    (b"A: RECOVER F FORWARD", Recovery::Forward(None)),
+    (
+        b"A: recover f forward until \"17-nov-1858 00:00:00.01\"",
+        Recovery::Forward(Some(Moment(1))),
+    ),
+    (
+        b"A: RECOVER F BACKWARD UNTIL \"17-NOV-1858 00:00:00.00\"",
+        Recovery::Backward(Moment(0)),
+    ),
+    (
+        b"A: RECOVER F BACKWARD UNTIL \"18-NOV-1858 00:00:00.00\"",
+        Recovery::Backward(Moment(8_640_000)),
+    ),
+];
+
+// Lines that show a journal of images, with the names of their files.
+const JOURNALS: [(&[u8], &[u8], Side); 5] = [
+    (b"A: DUMP_JOURNAL F AI", b"F", Side::AfterImages),
+    (b"A: dump_journal f bi ", b"F", Side::BeforeImages),
+    (b"A: DUMP_JOURNAL RU AI", b"RU", Side::AfterImages),
+    (b"A: DUMP_JOURNAL AI BI", b"AI", Side::BeforeImages),
+    (b"A: DUMP_JOURNAL bi BI", b"BI", Side::BeforeImages),
 ];
 
 #[test]
@@ -176,6 +215,14 @@ fn lines_ask_for_files(rt: HostRuntime) -> Result<(), Fail> {
     for (line, setting) in SETTINGS {
         say(&rt, rt.alloc(), line, Request::SetFile(file, setting))?;
     }
+    for (line, way) in RECOVERIES {
+        say(&rt, rt.alloc(), line, Request::Recover(file, way))?;
+    }
+    for (line, name, side) in JOURNALS {
+        let named = FileName::new(name).ok_or("a name")?;
+        say(&rt, rt.alloc(), line, Request::DumpImages(named, side))?;
+    }
+    say(&rt, rt.alloc(), b"A: backup F", Request::Backup(file))?;
     say(&rt, rt.alloc(), b"A: dump F", Request::Dump(file))
 }
 
@@ -508,7 +555,7 @@ fn lines_leave_the_grammar_at_their_columns(rt: HostRuntime) -> Result<(), Fail>
     leave(&rt, rt.alloc(), &COLUMNS)
 }
 
-const COLUMNS_OF_NODES: [(&[u8], Option<u32>); 56] = [
+const COLUMNS_OF_NODES: [(&[u8], Option<u32>); 66] = [
     (b"A:INIT", Some(1)),
     (b"INIT", Some(1)),
     (b"A: INIT x", Some(9)),
@@ -527,8 +574,20 @@ const COLUMNS_OF_NODES: [(&[u8], Option<u32>); 56] = [
     (b"A: CREATE F REL 1 4294967296 10", Some(19)),
     (b"A: CREATE F REL 1 100 10 1", Some(26)),
     (b"A: SET_FILE F", Some(14)),
-    (b"A: SET_FILE F AI", Some(15)),
+    (b"A: SET_FILE F AI", Some(17)),
+    (b"A: SET_FILE F XI 8", Some(15)),
+    (b"A: SET_FILE F NOAI 64", Some(20)),
     (b"A: SET_FILE F RU RU", Some(18)),
+    (b"A: BACKUP", Some(10)),
+    (b"A: BACKUP F AI", Some(13)),
+    (b"A: RECOVER F", Some(13)),
+    (b"A: RECOVER F BACKWARD", Some(22)),
+    (b"A: RECOVER F FORWARD TO", Some(22)),
+    (b"A: RECOVER F FORWARD UNTIL", Some(27)),
+    (
+        b"A: RECOVER F FORWARD UNTIL \"31-JUN-1900 00:00:00.00\"",
+        Some(28),
+    ),
     (b"FUSE", Some(5)),
     (b"FUSE A:", Some(6)),
     (b"FUSE A x 1", Some(8)),
@@ -540,9 +599,10 @@ const COLUMNS_OF_NODES: [(&[u8], Option<u32>); 56] = [
     (b"FUSE A 1 2 3", Some(12)),
     (b"A: CRASH", Some(4)),
     (b"A: DUMP_JOURNAL", Some(16)),
-    (b"A: DUMP_JOURNAL F", Some(17)),
+    (b"A: DUMP_JOURNAL F", Some(18)),
     (b"A: DUMP_JOURNAL AI", Some(17)),
-    (b"A: DUMP_JOURNAL RU AI", Some(20)),
+    (b"A: DUMP_JOURNAL F RU", Some(19)),
+    (b"A: DUMP_JOURNAL RU AI 1", Some(23)),
     (b"DUMP_JOURNAL RU", Some(1)),
     (b"CRASH", Some(6)),
     (b"CRASH 1A", Some(7)),
@@ -619,7 +679,7 @@ fn wanted(alloc: Global, line: &[u8]) -> Result<Option<Wanted>, Fail> {
     })
 }
 
-const WANTED: [(&[u8], Wanted); 20] = [
+const WANTED: [(&[u8], Wanted); 23] = [
     (b"INIT", Wanted::First),
     (b"A: FROB", Wanted::Verb),
     (b"CRASH 1A", Wanted::Node),
@@ -629,7 +689,10 @@ const WANTED: [(&[u8], Wanted); 20] = [
     (b"A: DUMP", Wanted::File),
     (b"A: DUMP_JOURNAL F", Wanted::Journal),
     (b"A: CREATE F SEK 1 100 10", Wanted::Organization),
-    (b"A: SET_FILE F AI", Wanted::Setting),
+    (b"A: DUMP_JOURNAL AI", Wanted::JournaledFile),
+    (b"A: SET_FILE F XI", Wanted::Setting),
+    (b"A: RECOVER F", Wanted::Direction),
+    (b"A: RECOVER F BACKWARD", Wanted::Until),
     (b"A: INIT x", Wanted::Number),
     (b"FUSE A 1", Wanted::LongNumber),
     (b"A: PUT T F 1", Wanted::Bytes),

@@ -156,7 +156,11 @@ fn has_time(form: &Form<'_>) -> bool
         | Form::Aborted(_, _, _, moment)
         | Form::LastCommitted(_, _, moment)
         | Form::LastAborted(_, _, _, moment)
+        | Form::NormalSave(_, moment)
         | Form::SettledEntry(_, _, _, _, moment) => moment.0 < 25_690_901_760_000,
+        Form::TooEarly(first, second) | Form::MomentsMissing(first, second) => {
+            first.0 < 25_690_901_760_000 && second.0 < 25_690_901_760_000
+        }
         _ => true,
     }
 }
@@ -231,6 +235,17 @@ const ANSWERS: [Form<'static>; 4] = [
     Form::BadLine(4),
 ];
 
+const ANSWERS_OF_RECOVERY: [Form<'static>; 8] = [
+    Form::NormalSave(512, Moment(0)),
+    Form::NoJournal,
+    Form::NoSave,
+    Form::TooEarly(Moment(1), Moment(2)),
+    Form::PositionsMissing(512, 1_024),
+    Form::MomentsMissing(Moment(1), Moment(2)),
+    Form::AftersFull(7, 101),
+    Form::BeforesFull(7, 100),
+];
+
 const ANSWERS_OF_NODES: [Form<'static>; 6] = [
     Form::TransactionAborted(Reason::SyncFail),
     Form::NoSuchMessage,
@@ -290,6 +305,19 @@ fn refusals_have_their_bytes(rt: HostRuntime) {
 1 STOPPED\n\
 1 TOOLONG\n";
     shows(&rt, rt.alloc(), 1, &REFUSALS, want);
+}
+
+#[test]
+fn answers_of_recovery_have_their_bytes(rt: HostRuntime) {
+    let want = b"9 SS$_NORMAL 512 \"17-NOV-1858 00:00:00.00\"\n\
+9 NOTMARKED\n\
+9 NOSAVE\n\
+9 EARLY \"17-NOV-1858 00:00:00.01\" \"17-NOV-1858 00:00:00.02\"\n\
+9 SPAN 512 1024\n\
+9 SPAN \"17-NOV-1858 00:00:00.01\" \"17-NOV-1858 00:00:00.02\"\n\
+9 RMS$_FUL AI 7 101\n\
+9 RMS$_FUL BI 7 100\n";
+    shows(&rt, rt.alloc(), 9, &ANSWERS_OF_RECOVERY, want);
 }
 
 #[test]

@@ -57,7 +57,8 @@ pub fn buckets(head: &FileHead, records: &[KeyedRecord]) -> u64
     requires blocks { head.now.bucket ≤ 16 }
     requires key { head.now.key_size ≤ 64 }
     requires short { AllTell records.now }
-    ensures { result ≡ loaded_buckets head.now (map keyed records.now) }
+    ensures is { result ≡ loaded_buckets head.now (map keyed records.now) }
+    ensures most { result ≤ head.now.alloc + 2 * length records.now + 2 }
 {
     let capacity = 512 * head.bucket as u64 - 16;
     match head.organization {

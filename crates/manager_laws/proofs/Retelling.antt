@@ -4,13 +4,14 @@ use Rattle.std.specs.Prelude.{nat_lt, length}
 use Rattle.std.specs.Option.{option_map, option_and_then}
 use Rattle.std.specs.Str.{bytes_eq}
 use Rattle.std.proofs.lemmas.Bool.{both_ways}
+use Rattle.std.specs.List.{AllByRecursion}
 use Rattle.vms_model.specs.Ids.{Id}
 use Rattle.vms_model.specs.Keys.{Key as RecordKey}
 use Rattle.vms_model.specs.Transactions as settles
 use Rattle.vms_model.specs.Transactions.{Aborted, Reason}
 use Rattle.transcript_model.specs.Lines as line
 use Rattle.transcript_model.specs.Lines.{Line, Cause}
-use Rattle.script_model.specs.Statements.{Statement, At, Deliver, LinkDown, Settle, Reading, Blank, Says, Bad, Request, Init, Boot, Create, SetFile, StartTrans, AddBranch, StartBranch, Records, Direct, EndBranch, EndTrans, AbortTrans, Inquire, DeclareRm, JoinRm, AckEvent, ForgetRm, GetDti, LmcpShow, LmcpDump, Dump, DumpJournal, Fuse, Crash, Clock}
+use Rattle.script_model.specs.Statements.{Statement, At, Deliver, LinkDown, Settle, Reading, Blank, Says, Bad, Request, Init, Boot, Create, SetFile, StartTrans, AddBranch, StartBranch, Records, Direct, EndBranch, EndTrans, AbortTrans, Inquire, DeclareRm, JoinRm, AckEvent, ForgetRm, GetDti, LmcpShow, LmcpDump, Dump, DumpJournal, DumpImages, Backup, Recover, Fuse, Crash, Clock}
 use Rattle.records_model.specs.Records.{Change}
 use Rattle.unit_laws.specs.Journal as journal
 use Rattle.unit_laws.specs.Journal.{JournalEntry, entry_size}
@@ -57,6 +58,7 @@ use Rattle.manager_laws.proofs.Backing.{in_log}
 use Rattle.manager_laws.proofs.Ordering.{Announces, Known, Orderly, With, row_orderly}
 use Rattle.manager_laws.proofs.Telling.{Nothing, Preceded, Unknown, effect_told, is_declaring, is_untold, lasts_untold, preceded_split}
 use Rattle.manager_laws.proofs.Told.{answer_untold, declare_lines, in_split, name_owed, owed_of_line, serial_owed, tid_owed}
+use Rattle.world_laws.proofs.FileRows.{images_by, recovers_by, saves_by, sets_by, IsEntryLine}
 
 untold_none : (ls : List Line) (v : RmEvent) (t s : Id) (x : Name) → AllPass is_untold ls → In (line.ManagerTold v t s x) ls → ⊥
 untold_none [] v t s x h i = i
@@ -214,6 +216,15 @@ module _ (tid serial : Id) (rm : Name) where
       one (journal.PreparedEntry t s) = refl
       one (journal.SettledEntry t s outcome moment) = refl
 
+  images_owed : (n : Node) (ls : List Line) → AllByRecursion IsEntryLine ls → RowsOwed (map answers.shown_line ls) n
+  images_owed n [] a = tt
+  images_owed n (l ∷ ls) a = (never_in (l ∷ []) (subst (λ (k : Line). is_untold k ≡ true) (sym a.0.2) (one a.0.1), tt), images_owed n ls a.1)
+    where
+      one : (e : JournalEntry) → is_untold (answers.entry_line a.0.0 e) ≡ true
+      one (journal.ChangeEntry t s file key before) = refl
+      one (journal.PreparedEntry t s) = refl
+      one (journal.SettledEntry t s outcome moment) = refl
+
   -- a DECLARE_RM tells what is in the log
   declared_owed : (n : Node) (x : Name) → In it (map (owed_line x) (waiting_for x (committed_of (records_in n.durable.log)))) → Has n
   declared_owed n x i =
@@ -224,7 +235,7 @@ module _ (tid serial : Id) (rm : Name) where
   request_owed s n (Init slots journal) off t f = tt
   request_owed s n Boot off t f = let no : ⊥ = cc in absurd no
   request_owed s n (Create file bucket size form) off t f = created_owed n _ _
-  request_owed s n (SetFile file setting) off t f = ((λ i. absurd i), tt)
+  request_owed s n (SetFile file setting) off t f = sets_by (λ rs. RowsOwed rs n) tt n file setting (λ mark. ((λ i. absurd i), tt))
   request_owed s n (StartTrans label seconds) off t f = told_owed false s n (answers.starts n label seconds) t f
   request_owed s n (AddBranch label other new) off t f = branch_owed s n (branch_labelled s n label) (λ b. answers.adds n other new b) t f
   request_owed s n (StartBranch label) off t f = told_if_owed s n (option_and_then (begins n) (world.labelled n.name label s.labels)) t f
@@ -243,6 +254,9 @@ module _ (tid serial : Id) (rm : Name) where
   request_owed s n LmcpDump off t f = log_owed n (slot_records 0 n.durable.log)
   request_owed s n (Dump file) off t f = records_owed n (answers.records_of n file)
   request_owed s n DumpJournal off t f = entries_owed n n.durable.units.first n.durable.units.entries
+  request_owed s n (DumpImages file side) off t f = images_by (λ rs. RowsOwed rs n) tt n file side (λ ls a. images_owed n ls a)
+  request_owed s n (Backup file) off t f = saves_by (λ rs. RowsOwed rs n) tt n file (λ start. ((λ i. absurd i), tt))
+  request_owed s n (Recover file way) off t f = recovers_by (λ rs. RowsOwed rs n) tt n file way (λ start buckets m. ((λ i. absurd i), tt))
   request_owed s n (Fuse writes choice) off t f = ((λ i. absurd i), tt)
   request_owed s n Crash off t f = (never_in (line.Crashed n.name ∷ []) (refl, tt), tt)
   request_owed s n (Clock now) off t f = ((λ i. absurd i), tt)

@@ -5,7 +5,7 @@ use Rattle.vms_model.specs.Ids.{Id}
 use Rattle.vms_model.specs.Keys.{Key}
 use Rattle.vms_model.specs.Transactions.{Aborted}
 use Rattle.transcript_model.specs.Lines.{Line}
-use Rattle.script_model.specs.Statements.{Operation, Request, Init, Boot, Create, SetFile, StartTrans, AddBranch, StartBranch, Records, Direct, EndBranch, EndTrans, AbortTrans, Inquire, DeclareRm, JoinRm, AckEvent, ForgetRm, GetDti, LmcpShow, LmcpDump, Dump, DumpJournal, Fuse, Crash, Clock}
+use Rattle.script_model.specs.Statements.{Operation, Request, Init, Boot, Create, SetFile, StartTrans, AddBranch, StartBranch, Records, Direct, EndBranch, EndTrans, AbortTrans, Inquire, DeclareRm, JoinRm, AckEvent, ForgetRm, GetDti, LmcpShow, LmcpDump, Dump, DumpJournal, DumpImages, Backup, Recover, Fuse, Crash, Clock}
 use Rattle.records_model.specs.Records.{Change}
 use Rattle.commit_protocol.specs.Messages.{Name, Reply}
 use Rattle.commit_protocol.specs.World.{In}
@@ -19,6 +19,7 @@ use Rattle.run_model.specs.World.{Shared, Node, Label, Act, Tables, acted, next_
 use Rattle.run_model.specs.Answers as answers
 use Rattle.run_model.specs.Answers.{Row, Task, Serves, Ticks, Takes, Hears, LosesLink, RunsDown, Restarts, begins, branch_labelled, branch_named, just, service, silent, table_rows, task_service, told_if, told_rows}
 use Rattle.manager_laws.proofs.Taking.{AllHold, EventHolds, HoldsIn, IsSteady, row_holds}
+use Rattle.world_laws.proofs.FileRows.{images_by, recovers_by, saves_by, sets_by}
 
 -- what a row notes, prepares, commits or lets go is so, and which managers it declares; it boots no node
 module _ (P : Branch → Type 0) (Q : List Name → Type 0) where
@@ -112,7 +113,7 @@ module _ (P : Branch → Type 0) (Q : List Name → Type 0) (steady : IsSteady P
   request_holds s n h (Init slots journal) v = tt
   request_holds s n h Boot v = absurd v
   request_holds s n h (Create file bucket size form) v = created_hold_rows n _ _
-  request_holds s n h (SetFile file setting) v = (tt, tt)
+  request_holds s n h (SetFile file setting) v = sets_by (RowsHold P Q) tt n file setting (λ mark. (tt, tt))
   request_holds s n h (StartTrans label seconds) v = (tt, (tt, (v, tt)))
   request_holds s n h (AddBranch label other new) v = branch_hold_rows (branch_labelled s n label) (λ b. told_rows s n (answers.adds n other new b)) (λ b is. (tt, (tt, event_holds n (rows.Authorise b.key.tid (next_id n)) h tt _ (acted (world.Labels (record { name = new; node = other; tid = b.key.tid; bid = Some (next_id n); serial = None })) (acted world.Draws n)))))
   request_holds s n h (StartBranch label) v = begins_hold_rows s n v (world.labelled n.name label s.labels)
@@ -131,6 +132,9 @@ module _ (P : Branch → Type 0) (Q : List Name → Type 0) (steady : IsSteady P
   request_holds s n h LmcpDump v = lines_hold_rows (map answers.log_line (slot_records 0 n.durable.log))
   request_holds s n h (Dump file) v = records_hold_rows (answers.records_of n file)
   request_holds s n h DumpJournal v = lines_hold_rows (answers.entry_lines n.durable.units.first n.durable.units.entries)
+  request_holds s n h (DumpImages file side) v = images_by (RowsHold P Q) tt n file side (λ ls a. lines_hold_rows ls)
+  request_holds s n h (Backup file) v = saves_by (RowsHold P Q) tt n file (λ start. (tt, tt))
+  request_holds s n h (Recover file way) v = recovers_by (RowsHold P Q) tt n file way (λ start buckets m. (tt, tt))
   request_holds s n h (Fuse writes choice) v = (tt, tt)
   request_holds s n h Crash v = (tt, tt)
   request_holds s n h (Clock now) v = (tt, tt)

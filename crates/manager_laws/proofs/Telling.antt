@@ -2,13 +2,14 @@
 use Rattle.std.proofs.Common.{◌≡◌, ◌⊎◌, ℕ, ◌+◌, zero, suc, Bool, true, false, List, [], ◌∷◌, ◌++◌, map, take, inl, inr, Option, Some, None, if◌then◌else◌, refl, sym, ◌∙◌, ap, subst, append_assoc}
 use Rattle.std.specs.Prelude.{nat_lt, length}
 use Rattle.std.specs.Option.{option_map, option_and_then}
+use Rattle.std.specs.List.{AllByRecursion}
 use Rattle.vms_model.specs.Ids.{Id}
 use Rattle.vms_model.specs.Keys.{Key as RecordKey}
 use Rattle.vms_model.specs.Transactions as settles
 use Rattle.vms_model.specs.Transactions.{Reason, Aborted}
 use Rattle.transcript_model.specs.Lines as line
 use Rattle.transcript_model.specs.Lines.{Line, Cause}
-use Rattle.script_model.specs.Statements.{Statement, At, Deliver, LinkDown, Settle, Request, Init, Boot, Create, SetFile, StartTrans, AddBranch, StartBranch, Records, Direct, EndBranch, EndTrans, AbortTrans, Inquire, DeclareRm, JoinRm, AckEvent, ForgetRm, GetDti, LmcpShow, LmcpDump, Dump, DumpJournal, Fuse, Crash, Clock}
+use Rattle.script_model.specs.Statements.{Statement, At, Deliver, LinkDown, Settle, Request, Init, Boot, Create, SetFile, StartTrans, AddBranch, StartBranch, Records, Direct, EndBranch, EndTrans, AbortTrans, Inquire, DeclareRm, JoinRm, AckEvent, ForgetRm, GetDti, LmcpShow, LmcpDump, Dump, DumpJournal, DumpImages, Backup, Recover, Fuse, Crash, Clock}
 use Rattle.records_model.specs.Records.{Change}
 use Rattle.unit_laws.specs.Journal as journal
 use Rattle.unit_laws.specs.Journal.{JournalEntry, entry_size}
@@ -31,6 +32,7 @@ use Rattle.run_model.proofs.PartLemmas.{EachPart, EachPhase, phases_fold}
 use Rattle.run_model.proofs.PartTasks.{Doing, Fixed, View, all_asked, each_restart, each_run_down, each_up, view}
 use Rattle.run_said.proofs.Passing.{AllPass, acknowledged_passes, prepared_passes, released_passes}
 use Rattle.manager_laws.proofs.Ordering.{Announces, Known, Orderly, With, row_orderly}
+use Rattle.world_laws.proofs.FileRows.{images_by, recovers_by, saves_by, sets_by, IsEntryLine}
 
 -- Lines.
 
@@ -254,11 +256,20 @@ entries_told L position (e ∷ es) = (one e, entries_told (Also L (answers.entry
     one (journal.PreparedEntry tid serial) = tt
     one (journal.SettledEntry tid serial outcome moment) = tt
 
+images_told : (L : Earlier) (ls : List Line) → AllByRecursion IsEntryLine ls → Preceded L (lines_of_rows (map answers.shown_line ls))
+images_told L [] a = tt
+images_told L (l ∷ ls) a = (subst (Backed L) (sym a.0.2) (one a.0.1), images_told (Also L l) ls a.1)
+  where
+    one : (e : JournalEntry) → Backed L (answers.entry_line a.0.0 e)
+    one (journal.ChangeEntry tid serial file key before) = tt
+    one (journal.PreparedEntry tid serial) = tt
+    one (journal.SettledEntry tid serial outcome moment) = tt
+
 request_told : (L : Earlier) (s : Shared) (n : Node) (r : Request) → is_declaring (Serves r) ≡ false → Preceded L (lines_of_rows ((service r).rows s n))
 request_told L s n (Init slots journal) off = tt
 request_told L s n Boot off = boot_told L s n
 request_told L s n (Create file bucket size form) off = created_told L n _ _
-request_told L s n (SetFile file setting) off = tt
+request_told L s n (SetFile file setting) off = sets_by (λ rs. Preceded L (lines_of_rows rs)) tt n file setting (λ mark. tt)
 request_told L s n (StartTrans label seconds) off = tt
 request_told L s n (AddBranch label other new) off = branch_told L (branch_labelled s n label) (λ b. told_rows s n (answers.adds n other new b))
     (λ b. event_told L n (rows.Authorise b.key.tid (next_id n)) _ (acted (world.Labels (record { name = new; node = other; tid = b.key.tid; bid = Some (next_id n); serial = None })) (acted world.Draws n)))
@@ -278,6 +289,9 @@ request_told L s n LmcpShow off = tt
 request_told L s n LmcpDump off = log_told L (slot_records 0 n.durable.log)
 request_told L s n (Dump file) off = records_told L (answers.records_of n file)
 request_told L s n DumpJournal off = entries_told L n.durable.units.first n.durable.units.entries
+request_told L s n (DumpImages file side) off = images_by (λ rs. Preceded L (lines_of_rows rs)) tt n file side (λ ls a. images_told L ls a)
+request_told L s n (Backup file) off = saves_by (λ rs. Preceded L (lines_of_rows rs)) tt n file (λ start. tt)
+request_told L s n (Recover file way) off = recovers_by (λ rs. Preceded L (lines_of_rows rs)) tt n file way (λ start buckets m. tt)
 request_told L s n (Fuse writes choice) off = tt
 request_told L s n Crash off = (tt, tt)
 request_told L s n (Clock now) off = tt

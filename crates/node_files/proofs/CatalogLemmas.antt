@@ -49,7 +49,7 @@ in_extent_first start count some = grind (arith, nat_tests)
 in_extent_last : (start count : ℕ) → 1 ≤ count → (nat_le (start - 518) (start - 518 + count - 1) && nat_lt (start - 518 + count - 1) (start - 518 + count)) ≡ true
 in_extent_last start count some = grind (arith, nat_tests)
 
-some_blocks : (a b : ℕ) → 1 ≤ a → 1 ≤ b → 1 ≤ a * b
+pub some_blocks : (a b : ℕ) → 1 ≤ a → 1 ≤ b → 1 ≤ a * b
 some_blocks zero b p q = let no_way : ⊥ = omega (arith, p) in absurd no_way
 some_blocks (suc a) zero p q = let no_way : ⊥ = omega (arith, q) in absurd no_way
 some_blocks (suc a) (suc b) p q = omega arith
@@ -71,19 +71,6 @@ placed name v f h disk apart long sound most there =
       records = fits.bucket.record_fits;
       greatest = fits.bucket.most_record;
     }
-
--- The front blocks are none of a file's.
-
-pub front_agrees : (name : List ℕ) (size : ℕ) (v : Catalog) (f : ℕ) (h : FileHead) (a b : List (List ℕ)) → LieApart → length v.heads ≡ 64 → IsSound name size v → head_at v.heads f ≡ Some h → ((n : ℕ) → 66 ≤ n → block_at a n ≡ block_at b n) → AgreesOn h a b
-front_agrees name size v f h a b apart long sound there agree = λ n within.
-    let in_area = apart.within _ v.heads f n h (fit_of name size v long sound) there within in
-    agree n (omega (arith, in_area.0))
-
-pub front_files : (name : List ℕ) (size : ℕ) (v : Catalog) (a b : List (List ℕ)) (directory : List (Option File)) → LieApart → StandsOnExtents → IsSound name size v → AreFiles a v.heads directory → ((n : ℕ) → 66 ≤ n → block_at a n ≡ block_at b n) → AreFiles b v.heads directory
-front_files name size v a b directory apart stand sound files agree = stand a b v.heads directory (λ f h there. front_agrees name size v f h a b apart files.heads_long sound there agree) files
-
-pub front_set : (a : List (List ℕ)) (k : ℕ) (bytes : List ℕ) → k < 66 → (n : ℕ) → 66 ≤ n → block_at a n ≡ block_at (slice_set a k bytes) n
-front_set a k bytes below n behind = sym (get_or-set_other a k n bytes [] (λ same. let no_way : ⊥ = omega (arith, same, below, behind) in no_way))
 
 pub named_new : (heads : List (Option FileHead)) (g : ℕ) (o : Option FileHead) → head_at heads g ≡ o → AreNamedOnce heads → IsNew heads g o
 named_new heads g None is once = tt

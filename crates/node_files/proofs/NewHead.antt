@@ -61,7 +61,7 @@ new_head_is name s start sizes = record {
   root = refl;
   count = refl;
   unmarked = refl;
-  carried = refl;
+  carried = record { no_after = refl; no_before = refl; no_save = refl; after = refl; before = refl; since = refl; save_start = refl; save_buckets = refl };
 }
 
 -- the sizes that are tested one after another

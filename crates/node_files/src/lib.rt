@@ -5,4 +5,6 @@ mod sizes;
 mod writing;
 
 pub use sizes::{Sizes, sizes_of};
-pub use writing::{make_records, next_record_from, write_head, write_home};
+pub use writing::{
+    blocks_are_whole, copy_records, make_records, next_record_from, write_head, write_home,
+};

@@ -1,11 +1,12 @@
 //! Records of a volume's files as they are shown, and the groups that change a volume.
-ghost use Rattle.std.specs.Prelude.{◌≡◌, ◌<◌, ◌≤◌, ◌+◌, true, false, Some, Ok, length, OnOk, OnErr, IfOk, IfSome, option_map, slice_set};
+ghost use Rattle.std.specs.Prelude.{◌≡◌, ◌<◌, ◌≤◌, ◌+◌, ◌-◌, ◌*◌, true, false, Some, Ok, length, OnOk, OnErr, IfOk, IfSome, option_map, slice_set};
 ghost use Rattle.std.specs.Option.{option_copied};
 ghost use Rattle.careful_write.specs.Down.{Counts};
 ghost use Rattle.careful_write.specs.State.{EachWhole, IsIdle, IsReady};
 ghost use Rattle.change_set.specs.Files.{AgreesOut, IsPlaced, LeavesOut, fell, free_frames, in_extent};
 ghost use Rattle.change_set.specs.Maps.{EndsAfter, IsNext, empty_map};
 ghost use Rattle.record_files.specs.Any.{Begins, IsFile, IsLaidOut, IsNew, first_layout_of, layout_of, map_of};
+ghost use Rattle.save_sets.specs.Copies.{AreApart, AreBlocks, CopiesTo, is_within};
 ghost use Rattle.volume.specs.State.{SameVolume, with_block};
 ghost use Rattle.volume_format.specs.Head.{head_block_of};
 ghost use Rattle.volume_format.specs.Home.{home_block_of};
@@ -17,6 +18,7 @@ use careful_write::{Down, Store};
 use change_set::{Place, RecordFile};
 use file_base::FileHead;
 use record_files::AnyFile;
+use save_sets::copy;
 use vms_base::{Key, Record};
 use volume::Volume;
 use volume_format::Home;
@@ -48,9 +50,10 @@ pub fn next_record_from<D: Disk>(
     AnyFile::next_from(head, volume.store(), after, place, key, found)
 }
 
-// What a store reads has 512 bytes a block, as it promises where its frames are asked for.
-fn blocks_are_whole<D: Disk>(store: &mut Store<D>)
+/// What a store reads has 512 bytes a block and reaches to the end of the disk, as it promises where its frames are asked for.
+pub fn blocks_are_whole<D: Disk>(store: &mut Store<D>)
     ensures each { IfSome store.old.current EachWhole }
+    ensures sized { IfSome store.old.current (λ c. length c + 518 ≡ store.old.disk.size) }
     ensures same { store.new ≡ store.old }
 {
     let _pool = store.pool();
@@ -75,6 +78,34 @@ pub fn make_records<D: Disk>(volume: &mut Volume<D>, head: &FileHead) -> Result<
     ensures catalog { volume.new.catalog ≡ volume.old.catalog }
 {
     match AnyFile::make(head, volume.store()) {
+        Err(down) => Err(down),
+        Ok(()) => {
+            blocks_are_whole(volume.store());
+            Ok(())
+        }
+    }
+}
+
+/// Copies the buckets of a file to a run of blocks, from this one on, in as many groups as it takes.
+pub fn copy_records<D: Disk>(
+    volume: &mut Volume<D>,
+    head: &FileHead,
+    start: u32,
+) -> Result<(), Down>
+    requires source { AreBlocks head.now.start (head.now.alloc * head.now.bucket) volume.old.store.disk }
+    requires target { AreBlocks start (head.now.alloc * head.now.bucket) volume.old.store.disk }
+    requires apart { AreApart head.now.start start (head.now.alloc * head.now.bucket) }
+    requires idle { IsIdle volume.old.store }
+    ensures copies { OnOk result (CopiesTo (head.now.start - 518) (start - 518) (head.now.alloc * head.now.bucket) volume.old.store.current volume.new.store.current) }
+    ensures each { OnOk result (IfSome volume.new.store.current EachWhole) }
+    ensures idle { OnOk result (IsIdle volume.new.store) }
+    ensures down { OnErr result (LeavesOut (is_within (start - 518) (head.now.alloc * head.now.bucket)) volume.old.store.current volume.new.store.disk) }
+    ensures counts { Counts result volume.old.store.disk volume.new.store.disk }
+    ensures pool { volume.new.store.pool ≡ volume.old.store.pool }
+    ensures catalog { volume.new.catalog ≡ volume.old.catalog }
+{
+    let blocks = head.alloc * u32::from(head.bucket);
+    match copy(volume.store(), head.start, start, blocks) {
         Err(down) => Err(down),
         Ok(()) => {
             blocks_are_whole(volume.store());

@@ -10,13 +10,14 @@ use Rattle.unit_table.specs.Units.{OpenUnit}
 use Rattle.records_model.specs.Records.{Change}
 use Rattle.transcript_model.specs.Lines.{Line}
 use Rattle.vms_model.specs.Keys.{Key as RecordKey}
-use Rattle.run_model.specs.Answers.{Row, creates, shown_line, shown_record}
+use Rattle.script_model.specs.Statements.{Setting, RecoveryUnits, NoRecoveryUnits, Images, NoImages}
+use Rattle.run_model.specs.Answers.{Row, creates, sets, shown_line, shown_record, to_file}
 use Rattle.run_model.specs.Steps.{node_after, node_after_rows}
 use Rattle.run_model.specs.World as world
 use Rattle.run_model.specs.World.{Node, Volatile, tm_of}
 use Rattle.row_laws.specs.May.{IsTold}
 use Rattle.recovery_units.specs.State.{AreOfBranches, IsInOrder, IsKept, UnitsState}
-use Rattle.recovery_units.specs.Uses.{Goes}
+use Rattle.recovery_units.specs.Uses.{Goes, ImagesGrow}
 use Rattle.world_laws.specs.Running.{IsDrawn}
 use Rattle.file_requests.specs.Serving.{KeepsStored, SameStored}
 use Rattle.file_requests.proofs.Reading.{kept_still}
@@ -63,7 +64,7 @@ module _ (old : Up) (new : Stored) (drawn : ℕ) (units : new.units ≡ old.stor
     node = k.grows.node;
     boot = k.grows.boot;
     drawn = ids;
-    moved = moved r;
+    moved = moved r k.images;
     since = k.since;
   }
     where
@@ -71,8 +72,8 @@ module _ (old : Up) (new : Stored) (drawn : ℕ) (units : new.units ≡ old.stor
       is_up (Ok v) order = record { follows = follows order k.grows.node k.in_doubt; within = up.within }
       is_up (Err d) order = tt
 
-      has_moved : HasMoved clock old beside
-      has_moved =
+      has_moved : ImagesGrow old.stored.volume new.volume → HasMoved clock old beside
+      has_moved i =
           let g = k.grows.greatest in
           let e = k.grows.end in
           let most = up.follows.order.few in
@@ -80,9 +81,9 @@ module _ (old : Up) (new : Stored) (drawn : ℕ) (units : new.units ≡ old.stor
           let groups : groups_left new.units.begun ≡ groups_left old.stored.units.begun = ap (λ (u : UnitsState). groups_left u.begun) units in
           record { moment = omega arith; end = omega arith }
 
-      moved : (q : Result T Down) → OnOk q (HasMoved clock old beside)
-      moved (Ok v) = has_moved
-      moved (Err d) = tt
+      moved : (q : Result T Down) → OnOk q (ImagesGrow old.stored.volume new.volume) → OnOk q (HasMoved clock old beside)
+      moved (Ok v) i = has_moved i
+      moved (Err d) i = tt
 
 -- At the node of the world only the disk and the ids that were drawn may have changed.
 pub record IsAside (n m : Node) (more : ℕ) : Type 0 where
@@ -160,7 +161,9 @@ service_as (Err e) q s n a b kept kept' shares shares' stands stands' d k f g h 
 abbrev pub IsAsideAct : Option world.Act → Type 0
 IsAsideAct None = Unit {0}
 IsAsideAct (Some (world.Creates place file)) = Unit {0}
-IsAsideAct (Some (world.Marks file units)) = Unit {0}
+IsAsideAct (Some (world.Marks file mark)) = Unit {0}
+IsAsideAct (Some (world.Saves file start)) = Unit {0}
+IsAsideAct (Some (world.Recovers file start buckets m)) = Unit {0}
 IsAsideAct act = ⊥
 
 abbrev pub AreAside : List Row → Type 0
@@ -188,7 +191,9 @@ aside_on n m o f g = record {
 aside_act : (act : Option world.Act) (n : Node) → IsAsideAct act → IsAside n (node_after act n) 0
 aside_act None n h = aside_same n
 aside_act (Some (world.Creates place file)) n h = record { name = refl; clock = refl; branches = refl; records = refl; preparation = refl; drawn = omega arith; declared = refl; boot = refl; up = refl; was_up = refl; under_way = refl }
-aside_act (Some (world.Marks file units)) n h = record { name = refl; clock = refl; branches = refl; records = refl; preparation = refl; drawn = omega arith; declared = refl; boot = refl; up = refl; was_up = refl; under_way = refl }
+aside_act (Some (world.Marks file mark)) n h = record { name = refl; clock = refl; branches = refl; records = refl; preparation = refl; drawn = omega arith; declared = refl; boot = refl; up = refl; was_up = refl; under_way = refl }
+aside_act (Some (world.Saves file start)) n h = record { name = refl; clock = refl; branches = refl; records = refl; preparation = refl; drawn = omega arith; declared = refl; boot = refl; up = refl; was_up = refl; under_way = refl }
+aside_act (Some (world.Recovers file start buckets m)) n h = record { name = refl; clock = refl; branches = refl; records = refl; preparation = refl; drawn = omega arith; declared = refl; boot = refl; up = refl; was_up = refl; under_way = refl }
 aside_act (Some _) n h = absurd h
 
 pub aside_rows : (rs : List Row) (n : Node) → AreAside rs → IsAside n (node_after_rows rs n) 0
@@ -210,6 +215,20 @@ aside_records (e ∷ es) = (tt, aside_records es)
 pub aside_lines : (ls : List Line) → AreAside (map shown_line ls)
 aside_lines [] = tt
 aside_lines (l ∷ ls) = (tt, aside_lines ls)
+
+-- what a setting does to a file, and what is done to a file that is there
+pub aside_sets : (n : Node) (file : List ℕ) (setting : Setting) → AreAside (sets n file setting)
+aside_sets n file RecoveryUnits = (tt, tt)
+aside_sets n file NoRecoveryUnits = (tt, tt)
+aside_sets n file (Images side blocks) = (tt, tt)
+aside_sets n file (NoImages side) = (tt, tt)
+
+pub aside_file : (n : Node) (file : List ℕ) (does : world.File → List Row) → ((f : world.File) → AreAside (does f)) → AreAside (to_file n file does)
+aside_file n file does each = go (world.find_file file n.durable.directory)
+  where
+    go : (o : Option world.File) → AreAside (elim o [ Some f ↦ does f | None ↦ [] ])
+    go None = tt
+    go (Some f) = each f
 
 -- the one row of a change that no branch is asked for
 pub aside_directs : (n : Node) (file : List ℕ) (cs : List Change) (s : world.Settlement) → IsAside n (world.acted (world.Directs file cs s) n) 1

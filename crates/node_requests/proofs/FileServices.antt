@@ -27,7 +27,7 @@ use Rattle.node_requests.proofs.Saying.{IsStillRequest, says_replies}
 
 -- what was asked of a node before a request is what a call asks of its volume
 pub early_of : (clock : ℕ) (r : Up) → MayServe clock r → IsEarly r.stored.volume
-early_of clock r m = (let e = m.low in let g = m.moment in record { low = omega arith; moment = omega arith })
+early_of clock r m = (let e = m.low in let g = m.moment in record { low = omega arith; moment = omega arith; images = omega arith })
 
 -- a node of the world that is up is ready for a request on files
 pub ready_of : (clock : ℕ) (r : Up) (s : world.Shared) (n : Node) → StandsUp clock r n → IsKeptNode s n → IsReady r.stored n

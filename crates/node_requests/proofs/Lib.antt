@@ -15,6 +15,7 @@ pub mod ManagerStatements
 pub mod Noted
 pub mod Operated
 pub mod Recorded
+pub mod Recoveries
 pub mod RequestKinds
 pub mod Saying
 pub mod SaysLemmas

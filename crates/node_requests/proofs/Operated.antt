@@ -120,6 +120,7 @@ module _ (serial : Id) (f : ℕ) (op : Operation) (clock : ℕ) (old : Up) (new 
     moved_behind =
         let g = h.keeps.grows.greatest in
         let e = h.keeps.grows.end in
+        let i = h.keeps.images in
         let same = later_groups serial old.stored.units.begun new.units.begun h.works.units in
         let count = same.0 in
         let groups = same.1 in
@@ -278,7 +279,7 @@ module _ (f : ℕ) (op : Operation) (clock : ℕ) (old : Up) (new : Stored) (a b
       where
         keeps_as : ActsAlone (Ok false) id clock f op old.stored new a b → KeepsRequest {T = Unit {0}} (Ok tt) clock old (at_ids old.drawn) a b
         keeps_as k = keeps_beside old new old.drawn k.units up {T = Unit {0}} (Ok tt) 1 clock clock a b (omega arith) (omega arith) (omega arith, omega arith)
-            (record { order = k.keeps.order; in_doubt = k.keeps.in_doubt; grows = k.keeps.grows; cause = tt; since = k.keeps.since; replies = k.keeps.replies })
+            (record { order = k.keeps.order; in_doubt = k.keeps.in_doubt; grows = k.keeps.grows; images = k.keeps.images; cause = tt; since = k.keeps.since; replies = k.keeps.replies })
 
     pub changed_alone : is_change op ≡ true → ActsAlone (Ok true) id clock f op old.stored new a b → OperatesAlone {T = Unit {0}} (Ok tt) f op clock old (at_ids (old.drawn + 1)) a b
     changed_alone change h = record {
@@ -292,7 +293,7 @@ module _ (f : ℕ) (op : Operation) (clock : ℕ) (old : Up) (new : Stored) (a b
       where
         keeps_as : ActsAlone (Ok true) id clock f op old.stored new a b → KeepsRequest {T = Unit {0}} (Ok tt) clock old (at_ids (old.drawn + 1)) a b
         keeps_as k = keeps_beside old new (old.drawn + 1) k.units up {T = Unit {0}} (Ok tt) 1 clock clock a b (omega arith) (omega arith) (omega arith, omega arith)
-            (record { order = k.keeps.order; in_doubt = k.keeps.in_doubt; grows = k.keeps.grows; cause = tt; since = k.keeps.since; replies = k.keeps.replies })
+            (record { order = k.keeps.order; in_doubt = k.keeps.in_doubt; grows = k.keeps.grows; images = k.keeps.images; cause = tt; since = k.keeps.since; replies = k.keeps.replies })
 
         made : (n : Node) (name : List ℕ) (file : File) → StandsUp clock old n → first_of (alone_early n name file op) (alone_late n name file op) ≡ None → IsKept new.units new.volume (node_after_rows (directed n name (changes_of file op)) n)
             → StandsUp clock (at_ids (old.drawn + 1)) (node_after_rows (directed n name (changes_of file op)) n)

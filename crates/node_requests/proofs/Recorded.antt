@@ -14,10 +14,10 @@ use Rattle.vms_model.specs.Ids.{Id}
 use Rattle.records_model.specs.Records.{Change}
 use Rattle.run_said.specs.Said.{refused_by_lines}
 use Rattle.said_steps.specs.Answers.{is_served}
-use Rattle.run_model.specs.Answers.{Serves, branch_labelled, change_limit, directed, found_refused, in_state, is_marked, journal_full, keys_refused, more_changes, more_locks, needs_unit, operation_act, service, silent, touches, unsettled}
+use Rattle.run_model.specs.Answers.{Serves, branch_labelled, change_limit, directed, found_refused, images_full, in_state, is_marked, journal_full, keys_refused, more_changes, more_locks, needs_unit, operation_act, service, silent, touches, unsettled}
 use Rattle.run_model.specs.Operations.{changes_of, file_full, first_of, form_refused, keys_asked, keys_held, operation_answer, refused_if}
 use Rattle.run_model.specs.World as world
-use Rattle.run_model.specs.World.{File, Label, Node, find_branch, find_file, labelled, serial_labelled}
+use Rattle.run_model.specs.World.{File, Label, Node, find_branch, find_file, labelled, next_id, serial_labelled}
 use Rattle.run_shared.specs.Sharing.{IsShared, SharedState}
 use Rattle.world_laws.specs.Nodes.{IsKeptNode, RowsKeepUp}
 use Rattle.world_laws.proofs.FindLemmas.{found_serial}
@@ -110,7 +110,8 @@ module _ (n : Node) (name : List ℕ) (op : Operation) where
 
     late_is : (service_at (service (said.Records label name op)) s n).late ≡ (branch_service n branch name file op).late
     late_is = λ i. first_of (file_by (fo i) (found_refused n (serial_is i) name op)) (first_of (option_and_then (more_changes n (elim (fo i) [ Some f ↦ changes_of f op | None ↦ [] ])) (branch_is i))
-        (first_of (file_by (fo i) (λ f. more_locks n name (keys_held f op))) (first_of (file_by (fo i) (λ f. file_full f op)) (option_and_then (journal_full n name (elim (fo i) [ Some f ↦ changes_of f op | None ↦ [] ])) (branch_is i)))))
+        (first_of (file_by (fo i) (λ f. more_locks n name (keys_held f op))) (first_of (file_by (fo i) (λ f. file_full f op)) (first_of (option_and_then (journal_full n name (elim (fo i) [ Some f ↦ changes_of f op | None ↦ [] ])) (branch_is i))
+        (option_and_then (λ (b : Branch). file_by (fo i) (images_full b.key.serial (elim (fo i) [ Some f ↦ changes_of f op | None ↦ [] ]))) (branch_is i))))))
 
     rows_are : (service_at (service (said.Records label name op)) s n).rows ≡ (branch_service n branch name file op).rows
     rows_are = λ i. elim (branch_is i) [ Some b ↦ silent (operation_act b name (elim (fo i) [ Some f ↦ changes_of f op | None ↦ [] ]) (elim (fo i) [ Some f ↦ keys_held f op | None ↦ [] ])) ∷ [] | None ↦ [] ]
@@ -126,7 +127,8 @@ module _ (n : Node) (s : world.Shared) (name : List ℕ) (op : Operation) (file 
   pub direct_is : service_at (service (said.Direct name op)) s n ≡ alone_service n name file op
   direct_is = λ i. record {
     early = first_of (there_by (fo i)) (first_of (file_by (fo i) (λ f. form_refused f op)) (first_of (file_by (fo i) (needs_unit op)) (file_by (fo i) (λ f. keys_refused n None name (keys_asked f op)))));
-    late = first_of (file_by (fo i) (found_refused n None name op)) (first_of (refused_if (nat_lt change_limit (length {A = Change} (elim (fo i) [ Some f ↦ changes_of f op | None ↦ [] ]))) (line.QuotaExceeded line.Changes change_limit)) (file_by (fo i) (λ f. file_full f op)));
+    late = first_of (file_by (fo i) (found_refused n None name op)) (first_of (refused_if (nat_lt change_limit (length {A = Change} (elim (fo i) [ Some f ↦ changes_of f op | None ↦ [] ]))) (line.QuotaExceeded line.Changes change_limit))
+        (first_of (file_by (fo i) (λ f. file_full f op)) (file_by (fo i) (images_full (next_id n) (elim (fo i) [ Some f ↦ changes_of f op | None ↦ [] ])))));
     rows = directed n name (elim (fo i) [ Some f ↦ changes_of f op | None ↦ [] ]);
     answer = elim (fo i) [ Some f ↦ operation_answer f op | None ↦ line.RecordNormal ];
   }

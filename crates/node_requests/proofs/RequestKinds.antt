@@ -13,8 +13,10 @@ use Rattle.script_lang.specs.declared.statement.Named.{Named}
 use Rattle.script_lang.specs.declared.statement.Operation.{Operation}
 use Rattle.script_lang.specs.declared.statement.Request.{Request}
 use Rattle.script_lang.specs.declared.statement.Request.TheVariants as request
+use Rattle.script_lang.specs.declared.statement.Recovery.{Recovery}
 use Rattle.script_lang.specs.declared.statement.Setting.{Setting}
-use Rattle.node_requests.specs.Requests.{IsForUp, IsOfManager, IsOfTransaction}
+use Rattle.script_lang.specs.declared.statement.Side.{Side}
+use Rattle.node_requests.specs.Requests.{IsForUp, IsOfManager, IsOfTransaction, IsReserved}
 
 -- none is of a file or of the journal
 pub record IsNoneOfFiles (r : Request) : Type 0 where
@@ -24,8 +26,41 @@ pub record IsNoneOfFiles (r : Request) : Type 0 where
   pub direct : (file : FileName) (op : Operation) → r ≡ request.Direct file op → ⊥
   pub dump : (file : FileName) → r ≡ request.Dump file → ⊥
   pub dump_journal : r ≡ request.DumpJournal → ⊥
+  pub dump_images : (file : FileName) (side : Side) → r ≡ request.DumpImages file side → ⊥
+  pub backup : (file : FileName) → r ≡ request.Backup file → ⊥
 
-pub of_transaction : (lit : Literals) (r : Request) → IsForUp (request_of lit r) → IsNoneOfFiles r → IsOfTransaction (request_of lit r)
+-- one that is no recovery takes no memory
+pub of_reserved : (lit : Literals) (r : Request) → IsForUp (request_of lit r) → ((file : FileName) (way : Recovery) → r ≡ request.Recover file way → ⊥) → IsReserved (request_of lit r)
+of_reserved lit (request.Init slots blocks) up h = absurd up
+of_reserved lit request.Boot up h = absurd up
+of_reserved lit (request.Create file bucket size form) up h = tt
+of_reserved lit (request.SetFile file setting) up h = tt
+of_reserved lit (request.StartTrans label seconds) up h = tt
+of_reserved lit (request.AddBranch label other new) up h = tt
+of_reserved lit (request.StartBranch label) up h = tt
+of_reserved lit (request.Records label file op) up h = tt
+of_reserved lit (request.Direct file op) up h = tt
+of_reserved lit (request.EndBranch label) up h = tt
+of_reserved lit (request.EndTrans label) up h = tt
+of_reserved lit (request.AbortTrans label) up h = tt
+of_reserved lit (request.Inquire who) up h = tt
+of_reserved lit (request.DeclareRm rm) up h = tt
+of_reserved lit (request.JoinRm label rm) up h = tt
+of_reserved lit (request.AckEvent who rm reply) up h = tt
+of_reserved lit (request.ForgetRm rm) up h = tt
+of_reserved lit (request.GetDti who) up h = tt
+of_reserved lit request.LmcpShow up h = tt
+of_reserved lit request.LmcpDump up h = tt
+of_reserved lit (request.Dump file) up h = tt
+of_reserved lit request.DumpJournal up h = tt
+of_reserved lit (request.DumpImages file side) up h = tt
+of_reserved lit (request.Backup file) up h = tt
+of_reserved lit (request.Recover file way) up h = absurd (h file way refl)
+of_reserved lit (request.Fuse writes choice) up h = absurd up
+of_reserved lit request.Crash up h = absurd up
+of_reserved lit (request.Clock now) up h = absurd up
+
+pub of_transaction : (lit : Literals) (r : Request) → IsReserved (request_of lit r) → IsNoneOfFiles r → IsOfTransaction (request_of lit r)
 of_transaction lit (request.Init slots blocks) up h = absurd up
 of_transaction lit request.Boot up h = absurd up
 of_transaction lit (request.Create file bucket size form) up h = absurd (h.create file bucket size form refl)
@@ -48,6 +83,9 @@ of_transaction lit request.LmcpShow up h = tt
 of_transaction lit request.LmcpDump up h = tt
 of_transaction lit (request.Dump file) up h = absurd (h.dump file refl)
 of_transaction lit request.DumpJournal up h = absurd (h.dump_journal refl)
+of_transaction lit (request.DumpImages file side) up h = absurd (h.dump_images file side refl)
+of_transaction lit (request.Backup file) up h = absurd (h.backup file refl)
+of_transaction lit (request.Recover file way) up h = absurd up
 of_transaction lit (request.Fuse writes choice) up h = absurd up
 of_transaction lit request.Crash up h = absurd up
 of_transaction lit (request.Clock now) up h = absurd up
@@ -85,6 +123,9 @@ of_manager lit request.LmcpShow is h = tt
 of_manager lit request.LmcpDump is h = tt
 of_manager lit (request.Dump file) is h = absurd is
 of_manager lit request.DumpJournal is h = absurd is
+of_manager lit (request.DumpImages file side) is h = absurd is
+of_manager lit (request.Backup file) is h = absurd is
+of_manager lit (request.Recover file way) is h = absurd is
 of_manager lit (request.Fuse writes choice) is h = absurd is
 of_manager lit request.Crash is h = absurd is
 of_manager lit (request.Clock now) is h = absurd is
@@ -122,6 +163,9 @@ none_left lit request.LmcpShow is h = h.show refl
 none_left lit request.LmcpDump is h = h.dump refl
 none_left lit (request.Dump file) is h = absurd is
 none_left lit request.DumpJournal is h = absurd is
+none_left lit (request.DumpImages file side) is h = absurd is
+none_left lit (request.Backup file) is h = absurd is
+none_left lit (request.Recover file way) is h = absurd is
 none_left lit (request.Fuse writes choice) is h = absurd is
 none_left lit request.Crash is h = absurd is
 none_left lit (request.Clock now) is h = absurd is
@@ -156,6 +200,9 @@ for_up lit request.LmcpShow clock h = tt
 for_up lit request.LmcpDump clock h = tt
 for_up lit (request.Dump file) clock h = tt
 for_up lit request.DumpJournal clock h = tt
+for_up lit (request.DumpImages file side) clock h = tt
+for_up lit (request.Backup file) clock h = tt
+for_up lit (request.Recover file way) clock h = tt
 for_up lit (request.Fuse writes choice) clock h = absurd (h.fuse writes choice refl)
 for_up lit request.Crash clock h = absurd (h.crash refl)
 for_up lit (request.Clock now) clock h = absurd (clock now.0 refl)

@@ -1,14 +1,15 @@
 -- What a request to a node that is up comes to.
-use Rattle.std.specs.Prelude.{◌≡◌, ◌≤◌, ◌<◌, ◌+◌, ◌^◌, ℕ, max, List, [], ◌∷◌, ◌++◌, Bool, true, false, Some, None, Result, OnErr, OnOk, MatchResult, if◌then◌else◌}
+use Rattle.std.specs.Prelude.{◌≡◌, ◌≤◌, ◌<◌, ◌+◌, ◌^◌, ℕ, max, List, [], ◌∷◌, ◌++◌, Bool, true, false, Some, None, Result, Ok, Err, OnErr, OnOk, MatchResult, if◌then◌else◌}
 use Rattle.std.specs.List.{AllByRecursion}
 use Rattle.careful_write.specs.declared.down.Down.{Down}
 use Rattle.commit_protocol.specs.Table.{Branch, Tm}
 use Rattle.emitter_model.specs.Emitting.{Emits, Shown, Since}
+use Rattle.transcript_model.specs.Lines as line
 use Rattle.transcript_model.specs.Lines.{Line}
-use Rattle.script_model.specs.Statements.{AbortTrans, AckEvent, AddBranch, Boot, Clock, Crash, DeclareRm, EndBranch, EndTrans, ForgetRm, Fuse, GetDti, Init, Inquire, JoinRm, LmcpDump, LmcpShow, Request, StartBranch, StartTrans}
+use Rattle.script_model.specs.Statements.{AbortTrans, AckEvent, AddBranch, Boot, Clock, Crash, DeclareRm, EndBranch, EndTrans, ForgetRm, Fuse, GetDti, Init, Inquire, JoinRm, LmcpDump, LmcpShow, Recover, Request, StartBranch, StartTrans}
 use Rattle.vms_model.specs.Ids.{Id}
 use Rattle.unit_table.specs.Units.{OpenUnit}
-use Rattle.said_steps.specs.Answers.{is_served}
+use Rattle.said_steps.specs.Answers.{is_served, may_answer}
 use Rattle.run_said.specs.Said.{Said, SaidNode, line_said, lines_said, refused_by_lines, request_said}
 use Rattle.run_model.specs.Answers.{Service, service, touches}
 use Rattle.run_model.specs.World.{Node, Shared, with_changed}
@@ -16,6 +17,9 @@ use Rattle.run_shared.specs.Sharing.{IsShared, SharedState}
 use Rattle.world_laws.specs.Nodes.{IsKeptNode}
 use Rattle.recovery_units.specs.State.{has_changed_by}
 use Rattle.recovery_units.specs.Uses.{Caused, Goes, down_of}
+use Rattle.file_requests.specs.Recovering.{CanTell}
+use Rattle.file_requests.specs.declared.recovery.Reply.{Reply}
+use Rattle.file_requests.specs.declared.recovery.Reply.TheVariants.{Told, NoMemory}
 use Rattle.node_table.specs.Growing.{end_to_come, moment_to_come}
 use Rattle.node_table.specs.Serving.{DoesService, service_at}
 use Rattle.node_table.specs.Standing.{IsUp, StandsUp, Up}
@@ -27,14 +31,14 @@ use Rattle.node_requests.specs.Telling.{said_shared}
 pub record MayServe (clock : ℕ) (r : Up) : Type 0 where
   pub up : IsUp r
   pub moment : moment_to_come r.stored + 1 ≤ 24000001000066
-  pub low : end_to_come r.stored + 2 ^ 23 ≤ 2 ^ 62
+  pub low : end_to_come r.stored + 2 ^ 25 ≤ 2 ^ 62
   pub drawn : r.drawn < 4294967295
   pub time : clock + 64 ≤ 24000001000066
 
 -- such numbers have grown by one statement: the greatest moment with the settlements to come, and the journal's end with the groups to come
 pub record HasMoved (clock : ℕ) (old new : Up) : Type 0 where
   pub moment : moment_to_come new.stored ≤ max (moment_to_come old.stored + 1) (clock + 64)
-  pub end : end_to_come new.stored ≤ end_to_come old.stored + 2 ^ 23
+  pub end : end_to_come new.stored ≤ end_to_come old.stored + 2 ^ 25
 
 -- What is kept in order over a request, whatever the disk has.
 pub record KeepsRequest {T : Type 0} (r : Result T Down) (clock : ℕ) (old new : Up) (a b : Shown) : Type 0 where
@@ -80,6 +84,23 @@ pub record DoesRequest {T : Type 0} (r : Result T Down) (request : Request) (clo
   pub says : SaysRequest r old.stored.volume.catalog.home.node request before after a b
   pub serves : ServesUp r (service request) clock old new before after a b
 
+-- Memory was missing for a request, which is not told yet: at no node of the world is it refused before the disk is read, and all is as it was but for reads.
+pub record LacksMemory (request : Request) (clock : ℕ) (old new : Up) (before after : SharedState) (a b : Shown) : Type 0 where
+  pub keeps : KeepsRequest {T = Unit {0}} (Ok tt) clock old new a b
+  pub shared : after ≡ before
+  pub shown : b ≡ a
+  pub unrefused : refused_by_lines (said_shared before) (node_up old.stored.volume.catalog.home.node) request ≡ None
+  pub still : (said : Said) → request_said old.stored.volume.catalog.home.node request line.NoMemory said ≡ said
+  pub takes : (n : Node) → (service request).takes_memory n ≡ true
+  pub may : may_answer request line.NoMemory ≡ true
+  pub serves : (s : Shared) (n : Node) → StandsUp clock old n → IsShared before s → IsKeptNode s n → ((service_at (service request) s n).early ≡ None) × StandsUp clock new n × IsShared after s
+
+-- The request was answered, or the disk went down; or memory was missing for it.
+abbrev pub AnswersRequest : Result Reply Down → Request → (clock : ℕ) → (old new : Up) → (before after : SharedState) → (a b : Shown) → Type 0
+AnswersRequest (Ok Told) request clock old new before after a b = DoesRequest {T = Unit {0}} (Ok tt) request clock old new before after a b
+AnswersRequest (Ok NoMemory) request clock old new before after a b = LacksMemory request clock old new before after a b
+AnswersRequest (Err down) request clock old new before after a b = DoesRequest {T = Unit {0}} (Err down) request clock old new before after a b
+
 -- a request that a node has to be up for, and that is answered there
 abbrev pub IsForUp : Request → Type 0
 IsForUp (Init slots journal) = ⊥
@@ -88,6 +109,21 @@ IsForUp (Fuse writes choice) = ⊥
 IsForUp Crash = ⊥
 IsForUp (Clock now) = ⊥
 IsForUp request = Unit {0}
+
+-- one that takes no memory but what a node has reserved
+abbrev pub IsReserved : Request → Type 0
+IsReserved (Init slots journal) = ⊥
+IsReserved Boot = ⊥
+IsReserved (Fuse writes choice) = ⊥
+IsReserved Crash = ⊥
+IsReserved (Clock now) = ⊥
+IsReserved (Recover file way) = ⊥
+IsReserved request = Unit {0}
+
+-- the moment up to which a request recovers a file can be shown
+abbrev pub CanBeTold : Request → Type 0
+CanBeTold (Recover file way) = CanTell way
+CanBeTold request = Unit {0}
 
 -- one on a transaction, on a resource manager, on how a branch stands, or on the transaction log
 abbrev pub IsOfTransaction : Request → Type 0

@@ -19,7 +19,7 @@ name_of r = r.stored.volume.catalog.home.node
 -- Numbers that only grow have come no further than a restart and so many statements lead.
 pub record HasGrown (count : ℕ) (r : Up) : Type 0 where
   pub moment : moment_to_come r.stored ≤ 24000000000064 + count
-  pub end : end_to_come r.stored ≤ 2 ^ 61 + 2 ^ 30 + count * 2 ^ 23
+  pub end : end_to_come r.stored ≤ 2 ^ 61 + 2 ^ 32 + count * 2 ^ 25
   pub drawn : r.drawn ≤ count
 
 -- an event that may come to a node at any time

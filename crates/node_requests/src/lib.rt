@@ -8,5 +8,6 @@ mod managers;
 mod requests;
 mod transactions;
 
+pub use file_requests::Reply;
 pub use law::the_laws;
 pub use requests::serve_up;

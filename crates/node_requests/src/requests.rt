@@ -15,7 +15,7 @@ ghost use Rattle.file_requests.specs.Serving.{HasFile};
 ghost use Rattle.node_table.specs.Code.{stored_of, up_of};
 ghost use Rattle.node_requests.specs.Labelled.{branch_at};
 ghost use Rattle.node_requests.specs.Operating.{IsWorkingAt, OperatesAlone, OperatesFor};
-ghost use Rattle.node_requests.specs.Requests.{DoesRequest, IsForUp, IsOfManager, IsOfTransaction, MayServe, noted};
+ghost use Rattle.node_requests.specs.Requests.{AnswersRequest, CanBeTold, DoesRequest, IsForUp, IsOfManager, IsOfTransaction, IsReserved, MayServe, noted};
 
 use crate::labelled::labelled;
 use crate::law::the_laws;
@@ -26,19 +26,47 @@ use block_disk::Disk;
 use careful_write::Down;
 use directory_model::files_are_found_by_name;
 use file_requests::{
-    Asked, asked_of, change_alone, create, dump, dump_journal, find_file, operate_for, read_alone,
-    refused_form, set_file,
+    Asked, Reply, asked_of, backup, change_alone, create, dump, dump_images, dump_journal,
+    find_file, operate_for, read_alone, recover, refused_form, set_file,
 };
 use node_table::Running;
 use recovery_units::RecoveryUnits;
 use run_shared::Shared;
 use script_lang::{Literals, Operation, Request};
+use std::alloc::Global;
 use tm_types::State;
 use transcript::{Emit, Form};
 use vms_base::{FileName, Label, Moment, Serial};
 
-/// Serves a statement that a node has to be up for.
+/// Serves a statement that a node has to be up for. Where memory is missing, which a recovery alone takes, nothing is shown, and all is as it was but for reads.
 pub fn serve_up<D: Disk, U: RecoveryUnits, E: Emit>(
+    alloc: Global,
+    running: &mut Running<D, U>,
+    request: &Request,
+    lit: &Literals,
+    clock: Moment,
+    shared: &mut Shared,
+    out: &mut E,
+) -> Result<Reply, Down>
+    requires up { IsForUp (request_of lit.now request.now) }
+    requires times { CanBeTold (request_of lit.now request.now) }
+    requires may { MayServe clock.0 (up_of U.state running.old) }
+    ensures place { E.place out.new ≡ E.place out.old }
+    ensures does { AnswersRequest result (request_of lit.now request.now) clock.0 (up_of U.state running.old) (up_of U.state running.new) shared.old shared.new (E.shows out.old) (E.shows out.new) }
+{
+    match request {
+        Request::Recover(file, recovery) => {
+            recover(alloc, &mut running.stored, file, *recovery, out)
+        }
+        _ => match serve_reserved(running, request, lit, clock, shared, out) {
+            Ok(()) => Ok(Reply::Told),
+            Err(down) => Err(down),
+        },
+    }
+}
+
+// Serves one that takes no memory but what the node has reserved.
+fn serve_reserved<D: Disk, U: RecoveryUnits, E: Emit>(
     running: &mut Running<D, U>,
     request: &Request,
     lit: &Literals,
@@ -46,7 +74,7 @@ pub fn serve_up<D: Disk, U: RecoveryUnits, E: Emit>(
     shared: &mut Shared,
     out: &mut E,
 ) -> Result<(), Down>
-    requires up { IsForUp (request_of lit.now request.now) }
+    requires reserved { IsReserved (request_of lit.now request.now) }
     requires may { MayServe clock.0 (up_of U.state running.old) }
     ensures place { E.place out.new ≡ E.place out.old }
     ensures does { DoesRequest result (request_of lit.now request.now) clock.0 (up_of U.state running.old) (up_of U.state running.new) shared.old shared.new (E.shows out.old) (E.shows out.new) }
@@ -67,6 +95,8 @@ pub fn serve_up<D: Disk, U: RecoveryUnits, E: Emit>(
         }
         Request::Dump(file) => dump(&mut running.stored, file, out),
         Request::DumpJournal => dump_journal(&mut running.stored, out),
+        Request::DumpImages(file, side) => dump_images(&mut running.stored, file, *side, out),
+        Request::Backup(file) => backup(&mut running.stored, file, out),
         _ => serve_transaction(running, request, lit, clock, shared, out),
     }
 }

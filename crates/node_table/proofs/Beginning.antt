@@ -1,5 +1,5 @@
 -- A branch begins: its unit, and what the table notes of it.
-use Rattle.std.proofs.Common.{◌≡◌, ◌≤◌, ◌<◌, ◌+◌, ◌-◌, ℕ, Bool, true, false, List, [], ◌∷◌, ◌++◌, Option, Some, None, inl, inr, refl, ap, sym, subst, ◌∙◌, length, arith}
+use Rattle.std.proofs.Common.{◌≡◌, ◌≤◌, ◌<◌, ◌+◌, ◌-◌, ℕ, zero, suc, Bool, true, false, if◌then◌else◌, List, [], ◌∷◌, ◌++◌, Option, Some, None, inl, inr, refl, ap, sym, subst, ◌∙◌, length, map, replicate, slice_index_or, arith}
 use Rattle.std.specs.List.{AllByRecursion}
 use Rattle.std.proofs.lemmas.List.{length-append}
 use Rattle.commit_protocol.specs.Agreement.{Distinct}
@@ -16,7 +16,9 @@ use Rattle.commit_protocol.proofs.Lasting.{new_lasts}
 use Rattle.run_model.specs.World.{Node, Tables, acted, next_moment, tm_of}
 use Rattle.row_laws.specs.May.{IsTold}
 use Rattle.records_model.specs.History.{same_id}
-use Rattle.unit_table.specs.Units.{Ascend, OpenUnit, new_unit, owed_for}
+use Rattle.unit_table.specs.Units.{Ascend, OpenUnit, changers, new_unit, one_changer, owed_for}
+use Rattle.image_appends.specs.declared.side.Side.TheVariants.{After, Before}
+use Rattle.image_room.proofs.Keeping.{fits_less}
 use Rattle.journal_model.specs.Ring.{ring_size}
 use Rattle.recovery_units.specs.Laws.{KeepsNodes}
 use Rattle.recovery_units.specs.State.{IsInOrder, is_begun, owed, unit_of, with_begun}
@@ -81,8 +83,23 @@ module _ (b : Branch) (tm : Tm) (s : Stored) (h : Begins b tm s) (f : Follows tm
         within = more s.units.begun o.within o.ascends;
         few = omega arith;
         slots = o.slots;
+        images = λ g h there.
+            let all = o.images g h there in
+            let same = fewer g s.units.begun in
+            let old = map Some s.units.begun in
+            let new = map Some (s.units.begun ++ new_unit b.key.tid b.key.serial ∷ []) in
+            (fits_less After h g old new (omega (arith, same)) all.0, fits_less Before h g old new (omega (arith, same)) all.1);
       }
     where
+      none_in : (n g : ℕ) → slice_index_or (replicate n false) g false ≡ false
+      none_in zero g = refl
+      none_in (suc n) zero = refl
+      none_in (suc n) (suc g) = none_in n g
+
+      fewer : (g : ℕ) (us : List OpenUnit) → changers g (map Some (us ++ new_unit b.key.tid b.key.serial ∷ [])) ≡ changers g (map Some us)
+      fewer g [] = ap (λ (t : Bool). (if t then 1 else 0) + 0) (none_in 64 g)
+      fewer g (u ∷ us) = ap (λ n. one_changer g (Some u) + n) (fewer g us)
+
       owed_same : (us : List OpenUnit) → owed (us ++ new_unit b.key.tid b.key.serial ∷ []) ≡ owed us
       owed_same [] = refl
       owed_same (u ∷ us) = ap (λ n. owed_for u.prepared u.positions + n) (owed_same us)

@@ -53,7 +53,7 @@ quiet_may e tid r up allows none of = record { follows = up.follows; may = may_r
 -- what is kept behind acts of a table, where this is the stored part before them
 kept_up : {T : Type 0} (r : Result T Down) (e : Event) (es : List Effect) (tid : Id) (clock : ℕ) (mid : Stored) (acts : List Act) (tm : Tm) (old new : Up) (x y : SharedState) (a b : Shown) → es ≡ effects_of (row old.tm e) old.tm.records → MayTellAll es tid acts tm mid → mid.volume ≡ old.stored.volume
     → TmWithin (after acts tm) → new.tm ≡ after acts tm → new.drawn ≡ old.drawn → new.declared ≡ old.declared
-    → moment_to_come mid ≤ moment_to_come old.stored + begun e → end_to_come mid ≤ end_to_come old.stored + begun e * 2 ^ 23
+    → moment_to_come mid ≤ moment_to_come old.stored + begun e → end_to_come mid ≤ end_to_come old.stored + begun e * 2 ^ 25
     → TellsAll old.declared r es tid clock mid new.stored x y a b → KeepsUp r e clock old new x y a b
 kept_up {T} r e es tid clock mid acts tm old new x y a b of_row may same within is ids declared m n t = record {
   up = up r t.follows;

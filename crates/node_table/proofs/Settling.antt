@@ -32,7 +32,7 @@ use Rattle.recovery_units.specs.declared.settled.SettledUnit.{SettledUnit}
 use Rattle.volume.specs.State.{VolumeState}
 use Rattle.recovery_units.specs.Calls.{Broken, Done, ForActs, SettlesOk, SettlesTo, told_settlement}
 use Rattle.recovery_units.specs.State.{AreOfBranches, IsInOrder, IsKept, IsOfBranch, MayLeave, MayLog, MayVote, UnitsState, aborted, are_there, committed, is_begun, unit_of, vote_of, voted, with_prepared, without_begun, without_unit}
-use Rattle.recovery_units.specs.Uses.{Caused, Goes, Grows, down_of}
+use Rattle.recovery_units.specs.Uses.{Caused, Goes, Grows, ImagesGrow, down_of}
 use Rattle.node_table.specs.Growing.{IsEarlyFor}
 use Rattle.node_table.specs.Standing.{AreInDoubt, Follows, NamesPrepared, Stored, standing}
 use Rattle.node_table.specs.Telling.{IsOfWork, Leads, MayTellOne, ShowsWork, TellsOne, done, uses_disk, wire_behind}
@@ -103,6 +103,7 @@ pub record Voted (serial : Id) (rms : List Name) (told : Id) (s t : Stored) (a b
   pub tid : IfSome (unit_of serial s.units.begun) (λ u. told ≡ u.tid)
   pub order : IsInOrder t.units t.volume
   pub grows : Grows 0 0 s.volume t.volume
+  pub images : ImagesGrow s.volume t.volume
   pub acts : ForActs (PrepareEffect serial rms) s.units s.volume (Done t.units t.volume)
   pub doubt : t.in_doubt ≡ s.in_doubt ++ serial ∷ []
   pub since : Since a b
@@ -130,7 +131,7 @@ module _ (serial : Id) (rms : List Name) (told : Id) (s t : Stored) (a b : Shown
   prepare_tells tid0 act0 tm0 m0 tid clock sh =
       let v0 = votes serial rms tid0 act0 tm0 s m0 in
       record {
-        stays = stays (Ok tt) 0 0 clock s t c.grows tt (grown_prepared clock s t serial v0.unit c.grows v0.found v0.may.active (vote_begun tid0 act0 tm0 v0));
+        stays = stays (Ok tt) 0 0 clock s t c.grows tt (grown_prepared clock s t serial v0.unit c.grows c.images v0.found v0.may.active (vote_begun tid0 act0 tm0 v0));
         since = c.since;
         work = work_one sh sh a b (line.Prepared told serial) c.shows refl refl;
         uses = tt;
@@ -287,6 +288,7 @@ pub record HasSettled (serial : Id) (outcome : Outcome) (reason : Reason) (r : O
   pub log : (tid : Id) (act : Act) (tm : Tm) → (v : Settling serial outcome reason r tid act tm s) → Follows tm s → t.units.log ≡ settled_in serial r s.units.log
   pub order : IsInOrder t.units t.volume
   pub grows : Grows 1 clock s.volume t.volume
+  pub images : ImagesGrow s.volume t.volume
   pub acts : SettlesOk serial outcome reason r clock told s.units s.volume t.units t.volume
   pub doubt : t.in_doubt ≡ without serial s.in_doubt
   pub since : Since a b
@@ -310,7 +312,7 @@ module _ (serial : Id) (outcome : Outcome) (reason : Reason) (r : Option LogReco
       → (tid : Id) (sh : SharedState) → TellsOne done (SettleEffect serial outcome reason r) tid clock s t sh sh a b
   settle_tells unit0 found0 few early still tid sh =
       record {
-        stays = stays (Ok tt) 1 clock clock s t c.grows tt (grown_settled clock s t serial unit0 early c.grows few found0 c.begun);
+        stays = stays (Ok tt) 1 clock clock s t c.grows tt (grown_settled clock s t serial unit0 early c.grows c.images few found0 c.begun);
         since = c.since;
         work = work_one sh sh a b (settled_line (child (tid_of told.tid) (serial_of told.serial)) outcome reason told.moment.0) c.shows still.0 (ap (λ (w : List Message). record sh { wire = w }) (sym (still.1 sh.wire)));
         uses = tt;
@@ -546,14 +548,15 @@ may_log_if serial outcome reason None tid act tm s m = tt
 may_log_if serial outcome reason (Some r) tid act tm s m = may_log serial outcome reason r tid act tm s m
 
 -- A commitment, by what its call answered,
-pub committed_tells : (serial : Id) (reason : Reason) (r : Option LogRecord) (clock : ℕ) (told : SettledUnit) (s t : Stored) (a b : Shown) → t.units ≡ committed serial r s.units → IsInOrder t.units t.volume → Grows 1 clock s.volume t.volume → SettlesOk serial Commit reason r clock told s.units s.volume t.units t.volume
+pub committed_tells : (serial : Id) (reason : Reason) (r : Option LogRecord) (clock : ℕ) (told : SettledUnit) (s t : Stored) (a b : Shown) → t.units ≡ committed serial r s.units → IsInOrder t.units t.volume → Grows 1 clock s.volume t.volume → ImagesGrow s.volume t.volume → SettlesOk serial Commit reason r clock told s.units s.volume t.units t.volume
     → t.in_doubt ≡ without serial s.in_doubt → Since a b → Emits a (line.Committed (tid_of told.tid) (serial_of told.serial) told.moment.0 ∷ []) b → (unit0 : OpenUnit) → unit_of serial s.units.begun ≡ Some unit0 → length s.units.begun ≤ 64 → IsEarlyFor s
     → (tid : Id) (sh : SharedState) → TellsOne done (SettleEffect serial Commit reason r) tid clock s t sh sh a b
-committed_tells serial reason r clock told s t a b units order grows acts doubt since shows unit0 found0 few early tid sh = settle_tells serial Commit reason r clock told s t a b (record {
+committed_tells serial reason r clock told s t a b units order grows images acts doubt since shows unit0 found0 few early tid sh = settle_tells serial Commit reason r clock told s t a b (record {
   begun = ap (λ (x : UnitsState). x.begun) units;
   log = λ i act tm v f. ap (λ (x : UnitsState). x.log) units;
   order = order;
   grows = grows;
+  images = images;
   acts = acts;
   doubt = doubt;
   since = since;
@@ -561,16 +564,17 @@ committed_tells serial reason r clock told s t a b units order grows acts doubt 
 }) unit0 found0 few early (refl, λ w. refl) tid sh
 
 -- and an abort.
-pub aborted_tells : (serial : Id) (reason : Reason) (clock : ℕ) (told : SettledUnit) (s t : Stored) (a b : Shown) → IfSome (unit_of serial s.units.begun) (λ u. t.units ≡ aborted u s.units) → IsInOrder t.units t.volume → Grows 1 clock s.volume t.volume → SettlesOk serial Abort reason None clock told s.units s.volume t.units t.volume
+pub aborted_tells : (serial : Id) (reason : Reason) (clock : ℕ) (told : SettledUnit) (s t : Stored) (a b : Shown) → IfSome (unit_of serial s.units.begun) (λ u. t.units ≡ aborted u s.units) → IsInOrder t.units t.volume → Grows 1 clock s.volume t.volume → ImagesGrow s.volume t.volume → SettlesOk serial Abort reason None clock told s.units s.volume t.units t.volume
     → t.in_doubt ≡ without serial s.in_doubt → Since a b → Emits a (line.Aborted (tid_of told.tid) (serial_of told.serial) reason told.moment.0 ∷ []) b → (tid0 : Id) (act0 : Act) (tm0 : Tm) → MayTellOne (SettleEffect serial Abort reason None) tid0 act0 tm0 s → IsEarlyFor s
     → (tid : Id) (sh : SharedState) → TellsOne done (SettleEffect serial Abort reason None) tid clock s t sh sh a b
-aborted_tells serial reason clock told s t a b units order grows acts doubt since shows tid0 act0 tm0 m0 early tid sh =
+aborted_tells serial reason clock told s t a b units order grows images acts doubt since shows tid0 act0 tm0 m0 early tid sh =
     let v0 = settling serial Abort reason None tid0 act0 tm0 s m0 in
     settle_tells serial Abort reason None clock told s t a b (record {
       begun = aborted_begun serial reason s t units tid0 act0 tm0 v0 m0.follows;
       log = λ i act tm v f. aborted_log serial reason s t units i act tm v f;
       order = order;
       grows = grows;
+      images = images;
       acts = acts;
       doubt = doubt;
       since = since;

@@ -1,8 +1,10 @@
--- How a node's numbers grow that only grow: the greatest moment of its settlements, and the end of its journal.
+-- How a node's numbers grow that only grow: the greatest moment of its settlements, and the ends of its journals.
 use Rattle.std.specs.Prelude.{◌≡◌, ◌≤◌, ◌+◌, ◌*◌, ◌^◌, ℕ, List, [], ◌∷◌, length, max, Result, OnOk, if◌then◌else◌}
 use Rattle.careful_write.specs.declared.down.Down.{Down}
 use Rattle.recovery_units.specs.Uses.{Caused, Goes, down_of}
 use Rattle.unit_table.specs.Units.{OpenUnit}
+use Rattle.image_room.specs.Room.{images_end}
+use Rattle.volume.specs.State.{VolumeState}
 use Rattle.node_table.specs.Standing.{Stored}
 
 -- how many groups with an entry of theirs units may still write: their settlement, and before it their preparation
@@ -10,12 +12,16 @@ abbrev pub groups_left : List OpenUnit → ℕ
 groups_left [] = 0
 groups_left (u ∷ us) = (if u.prepared then 1 else 2) + groups_left us
 
--- what the greatest moment may become by settlements of these units, and the journal's end by such groups, which have a ring's bytes at the most
+-- the furthest end of the volume's journals
+abbrev pub furthest : VolumeState → ℕ
+furthest v = max v.catalog.ru.end (images_end v.catalog.heads)
+
+-- what the greatest moment may become by settlements of these units, and the furthest end by such groups, which have a ring's bytes at the most
 abbrev pub moment_to_come : Stored → ℕ
 moment_to_come s = s.volume.catalog.home.greatest_moment.0 + length s.units.begun
 
 abbrev pub end_to_come : Stored → ℕ
-end_to_come s = s.volume.catalog.ru.end + groups_left s.units.begun * 2 ^ 22
+end_to_come s = furthest s.volume + groups_left s.units.begun * 2 ^ 24
 
 -- they are far from their ends
 pub record IsEarlyFor (s : Stored) : Type 0 where

@@ -52,12 +52,12 @@ IsNewFor n _ = Unit {0}
 -- numbers that only grow are far from their ends, also where a branch begins with the event
 pub record IsEarlyFor (e : Event) (r : Up) : Type 0 where
   pub moment : moment_to_come r.stored + begun e ≤ 24000001000066
-  pub low : end_to_come r.stored + begun e * 2 ^ 23 ≤ 2 ^ 62
+  pub low : end_to_come r.stored + begun e * 2 ^ 25 ≤ 2 ^ 62
 
 -- they grow by no more than that
 pub record Grown (e : Event) (clock : ℕ) (old new : Up) : Type 0 where
   pub moment : moment_to_come new.stored ≤ max (moment_to_come old.stored + begun e) (clock + 64)
-  pub end : end_to_come new.stored ≤ end_to_come old.stored + begun e * 2 ^ 23
+  pub end : end_to_come new.stored ≤ end_to_come old.stored + begun e * 2 ^ 25
 
 -- What a node that is up keeps in order, whatever its disk has, and what it shows and sends. Its disk goes down in that only where the row has an effect that uses it.
 pub record KeepsUp {T : Type 0} (r : Result T Down) (e : Event) (clock : ℕ) (old new : Up) (before after : SharedState) (a b : Shown) : Type 0 where

@@ -1,6 +1,6 @@
 -- A unit is aborted, as its branch is in the world.
-use Rattle.std.proofs.Common.{◌≡◌, ℕ, ◌+◌, ◌≤◌, List, [], ◌∷◌, Bool, true, false, Some, None, if◌then◌else◌, length, refl, sym, ◌∙◌, ap, subst, inl, inr}
-use Rattle.std.specs.Option.{IfSome}
+use Rattle.std.proofs.Common.{◌≡◌, ℕ, ◌+◌, ◌≤◌, List, [], ◌∷◌, Bool, true, false, Option, Some, None, if◌then◌else◌, length, refl, sym, ◌∙◌, ap, subst, arith, inl, inr}
+use Rattle.std.specs.Option.{IfSome, option_map}
 use Rattle.std.proofs.lemmas.Bool.{both_ways, false_from_ne_true}
 use Rattle.vms_model.specs.Ids.{Id, IsId}
 use Rattle.vms_model.specs.Transactions as model
@@ -13,10 +13,15 @@ use Rattle.volume.specs.declared.catalog.Catalog.{Catalog}
 use Rattle.volume.specs.Catalogs.{IsSound}
 use Rattle.volume.specs.State.{VolumeState}
 use Rattle.volume_format.specs.declared.home.Ending.TheVariants as ending
+use Rattle.volume_format.specs.declared.home.Home.{Home}
+use Rattle.volume_format.specs.Head.{IsHead}
+use Rattle.file_base.specs.declared.head.FileHead.{FileHead}
+use Rattle.file_settlements.specs.Settling.{EntersSettled, content_settled}
+use Rattle.image_groups.specs.Groups.{HaveRoom}
 use Rattle.unit_laws.specs.JournalLaws.{is_unit}
 use Rattle.unit_table.specs.Units.{OpenUnit}
-use Rattle.unit_aborts.specs.Aborting.{Aborts, BreaksOff, MakesAbort, has_changes}
-use Rattle.unit_undo.specs.Undoing.{GoesOn}
+use Rattle.unit_aborts.specs.Aborting.{Abortion, Aborts, BreaksOff, MakesAbort, abort_entry, has_changes}
+use Rattle.unit_undo.specs.Undoing.{GoesOn, journals_at}
 use Rattle.unit_undo.specs.Way.{FailsOnTheWay, IsUndone, Undoes}
 use Rattle.unit_journal.specs.Entries.{settled_entry}
 use Rattle.unit_journal.specs.Settling.{MakesSettlement, entry_if, next_moment as moment_next}
@@ -38,7 +43,7 @@ use Rattle.world_laws.proofs.TableLemmas.{found_in, in_serials, one_branch}
 use Rattle.world_laws.proofs.UpLemmas.{differ}
 use Rattle.directory_model.specs.Files.{head_at}
 use Rattle.settlement_laws.specs.Settled.{Makes}
-use Rattle.undo_laws.specs.Aborted.{IsAborted, MayAbort}
+use Rattle.undo_laws.specs.Aborted.{IsAborted, MayAbort, PutsOutcome}
 use Rattle.undo_laws.specs.Undoable.{entries_for, entered_at, positions_for}
 use Rattle.undo_laws.specs.Undone.{IsAbort, WaysKeepPrepared}
 use Rattle.undo_laws.proofs.AbortLemmas.{aborts_fail, aborts_settle}
@@ -58,6 +63,7 @@ use Rattle.node_units.specs.Seen.{seen}
 use Rattle.node_units.proofs.Acting.{settling}
 use Rattle.node_units.proofs.Alike.{positions_alike}
 use Rattle.node_units.proofs.Committing.{MaySettle, moment_bound, moment_later, moment_same, settled_content}
+use Rattle.node_units.proofs.Imaging.{files_telling, imaged_catalog, imaged_current, imaged_home, imaged_ru, names_imaged, room_for, told_by, told_heads}
 use Rattle.node_units.proofs.Making.{Closes, Owns, changed, is_unit_of, left_seen, of_branch, makes_it, settles, tid_is}
 use Rattle.node_units.proofs.Settling.{kept_settled}
 
@@ -178,6 +184,21 @@ module _ (place : ℕ) (u : OpenUnit) (s : rms.UnitsState) (log : Slots) (v : Vo
     made_so t tid serial tid_same serial_same old made makes =
         subst (λ e. MakesSettlement tid serial (ending.Abort reason) moment e t.units.places old made) (λ i. entry_if (tests_alike u.positions i) (settled_entry (tid_same i) (serial_same i) model.Abort moment)) makes
 
+    -- the entry of the settlement, as the world has it
+    pub enters_so : (tid : Tid) (serial : Serial) → tid_of tid ≡ u.tid → serial_of serial ≡ u.serial → (old img : VolumeState) →
+        EntersSettled u.files (entry_if (has_changes u.positions) (settled_entry (tid_of tid) (serial_of serial) model.Abort moment)) old img → EntersSettled u.files (entry_if (is_unit k.serial n.durable.units) (settled_entry c.tid c.serial c.outcome c.moment)) old img
+    enters_so tid serial tid_same serial_same old img enters =
+        let units = tests_alike u.positions ∙ changed place u s log v n k x.owns in
+        let tids = tid_same ∙ tid_is place u s log v n k x.owns in
+        let serials = serial_same ∙ x.owns.own in
+        subst (λ e. EntersSettled u.files e old img) (λ i. entry_if (units i) (settled_entry (tids i) (serials i) model.Abort moment)) enters
+
+    -- the journals of images have room for it, in heads that have the journals that they had
+    pub room_mid : (heads : List (Option FileHead)) → heads ≡ mid.catalog.heads → ((f : ℕ) (h : FileHead) → head_at heads f ≡ Some h → IsHead h) → rms.IsEarly v → IsId u.tid × IsId u.serial → moment ≤ 24000001000066 →
+        HaveRoom c (files_telling (is_unit k.serial n.durable.units) u.files) heads
+    room_mid heads same are early ids bound = room_for place u s log v n k x.owns heads (record { journals = λ f. ap (λ (hs : List (Option FileHead)). journals_at hs f) same ∙ goes.journals f; told = are }) order early c
+        (subst IsId (tid_is place u s log v n k x.owns) ids.0) (subst IsId x.owns.own ids.1) (omega (arith, bound))
+
 -- The abort of a branch that is not prepared.
 module _ (place : ℕ) (u : OpenUnit) (s t : rms.UnitsState) (log : Slots) (v : VolumeState) (n : Node) (k : Key) (reason : Reason) (moment : ℕ) (x : Closes place u s log v n k model.Abort (reason_of reason) None moment) (order : rms.IsInOrder s v)
     (unprepared : is_prepared x.owns.branch.state ≡ false) (early : rms.IsEarly v) (ids : IsId u.tid × IsId u.serial) (bound : moment ≤ 24000001000066) (spent : t ≡ rms.without_place place u.serial s) where
@@ -213,20 +234,43 @@ module _ (place : ℕ) (u : OpenUnit) (s t : rms.UnitsState) (log : Slots) (v : 
     size_is : length now + 518 ≡ v.store.disk.size
     size_is = un.way.size ∙ goes.quiet.size
 
-    is_made : Makes n st tid serial (ending.Abort reason) t.units.places mid made
-    is_made = makes_it place u s log v n k model.Abort (reason_of reason) None moment x t spent mid made tid serial (ending.Abort reason) order early ids bound (ap (λ (y : Catalog). y.home) goes.catalog) (ap (λ (y : Catalog). y.ru) goes.catalog)
-        (as_told place u s log v n k reason moment x order mid goes undoes tid serial tid_same serial_same) (made_so place u s log v n k reason moment x order mid goes undoes t tid serial tid_same serial_same mid made makes)
+    abbrev img : VolumeState
+    img = makes.mid
 
-    pub is_aborted : IsAborted n st tid serial (ending.Abort reason) t.units.places (positions_for n k.serial v.catalog x.owns.kept.has.journal.entries) v mid made
-    is_aborted = record { goes = goes; undoes = undoes_for place u s log v n k reason moment x order mid goes undoes; makes = is_made }
+    enters : EntersSettled u.files (entry_if (is_unit k.serial n.durable.units) (settled_entry st.tid st.serial st.outcome st.moment)) mid img
+    enters = enters_so place u s log v n k reason moment x order mid goes undoes tid serial tid_same serial_same mid img makes.entered
+
+    heads_mid : length mid.catalog.heads ≡ 64
+    heads_mid = goes.long ∙ order.heads
+
+    puts : PutsOutcome n st mid img
+    puts = record {
+      files = files_telling (is_unit k.serial n.durable.units) u.files;
+      by = told_by place u s log v n k x.owns st refl;
+      room = room_mid place u s log v n k reason moment x order mid goes undoes mid.catalog.heads refl (told_heads mid.catalog un.way.now un.way.tells heads_mid) early ids bound;
+      current = imaged_current (is_unit k.serial n.durable.units) u.files st mid img enters;
+      catalog = imaged_catalog (is_unit k.serial n.durable.units) u.files st mid img enters;
+    }
+
+    home_img : img.catalog.home ≡ v.catalog.home
+    home_img = imaged_home (is_unit k.serial n.durable.units) u.files st mid img enters ∙ ap (λ (y : Catalog). y.home) goes.catalog
+
+    is_made : Makes n st tid serial (ending.Abort reason) t.units.places img made
+    is_made = makes_it place u s log v n k model.Abort (reason_of reason) None moment x t spent img made tid serial (ending.Abort reason) order early ids bound home_img
+        (imaged_ru (is_unit k.serial n.durable.units) u.files st mid img enters ∙ ap (λ (y : Catalog). y.ru) goes.catalog)
+        (as_told place u s log v n k reason moment x order mid goes undoes tid serial tid_same serial_same) (made_so place u s log v n k reason moment x order mid goes undoes t tid serial tid_same serial_same img made makes.settles)
+
+    pub is_aborted : IsAborted n st tid serial (ending.Abort reason) t.units.places (positions_for n k.serial v.catalog x.owns.kept.has.journal.entries) v mid img made
+    is_aborted = record { goes = goes; undoes = undoes_for place u s log v n k reason moment x order mid goes undoes; tells = puts; makes = is_made }
 
     pub volume : (b : List (List ℕ)) → made.store.current ≡ Some b → HasVolume b made.catalog (acted (Tables does moment) n)
-    volume b told = aborts_settle.has now b n does moment st tid serial (ending.Abort reason) t.units.places v mid made x.owns.kept.has (may size_is) is_aborted told
+    volume b told = aborts_settle.has now b n does moment st tid serial (ending.Abort reason) t.units.places v mid img made x.owns.kept.has (may size_is) is_aborted told
 
     names : KeepsNames v.catalog.heads made.catalog.heads
     names f h is =
         let y = names_mid place u s log v n k reason moment x order mid goes undoes f h is in
-        (y.0, ap (λ (z : Catalog). head_at z.heads f) makes.catalog ∙ y.1, y.2)
+        let z = names_imaged (is_unit k.serial n.durable.units) u.files st mid img enters f y.0 y.1 in
+        (z.0, ap (λ (z : Catalog). head_at z.heads f) makes.settles.catalog ∙ z.1, z.2 ∙ y.2)
 
     seen_then : seen t log ≡ committed k.serial None (seen s log)
     seen_then =
@@ -237,7 +281,12 @@ module _ (place : ℕ) (u : OpenUnit) (s t : rms.UnitsState) (log : Slots) (v : 
     pub kept_made : (b : List (List ℕ)) → made.store.current ≡ Some b → made.store.disk.size ≡ v.store.disk.size → IsKept (seen t log) made (acted (Tables does moment) n)
     kept_made b told size = subst (λ (y : UnitsState). IsKept y made (acted (Tables does moment) n)) (sym seen_then)
         (kept_settled (seen s log) v n k model.Abort (reason_of reason) None moment x.owns.branch x.owns.kept x.owns.up x.owns.found x.later x.after made b told
-        (ap (λ (y : Catalog). y.home.node) makes.catalog ∙ ap (λ (y : Catalog). y.home.node) goes.catalog) size names (volume b told))
+        (ap (λ (y : Catalog). y.home.node) makes.settles.catalog ∙ ap (λ (y : Home). y.node) home_img) size names (volume b told))
+
+-- the content of a volume that an abort is made of
+pub abort_content : (y : Abortion) (old made : VolumeState) (c : List (List ℕ)) → MakesAbort y old made → old.store.current ≡ Some c → (b : List (List ℕ)) × (made.store.current ≡ Some b)
+abort_content y old made c makes told = settled_content y.tid y.serial (ending.Abort y.reason) y.moment (abort_entry y) y.left makes.mid made (content_settled (abort_entry y) y.files old.catalog.heads c) makes.settles
+    (makes.entered.current ∙ ap (option_map (content_settled (abort_entry y) y.files old.catalog.heads)) told)
 
 -- The call.
 module _ (place : ℕ) (u : OpenUnit) (s t : rms.UnitsState) (log : Slots) (v w : VolumeState) (clock : ℕ) (may_be : MaySettle place u s log v None clock) (reason : Reason) (active : u.prepared ≡ false) where
@@ -263,7 +312,7 @@ module _ (place : ℕ) (u : OpenUnit) (s t : rms.UnitsState) (log : Slots) (v w 
         let bound = subst (λ (y : ℕ). y ≤ 24000001000066) (moment_same place u s log v None clock may_be n kept same) (moment_bound place u s log v None clock may_be) in
         let order = may_be.has.order in
         let un = undone place u s log v n k reason (next_moment n) x order did.mid did.goes did.undoes in
-        let b = settled_content told.tid told.serial (ending.Abort reason) (next_moment n) (entry_if (has_changes u.positions) (settled_entry (tid_of told.tid) (serial_of told.serial) model.Abort (next_moment n))) t.units.places did.mid w un.way.now did.makes un.way.told in
+        let b = abort_content (abortion_of u told.tid told.serial reason (next_moment n) t) did.mid w un.way.now did.makes un.way.told in
         record {
           settled = (
               let one = sym (tid_is place u s log v n k x.owns) ∙ sym done.tid in
@@ -303,7 +352,7 @@ module _ (place : ℕ) (u : OpenUnit) (s t : rms.UnitsState) (log : Slots) (v w 
               | inl fails ↦ aborts_fail.undo kept.content n act (next_moment n) st (Some (Tables act (next_moment n))) v w whole keeps may (subst (λ (ps : List ℕ). FailsOnTheWay ps v w) (sym places) fails)
               | inr last ↦ elim last.breaks [
                 | inl old ↦ aborts_fail.before kept.content n act (next_moment n) st (Some (Tables act (next_moment n))) v last.mid w whole keeps may last.goes (subst (λ (ps : List ℕ). Undoes ps v last.mid) (sym places) last.undoes) old
-                | inr either ↦ aborts_fail.last kept.content n act (next_moment n) st done.tid done.serial (ending.Abort reason) t.units.places v last.mid either.made w whole keeps may
+                | inr either ↦ aborts_fail.last kept.content n act (next_moment n) st done.tid done.serial (ending.Abort reason) t.units.places v last.mid either.is.mid either.made w whole keeps may
                     (is_aborted place u s t log v n k reason (next_moment n) x order plain may_be.early may_be.ids bound done.spent last.mid last.goes last.undoes done.tid done.serial done.same_tid done.same_serial either.made either.is) either.either
               ]
             ]

@@ -1,9 +1,13 @@
 -- What holds of an answer, by what holds where it is one thing or the other.
-use Rattle.std.proofs.Common.{◌≡◌, None, OnOk, OnErr, IfErr, IfOk, Result, Ok, Err}
+use Rattle.std.proofs.Common.{◌≡◌, ◌+◌, ◌≤◌, ◌^◌, None, OnOk, OnErr, IfErr, IfOk, Result, Ok, Err, arith, subst, sym}
 use Rattle.careful_write.specs.declared.down.Down.{Down}
 use Rattle.record_operations.specs.Causes.{Cause, IfRefused, down_in}
 use Rattle.record_operations.specs.declared.errors.RecErr.{RecErr}
 use Rattle.record_operations.specs.declared.errors.RecErr.TheVariants as err
+use Rattle.image_room.specs.Room.{images_end}
+use Rattle.recovery_units.specs.Uses.{ImagesGrow}
+use Rattle.volume.specs.State.{SameVolume, VolumeState}
+use Rattle.volume.specs.declared.catalog.Catalog.{Catalog}
 
 pub ok_as : {A E : Type 0} (P Q : Type 0) (r : Result A E) → (P → Q) → OnOk r P → OnOk r Q
 ok_as P Q (Ok x) f h = f h
@@ -44,6 +48,8 @@ refused_same err.Changes P X Q none h = h.1
 refused_same err.Locks P X Q none h = h.1
 refused_same (err.FileFull free need) P X Q none h = h.1
 refused_same (err.JournalFull free need) P X Q none h = h.1
+refused_same (err.AfterImagesFull free need) P X Q none h = h.1
+refused_same (err.BeforeImagesFull free need) P X Q none h = h.1
 refused_same (err.Down down) P X Q none h = let never : ⊥ = cc in absurd never
 
 pub ok_both : {A E : Type 0} (P Q R : A → Type 0) (r : Result A E) → ((x : A) → P x → Q x → R x) → IfOk r P → IfOk r Q → IfOk r R
@@ -61,3 +67,18 @@ ok_and P Q R (Err e) f h k = h
 pub ok_of : {A E : Type 0} (P : A → Type 0) (Q : Type 0) (r : Result A E) → ((x : A) → P x → Q) → IfOk r P → OnOk r Q
 ok_of P Q (Ok x) f h = f x h
 ok_of P Q (Err e) f h = h
+
+-- a volume that is the same but for reads has the same rings
+pub images_same : (v w : VolumeState) → SameVolume v w → ImagesGrow v w
+images_same v w same = subst (λ (x : VolumeState). ImagesGrow v x) (sym same) (let most : images_end v.catalog.heads ≤ images_end v.catalog.heads + 2 ^ 24 = omega arith in most)
+
+-- and so has one with the same catalog
+pub images_kept : (v w : VolumeState) → w.catalog ≡ v.catalog → ImagesGrow v w
+images_kept v w same = subst (λ (k : Catalog). images_end k.heads ≤ images_end v.catalog.heads + 2 ^ 24) (sym same) (let most : images_end v.catalog.heads ≤ images_end v.catalog.heads + 2 ^ 24 = omega arith in most)
+
+pub images_since : (u v w : VolumeState) → v.catalog ≡ u.catalog → ImagesGrow v w → ImagesGrow u w
+images_since u v w same grow = subst (λ (k : Catalog). images_end w.catalog.heads ≤ images_end k.heads + 2 ^ 24) same grow
+
+pub ok_always : {A E : Type 0} (P : Type 0) (r : Result A E) → P → OnOk r P
+ok_always P (Ok x) h = h
+ok_always P (Err e) h = tt

@@ -1,14 +1,12 @@
 -- A restart leaves the units of a node as the world has them.
-use Rattle.std.proofs.Common.{inl, inr, ◌≡◌, ℕ, suc, ◌+◌, ◌-◌, ◌<◌, ◌≤◌, ◌==◌, ◌&&◌, List, [], ◌∷◌, ◌++◌, Bool, true, false, Option, Some, None, if◌then◌else◌, length, map, slice_index_or, refl, sym, ◌∙◌, ap, subst, arith}
+use Rattle.std.proofs.Common.{inl, inr, ◌≡◌, ℕ, suc, ◌+◌, ◌-◌, ◌<◌, ◌≤◌, ◌==◌, List, [], ◌∷◌, ◌++◌, Bool, true, false, Option, Some, None, if◌then◌else◌, length, map, slice_index_or, refl, sym, ◌∙◌, ap, subst, arith}
 use Rattle.std.specs.Prelude.{is_some}
 use Rattle.std.specs.Option.{IfSome}
-use Rattle.std.specs.List.{AllByRecursion, list_any}
-use Rattle.std.specs.Str.{bytes_eq}
-use Rattle.std.proofs.lemmas.Bool.{both_ways, false_from_ne_true}
+use Rattle.std.specs.List.{AllByRecursion}
+use Rattle.std.proofs.lemmas.Bool.{both_ways}
 use Rattle.std.proofs.lemmas.List.{length-append}
 use Rattle.vms_model.specs.Ids.{Id}
-use Rattle.records_model.specs.Records.{Change}
-use Rattle.records_model.specs.History.{LiveChanges, changed_it, changes_by, same_id}
+use Rattle.records_model.specs.History.{same_id}
 use Rattle.commit_protocol.specs.Agreement.{Distinct}
 use Rattle.commit_protocol.specs.Messages.{LogRecord}
 use Rattle.commit_protocol.specs.Table.{record_serials}
@@ -16,36 +14,36 @@ use Rattle.commit_protocol.specs.World.{In}
 use Rattle.commit_protocol.proofs.Lists.{in_left, in_right}
 use Rattle.commit_protocol.proofs.Serials.{in_serial, serial_in as record_of_serial}
 use Rattle.file_base.specs.declared.head.FileHead.{FileHead}
-use Rattle.journal_model.specs.Entries.{Entry, spelling}
+use Rattle.journal_model.specs.Entries.{Entry}
 use Rattle.journal_model.specs.Ring.{IsJournal}
 use Rattle.lmcp_log.specs.Log.{with_few_prepared}
 use Rattle.lmcp_log.proofs.Few.{few_same}
 use Rattle.log_laws.specs.Slots.{Slots, prepared_of, records_in}
 use Rattle.directory_model.specs.Files.{file_at}
-use Rattle.directory_model.proofs.Places.{within_list}
 use Rattle.record_locks.specs.Locks as table
 use Rattle.ru_journal.specs.Told.{UnitTold}
 use Rattle.volume.specs.State.{VolumeState}
 use Rattle.unit_aborts.specs.Reopening.{AreFound, AreFoundIn, left_after}
+use Rattle.unit_entries.specs.Opening.{AreAlike, AreFiledIn}
 use Rattle.unit_entries.specs.Collecting.{AreChangesAt}
-use Rattle.unit_entries.specs.Opening.{AreAlike}
 use Rattle.unit_entries.specs.Reading as entries
-use Rattle.unit_entries.specs.Reading.{changes_of, placed}
+use Rattle.unit_entries.specs.Reading.{placed}
 use Rattle.unit_entries.proofs.OpenLemmas.{first_holds}
-use Rattle.unit_laws.specs.Journal.{ChangeEntry, JournalEntry, PreparedEntry, RecoveryUnit, SettledEntry, active_units, entry_size, find_unit, is_of_units, is_settled_in, note_of, notes_in, notes_of, serial_in, units_in, Journal}
-use Rattle.unit_laws.specs.JournalLaws.{HasNotes, is_unit}
+use Rattle.unit_laws.specs.Journal.{ChangeEntry, JournalEntry, PreparedEntry, RecoveryUnit, SettledEntry, active_units, entry_size, find_unit, is_settled_in, serial_in, units_in, Journal}
+use Rattle.unit_laws.specs.JournalLaws.{is_unit}
 use Rattle.unit_restarts.specs.Restarting.{RestartTold, Restarts}
 use Rattle.unit_returns.specs.Arranging.{votes_in}
 use Rattle.unit_returns.specs.Returning as returning
 use Rattle.unit_returns.specs.Returning.{AreAllChangesAt, AreOfRecords, HaveChanges, HoldChanges}
 use Rattle.unit_returns.specs.Locking.{relocked_by as held_by_entries}
-use Rattle.unit_table.specs.Units.{OpenUnit, Units, begun, first_that, is_of}
+use Rattle.unit_table.specs.Units.{OpenUnit, Units, begun, first_that, is_of, no_files}
 use Rattle.undo_laws.proofs.EnteredLemmas.{entries_stand}
+use Rattle.unit_world.proofs.Found.{unchanged_at}
 use Rattle.run_model.specs.Answers.{left_active}
 use Rattle.run_model.specs.Locks as world
-use Rattle.run_model.specs.World.{File, IsOfTransaction, Node, Volatile, prepared_left, prepared_serials, records_by, relocked, relocked_by, tid_in, without_units}
+use Rattle.run_model.specs.World.{IsOfTransaction, Node, Volatile, prepared_left, prepared_serials, records_by, relocked, relocked_by, tid_in, without_units}
 use Rattle.tm_types.specs.Parts.{log_record_of}
-use Rattle.volume_model.specs.Entries.{AreEntries, IsFileOf, entry_for}
+use Rattle.volume_model.specs.Entries.{AreEntries, entry_for}
 use Rattle.volume_model.specs.Volumes.{HasVolume}
 use Rattle.volume_laws.proofs.WholeLemmas.{volume_rests}
 use Rattle.restart_laws.specs.Falls.{AllPrepared}
@@ -65,9 +63,9 @@ use Rattle.node_units.proofs.Alike.{positions_alike}
 use Rattle.node_units.proofs.Beginning.{of_records}
 use Rattle.node_units.proofs.Holding.{once_of}
 use Rattle.node_units.proofs.Locking.{AreOnce, many_alike}
-use Rattle.node_units.proofs.Positions.{changes_of_units}
-use Rattle.node_units.proofs.Reopening.{IsDone, active, reopened, settled_all, undone_many, us}
-use Rattle.node_units.proofs.Returned.{bits_in, changed, locks_by, none_noted, noted_alike, some_noted}
+use Rattle.node_units.proofs.Reopening.{Carries, IsDone, active, reopened, settled_all, undone_many, us}
+use Rattle.node_units.proofs.NotedFiles.{entries_by, files_say, no_bits, quiet}
+use Rattle.node_units.proofs.Returned.{locks_by}
 use Rattle.node_units.proofs.Telling.{unit_shown}
 use Rattle.node_units.proofs.Undoing.{AreWhere, Stage, active_none}
 
@@ -151,38 +149,9 @@ votes_alike heads (e ∷ es) (d ∷ ds) are = ap (λ (x : Entry). if x.kind == 2
 
 -- A branch without a unit has no changes.
 
-quiet : (x : Id) (es : List JournalEntry) → is_settled_in x es ≡ false → find_unit x (units_in es) ≡ None → AllByRecursion (λ (e : JournalEntry). is_change_by x e ≡ false) es
-quiet x es off none = all es (changes_of_units x es off)
-  where
-    one : (e : JournalEntry) → (is_change_by x e ≡ true → is_of_units (units_in es) e ≡ true) → is_change_by x e ≡ false
-    one (PreparedEntry tid by) of = refl
-    one (SettledEntry tid by outcome moment) of = refl
-    one (ChangeEntry tid by file key before) of = false_from_ne_true (same_id x by) (λ own. both_ways _ (ap is_some none) (subst (λ (y : Id). is_some (find_unit y (units_in es)) ≡ true) (sym (id_is x by own)) (of own)))
-
-    all : (fs : List JournalEntry) → AllByRecursion (λ (e : JournalEntry). is_change_by x e ≡ true → is_of_units (units_in es) e ≡ true) fs → AllByRecursion (λ (e : JournalEntry). is_change_by x e ≡ false) fs
-    all [] of = tt
-    all (e ∷ fs) of = (one e of.0, all fs of.1)
-
 quiet_positions : (x : Id) (p : ℕ) (es : List JournalEntry) → AllByRecursion (λ (e : JournalEntry). is_change_by x e ≡ false) es → positions_of x p es ≡ []
 quiet_positions x p [] none = refl
 quiet_positions x p (e ∷ es) none = ap (λ (b : Bool). if b then p ∷ positions_of x (p + entry_size e) es else positions_of x (p + entry_size e) es) none.0 ∙ quiet_positions x (p + entry_size e) es none.1
-
-quiet_notes : (x : Id) (name : List ℕ) (es : List JournalEntry) → AllByRecursion (λ (e : JournalEntry). is_change_by x e ≡ false) es → notes_in x name es ≡ []
-quiet_notes x name [] none = refl
-quiet_notes x name (e ∷ es) none = (λ i. quiet_notes x name es none.1 i ++ one e none.0 i)
-  where
-    one : (e : JournalEntry) → is_change_by x e ≡ false → notes_of x name e ≡ []
-    one (PreparedEntry tid by) off = refl
-    one (SettledEntry tid by outcome moment) off = refl
-    one (ChangeEntry tid by file key before) off = ap (λ (b : Bool). if b && bytes_eq name file then (key, before) ∷ [] else []) off
-
-live_none : (x : Id) (j : Journal) (ls : List LiveChanges) → is_unit x j ≡ false → AllByRecursion (λ (l : LiveChanges). is_unit l.serial j ≡ true) ls → changes_by x ls ≡ []
-live_none x j [] none all = refl
-live_none x j (l ∷ ls) none all = step (same_id x l.serial) refl (live_none x j ls none all.1)
-  where
-    step : (b : Bool) → same_id x l.serial ≡ b → changes_by x ls ≡ [] → (if b then l.changes else changes_by x ls) ≡ []
-    step true same rest = absurd (both_ways _ none (subst (λ (y : Id). is_unit y j ≡ true) (sym (id_is x l.serial same)) all.0))
-    step false other rest = rest
 
 -- The units that the journal leaves.
 
@@ -303,6 +272,22 @@ module _ (clock : ℕ) (v w : VolumeState) (n : Node) (r : IsRestarting v n) (si
   each_left : AllByRecursion (λ (u : OpenUnit). u.positions ≡ here u.serial) restarts.left
   each_left = left_where waiting restarts.left d.are.alike d.are.found d.done.places
 
+  -- the files that they changed
+  left_says : (ts : List UnitTold) (ws : List OpenUnit) → AreAlike ts ws → AreFoundIn v ws → AreFiledIn v ws → AllByRecursion (Carries n last) ts →
+      AllByRecursion (λ (u : OpenUnit). (f : ℕ) → changed_at u.serial (file_at last.durable.directory f) ≡ slice_index_or u.files f false) ws
+  left_says [] [] alike found filed at = tt
+  left_says [] (u ∷ ws) alike found filed at = absurd alike
+  left_says (t ∷ ts) [] alike found filed at = absurd alike
+  left_says (t ∷ ts) (u ∷ ws) alike found filed at = (
+    λ f.
+        ap (λ (y : Id). changed_at y (file_at last.durable.directory f)) alike.0.serial ∙ at.0.files f ∙ ap (λ (y : Id). changed_at y (file_at n.durable.directory f)) (sym alike.0.serial)
+        ∙ files_say v n r.content r.told r.leaves order.heads u.serial u.positions u.files found.0 filed.0 (ap (λ (y : Id). is_settled_in y n.durable.units.entries) alike.0.serial ∙ at.0.unsettled) f,
+    left_says ts ws alike.1 found.1 filed.1 at.1,
+  )
+
+  each_says : AllByRecursion (λ (u : OpenUnit). (f : ℕ) → changed_at u.serial (file_at last.durable.directory f) ≡ slice_index_or u.files f false) restarts.left
+  each_says = left_says waiting restarts.left d.are.alike d.are.found d.are.filed d.done.carries
+
   unsettled : (q : LogRecord) → In q (prepared_left n.durable) → is_settled_in q.serial es ≡ false
   unsettled q i = each_in (λ (o : LogRecord). is_settled_in o.serial es ≡ false) (prepared_of (records_in last.durable.log)) at.leaves.told.unsettled q
       (subst (λ ss. In q (prepared_of (records_in ss))) (sym at.log) ((left_reordered n.durable r.disk.log.distinct).there q i))
@@ -317,7 +302,7 @@ module _ (clock : ℕ) (v w : VolumeState) (n : Node) (r : IsRestarting v n) (si
   -- Each unit.
 
   abbrev changed_by : Id → List Entry
-  changed_by x = changed at.content w.catalog.heads last.durable has.files once has.units.names x w.catalog.ru.first ds
+  changed_by x = entries_by x w.catalog.ru.first ds
 
   abbrev all_changed : List OpenUnit → List (List Entry)
   all_changed us = map (λ (u : OpenUnit). changed_by u.serial) us
@@ -327,7 +312,7 @@ module _ (clock : ℕ) (v w : VolumeState) (n : Node) (r : IsRestarting v n) (si
   positions_all [] (u ∷ us) of there have = absurd of
   positions_all (q ∷ rs) [] of there have = absurd of
   positions_all (q ∷ rs) (u ∷ us) of there have = (
-    have.0 ∙ taken_where u.serial (subst (λ (x : Id). is_settled_in x es ≡ false) (sym of.0.serial) (unsettled q (there q (inl refl)))) (first_that (is_of u.serial) restarts.left) refl,
+    have.0.positions ∙ taken_where u.serial (subst (λ (x : Id). is_settled_in x es ≡ false) (sym of.0.serial) (unsettled q (there q (inl refl)))) (first_that (is_of u.serial) restarts.left) refl,
     positions_all rs us of.1 (λ o i. there o (inr i)) have.1,
   )
 
@@ -373,62 +358,29 @@ module _ (clock : ℕ) (v w : VolumeState) (n : Node) (r : IsRestarting v n) (si
 
   -- Which files they changed.
 
-  file_bits : (x : Id) → is_settled_in x es ≡ false → (f : ℕ) → changed_at x (file_at last.durable.directory f) ≡ list_any (λ (e : Entry). e.file == f) (changed_by x)
-  file_bits x off f = go (file_at last.durable.directory f) refl
-    where
-      go : (o : Option File) → file_at last.durable.directory f ≡ o → changed_at x o ≡ list_any (λ (e : Entry). e.file == f) (changed_by x)
-      go None there = sym (none_noted at.content w.catalog.heads last.durable has.files once has.units.names f there x w.catalog.ru.first es ds has.journal.alike)
-      go (Some file) there = by (find_unit x (units_in es)) refl ∙ sym (noted_alike at.content w.catalog.heads last.durable has.files once has.units.names f file there x w.catalog.ru.first es ds has.journal.alike)
-        where
-          notes : HasNotes last.durable.units file.name file.history
-          notes = (has.units.tells f file there).notes
-
-          of_changes : (cs : List Change) → (elim cs as (λ _. Bool) [ [] ↦ false | c ∷ cs ↦ true ]) ≡ some_noted (map note_of cs)
-          of_changes [] = refl
-          of_changes (c ∷ cs) = refl
-
-          by : (o : Option RecoveryUnit) → find_unit x (units_in es) ≡ o → changed_it file.history x ≡ some_noted (notes_in x file.name es)
-          by (Some u) is = of_changes (changes_by x file.history.live) ∙ ap some_noted (sym (notes.notes x (ap is_some is)))
-          by None is =
-              ap (λ (cs : List Change). elim cs as (λ _. Bool) [ [] ↦ false | c ∷ cs ↦ true ]) (live_none x last.durable.units file.history.live (ap is_some is) notes.units)
-              ∙ sym (ap some_noted (quiet_notes x file.name es (quiet x es off is)))
-
-  files_below : (x : Id) (p : ℕ) (fs : List JournalEntry) (gs : List Entry) → AreEntries w.catalog.heads fs gs → AllByRecursion (λ (e : Entry). e.file < 64) (map (λ (e : ℕ × Entry). e.1) (changes_of x (placed p gs)))
-  files_below x p [] [] are = tt
-  files_below x p [] (g ∷ gs) are = absurd are
-  files_below x p (e ∷ fs) [] are = absurd are
-  files_below x p (e ∷ fs) (g ∷ gs) are =
-      subst (λ (y : Entry). AllByRecursion (λ (e : Entry). e.file < 64) (map (λ (z : ℕ × Entry). z.1) (if entries.is_change_of x y then (p, y) ∷ later else later))) (sym are.2) (one e are.1 (files_below x (p + length (spelling g)) fs gs are.3))
-    where
-      later : List (ℕ × Entry)
-      later = changes_of x (placed (p + length (spelling g)) gs)
-
-      one : (e : JournalEntry) → IsFileOf w.catalog.heads e are.0 → AllByRecursion (λ (e : Entry). e.file < 64) (map (λ (z : ℕ × Entry). z.1) later) →
-          AllByRecursion (λ (e : Entry). e.file < 64) (map (λ (z : ℕ × Entry). z.1) (if entries.is_change_of x (entry_for are.0 e) then (p, entry_for are.0 e) ∷ later else later))
-      one (PreparedEntry tid by) of rest = rest
-      one (SettledEntry tid by outcome moment) of rest = rest
-      one (ChangeEntry tid by file key before) of rest = go (same_id x by)
-        where
-          go : (b : Bool) → AllByRecursion (λ (e : Entry). e.file < 64) (map (λ (z : ℕ × Entry). z.1) (if b then (p, entry_for are.0 (ChangeEntry tid by file key before)) ∷ later else later))
-          go true = ((let within = within_list w.catalog.heads are.0 of.0 of.1 in let long = at.long in omega (arith, within, long)), rest)
-          go false = rest
+  says : (x : Id) → is_settled_in x es ≡ false → (o : Option OpenUnit) → first_that (is_of x) restarts.left ≡ o → (f : ℕ) →
+      changed_at x (file_at last.durable.directory f) ≡ slice_index_or (elim o as (λ _. List Bool) [ Some u ↦ u.files | None ↦ no_files ]) f false
+  says x off (Some u) is f =
+      let own = id_is x u.serial (first_is (is_of x) restarts.left u is) in
+      ap (λ (y : Id). changed_at y (file_at last.durable.directory f)) own ∙ first_holds (λ (y : OpenUnit). (g : ℕ) → changed_at y.serial (file_at last.durable.directory g) ≡ slice_index_or y.files g false) (is_of x) restarts.left u each_says is f
+  says x off None is f = unchanged_at last x has.units (ap is_some (no_unit x is)) f ∙ sym (no_bits 64 f)
 
   -- Each is a unit of the node.
 
-  units_all : (rs : List LogRecord) (us : List OpenUnit) → AreOfRecords rs us → ((q : LogRecord) → In q rs → In q (prepared_left n.durable)) → AllByRecursion (λ (u : OpenUnit). u.positions ≡ here u.serial) us → returning.AreFiles us (all_changed us) → AllByRecursion (IsUnitOf last) us
-  units_all [] [] of there places files = tt
-  units_all [] (u ∷ us) of there places files = absurd of
-  units_all (q ∷ rs) [] of there places files = absurd of
-  units_all (q ∷ rs) (u ∷ us) of there places files = (
+  units_all : (rs : List LogRecord) (us : List OpenUnit) → AreOfRecords rs us → ((q : LogRecord) → In q rs → In q (prepared_left n.durable)) → AllByRecursion (λ (u : OpenUnit). u.positions ≡ here u.serial) us → HaveChanges restarts.left us → AllByRecursion (IsUnitOf last) us
+  units_all [] [] of there places have = tt
+  units_all [] (u ∷ us) of there places have = absurd of
+  units_all (q ∷ rs) [] of there places have = absurd of
+  units_all (q ∷ rs) (u ∷ us) of there places have = (
     record {
       positions = places.0;
       files = λ f.
-          file_bits u.serial (subst (λ (x : Id). is_settled_in x es ≡ false) (sym of.0.serial) (unsettled q (there q (inl refl)))) f
-          ∙ sym (ap (λ (bs : List Bool). slice_index_or bs f false) files.0 ∙ bits_in (changed_by u.serial) f (files_below u.serial w.catalog.ru.first es ds has.journal.alike));
+          says u.serial (subst (λ (x : Id). is_settled_in x es ≡ false) (sym of.0.serial) (unsettled q (there q (inl refl)))) (first_that (is_of u.serial) restarts.left) refl f
+          ∙ sym (ap (λ (bs : List Bool). slice_index_or bs f false) have.0.files);
       transaction = own es (each_in (λ (o : LogRecord). AllByRecursion (IsOfTransaction o.tid o.serial) es) (prepared_of (records_in last.durable.log)) at.leaves.told.transactions q
           (subst (λ ss. In q (prepared_of (records_in ss))) (sym at.log) ((left_reordered n.durable r.disk.log.distinct).there q (there q (inl refl)))));
     },
-    units_all rs us of.1 (λ o i. there o (inr i)) places.1 files.1,
+    units_all rs us of.1 (λ o i. there o (inr i)) places.1 have.1,
   )
     where
       own : (fs : List JournalEntry) → AllByRecursion (IsOfTransaction q.tid q.serial) fs → AllByRecursion (λ (e : JournalEntry). same_id u.serial (serial_in e) ≡ true → u.tid ≡ tid_in e) fs
@@ -445,7 +397,7 @@ module _ (clock : ℕ) (v w : VolumeState) (n : Node) (r : IsRestarting v n) (si
     log = at.log ∙ sym log_stays;
     branches = subst (AreOfBranches (begun units)) (ap (λ (x : Volatile). x.branches) (sym (at.volatile ∙ r.booted))) (of_records (prepared_left n.durable) (begun units) records);
     locks = held_all;
-    each = units_all (prepared_left n.durable) (begun units) records (λ q i. i) each_where hold.files;
+    each = units_all (prepared_left n.durable) (begun units) records (λ q i. i) each_where changes;
   }
 
   -- A restart reopens the node so.

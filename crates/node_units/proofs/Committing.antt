@@ -2,7 +2,6 @@
 use Rattle.std.proofs.Common.{◌≡◌, ℕ, ◌+◌, ◌<◌, ◌≤◌, List, Option, Some, None, refl, sym, ◌∙◌, ap, subst, arith, length}
 use Rattle.std.specs.Prelude.{option_map}
 use Rattle.std.specs.Option.{IfSome}
-use Rattle.change_set.specs.Files.{AgreesOn}
 use Rattle.file_base.specs.declared.head.FileHead.{FileHead}
 use Rattle.vms_model.specs.Ids.{Id, IsId}
 use Rattle.vms_model.specs.Transactions.{Commit, Reason}
@@ -13,34 +12,36 @@ use Rattle.volume.specs.declared.catalog.Catalog.{Catalog}
 use Rattle.volume.specs.Catalogs.{IsSound, TellsCatalog}
 use Rattle.volume.specs.State.{VolumeState}
 use Rattle.volume_format.specs.declared.home.Ending.{Ending}
+use Rattle.volume_format.specs.declared.home.Home.{Home}
 use Rattle.volume_format.specs.declared.home.Ending.TheVariants as ending
 use Rattle.journal_model.specs.Entries.{Entry}
 use Rattle.unit_table.specs.Places.{AreInOrder}
 use Rattle.unit_table.specs.Units.{OpenUnit, unit_at}
-use Rattle.unit_journal.specs.Settling.{MakesSettlement, content_with, from_earliest, next_moment as moment_next, settled_home, span_with, with_front}
+use Rattle.unit_laws.specs.JournalLaws.{is_unit}
+use Rattle.file_settlements.specs.Settling.{EntersSettled, content_settled}
+use Rattle.unit_journal.specs.Entries.{settled_entry}
+use Rattle.unit_journal.specs.Settling.{MakesSettlement, content_with, entry_if, from_earliest, next_moment as moment_next, settled_home, span_with, with_front}
 use Rattle.unit_votes.specs.Voting.{MakesLogged, Settlement as LoggedSettlement}
 use Rattle.commit_protocol.specs.Effects.{SettleEffect}
 use Rattle.commit_protocol.specs.Messages.{LogRecord}
 use Rattle.commit_protocol.specs.Table as table
 use Rattle.commit_protocol.specs.Table.{Key, Settles}
 use Rattle.log_laws.specs.Slots.{Slots, settled_in}
-use Rattle.log_laws.proofs.RowSlots.{length_slots}
 use Rattle.lmcp_log.specs.Keeping.{IsWhole, Keeps, SameSlots}
 use Rattle.lmcp_log.specs.Slot.{IsRecord}
 use Rattle.lmcp_log.proofs.Keepings.{keeps_beside}
 use Rattle.lmcp_log.proofs.Whole.{beside_whole}
 use Rattle.run_model.specs.World.{Node, Settlement, Tables, acted, fallen, next_moment, settlement}
 use Rattle.world_laws.proofs.LogLemmas.{told_log}
-use Rattle.world_laws.proofs.OrderedLemmas.{tables_keep_order}
-use Rattle.directory_model.specs.Files.{AreFiles, head_at}
-use Rattle.directory_model.specs.Restoring.{AreRestorable}
-use Rattle.directory_model.proofs.Acts.{keeps_files}
-use Rattle.directory_model.proofs.Standing.{stands_on_extents}
-use Rattle.restart_laws.proofs.StayLemmas.{keeps_restorable}
-use Rattle.restart_laws.proofs.UnitLemmas.{keeps_units}
+use Rattle.directory_model.specs.Files.{head_at}
 use Rattle.settlement_laws.specs.Settled.{IsSettled, Makes}
 use Rattle.settlement_laws.proofs.MadeLemmas.{settlements_are_made}
-use Rattle.volume_laws.proofs.FollowLemmas.{follow}
+use Rattle.undo_laws.specs.Committed.{IsCommit}
+use Rattle.undo_laws.specs.Undone.{AgreeOnFiles, IsTold, IsToldIn}
+use Rattle.undo_laws.proofs.CommitLemmas.{commits_settle}
+use Rattle.undo_laws.proofs.ToldLemmas.{journal_beside}
+use Rattle.unit_undo.specs.Undoing.{journals_at}
+use Rattle.image_groups.specs.Groups.{HaveRoom}
 use Rattle.volume_model.specs.Homes as homes
 use Rattle.volume_model.specs.Homes.{HasHome}
 use Rattle.volume_model.specs.Laws.{KeepsNames}
@@ -55,7 +56,8 @@ use Rattle.node_units.specs.Seen.{seen}
 use Rattle.node_units.proofs.Acting.{broken, left_after, settling}
 use Rattle.node_units.proofs.Alike.{next_alike}
 use Rattle.node_units.proofs.Logging.{IsRelogged, catalog_set, files_relogged, relogged, ring_relogged, slots_set, tells_relogged}
-use Rattle.node_units.proofs.Making.{Closes, left_seen, makes_it, settles, tid_is}
+use Rattle.node_units.proofs.Imaging.{files_telling, fits, imaged, imaged_home, imaged_ru, imaged_told, room_for, told_by, told_heads, told_in}
+use Rattle.node_units.proofs.Making.{Closes, changed, left_seen, makes_it, settles, tid_is}
 use Rattle.node_units.proofs.Settling.{kept_settled}
 
 -- the content of a volume that a settlement is made of
@@ -66,7 +68,8 @@ settled_content tid serial ending moment e left x made c makes told =
     (f c, makes.current ∙ ap (option_map f) told)
 
 pub made_told : (y : LoggedSettlement) (rec : Option LogRecord) (ss ts : Slots) (v made : VolumeState) (c : List (List ℕ)) (m : MakesLogged y rec ss ts v made) → m.logged.store.current ≡ Some c → (b : List (List ℕ)) × (made.store.current ≡ Some b)
-made_told y rec ss ts v made c m told = settled_content y.tid y.serial y.ending y.moment y.entry y.left m.logged made c m.makes told
+made_told y rec ss ts v made c m told = settled_content y.tid y.serial y.ending y.moment y.entry y.left m.makes.mid made (content_settled y.entry y.files m.logged.catalog.heads c) m.makes.settles
+    (m.makes.entered.current ∙ ap (option_map (content_settled y.entry y.files m.logged.catalog.heads)) told)
 
 -- What is asked of a volume whose log a call changes.
 pub record HasLogged (s : rms.UnitsState) (log : Slots) (v : VolumeState) (rec : Option LogRecord) : Type 0 where
@@ -114,71 +117,91 @@ module _ (place : ℕ) (u : OpenUnit) (s t : rms.UnitsState) (log ts : Slots) (v
   same : mid.catalog ≡ v.catalog
   same = catalog_set (serial_of serial) rec log ts v mid makes.log
 
-  names_mid : KeepsNames v.catalog.heads mid.catalog.heads
-  names_mid f h there = (h, ap (λ (y : Catalog). head_at y.heads f) same ∙ there, refl)
-
-  pub journal_mid : HasJournal relog.0 mid.catalog n
-  journal_mid = follow.stays x.owns.kept.content relog.0 v.catalog mid.catalog n n x.owns.kept.has.journal refl (ap (λ (y : Catalog). y.ru) same) names_mid (ring_relogged log ts x.owns.kept.content relog.0 relog.2 v.catalog is.before)
-
   as_told : c ≡ homes.settlement_of moment (record { tid = tid; serial = serial; ending = ending.Commit })
   as_told =
       let one = sym (tid_is place u s log v n k x.owns) ∙ sym tid_same in
       let two = sym x.owns.own ∙ sym serial_same in
       λ i. record { tid = one i; serial = two i; outcome = Commit; reason = None; moment = moment }
 
-  makes_mid : Makes n c tid serial ending.Commit t.units.places mid made
-  makes_mid = makes_it place u s log v n k Commit reason rec moment x t spent mid made tid serial ending.Commit is.order early ids bound (ap (λ (y : Catalog). y.home) same) (ap (λ (y : Catalog). y.ru) same) as_told makes.makes
+  -- its outcome is entered in the journals of images
+  abbrev img : VolumeState
+  img = makes.makes.mid
+
+  pub enters : EntersSettled u.files (entry_if (is_unit k.serial n.durable.units) (settled_entry c.tid c.serial c.outcome c.moment)) mid img
+  enters = subst (λ e. EntersSettled u.files e mid img) (λ i. entry_if (changed place u s log v n k x.owns i) (settled_entry (tid_is place u s log v n k x.owns i) (x.owns.own i) Commit moment)) makes.makes.entered
+
+  abbrev e : List (List ℕ)
+  e = imaged (is_unit k.serial n.durable.units) u.files c mid img enters relog.0
+
+  tells_mid : TellsCatalog mid.catalog relog.0
+  tells_mid = subst (λ (y : Catalog). TellsCatalog y relog.0) (sym same) (tells_relogged log ts x.owns.kept.content relog.0 relog.2 v.catalog is.before (tells_now s log ts v rec is n x.owns.kept))
+
+  heads_mid : length mid.catalog.heads ≡ 64
+  heads_mid = ap (λ (y : Catalog). length y.heads) same ∙ is.order.heads
+
+  sound_mid : IsSound v.catalog.home.node v.store.disk.size mid.catalog
+  sound_mid = subst (IsSound v.catalog.home.node v.store.disk.size) (sym same) is.order.sound
+
+  room : HaveRoom c (files_telling (is_unit k.serial n.durable.units) u.files) mid.catalog.heads
+  room = room_for place u s log v n k x.owns mid.catalog.heads (record { journals = λ f. ap (λ (y : Catalog). journals_at y.heads f) same; told = told_heads mid.catalog relog.0 tells_mid heads_mid }) is.order early c
+      (subst IsId (tid_is place u s log v n k x.owns) ids.0) (subst IsId x.owns.own ids.1) (omega (arith, bound))
+
+  told_now : IsToldIn c n.durable.directory relog.0 e v.catalog img.catalog
+  told_now = subst (λ (y : Catalog). IsToldIn c n.durable.directory relog.0 e y img.catalog) same
+      (told_in (is_unit k.serial n.durable.units) u.files c mid img enters n.durable.directory relog.0 (told_by place u s log v n k x.owns c refl) room (fits v.catalog.home.node v.store.disk.size mid.catalog heads_mid sound_mid) relog.2.whole)
+
+  beside : AgreeOnFiles v.catalog x.owns.kept.content relog.0
+  beside f h there = files_relogged log ts x.owns.kept.content relog.0 relog.2 v.catalog is.before v.catalog.home.node v.store.disk.size is.order.sound is.order.heads f h there
+
+  is_commit : IsCommit n a moment c
+  is_commit = record { settles = refl; commit = refl; may = settles place u s log v n k Commit reason rec moment x; told = told_log m x.after.table x.after.slots }
+
+  sound_now : IsSound n.name n.blocks v.catalog
+  sound_now = subst (λ (y : List ℕ). IsSound y n.blocks v.catalog) (sym x.owns.kept.name) (subst (λ (y : ℕ). IsSound v.catalog.home.node y v.catalog) (sym x.owns.kept.blocks) is.order.sound)
+
+  pub journal_mid : (j : HasJournal relog.0 v.catalog n) × (j.entries ≡ x.owns.kept.has.journal.entries)
+  journal_mid = journal_beside x.owns.kept.content relog.0 v.catalog v.catalog n (λ f h there. (h, there, refl)) refl (ring_relogged log ts x.owns.kept.content relog.0 relog.2 v.catalog is.before) x.owns.kept.has.journal
+
+  pub is_told : IsTold n relog.0 e v.catalog img.catalog journal_mid.0
+  is_told = commits_settle.told x.owns.kept.content relog.0 e v.catalog img.catalog n a moment c x.owns.kept.has is_commit sound_now beside told_now journal_mid.0
+
+  home_img : img.catalog.home ≡ v.catalog.home
+  home_img = imaged_home (is_unit k.serial n.durable.units) u.files c mid img enters ∙ ap (λ (y : Catalog). y.home) same
+
+  ru_img : img.catalog.ru ≡ v.catalog.ru
+  ru_img = imaged_ru (is_unit k.serial n.durable.units) u.files c mid img enters ∙ ap (λ (y : Catalog). y.ru) same
+
+  makes_img : Makes n c tid serial ending.Commit t.units.places img made
+  makes_img = makes_it place u s log v n k Commit reason rec moment x t spent img made tid serial ending.Commit is.order early ids bound home_img ru_img as_told makes.makes.settles
 
   module _ (b : List (List ℕ)) (told : made.store.current ≡ Some b) where
-    pub settled : IsSettled n c journal_mid.entries relog.0 b mid.catalog made.catalog × TellsCatalog made.catalog b × IsSound v.catalog.home.node v.store.disk.size made.catalog
-    settled = settlements_are_made relog.0 b n c tid serial ending.Commit t.units.places mid made v.catalog.home.node v.store.disk.size relog.1 told
-        (subst (λ (y : Catalog). TellsCatalog y relog.0) (sym same) (tells_relogged log ts x.owns.kept.content relog.0 relog.2 v.catalog is.before (tells_now s log ts v rec is n x.owns.kept)))
-        (subst (IsSound v.catalog.home.node v.store.disk.size) (sym same) is.order.sound) (ap (λ (y : Catalog). length y.heads) same ∙ is.order.heads)
-        (subst (λ (y : Catalog). HasHome y.home n) (sym same) x.owns.kept.has.home) journal_mid makes_mid
+    pub settled : IsSettled n c is_told.journal.entries e b img.catalog made.catalog × TellsCatalog made.catalog b × IsSound v.catalog.home.node v.store.disk.size made.catalog
+    settled = settlements_are_made e b n c tid serial ending.Commit t.units.places img made v.catalog.home.node v.store.disk.size (imaged_told (is_unit k.serial n.durable.units) u.files c mid img enters relog.0 relog.1) told
+        (is_told.tells (subst (λ (y : Catalog). TellsCatalog y relog.0) same tells_mid)) (is_told.sound v.catalog.home.node v.store.disk.size is.order.sound) is_told.long (subst (λ (y : Home). HasHome y n) (sym home_img) x.owns.kept.has.home) is_told.journal makes_img
 
-    names_made : KeepsNames mid.catalog.heads made.catalog.heads
-    names_made f h there = (h, ap (λ (hs : List (Option FileHead)). head_at hs f) settled.0.heads ∙ there, refl)
-
-    heads_are : made.catalog.heads ≡ v.catalog.heads
-    heads_are = settled.0.heads ∙ ap (λ (y : Catalog). y.heads) same
-
-    agree : (f : ℕ) (h : FileHead) → head_at v.catalog.heads f ≡ Some h → AgreesOn h x.owns.kept.content b
-    agree f h there i inside =
-        files_relogged log ts x.owns.kept.content relog.0 relog.2 v.catalog is.before v.catalog.home.node v.store.disk.size is.order.sound is.order.heads f h there i inside
-        ∙ settled.0.files f h (ap (λ (y : Catalog). head_at y.heads f) same ∙ there) i inside
-
-    files_now : AreFiles b v.catalog.heads n.durable.directory
-    files_now = stands_on_extents x.owns.kept.content b v.catalog.heads n.durable.directory agree x.owns.kept.has.files
+    names_made : KeepsNames v.catalog.heads made.catalog.heads
+    names_made f h there = let it = is_told.names f h there in (it.0, ap (λ (hs : List (Option FileHead)). head_at hs f) settled.0.heads ∙ it.1, it.2)
 
     slots_are : ts ≡ m.durable.log
     slots_are = slots ∙ (λ i. settled_in (x.owns.own i) rec (sym x.owns.kept.log i))
 
     same_slots : SameSlots (length ts) relog.0 b
-    same_slots i below = settled.0.log i (let long = relog.2.long in let logs = ap length x.owns.kept.log in omega (arith, below, long, logs))
+    same_slots i below =
+        let long = relog.2.long in
+        let logs = ap length x.owns.kept.log in
+        let before = is.before in
+        settled.0.log i (omega (arith, below, long, logs)) ∙ is_told.front (66 + i) (omega arith) (omega (arith, below, long, before, ring_some))
+      where
+        ring_some : 0 < v.catalog.ru.blocks
+        ring_some = x.owns.kept.has.journal.is.ring.some
 
     pub volume : HasVolume b made.catalog m
-    volume = record {
-      home = record {
-        volume = settled.0.home.volume;
-        slots = length_slots a n.volatile.records n.durable.log ∙ settled.0.home.slots;
-        journal = settled.0.home.journal;
-        boot = settled.0.home.boot;
-        greatest = settled.0.home.greatest;
-        last = settled.0.home.last;
-      };
-      log = record {
-        keeps = subst (λ (us : Slots). Keeps us b) slots_are (keeps_beside ts relog.0 b relog.2.keeps same_slots);
-        whole = subst (λ (us : Slots). IsWhole us b) slots_are (beside_whole ts relog.0 b relog.2.slots same_slots);
-      };
-      journal = follow.settles relog.0 b mid.catalog made.catalog n a moment c journal_mid refl names_made settled.0.entered settled.0.first settled.0.end settled.0.low;
-      units = keeps_units.tables n a moment x.owns.kept.has.units;
-      order = tables_keep_order n.durable n.volatile a moment x.owns.kept.has.order
-          (let may = settles place u s log v n k Commit reason rec moment x in record { unsettled = may.unsettled; transaction = may.transaction; later = may.later });
-      told = told_log m x.after.table x.after.slots;
-      files = subst (λ (hs : List (Option FileHead)). AreFiles b hs m.durable.directory) (sym heads_are) (keeps_files.commits b v.catalog.heads n a moment c refl files_now x.owns.kept.has.units refl);
-      restorable = subst (λ (hs : List (Option FileHead)). AreRestorable b hs m.durable.directory) (sym heads_are)
-          (keeps_restorable.commits b v.catalog.heads n a moment c refl x.owns.kept.has.units (keeps_restorable.stands x.owns.kept.content b v.catalog.heads n.durable.directory agree x.owns.kept.has.files x.owns.kept.has.restorable));
-    }
+    volume = commits_settle.has x.owns.kept.content relog.0 e b v.catalog img.catalog made.catalog n a moment c x.owns.kept.has is_commit sound_now beside told_now
+        (subst (λ (es : List Entry). IsSettled n c es e b img.catalog made.catalog) (is_told.same ∙ journal_mid.1) settled.0)
+        (record {
+          keeps = subst (λ (us : Slots). Keeps us b) slots_are (keeps_beside ts relog.0 b relog.2.keeps same_slots);
+          whole = subst (λ (us : Slots). IsWhole us b) slots_are (beside_whole ts relog.0 b relog.2.slots same_slots);
+        })
 
     seen_then : seen t ts ≡ committed k.serial rec (seen s log)
     seen_then =
@@ -189,7 +212,7 @@ module _ (place : ℕ) (u : OpenUnit) (s t : rms.UnitsState) (log ts : Slots) (v
     pub kept_made : made.store.disk.size ≡ v.store.disk.size → IsKept (seen t ts) made m
     kept_made size = subst (λ (y : UnitsState). IsKept y made m) (sym seen_then)
         (kept_settled (seen s log) v n k Commit reason rec moment x.owns.branch x.owns.kept x.owns.up x.owns.found x.later x.after made b told
-        (ap (λ (y : Catalog). y.home.node) makes.makes.catalog ∙ ap (λ (y : Catalog). y.home.node) same) size (λ f h there. (h, ap (λ (hs : List (Option FileHead)). head_at hs f) heads_are ∙ there, refl)) volume)
+        (ap (λ (y : Catalog). y.home.node) makes.makes.settles.catalog ∙ ap (λ (h : Home). h.node) home_img) size names_made volume)
 
     pub left_made : IsLeftBy b (acted (Tables a moment) (fallen (Some (Tables a moment)) n))
     left_made = left_after (seen s log) v n a moment x.owns.kept b made.catalog volume settled.1 settled.2

@@ -53,15 +53,15 @@ use Rattle.run_model.specs.Operations.{changes_of}
 use Rattle.world_laws.proofs.EntryLemmas.{all_entered}
 use Rattle.recovery_units.specs.State.{is_change_by}
 use Rattle.volume_model.specs.Entries.{entry_for}
-use Rattle.volume_model.specs.Entries as volume
+use Rattle.file_images.specs.Images as images
 use Rattle.journal_format.proofs.Decoding.{total_is}
 use Rattle.records_model.specs.Slots.{size_of}
 use Rattle.volume_files.proofs.Places.{head_below}
 use Rattle.node_units.proofs.Holding.{once_of}
 use Rattle.rms_units.specs.Truncating.{ChangesCut, CutBroke, IsCut, cut_asked, with_positions}
-use Rattle.unit_cuts.specs.Truncating.{BreaksCut, IsTold, begins_at}
+use Rattle.unit_cuts.specs.Truncating.{AllTold, BreaksCut, begins_at}
 use Rattle.rms_units.proofs.CutOrder as cut_order
-use Rattle.node_units.proofs.BehindVolume.{told_left}
+use Rattle.node_units.proofs.CutImages.{cut_left}
 use Rattle.node_units.proofs.CutMade as made_by
 use Rattle.node_units.proofs.CutRefusals.{cut_begun}
 use Rattle.node_units.proofs.KeyMade.{locks_renamed}
@@ -135,19 +135,19 @@ begins_many p [] = refl
 begins_many p (e ∷ es) = ap suc (begins_many (p + length (spelling e)) es)
 
 -- what a branch changed in a file, once it changed more of it
-now_changed : (x : Id) (cs : List Change) (h : History) → 1 ≤ length cs → changed_it (changed_with x cs h) x ≡ true
+pub now_changed : (x : Id) (cs : List Change) (h : History) → 1 ≤ length cs → changed_it (changed_with x cs h) x ≡ true
 now_changed x [] h some = absurd (omega (arith, some))
 now_changed x (c ∷ cs) h some = ap (λ (ds : List Change). elim ds [ [] ↦ false | d ∷ es ↦ true ]) (by_changes x (c ∷ cs) h.live)
 
 still_changed : (x y : Id) (cs : List Change) (h : History) → same_id x y ≡ false → changed_it (changed_with y cs h) x ≡ changed_it h x
 still_changed x y cs h other = ap (λ (ds : List Change). elim ds [ [] ↦ false | d ∷ es ↦ true ]) (by_others x y cs h.live other)
 
-key_long : (key : Key) → length (volume.key_bytes key) ≡ journal.key_size key
+key_long : (key : Key) → length (images.key_bytes key) ≡ journal.key_size key
 key_long (Number n) = refl
 key_long (Text t) = refl
 key_long End = refl
 
-image_long : (before : Option (List ℕ)) → length (volume.image_bytes before) ≡ size_of before
+image_long : (before : Option (List ℕ)) → length (images.image_bytes before) ≡ size_of before
 image_long None = refl
 image_long (Some r) = refl
 
@@ -170,7 +170,7 @@ module _ (s : state.UnitsState) (v : VolumeState) (order : IsInOrder s v) (at : 
     (t : state.UnitsState) (w : VolumeState) (done : ChangesCut place u f h from s v t w) (size : w.store.disk.size ≡ v.store.disk.size)
     (keeps : KeepsUp (unit_early n b h.name file (Truncate from)) (unit_late n b h.name file (Truncate from)) (unit_act b h.name file (Truncate from)) n) where
   abbrev es : List Entry
-  es = done.entries
+  es = done.entries.had
 
   abbrev cs : List Change
   cs = changes_of file (Truncate from)
@@ -223,7 +223,7 @@ module _ (s : state.UnitsState) (v : VolumeState) (order : IsInOrder s v) (at : 
       (locks_more v.catalog.heads (once_of v.catalog.home.node v.store.disk.size v.catalog order.sound order.heads) f h there u.serial keys s.locks n.volatile.locks kept.locks)))
 
   abbrev new_file : File
-  new_file = changed_file (is_locked n.volatile.locks h.name) u.serial cs file
+  new_file = changed_file (is_locked n.volatile.locks h.name) u.tid u.serial cs file
 
   directory_is : m.durable.directory ≡ slice_set n.durable.directory f (Some new_file)
   directory_is = made_by.directory_after s v order at place u at_place n file b h log up unprepared kept f from there found found_b allowed low done.early w done.late done.entries done.made keeps
@@ -238,7 +238,7 @@ module _ (s : state.UnitsState) (v : VolumeState) (order : IsInOrder s v) (at : 
   known = let long = done.files in let small = f_small in omega (arith, long, small)
 
   own_fs : AllByRecursion (IsOwn u.serial f) fs
-  own_fs = each_own u.tid u.serial f h.name cs (subst (AllByRecursion IsEntry) (made_by.es_are s v order at place u at_place n file b h log up unprepared kept f from there found found_b allowed low done.early w done.late done.entries done.made keeps) (made_by.enters s v order at place u at_place n file b h log up unprepared kept f from there found found_b allowed low done.early w done.late done.entries done.made keeps).each)
+  own_fs = each_own u.tid u.serial f h.name cs (subst (AllByRecursion IsEntry) (made_by.es_are s v order at place u at_place n file b h log up unprepared kept f from there found found_b allowed low done.early w done.late done.entries done.made keeps) (made_by.enters s v order at place u at_place n file b h log up unprepared kept f from there found found_b allowed low done.early w done.late done.entries done.made keeps).entered.each)
 
   own_after : IsUnitOf m more
   own_after =
@@ -328,8 +328,8 @@ module _ (s : state.UnitsState) (v : VolumeState) (order : IsInOrder s v) (at : 
       leaves = λ whole. down d (made_by.W s v order at place u at_place n file b h log up unprepared kept f from there found found_b allowed low broke.early new is.late is.entries is.makes keeps) (made_by.m s v order at place u at_place n file b h log up unprepared kept f from there found found_b allowed low broke.early new is.late is.entries is.makes keeps) (acted (made_by.deed s v order at place u at_place n file b h log up unprepared kept f from there found found_b allowed low broke.early new is.late is.entries is.makes keeps) (fallen (Some act) n)) (volume_falls d (made_by.W s v order at place u at_place n file b h log up unprepared kept f from there found found_b allowed low broke.early new is.late is.entries is.makes keeps) (made_by.m s v order at place u at_place n file b h log up unprepared kept f from there found found_b allowed low broke.early new is.late is.entries is.makes keeps) (made_by.volume_after s v order at place u at_place n file b h log up unprepared kept f from there found found_b allowed low broke.early new is.late is.entries is.makes keeps d (sym told))) refl refl refl;
     }
 
-    either_left : (d : Content) → IsTold v.catalog.ru (content v.store) d ⊎ (Some d ≡ new.store.current) → IsEitherOf (fallen (Some act) n) d
-    either_left d (inl old) = inl (told_left s v order n log kept (Some act) d old)
+    either_left : (d : Content) → AllTold h v.catalog.ru (content v.store) d ⊎ (Some d ≡ new.store.current) → IsEitherOf (fallen (Some act) n) d
+    either_left d (inl old) = inl (cut_left s v order n log kept f h there (Some act) d old)
     either_left d (inr now) = inr (inl (act, refl, left_after d now))
 
     durable_act : is_durable act ≡ true
@@ -341,7 +341,7 @@ module _ (s : state.UnitsState) (v : VolumeState) (order : IsInOrder s v) (at : 
   pub cut_broken : IsBroken (unit_early n b h.name file (Truncate from)) (unit_late n b h.name file (Truncate from)) act n w.store.disk
   cut_broken = record { begun = cut_begun s v order at place u at_place n file b h log up unprepared kept f from there found found_b allowed broke.early; disk = go broke.breaks }
     where
-      go : BreaksCut (IsCut u f h from s v) v w →
+      go : BreaksCut h (IsCut u f h from s v) v w →
           HasDisk (fallen None n) w.store.disk ⊎ ((unit_late n b h.name file (Truncate from) ≡ None) × (is_durable act ≡ true) × HasDisk (fallen (Some act) n) w.store.disk)
-      go (inl old) = inl (disk_sound (fallen None n) w.store.disk kept.has.home.volume (λ image may. let is = old image may in (is.0, inl (told_left s v order n log kept None (content_of image) is.1))))
+      go (inl old) = inl (disk_sound (fallen None n) w.store.disk kept.has.home.volume (λ image may. let is = old image may in (is.0, inl (cut_left s v order n log kept f h there None (content_of image) is.1))))
       go (inr new) = inr (late_then new.made new.is, durable_act new.made new.is, disk_sound (fallen (Some act) n) w.store.disk kept.has.home.volume (λ image may. let is = new.either image may in (is.0, either_left new.made new.is (content_of image) is.1)))

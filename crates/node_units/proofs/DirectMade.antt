@@ -1,4 +1,10 @@
 -- Changes that are committed at once are made of a node's volume.
+use Rattle.volume_format.specs.Home.{sizes_of}
+use Rattle.volume.specs.Limits.{data_area}
+use Rattle.volume_model.specs.Homes.{HasHome}
+use Rattle.node_units.proofs.ImagedVolume.{dressed_restorable, tells_entered, sound_entered, names_entered, log_entered, journal_entered, live_set, same_live}
+use Rattle.restart_laws.specs.Restorable.{SameLive}
+use Rattle.image_groups.specs.Groups.{Enters}
 use Rattle.std.proofs.Common.{◌≡◌, ℕ, ◌+◌, ◌≤◌, ◌^◌, List, [], ◌∷◌, ◌++◌, Bool, true, false, Option, Some, None, nat_le, refl, sym, ◌∙◌, ap, subst, arith, append-nil, if◌then◌else◌, inl, inr}
 use Rattle.std.specs.Prelude.{is_some, option_map, unwrap_or, slice_set}
 use Rattle.std.specs.List.{AllByRecursion}
@@ -38,7 +44,7 @@ use Rattle.world_laws.proofs.EntryLemmas.{all_trimmed}
 use Rattle.world_laws.proofs.OrderedLemmas.{directs_keep_order}
 use Rattle.world_laws.proofs.LogLemmas.{told_log}
 use Rattle.directory_model.specs.Files.{AreFiles, IsFoundAt, IsNamed, file_at, head_at}
-use Rattle.directory_model.specs.Laws.{IsChanged}
+use Rattle.directory_model.specs.Laws.{IsChanged, directly_buckets, carrying}
 use Rattle.directory_model.specs.Restoring.{AreRestorable}
 use Rattle.directory_model.proofs.Places.{within_list}
 use Rattle.directory_model.proofs.Standing.{stands_on_extents}
@@ -49,7 +55,7 @@ use Rattle.restart_laws.proofs.UnitLemmas.{keeps_units}
 use Rattle.volume_format.specs.declared.home.Home.{Home}
 use Rattle.volume_model.specs.Entries.{entry_for}
 use Rattle.volume_model.specs.Laws.{KeepsNames}
-use Rattle.volume_model.specs.Volumes.{HasVolume, IsLeftBy}
+use Rattle.volume_model.specs.Volumes.{HasVolume, IsLeftBy, HasJournal, HasLog}
 use Rattle.volume_laws.specs.Journals.{settled_entries}
 use Rattle.volume_laws.proofs.FollowLemmas.{follow}
 use Rattle.volume_laws.proofs.ToldLemmas.{logs_follow}
@@ -98,8 +104,9 @@ moment_of n clock h ticks greatest = λ i. if nat_le (ticks i) (greatest i + 1) 
 abbrev pub own_settlement : Node → Settlement
 own_settlement n = commit_settlement n (next_id n) (next_id n)
 
--- A file is changed in what is staged of a node's volume, at keys that no unsettled branch changed, and that is committed at this clock as the branch that is drawn
--- next; the journal begins with the earliest change of a unit. What unsettled branches changed can be restored beside it.
+-- A file is changed in what is staged of a node's volume, at keys that no unsettled branch changed; the journals of images tell it and that it is committed; and it is
+-- committed at this clock as the branch that is drawn next. The journal of recovery units begins with the earliest change of a unit. What unsettled branches changed
+-- can be restored beside it.
 pub record DirectsFile (n : Node) (f : ℕ) (h : FileHead) (name : List ℕ) (file : File) (tid : Tid) (clock : ℕ) (cs : List Change) (left : List (Option OpenUnit)) (a b : List (List ℕ)) (v mid made : VolumeState) (new : FileHead) : Type 0 where
   pub named : IsNamed v.catalog.heads f h name
   pub at : IsFoundAt name n.durable.directory f file
@@ -110,7 +117,13 @@ pub record DirectsFile (n : Node) (f : ℕ) (h : FileHead) (name : List ℕ) (fi
   pub whole : EachWhole b
   pub changed : IsChanged (is_locked n.volatile.locks name) cs a h b new
   pub restorable : AreRestorable b (slice_set v.catalog.heads f (Some new)) (acted (Changes (next_id n) (next_id n) name cs []) n).durable.directory
-  pub makes : MakesSettlement tid (record { 0 = tid.0 }) ending.Commit (settling.next_moment clock v.catalog.home) None left mid made
+  pub closed : VolumeState
+  pub images : List (List ℕ)
+  pub told : closed.store.current ≡ Some images
+  pub catalog : closed.catalog ≡ record mid.catalog { heads = closed.catalog.heads }
+  pub enters : AreFiles b mid.catalog.heads (directly_buckets (is_locked n.volatile.locks name) (own_settlement n) cs f file n.durable.directory) →
+      Enters b mid.catalog.heads images (data_area (sizes_of mid.catalog.home)) closed.catalog.heads (acted (Directs name cs (own_settlement n)) n).durable.directory
+  pub makes : MakesSettlement tid (record { 0 = tid.0 }) ending.Commit (settling.next_moment clock v.catalog.home) None left closed made
   pub own : tid_of tid ≡ next_id n
   pub is_id : IsId (tid_of tid)
   pub ticks : n.clock ≡ clock
@@ -178,33 +191,80 @@ module _ (n : Node) (f : ℕ) (h : FileHead) (name : List ℕ) (file : File) (ti
   moment_is : next_moment n ≡ settling.next_moment clock v.catalog.home
   moment_is = moment_of n clock v.catalog.home d.ticks has.home.greatest
 
-  home_same : mid.catalog.home ≡ v.catalog.home
-  home_same = ap (λ (k : Catalog). k.home) d.stages.catalog
+  abbrev closed : VolumeState
+  closed = d.closed
 
-  end_same : made.catalog.ru.end ≡ mid.catalog.ru.end
+  home_same : closed.catalog.home ≡ v.catalog.home
+  home_same = ap (λ (k : Catalog). k.home) d.catalog ∙ ap (λ (k : Catalog). k.home) d.stages.catalog
+
+  ring_same : closed.catalog.ru ≡ v.catalog.ru
+  ring_same = ap (λ (k : Catalog). k.ru) d.catalog ∙ rest.ring
+
+  end_same : made.catalog.ru.end ≡ closed.catalog.ru.end
   end_same = ap (λ (k : Catalog). k.ru.end) d.makes.catalog
 
   first_made : made.catalog.ru.first ≡ (trimmed n.durable.units).first
-  first_made = ap (λ (k : Catalog). k.ru.first) d.makes.catalog ∙ ap (λ (s : Span). unwrap_or (earliest left) s.end) rest.ring ∙ d.begins
+  first_made = ap (λ (k : Catalog). k.ru.first) d.makes.catalog ∙ ap (λ (s : Span). unwrap_or (earliest left) s.end) ring_same ∙ d.begins
 
-  makes : Makes n st tid (record { 0 = tid.0 }) ending.Commit left mid made
+  makes : Makes n st tid (record { 0 = tid.0 }) ending.Commit left closed made
   makes =
       let entry = settled_entry (next_id n) (next_id n) Commit (next_moment n) in
       record {
         settlement = λ i. record { tid = sym d.own i; serial = sym d.own i; outcome = Commit; reason = None; moment = next_moment n };
-        makes = subst (λ (x : ℕ). MakesSettlement tid (record { 0 = tid.0 }) ending.Commit x (entry_if (is_unit (next_id n) n.durable.units) entry) left mid made) (sym moment_is)
-            (subst (λ (o : Option Entry). MakesSettlement tid (record { 0 = tid.0 }) ending.Commit (settling.next_moment clock v.catalog.home) o left mid made) (sym (ap (λ (t : Bool). entry_if t entry) fresh_here)) d.makes);
+        makes = subst (λ (x : ℕ). MakesSettlement tid (record { 0 = tid.0 }) ending.Commit x (entry_if (is_unit (next_id n) n.durable.units) entry) left closed made) (sym moment_is)
+            (subst (λ (o : Option Entry). MakesSettlement tid (record { 0 = tid.0 }) ending.Commit (settling.next_moment clock v.catalog.home) o left closed made) (sym (ap (λ (t : Bool). entry_if t entry) fresh_here)) d.makes);
         is_tid = subst IsId d.own d.is_id;
         is_serial = subst IsId d.own d.is_id;
         later = subst (λ (x : ℕ). x ≤ next_moment n) (has.home.greatest ∙ ap (λ (k : Home). k.greatest_moment.0) (sym home_same)) (moment_later n.clock n.durable.greatest);
         early = subst (λ (x : ℕ). x ≤ 24113056319999) (sym moment_is) d.early;
         room = λ unit. absurd (both_ways _ fresh_here unit);
         first = first_made ∙ ap (λ (j : Journal). j.first) (sym (trimmed_alone st n.durable.units fresh_here));
-        low = subst (λ (x : ℕ). x ≤ 2 ^ 62) (sym (end_same ∙ ap (λ (s : Span). s.end) rest.ring)) has.journal.low;
+        low = subst (λ (x : ℕ). x ≤ 2 ^ 62) (sym (end_same ∙ ap (λ (s : Span). s.end) ring_same)) has.journal.low;
       }
 
-  settled : IsSettled n st rest.journal.entries b content mid.catalog made.catalog × TellsCatalog made.catalog content × IsSound n.name n.blocks made.catalog
-  settled = settlements_are_made b content n st tid (record { 0 = tid.0 }) ending.Commit left mid made n.name n.blocks d.now told rest.tells rest.sound rest.long rest.home rest.journal makes
+  -- The file is changed in its buckets, and then its journals of images tell it.
+
+  files_mid : AreFiles b mid.catalog.heads (directly_buckets (is_locked n.volatile.locks name) st cs f file n.durable.directory)
+  files_mid = subst (λ (hs : List (Option FileHead)). AreFiles b hs (directly_buckets (is_locked n.volatile.locks name) st cs f file n.durable.directory)) (sym rest.heads)
+      (files_directed a b v.catalog.heads n f h new name file cs st has.files has.units refl d.named d.at.there d.may.keys d.may.found d.changed (rest.carried h d.named.there) rest.others)
+
+  enters : Enters b mid.catalog.heads d.images (data_area (sizes_of mid.catalog.home)) closed.catalog.heads m.durable.directory
+  enters = d.enters files_mid
+
+  restorable_mid : AreRestorable b mid.catalog.heads m.durable.directory
+  restorable_mid = subst (λ (hs : List (Option FileHead)). AreRestorable b hs m.durable.directory) (sym rest.heads)
+      (keeps_restorable.directs b (slice_set v.catalog.heads f (Some new)) n f name file (next_id n) [] c more st refl d.at (none_live n has.units up name f file d.at) d.restorable)
+
+  directory_made : m.durable.directory ≡ slice_set n.durable.directory f (Some (directly_changed (is_locked n.volatile.locks name) st cs file))
+  directory_made = d.at.changed (directly_changed (is_locked n.volatile.locks name) st cs)
+
+  live_made : (g : ℕ) → SameLive (file_at m.durable.directory g) (file_at (directly_buckets (is_locked n.volatile.locks name) st cs f file n.durable.directory) g)
+  live_made g = subst (λ fs. SameLive (file_at fs g) (file_at (directly_buckets (is_locked n.volatile.locks name) st cs f file n.durable.directory) g)) (sym directory_made)
+      (live_set n.durable.directory f g (directly_changed (is_locked n.volatile.locks name) st cs file) (carrying file.carried (directly_changed (is_locked n.volatile.locks name) st cs file)) refl)
+
+  restorable_images : AreRestorable d.images closed.catalog.heads m.durable.directory
+  restorable_images = dressed_restorable b d.images mid.catalog.heads closed.catalog.heads (directly_buckets (is_locked n.volatile.locks name) st cs f file n.durable.directory) m.durable.directory files_mid enters.dressed live_made restorable_mid
+
+  tells_closed : TellsCatalog closed.catalog d.images
+  tells_closed = subst (λ (k : Catalog). TellsCatalog k d.images) (sym d.catalog) (tells_entered b d.images mid.catalog closed.catalog.heads m.durable.directory enters n rest.sound rest.tells)
+
+  sound_closed : IsSound n.name n.blocks closed.catalog
+  sound_closed = subst (IsSound n.name n.blocks) (sym d.catalog) (sound_entered b d.images mid.catalog closed.catalog.heads m.durable.directory enters n rest.sound)
+
+  home_closed : HasHome closed.catalog.home n
+  home_closed = subst (λ (k : Catalog). HasHome k.home n) (sym d.catalog) rest.home
+
+  journal_closed : (j : HasJournal d.images closed.catalog n) × (j.entries ≡ rest.journal.entries)
+  journal_closed = subst (λ (k : Catalog). (j : HasJournal d.images k n) × (j.entries ≡ rest.journal.entries)) (sym d.catalog) (journal_entered b d.images mid.catalog closed.catalog.heads m.durable.directory enters n rest.sound rest.journal)
+
+  log_closed : HasLog d.images n
+  log_closed = log_entered b d.images mid.catalog closed.catalog.heads m.durable.directory enters n rest.sound rest.log (let slots = rest.home.slots in let start = rest.sound.ru_start in omega (arith, slots, start))
+
+  names_closed : KeepsNames mid.catalog.heads closed.catalog.heads
+  names_closed = names_entered b d.images mid.catalog closed.catalog.heads m.durable.directory enters n rest.sound
+
+  settled : IsSettled n st journal_closed.0.entries d.images content closed.catalog made.catalog × TellsCatalog made.catalog content × IsSound n.name n.blocks made.catalog
+  settled = settlements_are_made d.images content n st tid (record { 0 = tid.0 }) ending.Commit left closed made n.name n.blocks d.told told tells_closed sound_closed enters.fitting.fit.heads_long home_closed journal_closed.0 makes
 
   pub tells_made : TellsCatalog made.catalog content
   tells_made = settled.1
@@ -212,35 +272,27 @@ module _ (n : Node) (f : ℕ) (h : FileHead) (name : List ℕ) (file : File) (ti
   pub sound_made : IsSound n.name n.blocks made.catalog
   sound_made = settled.2
 
-  names_then : KeepsNames mid.catalog.heads made.catalog.heads
+  names_then : KeepsNames closed.catalog.heads made.catalog.heads
   names_then g k at = (k, ap (λ hs. head_at hs g) settled.0.heads ∙ at, refl)
 
   pub names_made : KeepsNames v.catalog.heads made.catalog.heads
-  names_made g k at = let x = rest.names g k at in (x.0, ap (λ hs. head_at hs g) settled.0.heads ∙ x.1, x.2)
+  names_made g k at = let x = rest.names g k at in let y = names_closed g x.0 x.1 in (y.0, ap (λ hs. head_at hs g) settled.0.heads ∙ y.1, y.2 ∙ x.2)
 
-  entered : IsJournal content (record made.catalog.ru { first = mid.catalog.ru.first }) rest.journal.entries
-  entered = subst (λ (es : List Entry). IsJournal content (record made.catalog.ru { first = mid.catalog.ru.first }) es)
-      (ap (λ (es : List Entry). rest.journal.entries ++ es) (no_entries st n.durable.units fresh_here) ∙ append-nil rest.journal.entries) settled.0.entered
-
-  files_mid : AreFiles b mid.catalog.heads m.durable.directory
-  files_mid = subst (λ (hs : List (Option FileHead)). AreFiles b hs m.durable.directory) (sym rest.heads)
-      (files_directed a b v.catalog.heads n f h new name file cs st has.files has.units refl d.named d.at.there d.may.keys d.may.found d.changed rest.others)
-
-  restorable_mid : AreRestorable b mid.catalog.heads m.durable.directory
-  restorable_mid = subst (λ (hs : List (Option FileHead)). AreRestorable b hs m.durable.directory) (sym rest.heads)
-      (keeps_restorable.directs b (slice_set v.catalog.heads f (Some new)) n f name file (next_id n) [] c more st refl d.at (none_live n has.units up name f file d.at) d.restorable)
+  entered : IsJournal content (record made.catalog.ru { first = closed.catalog.ru.first }) journal_closed.0.entries
+  entered = subst (λ (es : List Entry). IsJournal content (record made.catalog.ru { first = closed.catalog.ru.first }) es)
+      (ap (λ (es : List Entry). journal_closed.0.entries ++ es) (no_entries st n.durable.units fresh_here) ∙ append-nil journal_closed.0.entries) settled.0.entered
 
   pub volume_made : HasVolume content made.catalog m
   volume_made = record {
     home = record { volume = settled.0.home.volume; slots = settled.0.home.slots; journal = settled.0.home.journal; boot = settled.0.home.boot; greatest = settled.0.home.greatest; last = settled.0.home.last };
-    log = logs_follow.stays b content n m rest.log refl settled.0.log;
-    journal = follow.directs b content mid.catalog made.catalog n name cs st rest.journal names_then entered first_made end_same;
+    log = logs_follow.stays d.images content n m log_closed refl settled.0.log;
+    journal = follow.directs d.images content closed.catalog made.catalog n name cs st journal_closed.0 names_then entered first_made end_same;
     units = keeps_units.directs n name file c more st has.units refl d.at.found fresh_here d.may.keys d.may.found;
     order = directs_keep_order n.durable n.volatile name cs st has.order (moment_later n.clock n.durable.greatest);
     told = told_log m comes.table comes.slots;
-    files = subst (λ (hs : List (Option FileHead)). AreFiles content hs m.durable.directory) (sym settled.0.heads) (stands_on_extents b content mid.catalog.heads m.durable.directory settled.0.files files_mid);
+    files = subst (λ (hs : List (Option FileHead)). AreFiles content hs m.durable.directory) (sym settled.0.heads) (stands_on_extents d.images content closed.catalog.heads m.durable.directory settled.0.files enters.fitting.files);
     restorable = subst (λ (hs : List (Option FileHead)). AreRestorable content hs m.durable.directory) (sym settled.0.heads)
-        (keeps_restorable.stands b content mid.catalog.heads m.durable.directory settled.0.files files_mid restorable_mid);
+        (keeps_restorable.stands d.images content closed.catalog.heads m.durable.directory settled.0.files enters.fitting.files restorable_images);
   }
 
 -- The node is kept.
@@ -250,7 +302,7 @@ pub direct_kept : (s : UnitsState) (v : VolumeState) (n : Node) (f : ℕ) (h : F
 direct_kept s v n f h name file tid clock c more left b mid w new content kept up is d comes told size = record {
   content = content;
   told = told;
-  name = kept.name ∙ ap (λ (k : Catalog). k.home.node) (sym d.stages.catalog) ∙ ap (λ (k : Catalog). k.home.node) (sym d.makes.catalog);
+  name = kept.name ∙ ap (λ (k : Catalog). k.home.node) (sym d.stages.catalog) ∙ ap (λ (k : Catalog). k.home.node) (sym d.catalog) ∙ ap (λ (k : Catalog). k.home.node) (sym d.makes.catalog);
   blocks = kept.blocks ∙ sym size;
   has = volume_made n f h name file tid clock c more left kept.content b v mid w new kept.has up is d comes content told;
   log = kept.log;
@@ -280,4 +332,4 @@ pub direct_told : (n : Node) (f : ℕ) (h : FileHead) (name : List ℕ) (file : 
     DirectsFile n f h name file tid clock cs left a b v mid made new → (content : List (List ℕ)) × (made.store.current ≡ Some content)
 direct_told n f h name file tid clock cs left a b v mid made new d =
     let moment = settling.next_moment clock v.catalog.home in
-    (front_made tid moment left mid.catalog b, d.makes.current ∙ ap (option_map (front_made tid moment left mid.catalog)) d.now)
+    (front_made tid moment left d.closed.catalog d.images, d.makes.current ∙ ap (option_map (front_made tid moment left d.closed.catalog)) d.told)

@@ -1,7 +1,9 @@
 -- A change without a unit that was not done is one of the world that was not done.
+use Rattle.directory_model.specs.Files.{IsFile}
 use Rattle.std.proofs.Common.{◌≡◌, ℕ, ◌≤◌, List, [], ◌∷◌, true, Option, Some, None, length, refl, sym, ◌∙◌, ap, subst, arith, inl, inr, ⊎_elim}
 use Rattle.std.specs.Prelude.{option_map}
 use Rattle.block_disk.specs.Disk.{DiskState}
+use Rattle.careful_write.specs.Content.{content_of}
 use Rattle.careful_write.specs.State.{IsEither, Leaves, content}
 use Rattle.file_base.specs.declared.head.FileHead.{FileHead}
 use Rattle.transcript_model.specs.Lines.{Line}
@@ -33,15 +35,16 @@ use Rattle.node_units.proofs.Falling.{disk_sound, leaves_kept, same_some}
 use Rattle.node_units.proofs.DirectMade.{DirectsFile, direct_left, own_settlement}
 use Rattle.run_model.specs.Operations.{changes_of, keys_asked}
 use Rattle.script_model.specs.Statements.{Truncate}
-use Rattle.volume_files.specs.Staging.{CutsFile}
 use Rattle.rms_units.specs.Changing.{locks_refuse}
-use Rattle.rms_units.specs.Truncating.{DirectCutBroke, cut_asked, direct_cut_refused, number_refused}
-use Rattle.unit_cuts.specs.Truncating.{CommitsCut, removed_from}
+use Rattle.rms_units.specs.Truncating.{DirectCutBroke, DirectCutRefused, IsDirectCut, cut_asked, number_refused}
+use Rattle.unit_cuts.specs.Truncating.{AllTold, LeavesCut, removed_from}
 use Rattle.node_units.proofs.AskedCut.{keys_alike}
 use Rattle.node_units.proofs.CutAlike.{cut_some}
 use Rattle.node_units.proofs.Looking.{first_some}
 use Rattle.node_units.proofs.ReadLemmas.{first_none}
-use Rattle.node_units.proofs.DirectDone.{IsAskedOf, change, changes_are, cut_free, cut_late_is, cut_late_none, cut_set, cut_then_more, directs_cut, directs_key, early_locked, is_file, key_early, key_set, keys_are, late_is, late_is_none, of_node, sequential, comes}
+use Rattle.node_units.proofs.CutImages.{cut_left}
+use Rattle.node_units.proofs.DirectCut.{cut_free, cut_full, cut_late_is, cut_late_none, left_cut, sequential}
+use Rattle.node_units.proofs.DirectDone.{IsAskedOf, change, changes_are, directs_key, early_locked, is_file, key_early, key_set, keys_are, late_is, late_is_none, of_node, comes}
 
 -- What the disk has where it went down.
 module _ (o : RecordOp) (bytes : List ℕ) (s : state.UnitsState) (log : Slots) (v : VolumeState) (n : Node) (h : FileHead) (file : File) (asked : IsAskedOf o s log v n h file) (d : DiskState) where
@@ -74,7 +77,7 @@ module _ (o : RecordOp) (bytes : List ℕ) (s : state.UnitsState) (log : Slots) 
   abbrev now_late : Option Line
   now_late = alone_late n h.name file (change_said o bytes)
 
-  pub key_refused : (c : Cause) → rms.DirectKeyRefused (file_in o) h (change_in o) (key_in h o (written o bytes)) (written o bytes) c s.locks v → first_of now_early now_late ≡ Some (cause_line c)
+  pub key_refused : (c : Cause) → rms.DirectKeyRefused (file_in o) h (change_in o) (key_in h o (written o bytes)) (written o bytes) c s v → first_of now_early now_late ≡ Some (cause_line c)
   key_refused c (inl locked) =
       first_some now_early now_late (cause_line c)
       (early_locked o bytes s log v n h file asked (keys_by.keys_asked h (change_in o) (key_in h o (written o bytes))) (keys_are o bytes s log v w n h file asked one tid clock early) early c locked)
@@ -117,12 +120,21 @@ module _ (g from : ℕ) (bytes : List ℕ) (s : state.UnitsState) (log : Slots) 
   cut_keys_are : keys_asked file (Truncate from) ≡ cut_asked h from
   cut_keys_are = keys_alike asked.kept.content h file (is_file (op.Truncate g from) bytes s log v n h file asked) (sequential g from bytes s log v w n h file asked tid clock early) from
 
-  pub cut_refused : (c : Cause) → direct_cut_refused g h from s.locks ≡ Some c → first_of cut_early_now cut_late_now ≡ Some (cause_line c)
-  cut_refused c refused = go (locks_refuse None g (cut_asked h from) s.locks) refl refused
+  cut_file_here : IsFile asked.kept.content h file
+  cut_file_here = is_file (op.Truncate g from) bytes s log v n h file asked
+
+  pub cut_refused : (c : Cause) → DirectCutRefused g h from c s v → first_of cut_early_now cut_late_now ≡ Some (cause_line c)
+  cut_refused c (inl refused) = go (locks_refuse None g (cut_asked h from) s.locks) refl refused
     where
       go : (a : Option Cause) → locks_refuse None g (cut_asked h from) s.locks ≡ a → first_cause a (number_refused 0 (removed_from h.count from)) ≡ Some c → first_of cut_early_now cut_late_now ≡ Some (cause_line c)
       go (Some l) is k = first_some cut_early_now cut_late_now (cause_line c) (early_locked (op.Truncate g from) bytes s log v n h file asked (cut_asked h from) cut_keys_are early c (is ∙ k))
-      go None is k = ap (λ l. first_of l cut_late_now) (cut_free g from bytes s log v w n h file asked tid clock early is) ∙ sym (cut_late_is g from bytes s log v w n h file asked tid clock early) ∙ ap (option_map cause_line) k
+      go None is k =
+          ap (λ l. first_of l cut_late_now) (cut_free g from bytes s log v w n h file asked tid clock early is) ∙ sym (cut_late_is g from bytes s log v w n h file asked tid clock early)
+          ∙ ap (λ (x : Option Cause). option_map cause_line (first_cause x (cut_full g from bytes s log v w n h file asked tid clock early))) k
+  cut_refused c (inr late) =
+      let both = first_none (locks_refuse None g (cut_asked h from) s.locks) (number_refused 0 (removed_from h.count from)) late.0 in
+      ap (λ l. first_of l cut_late_now) (cut_free g from bytes s log v w n h file asked tid clock early both.0) ∙ sym (cut_late_is g from bytes s log v w n h file asked tid clock early)
+      ∙ ap (option_map cause_line) (ap (λ (x : Option Cause). first_cause x (cut_full g from bytes s log v w n h file asked tid clock early)) both.1 ∙ late.1 asked.kept.content asked.kept.told cut_file_here.head.form cut_file_here.laid)
 
   pub cut_broken : DirectCutBroke tid clock g h from s v w → tid_of tid ≡ next_id n → IsId (tid_of tid) → n.clock ≡ clock → settling.next_moment clock v.catalog.home ≤ 24113056319999 →
       KeepsUp cut_early_now cut_late_now cut_act n → IsBroken cut_early_now cut_late_now cut_act n w.store.disk
@@ -130,10 +142,15 @@ module _ (g from : ℕ) (bytes : List ℕ) (s : state.UnitsState) (log : Slots) 
       let both = first_none (locks_refuse None g (cut_asked h from) s.locks) (number_refused 0 (removed_from h.count from)) broke.early in
       record {
         begun = cut_free g from bytes s log v w n h file asked tid clock early both.0;
-        disk = ⊎_elim (λ old. inl (disk_old (op.Truncate g from) bytes s log v n h file asked w.store.disk None old)) (λ either. inr (made both.1 both.0 either)) broke.breaks;
+        disk = ⊎_elim
+            (λ old. inl (disk_sound (fallen None n) w.store.disk asked.kept.has.home.volume (λ image may. let l = old image may in (l.0, inl (told_there None (content_of image) l.1)))))
+            (λ either. inr (made both.1 both.0 either)) broke.breaks;
       }
     where
-      made : number_refused 0 (removed_from h.count from) ≡ None → locks_refuse None g (cut_asked h from) s.locks ≡ None → LeavesEither (CommitsCut g h from tid (settling.next_moment clock v.catalog.home) s.units.places v) v w.store.disk →
+      told_there : (act : Option Act) (c : List (List ℕ)) → AllTold h v.catalog.ru (content v.store) c → IsLeftBy c (fallen act n)
+      told_there act c told = cut_left s v asked.order n log asked.kept g h asked.named.there act c told
+
+      made : number_refused 0 (removed_from h.count from) ≡ None → locks_refuse None g (cut_asked h from) s.locks ≡ None → LeavesCut h (IsDirectCut tid clock g h from s v) v w.store.disk →
           (cut_late_now ≡ None) × (is_durable cut_act ≡ true) × HasDisk (fallen (Some cut_act) n) w.store.disk
       made some free either = (
         cut_late_none g from bytes s log v either.made n h file asked tid clock early some either.is,
@@ -141,16 +158,18 @@ module _ (g from : ℕ) (bytes : List ℕ) (s : state.UnitsState) (log : Slots) 
         go (changes_of file (Truncate from)) refl,
       )
         where
-          there : (b : List (List ℕ)) × (either.is.cut.store.current ≡ Some b) × CutsFile h from asked.kept.content b either.is.head
-          there = cut_set g from bytes s log v either.made n h file asked tid clock early some either.is
-
           go : (cs : List Change) → changes_of file (Truncate from) ≡ cs → HasDisk (fallen (Some (Directs h.name (changes_of file (Truncate from)) (own_settlement n))) n) w.store.disk
           go [] is =
               let many = (cut_some asked.kept.content h file (is_file (op.Truncate g from) bytes s log v n h file asked) (sequential g from bytes s log v w n h file asked tid clock early) from some).1 in
               let none = ap length is in
               absurd (omega (arith, many, none))
-          go (c ∷ cs) is =
-              subst (λ (xs : List Change). HasDisk (fallen (Some (Directs h.name xs (own_settlement n))) n) w.store.disk) (sym is)
-              (disk_either (op.Truncate g from) bytes s log v n h file asked w.store.disk tid clock c cs s.units.places there.0 either.is.cut either.made either.is.head
-              (directs_cut g from bytes s log v either.made n h file asked tid clock early some either.is own is_id ticks moment free keeps c cs is)
-              (cut_then_more g from bytes s log v either.made n h file asked tid clock early some either.is own is_id ticks moment free keeps c cs is) either.either)
+          go (c ∷ cs) is = subst (λ (xs : List Change). HasDisk (fallen (Some (Directs h.name xs (own_settlement n))) n) w.store.disk) (sym is)
+              (disk_sound (fallen (Some (Directs h.name (c ∷ cs) (own_settlement n))) n) w.store.disk asked.kept.has.home.volume
+              (λ image may. let l = either.either image may in (l.0, ⊎_elim (λ told. inl (told_there (Some (Directs h.name (c ∷ cs) (own_settlement n))) (content_of image) told)) (new_there (content_of image)) l.1)))
+            where
+              new_there : (x : List (List ℕ)) → Some x ≡ either.made.store.current → IsEitherOf (fallen (Some (Directs h.name (c ∷ cs) (own_settlement n))) n) x
+              new_there x now = inr (inl (
+                Directs h.name (c ∷ cs) (own_settlement n),
+                refl,
+                left_cut g from bytes s log v either.made n h file asked tid clock early some either.is own is_id ticks moment free keeps c cs is x (sym now) (Some (Directs h.name (c ∷ cs) (own_settlement n))),
+              ))

@@ -25,7 +25,8 @@ use Rattle.node_units.specs.Seen.{seen}
 use Rattle.node_units.proofs.ReadErrors.{not_done}
 use Rattle.node_units.proofs.Looking.{first_some}
 use Rattle.node_units.proofs.DirectMade.{moment_of}
-use Rattle.node_units.proofs.DirectDone.{IsAskedOf, cut_done, early_refused, key_done}
+use Rattle.node_units.proofs.DirectCut.{cut_done}
+use Rattle.node_units.proofs.DirectDone.{IsAskedOf, early_refused, key_done}
 use Rattle.node_units.proofs.DirectNotDone.{cut_broken, cut_refused, key_broken, key_refused}
 
 -- the next moment is one that a home tells
@@ -58,6 +59,7 @@ module _ (tid : Tid) (clock : ℕ) (o : RecordOp) (s : state.UnitsState) (log : 
     named = record { there = asked.named.there; called = refl; lowest = subst (NoneNamed v.catalog.heads (file_in o)) (sym asked.named.called) asked.named.lowest };
     found = ap (λ x. find_file x n.durable.directory) asked.named.called ∙ asked.found;
     number = may.number;
+    low = may.early.images;
   }
 
 -- a file is called so

@@ -38,11 +38,11 @@ use Rattle.world_laws.proofs.RunningLemmas.{end_is_free_for}
 use Rattle.world_laws.proofs.ServedLemmas.{undrawn}
 use Rattle.world_laws.proofs.TableLemmas.{in_serials}
 use Rattle.world_laws.proofs.UpLemmas.{branch_drawn}
-use Rattle.directory_model.specs.Files.{AreFiles, IsFile, IsFoundAt, IsNamed, file_at}
-use Rattle.directory_model.specs.Laws.{AreFree, IsChanged, SameBut}
+use Rattle.directory_model.specs.Files.{AreFiles, IsFile, IsFoundAt, IsNamed, file_at, StandsCarried, IsCarried}
+use Rattle.directory_model.specs.Laws.{AreFree, IsChanged, SameBut, carrying, directly_buckets}
 use Rattle.directory_model.proofs.Acts.{layout_after, same_there}
 use Rattle.directory_model.proofs.Finding.{finds_files}
-use Rattle.directory_model.proofs.Moving.{file_moved, places_moved}
+use Rattle.directory_model.proofs.Moving.{carried_moved, file_moved, places_moved}
 use Rattle.restart_laws.specs.Units.{EndIsFree, MayChange}
 
 -- An operation that moves the end of a sequential file asks for it.
@@ -128,18 +128,18 @@ applied_on m keys cs key same = ap (λ (x : Map). x key) (agree.applied_alike cs
     all = λ i k. same k i
 
 pub files_directed : (a b : List (List ℕ)) (heads : List (Option FileHead)) (n : Node) (f : ℕ) (h new : FileHead) (name : List ℕ) (file : File) (cs : List Change) (s : Settlement) → AreFiles a heads n.durable.directory → AreUnitsOf n → s.outcome ≡ Commit →
-    IsNamed heads f h name → file_at n.durable.directory f ≡ Some file → AreFree s.serial file cs → Found cs (current file.history) → IsChanged (is_locked n.volatile.locks name) cs a h b new → SameBut f heads a b →
-    AreFiles b (slice_set heads f (Some new)) (acted (Directs name cs s) n).durable.directory
-files_directed a b heads n f h new name file cs s are units commit named there free found is same =
+    IsNamed heads f h name → file_at n.durable.directory f ≡ Some file → AreFree s.serial file cs → Found cs (current file.history) → IsChanged (is_locked n.volatile.locks name) cs a h b new → StandsCarried h a b → SameBut f heads a b →
+    AreFiles b (slice_set heads f (Some new)) (directly_buckets (is_locked n.volatile.locks name) s cs f file n.durable.directory)
+files_directed a b heads n f h new name file cs s are units commit named there free found is stands same =
     let directory = n.durable.directory in
     let held = is_locked n.volatile.locks name in
     let at = finds_files.found a heads directory f h name are named in
     let one : at.0 ≡ file = same_there directory f at.0 file at.2.there there in
     let mine : IsFile a h file = subst (IsFile a h) one at.1 in
+    let carried : IsCarried a f h file.carried = subst (λ (x : File). IsCarried a f h x.carried) one at.3 in
     let made = changes_more file.history s.serial cs (units.tells f file there).notes.orderly free found in
     let settled = commits_one (changed_with s.serial cs file.history) s.serial s.moment made.orderly in
-    subst (AreFiles b (slice_set heads f (Some new))) (sym (at.2.changed (directly_changed held s cs) ∙ ap (λ (x : File). slice_set directory f (Some (directly_changed held s cs x))) one))
-    (places_moved a b heads directory f h new (directly_changed held s cs file) are named.there
+    places_moved a b heads directory f h new (carrying file.carried (directly_changed held s cs file)) are named.there
     (file_moved a b h new file (settled_at s.serial s.outcome s.moment (changed_with s.serial cs file.history)) (layout_changed (sizes_of file) held cs file.layout) is.same is.form is.laid mine
     (λ key. ap (λ (o : Outcome). get (current (settled_at s.serial o s.moment (changed_with s.serial cs file.history))) key) commit ∙ settled.current key ∙ made.current key ∙ applied_on (current file.history) (map_of h a) cs key mine.records ∙ ap (λ (m : Map). m key) (sym is.map))
-    (layout_after held file cs a b h new mine is.layout)) same)
+    (layout_after held file cs a b h new mine is.layout)) (carried_moved a b f h new file.carried is.same stands carried) same

@@ -1,11 +1,13 @@
 -- A branch that changed nothing leaves its node, and its unit is no more.
-use Rattle.std.proofs.Common.{◌≡◌, ◌+◌, ◌≤◌, ℕ, length, arith, List, [], ◌∷◌, Bool, true, false, Option, Some, if◌then◌else◌, refl, sym, ◌∙◌, ap, subst, inl, inr}
+use Rattle.std.proofs.Common.{◌≡◌, ◌+◌, ◌≤◌, ℕ, length, arith, List, [], ◌∷◌, Bool, true, false, Option, Some, if◌then◌else◌, refl, sym, ◌∙◌, ap, subst, inl, inr, map, ◌*◌, ◌-◌}
 use Rattle.std.specs.List.{AllByRecursion}
 use Rattle.std.proofs.lemmas.Bool.{both_ways, cond_both}
 use Rattle.vms_model.specs.Ids.{Id}
 use Rattle.volume.specs.State.{VolumeState}
 use Rattle.records_model.specs.History.{same_id}
-use Rattle.unit_table.specs.Units.{Ascend, OpenUnit, owed_for}
+use Rattle.file_base.specs.declared.head.FileHead.{FileHead}
+use Rattle.image_room.specs.Room.{AllSettlementsFit}
+use Rattle.unit_table.specs.Units.{Ascend, OpenUnit, changers, owed_for}
 use Rattle.commit_protocol.specs.Effects.{Effect, ForgetEffect, KeepEffect, ReadOnlyEffect, acknowledge_effects, line_effect, record_effects, release_effects}
 use Rattle.commit_protocol.specs.Messages.{LogRecord, Name}
 use Rattle.commit_protocol.specs.Table.{Accepts, Acknowledges, Branch, Ended, Key, Leaves, Line, Notes, Prepares, Prints, Releases, Sends, Settles, Started, Told, Undoes, acknowledged, cut, find, holds, nothing_left, released, same_key, waits_for}
@@ -158,6 +160,21 @@ few_less x (u ∷ us) = go (same_id x u.serial) (few_less x us)
     go true rest = omega arith
     go false rest = omega (arith, rest)
 
+-- nor do more units change a file
+changers_less : (f : ℕ) (x : Id) (us : List OpenUnit) → changers f (map Some (without_unit x us)) ≤ changers f (map Some us)
+changers_less f x [] = omega arith
+changers_less f x (u ∷ us) = go (same_id x u.serial) (changers_less f x us)
+  where
+    go : (t : Bool) → changers f (map Some (without_unit x us)) ≤ changers f (map Some us) → changers f (map Some (if t then us else u ∷ without_unit x us)) ≤ changers f (map Some (u ∷ us))
+    go true rest = omega arith
+    go false rest = omega (arith, rest)
+
+fits_less : (x : Id) (us : List OpenUnit) (heads : List (Option FileHead)) → AllSettlementsFit (map Some us) heads → AllSettlementsFit (map Some (without_unit x us)) heads
+fits_less x us heads fits f h there = (
+  λ kept. let fit = (fits f h there).0 kept in let less = changers_less f x us in omega (arith, fit, less),
+  λ kept. let fit = (fits f h there).1 kept in let less = changers_less f x us in omega (arith, fit, less),
+)
+
 pub order_left : (x : Id) (s : UnitsState) (v : VolumeState) → IsInOrder s v → IsInOrder (without_begun x s) v
 order_left x s v is = record {
   idle = is.idle;
@@ -172,4 +189,5 @@ order_left x s v is = record {
   within = all_without (λ (u : OpenUnit). Ascend v.catalog.ru.first v.catalog.ru.end u.positions) x s.begun is.within;
   few = (let less = few_less x s.begun in let few = is.few in omega (arith, less, few));
   slots = is.slots;
+  images = fits_less x s.begun v.catalog.heads is.images;
 }

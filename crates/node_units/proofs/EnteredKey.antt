@@ -4,7 +4,6 @@ use Rattle.std.proofs.lemmas.List.{length-replicate}
 use Rattle.std.specs.Prelude.{◌⊎◌}
 use Rattle.block_disk.specs.Blocks.{block_at}
 use Rattle.careful_write.specs.State.{EachWhole}
-use Rattle.change_set.specs.Files.{AgreesOn}
 use Rattle.file_base.specs.declared.head.FileHead.{FileHead}
 use Rattle.file_base.specs.declared.head.Span.{Span}
 use Rattle.journal_model.specs.Entries.{Entry, IsEntry, spelling}
@@ -14,12 +13,13 @@ use Rattle.unit_journal.specs.Spans.{entered, longer}
 use Rattle.lmcp_log.specs.Keeping.{SameSlots}
 use Rattle.volume.specs.declared.catalog.Catalog.{Catalog}
 use Rattle.volume.specs.Catalogs.{IsSound, TellsCatalog, TellsEntry}
-use Rattle.volume_format.specs.Home.{HasHome, HasRu, ru_block_of, ru_rows}
+use Rattle.volume_format.specs.Home.{HasHome, HasRu, ru_block_of, ru_rows, sizes_of}
 use Rattle.volume_format.proofs.Splices.{laid_again, laid_stand, length-laid}
-use Rattle.directory_model.specs.Files.{head_at}
-use Rattle.volume_laws.proofs.RingLemmas.{journal_stands}
-use Rattle.unit_undo.proofs.ApartLemmas.{in_area}
-use Rattle.unit_world.proofs.Blocks.{other_block, whole_set}
+use Rattle.directory_model.specs.Files.{StandsIn, head_at}
+use Rattle.directory_model.proofs.Apart.{writes_apart}
+use Rattle.volume.specs.Limits.{data_area}
+use Rattle.file_images.proofs.Rings.{journal_stands}
+use Rattle.unit_world.proofs.Blocks.{fit, other_block, whole_set}
 
 abbrev Content : Type 0
 Content = List (List ℕ)
@@ -69,12 +69,9 @@ module _ (node : List ℕ) (size : ℕ) (v : Catalog) (sound : IsSound node size
   }
 
   -- the files stand
-  pub entered_files : (f : ℕ) (h : FileHead) → head_at v.heads f ≡ Some h → AgreesOn h b c
-  entered_files f h at k inside =
-      let past = in_area node size v long sound f k h at inside in
-      let start = sound.ru_start in
-      let blocks = sound.ru_blocks in
-      sym (stands_at k (λ t. absurd (omega (arith, t, past, start, blocks))) (inr (omega (arith, past, start, blocks))))
+  pub entered_files : (f : ℕ) (h : FileHead) → head_at v.heads f ≡ Some h → StandsIn h b c
+  entered_files = writes_apart.before (data_area (sizes_of v.home)) v.heads b c (fit node size v sound long) (ap length is ∙ length-set put 65 (ru_block_of after) ∙ others.size) whole
+      (λ k from. let start = sound.ru_start in let blocks = sound.ru_blocks in sym (stands_at k (λ t. absurd (omega (arith, t, from))) (inr (omega (arith, from, start, blocks)))))
 
   -- and the log
   pub entered_slots : (n : ℕ) → 584 + n ≤ ru.start → SameSlots n b c

@@ -1,5 +1,5 @@
 -- A prepared unit is aborted, as its branch is in the world: its record goes from the log in the group of its settlement.
-use Rattle.std.proofs.Common.{◌≡◌, ℕ, ◌+◌, ◌^◌, ◌≤◌, List, Option, Some, None, length, refl, sym, ◌∙◌, ap, subst, arith, inl, inr}
+use Rattle.std.proofs.Common.{◌≡◌, ℕ, ◌+◌, ◌^◌, ◌<◌, ◌≤◌, List, Option, Some, None, length, refl, sym, ◌∙◌, ap, subst, arith, inl, inr}
 use Rattle.std.specs.Option.{IfSome}
 use Rattle.careful_write.specs.State.{Leaves, content}
 use Rattle.file_base.specs.declared.head.FileHead.{FileHead}
@@ -16,13 +16,20 @@ use Rattle.volume.specs.declared.catalog.Catalog.{Catalog}
 use Rattle.volume.specs.Catalogs.{IsSound, TellsCatalog}
 use Rattle.volume.specs.State.{VolumeState}
 use Rattle.volume_format.specs.declared.home.Ending.TheVariants as ending
+use Rattle.volume_format.specs.declared.home.Home.{Home}
+use Rattle.volume_format.specs.Head.{IsHead}
+use Rattle.volume_format.specs.Home.{sizes_of}
+use Rattle.volume.specs.Limits.{data_area}
+use Rattle.file_settlements.specs.Settling.{EntersSettled}
+use Rattle.unit_laws.specs.JournalLaws.{is_unit}
+use Rattle.unit_journal.specs.Entries.{settled_entry}
 use Rattle.unit_table.specs.Units.{OpenUnit}
 use Rattle.unit_aborts.specs.Aborting.{Abortion}
 use Rattle.unit_undo.specs.Undoing.{GoesOn}
 use Rattle.unit_undo.specs.Way.{FailsOnTheWay, IsOnTheWay, IsUndone, KeepsJournal, Undoes}
 use Rattle.unit_undo.proofs.StepLemmas.{same_way}
 use Rattle.unit_journal.specs.Groups.{Breaks}
-use Rattle.unit_journal.specs.Settling.{next_moment as moment_next}
+use Rattle.unit_journal.specs.Settling.{entry_if, next_moment as moment_next}
 use Rattle.unit_votes.specs.Voting.{AbortsLogged, BreaksOffLogged, MakesLogged, abort_settlement}
 use Rattle.commit_protocol.specs.Effects.{SettleEffect}
 use Rattle.commit_protocol.specs.Table as table
@@ -32,19 +39,17 @@ use Rattle.lmcp_log.specs.Keeping.{IsWhole, Keeps, SameSlots}
 use Rattle.lmcp_log.proofs.Keepings.{keeps_beside}
 use Rattle.lmcp_log.proofs.Whole.{beside_whole}
 use Rattle.run_model.specs.World.{Act, Node, Settlement, Tables, acted, fallen, next_moment, settlement}
-use Rattle.directory_model.specs.Files.{head_at}
+use Rattle.directory_model.specs.Files.{Fit, head_at}
 use Rattle.settlement_laws.specs.Settled.{IsSettled, Makes}
 use Rattle.settlement_laws.proofs.MadeLemmas.{settlements_are_made}
 use Rattle.undo_laws.specs.Undoable.{entries_for}
-use Rattle.undo_laws.specs.Undone.{AgreeOnFiles}
+use Rattle.undo_laws.specs.Undone.{AgreeOnFiles, IsTold, IsToldIn}
+use Rattle.undo_laws.proofs.ToldLemmas.{journal_beside}
 use Rattle.undo_laws.proofs.HalfLemmas.{aborts_leave}
 use Rattle.undo_laws.proofs.SettledLemmas.{undone_settle}
 use Rattle.undo_laws.proofs.UndoableLemmas.{units_are_undoable}
 use Rattle.undo_laws.proofs.WayLemmas.{far_off, log_kept, undos_keep_journal}
-use Rattle.volume_laws.proofs.RingLemmas.{journal_stands}
 use Rattle.volume_laws.proofs.WholeLemmas.{volume_falls}
-use Rattle.volume_model.specs.Entries.{AreEntries}
-use Rattle.journal_model.specs.Ring.{IsJournal}
 use Rattle.volume_model.specs.Homes.{HasHome}
 use Rattle.volume_model.specs.Laws.{KeepsNames}
 use Rattle.volume_model.specs.Volumes.{HasDisk, HasJournal, HasLog, HasVolume, IsEitherOf, IsLeftBy, LeavesVolume}
@@ -56,7 +61,8 @@ use Rattle.recovery_units.specs.State.{IsKept, UnitsState, committed}
 use Rattle.recovery_units.specs.declared.settled.SettledUnit.{SettledUnit}
 use Rattle.unit_world.proofs.Leaving.{down}
 use Rattle.node_units.specs.Seen.{seen}
-use Rattle.node_units.proofs.Aborting.{as_told, fell, is_abort, made_so, names_mid, positions, sound_now, undone}
+use Rattle.node_units.proofs.Aborting.{as_told, enters_so, fell, is_abort, made_so, names_mid, positions, room_mid, sound_now, undone}
+use Rattle.node_units.proofs.Imaging.{fits, imaged, imaged_home, imaged_ru, imaged_told, told_by, told_heads, told_in}
 use Rattle.node_units.proofs.Acting.{settling}
 use Rattle.node_units.proofs.Committing.{MaySettle, content_long, keeps_now, made_told, moment_bound, moment_later, moment_same, whole_now}
 use Rattle.node_units.proofs.Falling.{disk_sound, same_some}
@@ -120,24 +126,11 @@ module _ (place : ℕ) (u : OpenUnit) (s t : rms.UnitsState) (log ts : Slots) (v
   before : 584 + length log ≤ mid.catalog.ru.start
   before = subst (λ (r : Span). 584 + length log ≤ r.start) (sym ring) is.has.before
 
-  names_old : KeepsNames mid.catalog.heads old.catalog.heads
-  names_old f h there = (h, ap (λ (y : Catalog). head_at y.heads f) same ∙ there, refl)
-
   journal_mid : (j : HasJournal now mid.catalog n) × (j.entries ≡ x.owns.kept.has.journal.entries)
   journal_mid = undos_keep_journal a v.catalog n k.serial mid (fell place u s log v n k reason moment x order) (far_off n.name n.blocks v.catalog (sound_now place u s log v n k reason moment x order)) aborts.goes.catalog un
 
-  same_ru : old.catalog.ru ≡ mid.catalog.ru
-  same_ru = ap (λ (y : Catalog). y.ru) same
-
-  journal_old : HasJournal relog.0 old.catalog n
-  journal_old = record {
-    entries = journal_mid.0.entries;
-    is = subst (λ (r : Span). IsJournal relog.0 r journal_mid.0.entries) (sym same_ru) (journal_stands mid.catalog.ru now relog.0 journal_mid.0.entries journal_mid.0.is (ring_relogged log ts now relog.0 relog.2 mid.catalog before));
-    alike = subst (λ (y : Catalog). AreEntries y.heads n.durable.units.entries journal_mid.0.entries) (sym same) journal_mid.0.alike;
-    first = ap (λ (r : Span). r.first) same_ru ∙ journal_mid.0.first;
-    end = ap (λ (r : Span). r.end) same_ru ∙ journal_mid.0.end;
-    low = subst (λ (r : Span). r.end ≤ 2 ^ 62) (sym same_ru) journal_mid.0.low;
-  }
+  journal_old : (j : HasJournal relog.0 mid.catalog n) × (j.entries ≡ journal_mid.0.entries)
+  journal_old = journal_beside now relog.0 mid.catalog mid.catalog n (λ f h there. (h, there, refl)) refl (ring_relogged log ts now relog.0 relog.2 mid.catalog before) journal_mid.0
 
   sound_mid : IsSound n.name n.blocks mid.catalog
   sound_mid = subst (λ (y : List ℕ). IsSound y n.blocks mid.catalog) (sym x.owns.kept.name) (subst (λ (y : ℕ). IsSound v.catalog.home.node y mid.catalog) (sym x.owns.kept.blocks) (aborts.goes.sound v.catalog.home.node order.sound))
@@ -145,9 +138,38 @@ module _ (place : ℕ) (u : OpenUnit) (s t : rms.UnitsState) (log ts : Slots) (v
   heads_mid : length mid.catalog.heads ≡ 64
   heads_mid = aborts.goes.long ∙ order.heads
 
-  makes_old : Makes n st tid serial (ending.Abort reason) t.units.places old made
-  makes_old = makes_it place u s log v n k model.Abort (reason_of reason) None moment x t spent old made tid serial (ending.Abort reason) order is.early is.ids bound (ap (λ (y : Catalog). y.home) (same ∙ aborts.goes.catalog)) (ap (λ (y : Catalog). y.ru) (same ∙ aborts.goes.catalog))
-      (as_told place u s log v n k reason moment x order mid aborts.goes aborts.undoes tid serial tid_same serial_same) (made_so place u s log v n k reason moment x order mid aborts.goes aborts.undoes t tid serial tid_same serial_same old made aborts.makes.makes)
+  -- its outcome is entered in the journals of images
+  abbrev img : VolumeState
+  img = aborts.makes.makes.mid
+
+  enters : EntersSettled u.files (entry_if (is_unit k.serial n.durable.units) (settled_entry st.tid st.serial st.outcome st.moment)) old img
+  enters = enters_so place u s log v n k reason moment x order mid aborts.goes aborts.undoes tid serial tid_same serial_same old img aborts.makes.makes.entered
+
+  abbrev e : List (List ℕ)
+  e = imaged (is_unit k.serial n.durable.units) u.files st old img enters relog.0
+
+  tells_mid : TellsCatalog mid.catalog relog.0
+  tells_mid = tells_relogged log ts now relog.0 relog.2 mid.catalog before un.way.tells
+
+  told_at : IsToldIn st n.durable.directory relog.0 e mid.catalog img.catalog
+  told_at = subst (λ (y : Catalog). IsToldIn st n.durable.directory relog.0 e y img.catalog) same (told_in (is_unit k.serial n.durable.units) u.files st old img enters n.durable.directory relog.0 (told_by place u s log v n k x.owns st refl)
+      (room_mid place u s log v n k reason moment x order mid aborts.goes aborts.undoes old.catalog.heads (ap (λ (y : Catalog). y.heads) same)
+      (subst (λ (y : Catalog). (f : ℕ) (h : FileHead) → head_at y.heads f ≡ Some h → IsHead h) (sym same) (told_heads mid.catalog relog.0 tells_mid heads_mid)) is.early is.ids bound)
+      (subst (λ (y : Catalog). Fit (data_area (sizes_of y.home)) y.heads) (sym same) (fits n.name n.blocks mid.catalog heads_mid sound_mid)) relog.2.whole)
+
+  beside : AgreeOnFiles mid.catalog now relog.0
+  beside f h there = files_relogged log ts now relog.0 relog.2 mid.catalog before n.name n.blocks sound_mid heads_mid f h there
+
+  is_told : IsTold n relog.0 e mid.catalog img.catalog journal_old.0
+  is_told = undone_settle.told a relog.0 e v.catalog img.catalog n act moment st mid (fell place u s log v n k reason moment x order) (is_abort place u s log v n k reason moment x order) (sound_now place u s log v n k reason moment x order) aborts.goes.catalog un beside told_at journal_old.0
+
+  home_img : img.catalog.home ≡ v.catalog.home
+  home_img = imaged_home (is_unit k.serial n.durable.units) u.files st old img enters ∙ ap (λ (y : Catalog). y.home) (same ∙ aborts.goes.catalog)
+
+  makes_img : Makes n st tid serial (ending.Abort reason) t.units.places img made
+  makes_img = makes_it place u s log v n k model.Abort (reason_of reason) None moment x t spent img made tid serial (ending.Abort reason) order is.early is.ids bound home_img
+      (imaged_ru (is_unit k.serial n.durable.units) u.files st old img enters ∙ ap (λ (y : Catalog). y.ru) (same ∙ aborts.goes.catalog))
+      (as_told place u s log v n k reason moment x order mid aborts.goes aborts.undoes tid serial tid_same serial_same) (made_so place u s log v n k reason moment x order mid aborts.goes aborts.undoes t tid serial tid_same serial_same img made aborts.makes.makes.settles)
 
   slots : ts ≡ forgotten u.serial log
   slots = slots_set (serial_of serial) None log ts mid old aborts.makes.log ∙ ap (λ (y : Id). forgotten y log) serial_same
@@ -156,18 +178,21 @@ module _ (place : ℕ) (u : OpenUnit) (s t : rms.UnitsState) (log ts : Slots) (v
   slots_are = slots ∙ (λ i. forgotten (x.owns.own i) (sym x.owns.kept.log i))
 
   module _ (b : List (List ℕ)) (told : made.store.current ≡ Some b) where
-    settled_old : IsSettled n st journal_old.entries relog.0 b old.catalog made.catalog × TellsCatalog made.catalog b × IsSound n.name n.blocks made.catalog
-    settled_old = settlements_are_made relog.0 b n st tid serial (ending.Abort reason) t.units.places old made n.name n.blocks relog.1 told
-        (subst (λ (y : Catalog). TellsCatalog y relog.0) (sym same) (tells_relogged log ts now relog.0 relog.2 mid.catalog before un.way.tells))
-        (subst (IsSound n.name n.blocks) (sym same) sound_mid) (ap (λ (y : Catalog). length y.heads) same ∙ heads_mid)
-        (subst (λ (y : Catalog). HasHome y.home n) (sym (same ∙ aborts.goes.catalog)) x.owns.kept.has.home) journal_old makes_old
+    settled_img : IsSettled n st is_told.journal.entries e b img.catalog made.catalog × TellsCatalog made.catalog b × IsSound n.name n.blocks made.catalog
+    settled_img = settlements_are_made e b n st tid serial (ending.Abort reason) t.units.places img made n.name n.blocks (imaged_told (is_unit k.serial n.durable.units) u.files st old img enters relog.0 relog.1) told
+        (is_told.tells tells_mid) (is_told.sound n.name n.blocks sound_mid) is_told.long (subst (λ (y : Home). HasHome y n) (sym home_img) x.owns.kept.has.home) is_told.journal makes_img
 
-    settled : IsSettled n st x.owns.kept.has.journal.entries relog.0 b mid.catalog made.catalog
-    unfolding journal_old
-    settled = subst (λ (es : List Entry). IsSettled n st es relog.0 b mid.catalog made.catalog) journal_mid.1 (subst (λ (y : Catalog). IsSettled n st journal_mid.0.entries relog.0 b y made.catalog) same settled_old.0)
+    settled : IsSettled n st x.owns.kept.has.journal.entries e b img.catalog made.catalog
+    settled = subst (λ (es : List Entry). IsSettled n st es e b img.catalog made.catalog) (is_told.same ∙ journal_old.1 ∙ journal_mid.1) settled_img.0
 
     same_slots : SameSlots (length ts) relog.0 b
-    same_slots i below = settled.log i (let long = relog.2.long in let logs = ap length x.owns.kept.log in omega (arith, below, long, logs))
+    same_slots i below =
+        let long = relog.2.long in
+        let logs = ap length x.owns.kept.log in
+        settled.log i (omega (arith, below, long, logs)) ∙ is_told.front (66 + i) (omega arith) (omega (arith, below, long, before, ring_some))
+      where
+        ring_some : 0 < mid.catalog.ru.blocks
+        ring_some = journal_mid.0.is.ring.some
 
     log_then : HasLog b m
     log_then = record {
@@ -175,14 +200,14 @@ module _ (place : ℕ) (u : OpenUnit) (s t : rms.UnitsState) (log ts : Slots) (v
       whole = subst (λ (us : Slots). IsWhole us b) slots_are (beside_whole ts relog.0 b relog.2.slots same_slots);
     }
 
-    agree : AgreeOnFiles mid.catalog now relog.0
-    agree f h there i inside = files_relogged log ts now relog.0 relog.2 mid.catalog before n.name n.blocks sound_mid heads_mid f h there i inside
-
     pub volume : HasVolume b made.catalog m
-    volume = undone_settle.has a b v.catalog made.catalog n act moment st mid x.owns.kept.has (is_abort place u s log v n k reason moment x order) (sound_now place u s log v n k reason moment x order) aborts.goes.catalog un relog.0 agree settled log_then
+    volume = undone_settle.has a relog.0 e b v.catalog img.catalog made.catalog n act moment st mid x.owns.kept.has (is_abort place u s log v n k reason moment x order) (sound_now place u s log v n k reason moment x order) aborts.goes.catalog un beside told_at settled log_then
 
     names : KeepsNames v.catalog.heads made.catalog.heads
-    names f h there = let y = names_mid place u s log v n k reason moment x order mid aborts.goes aborts.undoes f h there in (y.0, ap (λ (hs : List (Option FileHead)). head_at hs f) settled.heads ∙ y.1, y.2)
+    names f h there =
+        let y = names_mid place u s log v n k reason moment x order mid aborts.goes aborts.undoes f h there in
+        let z = is_told.names f y.0 y.1 in
+        (z.0, ap (λ (hs : List (Option FileHead)). head_at hs f) settled.heads ∙ z.1, z.2 ∙ y.2)
 
     seen_then : seen t ts ≡ committed k.serial None (seen s log)
     seen_then =
@@ -193,14 +218,14 @@ module _ (place : ℕ) (u : OpenUnit) (s t : rms.UnitsState) (log ts : Slots) (v
     pub kept_made : made.store.disk.size ≡ v.store.disk.size → IsKept (seen t ts) made m
     kept_made size = subst (λ (y : UnitsState). IsKept y made m) (sym seen_then)
         (kept_settled (seen s log) v n k model.Abort (reason_of reason) None moment x.owns.branch x.owns.kept x.owns.up x.owns.found x.later x.after made b told
-        (ap (λ (y : Catalog). y.home.node) aborts.makes.makes.catalog ∙ ap (λ (y : Catalog). y.home.node) (same ∙ aborts.goes.catalog)) size names volume)
+        (ap (λ (y : Catalog). y.home.node) aborts.makes.makes.settles.catalog ∙ ap (λ (y : Home). y.node) home_img) size names volume)
 
     -- so is each image that has it, where the node fell meanwhile
     pub left_made : IsLeftBy b (acted (Tables act moment) (fallen (Some (Tables act moment)) n))
     left_made = record {
       catalog = made.catalog;
-      tells = settled_old.1;
-      sound = settled_old.2;
+      tells = settled_img.1;
+      sound = settled_img.2;
       leaves = λ whole. down b made.catalog m (acted (Tables act moment) (fallen (Some (Tables act moment)) n)) (volume_falls b made.catalog m volume) refl refl refl;
     }
 

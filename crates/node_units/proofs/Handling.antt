@@ -16,7 +16,7 @@ use Rattle.node_units.specs.declared.begun.BegunUnit.{BegunUnit}
 use Rattle.node_units.specs.Seen.{seen}
 use Rattle.node_units.specs.Tokens.{StandFor, is_of, place_in}
 use Rattle.node_units.proofs.Committing.{MaySettle}
-use Rattle.node_units.proofs.Seeing.{order_seen, order_unseen}
+use Rattle.node_units.proofs.Seeing.{early_unseen, order_seen, order_unseen}
 use Rattle.node_units.proofs.TokenLemmas.{HasUnit, own_unit, seen_less, stand_then}
 
 pub record Handles (ts : List BegunUnit) (s : rms.UnitsState) (log : Slots) (v : VolumeState) (x : Id) (i : ℕ) (b : BegunUnit) (was : UnitsState) (clock : ℕ) : Type 0 where
@@ -46,7 +46,7 @@ module _ (ts : List BegunUnit) (s : rms.UnitsState) (log : Slots) (v : VolumeSta
     there = own_at.there;
     at = k.places;
     has = record { order = order_of; before = in_order.slots; parts = parts };
-    early = record { low = k.early.low; moment = k.early.moment };
+    early = early_unseen v k.early;
     clock_early = k.clock_early;
     ids = (subst IsId (sym own_at.tid) k.tid, subst IsId (sym own_at.serial) k.serial);
   }

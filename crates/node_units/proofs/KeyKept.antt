@@ -18,7 +18,8 @@ use Rattle.record_operations.specs.Asking.{file_in, is_of_key, written}
 use Rattle.record_operations.specs.declared.ops.RecordOp.{RecordOp}
 use Rattle.unit_journal.specs.Groups.{Breaks}
 use Rattle.unit_laws.specs.Journal.{ChangeEntry, JournalEntry, entries_size, serial_in}
-use Rattle.unit_laws.proofs.LiveLemmas.{by_changes, by_others}
+use Rattle.unit_laws.proofs.LiveLemmas.{by_others}
+use Rattle.node_units.proofs.KeyImages.{now_changed}
 use Rattle.unit_table.specs.Places.{AreInOrder}
 use Rattle.unit_table.specs.Units.{OpenUnit, begun, has_changed, unit_at, units_of, with_position}
 use Rattle.unit_table.proofs.OrderLemmas.{at_below}
@@ -64,10 +65,6 @@ one_content x y e = cc
 
 one_unit : (u w : OpenUnit) → ◌≡◌ {A = Option OpenUnit} (Some u) (Some w) → u ≡ w
 one_unit u w e = cc
-
--- what a branch changed in a file, once it changed more of it
-now_changed : (x : Id) (c : Change) (h : History) → changed_it (changed_with x (c ∷ []) h) x ≡ true
-now_changed x c h = ap (λ (ds : List Change). elim ds [ [] ↦ false | d ∷ es ↦ true ]) (by_changes x (c ∷ []) h.live)
 
 still_changed : (x y : Id) (c : Change) (h : History) → same_id x y ≡ false → changed_it (changed_with y (c ∷ []) h) x ≡ changed_it h x
 still_changed x y c h other = ap (λ (ds : List Change). elim ds [ [] ↦ false | d ∷ es ↦ true ]) (by_others x y (c ∷ []) h.live other)
@@ -122,8 +119,8 @@ module _ (s : state.UnitsState) (v : VolumeState) (order : IsInOrder s v) (at : 
 
   locks_are : AreLocks w.catalog.heads (seen t log).locks m.volatile.locks
   locks_are = subst (λ (c : Catalog). AreLocks c.heads (seen t log).locks m.volatile.locks) (sym (made_by.catalog_is s v order at place u at_place n file b h log up unprepared kept o bytes there found found_b one number low allowed locks w made keeps))
-      (subst (λ ls. AreLocks (made_by.mid s v order at place u at_place n file b h log up unprepared kept o bytes there found found_b one number low allowed locks w made keeps).catalog.heads ls m.volatile.locks) (sym done.locks)
-      (made_by.locks_renamed v.catalog.heads (made_by.mid s v order at place u at_place n file b h log up unprepared kept o bytes there found found_b one number low allowed locks w made keeps).catalog.heads (made_by.names_are s v order at place u at_place n file b h log up unprepared kept o bytes there found found_b one number low allowed locks w made keeps) (table.with_locks u.serial f keys s.locks) m.volatile.locks
+      (subst (λ ls. AreLocks (made_by.W s v order at place u at_place n file b h log up unprepared kept o bytes there found found_b one number low allowed locks w made keeps).heads ls m.volatile.locks) (sym done.locks)
+      (made_by.locks_renamed v.catalog.heads (made_by.W s v order at place u at_place n file b h log up unprepared kept o bytes there found found_b one number low allowed locks w made keeps).heads (made_by.names_are s v order at place u at_place n file b h log up unprepared kept o bytes there found found_b one number low allowed locks w made keeps) (table.with_locks u.serial f keys s.locks) m.volatile.locks
       (locks_more v.catalog.heads (made_by.once s v order at place u at_place n file b h log up unprepared kept o bytes there found found_b one number low allowed locks w made keeps) f h there u.serial keys s.locks n.volatile.locks kept.locks)))
 
   abbrev E : JournalEntry
@@ -133,7 +130,7 @@ module _ (s : state.UnitsState) (v : VolumeState) (order : IsInOrder s v) (at : 
   es = n.durable.units.entries
 
   abbrev new_file : File
-  new_file = changed_file (is_locked n.volatile.locks h.name) u.serial cs file
+  new_file = changed_file (is_locked n.volatile.locks h.name) u.tid u.serial cs file
 
   directory_is : m.durable.directory ≡ slice_set n.durable.directory f (Some new_file)
   directory_is = made_by.directory_after s v order at place u at_place n file b h log up unprepared kept o bytes there found found_b one number low allowed locks w made keeps

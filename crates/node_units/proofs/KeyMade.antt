@@ -16,13 +16,13 @@ use Rattle.volume.specs.declared.catalog.Catalog.{Catalog}
 use Rattle.volume.specs.Catalogs.{IsSound, TellsCatalog}
 use Rattle.volume.specs.State.{VolumeState}
 use Rattle.volume_files.specs.Staging.{SetsKey}
-use Rattle.change_set.specs.Files.{AgreesOn}
 use Rattle.volume_format.specs.Head as head_format
+use Rattle.volume_format.specs.Home.{sizes_of}
 use Rattle.volume.specs.Catalogs.{entry_of}
 use Rattle.volume_files.proofs.Places.{head_below}
 use Rattle.directory_model.proofs.Places.{within_list}
 use Rattle.journal_format.proofs.Decoding.{entry_size}
-use Rattle.journal_model.specs.Entries.{Entry, spelling}
+use Rattle.journal_model.specs.Entries.{Entry, IsEntry, spelling}
 use Rattle.journal_model.specs.Ring.{IsJournal, ring_size}
 use Rattle.records_model.specs.Records.{Change}
 use Rattle.records_model.specs.History.{is_held}
@@ -40,15 +40,15 @@ use Rattle.unit_journal.specs.Spans.{entered, longer}
 use Rattle.unit_laws.specs.Journal.{ChangeEntry, JournalEntry, end_of, entries_for, with_entries}
 use Rattle.unit_laws.proofs.TrimLemmas.{size_append}
 use Rattle.unit_table.specs.Places.{AreInOrder}
-use Rattle.unit_table.specs.Units.{OpenUnit, unit_at}
-use Rattle.run_model.specs.Answers.{found_refused, held_against, is_marked, journal_full, keys_refused, more_changes, more_locks, operation_act}
+use Rattle.unit_table.specs.Units.{OpenUnit, has_changed, unit_at}
+use Rattle.run_model.specs.Answers.{found_refused, held_against, images_full, is_marked, journal_full, keys_refused, more_changes, more_locks, operation_act}
 use Rattle.run_model.specs.Locks.{is_locked}
 use Rattle.run_model.specs.Locks as world
 use Rattle.run_model.specs.Operations.{changes_of, file_full, first_of, form_refused, keys_asked, keys_held}
 use Rattle.world_laws.specs.Ordered.{IsImageOf, IsJournalInOrder, IsKeyOf, IsNoteOf}
 use Rattle.commit_protocol.specs.World.{In}
 use Rattle.run_model.specs.World as nodes
-use Rattle.run_model.specs.World.{Act, Changes, File, Node, acted, changed_file, find_branch, find_file, AreUnitsOf}
+use Rattle.run_model.specs.World.{Act, Changes, File, Node, acted, changed_file, find_branch, find_file, with_image, AreUnitsOf}
 use Rattle.world_laws.proofs.AnswerLemmas.{neither, not_refused}
 use Rattle.world_laws.proofs.HeldLemmas.{IsFreeFor, free_for}
 use Rattle.world_laws.proofs.RoomLemmas.{changes_have_room}
@@ -58,8 +58,8 @@ use Rattle.restart_laws.specs.Units.{MayChange}
 use Rattle.unit_laws.specs.Units.{is_free}
 use Rattle.lmcp_log.specs.Keeping.{SameSlots}
 use Rattle.volume_laws.proofs.ToldLemmas.{logs_follow}
-use Rattle.directory_model.specs.Files.{AreFiles, IsFile, IsFoundAt, IsNamed, IsWithin, file_at, head_at, organized_by}
-use Rattle.directory_model.specs.Laws.{IsChanged}
+use Rattle.directory_model.specs.Files.{AreFiles, IsCarried, IsFile, IsFoundAt, IsNamed, IsWithin, StandsIn, file_at, head_at, organized_by}
+use Rattle.directory_model.specs.Laws.{IsChanged, carrying, changed_buckets, spelled_entry}
 use Rattle.directory_model.specs.Restoring.{AreRestorable}
 use Rattle.directory_model.proofs.Acts.{keeps_files}
 use Rattle.directory_model.proofs.Finding.{finds_files}
@@ -67,10 +67,10 @@ use Rattle.directory_model.proofs.Standing.{stands_on_extents}
 use Rattle.restart_laws.proofs.ChangingLemmas.{changes_restorable}
 use Rattle.restart_laws.proofs.StayLemmas.{keeps_restorable}
 use Rattle.script_model.specs.Statements.{Operation}
-use Rattle.volume_model.specs.Entries as volume
+use Rattle.file_images.specs.Images as images
 use Rattle.volume_model.specs.Entries.{entry_for}
 use Rattle.volume_model.specs.Laws.{KeepsNames}
-use Rattle.volume_model.specs.Volumes.{HasJournal, HasVolume}
+use Rattle.volume_model.specs.Volumes.{HasJournal, HasLog, HasVolume}
 use Rattle.volume_laws.proofs.FollowLemmas.{follow}
 use Rattle.recovery_units.specs.Calls.{IsNumbered, KeepsUp, change_said, unit_act, unit_early, unit_late}
 use Rattle.recovery_units.specs.State.{AreLocks, IsKept, IsOfBranch}
@@ -96,6 +96,22 @@ use Rattle.node_units.proofs.BranchChanges.{MayMake, frees, held_live, held_lock
 use Rattle.node_units.proofs.Branches.{found_there}
 use Rattle.node_units.proofs.EnteredKey.{entered_files, entered_journal, entered_slots, entered_tells}
 use Rattle.node_units.proofs.Holding.{once_of}
+use Rattle.image_appends.specs.declared.side.Side.TheVariants.{After, Before}
+use Rattle.image_appends.specs.Images.{content_with_both, heads_with_both, span_of}
+use Rattle.image_groups.specs.Groups.{Enters, MayEnter}
+use Rattle.image_groups.proofs.Sides.{enters_change}
+use Rattle.image_room.specs.Room.{images_refused}
+use Rattle.image_room.proofs.Keeping.{afters_have_room, befores_have_room, room_to_change}
+use Rattle.recovery_model.specs.Journal.{Changed}
+use Rattle.restart_laws.specs.Restorable.{SameLive}
+use Rattle.directory_model.proofs.Entering.{enters_images}
+use Rattle.unit_entries.specs.Keys.{key_in as key_in_file}
+use Rattle.undo_laws.proofs.NoteLemmas.{key_read}
+use Rattle.volume.specs.Limits.{data_area}
+use Rattle.volume_format.specs.Head.{IsHead}
+use Rattle.node_units.proofs.ImagedVolume.{dressed_restorable, journal_entered, live_set, log_entered, names_entered, sound_entered, tells_entered}
+use Rattle.node_units.proofs.Imaging.{fits as fits_in, told_heads}
+use Rattle.node_units.proofs.KeyImages.{IsImage, change_is, may_enter}
 use Rattle.node_units.proofs.KeyRefusals.{asks, early_none, entry_sized, few, found_before, is_file, late_none, own}
 use Rattle.node_units.proofs.Locking.{AreOnce}
 use Rattle.node_units.proofs.NotedKey.{Noted, noted_by}
@@ -119,11 +135,11 @@ flag_is None some = refl
 flag_is (Some []) some = absurd (omega (arith, some))
 flag_is (Some (b ∷ r)) some = ap (λ (t : Bool). if◌then◌else◌ {A = ℕ} t 1 0) (one_more (length r))
 
-image_is : (before : Option (List ℕ)) → unwrap_or before [] ≡ volume.image_bytes before
+image_is : (before : Option (List ℕ)) → unwrap_or before [] ≡ images.image_bytes before
 image_is None = refl
 image_is (Some r) = refl
 
-key_is : (key : Key) → spelled.key_bytes key ≡ volume.key_bytes key
+key_is : (key : Key) → spelled.key_bytes key ≡ images.key_bytes key
 key_is (Number n) = refl
 key_is (Text t) = refl
 key_is End = refl
@@ -251,11 +267,14 @@ module _ (s : state.UnitsState) (v : VolumeState) (order : IsInOrder s v) (at : 
   had_none : changing.found_refused h (change_in o) key (map_of h a key) value ≡ None
   had_none = (first_none (changing.found_refused h (change_in o) key (map_of h a key) value) _ late).0
 
-  behind_found : first_cause (changing.changes_refused 1 u) (first_cause (changing.keys_refused f keys s.locks) (first_cause (changing.file_refused h (need_of h a (change_in o) (length value))) (room.journal_refused v.catalog.ru s.units.places u (room.entry_size key (before_change (change_in o) (unwrap_or (map_of h a key) [])))))) ≡ None
+  behind_found : first_cause (changing.changes_refused 1 u) (first_cause (changing.keys_refused f keys s.locks) (first_cause (changing.file_refused h (need_of h a (change_in o) (length value))) (first_cause (room.journal_refused v.catalog.ru s.units.places u (room.entry_size key (before_change (change_in o) (unwrap_or (map_of h a key) [])))) (images_refused h f s.units.places (has_changed u f) (room.entry_size key after) (room.entry_size key (before_change (change_in o) (unwrap_or (map_of h a key) []))))))) ≡ None
   behind_found = (first_none (changing.found_refused h (change_in o) key (map_of h a key) value) _ late).1
 
-  behind_quotas : first_cause (changing.file_refused h (need_of h a (change_in o) (length value))) (room.journal_refused v.catalog.ru s.units.places u (room.entry_size key (before_change (change_in o) (unwrap_or (map_of h a key) [])))) ≡ None
+  behind_quotas : first_cause (changing.file_refused h (need_of h a (change_in o) (length value))) (first_cause (room.journal_refused v.catalog.ru s.units.places u (room.entry_size key (before_change (change_in o) (unwrap_or (map_of h a key) [])))) (images_refused h f s.units.places (has_changed u f) (room.entry_size key after) (room.entry_size key (before_change (change_in o) (unwrap_or (map_of h a key) []))))) ≡ None
   behind_quotas = (first_none (changing.keys_refused f keys s.locks) _ (first_none (changing.changes_refused 1 u) _ behind_found).1).1
+
+  behind_full : first_cause (room.journal_refused v.catalog.ru s.units.places u (room.entry_size key (before_change (change_in o) (unwrap_or (map_of h a key) [])))) (images_refused h f s.units.places (has_changed u f) (room.entry_size key after) (room.entry_size key (before_change (change_in o) (unwrap_or (map_of h a key) [])))) ≡ None
+  behind_full = (first_none (changing.file_refused h (need_of h a (change_in o) (length value))) _ behind_quotas).1
 
   full_none : changing.file_refused h (need_of h a (change_in o) (length value)) ≡ None
   full_none = (first_none (changing.file_refused h (need_of h a (change_in o) (length value))) _ behind_quotas).0
@@ -264,7 +283,7 @@ module _ (s : state.UnitsState) (v : VolumeState) (order : IsInOrder s v) (at : 
   fits = may_set h a file_is.head.form (few s v order at place u at_place n file b h log up unprepared kept o bytes there found found_b one number) o bytes one number form_none had_none full_none
 
   -- what was set
-  abbrev enters : EntersKey f h (λ k. is_some (table.holder s.locks f k)) key after (spelled.change_entry u.tid u.serial f key (before_change (change_in o) made.found)) v w
+  abbrev enters : EntersKey f h (λ k. is_some (table.holder s.locks f k)) key after (spelled.change_entry u.tid u.serial f key after) (spelled.change_entry u.tid u.serial f key (before_change (change_in o) made.found)) v w
   enters = made.enters
 
   abbrev pub mid : VolumeState
@@ -299,7 +318,7 @@ module _ (s : state.UnitsState) (v : VolumeState) (order : IsInOrder s v) (at : 
       let tells : TellsCatalog v.catalog a = subst (λ x. IfSome x (TellsCatalog v.catalog)) kept.told order.holds in
       (subst (λ x. head_format.IsEntry (entry_of x)) there (tells.heads f (head_below v.catalog.heads f h order.heads there)).ranges).form.mrn
 
-  noted : Noted h.organization h key (map_of h a key)
+  noted : Noted h.organization h key (map_of h a key) after
   noted = noted_by h.organization h a key after file_is.head.form file_is.laid within (few s v order at place u at_place n file b h log up unprepared kept o bytes there found found_b one number) mrn_small fits.0 fits.1
 
   abbrev before : Option (List ℕ)
@@ -334,7 +353,7 @@ module _ (s : state.UnitsState) (v : VolumeState) (order : IsInOrder s v) (at : 
   named : IsNamed v.catalog.heads f h h.name
   named = record { there = there; called = refl; lowest = λ g other less at_g same. let e = once_of v.catalog.home.node v.store.disk.size v.catalog order.sound order.heads g f other h at_g there same in absurd (omega (arith, e, less)) }
 
-  at_file : (x : File) × IsFile a h x × IsFoundAt h.name n.durable.directory f x
+  at_file : (x : File) × IsFile a h x × IsFoundAt h.name n.durable.directory f x × IsCarried a f h x.carried
   at_file = finds_files.found a v.catalog.heads n.durable.directory f h h.name kept.has.files named
 
   found_is : at_file.0 ≡ file
@@ -352,7 +371,7 @@ module _ (s : state.UnitsState) (v : VolumeState) (order : IsInOrder s v) (at : 
   keys_none : keys_refused n (Some b.key.serial) h.name keys ≡ None
   keys_none = sym (ap (keys_refused n (Some b.key.serial) h.name) asking.asked) ∙ (neither (is_marked file) _ (neither (form_refused file said) _ early_is_none).1).1
 
-  behind_data : first_of (more_changes n (changes_of file said) b) (first_of (more_locks n h.name (keys_held file said)) (first_of (file_full file said) (journal_full n h.name (changes_of file said) b))) ≡ None
+  behind_data : first_of (more_changes n (changes_of file said) b) (first_of (more_locks n h.name (keys_held file said)) (first_of (file_full file said) (first_of (journal_full n h.name (changes_of file said) b) (images_full b.key.serial (changes_of file said) file)))) ≡ None
   behind_data = (neither (found_refused n (Some b.key.serial) h.name said file) _ late_is_none).1
 
   changes_are : changes_of file said ≡ cs
@@ -364,7 +383,7 @@ module _ (s : state.UnitsState) (v : VolumeState) (order : IsInOrder s v) (at : 
   bytes_none : journal_full n h.name cs b ≡ None
   bytes_none =
       ap (λ ds. journal_full n h.name ds b) (sym changes_are)
-      ∙ (neither (file_full file said) _ (neither (more_locks n h.name (keys_held file said)) _ (neither (more_changes n (changes_of file said) b) _ behind_data).1).1).1
+      ∙ (neither (journal_full n h.name (changes_of file said) b) _ (neither (file_full file said) _ (neither (more_locks n h.name (keys_held file said)) _ (neither (more_changes n (changes_of file said) b) _ behind_data).1).1).1).0
 
   key_in_keys : In key keys
   key_in_keys = last_asked h.organization (change_in o) key
@@ -420,106 +439,245 @@ module _ (s : state.UnitsState) (v : VolumeState) (order : IsInOrder s v) (at : 
   up_then : IsUp m
   up_then = subst (λ (a : Act). IsUp (acted a n)) (sym act_is) (keeps (λ i. first_of (early_is_none i) (late_is_none i)))
 
-  -- The volume after it.
+  -- The images of the change.
 
   abbrev V : Catalog
   V = mid.catalog
 
+  abbrev held : Key → Bool
+  held = is_locked n.volatile.locks h.name
+
+  -- the directory once the change stands in the buckets, and its images do
+  abbrev bare : File
+  bare = carrying file.carried (changed_file held u.tid u.serial cs file)
+
+  abbrev buckets : List (Option File)
+  buckets = changed_buckets held u.tid u.serial cs f file n.durable.directory
+
+  abbrev A : Entry
+  A = spelled.change_entry u.tid u.serial f key after
+
+  images_none : images_refused h f s.units.places (has_changed u f) (room.entry_size key after) (room.entry_size key before) ≡ None
+  images_none = ap (λ x. images_refused h f s.units.places (has_changed u f) (room.entry_size key after) (room.entry_size key x)) (sym (found_before h (change_in o) key before value had_none))
+      ∙ (first_none (room.journal_refused v.catalog.ru s.units.places u (room.entry_size key (before_change (change_in o) (unwrap_or before [])))) _ behind_full).1
+
+  key_of_form : key_in_file h.organization (images.key_bytes key) ≡ Some key
+  key_of_form = key_read h.organization h key noted.form
+
+  low_here : ((span_of After h).end + 2 ^ 24 ≤ 2 ^ 62) × ((span_of Before h).end + 2 ^ 24 ≤ 2 ^ 62)
+  low_here = low.images f h there
+
+  after_image_is : IsImage After f h u.tid u.serial key after
+  after_image_is = record {
+    entry = enters.image;
+    some = noted.later;
+    of = key_of_form;
+    suits = fits.0;
+    room = λ kept. let enough = room_to_change After h f s.units.places (has_changed u f) (room.entry_size key after) (afters_have_room h f s.units.places (has_changed u f) (room.entry_size key after) (room.entry_size key before) images_none) (order.images f h there).0 kept in
+        let size = spelled_size u.tid u.serial f key after enters.image in omega (arith, enough, size);
+    low = low_here.0;
+  }
+
+  e_before : spelled.change_entry u.tid u.serial f key (before_change (change_in o) made.found) ≡ spelled.change_entry u.tid u.serial f key before
+  e_before = ap (spelled.change_entry u.tid u.serial f key) before_is
+
+  before_entry : IsEntry (spelled.change_entry u.tid u.serial f key before)
+  before_entry = subst IsEntry e_before enters.entry
+
+  before_image_is : IsImage Before f h u.tid u.serial key before
+  before_image_is = record {
+    entry = before_entry;
+    some = noted.some;
+    of = key_of_form;
+    suits = noted.suits;
+    room = λ kept. let enough = room_to_change Before h f s.units.places (has_changed u f) (room.entry_size key before) (befores_have_room h f s.units.places (has_changed u f) (room.entry_size key after) (room.entry_size key before) images_none) (order.images f h there).1 kept in
+        let size = spelled_size u.tid u.serial f key before before_entry in omega (arith, enough, size);
+    low = low_here.1;
+  }
+
+  head_there : head_at V.heads f ≡ Some enters.head
+  head_there = ap (λ hs. head_at hs f) rest.heads ∙ get_or-set_same v.catalog.heads f (Some enters.head) None (within_list v.catalog.heads f h there)
+
+  head_new : IsHead enters.head
+  head_new = told_heads V c rest.tells rest.long f enters.head head_there
+
+  may_after : MayEnter After f V.heads u.tid (Changed u.serial key after)
+  may_after = may_enter After f h enters.head enters.stages.same u.tid u.serial key after after_image_is V.heads head_there head_new
+
+  may_before : MayEnter Before f V.heads u.tid (Changed u.serial key before)
+  may_before = may_enter Before f h enters.head enters.stages.same u.tid u.serial key before before_image_is V.heads head_there head_new
+
+  -- the entries are those that the world has
+  after_spelled : spelling A ≡ spelled_entry f u.tid (Changed u.serial key after)
+  after_spelled = ap spelling (sym (change_is f u.tid u.serial key after noted.later))
+
+  before_spelled : spelling e ≡ spelled_entry f u.tid (Changed u.serial key before)
+  before_spelled = ap spelling (e_before ∙ sym (change_is f u.tid u.serial key before noted.some))
+
+  -- what they make of the volume
+  abbrev I : Content
+  I = content_with_both f (spelled_entry f u.tid (Changed u.serial key after)) (spelled_entry f u.tid (Changed u.serial key before)) V.heads c
+
+  abbrev H : List (Option FileHead)
+  H = heads_with_both f (length (spelled_entry f u.tid (Changed u.serial key after))) (length (spelled_entry f u.tid (Changed u.serial key before))) V.heads
+
+  imaged_now : enters.imaged.store.current ≡ Some I
+  imaged_now = enters.images.current ∙ ap (option_map (content_with_both f (spelling A) (spelling e) V.heads)) set_is.1 ∙ (λ i. Some (content_with_both f (after_spelled i) (before_spelled i) V.heads c))
+
+  imaged_is : enters.imaged.catalog ≡ record V { heads = H }
+  imaged_is = enters.images.catalog ∙ (λ i. record V { heads = heads_with_both f (length (after_spelled i)) (length (before_spelled i)) V.heads })
+
+  held_world : ◌≡◌ {A = Key → Bool} (λ k. is_some (table.holder s.locks f k)) (is_locked n.volatile.locks h.name)
+  held_world = held_alike v.catalog.heads once f h there n s.locks kept.locks
+
+  changed_is : IsChanged held cs a h c enters.head
+  changed_is = subst (λ (held : Key → Bool). IsChanged held cs a h c enters.head) held_world (set_changes f 417 h enters.head (λ k. is_some (table.holder s.locks f k)) key before after a c v mid enters.stages set_is.2)
+
+  files_set : AreFiles c V.heads buckets
+  files_set = subst (λ hs. AreFiles c hs buckets) (sym rest.heads)
+      (keeps_files.changes a c v.catalog.heads n f h enters.head h.name file u.tid u.serial cs kept.has.files kept.has.units named at_f free_keys (refl, tt) changed_is (rest.carried h there) rest.others)
+
+  wide : f < length n.durable.directory
+  wide = within_list n.durable.directory f file at_f
+
+  numbered : f < 64
+  numbered = let long = kept.has.files.directory_long in let below = wide in omega (arith, long, below)
+
+  bare_there : file_at buckets f ≡ Some bare
+  bare_there = get_or-set_same n.durable.directory f (Some bare) None wide
+
+  images_in : Enters c V.heads I (data_area (sizes_of V.home)) H (slice_set buckets f (Some (carrying (with_image u.tid u.serial (set_change key before after) file.carried) bare)))
+  images_in = enters_change c (data_area (sizes_of V.home)) V.heads buckets f bare u.tid u.serial (set_change key before after)
+      (record { files = files_set; fit = fits_in n.name n.blocks V rest.long rest.sound; behind = omega arith; whole = rest.whole }) numbered bare_there may_after may_before
+
+  found_at : IsFoundAt h.name n.durable.directory f file
+  found_at = subst (IsFoundAt h.name n.durable.directory f) found_is at_file.2
+
+  directory_now : slice_set buckets f (Some (carrying (with_image u.tid u.serial (set_change key before after) file.carried) bare)) ≡ m.durable.directory
+  directory_now = enters_images.changes n f h.name file u.tid u.serial cs keys found_at
+
+  files_imaged : AreFiles I H m.durable.directory
+  files_imaged = subst (AreFiles I H) directory_now images_in.fitting.files
+
+  rooms : (other : Key) → is_held file.history other ≡ true → room_at h a other ≤ room_at enters.head c other
+  rooms other is = set_is.2.rooms other ((λ i. held_world i other) ∙ held_locked n.volatile.locks h.name file.history.live other live is)
+
+  restorable_set : AreRestorable c V.heads m.durable.directory
+  restorable_set = subst (λ hs. AreRestorable c hs m.durable.directory) (sym rest.heads)
+      (changes_restorable.sets a c v.catalog.heads n f h enters.head h.name file u.tid u.serial key after keys kept.has.files kept.has.units named at_f
+      changing_may
+      within fits.0 enters.stages.same set_is.2.form set_is.2.laid set_is.2.map set_is.2.back rooms rest.others kept.has.restorable)
+
+  -- what is unsettled does not change with what a file carries
+  live_here : (g : ℕ) → SameLive (file_at m.durable.directory g) (file_at buckets g)
+  live_here g = subst (λ fs. SameLive (file_at fs g) (file_at buckets g)) (sym directory_set) (live_set n.durable.directory f g (changed_file held u.tid u.serial cs file) bare refl)
+    where
+      directory_set : m.durable.directory ≡ slice_set n.durable.directory f (Some (changed_file held u.tid u.serial cs file))
+      directory_set = found_at.changed (changed_file held u.tid u.serial cs)
+
+  restorable_imaged : AreRestorable I H m.durable.directory
+  restorable_imaged = dressed_restorable c I V.heads H buckets m.durable.directory files_set images_in.dressed live_here restorable_set
+
+  -- The volume after it.
+
+  abbrev M : Catalog
+  M = record V { heads = H }
+
   abbrev pub W : Catalog
-  W = record mid.catalog { ru = longer (length (spelling e)) mid.catalog.ru }
+  W = record M { ru = longer (length (spelling e)) M.ru }
 
   pub catalog_is : w.catalog ≡ W
-  catalog_is = enters.catalog ∙ (λ i. record mid.catalog { ru = longer (length (spelling e)) (sym rest.ring i) })
+  catalog_is = enters.catalog ∙ (λ i. record (imaged_is i) { ru = longer (length (spelling e)) (sym rest.ring i) })
 
   size_is : length (spelling e) ≡ room.entry_size key before
   size_is = spelled_size u.tid u.serial f key (before_change (change_in o) made.found) enters.entry ∙ ap (room.entry_size key) before_is
 
   journal_none : room.journal_refused v.catalog.ru s.units.places u (room.entry_size key before) ≡ None
-  journal_none = ap (λ x. room.journal_refused v.catalog.ru s.units.places u (room.entry_size key x)) (sym (found_before h (change_in o) key before value had_none)) ∙ (first_none (changing.file_refused h (need_of h a (change_in o) (length value))) _ behind_quotas).1
+  journal_none = ap (λ x. room.journal_refused v.catalog.ru s.units.places u (room.entry_size key x)) (sym (found_before h (change_in o) key before value had_none)) ∙ (first_none (room.journal_refused v.catalog.ru s.units.places u (room.entry_size key (before_change (change_in o) (unwrap_or before [])))) _ behind_full).0
 
   room_is : V.ru.end - V.ru.first + length (spelling e) ≤ ring_size V.ru
   room_is = subst (λ (r : Span). r.end - r.first + length (spelling e) ≤ ring_size r) (sym rest.ring) (let enough = room_for v.catalog.ru s.units.places u (room.entry_size key before) order.room journal_none in let size = size_is in omega (arith, enough, size))
 
   pub told_after : (d : Content) × (w.store.current ≡ Some d)
-  told_after = (entered v.catalog.ru (spelling e) c, enters.current ∙ ap (option_map (entered v.catalog.ru (spelling e))) set_is.1)
+  told_after = (entered v.catalog.ru (spelling e) I, enters.current ∙ ap (option_map (entered v.catalog.ru (spelling e))) imaged_now)
+
+  sound_imaged : IsSound n.name n.blocks M
+  sound_imaged = sound_entered c I V H m.durable.directory (subst (Enters c V.heads I (data_area (sizes_of V.home)) H) directory_now images_in) n rest.sound
+
+  journal_imaged : (j : HasJournal I M n) × (j.entries ≡ rest.journal.entries)
+  journal_imaged = journal_entered c I V H m.durable.directory (subst (Enters c V.heads I (data_area (sizes_of V.home)) H) directory_now images_in) n rest.sound rest.journal
+
+  names_imaged : KeepsNames V.heads H
+  names_imaged = names_entered c I V H m.durable.directory (subst (Enters c V.heads I (data_area (sizes_of V.home)) H) directory_now images_in) n rest.sound
+
+  -- the head of the file behind them
+  head_imaged : (x : FileHead) × (head_at H f ≡ Some x) × (x.name ≡ enters.head.name)
+  head_imaged = names_imaged f enters.head head_there
+
+  long_imaged : length H ≡ 64
+  long_imaged = images_in.fitting.fit.heads_long
 
   module _ (d : Content) (now : w.store.current ≡ Some d) where
-    entered_is : d ≡ entered V.ru (spelling e) c
-    entered_is = one_content d (entered V.ru (spelling e) c) (sym now ∙ enters.current ∙ ap (option_map (entered v.catalog.ru (spelling e))) set_is.1 ∙ (λ i. Some (entered (sym rest.ring i) (spelling e) c)))
+    entered_is : d ≡ entered M.ru (spelling e) I
+    entered_is = one_content d (entered M.ru (spelling e) I) (sym now ∙ enters.current ∙ ap (option_map (entered v.catalog.ru (spelling e))) imaged_now ∙ (λ i. Some (entered (sym rest.ring i) (spelling e) I)))
 
-    files_stand : (g : ℕ) (other : FileHead) → head_at V.heads g ≡ Some other → AgreesOn other c d
-    files_stand = entered_files n.name n.blocks V rest.sound rest.long c d e entered_is rest.journal.entries rest.journal.is enters.entry room_is
+    files_stand : (g : ℕ) (other : FileHead) → head_at H g ≡ Some other → StandsIn other I d
+    files_stand = entered_files n.name n.blocks M sound_imaged long_imaged I d e entered_is journal_imaged.0.entries journal_imaged.0.is enters.entry room_is
 
-    held_world : ◌≡◌ {A = Key → Bool} (λ k. is_some (table.holder s.locks f k)) (is_locked n.volatile.locks h.name)
-    held_world = held_alike v.catalog.heads once f h there n s.locks kept.locks
-
-    changed_is : IsChanged (is_locked n.volatile.locks h.name) cs a h c enters.head
-    changed_is = subst (λ (held : Key → Bool). IsChanged held cs a h c enters.head) held_world (set_changes f 417 h enters.head (λ k. is_some (table.holder s.locks f k)) key before after a c v mid enters.stages set_is.2)
-
-    files_set : AreFiles c V.heads m.durable.directory
-    files_set = subst (λ hs. AreFiles c hs m.durable.directory) (sym rest.heads)
-        (keeps_files.changes a c v.catalog.heads n f h enters.head h.name file u.tid u.serial cs keys kept.has.files kept.has.units named at_f free_keys (refl, tt) changed_is rest.others)
-
-    rooms : (other : Key) → is_held file.history other ≡ true → room_at h a other ≤ room_at enters.head c other
-    rooms other is = set_is.2.rooms other ((λ i. held_world i other) ∙ held_locked n.volatile.locks h.name file.history.live other live is)
-
-    restorable_set : AreRestorable c V.heads m.durable.directory
-    restorable_set = subst (λ hs. AreRestorable c hs m.durable.directory) (sym rest.heads)
-        (changes_restorable.sets a c v.catalog.heads n f h enters.head h.name file u.tid u.serial key after keys kept.has.files kept.has.units named at_f
-        changing_may
-        within fits.0 enters.stages.same set_is.2.form set_is.2.laid set_is.2.map set_is.2.back rooms rest.others kept.has.restorable)
-
-    head_there : head_at V.heads f ≡ Some enters.head
-    head_there = ap (λ hs. head_at hs f) rest.heads ∙ get_or-set_same v.catalog.heads f (Some enters.head) None (within_list v.catalog.heads f h there)
-
-    called : enters.head.name ≡ h.name
-    called = ap (λ (x : FileHead). x.name) enters.stages.same.is
+    called : head_imaged.0.name ≡ h.name
+    called = head_imaged.2 ∙ ap (λ (x : FileHead). x.name) enters.stages.same.is
 
     journal_set : HasJournal d W m
     journal_set = subst (λ name. HasJournal d W (acted (Changes u.tid u.serial name cs keys) n)) called
-        (follow.changes c d V W n f enters.head u.tid u.serial cs keys rest.journal head_there (same_names V.heads)
-        (subst (λ x. IsJournal d W.ru (rest.journal.entries ++ x ∷ [])) (entry_told ∙ (λ i. entry_for f (ChangeEntry u.tid u.serial (sym called i) key before)))
-        (entered_journal n.name n.blocks V rest.sound rest.long c d e entered_is rest.journal.entries rest.journal.is enters.entry room_is))
+        (follow.changes I d M W n f head_imaged.0 u.tid u.serial cs keys journal_imaged.0 head_imaged.1 (same_names H)
+        (subst (λ x. IsJournal d W.ru (journal_imaged.0.entries ++ x ∷ [])) (entry_told ∙ (λ i. entry_for f (ChangeEntry u.tid u.serial (sym called i) key before)))
+        (entered_journal n.name n.blocks M sound_imaged long_imaged I d e entered_is journal_imaged.0.entries journal_imaged.0.is enters.entry room_is))
         refl ends_at (let early = low.low in let sizes = entry_size e enters.entry in let ring = ap (λ (r : Span). r.end) rest.ring in omega (arith, early, sizes.1, ring)))
       where
         E : JournalEntry
-        E = ChangeEntry u.tid u.serial enters.head.name key before
+        E = ChangeEntry u.tid u.serial head_imaged.0.name key before
 
-        ends_at : W.ru.end ≡ end_of (with_entries (entries_for u.tid u.serial enters.head.name cs) n.durable.units)
+        ends_at : W.ru.end ≡ end_of (with_entries (entries_for u.tid u.serial head_imaged.0.name cs) n.durable.units)
         ends_at =
             let more = size_append es (E ∷ []) in
             let end = rest.journal.end in
             let size = size_is in
-            let world = entry_sized u.tid u.serial enters.head.name key before in
+            let world = entry_sized u.tid u.serial head_imaged.0.name key before in
             omega (arith, more, end, size, world)
 
-    slots_set : SameSlots (length n.durable.log) c d
-    slots_set = entered_slots n.name n.blocks V rest.sound rest.long c d e entered_is rest.journal.entries rest.journal.is enters.entry room_is (length n.durable.log)
-        (let slots = rest.home.slots in let start = rest.sound.ru_start in omega (arith, slots, start))
+    slots_before : 584 + length n.durable.log ≤ M.ru.start
+    slots_before = let slots = rest.home.slots in let start = rest.sound.ru_start in omega (arith, slots, start)
+
+    log_imaged : HasLog I n
+    log_imaged = log_entered c I V H m.durable.directory (subst (Enters c V.heads I (data_area (sizes_of V.home)) H) directory_now images_in) n rest.sound rest.log slots_before
+
+    slots_set : SameSlots (length n.durable.log) I d
+    slots_set = entered_slots n.name n.blocks M sound_imaged long_imaged I d e entered_is journal_imaged.0.entries journal_imaged.0.is enters.entry room_is (length n.durable.log) slots_before
 
     pub volume_after : HasVolume d W m
     volume_after = record {
       home = record { volume = rest.home.volume; slots = rest.home.slots; journal = rest.home.journal; boot = rest.home.boot; greatest = rest.home.greatest; last = rest.home.last };
-      log = logs_follow.stays c d n m rest.log refl slots_set;
+      log = logs_follow.stays I d n m log_imaged refl slots_set;
       journal = journal_set;
       units = units_then;
       order = order_then;
       told = (kept_up m up_then).log;
-      files = stands_on_extents c d V.heads m.durable.directory files_stand files_set;
-      restorable = keeps_restorable.stands c d V.heads m.durable.directory files_stand files_set restorable_set;
+      files = stands_on_extents I d H m.durable.directory files_stand files_imaged;
+      restorable = keeps_restorable.stands I d H m.durable.directory files_stand files_imaged restorable_imaged;
     }
 
     pub tells_after : TellsCatalog W d
-    tells_after = entered_tells n.name n.blocks V rest.sound rest.long c d e entered_is rest.journal.entries rest.journal.is enters.entry room_is rest.tells
+    tells_after = entered_tells n.name n.blocks M sound_imaged long_imaged I d e entered_is journal_imaged.0.entries journal_imaged.0.is enters.entry room_is
+        (tells_entered c I V H m.durable.directory (subst (Enters c V.heads I (data_area (sizes_of V.home)) H) directory_now images_in) n rest.sound rest.tells)
 
-  pub names_are : KeepsNames v.catalog.heads mid.catalog.heads
-  names_are = rest.names
+  pub names_are : KeepsNames v.catalog.heads W.heads
+  names_are g other at_g = let x = rest.names g other at_g in let y = names_imaged g x.0 x.1 in (y.0, y.1, y.2 ∙ x.2)
 
   pub node_after : w.catalog.home.node ≡ v.catalog.home.node
   node_after = ap (λ (k : Catalog). k.home.node) catalog_is ∙ ap (λ (k : Catalog). k.home.node) enters.stages.catalog
 
-  pub directory_after : m.durable.directory ≡ slice_set n.durable.directory f (Some (changed_file (is_locked n.volatile.locks h.name) u.serial cs file))
-  directory_after = at_file.2.changed (changed_file (is_locked n.volatile.locks h.name) u.serial cs) ∙ ap (λ x. slice_set n.durable.directory f (Some (changed_file (is_locked n.volatile.locks h.name) u.serial cs x))) found_is
+  pub directory_after : m.durable.directory ≡ slice_set n.durable.directory f (Some (changed_file (is_locked n.volatile.locks h.name) u.tid u.serial cs file))
+  directory_after = at_file.2.changed (changed_file (is_locked n.volatile.locks h.name) u.tid u.serial cs) ∙ ap (λ x. slice_set n.durable.directory f (Some (changed_file (is_locked n.volatile.locks h.name) u.tid u.serial cs x))) found_is
 
   pub sound_after : IsSound n.name n.blocks W
-  sound_after = sound_longer n.name n.blocks (length (spelling e)) V V.ru rest.sound refl
+  sound_after = sound_longer n.name n.blocks (length (spelling e)) M M.ru sound_imaged refl

@@ -1,5 +1,5 @@
 -- What refuses the change of one key for a unit, and for the branch that the unit is.
-use Rattle.std.proofs.Common.{◌≡◌, ℕ, ◌+◌, ◌*◌, ◌<◌, ◌≤◌, List, [], ◌∷◌, true, not, Option, Some, None, length, refl, sym, ◌∙◌, ap, arith, inl, inr, false}
+use Rattle.std.proofs.Common.{◌≡◌, ℕ, ◌+◌, ◌*◌, ◌<◌, ◌≤◌, List, [], ◌∷◌, true, not, Option, Some, None, length, refl, sym, ◌∙◌, ap, subst, arith, inl, inr, false}
 use Rattle.std.proofs.lemmas.Nat.{mul-le}
 use Rattle.std.specs.Prelude.{option_map, is_some, nat_lt, unwrap_or}
 use Rattle.file_base.specs.declared.head.FileHead.{FileHead}
@@ -22,19 +22,29 @@ use Rattle.unit_journal.specs.Room as room
 use Rattle.unit_laws.specs.Journal as journal
 use Rattle.unit_laws.specs.Journal.{RecoveryUnit, find_unit, is_settled_in, units_in}
 use Rattle.unit_table.specs.Places.{AreInOrder}
-use Rattle.unit_table.specs.Units.{OpenUnit, unit_at}
+use Rattle.unit_table.specs.Units.{OpenUnit, has_changed, unit_at}
 use Rattle.run_model.specs.Answers as answers
-use Rattle.run_model.specs.Answers.{change_limit, found_refused, free_journal, is_marked, journal_full, journal_need, keys_refused, more_changes, more_locks}
+use Rattle.run_model.specs.Answers.{change_limit, found_refused, free_journal, images_full, is_marked, journal_full, journal_need, keys_refused, more_changes, more_locks}
 use Rattle.run_model.specs.Operations.{changes_of, data_refused, file_full, first_of, form_refused, keys_asked, keys_held, refused_if, set_in}
 use Rattle.run_model.specs.World.{File, Node, changes_made, find_branch, find_file}
-use Rattle.directory_model.specs.Files.{IsFile, head_at}
+use Rattle.directory_model.specs.Files.{IsCarried, IsFile, IsFoundAt, IsNamed, file_at, head_at}
 use Rattle.directory_model.proofs.Reading.{reads_files}
 use Rattle.script_model.specs.Statements.{Operation}
 use Rattle.volume_files.proofs.Places.{fits_at}
 use Rattle.rms_units.proofs.OrderLemmas.{placed_in}
+use Rattle.directory_model.proofs.Finding.{finds_files}
+use Rattle.image_room.specs.Room.{images_refused}
+use Rattle.recovery_model.specs.File.{all_of}
+use Rattle.recovery_model.specs.Images.{afters, befores}
+use Rattle.recovery_model.specs.Journal.{is_settled}
+use Rattle.recovery_model.specs.Room.{changes_length}
+use Rattle.records_model.specs.History.{changed_it}
+use Rattle.recovery_units.specs.State.{changed_at}
+use Rattle.node_units.proofs.Branches.{found_there}
+use Rattle.node_units.proofs.ImagesAlike.{images_alike, left_open}
 use Rattle.node_units.proofs.Looking.{first_again, first_some}
 use Rattle.node_units.proofs.ReadLemmas.{asked_file, first_none, line_none}
-use Rattle.node_units.proofs.UnitCounts.{branch_is, counted, free_is, is_there}
+use Rattle.node_units.proofs.UnitCounts.{branch_is, counted, free_is, is_there, unit_is}
 use Rattle.recovery_units.specs.Calls.{IsNumbered, cause_line, change_said, unit_early, unit_late}
 use Rattle.recovery_units.specs.State.{IsKept, IsOfBranch, are_there}
 use Rattle.recovery_units.proofs.FormLemmas.{forms, line_if, lines_first}
@@ -62,12 +72,12 @@ first_end (Some l) = refl
 
 -- Entries by their bytes.
 
-key_size : (key : Key) → journal.key_size key ≡ length (spelled.key_bytes key)
+pub key_size : (key : Key) → journal.key_size key ≡ length (spelled.key_bytes key)
 key_size (Number n) = refl
 key_size (Text bytes) = refl
 key_size End = refl
 
-image_size : (before : Option (List ℕ)) → size_of before ≡ length (unwrap_or before [])
+pub image_size : (before : Option (List ℕ)) → size_of before ≡ length (unwrap_or before [])
 image_size None = refl
 image_size (Some bytes) = refl
 
@@ -130,6 +140,24 @@ module _ (s : state.UnitsState) (v : VolumeState) (order : IsInOrder s v) (at : 
 
   pub few : h.organization ≡ kept_by.Sequential → h.count < 4294967295
   few e = few_records s v order f h there kept.content file is_file e
+
+  named : IsNamed v.catalog.heads f h h.name
+  named = record { there = there; called = refl; lowest = λ g other less at_g same. let e = once g f other h at_g there same in absurd (omega (arith, e, less)) }
+
+  at_file : (x : File) × IsFile kept.content h x × IsFoundAt h.name n.durable.directory f x × IsCarried kept.content f h x.carried
+  at_file = finds_files.found kept.content v.catalog.heads n.durable.directory f h h.name kept.has.files named
+
+  found_is : at_file.0 ≡ file
+  found_is = same at_file.0 file (sym at_file.2.found ∙ found)
+    where
+      same : (x y : File) → ◌≡◌ {A = Option File} (Some x) (Some y) → x ≡ y
+      same x y e = cc
+
+  at_f : file_at n.durable.directory f ≡ Some file
+  at_f = at_file.2.there ∙ ap Some found_is
+
+  carried : IsCarried kept.content f h file.carried
+  carried = subst (λ (x : File). IsCarried kept.content f h x.carried) found_is at_file.3
 
   form_is : option_map cause_line (form.form_refused h o (length value)) ≡ form_refused file op
   form_is = forms.changes h file o bytes is_file.head number
@@ -199,6 +227,36 @@ module _ (s : state.UnitsState) (v : VolumeState) (order : IsInOrder s v) (at : 
         ∙ (λ i. let free = sym (free_is s log v order at n up kept) i in let need = sym (need_is none) i in refused_if (nat_lt free need) (line.JournalFull free need))
         ∙ ap (λ cs. journal_full n h.name cs b) (sym asks.changes)
 
+    -- the rings of the file's journals of images
+
+    abbrev after : Option (List ℕ)
+    after = changing.after_change (change_in o) value
+
+    open_here : (is_settled (all_of file.carried.after.entries) b.key.serial ≡ false) × (is_settled (all_of file.carried.before.entries) b.key.serial ≡ false)
+    open_here = left_open s log v at n up kept f h.name file found at_f h carried b (found_there u.serial n.volatile.branches b found_b) unprepared
+
+    changed_so : has_changed u f ≡ changed_it file.history b.key.serial
+    changed_so = sym ((unit_is s log v order at n up kept place u at_place).files f) ∙ ap (changed_at u.serial) at_f ∙ ap (changed_it file.history) (sym own.serial)
+
+    after_long : room.entry_size key after ≡ changes_length (afters (change ∷ []))
+    after_long = let k = key_size key in let i = image_size after in omega (arith, k, i)
+
+    before_long : why ≡ None → size ≡ changes_length (befores (change ∷ []))
+    before_long none =
+        let before : before_change (change_in o) (unwrap_or had []) ≡ change.before = found_before h (change_in o) key had value none ∙ sym (is_file.records key) in
+        let same : size ≡ room.entry_size key change.before = ap (room.entry_size key) before in
+        let k = key_size key in
+        let i = image_size change.before in
+        omega (arith, same, k, i)
+
+    abbrev full_images : Option Cause
+    full_images = images_refused h f s.units.places (has_changed u f) (room.entry_size key after) size
+
+    I : why ≡ None → option_map cause_line full_images ≡ images_full b.key.serial (changes_of file op) file
+    I none =
+        (λ i. option_map cause_line (images_refused h f s.units.places (changed_so i) (after_long i) (before_long none i)))
+        ∙ images_alike s log v at n up kept f h.name file found at_f h carried b.key.serial open_here.0 open_here.1 (change ∷ []) refl ∙ ap (λ cs. images_full b.key.serial cs file) (sym asks.changes)
+
     abbrev bytes_refused : Option Cause
     bytes_refused = room.journal_refused v.catalog.ru s.units.places u size
 
@@ -208,13 +266,13 @@ module _ (s : state.UnitsState) (v : VolumeState) (order : IsInOrder s v) (at : 
     pub late_is : option_map cause_line (rms.change_late u f h (change_in o) key value s v kept.content) ≡ unit_late n b h.name file op
     late_is = go why refl
       where
-        go : (x : Option Cause) → why ≡ x → option_map cause_line (first_cause why (first_cause (changing.changes_refused 1 u) (first_cause (changing.keys_refused f keys s.locks) (first_cause full bytes_refused)))) ≡ unit_late n b h.name file op
+        go : (x : Option Cause) → why ≡ x → option_map cause_line (first_cause why (first_cause (changing.changes_refused 1 u) (first_cause (changing.keys_refused f keys s.locks) (first_cause full (first_cause bytes_refused full_images))))) ≡ unit_late n b h.name file op
         go (Some c) is =
-            ap (λ y. option_map cause_line (first_cause y (first_cause (changing.changes_refused 1 u) (first_cause (changing.keys_refused f keys s.locks) (first_cause full bytes_refused))))) is
-            ∙ sym (first_some (found_refused n (Some b.key.serial) h.name op file) (first_of (more_changes n (changes_of file op) b) (first_of (more_locks n h.name (keys_held file op)) (first_of (file_full file op) (journal_full n h.name (changes_of file op) b))))
+            ap (λ y. option_map cause_line (first_cause y (first_cause (changing.changes_refused 1 u) (first_cause (changing.keys_refused f keys s.locks) (first_cause full (first_cause bytes_refused full_images)))))) is
+            ∙ sym (first_some (found_refused n (Some b.key.serial) h.name op file) (first_of (more_changes n (changes_of file op) b) (first_of (more_locks n h.name (keys_held file op)) (first_of (file_full file op) (first_of (journal_full n h.name (changes_of file op) b) (images_full b.key.serial (changes_of file op) file)))))
             (cause_line c) (sym A ∙ ap (option_map cause_line) is))
         go None is =
-            lines_first why _ ∙ (λ i. first_of (A i) ((lines_first (changing.changes_refused 1 u) _ ∙ (λ j. first_of (B j) ((lines_first (changing.keys_refused f keys s.locks) _ ∙ (λ k. first_of (C k) ((lines_first full bytes_refused ∙ (λ l. first_of (asks.full l) (E is l))) k))) j))) i))
+            lines_first why _ ∙ (λ i. first_of (A i) ((lines_first (changing.changes_refused 1 u) _ ∙ (λ j. first_of (B j) ((lines_first (changing.keys_refused f keys s.locks) _ ∙ (λ k. first_of (C k) ((lines_first full _ ∙ (λ l. first_of (asks.full l) ((lines_first bytes_refused full_images ∙ (λ q. first_of (E is q) (I is q))) l))) k))) j))) i))
 
     pub late_none : rms.change_late u f h (change_in o) key value s v kept.content ≡ None → unit_late n b h.name file op ≡ None
     late_none none = line_none (rms.change_late u f h (change_in o) key value s v kept.content) (unit_late n b h.name file op) late_is none

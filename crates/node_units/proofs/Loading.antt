@@ -17,6 +17,7 @@ use Rattle.unit_table.specs.Units.{Units, owed}
 use Rattle.run_model.specs.World.{Node}
 use Rattle.volume.specs.Catalogs.{IsSound, TellsCatalog}
 use Rattle.volume.specs.State.{Holds, VolumeState}
+use Rattle.image_room.specs.Room.{AllSettlementsFit, images_end}
 use Rattle.volume.specs.declared.catalog.Catalog.{Catalog}
 use Rattle.volume_model.specs.Volumes.{LeavesVolume}
 use Rattle.recovery_units.specs.Calls.{IsRestarting, ReopensErr, ReopensOk}
@@ -49,10 +50,11 @@ module _ (v x : VolumeState) (catalog : x.catalog ≡ v.catalog) (only : OnlyRea
     room = subst (λ (k : Catalog). k.ru.end - k.ru.first + owed s.units.places ≤ ring_size k.ru) (sym catalog) order.room;
     within = subst (λ (k : Catalog). rms.AreWithin k.ru.first k.ru.end s.units.places) (sym catalog) order.within;
     ascending = subst (λ (k : Catalog). rms.AreAscending k.ru.first k.ru.end s.units.places) (sym catalog) order.ascending;
+    images = subst (λ (k : Catalog). AllSettlementsFit s.units.places k.heads) (sym catalog) order.images;
   }
 
   early_read : IsEarly v → IsEarly x
-  early_read early = record { low = subst (λ (k : Catalog). k.ru.end + 2 ^ 22 ≤ 2 ^ 62) (sym catalog) early.low; moment = subst (λ (k : Catalog). k.home.greatest_moment.0 < 24000001000066) (sym catalog) early.moment }
+  early_read early = record { low = subst (λ (k : Catalog). k.ru.end + 2 ^ 22 ≤ 2 ^ 62) (sym catalog) early.low; moment = subst (λ (k : Catalog). k.home.greatest_moment.0 < 24000001000066) (sym catalog) early.moment; images = subst (λ (k : Catalog). images_end k.heads + 2 ^ 24 ≤ 2 ^ 62) (sym catalog) early.images }
 
   restarting_read : (n : Node) → IsRestarting v n → IsRestarting x n
   restarting_read n r = record {

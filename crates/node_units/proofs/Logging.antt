@@ -25,16 +25,15 @@ use Rattle.lmcp_log.proofs.Fields.{ids_16, length_mapped, names_16}
 use Rattle.lmcp_log.proofs.Keepings.{keeps_set, none_in_zeros}
 use Rattle.lmcp_log.proofs.SlotLemmas.{none_forgotten}
 use Rattle.lmcp_log.proofs.Pieces.{All16, length_pieces}
-use Rattle.change_set.specs.Files.{AgreesOn}
 use Rattle.file_base.specs.declared.head.FileHead.{FileHead}
 use Rattle.volume.specs.declared.catalog.Catalog.{Catalog}
 use Rattle.volume.specs.Catalogs.{IsSound, TellsCatalog, TellsEntry}
 use Rattle.volume.specs.Limits.{data_area}
 use Rattle.volume.specs.State.{VolumeState}
 use Rattle.volume_format.specs.Home.{HasHome, HasRu, sizes_of}
-use Rattle.directory_model.specs.Files.{head_at}
+use Rattle.directory_model.specs.Files.{StandsIn, head_at}
 use Rattle.directory_model.proofs.Apart.{writes_apart}
-use Rattle.volume_laws.specs.Journals.{SameRing}
+use Rattle.file_images.specs.Files.{SameRing}
 use Rattle.unit_votes.specs.Logging.{SetsRecord, nothing, written}
 use Rattle.unit_world.proofs.Blocks.{fit, other_block, whole_set}
 
@@ -188,6 +187,6 @@ module _ (ss ts : Slots) (a b : List (List ℕ)) (re : IsRelogged ss ts a b) (k 
   pub ring_relogged : SameRing k.ru a b
   ring_relogged = record { size = re.size; whole = re.whole; blocks = λ i from to. re.others i (inr (omega (arith, before, from))) }
 
-  pub files_relogged : (node : List ℕ) (size : ℕ) → IsSound node size k → length k.heads ≡ 64 → (f : ℕ) (h : FileHead) → head_at k.heads f ≡ Some h → AgreesOn h a b
-  files_relogged node size sound long = writes_apart.before (data_area (sizes_of k.home)) k.heads a b (fit node size k sound long)
+  pub files_relogged : (node : List ℕ) (size : ℕ) → IsSound node size k → length k.heads ≡ 64 → (f : ℕ) (h : FileHead) → head_at k.heads f ≡ Some h → StandsIn h a b
+  files_relogged node size sound long = writes_apart.before (data_area (sizes_of k.home)) k.heads a b (fit node size k sound long) re.size re.whole
       (λ i from. sym (re.others i (inr (let start = sound.ru_start in let blocks = sound.ru_blocks in omega (arith, before, from, start, blocks)))))

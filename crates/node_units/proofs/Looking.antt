@@ -49,6 +49,8 @@ refused_cases err.Changes P Q h = inl (cause.Changes, refl, h)
 refused_cases err.Locks P Q h = inl (cause.Locks, refl, h)
 refused_cases (err.FileFull free need) P Q h = inl (cause.FileFull free need, refl, h)
 refused_cases (err.JournalFull free need) P Q h = inl (cause.JournalFull free need, refl, h)
+refused_cases (err.AfterImagesFull free need) P Q h = inl (cause.AfterImagesFull free need, refl, h)
+refused_cases (err.BeforeImagesFull free need) P Q h = inl (cause.BeforeImagesFull free need, refl, h)
 refused_cases (err.Down down) P Q h = inr (down, refl, h)
 
 -- Several refusals.

@@ -13,6 +13,7 @@ use Rattle.seq_file.specs.Layout as sequential
 use Rattle.seq_file.specs.Records.{record_at}
 use Rattle.seq_file.proofs.RecordLaws.{record_at_past}
 use Rattle.relative_file.specs.Cells as relative
+use Rattle.indexed_file.specs.Chain as slots
 use Rattle.indexed_tree.specs.Files as indexed
 use Rattle.world_laws.specs.Ordered.{IsImageOf, IsKeyOf}
 use Rattle.directory_model.specs.Files.{IsWithin, organized_by}
@@ -22,10 +23,12 @@ abbrev Content : Type 0
 Content = List (List ℕ)
 
 -- it is of the file's form, and of a length that records have
-pub record Noted (o : Kept) (h : FileHead) (key : Key) (before : Option (List ℕ)) : Type 0 where
+pub record Noted (o : Kept) (h : FileHead) (key : Key) (before after : Option (List ℕ)) : Type 0 where
   pub form : IsKeyOf (organized_by o h) key
   pub image : IsImageOf (organized_by o h) h.mrs key before
   pub some : IfSome before (λ r. 1 ≤ length r)
+  pub suits : SuitsBy o h key before
+  pub later : IfSome after (λ r. 1 ≤ length r)
 
 at_last : (h : FileHead) (a : Content) (n : ℕ) (after : Option (List ℕ)) → sequential.IsLaidOut h a → h.count < 4294967295 → sequential.Takes h a (Number n) after → n < 2 ^ 32
 at_last h a n None laid few takes = omega (arith, takes, few)
@@ -57,21 +60,47 @@ indexed_image h t None size one is = (tt, tt)
 indexed_image h t (Some []) size one is = let none = sym (piece_of_none h.key_pos h.key_size) ∙ ap length is.has in absurd (omega (arith, none, size, one))
 indexed_image h t (Some (b ∷ r)) size one is = ((is.most, is.has), omega arith)
 
+text_suits : (h : FileHead) (t : List ℕ) (o : Option (List ℕ)) → length t ≡ h.key_size → IfSome o (Keeps h t) → slots.SuitsText h t o
+text_suits h t None size is = record { size = size; has = tt; most = tt }
+text_suits h t (Some r) size is = record { size = size; has = is.has; most = is.most }
+
+text_keeps : (h : FileHead) (t : List ℕ) (o : Option (List ℕ)) → slots.SuitsText h t o → IfSome o (Keeps h t)
+text_keeps h t None suits = tt
+text_keeps h t (Some r) suits = record { has = suits.has; most = suits.most }
+
 pub noted_by : (o : Kept) (h : FileHead) (a : Content) (key : Key) (after : Option (List ℕ)) → FormBy o h → LaidOutBy o h a → IsWithin a h → (o ≡ kept.Sequential → h.count < 4294967295) → h.mrn < 2 ^ 32 → SuitsBy o h key after → TakesBy o h a key after →
-    Noted o h key (map_by o h a key)
+    Noted o h key (map_by o h a key) after
 noted_by kept.Sequential h a (Number n) after form laid within few mrn suits takes =
     let image = sequential_image h (Number n) (record_at (sequential.records_in h a) n) (record_is h.mrs (sequential.records_in h a) n laid.records) in
-    record { form = (suits.0, at_last h a n after laid (few refl) takes); image = image.0; some = image.1 }
+    record {
+      form = (suits.0, at_last h a n after laid (few refl) takes);
+      image = image.0;
+      some = image.1;
+      suits = (suits.0, record_is h.mrs (sequential.records_in h a) n laid.records);
+      later = (sequential_image h (Number n) after suits.1).1;
+    }
 noted_by kept.Sequential h a (Text t) after form laid within few mrn suits takes = absurd suits
 noted_by kept.Sequential h a End after form laid within few mrn suits takes = absurd suits
 noted_by kept.Relative h a (Number n) after form laid within few mrn suits takes =
     let image = relative_image h (Number n) (relative.map_of h a (Number n)) (cell_suits a h n form within suits.0) in
     let cell = has_cell_is n h.mrn suits.0 in
-    record { form = (cell.0, cell.1, (let most = cell.1 in omega (arith, most, mrn))); image = image.0; some = image.1 }
+    record {
+      form = (cell.0, cell.1, (let most = cell.1 in omega (arith, most, mrn)));
+      image = image.0;
+      some = image.1;
+      suits = (suits.0, cell_suits a h n form within suits.0);
+      later = (relative_image h (Number n) after suits.1).1;
+    }
 noted_by kept.Relative h a (Text t) after form laid within few mrn suits takes = absurd suits
 noted_by kept.Relative h a End after form laid within few mrn suits takes = absurd suits
 noted_by kept.Indexed h a (Number n) after form laid within few mrn suits takes = absurd suits
 noted_by kept.Indexed h a (Text t) after form laid within few mrn suits takes =
     let image = indexed_image h t (indexed.map_of h a (Text t)) suits.size form.keys.key (slot_suits a h t laid) in
-    record { form = suits.size; image = image.0; some = image.1 }
+    record {
+      form = suits.size;
+      image = image.0;
+      some = image.1;
+      suits = text_suits h t (indexed.map_of h a (Text t)) suits.size (slot_suits a h t laid);
+      later = (indexed_image h t after suits.size form.keys.key (text_keeps h t after suits)).1;
+    }
 noted_by kept.Indexed h a End after form laid within few mrn suits takes = absurd suits

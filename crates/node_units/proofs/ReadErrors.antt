@@ -18,9 +18,9 @@ use Rattle.record_operations.specs.declared.errors.RecErr.{RecErr}
 use Rattle.record_operations.specs.declared.ops.ReadOp.{ReadOp}
 use Rattle.record_operations.specs.declared.ops.ReadOp.TheVariants as read
 use Rattle.record_files.specs.Any.{map_of}
-use Rattle.run_model.specs.Answers.{change_limit, found_refused, is_marked, journal_full, keys_refused, more_changes, more_locks}
+use Rattle.run_model.specs.Answers.{change_limit, found_refused, images_full, is_marked, journal_full, keys_refused, more_changes, more_locks}
 use Rattle.run_model.specs.Operations.{changes_of, file_full, first_of, form_refused, keys_asked, keys_held, refused_if}
-use Rattle.run_model.specs.World.{Act, File, Node, find_file}
+use Rattle.run_model.specs.World.{Act, File, Node, find_file, next_id}
 use Rattle.world_laws.proofs.FindLemmas.{found_serial}
 use Rattle.directory_model.specs.Files.{IsFile, head_at}
 use Rattle.recovery_units.specs.Calls as calls
@@ -82,7 +82,7 @@ module _ (u : OpenUnit) (op : ReadOp) (e : RecErr) (s : state.UnitsState) (v w :
   F = found_refused n (Some b.key.serial) h.name (read_said op) file
 
   abbrev rest : Option Line
-  rest = first_of (more_changes n (changes_of file (read_said op)) b) (first_of (more_locks n h.name (keys_held file (read_said op))) (first_of (file_full file (read_said op)) (journal_full n h.name (changes_of file (read_said op)) b)))
+  rest = first_of (more_changes n (changes_of file (read_said op)) b) (first_of (more_locks n h.name (keys_held file (read_said op))) (first_of (file_full file (read_said op)) (first_of (journal_full n h.name (changes_of file (read_said op)) b) (images_full b.key.serial (changes_of file (read_said op)) file))))
 
   -- before the keys are looked at nothing refuses it
   passes : rms.read_early h op ≡ None → (form_refused file (read_said op) ≡ None) × (is_marked file ≡ None)
@@ -110,7 +110,7 @@ module _ (u : OpenUnit) (op : ReadOp) (e : RecErr) (s : state.UnitsState) (v w :
       let few = ap (λ cs. more_changes n cs b) (changes_none file op) ∙ changes_few n b (few_in n.durable.units.entries kept.has.order.few).changes in
       let full : more_locks n h.name (keys_held file (read_said op)) ≡ Some (cause_line c) =
       ap (more_locks n h.name) reads.held ∙ sym (more_alike v.catalog.heads once (read_file_in op) h there n s.locks kept.locks (key ∷ [])) ∙ ap (option_map cause_line) many.1.3 in
-      λ i. first_of (first_of (p.0 i) (first_of (p.1 i) (reads.asked i))) (first_of (reads.found i) (first_of (few i) (first_of (full i) (first_of (file_full file (read_said op)) (journal_full n h.name (changes_of file (read_said op)) b)))))
+      λ i. first_of (first_of (p.0 i) (first_of (p.1 i) (reads.asked i))) (first_of (reads.found i) (first_of (few i) (first_of (full i) (first_of (file_full file (read_said op)) (first_of (journal_full n h.name (changes_of file (read_said op)) b) (images_full b.key.serial (changes_of file (read_said op)) file))))))
 
   broken : (down : Down) → MayRead u h op s × FellIn down v w → IsBroken (unit_early n b h.name file (read_said op)) (unit_late n b h.name file (read_said op)) (unit_act b h.name file (read_said op)) n w.store.disk
   broken down fell =
@@ -161,7 +161,7 @@ looks_err op e s v w log order r n name file asked =
     F = found_refused n None h.name (read_said op) file
 
     rest : Option Line
-    rest = first_of (refused_if (nat_lt change_limit (length (changes_of file (read_said op)))) (line.QuotaExceeded line.Changes change_limit)) (file_full file (read_said op))
+    rest = first_of (refused_if (nat_lt change_limit (length (changes_of file (read_said op)))) (line.QuotaExceeded line.Changes change_limit)) (first_of (file_full file (read_said op)) (images_full (next_id n) (changes_of file (read_said op)) file))
 
     form_is : option_map cause_line (form.read_form_refused h op) ≡ form_refused file (read_said op)
     form_is = forms.reads h file op is_file.head

@@ -20,9 +20,9 @@ use Rattle.record_operations.specs.Causes.{Cause, cause_if, first_cause, NotMark
 use Rattle.record_operations.specs.Forms as form
 use Rattle.record_operations.specs.declared.ops.ReadOp.{ReadOp}
 use Rattle.record_operations.specs.declared.ops.ReadOp.TheVariants as read
-use Rattle.run_model.specs.Answers.{change_limit, free_journal, is_marked, journal_full, more_changes, more_locks, needs_unit}
+use Rattle.run_model.specs.Answers.{change_limit, free_journal, is_marked, journal_full, more_changes, more_locks, needs_unit, images_full}
 use Rattle.run_model.specs.Operations.{changes_of, file_full, first_of, form_refused, free_buckets, keys_held, need_of, operation_answer, refused_if}
-use Rattle.run_model.specs.World.{Act, AreUnitsOf, File, Holds, Node, acted, changes_made, find_file}
+use Rattle.run_model.specs.World.{Act, AreUnitsOf, File, Holds, Node, acted, changes_made, find_file, next_id}
 use Rattle.world_laws.proofs.FindLemmas.{found_serial}
 use Rattle.world_laws.proofs.FewLemmas.{few_in}
 use Rattle.directory_model.specs.Files.{AreFiles, IsFile, head_at}
@@ -132,7 +132,8 @@ module _ (place : ℕ) (u : OpenUnit) (op : ReadOp) (key : Key) (bytes : List �
       let two = ap (λ cs. more_changes n cs b) none ∙ changes_few n b (few_in n.durable.units.entries kept.has.order.few).changes in
       let three = ap (more_locks n h.name) reads.held ∙ few in
       let five = ap (λ cs. journal_full n h.name cs b) none ∙ journal_none n h.name b in
-      λ i. first_of (reads.found i) (first_of (two i) (first_of (three i) (first_of (full_none file op i) (five i))))
+      let six = ap (λ cs. images_full b.key.serial cs file) none in
+      λ i. first_of (reads.found i) (first_of (two i) (first_of (three i) (first_of (full_none file op i) (first_of (five i) (six i)))))
 
   held : IsKept (seen t log) w (acted (unit_act b h.name file (read_said op)) n)
   held =
@@ -182,7 +183,8 @@ looks_ok op key bytes s v w log order r n name file asked =
     here =
         let one = line_none (form.read_form_refused h op) (form_refused file (read_said op)) (forms.reads h file op is_file.head) is.early in
         let few = ap (λ cs. refused_if (nat_lt change_limit (length cs)) (line.QuotaExceeded line.Changes change_limit)) (changes_none file op) in
+        let rings = ap (λ cs. images_full (next_id n) cs file) (changes_none file op) in
         record {
-          allowed = (λ i. first_of (first_of (one i) (first_of (alone_may file op i) (reads.asked i))) (first_of (reads.found i) (first_of (few i) (full_none file op i))));
+          allowed = (λ i. first_of (first_of (one i) (first_of (alone_may file op i) (reads.asked i))) (first_of (reads.found i) (first_of (few i) (first_of (full_none file op i) (rings i)))));
           answers = reads.answers;
         }

@@ -1,6 +1,6 @@
 -- A restart undoes the units of a node that are not prepared as the world does.
-use Rattle.std.proofs.Common.{inl, inr, ◌≡◌, ℕ, zero, suc, ◌+◌, ◌-◌, ◌*◌, ◌<◌, ◌≤◌, List, [], ◌∷◌, ◌++◌, Bool, true, false, Option, Some, None, if◌then◌else◌, length, map, slice_get, refl, sym, ◌∙◌, ap, subst, arith}
-use Rattle.std.specs.Prelude.{nat_lt}
+use Rattle.std.proofs.Common.{inl, inr, ◌≡◌, ℕ, zero, suc, ◌+◌, ◌-◌, ◌*◌, ◌<◌, ◌≤◌, ◌^◌, List, [], ◌∷◌, ◌++◌, Bool, true, false, Option, Some, None, if◌then◌else◌, length, map, slice_get, slice_index_or, refl, sym, ◌∙◌, ap, subst, arith}
+use Rattle.std.specs.Prelude.{is_some, nat_lt}
 use Rattle.std.specs.Option.{IfSome}
 use Rattle.std.specs.List.{AllByRecursion}
 use Rattle.std.proofs.lemmas.Bool.Decides.{nat_tests}
@@ -16,13 +16,16 @@ use Rattle.journal_model.specs.Entries.{Entry}
 use Rattle.journal_model.specs.Ring.{IsJournal, ring_size}
 use Rattle.log_laws.specs.Slots.{prepared_of, records_in}
 use Rattle.ru_journal.specs.Told.{UnitTold, nothing_told, told_by}
+use Rattle.directory_model.specs.Files.{file_at}
+use Rattle.image_room.specs.Room.{ImagesAreLow}
 use Rattle.volume.specs.Catalogs.{IsSound, TellsCatalog}
 use Rattle.volume.specs.State.{VolumeState}
 use Rattle.unit_aborts.specs.Reopening.{AreFound, AreLeft, AreUnits, BreaksUnit, HasTaken, Reopens, UndoesOne, aborting, broken, but_next, full, left_after, left_unit, left_units, next_of, reading, taken}
 use Rattle.unit_aborts.specs.declared.reopening.AbortedUnit.{AbortedUnit}
+use Rattle.unit_entries.specs.Opening.{AreAlike, AreFilesAt}
 use Rattle.unit_entries.specs.Reading.{AreInOrder, placed}
 use Rattle.unit_entries.specs.Reading as entries
-use Rattle.unit_laws.specs.Journal.{JournalEntry, ChangeEntry, PreparedEntry, SettledEntry, RecoveryUnit, active_units, entries_size, entry_size, owed, units_in}
+use Rattle.unit_laws.specs.Journal.{JournalEntry, ChangeEntry, PreparedEntry, SettledEntry, RecoveryUnit, active_units, entries_size, entry_size, find_unit, is_settled_in, owed, units_in}
 use Rattle.unit_table.specs.Units.{OpenUnit, earlier, earliest}
 use Rattle.run_model.specs.Answers.{left_active, unit_key}
 use Rattle.run_model.specs.Locks.{Lock}
@@ -32,6 +35,8 @@ use Rattle.world_laws.proofs.BootLemmas.{branch_in, left_reordered}
 use Rattle.world_laws.proofs.FewLemmas.{few_in}
 use Rattle.world_laws.proofs.LeftLemmas.{left_by}
 use Rattle.world_laws.proofs.UndoLemmas.{boot_kept, unsettled_left}
+use Rattle.world_laws.proofs.UnsettledLemmas.{units_are_unsettled}
+use Rattle.world_laws.specs.Running.{Each}
 use Rattle.undo_laws.proofs.FallenLemmas.{has_disk, volume_left_fallen}
 use Rattle.volume_model.specs.Volumes.{HasDisk, IsLeftBy}
 use Rattle.volume_model.specs.Entries.{AreEntries}
@@ -39,16 +44,19 @@ use Rattle.unit_journal.specs.Groups.{LeavesOld}
 use Rattle.unit_journal.specs.Settling.{next_moment as moment_next}
 use Rattle.unit_restarts.specs.Restarting.{RestartsNot, returning, undoing}
 use Rattle.recovery_units.specs.Calls.{IsRestarting, after_undone, settlements_of, told_in, told_settlement, undone_act, undone_next}
-use Rattle.recovery_units.specs.State.{IsEarly, is_change_by, positions_of}
+use Rattle.recovery_units.specs.State.{IsEarly, changed_at, is_change_by, positions_of}
 use Rattle.recovery_units.specs.declared.settled.SettledUnit.{SettledUnit}
 use Rattle.rms_units.specs.State as rms
 use Rattle.node_units.specs.Told.{unit_settled}
 use Rattle.node_units.proofs.Alike.{next_alike, positions_alike}
 use Rattle.node_units.proofs.Earliest.{first_by}
+use Rattle.node_units.proofs.NotedFiles.{files_say}
+use Rattle.node_units.proofs.RestartRoom.{never_full}
+use Rattle.node_units.proofs.Seeing.{ends_within}
 use Rattle.node_units.proofs.Falling.{same_some}
 use Rattle.node_units.proofs.Standing.{entries_stand}
 use Rattle.node_units.proofs.Telling.{AreTold, IsTold, unit_shown, units_told}
-use Rattle.node_units.proofs.Undoing.{AreWhere, IsOfPrepared, Stage, active_next, active_none, all_next, counted, earliest_told, entered, fails_before, fails_last, fails_on_the_way, next_stage, nobody, relocked_next, rows_for, stage_read, stay_next}
+use Rattle.node_units.proofs.Undoing.{AreWhere, IsOfPrepared, Stage, active_next, active_none, all_next, counted, each_found, earliest_told, entered, fails_before, fails_last, fails_on_the_way, next_holds, next_stage, nobody, relocked_next, rows_for, serials_told, stage_read, stay_next, still_next}
 
 -- The nodes and the settlements of a restart.
 
@@ -136,6 +144,20 @@ few_active (u ∷ us) = go u.prepared (few_active us)
     go true rest = omega (arith, rest)
     go false rest = omega (arith, rest)
 
+-- A unit that is left is unsettled at a restart, and changed the files then that it has changed.
+pub record Carries (n m : Node) (u : UnitTold) : Type 0 where
+  pub unsettled : is_settled_in u.serial n.durable.units.entries ≡ false
+  pub files : (f : ℕ) → changed_at u.serial (file_at m.durable.directory f) ≡ changed_at u.serial (file_at n.durable.directory f)
+
+carries_first : (n : Node) (us : List UnitTold) → Each (λ (x : Id). is_settled_in x n.durable.units.entries ≡ false) (serials_told us) → AllByRecursion (Carries n n) us
+carries_first n [] all = tt
+carries_first n (u ∷ us) all = (record { unsettled = all.0; files = λ f. refl }, carries_first n us all.1)
+
+carries_on : (n m next : Node) (us : List UnitTold) → AllByRecursion (Carries n m) us →
+    AllByRecursion (λ (w : UnitTold). (f : ℕ) → changed_at w.serial (file_at next.durable.directory f) ≡ changed_at w.serial (file_at m.durable.directory f)) us → AllByRecursion (Carries n next) us
+carries_on n m next [] all still = tt
+carries_on n m next (u ∷ us) all still = (record { unsettled = all.0.unsettled; files = λ f. still.0 f ∙ all.0.files f }, carries_on n m next us all.1 still.1)
+
 -- Units are taken one after another.
 
 module _ (clock most size : ℕ) (us : List UnitTold) (v : VolumeState) (n : Node) (begun : Stage clock most size n us v n) (late : clock ≤ most) (far : most + 64 < 24113056319999) (few : length us ≤ 64) (prepared : IsOfPrepared n) (records : (r : LogRecord) → In r (prepared_left n.durable) → In r (prepared_of (records_in n.durable.log))) where
@@ -155,7 +177,20 @@ module _ (clock most size : ℕ) (us : List UnitTold) (v : VolumeState) (n : Nod
     pub told : map told_of out ≡ settlements_of i n all
     pub rest : active_units (map unit_shown (left_after i us)) ≡ behind i all
     pub places : AreWhere first_places (node i) (left_after i us)
+    pub carries : AllByRecursion (Carries n (node i)) (left_after i us)
     pub locks : (ls : List Lock) → relocked (prepared_left n.durable) (node i).durable ls ≡ relocked (prepared_left n.durable) n.durable ls
+
+  -- none of the units is settled
+  open_first : Each (λ (x : Id). is_settled_in x n.durable.units.entries ≡ false) (serials_told us)
+  open_first = each_found us begun.units.differ (λ (x : Id). is_settled_in x n.durable.units.entries ≡ false)
+      (λ x k. units_are_unsettled n.durable.units.entries x begun.leaves.order.order (ap (λ (rs : List RecoveryUnit). is_some (find_unit x rs)) (sym begun.units.units) ∙ k))
+
+  -- the files that one of them changed are those that its entries tell
+  pub says_now : (i : ℕ) (u : UnitTold) → next_of (left_after i us) ≡ Some u → AllByRecursion (Carries n (node i)) (left_after i us) → (ps : List ℕ) (files : List Bool) → AreFound u.serial v ps → AreFilesAt v ps files →
+      (f : ℕ) → changed_at u.serial (file_at (node i).durable.directory f) ≡ slice_index_or files f false
+  says_now i u next all ps files found filed f =
+      let own = next_holds (Carries n (node i)) (left_after i us) u next all in
+      own.files f ∙ files_say v n begun.content begun.told begun.leaves begun.long u.serial ps files found filed own.unsettled f
 
   late_at : (i : ℕ) → clock ≤ most + i
   late_at i = omega (arith, late)
@@ -204,7 +239,7 @@ module _ (clock most size : ℕ) (us : List UnitTold) (v : VolumeState) (n : Nod
       let got = got_next i u so_far.rest next in
       let at = so_far.stage in
       let places = found_now i u mid at le next so_far.places is.positions is.found in
-      let stage = next_stage clock (most + i) size n (left_after i us) u mid (node i) at next (late_at i) (far_at i le) prepared is.positions places t.tid t.serial is.tid is.serial t.moment.0 is.moment (left_units (left_after (suc i) us)) (left_now i mid at)
+      let stage = next_stage clock (most + i) size n (left_after i us) u mid (node i) at next (late_at i) (far_at i le) prepared is.positions places is.files (says_now i u next so_far.carries is.positions is.files is.found is.filed) t.tid t.serial is.tid is.serial t.moment.0 is.moment (left_units (left_after (suc i) us)) (left_now i mid at)
       is.aborts.mid is.aborts.goes is.aborts.undoes w is.aborts.makes is.idle in
       let moment : t.moment.0 ≡ next_moment (node i) = is.moment ∙ next_alike clock mid.catalog.home (node i) at.leaves.home at.same in
       let more : most + i + 1 ≡ most + suc i = omega arith in
@@ -219,6 +254,9 @@ module _ (clock most size : ℕ) (us : List UnitTold) (v : VolumeState) (n : Nod
             (where_on first_places (node i) (acted (undone_act (node i) (unit_shown u)) (node i)) (left_after (suc i) us)
             (all_next (λ (y : UnitTold). first_places y.serial ≡ positions_of y.serial (node i).durable.units.first (node i).durable.units.entries) (left_after i us) so_far.places)
             (stay_next clock (most + i) size n (left_after i us) u mid (node i) at next (late_at i) (far_at i le) prepared));
+        carries = subst (λ (m : Node). AllByRecursion (Carries n m) (left_after (suc i) us)) (sym (after_next all i (unit_shown u) n got.0))
+            (carries_on n (node i) (acted (undone_act (node i) (unit_shown u)) (node i)) (left_after (suc i) us) (all_next (Carries n (node i)) (left_after i us) so_far.carries)
+            (still_next clock (most + i) size n (left_after i us) u mid (node i) at next (late_at i) (far_at i le) prepared));
         locks = λ ls.
             ap (λ (m : Node). relocked (prepared_left n.durable) m.durable ls) (after_next all i (unit_shown u) n got.0)
             ∙ relocked_next clock (most + i) size n (left_after i us) u mid (node i) at next (late_at i) (far_at i le) prepared (prepared_left n.durable) records ls ∙ so_far.locks ls;
@@ -233,6 +271,7 @@ module _ (clock most size : ℕ) (us : List UnitTold) (v : VolumeState) (n : Nod
           told = ap (map told_of) h.1;
           rest = refl;
           places = where_first n us;
+          carries = carries_first n us open_first;
           locks = λ ls. refl;
         },
         omega arith,
@@ -323,6 +362,14 @@ module _ (clock : ℕ) (v : VolumeState) (n : Node) (r : IsRestarting v n) (size
       subst (λ (rs : List RecoveryUnit). AreKept (rows_for rs (counted n)) (counted n)) active
       (subst (λ (x : Volatile). AreKept (rows_for (left_active n) (record (counted n) { volatile = x })) (record (counted n) { volatile = x })) (sym r.booted) (boot_kept nobody n r.disk).1)
 
+  images_early : ImagesAreLow (48 * length us) v.catalog.heads
+  images_early f h there =
+      let within = ends_within v.catalog.heads f h there in
+      let one = within.0 in
+      let two = within.1 in
+      let low = early.images in
+      (omega (arith, one, low, few), omega (arith, two, low, few))
+
   pub start : Stage clock 24000001000066 v.store.disk.size n us v n
   start = record {
     content = r.content;
@@ -340,6 +387,7 @@ module _ (clock : ℕ) (v : VolumeState) (n : Node) (r : IsRestarting v n) (size
     units = told;
     moment = let m = early.moment in omega (arith, m);
     low = let low = early.low in omega (arith, low, few);
+    images = images_early;
     rows = rows_first;
   }
 
@@ -379,7 +427,10 @@ module _ (clock : ℕ) (v : VolumeState) (n : Node) (r : IsRestarting v n) (size
       absurd (subst (λ o. IfSome o (λ c. (ds : List Entry) → IsJournal c v.catalog.ru ds → length ds ≤ 87381 → AreInOrder nothing_told (placed v.catalog.ru.first ds) → ⊥)) r.told wrong es r.leaves.journal.is short stand)
   reopened w out left (full these are over is nothing none) =
       let as_long = ap length (these_are these are) in
-      absurd (omega (arith, over, as_long, fits, spans))
+      elim over [
+        | inl large ↦ absurd (omega (arith, large, as_long, fits, spans))
+        | inr large ↦ absurd (never_full v n r.content r.told r.leaves order.heads us told kept_disk.filed.images large.0 (subst (λ (xs : List UnitTold). AreAlike xs large.0) (these_are these are) large.1) large.2 large.3 large.4)
+      ]
   reopened w out left (taken these many are has none rest) =
       let is_us = these_are these are in
       let has_us = subst (λ (xs : List UnitTold). HasTaken clock xs many v w out) is_us has in
@@ -431,9 +482,9 @@ module _ (clock : ℕ) (v : VolumeState) (n : Node) (r : IsRestarting v n) (size
     subst (λ (act : Option Act). HasDisk (fallen act at_node) w.store.disk) (sym (act_next (active_units (map unit_shown us)) i (unit_shown u) n got.0)) (elim breaks.breaks [
       | inl fails ↦ fails_on_the_way clock (24000001000066 + i) v.store.disk.size n (left_after i us) u mid at_node at next late far of_prepared breaks.positions places act w fails
       | inr last ↦ elim last.breaks [
-        | inl old ↦ fails_before clock (24000001000066 + i) v.store.disk.size n (left_after i us) u mid at_node at next late far of_prepared breaks.positions places breaks.tid breaks.serial breaks.same_tid breaks.same_serial (moment_next clock mid.catalog.home) refl
+        | inl old ↦ fails_before clock (24000001000066 + i) v.store.disk.size n (left_after i us) u mid at_node at next late far of_prepared breaks.positions places breaks.files says breaks.tid breaks.serial breaks.same_tid breaks.same_serial (moment_next clock mid.catalog.home) refl
             (left_units (left_after (suc i) us)) left last.mid last.goes last.undoes act w old
-        | inr either ↦ fails_last clock (24000001000066 + i) v.store.disk.size n (left_after i us) u mid at_node at next late far of_prepared breaks.positions places breaks.tid breaks.serial breaks.same_tid breaks.same_serial (moment_next clock mid.catalog.home) refl
+        | inr either ↦ fails_last clock (24000001000066 + i) v.store.disk.size n (left_after i us) u mid at_node at next late far of_prepared breaks.positions places breaks.files says breaks.tid breaks.serial breaks.same_tid breaks.same_serial (moment_next clock mid.catalog.home) refl
             (left_units (left_after (suc i) us)) left last.mid last.goes last.undoes either.made either.is w either.either
       ]
     ]),
@@ -467,6 +518,9 @@ module _ (clock : ℕ) (v : VolumeState) (n : Node) (r : IsRestarting v n) (size
 
       places : breaks.positions ≡ entries.positions_of u.serial (placed mid.catalog.ru.first at.leaves.journal.entries)
       places = found_now clock 24000001000066 v.store.disk.size us v n start (omega (arith, before)) (omega arith) few of_prepared records_there i u mid at small next did.0.places breaks.positions breaks.found
+
+      says : (f : ℕ) → changed_at u.serial (file_at at_node.durable.directory f) ≡ slice_index_or breaks.files f false
+      says = says_now clock 24000001000066 v.store.disk.size us v n start (omega (arith, before)) (omega arith) few of_prepared records_there i u next did.0.carries breaks.positions breaks.files breaks.found breaks.filed
 
       left : earliest (left_units (left_after (suc i) us)) ≡ earliest_told (left_after (suc i) us)
       left = left_now clock 24000001000066 v.store.disk.size us v n start (omega (arith, before)) (omega arith) few of_prepared records_there i mid at

@@ -1,13 +1,10 @@
 -- The units of prepared branches behind a restart are those of the node: with their changes, the files of these and what they hold.
-use Rattle.std.proofs.Common.{inl, inr, ◌≡◌, ℕ, zero, suc, ◌+◌, ◌<◌, ◌≤◌, ◌==◌, ◌&&◌, ◌||◌, not, List, [], ◌∷◌, ◌++◌, Bool, true, false, Option, Some, None, if◌then◌else◌, length, map, slice_get, slice_index_or, slice_set, replicate, refl, sym, ◌∙◌, ap, subst, arith, get_or-set_same, get_or-set_other, length-set}
+use Rattle.std.proofs.Common.{◌≡◌, ℕ, zero, suc, ◌+◌, ◌≤◌, ◌||◌, not, List, [], ◌∷◌, Bool, true, false, Option, Some, None, if◌then◌else◌, length, map, slice_get, slice_index_or, refl, sym, ◌∙◌, ap, subst, arith}
 use Rattle.std.specs.Prelude.{is_some, is_none, nat_lt}
 use Rattle.std.specs.FinMap.{get}
-use Rattle.std.specs.List.{AllByRecursion, list_any}
-use Rattle.std.specs.Str.{bytes_eq}
-use Rattle.std.proofs.lemmas.Bool.{cases_eq, false_from_ne_true}
+use Rattle.std.specs.List.{AllByRecursion}
 use Rattle.std.proofs.lemmas.Bool.Decides.{nat_tests}
 use Rattle.std.proofs.lemmas.Nat.{from_le_bytes-to_le_bytes_4}
-use Rattle.std.proofs.lemmas.Slice.Eq.{bytes_eq-Decides}
 use Rattle.vms_model.specs.Ids.{Id}
 use Rattle.vms_model.specs.Keys.{End, Key, Number, Text}
 use Rattle.records_model.specs.History.{current, same_id}
@@ -27,12 +24,11 @@ use Rattle.directory_model.proofs.Finding.{found_at}
 use Rattle.directory_model.proofs.Places.{file_there}
 use Rattle.unit_entries.specs.Keys.{key_in}
 use Rattle.unit_entries.specs.Reading.{changes_of, is_change_of, placed}
-use Rattle.unit_entries.proofs.KeyLemmas.{number_is, number_itself}
-use Rattle.unit_laws.specs.Journal.{ChangeEntry, JournalEntry, Note, PreparedEntry, SettledEntry, notes_in}
+use Rattle.unit_laws.specs.Journal.{ChangeEntry, JournalEntry, PreparedEntry, SettledEntry}
 use Rattle.unit_returns.specs.Locking as locking
-use Rattle.unit_returns.specs.Locking.{files_in, files_onto, keys_with_end, moves_end}
-use Rattle.unit_table.specs.Units.{no_files}
-use Rattle.volume_model.specs.Entries.{AreEntries, IsFileOf, entry_for, key_bytes}
+use Rattle.unit_returns.specs.Locking.{keys_with_end, moves_end}
+use Rattle.file_images.specs.Images.{key_bytes}
+use Rattle.volume_model.specs.Entries.{AreEntries, IsFileOf, entry_for}
 use Rattle.world_laws.specs.Ordered.{IsKeyOf, Suits}
 use Rattle.recovery_units.specs.State.{AreLocks}
 use Rattle.node_units.proofs.Locking.{AreOnce, locks_more}
@@ -111,24 +107,6 @@ module _ (content : List (List ℕ)) (h : FileHead) (f : File) (is : IsFile cont
         | model.Indexed position size ↦ key ∷ []
       ]) (sym is.head.organization)
 
--- Whether there are notes.
-
-abbrev pub some_noted : List Note → Bool
-some_noted [] = false
-some_noted (n ∷ ns) = true
-
-note_more : (ns ms : List Note) → some_noted (ns ++ ms) ≡ (some_noted ms || some_noted ns)
-note_more [] ms = sym (no_more (some_noted ms))
-  where
-    no_more : (b : Bool) → (b || false) ≡ b
-    no_more true = refl
-    no_more false = refl
-note_more (n ∷ ns) ms = all (some_noted ms)
-  where
-    all : (b : Bool) → true ≡ (b || true)
-    all true = refl
-    all false = refl
-
 -- The units of a volume that is the node's.
 
 module _ (content : List (List ℕ)) (heads : List (Option FileHead)) (d : Durable) (files : AreFiles content heads d.directory) (once : AreOnce heads) (names : (p q : ℕ) (f g : File) → slice_index_or d.directory p None ≡ Some f → slice_index_or d.directory q None ≡ Some g → f.name ≡ g.name → p ≡ q) where
@@ -204,119 +182,3 @@ module _ (content : List (List ℕ)) (heads : List (Option FileHead)) (d : Durab
           go : (b : Bool) → AreLocks heads (locking.relocked_by heads x (map (λ (z : ℕ × Entry). z.1) (if b then (p, entry_for are.0 (ChangeEntry tid by name key before)) ∷ later else later)) ls) (model.relocked_by x directory es (if b then held else ms))
           go true = rest (table.with_locks x are.0 (locking.keys_left (head_at heads are.0) (entry_for are.0 (ChangeEntry tid by name key before))) ls) held more
           go false = rest ls ms locks
-
-  -- Which files it changed.
-
-  module _ (f : ℕ) (file : File) (there : file_at directory f ≡ Some file) where
-    tied : (g : ℕ) (h : FileHead) → head_at heads g ≡ Some h → (g == f) ≡ bytes_eq file.name h.name
-    tied g h at = elim (cases_eq g f) [
-      | inl same ↦ ap (λ (m : ℕ). m == f) same ∙ number_itself f ∙ sym ((bytes_eq-Decides file.name h.name).1 (own same))
-      | inr other ↦ false_from_ne_true _ (λ (e : (g == f) ≡ true). other (number_is g f e))
-          ∙ sym (false_from_ne_true _ (λ (e : bytes_eq file.name h.name ≡ true). other (names g f x.file file x.at there (x.is.head.name ∙ sym ((bytes_eq-Decides file.name h.name).0 e)))))
-    ]
-      where
-        x : IsFound g h
-        x = found_file g h at
-
-        one : ◌≡◌ {A = Option File} (Some x.file) (Some file) → x.file ≡ file
-        one e = cc
-
-        own : g ≡ f → file.name ≡ h.name
-        own same = ap (λ (y : File). y.name) (sym (one (sym x.at ∙ ap (file_at directory) same ∙ there))) ∙ x.is.head.name
-
-    pub noted_alike : (x : Id) (p : ℕ) (es : List JournalEntry) (ds : List Entry) → AreEntries heads es ds → list_any (λ (e : Entry). e.file == f) (changed x p ds) ≡ some_noted (notes_in x file.name es)
-    noted_alike x p [] [] are = refl
-    noted_alike x p [] (d ∷ ds) are = absurd are
-    noted_alike x p (e ∷ es) [] are = absurd are
-    noted_alike x p (e ∷ es) (d ∷ ds) are =
-        subst (λ (y : Entry). list_any (λ (e : Entry). e.file == f) (map (λ (z : ℕ × Entry). z.1) (if is_change_of x y then (p, y) ∷ later else later)) ≡ some_noted (notes_in x file.name (e ∷ es))) (sym are.2)
-        (one e are.1 (noted_alike x (p + length (spelling d)) es ds are.3))
-      where
-        later : List (ℕ × Entry)
-        later = changes_of x (placed (p + length (spelling d)) ds)
-
-        none : (b : Bool) → b ≡ (false || b)
-        none b = refl
-
-        one : (e : JournalEntry) → IsFileOf heads e are.0 → list_any (λ (e : Entry). e.file == f) (map (λ (z : ℕ × Entry). z.1) later) ≡ some_noted (notes_in x file.name es) →
-            list_any (λ (e : Entry). e.file == f) (map (λ (z : ℕ × Entry). z.1) (if is_change_of x (entry_for are.0 e) then (p, entry_for are.0 e) ∷ later else later)) ≡ some_noted (notes_in x file.name (e ∷ es))
-        one (PreparedEntry tid by) of rest = rest ∙ sym (note_more (notes_in x file.name es) [])
-        one (SettledEntry tid by outcome moment) of rest = rest ∙ sym (note_more (notes_in x file.name es) [])
-        one (ChangeEntry tid by name key before) of rest = go (same_id x by) ∙ sym (note_more (notes_in x file.name es) (if same_id x by && bytes_eq file.name name then (key, before) ∷ [] else []))
-          where
-            same : (are.0 == f) ≡ bytes_eq file.name name
-            same = tied are.0 of.0 of.1 ∙ ap (bytes_eq file.name) of.2
-
-            some_if : (b : Bool) → b ≡ some_noted (if b then (key, before) ∷ [] else [])
-            some_if true = refl
-            some_if false = refl
-
-            go : (b : Bool) → list_any (λ (e : Entry). e.file == f) (map (λ (z : ℕ × Entry). z.1) (if b then (p, entry_for are.0 (ChangeEntry tid by name key before)) ∷ later else later)) ≡
-                (some_noted (if b && bytes_eq file.name name then (key, before) ∷ [] else []) || some_noted (notes_in x file.name es))
-            go true = λ i. (same ∙ some_if (bytes_eq file.name name)) i || rest i
-            go false = rest
-
-  -- a file that is not there is none of them
-  pub none_noted : (f : ℕ) → file_at directory f ≡ None → (x : Id) (p : ℕ) (es : List JournalEntry) (ds : List Entry) → AreEntries heads es ds → list_any (λ (e : Entry). e.file == f) (changed x p ds) ≡ false
-  none_noted f none x p [] [] are = refl
-  none_noted f none x p [] (d ∷ ds) are = absurd are
-  none_noted f none x p (e ∷ es) [] are = absurd are
-  none_noted f none x p (e ∷ es) (d ∷ ds) are =
-      subst (λ (y : Entry). list_any (λ (e : Entry). e.file == f) (map (λ (z : ℕ × Entry). z.1) (if is_change_of x y then (p, y) ∷ later else later)) ≡ false) (sym are.2)
-      (one e are.1 (none_noted f none x (p + length (spelling d)) es ds are.3))
-    where
-      later : List (ℕ × Entry)
-      later = changes_of x (placed (p + length (spelling d)) ds)
-
-      one : (e : JournalEntry) → IsFileOf heads e are.0 → list_any (λ (e : Entry). e.file == f) (map (λ (z : ℕ × Entry). z.1) later) ≡ false →
-          list_any (λ (e : Entry). e.file == f) (map (λ (z : ℕ × Entry). z.1) (if is_change_of x (entry_for are.0 e) then (p, entry_for are.0 e) ∷ later else later)) ≡ false
-      one (PreparedEntry tid by) of rest = rest
-      one (SettledEntry tid by outcome moment) of rest = rest
-      one (ChangeEntry tid by name key before) of rest = go (same_id x by)
-        where
-          other : (are.0 == f) ≡ false
-          other = false_from_ne_true (are.0 == f) (λ same.
-              let y = found_file are.0 of.0 of.1 in
-              let clash : ◌≡◌ {A = Option File} None (Some y.file) = sym none ∙ ap (file_at directory) (sym (number_is are.0 f same)) ∙ y.at in
-              let never : ⊥ = cc in never)
-
-          go : (b : Bool) → list_any (λ (e : Entry). e.file == f) (map (λ (z : ℕ × Entry). z.1) (if b then (p, entry_for are.0 (ChangeEntry tid by name key before)) ∷ later else later)) ≡ false
-          go true = λ i. other i || rest i
-          go false = rest
-
--- The bits of the files.
-
-bit_set : (fs : List Bool) (g f : ℕ) → g < length fs → slice_index_or (slice_set fs g true) f false ≡ ((g == f) || slice_index_or fs f false)
-bit_set fs g f below = elim (cases_eq g f) [
-  | inl same ↦ ap (λ (m : ℕ). slice_index_or (slice_set fs g true) m false) (sym same) ∙ get_or-set_same fs g true false below
-      ∙ sym (ap (λ (b : Bool). b || slice_index_or fs f false) (ap (λ (m : ℕ). m == f) same ∙ number_itself f))
-  | inr other ↦ get_or-set_other fs g f true false (λ e. other (sym e)) ∙ sym (ap (λ (b : Bool). b || slice_index_or fs f false) (false_from_ne_true (g == f) (λ e. other (number_is g f e))))
-]
-
-pub bits_onto : (fs : List Bool) (es : List Entry) (f : ℕ) → AllByRecursion (λ (e : Entry). e.file < length fs) es → slice_index_or (files_onto fs es) f false ≡ (list_any (λ (e : Entry). e.file == f) es || slice_index_or fs f false)
-bits_onto fs [] f all = refl
-bits_onto fs (e ∷ es) f all =
-    bits_onto (slice_set fs e.file true) es f (below es all.1) ∙ ap (λ (b : Bool). list_any (λ (o : Entry). o.file == f) es || b) (bit_set fs e.file f all.0)
-    ∙ turned (list_any (λ (o : Entry). o.file == f) es) (e.file == f) (slice_index_or fs f false)
-  where
-    below : (os : List Entry) → AllByRecursion (λ (o : Entry). o.file < length fs) os → AllByRecursion (λ (o : Entry). o.file < length (slice_set fs e.file true)) os
-    below [] all = tt
-    below (o ∷ os) all = (subst (λ (n : ℕ). o.file < n) (sym (length-set fs e.file true)) all.0, below os all.1)
-
-    turned : (a b c : Bool) → (a || (b || c)) ≡ ((b || a) || c)
-    turned true true c = refl
-    turned true false c = refl
-    turned false true c = refl
-    turned false false c = refl
-
-no_bits : (n f : ℕ) → slice_index_or (replicate n false) f false ≡ false
-no_bits zero f = refl
-no_bits (suc n) zero = refl
-no_bits (suc n) (suc f) = no_bits n f
-
-pub bits_in : (es : List Entry) (f : ℕ) → AllByRecursion (λ (e : Entry). e.file < 64) es → slice_index_or (files_in es) f false ≡ list_any (λ (e : Entry). e.file == f) es
-bits_in es f all = bits_onto no_files es f all ∙ (λ i. list_any (λ (e : Entry). e.file == f) es || no_bits 64 f i) ∙ none (list_any (λ (e : Entry). e.file == f) es)
-  where
-    none : (b : Bool) → (b || false) ≡ b
-    none true = refl
-    none false = refl

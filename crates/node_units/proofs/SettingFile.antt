@@ -15,26 +15,29 @@ use Rattle.volume_files.specs.Staging.{SetsKey, StagesFile, is_of_file}
 use Rattle.records_model.specs.Records.{Change}
 use Rattle.run_model.specs.Locks.{is_locked}
 use Rattle.run_model.specs.World.{Node}
-use Rattle.directory_model.specs.Files.{head_at}
+use Rattle.directory_model.specs.Files.{StandsCarried, head_at}
 use Rattle.directory_model.specs.Laws.{IsChanged, SameBut}
 use Rattle.volume_model.specs.Homes.{HasHome}
 use Rattle.volume_model.specs.Laws.{KeepsNames}
 use Rattle.volume_model.specs.Volumes.{HasJournal, HasLog}
 use Rattle.lmcp_log.specs.Keeping.{SameSlots}
 use Rattle.volume_laws.proofs.ToldLemmas.{logs_follow}
-use Rattle.volume_laws.specs.Journals.{SameRing}
+use Rattle.file_images.specs.Files.{SameRing}
 use Rattle.volume_laws.proofs.FollowLemmas.{follow}
-use Rattle.unit_undo.proofs.ApartLemmas.{journal_off, others_keep}
+use Rattle.unit_undo.proofs.ApartLemmas.{carried_keep, journal_off, others_keep}
 use Rattle.unit_world.proofs.Staying.{names_set}
 use Rattle.recovery_units.specs.State.{AreLocks}
 use Rattle.node_units.proofs.Locking.{AreOnce, locked_alike}
 
--- What a volume has besides a file that was changed: this head is the file's, the other files have what they had, and the home and the journal are the node's still.
+-- What a volume has besides a file that was changed: this head is the file's, what the file carries and what the other files have stands, and the home and the journal
+-- are the node's still.
 pub record KeepsRest (n : Node) (f : ℕ) (new : FileHead) (a b : List (List ℕ)) (v mid : VolumeState) : Type 0 where
   pub heads : mid.catalog.heads ≡ slice_set v.catalog.heads f (Some new)
   pub long : length mid.catalog.heads ≡ 64
   pub names : KeepsNames v.catalog.heads mid.catalog.heads
   pub others : SameBut f v.catalog.heads a b
+  pub carried : (h : FileHead) → head_at v.catalog.heads f ≡ Some h → StandsCarried h a b
+  pub whole : EachWhole b
   pub tells : TellsCatalog mid.catalog b
   pub sound : IsSound n.name n.blocks mid.catalog
   pub home : HasHome mid.catalog.home n
@@ -86,7 +89,12 @@ module _ (n : Node) (f limit : ℕ) (h new : FileHead) (a b : List (List ℕ)) (
         heads = heads_are;
         long = ap length heads_are ∙ length-set v.catalog.heads f (Some new) ∙ is.long;
         names = names;
-        others = others_keep n.name n.blocks v.catalog is.long is.sound f h a b there agrees;
+        others = λ g other unlike at. record {
+          own = others_keep n.name n.blocks v.catalog is.long is.sound f h a b there agrees g other unlike at;
+          carried = carried_keep n.name n.blocks v.catalog is.long is.sound f h a b there agrees is.journal.is.ring.whole whole g other at;
+        };
+        carried = λ k at. carried_keep n.name n.blocks v.catalog is.long is.sound f h a b there agrees is.journal.is.ring.whole whole f k at;
+        whole = whole;
         tells = subst (λ o. IfSome o (TellsCatalog mid.catalog)) now (s.holds is.holds);
         sound = subst (λ (x : ℕ). IsSound n.name x mid.catalog) is.size (s.sound n.name (subst (λ (x : ℕ). IsSound n.name x v.catalog) (sym is.size) is.sound));
         home = subst (λ (k : Catalog). HasHome k.home n) (sym s.catalog) is.home;

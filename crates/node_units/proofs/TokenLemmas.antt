@@ -463,10 +463,10 @@ stand_changes ts s t place u h (op.Update file key) bytes told v w stand order t
 stand_changes ts s t place u h (op.Delete file key) bytes told v w stand order there ok = let k = ok.changes refl in
     stand_as ts (record { units = table.with_unit place (table.with_position v.catalog.ru.end file u) s.units; locks = s.locks }) t k.units (stand_changed ts s stand order place u (table.with_position v.catalog.ru.end file u) s.locks there refl refl refl)
 stand_changes ts s t place u h (op.Truncate file from) bytes told v w stand order there ok = let k = ok.cuts file from refl in
-    let w = with_positions (begins_at v.catalog.ru.end k.entries) file u in
+    let w = with_positions (begins_at v.catalog.ru.end k.entries.had) file u in
     stand_as ts (record { units = table.with_unit place w s.units; locks = s.locks }) t k.units (stand_changed ts s stand order place u w s.locks there
-    (noted_same (λ (x : OpenUnit). x.serial) (λ p f y. refl) (begins_at v.catalog.ru.end k.entries) file u) (noted_same (λ (x : OpenUnit). x.tid) (λ p f y. refl) (begins_at v.catalog.ru.end k.entries) file u)
-    (noted_same (λ (x : OpenUnit). x.prepared) (λ p f y. refl) (begins_at v.catalog.ru.end k.entries) file u))
+    (noted_same (λ (x : OpenUnit). x.serial) (λ p f y. refl) (begins_at v.catalog.ru.end k.entries.had) file u) (noted_same (λ (x : OpenUnit). x.tid) (λ p f y. refl) (begins_at v.catalog.ru.end k.entries.had) file u)
+    (noted_same (λ (x : OpenUnit). x.prepared) (λ p f y. refl) (begins_at v.catalog.ru.end k.entries.had) file u))
 
 -- The unit of a branch is no more.
 module _ (ts : List BegunUnit) (s : rms.UnitsState) (stand : StandFor ts s) (order : AreInOrder s.units.places s.units.order) (x : Id) (i : ℕ) (b : BegunUnit) (found : position (is_of x) ts ≡ Some i) (at : b ≡ get_or ts i b) (y : Id) (same : y ≡ x) where

@@ -1,5 +1,5 @@
 -- One unit of a journal is undone by a restart.
-use Rattle.std.proofs.Common.{◌≡◌, ℕ, suc, ◌+◌, ◌-◌, ◌*◌, ◌^◌, ◌<◌, ◌≤◌, List, [], ◌∷◌, Bool, true, false, Option, Some, None, if◌then◌else◌, length, map, refl, sym, ◌∙◌, ap, subst, arith, inl, inr, length-set}
+use Rattle.std.proofs.Common.{◌≡◌, ℕ, suc, ◌+◌, ◌-◌, ◌*◌, ◌^◌, ◌<◌, ◌≤◌, List, [], ◌∷◌, Bool, true, false, Option, Some, None, if◌then◌else◌, length, map, slice_index_or, refl, sym, ◌∙◌, ap, subst, arith, inl, inr, length-set}
 use Rattle.std.specs.Prelude.{is_some, nat_le, option_map, unwrap_or}
 use Rattle.std.specs.Option.{IfSome}
 use Rattle.std.specs.List.{AllByRecursion}
@@ -14,6 +14,7 @@ use Rattle.vms_base.specs.Ids.{serial_of, tid_of}
 use Rattle.vms_base.specs.declared.ids.Serial.{Serial}
 use Rattle.vms_base.specs.declared.ids.Tid.{Tid}
 use Rattle.vms_base.specs.declared.outcomes.Reason.TheVariants as reason
+use Rattle.records_model.specs.Records.{Change}
 use Rattle.records_model.specs.History.{same_id}
 use Rattle.journal_model.specs.Entries.{Entry, spelling}
 use Rattle.journal_model.specs.Ring.{ring_size}
@@ -54,12 +55,36 @@ use Rattle.world_laws.specs.Running.{Each}
 use Rattle.run_model.specs.Locks.{Lock, released}
 use Rattle.run_model.specs.Answers.{Row}
 use Rattle.world_laws.proofs.UndoLemmas.{each_in}
-use Rattle.run_model.specs.World.{Act, IsLogInOrder, IsReached, Node, Settlement, Shared, Tables, Volatile, acted, fallen, next_moment, relocked, relocked_by, settlement}
+use Rattle.run_model.specs.World.{Act, File, IsLogInOrder, IsReached, Node, Settlement, Shared, Tables, Volatile, acted, fallen, next_moment, relocked, relocked_by, settled_file, settlement}
+use Rattle.world_laws.proofs.HistoryLemmas.{by_settled}
 use Rattle.world_laws.proofs.IdLemmas.{id_is, id_itself, id_other}
 use Rattle.world_laws.proofs.OrderedLemmas.{tables_keep_order}
 use Rattle.world_laws.proofs.UnsettledLemmas.{units_are_unsettled}
 use Rattle.settlement_laws.specs.Settled.{IsSettled, Makes, MaySettle}
 use Rattle.settlement_laws.proofs.MadeLemmas.{settlements_are_made}
+use Rattle.file_settlements.specs.Settling.{EntersSettled}
+use Rattle.image_appends.specs.declared.side.Side.TheVariants.{After, Before}
+use Rattle.image_appends.specs.Images.{span_of}
+use Rattle.image_appends.specs.Settling.{heads_from}
+use Rattle.image_groups.specs.Groups.{AreToldBy, HaveRoom, outcome_of}
+use Rattle.image_room.specs.Room.{ImagesAreLow}
+use Rattle.directory_model.specs.Laws.{spelled_entry}
+use Rattle.run_model.specs.World.{AreUnitsOf}
+use Rattle.restart_laws.proofs.UnitLemmas.{keeps_units}
+use Rattle.undo_laws.specs.Aborted.{PutsOutcome}
+use Rattle.undo_laws.specs.Undone as undo
+use Rattle.undo_laws.specs.Undone.{IsToldIn}
+use Rattle.undo_laws.proofs.SettledLemmas.{undone_settle}
+use Rattle.unit_undo.specs.Undoing.{journals_of}
+use Rattle.recovery_units.specs.State.{changed_at}
+use Rattle.world_laws.specs.Nodes.{FileKeepsImages}
+use Rattle.world_laws.specs.Running.{AllFound}
+use Rattle.directory_model.specs.Files.{file_at, head_at}
+use Rattle.directory_model.proofs.Places.{file_mapped}
+use Rattle.node_units.proofs.DirectImages.{low_from}
+use Rattle.node_units.proofs.ImagedVolume.{stands_same}
+use Rattle.node_units.proofs.Imaging.{fits, had_journals, imaged, imaged_catalog, imaged_current, imaged_home, imaged_ru, imaged_told, outcome_entry, span_by, told_heads, told_in}
+use Rattle.node_units.proofs.RestartImages.{room_left, told_left}
 use Rattle.undo_laws.specs.Aborted.{IsAborted, MayAbort}
 use Rattle.undo_laws.specs.Undoable.{entries_for, entered_at, positions_for}
 use Rattle.undo_laws.specs.Undone.{WaysKeepPrepared}
@@ -178,7 +203,7 @@ in_told x (u ∷ us) is = go (same_id x u.serial) refl is (in_told x us)
     go false other is more = inr (more is)
 
 -- each of them is found
-each_found : (us : List UnitTold) → Differ us → (P : Id → Type 0) → ((x : Id) → is_some (find_unit x (map unit_shown us)) ≡ true → P x) → Each P (serials_told us)
+pub each_found : (us : List UnitTold) → Differ us → (P : Id → Type 0) → ((x : Id) → is_some (find_unit x (map unit_shown us)) ≡ true → P x) → Each P (serials_told us)
 each_found [] d P f = tt
 each_found (u ∷ us) d P f = (
   f u.serial (ap is_some (picked (same_id u.serial u.serial) (Some (unit_shown u)) (find_unit u.serial (map unit_shown us)) (id_itself u.serial))),
@@ -330,7 +355,7 @@ active_none (w ∷ us) none = go w.prepared refl none (active_none us)
     go true is none rest = let r = rest none in (r.0, (is, r.1))
     go false is none rest = let never : ⊥ = cc in absurd never
 
-each_next : (P : Id → Type 0) (us : List UnitTold) → Each P (serials_told us) → Each P (serials_told (but_next us))
+pub each_next : (P : Id → Type 0) (us : List UnitTold) → Each P (serials_told us) → Each P (serials_told (but_next us))
 each_next P [] all = tt
 each_next P (w ∷ us) all = go w.prepared (each_next P us all.1)
   where
@@ -413,6 +438,7 @@ pub record Stage (clock most disk : ℕ) (n : Node) (us : List UnitTold) (v : Vo
   pub units : AreTold m.durable.units.first m.durable.units.entries us
   pub moment : v.catalog.home.greatest_moment.0 ≤ most
   pub low : v.catalog.ru.end + 48 * length us ≤ 2 ^ 62
+  pub images : ImagesAreLow (48 * length us) v.catalog.heads
   pub rows : AreKept (rows_for (active_units (map unit_shown us)) (counted m)) (counted m)
 
 -- it stands so on a volume that is the same but for reads
@@ -433,6 +459,7 @@ stage_read clock most disk n us v w m same s = subst (λ (x : VolumeState). Stag
   units = s.units;
   moment = s.moment;
   low = s.low;
+  images = s.images;
   rows = s.rows;
 })
 
@@ -578,6 +605,22 @@ module _ (clock most size : ℕ) (n : Node) (us : List UnitTold) (u : UnitTold) 
   pub stay_next : AreWhere (λ (x : Id). positions_of x m.durable.units.first m.durable.units.entries) next rest
   stay_next = stay rest absent open_now
 
+  -- The files that they changed stay so.
+
+  changed_still : (x : Id) → same_id x u.serial ≡ false → (f : ℕ) → changed_at x (file_at next.durable.directory f) ≡ changed_at x (file_at m.durable.directory f)
+  changed_still x other f = ap (changed_at x) (file_mapped (settled_file c) m.durable.directory f) ∙ go (file_at m.durable.directory f)
+    where
+      go : (o : Option File) → changed_at x (option_map (settled_file c) o) ≡ changed_at x o
+      go (Some file) = ap (λ (cs : List Change). elim cs [ [] ↦ false | d ∷ ds ↦ true ]) (by_settled x u.serial model.Abort c.moment file.history other)
+      go None = refl
+
+  still : (ws : List UnitTold) → find_told u.serial ws ≡ None → AllByRecursion (λ (w : UnitTold). (f : ℕ) → changed_at w.serial (file_at next.durable.directory f) ≡ changed_at w.serial (file_at m.durable.directory f)) ws
+  still [] none = tt
+  still (w ∷ ws) none = let parts = none_found (same_id u.serial w.serial) w (find_told u.serial ws) none in (changed_still w.serial (id_other u.serial w.serial parts.0), still ws parts.1)
+
+  pub still_next : AllByRecursion (λ (w : UnitTold). (f : ℕ) → changed_at w.serial (file_at next.durable.directory f) ≡ changed_at w.serial (file_at m.durable.directory f)) rest
+  still_next = still rest absent
+
   each_left : AllByRecursion (IsTold (λ (x : Id). first_by (is_change_by x) m.durable.units.first m.durable.units.entries)) rest
   each_left = all_next (IsTold (λ (x : Id). first_by (is_change_by x) m.durable.units.first m.durable.units.entries)) us is.units.each
 
@@ -602,7 +645,7 @@ module _ (clock most size : ℕ) (n : Node) (us : List UnitTold) (u : UnitTold) 
 
   -- The settlement that was made.
 
-  module _ (ps : List ℕ) (is_at : ps ≡ entered_at u.serial v.catalog es) (tid : Tid) (serial : Serial) (tid_is : tid_of tid ≡ u.tid) (serial_is : serial_of serial ≡ u.serial) (moment : ℕ) (moment_is : moment ≡ settling.next_moment clock v.catalog.home)
+  module _ (ps : List ℕ) (is_at : ps ≡ entered_at u.serial v.catalog es) (files : List Bool) (says : (f : ℕ) → changed_at u.serial (file_at m.durable.directory f) ≡ slice_index_or files f false) (tid : Tid) (serial : Serial) (tid_is : tid_of tid ≡ u.tid) (serial_is : serial_of serial ≡ u.serial) (moment : ℕ) (moment_is : moment ≡ settling.next_moment clock v.catalog.home)
       (left : List (Option OpenUnit)) (earliest_is_left : earliest left ≡ earliest_told rest) (mid : VolumeState) (goes : GoesOn v mid) (undoes : Undoes ps v mid) where
     undoes_for : Undoes (positions_for m u.serial v.catalog es) v mid
     undoes_for = subst (λ (qs : List ℕ). Undoes qs v mid) (is_at ∙ sym positions) undoes
@@ -629,18 +672,59 @@ module _ (clock most size : ℕ) (n : Node) (us : List UnitTold) (u : UnitTold) 
     next_is : moment ≡ next_moment m
     next_is = moment_is ∙ next_alike clock v.catalog.home m is.leaves.home is.same
 
-    module _ (made : VolumeState) (makes : MakesAbort (failed_at ps tid serial moment left) mid made) where
+    module _ (made : VolumeState) (makes : MakesAbort (failed_at ps files tid serial moment left) mid made) where
       abbrev entry : Entry
       entry = settled_entry u.tid u.serial model.Abort c.moment
 
       flag : has_changes ps ≡ is_unit u.serial m.durable.units
       flag = ap has_changes is_at ∙ changes ∙ sym unit
 
-      made_at : MakesSettlement tid serial (ending.Abort reason.SegFail) c.moment (entry_if (has_changes ps) (settled_entry (tid_of tid) (serial_of serial) model.Abort c.moment)) left mid made
-      made_at = subst (λ (k : ℕ). MakesSettlement tid serial (ending.Abort reason.SegFail) k (entry_if (has_changes ps) (settled_entry (tid_of tid) (serial_of serial) model.Abort k)) left mid made) next_is makes
+      abbrev img : VolumeState
+      img = makes.mid
 
-      made_so : MakesSettlement tid serial (ending.Abort reason.SegFail) c.moment (entry_if (is_unit u.serial m.durable.units) entry) left mid made
-      made_so = subst (λ e. MakesSettlement tid serial (ending.Abort reason.SegFail) c.moment e left mid made) (λ i. entry_if (flag i) (settled_entry (tid_is i) (serial_is i) model.Abort c.moment)) made_at
+      made_at : MakesSettlement tid serial (ending.Abort reason.SegFail) c.moment (entry_if (has_changes ps) (settled_entry (tid_of tid) (serial_of serial) model.Abort c.moment)) left img made
+      made_at = subst (λ (k : ℕ). MakesSettlement tid serial (ending.Abort reason.SegFail) k (entry_if (has_changes ps) (settled_entry (tid_of tid) (serial_of serial) model.Abort k)) left img made) next_is makes.settles
+
+      made_so : MakesSettlement tid serial (ending.Abort reason.SegFail) c.moment (entry_if (is_unit u.serial m.durable.units) entry) left img made
+      made_so = subst (λ e. MakesSettlement tid serial (ending.Abort reason.SegFail) c.moment e left img made) (λ i. entry_if (flag i) (settled_entry (tid_is i) (serial_is i) model.Abort c.moment)) made_at
+
+      -- its outcome is entered in the journals of images
+      enters : EntersSettled files (entry_if true (settled_entry c.tid c.serial c.outcome c.moment)) mid img
+      enters = subst (λ e. EntersSettled files e mid img) (λ i. entry_if ((flag ∙ unit) i) (settled_entry (tid_is i) (serial_is i) model.Abort (next_is i))) makes.entered
+
+      keeps_images : AllFound (FileKeepsImages m.name (counted m).durable.boot m.durable.greatest) m.durable.directory
+      keeps_images = (first_kept (rows_for (active_units (map unit_shown us)) (counted m)) (counted m) is.rows).filed.images
+
+      units_counted : AreUnitsOf (counted m)
+      units_counted = let booted = keeps_units.boots m is.leaves.units in record { tells = booted.tells; marked = booted.marked; reached = booted.reached; names = booted.names }
+
+      heads_mid : length mid.catalog.heads ≡ 64
+      heads_mid = goes.long ∙ is.long
+
+      low_here : ImagesAreLow 48 v.catalog.heads
+      low_here f h there = let low = is.images f h there in let one = low.0 in let two = low.1 in let long = long_next us u at in (omega (arith, one, long), omega (arith, two, long))
+
+      by_files : AreToldBy c files m.durable.directory
+      by_files = told_left (counted m) a v.catalog.heads is.leaves.files units_counted keeps_images u.serial files says c refl
+
+      room_images : HaveRoom c files mid.catalog.heads
+      room_images = room_left (counted m) a v.catalog.heads is.leaves.files units_counted keeps_images u.serial files says mid.catalog.heads
+          (record { journals = goes.journals; told = told_heads mid.catalog undone.way.now undone.way.tells heads_mid }) low_here c told.tid told.serial (let m = moments.1 in omega (arith, m, far))
+
+      puts : PutsOutcome m c mid img
+      puts = record {
+        files = files;
+        by = by_files;
+        room = room_images;
+        current = imaged_current true files c mid img enters;
+        catalog = imaged_catalog true files c mid img enters;
+      }
+
+      home_img : img.catalog.home ≡ v.catalog.home
+      home_img = imaged_home true files c mid img enters ∙ home
+
+      ru_img : img.catalog.ru ≡ v.catalog.ru
+      ru_img = imaged_ru true files c mid img enters ∙ ru
 
       entry_long : length (spelling entry) ≡ 48
       entry_long = total_is entry (settled_is u.tid u.serial model.Abort c.moment told.tid told.serial (let m = moments.1 in omega (arith, m, far)))
@@ -653,13 +737,13 @@ module _ (clock most size : ℕ) (n : Node) (us : List UnitTold) (u : UnitTold) 
       with_unit true k = refl
       with_unit false k = let never : ⊥ = cc in absurd never
 
-      ends : (span_with (entry_if (is_unit u.serial m.durable.units) entry) mid.catalog.ru).end ≡ end_of next.durable.units
+      ends : (span_with (entry_if (is_unit u.serial m.durable.units) entry) img.catalog.ru).end ≡ end_of next.durable.units
       ends =
-          span_end (is_unit u.serial m.durable.units) unit mid.catalog.ru ∙ ap (λ (r : Span). r.end + 48) ru ∙ ap (λ (n : ℕ). n + 48) is.leaves.journal.end
+          span_end (is_unit u.serial m.durable.units) unit img.catalog.ru ∙ ap (λ (r : Span). r.end + 48) ru_img ∙ ap (λ (n : ℕ). n + 48) is.leaves.journal.end
           ∙ ap (λ (n : ℕ). end_of m.durable.units + n) (sym (with_unit (is_unit u.serial m.durable.units) unit)) ∙ sym (settles_unit u.tid u.serial model.Abort c.moment m.durable.units).end
 
       longer_end : made.catalog.ru.end ≡ v.catalog.ru.end + 48
-      longer_end = ap (λ (k : Catalog). k.ru.end) made_so.catalog ∙ span_end (is_unit u.serial m.durable.units) unit mid.catalog.ru ∙ ap (λ (r : Span). r.end + 48) ru
+      longer_end = ap (λ (k : Catalog). k.ru.end) made_so.catalog ∙ span_end (is_unit u.serial m.durable.units) unit img.catalog.ru ∙ ap (λ (r : Span). r.end + 48) ru_img
 
       begins : made.catalog.ru.first ≡ next.durable.units.first
       begins = ap (λ (k : Catalog). k.ru.first) made_so.catalog ∙ (λ i. unwrap_or (earliest_is_left i) (ends i)) ∙ first_next
@@ -676,33 +760,39 @@ module _ (clock most size : ℕ) (n : Node) (us : List UnitTold) (u : UnitTold) 
           let journal = is.leaves.home.journal in
           omega (arith, first, end, fits, owes, same, blocks, journal)
 
-      is_made : Makes m c tid serial (ending.Abort reason.SegFail) left mid made
+      is_made : Makes m c tid serial (ending.Abort reason.SegFail) left img made
       is_made = record {
         settlement = λ i. record { tid = sym tid_is i; serial = sym serial_is i; outcome = model.Abort; reason = Some model.SegFail; moment = c.moment };
         makes = made_so;
         is_tid = told.tid;
         is_serial = told.serial;
-        later = let same : mid.catalog.home.greatest_moment.0 ≡ v.catalog.home.greatest_moment.0 = ap (λ (h : Home). h.greatest_moment.0) home in let was = is.leaves.home.greatest in let m = moments.0 in omega (arith, same, was, m);
+        later = let same : img.catalog.home.greatest_moment.0 ≡ v.catalog.home.greatest_moment.0 = ap (λ (h : Home). h.greatest_moment.0) home_img in let was = is.leaves.home.greatest in let m = moments.0 in omega (arith, same, was, m);
         early = let m = moments.1 in omega (arith, m, far);
-        room = λ k. subst (λ (r : Span). r.end - r.first + 48 ≤ ring_size r) (sym ru) room;
+        room = λ k. subst (λ (r : Span). r.end - r.first + 48 ≤ ring_size r) (sym ru_img) room;
         first = begins;
         low = let low = is.low in let long = long_next us u at in omega (arith, longer_end, low, long);
       }
 
-      pub is_aborted : IsAborted m c tid serial (ending.Abort reason.SegFail) left (positions_for m u.serial v.catalog es) v mid made
-      is_aborted = record { goes = goes; undoes = undoes_for; makes = is_made }
+      pub is_aborted : IsAborted m c tid serial (ending.Abort reason.SegFail) left (positions_for m u.serial v.catalog es) v mid img made
+      is_aborted = record { goes = goes; undoes = undoes_for; tells = puts; makes = is_made }
 
       -- where it goes down in the last group
       pub fails_last : (w : VolumeState) → Leaves (IsEither (content mid.store) made.store.current) w.store.disk → HasDisk (fallen (Some (Tables act (next_moment m))) m) w.store.disk
-      fails_last w either = aborts_fail.last a m act (next_moment m) c tid serial (ending.Abort reason.SegFail) left v mid made w is.leaves ways may is_aborted either
+      fails_last w either = aborts_fail.last a m act (next_moment m) c tid serial (ending.Abort reason.SegFail) left v mid img made w is.leaves ways may is_aborted either
+
+      abbrev imaged_here : List (List ℕ)
+      imaged_here = imaged true files c mid img enters undone.way.now
+
+      imaged_so : img.store.current ≡ Some imaged_here
+      imaged_so = imaged_told true files c mid img enters undone.way.now undone.way.told
 
       abbrev b : List (List ℕ)
-      b = with_front (settling.settled_home tid serial (ending.Abort reason.SegFail) c.moment mid.catalog.home) (from_earliest left (span_with (entry_if (is_unit u.serial m.durable.units) entry) mid.catalog.ru))
-          (content_with (entry_if (is_unit u.serial m.durable.units) entry) mid.catalog.ru undone.way.now)
+      b = with_front (settling.settled_home tid serial (ending.Abort reason.SegFail) c.moment img.catalog.home) (from_earliest left (span_with (entry_if (is_unit u.serial m.durable.units) entry) img.catalog.ru))
+          (content_with (entry_if (is_unit u.serial m.durable.units) entry) img.catalog.ru imaged_here)
 
       now : made.store.current ≡ Some b
-      now = made_so.current ∙ ap (option_map (λ x. with_front (settling.settled_home tid serial (ending.Abort reason.SegFail) c.moment mid.catalog.home) (from_earliest left (span_with (entry_if (is_unit u.serial m.durable.units) entry) mid.catalog.ru))
-          (content_with (entry_if (is_unit u.serial m.durable.units) entry) mid.catalog.ru x))) undone.way.told
+      now = made_so.current ∙ ap (option_map (λ x. with_front (settling.settled_home tid serial (ending.Abort reason.SegFail) c.moment img.catalog.home) (from_earliest left (span_with (entry_if (is_unit u.serial m.durable.units) entry) img.catalog.ru))
+          (content_with (entry_if (is_unit u.serial m.durable.units) entry) img.catalog.ru x))) imaged_so
 
       sound_mid : IsSound m.name m.blocks mid.catalog
       sound_mid = subst (λ (n : ℕ). IsSound m.name n mid.catalog) disk_is (goes.sound m.name (subst (λ (n : ℕ). IsSound m.name n v.catalog) (sym disk_is) is.sound))
@@ -710,9 +800,16 @@ module _ (clock most size : ℕ) (n : Node) (us : List UnitTold) (u : UnitTold) 
       journal_mid : (j : HasJournal undone.way.now mid.catalog m) × (j.entries ≡ es)
       journal_mid = undos_keep_journal a v.catalog m u.serial mid is.leaves (far_off m.name m.blocks v.catalog is.sound) goes.catalog undone
 
-      settled : IsSettled m c journal_mid.0.entries undone.way.now b mid.catalog made.catalog × TellsCatalog made.catalog b × IsSound m.name m.blocks made.catalog
-      settled = settlements_are_made undone.way.now b m c tid serial (ending.Abort reason.SegFail) left mid made m.name m.blocks undone.way.told now undone.way.tells sound_mid (goes.long ∙ is.long)
-          (subst (λ (k : Catalog). HasHome k.home m) (sym goes.catalog) is.leaves.home) journal_mid.0 is_made
+      told_at : IsToldIn c m.durable.directory undone.way.now imaged_here mid.catalog img.catalog
+      told_at = told_in true files c mid img enters m.durable.directory undone.way.now by_files room_images (fits m.name m.blocks mid.catalog heads_mid sound_mid) undone.way.journal.whole
+
+      images_told : undo.IsTold m undone.way.now imaged_here mid.catalog img.catalog journal_mid.0
+      images_told = undone_settle.told a undone.way.now imaged_here v.catalog img.catalog m act (next_moment m) c mid is.leaves (record { settles = refl; abort = refl; may = may_settle; told = log_next }) is.sound goes.catalog undone
+          (λ f h there. stands_same h undone.way.now undone.way.journal.whole) told_at journal_mid.0
+
+      settled : IsSettled m c images_told.journal.entries imaged_here b img.catalog made.catalog × TellsCatalog made.catalog b × IsSound m.name m.blocks made.catalog
+      settled = settlements_are_made imaged_here b m c tid serial (ending.Abort reason.SegFail) left img made m.name m.blocks imaged_so now (images_told.tells undone.way.tells) (images_told.sound m.name m.blocks sound_mid) images_told.long
+          (subst (λ (h : Home). HasHome h m) (sym home_img) is.leaves.home) images_told.journal is_made
 
       pub next_stage : IsIdle made.store → Stage clock (most + 1) size n rest made next
       next_stage idle = record {
@@ -721,17 +818,34 @@ module _ (clock most size : ℕ) (n : Node) (us : List UnitTold) (u : UnitTold) 
         told = now;
         tells = settled.1;
         sound = settled.2;
-        long = ap (λ (k : Catalog). length k.heads) made_so.catalog ∙ goes.long ∙ is.long;
+        long = ap (λ (k : Catalog). length k.heads) made_so.catalog ∙ images_told.long;
         size = ap (λ (n : ℕ). n + 518)
-            (length_made (settling.settled_home tid serial (ending.Abort reason.SegFail) c.moment mid.catalog.home) (from_earliest left (span_with (entry_if (is_unit u.serial m.durable.units) entry) mid.catalog.ru))
-            (entry_if (is_unit u.serial m.durable.units) entry) mid.catalog.ru undone.way.now journal_mid.0.is.ring.some ∙ undone.way.journal.size) ∙ is.size;
+            (length_made (settling.settled_home tid serial (ending.Abort reason.SegFail) c.moment img.catalog.home) (from_earliest left (span_with (entry_if (is_unit u.serial m.durable.units) entry) img.catalog.ru))
+            (entry_if (is_unit u.serial m.durable.units) entry) img.catalog.ru imaged_here images_told.journal.is.ring.some ∙ images_told.size ∙ undone.way.journal.size) ∙ is.size;
         blocks = is.blocks;
-        leaves = aborts_settle.leaves a b m act (next_moment m) c tid serial (ending.Abort reason.SegFail) left v mid made is.leaves may is_aborted now;
+        leaves = aborts_settle.leaves a b m act (next_moment m) c tid serial (ending.Abort reason.SegFail) left v mid img made is.leaves may is_aborted now;
         same = is.same;
         volatile = volatile_next;
         log = is.log;
         units = units_next;
         moment = let greatest = ap (λ (k : Catalog). k.home.greatest_moment.0) made_so.catalog in let m = moments.1 in omega (arith, greatest, m);
         low = let low = is.low in let long = long_next us u at in omega (arith, longer_end, low, long);
+        images = low_next;
         rows = rows_next;
       }
+        where
+          low_mid : ImagesAreLow (48 + 48 * length rest) mid.catalog.heads
+          low_mid f h there =
+              let old = had_journals (head_at v.catalog.heads f) h (sym (goes.journals f) ∙ ap (option_map journals_of) there) in
+              let low = is.images f old.0 old.1 in
+              let long = long_next us u at in
+              let one : (span_of After old.0).end + (48 + 48 * length rest) ≤ 2 ^ 62 = let l = low.0 in omega (arith, l, long) in
+              let two : (span_of Before old.0).end + (48 + 48 * length rest) ≤ 2 ^ 62 = let l = low.1 in omega (arith, l, long) in
+              (subst (λ (s : Span). s.end + (48 + 48 * length rest) ≤ 2 ^ 62) (span_by After old.0 h old.2) one, subst (λ (s : Span). s.end + (48 + 48 * length rest) ≤ 2 ^ 62) (span_by Before old.0 h old.2) two)
+
+          outcome_long : length (spelled_entry 0 c.tid (outcome_of c)) ≡ 48
+          outcome_long = ap (λ (e : Entry). length (spelling e)) (outcome_entry 0 c.tid c.serial c.outcome c.moment) ∙ entry_long
+
+          low_next : ImagesAreLow (48 * length rest) made.catalog.heads
+          low_next = subst (ImagesAreLow (48 * length rest)) (sym (ap (λ (k : Catalog). k.heads) made_so.catalog ∙ ap (λ (k : Catalog). k.heads) (imaged_catalog true files c mid img enters)))
+              (subst (λ (k : ℕ). ImagesAreLow (48 * length rest) (heads_from 0 files k mid.catalog.heads)) (sym outcome_long) (low_from files 48 (48 * length rest) mid.catalog.heads low_mid))

@@ -82,7 +82,7 @@ changes_later x place u h (op.Delete file key) bytes told s v t w there own ok =
     let noted = with_position v.catalog.ru.end file u in units_later x place u noted s t there (later_with x u noted (v.catalog.ru.end ∷ []) own refl refl refl refl) (ok.changes refl).units
 changes_later x place u h (op.Truncate file from) bytes told s v t w there own ok =
     let cut = ok.cuts file from refl in
-    let ps = begins_at v.catalog.ru.end cut.entries in
+    let ps = begins_at v.catalog.ru.end cut.entries.had in
     units_later x place u (with_positions ps file u) s t there (later_with x u (with_positions ps file u) ps own (noted_tid ps file u) (noted_serial ps file u) (prepared_still ps file u) (positions_of ps file u)) cut.units
 
 -- the keys that other branches hold stay theirs

@@ -42,7 +42,7 @@ start_with (Some e) s = refl
 
 pub logged_start : (y : Settlement) (rec : Option LogRecord) (ss ts : Slots) (v made : VolumeState) → MakesLogged y rec ss ts v made → made.catalog.ru.start ≡ v.catalog.ru.start
 logged_start y rec ss ts v made m =
-    ap (λ (k : Catalog). k.ru.start) m.makes.catalog ∙ start_with y.entry m.logged.catalog.ru ∙ ap (λ (k : Catalog). k.ru.start) (catalog_set (serial_of y.serial) rec ss ts v m.logged m.log)
+    ap (λ (k : Catalog). k.ru.start) m.makes.settles.catalog ∙ start_with y.entry m.makes.mid.catalog.ru ∙ ap (λ (k : Catalog). k.ru.start) m.makes.entered.catalog ∙ ap (λ (k : Catalog). k.ru.start) (catalog_set (serial_of y.serial) rec ss ts v m.logged m.log)
 
 pub vote_start : (r : LogRecord) (e : Option Entry) (ss ts : Slots) (v made : VolumeState) → MakesVote r e ss ts v made → made.catalog.ru.start ≡ v.catalog.ru.start
 vote_start r e ss ts v made m = ap (λ (k : Catalog). k.ru.start) m.catalog ∙ start_with e v.catalog.ru
@@ -67,7 +67,7 @@ set_twice (x ∷ xs) zero y z = refl
 set_twice (x ∷ xs) (suc i) y z = ap (λ zs. x ∷ zs) (set_twice xs i y z)
 
 pub aborts_start : (a : Abortion) (v w : VolumeState) → Aborts a v w → w.catalog.ru.start ≡ v.catalog.ru.start
-aborts_start a v w m = ap (λ (k : Catalog). k.ru.start) m.makes.catalog ∙ start_with (abort_entry a) m.mid.catalog.ru ∙ ap (λ (k : Catalog). k.ru.start) m.goes.catalog
+aborts_start a v w m = ap (λ (k : Catalog). k.ru.start) m.makes.settles.catalog ∙ start_with (abort_entry a) m.makes.mid.catalog.ru ∙ ap (λ (k : Catalog). k.ru.start) m.makes.entered.catalog ∙ ap (λ (k : Catalog). k.ru.start) m.goes.catalog
 
 pub gives_start : (a : Abortion) (ss ts : Slots) (v w : VolumeState) → AbortsLogged a ss ts v w → w.catalog.ru.start ≡ v.catalog.ru.start
 gives_start a ss ts v w m = logged_start (abort_settlement a) None ss ts m.mid w m.makes ∙ ap (λ (k : Catalog). k.ru.start) m.goes.catalog

@@ -7,6 +7,7 @@ ghost use Rattle.lmcp_log.specs.Log.{slot_of};
 ghost use Rattle.record_operations.specs.Asking.{file_in, read_file_in};
 ghost use Rattle.record_operations.specs.Causes.{down_in};
 ghost use Rattle.unit_journal.specs.Groups.{Caused, Goes, Grows};
+ghost use Rattle.recovery_units.specs.Uses.{ImagesGrow};
 ghost use Rattle.unit_table.specs.Units.{OpenUnit};
 ghost use Rattle.unit_votes.specs.Logging.{HasLog, MayHave};
 ghost use Rattle.volume.specs.Catalogs.{head_at};
@@ -56,6 +57,7 @@ pub(crate) fn change_held<D: Disk>(
     ensures done { IfOk result (λ position. (u : OpenUnit) (h : HeadSaid) → unit_of (place_in token.old) units.old ≡ Some u → head_at volume.old.catalog.heads (file_in op.now) ≡ Some h → ChangesOk (place_in token.old) u h op.now bytes.now position units.old volume.old units.new volume.new) }
     ensures err { IfErr result (λ e. (u : OpenUnit) (h : HeadSaid) → unit_of (place_in token.old) units.old ≡ Some u → head_at volume.old.catalog.heads (file_in op.now) ≡ Some h → ChangesErr u h op.now bytes.now e units.old volume.old units.new volume.new) }
     ensures grows { Grows 0 0 volume.old volume.new }
+    ensures images { OnOk result (ImagesGrow volume.old volume.new) }
     ensures goes { Goes volume.old.store.disk volume.new.store.disk }
     ensures cause { IfErr result (λ e. Caused (down_in e) volume.old.store.disk volume.new.store.disk) }
     ensures pool { volume.new.store.pool ≡ volume.old.store.pool }
@@ -85,6 +87,7 @@ pub(crate) fn read_held<D: Disk>(
     ensures err { IfErr result (λ e. (u : OpenUnit) (h : HeadSaid) → unit_of (place_in token.old) units.old ≡ Some u → head_at volume.old.catalog.heads (read_file_in op.now) ≡ Some h → ReadsErr u h op.now e units.old volume.old units.new volume.new) }
     ensures reads { (h : HeadSaid) → head_at volume.old.catalog.heads (read_file_in op.now) ≡ Some h → ReadsFew h op.now volume.old volume.new }
     ensures grows { Grows 0 0 volume.old volume.new }
+    ensures images { OnOk result (ImagesGrow volume.old volume.new) }
     ensures goes { Goes volume.old.store.disk volume.new.store.disk }
     ensures cause { IfErr result (λ e. Caused (down_in e) volume.old.store.disk volume.new.store.disk) }
     ensures pool { volume.new.store.pool ≡ volume.old.store.pool }
@@ -117,6 +120,7 @@ pub(crate) fn commit_held<D: Disk>(
     ensures commits { IfOk result (λ told. told.outcome ≡ outcome.Commit) }
     ensures err { OnErr result ((u : OpenUnit) → unit_of (place_in token) units.old ≡ Some u → CommitsLoggedNot (place_in token) u (slot_of (option_copied logged.entry)) clock.0 units.old log.old volume.old units.new log.new volume.new) }
     ensures grows { Grows 1 clock.0 volume.old volume.new }
+    ensures images { OnOk result (ImagesGrow volume.old volume.new) }
     ensures goes { Goes volume.old.store.disk volume.new.store.disk }
     ensures cause { IfErr result (λ down. Caused (Some down) volume.old.store.disk volume.new.store.disk) }
     ensures pool { volume.new.store.pool ≡ volume.old.store.pool }
@@ -150,6 +154,7 @@ pub(crate) fn abort_held<D: Disk>(
     ensures active_err { OnErr result (is_active token ≡ true → (u : OpenUnit) → unit_of (place_in token) units.old ≡ Some u → AbortsNot (place_in token) u reason clock.0 units.old volume.old units.new volume.new) }
     ensures waiting_err { OnErr result (is_waiting token ≡ true → (u : OpenUnit) → unit_of (place_in token) units.old ≡ Some u → AbortsPreparedNot (place_in token) u reason clock.0 units.old log.old volume.old units.new log.new volume.new) }
     ensures grows { Grows 1 clock.0 volume.old volume.new }
+    ensures images { OnOk result (ImagesGrow volume.old volume.new) }
     ensures goes { Goes volume.old.store.disk volume.new.store.disk }
     ensures cause { IfErr result (λ down. Caused (Some down) volume.old.store.disk volume.new.store.disk) }
     ensures pool { volume.new.store.pool ≡ volume.old.store.pool }

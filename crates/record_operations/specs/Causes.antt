@@ -24,6 +24,8 @@ pub data Cause : Type 0 where
   Locks : Cause
   FileFull : (free need : ℕ) → Cause
   JournalFull : (free need : ℕ) → Cause
+  AfterImagesFull : (free need : ℕ) → Cause
+  BeforeImagesFull : (free need : ℕ) → Cause
 
 -- the cause of an answer; where the disk went down there is none
 abbrev pub cause_of : RecErr → Option Cause
@@ -43,6 +45,8 @@ cause_of err.Changes = Some Changes
 cause_of err.Locks = Some Locks
 cause_of (err.FileFull free need) = Some (FileFull free need)
 cause_of (err.JournalFull free need) = Some (JournalFull free need)
+cause_of (err.AfterImagesFull free need) = Some (AfterImagesFull free need)
+cause_of (err.BeforeImagesFull free need) = Some (BeforeImagesFull free need)
 cause_of (err.Down down) = None
 
 -- the first of two that applies
@@ -77,6 +81,8 @@ IfRefused err.Changes P Q = P Changes
 IfRefused err.Locks P Q = P Locks
 IfRefused (err.FileFull free need) P Q = P (FileFull free need)
 IfRefused (err.JournalFull free need) P Q = P (JournalFull free need)
+IfRefused (err.AfterImagesFull free need) P Q = P (AfterImagesFull free need)
+IfRefused (err.BeforeImagesFull free need) P Q = P (BeforeImagesFull free need)
 IfRefused (err.Down down) P Q = Q down
 
 -- what an answer tells of the disk

@@ -51,6 +51,13 @@ pub enum RecErr {
     /// The journal has fewer free bytes than the entries take and the unit is owed with its first change.
     #[error("the journal has {free} free bytes, and the change needs {need}")]
     JournalFull { free: u64, need: u64 },
+    /// The file's journal of after images has fewer free bytes than the entries take, with the settlement's where it is the unit's first change of the
+    /// file or a change without a unit.
+    #[error("the journal of after images has {free} free bytes, and the change needs {need}")]
+    AfterImagesFull { free: u64, need: u64 },
+    /// So its journal of before images.
+    #[error("the journal of before images has {free} free bytes, and the change needs {need}")]
+    BeforeImagesFull { free: u64, need: u64 },
     #[error("the disk went down")]
     Down(Down),
 }

@@ -28,7 +28,7 @@ pub record Holds (may : Id → Bool) (g : ℕ) (f : FileState) : Type 0 where
   pub ordered : Ordered g f
 
 act_holds : (may : Id → Bool) (a : Act) (g : ℕ) (f : FileState) → MayDo may a g f → Holds may g f → Holds may (greatest_after a g) (file_after a g f)
-act_holds may a g f m w = record { kept = act_keeps may a g f m w.ordered w.kept; told = act_told may a g f m w.kept w.told; ordered = act_ordered may a g f m w.kept w.ordered }
+act_holds may a g f m w = record { kept = act_keeps may a g f m w.ordered w.kept; told = act_told may a g f m w.kept w.told; ordered = act_ordered may a g f m w.kept.sound.one w.ordered }
 
 pub acts_hold : (may : Id → Bool) (acts : List Act) (g : ℕ) (f : FileState) (n : ℕ) (e : FileState) → Leads may acts g f n e → Holds may g f → Holds may n e
 acts_hold may [] g f n e l w = rw (l.0, l.1) w

@@ -13,8 +13,8 @@ use Rattle.recovery_model.specs.Journal.{Entry, Changed, Settled, is_settled, im
 use Rattle.recovery_model.specs.File.{ImageJournal, Save, FileState, all_of, IsInOrder, IsPlace, append, renewed, ended, renewed_if_on, changed_file, with_its, half_aborted, no_images, IsOpenIn, created}
 use Rattle.recovery_model.specs.Room.{has_entry, need_in, free_in, HasRoom}
 use Rattle.recovery_model.specs.Opening.{TellsBranches, TellsKeys, TellsFound, IsSaved, IsLawful}
-use Rattle.recovery_model.specs.Acts.{Act, Changes, Settles, HalfAborts, BeginsAfters, EndsAfters, BeginsBefores, EndsBefores, Saves, Recovers, greatest_after, file_after, MayChange, MayHalfAbort, MayDo}
-use Rattle.recovery_model.proofs.Covering.{unsettled, Free, Kept}
+use Rattle.recovery_model.specs.Acts.{Act, Changes, Settles, HalfAborts, BeginsAfters, EndsAfters, BeginsBefores, EndsBefores, Saves, Recovers, greatest_after, file_after, MayChange, MayDo}
+use Rattle.recovery_model.proofs.Covering.{unsettled, Free}
 use Rattle.recovery_model.proofs.PositionLemmas.{before_later}
 use Rattle.recovery_model.proofs.BranchLemmas.{free_for, live_other, gone_same, gone_other}
 use Rattle.recovery_model.proofs.TieLemmas.{not_this}
@@ -287,7 +287,7 @@ ordered_changed g tid s c f m d w =
       saved = save_append g g tid (Changed s c.key c.after) f.ai f.save (omega arith) w.saved;
     }
 
-ordered_passed : (g t : ℕ) (f : FileState) → g ≤ t → Ordered g f → Ordered t f
+pub ordered_passed : (g t : ℕ) (f : FileState) → g ≤ t → Ordered g f → Ordered t f
 ordered_passed g t f l w = record {
   ai_order = w.ai_order;
   bi_order = w.bi_order;
@@ -313,13 +313,13 @@ ordered_settled g tid s outcome t f true e l d w =
     }
 ordered_settled g tid s outcome t f false e l d w = ordered_passed g t f (omega arith) w
 
-ordered_half : (may : Id → Bool) (g : ℕ) (s : Id) (cs : List Change) (f : FileState) → MayHalfAbort may s cs f → Ordered g f → Ordered g (half_aborted s cs f)
-ordered_half may g s cs f m w = record {
+pub ordered_half : (g : ℕ) (s : Id) (cs : List Change) (f : FileState) → befores cs ≡ befores (changes_by s f.timeline.history.live) → Ordered g f → Ordered g (half_aborted s cs f)
+ordered_half g s cs f same w = record {
   ai_order = w.ai_order;
   bi_order = w.bi_order;
-  ai = λ on. journal_half g s cs f.ai f.timeline.history.live m.same (w.ai on);
-  bi = λ on. journal_half g s cs f.bi f.timeline.history.live m.same (w.bi on);
-  bi_found = λ on r u. w.bi_found on r u ∙ sym (its_befores s r cs f.timeline.history.live (same_id r s) refl m.same);
+  ai = λ on. journal_half g s cs f.ai f.timeline.history.live same (w.ai on);
+  bi = λ on. journal_half g s cs f.bi f.timeline.history.live same (w.bi on);
+  bi_found = λ on r u. w.bi_found on r u ∙ sym (its_befores s r cs f.timeline.history.live (same_id r s) refl same);
   since = w.since;
   saved = w.saved;
 }
@@ -328,11 +328,11 @@ since_again : (on : Bool) (g since : ℕ) → since ≤ g → (if on then g else
 since_again true g since l = omega arith
 since_again false g since l = l
 
-pub act_ordered : (may : Id → Bool) (a : Act) (g : ℕ) (f : FileState) → MayDo may a g f → Kept may g f → Ordered g f → Ordered (greatest_after a g) (file_after a g f)
-act_ordered may (Changes tid s c) g f m k w = ordered_changed g tid s c f m k.sound.one w
+pub act_ordered : (may : Id → Bool) (a : Act) (g : ℕ) (f : FileState) → MayDo may a g f → SerialsDiffer f.timeline.history.live → Ordered g f → Ordered (greatest_after a g) (file_after a g f)
+act_ordered may (Changes tid s c) g f m k w = ordered_changed g tid s c f m k w
 act_ordered may (Settles tid s outcome t) g f m k w =
-    subst (Ordered t) (sym (settled_is tid s outcome t f (changed_it f.timeline.history s) refl)) (ordered_settled g tid s outcome t f (changed_it f.timeline.history s) refl m.0 k.sound.one w)
-act_ordered may (HalfAborts s cs) g f m k w = ordered_half may g s cs f m w
+    subst (Ordered t) (sym (settled_is tid s outcome t f (changed_it f.timeline.history s) refl)) (ordered_settled g tid s outcome t f (changed_it f.timeline.history s) refl m.0 k w)
+act_ordered may (HalfAborts s cs) g f m k w = ordered_half g s cs f m.same w
 act_ordered may (BeginsAfters start blocks) g f m k w = record {
   ai_order = order_renewed start blocks f.ai;
   bi_order = w.bi_order;

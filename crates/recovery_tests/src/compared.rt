@@ -191,6 +191,65 @@ impl Script {
         )
     }
 
+    // Moments count settlements here, for no clock is set.
+    fn put_moment(&mut self) -> Result<(), Fail> {
+        let n = self.draw() % 60;
+        self.put(b" UNTIL \"17-NOV-1858 00:00:00.")?;
+        self.text.push(b'0' + n / 10)?;
+        self.text.push(b'0' + n % 10)?;
+        self.put(b"\"")
+    }
+
+    // A journal of a file begins or ends, the file is saved or recovered, or a journal is shown.
+    fn keep(&mut self) -> Result<(), Fail> {
+        let file: &[u8] = match self.draw() % 3 {
+            0 => b" R",
+            1 => b" S",
+            _ => b" I",
+        };
+        let drawn = self.draw() % 16;
+        let verb: &[u8] = match drawn {
+            0..=4 => b"A: SET_FILE",
+            5..=7 => b"A: BACKUP",
+            8..=12 => b"A: RECOVER",
+            _ => b"A: DUMP_JOURNAL",
+        };
+        self.put(verb)?;
+        self.put(file)?;
+        match drawn {
+            0 | 1 => self.put(b" AI 16")?,
+            2 | 3 => self.put(b" BI 16")?,
+            4 => self.put(b" NOAI")?,
+            5..=7 => {}
+            8 | 9 => self.put(b" FORWARD")?,
+            10 => {
+                self.put(b" FORWARD")?;
+                self.put_moment()?;
+            }
+            11 | 12 => {
+                self.put(b" BACKWARD")?;
+                self.put_moment()?;
+            }
+            13 | 14 => self.put(b" AI")?,
+            _ => self.put(b" BI")?,
+        }
+        self.put(b"\n")
+    }
+
+    // All transactions end, and files are saved and recovered before others begin.
+    fn recover(&mut self) -> Result<(), Fail> {
+        for place in 0..3usize {
+            self.put(b"A: END_TRANS ")?;
+            self.put_label(self.open[place % 3])?;
+            self.put(b"\n")?;
+        }
+        for _ in 0..6 {
+            self.keep()?;
+        }
+        self.put(b"A: DUMP R\nA: DUMP S\nA: DUMP I\n")?;
+        self.start_all()
+    }
+
     fn look(&mut self) -> Result<(), Fail> {
         match self.draw() % 4 {
             0 => self.put(b"A: DUMP R\n"),
@@ -207,6 +266,8 @@ impl Script {
             1 => self.unmark(),
             2..=9 => self.look(),
             10..=19 => self.end(),
+            20..=23 => self.recover(),
+            24 | 25 => self.keep(),
             _ => self.operate(),
         }
     }

@@ -6,6 +6,10 @@ mod compared;
 #[cfg(test)]
 mod failures;
 #[cfg(test)]
+mod histories;
+#[cfg(test)]
+mod recoveries;
+#[cfg(test)]
 mod restarts;
 #[cfg(test)]
 mod stops;

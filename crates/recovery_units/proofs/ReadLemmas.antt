@@ -40,11 +40,12 @@ module _ (v w : VolumeState) (same : SameVolume v w) where
     within = order.within;
     few = order.few;
     slots = order.slots;
+    images = order.images;
   })
 
   -- how far its numbers that only grow are from their ends
   pub early_read : IsEarly v → IsEarly w
-  early_read early = subst IsEarly (sym same) (record { low = early.low; moment = early.moment })
+  early_read early = subst IsEarly (sym same) (record { low = early.low; moment = early.moment; images = early.images })
 
   -- the node that is restarting on it
   pub restarting_read : (n : Node) → IsRestarting v n → IsRestarting w n

@@ -25,7 +25,7 @@ use Rattle.volume.specs.State.{VolumeState}
 use Rattle.unit_laws.specs.Journal.{RecoveryUnit}
 use Rattle.run_model.specs.World.{Node, File, Act, Settlement, Tables, Directs, acted, booted, fallen, find_branch, find_file, is_durable, next_id, next_moment, prepared_left, reason_of, settlement, settlement_of}
 use Rattle.run_model.specs.Operations.{first_of, refused_if, form_refused, file_full, keys_asked, keys_held, changes_of, operation_answer}
-use Rattle.run_model.specs.Answers.{is_marked, needs_unit, keys_refused, found_refused, more_changes, more_locks, journal_full, operation_act, change_limit, lock_limit, commit_settlement, left_active, unit_key}
+use Rattle.run_model.specs.Answers.{is_marked, needs_unit, keys_refused, found_refused, more_changes, more_locks, images_full, journal_full, operation_act, change_limit, lock_limit, commit_settlement, left_active, unit_key}
 use Rattle.directory_model.specs.Files.{IsNamed, head_at}
 use Rattle.volume_model.specs.Volumes.{HasDisk, LeavesVolume}
 use Rattle.record_operations.specs.declared.ops.RecordOp.{RecordOp}
@@ -92,6 +92,8 @@ cause_line cause.Changes = line.QuotaExceeded line.Changes change_limit
 cause_line cause.Locks = line.QuotaExceeded line.Locks lock_limit
 cause_line (cause.FileFull free need) = line.FileFull free need
 cause_line (cause.JournalFull free need) = line.JournalFull free need
+cause_line (cause.AfterImagesFull free need) = line.AftersFull free need
+cause_line (cause.BeforeImagesFull free need) = line.BeforesFull free need
 
 -- the line of a refusal; a disk that went down is none
 abbrev pub refusal_of : RecErr → Option Line
@@ -105,7 +107,7 @@ unit_early n b name f op = first_of (form_refused f op) (first_of (is_marked f) 
 
 abbrev pub unit_late : Node → Branch → (name : List ℕ) → File → Operation → Option Line
 unit_late n b name f op = first_of (found_refused n (Some b.key.serial) name op f) (first_of (more_changes n (changes_of f op) b)
-    (first_of (more_locks n name (keys_held f op)) (first_of (file_full f op) (journal_full n name (changes_of f op) b))))
+    (first_of (more_locks n name (keys_held f op)) (first_of (file_full f op) (first_of (journal_full n name (changes_of f op) b) (images_full b.key.serial (changes_of f op) f)))))
 
 -- What is asked of a node that stands on the volume and is up, of the branch of this serial, which is not prepared, and the file of this number.
 pub record IsAsked (serial : Id) (f : ℕ) (s : UnitsState) (v : VolumeState) (n : Node) (name : List ℕ) (file : File) (b : Branch) : Type 0 where
@@ -175,7 +177,8 @@ abbrev pub alone_early : Node → (name : List ℕ) → File → Operation → O
 alone_early n name f op = first_of (form_refused f op) (first_of (needs_unit op f) (keys_refused n None name (keys_asked f op)))
 
 abbrev pub alone_late : Node → (name : List ℕ) → File → Operation → Option Line
-alone_late n name f op = first_of (found_refused n None name op f) (first_of (refused_if (nat_lt change_limit (length (changes_of f op))) (line.QuotaExceeded line.Changes change_limit)) (file_full f op))
+alone_late n name f op = first_of (found_refused n None name op f) (first_of (refused_if (nat_lt change_limit (length (changes_of f op))) (line.QuotaExceeded line.Changes change_limit))
+    (first_of (file_full f op) (images_full (next_id n) (changes_of f op) f)))
 
 pub record IsAskedAlone (f : ℕ) (s : UnitsState) (v : VolumeState) (n : Node) (name : List ℕ) (file : File) : Type 0 where
   pub kept : IsKept s v n

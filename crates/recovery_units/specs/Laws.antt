@@ -1,6 +1,12 @@
 -- What holds of a node and its volume over acts that no unit takes part in.
 use Rattle.std.specs.Prelude.{◌≡◌, ℕ, ◌+◌, ◌-◌, ◌*◌, ◌<◌, ◌≤◌, List, [], Bool, false, Some, None, length, option_map, replicate, slice_set}
 use Rattle.file_base.specs.declared.head.FileHead.{FileHead}
+use Rattle.file_base.specs.declared.head.Save.{Save}
+use Rattle.file_base.specs.declared.head.Span.{Span}
+use Rattle.vms_base.specs.declared.times.Moment.{Moment}
+use Rattle.journal_model.specs.Ring.{HasRing}
+use Rattle.recovery_model.specs.File.{all_of, next_span}
+use Rattle.save_laws.specs.Saves.{IsOfNow, StandAt}
 use Rattle.careful_write.specs.State.{EachWhole}
 use Rattle.change_set.specs.Files.{AgreesOut, in_extent}
 use Rattle.std.specs.List.{AllByRecursion}
@@ -17,9 +23,9 @@ use Rattle.volume.specs.Limits.{data_area}
 use Rattle.volume_format.specs.Home.{sizes_of}
 use Rattle.volume.specs.Empty.{IsEmptyVolume}
 use Rattle.vms_model.specs.Ids.{Id}
-use Rattle.run_model.specs.World.{Node, File, Boots, ComesUp, Creates, Formats, Marks, Tables, acted}
-use Rattle.directory_model.specs.Files.{IsFile, IsHeadOf, IsNamed, NoneNamed, head_at}
-use Rattle.directory_model.specs.Laws.{marked}
+use Rattle.run_model.specs.World.{Node, File, Mark, Boots, ComesUp, Creates, Formats, Marks, ForUnits, BeginsImages, EndsImages, Saves, Tables, acted, find_file}
+use Rattle.directory_model.specs.Files.{IsCarried, IsFile, IsHeadOf, IsNamed, NoneNamed, head_at}
+use Rattle.directory_model.specs.Laws.{begun_head, end_by, ended_head, marked, saved_head}
 use Rattle.volume_model.specs.Volumes.{HasVolume, LeavesVolume}
 use Rattle.unit_table.specs.Units.{first_to_change}
 use Rattle.record_operations.specs.Asking.{written}
@@ -27,7 +33,7 @@ use Rattle.record_operations.specs.Forms as form
 use Rattle.record_operations.specs.declared.ops.RecordOp.{RecordOp}
 use Rattle.record_operations.specs.declared.ops.ReadOp.{ReadOp}
 use Rattle.run_model.specs.Operations.{form_refused}
-use Rattle.recovery_units.specs.State.{UnitsState, IsKept, IsInOrder, IsShowable, with_begun}
+use Rattle.recovery_units.specs.State.{UnitsState, IsImageShowable, IsKept, IsInOrder, IsShowable, with_begun}
 use Rattle.recovery_units.specs.Calls.{IsNumbered, cause_line, change_said, read_said}
 
 -- A volume that was just made, with so many log slots and blocks of a journal: it has no file, its journal no entry, and its home tells no boot and no settlement.
@@ -49,6 +55,21 @@ pub record IsMade (content : List (List ℕ)) (v : Catalog) (slots journal : ℕ
 abbrev pub HeadWritten : (f : ℕ) → FileHead → VolumeState → VolumeState → Type 0
 HeadWritten f h v w = (w.catalog ≡ record v.catalog { heads = slice_set v.catalog.heads f (Some h) }) × ((bytes : List ℕ) × (w.store.current ≡ option_map (λ blocks. slice_set blocks (519 + f - 518) bytes) v.store.current)) × (w.store.disk.size ≡ v.store.disk.size)
 
+-- The head of a file once it has this mark, where this is the greatest moment on the disk: its journal begins in a ring of the content, at a whole block behind the
+-- end of the one before, or it ends.
+abbrev pub MarksHead : Mark → (greatest : ℕ) → (content : List (List ℕ)) → FileHead → FileHead → Type 0
+MarksHead (ForUnits units) greatest content h new = new ≡ marked units h
+MarksHead (BeginsImages side start blocks) greatest content h new =
+    (s : Span) × (g : Moment) × HasRing content s × (s.start ≡ start) × (s.blocks ≡ blocks) × (s.first ≡ next_span (end_by side h)) × (s.end ≡ s.first) × (g.0 ≡ greatest) × (new ≡ begun_head side s g h)
+MarksHead (EndsImages side) greatest content h new = new ≡ ended_head side h
+
+-- a save of a file as it is, of which a copy stands in the content
+pub record IsSaveOf (greatest : ℕ) (content : List (List ℕ)) (h : FileHead) (s : Save) : Type 0 where
+  pub now : IsOfNow h s
+  pub position : s.position ≡ h.ai.end
+  pub moment : s.moment.0 ≡ greatest
+  pub copied : StandAt h s.start content content
+
 -- Laws with a content ask that each of its blocks has 512 bytes, as a store promises of what it reads.
 pub record KeepsNodes : Type 0 where
   -- what a node has in its volume is what it leaves of it,
@@ -57,6 +78,9 @@ pub record KeepsNodes : Type 0 where
   pub down : (content : List (List ℕ)) (v : Catalog) (n m : Node) → LeavesVolume content v n → m.name ≡ n.name → m.durable ≡ n.durable → m.up ≡ false → LeavesVolume content v m
   -- its entries can be shown
   pub shows : (s : UnitsState) (v : VolumeState) (n : Node) → IsKept s v n → AllByRecursion (IsShowable v.catalog.heads v.catalog.home.greatest_moment.0) n.durable.units.entries
+  -- and so can those of the journals of images of a file that is found
+  pub shows_images : (s : UnitsState) (v : VolumeState) (n : Node) (f : ℕ) (h : FileHead) (name : List ℕ) (file : File) → IsKept s v n → IsUp n → IsNamed v.catalog.heads f h name → find_file name n.durable.directory ≡ Some file →
+      AllByRecursion (IsImageShowable h.organization v.catalog.home.greatest_moment.0) (all_of file.carried.after.entries) × AllByRecursion (IsImageShowable h.organization v.catalog.home.greatest_moment.0) (all_of file.carried.before.entries)
   -- an act that leaves disk, branches and locks: an id is drawn, a label is made or numbered, the clock is set, the disk is armed
   pub stays : (s : UnitsState) (v : VolumeState) (n m : Node) → IsKept s v n → m.name ≡ n.name → m.blocks ≡ n.blocks → m.durable ≡ n.durable → m.up ≡ n.up → m.volatile.branches ≡ n.volatile.branches → m.volatile.locks ≡ n.volatile.locks → IsKept s v m
   -- a node comes up
@@ -65,15 +89,18 @@ pub record KeepsNodes : Type 0 where
   pub begins : (s : UnitsState) (v : VolumeState) (n : Node) (b : Branch) (moment : ℕ) → IsKept s v n → IsNewBranch n.volatile.branches b → IsUp (acted (Tables (Notes b) moment) n) → IsKept (with_begun b.key.tid b.key.serial s) v (acted (Tables (Notes b) moment) n)
   -- the table does what nothing is written for, and by which no branch begins or leaves
   pub tables : (s : UnitsState) (v : VolumeState) (n : Node) (a : table.Act) (moment : ℕ) → IsKept s v n → writes a ≡ false → ((k : table.Key) → a ≡ Leaves k → ⊥) → Stands n.volatile.branches a → IsKept s v (acted (Tables a moment) n)
-  -- a file that no unsettled branch changed is marked, or no more
-  pub marks : (s : UnitsState) (v w : VolumeState) (n : Node) (f : ℕ) (h : FileHead) (name : List ℕ) (units : Bool) (content : List (List ℕ)) → IsKept s v n → IsUp n → IsInOrder s v → IsNamed v.catalog.heads f h name → first_to_change f s.begun ≡ None →
-      HeadWritten f (marked units h) v w → w.store.current ≡ Some content → EachWhole content → IsKept s w (acted (Marks name units) n)
+  -- a file that no unsettled branch changed has a mark, or no more
+  pub marks : (s : UnitsState) (v w : VolumeState) (n : Node) (f : ℕ) (h new : FileHead) (name : List ℕ) (mark : Mark) (content : List (List ℕ)) → IsKept s v n → IsUp n → IsInOrder s v → IsNamed v.catalog.heads f h name → first_to_change f s.begun ≡ None →
+      HeadWritten f new v w → w.store.current ≡ Some content → EachWhole content → MarksHead mark n.durable.greatest content h new → IsKept s w (acted (Marks name mark) n)
+  -- such a file is saved, once a copy of its buckets stands in a free run
+  pub saves : (s : UnitsState) (v w : VolumeState) (n : Node) (f : ℕ) (h : FileHead) (name : List ℕ) (save : Save) (content : List (List ℕ)) → IsKept s v n → IsUp n → IsInOrder s v → IsNamed v.catalog.heads f h name → first_to_change f s.begun ≡ None →
+      HeadWritten f (saved_head save h) v w → w.store.current ≡ Some content → EachWhole content → 584 ≤ save.start → ((old : List (List ℕ)) → v.store.current ≡ Some old → IsSaveOf n.durable.greatest old h save) → IsKept s w (acted (Saves name save.start) n)
   -- blocks of a free run are written
   pub free : (s : UnitsState) (v w : VolumeState) (n : Node) (h : FileHead) (content : List (List ℕ)) → IsKept s v n → IsInOrder s v → IsFreeRun (data_area (sizes_of v.catalog.home)) (all_extents v.catalog.heads) h.start (h.alloc * h.bucket) →
       w.catalog ≡ v.catalog → w.store.disk.size ≡ v.store.disk.size → AgreesOut (in_extent h) v.store.current w.store.current → w.store.current ≡ Some content → EachWhole content → IsKept s w n
   -- a file without records is made in a free run, under a new name, at the lowest number that is free
   pub creates : (s : UnitsState) (v w : VolumeState) (n : Node) (f : ℕ) (h : FileHead) (file : File) (content new : List (List ℕ)) → IsKept s v n → IsInOrder s v → f < 64 → head_at v.catalog.heads f ≡ None →
-      ((g : ℕ) → g < f → head_at v.catalog.heads g ≡ None → ⊥) → NoneNamed v.catalog.heads 64 h.name → IsFreeRun (data_area (sizes_of v.catalog.home)) (all_extents v.catalog.heads) h.start (h.alloc * h.bucket) → file.history.live ≡ [] → v.store.current ≡ Some content → IsFile content h file → HeadWritten f h v w → w.store.current ≡ Some new → EachWhole new →
+      ((g : ℕ) → g < f → head_at v.catalog.heads g ≡ None → ⊥) → NoneNamed v.catalog.heads 64 h.name → IsFreeRun (data_area (sizes_of v.catalog.home)) (all_extents v.catalog.heads) h.start (h.alloc * h.bucket) → file.history.live ≡ [] → v.store.current ≡ Some content → IsFile content h file → ((c : List (List ℕ)) → IsCarried c f h file.carried) → HeadWritten f h v w → w.store.current ≡ Some new → EachWhole new →
       IsKept s w (acted (Creates f file) n)
   -- where no slot of the log has a serial, none is freed for it
   pub unlogged : (serial : Id) (ss : Slots) → has_slot serial ss ≡ false → forgotten serial ss ≡ ss

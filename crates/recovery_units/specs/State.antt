@@ -12,12 +12,14 @@ use Rattle.file_base.specs.declared.head.Organization.{Organization}
 use Rattle.file_base.specs.declared.head.Organization.TheVariants.{Sequential, Relative, Indexed}
 use Rattle.journal_model.specs.Ring.{ring_size}
 use Rattle.record_locks.specs.Locks.{Lock, released}
+use Rattle.image_room.specs.Room.{AllSettlementsFit, images_end}
 use Rattle.volume.specs.Catalogs.{IsSound}
 use Rattle.volume.specs.State.{VolumeState, Holds}
 use Rattle.unit_table.specs.Units.{Ascend, OpenUnit, has_changed, new_unit, owed_for, prepared_unit}
 use Rattle.vms_model.specs.Ids.{Id}
 use Rattle.vms_model.specs.Keys.{Key, Number, Text}
 use Rattle.records_model.specs.History.{same_id, changed_it}
+use Rattle.recovery_model.specs.Journal as image
 use Rattle.unit_laws.specs.Journal.{JournalEntry, ChangeEntry, PreparedEntry, SettledEntry, entry_size, serial_in}
 use Rattle.run_model.specs.Locks as world
 use Rattle.lmcp_log.specs.Slot.{HasForm}
@@ -147,7 +149,8 @@ owed [] = 0
 owed (u ∷ us) = owed_for u.prepared u.positions + owed us
 
 -- What holds on any disk: the next group may be applied, nothing is staged, frames are free, what is kept of the volume is in order, and the journal has room
--- for what units are owed. The changes of each unit begin in the journal, one behind the other. The log's slots lie before the journal.
+-- for what units are owed, as the journals of images have for the settlements of the units that changed their files. The changes of each unit begin in the journal,
+-- one behind the other. The log's slots lie before the journal.
 pub record IsInOrder (s : UnitsState) (v : VolumeState) : Type 0 where
   pub idle : IsIdle v.store
   pub frames : 32 ≤ free_frames v.store.pool
@@ -161,11 +164,13 @@ pub record IsInOrder (s : UnitsState) (v : VolumeState) : Type 0 where
   pub within : AllByRecursion (λ (u : OpenUnit). Ascend v.catalog.ru.first v.catalog.ru.end u.positions) s.begun
   pub few : length s.begun ≤ 64
   pub slots : 584 + length s.log ≤ v.catalog.ru.start
+  pub images : AllSettlementsFit (map Some s.begun) v.catalog.heads
 
--- Numbers of the volume that only grow are far from their ends: the journal's end, and the greatest moment.
+-- Numbers of the volume that only grow are far from their ends: the journal's end, those of the journals of images, and the greatest moment.
 pub record IsEarly (v : VolumeState) : Type 0 where
   pub low : v.catalog.ru.end + 2 ^ 22 ≤ 2 ^ 62
   pub moment : v.catalog.home.greatest_moment.0 < 24000001000066
+  pub images : images_end v.catalog.heads + 2 ^ 24 ≤ 2 ^ 62
 
 -- no unit is of this branch
 abbrev pub IsNew : Id → UnitsState → Type 0
@@ -233,6 +238,11 @@ abbrev pub IsShowable : List (Option FileHead) → (greatest : ℕ) → JournalE
 IsShowable heads greatest (ChangeEntry tid serial file key before) = (f : ℕ) (h : FileHead) → head_at heads f ≡ Some h → h.name ≡ file → IsKeyBy h.organization key
 IsShowable heads greatest (PreparedEntry tid serial) = Unit {0}
 IsShowable heads greatest (SettledEntry tid serial outcome moment) = moment ≤ greatest
+
+-- so of an entry of a journal of images, of a file whose records are kept so
+abbrev pub IsImageShowable : Organization → (greatest : ℕ) → image.Entry → Type 0
+IsImageShowable organization greatest (image.Changed serial key value) = IsKeyBy organization key
+IsImageShowable organization greatest (image.Settled serial outcome moment) = moment ≤ greatest
 
 -- The node of the world that these units and this volume are, where the disk tells its content. All that the node's disk has is in the volume, and its log is that
 -- of the units; each unsettled branch of its table is a unit, in the order of their start, and its locks are the units'. It has the volume's name, and the blocks of

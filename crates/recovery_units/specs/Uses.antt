@@ -3,6 +3,7 @@ use Rattle.std.specs.Prelude.{◌≡◌, ◌≤◌, ◌<◌, ◌^◌, ◌+◌, �
 use Rattle.block_disk.specs.Disk.{DiskState}
 use Rattle.careful_write.specs.declared.down.Down.{Down}
 use Rattle.careful_write.specs.declared.down.Down.TheVariants as down
+use Rattle.image_room.specs.Room.{images_end}
 use Rattle.transcript_model.specs.Outside.{Rose}
 use Rattle.volume.specs.State.{VolumeState}
 
@@ -34,7 +35,7 @@ down_of (Ok x) = None
 down_of (Err e) = Some e
 
 -- What a call leaves of a volume, however it ends: its frames are as free; the node and its boot are the same; and numbers that only grow have grown by no more
--- than so many settlements at this clock, and by no more than the journal's ring has bytes.
+-- than so many settlements at this clock, and by no more than a journal's ring has bytes.
 pub record Grows (settlements clock : ℕ) (v w : VolumeState) : Type 0 where
   pub goes : Goes v.store.disk w.store.disk
   pub pool : w.store.pool ≡ v.store.pool
@@ -42,3 +43,7 @@ pub record Grows (settlements clock : ℕ) (v w : VolumeState) : Type 0 where
   pub boot : w.catalog.home.boot ≡ v.catalog.home.boot
   pub greatest : w.catalog.home.greatest_moment.0 ≤ max (v.catalog.home.greatest_moment.0 + settlements) clock
   pub end : w.catalog.ru.end ≤ v.catalog.ru.end + 2 ^ 22
+
+-- the ends of the journals of images have grown by no more than a truncation may enter
+abbrev pub ImagesGrow : VolumeState → VolumeState → Type 0
+ImagesGrow v w = images_end w.catalog.heads ≤ images_end v.catalog.heads + 2 ^ 24

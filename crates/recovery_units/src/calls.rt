@@ -21,7 +21,7 @@ ghost use Rattle.recovery_units.specs.Calls.{ChangesOk, ChangesErr, ReadsOk, Rea
 ghost use Rattle.recovery_units.specs.Told.{nothing_told};
 ghost use Rattle.vms_model.specs.Transactions.{Reason as ReasonSaid};
 ghost use Rattle.volume.specs.State.{SameVolume, VolumeState as VolumeSaid};
-ghost use Rattle.recovery_units.specs.Uses.{Caused, Grows, down_of};
+ghost use Rattle.recovery_units.specs.Uses.{Caused, Grows, ImagesGrow, down_of};
 
 use crate::settled::{Reopened, SettledUnit};
 use block_disk::Disk;
@@ -88,6 +88,7 @@ pub trait RecoveryUnits: Drop {
         ensures works { WorksFor (serial_of serial.now) (state self.old) (state self.new) }
         ensures same { IfErr result (λ e. down_in e ≡ None → (state self.new ≡ state self.old) × SameVolume volume.old volume.new) }
         ensures grows { Grows 0 0 volume.old volume.new }
+        ensures images { OnOk result (ImagesGrow volume.old volume.new) }
         ensures cause { IfErr result (λ e. Caused (down_in e) volume.old.store.disk volume.new.store.disk) }
         ensures done { IfOk result (λ position. ChangesOk (serial_of serial.now) op.now bytes.now position (state self.old) volume.old (state self.new) volume.new) }
         ensures err { IfErr result (λ e. ChangesErr (serial_of serial.now) op.now bytes.now e (state self.old) volume.old volume.new) };
@@ -110,6 +111,7 @@ pub trait RecoveryUnits: Drop {
         ensures works { WorksFor (serial_of serial.now) (state self.old) (state self.new) }
         ensures same { IfErr result (λ e. down_in e ≡ None → (state self.new ≡ state self.old) × SameVolume volume.old volume.new) }
         ensures grows { Grows 0 0 volume.old volume.new }
+        ensures images { OnOk result (ImagesGrow volume.old volume.new) }
         ensures cause { IfErr result (λ e. Caused (down_in e) volume.old.store.disk volume.new.store.disk) }
         ensures reads { ReadsFew op.now volume.old volume.new }
         ensures done { OnOk result (ReadsOk (serial_of serial.now) op.now (key_of found.new) out.new (state self.old) volume.old (state self.new) volume.new) }
@@ -128,6 +130,7 @@ pub trait RecoveryUnits: Drop {
         ensures same { OnOk result (SameVolume volume.old volume.new) }
         ensures refused { IfErr result (λ e. down_in e ≡ None → SameVolume volume.old volume.new) }
         ensures grows { Grows 0 0 volume.old volume.new }
+        ensures images { OnOk result (ImagesGrow volume.old volume.new) }
         ensures cause { IfErr result (λ e. Caused (down_in e) volume.old.store.disk volume.new.store.disk) }
         ensures reads { ReadsFew op.now volume.old volume.new }
         ensures done { OnOk result (LooksOk op.now (key_of found.new) out.new (state self.now) volume.old) }
@@ -152,6 +155,7 @@ pub trait RecoveryUnits: Drop {
         ensures order { OnOk result (IsInOrder (state self.new) volume.new) }
         ensures same { IfErr result (λ e. down_in e ≡ None → SameVolume volume.old volume.new) }
         ensures grows { Grows 1 clock.0 volume.old volume.new }
+        ensures images { OnOk result (ImagesGrow volume.old volume.new) }
         ensures cause { IfErr result (λ e. Caused (down_in e) volume.old.store.disk volume.new.store.disk) }
         ensures moment { IfOk result (λ told. told.1.0 ≡ volume.new.catalog.home.greatest_moment.0) }
         ensures done { IfOk result (λ told. DirectsOk (tid_of tid) clock.0 op.now bytes.now told.0 told.1.0 (state self.old) volume.old volume.new) }
@@ -172,6 +176,7 @@ pub trait RecoveryUnits: Drop {
         ensures tid { IfOk result (λ tid. IfSome (unit_of (serial_of serial.now) (state self.old).begun) (λ u. tid_of tid ≡ u.tid)) }
         ensures order { OnOk result (IsInOrder (state self.new) volume.new) }
         ensures grows { Grows 0 0 volume.old volume.new }
+        ensures images { OnOk result (ImagesGrow volume.old volume.new) }
         ensures cause { Caused (down_of result) volume.old.store.disk volume.new.store.disk }
         ensures done { OnOk result (VotesOk (serial_of serial.now) rms.now (state self.old) volume.old (state self.new) volume.new) }
         ensures err { OnErr result (VotesErr (serial_of serial.now) rms.now (state self.old) volume.old volume.new) };
@@ -202,6 +207,7 @@ pub trait RecoveryUnits: Drop {
         ensures units { OnOk result (state self.new ≡ committed (serial_of serial.now) (slot_of (option_copied logged.entry)) (state self.old)) }
         ensures order { OnOk result (IsInOrder (state self.new) volume.new) }
         ensures grows { Grows 1 clock.0 volume.old volume.new }
+        ensures images { OnOk result (ImagesGrow volume.old volume.new) }
         ensures cause { Caused (down_of result) volume.old.store.disk volume.new.store.disk }
         ensures moment { IfOk result (λ u. u.moment.0 ≡ volume.new.catalog.home.greatest_moment.0) }
         ensures done { IfOk result (λ u. (reason : ReasonSaid) → SettlesOk (serial_of serial.now) Commit reason (slot_of (option_copied logged.entry)) clock.0 u (state self.old) volume.old (state self.new) volume.new) }
@@ -223,6 +229,7 @@ pub trait RecoveryUnits: Drop {
         ensures units { OnOk result (IfSome (unit_of (serial_of serial.now) (state self.old).begun) (λ u. state self.new ≡ aborted u (state self.old))) }
         ensures order { OnOk result (IsInOrder (state self.new) volume.new) }
         ensures grows { Grows 1 clock.0 volume.old volume.new }
+        ensures images { OnOk result (ImagesGrow volume.old volume.new) }
         ensures cause { Caused (down_of result) volume.old.store.disk volume.new.store.disk }
         ensures moment { IfOk result (λ u. u.moment.0 ≡ volume.new.catalog.home.greatest_moment.0) }
         ensures done { IfOk result (λ u. SettlesOk (serial_of serial.now) Abort (reason_of reason) None clock.0 u (state self.old) volume.old (state self.new) volume.new) }
@@ -236,6 +243,7 @@ pub trait RecoveryUnits: Drop {
         ensures units { OnOk result (state self.new ≡ record (state self.old) { log = put_in (log_record_of logged.now) (state self.old).log }) }
         ensures order { OnOk result (IsInOrder (state self.new) volume.new) }
         ensures grows { Grows 0 0 volume.old volume.new }
+        ensures images { OnOk result (ImagesGrow volume.old volume.new) }
         ensures cause { Caused (down_of result) volume.old.store.disk volume.new.store.disk }
         ensures catalog { OnOk result (volume.new.catalog ≡ volume.old.catalog) }
         ensures done { OnOk result (KeepsRecord (log_record_of logged.now) (state self.old) volume.old (state self.new) volume.new) }
@@ -253,6 +261,7 @@ pub trait RecoveryUnits: Drop {
         ensures tid { IfOk result (λ tid. IfSome (record_with (serial_of serial.now) (state self.old).log) (λ r. tid_of tid ≡ r.tid)) }
         ensures order { OnOk result (IsInOrder (state self.new) volume.new) }
         ensures grows { Grows 0 0 volume.old volume.new }
+        ensures images { OnOk result (ImagesGrow volume.old volume.new) }
         ensures cause { Caused (down_of result) volume.old.store.disk volume.new.store.disk }
         ensures catalog { OnOk result (volume.new.catalog ≡ volume.old.catalog) }
         ensures done { OnOk result (ForgetsRecord (serial_of serial.now) (state self.old) volume.old (state self.new) volume.new) }
@@ -285,6 +294,7 @@ pub trait RecoveryUnits: Drop {
         ensures begins { OnOk result (MayBegin out.new (state self.new).log) }
         ensures order { OnOk result (IsInOrder (state self.new) volume.new) }
         ensures grows { Grows 64 (clock.0 + 64) volume.old volume.new }
+        ensures images { OnOk result (ImagesGrow volume.old volume.new) }
         ensures room { OnOk result (volume.new.catalog.home.greatest_moment.0 + length (state self.new).begun ≤ max volume.old.catalog.home.greatest_moment.0 clock.0 + 64) }
         ensures moments { AllByRecursion (λ (u : SettledSaid). u.moment.0 ≤ volume.new.catalog.home.greatest_moment.0) out.new.settled }
         ensures cause { Caused (down_of result) volume.old.store.disk volume.new.store.disk }

@@ -1,1 +1,3 @@
 pub mod DiskLemmas
+pub mod FoundLemmas
+pub mod MarkLemmas

@@ -1,6 +1,6 @@
 // What a node's disk has, and what acts make of it.
 ghost use Rattle.std.specs.Prelude.{◌≡◌, ◌+◌, ◌<◌, ◌≤◌, ◌^◌, ◌++◌, ℕ, List, [], ◌∷◌, Some, None, map, option_map, length, OnOk, IfOk};
-ghost use Rattle.script_lang.specs.Statements.{form_of, setting_of};
+ghost use Rattle.script_lang.specs.Statements.{form_of, recovery_of, setting_of};
 ghost use Rattle.script_model.specs.Statements as said;
 ghost use Rattle.transcript_model.specs.Lines as model;
 ghost use Rattle.unit_laws.specs.Journal.{end_of};
@@ -14,25 +14,30 @@ ghost use Rattle.run_model.specs.Steps.{lines_of_rows, node_after_rows};
 ghost use Rattle.vms_base.specs.Ids.{id_of};
 ghost use Rattle.tm_types.specs.Parts.{log_record_of};
 ghost use Rattle.reference_index.specs.Standing.{key_of, changes_of, locks_of};
-ghost use Rattle.reference_world.specs.Standing.{branch_key_of, settlement_of, file_of, line_of};
+ghost use Rattle.run_model.specs.Locks.{is_locked};
+ghost use Rattle.std.specs.FinMap.{entries};
+ghost use Rattle.reference_world.specs.Standing.{branch_key_of, settlement_of, file_of, line_of, side_of};
+ghost use Rattle.reference_world.specs.Directories.{file_change_of, IsFileChange};
 ghost use Rattle.reference_units.specs.Entries.{journal_of};
 ghost use Rattle.reference_records.specs.Operations.{asked_of};
+ghost use Rattle.reference_disk.specs.Recovering.{IsGiven};
 ghost use Rattle.reference_disk.specs.Disks.{durable_of, node_on, disk_node, after_creation, holding, logged_tid, slots_of};
 
-use crate::files::{Told, is_for_units, new_file, show_records, told_of};
+use crate::files::{Told, blocks_marked, mark_for, new_file, show_records, told_of};
 use crate::forms::blocks_for;
 use crate::log::{empty_log, forgotten, tid_of, with_record};
 use reference_index::{Change, Lock};
 use reference_records::Asked;
+use reference_recovery::{Load, images_shown, journal_at, recovered};
 use reference_units::{
     Journal, empty_journal, journal_shown, with_changes, with_prepared, with_settled,
     without_settled,
 };
 use reference_world::{
-    BranchKey, File, FileChange, Line, Settlement, Volume, empty_places, find_file, free_place,
-    one, settled_files, with_file,
+    BranchKey, File, FileChange, Line, Settlement, Side, Volume, empty_places, find_file,
+    free_place, one, settled_files, with_file, written,
 };
-use script_lang::{Form, Setting};
+use script_lang::{Form, Recovery, Setting};
 use std::alloc::{AllocError, Global};
 use std::mem::replace;
 use vms_base::{FileName, Id, LogKind, LogRec, RmList, Serial, SerialList, Tid};
@@ -122,22 +127,164 @@ impl Durable {
         self.directory[place] = Some(file);
     }
 
-    /// SET_FILE.
-    pub fn set_file(
+    // A change of the file of this name.
+    fn with_change(
         &mut self,
         alloc: Global,
         locks: &[Lock],
         name: &FileName,
+        change: FileChange,
+    ) -> Result<(), AllocError>
+        requires { IsFileChange change }
+        ensures { OnOk result (durable_of self.new ≡ record (durable_of self.old) { directory = world.with_file name.now (file_change_of (is_locked (locks_of locks.now) name.now) change) (durable_of self.old).directory }) }
+    {
+        let files = replace(&mut self.directory, Vec::new(alloc));
+        self.directory = with_file(alloc, files, locks, name, change)?;
+        Ok(())
+    }
+
+    // Where the lowest run of so many free blocks begins; where there is none, that is anywhere.
+    fn start_for(&self, blocks: u32, need: u64) -> u64
+        requires { length self.now.log.items ≤ 512 }
+        ensures { result ≡ answers.start_of (world.lowest_free (node_on [] blocks (durable_of self.now)) need) }
+    {
+        match self.lowest_free(blocks, need) {
+            Some(start) => start,
+            None => 0,
+        }
+    }
+
+    /// SET_FILE, on a disk of so many blocks.
+    pub fn set_file(
+        &mut self,
+        alloc: Global,
+        blocks: u32,
+        locks: &[Lock],
+        name: &FileName,
         setting: Setting,
     ) -> Result<Vec<Line>, AllocError>
-        ensures marks { OnOk result (durable_of self.new ≡ world.durable_after (world.Marks name.now (answers.is_for_units (setting_of setting))) world.nothing_volatile (durable_of self.old)) }
+        requires { length self.old.log.items ≤ 512 }
+        ensures marks { OnOk result (durable_of self.new ≡ (node_after_rows (answers.sets (node_on [] blocks (durable_of self.old)) name.now (setting_of setting)) (node_on [] blocks (durable_of self.old))).durable) }
         ensures shows { IfOk result (λ lines. map line_of lines.items ≡ model.Normal ∷ []) }
     {
-        let lines = one(alloc, Line::Normal)?;
-        let mark = FileChange::Mark(is_for_units(setting));
-        let files = replace(&mut self.directory, Vec::new(alloc));
-        self.directory = with_file(alloc, files, locks, name, mark)?;
+        let start = self.start_for(blocks, blocks_marked(setting));
+        let mark = FileChange::Mark(mark_for(setting, start), self.greatest);
+        self.with_change(alloc, locks, name, mark)?;
+        one(alloc, Line::Normal)
+    }
+
+    /// BACKUP, on a disk of so many blocks.
+    pub fn backup(
+        &mut self,
+        alloc: Global,
+        blocks: u32,
+        locks: &[Lock],
+        name: &FileName,
+    ) -> Result<Vec<Line>, AllocError>
+        requires { length self.old.log.items ≤ 512 }
+        ensures saves { let n = node_on [] blocks (durable_of self.old) in OnOk result (durable_of self.new ≡ (node_after_rows (answers.to_file n name.now (λ f. answers.on_free n (answers.blocks_of f) (world.Saves name.now))) n).durable) }
+        ensures shows { let n = node_on [] blocks (durable_of self.old) in IfOk result (λ lines. map line_of lines.items ≡ answers.file_told n name.now (λ f. model.NormalSave f.carried.after.end n.durable.greatest) ∷ []) }
+    {
+        match self.blocks_taken(name)? {
+            None => one(alloc, Line::Normal),
+            Some(need) => self.save_in(alloc, blocks, locks, name, need),
+        }
+    }
+
+    // The file of this name is saved in so many blocks, which are those of its buckets.
+    fn save_in(
+        &mut self,
+        alloc: Global,
+        blocks: u32,
+        locks: &[Lock],
+        name: &FileName,
+        need: u64,
+    ) -> Result<Vec<Line>, AllocError>
+        requires slots { length self.old.log.items ≤ 512 }
+        requires need { Some need ≡ option_map answers.blocks_of (world.find_file name.now (durable_of self.old).directory) }
+        ensures saves { let n = node_on [] blocks (durable_of self.old) in OnOk result (durable_of self.new ≡ (node_after_rows (answers.to_file n name.now (λ f. answers.on_free n (answers.blocks_of f) (world.Saves name.now))) n).durable) }
+        ensures shows { let n = node_on [] blocks (durable_of self.old) in IfOk result (λ lines. map line_of lines.items ≡ answers.file_told n name.now (λ f. model.NormalSave f.carried.after.end n.durable.greatest) ∷ []) }
+    {
+        let end = self.after_end(name);
+        let start = self.start_for(blocks, need);
+        let moment = written(self.greatest)?;
+        let lines = one(alloc, Line::NormalSave(end, moment))?;
+        let save = FileChange::Save(start, self.greatest);
+        self.with_change(alloc, locks, name, save)?;
         Ok(lines)
+    }
+
+    /// What a recovery gives the file of this name, where there is one.
+    pub fn recovered_at(
+        &self,
+        alloc: Global,
+        name: &FileName,
+        way: &Recovery,
+    ) -> Result<Option<Load>, AllocError>
+        ensures { IfOk result (λ given. IsGiven (recovery_of way.now) (world.find_file name.now (durable_of self.now).directory) given) }
+    {
+        match find_file(self.directory.as_slice(), name) {
+            None => Ok(None),
+            Some(f) => Ok(Some(recovered(alloc, f, way)?)),
+        }
+    }
+
+    /// RECOVER, on a disk of so many blocks.
+    pub fn recover(
+        &mut self,
+        alloc: Global,
+        blocks: u32,
+        locks: &[Lock],
+        name: &FileName,
+        way: &Recovery,
+    ) -> Result<Vec<Line>, AllocError>
+        requires { length self.old.log.items ≤ 512 }
+        ensures recovers { let n = node_on [] blocks (durable_of self.old) in OnOk result (durable_of self.new ≡ (node_after_rows (answers.to_file n name.now (answers.recovers n name.now (recovery_of way.now))) n).durable) }
+        ensures shows { let n = node_on [] blocks (durable_of self.old) in IfOk result (λ lines. map line_of lines.items ≡ answers.file_told n name.now (λ f. model.NormalCount (length (entries (answers.records_recovered (recovery_of way.now) f)))) ∷ []) }
+    {
+        match self.recovered_at(alloc, name, way)? {
+            None => one(alloc, Line::Normal),
+            Some(given) => self.load_in(alloc, blocks, locks, name, way, given),
+        }
+    }
+
+    // The file of this name gets what a recovery gives it.
+    fn load_in(
+        &mut self,
+        alloc: Global,
+        blocks: u32,
+        locks: &[Lock],
+        name: &FileName,
+        way: &Recovery,
+        given: Load,
+    ) -> Result<Vec<Line>, AllocError>
+        requires slots { length self.old.log.items ≤ 512 }
+        requires given { IsGiven (recovery_of way.now) (world.find_file name.now (durable_of self.old).directory) (Some given) }
+        ensures recovers { let n = node_on [] blocks (durable_of self.old) in OnOk result (durable_of self.new ≡ (node_after_rows (answers.to_file n name.now (answers.recovers n name.now (recovery_of way.now))) n).durable) }
+        ensures shows { let n = node_on [] blocks (durable_of self.old) in IfOk result (λ lines. map line_of lines.items ≡ answers.file_told n name.now (λ f. model.NormalCount (length (entries (answers.records_recovered (recovery_of way.now) f)))) ∷ []) }
+    {
+        let start = self.start_for(blocks, given.blocks);
+        let lines = one(alloc, Line::NormalCount(given.rows.len() as u64))?;
+        let change = FileChange::Recover(start, given.buckets, given.rows, self.greatest);
+        self.with_change(alloc, locks, name, change)?;
+        Ok(lines)
+    }
+
+    /// DUMP_JOURNAL of a file's journal of images.
+    pub fn dump_images(
+        &self,
+        alloc: Global,
+        name: &FileName,
+        side: Side,
+    ) -> Result<Vec<Line>, AllocError>
+        ensures { let n = disk_node self.now in IfOk result (λ lines. map line_of lines.items ≡
+            lines_of_rows (answers.to_file n name.now (λ f. map answers.shown_line (answers.image_lines name.now (answers.journal_at (side_of side) f).entries)))
+            ++ answers.file_told n name.now (λ f. model.NormalSpan (answers.journal_at (side_of side) f).first (answers.journal_at (side_of side) f).end) ∷ []) }
+    {
+        match find_file(self.directory.as_slice(), name) {
+            None => one(alloc, Line::Normal),
+            Some(f) => images_shown(alloc, name, journal_at(f, side)),
+        }
     }
 
     /// What an operation changes, and what it is answered.
@@ -192,10 +339,7 @@ impl Durable {
     {
         let units = replace(&mut self.units, empty_journal(alloc));
         self.units = with_changes(alloc, units, branch, *name, changes.as_slice())?;
-        let set = FileChange::Set(branch.serial, changes);
-        let files = replace(&mut self.directory, Vec::new(alloc));
-        self.directory = with_file(alloc, files, locks, name, set)?;
-        Ok(())
+        self.with_change(alloc, locks, name, FileChange::Set(*branch, changes))
     }
 
     /// Changes of a branch of its own, which is committed at once.
@@ -216,8 +360,7 @@ impl Durable {
             serial: s.serial,
         };
         let direct = FileChange::Direct(branch, s.moment, changes);
-        let files = replace(&mut self.directory, Vec::new(alloc));
-        self.directory = with_file(alloc, files, locks, name, direct)?;
+        self.with_change(alloc, locks, name, direct)?;
         let units = replace(&mut self.units, empty_journal(alloc));
         self.units = without_settled(alloc, units)?;
         self.note(s);

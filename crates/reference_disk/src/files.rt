@@ -1,5 +1,5 @@
 // New files, and what operations tell of the records of files.
-ghost use Rattle.std.specs.Prelude.{◌≡◌, ◌++◌, [], ◌∷◌, map, length, IfOk};
+ghost use Rattle.std.specs.Prelude.{◌≡◌, ◌++◌, [], ◌∷◌, map, option_map, length, IfOk};
 ghost use Rattle.std.specs.FinMap.{entries};
 ghost use Rattle.script_lang.specs.Statements.{form_of, setting_of};
 ghost use Rattle.records_model.specs.History.{current};
@@ -11,22 +11,51 @@ ghost use Rattle.run_model.specs.Steps.{lines_of_rows};
 ghost use Rattle.reference_index.specs.Standing.{key_of, changes_of, layout_of};
 ghost use Rattle.reference_world.specs.Standing.{history_of, organization_of, file_of, line_of};
 ghost use Rattle.reference_records.specs.Operations.{asked_of};
+ghost use Rattle.reference_world.specs.Directories.{mark_of};
+ghost use Rattle.reference_disk.specs.Marks.{blocks_said, mark_said};
 
 use crate::forms::buckets_for;
 use reference_index::{Change, Key, Layout, Leaf, no_layout, push_front};
-use reference_records::{Asked, changes_asked, keys_held, operation_answer};
-use reference_world::{File, Line, Organization, records_of, rows_shown};
+use reference_records::{Asked, changes_asked, keys_held, operation_answer, refused_if};
+use reference_recovery::side_for;
+use reference_world::{File, Line, Mark, Organization, nothing_carried, records_of, rows_shown};
 use script_lang::{Form, Setting};
 use std::alloc::{AllocError, Global};
 use vms_base::FileName;
 
-/// Whether a setting marks a file for recovery units.
-pub fn is_for_units(setting: Setting) -> bool
-    ensures { result ≡ answers.is_for_units (setting_of setting) }
+/// What a setting marks a file with, where a journal that begins has its blocks from this one on.
+pub fn mark_for(setting: Setting, start: u64) -> Mark
+    ensures { mark_of result ≡ mark_said (setting_of setting) start }
 {
     match setting {
-        Setting::RecoveryUnits => true,
-        Setting::NoRecoveryUnits => false,
+        Setting::RecoveryUnits => Mark::Units(true),
+        Setting::NoRecoveryUnits => Mark::Units(false),
+        Setting::Images(word, blocks) => Mark::Begins(side_for(word), start, u64::from(blocks)),
+        Setting::NoImages(word) => Mark::Ends(side_for(word)),
+    }
+}
+
+/// How many blocks it wants for a journal that begins; none for none.
+pub fn blocks_marked(setting: Setting) -> u64
+    ensures { result ≡ blocks_said (setting_of setting) }
+{
+    match setting {
+        Setting::RecoveryUnits => 0,
+        Setting::NoRecoveryUnits => 0,
+        Setting::Images(_, blocks) => u64::from(blocks),
+        Setting::NoImages(_) => 0,
+    }
+}
+
+/// The refusal that a journal is to begin in no blocks.
+pub fn setting_refused(setting: Setting) -> Option<Line>
+    ensures { option_map line_of result ≡ answers.setting_refused (setting_of setting) }
+{
+    match setting {
+        Setting::RecoveryUnits => None,
+        Setting::NoRecoveryUnits => None,
+        Setting::Images(_, blocks) => refused_if(blocks == 0, Line::BadParameter),
+        Setting::NoImages(_) => None,
     }
 }
 
@@ -82,6 +111,8 @@ pub fn new_file(
         start,
         buckets: buckets_for(bucket, size, form),
         recovery_units: false,
+        carried: nothing_carried(alloc),
+        base: Vec::new(alloc),
         moment,
         settled: Vec::new(alloc),
         live: Vec::new(alloc),

@@ -10,6 +10,6 @@ mod refusals;
 
 pub use boot::keys_of_records;
 pub use disk::Durable;
-pub use files::Told;
+pub use files::{Told, setting_refused};
 pub use forms::{blocks_for, is_file_form, is_volume_form, is_within};
 pub use log::{count_free, count_prepared, record_lines};

@@ -1,11 +1,13 @@
 // What refuses requests by what the disk has.
-ghost use Rattle.std.specs.Prelude.{◌≡◌, ◌+◌, ◌<◌, ◌≤◌, ◌^◌, ℕ, [], map, option_map, length, IfOk};
+ghost use Rattle.std.specs.Prelude.{◌≡◌, ◌+◌, ◌<◌, ◌≤◌, ◌^◌, ℕ, [], Some, map, option_map, length, IfOk};
 ghost use Rattle.unit_laws.specs.Journal.{end_of as end_said};
 ghost use Rattle.run_model.specs.Answers as answers;
 ghost use Rattle.run_model.specs.Operations as operations;
 ghost use Rattle.run_model.specs.World as world;
 ghost use Rattle.reference_index.specs.Standing.{changes_of};
-ghost use Rattle.reference_world.specs.Standing.{branch_key_of, is_unmade as is_unmade_of, serials_of, line_of};
+ghost use Rattle.script_lang.specs.Statements.{recovery_of, setting_of};
+ghost use Rattle.vms_base.specs.Ids.{id_of};
+ghost use Rattle.reference_world.specs.Standing.{branch_key_of, is_unmade as is_unmade_of, serials_of, side_of, line_of};
 ghost use Rattle.reference_units.specs.Entries.{entries_of, journal_of};
 ghost use Rattle.reference_records.specs.Operations.{asked_of};
 ghost use Rattle.reference_disk.specs.Disks.{durable_of, node_on, disk_node, branch_with, first_changed, need_of};
@@ -16,14 +18,17 @@ use reference_index::Change;
 use reference_records::{
     Asked, changes_asked, file_full, first_of, form_refused, is_change, refused_if,
 };
+use reference_recovery::{has_journal, images_full, recovery_refused};
 use reference_units::{
     JournalEntry, changes_made, end_of, entries_for, entries_size, free_bytes, owed_first, units_in,
 };
 use reference_world::{
-    BranchKey, Line, Quota, Runs, Volume, find_file, first_to_change, free_place, free_runs,
-    records_of,
+    BranchKey, Line, Quota, Runs, Side, Volume, find_file, first_to_change, free_place, free_runs,
+    images_end, records_of,
 };
+use script_lang::{Recovery, Setting};
 use std::alloc::{AllocError, Global};
+use std::cmp::max;
 use vms_base::{FileName, Id, NodeName};
 
 // The bytes that these entries of a branch want of the journal, with what it is owed with the first of them.
@@ -102,6 +107,111 @@ impl Durable {
     {
         let f = find_file(self.directory.as_slice(), name)?;
         refused_if(!f.recovery_units, Line::NotMarked)
+    }
+
+    /// The refusal that a file that is there has no such journal of images.
+    pub fn has_journal(&self, name: &FileName, side: Side) -> Option<Line>
+        ensures { option_map line_of result ≡ answers.of_file (disk_node self.now) name.now (answers.has_journal (side_of side)) }
+    {
+        let f = find_file(self.directory.as_slice(), name)?;
+        has_journal(f, side)
+    }
+
+    /// What refuses a recovery of a file that is there, by its journals, its save, and the first of these branches that changed it.
+    pub fn recovery_refused(
+        &self,
+        branches: &[BranchKey],
+        name: &FileName,
+        way: &Recovery,
+    ) -> Result<Option<Line>, AllocError>
+        ensures { (n : world.Node) → n.durable.directory ≡ (durable_of self.now).directory → serials_of branches.now ≡ world.serials_of n.volatile.branches →
+            IfOk result (λ refusal. option_map line_of refusal ≡ answers.of_file n name.now (answers.recovery_refused n (recovery_of way.now))) }
+    {
+        match find_file(self.directory.as_slice(), name) {
+            None => Ok(None),
+            Some(f) => recovery_refused(f, branches, way),
+        }
+    }
+
+    /// What refuses changes of a branch for want of room in a journal of images of a file that is there.
+    pub fn images_full(&self, serial: &Id, name: &FileName, changes: &[Change]) -> Option<Line>
+        ensures { option_map line_of result ≡ answers.of_file (disk_node self.now) name.now (answers.images_full (id_of serial.now) (changes_of changes.now)) }
+    {
+        let f = find_file(self.directory.as_slice(), name)?;
+        images_full(serial, changes, f)
+    }
+
+    /// How many blocks the buckets of the file of this name take, where there is one. An error where that is no number of 64 bits.
+    pub fn blocks_taken(&self, name: &FileName) -> Result<Option<u64>, AllocError>
+        ensures { IfOk result (λ n. n ≡ option_map answers.blocks_of (world.find_file name.now (durable_of self.now).directory)) }
+    {
+        match find_file(self.directory.as_slice(), name) {
+            None => Ok(None),
+            Some(f) => match f.buckets.checked_mul(u64::from(f.bucket)) {
+                Some(blocks) => Ok(Some(blocks)),
+                None => Err(AllocError),
+            },
+        }
+    }
+
+    /// Where the journal of after images of the file of this name ends; 0 where there is no such file.
+    pub fn after_end(&self, name: &FileName) -> u64
+        ensures { (f : world.File) → world.find_file name.now (durable_of self.now).directory ≡ Some f → result ≡ f.carried.after.end }
+    {
+        match find_file(self.directory.as_slice(), name) {
+            None => 0,
+            Some(f) => f.carried.after.end,
+        }
+    }
+
+    /// The refusal that no run of free blocks is so long, on a disk of so many blocks.
+    pub fn volume_full(&self, blocks: u32, need: u64) -> Option<Line>
+        requires { length self.now.log.items ≤ 512 }
+        ensures { option_map line_of result ≡ answers.volume_full (node_on [] blocks (durable_of self.now)) need }
+    {
+        let longest = self.runs(blocks, need).longest;
+        refused_if(longest < need, Line::VolumeFull(longest, need))
+    }
+
+    /// The refusal that no run of free blocks is as long as a file's buckets. None also where there is no such file.
+    pub fn backup_full(&self, blocks: u32, name: &FileName) -> Result<Option<Line>, AllocError>
+        requires { length self.now.log.items ≤ 512 }
+        ensures { let n = node_on [] blocks (durable_of self.now) in IfOk result (λ refusal. option_map line_of refusal ≡ answers.of_file n name.now (λ f. answers.volume_full n (answers.blocks_of f))) }
+    {
+        match self.blocks_taken(name)? {
+            Some(need) => Ok(self.volume_full(blocks, need)),
+            None => Ok(None),
+        }
+    }
+
+    /// The refusal that no run of free blocks is as long as the buckets that a recovery gives a file. None also where there is no such file.
+    pub fn recovery_full(
+        &self,
+        alloc: Global,
+        blocks: u32,
+        name: &FileName,
+        way: &Recovery,
+    ) -> Result<Option<Line>, AllocError>
+        requires { length self.now.log.items ≤ 512 }
+        ensures { let n = node_on [] blocks (durable_of self.now) in IfOk result (λ refusal. option_map line_of refusal ≡ answers.of_file n name.now (λ f. answers.volume_full n (answers.blocks_recovered (recovery_of way.now) f))) }
+    {
+        match self.recovered_at(alloc, name, way)? {
+            Some(given) => Ok(self.volume_full(blocks, given.blocks)),
+            None => Ok(None),
+        }
+    }
+
+    /// The refusal that no run of free blocks is as long as the journal of a setting. None where it wants none.
+    pub fn setting_full(&self, blocks: u32, setting: Setting) -> Option<Line>
+        requires { length self.now.log.items ≤ 512 }
+        ensures { option_map line_of result ≡ answers.setting_full (node_on [] blocks (durable_of self.now)) (setting_of setting) }
+    {
+        match setting {
+            Setting::RecoveryUnits => None,
+            Setting::NoRecoveryUnits => None,
+            Setting::Images(_, need) => self.volume_full(blocks, u64::from(need)),
+            Setting::NoImages(_) => None,
+        }
     }
 
     /// The changes of an operation.
@@ -220,19 +330,16 @@ impl Durable {
     {
         match free_place(self.directory.as_slice()) {
             None => Some(Line::QuotaExceeded(Quota::Files, 64)),
-            Some(_) => {
-                let longest = self.runs(blocks, need).longest;
-                refused_if(longest < need, Line::VolumeFull(longest, need))
-            }
+            Some(_) => { self.volume_full(blocks, need) }
         }
     }
 
-    // The greatest position of a journal: the files that are kept have none of their own.
+    // The greatest position of a journal.
     fn last_position(&self) -> u64
         requires { end_said (journal_of self.now.units) < 2 ^ 64 }
         ensures { result ≡ answers.last_position (disk_node self.now) }
     {
-        end_of(&self.units)
+        max(end_of(&self.units), images_end(self.directory.as_slice()))
     }
 
     /// What refuses a boot by what the disk has.

@@ -153,8 +153,12 @@ fn new_leaves(alloc: Global, parts: Vec<Bucket>) -> Result<Vec<Leaf>, AllocError
     }
 }
 
-// A leaf in parts, the first of which keeps its lowest key.
-fn leaves_from(alloc: Global, lowest: Vec<u8>, parts: Vec<Bucket>) -> Result<Vec<Leaf>, AllocError>
+/// Leaves of these buckets, the first of which has this lowest key.
+pub fn leaves_from(
+    alloc: Global,
+    lowest: Vec<u8>,
+    parts: Vec<Bucket>,
+) -> Result<Vec<Leaf>, AllocError>
     ensures { IfOk result (λ v. leaves_of v.items ≡ setting.leaves_from lowest.items (chain_of parts.items)) }
 {
     let mut rest = parts;

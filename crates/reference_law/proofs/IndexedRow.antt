@@ -36,6 +36,7 @@ index_file done live slots = record {
   carried = nothing_carried;
   recovery_units = true;
   history = record { base = empty; moment = 0; settled = done; live = live };
+  past = λ moment. empty;
   layout = record { leaves = record { lowest = 0 ∷ 0 ∷ []; slots = slots } ∷ []; index = [] };
 }
 

@@ -75,6 +75,7 @@ file_at done live = record {
   carried = nothing_carried;
   recovery_units = true;
   history = record { base = empty; moment = 0; settled = done; live = live };
+  past = λ moment. empty;
   layout = no_layout;
 }
 
@@ -279,6 +280,7 @@ small_file = record {
   carried = nothing_carried;
   recovery_units = true;
   history = record { base = empty; moment = 0; settled = []; live = [] };
+  past = λ moment. empty;
   layout = first_layout 2;
 }
 

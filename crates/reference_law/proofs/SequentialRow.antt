@@ -20,7 +20,7 @@ use Rattle.run_model.specs.Locks.{Lock}
 use Rattle.records_model.specs.Placing.{Filled, filled_by, first_bucket}
 use Rattle.run_model.specs.World.{World, Node, Volatile, acted, shared_after, File, Settlement, Sequential, nothing_carried}
 use Rattle.run_model.specs.Operations.{first_of, refused_if, removed}
-use Rattle.run_model.specs.Answers.{journal_full, keys_refused, more_changes, more_locks, operation_act, service}
+use Rattle.run_model.specs.Answers.{images_full, journal_full, keys_refused, more_changes, more_locks, of_file, operation_act, service}
 use Rattle.run_model.specs.Steps.{begun, whole, occupied}
 use Rattle.run_model.specs.Statements.{put_into}
 use Rattle.run_model.specs.Transcript.{Entry, Done, text_of}
@@ -44,6 +44,7 @@ seq_file done live = record {
   carried = nothing_carried;
   recovery_units = true;
   history = record { base = empty; moment = 0; settled = done; live = live };
+  past = λ moment. empty;
   layout = no_layout;
 }
 
@@ -169,7 +170,8 @@ set_behind bytes es before = record { key = Number (length es + 1); before = bef
 
 -- what refuses one more of these bytes, and what it does
 abbrev put_refusal : Node → Branch → List ℕ → List (Key × List ℕ) → Option (List ℕ) → Option Line
-put_refusal n b bytes es before = first_of (more_locks n (codes "S") (keys_behind es)) (first_of (full_by (one_wanted bytes es) es) (journal_full n (codes "S") (set_behind bytes es before) b))
+put_refusal n b bytes es before = first_of (more_locks n (codes "S") (keys_behind es)) (first_of (full_by (one_wanted bytes es) es)
+    (first_of (journal_full n (codes "S") (set_behind bytes es before) b) (of_file n (codes "S") (images_full b.key.serial (set_behind bytes es before)))))
 
 abbrev after_put : World → Node → Branch → List ℕ → List (Key × List ℕ) → Option (List ℕ) → StatementShown
 after_put w n b bytes es before = record {
@@ -203,7 +205,8 @@ cut_by es = map removed (drop (1 - 1) es)
 
 abbrev cut_refusal : Node → List (Key × List ℕ) → Option Line
 cut_refusal n es = first_of (first_of (refused_if (nat_lt 1 1 || nat_lt (length es) 1) line.RecordNotFound) None)
-    (first_of (more_changes n (cut_by es) (second_branch true)) (first_of (more_locks n (codes "S") (keys_cut es ++ [])) (first_of (full_by 0 es) (journal_full n (codes "S") (cut_by es) (second_branch true)))))
+    (first_of (more_changes n (cut_by es) (second_branch true)) (first_of (more_locks n (codes "S") (keys_cut es ++ [])) (first_of (full_by 0 es)
+    (first_of (journal_full n (codes "S") (cut_by es) (second_branch true)) (of_file n (codes "S") (images_full second_id (cut_by es)))))))
 
 abbrev after_cut : World → Node → List (Key × List ℕ) → StatementShown
 after_cut w n es =

@@ -1,9 +1,10 @@
 -- What statements of files do, by their rows.
-use Rattle.std.proofs.Common.{◌≡◌, ℕ, ◌+◌, List, [], ◌∷◌, ◌++◌, Bool, true, false, Option, Some, None, refl, sym, ap, subst, ◌∙◌, map, length}
+use Rattle.std.proofs.Common.{◌≡◌, ℕ, ◌+◌, List, [], ◌∷◌, ◌++◌, Bool, true, false, Option, Some, None, Result, Ok, Err, IfOk, OnOk, refl, sym, ap, subst, ◌∙◌, map, length}
 use Rattle.std.proofs.lemmas.List.{length-map}
 use Rattle.vms_model.specs.Keys.{Key}
 use Rattle.transcript_model.specs.Lines as model
-use Rattle.script_model.specs.Statements.{Create, Dump, DumpJournal, Form, LmcpDump}
+use Rattle.std.specs.FinMap.{entries}
+use Rattle.script_model.specs.Statements.{Backup, Create, Dump, DumpImages, DumpJournal, Form, Images, LmcpDump, NoImages, NoRecoveryUnits, Recover, Recovery, RecoveryUnits, SetFile, Setting, Side}
 use Rattle.unit_laws.specs.Journal.{end_of}
 use Rattle.commit_protocol.specs.Messages.{LogRecord}
 use Rattle.log_laws.specs.Slots.{records_in, slot_records}
@@ -12,13 +13,17 @@ use Rattle.run_model.specs.Answers as answers
 use Rattle.run_model.specs.Answers.{Row, created, creates, blocks_for, entry_lines, records_of, service, shown_line, shown_record}
 use Rattle.run_model.specs.Steps.{lines_of_rows, node_after_rows, shared_after_rows}
 use Rattle.run_model.specs.World as world
-use Rattle.run_model.specs.World.{Node, Shared, Volume, Sound, Faulty, Barred, Unknown}
+use Rattle.run_model.specs.World.{Node, Shared, acted, shared_after, Volume, Sound, Faulty, Barred, Unknown}
 use Rattle.reference_world.specs.declared.world.Volume.{Volume as VolumeKept}
 use Rattle.reference_world.specs.declared.world.Volume.TheVariants as kept
 use Rattle.reference_world.specs.declared.line.Line.{Line}
 use Rattle.reference_world.specs.Standing.{is_unmade, line_of, volume_of}
 use Rattle.reference_disk.specs.Disks.{after_creation, node_on}
 use Rattle.reference_node.specs.Nodes.{Does}
+
+pub both_ok : {T E : Type 0} {P R : T → Type 0} {Q : Type 0} (r : Result T E) → IfOk r P → OnOk r Q → ((x : T) → P x → Q → R x) → IfOk r R
+both_ok (Ok x) p q f = f x p q
+both_ok (Err e) p q f = tt
 
 -- whether the last INIT failed, by what is known of the volume
 abbrev pub unmade_by : Volume → Bool
@@ -73,6 +78,98 @@ shares_still (e ∷ es) s = shares_still es s
 
 pub dumps : (s : Shared) (n : Node) (name : List ℕ) (lines : List Line) → (let es = records_of n name in map line_of lines ≡ lines_of_rows (map shown_record es) ++ model.NormalCount (length es) ∷ []) → Does s n (service (Dump name)) lines n s
 dumps s n name lines shown = record { shows = shown; node = sym (shows_only (records_of n name) n); shared = sym (shares_still (records_of n name) s) }
+
+-- a journal of a file's images is shown
+pub dumps_images : (s : Shared) (n : Node) (name : List ℕ) (side : Side) (lines : List Line) →
+    map line_of lines ≡ lines_of_rows (answers.to_file n name (λ f. map shown_line (answers.image_lines name (answers.journal_at side f).entries)))
+    ++ answers.file_told n name (λ f. model.NormalSpan (answers.journal_at side f).first (answers.journal_at side f).end) ∷ [] → Does s n (service (DumpImages name side)) lines n s
+dumps_images s n name side lines shown = go (world.find_file name n.durable.directory) refl
+  where
+    does : world.File → List Row
+    does f = map shown_line (answers.image_lines name (answers.journal_at side f).entries)
+
+    nodes : (o : Option world.File) → node_after_rows (elim o as (λ _. List Row) [ Some f ↦ does f | None ↦ [] ]) n ≡ n
+    nodes (Some f) = lines_only (answers.image_lines name (answers.journal_at side f).entries) n
+    nodes None = refl
+
+    others : (o : Option world.File) → shared_after_rows (elim o as (λ _. List Row) [ Some f ↦ does f | None ↦ [] ]) s ≡ s
+    others (Some f) = lines_still (answers.image_lines name (answers.journal_at side f).entries) s
+    others None = refl
+
+    go : (o : Option world.File) → world.find_file name n.durable.directory ≡ o → Does s n (service (DumpImages name side)) lines n s
+    go o e = record { shows = shown; node = sym (nodes (world.find_file name n.durable.directory)); shared = sym (others (world.find_file name n.durable.directory)) }
+
+-- a file is marked
+pub sets_file : (s : Shared) (n m : Node) (name : List ℕ) (setting : Setting) (lines : List Line) →
+    m ≡ record n { durable = (node_after_rows (answers.sets (node_on [] n.blocks n.durable) name setting) (node_on [] n.blocks n.durable)).durable } → map line_of lines ≡ model.Normal ∷ [] → Does s n (service (SetFile name setting)) lines m s
+sets_file s n m name RecoveryUnits lines is shown = record { shows = shown; node = is; shared = refl }
+sets_file s n m name NoRecoveryUnits lines is shown = record { shows = shown; node = is; shared = refl }
+sets_file s n m name (Images side blocks) lines is shown = record { shows = shown; node = is; shared = refl }
+sets_file s n m name (NoImages side) lines is shown = record { shows = shown; node = is; shared = refl }
+
+-- the volume stays as it is known
+pub sets_volume : (n : Node) (name : List ℕ) (setting : Setting) → (node_after_rows (answers.sets (node_on [] n.blocks n.durable) name setting) (node_on [] n.blocks n.durable)).durable.volume ≡ n.durable.volume
+sets_volume n name RecoveryUnits = refl
+sets_volume n name NoRecoveryUnits = refl
+sets_volume n name (Images side blocks) = refl
+sets_volume n name (NoImages side) = refl
+
+-- what is done to a file by one act that shows nothing, and is answered by what is told of it
+module _ (s : Shared) (n : Node) (name : List ℕ) (need : world.File → ℕ) (act : world.File → ℕ → world.Act) where
+  abbrev place : Node
+  place = node_on [] n.blocks n.durable
+
+  abbrev does : Node → world.File → List Row
+  does x f = answers.on_free x (need f) (act f)
+
+  -- the act changes the disk alone
+  abbrev IsQuietAct : Type 0
+  IsQuietAct = (f : world.File) (start : ℕ) → (record n { durable = (acted (act f start) place).durable } ≡ acted (act f start) n) × (shared_after (act f start) s ≡ s) × ((acted (act f start) place).durable.volume ≡ n.durable.volume)
+
+  pub file_rows : IsQuietAct → (o : Option world.File) → record n { durable = (node_after_rows (elim o as (λ _. List Row) [ Some f ↦ does place f | None ↦ [] ]) place).durable } ≡ node_after_rows (elim o as (λ _. List Row) [ Some f ↦ does n f | None ↦ [] ]) n
+  file_rows quiet (Some f) = (quiet f (answers.start_of (world.lowest_free n (need f)))).0
+  file_rows quiet None = refl
+
+  pub file_shares : IsQuietAct → (o : Option world.File) → shared_after_rows (elim o as (λ _. List Row) [ Some f ↦ does n f | None ↦ [] ]) s ≡ s
+  file_shares quiet (Some f) = (quiet f (answers.start_of (world.lowest_free n (need f)))).1
+  file_shares quiet None = refl
+
+  pub file_volume : IsQuietAct → (o : Option world.File) → (node_after_rows (elim o as (λ _. List Row) [ Some f ↦ does place f | None ↦ [] ]) place).durable.volume ≡ n.durable.volume
+  file_volume quiet (Some f) = (quiet f (answers.start_of (world.lowest_free n (need f)))).2
+  file_volume quiet None = refl
+
+  pub file_lines : (o : Option world.File) → lines_of_rows (elim o as (λ _. List Row) [ Some f ↦ does n f | None ↦ [] ]) ≡ []
+  file_lines (Some f) = refl
+  file_lines None = refl
+
+-- a file is saved
+pub saves_file : (s : Shared) (n m : Node) (name : List ℕ) (lines : List Line) →
+    m ≡ record n { durable = (node_after_rows (answers.to_file (node_on [] n.blocks n.durable) name (λ f. answers.on_free (node_on [] n.blocks n.durable) (answers.blocks_of f) (world.Saves name))) (node_on [] n.blocks n.durable)).durable } →
+    map line_of lines ≡ answers.file_told n name (λ f. model.NormalSave f.carried.after.end n.durable.greatest) ∷ [] → Does s n (service (Backup name)) lines m s
+saves_file s n m name lines is shown =
+    let o = world.find_file name n.durable.directory in
+    let told = answers.file_told n name (λ f. model.NormalSave f.carried.after.end n.durable.greatest) in
+    record {
+      shows = shown ∙ sym (ap (λ ls. ls ++ told ∷ []) (file_lines s n name answers.blocks_of (λ f. world.Saves name) o));
+      node = is ∙ file_rows s n name answers.blocks_of (λ f. world.Saves name) (λ f start. (refl, refl, refl)) o;
+      shared = sym (file_shares s n name answers.blocks_of (λ f. world.Saves name) (λ f start. (refl, refl, refl)) o);
+    }
+
+-- a file is recovered
+pub recovers_file : (s : Shared) (n m : Node) (name : List ℕ) (way : Recovery) (lines : List Line) →
+    m ≡ record n { durable = (node_after_rows (answers.to_file (node_on [] n.blocks n.durable) name (answers.recovers (node_on [] n.blocks n.durable) name way)) (node_on [] n.blocks n.durable)).durable } →
+    map line_of lines ≡ answers.file_told n name (λ f. model.NormalCount (length (entries (answers.records_recovered way f)))) ∷ [] → Does s n (service (Recover name way)) lines m s
+recovers_file s n m name way lines is shown =
+    let o = world.find_file name n.durable.directory in
+    let told = answers.file_told n name (λ f. model.NormalCount (length (entries (answers.records_recovered way f)))) in
+    record {
+      shows = shown ∙ sym (ap (λ ls. ls ++ told ∷ []) (file_lines s n name (answers.blocks_recovered way) (given way) o));
+      node = is ∙ file_rows s n name (answers.blocks_recovered way) (given way) (λ f start. (refl, refl, refl)) o;
+      shared = sym (file_shares s n name (answers.blocks_recovered way) (given way) (λ f start. (refl, refl, refl)) o);
+    }
+  where
+    given : Recovery → world.File → ℕ → world.Act
+    given way f start = world.Recovers name start (world.buckets_loaded f (answers.records_recovered way f)) (answers.records_recovered way f)
 
 -- a file is made where there is room for it
 module _ (s : Shared) (n : Node) (name : List ℕ) (bucket size : ℕ) (form : Form) where

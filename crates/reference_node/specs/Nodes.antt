@@ -35,7 +35,7 @@ node_of n = record {
   under_way = None;
 }
 
--- the request is none of records
+-- the request is none of records, and neither saves a file nor recovers it
 abbrev pub IsPlain : Request → Type 0
 IsPlain (request.Records label file operation) = ⊥
 IsPlain (request.Direct file operation) = ⊥
@@ -59,6 +59,9 @@ IsPlain request.LmcpShow = Unit {0}
 IsPlain request.LmcpDump = Unit {0}
 IsPlain (request.Dump file) = Unit {0}
 IsPlain request.DumpJournal = Unit {0}
+IsPlain (request.DumpImages file side) = Unit {0}
+IsPlain (request.Backup file) = ⊥
+IsPlain (request.Recover file way) = ⊥
 IsPlain (request.Fuse writes choice) = Unit {0}
 IsPlain request.Crash = Unit {0}
 IsPlain (request.Clock now) = Unit {0}

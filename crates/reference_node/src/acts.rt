@@ -2,7 +2,7 @@
 ghost use Rattle.std.specs.Prelude.{◌≡◌, ◌+◌, ◌<◌, ◌≤◌, ◌^◌, ◌∷◌, true, None, Some, map, length, OnOk, IfOk};
 ghost use Rattle.commit_protocol.specs.Allowed.{is_working};
 ghost use Rattle.commit_protocol.specs.Table.{first};
-ghost use Rattle.script_lang.specs.Statements.{form_of, setting_of};
+ghost use Rattle.script_lang.specs.Statements.{form_of, recovery_of, setting_of, side_of};
 ghost use Rattle.script_model.specs.Statements as said;
 ghost use Rattle.unit_laws.specs.Journal.{end_of};
 ghost use Rattle.run_model.specs.Answers as answers;
@@ -22,9 +22,10 @@ use crate::node::Node;
 use reference_branches::{Shared, key_of};
 use reference_index::{Change, Key, push_front};
 use reference_records::Asked;
+use reference_recovery::side_for;
 use reference_units::with_locks;
 use reference_world::{BranchKey, DiskCall, Line, Settlement, one};
-use script_lang::{Form, Setting};
+use script_lang::{Form, Recovery, Setting, Side};
 use std::alloc::{AllocError, Global};
 use std::mem::replace;
 use tm_types::{BranchState, Effects, Event};
@@ -213,10 +214,34 @@ impl Node {
         name: &FileName,
         setting: Setting,
     ) -> Result<Vec<Line>, AllocError>
+        requires { length self.old.durable.log.items ≤ 512 }
         ensures { (s : world.Shared) → IfOk result (λ lines. Does s (node_of self.old) (service (said.SetFile name.now (setting_of setting))) lines.items (node_of self.new) s) }
     {
         self.durable
-            .set_file(alloc, self.locks.as_slice(), name, setting)
+            .set_file(alloc, self.blocks, self.locks.as_slice(), name, setting)
+    }
+
+    /// BACKUP.
+    pub fn backup(&mut self, alloc: Global, name: &FileName) -> Result<Vec<Line>, AllocError>
+        requires { length self.old.durable.log.items ≤ 512 }
+        ensures { (s : world.Shared) → IfOk result (λ lines. Does s (node_of self.old) (service (said.Backup name.now)) lines.items (node_of self.new) s) }
+    {
+        self.durable
+            .backup(alloc, self.blocks, self.locks.as_slice(), name)
+    }
+
+    /// RECOVER.
+    pub fn recover(
+        &mut self,
+        alloc: Global,
+        name: &FileName,
+        way: &Recovery,
+    ) -> Result<Vec<Line>, AllocError>
+        requires { length self.old.durable.log.items ≤ 512 }
+        ensures { (s : world.Shared) → IfOk result (λ lines. Does s (node_of self.old) (service (said.Recover name.now (recovery_of way.now))) lines.items (node_of self.new) s) }
+    {
+        self.durable
+            .recover(alloc, self.blocks, self.locks.as_slice(), name, way)
     }
 
     /// DUMP.
@@ -232,6 +257,18 @@ impl Node {
         ensures { (s : world.Shared) → IfOk result (λ lines. Does s (node_of self.now) (service said.DumpJournal) lines.items (node_of self.now) s) }
     {
         self.durable.dump_journal(alloc)
+    }
+
+    /// DUMP_JOURNAL of a file's journal of images.
+    pub fn dump_images(
+        &self,
+        alloc: Global,
+        name: &FileName,
+        word: Side,
+    ) -> Result<Vec<Line>, AllocError>
+        ensures { (s : world.Shared) → IfOk result (λ lines. Does s (node_of self.now) (service (said.DumpImages name.now (side_of word))) lines.items (node_of self.now) s) }
+    {
+        self.durable.dump_images(alloc, name, side_for(word))
     }
 
     /// FUSE.

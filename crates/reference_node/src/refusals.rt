@@ -2,7 +2,7 @@
 ghost use Rattle.std.specs.Prelude.{◌≡◌, ◌+◌, ◌^◌, ◌<◌, ◌≤◌, ℕ, List, map, option_map, length, not, IfOk};
 ghost use Rattle.script_model.specs.Statements as said;
 ghost use Rattle.script_lang.specs.declared.literals.Literals.{Literals as LiteralsSaid};
-ghost use Rattle.script_lang.specs.Statements.{form_of, named_of, request_of};
+ghost use Rattle.script_lang.specs.Statements.{form_of, named_of, recovery_of, request_of, setting_of, side_of};
 ghost use Rattle.commit_protocol.specs.Table as table;
 ghost use Rattle.commit_protocol.specs.Allowed as allowed;
 ghost use Rattle.unit_laws.specs.Journal.{end_of};
@@ -23,14 +23,15 @@ use crate::node::Node;
 use reference_branches::{
     Shared, Wanted, held_against, key_of, more_managers, new_label, unsettled, wrong_state,
 };
-use reference_disk::{blocks_for, is_file_form, is_volume_form, is_within};
+use reference_disk::{blocks_for, is_file_form, is_volume_form, is_within, setting_refused};
 use reference_index::Key;
 use reference_records::{
     Asked, asked_by, data_refused, first_of, keys_asked, keys_found, keys_held, refused_if,
 };
+use reference_recovery::side_for;
 use reference_units::{holder, new_locks};
 use reference_world::{BranchKey, Line, Quota, find_file, records_of};
-use script_lang::{Form, Literals, Named, Request};
+use script_lang::{Form, Literals, Named, Recovery, Request, Setting, Side};
 use std::alloc::{AllocError, Global};
 use tm_types::BranchState;
 use vms_base::{FileName, Id, Label, Serial};
@@ -224,14 +225,17 @@ impl Node {
         let changes = self.durable.changes_at(alloc, name, asked)?;
         let locks = self.more_locks(alloc, name, asked)?;
         let full = self.durable.file_is_full(alloc, name, asked)?;
-        let room = first_of(locks, full);
+        let first_room = first_of(locks, full);
         match self.branch_labelled(shared, label) {
-            None => Ok(first_of(found, room)),
+            None => Ok(first_of(found, first_room)),
             Some(b) => {
+                let made = changes.as_slice();
                 let quotas = self
                     .durable
-                    .branch_refused(alloc, &key_of(&b), name, changes.as_slice(), room)?;
-                Ok(first_of(found, quotas))
+                    .branch_refused(alloc, &key_of(&b), name, made, first_room)?;
+                let images = self.durable.images_full(&b.serial.0, name, made);
+                let room = first_of(quotas, images);
+                Ok(first_of(found, room))
             }
         }
     }
@@ -243,6 +247,7 @@ impl Node {
         name: &FileName,
         asked: Asked<'_>,
     ) -> Result<Option<Line>, AllocError>
+        requires { self.now.drawn + 1 < 2 ^ 32 }
         ensures { IfOk result (λ refusal. option_map line_of refusal ≡ answers.direct_refused (node_of self.now) name.now (asked_of asked.entry)) }
     {
         let found = self.found_refused(alloc, &None, name, asked)?;
@@ -252,7 +257,10 @@ impl Node {
             1_024 < changes.len(),
             Line::QuotaExceeded(Quota::Changes, 1_024),
         );
-        Ok(first_of(found, first_of(more, full)))
+        let images = self
+            .durable
+            .images_full(&self.next_id(), name, changes.as_slice());
+        Ok(first_of(found, first_of(more, first_of(full, images))))
     }
 
     // What refuses a statement to a branch of a label, which has to be so.
@@ -344,7 +352,42 @@ impl Node {
         )
     }
 
-    // What refuses a request that is none of records, at a node that serves it. These are the unsettled branches.
+    fn early_set(&self, branches: &[BranchKey], file: &FileName, setting: Setting) -> Option<Line>
+        requires { serials_of branches.now ≡ world.serials_of (node_of self.now).volatile.branches }
+        ensures { (s : world.Shared) → option_map line_of result ≡ (service (said.SetFile file.now (setting_of setting))).refused_before_reading s (node_of self.now) }
+    {
+        first_of(
+            self.durable.there_is_file(file),
+            first_of(
+                setting_refused(setting),
+                self.durable.unchanged_file(branches, file),
+            ),
+        )
+    }
+
+    fn early_images(&self, file: &FileName, word: Side) -> Option<Line>
+        ensures { (s : world.Shared) → option_map line_of result ≡ (service (said.DumpImages file.now (side_of word))).refused_before_reading s (node_of self.now) }
+    {
+        first_of(
+            self.durable.there_is_file(file),
+            self.durable.has_journal(file, side_for(word)),
+        )
+    }
+
+    fn early_recover(
+        &self,
+        branches: &[BranchKey],
+        file: &FileName,
+        way: &Recovery,
+    ) -> Result<Option<Line>, AllocError>
+        requires { serials_of branches.now ≡ world.serials_of (node_of self.now).volatile.branches }
+        ensures { (s : world.Shared) → IfOk result (λ refusal. option_map line_of refusal ≡ (service (said.Recover file.now (recovery_of way.now))).refused_before_reading s (node_of self.now)) }
+    {
+        let refused = self.durable.recovery_refused(branches, file, way)?;
+        Ok(first_of(self.durable.there_is_file(file), refused))
+    }
+
+    // What refuses a request that is none of records and neither a save nor a recovery, at a node that serves it. These are the unsettled branches.
     fn early_plain(
         &self,
         shared: &Shared,
@@ -364,7 +407,8 @@ impl Node {
                 size,
                 form,
             } => self.early_create(file, *bucket, *size, *form),
-            Request::SetFile(file, _) => self.early_shown(branches, file),
+            Request::SetFile(file, setting) => self.early_set(branches, file, *setting),
+            Request::DumpImages(file, word) => self.early_images(file, *word),
             Request::Dump(file) => self.early_shown(branches, file),
             Request::StartTrans { label, seconds } => {
                 first_of(new_label(shared, label), seconds_refused(*seconds))
@@ -465,6 +509,14 @@ impl Node {
             Request::Direct(file, operation) => {
                 self.early_direct(alloc, file, asked_by(operation, lit))
             }
+            Request::Backup(file) => {
+                let branches = self.keys(alloc)?;
+                Ok(self.early_shown(branches.as_slice(), file))
+            }
+            Request::Recover(file, way) => {
+                let branches = self.keys(alloc)?;
+                self.early_recover(branches.as_slice(), file, way)
+            }
             _ => {
                 let branches = self.keys(alloc)?;
                 Ok(self.early_plain(shared, branches.as_slice(), request))
@@ -487,7 +539,7 @@ impl Node {
         Ok(first_of(refused_if(!served, Line::NodeDown), refusal))
     }
 
-    // What refuses a request that is none of records, by what the disk has or by a quota.
+    // What refuses a request that is none of records and neither a save nor a recovery, by what the disk has or by a quota.
     fn late_plain(&self, shared: &Shared, request: &Request) -> Option<Line>
         requires plain { IsPlain request.now }
         requires end { end_of (journal_of self.now.durable.units) < 2 ^ 64 }
@@ -504,6 +556,7 @@ impl Node {
             } => self
                 .durable
                 .room_for(self.blocks, blocks_for(*bucket, *size, *form)),
+            Request::SetFile(_, setting) => self.durable.setting_full(self.blocks, *setting),
             Request::StartTrans { .. } => self.more_branches(),
             Request::StartBranch(_) => self.more_branches(),
             Request::DeclareRm(_) => self.more_declared(),
@@ -529,6 +582,7 @@ impl Node {
     ) -> Result<Option<Line>, AllocError>
         requires end { end_of (journal_of self.now.durable.units) < 2 ^ 64 }
         requires slots { length self.now.durable.log.items ≤ 512 }
+        requires drawn { self.now.drawn + 1 < 2 ^ 32 }
         ensures { IfOk result (λ refusal. option_map line_of refusal ≡ (service (request_of lit.now request.now)).refused_after_reading (shared_of shared.now) (node_of self.now)) }
     {
         match request {
@@ -537,6 +591,10 @@ impl Node {
             }
             Request::Direct(file, operation) => {
                 self.direct_refused(alloc, file, asked_by(operation, lit))
+            }
+            Request::Backup(file) => self.durable.backup_full(self.blocks, file),
+            Request::Recover(file, way) => {
+                self.durable.recovery_full(alloc, self.blocks, file, way)
             }
             _ => Ok(self.late_plain(shared, request)),
         }

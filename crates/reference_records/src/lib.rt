@@ -9,4 +9,6 @@ mod records;
 pub use asked::{Asked, asked_by};
 pub use forms::{first_of, form_refused, refused_if};
 pub use keys::{keys_asked, keys_found, keys_held};
-pub use records::{changes_asked, data_refused, file_full, is_change, operation_answer};
+pub use records::{
+    Filled, changes_asked, data_refused, file_full, filled_by, is_change, operation_answer,
+};

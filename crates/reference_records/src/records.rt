@@ -296,8 +296,8 @@ fn filled_more(cap: u64, filled: Filled, size: u64) -> Filled
     }
 }
 
-// Slots more for these records, one after the other.
-fn filled_by(cap: u64, filled: Filled, rows: &[Row<'_>]) -> Filled
+/// Slots more for these records, one after the other, in buckets of so many bytes.
+pub fn filled_by(cap: u64, filled: Filled, rows: &[Row<'_>]) -> Filled
     requires { filled.buckets + length rows.now ≤ 2 ^ 63 }
     ensures { filled_of result ≡ placing.filled_by cap (filled_of filled) (map (λ e. length e.1 + 2) (map entry_of rows.now)) }
 {

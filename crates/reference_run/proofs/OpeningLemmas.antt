@@ -53,6 +53,7 @@ zeros_open name blocks = record {
   units = zeros_units name blocks;
   log = zeros_log name blocks;
   ends = tt;
+  images = tt;
   named = λ n e. refl;
   few_locks = omega arith;
 }

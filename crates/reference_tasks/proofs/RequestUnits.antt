@@ -70,11 +70,13 @@ fits_of s n label file op b found e =
     let buckets = of_file n file (λ f. file_full f op) in
     let locks = of_file n file (λ f. more_locks n file (keys_held f op)) in
     let many = option_and_then (more_changes n (changes_at n file op)) (branch_labelled s n label) in
-    let one = (none_last (of_file n file (answers.found_refused n (world.serial_labelled n.name label s.labels) file op)) (first_of many (first_of locks (first_of buckets full))) e).1 in
-    let two = (none_last many (first_of locks (first_of buckets full)) one).1 in
-    let three = (none_last locks (first_of buckets full) two).1 in
-    let four = (none_last buckets full three).1 in
-    ap (option_and_then (journal_full n file (changes_at n file op))) (sym found) ∙ four
+    let images = option_and_then (λ (b : Branch). of_file n file (answers.images_full b.key.serial (changes_at n file op))) (branch_labelled s n label) in
+    let one = (none_last (of_file n file (answers.found_refused n (world.serial_labelled n.name label s.labels) file op)) (first_of many (first_of locks (first_of buckets (first_of full images)))) e).1 in
+    let two = (none_last many (first_of locks (first_of buckets (first_of full images))) one).1 in
+    let three = (none_last locks (first_of buckets (first_of full images)) two).1 in
+    let four = (none_last buckets (first_of full images) three).1 in
+    let five = (none_last full images four).0 in
+    ap (option_and_then (journal_full n file (changes_at n file op))) (sym found) ∙ five
 
 -- changes that were committed at once
 directed_units : (units : ℕ) (n : Node) (file : List ℕ) (cs : List Change) → HasUnits (units + 64) n → HasUnits units (node_after_rows (answers.directed n file cs) n)
@@ -147,6 +149,21 @@ operate_units units s n label file op e h = go (branch_labelled s n label) refl
     go (Some b) found = operated_units units n b file (changes_at n file op) (keys_at n file op) (fits_of s n label file op b found e) h
     go None found = less_units (units + 64) units n (omega arith) h
 
+-- a mark, a save and a recovery change a file alone
+set_units : (units : ℕ) (n : Node) (file : List ℕ) (setting : said.Setting) → HasUnits (units + 64) n → HasUnits units (node_after_rows (answers.sets n file setting) n)
+set_units units n file said.RecoveryUnits h = same_units units n _ refl refl refl refl refl refl h
+set_units units n file said.NoRecoveryUnits h = same_units units n _ refl refl refl refl refl refl h
+set_units units n file (said.Images side blocks) h = same_units units n _ refl refl refl refl refl refl h
+set_units units n file (said.NoImages side) h = same_units units n _ refl refl refl refl refl refl h
+
+-- what is done to a file leaves the node its units where it does so to any
+file_units : (units : ℕ) (n : Node) (file : List ℕ) (does : world.File → List answers.Row) → ((f : world.File) → HasUnits units (node_after_rows (does f) n)) → HasUnits (units + 64) n → HasUnits units (node_after_rows (answers.to_file n file does) n)
+file_units units n file does each h = go (world.find_file file n.durable.directory)
+  where
+    go : (o : Option world.File) → HasUnits units (node_after_rows (elim o as (λ _. List answers.Row) [ Some f ↦ does f | None ↦ [] ]) n)
+    go (Some f) = each f
+    go None = less_units (units + 64) units n (omega arith) h
+
 -- the request tells the table nothing, and boots no node
 abbrev pub IsQuiet : Request → Type 0
 IsQuiet (said.Records label file operation) = Unit {0}
@@ -171,6 +188,9 @@ IsQuiet said.LmcpShow = Unit {0}
 IsQuiet said.LmcpDump = Unit {0}
 IsQuiet (said.Dump file) = Unit {0}
 IsQuiet said.DumpJournal = Unit {0}
+IsQuiet (said.DumpImages file side) = Unit {0}
+IsQuiet (said.Backup file) = Unit {0}
+IsQuiet (said.Recover file way) = Unit {0}
 IsQuiet (said.Fuse writes choice) = Unit {0}
 IsQuiet said.Crash = Unit {0}
 IsQuiet (said.Clock now) = Unit {0}
@@ -185,7 +205,7 @@ request_units units s n m r quiet early before after is h = subst (HasUnits unit
     by (said.Init slots blocks) q e b a = made_units units slots blocks n (made_small slots blocks s n b) h
     by said.Boot q e b a = absurd q
     by (said.Create file bucket size form) q e b a = created_units units n (λ start. answers.created file bucket size form start n.durable.greatest) (answers.blocks_for bucket size form) h
-    by (said.SetFile file setting) q e b a = same_units units n _ refl refl refl refl refl refl h
+    by (said.SetFile file setting) q e b a = set_units units n file setting h
     by (said.StartTrans label seconds) q e b a = absurd q
     by (said.AddBranch label other new) q e b a = absurd q
     by (said.StartBranch label) q e b a = absurd q
@@ -202,6 +222,10 @@ request_units units s n m r quiet early before after is h = subst (HasUnits unit
     by said.LmcpDump q e b a = subst (HasUnits units) (sym (shown_rows answers.shown_line (map answers.log_line (slot_records 0 n.durable.log)) n (λ x. refl))) (less_units (units + 64) units n (omega arith) h)
     by (said.Dump file) q e b a = subst (HasUnits units) (sym (shown_rows answers.shown_record (answers.records_of n file) n (λ x. refl))) (less_units (units + 64) units n (omega arith) h)
     by said.DumpJournal q e b a = subst (HasUnits units) (sym (shown_rows answers.shown_line (answers.entry_lines n.durable.units.first n.durable.units.entries) n (λ x. refl))) (less_units (units + 64) units n (omega arith) h)
+    by (said.DumpImages file side) q e b a = file_units units n file (λ f. map answers.shown_line (answers.image_lines file (answers.journal_at side f).entries))
+        (λ f. subst (HasUnits units) (sym (shown_rows answers.shown_line (answers.image_lines file (answers.journal_at side f).entries) n (λ x. refl))) (less_units (units + 64) units n (omega arith) h)) h
+    by (said.Backup file) q e b a = file_units units n file (λ f. answers.on_free n (answers.blocks_of f) (world.Saves file)) (λ f. same_units units n _ refl refl refl refl refl refl h) h
+    by (said.Recover file way) q e b a = file_units units n file (answers.recovers n file way) (λ f. same_units units n _ refl refl refl refl refl refl h) h
     by (said.Fuse writes choice) q e b a = same_units units n _ refl refl refl refl refl refl h
     by said.Crash q e b a = same_units units n _ refl refl refl refl refl refl h
     by (said.Clock now) q e b a = record {

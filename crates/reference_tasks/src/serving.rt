@@ -98,6 +98,9 @@ fn act(
         Request::Direct(file, operation) => { node.direct(alloc, file, asked_by(operation, lit)) }
         Request::Dump(file) => node.dump(alloc, file),
         Request::DumpJournal => node.dump_journal(alloc),
+        Request::DumpImages(file, side) => node.dump_images(alloc, file, *side),
+        Request::Backup(file) => node.backup(alloc, file),
+        Request::Recover(file, way) => node.recover(alloc, file, way),
         Request::Fuse { writes, choice } => node.arm(alloc, *writes, *choice),
         Request::Crash => node.crash(alloc),
         Request::Clock(now) => node.set_clock(alloc, *now),

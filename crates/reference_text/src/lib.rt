@@ -360,6 +360,46 @@ fn put_journal_full(out: &mut Vec<u8>, free: u64, need: u128) -> Result<(), Allo
     put(out, buffer.format(need).as_bytes())
 }
 
+// Words, and two numbers behind them, which may be great.
+fn put_with_great_numbers(
+    out: &mut Vec<u8>,
+    words: &[u8],
+    first: u128,
+    second: u128,
+) -> Result<(), AllocError>
+    ensures { OnOk result (out.new.items ≡ out.old.items ++ (words.now ++ (decimal first ++ (32 ∷ decimal second)))) }
+{
+    let mut front = Buffer::new();
+    put(out, words)?;
+    put(out, front.format(first).as_bytes())?;
+    put(out, b" ")?;
+    let mut behind = Buffer::new();
+    put(out, behind.format(second).as_bytes())
+}
+
+// Words, and two moments behind them.
+fn put_with_moments(
+    out: &mut Vec<u8>,
+    words: &[u8],
+    first: WrittenMoment,
+    second: WrittenMoment,
+) -> Result<(), AllocError>
+    ensures { OnOk result (out.new.items ≡ out.old.items ++ (words.now ++ (quoted_time first.hundredths ++ (32 ∷ quoted_time second.hundredths)))) }
+{
+    put(out, words)?;
+    put_time(out, first)?;
+    put(out, b" ")?;
+    put_time(out, second)
+}
+
+fn put_save(out: &mut Vec<u8>, position: u64, moment: WrittenMoment) -> Result<(), AllocError>
+    ensures { OnOk result (out.new.items ≡ out.old.items ++ line_words (model.NormalSave position moment.hundredths)) }
+{
+    put_with_number(out, b"SS$_NORMAL ", position)?;
+    put(out, b" ")?;
+    put_time(out, moment)
+}
+
 fn put_no_volume(
     out: &mut Vec<u8>,
     node: NodeName,
@@ -748,6 +788,7 @@ fn put_words(out: &mut Vec<u8>, line: &Line) -> Result<(), AllocError>
         Line::NormalCount(n) => put_with_number(out, b"SS$_NORMAL ", *n),
         Line::NormalId(id) => put_with_id(out, b"SS$_NORMAL ", *id),
         Line::NormalSpan(first, end) => put_with_numbers(out, b"SS$_NORMAL ", *first, *end),
+        Line::NormalSave(position, moment) => put_save(out, *position, *moment),
         Line::RecordNormal => put(out, b"RMS$_NORMAL"),
         Line::RecordPosition(n) => put_with_number(out, b"RMS$_NORMAL ", *n),
         Line::RecordFound(bytes) => put_found(out, bytes.as_slice()),
@@ -767,6 +808,11 @@ fn put_words(out: &mut Vec<u8>, line: &Line) -> Result<(), AllocError>
         Line::NoSuchTransaction => put(out, b"SS$_NOSUCHTID"),
         Line::NotMarked => put(out, b"NOTRU"),
         Line::NeedsUnit => put(out, b"RMS$_NRU"),
+        Line::NoJournal => put(out, b"NOTMARKED"),
+        Line::NoSave => put(out, b"NOSAVE"),
+        Line::TooEarly(until, saved) => put_with_moments(out, b"EARLY ", *until, *saved),
+        Line::PositionsMissing(needed, first) => put_with_numbers(out, b"SPAN ", *needed, *first),
+        Line::MomentsMissing(until, since) => put_with_moments(out, b"SPAN ", *until, *since),
         Line::RecordLocked(id) => put_with_id(out, b"RMS$_RLK ", *id),
         Line::FileLocked(id) => put_with_id(out, b"RMS$_FLK ", *id),
         Line::NoVolume(node, condition, block) => put_no_volume(out, *node, *condition, *block),
@@ -779,6 +825,12 @@ fn put_words(out: &mut Vec<u8>, line: &Line) -> Result<(), AllocError>
         Line::VolumeFull(free, need) => { put_with_numbers(out, b"RMS$_FUL VOLUME ", *free, *need) }
         Line::FileFull(free, need) => put_with_numbers(out, b"RMS$_FUL FILE ", *free, *need),
         Line::JournalFull(free, need) => put_journal_full(out, *free, *need),
+        Line::AftersFull(free, need) => {
+            put_with_great_numbers(out, b"RMS$_FUL AI ", *free, *need)
+        }
+        Line::BeforesFull(free, need) => {
+            put_with_great_numbers(out, b"RMS$_FUL BI ", *free, *need)
+        }
         Line::BadLine(column) => put_with_number(out, b"BADLINE ", u64::from(*column)),
         Line::TooLong => put(out, b"TOOLONG"),
     }

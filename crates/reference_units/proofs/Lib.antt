@@ -1,3 +1,4 @@
 pub mod EntryLemmas
 pub mod LockLemmas
+pub mod ShownLemmas
 pub mod UnitLemmas

@@ -1,37 +1,14 @@
 // How many bytes entries take.
 ghost use Rattle.std.specs.Prelude.{◌≡◌, ◌+◌, ◌-◌, ◌*◌, ◌^◌, ◌≤◌, ◌<◌, ℕ, length};
-ghost use Rattle.records_model.specs.Slots.{size_of};
 ghost use Rattle.unit_laws.specs.Journal as model;
 ghost use Rattle.run_model.specs.Answers as answers;
 ghost use Rattle.vms_base.specs.Ids.{id_of};
-ghost use Rattle.reference_index.specs.Standing.{key_of, value_of};
 ghost use Rattle.reference_units.specs.Entries.{entry_of, entries_of, journal_of, unit_of, units_of};
 
 use crate::journal::{Journal, JournalEntry};
 use crate::units::{Unit, find_unit};
-use reference_index::Key;
+use reference_world::{key_size, value_size};
 use vms_base::Id;
-
-fn key_size(key: &Key) -> u64
-    ensures size { result ≡ model.key_size (key_of key.now) }
-    ensures few { result < 2 ^ 63 }
-{
-    match key {
-        Key::Number(_) => 4,
-        Key::Text(bytes) => bytes.len() as u64,
-        Key::End => 0,
-    }
-}
-
-fn value_size(value: &Option<Vec<u8>>) -> u64
-    ensures size { result ≡ size_of (value_of value.now) }
-    ensures few { result < 2 ^ 63 }
-{
-    match value {
-        Some(bytes) => bytes.len() as u64,
-        None => 0,
-    }
-}
 
 /// How many bytes an entry takes.
 pub fn entry_size(entry: &JournalEntry) -> u128

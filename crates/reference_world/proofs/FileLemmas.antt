@@ -15,20 +15,23 @@ use Rattle.vms_model.specs.Transactions.{Outcome, Commit, Abort}
 use Rattle.run_model.specs.World as world
 use Rattle.run_model.specs.World.{settled_layout}
 use Rattle.reference_world.specs.declared.world.File.{File}
+use Rattle.reference_world.specs.declared.world.Carried.{Carried}
 use Rattle.reference_world.specs.declared.world.LiveChanges.{LiveChanges}
+use Rattle.reference_world.specs.declared.world.SettledChanges.{SettledChanges as Done}
+use Rattle.reference_world.specs.declared.world.KeptRow.{KeptRow}
 use Rattle.reference_index.specs.declared.layouts.Layout.{Layout}
 use Rattle.reference_index.specs.declared.layouts.Sizes.{Sizes}
 use Rattle.reference_world.specs.declared.world.BranchKey.{BranchKey}
 use Rattle.reference_index.specs.Standing.{layout_of, sizes_of}
-use Rattle.reference_world.specs.Standing.{live_of, history_of, file_of, serials_of, organization_of}
+use Rattle.reference_world.specs.Standing.{live_of, carried_of, done_of, history_of, file_of, rows_of, serials_of, organization_of}
 use Rattle.reference_index.proofs.ListLemmas.{behind_first, parts}
 
-pub set_is : (f : File) (held : Key → Bool) (serial : Id) (cs : List Change) (live : Vec LiveChanges Global) (layout : Layout) (sizes : Sizes) →
+pub set_is : (f : File) (held : Key → Bool) (tid serial : Id) (cs : List Change) (live : Vec LiveChanges Global) (layout : Layout) (sizes : Sizes) (carried : Carried) →
     sizes.capacity ≡ 512 * f.bucket - 16 → sizes.fan_out ≡ (512 * f.bucket - 16) / (world.key_size_of (organization_of f.organization) + 4) →
     map live_of live.items ≡ with_changes serial cs (map live_of f.live.items) →
-    layout_of layout ≡ layout_changed (sizes_of sizes) held cs (layout_of f.layout) →
-    file_of (record f { live = live; layout = layout }) ≡ world.changed_file held serial cs (file_of f)
-set_is f held serial cs live layout sizes capacity fan_out l set = λ i. record (file_of f) { history = record (history_of f) { live = l i }; layout = laid i }
+    layout_of layout ≡ layout_changed (sizes_of sizes) held cs (layout_of f.layout) → carried_of carried ≡ world.with_images tid serial cs (carried_of f.carried) →
+    file_of (record f { live = live; layout = layout; carried = carried }) ≡ world.changed_file held tid serial cs (file_of f)
+set_is f held tid serial cs live layout sizes carried capacity fan_out l set told = λ i. record (file_of f) { history = record (history_of f) { live = l i }; layout = laid i; carried = told i }
   where
     same : sizes_of sizes ≡ world.sizes_of (file_of f)
     same = λ i. record { capacity = capacity i; fan_out = fan_out i }
@@ -55,13 +58,13 @@ layout_stays : (outcome : Outcome) (l : layouts.Layout) → settled_layout outco
 layout_stays Commit l = refl
 layout_stays Abort l = λ i. record { leaves = leaves_stay l.leaves i; index = l.index }
 
-abbrev settled_by : (f : world.File) (s : world.Settlement) → List Change → world.File
-settled_by f s cs = record f { history = settled_with s.serial s.outcome s.moment cs f.history; layout = settled_layout s.outcome cs f.layout }
+abbrev settled_by : (f : world.File) (s : world.Settlement) → List Change → Bool → world.File
+settled_by f s cs changed = record f { history = settled_with s.serial s.outcome s.moment cs f.history; layout = settled_layout s.outcome cs f.layout; carried = world.with_outcome changed s f.carried }
 
 pub not_changed : (f : File) (s : world.Settlement) → changed_it (history_of f) s.serial ≡ false → file_of f ≡ world.settled_file s (file_of f)
 not_changed f s e =
     let none = no_changes (changes_by s.serial (history_of f).live) e in
-    ap (λ (l : layouts.Layout). record (file_of f) { layout = l }) (sym (layout_stays s.outcome (file_of f).layout)) ∙ ap (settled_by (file_of f) s) (sym none)
+    ap (λ (l : layouts.Layout). record (file_of f) { layout = l }) (sym (layout_stays s.outcome (file_of f).layout)) ∙ (λ i. settled_by (file_of f) s (sym none i) (sym e i))
 
 -- And one that changed something of it joins the settled ones.
 
@@ -82,12 +85,21 @@ joins : (serial : Id) (outcome : Outcome) (moment : ℕ) (cs : List Change) (h :
 joins serial outcome moment [] h e = let none : ⊥ = cc in absurd none
 joins serial outcome moment (c ∷ cs) h e = refl
 
-pub now_settled : (f : File) (s : world.Settlement) (outcome : Outcome) (cs : List Change) (live : List ModelChanges) (layout : layouts.Layout) → changed_it (history_of f) s.serial ≡ true →
-    outcome ≡ s.outcome → cs ≡ changes_by s.serial (history_of f).live → live ≡ without s.serial (history_of f).live → layout ≡ settled_layout outcome cs (file_of f).layout →
-    record (file_of f) { history = joined_by (record { serial = s.serial; outcome = outcome; moment = s.moment; changes = cs }) live (history_of f); layout = layout } ≡ world.settled_file s (file_of f)
-now_settled f s outcome cs live layout changed o e w l =
+pub now_settled : (f : File) (s : world.Settlement) (outcome : Outcome) (cs : List Change) (live : List ModelChanges) (layout : layouts.Layout) (carried : world.Carried) → changed_it (history_of f) s.serial ≡ true →
+    outcome ≡ s.outcome → cs ≡ changes_by s.serial (history_of f).live → live ≡ without s.serial (history_of f).live → layout ≡ settled_layout outcome cs (file_of f).layout → carried ≡ world.with_outcome true s (file_of f).carried →
+    record (file_of f) { history = joined_by (record { serial = s.serial; outcome = outcome; moment = s.moment; changes = cs }) live (history_of f); layout = layout; carried = carried } ≡ world.settled_file s (file_of f)
+now_settled f s outcome cs live layout carried changed o e w l told =
     let h = history_of f in
     let made = joins s.serial s.outcome s.moment (changes_by s.serial h.live) h changed in
     let laid : layout ≡ settled_layout s.outcome (changes_by s.serial h.live) (file_of f).layout = l ∙ (λ i. settled_layout (o i) (e i) (file_of f).layout) in
-    (λ i. record (file_of f) { history = joined_by (record { serial = s.serial; outcome = o i; moment = s.moment; changes = e i }) (w i) h; layout = laid i })
-    ∙ (λ i. record (file_of f) { history = made i; layout = settled_layout s.outcome (changes_by s.serial h.live) (file_of f).layout })
+    (λ i. record (file_of f) { history = joined_by (record { serial = s.serial; outcome = o i; moment = s.moment; changes = e i }) (w i) h; layout = laid i; carried = told i })
+    ∙ (λ i. record (file_of f) { history = made i; layout = settled_layout s.outcome (changes_by s.serial h.live) (file_of f).layout; carried = world.with_outcome (sym changed i) s (file_of f).carried })
+
+-- A file that was recovered.
+pub recovered_is : (f : File) (start buckets greatest : ℕ) (rows : Vec KeptRow Global) (settled : Vec Done Global) (layout : Layout) (carried : Carried) → settled.items ≡ [] →
+    layout_of layout ≡ world.layout_loaded (organization_of f.organization) (world.sizes_of (file_of f)) (rows_of rows.items) →
+    carried_of carried ≡ world.carried_recovered greatest (carried_of f.carried) →
+    file_of (record f { start = start; buckets = buckets; layout = layout; base = rows; moment = greatest; settled = settled; carried = carried })
+    ≡ world.recovered_file start buckets (rows_of rows.items) greatest (file_of f)
+recovered_is f start buckets greatest rows settled layout carried none l told =
+    λ i. record (file_of f) { start = start; buckets = buckets; history = record (history_of f) { base = rows_of rows.items; moment = greatest; settled = map done_of (none i) }; layout = l i; carried = told i }

@@ -1,6 +1,6 @@
 -- What the code's values stand for.
 use Rattle.std.specs.Prelude.{ℕ, Bool, true, false, List, Option, Some, None, map, option_map}
-use Rattle.std.specs.FinMap.{empty}
+use Rattle.std.specs.FinMap.{empty, from_entries}
 use Rattle.vms_model.specs.Ids.{Id}
 use Rattle.vms_model.specs.Keys as key
 use Rattle.vms_model.specs.Transactions as settled
@@ -8,6 +8,10 @@ use Rattle.vms_base.specs.Ids.{id_of}
 use Rattle.vms_base.specs.Outcomes.{outcome_of, reason_of}
 use Rattle.vms_base.specs.declared.outcomes.Reason.{Reason}
 use Rattle.records_model.specs.History as history
+use Rattle.records_model.specs.Records.{Records}
+use Rattle.recovery_model.specs.Journal as images
+use Rattle.recovery_model.specs.File as recovery
+use Rattle.script_model.specs.Statements as said
 use Rattle.transcript_model.specs.Lines as model
 use Rattle.run_model.specs.World as world
 use Rattle.commit_protocol.specs.Table as table
@@ -17,6 +21,15 @@ use Rattle.reference_index.specs.Standing.{value_of, key_of, lent_key, changes_o
 use Rattle.reference_world.specs.declared.world.BranchKey.{BranchKey}
 use Rattle.reference_world.specs.declared.world.Organization.{Organization}
 use Rattle.reference_world.specs.declared.world.Organization.TheVariants as organization
+use Rattle.reference_world.specs.declared.world.Side.{Side}
+use Rattle.reference_world.specs.declared.world.Side.TheVariants as side
+use Rattle.reference_world.specs.declared.world.Image.{Image}
+use Rattle.reference_world.specs.declared.world.Image.TheVariants as image
+use Rattle.reference_world.specs.declared.world.Placed.{Placed}
+use Rattle.reference_world.specs.declared.world.ImageJournal.{ImageJournal}
+use Rattle.reference_world.specs.declared.world.KeptRow.{KeptRow}
+use Rattle.reference_world.specs.declared.world.Save.{Save}
+use Rattle.reference_world.specs.declared.world.Carried.{Carried}
 use Rattle.reference_world.specs.declared.world.LiveChanges.{LiveChanges}
 use Rattle.reference_world.specs.declared.world.SettledChanges.{SettledChanges}
 use Rattle.reference_world.specs.declared.world.File.{File}
@@ -47,16 +60,43 @@ live_of l = record { serial = id_of l.serial; changes = changes_of l.changes.ite
 abbrev pub done_of : SettledChanges → history.SettledChanges
 done_of s = record { serial = id_of s.serial; outcome = outcome_of s.outcome; moment = s.moment; changes = changes_of s.changes.items }
 
--- nothing was committed before the file was made
+-- records by their rows
+abbrev pub kept_of : KeptRow → key.Key × List ℕ
+kept_of r = (key_of r.key, r.bytes.items)
+
+abbrev pub rows_of : List KeptRow → Records
+rows_of rs = from_entries (map kept_of rs)
+
+-- what an entry of a journal of images tells of this branch
+abbrev pub image_of : Id → Image → images.Entry
+image_of serial (image.Changed k value) = images.Changed serial (key_of k) (value_of value)
+image_of serial (image.Settled outcome moment) = images.Settled serial (outcome_of outcome) moment.hundredths
+
+abbrev pub placed_of : Placed → recovery.Placed
+placed_of p = record { at = p.at; tid = id_of p.branch.tid; entry = image_of (id_of p.branch.serial) p.image }
+
+abbrev pub images_of : ImageJournal → recovery.ImageJournal
+images_of j = record { on = j.on; start = j.start; blocks = j.blocks; first = j.first; end = j.end; entries = map placed_of j.entries.items }
+
+abbrev pub save_of : Save → recovery.Save
+save_of v = record { start = v.start; buckets = v.buckets; position = v.position; moment = v.moment; records = rows_of v.records.items }
+
+abbrev pub carried_of : Carried → world.Carried
+carried_of c = record { after = images_of c.after; before = images_of c.before; since = c.since; save = option_map save_of c.save }
+
+abbrev pub side_of : Side → said.Side
+side_of side.After = said.AfterImages
+side_of side.Before = said.BeforeImages
+
 abbrev pub history_of : File → history.History
-history_of f = record { base = empty; moment = f.moment; settled = map done_of f.settled.items; live = map live_of f.live.items }
+history_of f = record { base = rows_of f.base.items; moment = f.moment; settled = map done_of f.settled.items; live = map live_of f.live.items }
 
 abbrev pub organization_of : Organization → world.Organization
 organization_of organization.Sequential = world.Sequential
 organization_of (organization.Relative greatest) = world.Relative greatest
 organization_of (organization.Indexed position size) = world.Indexed position size
 
--- a file carries nothing for its recovery
+-- a file was made in the run, so that nothing is told of moments before its base
 abbrev pub file_of : File → world.File
 file_of f = record {
   name = f.name;
@@ -65,9 +105,10 @@ file_of f = record {
   organization = organization_of f.organization;
   start = f.start;
   buckets = f.buckets;
-  carried = world.nothing_carried;
+  carried = carried_of f.carried;
   recovery_units = f.recovery_units;
   history = history_of f;
+  past = λ moment. empty;
   layout = layout_of f.layout;
 }
 
@@ -153,6 +194,7 @@ line_of line.Normal = model.Normal
 line_of (line.NormalCount n) = model.NormalCount n
 line_of (line.NormalId i) = model.NormalId (id_of i)
 line_of (line.NormalSpan first end) = model.NormalSpan first end
+line_of (line.NormalSave position moment) = model.NormalSave position moment.hundredths
 line_of (line.NormalStanding standing) = model.NormalStanding (standing_of standing)
 line_of (line.NormalLog committed prepared free) = model.NormalLog committed prepared free
 line_of (line.Pending serials rms) = model.Pending (map id_of serials.items) rms.items
@@ -182,6 +224,11 @@ line_of line.WrongState = model.WrongState
 line_of (line.InDoubt serial node) = model.InDoubt (id_of serial) node
 line_of line.NotMarked = model.NotMarked
 line_of line.NeedsUnit = model.NeedsUnit
+line_of line.NoJournal = model.NoJournal
+line_of line.NoSave = model.NoSave
+line_of (line.TooEarly until saved) = model.TooEarly until.hundredths saved.hundredths
+line_of (line.PositionsMissing needed first) = model.PositionsMissing needed first
+line_of (line.MomentsMissing until since) = model.MomentsMissing until.hundredths since.hundredths
 line_of (line.RecordLocked i) = model.RecordLocked (id_of i)
 line_of (line.FileLocked i) = model.FileLocked (id_of i)
 line_of (line.NoVolume node condition block) = model.NoVolume node condition block
@@ -194,5 +241,7 @@ line_of (line.QuotaExceeded q limit) = model.QuotaExceeded (quota_of q) limit
 line_of (line.VolumeFull free need) = model.VolumeFull free need
 line_of (line.FileFull free need) = model.FileFull free need
 line_of (line.JournalFull free need) = model.JournalFull free need
+line_of (line.AftersFull free need) = model.AftersFull free need
+line_of (line.BeforesFull free need) = model.BeforesFull free need
 line_of (line.BadLine column) = model.BadLine column
 line_of line.TooLong = model.TooLong

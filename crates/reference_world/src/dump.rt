@@ -3,23 +3,27 @@ ghost use Rattle.std.specs.Prelude.{◌≡◌, ◌++◌, List, [], ◌∷◌, ma
 ghost use Rattle.std.specs.FinMap.{empty, entries};
 ghost use Rattle.std.specs.FinMap.Entries.{put, find, where_key};
 ghost use Rattle.records_model.specs.Records.{Records, key_cmp, set_key, applied};
-ghost use Rattle.records_model.specs.History.{left_by, on_top, current};
+ghost use Rattle.records_model.specs.History.{left_by, on_top, current, records};
 ghost use Rattle.transcript_model.specs.Lines as model;
 ghost use Rattle.run_model.specs.Answers.{shown_record};
 ghost use Rattle.run_model.specs.Steps.{lines_of_rows};
 ghost use Rattle.reference_index.specs.Standing.{lent_key, lent_value, changes_of};
-ghost use Rattle.reference_world.specs.Standing.{done_of, live_of, history_of, entry_of, line_of};
+ghost use Rattle.reference_world.specs.Standing.{done_of, live_of, history_of, kept_of, rows_of, entry_of, line_of};
 ghost use Rattle.reference_world.specs.Rows.{is_other};
 
 use crate::line::{Line, one};
-use crate::world::{File, LiveChanges, Row, SettledChanges};
+use crate::world::{File, KeptRow, LiveChanges, Row, SettledChanges};
 use reference_index::{Change, KeyRef, lend_value, push_front};
 use std::alloc::{AllocError, Global};
 use std::cmp::Ordering;
 use vms_base::Outcome;
 
-// The rows with one more at its place, in the stead of another of its key.
-fn with_row<'a>(alloc: Global, rows: &[Row<'a>], row: Row<'a>) -> Result<Vec<Row<'a>>, AllocError>
+/// The rows with one more at its place, in the stead of another of its key.
+pub fn with_row<'a>(
+    alloc: Global,
+    rows: &[Row<'a>],
+    row: Row<'a>,
+) -> Result<Vec<Row<'a>>, AllocError>
     ensures { IfOk result (λ v. map entry_of v.items ≡ put key_cmp (lent_key row.entry.key) row.entry.bytes.now (map entry_of rows.now)) }
 {
     match rows {
@@ -69,8 +73,8 @@ fn without_row<'a>(
     }
 }
 
-// The rows with this at a key: a record, or none.
-fn set_row<'a>(
+/// The rows with this at a key: a record, or none.
+pub fn set_row<'a>(
     alloc: Global,
     rows: &[Row<'a>],
     key: KeyRef<'a>,
@@ -154,13 +158,58 @@ fn with_live<'a>(
     }
 }
 
+/// Kept records, lent, in the order of their keys.
+pub fn lend_rows(alloc: Global, kept: &[KeptRow]) -> Result<Vec<Row<'_>>, AllocError>
+    ensures { IfOk result (λ v. map entry_of v.items ≡ entries (rows_of kept.now)) }
+{
+    match kept {
+        [] => Ok(Vec::new(alloc)),
+        [r, rest @ ..] => {
+            let behind = lend_rows(alloc, rest)?;
+            let row = Row {
+                key: r.key.lend(),
+                bytes: r.bytes.as_slice(),
+            };
+            with_row(alloc, behind.as_slice(), row)
+        }
+    }
+}
+
+/// The rows with bytes of their own.
+pub fn keep_rows(alloc: Global, rows: &[Row<'_>]) -> Result<Vec<KeptRow>, AllocError>
+    ensures { IfOk result (λ v. map kept_of v.items ≡ map entry_of rows.now) }
+{
+    match rows {
+        [] => Ok(Vec::new(alloc)),
+        [r, rest @ ..] => {
+            let mut all = keep_rows(alloc, rest)?;
+            push_front(
+                &mut all,
+                KeptRow {
+                    key: r.key.own(alloc)?,
+                    bytes: r.bytes.to_vec(alloc)?,
+                },
+            )?;
+            Ok(all)
+        }
+    }
+}
+
+/// The records of a file without those of unsettled branches.
+pub fn committed_of(alloc: Global, file: &File) -> Result<Vec<Row<'_>>, AllocError>
+    ensures { IfOk result (λ v. map entry_of v.items ≡ entries (records (history_of file.now))) }
+{
+    let base = lend_rows(alloc, file.base.as_slice())?;
+    let rows = base.as_slice();
+    with_settled(alloc, rows, file.settled.as_slice())
+}
+
 /// The records of a file as they stand.
 pub fn records_of(alloc: Global, file: &File) -> Result<Vec<Row<'_>>, AllocError>
     ensures { IfOk result (λ v. map entry_of v.items ≡ entries (current (history_of file.now))) }
 {
-    let settled = file.settled.as_slice();
     let live = file.live.as_slice();
-    let left = with_settled(alloc, &[], settled)?;
+    let left = committed_of(alloc, file)?;
     let left_rows = left.as_slice();
     with_live(alloc, left_rows, live)
 }

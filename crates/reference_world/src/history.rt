@@ -8,6 +8,7 @@ ghost use Rattle.reference_index.specs.Standing.{change_of, changes_of, layout_o
 ghost use Rattle.reference_world.specs.Standing.{live_of, history_of, file_of, serials_of, settlement_of};
 ghost use Rattle.reference_world.specs.Histories.{only_live};
 
+use crate::images::{nothing_carried, with_outcome};
 use crate::world::{BranchKey, File, LiveChanges, SettledChanges, Settlement};
 use reference_index::{Change, Layout, layout_restored, no_layout, push_front, take_first};
 use std::alloc::{AllocError, Global};
@@ -171,6 +172,8 @@ fn with_settlement(alloc: Global, file: File, s: Settlement) -> Result<File, All
     settled_one.live = parted.others;
     let layout = replace(&mut settled_one.layout, no_layout(alloc));
     settled_one.layout = settled_layout(alloc, outcome, parted.changes.as_slice(), layout)?;
+    let carried = replace(&mut settled_one.carried, nothing_carried(alloc));
+    settled_one.carried = with_outcome(carried, &s)?;
     push_front(
         &mut settled_one.settled,
         SettledChanges {

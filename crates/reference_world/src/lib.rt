@@ -4,16 +4,23 @@
 mod directory;
 mod dump;
 mod history;
+mod images;
 mod line;
 mod moment;
 mod world;
 
 pub use directory::{
-    FileChange, Runs, capacity, empty_places, find_file, free_place, free_runs, settled_files,
-    with_file,
+    FileChange, Mark, Runs, capacity, empty_places, find_file, free_place, free_runs, images_end,
+    layout_of_records, settled_files, with_file,
 };
-pub use dump::{find_row, records_of, rows_shown};
+pub use dump::{
+    committed_of, find_row, keep_rows, lend_rows, records_of, rows_shown, set_row, with_row,
+};
 pub use history::{first_to_change, same_id};
+pub use images::{key_size, nothing_carried, value_size};
 pub use line::{Line, Quota, Standing, one};
-pub use moment::WrittenMoment;
-pub use world::{BranchKey, DiskCall, File, LabelEntry, Organization, Row, Settlement, Volume};
+pub use moment::{WrittenMoment, written};
+pub use world::{
+    BranchKey, Carried, DiskCall, File, Image, ImageJournal, KeptRow, LabelEntry, LiveChanges,
+    Organization, Placed, Row, Save, Settlement, Side, Volume,
+};

@@ -4,7 +4,7 @@ ghost use Rattle.vms_base.specs.Outcomes.{outcome_of};
 ghost use Rattle.reference_world.specs.Standing.{outcome_by};
 
 use crate::moment::WrittenMoment;
-use reference_index::{Change, KeyRef, Layout};
+use reference_index::{Change, Key, KeyRef, Layout};
 use vms_base::{FileName, Id, Label, NodeName, Outcome, Reason};
 
 /// A branch: its transaction, and its serial.
@@ -39,7 +39,66 @@ pub enum Organization {
     Indexed { position: u32, size: u32 },
 }
 
-/// A file. Settled branches stand newest first, unsettled ones oldest first.
+/// A journal of images of a file: that of its after images, or that of its before images.
+#[derive(Clone, Copy, Drop)]
+pub enum Side {
+    After,
+    Before,
+}
+
+/// What an entry of a journal of images tells of its branch: a key that it changed, with the record after that or before it, or none; or how it was settled.
+#[derive(Drop)]
+pub enum Image {
+    Changed(Key, Option<Vec<u8>>),
+    Settled(Outcome, WrittenMoment),
+}
+
+/// An entry of a journal of images: its position, its branch and what it tells.
+#[derive(Drop)]
+pub struct Placed {
+    pub at: u64,
+    pub branch: BranchKey,
+    pub image: Image,
+}
+
+/// A journal of images: whether the file has it, its blocks, the positions at which it begins and ends, and its entries, the newest first.
+#[derive(Drop)]
+pub struct ImageJournal {
+    pub on: bool,
+    pub start: u64,
+    pub blocks: u64,
+    pub first: u64,
+    pub end: u64,
+    pub entries: Vec<Placed>,
+}
+
+/// A record at its key.
+#[derive(Drop)]
+pub struct KeptRow {
+    pub key: Key,
+    pub bytes: Vec<u8>,
+}
+
+/// A save: where its buckets begin and how many they are; where the journal of after images ended and the greatest moment on the disk then; and the records.
+#[derive(Drop)]
+pub struct Save {
+    pub start: u64,
+    pub buckets: u64,
+    pub position: u64,
+    pub moment: u64,
+    pub records: Vec<KeptRow>,
+}
+
+/// What a file has for its recovery: its journals, the moment since which before images are kept, and its save.
+#[derive(Drop)]
+pub struct Carried {
+    pub after: ImageJournal,
+    pub before: ImageJournal,
+    pub since: u64,
+    pub save: Option<Save>,
+}
+
+/// A file. It began with its base, at a moment. Settled branches stand newest first, unsettled ones oldest first.
 #[derive(Drop)]
 pub struct File {
     pub name: FileName,
@@ -49,6 +108,8 @@ pub struct File {
     pub start: u64,
     pub buckets: u64,
     pub recovery_units: bool,
+    pub carried: Carried,
+    pub base: Vec<KeptRow>,
     pub moment: u64,
     pub settled: Vec<SettledChanges>,
     pub live: Vec<LiveChanges>,

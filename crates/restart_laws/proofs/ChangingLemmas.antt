@@ -215,9 +215,9 @@ sets a b heads n f h new name file tid serial key value keys are units named at_
     let tells = units.tells f file at_f in
     let below = within_list heads f h named.there in let long = are.heads_long in let long_too = are.directory_long in
     let is : new.organization ≡ h.organization = ap (λ (x : FileHead). x.organization) same.is in
-    subst (AreRestorable b (slice_set heads f (Some new))) (sym (at.2.changed (changed_file held serial cs) ∙ ap (λ (x : File). slice_set directory f (Some (changed_file held serial cs x))) one))
-    (restorable_set b heads directory f new (changed_file held serial cs file) below (omega arith)
-    (subst (λ (o : Kept). AllByRecursion (λ (l : LiveChanges). CanRestoreBy o new b l.changes) (changed_file held serial cs file).history.live) (sym is)
+    subst (AreRestorable b (slice_set heads f (Some new))) (sym (at.2.changed (changed_file held tid serial cs) ∙ ap (λ (x : File). slice_set directory f (Some (changed_file held tid serial cs x))) one))
+    (restorable_set b heads directory f new (changed_file held tid serial cs file) below (omega arith)
+    (subst (λ (o : Kept). AllByRecursion (λ (l : LiveChanges). CanRestoreBy o new b l.changes) (changed_file held tid serial cs file).history.live) (sym is)
     (set_by h.organization h new a b serial key value file.history.live (map_in (records file.history)) mine.head.form mine.laid within suits same (subst (λ (o : Kept). FormBy o new) is form) (subst (λ (o : Kept). LaidOutBy o new b) is laid)
     (ap (λ o. map_by o new b) (sym is) ∙ now) (subst (λ (o : Kept). RestoresBy o new b key (map_of h a key)) is restores) (λ other there. subst (λ (o : Kept). room_at h a other ≤ room_by o new b other) is (rooms other there))
     (represents_file a h file n.durable.units tells mine) (latest_file a h file n.durable.units tells mine) tells.notes.differ may.keys.0 (end_told h.organization h file.organization serial cs file.history.live mine.head.organization may.end) (restorable_at a heads directory f h file named.there at_f can)))
@@ -267,9 +267,9 @@ cuts a b heads n f from h new name file tid serial keys are units named at_f seq
     let may_cut : MayChange serial file gone = subst (MayChange serial file) cs_are may in
     let moved : moves_end gone ≡ true = some_gone from (drop (from - 1) rs) may_cut.some in
     subst (λ (cs : List Change). AreRestorable b (slice_set heads f (Some new)) (acted (world.Changes tid serial name cs keys) n).durable.directory) (sym cs_are)
-    (subst (AreRestorable b (slice_set heads f (Some new))) (sym (at.2.changed (changed_file held serial gone) ∙ ap (λ (x : File). slice_set directory f (Some (changed_file held serial gone x))) same_file))
-    (restorable_set b heads directory f new (changed_file held serial gone file) below (omega arith)
-    (subst (λ (o : Kept). AllByRecursion (λ (l : LiveChanges). CanRestoreBy o new b l.changes) (changed_file held serial gone file).history.live) (sym is)
+    (subst (AreRestorable b (slice_set heads f (Some new))) (sym (at.2.changed (changed_file held tid serial gone) ∙ ap (λ (x : File). slice_set directory f (Some (changed_file held tid serial gone x))) same_file))
+    (restorable_set b heads directory f new (changed_file held tid serial gone file) below (omega arith)
+    (subst (λ (o : Kept). AllByRecursion (λ (l : LiveChanges). CanRestoreBy o new b l.changes) (changed_file held tid serial gone file).history.live) (sym is)
     (positions_cut h new a b serial from file.history.live (map_in (records file.history)) (subst (λ (o : Kept). FormBy o h) seq mine.head.form) (subst (λ (o : Kept). LaidOutBy o h a) seq mine.laid) one same
     (ap (λ o. map_by o new b) (sym is) ∙ now ∙ ap (λ o. cut_from from (map_by o h a)) seq) (subst (λ (o : Kept). Represents file.history.live (map_by o h a) (map_in (records file.history))) seq (represents_file a h file n.durable.units tells mine))
     (subst (λ (o : Kept). AllLatest (map_by o h a) file.history.live) seq (latest_file a h file n.durable.units tells mine)) tells.notes.differ may_cut.some may_cut.keys

@@ -15,9 +15,9 @@ use Rattle.unit_laws.specs.Units.{Map, map_in, earliest_before, Represents, IsOr
 use Rattle.unit_laws.specs.Layouts.{slot_restored, leaf_restored, layout_restored}
 use Rattle.unit_laws.proofs.RepresentLemmas.{group_keeps}
 use Rattle.run_model.specs.World.{File}
-use Rattle.directory_model.specs.Files.{IsFile, IsPlace, head_at, file_at}
+use Rattle.directory_model.specs.Files.{IsFile, IsPlace, StandsCarried, head_at, file_at}
 use Rattle.directory_model.specs.Restoring.{AlikeBare, bare, bare_leaf, bare_layout, IsLeft, IsPlaceLeft, IsPlaceRestorable, CanRestore, IsLayoutOf, IsGrouped, IsPlaceGrouped}
-use Rattle.directory_model.proofs.Moving.{head_moved, same_organization}
+use Rattle.directory_model.proofs.Moving.{carried_moved, head_moved, same_organization}
 use Rattle.restart_laws.specs.Falls.{FallsLeave, GroupsLeave}
 
 -- The layout of the world's file.
@@ -43,17 +43,17 @@ file_left content h file is orderly can = record {
     same : map_in (current file.history) ≡ map_of h content
     same = λ i key. is.records key i
 
-place_left : (content : List (List ℕ)) (o : Option FileHead) (p : Option File) → IsPlace content o p → ((file : File) → p ≡ Some file → IsOrderly file.history) → IsPlaceRestorable content o p → IsPlaceLeft content o p
-place_left content None None is orderly can = tt
-place_left content None (Some file) is orderly can = absurd is
-place_left content (Some h) None is orderly can = absurd is
-place_left content (Some h) (Some file) is orderly can = file_left content h file is (orderly file refl) can
+place_left : (content : List (List ℕ)) (f : ℕ) (o : Option FileHead) (p : Option File) → IsPlace content f o p → ((file : File) → p ≡ Some file → IsOrderly file.history) → IsPlaceRestorable content o p → IsPlaceLeft content f o p
+place_left content f None None is orderly can = tt
+place_left content f None (Some file) is orderly can = absurd is
+place_left content f (Some h) None is orderly can = absurd is
+place_left content f (Some h) (Some file) is orderly can = (file_left content h file is.0 (orderly file refl) can, is.1)
 
 pub falls_leave : FallsLeave
 falls_leave content heads n are units can = record {
   heads_long = are.heads_long;
   directory_long = are.directory_long;
-  each = λ f. place_left content (head_at heads f) (file_at n.durable.directory f) (are.each f) (λ file there. (units.tells f file there).notes.orderly) (can f);
+  each = λ f. place_left content f (head_at heads f) (file_at n.durable.directory f) (are.each f) (λ file there. (units.tells f file there).notes.orderly) (can f);
 }
 
 -- A group of an undo.
@@ -67,19 +67,19 @@ file_grouped a b h new file left group = record {
   can = group.can;
 }
 
-place_grouped : (a b : List (List ℕ)) (o o' : Option FileHead) (p : Option File) → IsPlaceLeft a o p → IsPlaceGrouped a o p b o' → IsPlaceLeft b o' p
-place_grouped a b None None None left group = tt
-place_grouped a b None (Some new) None left group = absurd group
-place_grouped a b None o' (Some file) left group = absurd left
-place_grouped a b (Some h) o' None left group = absurd left
-place_grouped a b (Some h) None (Some file) left group = absurd group
-place_grouped a b (Some h) (Some new) (Some file) left group = file_grouped a b h new file left group
+place_grouped : (a b : List (List ℕ)) (f : ℕ) (o o' : Option FileHead) (p : Option File) → IsPlaceLeft a f o p → IsPlaceGrouped a o p b o' → ((h : FileHead) → o ≡ Some h → StandsCarried h a b) → IsPlaceLeft b f o' p
+place_grouped a b f None None None left group stands = tt
+place_grouped a b f None (Some new) None left group stands = absurd group
+place_grouped a b f None o' (Some file) left group stands = absurd left
+place_grouped a b f (Some h) o' None left group stands = absurd left
+place_grouped a b f (Some h) None (Some file) left group stands = absurd group
+place_grouped a b f (Some h) (Some new) (Some file) left group stands = (file_grouped a b h new file left.0 group, carried_moved a b f h new file.carried group.same (stands h refl) left.1)
 
 pub groups_leave : GroupsLeave
 groups_leave a b heads new n left group = record {
   heads_long = group.long ∙ left.heads_long;
   directory_long = left.directory_long;
-  each = λ f. place_grouped a b (head_at heads f) (head_at new f) (file_at n.durable.directory f) (left.each f) (group.each f);
+  each = λ f. place_grouped a b f (head_at heads f) (head_at new f) (file_at n.durable.directory f) (left.each f) (group.each f) (group.carried f);
 }
 
 -- Layouts that are alike but for their records.

@@ -357,10 +357,10 @@ named_head content (Some first ∷ heads) (suc f) h there one = go (bytes_eq h.n
     go false is later = ap (λ (b : Bool). cond b (map_of first content) (standing_in content heads h.name)) is ∙ later
 
 -- the file of a head, and the head of a file
-file_of : (content : List (List ℕ)) (o : Option FileHead) (p : Option File) (h : FileHead) → o ≡ Some h → IsPlaceLeft content o p → (file : File) × (p ≡ Some file) × (file.name ≡ h.name)
-file_of content None p h there left = let none : ⊥ = cc in absurd none
-file_of content (Some k) None h there left = absurd left
-file_of content (Some k) (Some file) h there left = let same : k ≡ h = cc in (file, refl, left.head.name ∙ ap (λ (x : FileHead). x.name) same)
+file_of : (content : List (List ℕ)) (f : ℕ) (o : Option FileHead) (p : Option File) (h : FileHead) → o ≡ Some h → IsPlaceLeft content f o p → (file : File) × (p ≡ Some file) × (file.name ≡ h.name)
+file_of content f None p h there left = let none : ⊥ = cc in absurd none
+file_of content f (Some k) None h there left = absurd left
+file_of content f (Some k) (Some file) h there left = let same : k ≡ h = cc in (file, refl, left.0.head.name ∙ ap (λ (x : FileHead). x.name) same)
 
 module _ (content : List (List ℕ)) (heads : List (Option FileHead)) (n : Node) (serial : Id) (left : AreLeft content heads n.durable.directory) (units : AreUnitsOf n) (beside : (f : ℕ) → IsPlaceBeside serial content (head_at heads f) (file_at n.durable.directory f)) where
   abbrev standing : List ℕ → Map
@@ -369,18 +369,18 @@ module _ (content : List (List ℕ)) (heads : List (Option FileHead)) (n : Node)
   -- no other head has the name of a file's
   one_head : (f : ℕ) (file : File) (h : FileHead) → file_at n.durable.directory f ≡ Some file → file.name ≡ h.name → (g : ℕ) (k : FileHead) → head_at heads g ≡ Some k → h.name ≡ k.name → g ≡ f
   one_head f file h there named g k at same =
-      let x = file_of content (head_at heads g) (file_at n.durable.directory g) k at (left.each g) in
+      let x = file_of content g (head_at heads g) (file_at n.durable.directory g) k at (left.each g) in
       units.names g f x.0 file x.1 there (x.2 ∙ sym same ∙ sym named)
 
-  half_place : (f : ℕ) (o : Option FileHead) (p : Option File) → head_at heads f ≡ o → file_at n.durable.directory f ≡ p → IsPlaceLeft content o p → IsPlaceBeside serial content o p →
-      ((file : File) → p ≡ Some file → IsHalfUndone serial standing file) × IsPlace content o (option_map (half_undone serial standing) p) × IsPlaceRestorable content o (option_map (half_undone serial standing) p)
+  half_place : (f : ℕ) (o : Option FileHead) (p : Option File) → head_at heads f ≡ o → file_at n.durable.directory f ≡ p → IsPlaceLeft content f o p → IsPlaceBeside serial content o p →
+      ((file : File) → p ≡ Some file → IsHalfUndone serial standing file) × IsPlace content f o (option_map (half_undone serial standing) p) × IsPlaceRestorable content o (option_map (half_undone serial standing) p)
   half_place f None None at there l b = ((λ file is. let none : ⊥ = cc in absurd none), tt, tt)
   half_place f None (Some file) at there l b = absurd l
   half_place f (Some h) None at there l b = absurd l
   half_place f (Some h) (Some file) at there l b =
-      let named : standing file.name ≡ map_of h content = ap standing l.head.name ∙ named_head content heads f h at (one_head f file h there l.head.name) in
-      let half = halves_are_files content h file n.durable.units serial standing l (units.tells f file there) b named in
-      ((λ x is. let same : file ≡ x = cc in subst (IsHalfUndone serial standing) same half.half), half.is, halves_stay_restorable content h file serial standing named l.can)
+      let named : standing file.name ≡ map_of h content = ap standing l.0.head.name ∙ named_head content heads f h at (one_head f file h there l.0.head.name) in
+      let half = halves_are_files content h file n.durable.units serial standing l.0 (units.tells f file there) b named in
+      ((λ x is. let same : file ≡ x = cc in subst (IsHalfUndone serial standing) same half.half), (half.is, l.1), halves_stay_restorable content h file serial standing named l.0.can)
 
   pub are_half : AreHalfFiles serial content heads n.durable.directory
   are_half = record {
@@ -388,7 +388,7 @@ module _ (content : List (List ℕ)) (heads : List (Option FileHead)) (n : Node)
     are = record {
       heads_long = left.heads_long;
       directory_long = length-map n.durable.directory (option_map (half_undone serial standing)) ∙ left.directory_long;
-      each = λ f. subst (λ (p : Option File). IsPlace content (head_at heads f) p) (sym (file_mapped (half_undone serial standing) n.durable.directory f)) (half_place f (head_at heads f) (file_at n.durable.directory f) refl refl (left.each f) (beside f)).1;
+      each = λ f. subst (λ (p : Option File). IsPlace content f (head_at heads f) p) (sym (file_mapped (half_undone serial standing) n.durable.directory f)) (half_place f (head_at heads f) (file_at n.durable.directory f) refl refl (left.each f) (beside f)).1;
     };
     restorable = λ f. subst (λ (p : Option File). IsPlaceRestorable content (head_at heads f) p) (sym (file_mapped (half_undone serial standing) n.durable.directory f)) (half_place f (head_at heads f) (file_at n.durable.directory f) refl refl (left.each f) (beside f)).2;
   }

@@ -82,13 +82,13 @@ stands_file : (units : Journal) (content : List (List ℕ)) (h : FileHead) (file
 stands_file units content h file is orderly = all_as (λ (l : LiveChanges). HasLatest (map_in (current file.history)) l.changes) (λ (l : LiveChanges). IsPreparedUnit units l.serial → HasLatest (map_of h content) l.changes) file.history.live
     (λ l latest so key k. sym (is.records key) ∙ latest key k) orderly.latest
 
-stands_place : (units : Journal) (content : List (List ℕ)) (o : Option FileHead) (p : Option File) → IsPlace content o p → ((file : File) → p ≡ Some file → IsOrderly file.history) → IsPlacePrepared units content o p
-stands_place units content None p is orderly = tt
-stands_place units content (Some h) None is orderly = tt
-stands_place units content (Some h) (Some file) is orderly = stands_file units content h file is (orderly file refl)
+stands_place : (units : Journal) (content : List (List ℕ)) (f : ℕ) (o : Option FileHead) (p : Option File) → IsPlace content f o p → ((file : File) → p ≡ Some file → IsOrderly file.history) → IsPlacePrepared units content o p
+stands_place units content f None p is orderly = tt
+stands_place units content f (Some h) None is orderly = tt
+stands_place units content f (Some h) (Some file) is orderly = stands_file units content h file is.0 (orderly file refl)
 
 pub prepared_stand : PreparedStand
-prepared_stand content heads n are units f = stands_place n.durable.units content (head_at heads f) (file_at n.durable.directory f) (are.each f) (λ file there. (units.tells f file there).notes.orderly)
+prepared_stand content heads n are units f = stands_place n.durable.units content f (head_at heads f) (file_at n.durable.directory f) (are.each f) (λ file there. (units.tells f file there).notes.orderly)
 
 -- One branch more is undone whole.
 still_file : (units : Journal) (b c : List (List ℕ)) (h new : FileHead) (file : File) (s : Settlement) → AllByRecursion (λ (l : LiveChanges). has_changes l.changes ≡ true) file.history.live → SerialsDiffer file.history.live → Apart file.history.live →

@@ -142,18 +142,21 @@ unit_prepared j x all is = go (find_unit x (units_in j.entries)) refl is
     go (Some u) e k = (u, e, all x u e)
     go None e k = let none : ⊥ = cc in absurd none
 
-place_rests : (units : Journal) (content : List (List ℕ)) (o : Option FileHead) (p : Option File) → AllPrepared units → IsPlaceLeft content o p → IsPlacePrepared units content o p →
-    ((file : File) → p ≡ Some file → IsOrderly file.history × AllByRecursion (λ (l : LiveChanges). is_unit l.serial units ≡ true) file.history.live) → IsPlace content o p
-place_rests units content None None all left stands tells = tt
-place_rests units content None (Some file) all left stands tells = absurd left
-place_rests units content (Some h) None all left stands tells = absurd left
-place_rests units content (Some h) (Some file) all left stands tells = let t = tells file refl in file_rests content h file left t.0
-    (both_as (λ (l : LiveChanges). is_unit l.serial units ≡ true) (λ (l : LiveChanges). IsPreparedUnit units l.serial → HasLatest (map_of h content) l.changes) (λ (l : LiveChanges). HasLatest (map_of h content) l.changes) file.history.live
-    (λ l unit so. so (unit_prepared units l.serial all unit)) t.1 stands)
+place_rests : (units : Journal) (content : List (List ℕ)) (f : ℕ) (o : Option FileHead) (p : Option File) → AllPrepared units → IsPlaceLeft content f o p → IsPlacePrepared units content o p →
+    ((file : File) → p ≡ Some file → IsOrderly file.history × AllByRecursion (λ (l : LiveChanges). is_unit l.serial units ≡ true) file.history.live) → IsPlace content f o p
+place_rests units content f None None all left stands tells = tt
+place_rests units content f None (Some file) all left stands tells = absurd left
+place_rests units content f (Some h) None all left stands tells = absurd left
+place_rests units content f (Some h) (Some file) all left stands tells = let t = tells file refl in (
+  file_rests content h file left.0 t.0
+      (both_as (λ (l : LiveChanges). is_unit l.serial units ≡ true) (λ (l : LiveChanges). IsPreparedUnit units l.serial → HasLatest (map_of h content) l.changes) (λ (l : LiveChanges). HasLatest (map_of h content) l.changes) file.history.live
+      (λ l unit so. so (unit_prepared units l.serial all unit)) t.1 stands),
+  left.1,
+)
 
 pub rests_as_files : RestsAsFiles
 rests_as_files content heads n left stands units all = record {
   heads_long = left.heads_long;
   directory_long = left.directory_long;
-  each = λ f. place_rests n.durable.units content (head_at heads f) (file_at n.durable.directory f) all (left.each f) (stands f) (λ file there. let t = units.tells f file there in (t.notes.orderly, t.notes.units));
+  each = λ f. place_rests n.durable.units content f (head_at heads f) (file_at n.durable.directory f) all (left.each f) (stands f) (λ file there. let t = units.tells f file there in (t.notes.orderly, t.notes.units));
 }

@@ -238,18 +238,19 @@ restored_can a b h new file s left ends made back =
     organization : new.organization ≡ h.organization
     organization = same_organization h new back.same
 
-place_can : (a b : List (List ℕ)) (o o' : Option FileHead) (p : Option File) (s : Settlement) → ((file : File) → p ≡ Some file → OneMovesEndOf file.organization file.history.live × AllByRecursion (λ (l : LiveChanges). has_changes l.changes ≡ true) file.history.live) → IsPlaceLeft a o p → IsPlaceRestored s.serial a o p b o' → IsPlaceRestorable b o' (option_map (settled_file s) p)
-place_can a b None None None s tells left back = tt
-place_can a b None (Some new) None s tells left back = absurd back
-place_can a b None o' (Some file) s tells left back = absurd left
-place_can a b (Some h) o' None s tells left back = absurd left
-place_can a b (Some h) None (Some file) s tells left back = absurd back
-place_can a b (Some h) (Some new) (Some file) s tells left back = let t = tells file refl in restored_can a b h new file s left t.0 t.1 back
+place_can : (a b : List (List ℕ)) (f : ℕ) (o o' : Option FileHead) (p : Option File) (s : Settlement) → ((file : File) → p ≡ Some file → OneMovesEndOf file.organization file.history.live × AllByRecursion (λ (l : LiveChanges). has_changes l.changes ≡ true) file.history.live) → IsPlaceLeft a f o p → IsPlaceRestored s.serial a o p b o' → IsPlaceRestorable b o' (option_map (settled_file s) p)
+place_can a b f None None None s tells left back = tt
+place_can a b f None (Some new) None s tells left back = absurd back
+place_can a b f None o' (Some file) s tells left back = absurd left
+place_can a b f (Some h) o' None s tells left back = absurd left
+place_can a b f (Some h) None (Some file) s tells left back = absurd back
+place_can a b f (Some h) (Some new) (Some file) s tells left back = let t = tells file refl in restored_can a b h new file s left.0 t.0 t.1 back
 
 pub others_stay_restorable : OthersStayRestorable
 others_stay_restorable b c heads new n a moment s settles left units abort back = λ f.
     subst (λ (p : Option File). IsPlaceRestorable c (head_at new f) p) (sym (ap (λ (d : List (Option File)). file_at d f) (settled_directory n a moment s settles) ∙ file_mapped (settled_file s) n.durable.directory f))
-    (place_can b c (head_at heads f) (head_at new f) (file_at n.durable.directory f) s (λ file there. ((units.tells f file there).end, (units.tells f file there).notes.some)) (left.each f) (back.each f))
+    (place_can b c f (head_at heads f) (head_at new f) (file_at n.durable.directory f) s (λ file there. ((units.tells f file there).end, (units.tells f file there).notes.some)) (left.each f) (back.each f))
 
 pub undoes_leave : UndoesLeave
-undoes_leave b c heads new n a moment s settles left units abort back = undone_leaves b c heads new n a moment s settles left units abort back (others_stay_restorable b c heads new n a moment s settles left units abort back)
+undoes_leave b c heads new n s left units abort back = undone_leaves b c heads new n s left units abort back (λ f.
+    place_can b c f (head_at heads f) (head_at new f) (file_at n.durable.directory f) s (λ file there. ((units.tells f file there).end, (units.tells f file there).notes.some)) (left.each f) (back.each f))

@@ -24,12 +24,11 @@ use Rattle.unit_laws.specs.Units.{Map, map_in, is_of, earliest_before, Represent
 use Rattle.unit_laws.specs.Layouts.{slot_restored, leaf_restored, layout_restored}
 use Rattle.unit_laws.proofs.Tests.{both_ways}
 use Rattle.unit_laws.proofs.HistoryLaws.{aborts_one, undoes_one}
-use Rattle.commit_protocol.specs.Table as table
-use Rattle.run_model.specs.World.{Node, File, Settlement, AreUnitsOf, Tables, acted, settled_file, settled_layout, settlement_of}
-use Rattle.directory_model.specs.Files.{head_at, file_at, layout_of}
+use Rattle.run_model.specs.World.{Node, File, Settlement, AreUnitsOf, settled_file, settled_layout}
+use Rattle.directory_model.specs.Files.{StandsCarried, head_at, file_at, layout_of}
 use Rattle.directory_model.specs.Restoring.{AlikeBare, bare, bare_layout, IsLeft, IsPlaceLeft, AreLeft, IsRestored, IsPlaceRestored, AreRestored, IsPlaceRestorable, AreRestorable, CanRestore, CanRestoreBy, IsLayoutOf}
-use Rattle.directory_model.proofs.Acts.{settled_directory}
-use Rattle.directory_model.proofs.Moving.{head_again, head_moved, same_organization}
+use Rattle.directory_model.specs.Laws.{carrying, settled_buckets}
+use Rattle.directory_model.proofs.Moving.{carried_moved, head_again, head_moved, same_organization}
 use Rattle.directory_model.proofs.Places.{file_mapped}
 use Rattle.restart_laws.proofs.FallLemmas.{restores_alike}
 use Rattle.restart_laws.proofs.RestLemmas.{slots_alike}
@@ -178,25 +177,25 @@ file_aborted a b h new file s moment left orderly back can =
     }
 
 file_settled : (a b : List (List ℕ)) (h new : FileHead) (file : File) (s : Settlement) → s.outcome ≡ Abort → IsLeft a h file → IsOrderly file.history → IsRestored a h (changes_by s.serial file.history.live) b new → CanRestore new b (settled_file s file).history.live →
-    IsLeft b new (settled_file s file)
+    IsLeft b new (carrying file.carried (settled_file s file))
 file_settled a b h new file s abort left orderly back can =
     subst (λ (o : Outcome). IsLeft b new (record file { history = settled_at s.serial o s.moment file.history; layout = settled_layout o (changes_by s.serial file.history.live) file.layout })) (sym abort)
     (file_aborted a b h new file s.serial s.moment left orderly back (subst (λ (o : Outcome). CanRestore new b (settled_at s.serial o s.moment file.history).live) abort can))
 
-place_settled : (a b : List (List ℕ)) (o o' : Option FileHead) (p : Option File) (s : Settlement) → s.outcome ≡ Abort → ((file : File) → p ≡ Some file → IsOrderly file.history) → IsPlaceLeft a o p → IsPlaceRestored s.serial a o p b o' → IsPlaceRestorable b o' (option_map (settled_file s) p) → IsPlaceLeft b o' (option_map (settled_file s) p)
-place_settled a b None None None s abort orderly left back can = tt
-place_settled a b None (Some new) None s abort orderly left back can = absurd back
-place_settled a b None o' (Some file) s abort orderly left back can = absurd left
-place_settled a b (Some h) o' None s abort orderly left back can = absurd left
-place_settled a b (Some h) None (Some file) s abort orderly left back can = absurd back
-place_settled a b (Some h) (Some new) (Some file) s abort orderly left back can = file_settled a b h new file s abort left (orderly file refl) back can
+place_settled : (a b : List (List ℕ)) (f : ℕ) (o o' : Option FileHead) (p : Option File) (s : Settlement) → s.outcome ≡ Abort → ((file : File) → p ≡ Some file → IsOrderly file.history) → IsPlaceLeft a f o p → IsPlaceRestored s.serial a o p b o' → ((h : FileHead) → o ≡ Some h → StandsCarried h a b) →
+    IsPlaceRestorable b o' (option_map (settled_file s) p) → IsPlaceLeft b f o' (option_map (λ file. carrying file.carried (settled_file s file)) p)
+place_settled a b f None None None s abort orderly left back stands can = tt
+place_settled a b f None (Some new) None s abort orderly left back stands can = absurd back
+place_settled a b f None o' (Some file) s abort orderly left back stands can = absurd left
+place_settled a b f (Some h) o' None s abort orderly left back stands can = absurd left
+place_settled a b f (Some h) None (Some file) s abort orderly left back stands can = absurd back
+place_settled a b f (Some h) (Some new) (Some file) s abort orderly left back stands can = (file_settled a b h new file s abort left.0 (orderly file refl) back can, carried_moved a b f h new file.carried back.same (stands h refl) left.1)
 
-pub undone_leaves : (b c : List (List ℕ)) (heads new : List (Option FileHead)) (n : Node) (a : table.Act) (moment : ℕ) (s : Settlement) → settlement_of a moment ≡ Some s → AreLeft b heads n.durable.directory → AreUnitsOf n → s.outcome ≡ Abort →
-    AreRestored s.serial b heads n.durable.directory c new → AreRestorable c new (acted (Tables a moment) n).durable.directory → AreLeft c new (acted (Tables a moment) n).durable.directory
-undone_leaves b c heads new n a moment s settles left units abort back can = subst (AreLeft c new) (sym (settled_directory n a moment s settles)) (record {
+pub undone_leaves : (b c : List (List ℕ)) (heads new : List (Option FileHead)) (n : Node) (s : Settlement) → AreLeft b heads n.durable.directory → AreUnitsOf n → s.outcome ≡ Abort → AreRestored s.serial b heads n.durable.directory c new →
+    ((f : ℕ) → IsPlaceRestorable c (head_at new f) (option_map (settled_file s) (file_at n.durable.directory f))) → AreLeft c new (settled_buckets s n.durable.directory)
+undone_leaves b c heads new n s left units abort back can = record {
   heads_long = back.long ∙ left.heads_long;
-  directory_long = length-map n.durable.directory (option_map (settled_file s)) ∙ left.directory_long;
-  each = λ f. subst (λ (p : Option File). IsPlaceLeft c (head_at new f) p) (sym (file_mapped (settled_file s) n.durable.directory f))
-      (place_settled b c (head_at heads f) (head_at new f) (file_at n.durable.directory f) s abort (λ file there. (units.tells f file there).notes.orderly) (left.each f) (back.each f)
-      (subst (λ (p : Option File). IsPlaceRestorable c (head_at new f) p) (ap (λ (d : List (Option File)). file_at d f) (settled_directory n a moment s settles) ∙ file_mapped (settled_file s) n.durable.directory f) (can f)));
-})
+  directory_long = length-map n.durable.directory (option_map (λ file. carrying file.carried (settled_file s file))) ∙ left.directory_long;
+  each = λ f. subst (λ (p : Option File). IsPlaceLeft c f (head_at new f) p) (sym (file_mapped (λ file. carrying file.carried (settled_file s file)) n.durable.directory f))
+      (place_settled b c f (head_at heads f) (head_at new f) (file_at n.durable.directory f) s abort (λ file there. (units.tells f file there).notes.orderly) (left.each f) (back.each f) (back.carried f) (can f));
+}

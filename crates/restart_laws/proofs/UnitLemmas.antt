@@ -10,10 +10,10 @@ use Rattle.std.proofs.lemmas.List.{get_or-set_same, get_or-set_other}
 use Rattle.vms_model.specs.Ids.{Id}
 use Rattle.vms_model.specs.Keys.{Key}
 use Rattle.vms_model.specs.Transactions.{Outcome, Commit, Abort, SegFail}
-use Rattle.records_model.specs.Records.{Change, Found}
+use Rattle.records_model.specs.Records.{Change, Found, Records}
 use Rattle.records_model.specs.History.{History, LiveChanges, same_id, records, on_top, changes_by, changed_with, current, settled_at, with_changes, without}
 use Rattle.unit_laws.specs.Units.{SerialsDiffer, Represents, IsOrderly, HasLatest, map_in, has_changes}
-use Rattle.unit_laws.specs.Journal.{Journal, JournalEntry, ChangeEntry, PreparedEntry, SettledEntry, RecoveryUnit, entries_for, entries_from, find_unit, is_of_file, is_of_units, is_settled_in, note_of, serial_in, trimmed, units_in, with_entries, with_settled}
+use Rattle.unit_laws.specs.Journal.{Journal, JournalEntry, ChangeEntry, PreparedEntry, SettledEntry, RecoveryUnit, empty_journal, entries_for, entries_from, find_unit, is_of_file, is_of_units, is_settled_in, note_of, serial_in, trimmed, units_in, with_entries, with_settled}
 use Rattle.unit_laws.specs.JournalLaws.{HasNotes, is_unit}
 use Rattle.unit_laws.proofs.EndLemmas.{changes_keep_end, settles_keep_end}
 use Rattle.unit_laws.proofs.HistoryLaws.{changes_more, commits_one}
@@ -22,7 +22,7 @@ use Rattle.unit_laws.proofs.NoteLemmas.{changes_keep_notes, changes_elsewhere_ke
 use Rattle.unit_laws.proofs.TrimLemmas.{found_onto, had_onto, trim_keeps_units}
 use Rattle.run_model.specs.Locks.{is_locked}
 use Rattle.run_model.specs.World as world
-use Rattle.run_model.specs.World.{Node, File, Organization, Settlement, TellsUnits, AreUnitsOf, IsPreparedUnit, IsReached, OneMovesEndOf, acted, changed_file, directly_changed, settled_file, settlement, find_file}
+use Rattle.run_model.specs.World.{Node, File, Mark, Organization, Settlement, TellsUnits, AreUnitsOf, IsPreparedUnit, IsReached, OneMovesEndOf, acted, changed_file, directly_changed, marked_file, recovered_file, saved_file, settled_file, settlement, find_file}
 use Rattle.commit_protocol.specs.Table as table
 use Rattle.world_laws.proofs.DirectLemmas.{live_same, none_of}
 use Rattle.restart_laws.proofs.ListLemmas.{all_as}
@@ -221,12 +221,38 @@ creates n f file units within live none new = record {
     one p q a b (inr x) (inr y) same = units.names p q a b x.1 y.1 same
 
 -- SET_FILE
-marks : (n : Node) (name : List ℕ) (file : File) (units : Bool) → AreUnitsOf n → find_file name n.durable.directory ≡ Some file → file.history.live ≡ [] → AreUnitsOf (acted (world.Marks name units) n)
-marks n name file units are there none =
+marks : (n : Node) (name : List ℕ) (file : File) (mark : Mark) → AreUnitsOf n → find_file name n.durable.directory ≡ Some file → file.history.live ≡ [] → AreUnitsOf (acted (world.Marks name mark) n)
+marks n name file mark are there none =
     let at = found_there name n.durable.directory file there in
     let tells = are.tells at.0 file at.1.there in
-    kept_set n (acted (world.Marks name units) n) at.0 (record file { recovery_units = units }) file are at.1.there (at.1.changed (λ f. record f { recovery_units = units })) refl
-    (record { notes = tells.notes; end = tells.end }) (λ p g other g_at. are.tells p g g_at) are.reached (λ up. up) (λ up off. none_changed n.durable.units (record file { recovery_units = units }) none) (λ y so. so)
+    kept_set n (acted (world.Marks name mark) n) at.0 (marked_file mark n.durable.greatest file) file are at.1.there (at.1.changed (marked_file mark n.durable.greatest)) refl
+    (record { notes = tells.notes; end = tells.end }) (λ p g other g_at. are.tells p g g_at) are.reached (λ up. up) (λ up off. none_changed n.durable.units (marked_file mark n.durable.greatest file) none) (λ y so. so)
+
+-- BACKUP
+saves : (n : Node) (name : List ℕ) (file : File) (start : ℕ) → AreUnitsOf n → find_file name n.durable.directory ≡ Some file → file.history.live ≡ [] → AreUnitsOf (acted (world.Saves name start) n)
+saves n name file start are there none =
+    let at = found_there name n.durable.directory file there in
+    let tells = are.tells at.0 file at.1.there in
+    kept_set n (acted (world.Saves name start) n) at.0 (saved_file start n.durable.greatest file) file are at.1.there (at.1.changed (saved_file start n.durable.greatest)) refl
+    (record { notes = tells.notes; end = tells.end }) (λ p g other g_at. are.tells p g g_at) are.reached (λ up. up) (λ up off. none_changed n.durable.units (saved_file start n.durable.greatest file) none) (λ y so. so)
+
+-- RECOVER
+rebased_notes : (units : Journal) (start buckets greatest : ℕ) (m : Records) (f : File) → f.history.live ≡ [] → HasNotes units f.name f.history → HasNotes units f.name (recovered_file start buckets m greatest f).history
+rebased_notes units start buckets greatest m f none has = record {
+  notes = has.notes;
+  units = has.units;
+  some = has.some;
+  differ = has.differ;
+  orderly = (unchanged_has_notes empty_journal f.name (recovered_file start buckets m greatest f).history none refl).orderly;
+}
+
+recovers : (n : Node) (name : List ℕ) (file : File) (start buckets : ℕ) (m : Records) → AreUnitsOf n → find_file name n.durable.directory ≡ Some file → file.history.live ≡ [] → AreUnitsOf (acted (world.Recovers name start buckets m) n)
+recovers n name file start buckets m are there none =
+    let at = found_there name n.durable.directory file there in
+    let tells = are.tells at.0 file at.1.there in
+    let change = recovered_file start buckets m n.durable.greatest in
+    kept_set n (acted (world.Recovers name start buckets m) n) at.0 (change file) file are at.1.there (at.1.changed change) refl
+    (record { notes = rebased_notes n.durable.units start buckets n.durable.greatest m file none tells.notes; end = tells.end }) (λ p g other g_at. are.tells p g g_at) are.reached (λ up. up) (λ up off. none_changed n.durable.units (change file) none) (λ y so. so)
 
 -- PUT, UPDATE, DELETE, TRUNCATE
 end_changed : (o : Organization) (ls : List LiveChanges) (serial : Id) (cs : List Change) → SerialsDiffer ls → EndIsFree o serial cs ls → OneMovesEndOf o ls → OneMovesEndOf o (with_changes serial cs ls)
@@ -235,7 +261,7 @@ end_changed (world.Relative greatest) ls serial cs differ free one = tt
 end_changed (world.Indexed position size) ls serial cs differ free one = tt
 
 tells_changed : (units : Journal) (f : File) (held : Key → Bool) (tid serial : Id) (cs : List Change) → TellsUnits units f → is_settled_in serial units.entries ≡ false → MayChange serial f cs →
-    TellsUnits (with_entries (entries_for tid serial f.name cs) units) (changed_file held serial cs f)
+    TellsUnits (with_entries (entries_for tid serial f.name cs) units) (changed_file held tid serial cs f)
 tells_changed units f held tid serial cs tells unsettled may = record {
   notes = changes_keep_notes units f.name f.history tid serial cs tells.notes unsettled may.some may.keys may.found;
   end = end_changed f.organization f.history.live serial cs tells.notes.differ may.end tells.end;
@@ -252,8 +278,8 @@ changes : (n : Node) (name : List ℕ) (file : File) (tid serial : Id) (cs : Lis
 changes n name file tid serial cs keys are own unsettled there may marked =
     let at = found_there name n.durable.directory file there in
     let held = is_locked n.volatile.locks name in
-    kept_set n (acted (world.Changes tid serial name cs keys) n) at.0 (changed_file held serial cs file) file are at.1.there (at.1.changed (changed_file held serial cs)) refl
-    (subst (λ (called : List ℕ). TellsUnits (with_entries (entries_for tid serial called cs) n.durable.units) (changed_file held serial cs file)) at.2
+    kept_set n (acted (world.Changes tid serial name cs keys) n) at.0 (changed_file held tid serial cs file) file are at.1.there (at.1.changed (changed_file held tid serial cs)) refl
+    (subst (λ (called : List ℕ). TellsUnits (with_entries (entries_for tid serial called cs) n.durable.units) (changed_file held tid serial cs file)) at.2
     (tells_changed n.durable.units file held tid serial cs (are.tells at.0 file at.1.there) unsettled may))
     (λ p g other g_at. tells_elsewhere n.durable.units g tid serial name cs (are.tells p g g_at) (not_named n at.0 p file g name are at.1.there at.2 other g_at) unsettled)
     (reached_append n n.durable.units.entries (entries_for tid serial name cs) are.reached (reached_for n tid serial name cs own)) (λ up. up)
@@ -390,6 +416,8 @@ keeps_units = record {
   holds = λ n serial name keys are. record { tells = are.tells; marked = are.marked; reached = are.reached; names = are.names };
   creates = creates;
   marks = marks;
+  saves = saves;
+  recovers = recovers;
   changes = changes;
   directs = directs;
   tables = tables;

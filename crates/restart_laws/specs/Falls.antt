@@ -9,7 +9,8 @@ use Rattle.vms_model.specs.Transactions.{Abort}
 use Rattle.unit_laws.specs.Journal.{Journal, RecoveryUnit, find_unit, units_in}
 use Rattle.commit_protocol.specs.Table as table
 use Rattle.run_model.specs.World.{Node, File, Settlement, AreUnitsOf, Tables, acted, settlement_of}
-use Rattle.directory_model.specs.Files.{AreFiles, head_at}
+use Rattle.directory_model.specs.Files.{AreFiles, StandsIn, head_at}
+use Rattle.directory_model.specs.Laws.{settled_buckets}
 use Rattle.directory_model.specs.Restoring.{AreRestorable, AreLeft, AreGrouped, AreRestored, IsLeft, IsGrouped, IsRestored, StandPrepared}
 
 -- each unit of a journal is prepared
@@ -23,12 +24,12 @@ FallsLeave = (content : List (List ℕ)) (heads : List (Option FileHead)) (n : N
 abbrev pub PreparedStand : Type 0
 PreparedStand = (content : List (List ℕ)) (heads : List (Option FileHead)) (n : Node) → AreFiles content heads n.durable.directory → AreUnitsOf n → StandPrepared n.durable.units content heads n.durable.directory
 
--- contents that agree on each file's extent have the same left of the files
+-- contents in which all that each file has stands have the same left of the files
 abbrev pub LeftStands : Type 0
-LeftStands = (a b : List (List ℕ)) (heads : List (Option FileHead)) (directory : List (Option File)) → ((f : ℕ) (h : FileHead) → head_at heads f ≡ Some h → AgreesOn h a b) → AreLeft a heads directory → AreLeft b heads directory
+LeftStands = (a b : List (List ℕ)) (heads : List (Option FileHead)) (directory : List (Option File)) → ((f : ℕ) (h : FileHead) → head_at heads f ≡ Some h → StandsIn h a b) → AreLeft a heads directory → AreLeft b heads directory
 
 abbrev pub PreparedStays : Type 0
-PreparedStays = (units : Journal) (a b : List (List ℕ)) (heads : List (Option FileHead)) (directory : List (Option File)) → ((f : ℕ) (h : FileHead) → head_at heads f ≡ Some h → AgreesOn h a b) → AreLeft a heads directory →
+PreparedStays = (units : Journal) (a b : List (List ℕ)) (heads : List (Option FileHead)) (directory : List (Option File)) → ((f : ℕ) (h : FileHead) → head_at heads f ≡ Some h → StandsIn h a b) → AreLeft a heads directory →
     StandPrepared units a heads directory → StandPrepared units b heads directory
 
 -- a group of an undo leaves what can be undone further
@@ -40,10 +41,11 @@ pub record StaysUndone : Type 0 where
   pub group : (a b : List (List ℕ)) (h : FileHead) (file : File) → IsLeft a h file → AgreesOn h a b → IsGrouped a h file.history.live b h
   pub restored : (a b : List (List ℕ)) (h : FileHead) → any.IsFile h → IsLaidOut h a → AgreesOn h a b → IsRestored a h [] b h
 
--- a unit was undone whole: what is left is that of the node once the unit is settled, and what prepared branches changed stands there still
+-- A unit was undone whole: what is left is that of the node once the unit is settled in the buckets, before the journals of images tell it; and what prepared branches
+-- changed stands there still.
 abbrev pub UndoesLeave : Type 0
-UndoesLeave = (b c : List (List ℕ)) (heads new : List (Option FileHead)) (n : Node) (a : table.Act) (moment : ℕ) (s : Settlement) → settlement_of a moment ≡ Some s → AreLeft b heads n.durable.directory → AreUnitsOf n → s.outcome ≡ Abort →
-    AreRestored s.serial b heads n.durable.directory c new → AreLeft c new (acted (Tables a moment) n).durable.directory
+UndoesLeave = (b c : List (List ℕ)) (heads new : List (Option FileHead)) (n : Node) (s : Settlement) → AreLeft b heads n.durable.directory → AreUnitsOf n → s.outcome ≡ Abort → AreRestored s.serial b heads n.durable.directory c new →
+    AreLeft c new (settled_buckets s n.durable.directory)
 
 abbrev pub UndoesKeepPrepared : Type 0
 UndoesKeepPrepared = (b c : List (List ℕ)) (heads new : List (Option FileHead)) (n : Node) (a : table.Act) (moment : ℕ) (s : Settlement) → settlement_of a moment ≡ Some s → AreLeft b heads n.durable.directory → AreUnitsOf n → s.outcome ≡ Abort →

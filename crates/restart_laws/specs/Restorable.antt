@@ -14,23 +14,47 @@ use Rattle.vms_model.specs.Transactions.{Commit, Abort}
 use Rattle.records_model.specs.Records.{Change}
 use Rattle.records_model.specs.History.{LiveChanges, is_held, same_id}
 use Rattle.run_model.specs.Operations.{in_order, removed}
-use Rattle.run_model.specs.World.{Node, File, Settlement, AreUnitsOf, Formats, Creates, Marks, Tables, Changes, Directs, acted, settlement_of}
+use Rattle.run_model.specs.World.{Node, File, Mark, Settlement, AreUnitsOf, Formats, Creates, Marks, Saves, Tables, Changes, Directs, acted, settlement_of}
 use Rattle.commit_protocol.specs.Table as table
-use Rattle.directory_model.specs.Files.{AreFiles, IsFoundAt, IsNamed, IsWithin, head_at, file_at}
+use Rattle.directory_model.specs.Files.{AreFiles, IsFoundAt, IsNamed, IsWithin, StandsIn, head_at, file_at}
 use Rattle.directory_model.specs.Restoring.{AreRestorable, AreRestored}
-use Rattle.directory_model.specs.Laws.{SameBut, marked}
+use Rattle.directory_model.specs.Laws.{SameBut}
 use Rattle.restart_laws.specs.Units.{MayChange}
+
+-- a head of the same buckets: its marks, its journals and its save may be others
+pub record SameBuckets (h new : FileHead) : Type 0 where
+  pub is : new ≡ record h { marks = new.marks; ai = new.ai; bi = new.bi; bi_since = new.bi_since; save = new.save }
+
+-- so of a place, where the buckets stand
+abbrev pub IsDressed : List (List ℕ) → Option FileHead → List (List ℕ) → Option FileHead → Type 0
+IsDressed a None b None = Unit {0}
+IsDressed a None b (Some new) = ⊥
+IsDressed a (Some h) b None = ⊥
+IsDressed a (Some h) b (Some new) = SameBuckets h new × AgreesOn h a b
+
+-- two files in which the same is unsettled
+abbrev pub SameLive : Option File → Option File → Type 0
+SameLive None None = Unit {0}
+SameLive None (Some other) = ⊥
+SameLive (Some file) None = ⊥
+SameLive (Some file) (Some other) = other.history.live ≡ file.history.live
 
 -- What unsettled branches changed can be restored in contents that agree on the files, on a new volume, beside a new file or a marked one, after changes that are committed
 -- at once, and once one of the branches is settled.
 pub record KeepsRestorable : Type 0 where
-  pub stands : (a b : List (List ℕ)) (heads : List (Option FileHead)) (directory : List (Option File)) → ((f : ℕ) (h : FileHead) → head_at heads f ≡ Some h → AgreesOn h a b) → AreFiles a heads directory →
+  pub stands : (a b : List (List ℕ)) (heads : List (Option FileHead)) (directory : List (Option File)) → ((f : ℕ) (h : FileHead) → head_at heads f ≡ Some h → StandsIn h a b) → AreFiles a heads directory →
       AreRestorable a heads directory → AreRestorable b heads directory
   pub formats : (content : List (List ℕ)) (n : Node) (slots journal : ℕ) → AreRestorable content (replicate 64 None) (acted (Formats slots journal) n).durable.directory
   pub creates : (content : List (List ℕ)) (heads : List (Option FileHead)) (n : Node) (f : ℕ) (h : FileHead) (file : File) → AreFiles content heads n.durable.directory → f < 64 → file.history.live ≡ [] →
       AreRestorable content heads n.durable.directory → AreRestorable content (slice_set heads f (Some h)) (acted (Creates f file) n).durable.directory
-  pub marks : (content : List (List ℕ)) (heads : List (Option FileHead)) (n : Node) (f : ℕ) (h : FileHead) (name : List ℕ) (units : Bool) → AreFiles content heads n.durable.directory → IsNamed heads f h name →
-      AreRestorable content heads n.durable.directory → AreRestorable content (slice_set heads f (Some (marked units h))) (acted (Marks name units) n).durable.directory
+  pub marks : (content : List (List ℕ)) (heads : List (Option FileHead)) (n : Node) (f : ℕ) (h new : FileHead) (name : List ℕ) (mark : Mark) → AreFiles content heads n.durable.directory → IsNamed heads f h name → SameBuckets h new →
+      AreRestorable content heads n.durable.directory → AreRestorable content (slice_set heads f (Some new)) (acted (Marks name mark) n).durable.directory
+  -- beside one that is saved
+  pub saves : (content : List (List ℕ)) (heads : List (Option FileHead)) (n : Node) (f : ℕ) (h new : FileHead) (name : List ℕ) (start : ℕ) → AreFiles content heads n.durable.directory → IsNamed heads f h name → SameBuckets h new →
+      AreRestorable content heads n.durable.directory → AreRestorable content (slice_set heads f (Some new)) (acted (Saves name start) n).durable.directory
+  -- where marks, journals and saves alone become others
+  pub dresses : (a b : List (List ℕ)) (heads new : List (Option FileHead)) (directory others : List (Option File)) → AreFiles a heads directory → ((f : ℕ) → IsDressed a (head_at heads f) b (head_at new f)) → ((f : ℕ) → SameLive (file_at directory f) (file_at others f)) →
+      AreRestorable a heads directory → AreRestorable b new others
   -- where they can once a branch that was none of them made the same changes
   pub directs : (b : List (List ℕ)) (heads : List (Option FileHead)) (n : Node) (f : ℕ) (name : List ℕ) (file : File) (tid : Id) (keys : List Key) (c : Change) (cs : List Change) (s : Settlement) → s.outcome ≡ Commit → IsFoundAt name n.durable.directory f file →
       AllByRecursion (λ (l : LiveChanges). same_id s.serial l.serial ≡ false) file.history.live → AreRestorable b heads (acted (Changes tid s.serial name (c ∷ cs) keys) n).durable.directory → AreRestorable b heads (acted (Directs name (c ∷ cs) s) n).durable.directory

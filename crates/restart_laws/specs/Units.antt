@@ -4,13 +4,13 @@ use Rattle.std.specs.List.{list_any}
 use Rattle.vms_model.specs.Ids.{Id}
 use Rattle.vms_model.specs.Keys.{Key}
 use Rattle.vms_model.specs.Transactions.{Commit}
-use Rattle.records_model.specs.Records.{Change, Found}
+use Rattle.records_model.specs.Records.{Change, Found, Records}
 use Rattle.records_model.specs.History.{LiveChanges, current}
 use Rattle.unit_laws.specs.Units.{end_is_free, has_changes, moves_end}
 use Rattle.unit_laws.specs.Journal.{is_of_file, is_settled_in}
 use Rattle.unit_laws.specs.JournalLaws.{is_unit}
 use Rattle.commit_protocol.specs.Table as table
-use Rattle.run_model.specs.World.{Node, File, Organization, Sequential, Relative, Indexed, Settlement, AreUnitsOf, IsReached, Formats, Boots, Creates, Marks, Draws, Clocks, Tables, Changes, Holds, Directs, acted, find_file}
+use Rattle.run_model.specs.World.{Node, File, Organization, Sequential, Relative, Indexed, Settlement, AreUnitsOf, IsReached, Formats, Boots, Creates, Mark, Marks, Saves, Recovers, Draws, Clocks, Tables, Changes, Holds, Directs, acted, find_file}
 use Rattle.directory_model.specs.Laws.{AreFree}
 
 -- where changes move the end of a sequential file, that is free for the branch: no other branch moved it
@@ -35,7 +35,9 @@ pub record KeepsUnits : Type 0 where
   -- a new file that no branch changed, of a name that no file and no entry has
   pub creates : (n : Node) (f : ℕ) (file : File) → AreUnitsOf n → f < length n.durable.directory → file.history.live ≡ [] → find_file file.name n.durable.directory ≡ None → list_any (is_of_file file.name) n.durable.units.entries ≡ false →
       AreUnitsOf (acted (Creates f file) n)
-  pub marks : (n : Node) (name : List ℕ) (file : File) (units : Bool) → AreUnitsOf n → find_file name n.durable.directory ≡ Some file → file.history.live ≡ [] → AreUnitsOf (acted (Marks name units) n)
+  pub marks : (n : Node) (name : List ℕ) (file : File) (mark : Mark) → AreUnitsOf n → find_file name n.durable.directory ≡ Some file → file.history.live ≡ [] → AreUnitsOf (acted (Marks name mark) n)
+  pub saves : (n : Node) (name : List ℕ) (file : File) (start : ℕ) → AreUnitsOf n → find_file name n.durable.directory ≡ Some file → file.history.live ≡ [] → AreUnitsOf (acted (Saves name start) n)
+  pub recovers : (n : Node) (name : List ℕ) (file : File) (start buckets : ℕ) (m : Records) → AreUnitsOf n → find_file name n.durable.directory ≡ Some file → file.history.live ≡ [] → AreUnitsOf (acted (Recovers name start buckets m) n)
   -- while the node is up they are of a marked file
   pub changes : (n : Node) (name : List ℕ) (file : File) (tid serial : Id) (cs : List Change) (keys : List Key) → AreUnitsOf n → IsReached n serial → is_settled_in serial n.durable.units.entries ≡ false →
       find_file name n.durable.directory ≡ Some file → MayChange serial file cs → (n.up ≡ true → file.recovery_units ≡ true) → AreUnitsOf (acted (Changes tid serial name cs keys) n)

@@ -12,7 +12,8 @@ use Rattle.unit_aborts.specs.Growing.{GrowsBy}
 use Rattle.unit_journal.specs.Entries.{settled_entry}
 use Rattle.unit_journal.specs.Groups.{Grows, GrowsOnce}
 use Rattle.unit_journal.specs.Settling.{entry_if, next_moment, span_with}
-use Rattle.unit_table.specs.Units.{OpenUnit, owed, owed_for, unit_at}
+use Rattle.unit_table.specs.Units.{OpenUnit, changers, no_units, owed, owed_for, unit_at}
+use Rattle.image_room.specs.Room.{AllSettlementsFit}
 use Rattle.vms_base.specs.Ids.{serial_of, tid_of}
 use Rattle.vms_base.specs.declared.ids.Serial.{Serial}
 use Rattle.vms_base.specs.declared.ids.Tid.{Tid}
@@ -28,7 +29,8 @@ use Rattle.rms_units.specs.State.{AreAscending, AreWithin, IsEarly, IsInOrder, U
 use Rattle.rms_units.proofs.OrderLemmas.{ring_of}
 use Rattle.rms_units.proofs.PositionLemmas.{ascending_gone, owed_gone}
 use Rattle.rms_units.proofs.RoomLemmas.{owed_least, room_to_settle}
-use Rattle.rms_units.proofs.SettledLemmas.{bytes_of, next_bound, next_later, order_settled, with_end}
+use Rattle.unit_aborts.proofs.ImageLemmas.{fit_on, low_less, low_on}
+use Rattle.rms_units.proofs.SettledLemmas.{bytes_of, next_bound, next_later, order_settled_in, with_end}
 
 -- What an abort asks for.
 
@@ -66,16 +68,15 @@ module _ (place : ℕ) (u : OpenUnit) (tid : Tid) (serial : Serial) (reason : Re
       let entry : Option Entry = abort_entry (abortion_of u tid serial reason moment t) in
       let later : v.catalog.home.greatest_moment.0 ≤ moment = let a = next_later clock v.catalog.home in omega (arith, a, is) in
       let bound : moment ≤ 24000001000066 = let a = next_bound clock v.catalog.home early.moment before in omega (arith, a, is) in
-      let each : AreAscending v.catalog.ru.first v.catalog.ru.end t.units.places =
-      subst (AreAscending v.catalog.ru.first v.catalog.ru.end) (sym gone) (ascending_gone v.catalog.ru.first v.catalog.ru.end s.units.places place (within_list s.units.places place u at) o.ascending) in
       let home = ap (λ (c : Catalog). c.home) aborts.goes.catalog in
       let ru = ap (λ (c : Catalog). c.ru) aborts.goes.catalog in
-      let same : mid.catalog.ru.end ≡ v.catalog.ru.end = ap (λ (c : Catalog). c.ru.end) aborts.goes.catalog in
-      let ends : w.catalog.ru.end ≡ mid.catalog.ru.end + bytes_of entry = ap (λ (c : Catalog). c.ru.end) aborts.makes.catalog ∙ with_end entry mid.catalog.ru in
+      let makes = aborts.makes in
+      let same : makes.mid.catalog.ru.end ≡ v.catalog.ru.end = ap (λ (c : Catalog). c.ru.end) makes.entered.catalog ∙ ap (λ (c : Catalog). c.ru.end) aborts.goes.catalog in
+      let ends : w.catalog.ru.end ≡ makes.mid.catalog.ru.end + bytes_of entry = ap (λ (c : Catalog). c.ru.end) makes.settles.catalog ∙ with_end entry makes.mid.catalog.ru in
       let few : bytes_of entry ≤ 48 = let a = once.end in omega (arith, a, ends, same) in
       let owes = entry_owed u.prepared u.positions (settled_entry (tid_of tid) (serial_of serial) Abort moment) few in
-      let less : owed t.units.places + bytes_of entry ≤ owed s.units.places = let a = owed_gone s.units.places place u at in let b = ap owed gone in omega (arith, a, b, owes) in
-      order_settled tid serial (ending.Abort reason) moment entry s t v mid w o home ru (aborts.goes.long ∙ o.heads) (aborts.goes.sound v.catalog.home.node o.sound) later bound each less aborts.makes idle holds size pool
+      order_settled_in place u tid serial (ending.Abort reason) moment entry s t v mid w o at gone home ru (aborts.goes.long ∙ o.heads) (aborts.goes.sound v.catalog.home.node o.sound)
+      (low_on v mid aborts.goes.journals 48 (low_less 48 (2 ^ 24) v.catalog.heads (omega arith) early.images)) (fit_on s.units.places v mid aborts.goes.journals o.images) later bound few owes makes idle holds size pool
 
 -- Units that a fall left are aborted.
 
@@ -88,8 +89,13 @@ nothing_owed : (n : ℕ) → owed (replicate n None) ≡ 0
 nothing_owed zero = refl
 nothing_owed (suc n) = nothing_owed n
 
-pub order_reopened : (v w : VolumeState) → IsInOrder nothing_begun v → MayAbort w → length w.catalog.heads ≡ length v.catalog.heads → IsInOrder nothing_begun w
-order_reopened v w o may heads = record {
+-- none of them changed a file
+pub none_changed : (n file : ℕ) → changers file (replicate n None) ≡ 0
+none_changed zero file = refl
+none_changed (suc n) file = let rest = none_changed n file in let e : changers file (None ∷ replicate n None) ≡ 0 = omega (arith, rest) in e
+
+pub order_reopened : (v w : VolumeState) → IsInOrder nothing_begun v → MayAbort w → length w.catalog.heads ≡ length v.catalog.heads → AllSettlementsFit no_units.places w.catalog.heads → IsInOrder nothing_begun w
+order_reopened v w o may heads fits = record {
   idle = may.idle;
   frames = may.frames;
   heads = heads ∙ o.heads;
@@ -101,6 +107,7 @@ order_reopened v w o may heads = record {
   room = let a = may.ring.room in let b = nothing_owed 64 in omega (arith, a, b);
   within = λ p u at. absurd (no_unit 64 p u at);
   ascending = λ p u at. absurd (no_unit 64 p u at);
+  images = fits;
 }
 
 -- so many settlements at a clock

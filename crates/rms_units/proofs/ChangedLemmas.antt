@@ -28,6 +28,7 @@ use Rattle.rms_units.specs.declared.asked.KeyChange.{KeyChange}
 use Rattle.rms_units.specs.Calls.{ChangesKey, CommitsChange, KeyBroke, MakesEntry, MakesKey, change_late, direct_late}
 use Rattle.unit_journal.specs.Entries.{change_entry}
 use Rattle.rms_units.specs.Changing.{after_change, before_change, keys_asked, locks_refuse}
+use Rattle.kept_files.specs.Own.{own_change}
 use Rattle.rms_units.specs.Making.{CommitsKey, EntersKey}
 use Rattle.unit_cuts.specs.Records.{OfRecords}
 use Rattle.rms_units.specs.State.{UnitsState}
@@ -58,24 +59,33 @@ module _ (v x : VolumeState) (same : SameVolume v x) where
   same_content : content x.store ≡ content v.store
   same_content = ap (λ (y : VolumeState). content y.store) same
 
-  enters_from : (file : ℕ) (h : FileHead) (held : Key → Bool) (key : Key) (after : Option (List ℕ)) (e : Entry) (w : VolumeState) → EntersKey file h held key after e x w → EntersKey file h held key after e v w
-  enters_from file h held key after e w m = record {
+  enters_from : (file : ℕ) (h : FileHead) (held : Key → Bool) (key : Key) (after : Option (List ℕ)) (a e : Entry) (w : VolumeState) → EntersKey file h held key after a e x w → EntersKey file h held key after a e v w
+  enters_from file h held key after a e w m = record {
+    image = m.image;
     entry = m.entry;
     set = m.set;
     head = m.head;
     stages = stages_read file h m.head 417 v x m.set same m.stages;
     sets = subst (λ (y : VolumeState). TellsSet h held key after y m.set m.head) same m.sets;
-    current = subst (λ (y : VolumeState). w.store.current ≡ option_map (entered y.catalog.ru (spelling e)) m.set.store.current) same m.current;
-    catalog = subst (λ (y : VolumeState). w.catalog ≡ record m.set.catalog { ru = longer (length (spelling e)) y.catalog.ru }) same m.catalog;
+    imaged = m.imaged;
+    images = m.images;
+    current = subst (λ (y : VolumeState). w.store.current ≡ option_map (entered y.catalog.ru (spelling e)) m.imaged.store.current) same m.current;
+    catalog = subst (λ (y : VolumeState). w.catalog ≡ record m.imaged.catalog { ru = longer (length (spelling e)) y.catalog.ru }) same m.catalog;
   }
 
-  commits_from : (file : ℕ) (h : FileHead) (held : Key → Bool) (key : Key) (after : Option (List ℕ)) (tid : Tid) (moment : ℕ) (left : List (Option OpenUnit)) (w : VolumeState) →
-      CommitsKey file h held key after tid moment left x w → CommitsKey file h held key after tid moment left v w
-  commits_from file h held key after tid moment left w m = record {
+  commits_from : (file : ℕ) (h : FileHead) (held : Key → Bool) (key : Key) (after : Option (List ℕ)) (a e : Entry) (tid : Tid) (moment : ℕ) (left : List (Option OpenUnit)) (w : VolumeState) →
+      CommitsKey file h held key after a e tid moment left x w → CommitsKey file h held key after a e tid moment left v w
+  commits_from file h held key after a e tid moment left w m = record {
     set = m.set;
     head = m.head;
     stages = stages_read file h m.head 417 v x m.set same m.stages;
     sets = subst (λ (y : VolumeState). TellsSet h held key after y m.set m.head) same m.sets;
+    each = m.each;
+    imaged = m.imaged;
+    images = m.images;
+    closing = m.closing;
+    closed = m.closed;
+    closes = m.closes;
     settles = m.settles;
   }
 
@@ -84,7 +94,7 @@ module _ (u : OpenUnit) (file : ℕ) (h : FileHead) (how : KeyChange) (key : Key
     (had : OfRecords h v (λ m. before_change how (unwrap_or (m key) []) ≡ before_change how found)) where
   entry : (made : VolumeState) → MakesEntry u file h how key told found s.locks x made → MakesEntry u file h how key value found s.locks v made
   entry made m = subst (λ (b : List ℕ). MakesEntry u file h how key b found s.locks v made) is
-      (enters_from v x same file h (λ k. is_some (holder s.locks file k)) key (after_change how told) (change_entry u.tid u.serial file key (before_change how found)) made m)
+      (enters_from v x same file h (λ k. is_some (holder s.locks file k)) key (after_change how told) (change_entry u.tid u.serial file key (after_change how told)) (change_entry u.tid u.serial file key (before_change how found)) made m)
 
   pub changed : (place : ℕ) (by : Id) (t : UnitsState) → by ≡ u.serial → locks_refuse (Some by) file (keys_asked h how key) s.locks ≡ None →
       ((a : List (List ℕ)) → v.store.current ≡ Some a → IsFile h → IsLaidOut h a → change_late u file h how key value s v a ≡ None) → MakesEntry u file h how key told found s.locks x w →
@@ -111,21 +121,24 @@ module _ (u : OpenUnit) (file : ℕ) (h : FileHead) (how : KeyChange) (key : Key
   }
 
 -- A change without one.
-module _ (tid : Tid) (clock moment : ℕ) (file : ℕ) (h : FileHead) (how : KeyChange) (key : Key) (value told : List ℕ) (s : UnitsState) (v x w : VolumeState) (is : told ≡ value) (same : SameVolume v x) (next : moment ≡ next_moment clock x.catalog.home) where
+module _ (tid : Tid) (clock moment : ℕ) (file : ℕ) (h : FileHead) (how : KeyChange) (key : Key) (value told found : List ℕ) (s : UnitsState) (v x w : VolumeState) (is : told ≡ value) (same : SameVolume v x) (next : moment ≡ next_moment clock x.catalog.home)
+    (had : OfRecords h v (λ m. before_change how (unwrap_or (m key) []) ≡ before_change how found)) where
   abbrev Told : List ℕ → ℕ → VolumeState → VolumeState → Type 0
-  Told b m from made = CommitsKey file h (λ k. is_some (holder s.locks file k)) key (after_change how b) tid m s.units.places from made
+  Told b m from made = CommitsKey file h (λ k. is_some (holder s.locks file k)) key (after_change how b) (own_change tid file key (after_change how b)) (own_change tid file key (before_change how found)) tid m s.units.places from made
 
   at : moment ≡ next_moment clock v.catalog.home
   at = next ∙ (λ i. next_moment clock (same i).catalog.home)
 
   abbrev Late : Type 0
-  Late = (a : List (List ℕ)) → v.store.current ≡ Some a → IsFile h → IsLaidOut h a → direct_late h how key value a ≡ None
+  Late = (a : List (List ℕ)) → v.store.current ≡ Some a → IsFile h → IsLaidOut h a → direct_late file h how key value s a ≡ None
 
   commits : Late → (made : VolumeState) → Told told moment x made → CommitsChange tid clock file h how key value s v made
   commits late made m = record {
     late = late;
+    found = found;
+    had = had;
     commits = subst (λ (n : ℕ). Told value n v made) at (subst (λ (b : List ℕ). Told b moment v made) is
-        (commits_from v x same file h (λ k. is_some (holder s.locks file k)) key (after_change how told) tid moment s.units.places made m));
+        (commits_from v x same file h (λ k. is_some (holder s.locks file k)) key (after_change how told) (own_change tid file key (after_change how told)) (own_change tid file key (before_change how found)) tid moment s.units.places made m));
   }
 
   pub committed : Late → Told told moment x w → CommitsChange tid clock file h how key value s v w

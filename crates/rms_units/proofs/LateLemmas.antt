@@ -1,15 +1,16 @@
 -- The causes that refuse a change of one key, in their order.
-use Rattle.std.proofs.Common.{◌≡◌, ℕ, List, [], Option, Some, None, length, refl, sym, ap, subst, ◌∙◌}
+use Rattle.std.proofs.Common.{◌≡◌, ℕ, List, [], Bool, false, Option, Some, None, length, refl, sym, ap, subst, ◌∙◌}
 use Rattle.std.specs.Prelude.{unwrap_or}
 use Rattle.file_base.specs.declared.head.FileHead.{FileHead}
 use Rattle.record_files.specs.Any.{map_of}
-use Rattle.unit_table.specs.Units.{OpenUnit}
+use Rattle.unit_table.specs.Units.{OpenUnit, has_changed}
 use Rattle.vms_model.specs.Keys.{Key}
 use Rattle.volume.specs.State.{VolumeState}
 use Rattle.rms_units.specs.declared.asked.KeyChange.{KeyChange}
-use Rattle.rms_units.specs.Calls.{change_late}
+use Rattle.image_room.specs.Room.{images_refused}
+use Rattle.rms_units.specs.Calls.{change_late, direct_late}
 use Rattle.record_operations.specs.Causes.{Cause, first_cause}
-use Rattle.rms_units.specs.Changing.{before_change, changes_refused, file_refused, found_refused, keys_asked, keys_refused}
+use Rattle.rms_units.specs.Changing.{after_change, before_change, changes_refused, file_refused, found_refused, keys_asked, keys_refused}
 use Rattle.rms_units.specs.Making.{need_of}
 use Rattle.rms_units.specs.State.{UnitsState}
 use Rattle.unit_journal.specs.Room.{entry_size, journal_refused}
@@ -30,7 +31,7 @@ module _ (u : OpenUnit) (file : ℕ) (h : FileHead) (how : KeyChange) (key : Key
   buckets = file_refused h (need_of h a how (length value))
 
   abbrev bytes : Option (List ℕ) → Option Cause
-  bytes before = journal_refused v.catalog.ru s.units.places u (entry_size key before)
+  bytes before = first_cause (journal_refused v.catalog.ru s.units.places u (entry_size key before)) (images_refused h file s.units.places (has_changed u file) (entry_size key (after_change how value)) (entry_size key before))
 
   -- the first that applies
   late : change_late u file h how key value s v a ≡ first_cause found (first_cause quotas (first_cause buckets (bytes (before_change how (unwrap_or (map_of h a key) [])))))
@@ -49,3 +50,30 @@ module _ (u : OpenUnit) (file : ℕ) (h : FileHead) (how : KeyChange) (key : Key
   pub late_bytes : (before : Option (List ℕ)) (last : Option Cause) → found ≡ None → quotas ≡ None → buckets ≡ None → before_change how (unwrap_or (map_of h a key) []) ≡ before → bytes before ≡ last → change_late u file h how key value s v a ≡ last
   late_bytes before last none few roomy had is =
       late ∙ second_is found _ last none (second_is quotas _ last few (second_is buckets _ last roomy (ap bytes had ∙ is)))
+
+  pub late_journal : (before : Option (List ℕ)) (cause : Cause) → found ≡ None → quotas ≡ None → buckets ≡ None → before_change how (unwrap_or (map_of h a key) []) ≡ before → journal_refused v.catalog.ru s.units.places u (entry_size key before) ≡ Some cause →
+      change_late u file h how key value s v a ≡ Some cause
+  late_journal before cause none few roomy had is = late_bytes before (Some cause) none few roomy had (first_is _ _ cause is)
+
+  pub late_images : (before : Option (List ℕ)) (last : Option Cause) → found ≡ None → quotas ≡ None → buckets ≡ None → before_change how (unwrap_or (map_of h a key) []) ≡ before → journal_refused v.catalog.ru s.units.places u (entry_size key before) ≡ None →
+      images_refused h file s.units.places (has_changed u file) (entry_size key (after_change how value)) (entry_size key before) ≡ last → change_late u file h how key value s v a ≡ last
+  late_images before last none few roomy had fits is = late_bytes before last none few roomy had (second_is _ _ last fits is)
+
+-- So of a change without a unit.
+module _ (file : ℕ) (h : FileHead) (how : KeyChange) (key : Key) (value : List ℕ) (s : UnitsState) (a : List (List ℕ)) where
+  abbrev found_alone : Option Cause
+  found_alone = found_refused h how key (map_of h a key) value
+
+  abbrev buckets_alone : Option Cause
+  buckets_alone = file_refused h (need_of h a how (length value))
+
+  pub alone_found : (cause : Cause) → found_alone ≡ Some cause → direct_late file h how key value s a ≡ Some cause
+  alone_found cause is = first_is found_alone _ cause is
+
+  pub alone_buckets : (cause : Cause) → found_alone ≡ None → buckets_alone ≡ Some cause → direct_late file h how key value s a ≡ Some cause
+  alone_buckets cause none is = second_is found_alone _ (Some cause) none (first_is buckets_alone _ cause is)
+
+  pub alone_images : (before : Option (List ℕ)) (last : Option Cause) → found_alone ≡ None → buckets_alone ≡ None → before_change how (unwrap_or (map_of h a key) []) ≡ before →
+      images_refused h file s.units.places false (entry_size key (after_change how value)) (entry_size key before) ≡ last → direct_late file h how key value s a ≡ last
+  alone_images before last none roomy had is =
+      second_is found_alone _ last none (second_is buckets_alone _ last roomy (ap (λ (b : Option (List ℕ)). images_refused h file s.units.places false (entry_size key (after_change how value)) (entry_size key b)) had ∙ is))

@@ -2,6 +2,7 @@ pub mod AbortLemmas
 pub mod ChangedLemmas
 pub mod CutLocks
 pub mod CutOrder
+pub mod CutRooms
 mod CutReads
 pub mod CutUnits
 pub mod Holding
@@ -14,5 +15,9 @@ pub mod ReadLemmas
 pub mod Refusing
 pub mod RestartLemmas
 pub mod RoomLemmas
+pub mod EndLemmas
 pub mod SettledLemmas
 pub mod VoteLemmas
+pub mod ImageLemmas
+pub mod ImageOrder
+pub mod ImageSound

@@ -4,7 +4,7 @@ use Rattle.careful_write.specs.declared.down.Down.{Down}
 use Rattle.vms_base.specs.Ids.{serial_of}
 use Rattle.record_operations.specs.declared.errors.RecErr.{RecErr}
 use Rattle.record_operations.specs.declared.errors.RecErr.TheVariants as err
-use Rattle.record_operations.specs.Causes.{Cause, BadParameter, BadOperation, BadRecordNumber, BadRecordSize, NotMarked, NeedsUnit, Locked, RecordExists, KeyExists, RecordNotFound, EndOfFile, KeyChanged, Changes, Locks, FileFull, JournalFull, IfRefused, IsRefusal, cause_of, down_in, first_cause}
+use Rattle.record_operations.specs.Causes.{Cause, BadParameter, BadOperation, BadRecordNumber, BadRecordSize, NotMarked, NeedsUnit, Locked, RecordExists, KeyExists, RecordNotFound, EndOfFile, KeyChanged, Changes, Locks, FileFull, JournalFull, AfterImagesFull, BeforeImagesFull, IfRefused, IsRefusal, cause_of, down_in, first_cause}
 
 -- a refusal for a cause that is told
 pub refused_by : (e : RecErr) (told : Option Cause) (P : Cause → Type 0) (Q : Down → Type 0) → cause_of e ≡ told → IsRefusal e → ((cause : Cause) → told ≡ Some cause → P cause) → IfRefused e P Q
@@ -24,6 +24,8 @@ refused_by err.Changes told P Q is some says = says Changes (sym is)
 refused_by err.Locks told P Q is some says = says Locks (sym is)
 refused_by (err.FileFull free need) told P Q is some says = says (FileFull free need) (sym is)
 refused_by (err.JournalFull free need) told P Q is some says = says (JournalFull free need) (sym is)
+refused_by (err.AfterImagesFull free need) told P Q is some says = says (AfterImagesFull free need) (sym is)
+refused_by (err.BeforeImagesFull free need) told P Q is some says = says (BeforeImagesFull free need) (sym is)
 refused_by (err.Down down) told P Q is some says = let no : ⊥ = cc in absurd no
 
 -- what is told of an answer says the less that follows
@@ -44,6 +46,8 @@ refused_so err.Changes P R Q S is f g = f Changes is
 refused_so err.Locks P R Q S is f g = f Locks is
 refused_so (err.FileFull free need) P R Q S is f g = f (FileFull free need) is
 refused_so (err.JournalFull free need) P R Q S is f g = f (JournalFull free need) is
+refused_so (err.AfterImagesFull free need) P R Q S is f g = f (AfterImagesFull free need) is
+refused_so (err.BeforeImagesFull free need) P R Q S is f g = f (BeforeImagesFull free need) is
 refused_so (err.Down down) P R Q S is f g = g down is
 
 -- an answer is a refusal, or tells that the disk went down
@@ -64,6 +68,8 @@ either_way err.Changes P Q R is f g = f Changes is
 either_way err.Locks P Q R is f g = f Locks is
 either_way (err.FileFull free need) P Q R is f g = f (FileFull free need) is
 either_way (err.JournalFull free need) P Q R is f g = f (JournalFull free need) is
+either_way (err.AfterImagesFull free need) P Q R is f g = f (AfterImagesFull free need) is
+either_way (err.BeforeImagesFull free need) P Q R is f g = f (BeforeImagesFull free need) is
 either_way (err.Down down) P Q R is f g = g down is
 
 -- the first of two causes

@@ -1,5 +1,5 @@
 -- What holds of units and a volume on any disk, where a unit votes and where one that voted yes is settled.
-use Rattle.std.proofs.Common.{◌≡◌, ℕ, ◌+◌, ◌-◌, ◌<◌, ◌≤◌, ◌==◌, Bool, true, false, List, [], ◌∷◌, Option, Some, None, length, slice_set, if◌then◌else◌, not, refl, sym, ap, subst, ◌∙◌, arith}
+use Rattle.std.proofs.Common.{◌≡◌, ℕ, ◌+◌, ◌-◌, ◌<◌, ◌≤◌, ◌^◌, ◌==◌, Bool, true, false, List, [], ◌∷◌, Option, Some, None, length, slice_set, if◌then◌else◌, not, refl, sym, ap, subst, ◌∙◌, arith}
 use Rattle.careful_write.specs.State.{IsIdle}
 use Rattle.change_set.specs.Files.{free_frames}
 use Rattle.commit_protocol.specs.Messages.{LogRecord, Name}
@@ -31,7 +31,10 @@ use Rattle.rms_units.specs.Voting.{MakesVoteOf, commit_of}
 use Rattle.rms_units.proofs.AbortLemmas.{entry_owed}
 use Rattle.rms_units.proofs.OrderLemmas.{owed_set}
 use Rattle.rms_units.proofs.PositionLemmas.{ascend_longer, ascending_gone, ascending_within, each_put, owed_gone}
-use Rattle.rms_units.proofs.SettledLemmas.{bytes_of, has_some, next_bound, next_later, order_settled, owed_some, sound_with, with_blocks, with_end, with_first}
+use Rattle.rms_units.proofs.SettledLemmas.{bytes_of, has_some, next_bound, next_later, order_settled_in, owed_some, sound_with, with_blocks, with_end, with_first}
+use Rattle.image_room.specs.Room.{AllSettlementsFit, ImagesAreLow}
+use Rattle.rms_units.proofs.ImageOrder.{fits_gone, fits_same_files}
+use Rattle.unit_aborts.proofs.ImageLemmas.{fit_on, low_less, low_on}
 use Rattle.volume_files.proofs.Places.{within_list}
 
 -- what sets a record of the log leaves what is kept of the volume
@@ -91,18 +94,14 @@ module _ (place : ℕ) (u : OpenUnit) (r : LogRecord) (e : Option Entry) (ss ts 
         omega (arith, a, b, set, less, now, first, ends, blocks);
     within = ascending_within w.catalog.ru.first w.catalog.ru.end t.units.places (ascends o);
     ascending = ascends o;
+    images = subst (λ (us : List (Option OpenUnit)). AllSettlementsFit us w.catalog.heads) (sym places)
+        (subst (λ (c : Catalog). AllSettlementsFit (slice_set s.units.places place (Some (prepared_unit u))) c.heads) (sym makes.catalog) (fits_same_files s.units.places v.catalog.heads place u (prepared_unit u) at below refl o.images));
   }
 
 -- A unit is settled, and what the log has of it is set in the same group.
 module _ (place : ℕ) (u : OpenUnit) (tid : Tid) (serial : Serial) (clock moment : ℕ) (ss ts : Slots) (s t : UnitsState) (v w : VolumeState) (at : unit_of place s ≡ Some u) (is : moment ≡ next_moment clock v.catalog.home) (spent : t ≡ without_place place u.serial s) where
-  inside : place < length s.units.places
-  inside = within_list s.units.places place u at
-
   gone : t.units.places ≡ slice_set s.units.places place None
   gone = ap (λ (x : UnitsState). x.units.places) spent
-
-  each : IsInOrder s v → AreAscending v.catalog.ru.first v.catalog.ru.end t.units.places
-  each o = subst (AreAscending v.catalog.ru.first v.catalog.ru.end) (sym gone) (ascending_gone v.catalog.ru.first v.catalog.ru.end s.units.places place inside o.ascending)
 
   later : v.catalog.home.greatest_moment.0 ≤ moment
   later = let a = next_later clock v.catalog.home in omega (arith, a, is)
@@ -114,14 +113,20 @@ module _ (place : ℕ) (u : OpenUnit) (tid : Tid) (serial : Serial) (clock momen
       → IsIdle w.store → Holds w → w.store.disk.size ≡ v.store.disk.size → w.store.pool ≡ v.store.pool → IsInOrder t w
   order_committed_logged rec o early before makes end idle holds size pool =
       let logged = makes.logged in
+      let settles = makes.makes in
       let entry : Option Entry = (commit_of u tid serial moment t).entry in
       let same : logged.catalog ≡ v.catalog = catalog_set (serial_of serial) rec ss ts v logged makes.log in
-      let longer : v.catalog.ru.end + bytes_of entry ≡ v.catalog.ru.end + (if is_some_change u.positions then 48 else 0) =
-      ap (λ (c : Catalog). c.ru.end + bytes_of entry) (sym same) ∙ sym (ap (λ (c : Catalog). c.ru.end) makes.makes.catalog ∙ with_end entry logged.catalog.ru) ∙ end in
+      let ru_end : settles.mid.catalog.ru.end ≡ v.catalog.ru.end = ap (λ (c : Catalog). c.ru.end) settles.entered.catalog ∙ ap (λ (c : Catalog). c.ru.end) same in
+      let ends : w.catalog.ru.end ≡ settles.mid.catalog.ru.end + bytes_of entry = ap (λ (c : Catalog). c.ru.end) settles.settles.catalog ∙ with_end entry settles.mid.catalog.ru in
       let owes = owed_some u.prepared u.positions in
-      let less : owed t.units.places + bytes_of entry ≤ owed s.units.places = let a = owed_gone s.units.places place u at in let b = ap owed gone in omega (arith, a, b, longer, owes) in
-      order_settled tid serial ending.Commit moment entry s t v logged w o (ap (λ (c : Catalog). c.home) same) (ap (λ (c : Catalog). c.ru) same) (ap (λ (c : Catalog). length c.heads) same ∙ o.heads)
-      (subst (IsSound v.catalog.home.node v.store.disk.size) (sym same) o.sound) later (bound early before) (each o) less makes.makes idle holds size pool
+      let most = at_most (is_some_change u.positions) in
+      order_settled_in place u tid serial ending.Commit moment entry s t v logged w o at gone (ap (λ (c : Catalog). c.home) same) (ap (λ (c : Catalog). c.ru) same) (ap (λ (c : Catalog). length c.heads) same ∙ o.heads)
+      (subst (IsSound v.catalog.home.node v.store.disk.size) (sym same) o.sound) (subst (λ (c : Catalog). ImagesAreLow 48 c.heads) (sym same) (low_less 48 (2 ^ 24) v.catalog.heads (omega arith) early.images))
+      (subst (λ (c : Catalog). AllSettlementsFit s.units.places c.heads) (sym same) o.images) later (bound early before) (omega (arith, ru_end, ends, end, most)) (omega (arith, ru_end, ends, end, owes)) settles idle holds size pool
+    where
+      at_most : (b : Bool) → (if b then 48 else 0) ≤ 48
+      at_most true = omega arith
+      at_most false = omega arith
 
   pub order_aborted_logged : (reason : Reason) → IsInOrder s v → IsEarly v → clock < 24000001000066 → AbortsLogged (abortion_of u tid serial reason moment t) ss ts v w → GrowsOnce moment v w
       → IsIdle w.store → Holds w → w.store.disk.size ≡ v.store.disk.size → w.store.pool ≡ v.store.pool → IsInOrder t w
@@ -132,13 +137,15 @@ module _ (place : ℕ) (u : OpenUnit) (tid : Tid) (serial : Serial) (clock momen
       let set : logged.catalog ≡ mid.catalog = catalog_set (serial_of serial) None ss ts mid logged aborts.makes.log in
       let home = ap (λ (c : Catalog). c.home) (set ∙ aborts.goes.catalog) in
       let ru = ap (λ (c : Catalog). c.ru) (set ∙ aborts.goes.catalog) in
-      let same : logged.catalog.ru.end ≡ v.catalog.ru.end = ap (λ (c : Catalog). c.ru.end) (set ∙ aborts.goes.catalog) in
-      let ends : w.catalog.ru.end ≡ logged.catalog.ru.end + bytes_of entry = ap (λ (c : Catalog). c.ru.end) aborts.makes.makes.catalog ∙ with_end entry logged.catalog.ru in
+      let settles = aborts.makes.makes in
+      let same : settles.mid.catalog.ru.end ≡ v.catalog.ru.end = ap (λ (c : Catalog). c.ru.end) settles.entered.catalog ∙ ap (λ (c : Catalog). c.ru.end) (set ∙ aborts.goes.catalog) in
+      let ends : w.catalog.ru.end ≡ settles.mid.catalog.ru.end + bytes_of entry = ap (λ (c : Catalog). c.ru.end) settles.settles.catalog ∙ with_end entry settles.mid.catalog.ru in
       let few : bytes_of entry ≤ 48 = let a = once.end in omega (arith, a, ends, same) in
       let owes = entry_owed u.prepared u.positions (settled_entry (tid_of tid) (serial_of serial) Abort moment) few in
-      let less : owed t.units.places + bytes_of entry ≤ owed s.units.places = let a = owed_gone s.units.places place u at in let b = ap owed gone in omega (arith, a, b, owes) in
-      order_settled tid serial (ending.Abort reason) moment entry s t v logged w o home ru (ap (λ (c : Catalog). length c.heads) set ∙ aborts.goes.long ∙ o.heads)
-      (subst (IsSound v.catalog.home.node v.store.disk.size) (sym set) (aborts.goes.sound v.catalog.home.node o.sound)) later (bound early before) (each o) less aborts.makes.makes idle holds size pool
+      order_settled_in place u tid serial (ending.Abort reason) moment entry s t v logged w o at gone home ru (ap (λ (c : Catalog). length c.heads) set ∙ aborts.goes.long ∙ o.heads)
+      (subst (IsSound v.catalog.home.node v.store.disk.size) (sym set) (aborts.goes.sound v.catalog.home.node o.sound))
+      (subst (λ (c : Catalog). ImagesAreLow 48 c.heads) (sym set) (low_on v mid aborts.goes.journals 48 (low_less 48 (2 ^ 24) v.catalog.heads (omega arith) early.images)))
+      (subst (λ (c : Catalog). AllSettlementsFit s.units.places c.heads) (sym set) (fit_on s.units.places v mid aborts.goes.journals o.images)) later (bound early before) few owes settles idle holds size pool
 
 -- A unit is no more, and nothing is written.
 pub order_spent : (place : ℕ) (u : OpenUnit) (s t : UnitsState) (v : VolumeState) → unit_of place s ≡ Some u → t ≡ without_place place u.serial s → IsInOrder s v → IsInOrder t v
@@ -154,6 +161,7 @@ order_spent place u s t v at spent o = record {
   room = let a = o.room in let less = owed_gone s.units.places place u at in let now = ap owed gone in omega (arith, a, less, now);
   within = ascending_within v.catalog.ru.first v.catalog.ru.end t.units.places each;
   ascending = each;
+  images = subst (λ (us : List (Option OpenUnit)). AllSettlementsFit us v.catalog.heads) (sym gone) (fits_gone s.units.places v.catalog.heads place (within_list s.units.places place u at) o.images);
 }
   where
     gone : t.units.places ≡ slice_set s.units.places place None

@@ -12,7 +12,7 @@ use Rattle.rms_units.specs.State.{UnitsState, without_place}
 
 -- a unit's branch is aborted for a reason at a moment, and the units of this state are left
 abbrev pub abortion_of : OpenUnit → Tid → Serial → Reason → (moment : ℕ) → UnitsState → Abortion
-abortion_of u tid serial reason moment t = record { positions = u.positions; tid = tid; serial = serial; reason = reason; moment = moment; left = t.units.places }
+abortion_of u tid serial reason moment t = record { positions = u.positions; files = u.files; tid = tid; serial = serial; reason = reason; moment = moment; left = t.units.places }
 
 -- A unit is aborted: it is no more, what it changed is set back, and its settlement is made at this moment.
 pub record AbortsUnit (place : ℕ) (u : OpenUnit) (told_tid : Tid) (told_serial : Serial) (reason : Reason) (clock told_moment : ℕ) (s : UnitsState) (v : VolumeState) (t : UnitsState) (w : VolumeState) : Type 0 where

@@ -27,16 +27,19 @@ use Rattle.record_operations.specs.Causes.{Cause, NotMarked, NeedsUnit, cause_of
 use Rattle.rms_units.specs.Changing.{after_change, before_change, file_refused, found_refused, changes_refused, keys_asked, keys_refused, locks_refuse}
 use Rattle.unit_journal.specs.Entries.{change_entry, settled_entry}
 use Rattle.rms_units.specs.Keys.{change_in, key_in, position_by}
+use Rattle.image_room.specs.Room.{images_refused}
+use Rattle.kept_files.specs.Own.{own_change}
 use Rattle.rms_units.specs.Making.{CommitsKey, EntersKey, need_of}
 use Rattle.record_operations.specs.Forms.{form_refused, read_form_refused}
 use Rattle.unit_journal.specs.Groups.{Breaks}
 use Rattle.unit_journal.specs.Leaving.{FellIn}
 use Rattle.unit_journal.specs.Room.{entry_size, journal_refused}
-use Rattle.unit_journal.specs.Settling.{MakesSettlement, entry_if, next_moment}
+use Rattle.unit_journal.specs.Settling.{entry_if, next_moment}
+use Rattle.file_settlements.specs.Settling.{SettlesFiles}
 use Rattle.rms_units.specs.Reading.{Finds, FindsNone, read_keys}
 use Rattle.unit_cuts.specs.Records.{OfRecords}
 use Rattle.rms_units.specs.State.{UnitsState, unit_of, without_place}
-use Rattle.rms_units.specs.Truncating.{ChangesCut, CutBroke, CutRefused, DirectCutBroke, DirectsCut, direct_cut_refused}
+use Rattle.rms_units.specs.Truncating.{ChangesCut, CutBroke, CutRefused, DirectCutBroke, DirectCutRefused, DirectsCut}
 
 -- Reads.
 
@@ -102,7 +105,8 @@ abbrev pub change_late : OpenUnit → (file : ℕ) → FileHead → KeyChange �
 change_late u file h how key value s v content =
     let found = map_of h content key in
     first_cause (found_refused h how key found value) (first_cause (changes_refused 1 u) (first_cause (keys_refused file (keys_asked h how key) s.locks)
-    (first_cause (file_refused h (need_of h content how (length value))) (journal_refused v.catalog.ru s.units.places u (entry_size key (before_change how (unwrap_or found [])))))))
+    (first_cause (file_refused h (need_of h content how (length value))) (first_cause (journal_refused v.catalog.ru s.units.places u (entry_size key (before_change how (unwrap_or found []))))
+    (images_refused h file s.units.places (has_changed u file) (entry_size key (after_change how value)) (entry_size key (before_change how (unwrap_or found []))))))))
 
 -- A unit's change of one key is refused: another branch holds it, or the end of the file that it asks for; or by what stands, a quota or for want of space.
 abbrev pub KeyRefused : OpenUnit → (file : ℕ) → FileHead → KeyChange → Key → (value : List ℕ) → Cause → UnitsState → VolumeState → Type 0
@@ -112,7 +116,7 @@ KeyRefused u file h how key value cause s v =
 
 -- A volume has what a unit's change makes of it, with an entry in the journal that tells that the key had what was found.
 abbrev pub MakesEntry : OpenUnit → (file : ℕ) → FileHead → KeyChange → Key → (value found : List ℕ) → List Lock → VolumeState → VolumeState → Type 0
-MakesEntry u file h how key value found locks v made = EntersKey file h (λ k. is_some (holder locks file k)) key (after_change how value) (change_entry u.tid u.serial file key (before_change how found)) v made
+MakesEntry u file h how key value found locks v made = EntersKey file h (λ k. is_some (holder locks file k)) key (after_change how value) (change_entry u.tid u.serial file key (after_change how value)) (change_entry u.tid u.serial file key (before_change how found)) v made
 
 -- so with what the key had, where nothing that stands, no quota and no want of space refuses it
 pub record MakesKey (u : OpenUnit) (file : ℕ) (h : FileHead) (how : KeyChange) (key : Key) (value : List ℕ) (s : UnitsState) (v made : VolumeState) : Type 0 where
@@ -172,19 +176,24 @@ abbrev pub direct_early : FileHead → RecordOp → (value : List ℕ) → Optio
 direct_early h o value = first_cause (form_refused h o (length value)) (cause_if h.marks.ru NeedsUnit)
 
 -- what refuses one of one key then, where this is the content: what the key has, or want of space
-abbrev pub direct_late : FileHead → KeyChange → Key → (value : List ℕ) → List (List ℕ) → Option Cause
-direct_late h how key value content = first_cause (found_refused h how key (map_of h content key) value) (file_refused h (need_of h content how (length value)))
+abbrev pub direct_late : (file : ℕ) → FileHead → KeyChange → Key → (value : List ℕ) → UnitsState → List (List ℕ) → Option Cause
+direct_late file h how key value s content =
+    let found = map_of h content key in
+    first_cause (found_refused h how key found value) (first_cause (file_refused h (need_of h content how (length value)))
+    (images_refused h file s.units.places false (entry_size key (after_change how value)) (entry_size key (before_change how (unwrap_or found [])))))
 
 -- It is refused: a branch holds the key, or the end of the file that it asks for; or by what stands, or for want of space.
-abbrev pub DirectKeyRefused : (file : ℕ) → FileHead → KeyChange → Key → (value : List ℕ) → Cause → List Lock → VolumeState → Type 0
-DirectKeyRefused file h how key value cause locks v =
-    (locks_refuse None file (keys_asked h how key) locks ≡ Some cause)
-    ⊎ ((locks_refuse None file (keys_asked h how key) locks ≡ None) × ((a : List (List ℕ)) → v.store.current ≡ Some a → IsFile h → IsLaidOut h a → direct_late h how key value a ≡ Some cause))
+abbrev pub DirectKeyRefused : (file : ℕ) → FileHead → KeyChange → Key → (value : List ℕ) → Cause → UnitsState → VolumeState → Type 0
+DirectKeyRefused file h how key value cause s v =
+    (locks_refuse None file (keys_asked h how key) s.locks ≡ Some cause)
+    ⊎ ((locks_refuse None file (keys_asked h how key) s.locks ≡ None) × ((a : List (List ℕ)) → v.store.current ≡ Some a → IsFile h → IsLaidOut h a → direct_late file h how key value s a ≡ Some cause))
 
--- a volume has what it makes of another at this clock, where nothing that stands and no want of space refuses it
+-- a volume has what it makes of another at this clock, where nothing that stands and no want of space refuses it: the entries tell what was found at the key
 pub record CommitsChange (tid : Tid) (clock : ℕ) (file : ℕ) (h : FileHead) (how : KeyChange) (key : Key) (value : List ℕ) (s : UnitsState) (v made : VolumeState) : Type 0 where
-  pub late : (a : List (List ℕ)) → v.store.current ≡ Some a → IsFile h → IsLaidOut h a → direct_late h how key value a ≡ None
-  pub commits : CommitsKey file h (λ k. is_some (holder s.locks file k)) key (after_change how value) tid (next_moment clock v.catalog.home) s.units.places v made
+  pub late : (a : List (List ℕ)) → v.store.current ≡ Some a → IsFile h → IsLaidOut h a → direct_late file h how key value s a ≡ None
+  pub found : List ℕ
+  pub had : OfRecords h v (λ m. before_change how (unwrap_or (m key) []) ≡ before_change how found)
+  pub commits : CommitsKey file h (λ k. is_some (holder s.locks file k)) key (after_change how value) (own_change tid file key (after_change how value)) (own_change tid file key (before_change how found)) tid (next_moment clock v.catalog.home) s.units.places v made
 
 -- One key is changed: no lock refuses it, and it is made.
 pub record DirectsKey (tid : Tid) (clock : ℕ) (file : ℕ) (h : FileHead) (how : KeyChange) (key : Key) (value : List ℕ) (s : UnitsState) (v w : VolumeState) : Type 0 where
@@ -198,7 +207,7 @@ pub record DirectKeyBroke (tid : Tid) (clock : ℕ) (file : ℕ) (h : FileHead) 
 
 -- It was refused, and nothing changed; or the disk went down.
 abbrev pub DirectsKeyErr : (tid : Tid) → (clock : ℕ) → (file : ℕ) → FileHead → KeyChange → Key → (value : List ℕ) → RecErr → UnitsState → VolumeState → VolumeState → Type 0
-DirectsKeyErr tid clock file h how key value e s v w = IfRefused e (λ cause. DirectKeyRefused file h how key value cause s.locks v × SameVolume v w) (λ down. DirectKeyBroke tid clock file h how key value s v w)
+DirectsKeyErr tid clock file h how key value e s v w = IfRefused e (λ cause. DirectKeyRefused file h how key value cause s v × SameVolume v w) (λ down. DirectKeyBroke tid clock file h how key value s v w)
 
 -- A change without a unit is made, and its position is told as that of a unit's change.
 pub record DirectsOk (tid : Tid) (clock : ℕ) (h : FileHead) (o : RecordOp) (bytes : List ℕ) (told : ℕ) (s : UnitsState) (v w : VolumeState) : Type 0 where
@@ -210,8 +219,8 @@ pub record DirectsOk (tid : Tid) (clock : ℕ) (h : FileHead) (o : RecordOp) (by
 -- what refuses it behind its form and the file's mark
 pub record IsRefusedAlone (h : FileHead) (o : RecordOp) (value : List ℕ) (cause : Cause) (s : UnitsState) (v : VolumeState) : Type 0 where
   pub allowed : direct_early h o value ≡ None
-  pub key : is_of_key o ≡ true → DirectKeyRefused (file_in o) h (change_in o) (key_in h o value) value cause s.locks v
-  pub cut : (file from : ℕ) → o ≡ op.Truncate file from → direct_cut_refused file h from s.locks ≡ Some cause
+  pub key : is_of_key o ≡ true → DirectKeyRefused (file_in o) h (change_in o) (key_in h o value) value cause s v
+  pub cut : (file from : ℕ) → o ≡ op.Truncate file from → DirectCutRefused file h from cause s v
 
 abbrev pub DirectRefused : FileHead → RecordOp → (value : List ℕ) → Cause → UnitsState → VolumeState → Type 0
 DirectRefused h o value cause s v = (direct_early h o value ≡ Some cause) ⊎ IsRefusedAlone h o value cause s v
@@ -238,7 +247,7 @@ pub record Commits (place : ℕ) (u : OpenUnit) (told_tid : Tid) (told_serial : 
   pub tid : tid_of told_tid ≡ u.tid
   pub serial : serial_of told_serial ≡ u.serial
   pub moment : told_moment ≡ next_moment clock v.catalog.home
-  pub makes : MakesSettlement told_tid told_serial ending.Commit told_moment (entry_if (is_some_change u.positions) (settled_entry u.tid u.serial Commit told_moment)) t.units.places v w
+  pub makes : SettlesFiles u.files told_tid told_serial ending.Commit told_moment (entry_if (is_some_change u.positions) (settled_entry u.tid u.serial Commit told_moment)) t.units.places v w
 
 -- The disk went down in it, and the unit is no more: the settlement was perhaps under way.
 pub record CommitsNot (place : ℕ) (u : OpenUnit) (clock : ℕ) (s : UnitsState) (v : VolumeState) (t : UnitsState) (w : VolumeState) : Type 0 where
@@ -247,4 +256,4 @@ pub record CommitsNot (place : ℕ) (u : OpenUnit) (clock : ℕ) (s : UnitsState
   pub serial : Serial
   pub same_tid : tid_of tid ≡ u.tid
   pub same_serial : serial_of serial ≡ u.serial
-  pub breaks : Breaks (MakesSettlement tid serial ending.Commit (next_moment clock v.catalog.home) (entry_if (is_some_change u.positions) (settled_entry u.tid u.serial Commit (next_moment clock v.catalog.home))) t.units.places v) v w
+  pub breaks : Breaks (SettlesFiles u.files tid serial ending.Commit (next_moment clock v.catalog.home) (entry_if (is_some_change u.positions) (settled_entry u.tid u.serial Commit (next_moment clock v.catalog.home))) t.units.places v) v w

@@ -7,6 +7,7 @@ use Rattle.journal_model.specs.Ring.{ring_size}
 use Rattle.record_locks.specs.Locks.{Lock, released}
 use Rattle.unit_table.specs.Units as table
 use Rattle.unit_table.specs.Units.{OpenUnit, Units, unit_at, owed, begun, no_units}
+use Rattle.image_room.specs.Room.{AllSettlementsFit, ImagesAreLow, images_end}
 use Rattle.vms_model.specs.Ids.{Id}
 use Rattle.records_model.specs.History.{same_id}
 use Rattle.volume.specs.Catalogs.{IsSound}
@@ -50,7 +51,7 @@ abbrev pub AreAscending : (first end : ℕ) → List (Option OpenUnit) → Type 
 AreAscending first end places = (p : ℕ) (u : OpenUnit) → unit_at places p ≡ Some u → Ascend first end u.positions
 
 -- What holds on any disk: the next group may be applied, nothing is staged, frames are free, what is kept of the volume is in order, and the journal has room
--- for what units are owed.
+-- for what units are owed, as the journals of images have for the settlements of the units that changed their files.
 pub record IsInOrder (s : UnitsState) (v : VolumeState) : Type 0 where
   pub idle : IsIdle v.store
   pub frames : 32 ≤ free_frames v.store.pool
@@ -63,8 +64,14 @@ pub record IsInOrder (s : UnitsState) (v : VolumeState) : Type 0 where
   pub room : v.catalog.ru.end - v.catalog.ru.first + owed s.units.places ≤ ring_size v.catalog.ru
   pub within : AreWithin v.catalog.ru.first v.catalog.ru.end s.units.places
   pub ascending : AreAscending v.catalog.ru.first v.catalog.ru.end s.units.places
+  pub images : AllSettlementsFit s.units.places v.catalog.heads
 
--- Numbers of the volume that only grow are far from their ends: the journal's end, and the greatest moment.
+-- Numbers of the volume that only grow are far from their ends: the journal's end, those of the journals of images, and the greatest moment.
 pub record IsEarly (v : VolumeState) : Type 0 where
   pub low : v.catalog.ru.end + 2 ^ 22 ≤ 2 ^ 62
   pub moment : v.catalog.home.greatest_moment.0 < 24000001000066
+  pub images : ImagesAreLow (2 ^ 24) v.catalog.heads
+
+-- the ends of the journals of images have grown by no more than a truncation may enter
+abbrev pub ImagesGrow : (v w : VolumeState) → Type 0
+ImagesGrow v w = images_end w.catalog.heads ≤ images_end v.catalog.heads + 2 ^ 24

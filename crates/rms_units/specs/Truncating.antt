@@ -1,21 +1,21 @@
 -- Truncations of sequential files: what refuses them, and what they make of a volume.
-use Rattle.std.specs.Prelude.{◌≡◌, ◌≤◌, ◌<◌, ◌⊎◌, ℕ, ◌+◌, ◌-◌, ◌==◌, ◌&&◌, ◌++◌, List, [], ◌∷◌, Option, Some, None, length, nat_lt, if◌then◌else◌}
+use Rattle.std.specs.Prelude.{◌≡◌, ◌≤◌, ◌<◌, ◌⊎◌, ℕ, ◌+◌, ◌-◌, ◌==◌, ◌&&◌, ◌++◌, List, [], ◌∷◌, false, Option, Some, None, length, nat_lt, if◌then◌else◌}
+use Rattle.change_set.specs.Maps.{Map, empty_map}
 use Rattle.file_base.specs.declared.head.FileHead.{FileHead}
-use Rattle.journal_model.specs.Entries.{Entry}
+use Rattle.image_room.specs.Room.{images_refused}
 use Rattle.record_locks.specs.Locks.{Lock, with_locks}
 use Rattle.record_operations.specs.Causes.{Cause, Changes, IfRefused, RecordNotFound, cause_if, first_cause}
 use Rattle.record_operations.specs.declared.errors.RecErr.{RecErr}
-use Rattle.unit_journal.specs.Groups.{Breaks}
 use Rattle.unit_journal.specs.Room.{journal_refused}
 use Rattle.unit_journal.specs.Settling.{next_moment}
-use Rattle.unit_table.specs.Units.{OpenUnit, with_position, with_unit}
+use Rattle.unit_table.specs.Units.{OpenUnit, has_changed, with_position, with_unit}
 use Rattle.vms_base.specs.declared.ids.Tid.{Tid}
 use Rattle.vms_model.specs.Keys.{Key, End}
 use Rattle.volume.specs.State.{SameVolume, VolumeState}
 use Rattle.rms_units.specs.Changing.{keys_refused, locks_refuse}
 use Rattle.rms_units.specs.State.{UnitsState}
 use Rattle.unit_cuts.specs.Records.{OfRecords}
-use Rattle.unit_cuts.specs.Truncating.{removed_from, keys_cut, cut_entries, entry_sizes, begins_at, BreaksCut, EntersCut, CommitsCut}
+use Rattle.unit_cuts.specs.Truncating.{BreaksCut, CommitsCut, CutEntries, MakesCut, begins_at, entry_sizes, keys_cut, removed_from}
 
 -- Which records go.
 
@@ -34,11 +34,16 @@ abbrev pub cut_early : OpenUnit → (file : ℕ) → FileHead → (from : ℕ) �
 cut_early u file h from locks =
     first_cause (locks_refuse (Some u.serial) file (cut_asked h from) locks) (first_cause (number_refused (length u.positions) (removed_from h.count from)) (keys_refused file (cut_asked h from) locks))
 
--- A unit's truncation is refused: at once, or since the journal has too little room for its entries.
+-- what refuses it then, where this is what keys have: the journal has too little room for its entries, or a journal of images of the file
+abbrev pub cut_late : OpenUnit → (file : ℕ) → FileHead → (from : ℕ) → UnitsState → VolumeState → Map → Option Cause
+cut_late u file h from s v m =
+    first_cause (journal_refused v.catalog.ru s.units.places u (entry_sizes m (keys_cut h from))) (images_refused h file s.units.places (has_changed u file) (entry_sizes empty_map (keys_cut h from)) (entry_sizes m (keys_cut h from)))
+
+-- A unit's truncation is refused: at once, or since the journals have too little room for its entries.
 abbrev pub CutRefused : OpenUnit → (file : ℕ) → FileHead → (from : ℕ) → Cause → UnitsState → VolumeState → Type 0
 CutRefused u file h from cause s v =
     (cut_early u file h from s.locks ≡ Some cause)
-    ⊎ ((cut_early u file h from s.locks ≡ None) × OfRecords h v (λ m. journal_refused v.catalog.ru s.units.places u (entry_sizes m (keys_cut h from)) ≡ Some cause))
+    ⊎ ((cut_early u file h from s.locks ≡ None) × OfRecords h v (λ m. cut_late u file h from s v m ≡ Some cause))
 
 -- Entries behind the journal's end.
 
@@ -49,32 +54,27 @@ with_positions (p ∷ ps) file u = with_positions ps file (with_position p file 
 
 -- What a truncation makes.
 
--- A volume has what a unit's truncation makes of it, with an entry in the journal for each record that goes, the last record's first.
-pub record MakesCut (u : OpenUnit) (file : ℕ) (h : FileHead) (from : ℕ) (es : List Entry) (v made : VolumeState) : Type 0 where
-  pub tells : OfRecords h v (λ m. es ≡ cut_entries u.tid u.serial file m (keys_cut h from))
-  pub enters : EntersCut file h from es v made
-
 -- A unit has truncated a file: nothing refuses it, and it is made; the unit knows where the entries stand, holds the keys that were asked for, and knows of each
 -- file number whether it changed the file.
 pub record ChangesCut (place : ℕ) (u : OpenUnit) (file : ℕ) (h : FileHead) (from : ℕ) (s : UnitsState) (v : VolumeState) (t : UnitsState) (w : VolumeState) : Type 0 where
   pub early : cut_early u file h from s.locks ≡ None
-  pub late : OfRecords h v (λ m. journal_refused v.catalog.ru s.units.places u (entry_sizes m (keys_cut h from)) ≡ None)
-  pub entries : List Entry
-  pub made : MakesCut u file h from entries v w
-  pub units : t.units ≡ with_unit place (with_positions (begins_at v.catalog.ru.end entries) file u) s.units
+  pub late : OfRecords h v (λ m. cut_late u file h from s v m ≡ None)
+  pub entries : CutEntries
+  pub made : MakesCut u.tid u.serial file h from entries v w
+  pub units : t.units ≡ with_unit place (with_positions (begins_at v.catalog.ru.end entries.had) file u) s.units
   pub files : length u.files ≡ 64
   pub locks : t.locks ≡ with_locks u.serial file (cut_asked h from) s.locks
 
--- some truncation of the file makes this, for whose entries the journal has room
+-- some truncation of the file makes this, for whose entries the journals have room
 pub record IsCut (u : OpenUnit) (file : ℕ) (h : FileHead) (from : ℕ) (s : UnitsState) (v made : VolumeState) : Type 0 where
-  pub late : OfRecords h v (λ m. journal_refused v.catalog.ru s.units.places u (entry_sizes m (keys_cut h from)) ≡ None)
-  pub entries : List Entry
-  pub makes : MakesCut u file h from entries v made
+  pub late : OfRecords h v (λ m. cut_late u file h from s v m ≡ None)
+  pub entries : CutEntries
+  pub makes : MakesCut u.tid u.serial file h from entries v made
 
 -- the disk went down in a truncation that nothing had refused at once, and it was perhaps under way
 pub record CutBroke (u : OpenUnit) (file : ℕ) (h : FileHead) (from : ℕ) (s : UnitsState) (v w : VolumeState) : Type 0 where
   pub early : cut_early u file h from s.locks ≡ None
-  pub breaks : BreaksCut (IsCut u file h from s v) v w
+  pub breaks : BreaksCut h (IsCut u file h from s v) v w
 
 -- It was refused, and nothing changed; or the disk went down.
 abbrev pub ChangesCutErr : OpenUnit → (file : ℕ) → FileHead → (from : ℕ) → RecErr → UnitsState → VolumeState → UnitsState → VolumeState → Type 0
@@ -83,19 +83,35 @@ ChangesCutErr u file h from e s v t w = (t ≡ s) × IfRefused e (λ cause. CutR
 -- Truncations for no unit.
 
 -- a branch holds a key that it asks for, no record is there, or too many go
-abbrev pub direct_cut_refused : (file : ℕ) → FileHead → (from : ℕ) → List Lock → Option Cause
-direct_cut_refused file h from locks = first_cause (locks_refuse None file (cut_asked h from) locks) (number_refused 0 (removed_from h.count from))
+abbrev pub direct_cut_early : (file : ℕ) → FileHead → (from : ℕ) → List Lock → Option Cause
+direct_cut_early file h from locks = first_cause (locks_refuse None file (cut_asked h from) locks) (number_refused 0 (removed_from h.count from))
+
+-- or a journal of images of the file has too little room for its entries, where this is what keys have
+abbrev pub direct_cut_late : (file : ℕ) → FileHead → (from : ℕ) → UnitsState → Map → Option Cause
+direct_cut_late file h from s m = images_refused h file s.units.places false (entry_sizes empty_map (keys_cut h from)) (entry_sizes m (keys_cut h from))
+
+-- It is refused.
+abbrev pub DirectCutRefused : (file : ℕ) → FileHead → (from : ℕ) → Cause → UnitsState → VolumeState → Type 0
+DirectCutRefused file h from cause s v =
+    (direct_cut_early file h from s.locks ≡ Some cause)
+    ⊎ ((direct_cut_early file h from s.locks ≡ None) × OfRecords h v (λ m. direct_cut_late file h from s m ≡ Some cause))
+
+-- some truncation of the file at this clock makes this, for whose entries the journals of images have room
+pub record IsDirectCut (tid : Tid) (clock : ℕ) (file : ℕ) (h : FileHead) (from : ℕ) (s : UnitsState) (v made : VolumeState) : Type 0 where
+  pub late : OfRecords h v (λ m. direct_cut_late file h from s m ≡ None)
+  pub entries : CutEntries
+  pub makes : CommitsCut file h from entries tid (next_moment clock v.catalog.home) s.units.places v made
 
 -- A file is truncated: nothing refuses it, and it is made.
 pub record DirectsCut (tid : Tid) (clock : ℕ) (file : ℕ) (h : FileHead) (from : ℕ) (s : UnitsState) (v w : VolumeState) : Type 0 where
-  pub early : direct_cut_refused file h from s.locks ≡ None
-  pub made : CommitsCut file h from tid (next_moment clock v.catalog.home) s.units.places v w
+  pub early : direct_cut_early file h from s.locks ≡ None
+  pub made : IsDirectCut tid clock file h from s v w
 
--- the disk went down in one that nothing refuses, and it was perhaps under way
+-- the disk went down in one that nothing had refused at once, and it was perhaps under way
 pub record DirectCutBroke (tid : Tid) (clock : ℕ) (file : ℕ) (h : FileHead) (from : ℕ) (s : UnitsState) (v w : VolumeState) : Type 0 where
-  pub early : direct_cut_refused file h from s.locks ≡ None
-  pub breaks : Breaks (CommitsCut file h from tid (next_moment clock v.catalog.home) s.units.places v) v w
+  pub early : direct_cut_early file h from s.locks ≡ None
+  pub breaks : BreaksCut h (IsDirectCut tid clock file h from s v) v w
 
 -- It was refused, and nothing changed; or the disk went down.
 abbrev pub DirectsCutErr : Tid → (clock : ℕ) → (file : ℕ) → FileHead → (from : ℕ) → RecErr → UnitsState → VolumeState → VolumeState → Type 0
-DirectsCutErr tid clock file h from e s v w = IfRefused e (λ cause. (direct_cut_refused file h from s.locks ≡ Some cause) × SameVolume v w) (λ down. DirectCutBroke tid clock file h from s v w)
+DirectsCutErr tid clock file h from e s v w = IfRefused e (λ cause. DirectCutRefused file h from cause s v × SameVolume v w) (λ down. DirectCutBroke tid clock file h from s v w)

@@ -69,6 +69,7 @@ pub record VotesNot (place : ℕ) (u : OpenUnit) (rms : List Name) (s : UnitsSta
 -- the settlement of a unit's branch that is committed
 abbrev pub commit_of : OpenUnit → Tid → Serial → (moment : ℕ) → UnitsState → Settlement
 commit_of u tid serial moment t = record {
+  files = u.files;
   tid = tid;
   serial = serial;
   ending = ending.Commit;

@@ -1,5 +1,5 @@
 // A change of one key of a file.
-ghost use Rattle.std.specs.Prelude.{◌≡◌};
+ghost use Rattle.std.specs.Prelude.{◌≡◌, ◌≤◌, ℕ, List, [], length, unwrap_or};
 ghost use Rattle.std.specs.Option.{option_copied};
 ghost use Rattle.rms_units.specs.Changing.{after_change, asks_by, before_change};
 
@@ -44,6 +44,17 @@ impl KeyChange {
         match self {
             KeyChange::Put | KeyChange::Replace => Some(value),
             KeyChange::Remove => None,
+        }
+    }
+
+    /// How many bytes the record has that the key has after, where the one that is written has so many.
+    pub(crate) fn after_len(self, len: usize) -> usize
+        ensures value { (value : List ℕ) → length value ≡ len → result ≡ length (unwrap_or (after_change self value) []) }
+        ensures few { result ≤ len }
+    {
+        match self {
+            KeyChange::Put | KeyChange::Replace => len,
+            KeyChange::Remove => 0,
         }
     }
 

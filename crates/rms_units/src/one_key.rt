@@ -12,6 +12,8 @@ ghost use Rattle.vms_base.specs.Keys.{key_of};
 ghost use Rattle.vms_model.specs.Keys.{End};
 ghost use Rattle.volume.specs.Catalogs.{head_at};
 ghost use Rattle.volume.specs.State.{SameVolume};
+ghost use Rattle.image_appends.specs.declared.side.Side.TheVariants as sides;
+ghost use Rattle.image_room.specs.Room.{SettlementsFit, images_refused, kept_span};
 ghost use Rattle.rms_units.specs.Calls.{KeyRefused, MakesEntry, change_late};
 ghost use Rattle.record_operations.specs.Causes.{IfRefused, IsRefusal, cause_of, first_cause};
 ghost use Rattle.rms_units.specs.Changing.{IsFormed, after_change, before_change, changes_refused, keys_asked, keys_refused, locks_refuse};
@@ -29,6 +31,7 @@ use crate::making::set_key;
 use block_disk::Disk;
 use careful_write::Down;
 use change_set::Place;
+use image_room::images_refusal;
 use journal_format::EntryBuf;
 use record_locks::Locks;
 use record_operations::RecErr;
@@ -74,12 +77,15 @@ pub(crate) fn refuse_key<D: Disk>(
     requires formed { IsFormed asked.now value.now }
     requires ascends { volume.old.catalog.ru.first ≤ volume.old.catalog.ru.end }
     requires room { volume.old.catalog.ru.end - volume.old.catalog.ru.first + owed table.now.places ≤ ring_size volume.old.catalog.ru }
+    requires images { SettlementsFit sides.After asked.now.head asked.now.file table.now.places × SettlementsFit sides.Before asked.now.head asked.now.file table.now.places }
+    requires ordered { IfSome (kept_span sides.After asked.now.head) (λ s. s.first ≤ s.end) × IfSome (kept_span sides.Before asked.now.head) (λ s. s.first ≤ s.end) }
     ensures early { OnOk result (locks_refuse (Some (serial_of serial)) asked.now.file (keys_asked asked.now.head asked.now.change (key_of asked.now.key)) locks.now.locks ≡ None) }
     ensures quotas { OnOk result (IfSome (unit_at table.now.places place) (λ u. first_cause (changes_refused 1 u) (keys_refused asked.now.file (keys_asked asked.now.head asked.now.change (key_of asked.now.key)) locks.now.locks) ≡ None)) }
     ensures had { OnOk result (OfRecords asked.now.head volume.old (λ m. before_change asked.now.change (unwrap_or (m (key_of asked.now.key)) []) ≡ before_change asked.now.change found.new)) }
     ensures late { OnOk result ((u : OpenUnit) (a : List (List ℕ)) → unit_at table.now.places place ≡ Some u → volume.old.store.current ≡ Some a → IsFile asked.now.head → IsLaidOut asked.now.head a →
         change_late u asked.now.file asked.now.head asked.now.change (key_of asked.now.key) value.now (record { units = table.now; locks = locks.now.locks }) volume.old a ≡ None) }
     ensures fits { OnOk result (IfSome (unit_at table.now.places place) (λ u. journal_refused volume.old.catalog.ru table.now.places u (entry_said (key_of asked.now.key) (before_change asked.now.change found.new)) ≡ None)) }
+    ensures rooms { OnOk result (IfSome (unit_at table.now.places place) (λ u. images_refused asked.now.head asked.now.file table.now.places (has_changed u asked.now.file) (entry_said (key_of asked.now.key) (after_change asked.now.change value.now)) (entry_said (key_of asked.now.key) (before_change asked.now.change found.new)) ≡ None)) }
     ensures begins { IfOk result (MayBegin asked.now.head volume.old (key_of asked.now.key)) }
     ensures same { OnOk result (SameVolume volume.old volume.new) }
     ensures err { IfErr result (λ e. (u : OpenUnit) → unit_at table.now.places place ≡ Some u → IfRefused e
@@ -104,9 +110,30 @@ pub(crate) fn refuse_key<D: Disk>(
     }
     let size = entry_size(&asked.key, asked.change.before(found));
     match journal_refusal(volume, table, place, size) {
+        Some(refusal) => return Err(refusal),
+        None => {}
+    }
+    let has_changed = table.has_changed(place, asked.file);
+    match images_refusal(
+        &asked.head,
+        table,
+        asked.file,
+        has_changed,
+        after_size(asked, value.len()),
+        size,
+    ) {
         Some(refusal) => Err(refusal),
         None => Ok(from),
     }
+}
+
+/// How many bytes the entry takes that tells what the key has after a change, where a record of so many bytes is written.
+pub(crate) fn after_size(asked: &Asked, len: usize) -> u64
+    requires { len ≤ 8160 }
+    ensures value { (value : List ℕ) → length value ≡ len → result ≡ entry_said (key_of asked.now.key) (after_change asked.now.change value) }
+    ensures few { result ≤ 16432 }
+{
+    entry_size(&asked.key, None) + asked.change.after_len(len) as u64
 }
 
 // Lets a unit hold the keys of a change, the last of them first.
@@ -144,6 +171,7 @@ pub(crate) fn make_key<D: Disk>(
     requires unit { IfSome (unit_at table.old.places place) (λ u. (tid_of branch.now.tid ≡ u.tid) × (serial_of branch.now.serial ≡ u.serial)) }
     requires changes { IfSome (unit_at table.old.places place) (λ u. length u.positions < 1024) }
     requires fits { IfSome (unit_at table.old.places place) (λ u. journal_refused volume.old.catalog.ru table.old.places u (entry_said (key_of asked.now.key) (before_change asked.now.change found.now)) ≡ None) }
+    requires rooms { IfSome (unit_at table.old.places place) (λ u. images_refused asked.now.head asked.now.file table.old.places (has_changed u asked.now.file) (entry_said (key_of asked.now.key) (after_change asked.now.change value.now)) (entry_said (key_of asked.now.key) (before_change asked.now.change found.now)) ≡ None) }
     requires most { locks.old.most ≡ 4096 }
     requires free { locks_refuse (Some (serial_of branch.now.serial)) asked.now.file (keys_asked asked.now.head asked.now.change (key_of asked.now.key)) locks.old.locks ≡ None }
     requires few { keys_refused asked.now.file (keys_asked asked.now.head asked.now.change (key_of asked.now.key)) locks.old.locks ≡ None }
@@ -167,8 +195,7 @@ pub(crate) fn make_key<D: Disk>(
     match set_key(
         volume,
         asked,
-        branch.tid,
-        branch.serial,
+        branch,
         asked.change.before(found),
         asked.change.after(value),
         &held,

@@ -1,10 +1,9 @@
 // Truncations of sequential files: which records go, and what refuses that.
-ghost use Rattle.std.specs.Prelude.{◌≡◌, ◌≤◌, ◌<◌, ◌+◌, ◌-◌, [], List, None, Some, IfOk, IfErr, IfSome, IsSome, OnOk, OnErr, length, option_map};
+ghost use Rattle.std.specs.Prelude.{◌≡◌, ◌≤◌, ◌<◌, ◌+◌, ◌-◌, ◌*◌, [], List, false, None, Some, IfOk, IfErr, IfSome, IsSome, OnOk, OnErr, length, option_map};
 ghost use Rattle.std.specs.Option.{option_and_then};
 ghost use Rattle.change_set.specs.Files.{IsPlaced, free_frames};
 ghost use Rattle.file_base.specs.declared.head.Organization.TheVariants as organization;
 ghost use Rattle.careful_write.specs.Down.{Counts};
-ghost use Rattle.journal_model.specs.Entries.{Entry};
 ghost use Rattle.journal_model.specs.Ring.{ring_size};
 ghost use Rattle.record_locks.specs.Locks.{with_locks};
 ghost use Rattle.volume.specs.Catalogs.{head_at};
@@ -12,25 +11,28 @@ ghost use Rattle.record_operations.specs.Causes.{IfRefused, IsRefusal, cause_of}
 ghost use Rattle.unit_journal.specs.Groups.{Grows};
 ghost use Rattle.unit_journal.specs.Leaving.{FellIn};
 ghost use Rattle.unit_journal.specs.Room.{journal_refused};
-ghost use Rattle.unit_table.specs.Units.{OpenUnit, owed, unit_at, with_unit};
+ghost use Rattle.unit_table.specs.Units.{OpenUnit, has_changed, owed, unit_at, with_unit};
 ghost use Rattle.vms_base.specs.Ids.{serial_of, tid_of};
 ghost use Rattle.vms_base.specs.Keys.{key_of};
 ghost use Rattle.vms_model.specs.Keys.{Number};
 ghost use Rattle.volume.specs.State.{SameVolume};
 ghost use Rattle.rms_units.specs.Changing.{keys_refused, locks_refuse};
 ghost use Rattle.unit_cuts.specs.Records.{OfRecords};
-ghost use Rattle.rms_units.specs.State.{IsEarly, IsInOrder};
-ghost use Rattle.rms_units.specs.Truncating.{CutRefused, IsCut, MakesCut, with_positions, cut_asked, cut_early, direct_cut_refused, number_refused};
-ghost use Rattle.unit_cuts.specs.Truncating.{AreBegun, BreaksCut, begins_at, entry_sizes, keys_cut, removed_from};
+ghost use Rattle.rms_units.specs.State.{ImagesGrow, IsEarly, IsInOrder};
+ghost use Rattle.rms_units.specs.Truncating.{CutRefused, DirectCutRefused, IsCut, cut_asked, cut_early, direct_cut_early, number_refused, with_positions};
+ghost use Rattle.unit_cuts.specs.Truncating.{AreBegun, BreaksCut, CutEntries, MakesCut, begins_at, entry_sizes, keys_cut, removed_from};
+ghost use Rattle.image_appends.specs.declared.side.Side.TheVariants as sides;
+ghost use Rattle.image_room.specs.Room.{SettlementsFit, images_refused, kept_span};
+ghost use Rattle.change_set.specs.Maps.{empty_map};
 
 use crate::locking::{MOST_LOCKS, lock_refusal};
 use block_disk::Disk;
 use careful_write::Down;
-use file_base::FileHead;
+use image_room::images_refusal;
 use journal_format::EntryBuf;
 use record_locks::Locks;
 use record_operations::RecErr;
-use unit_cuts::{Cut, CutRoom, cut_records, measure};
+use unit_cuts::{Cut, CutRoom, cut_records, gone_size, measure};
 use unit_journal::journal_refusal;
 use unit_table::{Branch, MOST_CHANGES, UnitTable};
 use vms_base::{Key, Record, Serial};
@@ -89,15 +91,49 @@ pub(crate) fn cut_quota_refusal(locks: &Locks, cut: &Cut) -> Option<RecErr>
     }
 }
 
-/// Why a truncation by no unit is not done.
-pub(crate) fn direct_cut_refusal(locks: &Locks, cut: &Cut) -> Option<RecErr>
-    ensures refuses { option_and_then cause_of result ≡ direct_cut_refused cut.now.file cut.now.head cut.now.from locks.now.locks }
-    ensures some { result ≡ None → 1 ≤ removed_from cut.now.head.count cut.now.from }
-    ensures refusal { IfSome result IsRefusal }
+/// Refuses a truncation by no unit. How many bytes its entries take that tell what its records have is answered, and where walks to these begin is in
+/// `room` then.
+pub(crate) fn refuse_cut_directly<D: Disk>(
+    volume: &mut Volume<D>,
+    table: &UnitTable,
+    locks: &Locks,
+    cut: &Cut,
+    found: &mut Record,
+    room: &mut CutRoom,
+) -> Result<u64, RecErr>
+    requires placed { IsPlaced cut.now.head volume.old.store.disk }
+    requires frames { 32 ≤ free_frames volume.old.store.pool }
+    requires sequential { cut.now.head.organization ≡ organization.Sequential }
+    requires images { SettlementsFit sides.After cut.now.head cut.now.file table.now.places × SettlementsFit sides.Before cut.now.head cut.now.file table.now.places }
+    requires ordered { IfSome (kept_span sides.After cut.now.head) (λ s. s.first ≤ s.end) × IfSome (kept_span sides.Before cut.now.head) (λ s. s.first ≤ s.end) }
+    ensures early { OnOk result (direct_cut_early cut.now.file cut.now.head cut.now.from locks.now.locks ≡ None) }
+    ensures few { OnOk result (removed_from cut.now.head.count cut.now.from ≤ 1024) }
+    ensures some { OnOk result (1 ≤ removed_from cut.now.head.count cut.now.from) }
+    ensures size { IfOk result (λ size. OfRecords cut.now.head volume.old (λ m. size ≡ entry_sizes m (keys_cut cut.now.head cut.now.from))) }
+    ensures most { IfOk result (λ size. size ≤ 8272 * 1024) }
+    ensures most_gone { OnOk result (entry_sizes empty_map (keys_cut cut.now.head cut.now.from) ≤ 8272 * 1024) }
+    ensures rooms { IfOk result (λ size. images_refused cut.now.head cut.now.file table.now.places false (entry_sizes empty_map (keys_cut cut.now.head cut.now.from)) size ≡ None) }
+    ensures places { OnOk result (AreBegun cut.now.head volume.old room.new.places) }
+    ensures same { OnOk result (SameVolume volume.old volume.new) }
+    ensures err { IfErr result (λ e. IfRefused e
+        (λ cause. DirectCutRefused cut.now.file cut.now.head cut.now.from cause (record { units = table.now; locks = locks.now.locks }) volume.old × SameVolume volume.old volume.new)
+        (λ down. (direct_cut_early cut.now.file cut.now.head cut.now.from locks.now.locks ≡ None) × FellIn down volume.old volume.new)) }
 {
     match cut_lock_refusal(locks, &None, cut) {
-        Some(refusal) => Some(refusal),
-        None => cut_refusal(cut, 0),
+        Some(refusal) => return Err(refusal),
+        None => {}
+    }
+    match cut_refusal(cut, 0) {
+        Some(refusal) => return Err(refusal),
+        None => {}
+    }
+    let size = match measure(volume, cut, found, room) {
+        Ok(size) => size,
+        Err(down) => return Err(RecErr::Down(down)),
+    };
+    match images_refusal(&cut.head, table, cut.file, false, gone_size(cut), size) {
+        Some(refusal) => Err(refusal),
+        None => Ok(size),
     }
 }
 
@@ -121,14 +157,18 @@ pub(crate) fn refuse_cut<D: Disk>(
     requires sequential { cut.now.head.organization ≡ organization.Sequential }
     requires ascends { volume.old.catalog.ru.first ≤ volume.old.catalog.ru.end }
     requires free { volume.old.catalog.ru.end - volume.old.catalog.ru.first + owed table.now.places ≤ ring_size volume.old.catalog.ru }
+    requires images { SettlementsFit sides.After cut.now.head cut.now.file table.now.places × SettlementsFit sides.Before cut.now.head cut.now.file table.now.places }
+    requires ordered { IfSome (kept_span sides.After cut.now.head) (λ s. s.first ≤ s.end) × IfSome (kept_span sides.Before cut.now.head) (λ s. s.first ≤ s.end) }
     ensures early { OnOk result (IfSome (unit_at table.now.places place) (λ u. cut_early u cut.now.file cut.now.head cut.now.from locks.now.locks ≡ None)) }
     ensures few { OnOk result (IfSome (unit_at table.now.places place) (λ u. length u.positions + removed_from cut.now.head.count cut.now.from ≤ 1024)) }
     ensures some { OnOk result (1 ≤ removed_from cut.now.head.count cut.now.from) }
     ensures files { OnOk result (IfSome (unit_at table.now.places place) (λ u. length u.files ≡ 64)) }
     ensures size { IfOk result (λ size. OfRecords cut.now.head volume.old (λ m. size ≡ entry_sizes m (keys_cut cut.now.head cut.now.from))) }
     ensures fits { IfOk result (λ size. IfSome (unit_at table.now.places place) (λ u. journal_refused volume.old.catalog.ru table.now.places u size ≡ None)) }
+    ensures most { IfOk result (λ size. size ≤ 8272 * 1024) }
+    ensures most_gone { OnOk result (entry_sizes empty_map (keys_cut cut.now.head cut.now.from) ≤ 8272 * 1024) }
+    ensures rooms { IfOk result (λ size. IfSome (unit_at table.now.places place) (λ u. images_refused cut.now.head cut.now.file table.now.places (has_changed u cut.now.file) (entry_sizes empty_map (keys_cut cut.now.head cut.now.from)) size ≡ None)) }
     ensures places { OnOk result (AreBegun cut.now.head volume.old room.new.places) }
-    ensures none { OnOk result (room.new.positions ≡ []) }
     ensures same { OnOk result (SameVolume volume.old volume.new) }
     ensures err { IfErr result (λ e. (u : OpenUnit) → unit_at table.now.places place ≡ Some u → IfRefused e
         (λ cause. CutRefused u cut.now.file cut.now.head cut.now.from cause (record { units = table.now; locks = locks.now.locks }) volume.old × SameVolume volume.old volume.new)
@@ -151,6 +191,18 @@ pub(crate) fn refuse_cut<D: Disk>(
         Err(down) => return Err(RecErr::Down(down)),
     };
     match journal_refusal(volume, table, place, size) {
+        Some(refusal) => return Err(refusal),
+        None => {}
+    }
+    let has_changed = table.has_changed(place, cut.file);
+    match images_refusal(
+        &cut.head,
+        table,
+        cut.file,
+        has_changed,
+        gone_size(cut),
+        size,
+    ) {
         Some(refusal) => Err(refusal),
         None => Ok(size),
     }
@@ -205,19 +257,22 @@ pub(crate) fn make_cut<D: Disk>(
     requires some { 1 ≤ removed_from cut.now.head.count cut.now.from }
     requires size { OfRecords cut.now.head volume.old (λ m. size ≡ entry_sizes m (keys_cut cut.now.head cut.now.from)) }
     requires fits { IfSome (unit_at table.old.places place) (λ u. journal_refused volume.old.catalog.ru table.old.places u size ≡ None) }
+    requires most_bytes { size ≤ 8272 * 1024 }
+    requires few_records { entry_sizes empty_map (keys_cut cut.now.head cut.now.from) ≤ 8272 * 1024 }
+    requires rooms { IfSome (unit_at table.old.places place) (λ u. images_refused cut.now.head cut.now.file table.old.places (has_changed u cut.now.file) (entry_sizes empty_map (keys_cut cut.now.head cut.now.from)) size ≡ None) }
     requires places { AreBegun cut.now.head volume.old room.old.places }
-    requires none { room.old.positions ≡ [] }
     requires most { locks.old.most ≡ 4096 }
     requires free { locks_refuse (Some (serial_of branch.now.serial)) cut.now.file (cut_asked cut.now.head cut.now.from) locks.old.locks ≡ None }
     requires few { keys_refused cut.now.file (cut_asked cut.now.head cut.now.from) locks.old.locks ≡ None }
-    ensures makes { OnOk result ((u : OpenUnit) → unit_at table.old.places place ≡ Some u → (es : List Entry) × MakesCut u cut.now.file cut.now.head cut.now.from es volume.old volume.new
-        × (table.new ≡ with_unit place (with_positions (begins_at volume.old.catalog.ru.end es) cut.now.file u) table.old)) }
+    ensures makes { OnOk result ((u : OpenUnit) → unit_at table.old.places place ≡ Some u → (es : CutEntries) × MakesCut u.tid u.serial cut.now.file cut.now.head cut.now.from es volume.old volume.new
+        × (table.new ≡ with_unit place (with_positions (begins_at volume.old.catalog.ru.end es.had) cut.now.file u) table.old)) }
     ensures locks { OnOk result (locks.new ≡ record locks.old { locks = with_locks (serial_of branch.now.serial) cut.now.file (cut_asked cut.now.head cut.now.from) locks.old.locks }) }
     ensures held { OnOk result (length locks.new.locks ≤ 4096) }
     ensures order { OnOk result (IsInOrder (record { units = table.new; locks = locks.new.locks }) volume.new) }
     ensures spared { OnErr result ((table.new ≡ table.old) × (locks.new ≡ locks.old)) }
     ensures grows { Grows 0 0 volume.old volume.new }
-    ensures breaks { OnErr result ((u : OpenUnit) → unit_at table.old.places place ≡ Some u → BreaksCut (IsCut u cut.now.file cut.now.head cut.now.from (record { units = table.old; locks = locks.old.locks }) volume.old) volume.old volume.new) }
+    ensures images { OnOk result (ImagesGrow volume.old volume.new) }
+    ensures breaks { OnErr result ((u : OpenUnit) → unit_at table.old.places place ≡ Some u → BreaksCut cut.now.head (IsCut u cut.now.file cut.now.head cut.now.from (record { units = table.old; locks = locks.old.locks }) volume.old) volume.old volume.new) }
     ensures counts { Counts result volume.old.store.disk volume.new.store.disk }
     ensures pool { volume.new.store.pool ≡ volume.old.store.pool }
 {

@@ -26,7 +26,7 @@ ghost use Rattle.unit_journal.specs.Settling.{next_moment as next_said};
 ghost use Rattle.rms_units.specs.Truncating.{ChangesCut, ChangesCutErr, DirectsCut, DirectsCutErr};
 ghost use Rattle.file_base.specs.declared.head.Organization.TheVariants as organization;
 ghost use Rattle.unit_restarts.specs.Restarting.{Restarts, RestartsNot};
-ghost use Rattle.rms_units.specs.State.{IsEarly, IsInOrder, nothing_begun, unit_of, with_begun, without_place};
+ghost use Rattle.rms_units.specs.State.{ImagesGrow, IsEarly, IsInOrder, nothing_begun, unit_of, with_begun, without_place};
 ghost use Rattle.rms_units.specs.Voting.{AbortsPrepared, AbortsPreparedNot, CommitsLogged, CommitsLoggedNot, IfYes, Votes, VotesNot, is_yes, votes_yes};
 
 use crate::aborting::abort_branch;
@@ -37,12 +37,13 @@ use crate::locking::{MOST_LOCKS, asks_end, hold_key};
 use crate::one_key::{make_key, refuse_key};
 use crate::reading::find;
 use crate::tokens::{ActiveUnit, BeginErr, PreparedUnit, SettledUnit, Vote};
-use crate::truncating::{direct_cut_refusal, make_cut, refuse_cut};
+use crate::truncating::{make_cut, refuse_cut, refuse_cut_directly};
 use crate::voting::{abort_prepared, commit, vote, vote_at};
 use block_disk::Disk;
 use careful_write::{Down, one_content};
 use file_base::FileHead;
 use journal_format::EntryBuf;
+use kept_files::settle_in_files;
 use lmcp_log::Log;
 use record_locks::Locks;
 use record_operations::{ReadOp, RecErr, RecordOp, form_refusal, read_refusal};
@@ -50,7 +51,7 @@ use std::alloc::{AllocError, Global};
 use std::marker::Model;
 use unit_cuts::{Cut, CutRoom, commit_cut};
 use unit_entries::ChangedKeys;
-use unit_journal::{next_moment, settle};
+use unit_journal::next_moment;
 use unit_restarts::{RestartRoom, Restarted, restart};
 use unit_table::{Branch, UnitTable};
 use vms_base::{Key, LogRec, Moment, Outcome, Reason, Record, RmList, Serial, Tid, put_id};
@@ -104,6 +105,11 @@ fn position_of(asked: &Asked) -> u32
         _ => 0,
     }
 }
+
+// A volume has 64 files, and of each a list tells whether it takes part.
+fn tell_each_file(_files: &[bool; 64])
+    ensures { length _files.now ≡ 64 }
+{}
 
 impl Units {
     /// No unit is begun. Room for 64 units with 1,024 changes each and for 4,096 keys is taken; an error where there is no memory for it.
@@ -238,6 +244,7 @@ impl Units {
         ensures err { IfErr result (λ e. (u : OpenUnit) (h : HeadSaid) → unit_of unit.old self.old ≡ Some u → head_at volume.old.catalog.heads (read_file_in op.now) ≡ Some h → ReadsErr u h op.now e self.old volume.old self.new volume.new) }
         ensures reads { (h : HeadSaid) → head_at volume.old.catalog.heads (read_file_in op.now) ≡ Some h → ReadsFew h op.now volume.old volume.new }
         ensures grows { Grows 0 0 volume.old volume.new }
+        ensures images { OnOk result (ImagesGrow volume.old volume.new) }
         ensures goes { Goes volume.old.store.disk volume.new.store.disk }
         ensures cause { IfErr result (λ e. Caused (down_in e) volume.old.store.disk volume.new.store.disk) }
         ensures pool { volume.new.store.pool ≡ volume.old.store.pool }
@@ -303,6 +310,7 @@ impl Units {
         ensures done { IfOk result (λ position. (u : OpenUnit) (h : HeadSaid) → unit_of unit.old self.old ≡ Some u → head_at volume.old.catalog.heads (file_in op.now) ≡ Some h → ChangesOk unit.old u h op.now bytes.now position self.old volume.old self.new volume.new) }
         ensures err { IfErr result (λ e. (u : OpenUnit) (h : HeadSaid) → unit_of unit.old self.old ≡ Some u → head_at volume.old.catalog.heads (file_in op.now) ≡ Some h → ChangesErr u h op.now bytes.now e self.old volume.old self.new volume.new) }
         ensures grows { Grows 0 0 volume.old volume.new }
+        ensures images { OnOk result (ImagesGrow volume.old volume.new) }
         ensures goes { Goes volume.old.store.disk volume.new.store.disk }
         ensures cause { IfErr result (λ e. Caused (down_in e) volume.old.store.disk volume.new.store.disk) }
         ensures pool { volume.new.store.pool ≡ volume.old.store.pool }
@@ -346,6 +354,7 @@ impl Units {
         ensures position { IfOk result (λ position. position ≡ position_by asked.now.head.organization asked.now.change (key_of asked.now.key)) }
         ensures err { IfErr result (λ e. (u : OpenUnit) → unit_of place self.old ≡ Some u → ChangesKeyErr u asked.now.file asked.now.head asked.now.change (key_of asked.now.key) value.now e self.old volume.old self.new volume.new) }
         ensures grows { Grows 0 0 volume.old volume.new }
+        ensures images { OnOk result (ImagesGrow volume.old volume.new) }
         ensures goes { Goes volume.old.store.disk volume.new.store.disk }
         ensures cause { IfErr result (λ e. Caused (down_in e) volume.old.store.disk volume.new.store.disk) }
         ensures pool { volume.new.store.pool ≡ volume.old.store.pool }
@@ -403,6 +412,7 @@ impl Units {
         ensures err { IfErr result (λ e. (u : OpenUnit) → unit_of place self.old ≡ Some u → ChangesCutErr u cut.now.file cut.now.head cut.now.from e self.old volume.old self.new volume.new) }
         ensures refused { IfErr result (λ e. IfRefused e (λ _. SameVolume volume.old volume.new) (λ _. Unit {0})) }
         ensures grows { Grows 0 0 volume.old volume.new }
+        ensures images { OnOk result (ImagesGrow volume.old volume.new) }
         ensures goes { Goes volume.old.store.disk volume.new.store.disk }
         ensures cause { IfErr result (λ e. Caused (down_in e) volume.old.store.disk volume.new.store.disk) }
         ensures pool { volume.new.store.pool ≡ volume.old.store.pool }
@@ -459,6 +469,7 @@ impl Units {
         ensures done { IfOk result (λ told. (h : HeadSaid) → head_at volume.old.catalog.heads (file_in op.now) ≡ Some h → DirectsOk tid clock.0 h op.now bytes.now told.0 self.old volume.old volume.new) }
         ensures err { IfErr result (λ e. (h : HeadSaid) → head_at volume.old.catalog.heads (file_in op.now) ≡ Some h → DirectsErr tid clock.0 h op.now bytes.now e self.old volume.old volume.new) }
         ensures grows { Grows 1 clock.0 volume.old volume.new }
+        ensures images { OnOk result (ImagesGrow volume.old volume.new) }
         ensures goes { Goes volume.old.store.disk volume.new.store.disk }
         ensures cause { IfErr result (λ e. Caused (down_in e) volume.old.store.disk volume.new.store.disk) }
         ensures pool { volume.new.store.pool ≡ volume.old.store.pool }
@@ -504,12 +515,20 @@ impl Units {
         ensures position { IfOk result (λ told. told.0 ≡ position_by asked.now.head.organization asked.now.change (key_of asked.now.key)) }
         ensures err { IfErr result (λ e. DirectsKeyErr tid clock.0 asked.now.file asked.now.head asked.now.change (key_of asked.now.key) value.now e self.old volume.old volume.new) }
         ensures grows { Grows 1 clock.0 volume.old volume.new }
+        ensures images { OnOk result (ImagesGrow volume.old volume.new) }
         ensures goes { Goes volume.old.store.disk volume.new.store.disk }
         ensures cause { IfErr result (λ e. Caused (down_in e) volume.old.store.disk volume.new.store.disk) }
         ensures pool { volume.new.store.pool ≡ volume.old.store.pool }
     {
         one_content();
-        let from = match refuse_directly(volume, &self.locks, asked, value, &mut self.found) {
+        let from = match refuse_directly(
+            volume,
+            &self.table,
+            &self.locks,
+            asked,
+            value,
+            &mut self.found,
+        ) {
             Err(e) => return Err(e),
             Ok(from) => from,
         };
@@ -520,10 +539,12 @@ impl Units {
             &self.table,
             &self.locks,
             asked,
+            &self.found,
             &self.value,
             from,
             tid,
             moment,
+            &mut self.entry,
         ) {
             Err(down) => return Err(RecErr::Down(down)),
             Ok(()) => {}
@@ -551,16 +572,35 @@ impl Units {
         ensures position { IfOk result (λ told. told.0 ≡ 0) }
         ensures err { IfErr result (λ e. DirectsCutErr tid clock.0 cut.now.file cut.now.head cut.now.from e self.old volume.old volume.new) }
         ensures grows { Grows 1 clock.0 volume.old volume.new }
+        ensures images { OnOk result (ImagesGrow volume.old volume.new) }
         ensures goes { Goes volume.old.store.disk volume.new.store.disk }
         ensures cause { IfErr result (λ e. Caused (down_in e) volume.old.store.disk volume.new.store.disk) }
         ensures pool { volume.new.store.pool ≡ volume.old.store.pool }
     {
-        match direct_cut_refusal(&self.locks, cut) {
-            Some(refusal) => return Err(refusal),
-            None => {}
-        }
+        one_content();
+        let size = match refuse_cut_directly(
+            volume,
+            &self.table,
+            &self.locks,
+            cut,
+            &mut self.found,
+            &mut self.cut,
+        ) {
+            Err(e) => return Err(e),
+            Ok(size) => size,
+        };
         let moment = next_moment(clock, volume.home());
-        match commit_cut(volume, &self.table, cut, tid, moment, &mut self.found) {
+        match commit_cut(
+            volume,
+            &self.table,
+            cut,
+            size,
+            tid,
+            moment,
+            &mut self.found,
+            &mut self.entry,
+            &mut self.cut,
+        ) {
             Err(down) => Err(RecErr::Down(down)),
             Ok(()) => Ok((0, moment)),
         }
@@ -582,6 +622,7 @@ impl Units {
         ensures commits { IfOk result (λ told. told.outcome ≡ outcome.Commit) }
         ensures err { OnErr result ((u : OpenUnit) → unit_of unit self.old ≡ Some u → CommitsNot unit u clock.0 self.old volume.old self.new volume.new) }
         ensures grows { Grows 1 clock.0 volume.old volume.new }
+        ensures images { OnOk result (ImagesGrow volume.old volume.new) }
         ensures goes { Goes volume.old.store.disk volume.new.store.disk }
         ensures cause { IfErr result (λ down. Caused (Some down) volume.old.store.disk volume.new.store.disk) }
         ensures pool { volume.new.store.pool ≡ volume.old.store.pool }
@@ -589,12 +630,15 @@ impl Units {
         let ActiveUnit { place } = unit;
         let branch = self.branch(place);
         let has_changed = !self.table.positions(place).is_empty();
+        let files = *self.table.files(place);
+        tell_each_file(&files);
         self.table.remove(place);
         self.locks.release_all(branch.serial);
         let moment = next_moment(clock, volume.home());
-        settle(
+        settle_in_files(
             volume,
-            &self.table,
+            &files,
+            self.table.earliest(),
             &branch,
             Outcome::Commit,
             Ending::Commit,
@@ -609,6 +653,7 @@ impl Units {
             moment,
         })
     }
+
     /// Aborts a unit: what it changed is set back, in as many groups as that takes, and the last of them settles it. On Down it is spent as well.
     pub fn abort<D: Disk>(
         &mut self,
@@ -626,6 +671,7 @@ impl Units {
         ensures aborts { IfOk result (λ told. told.outcome ≡ outcome.Abort) }
         ensures err { OnErr result ((u : OpenUnit) → unit_of unit self.old ≡ Some u → AbortsNot unit u reason clock.0 self.old volume.old self.new volume.new) }
         ensures grows { Grows 1 clock.0 volume.old volume.new }
+        ensures images { OnOk result (ImagesGrow volume.old volume.new) }
         ensures goes { Goes volume.old.store.disk volume.new.store.disk }
         ensures cause { IfErr result (λ down. Caused (Some down) volume.old.store.disk volume.new.store.disk) }
         ensures pool { volume.new.store.pool ≡ volume.old.store.pool }
@@ -677,6 +723,7 @@ impl Units {
         ensures votes { IfOk result (λ vote. (u : OpenUnit) → unit_of unit self.old ≡ Some u → Votes (is_yes vote) unit u rms.now self.old log.old volume.old self.new log.new volume.new) }
         ensures err { OnErr result ((u : OpenUnit) → unit_of unit self.old ≡ Some u → VotesNot unit u rms.now self.old log.old volume.old self.new log.new volume.new) }
         ensures grows { Grows 0 0 volume.old volume.new }
+        ensures images { OnOk result (ImagesGrow volume.old volume.new) }
         ensures goes { Goes volume.old.store.disk volume.new.store.disk }
         ensures cause { IfErr result (λ down. Caused (Some down) volume.old.store.disk volume.new.store.disk) }
         ensures pool { volume.new.store.pool ≡ volume.old.store.pool }
@@ -720,6 +767,7 @@ impl Units {
         ensures commits { IfOk result (λ told. told.outcome ≡ outcome.Commit) }
         ensures err { OnErr result ((u : OpenUnit) → unit_of unit self.old ≡ Some u → CommitsLoggedNot unit u (slot_of (option_copied logged.entry)) clock.0 self.old log.old volume.old self.new log.new volume.new) }
         ensures grows { Grows 1 clock.0 volume.old volume.new }
+        ensures images { OnOk result (ImagesGrow volume.old volume.new) }
         ensures goes { Goes volume.old.store.disk volume.new.store.disk }
         ensures cause { IfErr result (λ down. Caused (Some down) volume.old.store.disk volume.new.store.disk) }
         ensures pool { volume.new.store.pool ≡ volume.old.store.pool }
@@ -750,6 +798,7 @@ impl Units {
         ensures commits { IfOk result (λ told. told.outcome ≡ outcome.Commit) }
         ensures err { OnErr result ((u : OpenUnit) → unit_of place self.old ≡ Some u → CommitsLoggedNot place u (slot_of (option_copied logged.entry)) clock.0 self.old log.old volume.old self.new log.new volume.new) }
         ensures grows { Grows 1 clock.0 volume.old volume.new }
+        ensures images { OnOk result (ImagesGrow volume.old volume.new) }
         ensures counts { Counts result volume.old.store.disk volume.new.store.disk }
         ensures pool { volume.new.store.pool ≡ volume.old.store.pool }
     {
@@ -798,6 +847,7 @@ impl Units {
         ensures commits { IfOk result (λ told. told.outcome ≡ outcome.Commit) }
         ensures err { OnErr result ((u : OpenUnit) → unit_of unit self.old ≡ Some u → CommitsLoggedNot unit u (slot_of (option_copied logged.entry)) clock.0 self.old log.old volume.old self.new log.new volume.new) }
         ensures grows { Grows 1 clock.0 volume.old volume.new }
+        ensures images { OnOk result (ImagesGrow volume.old volume.new) }
         ensures goes { Goes volume.old.store.disk volume.new.store.disk }
         ensures cause { IfErr result (λ down. Caused (Some down) volume.old.store.disk volume.new.store.disk) }
         ensures pool { volume.new.store.pool ≡ volume.old.store.pool }
@@ -826,6 +876,7 @@ impl Units {
         ensures aborts { IfOk result (λ told. told.outcome ≡ outcome.Abort) }
         ensures err { OnErr result ((u : OpenUnit) → unit_of unit self.old ≡ Some u → AbortsPreparedNot unit u reason clock.0 self.old log.old volume.old self.new log.new volume.new) }
         ensures grows { Grows 1 clock.0 volume.old volume.new }
+        ensures images { OnOk result (ImagesGrow volume.old volume.new) }
         ensures goes { Goes volume.old.store.disk volume.new.store.disk }
         ensures cause { IfErr result (λ down. Caused (Some down) volume.old.store.disk volume.new.store.disk) }
         ensures pool { volume.new.store.pool ≡ volume.old.store.pool }
@@ -890,6 +941,7 @@ impl Units {
         ensures done { OnOk result (Restarts clock.0 volume.old log.old log.new self.new.units self.new.locks volume.new out.new) }
         ensures err { OnErr result (RestartsNot clock.0 volume.old volume.new out.new.undone) }
         ensures grows { Grows 64 (clock.0 + 64) volume.old volume.new }
+        ensures images { OnOk result (ImagesGrow volume.old volume.new) }
         ensures room { OnOk result (volume.new.catalog.home.greatest_moment.0 + length (begun self.new.units) ≤ max volume.old.catalog.home.greatest_moment.0 clock.0 + 64) }
         ensures moments { AreTold volume.new out.new.undone }
         ensures few { length out.new.undone ≤ 64 }

@@ -125,6 +125,7 @@ pub(crate) fn commit<D: Disk>(
     ensures pool { volume.new.store.pool ≡ volume.old.store.pool }
 {
     let has_changed = !table.positions(place).is_empty();
+    let files = *table.files(place);
     table.remove(place);
     locks.release_all(branch.serial);
     let moment = next_moment(clock, volume.home());
@@ -133,6 +134,7 @@ pub(crate) fn commit<D: Disk>(
         log,
         table,
         branch,
+        &files,
         logged,
         has_changed,
         moment,

@@ -3,7 +3,7 @@ use Rattle.std.proofs.Common.{◌≡◌, ℕ, take, Bool, true, false, List, [],
 use Rattle.std.proofs.lemmas.Bool.{both_ways}
 use Rattle.transcript_model.specs.Lines as line
 use Rattle.transcript_model.specs.Lines.{Line, Cause}
-use Rattle.script_model.specs.Statements.{Init, Boot, Create, SetFile, StartTrans, AddBranch, StartBranch, Records, Direct, EndBranch, EndTrans, AbortTrans, Inquire, DeclareRm, JoinRm, AckEvent, ForgetRm, GetDti, LmcpShow, LmcpDump, Dump, DumpJournal, Fuse, Crash, Clock}
+use Rattle.script_model.specs.Statements.{Init, Boot, Create, SetFile, StartTrans, AddBranch, StartBranch, Records, Direct, EndBranch, EndTrans, AbortTrans, Inquire, DeclareRm, JoinRm, AckEvent, ForgetRm, GetDti, LmcpShow, LmcpDump, Dump, DumpJournal, DumpImages, Backup, Recover, Fuse, Crash, Clock}
 use Rattle.commit_protocol.specs.World as protocol
 use Rattle.commit_protocol.specs.Opening.{Opening}
 use Rattle.run_model.specs.World as world
@@ -151,6 +151,9 @@ barred_task x n s stops (Serves LmcpShow) rises c b none used may = barred_plain
 barred_task x n s stops (Serves LmcpDump) rises c b none used may = barred_plain x s stops (service LmcpDump) rises c (record { powers = refl; closing = refl; awake = refl }) b may
 barred_task x n s stops (Serves (Dump file)) rises c b none used may = barred_plain x s stops (service (Dump file)) rises c (record { powers = refl; closing = refl; awake = refl }) b may
 barred_task x n s stops (Serves DumpJournal) rises c b none used may = barred_plain x s stops (service DumpJournal) rises c (record { powers = refl; closing = refl; awake = refl }) b may
+barred_task x n s stops (Serves (DumpImages file side)) rises c b none used may = barred_plain x s stops (service (DumpImages file side)) rises c (record { powers = refl; closing = refl; awake = refl }) b may
+barred_task x n s stops (Serves (Backup file)) rises c b none used may = barred_plain x s stops (service (Backup file)) rises c (record { powers = refl; closing = refl; awake = refl }) b may
+barred_task x n s stops (Serves (Recover file way)) rises c b none used may = barred_plain x s stops (service (Recover file way)) rises c (record { powers = refl; closing = refl; awake = refl }) b may
 barred_task x n s stops (Serves (Fuse writes choice)) rises c b none used may = barred_fuse x s stops writes choice rises c b may
 barred_task x n s stops (Serves Crash) rises c b none used may = barred_plain x s stops (service Crash) rises c (record { powers = refl; closing = refl; awake = refl }) b may
 barred_task x n s stops (Serves (Clock now)) rises c b none used may = barred_clock x s stops now rises c b may

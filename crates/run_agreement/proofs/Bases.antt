@@ -50,7 +50,9 @@ act_use (world.Formats slots journal) s = refl
 act_use world.Boots s = refl
 act_use world.ComesUp s = refl
 act_use (world.Creates place file) s = refl
-act_use (world.Marks file units) s = refl
+act_use (world.Marks file mark) s = refl
+act_use (world.Saves file start) s = refl
+act_use (world.Recovers file start buckets m) s = refl
 act_use world.Draws s = refl
 act_use (world.Labels l) s = refl
 act_use (world.Numbers label serial) s = refl
@@ -336,6 +338,9 @@ task_turns (Serves said.LmcpShow) = plain_task (Serves said.LmcpShow) (record { 
 task_turns (Serves said.LmcpDump) = plain_task (Serves said.LmcpDump) (record { powers = refl; closing = refl; awake = refl })
 task_turns (Serves (said.Dump file)) = plain_task (Serves (said.Dump file)) (record { powers = refl; closing = refl; awake = refl })
 task_turns (Serves said.DumpJournal) = plain_task (Serves said.DumpJournal) (record { powers = refl; closing = refl; awake = refl })
+task_turns (Serves (said.DumpImages file side)) = plain_task (Serves (said.DumpImages file side)) (record { powers = refl; closing = refl; awake = refl })
+task_turns (Serves (said.Backup file)) = plain_task (Serves (said.Backup file)) (record { powers = refl; closing = refl; awake = refl })
+task_turns (Serves (said.Recover file way)) = plain_task (Serves (said.Recover file way)) (record { powers = refl; closing = refl; awake = refl })
 task_turns (Serves said.Crash) = plain_task (Serves said.Crash) (record { powers = refl; closing = refl; awake = refl })
 task_turns Ticks = plain_task Ticks (record { powers = refl; closing = refl; awake = refl })
 task_turns (Takes m) = plain_task (Takes m) (record { powers = refl; closing = refl; awake = refl })

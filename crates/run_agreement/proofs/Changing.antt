@@ -5,7 +5,7 @@ use Rattle.std.proofs.lemmas.Bool.{both_ways, cases_Bool}
 use Rattle.vms_model.specs.Ids.{Id}
 use Rattle.vms_model.specs.Keys as keys
 use Rattle.vms_model.specs.Transactions.{Commit as ToCommit}
-use Rattle.records_model.specs.Records.{Change}
+use Rattle.records_model.specs.Records.{Change, Records}
 use Rattle.records_model.specs.History.{same_id}
 use Rattle.unit_laws.specs.Units.{has_changes}
 use Rattle.unit_laws.specs.Journal.{RecoveryUnit, find_unit, units_in, entries_for}
@@ -27,7 +27,7 @@ use Rattle.commit_protocol.proofs.Bridge.{node_same, node_other}
 use Rattle.log_laws.specs.Slots.{size}
 use Rattle.log_laws.proofs.RowSlots.{changed_tells}
 use Rattle.run_model.specs.World as world
-use Rattle.run_model.specs.World.{Act, Creates, Marks, Changes, Holds, Directs, Arms, Clocks, Declares, Falls, Node, Shared, File, Settlement, acted, shared_after, is_durable, fallen, tm_of, find_branch, with_changed}
+use Rattle.run_model.specs.World.{Act, Creates, Mark, Marks, Saves, Recovers, Changes, Holds, Directs, Arms, Clocks, Declares, Falls, Node, Shared, File, Settlement, acted, shared_after, is_durable, fallen, tm_of, find_branch, with_changed}
 use Rattle.run_model.specs.Answers.{Row, unit_key}
 use Rattle.run_model.specs.Steps as steps
 use Rattle.run_model.specs.Steps.{node_after_rows, shared_after_rows, shared_then, if_durable, act_begun}
@@ -61,8 +61,24 @@ creates_unseen place f x = record {
   keeps = record { name = refl; volume = refl; up = refl; under_way = refl; slots = refl };
 }
 
-pub marks_unseen : (file : List ℕ) (units : Bool) (x : Node) → IsUnseen (Marks file units) x
-marks_unseen file units x = record {
+pub marks_unseen : (file : List ℕ) (mark : Mark) (x : Node) → IsUnseen (Marks file mark) x
+marks_unseen file mark x = record {
+  raw = refl;
+  shared = λ s. refl;
+  told = λ t. record { log = t.log; apart = t.apart; kinds = t.kinds; slots = t.slots; volume = t.volume; there = t.there; back = t.back; units = t.units };
+  keeps = record { name = refl; volume = refl; up = refl; under_way = refl; slots = refl };
+}
+
+pub saves_unseen : (file : List ℕ) (start : ℕ) (x : Node) → IsUnseen (Saves file start) x
+saves_unseen file start x = record {
+  raw = refl;
+  shared = λ s. refl;
+  told = λ t. record { log = t.log; apart = t.apart; kinds = t.kinds; slots = t.slots; volume = t.volume; there = t.there; back = t.back; units = t.units };
+  keeps = record { name = refl; volume = refl; up = refl; under_way = refl; slots = refl };
+}
+
+pub recovers_unseen : (file : List ℕ) (start buckets : ℕ) (m : Records) (x : Node) → IsUnseen (Recovers file start buckets m) x
+recovers_unseen file start buckets m x = record {
   raw = refl;
   shared = λ s. refl;
   told = λ t. record { log = t.log; apart = t.apart; kinds = t.kinds; slots = t.slots; volume = t.volume; there = t.there; back = t.back; units = t.units };

@@ -78,7 +78,7 @@ not_bootable : (y : Node) → NotNormal (answers.bootable y)
 not_bootable y l e = by y.durable.volume refl
   where
     barred_line : (bar : world.Bar) → is_normal (answers.bar_line y.name bar) ≡ false
-    barred_line world.NoRing = refl
+    barred_line (world.NoRing block) = refl
     barred_line (world.NoIndex block) = refl
     barred_line world.AllBoots = refl
     barred_line world.LateMoment = refl

@@ -8,7 +8,7 @@ use Rattle.commit_protocol.specs.World as protocol
 use Rattle.commit_protocol.specs.World.{In, node_after, lost_after, crashed, crashes, acts_all}
 use Rattle.commit_protocol.specs.Opening.{Opening}
 use Rattle.commit_protocol.proofs.Lists.{cases_name}
-use Rattle.run_model.specs.World.{Shared, Act, Formats, Boots, ComesUp, Creates, Marks, Draws, Labels, Numbers, Tables, Changes, Holds, Directs, Arms, Clocks, Declares, Falls, Node, acted, is_durable, settlement_of, settled_more, shared_tabled, shared_after, fallen, next_moment, tm_of}
+use Rattle.run_model.specs.World.{Shared, Act, Formats, Boots, ComesUp, Creates, Marks, Saves, Recovers, Draws, Labels, Numbers, Tables, Changes, Holds, Directs, Arms, Clocks, Declares, Falls, Node, acted, is_durable, settlement_of, settled_more, shared_tabled, shared_after, fallen, next_moment, tm_of}
 use Rattle.run_model.specs.Answers.{Row, table_rows}
 use Rattle.run_model.specs.Steps.{shared_then, node_after_rows, shared_after_rows, if_durable, act_begun}
 use Rattle.run_model.specs.Steps as steps
@@ -227,7 +227,9 @@ acts_fallen (Formats slots journal) u x = (refl, refl)
 acts_fallen Boots u x = (refl, refl)
 acts_fallen ComesUp u x = (refl, refl)
 acts_fallen (Creates place file) u x = (refl, refl)
-acts_fallen (Marks file units) u x = (refl, refl)
+acts_fallen (Marks file mark) u x = (refl, refl)
+acts_fallen (Saves file start) u x = (refl, refl)
+acts_fallen (Recovers file start buckets m) u x = (refl, refl)
 acts_fallen Draws u x = (refl, refl)
 acts_fallen (Labels l) u x = (refl, refl)
 acts_fallen (Numbers label serial) u x = (refl, refl)

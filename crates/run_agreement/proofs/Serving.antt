@@ -16,6 +16,7 @@ use Rattle.commit_protocol.specs.Opening.{Opening}
 use Rattle.commit_protocol.specs.Standing.{BeginsNothing}
 use Rattle.commit_protocol.proofs.Lists.{find_serial-key, same_key-true}
 use Rattle.log_laws.specs.Slots.{IsFresh, begun}
+use Rattle.script_model.specs.Statements as said
 use Rattle.run_model.specs.World as world
 use Rattle.run_model.specs.World.{Act, Arms, Clocks, ComesUp, Node, Shared, Label, File, Call, DiskCounts, Outturn, acted, find_branch, serial_labelled, powered, unpowered, tm_of}
 use Rattle.run_model.specs.Operations.{first_of, refused_if}
@@ -30,7 +31,7 @@ use Rattle.run_agreement.proofs.Rows.{cut_node, put_itself, rows_match}
 use Rattle.run_agreement.proofs.Telling.{quiet_told}
 use Rattle.run_agreement.proofs.Events.{Arrives, IsAt, IsUpAt, RowsGo, up_at, given_goes}
 use Rattle.run_agreement.proofs.Drawing.{WholeGoes}
-use Rattle.run_agreement.proofs.Changing.{AreUnseen, IsRowUnseen, unseen_goes, creates_unseen, branch_serial, branch_found}
+use Rattle.run_agreement.proofs.Changing.{AreUnseen, IsRowUnseen, IsUnseen, unseen_goes, creates_unseen, marks_unseen, branch_serial, branch_found}
 
 -- What a node comes to, of worlds of the protocol of which this is known.
 abbrev pub Known : Type 1
@@ -200,6 +201,22 @@ shown_unseen A [] shown x none = tt
 shown_unseen A (y ∷ ys) shown x none =
     let P : Option Act → Type 0 = λ a. IsRowUnseen a x × AreUnseen (map shown ys) (steps.node_after a x) in
     subst P (sym (none y)) (tt, shown_unseen A ys shown x none)
+
+pub on_free_unseen : (x : Node) (need : ℕ) (act : ℕ → Act) → ((start : ℕ) → IsUnseen (act start) x) → AreUnseen (answers.on_free x need act) x
+on_free_unseen x need act each = (each (answers.start_of (world.lowest_free x need)), tt)
+
+pub to_file_unseen : (x : Node) (file : List ℕ) (does : File → List Row) → ((f : File) → AreUnseen (does f) x) → AreUnseen (answers.to_file x file does) x
+to_file_unseen x file does each = by (world.find_file file x.durable.directory)
+  where
+    by : (q : Option File) → AreUnseen (elim q [ Some f ↦ does f | None ↦ [] ]) x
+    by None = tt
+    by (Some f) = each f
+
+pub sets_are_unseen : (x : Node) (file : List ℕ) (setting : said.Setting) → AreUnseen (answers.sets x file setting) x
+sets_are_unseen x file said.RecoveryUnits = (marks_unseen file (world.ForUnits true) x, tt)
+sets_are_unseen x file said.NoRecoveryUnits = (marks_unseen file (world.ForUnits false) x, tt)
+sets_are_unseen x file (said.Images side blocks) = on_free_unseen x blocks (λ start. world.Marks file (world.BeginsImages side start blocks)) (λ start. marks_unseen file (world.BeginsImages side start blocks) x)
+sets_are_unseen x file (said.NoImages side) = (marks_unseen file (world.EndsImages side) x, tt)
 
 pub creates_are_unseen : (x : Node) (made : ℕ → File) (need : ℕ) → AreUnseen (answers.creates x made need) x
 creates_are_unseen x made need = by (world.free_place x.durable.directory) (world.lowest_free x need)

@@ -73,7 +73,7 @@ bootable_ends u n r l found named e = by r.durable.volume refl
         subst R same (bars bar f)
       where
         bars : (b : world.Bar) → r.durable.volume ≡ world.Barred b → Ends u (answers.bar_line r.name b)
-        bars world.NoRing g = let Q : Name → Type 0 = λ m. find_node m u.nodes ≡ Some r in (r, subst Q (sym named) found, inr (inl (refl, refl, g)))
+        bars (world.NoRing block) g = let Q : Name → Type 0 = λ m. find_node m u.nodes ≡ Some r in (r, subst Q (sym named) found, inr (inl (refl, g)))
         bars (world.NoIndex block) g = let Q : Name → Type 0 = λ m. find_node m u.nodes ≡ Some r in (r, subst Q (sym named) found, inr (inr (refl, g)))
         bars world.AllBoots g = (refl, (n, r, found, inr g))
         bars world.LateMoment g = (refl, (n, r, found, inr g))

@@ -8,7 +8,7 @@ use Rattle.vms_model.specs.Keys as keys
 use Rattle.vms_model.specs.Transactions.{Aborted as ByRequest}
 use Rattle.transcript_model.specs.Lines as line
 use Rattle.transcript_model.specs.Lines.{Line, Cause}
-use Rattle.script_model.specs.Statements.{Request, Init, Boot, Create, SetFile, StartTrans, AddBranch, StartBranch, Records, Direct, EndBranch, EndTrans, AbortTrans, Inquire, DeclareRm, JoinRm, AckEvent, ForgetRm, GetDti, LmcpShow, LmcpDump, Dump, DumpJournal, Fuse, Crash, Clock, Named, ByLabel, BySerial, Operation}
+use Rattle.script_model.specs.Statements.{Request, Init, Boot, Create, SetFile, StartTrans, AddBranch, StartBranch, Records, Direct, EndBranch, EndTrans, AbortTrans, Inquire, DeclareRm, JoinRm, AckEvent, ForgetRm, GetDti, LmcpShow, LmcpDump, Dump, DumpJournal, DumpImages, Backup, Recover, Fuse, Crash, Clock, Named, ByLabel, BySerial, Operation}
 use Rattle.records_model.specs.Records.{Change}
 use Rattle.commit_protocol.specs.Messages.{Name, Message, Reply}
 use Rattle.commit_protocol.specs.Table.{Branch, is_first, find, find_serial, first, without_rm}
@@ -33,9 +33,9 @@ use Rattle.run_agreement.proofs.Rows.{cut_node, rows_match}
 use Rattle.run_agreement.proofs.Telling.{quiet_told}
 use Rattle.run_agreement.proofs.Events.{Arrives, IsAt, IsUpAt, RowsGo, up_at, down_of_face, comes_goes}
 use Rattle.run_agreement.proofs.Drawing.{WholeGoes, has_room, start_goes, add_goes, begin_goes, labelled_in}
-use Rattle.run_agreement.proofs.Changing.{unseen_goes, crash_goes, changes_go, direct_goes, marks_unseen, holds_unseen, arms_unseen, clocks_unseen, declares_unseen, branch_found, Working}
+use Rattle.run_agreement.proofs.Changing.{unseen_goes, crash_goes, changes_go, direct_goes, recovers_unseen, saves_unseen, holds_unseen, arms_unseen, clocks_unseen, declares_unseen, branch_found, Working}
 use Rattle.run_agreement.proofs.Booting.{boot_whole, boot_cut, taken_of, power_goes, stays_down}
-use Rattle.run_agreement.proofs.Serving.{Known, Anything, NodeSimFor, same_sim, follows_in_use, first_none, refused_none, serves_up, IsPlain, plain_sim, rows_sim, unused_sim, event_goes, branch_rows, branch_whole, named_branch, labelled_found, serial_found, first_found, parts_true, there, shown_unseen, creates_are_unseen}
+use Rattle.run_agreement.proofs.Serving.{Known, Anything, NodeSimFor, same_sim, follows_in_use, first_none, refused_none, serves_up, IsPlain, plain_sim, rows_sim, unused_sim, event_goes, branch_rows, branch_whole, named_branch, labelled_found, serial_found, first_found, parts_true, there, shown_unseen, creates_are_unseen, on_free_unseen, sets_are_unseen, to_file_unseen}
 
 -- Requests that neither make the disk run nor serve a node that is down.
 
@@ -189,7 +189,7 @@ create_sim o n x s stops file bucket size form rises c may = rows_sim o n x s st
 
 mark_sim : (o : Opening) (n : Name) (x : Node) (s : Shared) (stops : ℕ) (file : List ℕ) (setting : Rattle.script_model.specs.Statements.Setting) (rises : Cause → Type 0) (c : Choice) → ServiceAllowed s stops x (service (SetFile file setting)) rises c → Sim o n x s stops (service (SetFile file setting)) c
 mark_sim o n x s stops file setting rises c may = rows_sim o n x s stops (service (SetFile file setting)) rises c (record { powers = refl; closing = refl; awake = refl })
-    (λ up h q. unseen_goes o n (answers.silent (world.Marks file (answers.is_for_units setting)) ∷ []) x s (marks_unseen file (answers.is_for_units setting) x, tt)) may
+    (λ up h q. unseen_goes o n (answers.sets x file setting) x s (sets_are_unseen x file setting)) may
 
 dump_sim : (o : Opening) (n : Name) (x : Node) (s : Shared) (stops : ℕ) (file : List ℕ) (rises : Cause → Type 0) (c : Choice) → ServiceAllowed s stops x (service (Dump file)) rises c → Sim o n x s stops (service (Dump file)) c
 dump_sim o n x s stops file rises c may = rows_sim o n x s stops (service (Dump file)) rises c (record { powers = refl; closing = refl; awake = refl })
@@ -199,6 +199,22 @@ journal_sim : (o : Opening) (n : Name) (x : Node) (s : Shared) (stops : ℕ) (ri
 journal_sim o n x s stops rises c may = rows_sim o n x s stops (service DumpJournal) rises c (record { powers = refl; closing = refl; awake = refl })
     (λ up h q. let ls = answers.entry_lines x.durable.units.first x.durable.units.entries in unseen_goes o n (map answers.shown_line ls) x s (shown_unseen Line ls answers.shown_line x (λ y. refl))) may
 
+images_sim : (o : Opening) (n : Name) (x : Node) (s : Shared) (stops : ℕ) (file : List ℕ) (side : Rattle.script_model.specs.Statements.Side) (rises : Cause → Type 0) (c : Choice) → ServiceAllowed s stops x (service (DumpImages file side)) rises c → Sim o n x s stops (service (DumpImages file side)) c
+images_sim o n x s stops file side rises c may = rows_sim o n x s stops (service (DumpImages file side)) rises c (record { powers = refl; closing = refl; awake = refl })
+    (λ up h q. unseen_goes o n (answers.to_file x file (λ f. map answers.shown_line (answers.image_lines file (answers.journal_at side f).entries))) x s
+    (to_file_unseen x file (λ f. map answers.shown_line (answers.image_lines file (answers.journal_at side f).entries)) (λ f. shown_unseen Line (answers.image_lines file (answers.journal_at side f).entries) answers.shown_line x (λ y. refl)))) may
+
+save_sim : (o : Opening) (n : Name) (x : Node) (s : Shared) (stops : ℕ) (file : List ℕ) (rises : Cause → Type 0) (c : Choice) → ServiceAllowed s stops x (service (Backup file)) rises c → Sim o n x s stops (service (Backup file)) c
+save_sim o n x s stops file rises c may = rows_sim o n x s stops (service (Backup file)) rises c (record { powers = refl; closing = refl; awake = refl })
+    (λ up h q. unseen_goes o n (answers.to_file x file (λ f. answers.on_free x (answers.blocks_of f) (world.Saves file))) x s
+    (to_file_unseen x file (λ f. answers.on_free x (answers.blocks_of f) (world.Saves file)) (λ f. on_free_unseen x (answers.blocks_of f) (world.Saves file) (λ start. saves_unseen file start x)))) may
+
+recover_sim : (o : Opening) (n : Name) (x : Node) (s : Shared) (stops : ℕ) (file : List ℕ) (way : Rattle.script_model.specs.Statements.Recovery) (rises : Cause → Type 0) (c : Choice) → ServiceAllowed s stops x (service (Recover file way)) rises c → Sim o n x s stops (service (Recover file way)) c
+recover_sim o n x s stops file way rises c may = rows_sim o n x s stops (service (Recover file way)) rises c (record { powers = refl; closing = refl; awake = refl })
+    (λ up h q. unseen_goes o n (answers.to_file x file (answers.recovers x file way)) x s
+    (to_file_unseen x file (answers.recovers x file way) (λ f. let m = answers.records_recovered way f in
+    on_free_unseen x (answers.blocks_recovered way f) (λ start. world.Recovers file start (world.buckets_loaded f m) m) (λ start. recovers_unseen file start (world.buckets_loaded f m) m x)))) may
+
 -- Requests that a node serves while it is down.
 
 -- what does not come from what a node has
@@ -207,7 +223,9 @@ outside (world.Formats slots journal) x c k u = (refl, refl)
 outside world.Boots x c k u = (refl, refl)
 outside world.ComesUp x c k u = (refl, refl)
 outside (world.Creates place file) x c k u = (refl, refl)
-outside (world.Marks file units) x c k u = (refl, refl)
+outside (world.Marks file mark) x c k u = (refl, refl)
+outside (world.Saves file start) x c k u = (refl, refl)
+outside (world.Recovers file start buckets m) x c k u = (refl, refl)
 outside world.Draws x c k u = (refl, refl)
 outside (world.Labels l) x c k u = (refl, refl)
 outside (world.Numbers label serial) x c k u = (refl, refl)
@@ -453,6 +471,9 @@ task_sim o n x s stops (Serves LmcpShow) rises c suits may = log_sim o n x s sto
 task_sim o n x s stops (Serves LmcpDump) rises c suits may = records_shown_sim o n x s stops rises c may
 task_sim o n x s stops (Serves (Dump file)) rises c suits may = dump_sim o n x s stops file rises c may
 task_sim o n x s stops (Serves DumpJournal) rises c suits may = journal_sim o n x s stops rises c may
+task_sim o n x s stops (Serves (DumpImages file side)) rises c suits may = images_sim o n x s stops file side rises c may
+task_sim o n x s stops (Serves (Backup file)) rises c suits may = save_sim o n x s stops file rises c may
+task_sim o n x s stops (Serves (Recover file way)) rises c suits may = recover_sim o n x s stops file way rises c may
 task_sim o n x s stops (Serves (Fuse writes choice)) rises c suits may = fuse_sim o n x s stops writes choice rises c may
 task_sim o n x s stops (Serves Crash) rises c suits may = crash_sim o n x s stops rises c may
 task_sim o n x s stops (Serves (Clock now)) rises c suits may = clock_sim o n x s stops now rises c may

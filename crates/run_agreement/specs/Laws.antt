@@ -145,7 +145,7 @@ EndsFor w u events (QuotaExceeded Positions limit) = (limit ≡ position_limit) 
 EndsFor w u events (NotInitializedAt n) = (x : Node) × (find_node n u.nodes ≡ Some x) × (x.unmade ≡ true)
 EndsFor w u events (NoVolume n condition block) =
     (x : Node) × (find_node n u.nodes ≡ Some x)
-    × ((x.durable.volume ≡ Faulty condition block) ⊎ (((condition ≡ 6) × (block ≡ 583) × (x.durable.volume ≡ Barred NoRing)) ⊎ ((condition ≡ 11) × (x.durable.volume ≡ Barred (NoIndex block)))))
+    × ((x.durable.volume ≡ Faulty condition block) ⊎ (((condition ≡ 6) × (x.durable.volume ≡ Barred (NoRing block))) ⊎ ((condition ≡ 11) × (x.durable.volume ≡ Barred (NoIndex block)))))
 EndsFor w u events (InDoubt serial n) =
     (find_node n u.nodes ≡ None) × HasNode u (λ x. (b : Branch) × In b x.volatile.branches × (b.key.serial ≡ serial) × (coordinator_of b.key ≡ n) × (is_prepared b.state ≡ true))
 EndsFor w u events _ = ⊥

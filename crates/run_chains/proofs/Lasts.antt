@@ -23,7 +23,7 @@ use Rattle.commit_protocol.proofs.Lists.{find-key}
 use Rattle.log_laws.specs.Slots.{prepared_of, records_in}
 use Rattle.log_laws.proofs.Reading.{is_prepared_one}
 use Rattle.run_model.specs.World as world
-use Rattle.run_model.specs.World.{World, Shared, Node, DiskCounts, Durable, Act, Arms, Boots, Changes, Clocks, ComesUp, Creates, Directs, Draws, Falls, Formats, Holds, IsOpening, Labels, LastIsReached, Marks, Numbers, Tables, Settlement, aborted_prepared, acted, find_node, next_id, opened, settlement_of, with_half}
+use Rattle.run_model.specs.World.{World, Shared, Node, DiskCounts, Durable, Act, Arms, Boots, Changes, Clocks, ComesUp, Creates, Directs, Draws, Falls, Formats, Holds, IsOpening, Labels, LastIsReached, Marks, Saves, Recovers, Numbers, Tables, Settlement, aborted_prepared, acted, find_node, next_id, opened, settlement_of, with_half}
 use Rattle.run_model.specs.Answers as answers
 use Rattle.run_model.specs.Answers.{Task, task_service, unit_key}
 use Rattle.run_model.specs.Steps.{Choice, TaskAllowed, node_after, task_effect}
@@ -241,7 +241,9 @@ acted_last free ls (Some Boots) n f h = absurd f.fits
 acted_last free ls (Some (Formats slots journal)) n f h = absurd f.fits
 acted_last free ls (Some ComesUp) n f h = absurd f.fits
 acted_last free ls (Some (Creates place file)) n f h = quiet_last false n (acted (Creates place file) n) refl refl refl refl (λ x i. i) (less_free free n h)
-acted_last free ls (Some (Marks file units)) n f h = quiet_last false n (acted (Marks file units) n) refl refl refl refl (λ x i. i) (less_free free n h)
+acted_last free ls (Some (Marks file mark)) n f h = quiet_last false n (acted (Marks file mark) n) refl refl refl refl (λ x i. i) (less_free free n h)
+acted_last free ls (Some (Saves file start)) n f h = quiet_last false n (acted (Saves file start) n) refl refl refl refl (λ x i. i) (less_free free n h)
+acted_last free ls (Some (Recovers file start buckets m)) n f h = quiet_last false n (acted (Recovers file start buckets m) n) refl refl refl refl (λ x i. i) (less_free free n h)
 acted_last free ls (Some (Holds serial file keys)) n f h = quiet_last false n (acted (Holds serial file keys) n) refl refl refl refl (λ x i. i) (less_free free n h)
 acted_last free ls (Some (Arms writes choice)) n f h = quiet_last false n (acted (Arms writes choice) n) refl refl refl refl (λ x i. i) (less_free free n h)
 acted_last free ls (Some (Clocks now)) n f h = quiet_last false n (acted (Clocks now) n) refl refl refl refl (λ x i. i) (less_free free n h)

@@ -2,14 +2,17 @@
 use Rattle.std.specs.Prelude.{◌≡◌, ◌⊎◌, ℕ, List, [], false, Option, Some, None, map, option_map}
 use Rattle.records_model.specs.History.{History, records}
 use Rattle.unit_laws.specs.Units.{Map}
+use Rattle.recovery_model.specs.File.{all_of}
+use Rattle.recovery_model.specs.Opening.{past_of}
 use Rattle.run_model.specs.World.{Node, File, Act, Half, MayTurnOut, Sound, Faulty, Barred, Unknown, aborted_prepared, acted, nothing_volatile, with_half}
 
 -- a history from this moment on: the records that were committed are its base, and branches that are not settled have their changes on top
 abbrev pub rebased : ℕ → History → History
 rebased moment h = record { base = records h; moment = moment; settled = []; live = h.live }
 
+-- a file so; what its records were at the moments before is what its journals of images and its save tell
 abbrev pub rebased_file : ℕ → File → File
-rebased_file moment f = record f { history = rebased moment f.history }
+rebased_file moment f = record f { history = rebased moment f.history; past = past_of f.carried.after f.carried.save (all_of f.carried.before.entries) (records f.history) }
 
 abbrev pub rebased_files : ℕ → List (Option File) → List (Option File)
 rebased_files moment fs = map (option_map (rebased_file moment)) fs

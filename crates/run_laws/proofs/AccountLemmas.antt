@@ -106,6 +106,23 @@ module _ (node : List ℕ) where
       go true false = refl
       go false c = refl
 
+  -- and so does doubt
+  pub left_doubt : (x : Id) (a : Account) → (left_by node x a).in_doubt ≡ a.in_doubt
+  left_doubt x a = go (bytes_eq x.node node) (list_any (same_id x) a.left)
+    where
+      go : (b c : Bool) → (if b then (if c then a else record a { records = told_by x a.told a.records; left = x ∷ a.left }) else a).in_doubt ≡ a.in_doubt
+      go true true = refl
+      go true false = refl
+      go false c = refl
+
+  pub last_doubt : (o : Option Settlement) (a : Account) → (last_left o a).in_doubt ≡ a.in_doubt
+  last_doubt None a = refl
+  last_doubt (Some s) a = go s.outcome
+    where
+      go : (c : Outcome) → (elim c as (λ x. Account) [ Commit ↦ left_by node s.serial a | Abort ↦ a ]).in_doubt ≡ a.in_doubt
+      go Commit = left_doubt s.serial a
+      go Abort = refl
+
   -- who has left, before and besides
   pub left_others : (x y : Id) (a : Account) → same_id y x ≡ false → list_any (same_id y) a.left ≡ false → list_any (same_id y) (left_by node x a).left ≡ false
   left_others x y a other none = go (bytes_eq x.node node) (list_any (same_id x) a.left)

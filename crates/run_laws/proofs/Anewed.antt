@@ -7,7 +7,7 @@ use Rattle.std.specs.Prelude.{◌&&◌}
 use Rattle.std.proofs.lemmas.Bool.{both_ways}
 use Rattle.transcript_model.specs.Lines as line
 use Rattle.transcript_model.specs.Lines.{Line, Normal}
-use Rattle.script_model.specs.Statements.{At, Boot, Direct, Dump, Init, Operation, Reading, Records, Says, Settle}
+use Rattle.script_model.specs.Statements.{At, Boot, Direct, Dump, Init, Operation, Reading, Records, Recover, Says, Settle}
 use Rattle.script_model.specs.Grammar.{reading}
 use Rattle.commit_protocol.specs.Messages.{Name}
 use Rattle.commit_protocol.specs.Opening.{Image, no_image}
@@ -27,7 +27,7 @@ use Rattle.run_agreement.specs.Laws.{MakesNoVolume, NamesApart, RunsFrom, image_
 use Rattle.run_agreement.specs.Seen.{IsKnown}
 use Rattle.run_agreement.proofs.Found.{bytes_itself}
 use Rattle.run_agreement.proofs.Told.{used_tell_no_more}
-use Rattle.run_laws.specs.Accounts.{Account, Tells, account_by, account_here, broken_id, broken_sets, commits_here, committed_in, created_here, direct_told, file_of, left_sets, made_anew, no_account, one_told, serial_told, sets_here, sets_of, unsettled_in}
+use Rattle.run_laws.specs.Accounts.{Account, Tells, account_after, account_by, broken_id, given_in, is_up_in, known_again, recovered_by, recovered_here, broken_sets, commits_here, committed_in, created_here, direct_told, file_of, left_sets, made_anew, no_account, one_told, serial_told, sets_here, sets_of, unsettled_in}
 use Rattle.run_laws.specs.Anew.{AreForgotten, AreKnownOrAnew, IsMadeAnew, IsMadeIn, Makes}
 use Rattle.run_laws.specs.Promises.{AbortsStand, AreLastApart, DumpPromises, DumpsShow, DumpsShowByAll, IsLastApart, Shows}
 use Rattle.run_laws.specs.SaidLaws.{SaidThere}
@@ -130,6 +130,28 @@ module _ (node file : Name) (w : World) (ms : List Node) (same : find_node node 
   account_same : (es : List Entry) (r : Reading) (lines : List Line) (a : Account) → account_by node file es x r lines a ≡ account_by node file es w r lines a
   account_same es r lines a = ap (λ (ts : List Rattle.run_laws.specs.Accounts.Told). if made_anew node r lines then no_account else (if created_here node file r lines then record a { records = empty } else commits_here node lines (record a { told = ts }))) (sets_same es r lines a.told)
 
+  recovered_same : (r : Reading) (lines : List Line) (b : Account) → recovered_here node file x r lines b ≡ recovered_here node file w r lines b
+  recovered_same (Says (At n (Recover f way))) (line.NormalCount count ∷ []) b = ap (λ (o : Option File). if bytes_eq n node && bytes_eq f file then
+      record b { records = elim o as (λ y. Rattle.records_model.specs.Records.Records) [ Some g ↦ Rattle.run_model.specs.Answers.records_recovered way g | None ↦ empty ] } else b) file_same
+  recovered_same (Says (At n (Recover f way))) _ b = refl
+  recovered_same _ lines b = refl
+
+  known_same : (b : Account) → known_again node file x b ≡ known_again node file w b
+  known_same b = (λ i. if b.in_doubt && up_same i then record b { records = committed_same i; in_doubt = false } else b)
+    where
+      up_same : is_up_in node x ≡ is_up_in node w
+      up_same = ap (λ (o : Option Node). elim o as (λ y. Bool) [ Some n ↦ n.up | None ↦ false ]) same
+
+      committed_same : committed_in node file x ≡ committed_in node file w
+      committed_same = ap (λ (o : Option File). elim o as (λ y. Rattle.records_model.specs.Records.Records) [ Some f ↦ records f.history | None ↦ empty ]) file_same
+
+-- and neither does what is told after a line of one world that led to another
+after_same : (node file : Name) (w v : World) (ms ks : List Node) → find_node node ms ≡ find_node node w.nodes → find_node node ks ≡ find_node node v.nodes → (es : List Entry) (r : Reading) (lines : List Line) (a : Account) →
+    account_after node file es (record w { nodes = ms }) (record v { nodes = ks }) r lines a ≡ account_after node file es w v r lines a
+after_same node file w v ms ks same later es r lines a =
+    known_same node file v ks later (recovered_here node file (record w { nodes = ms }) r lines (account_by node file es (record w { nodes = ms }) r lines a))
+    ∙ ap (known_again node file v) (recovered_same node file w ms same r lines (account_by node file es (record w { nodes = ms }) r lines a) ∙ ap (recovered_here node file w r lines) (account_same node file w ms same es r lines a))
+
 -- From some nodes to others.
 module _ (es : List Entry) (ns ms : List Node) (disks : List DiskCounts) (opening : AreOpening ns) (opens : AreOpening ms) (apart : NamesApart ns) (forgotten : AreForgotten es ns ms) where
   abbrev start : World
@@ -176,11 +198,11 @@ module _ (es : List Entry) (ns ms : List Node) (disks : List DiskCounts) (openin
     tells_like : (later before : List Entry) (w : World) (a : Account) → es ≡ later ++ before → Tells node file (opened ns disks) before w a → AccountLike before w a
     tells_like later [] w a parts tells = record {
       nodes = ms;
-      account = record { records = committed_in node file (opened ms disks); told = unsettled_in node file (opened ms disks); left = [] };
+      account = record { records = committed_in node file (opened ms disks); told = unsettled_in node file (opened ms disks); left = []; in_doubt = false };
       tells = (ap (λ (y : World). record y { nodes = ms }) tells.0, refl);
       like = subst (λ (y : World). Like es Same [] y.nodes ms) (sym tells.0) (record { all = opening_like es Same ns ms opening opens forgotten; again = λ name s. elim s [ inl t ↦ t | inr m ↦ absurd (no_split m.1 m.2 m.0 m.3) ] });
       same = λ s. elim s [
-        | inl t ↦ ap (λ (o : Option File). record { records = elim o as (λ y. Rattle.records_model.specs.Records.Records) [ Some f ↦ records f.history | None ↦ empty ]; told = elim o as (λ y. List Rattle.run_laws.specs.Accounts.Told) [ Some f ↦ map left_sets f.history.live | None ↦ [] ]; left = [] }) (file_same node file (opened ns disks) ms t) ∙ sym tells.1
+        | inl t ↦ ap (λ (o : Option File). record { records = elim o as (λ y. Rattle.records_model.specs.Records.Records) [ Some f ↦ records f.history | None ↦ empty ]; told = elim o as (λ y. List Rattle.run_laws.specs.Accounts.Told) [ Some f ↦ map left_sets f.history.live | None ↦ [] ]; left = []; in_doubt = false }) (file_same node file (opened ns disks) ms t) ∙ sym tells.1
         | inr m ↦ absurd (no_split m.1 m.2 m.0 m.3)
       ];
     }
@@ -188,29 +210,30 @@ module _ (es : List Entry) (ns ms : List Node) (disks : List DiskCounts) (openin
         let mid = tells.0 in
         let front = tells_like (later ++ e ∷ []) before mid tells.1 (parts ∙ sym (append_assoc later (e ∷ []) before)) tells.2 in
         let r = turn_like es Same mid w front.nodes e before (reading e.source.text) refl front.like (λ s name says boots m. inr (m.first before later e s parts says boots)) tells.3 in
-        let b = account_here node file before e (record mid { nodes = front.nodes }) front.account in
+        let b = account_after node file before (record mid { nodes = front.nodes }) (record w { nodes = r.nodes }) (reading e.source.text) e.lines front.account in
         record {
           nodes = r.nodes;
           account = b;
           tells = (record mid { nodes = front.nodes }, front.account, front.tells, r.turn, refl);
           like = r.like;
           same = λ s. elim s [
-            | inl t ↦ step_on mid front.nodes tells.1 front.account (front.same (inl t)) (front.like.again node (inl t)) ∙ sym tells.4
+            | inl t ↦ step_on mid front.nodes r.nodes tells.1 front.account (front.same (inl t)) (front.like.again node (inl t)) (r.like.again node (inl t)) ∙ sym tells.4
             | inr made ↦ elim (made_by node e before made) [
-              | inl makes ↦ anew (record mid { nodes = front.nodes }) front.account makes mid tells.3 ∙ sym (anew mid tells.1 makes mid tells.3) ∙ sym tells.4
-              | inr m ↦ step_on mid front.nodes tells.1 front.account (front.same (inr m)) (front.like.again node (inr m)) ∙ sym tells.4
+              | inl makes ↦ anew (record mid { nodes = front.nodes }) (record w { nodes = r.nodes }) front.account makes mid tells.3 ∙ sym (anew mid w tells.1 makes mid tells.3) ∙ sym tells.4
+              | inr m ↦ step_on mid front.nodes r.nodes tells.1 front.account (front.same (inr m)) (front.like.again node (inr m)) (r.like.again node (inr made)) ∙ sym tells.4
             ]
           ];
         }
       where
-        step_on : (mid : World) (ks : List Node) (x y : Account) → y ≡ x → find_node node ks ≡ find_node node mid.nodes → account_here node file before e (record mid { nodes = ks }) y ≡ account_here node file before e mid x
-        step_on mid ks x y is found = ap (account_here node file before e (record mid { nodes = ks })) is ∙ account_same node file mid ks found before (reading e.source.text) e.lines x
+        step_on : (mid : World) (ks vs : List Node) (x y : Account) → y ≡ x → find_node node ks ≡ find_node node mid.nodes → find_node node vs ≡ find_node node w.nodes →
+            account_after node file before (record mid { nodes = ks }) (record w { nodes = vs }) (reading e.source.text) e.lines y ≡ account_after node file before mid w (reading e.source.text) e.lines x
+        step_on mid ks vs x y is found later = ap (account_after node file before (record mid { nodes = ks }) (record w { nodes = vs }) (reading e.source.text) e.lines) is ∙ after_same node file mid w ks vs found later before (reading e.source.text) e.lines x
 
         -- nothing is told of it behind its INIT
-        anew : (u : World) (y : Account) (m : Makes node e) (mid : World) → Turn mid (reading e.source.text) e.lines w → account_here node file before e u y ≡ no_account
-        anew u y m mid turn =
+        anew : (u v : World) (y : Account) (m : Makes node e) (mid : World) → Turn mid (reading e.source.text) e.lines w → account_after node file before u v (reading e.source.text) e.lines y ≡ no_account
+        anew u v y m mid turn =
             let lines : e.lines ≡ Normal ∷ [] = init_lines mid w node m.slots m.journal e.lines (subst (λ (q : Reading). Turn mid q e.lines w) m.says turn) m.answered in
-            (λ i. account_by node file before u (m.says i) (lines i) y) ∙ ap (λ (b : Bool). if b then no_account else (commits_here node (Normal ∷ []) (record y { told = sets_here node file before u (Says (At node (Init m.slots m.journal))) (Normal ∷ []) y.told }))) (bytes_itself node node refl)
+            (λ i. account_after node file before u v (m.says i) (lines i) y) ∙ ap (λ (b : Bool). known_again node file v (if b then no_account else (commits_here node (Normal ∷ []) (record y { told = sets_here node file before u (Says (At node (Init m.slots m.journal))) (Normal ∷ []) y.told })))) (bytes_itself node node refl)
 
   module _ (closing : World) (legal : Legal (opened ns disks) es closing) where
     -- a node of which a dump shows a file is the same again
@@ -357,6 +380,7 @@ bare_opening n = record {
     slots = omega arith;
   };
   ends = tt;
+  images = tt;
   named = λ file none. refl;
   few_locks = omega arith;
 }

@@ -5,7 +5,7 @@ use Rattle.vms_model.specs.Ids.{Id}
 use Rattle.vms_model.specs.Keys.{Key}
 use Rattle.vms_model.specs.Transactions.{Aborted}
 use Rattle.transcript_model.specs.Lines.{Line}
-use Rattle.script_model.specs.Statements.{Operation, Request, Init, Boot, Create, SetFile, StartTrans, AddBranch, StartBranch, Records, Direct, EndBranch, EndTrans, AbortTrans, Inquire, DeclareRm, JoinRm, AckEvent, ForgetRm, GetDti, LmcpShow, LmcpDump, Dump, DumpJournal, Fuse, Crash, Clock, Named}
+use Rattle.script_model.specs.Statements.{Operation, Request, Init, Boot, Create, SetFile, StartTrans, AddBranch, StartBranch, Records, Direct, EndBranch, EndTrans, AbortTrans, Inquire, DeclareRm, JoinRm, AckEvent, ForgetRm, GetDti, LmcpShow, LmcpDump, Dump, DumpJournal, DumpImages, Backup, Recover, Fuse, Crash, Clock, Named}
 use Rattle.records_model.specs.Records.{Change}
 use Rattle.commit_protocol.specs.Messages as message
 use Rattle.commit_protocol.specs.Messages.{Message, Name, Reply}
@@ -20,6 +20,7 @@ use Rattle.run_model.specs.Answers as answers
 use Rattle.run_model.specs.Answers.{Row, Task, Serves, Ticks, Takes, Hears, LosesLink, RunsDown, Restarts, begins, branch_labelled, branch_named, just, powers, service, silent, table_rows, task_service, told_if, told_rows}
 use Rattle.run_laws.proofs.Preparing.{AllTell, CastsBy, PreparesBy, SendsBy, Tells, row_tells}
 use Rattle.run_laws.proofs.ToldParts.{IsThinning}
+use Rattle.world_laws.proofs.FileRows.{images_by, recovers_by, saves_by, sets_by}
 
 -- what an act prepares is so, and what leaves as read-only comes of a branch that is
 abbrev pub CastsIn : (Branch → Type 0) → Option Act → Type 0
@@ -127,7 +128,7 @@ request_casts : (s : Shared) (n : Node) (r : Request) → AllCast (TaskCasts s n
 request_casts s n (Init slots journal) = tt
 request_casts s n Boot = (tt, undone_casts Never _ s (acted world.Boots n))
 request_casts s n (Create file bucket size form) = created_casts Never n _ _
-request_casts s n (SetFile file setting) = (tt, tt)
+request_casts s n (SetFile file setting) = sets_by (AllCast Never) tt n file setting (λ mark. (tt, tt))
 request_casts s n (StartTrans label seconds) = (tt, (tt, (tt, tt)))
 request_casts s n (AddBranch label other new) = branch_casts Never (branch_labelled s n label) (λ b. told_rows s n (answers.adds n other new b)) (λ b is. (tt, (tt, never_casts n (rows.Authorise b.key.tid (next_id n)) (λ c q. q) _ (acted (world.Labels (record { name = new; node = other; tid = b.key.tid; bid = Some (next_id n); serial = None })) (acted world.Draws n)))))
 request_casts s n (StartBranch label) = begins_casts Never s n (world.labelled n.name label s.labels)
@@ -147,6 +148,9 @@ request_casts s n LmcpShow = tt
 request_casts s n LmcpDump = lines_cast Never (map answers.log_line (slot_records 0 n.durable.log))
 request_casts s n (Dump file) = records_cast Never (answers.records_of n file)
 request_casts s n DumpJournal = lines_cast Never (answers.entry_lines n.durable.units.first n.durable.units.entries)
+request_casts s n (DumpImages file side) = images_by (AllCast Never) tt n file side (λ ls a. lines_cast Never ls)
+request_casts s n (Backup file) = saves_by (AllCast Never) tt n file (λ start. (tt, tt))
+request_casts s n (Recover file way) = recovers_by (AllCast Never) tt n file way (λ start buckets m. (tt, tt))
 request_casts s n (Fuse writes choice) = (tt, tt)
 request_casts s n Crash = (tt, tt)
 request_casts s n (Clock now) = (tt, tt)

@@ -7,7 +7,7 @@ use Rattle.vms_model.specs.Keys.{Key}
 use Rattle.vms_model.specs.Transactions.{Aborted}
 use Rattle.transcript_model.specs.Lines as line
 use Rattle.transcript_model.specs.Lines.{Line}
-use Rattle.script_model.specs.Statements.{Operation, Request, Init, Boot, Create, SetFile, StartTrans, AddBranch, StartBranch, Records, Direct, EndBranch, EndTrans, AbortTrans, Inquire, DeclareRm, JoinRm, AckEvent, ForgetRm, GetDti, LmcpShow, LmcpDump, Dump, DumpJournal, Fuse, Crash, Clock}
+use Rattle.script_model.specs.Statements.{Operation, Request, Init, Boot, Create, SetFile, StartTrans, AddBranch, StartBranch, Records, Direct, EndBranch, EndTrans, AbortTrans, Inquire, DeclareRm, JoinRm, AckEvent, ForgetRm, GetDti, LmcpShow, LmcpDump, Dump, DumpJournal, DumpImages, Backup, Recover, Fuse, Crash, Clock}
 use Rattle.records_model.specs.Records.{Change}
 use Rattle.records_model.specs.History.{same_id}
 use Rattle.commit_protocol.specs.Table as table
@@ -26,6 +26,7 @@ use Rattle.run_model.specs.Steps.{node_after, node_after_rows, lines_of_rows, ro
 use Rattle.run_model.proofs.NodeLists.{clash}
 use Rattle.run_laws.proofs.Moving.{in_cut, in_put, none_open}
 use Rattle.run_laws.proofs.Noting.{Accepted, AllPut, Noted, Puts, row_puts}
+use Rattle.world_laws.proofs.FileRows.{images_by, recovers_by, saves_by, sets_by}
 
 -- a branch but for whether it has changed something
 abbrev pub bare : Branch → Branch
@@ -234,7 +235,7 @@ request_putting : (s : Shared) (n : Node) (r : Request) → begins_none (Serves 
 request_putting s n (Init slots journal) h = tt
 request_putting s n Boot h = (tt, undone_putting _ _ _ s (acted Boots n))
 request_putting s n (Create file bucket size form) h = created_putting _ _ n _ _
-request_putting s n (SetFile file setting) h = (tt, tt)
+request_putting s n (SetFile file setting) h = sets_by (ArePutting (TaskNotes s n (Serves (SetFile file setting))) (TaskAccepts s n (Serves (SetFile file setting)))) tt n file setting (λ mark. (tt, tt))
 request_putting s n (StartTrans label seconds) h = let no : ⊥ = cc in absurd no
 request_putting s n (StartBranch label) h = let no : ⊥ = cc in absurd no
 request_putting s n (Clock now) h = let no : ⊥ = cc in absurd no
@@ -262,6 +263,9 @@ request_putting s n LmcpShow h = tt
 request_putting s n LmcpDump h = lines_putting _ _ (map answers.log_line (slot_records 0 n.durable.log))
 request_putting s n (Dump file) h = records_putting _ _ (answers.records_of n file)
 request_putting s n DumpJournal h = lines_putting _ _ (answers.entry_lines n.durable.units.first n.durable.units.entries)
+request_putting s n (DumpImages file side) h = images_by (ArePutting (TaskNotes s n (Serves (DumpImages file side))) (TaskAccepts s n (Serves (DumpImages file side)))) tt n file side (λ ls a. lines_putting _ _ ls)
+request_putting s n (Backup file) h = saves_by (ArePutting (TaskNotes s n (Serves (Backup file))) (TaskAccepts s n (Serves (Backup file)))) tt n file (λ start. (tt, tt))
+request_putting s n (Recover file way) h = recovers_by (ArePutting (TaskNotes s n (Serves (Recover file way))) (TaskAccepts s n (Serves (Recover file way)))) tt n file way (λ start buckets m. (tt, tt))
 request_putting s n (Fuse writes choice) h = (tt, tt)
 request_putting s n Crash h = (tt, tt)
 

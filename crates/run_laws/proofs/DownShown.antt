@@ -3,12 +3,13 @@ use Rattle.log_laws.specs.Slots.{slot_records, records_in, committed_of, waiting
 use Rattle.std.proofs.Common.{◌≡◌, ℕ, ◌+◌, ◌⊎◌, List, [], ◌∷◌, ◌++◌, inl, inr, map, take, zero, suc, Bool, true, false, not, Option, Some, None, if◌then◌else◌, refl, sym, ◌∙◌, ap, subst}
 use Rattle.std.specs.Prelude.{length, nat_lt}
 use Rattle.std.specs.Option.{option_map, option_and_then}
+use Rattle.std.specs.List.{AllByRecursion}
 use Rattle.vms_model.specs.Keys.{Key}
 use Rattle.vms_model.specs.Transactions as txn
 use Rattle.vms_model.specs.Transactions.{Outcome, Commit, Abort, Reason}
 use Rattle.transcript_model.specs.Lines as line
 use Rattle.transcript_model.specs.Lines.{Line, Cause}
-use Rattle.script_model.specs.Statements.{Statement, At, Deliver, LinkDown, Settle, Operation, Request, Init, Boot, Create, SetFile, StartTrans, AddBranch, StartBranch, Records, Direct, EndBranch, EndTrans, AbortTrans, Inquire, DeclareRm, JoinRm, AckEvent, ForgetRm, GetDti, LmcpShow, LmcpDump, Dump, DumpJournal, Fuse, Crash, Clock}
+use Rattle.script_model.specs.Statements.{Statement, At, Deliver, LinkDown, Settle, Operation, Request, Init, Boot, Create, SetFile, StartTrans, AddBranch, StartBranch, Records, Direct, EndBranch, EndTrans, AbortTrans, Inquire, DeclareRm, JoinRm, AckEvent, ForgetRm, GetDti, LmcpShow, LmcpDump, Dump, DumpJournal, DumpImages, Backup, Recover, Fuse, Crash, Clock}
 use Rattle.records_model.specs.Records.{Change}
 use Rattle.unit_laws.specs.Journal as journal
 use Rattle.unit_laws.specs.Journal.{JournalEntry, entry_size}
@@ -39,6 +40,7 @@ use Rattle.run_laws.proofs.Labelling.{served_up}
 use Rattle.run_said.proofs.Passing.{AllPass, acknowledged_passes, append_passes, prepared_passes, printed_passes, released_passes, owed_passes}
 use Rattle.run_laws.proofs.ShownSettled.{in_append}
 use Rattle.run_laws.proofs.Staying.{find_put}
+use Rattle.world_laws.proofs.FileRows.{images_by, recovers_by, saves_by, sets_by, IsEntryLine}
 
 -- a line that is no DOWN
 abbrev is_undown : Line → Bool
@@ -136,6 +138,15 @@ entries_pass (e ∷ es) position = ((one e, tt), entries_pass es (position + ent
     one (journal.PreparedEntry tid serial) = refl
     one (journal.SettledEntry tid serial outcome moment) = refl
 
+images_pass : (ls : List Line) → AllByRecursion IsEntryLine ls → RowsPass (map answers.shown_line ls)
+images_pass [] a = tt
+images_pass (l ∷ ls) a = ((subst (λ (k : Line). is_undown k ≡ true) (sym a.0.2) (one a.0.1), tt), images_pass ls a.1)
+  where
+    one : (e : JournalEntry) → is_undown (answers.entry_line a.0.0 e) ≡ true
+    one (journal.ChangeEntry tid serial file key before) = refl
+    one (journal.PreparedEntry tid serial) = refl
+    one (journal.SettledEntry tid serial outcome moment) = refl
+
 records_pass : (es : List (Key × List ℕ)) → RowsPass (map answers.shown_record es)
 records_pass [] = tt
 records_pass (e ∷ es) = ((refl, tt), records_pass es)
@@ -164,7 +175,7 @@ request_pass : (s : Shared) (n : Node) (request : Request) → RowsPass ((servic
 request_pass s n (Init slots blocks) = tt
 request_pass s n Boot = boot_pass s n
 request_pass s n (Create file bucket size form) = created_pass n _ _
-request_pass s n (SetFile file setting) = (tt, tt)
+request_pass s n (SetFile file setting) = sets_by RowsPass tt n file setting (λ mark. (tt, tt))
 request_pass s n (StartTrans label seconds) = told_pass s n (answers.starts n label seconds)
 request_pass s n (AddBranch label other new) = branch_pass (branch_labelled s n label) (λ b. told_rows s n (answers.adds n other new b)) (λ b. told_pass s n (answers.adds n other new b))
 request_pass s n (StartBranch label) = if_told s n (option_and_then (begins n) (world.labelled n.name label s.labels))
@@ -183,6 +194,9 @@ request_pass s n LmcpShow = tt
 request_pass s n LmcpDump = logs_pass (slot_records 0 n.durable.log)
 request_pass s n (Dump file) = records_pass (answers.records_of n file)
 request_pass s n DumpJournal = entries_pass n.durable.units.entries n.durable.units.first
+request_pass s n (DumpImages file side) = images_by RowsPass tt n file side (λ ls a. images_pass ls a)
+request_pass s n (Backup file) = saves_by RowsPass tt n file (λ start. (tt, tt))
+request_pass s n (Recover file way) = recovers_by RowsPass tt n file way (λ start buckets m. (tt, tt))
 request_pass s n (Fuse writes choice) = (tt, tt)
 request_pass s n Crash = ((refl, tt), tt)
 request_pass s n (Clock now) = (tt, tt)

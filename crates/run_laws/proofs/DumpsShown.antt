@@ -1,5 +1,5 @@
 -- Each dump shows just the records that are told of its file.
-use Rattle.std.proofs.Common.{◌≡◌, ℕ, List, [], ◌∷◌, ◌++◌, map, length, Bool, true, false, not, ◌||◌, ◌&&◌, Option, Some, None, if◌then◌else◌, refl, sym, ◌∙◌, ap, subst, inl, inr}
+use Rattle.std.proofs.Common.{◌≡◌, ◌⊎◌, ℕ, List, [], ◌∷◌, ◌++◌, map, length, Bool, true, false, not, ◌||◌, ◌&&◌, Option, Some, None, if◌then◌else◌, refl, sym, ◌∙◌, ap, subst, inl, inr}
 use Rattle.std.specs.Str.{bytes_eq}
 use Rattle.std.specs.FinMap.{empty, entries}
 use Rattle.std.proofs.lemmas.Bool.{both_ways, false_from_ne_true}
@@ -9,7 +9,7 @@ use Rattle.vms_model.specs.Keys.{Key}
 use Rattle.vms_model.specs.Transactions.{Outcome, Commit, Abort}
 use Rattle.transcript_model.specs.Lines as line
 use Rattle.transcript_model.specs.Lines.{Line, Cause}
-use Rattle.script_model.specs.Statements.{At, Deliver, LinkDown, Settle, Request, Form, Init, Create, Records, Direct, Dump, Reading, Blank, Says, Bad}
+use Rattle.script_model.specs.Statements.{At, Deliver, LinkDown, Settle, Request, Form, Init, Create, Records, Direct, Recover, Dump, Reading, Blank, Says, Bad}
 use Rattle.script_model.specs.Grammar.{reading}
 use Rattle.records_model.specs.Records.{Records as TheRecords}
 use Rattle.records_model.specs.History.{current, on_top, records}
@@ -29,7 +29,7 @@ use Rattle.run_model.proofs.CauseLemmas.{refuses_first}
 use Rattle.run_model.proofs.Failing.{once_refuses}
 use Rattle.run_model.proofs.PartLemmas.{turn}
 use Rattle.run_model.proofs.TaskLemmas.{effect_name}
-use Rattle.run_laws.specs.Accounts.{Account, Told, Tells, account_by, account_here, commits_here, committed_in, created_here, file_of, left_sets, made_anew, no_account, direct_told, one_told, serial_told, sets_of, told_by, unsettled_in}
+use Rattle.run_laws.specs.Accounts.{Account, Told, Tells, account_after, account_by, commits_here, committed_in, is_up_in, known_again, recovered_by, recovered_here, created_here, file_of, left_sets, made_anew, no_account, direct_told, one_told, serial_told, sets_of, told_by, unsettled_in}
 use Rattle.run_laws.specs.Laws.{DumpsHold}
 use Rattle.run_laws.specs.Promises.{AbortsStand, AreLastApart, DumpsShow, DumpsShowByAll, Shows, IsLastApart, IsNeverCommitted, settlements_of}
 use Rattle.world_laws.specs.Nodes.{IsKeptDisk, IsKeptNode}
@@ -41,7 +41,7 @@ use Rattle.world_laws.proofs.HeldLemmas.{noted_at}
 use Rattle.world_laws.proofs.WorldLemmas.{each_opening}
 use Rattle.run_laws.proofs.AccountLemmas.{last_left, opening_tells, untold_left}
 use Rattle.run_laws.proofs.FileRequests.{IsKept, special_effect}
-use Rattle.run_laws.proofs.FileTelling.{Betrays, IsDoomed, IsToldDisk, task_quiet, telling, telling_keeps, tells_file}
+use Rattle.run_laws.proofs.FileTelling.{Betrays, IsDoomed, IsToldDisk, IsToldUp, falls_told, or_else, task_quiet, telling, telling_keeps, tells_file}
 use Rattle.run_laws.proofs.Keeping.{else_effect, is_init, is_special, nothing_more}
 use Rattle.run_laws.proofs.Labelling.{served_up}
 use Rattle.run_laws.proofs.Named.{Named}
@@ -87,7 +87,7 @@ module _ (node file : List ℕ) (D : Id → Type 0) where
 
   module _ (es : List Entry) (w : World) (a : Account) where
     abbrev by : Reading → List Line → Account
-    by r lines = account_by node file es w r lines a
+    by r lines = recovered_here node file w r lines (account_by node file es w r lines a)
 
     plain_request : (at : List ℕ) (r : Request) (lines : List Line) → (bytes_eq at node && tells_file node file D r) ≡ false → by (Says (At at r)) lines ≡ commits_here node lines a
     plain_request at (Records label f op) [] e = refl
@@ -96,6 +96,7 @@ module _ (node file : List ℕ) (D : Id → Type 0) where
     plain_request at (Direct f op) lines e = ap (λ b. commits_here node lines (record a { told = if b then direct_told node file w op lines a.told else a.told })) e
     plain_request at (Create f bucket size form) lines e = ap (λ b. if b then record a { records = empty } else commits_here node lines a) (not_created at f bucket size form (not_here (bytes_eq at node) e) lines)
     plain_request at (Init slots journal) lines e = ap (λ b. if b then no_account else commits_here node lines a) (not_made at slots journal (not_here (bytes_eq at node) e) lines)
+    plain_request at (Recover f way) lines e = ap (λ b. if b then recovered_by node file w way lines (commits_here node lines a) else commits_here node lines a) e
     plain_request at _ lines e = refl
 
     plain_by : (r : Reading) (lines : List Line) → IsPlainReading (telling node file D) (telling_keeps node file D) node tracks r → by r lines ≡ commits_here node lines a
@@ -141,6 +142,7 @@ module _ (node file : List ℕ) (D : Id → Type 0) where
             begins : (r : Request) → tells_file node file D r ≡ true → refused_at_once w (At node r) ≡ None
             begins (Records label f op) k = ap (λ o. first_of o None) first
             begins (Direct f op) k = ap (λ o. first_of o None) first
+            begins (Recover f way) k = ap (λ o. first_of o None) first
             begins (Create f bucket size form) k = ap (λ o. first_of o None) first
             begins (Init slots journal) k = ap (λ o. first_of o None) first
             begins _ k = let no : ⊥ = cc in absurd no
@@ -148,6 +150,7 @@ module _ (node file : List ℕ) (D : Id → Type 0) where
             tasked : (r : Request) → tells_file node file D r ≡ true → task_of w (At node r) ≡ Some (record { node = node; task = Serves r })
             tasked (Records label f op) k = refl
             tasked (Direct f op) k = refl
+            tasked (Recover f way) k = refl
             tasked (Create f bucket size form) k = refl
             tasked (Init slots journal) k = refl
             tasked _ k = let no : ⊥ = cc in absurd no
@@ -175,10 +178,53 @@ module _ (node file : List ℕ) (D : Id → Type 0) where
         go (Says (LinkDown x y)) q = plainly (Says (LinkDown x y)) tt q
         go (Says Settle) q = plainly (Says Settle) tt q
 
+  -- Once the node is up, the records are those that are committed.
+
+  module _ (v : World) (sound : IsSound v) where
+    there_committed : (n : Node) → find_node node v.nodes ≡ Some n → committed_in node file v ≡ records (history_in file n.durable.directory)
+    there_committed n found = ap (λ f. elim f as (λ x. TheRecords) [ Some g ↦ records g.history | None ↦ empty ]) file_there ∙ go (find_file file n.durable.directory)
+      where
+        file_there : file_of node file v ≡ find_file file n.durable.directory
+        file_there = ap (λ (o : Option Node). elim o as (λ x. Option File) [ Some m ↦ find_file file m.durable.directory | None ↦ None ]) found
+
+        go : (f : Option File) → (elim f as (λ x. TheRecords) [ Some g ↦ records g.history | None ↦ empty ]) ≡ records (history_of f)
+        go (Some g) = refl
+        go None = refl
+
+    known_kept : (b : Account) (n : Node) → find_node node v.nodes ≡ Some n → n.up ≡ true → IsKept node file D b n → IsKept node file D (record b { records = committed_in node file v; in_doubt = false }) n
+    known_kept b n found up k = record {
+      disk = or_else node file D (λ x. x) (λ h. inr (falls_told node file D false (record b { records = committed_in node file v; in_doubt = false }) n (kept.runs up).0 h)) told;
+      way = λ act e. absurd (both_ways n.up (kept.way act e).2 up);
+      runs = λ u. told;
+    }
+      where
+        kept : IsKeptNode v.shared n
+        kept = (sound_node v sound node n found).kept
+
+        told : Betrays node file D n.settled ⊎ IsToldUp node file D false (record b { records = committed_in node file v; in_doubt = false }) n
+        told = or_else node file D (λ x. x) (λ h. inr (record {
+          named = h.named;
+          shown = h.shown;
+          records_are = λ sure. there_committed n found;
+          quiet = h.quiet;
+          own = h.own;
+          only = h.only;
+          fresh = h.fresh;
+          told = λ x i. let t = h.told x i in record { tells = t.tells; staying = t.staying };
+        })) (k.runs up)
+
+    known_told : (b : Account) → AreTold b v → AreTold (known_again node file v b) v
+    known_told b h n found = go b.in_doubt (is_up_in node v) refl
+      where
+        go : (d c : Bool) → is_up_in node v ≡ c → IsKept node file D (if d && c then record b { records = committed_in node file v; in_doubt = false } else b) n
+        go true true up = known_kept b n found (sym (ap (λ (o : Option Node). elim o as (λ x. Bool) [ Some m ↦ m.up | None ↦ false ]) found) ∙ up) (h n found)
+        go true false up = h n found
+        go false c up = h n found
+
   -- The opening.
 
   abbrev opening_account : World → Account
-  opening_account opening = record { records = committed_in node file opening; told = unsettled_in node file opening; left = [] }
+  opening_account opening = record { records = committed_in node file opening; told = unsettled_in node file opening; left = []; in_doubt = false }
 
   module _ (nodes : List Node) (disks : List DiskCounts) (n : Node) (found : find_node node nodes ≡ Some n) (o : IsOpening n) (last : IsLastApart n) (kept : IsKeptDisk n) where
     file_here : file_of node file (opened nodes disks) ≡ find_file file n.durable.directory
@@ -216,7 +262,7 @@ module _ (node file : List ℕ) (D : Id → Type 0) where
     opening_disk : IsToldDisk node file D (opening_account (opened nodes disks)) n.name n.durable
     opening_disk = record {
       named = found_name node nodes n found;
-      records_are = stay n.durable.last refl ∙ records_here;
+      records_are = λ sure. stay n.durable.last refl ∙ records_here;
       quiet = λ gone x m. ap (λ t. told_by x t m) (told_here ∙ ap (λ f. map left_sets (history_of f).live) gone);
       own = λ s e. let k : LastIsReached n (Some s) = subst (LastIsReached n) e o.last in k;
       apart = λ s r e commit i j. (last s e).1 r i j;
@@ -228,7 +274,7 @@ module _ (node file : List ℕ) (D : Id → Type 0) where
         stay None e = refl
         stay (Some s) e = go s.outcome (bytes_eq s.serial.node node)
           where
-            go : (c : Outcome) (b : Bool) → (elim c as (λ x. Account) [ Commit ↦ (if b then record { records = told_by s.serial (unsettled_in node file (opened nodes disks)) (committed_in node file (opened nodes disks)); told = unsettled_in node file (opened nodes disks); left = s.serial ∷ [] } else opening_account (opened nodes disks)) | Abort ↦ opening_account (opened nodes disks) ]).records ≡ committed_in node file (opened nodes disks)
+            go : (c : Outcome) (b : Bool) → (elim c as (λ x. Account) [ Commit ↦ (if b then record { records = told_by s.serial (unsettled_in node file (opened nodes disks)) (committed_in node file (opened nodes disks)); told = unsettled_in node file (opened nodes disks); left = s.serial ∷ []; in_doubt = false } else opening_account (opened nodes disks)) | Abort ↦ opening_account (opened nodes disks) ]).records ≡ committed_in node file (opened nodes disks)
             go Commit true = no_unit_untold s.serial (last s e).0 (committed_in node file (opened nodes disks))
             go Commit false = refl
             go Abort b = refl
@@ -254,11 +300,24 @@ pub tells_legal : (node file : List ℕ) (opening : World) (es : List Entry) (w 
 tells_legal node file opening [] w a tells = tells.0
 tells_legal node file opening (e ∷ es) w a tells = (tells.0, tells_legal node file opening es tells.0 tells.1 tells.2, tells.3)
 
+-- while its node is up, the records of a file are in no doubt
+sure_up : (node file : List ℕ) (opening : World) (es : List Entry) (w : World) (a : Account) → Tells node file opening es w a → is_up_in node w ≡ true → a.in_doubt ≡ false
+sure_up node file opening [] w a tells up = ap (λ (b : Account). b.in_doubt) tells.1
+sure_up node file opening (e ∷ es) w a tells up = ap (λ (b : Account). b.in_doubt) tells.4 ∙ go (recovered_here node file tells.0 (reading e.source.text) e.lines (account_by node file es tells.0 (reading e.source.text) e.lines tells.1))
+  where
+    go : (b : Account) → (known_again node file w b).in_doubt ≡ false
+    go b = at b.in_doubt (is_up_in node w) refl up
+      where
+        at : (d c : Bool) → b.in_doubt ≡ d → c ≡ true → (if d && c then record b { records = committed_in node file w; in_doubt = false } else b).in_doubt ≡ false
+        at true true e k = refl
+        at true false e k = let no : ⊥ = cc in absurd no
+        at false c e k = e
+
 pub legal_tells : (node file : List ℕ) (opening : World) (es : List Entry) (w : World) → Legal opening es w → (a : Account) × Tells node file opening es w a
-legal_tells node file opening [] w legal = (record { records = committed_in node file opening; told = unsettled_in node file opening; left = [] }, (legal, refl))
+legal_tells node file opening [] w legal = (record { records = committed_in node file opening; told = unsettled_in node file opening; left = []; in_doubt = false }, (legal, refl))
 legal_tells node file opening (e ∷ es) w legal =
     let before = legal_tells node file opening es legal.0 legal.1 in
-    (account_here node file es e legal.0 before.0, (legal.0, before.0, before.1, legal.2, refl))
+    (account_after node file es legal.0 w (reading e.source.text) e.lines before.0, (legal.0, before.0, before.1, legal.2, refl))
 
 last_apart : (nodes : List Node) → AreLastApart nodes → (node : List ℕ) (n : Node) → find_node node nodes ≡ Some n → IsLastApart n
 last_apart [] h node n e = let no : ⊥ = cc in absurd no
@@ -288,8 +347,9 @@ module _ (node file : List ℕ) (nodes : List Node) (disks : List DiskCounts) (o
       let on = legal_on mid w closing e after tells.3 legal in
       let here = split ∙ ap (λ xs. later ++ xs) (sym (split_on after e es)) in
       let sound = legal_sound (opened nodes disks) mid es (opening_sound nodes disks opens) before in
+      let then_sound = legal_sound (opened nodes disks) w (e ∷ es) (opening_sound nodes disks opens) (tells_legal node file (opened nodes disks) (e ∷ es) w a tells) in
       subst (λ b. AreTold node file Never b w) (sym tells.4)
-      (turn_told node file Never es mid tells.1 w (reading e.source.text) e.lines (legal_named nodes disks es mid opens before) sound (doomed_at es (after ++ e ∷ []) mid here before on sound) tells.3 (path_told es (after ++ e ∷ []) mid tells.1 here tells.2 on))
+      (known_told node file Never w then_sound (recovered_here node file mid (reading e.source.text) e.lines (account_by node file es mid (reading e.source.text) e.lines tells.1)) (turn_told node file Never es mid tells.1 w (reading e.source.text) e.lines (legal_named nodes disks es mid opens before) sound (doomed_at es (after ++ e ∷ []) mid here before on sound) tells.3 (path_told es (after ++ e ∷ []) mid tells.1 here tells.2 on)))
 
 -- Dumps.
 
@@ -391,7 +451,7 @@ dumps_hold nodes disks es closing opens apart legal stand = record { shows = sho
         of_node : (n : Node) → find_node node mid.nodes ≡ Some n → IsDumped n file events count → IsSound mid → IsKept node file (λ x. IsNeverCommitted x mid) a n → Shows events count a.records
         of_node n found d sound k = elim (k.runs d.up) [
           | inl b ↦ absurd (not_betrayed node file mid n sound found b)
-          | inr up ↦ subst (Shows events count) (sym up.records_are) d.shows
+          | inr up ↦ subst (Shows events count) (sym (up.records_are (sure_up node file (opened nodes disks) before mid a tells (ap (λ (o : Option Node). elim o as (λ x. Bool) [ Some m ↦ m.up | None ↦ false ]) found ∙ d.up)))) d.shows
         ]
 
     shows : DumpsShow (opened nodes disks) es

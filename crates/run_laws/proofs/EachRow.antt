@@ -3,12 +3,13 @@ use Rattle.log_laws.specs.Slots.{slot_records, records_in, committed_of, waiting
 use Rattle.std.proofs.Common.{◌≡◌, ℕ, ◌+◌, zero, suc, List, [], ◌∷◌, ◌++◌, map, take, Bool, true, false, Option, Some, None, if◌then◌else◌, refl, sym, subst}
 use Rattle.std.specs.Prelude.{nat_lt, length}
 use Rattle.std.specs.Option.{option_map, option_and_then}
+use Rattle.std.specs.List.{AllByRecursion}
 use Rattle.vms_model.specs.Ids.{Id}
 use Rattle.vms_model.specs.Keys.{Key}
 use Rattle.vms_model.specs.Transactions.{Outcome, Abort, Reason, Aborted, SegFail}
 use Rattle.transcript_model.specs.Lines as line
 use Rattle.transcript_model.specs.Lines.{Line, Cause}
-use Rattle.script_model.specs.Statements.{Operation, Request, Init, Boot, Create, SetFile, StartTrans, AddBranch, StartBranch, Records, Direct, EndBranch, EndTrans, AbortTrans, Inquire, DeclareRm, JoinRm, AckEvent, ForgetRm, GetDti, LmcpShow, LmcpDump, Dump, DumpJournal, Fuse, Crash, Clock}
+use Rattle.script_model.specs.Statements.{Operation, Request, Init, Boot, Create, SetFile, StartTrans, AddBranch, StartBranch, Records, Direct, EndBranch, EndTrans, AbortTrans, Inquire, DeclareRm, JoinRm, AckEvent, ForgetRm, GetDti, LmcpShow, LmcpDump, Dump, DumpJournal, DumpImages, Backup, Recover, Fuse, Crash, Clock}
 use Rattle.records_model.specs.Records.{Change}
 use Rattle.unit_laws.specs.Journal as journal
 use Rattle.unit_laws.specs.Journal.{JournalEntry, entry_size}
@@ -23,6 +24,7 @@ use Rattle.run_model.specs.Answers as answers
 use Rattle.run_model.specs.Answers.{Row, Service, Task, Serves, Ticks, Takes, Hears, LosesLink, RunsDown, Restarts, task_service, service, refused_before_reading, told_if, told_rows, table_rows, begins, just, boot_rows, shown_by, settled_line, forgot_lines, acknowledged_lines, released_lines, table_lines, last_line, last_lines, branch_labelled, branch_named, creates, operated, directed, changes_at, keys_at, records_of, shown_record, entry_line, entry_lines, shown_line, prepared_line, prepared_lines, silent}
 use Rattle.run_model.specs.Steps.{node_after, node_after_rows, rows_if}
 use Rattle.run_said.proofs.Passing.{AllPass, acknowledged_passes, append_passes, prepared_passes, printed_passes, released_passes, owed_passes}
+use Rattle.world_laws.proofs.FileRows.{images_by, recovers_by, saves_by, sets_by, IsEntryLine}
 
 -- A line that shows no settlement, be it as the last of a disk.
 
@@ -151,6 +153,11 @@ module _ (P : Row → Node → Type 0) (plain : (act : Option Act) (ls : List Li
   entries_each [] position n = tt
   entries_each (e ∷ es) position n = (plain None (entry_line position e ∷ []) n (entry_plain position e, tt) refl (entry_voteless position e, tt), entries_each es (position + entry_size e) n)
 
+  images_each : (ls : List Line) → AllByRecursion IsEntryLine ls → (n : Node) → EachRow P (map shown_line ls) n
+  images_each [] a n = tt
+  images_each (l ∷ ls) a n =
+      (plain None (l ∷ []) n (subst (λ (k : Line). is_plain k ≡ true) (sym a.0.2) (entry_plain a.0.0 a.0.1), tt) refl (subst (λ (k : Line). is_voteless k ≡ true) (sym a.0.2) (entry_voteless a.0.0 a.0.1), tt), images_each ls a.1 n)
+
   records_each : (es : List (Key × List ℕ)) (n : Node) → EachRow P (map shown_record es) n
   records_each [] n = tt
   records_each (e ∷ es) n = (plain None (line.Record e.0 e.1 ∷ []) n (refl, tt) refl (refl, tt), records_each es n)
@@ -199,7 +206,7 @@ module _ (P : Row → Node → Type 0) (plain : (act : Option Act) (ls : List Li
   request_each s n (Init slots journal) = tt
   request_each s n Boot = boot_each s n
   request_each s n (Create file bucket size form) = created_each n _ _
-  request_each s n (SetFile file setting) = one_plain (world.Marks file (answers.is_for_units setting)) n refl tt
+  request_each s n (SetFile file setting) = sets_by (λ rs. EachRow P rs n) tt n file setting (λ mark. one_plain (world.Marks file mark) n refl tt)
   request_each s n (StartTrans label seconds) = told_each s n (answers.starts n label seconds) (refl, tt, (refl, tt, tt))
   request_each s n (AddBranch label other new) = branch_each n (branch_labelled s n label) (λ b. told_rows s n (answers.adds n other new b)) (λ b. told_each s n (answers.adds n other new b) (refl, tt, (refl, tt, tt)))
   request_each s n (StartBranch label) = begins_each s n (labelled n.name label s.labels)
@@ -220,6 +227,9 @@ module _ (P : Row → Node → Type 0) (plain : (act : Option Act) (ls : List Li
   request_each s n LmcpDump = logs_each (slot_records 0 n.durable.log) n
   request_each s n (Dump file) = records_each (records_of n file) n
   request_each s n DumpJournal = entries_each n.durable.units.entries n.durable.units.first n
+  request_each s n (DumpImages file side) = images_by (λ rs. EachRow P rs n) tt n file side (λ ls a. images_each ls a n)
+  request_each s n (Backup file) = saves_by (λ rs. EachRow P rs n) tt n file (λ start. one_plain (world.Saves file start) n refl tt)
+  request_each s n (Recover file way) = recovers_by (λ rs. EachRow P rs n) tt n file way (λ start buckets m. one_plain (world.Recovers file start buckets m) n refl tt)
   request_each s n (Fuse writes choice) = one_plain (world.Arms writes choice) n refl tt
   request_each s n Crash = (plain (Some world.Falls) (line.Crashed n.name ∷ []) n (refl, tt) refl (refl, tt), tt)
   request_each s n (Clock now) = one_plain (world.Clocks now) n refl tt

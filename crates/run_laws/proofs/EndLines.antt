@@ -3,12 +3,13 @@ use Rattle.log_laws.specs.Slots.{slot_records, records_in, committed_of, waiting
 use Rattle.std.proofs.Common.{◌≡◌, ℕ, ◌+◌, ◌⊎◌, List, [], ◌∷◌, ◌++◌, inl, inr, map, take, zero, suc, Bool, true, false, Option, Some, None, if◌then◌else◌, refl, sym, ◌∙◌, subst}
 use Rattle.std.specs.Prelude.{length, nat_lt}
 use Rattle.std.specs.Option.{option_map, option_and_then}
+use Rattle.std.specs.List.{AllByRecursion}
 use Rattle.vms_model.specs.Ids.{Id}
 use Rattle.vms_model.specs.Keys.{Key}
 use Rattle.vms_model.specs.Transactions.{Outcome, Commit, Abort, Reason, Aborted}
 use Rattle.transcript_model.specs.Lines as line
 use Rattle.transcript_model.specs.Lines.{Line, Cause}
-use Rattle.script_model.specs.Statements.{Operation, Request, Init, Boot, Create, SetFile, StartTrans, AddBranch, StartBranch, Records, Direct, EndBranch, EndTrans, AbortTrans, Inquire, DeclareRm, JoinRm, AckEvent, ForgetRm, GetDti, LmcpShow, LmcpDump, Dump, DumpJournal, Fuse, Crash, Clock}
+use Rattle.script_model.specs.Statements.{Operation, Request, Init, Boot, Create, SetFile, StartTrans, AddBranch, StartBranch, Records, Direct, EndBranch, EndTrans, AbortTrans, Inquire, DeclareRm, JoinRm, AckEvent, ForgetRm, GetDti, LmcpShow, LmcpDump, Dump, DumpJournal, DumpImages, Backup, Recover, Fuse, Crash, Clock}
 use Rattle.records_model.specs.Records.{Change}
 use Rattle.unit_laws.specs.Journal as journal
 use Rattle.unit_laws.specs.Journal.{JournalEntry, entry_size}
@@ -27,6 +28,7 @@ use Rattle.run_model.proofs.Refusing.{not_ready}
 use Rattle.run_laws.proofs.EndRows.{ActEnds, AllEnd, IsEndingIn, Seen, SettlesSo, row_ends}
 use Rattle.run_laws.proofs.Labelling.{served_up}
 use Rattle.run_said.proofs.Passing.{AllPass, acknowledged_passes, append_passes, prepared_passes, released_passes, owed_passes, told_passes}
+use Rattle.world_laws.proofs.FileRows.{images_by, recovers_by, saves_by, sets_by, IsEntryLine}
 
 -- the line that shows how the first branch of a transaction was settled
 abbrev pub ended_line : Id → Option Reason → ℕ → Line
@@ -173,6 +175,9 @@ abbrev pub EndingAt : Node → Task → Id → Type 0
 EndingAt n (Serves Boot) tid = ⊥
 EndingAt n (Serves (Init slots blocks)) tid = ⊥
 EndingAt n (Serves DumpJournal) tid = ⊥
+EndingAt n (Serves (DumpImages file side)) tid = ⊥
+EndingAt n (Serves (Backup file)) tid = ⊥
+EndingAt n (Serves (Recover file way)) tid = ⊥
 EndingAt n (Serves (Fuse writes choice)) tid = ⊥
 EndingAt n (Serves Crash) tid = ⊥
 EndingAt n (Serves (Clock now)) tid = ⊥
@@ -183,6 +188,9 @@ pub ending_up : (s : Shared) (n : Node) (t : Task) (tid : Id) → refused_before
 ending_up s n (Serves Boot) tid first h = absurd h
 ending_up s n (Serves (Init slots blocks)) tid first h = absurd h
 ending_up s n (Serves DumpJournal) tid first h = absurd h
+ending_up s n (Serves (DumpImages file side)) tid first h = absurd h
+ending_up s n (Serves (Backup file)) tid first h = absurd h
+ending_up s n (Serves (Recover file way)) tid first h = absurd h
 ending_up s n (Serves (Fuse writes choice)) tid first h = absurd h
 ending_up s n (Serves Crash) tid first h = absurd h
 ending_up s n (Serves (Clock now)) tid first h = absurd h
@@ -223,6 +231,15 @@ module _ (P : Id → Type 0) where
   entries_ends (e ∷ es) position seen = (unended P seen (answers.entry_line position e ∷ []) (one e, tt), entries_ends es (position + entry_size e) _)
     where
       one : (e : JournalEntry) → is_unended (answers.entry_line position e) ≡ true
+      one (journal.ChangeEntry tid serial file key before) = refl
+      one (journal.PreparedEntry tid serial) = refl
+      one (journal.SettledEntry tid serial outcome moment) = refl
+
+  images_ends : (ls : List Line) → AllByRecursion IsEntryLine ls → (seen : List Line) → RowsEnd P seen (map answers.shown_line ls)
+  images_ends [] a seen = tt
+  images_ends (l ∷ ls) a seen = (unended P seen (l ∷ []) (subst (λ (k : Line). is_unended k ≡ true) (sym a.0.2) (one a.0.1), tt), images_ends ls a.1 _)
+    where
+      one : (e : JournalEntry) → is_unended (answers.entry_line a.0.0 e) ≡ true
       one (journal.ChangeEntry tid serial file key before) = refl
       one (journal.PreparedEntry tid serial) = refl
       one (journal.SettledEntry tid serial outcome moment) = refl
@@ -274,7 +291,7 @@ request_ends : (s : Shared) (n : Node) (request : Request) → RowsEnd (EndingAt
 request_ends s n (Init slots blocks) = tt
 request_ends s n Boot = boot_ends (EndingAt n (Serves Boot)) s n
 request_ends s n (Create file bucket size form) = created_ends (IsEndingIn n.volatile.branches) n _ _
-request_ends s n (SetFile file setting) = (tt, tt)
+request_ends s n (SetFile file setting) = sets_by (RowsEnd (EndingAt n (Serves (SetFile file setting))) []) tt n file setting (λ mark. (tt, tt))
 request_ends s n (StartTrans label seconds) = (tt, (tt, (tt, tt)))
 request_ends s n (AddBranch label other new) = branch_ends (IsEndingIn n.volatile.branches) (branch_labelled s n label) (λ b. told_rows s n (answers.adds n other new b)) (λ b. (tt, (tt, event_ends (rows.Authorise b.key.tid (next_id n)) _ n _)))
 request_ends s n (StartBranch label) = begins_ends s n (world.labelled n.name label s.labels)
@@ -293,6 +310,9 @@ request_ends s n LmcpShow = tt
 request_ends s n LmcpDump = logs_ends (IsEndingIn n.volatile.branches) (slot_records 0 n.durable.log) []
 request_ends s n (Dump file) = records_ends (IsEndingIn n.volatile.branches) (answers.records_of n file) []
 request_ends s n DumpJournal = entries_ends (EndingAt n (Serves DumpJournal)) n.durable.units.entries n.durable.units.first []
+request_ends s n (DumpImages file side) = images_by (RowsEnd (EndingAt n (Serves (DumpImages file side))) []) tt n file side (λ ls a. images_ends (EndingAt n (Serves (DumpImages file side))) ls a [])
+request_ends s n (Backup file) = saves_by (RowsEnd (EndingAt n (Serves (Backup file))) []) tt n file (λ start. (tt, tt))
+request_ends s n (Recover file way) = recovers_by (RowsEnd (EndingAt n (Serves (Recover file way))) []) tt n file way (λ start buckets m. (tt, tt))
 request_ends s n (Fuse writes choice) = (tt, tt)
 request_ends s n Crash = ((tt, tt), tt)
 request_ends s n (Clock now) = (tt, tt)

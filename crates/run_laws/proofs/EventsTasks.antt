@@ -5,7 +5,7 @@ use Rattle.vms_model.specs.Ids.{Id}
 use Rattle.vms_model.specs.Keys.{Key}
 use Rattle.vms_model.specs.Transactions.{Aborted}
 use Rattle.transcript_model.specs.Lines.{Line}
-use Rattle.script_model.specs.Statements.{Operation, Request, Init, Boot, Create, SetFile, StartTrans, AddBranch, StartBranch, Records, Direct, EndBranch, EndTrans, AbortTrans, Inquire, DeclareRm, JoinRm, AckEvent, ForgetRm, GetDti, LmcpShow, LmcpDump, Dump, DumpJournal, Fuse, Crash, Clock}
+use Rattle.script_model.specs.Statements.{Operation, Request, Init, Boot, Create, SetFile, StartTrans, AddBranch, StartBranch, Records, Direct, EndBranch, EndTrans, AbortTrans, Inquire, DeclareRm, JoinRm, AckEvent, ForgetRm, GetDti, LmcpShow, LmcpDump, Dump, DumpJournal, DumpImages, Backup, Recover, Fuse, Crash, Clock}
 use Rattle.records_model.specs.Records.{Change}
 use Rattle.commit_protocol.specs.Messages.{Name, Reply}
 use Rattle.commit_protocol.specs.World.{In}
@@ -19,6 +19,7 @@ use Rattle.run_model.specs.World.{Shared, Node, Label, Act, Tables, acted, next_
 use Rattle.run_model.specs.Answers as answers
 use Rattle.run_model.specs.Answers.{Row, Task, Serves, Ticks, Takes, Hears, LosesLink, RunsDown, Restarts, begins, branch_labelled, branch_named, just, service, silent, table_rows, task_service, told_if, told_rows}
 use Rattle.run_laws.proofs.EventsWait.{AllHold, HoldsIn, WaitsSo, blank_so, row_holds}
+use Rattle.world_laws.proofs.FileRows.{images_by, recovers_by, saves_by, sets_by}
 
 -- what a row notes or prepares is so
 abbrev pub RowHolds : Option Act → Type 0
@@ -98,7 +99,7 @@ request_holds : (s : Shared) (n : Node) → AllWaitSo n → (r : Request) → Ro
 request_holds s n h (Init slots journal) = tt
 request_holds s n h Boot = (tt, undone_hold_rows _ s (acted world.Boots n))
 request_holds s n h (Create file bucket size form) = created_hold_rows n _ _
-request_holds s n h (SetFile file setting) = (tt, tt)
+request_holds s n h (SetFile file setting) = sets_by RowsHold tt n file setting (λ mark. (tt, tt))
 request_holds s n h (StartTrans label seconds) = (tt, (tt, (blank_so (next_id n) (next_id n) None Active (answers.due_after n seconds), tt)))
 request_holds s n h (AddBranch label other new) = branch_hold_rows (branch_labelled s n label) (λ b. told_rows s n (answers.adds n other new b)) (λ b is. (tt, (tt, event_holds n (rows.Authorise b.key.tid (next_id n)) h _ (acted (world.Labels (record { name = new; node = other; tid = b.key.tid; bid = Some (next_id n); serial = None })) (acted world.Draws n)))))
 request_holds s n h (StartBranch label) = begins_hold_rows s n (world.labelled n.name label s.labels)
@@ -117,6 +118,9 @@ request_holds s n h LmcpShow = tt
 request_holds s n h LmcpDump = lines_hold_rows (map answers.log_line (slot_records 0 n.durable.log))
 request_holds s n h (Dump file) = records_hold_rows (answers.records_of n file)
 request_holds s n h DumpJournal = lines_hold_rows (answers.entry_lines n.durable.units.first n.durable.units.entries)
+request_holds s n h (DumpImages file side) = images_by RowsHold tt n file side (λ ls a. lines_hold_rows ls)
+request_holds s n h (Backup file) = saves_by RowsHold tt n file (λ start. (tt, tt))
+request_holds s n h (Recover file way) = recovers_by RowsHold tt n file way (λ start buckets m. (tt, tt))
 request_holds s n h (Fuse writes choice) = (tt, tt)
 request_holds s n h Crash = (tt, tt)
 request_holds s n h (Clock now) = (tt, tt)

@@ -17,7 +17,7 @@ use Rattle.commit_protocol.specs.Allowed.{is_prepared}
 use Rattle.commit_protocol.specs.World.{In}
 use Rattle.log_laws.specs.Slots.{prepared_of, records_in}
 use Rattle.run_model.specs.Locks.{is_locked}
-use Rattle.run_model.specs.World.{Node, Durable, File, Changes, Creates, Directs, Settlement, acted, changed_file, directly_changed, find_file, free_place, next_id, with_file}
+use Rattle.run_model.specs.World.{Node, Durable, File, Changes, Creates, Directs, Recovers, Settlement, acted, changed_file, directly_changed, find_file, recovered_file, free_place, next_id, with_file}
 use Rattle.run_model.specs.Answers as answers
 use Rattle.run_laws.specs.Accounts.{Account, Set, Told, left_by, told_by, with_sets}
 use Rattle.world_laws.specs.Nodes.{IsOf, IsUp}
@@ -32,7 +32,7 @@ use Rattle.world_laws.proofs.RunningLemmas.{none_after}
 use Rattle.world_laws.proofs.ServedLemmas.{undrawn}
 use Rattle.world_laws.proofs.TableLemmas.{changed_serials, in_serials, one_branch}
 use Rattle.world_laws.proofs.UpLemmas.{branch_drawn, differ, drawn_more}
-use Rattle.run_laws.proofs.AccountLemmas.{IsUntold, TellSame, history_here, history_kept, history_placed, last_same, left_first, left_is, left_others, left_told, shown_left}
+use Rattle.run_laws.proofs.AccountLemmas.{IsUntold, TellSame, history_here, history_kept, history_placed, last_same, left_doubt, left_first, left_is, left_others, left_told, shown_left}
 use Rattle.run_laws.proofs.FileTelling.{IsTold, IsToldDisk, IsToldUp, falls_told, no_changes}
 use Rattle.run_laws.proofs.Once.{unit_branch}
 
@@ -55,7 +55,7 @@ module _ (node file : List ℕ) (D : Id → Type 0) where
   pub disk_same : (a : Account) (told : List Told) (name : List ℕ) (d : Durable) → TellSame a.told told → IsToldDisk node file D a name d → IsToldDisk node file D (record a { told = told }) name d
   disk_same a told name d same h = record {
     named = h.named;
-    records_are = last_same node d.last a told same ∙ h.records_are;
+    records_are = λ sure. last_same node d.last a told same ∙ h.records_are sure;
     quiet = λ gone x m. same x m ∙ h.quiet gone x m;
     own = h.own;
     apart = h.apart;
@@ -83,7 +83,7 @@ module _ (node file : List ℕ) (D : Id → Type 0) where
 
     module _ (tid serial : Id) (cs : List Change) (keys : List Key) (there : In serial (branch_serials n.volatile.branches)) where
       abbrev change : File → File
-      change = changed_file (is_locked n.volatile.locks file) serial cs
+      change = changed_file (is_locked n.volatile.locks file) tid serial cs
 
       abbrev m : Node
       m = acted (Changes tid serial file cs keys) n
@@ -101,7 +101,7 @@ module _ (node file : List ℕ) (D : Id → Type 0) where
       entered_up sets sets_are = record {
         named = h.named;
         shown = h.shown;
-        records_are = h.records_are ∙ sym same_records;
+        records_are = λ sure. h.records_are sure ∙ sym same_records;
         quiet = λ gone. found_none file dir f found (none_after file file change dir (λ g. refl) gone);
         own = h.own;
         only = λ x none. let u = h.only x none in
@@ -122,7 +122,7 @@ module _ (node file : List ℕ) (D : Id → Type 0) where
           let k = falls_told node file D false a n up h in
           record {
             named = k.named;
-            records_are = k.records_are ∙ sym same_records;
+            records_are = λ sure. k.records_are sure ∙ sym same_records;
             quiet = λ gone. found_none file dir f found (none_after file file change dir (λ g. refl) gone);
             own = k.own;
             apart = k.apart;
@@ -136,6 +136,25 @@ module _ (node file : List ℕ) (D : Id → Type 0) where
               let c = branch_of n up.table r j in
               let same : c.branch ≡ b = one_branch n.volatile.branches c.branch b (differ n up.table) c.there i (ap (λ (q : LogRecord). q.serial) (sym c.is) ∙ id_is r.serial serial t ∙ sym is) in
               both_ways _ unprepared (ap (λ (x : Branch). is_prepared x.state) (sym same) ∙ ap is_prepared c.state))
+
+    -- The file is recovered.
+
+    module _ (start buckets : ℕ) (m : Records) where
+      abbrev recovering : File → File
+      recovering = recovered_file start buckets m n.durable.greatest
+
+      pub recovers_up : (r : Records) (d : Bool) → (d ≡ false → r ≡ m) → IsToldUp node file D false (record a { records = r; in_doubt = d }) (acted (Recovers file start buckets m) n)
+      recovers_up r d is = record {
+        named = h.named;
+        shown = h.shown;
+        records_are = λ sure. is sure ∙ sym (ap records (history_here file recovering dir f (λ g. refl) found));
+        quiet = λ gone. found_none file dir f found (none_after file file recovering dir (λ g. refl) gone);
+        own = h.own;
+        only = h.only;
+        fresh = λ e. let no : ⊥ = cc in absurd no;
+        told = λ x i. subst (λ ls. IsTold node file D (record a { records = r; in_doubt = d }) ls x) (sym (history_kept (λ (k : History). k.live) file file recovering dir (λ g. refl) (λ g. refl)))
+            (let t = h.told x i in record { tells = t.tells; staying = t.staying });
+      }
 
     -- A branch of its own changes it, and is committed at once.
 
@@ -189,7 +208,7 @@ module _ (node file : List ℕ) (D : Id → Type 0) where
       directs_up = record {
         named = h.named;
         shown = left_is node (next_id n) b h.named;
-        records_are = ap (λ (k : Account). k.records) (left_first node (next_id n) b h.named next.1) ∙ own_told a.records ∙ ap (applied (c ∷ cs)) h.records_are ∙ sym records_then;
+        records_are = λ sure. ap (λ (k : Account). k.records) (left_first node (next_id n) b h.named next.1) ∙ own_told a.records ∙ ap (applied (c ∷ cs)) (h.records_are (sym (left_doubt node (next_id n) b) ∙ sure)) ∙ sym records_then;
         quiet = λ gone. found_none file dir f found (none_after file file direct dir (λ g. refl) gone);
         own = λ x e. subst (λ (y : Settlement). IsOf n.name n.durable.boot y.serial) (some_is s x e) (refl, omega arith);
         only = λ x none.
@@ -212,7 +231,7 @@ module _ (node file : List ℕ) (D : Id → Type 0) where
           let k = falls_told node file D false a n up h in
           record {
             named = k.named;
-            records_are = ap (λ (x : Account). x.records) (shown_left node n.durable.last b h.shown) ∙ h.records_are;
+            records_are = λ sure. ap (λ (x : Account). x.records) (shown_left node n.durable.last b h.shown) ∙ h.records_are sure;
             quiet = λ gone. found_none file dir f found gone;
             own = k.own;
             apart = k.apart;
@@ -233,7 +252,7 @@ module _ (node file : List ℕ) (D : Id → Type 0) where
     created_up is = record {
       named = h.named;
       shown = h.shown;
-      records_are = sym (ap records now ∙ bare);
+      records_are = λ sure. sym (ap records now ∙ bare);
       quiet = λ gone. h.quiet absent;
       own = h.own;
       only = h.only;
@@ -255,7 +274,7 @@ module _ (node file : List ℕ) (D : Id → Type 0) where
     created_beside apart = record {
       named = h.named;
       shown = h.shown;
-      records_are = h.records_are ∙ sym (ap records now);
+      records_are = λ sure. h.records_are sure ∙ sym (ap records now);
       quiet = λ gone. h.quiet (sym found ∙ gone);
       own = h.own;
       only = h.only;

@@ -1,30 +1,31 @@
 -- What a request that may tell of a file leaves of it, whether it is done whole or cut short.
 use Rattle.std.proofs.Common.{◌≡◌, ◌⊎◌, ℕ, zero, suc, List, [], ◌∷◌, ◌++◌, take, drop, Bool, true, false, not, ◌||◌, ◌&&◌, Option, Some, None, if◌then◌else◌, refl, sym, ◌∙◌, ap, subst, inr}
-use Rattle.std.specs.Prelude.{replicate}
+use Rattle.std.specs.Prelude.{length, replicate}
 use Rattle.std.specs.Str.{bytes_eq}
-use Rattle.std.specs.FinMap.{empty}
+use Rattle.std.specs.FinMap.{empty, entries}
 use Rattle.std.proofs.lemmas.Bool.{and_parts, both_ways}
 use Rattle.std.proofs.lemmas.Slice.Eq.{bytes_eq-Decides}
 use Rattle.vms_model.specs.Ids.{Id}
 use Rattle.transcript_model.specs.Lines as line
 use Rattle.transcript_model.specs.Lines.{Line, Cause}
-use Rattle.script_model.specs.Statements.{At, Request, Init, Create, Records, Direct, Form, Operation, Says}
+use Rattle.script_model.specs.Statements.{At, Request, Init, Create, Records, Direct, Form, Operation, Recover, Recovery, Says}
 use Rattle.records_model.specs.Records.{Records as TheRecords, Change, applied}
 use Rattle.records_model.specs.History.{records}
 use Rattle.commit_protocol.specs.Table.{Branch, State, Active, Ending, Joining, Prepared, Voting, branch_serials}
 use Rattle.commit_protocol.specs.Allowed.{is_active, is_prepared, is_working}
 use Rattle.commit_protocol.specs.World.{In}
 use Rattle.log_laws.specs.Slots.{prepared_of}
-use Rattle.run_model.specs.World.{World, Shared, Node, File, Act, Changes, Creates, Directs, Formats, Holds, Outturn, acted, fallen, find_file, find_node, free_place, is_durable, lowest_free, next_id, next_moment, powered}
+use Rattle.run_model.specs.World as world
+use Rattle.run_model.specs.World.{World, Shared, Node, File, Act, Changes, Creates, Directs, Formats, Holds, Outturn, Recovers, acted, fallen, find_file, find_node, free_place, is_durable, lowest_free, next_id, next_moment, powered}
 use Rattle.run_model.specs.Operations.{changes_of, form_refused, operation_answer, refused_if}
 use Rattle.run_model.specs.Answers as answers
-use Rattle.run_model.specs.Answers.{Row, Service, Serves, blocks_for, branch_labelled, changes_at, commit_settlement, created, creates, directed, in_state, keys_at, made_label, needs_unit, new_file, of_file, operated, operation_act, operation_told, powers, refused_before_reading, service, silent, there_is_file, to_branch, unsettled_label}
+use Rattle.run_model.specs.Answers.{Row, Service, Serves, blocks_for, branch_labelled, changes_at, commit_settlement, created, creates, directed, in_state, keys_at, made_label, needs_unit, new_file, of_file, operated, operation_act, operation_told, powers, records_recovered, refused_before_reading, service, silent, there_is_file, to_branch, unsettled_label}
 use Rattle.run_model.specs.Steps.{Choice, Cut, TaskAllowed, Unpowered, Whole, WithoutMemory, act_begun, begun, if_durable, lines_of_rows, node_after, node_after_rows, ready_node, rows_if, rows_to_cut, spoilt, task_effect, whole}
 use Rattle.run_model.specs.Transcript.{Entry}
 use Rattle.run_model.specs.StepLaws.{is_refusal}
 use Rattle.run_model.proofs.NodeLists.{found_name}
 use Rattle.run_model.proofs.CauseLemmas.{refuses_first, refuses_then, task_succeeds}
-use Rattle.run_laws.specs.Accounts.{Account, Told, account_by, broken_id, broken_sets, commits_here, created_here, direct_told, file_of, left_by, made_anew, no_account, one_told, serial_told, sets_here, sets_of, with_sets}
+use Rattle.run_laws.specs.Accounts.{Account, Told, account_by, broken_id, broken_sets, commits_here, created_here, direct_told, file_of, given_in, left_by, made_anew, no_account, one_told, recovered_by, recovered_here, serial_told, sets_here, sets_of, with_sets}
 use Rattle.run_laws.specs.Naming.{ToldLabel, find_told, labels_told}
 use Rattle.world_laws.specs.Nodes.{AreUp, IsUp}
 use Rattle.world_laws.specs.Running.{history_of}
@@ -39,7 +40,7 @@ use Rattle.world_laws.proofs.TableLemmas.{in_serials}
 use Rattle.world_laws.proofs.TaskLemmas.{holds_it, task_rows}
 use Rattle.run_laws.proofs.AccountLemmas.{TellSame, commits_plain}
 use Rattle.run_laws.proofs.EachRow.{is_plain}
-use Rattle.run_laws.proofs.FileActs.{broken_disk, created_beside, created_up, directs_up, disk_same, entered_disk, entered_up, telling_more, up_same}
+use Rattle.run_laws.proofs.FileActs.{broken_disk, created_beside, created_up, directs_up, disk_same, entered_disk, entered_up, recovers_up, telling_more, up_same}
 use Rattle.run_laws.proofs.FileTelling.{Betrays, IsToldDisk, IsToldUp, beneath_left, betrays_acted, disk_of, falls_told, or_else, telling, telling_keeps, tells_file}
 use Rattle.run_laws.proofs.Keeping.{Kept, fell, init_done, init_else, nothing_more}
 use Rattle.run_laws.proofs.Labelling.{find_map, label_of}
@@ -59,6 +60,15 @@ made_refused node r refusal h = refl
 created_refused : (node file : List ℕ) (r : Request) (refusal : Line) → is_refusal refusal ≡ true → created_here node file (Says (At node r)) (refusal ∷ []) ≡ false
 created_refused node file (Create f bucket size form) line.Normal h = let no : ⊥ = cc in absurd no
 created_refused node file r refusal h = refl
+
+recovered_refused : (node file : List ℕ) (w : World) (r : Request) (refusal : Line) → is_refusal refusal ≡ true → (b : Account) → recovered_here node file w (Says (At node r)) (refusal ∷ []) b ≡ b
+recovered_refused node file w (Recover f way) refusal h b = go (bytes_eq node node && bytes_eq f file) refusal h
+  where
+    go : (c : Bool) (refusal : Line) → is_refusal refusal ≡ true → (if c then recovered_by node file w way (refusal ∷ []) b else b) ≡ b
+    go false refusal h = refl
+    go true (line.NormalCount count) h = let no : ⊥ = cc in absurd no
+    go true _ h = refl
+recovered_refused node file w _ refusal h b = refl
 
 -- the act of one row that is begun
 one_begun : (b : Bool) (j : ℕ) (r : Row) (act : Act) → act_begun b (drop j (r ∷ [])) ≡ Some act → (j ≡ 0) × (r.act ≡ Some act)
@@ -108,15 +118,16 @@ module _ (node file : List ℕ) (D : Id → Type 0) where
     s = w.shared
 
     abbrev by : Request → List Line → Account
-    by r lines = account_by node file es w (Says (At node r)) lines a
+    by r lines = recovered_here node file w (Says (At node r)) lines (account_by node file es w (Says (At node r)) lines a)
 
     -- a refusal leaves what is told
     refused_told : (r : Request) (refusal : Line) (m : Node) → is_refusal refusal ≡ true → IsKept a m → IsKept (by r (refusal ∷ [])) m
     refused_told r refusal m is k =
         let new = sets_here node file es w (Says (At node r)) (refusal ∷ []) a.told in
-        subst (λ b. IsKept (if b then no_account else (if created_here node file (Says (At node r)) (refusal ∷ []) then record a { records = empty } else commits_here node (refusal ∷ []) (record a { told = new }))) m) (sym (made_refused node r refusal is))
+        subst (λ b. IsKept b m) (sym (recovered_refused node file w r refusal is (account_by node file es w (Says (At node r)) (refusal ∷ []) a)))
+        (subst (λ b. IsKept (if b then no_account else (if created_here node file (Says (At node r)) (refusal ∷ []) then record a { records = empty } else commits_here node (refusal ∷ []) (record a { told = new }))) m) (sym (made_refused node r refusal is))
         (subst (λ b. IsKept (if b then record a { records = empty } else commits_here node (refusal ∷ []) (record a { told = new })) m) (sym (created_refused node file r refusal is))
-        (subst (λ b. IsKept b m) (sym (commits_plain node (refusal ∷ []) (record a { told = new }) (refusal_other refusal is, tt))) (kept_same a new m (refused_same node file es w (Says (At node r)) refusal a.told is) k)))
+        (subst (λ b. IsKept b m) (sym (commits_plain node (refusal ∷ []) (record a { told = new }) (refusal_other refusal is, tt))) (kept_same a new m (refused_same node file es w (Says (At node r)) refusal a.told is) k))))
 
     -- a node that is up with what is told of it
     abbrev Outcome : Request → List Row → Line → Type 0
@@ -362,8 +373,8 @@ module _ (node file : List ℕ) (D : Id → Type 0) where
       absent : bytes_eq f file ≡ true → find_file file n.durable.directory ≡ None
       absent is = subst (λ y. find_file y n.durable.directory ≡ None) ((bytes_eq-Decides f file).0 is) none
 
-      bare_before : bytes_eq f file ≡ true → IsToldUp node file D false a n → a.records ≡ empty
-      bare_before is k = k.records_are ∙ ap (λ o. records (history_of o)) (absent is)
+      bare_before : bytes_eq f file ≡ true → IsToldUp node file D false a n → a.in_doubt ≡ false → a.records ≡ empty
+      bare_before is k sure = k.records_are sure ∙ ap (λ o. records (history_of o)) (absent is)
 
       created_told : (place start : ℕ) → free_place n.durable.directory ≡ Some place → (b : Bool) → bytes_eq f file ≡ b → IsToldUp node file D false a n → IsToldUp node file D false (if b then record a { records = empty } else a) (acted (Creates place (new start)) n)
       created_told place start free true is k = created_up node file D n (new start) place a k refl refl free none is
@@ -373,7 +384,9 @@ module _ (node file : List ℕ) (D : Id → Type 0) where
       created_same place start free k = go (bytes_eq f file) refl
         where
           go : (b : Bool) → bytes_eq f file ≡ b → IsToldUp node file D false a (acted (Creates place (new start)) n)
-          go true is = subst (λ x. IsToldUp node file D false x (acted (Creates place (new start)) n)) (λ i. record a { records = sym (bare_before is k) i }) (created_told place start free true is k)
+          go true is =
+              let c = created_told place start free true is k in
+              record { named = c.named; shown = c.shown; records_are = λ sure. bare_before is k sure ∙ c.records_are sure; quiet = c.quiet; own = c.own; only = c.only; fresh = c.fresh; told = λ x i. let t = c.told x i in record { tells = t.tells; staying = t.staying } }
           go false is = created_told place start free false is k
 
       no_lines : (rs : List Row) → AreSilent rs → (j : ℕ) → lines_of_rows (take j rs) ≡ []
@@ -420,7 +433,16 @@ module _ (node file : List ℕ) (D : Id → Type 0) where
           at (suc j) = h.disk
 
           bare : (b : Bool) → bytes_eq f file ≡ b → IsToldUp node file D false a n → IsToldUp node file D false (if b then record a { records = empty } else a) n
-          bare true is k = subst (λ x. IsToldUp node file D false x n) (λ i. record a { records = bare_before is k i }) k
+          bare true is k = record {
+            named = k.named;
+            shown = k.shown;
+            records_are = λ sure. sym (ap (λ o. records (history_of o)) (absent is));
+            quiet = k.quiet;
+            own = k.own;
+            only = k.only;
+            fresh = k.fresh;
+            told = λ x i. let t = k.told x i in record { tells = t.tells; staying = t.staying };
+          }
           bare false is k = k
 
       abbrev made : Option ℕ → Option ℕ → List Row
@@ -577,6 +599,82 @@ module _ (node file : List ℕ) (D : Id → Type 0) where
         absent_file : refused_before_reading s n (service (Create f bucket size form)) ≡ None → find_file f n.durable.directory ≡ None
         absent_file first = not_there n f (neither (new_file n f) _ (passes (Create f bucket size form) first)).0
 
+    -- The file is recovered.
+
+    abbrev doubted : Account
+    doubted = record a { in_doubt = true }
+
+    -- what is told where it broke, and where it is done
+    broken_recovery : (way : Recovery) (cause : Cause) → by (Recover file way) (line.Down n.name cause ∷ line.Broken cause ∷ []) ≡ doubted
+    broken_recovery way cause = ap (λ c. if c then record a { in_doubt = true } else a) (ap (λ c. c && bytes_eq file file) (same_text node) ∙ same_text file)
+
+    done_recovery : (way : Recovery) (f : File) (count : ℕ) → find_file file n.durable.directory ≡ Some f → by (Recover file way) (line.NormalCount count ∷ []) ≡ record a { records = records_recovered way f }
+    done_recovery way f count there = ap (λ c. if c then record a { records = given_in node file w way } else a) (ap (λ c. c && bytes_eq file file) (same_text node) ∙ same_text file) ∙ ap (λ m. record a { records = m }) given
+      where
+        given : given_in node file w way ≡ records_recovered way f
+        given = ap (λ o. elim o as (λ x. TheRecords) [ Some g ↦ records_recovered way g | None ↦ empty ]) (file_there f there)
+
+    doubted_disk : IsDisk doubted n
+    doubted_disk = or_else node file D (λ x. x) (λ k. inr (record {
+      named = k.named;
+      records_are = λ sure. let no : ⊥ = cc in absurd no;
+      quiet = k.quiet;
+      own = k.own;
+      apart = k.apart;
+      only = k.only;
+      prepared = λ r i. let t = k.prepared r i in record { tells = t.tells; staying = t.staying };
+    })) h.disk
+
+    -- what it does to the file that is there
+    module _ (way : Recovery) (f : File) (there : find_file file n.durable.directory ≡ Some f) (up : n.up ≡ true) where
+      abbrev recovered_records : TheRecords
+      recovered_records = records_recovered way f
+
+      abbrev recovery_act : Act
+      recovery_act = Recovers file (answers.start_of (world.lowest_free n (answers.blocks_recovered way f))) (world.buckets_loaded f recovered_records) recovered_records
+
+      recovered_told : (r : TheRecords) (d : Bool) → (d ≡ false → r ≡ recovered_records) → IsUpTold (record a { records = r; in_doubt = d }) (acted recovery_act n)
+      recovered_told r d is = or_else node file D (λ x. betrays_acted node file D recovery_act n x)
+          (λ k. inr (recovers_up node file D n f there (sound.kept.runs up).0 a k (answers.start_of (world.lowest_free n (answers.blocks_recovered way f))) (world.buckets_loaded f recovered_records) recovered_records r d is)) (h.runs up)
+
+      after_disk : IsUp (acted recovery_act n) → IsDisk doubted (acted recovery_act n)
+      after_disk all = or_else node file D (λ x. x) (λ k. inr (falls_told node file D false doubted (acted recovery_act n) all k)) (recovered_told a.records true (λ sure. let no : ⊥ = cc in absurd no))
+
+      recovered_of : AreUp (silent recovery_act ∷ []) n → (count : ℕ) → Outcome (Recover file way) (silent recovery_act ∷ []) (line.NormalCount count)
+      recovered_of all count = (
+        subst (λ b. IsKept b (acted recovery_act n)) (sym (done_recovery way f count there)) (up_kept (record a { records = recovered_records }) (silent recovery_act ∷ []) up all (recovered_told recovered_records a.in_doubt (λ sure. refl))),
+        λ j t cause. subst (λ ls. IsKept (by (Recover file way) ((ls ++ line.Down n.name cause ∷ []) ++ line.Broken cause ∷ [])) (fallen (act_begun t (drop j (silent recovery_act ∷ []))) (node_after_rows (take j (silent recovery_act ∷ [])) n))) (sym (none j))
+            (subst (λ b. IsKept b (fallen (act_begun t (drop j (silent recovery_act ∷ []))) (node_after_rows (take j (silent recovery_act ∷ [])) n))) (sym (broken_recovery way cause))
+            (fell (telling node file D) (telling_keeps node file D) t j (silent recovery_act ∷ []) n doubted (disk j) (λ x q. let o = one_begun t j (silent recovery_act) x q in under j x o.0 o.1))),
+      )
+        where
+          none : (j : ℕ) → lines_of_rows (take j (silent recovery_act ∷ [])) ≡ []
+          none zero = refl
+          none (suc zero) = refl
+          none (suc (suc j)) = refl
+
+          disk : (j : ℕ) → IsDisk doubted (node_after_rows (take j (silent recovery_act ∷ [])) n)
+          disk zero = doubted_disk
+          disk (suc zero) = after_disk all.1
+          disk (suc (suc j)) = after_disk all.1
+
+          under : (j : ℕ) (x : Act) → j ≡ 0 → Some recovery_act ≡ Some x → IsDisk doubted (acted x (node_after_rows (take j (silent recovery_act ∷ [])) n))
+          under zero x z is = subst (λ y. IsDisk doubted (acted y n)) (some_is _ x is) (after_disk all.1)
+          under (suc j) x z is = let no : ⊥ = cc in absurd no
+
+    recover_effect : (way : Recovery) (c : Choice) (rises : Cause → Type 0) → TaskAllowed s stops n (Serves (Recover file way)) rises c →
+        (let x = task_effect s stops n (Serves (Recover file way)) c in IsKept (by (Recover file way) (x.lines ++ x.answer ∷ [])) x.node)
+    recover_effect way c rises may = up_request (Recover file way) refl refl refl (λ m. refl) outcome (λ up first cause. subst (λ b. IsKept b (fallen None n)) (sym (broken_recovery way cause)) (fell_first doubted doubted_disk)) refl c rises may
+      where
+        outcome : n.up ≡ true → refused_before_reading s n (service (Recover file way)) ≡ None → (service (Recover file way)).refused_after_reading s n ≡ None →
+            Outcome (Recover file way) ((service (Recover file way)).rows s n) ((service (Recover file way)).answer s n)
+        outcome up first late =
+            let there = there_is_one n file (neither (there_is_file n file) _ (passes (Recover file way) first)).0 in
+            let all = (task_rows s stops n sound.kept (Serves (Recover file way)) up first late).up in
+            subst (λ o. AreUp (elim o as (λ x. List Row) [ Some f ↦ answers.recovers n file way f | None ↦ [] ]) n →
+            Outcome (Recover file way) (elim o as (λ x. List Row) [ Some f ↦ answers.recovers n file way f | None ↦ [] ]) (elim o as (λ x. Line) [ Some f ↦ line.NormalCount (length (entries (records_recovered way f))) | None ↦ line.Normal ])) (sym there.1)
+            (λ k. recovered_of way there.0 there.1 up k (length (entries (records_recovered way there.0)))) all
+
     -- a volume is made
     init_effect : (slots journal : ℕ) (c : Choice) (rises : Cause → Type 0) → TaskAllowed s stops n (Serves (Init slots journal)) rises c →
         (let x = task_effect s stops n (Serves (Init slots journal)) c in IsKept (by (Init slots journal) (x.lines ++ x.answer ∷ [])) x.node)
@@ -591,7 +689,7 @@ module _ (node file : List ℕ) (D : Id → Type 0) where
         disk : IsToldDisk node file D no_account (acted (Formats slots journal) (spoilt true (powered o stops n))).name (acted (Formats slots journal) (spoilt true (powered o stops n))).durable
         disk = record {
           named = powered_name o stops n ∙ found_name node w.nodes n found;
-          records_are = sym (ap (λ q. records (history_of q)) (none_found 64));
+          records_are = λ sure. sym (ap (λ q. records (history_of q)) (none_found 64));
           quiet = λ gone x m. refl;
           own = λ x e. let no : ⊥ = cc in absurd no;
           apart = λ x r e commit i j. let no : ⊥ = cc in no;
@@ -626,4 +724,6 @@ module _ (node file : List ℕ) (D : Id → Type 0) where
         (λ k. direct_effect op c rises k) may
     special_effect (Create f bucket size form) is c rises may = create_effect f bucket size form c rises may
     special_effect (Init slots journal) is c rises may = init_effect slots journal c rises may
+    special_effect (Recover f way) is c rises may = subst (λ y. TaskAllowed s stops n (Serves (Recover y way)) rises c → (let x = task_effect s stops n (Serves (Recover y way)) c in IsKept (by (Recover y way) (x.lines ++ x.answer ∷ [])) x.node)) (sym ((bytes_eq-Decides f file).0 is))
+        (λ k. recover_effect way c rises k) may
     special_effect _ is c rises may = let no : ⊥ = cc in absurd no

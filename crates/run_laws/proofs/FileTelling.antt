@@ -9,7 +9,7 @@ use Rattle.vms_model.specs.Ids.{Id}
 use Rattle.vms_model.specs.Transactions.{Outcome, Commit, Abort, Reason, Aborted, SegFail}
 use Rattle.transcript_model.specs.Lines as line
 use Rattle.transcript_model.specs.Lines.{Line}
-use Rattle.script_model.specs.Statements.{Operation, Request, Init, Boot, Create, SetFile, StartTrans, AddBranch, StartBranch, Records, Direct, EndBranch, EndTrans, AbortTrans, Inquire, DeclareRm, JoinRm, AckEvent, ForgetRm, GetDti, LmcpShow, LmcpDump, Dump, DumpJournal, Fuse, Crash, Clock}
+use Rattle.script_model.specs.Statements.{Operation, Request, Init, Boot, Create, SetFile, StartTrans, AddBranch, StartBranch, Records, Direct, EndBranch, EndTrans, AbortTrans, Inquire, DeclareRm, JoinRm, AckEvent, ForgetRm, GetDti, LmcpShow, LmcpDump, Dump, DumpJournal, DumpImages, Backup, Recover, Fuse, Crash, Clock}
 use Rattle.records_model.specs.Records.{Records as TheRecords, Change, applied}
 use Rattle.records_model.specs.History.{History, LiveChanges, changes_by, records, same_id}
 use Rattle.unit_laws.specs.Units.{Map}
@@ -28,12 +28,13 @@ use Rattle.log_laws.specs.Slots.{prepared_of, records_in, slot_records}
 use Rattle.log_laws.proofs.Reading.{is_prepared_one}
 use Rattle.run_model.specs.Locks.{is_locked}
 use Rattle.run_model.specs.World as world
-use Rattle.run_model.specs.World.{Shared, Node, Durable, File, Act, Arms, Boots, Changes, Clocks, ComesUp, Creates, Directs, Draws, Falls, Formats, Holds, Labels, Marks, Numbers, Tables, Settlement, Half, MayTurnOut, aborted_prepared, acted, changed_file, directly_changed, find_file, free_place, half_undone, is_durable, next_id, next_moment, settled_file, settlement, settlement_of, with_file, with_half}
+use Rattle.run_model.specs.World.{Shared, Node, Durable, File, Act, Arms, Boots, Changes, Clocks, ComesUp, Creates, Directs, Draws, Falls, Formats, Holds, Labels, Marks, Saves, Recovers, Numbers, Tables, Settlement, Half, MayTurnOut, aborted_prepared, acted, changed_file, directly_changed, find_file, free_place, half_undone, is_durable, next_id, next_moment, settled_file, settlement, settlement_of, with_file, with_half}
 use Rattle.run_model.specs.Answers as answers
 use Rattle.run_model.specs.Answers.{Row, Task, Serves, Ticks, Takes, Hears, LosesLink, RunsDown, Restarts, last_lines, powers, settled_line, task_service, unit_key}
 use Rattle.run_model.specs.Steps.{node_after}
 use Rattle.run_laws.specs.Accounts.{Account, commits_here, left_by, told_by}
 use Rattle.world_laws.specs.Nodes.{IsOf, IsUp}
+use Rattle.recovery_laws.specs.Entering.{FindsImages}
 use Rattle.world_laws.specs.Restarts.{AllNoted}
 use Rattle.world_laws.specs.Running.{IsDrawn, history_in, history_of}
 use Rattle.world_laws.proofs.IdLemmas.{id_is, id_other}
@@ -47,10 +48,11 @@ use Rattle.world_laws.proofs.LogLemmas.{branch_of, record_there, state_prepared}
 use Rattle.world_laws.proofs.PlainLemmas.{by_others}
 use Rattle.world_laws.proofs.RestartLemmas.{undone_unit}
 use Rattle.world_laws.proofs.RunningLemmas.{none_after}
+use Rattle.world_laws.proofs.FileRows.{images_by, recovers_by, saves_by, sets_by}
 use Rattle.world_laws.proofs.ServedLemmas.{undrawn}
 use Rattle.world_laws.proofs.TableLemmas.{changed_serials, found_in, in_cut, in_serials, of_serial, serials_apart}
 use Rattle.world_laws.proofs.UpLemmas.{branch_drawn, differ, drawn_more}
-use Rattle.run_laws.proofs.AccountLemmas.{IsQuiet, IsShownBy, IsUntold, commits_append, commits_last, commits_plain, history_kept, history_other, history_settled, last_left, last_told, left_first, left_is, left_others, left_shown, left_told, none_settled, shown_left}
+use Rattle.run_laws.proofs.AccountLemmas.{IsQuiet, IsShownBy, IsUntold, commits_append, commits_last, commits_plain, history_kept, history_other, history_settled, last_left, last_told, left_first, left_is, left_others, left_shown, left_told, none_settled, shown_left, last_doubt, left_doubt}
 use Rattle.run_laws.proofs.EachRow.{ArePlain, VotesSo}
 use Rattle.run_laws.proofs.Keeping.{AllTake, IsNextUnit, Keeps, Scheme, is_special, closes_plain}
 use Rattle.run_laws.proofs.Once.{fewer_after, of_drawn, put_serials_new, unit_branch}
@@ -84,7 +86,7 @@ module _ (node file : List ℕ) (D : Id → Type 0) where
   -- reached nothing.
   pub record IsToldDisk (a : Account) (name : List ℕ) (d : Durable) : Type 0 where
     pub named : name ≡ node
-    pub records_are : (last_left node d.last a).records ≡ records (history_in file d.directory)
+    pub records_are : a.in_doubt ≡ false → (last_left node d.last a).records ≡ records (history_in file d.directory)
     pub quiet : find_file file d.directory ≡ None → IsQuiet a.told
     pub own : (s : Settlement) → d.last ≡ Some s → IsOf name d.boot s.serial
     pub apart : (s : Settlement) (r : LogRecord) → d.last ≡ Some s → s.outcome ≡ Commit → In r (prepared_of (records_in d.log)) → r.serial ≡ s.serial → ⊥
@@ -95,7 +97,7 @@ module _ (node file : List ℕ) (D : Id → Type 0) where
   pub record IsToldUp (free : Bool) (a : Account) (n : Node) : Type 0 where
     pub named : n.name ≡ node
     pub shown : IsShownBy node n.durable.last a.left
-    pub records_are : a.records ≡ records (history_in file n.durable.directory)
+    pub records_are : a.in_doubt ≡ false → a.records ≡ records (history_in file n.durable.directory)
     pub quiet : find_file file n.durable.directory ≡ None → IsQuiet a.told
     pub own : (s : Settlement) → n.durable.last ≡ Some s → IsOf n.name n.durable.boot s.serial
     pub only : (x : Id) → (IsDrawn n.name n.durable.boot n.volatile.drawn x → ⊥) → IsUntold a x
@@ -106,7 +108,7 @@ module _ (node file : List ℕ) (D : Id → Type 0) where
   pub record IsToldBoot (a : Account) (n : Node) : Type 0 where
     pub named : n.name ≡ node
     pub shown : IsShownBy node n.durable.last a.left
-    pub records_are : a.records ≡ records (history_in file n.durable.directory)
+    pub records_are : a.in_doubt ≡ false → a.records ≡ records (history_in file n.durable.directory)
     pub quiet : find_file file n.durable.directory ≡ None → IsQuiet a.told
     pub own : (s : Settlement) → n.durable.last ≡ Some s → IsOf n.name n.durable.boot s.serial
     pub only : (x : Id) → ((x.node ≡ n.name) × (x.boot < n.durable.boot) → ⊥) → IsUntold a x
@@ -118,6 +120,7 @@ module _ (node file : List ℕ) (D : Id → Type 0) where
   Quiet (Some (Changes tid serial f cs keys)) = bytes_eq f file ≡ false
   Quiet (Some (Directs f cs s)) = bytes_eq f file ≡ false
   Quiet (Some (Creates place f)) = ⊥
+  Quiet (Some (Recovers f start buckets m)) = bytes_eq f file ≡ false
   Quiet _ = Unit {0}
 
   -- an abort that is under way was begun
@@ -129,6 +132,7 @@ module _ (node file : List ℕ) (D : Id → Type 0) where
   -- an account that tells the same, and in which no fewer have left
   pub record IsBeneath (a b : Account) : Type 0 where
     pub told : b.told ≡ a.told
+    pub doubt : b.in_doubt ≡ a.in_doubt
     pub left : (x : Id) → list_any (same_id x) b.left ≡ false → list_any (same_id x) a.left ≡ false
 
   untold_beneath : (a b : Account) (x : Id) → IsBeneath a b → IsUntold b x → IsUntold a x
@@ -141,7 +145,7 @@ module _ (node file : List ℕ) (D : Id → Type 0) where
   pub disk_of : (free : Bool) (a b : Account) (n : Node) → IsBeneath a b → (last_left node n.durable.last a).records ≡ b.records → IsUp n → IsToldUp free b n → IsToldDisk a n.name n.durable
   disk_of free a b n l same up h = record {
     named = h.named;
-    records_are = same ∙ h.records_are;
+    records_are = λ sure. same ∙ h.records_are (l.doubt ∙ sure);
     quiet = λ gone x m. ap (λ t. told_by x t m) (sym l.told) ∙ h.quiet gone x m;
     own = h.own;
     apart = λ s r e commit i j. both_ways _ (ap (λ y. list_any (same_id y) b.left) (sym j) ∙ (told_record r i).staying) (left_last s e commit);
@@ -156,7 +160,7 @@ module _ (node file : List ℕ) (D : Id → Type 0) where
       left_last s e commit = subst (λ o. elim o as (λ x. Type 0) [ Commit ↦ list_any (same_id s.serial) b.left ≡ true | Abort ↦ Unit {0} ]) commit (subst (λ o. IsShownBy node o b.left) e h.shown)
 
   itself : (a : Account) → IsBeneath a a
-  itself a = record { told = refl; left = λ x e. e }
+  itself a = record { told = refl; doubt = refl; left = λ x e. e }
 
   pub falls_told : (free : Bool) (a : Account) (n : Node) → IsUp n → IsToldUp free a n → IsToldDisk a n.name n.durable
   falls_told free a n up h = disk_of free a a n (itself a) (ap (λ (c : Account). c.records) (shown_left node n.durable.last a h.shown)) up h
@@ -168,7 +172,7 @@ module _ (node file : List ℕ) (D : Id → Type 0) where
   half_told : (a : Account) (n : Node) (standing : List ℕ → Map) → IsDoomed n → MayTurnOut n (Half standing) → IsToldDisk a n.name n.durable → IsToldDisk a n.name (with_half (aborted_prepared n.under_way n.durable) standing n.durable)
   half_told a n standing doomed may h = subst (λ o. IsToldDisk a n.name (with_half o standing n.durable)) (sym may.1) (record {
     named = h.named;
-    records_are = h.records_are ∙ sym (kept (λ (k : History). records k) (λ f. refl));
+    records_are = λ sure. h.records_are sure ∙ sym (kept (λ (k : History). records k) (λ f. refl));
     quiet = λ gone. h.quiet (none gone);
     own = h.own;
     apart = h.apart;
@@ -249,7 +253,7 @@ module _ (node file : List ℕ) (D : Id → Type 0) where
   boots_told a n h = subst (λ b. IsToldBoot b (acted Boots n)) (sym (commits_last node n a)) (record {
     named = h.named;
     shown = left_shown node n.durable.last a (λ s e. (h.own s e).0 ∙ h.named);
-    records_are = h.records_are;
+    records_are = λ sure. h.records_are (sym (last_doubt node n.durable.last a) ∙ sure);
     quiet = λ gone x m. ap (λ t. told_by x t m) (last_told node n.durable.last a) ∙ h.quiet gone x m;
     own = λ s e. let o = h.own s e in let low = o.1 in (o.0, omega (arith, low));
     only = λ x none.
@@ -270,7 +274,7 @@ module _ (node file : List ℕ) (D : Id → Type 0) where
   undoes_told a n u next h = record {
     named = h.named;
     shown = tt;
-    records_are = h.records_are ∙ sym (aborted_leaves u.serial (next_moment n) (history_in file n.durable.directory)) ∙ ap records (sym (history_settled file s n.durable.directory));
+    records_are = λ sure. h.records_are sure ∙ sym (aborted_leaves u.serial (next_moment n) (history_in file n.durable.directory)) ∙ ap records (sym (history_settled file s n.durable.directory));
     quiet = λ gone. h.quiet (none_settled file s n.durable.directory gone);
     own = λ x e. subst (λ (y : Settlement). IsOf n.name n.durable.boot y.serial) (some_is _ x e) next.of;
     only = h.only;
@@ -298,7 +302,7 @@ module _ (node file : List ℕ) (D : Id → Type 0) where
     apart,
     record {
       named = h.named;
-      records_are = ap (λ (c : Account). c.records) (shown_left node n.durable.last a h.shown) ∙ h.records_are;
+      records_are = λ sure. ap (λ (c : Account). c.records) (shown_left node n.durable.last a h.shown) ∙ h.records_are sure;
       quiet = h.quiet;
       own = h.own;
       apart = apart;
@@ -337,7 +341,7 @@ module _ (node file : List ℕ) (D : Id → Type 0) where
   quiet_told free n m a name boot last drawn same live none fewer h = record {
     named = name ∙ h.named;
     shown = subst (λ o. IsShownBy node o a.left) (sym last) h.shown;
-    records_are = h.records_are ∙ sym same;
+    records_are = λ sure. h.records_are sure ∙ sym same;
     quiet = λ gone. h.quiet (none gone);
     own = λ s e. let o = h.own s (sym last ∙ e) in (o.0 ∙ sym name, subst (λ k. s.serial.boot ≤ k) (sym boot) o.1);
     only = λ x no. h.only x (λ d. no (d.0 ∙ sym name, elim d.1 [ inl e ↦ inl (subst (λ k. x.boot < k) (sym boot) e) | inr e ↦ inr (e.0 ∙ sym boot, subst (λ k. x.seq ≤ k) (sym drawn) e.1) ]));
@@ -377,7 +381,7 @@ module _ (node file : List ℕ) (D : Id → Type 0) where
       go false c e = e
 
   pub beneath_left : (x : Id) (a : Account) → IsBeneath a (left_by node x a)
-  beneath_left x a = record { told = left_told node x a; left = λ y e. left_less x y a e }
+  beneath_left x a = record { told = left_told node x a; doubt = left_doubt node x a; left = λ y e. left_less x y a e }
 
   module _ (n : Node) (k : BranchKey) (o : Outcome) (reason : Reason) (r : Option LogRecord) (moment : ℕ) (up : IsUp n) (stands : Stands n.volatile.branches (Settles k o reason r)) (free : Bool) (a : Account) (h : IsToldUp free a n) where
     found : (b : Branch) × In b n.volatile.branches × (b.key ≡ k)
@@ -417,7 +421,7 @@ module _ (node file : List ℕ) (D : Id → Type 0) where
       record {
         named = h.named;
         shown = tt;
-        records_are = h.records_are ∙ sym (aborted_leaves k.serial moment (history_in file n.durable.directory)) ∙ ap records (sym (history_settled file s n.durable.directory));
+        records_are = λ sure. h.records_are sure ∙ sym (aborted_leaves k.serial moment (history_in file n.durable.directory)) ∙ ap records (sym (history_settled file s n.durable.directory));
         quiet = λ gone. h.quiet (none_settled file s n.durable.directory gone);
         own = λ x e. subst (λ (y : Settlement). IsOf n.name n.durable.boot y.serial) (some_is s x e) (of_drawn n.name n.durable.boot n.volatile.drawn k.serial (drawn n k Abort reason r moment up stands free a h));
         only = h.only;
@@ -437,8 +441,8 @@ module _ (node file : List ℕ) (D : Id → Type 0) where
       go (inr tells) = inr (record {
         named = h.named;
         shown = left_is node k.serial a (mine n k Commit reason r moment up stands free a h);
-        records_are = ap (λ (b : Account). b.records) (left_first node k.serial a (mine n k Commit reason r moment up stands free a h) (h.told k.serial (there n k Commit reason r moment up stands free a h)).staying) ∙ tells a.records
-            ∙ ap (applied (changes_by k.serial (history_in file n.durable.directory).live)) h.records_are ∙ sym (committed_leaves k.serial moment (history_in file n.durable.directory))
+        records_are = λ sure. ap (λ (b : Account). b.records) (left_first node k.serial a (mine n k Commit reason r moment up stands free a h) (h.told k.serial (there n k Commit reason r moment up stands free a h)).staying) ∙ tells a.records
+            ∙ ap (applied (changes_by k.serial (history_in file n.durable.directory).live)) (h.records_are (sym (left_doubt node k.serial a) ∙ sure)) ∙ sym (committed_leaves k.serial moment (history_in file n.durable.directory))
             ∙ ap records (sym (history_settled file (settlement k Commit reason moment) n.durable.directory));
         quiet = λ gone x m. ap (λ t. told_by x t m) (left_told node k.serial a) ∙ h.quiet (none_settled file (settlement k Commit reason moment) n.durable.directory gone) x m;
         own = λ x e. subst (λ (y : Settlement). IsOf n.name n.durable.boot y.serial) (some_is (settlement k Commit reason moment) x e) (of_drawn n.name n.durable.boot n.volatile.drawn k.serial (drawn n k Commit reason r moment up stands free a h));
@@ -466,7 +470,7 @@ module _ (node file : List ℕ) (D : Id → Type 0) where
       record {
         named = h.named;
         shown = left_is node (next_id n) a h.named;
-        records_are = ap (λ (b : Account). b.records) (left_first node (next_id n) a h.named next.1) ∙ next.0 a.records ∙ h.records_are ∙ ap records (sym same);
+        records_are = λ sure. ap (λ (b : Account). b.records) (left_first node (next_id n) a h.named next.1) ∙ next.0 a.records ∙ h.records_are (sym (left_doubt node (next_id n) a) ∙ sure) ∙ ap records (sym same);
         quiet = λ gone x m. ap (λ t. told_by x t m) (left_told node (next_id n) a) ∙ h.quiet (none_after file f change n.durable.directory (λ g. refl) gone) x m;
         own = λ x e. subst (λ (y : Settlement). IsOf n.name n.durable.boot y.serial) (some_is s x e) (refl, omega arith);
         only = λ x none.
@@ -557,6 +561,13 @@ module _ (node file : List ℕ) (D : Id → Type 0) where
           quiet_told false n m a name boot last drawn (ap (λ fs. records (history_in file fs)) dir ∙ ap records same) (ap (λ fs. (history_in file fs).live) dir ∙ ap (λ (q : History). q.live) same)
           (λ e. none_after file f change n.durable.directory named (ap (find_file file) (sym dir) ∙ e)) (λ x i. subst (In x) serials i) (less_free free a n h)
 
+      kept : (f : List ℕ) (change : File → File) → ((g : File) → (change g).name ≡ g.name) → ((g : File) → records (change g).history ≡ records g.history) → ((g : File) → (change g).history.live ≡ g.history.live) →
+          IsToldUp false a (record n { durable = record n.durable { directory = world.with_file f change n.durable.directory } })
+      kept f change named recs live =
+          quiet_told false n (record n { durable = record n.durable { directory = world.with_file f change n.durable.directory } }) a refl refl refl refl
+          (history_kept records file f change n.durable.directory named recs) (history_kept (λ (q : History). q.live) file f change n.durable.directory named live)
+          (none_after file f change n.durable.directory named) (λ x i. i) (less_free free a n h)
+
       by_disk : (m : Node) → m.name ≡ n.name → m.durable ≡ n.durable → m.volatile.drawn ≡ n.volatile.drawn → m.volatile.branches ≡ n.volatile.branches → IsToldUp false a m
       by_disk m name durable drawn branches =
           quiet_told false n m a name (ap (λ (d : Durable). d.boot) durable) (ap (λ (d : Durable). d.last) durable) drawn (ap (λ (d : Durable). records (history_in file d.directory)) durable) (ap (λ (d : Durable). (history_in file d.directory).live) durable)
@@ -571,14 +582,11 @@ module _ (node file : List ℕ) (D : Id → Type 0) where
       go (Some (Labels l)) q g = inr (still n free g.tells h)
       go (Some (Numbers label serial)) q g = inr (still n free g.tells h)
       go (Some (Changes tid serial f cs keys)) q g = inr (still (acted (Changes tid serial f cs keys) n) false g.tells
-          (by_file f (changed_file (is_locked n.volatile.locks f) serial cs) (acted (Changes tid serial f cs keys) n) q (λ x. refl) refl refl refl refl refl (changed_serials serial n.volatile.branches)))
-      go (Some (Marks f units)) q g = inr (still (acted (Marks f units) n) false g.tells (marked f units))
-        where
-          marked : (f : List ℕ) (units : Bool) → IsToldUp false a (acted (Marks f units) n)
-          marked f units =
-              let mark = λ (x : File). record x { recovery_units = units } in
-              quiet_told false n (acted (Marks f units) n) a refl refl refl refl (history_kept records file f mark n.durable.directory (λ x. refl) (λ x. refl)) (history_kept (λ (q : History). q.live) file f mark n.durable.directory (λ x. refl) (λ x. refl))
-              (none_after file f mark n.durable.directory (λ x. refl)) (λ x i. i) (less_free free a n h)
+          (by_file f (changed_file (is_locked n.volatile.locks f) tid serial cs) (acted (Changes tid serial f cs keys) n) q (λ x. refl) refl refl refl refl refl (changed_serials serial n.volatile.branches)))
+      go (Some (Marks f mark)) q g = inr (still (acted (Marks f mark) n) false g.tells (kept f (world.marked_file mark n.durable.greatest) (λ x. refl) (λ x. refl) (λ x. refl)))
+      go (Some (Saves f start)) q g = inr (still (acted (Saves f start) n) false g.tells (kept f (world.saved_file start n.durable.greatest) (λ x. refl) (λ x. refl) (λ x. refl)))
+      go (Some (Recovers f start buckets m)) q g = inr (still (acted (Recovers f start buckets m) n) false g.tells
+          (by_file f (world.recovered_file start buckets m n.durable.greatest) (acted (Recovers f start buckets m) n) q (λ x. refl) refl refl refl refl refl refl))
       go (Some (Creates place g)) q r = absurd q
       go (Some Boots) q g = absurd g.fits
       go (Some (Formats slots journal)) q g = absurd g.fits
@@ -623,6 +631,8 @@ module _ (node file : List ℕ) (D : Id → Type 0) where
       go (Numbers label serial) q g up now = plainly n free g.tells up now
       go (Changes tid serial f cs keys) q g up now = plainly (acted (Changes tid serial f cs keys) n) false g.tells up now
       go (Marks f units) q g up now = plainly (acted (Marks f units) n) false g.tells up now
+      go (Saves f start) q g up now = plainly (acted (Saves f start) n) false g.tells up now
+      go (Recovers f start buckets m) q g up now = plainly (acted (Recovers f start buckets m) n) false g.tells up now
       go (Creates place x) q g up now = absurd q
       go Boots q g up now = absurd g.fits
       go (Formats slots journal) q g up now = absurd g.fits
@@ -635,10 +645,11 @@ module _ (node file : List ℕ) (D : Id → Type 0) where
 
   -- Requests of which another file, or none, is told.
 
-  -- whether a request is an operation on the file, makes a file, or makes a volume
+  -- whether a request is an operation on the file or recovers it, makes a file, or makes a volume
   abbrev pub tells_file : Request → Bool
   tells_file (Records label f op) = bytes_eq f file
   tells_file (Direct f op) = bytes_eq f file
+  tells_file (Recover f way) = bytes_eq f file
   tells_file (Create f bucket size form) = true
   tells_file (Init slots journal) = true
   tells_file _ = false
@@ -705,7 +716,7 @@ module _ (node file : List ℕ) (D : Id → Type 0) where
     request_quiet (Init slots journal) e off = tt
     request_quiet Boot e off = let no : ⊥ = cc in absurd no
     request_quiet (Create f bucket size form) e off = let no : ⊥ = cc in absurd no
-    request_quiet (SetFile f setting) e off = (tt, tt)
+    request_quiet (SetFile f setting) e off = sets_by (AllTake telling) tt n f setting (λ mark. (tt, tt))
     request_quiet (StartTrans label seconds) e off = (tt, (tt, drawn_quiet (answers.starts n label seconds)))
     request_quiet (AddBranch label other new) e off = branch_quiet (answers.branch_labelled s n label) (λ b. answers.told_rows s n (answers.adds n other new b)) (λ b. (tt, (tt, drawn_quiet (answers.adds n other new b))))
     request_quiet (StartBranch label) e off = begins_quiet (world.labelled n.name label s.labels)
@@ -724,6 +735,9 @@ module _ (node file : List ℕ) (D : Id → Type 0) where
     request_quiet LmcpDump e off = lines_quiet (λ l. l ∷ []) (map answers.log_line (slot_records 0 n.durable.log))
     request_quiet (Dump f) e off = lines_quiet (λ x. line.Record x.0 x.1 ∷ []) (answers.records_of n f)
     request_quiet DumpJournal e off = lines_quiet (λ l. l ∷ []) (answers.entry_lines n.durable.units.first n.durable.units.entries)
+    request_quiet (DumpImages f side) e off = images_by (AllTake telling) tt n f side (λ ls k. lines_quiet (λ l. l ∷ []) ls)
+    request_quiet (Backup f) e off = saves_by (AllTake telling) tt n f (λ start. (tt, tt))
+    request_quiet (Recover f way) e off = recovers_by (AllTake telling) tt n f way (λ start buckets m. (e, tt))
     request_quiet (Fuse writes choice) e off = (tt, tt)
     request_quiet Crash e off = (tt, tt)
     request_quiet (Clock now) e off = (tt, tt)
@@ -782,4 +796,4 @@ module _ (node file : List ℕ) (D : Id → Type 0) where
   }
     where
       fits_act : (free : Bool) (r : Row) (n : Node) (act : Act) → r.act ≡ Some act → RowFits free r n → RowFits free (record { act = Some act; lines = r.lines }) n
-      fits_act free r n act is f = record { up = f.up; fits = subst (λ o. Fits free o n) is f.fits; tells = subst (λ o. TellsAct o r.lines n) is f.tells; votes = subst (λ o. VotesSo o r.lines) is f.votes }
+      fits_act free r n act is f = record { images = subst (λ o. FindsImages o n) is f.images; up = f.up; fits = subst (λ o. Fits free o n) is f.fits; tells = subst (λ o. TellsAct o r.lines n) is f.tells; votes = subst (λ o. VotesSo o r.lines) is f.votes }

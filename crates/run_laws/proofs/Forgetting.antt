@@ -187,6 +187,9 @@ module _ (n : Node) (d : world.Durable) (s : Shared) (stops : ℕ) (rises : Caus
   request_alike said.LmcpDump c other may = plain_alike (Serves said.LmcpDump) refl c may
   request_alike (said.Dump file) c other may = plain_alike (Serves (said.Dump file)) refl c may
   request_alike said.DumpJournal c other may = plain_alike (Serves said.DumpJournal) refl c may
+  request_alike (said.DumpImages file side) c other may = plain_alike (Serves (said.DumpImages file side)) refl c may
+  request_alike (said.Backup file) c other may = plain_alike (Serves (said.Backup file)) refl c may
+  request_alike (said.Recover file way) c other may = plain_alike (Serves (said.Recover file way)) refl c may
   request_alike said.Crash c other may = plain_alike (Serves said.Crash) refl c may
 
   task_alike : (t : Task) (c : Choice) → is_boot t ≡ false → TaskAllowed s stops n t rises c → DoneAlike t c
@@ -535,6 +538,9 @@ module _ (M : Name → Type 0) where
     request_fits node said.LmcpDump h = (one_fits node (Serves said.LmcpDump) (no_boot node (Serves said.LmcpDump) refl), tt)
     request_fits node (said.Dump file) h = (one_fits node (Serves (said.Dump file)) (no_boot node (Serves (said.Dump file)) refl), tt)
     request_fits node said.DumpJournal h = (one_fits node (Serves said.DumpJournal) (no_boot node (Serves said.DumpJournal) refl), tt)
+    request_fits node (said.DumpImages file side) h = (one_fits node (Serves (said.DumpImages file side)) (no_boot node (Serves (said.DumpImages file side)) refl), tt)
+    request_fits node (said.Backup file) h = (one_fits node (Serves (said.Backup file)) (no_boot node (Serves (said.Backup file)) refl), tt)
+    request_fits node (said.Recover file way) h = (one_fits node (Serves (said.Recover file way)) (no_boot node (Serves (said.Recover file way)) refl), tt)
     request_fits node said.Crash h = (one_fits node (Serves said.Crash) (no_boot node (Serves said.Crash) refl), tt)
 
     restarts_like : (ns ms : List Node) → AllLike ns ms → restarts_of ms ≡ restarts_of ns

@@ -7,7 +7,7 @@ use Rattle.vms_model.specs.Ids.{Id}
 use Rattle.vms_model.specs.Transactions.{Abort, SegFail}
 use Rattle.transcript_model.specs.Lines as line
 use Rattle.transcript_model.specs.Lines.{Line, Cause}
-use Rattle.script_model.specs.Statements.{Request, Init, Boot, Create, SetFile, StartTrans, AddBranch, StartBranch, Records, Direct, EndBranch, EndTrans, AbortTrans, Inquire, DeclareRm, JoinRm, AckEvent, ForgetRm, GetDti, LmcpShow, LmcpDump, Dump, DumpJournal, Fuse, Crash, Clock}
+use Rattle.script_model.specs.Statements.{Request, Init, Boot, Create, SetFile, StartTrans, AddBranch, StartBranch, Records, Direct, EndBranch, EndTrans, AbortTrans, Inquire, DeclareRm, JoinRm, AckEvent, ForgetRm, GetDti, LmcpShow, LmcpDump, Dump, DumpJournal, DumpImages, Backup, Recover, Fuse, Crash, Clock}
 use Rattle.records_model.specs.History.{same_id}
 use Rattle.unit_laws.specs.Units.{Map}
 use Rattle.unit_laws.specs.Journal.{Journal, RecoveryUnit, active_units, find_unit, units_in}
@@ -694,6 +694,9 @@ module _ (t : Scheme) (k : Keeps t) where
     request_effect LmcpDump other takes ready c rises may = plain_effect (Serves LmcpDump) takes refl c rises may
     request_effect (Dump file) other takes ready c rises may = plain_effect (Serves (Dump file)) takes refl c rises may
     request_effect DumpJournal other takes ready c rises may = plain_effect (Serves DumpJournal) takes refl c rises may
+    request_effect (DumpImages file side) other takes ready c rises may = plain_effect (Serves (DumpImages file side)) takes refl c rises may
+    request_effect (Backup file) other takes ready c rises may = plain_effect (Serves (Backup file)) takes refl c rises may
+    request_effect (Recover file way) other takes ready c rises may = plain_effect (Serves (Recover file way)) takes refl c rises may
     request_effect (Fuse writes choice) other takes ready c rises may = plain_effect (Serves (Fuse writes choice)) takes refl c rises may
     request_effect Crash other takes ready c rises may = plain_effect (Serves Crash) takes refl c rises may
     request_effect (Clock now) other takes ready c rises may = plain_effect (Serves (Clock now)) takes refl c rises may

@@ -8,7 +8,7 @@ use Rattle.vms_model.specs.Keys.{Key}
 use Rattle.vms_model.specs.Transactions.{Aborted}
 use Rattle.transcript_model.specs.Lines as line
 use Rattle.transcript_model.specs.Lines.{Line}
-use Rattle.script_model.specs.Statements.{Statement, At, Deliver, LinkDown, Settle, Operation, Request, Init, Boot, Create, SetFile, StartTrans, AddBranch, StartBranch, Records, Direct, EndBranch, EndTrans, AbortTrans, Inquire, DeclareRm, JoinRm, AckEvent, ForgetRm, GetDti, LmcpShow, LmcpDump, Dump, DumpJournal, Fuse, Crash, Clock, Reading, Blank, Says, Bad}
+use Rattle.script_model.specs.Statements.{Statement, At, Deliver, LinkDown, Settle, Operation, Request, Init, Boot, Create, SetFile, StartTrans, AddBranch, StartBranch, Records, Direct, EndBranch, EndTrans, AbortTrans, Inquire, DeclareRm, JoinRm, AckEvent, ForgetRm, GetDti, LmcpShow, LmcpDump, Dump, DumpJournal, DumpImages, Backup, Recover, Fuse, Crash, Clock, Reading, Blank, Says, Bad}
 use Rattle.records_model.specs.Records.{Change}
 use Rattle.commit_protocol.specs.Messages as message
 use Rattle.commit_protocol.specs.Messages.{Message, Name, Reply}
@@ -41,6 +41,7 @@ use Rattle.run_laws.proofs.Preparing.{AllTell, PreparesBy, SendsBy, Tells, is_le
 use Rattle.run_laws.proofs.Told.{IsApart}
 use Rattle.run_laws.proofs.ToldParts.{IsThinPart, Thins, found_after, link_phases, part_thins, settle_phases}
 use Rattle.run_laws.proofs.TurnsTell.{HaveSteps, found_step, put_step}
+use Rattle.world_laws.proofs.FileRows.{images_by, recovers_by, saves_by, sets_by}
 
 -- What the acts of rows send.
 
@@ -188,7 +189,7 @@ request_sends s n r (inr (others, labels)) = go r labels
     go (Init slots journal) h = tt
     go Boot h = (tt, undone_sends _ s (acted world.Boots n))
     go (Create file bucket size form) h = created_sends n _ _
-    go (SetFile file setting) h = (tt, tt)
+    go (SetFile file setting) h = sets_by AllSend tt n file setting (λ mark. (tt, tt))
     go (StartTrans label seconds) h = (tt, (tt, (tt, tt)))
     go (AddBranch label other new) h = branch_sends (branch_labelled s n label) (λ b. told_rows s n (answers.adds n other new b)) (λ b. (tt, (tt, event_sends n others (rows.Authorise b.key.tid (next_id n)) (λ t x bid e. let no : ⊥ = cc in no) _ (acted (world.Labels (record { name = new; node = other; tid = b.key.tid; bid = Some (next_id n); serial = None })) (acted world.Draws n)))))
     go (StartBranch label) h = begins_send s n (world.labelled n.name label s.labels) h
@@ -207,6 +208,9 @@ request_sends s n r (inr (others, labels)) = go r labels
     go LmcpDump h = lines_send (map answers.log_line (slot_records 0 n.durable.log))
     go (Dump file) h = records_send (answers.records_of n file)
     go DumpJournal h = lines_send (answers.entry_lines n.durable.units.first n.durable.units.entries)
+    go (DumpImages file side) h = images_by AllSend tt n file side (λ ls a. lines_send ls)
+    go (Backup file) h = saves_by AllSend tt n file (λ start. (tt, tt))
+    go (Recover file way) h = recovers_by AllSend tt n file way (λ start buckets m. (tt, tt))
     go (Fuse writes choice) h = (tt, tt)
     go Crash h = (tt, tt)
     go (Clock now) h = (tt, tt)

@@ -7,7 +7,7 @@ use Rattle.vms_model.specs.Ids.{Id}
 use Rattle.vms_model.specs.Keys.{Key}
 use Rattle.vms_model.specs.Transactions.{Aborted}
 use Rattle.transcript_model.specs.Lines.{Line}
-use Rattle.script_model.specs.Statements.{Operation, Request, Init, Boot, Create, SetFile, StartTrans, AddBranch, StartBranch, Records, Direct, EndBranch, EndTrans, AbortTrans, Inquire, DeclareRm, JoinRm, AckEvent, ForgetRm, GetDti, LmcpShow, LmcpDump, Dump, DumpJournal, Fuse, Crash, Clock}
+use Rattle.script_model.specs.Statements.{Operation, Request, Init, Boot, Create, SetFile, StartTrans, AddBranch, StartBranch, Records, Direct, EndBranch, EndTrans, AbortTrans, Inquire, DeclareRm, JoinRm, AckEvent, ForgetRm, GetDti, LmcpShow, LmcpDump, Dump, DumpJournal, DumpImages, Backup, Recover, Fuse, Crash, Clock}
 use Rattle.records_model.specs.Records.{Change}
 use Rattle.records_model.specs.History.{same_id}
 use Rattle.unit_laws.specs.Units.{Map}
@@ -27,6 +27,7 @@ use Rattle.run_model.specs.Steps.{Choice, Whole, WithoutMemory, Unpowered, Cut, 
 use Rattle.run_model.proofs.NodeLists.{clash}
 use Rattle.run_laws.proofs.EffectsTell.{IsStep}
 use Rattle.run_laws.proofs.Noting.{OpenIn, NotesIn, AllNote, row_notes}
+use Rattle.world_laws.proofs.FileRows.{images_by, recovers_by, saves_by, sets_by}
 
 -- a node has an unsettled branch of this key that is not prepared; while the node is down, it had one when it fell
 abbrev pub HasOpen : Node → BranchKey → Type 0
@@ -279,7 +280,7 @@ request_mild s n (AddBranch label other new) h = let no : ⊥ = cc in absurd no
 request_mild s n (StartBranch label) h = let no : ⊥ = cc in absurd no
 request_mild s n Boot h = (tt, undone_mild (HasOpen n) _ s (acted Boots n))
 request_mild s n (Create file bucket size form) h = created_mild (HasOpen n) n _ _
-request_mild s n (SetFile file setting) h = (tt, tt)
+request_mild s n (SetFile file setting) h = sets_by (AreMild (HasOpen n)) tt n file setting (λ mark. (tt, tt))
 request_mild s n (Records label file op) h = branch_mild (HasOpen n) (branch_labelled s n label) (λ b. answers.operated n file op b ∷ []) (λ b. operated_mild (HasOpen n) n file op b)
 request_mild s n (Direct file op) h = directed_mild (HasOpen n) n file (answers.changes_at n file op)
 request_mild s n (EndBranch label) h = branch_mild (HasOpen n) (branch_labelled s n label) (λ b. told_rows s n (just (rows.EndBranch b.key.serial))) (λ b. event_mild (rows.EndBranch b.key.serial) s n tt)
@@ -295,6 +296,9 @@ request_mild s n LmcpShow h = tt
 request_mild s n LmcpDump h = lines_mild (HasOpen n) (map answers.log_line (slot_records 0 n.durable.log))
 request_mild s n (Dump file) h = records_mild (HasOpen n) (answers.records_of n file)
 request_mild s n DumpJournal h = lines_mild (HasOpen n) (answers.entry_lines n.durable.units.first n.durable.units.entries)
+request_mild s n (DumpImages file side) h = images_by (AreMild (HasOpen n)) tt n file side (λ ls a. lines_mild (HasOpen n) ls)
+request_mild s n (Backup file) h = saves_by (AreMild (HasOpen n)) tt n file (λ start. (tt, tt))
+request_mild s n (Recover file way) h = recovers_by (AreMild (HasOpen n)) tt n file way (λ start buckets m. (tt, tt))
 request_mild s n (Fuse writes choice) h = (tt, tt)
 request_mild s n Crash h = (tt, tt)
 request_mild s n (Clock now) h = (tt, tt)

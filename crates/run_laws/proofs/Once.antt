@@ -22,7 +22,7 @@ use Rattle.commit_protocol.proofs.Serials.{ApartAfter, act_apart, keyed, parts_a
 use Rattle.log_laws.specs.Slots.{prepared_of, records_in}
 use Rattle.log_laws.proofs.Reading.{is_prepared_one}
 use Rattle.run_model.specs.World as world
-use Rattle.run_model.specs.World.{Node, Durable, Act, Arms, Boots, Changes, Clocks, ComesUp, Creates, Directs, Draws, Falls, Formats, Holds, Labels, Marks, Numbers, Tables, Settlement, Half, MayTurnOut, Unknown, aborted_prepared, acted, is_durable, next_id, next_moment, settlement, settlement_of, with_half, with_changed}
+use Rattle.run_model.specs.World.{Node, Durable, Act, Arms, Boots, Changes, Clocks, ComesUp, Creates, Directs, Draws, Falls, Formats, Holds, Labels, Marks, Saves, Recovers, Numbers, Tables, Settlement, Half, MayTurnOut, Unknown, aborted_prepared, acted, is_durable, next_id, next_moment, settlement, settlement_of, with_half, with_changed}
 use Rattle.run_model.specs.Answers as answers
 use Rattle.run_model.specs.Answers.{Row, last_lines, settled_line, unit_key}
 use Rattle.run_model.specs.Steps.{node_after}
@@ -331,7 +331,9 @@ acted_once free ls (Some Boots) n f h = absurd f.fits
 acted_once free ls (Some (Formats slots journal)) n f h = absurd f.fits
 acted_once free ls (Some ComesUp) n f h = absurd f.fits
 acted_once free ls (Some (Creates place file)) n f h = quiet_once false n (acted (Creates place file) n) refl refl refl refl refl (λ x i. i) (less_free free n h)
-acted_once free ls (Some (Marks file units)) n f h = quiet_once false n (acted (Marks file units) n) refl refl refl refl refl (λ x i. i) (less_free free n h)
+acted_once free ls (Some (Marks file mark)) n f h = quiet_once false n (acted (Marks file mark) n) refl refl refl refl refl (λ x i. i) (less_free free n h)
+acted_once free ls (Some (Saves file start)) n f h = quiet_once false n (acted (Saves file start) n) refl refl refl refl refl (λ x i. i) (less_free free n h)
+acted_once free ls (Some (Recovers file start buckets m)) n f h = quiet_once false n (acted (Recovers file start buckets m) n) refl refl refl refl refl (λ x i. i) (less_free free n h)
 acted_once free ls (Some (Holds serial file keys)) n f h = quiet_once false n (acted (Holds serial file keys) n) refl refl refl refl refl (λ x i. i) (less_free free n h)
 acted_once free ls (Some (Arms writes choice)) n f h = quiet_once false n (acted (Arms writes choice) n) refl refl refl refl refl (λ x i. i) (less_free free n h)
 acted_once free ls (Some (Clocks now)) n f h = quiet_once false n (acted (Clocks now) n) refl refl refl refl refl (λ x i. i) (less_free free n h)

@@ -16,7 +16,7 @@ use Rattle.commit_protocol.specs.World.{In}
 use Rattle.commit_protocol.proofs.Lists.{find-key}
 use Rattle.log_laws.specs.Slots.{prepared_of, records_in}
 use Rattle.run_model.specs.World as world
-use Rattle.run_model.specs.World.{Node, Durable, Act, Arms, Boots, Changes, Clocks, ComesUp, Creates, Directs, Draws, Falls, Formats, Holds, Labels, Marks, Numbers, Tables, Settlement, Half, MayTurnOut, Unknown, aborted_prepared, acted, find_record, is_durable, next_id, next_moment, prepared_left, prepared_serials, records_by, settlement, with_changed, with_half, without_record}
+use Rattle.run_model.specs.World.{Node, Durable, Act, Arms, Boots, Changes, Clocks, ComesUp, Creates, Directs, Draws, Falls, Formats, Holds, Labels, Marks, Saves, Recovers, Numbers, Tables, Settlement, Half, MayTurnOut, Unknown, aborted_prepared, acted, find_record, is_durable, next_id, next_moment, prepared_left, prepared_serials, records_by, settlement, with_changed, with_half, without_record}
 use Rattle.run_model.specs.Answers as answers
 use Rattle.run_model.specs.Answers.{Row, last_lines, settled_line, unit_key}
 use Rattle.run_model.specs.Steps.{node_after}
@@ -258,7 +258,9 @@ module _ (x : Id) (K P : Id → Type 0) (C : Settlement → Type 0) where
     done free ls (Some (Formats slots journal)) n t f h = absurd f.fits
     done free ls (Some ComesUp) n t f h = absurd f.fits
     done free ls (Some (Creates place file)) n t f h = quiet free n (acted (Creates place file) n) refl refl refl refl refl h
-    done free ls (Some (Marks file units)) n t f h = quiet free n (acted (Marks file units) n) refl refl refl refl refl h
+    done free ls (Some (Marks file mark)) n t f h = quiet free n (acted (Marks file mark) n) refl refl refl refl refl h
+    done free ls (Some (Saves file start)) n t f h = quiet free n (acted (Saves file start) n) refl refl refl refl refl h
+    done free ls (Some (Recovers file start buckets m)) n t f h = quiet free n (acted (Recovers file start buckets m) n) refl refl refl refl refl h
     done free ls (Some (Holds serial file keys)) n t f h = quiet free n (acted (Holds serial file keys) n) refl refl refl refl refl h
     done free ls (Some (Arms writes choice)) n t f h = quiet free n (acted (Arms writes choice) n) refl refl refl refl refl h
     done free ls (Some (Clocks now)) n t f h = quiet free n (acted (Clocks now) n) refl refl refl refl refl h

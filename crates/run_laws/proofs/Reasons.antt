@@ -7,7 +7,7 @@ use Rattle.vms_model.specs.Ids.{Id}
 use Rattle.vms_model.specs.Transactions.{Outcome, Commit, Abort, Reason, Aborted, Vetoed, SyncFail, Timeout, CommFail, SegFail}
 use Rattle.transcript_model.specs.Lines as line
 use Rattle.transcript_model.specs.Lines.{Line, Cause}
-use Rattle.script_model.specs.Statements.{Statement, At, Deliver, LinkDown, Settle, Request, Init, Boot, Create, SetFile, StartTrans, AddBranch, StartBranch, Records, Direct, EndBranch, EndTrans, AbortTrans, Inquire, DeclareRm, JoinRm, AckEvent, ForgetRm, GetDti, LmcpShow, LmcpDump, Dump, DumpJournal, Fuse, Crash, Clock, Reading, Blank, Says, Bad, Named}
+use Rattle.script_model.specs.Statements.{Statement, At, Deliver, LinkDown, Settle, Request, Init, Boot, Create, SetFile, StartTrans, AddBranch, StartBranch, Records, Direct, EndBranch, EndTrans, AbortTrans, Inquire, DeclareRm, JoinRm, AckEvent, ForgetRm, GetDti, LmcpShow, LmcpDump, Dump, DumpJournal, DumpImages, Backup, Recover, Fuse, Crash, Clock, Reading, Blank, Says, Bad, Named}
 use Rattle.records_model.specs.Records.{Change}
 use Rattle.commit_protocol.specs.Messages as message
 use Rattle.commit_protocol.specs.Messages.{Message, LogRecord, same_id, Name, Reply, VetoReply}
@@ -33,6 +33,7 @@ use Rattle.run_laws.specs.Laws.{ReasonsComeSo}
 use Rattle.run_laws.proofs.Staying.{stays}
 use Rattle.run_laws.proofs.EachRow.{ArePlain, EachRow, closing_plain, cut_each, is_plain, take_each, task_each}
 use Rattle.run_laws.proofs.ShownSettled.{in_append, answer_plain, here_in}
+use Rattle.world_laws.proofs.FileRows.{images_by, recovers_by, saves_by, sets_by}
 
 -- the line of an abort for this reason
 abbrev is_abort : Reason → Line → Type 0
@@ -225,7 +226,7 @@ request_fits : (s : Shared) (n : Node) (request : Request) → AllFit (of_reques
 request_fits s n (Init slots journal) = tt
 request_fits s n Boot = (tt, undone_fits (of_request Boot) _ s (acted Boots n) refl)
 request_fits s n (Create file bucket size form) = created_fits _ n _ _
-request_fits s n (SetFile file setting) = (tt, tt)
+request_fits s n (SetFile file setting) = sets_by (AllFit (of_request (SetFile file setting))) tt n file setting (λ mark. (tt, tt))
 request_fits s n (StartTrans label seconds) = (tt, (tt, (tt, tt)))
 request_fits s n (AddBranch label other new) = branch_fits (of_request (AddBranch label other new)) (branch_labelled s n label) (λ b. told_rows s n (answers.adds n other new b)) added
   where
@@ -250,6 +251,9 @@ request_fits s n LmcpShow = tt
 request_fits s n LmcpDump = shown_fit _ (map answers.log_line (slot_records 0 n.durable.log))
 request_fits s n (Dump file) = records_fit _ (answers.records_of n file)
 request_fits s n DumpJournal = shown_fit _ (answers.entry_lines n.durable.units.first n.durable.units.entries)
+request_fits s n (DumpImages file side) = images_by (AllFit (of_request (DumpImages file side))) tt n file side (λ ls a. shown_fit _ ls)
+request_fits s n (Backup file) = saves_by (AllFit (of_request (Backup file))) tt n file (λ start. (tt, tt))
+request_fits s n (Recover file way) = recovers_by (AllFit (of_request (Recover file way))) tt n file way (λ start buckets m. (tt, tt))
 request_fits s n (Fuse writes choice) = (tt, tt)
 request_fits s n Crash = (tt, tt)
 request_fits s n (Clock now) = (tt, tt)

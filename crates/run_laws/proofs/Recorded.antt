@@ -149,7 +149,9 @@ module _ (tid serial : Id) where
         go (Some (world.Formats slots journal)) g t v up once has w = absurd g
         go (Some ComesUp) g t v up once has w = absurd g
         go (Some (world.Creates place file)) g t v up once has w = steady t v (by w (λ e. e))
-        go (Some (world.Marks file units)) g t v up once has w = steady t v (by w (λ e. e))
+        go (Some (world.Marks file mark)) g t v up once has w = steady t v (by w (λ e. e))
+        go (Some (world.Saves file start)) g t v up once has w = steady t v (by w (λ e. e))
+        go (Some (world.Recovers file start buckets m)) g t v up once has w = steady t v (by w (λ e. e))
         go (Some world.Draws) g t v up once has w = steady t v (by w (λ e. e))
         go (Some (world.Labels l)) g t v up once has w = steady t v (by w (λ e. e))
         go (Some (world.Numbers label id)) g t v up once has w = steady t v (by w (λ e. e))

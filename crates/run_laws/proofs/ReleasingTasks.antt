@@ -5,7 +5,7 @@ use Rattle.vms_model.specs.Ids.{Id}
 use Rattle.vms_model.specs.Keys.{Key}
 use Rattle.vms_model.specs.Transactions.{Aborted}
 use Rattle.transcript_model.specs.Lines.{Line}
-use Rattle.script_model.specs.Statements.{Operation, Request, Init, Boot, Create, SetFile, StartTrans, AddBranch, StartBranch, Records, Direct, EndBranch, EndTrans, AbortTrans, Inquire, DeclareRm, JoinRm, AckEvent, ForgetRm, GetDti, LmcpShow, LmcpDump, Dump, DumpJournal, Fuse, Crash, Clock, Named}
+use Rattle.script_model.specs.Statements.{Operation, Request, Init, Boot, Create, SetFile, StartTrans, AddBranch, StartBranch, Records, Direct, EndBranch, EndTrans, AbortTrans, Inquire, DeclareRm, JoinRm, AckEvent, ForgetRm, GetDti, LmcpShow, LmcpDump, Dump, DumpJournal, DumpImages, Backup, Recover, Fuse, Crash, Clock, Named}
 use Rattle.records_model.specs.Records.{Change}
 use Rattle.commit_protocol.specs.Messages.{Name, Reply}
 use Rattle.commit_protocol.specs.Table as table
@@ -18,6 +18,7 @@ use Rattle.run_model.specs.World.{Shared, Node, Label, Act, Tables, acted, next_
 use Rattle.run_model.specs.Answers as answers
 use Rattle.run_model.specs.Answers.{Row, Task, Serves, Ticks, Takes, Hears, LosesLink, RunsDown, Restarts, begins, branch_labelled, branch_named, just, service, silent, table_rows, task_service, told_if, told_rows}
 use Rattle.run_laws.proofs.Releasing.{AllRelease, ReleasedBy, ReleasesIn, row_releases}
+use Rattle.world_laws.proofs.FileRows.{images_by, recovers_by, saves_by, sets_by}
 
 -- what a row takes out is so
 abbrev pub TakesOut : (Id → Name → Type 0) → Option Act → Type 0
@@ -119,7 +120,7 @@ request_releases : (s : Shared) (n : Node) (r : Request) → AllTakeOut (TaskRel
 request_releases s n (Init slots journal) = tt
 request_releases s n Boot = (tt, undone_releases Never _ s (acted world.Boots n))
 request_releases s n (Create file bucket size form) = created_releases Never n _ _
-request_releases s n (SetFile file setting) = (tt, tt)
+request_releases s n (SetFile file setting) = sets_by (AllTakeOut Never) tt n file setting (λ mark. (tt, tt))
 request_releases s n (StartTrans label seconds) = (tt, (tt, (tt, tt)))
 request_releases s n (AddBranch label other new) = branch_releases Never (branch_labelled s n label) (λ b. told_rows s n (answers.adds n other new b)) (λ b is. (tt, (tt, never_releases n (rows.Authorise b.key.tid (next_id n)) (λ t y q. q) _ (acted (world.Labels (record { name = new; node = other; tid = b.key.tid; bid = Some (next_id n); serial = None })) (acted world.Draws n)))))
 request_releases s n (StartBranch label) = begins_releases Never s n (world.labelled n.name label s.labels)
@@ -138,6 +139,9 @@ request_releases s n LmcpShow = tt
 request_releases s n LmcpDump = lines_release Never (map answers.log_line (slot_records 0 n.durable.log))
 request_releases s n (Dump file) = records_release Never (answers.records_of n file)
 request_releases s n DumpJournal = lines_release Never (answers.entry_lines n.durable.units.first n.durable.units.entries)
+request_releases s n (DumpImages file side) = images_by (AllTakeOut Never) tt n file side (λ ls a. lines_release Never ls)
+request_releases s n (Backup file) = saves_by (AllTakeOut Never) tt n file (λ start. (tt, tt))
+request_releases s n (Recover file way) = recovers_by (AllTakeOut Never) tt n file way (λ start buckets m. (tt, tt))
 request_releases s n (Fuse writes choice) = (tt, tt)
 request_releases s n Crash = (tt, tt)
 request_releases s n (Clock now) = (tt, tt)

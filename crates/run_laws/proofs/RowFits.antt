@@ -7,7 +7,7 @@ use Rattle.vms_model.specs.Ids.{Id}
 use Rattle.vms_model.specs.Transactions.{Outcome, Commit, Abort, Reason, Aborted, SegFail}
 use Rattle.transcript_model.specs.Lines as line
 use Rattle.transcript_model.specs.Lines.{Line}
-use Rattle.script_model.specs.Statements.{Operation, Request, Init, Boot, Create, SetFile, StartTrans, AddBranch, StartBranch, Records, Direct, EndBranch, EndTrans, AbortTrans, Inquire, DeclareRm, JoinRm, AckEvent, ForgetRm, GetDti, LmcpShow, LmcpDump, Dump, DumpJournal, Fuse, Crash, Clock}
+use Rattle.script_model.specs.Statements.{Operation, Request, Init, Boot, Create, SetFile, StartTrans, AddBranch, StartBranch, Records, Direct, EndBranch, EndTrans, AbortTrans, Inquire, DeclareRm, JoinRm, AckEvent, ForgetRm, GetDti, LmcpShow, LmcpDump, Dump, DumpJournal, DumpImages, Backup, Recover, Fuse, Crash, Clock}
 use Rattle.records_model.specs.Records.{Change}
 use Rattle.commit_protocol.specs.Table as table
 use Rattle.commit_protocol.specs.Table.{Branch, Settles, Undoes, Notes}
@@ -21,11 +21,14 @@ use Rattle.run_model.specs.World.{Shared, Node, Settlement, File, Label, Act, Bo
 use Rattle.run_model.specs.Answers as answers
 use Rattle.run_model.specs.Answers.{Row, Task, powers, Serves, Ticks, Takes, Hears, LosesLink, RunsDown, Restarts, task_service, service, refused_before_reading, told_if, told_rows, table_rows, begins, just, branch_labelled, branch_named, creates, operated, directed, changes_at, keys_at, records_of, shown_record, entry_line, entry_lines, shown_line, silent, settled_line, last_line, last_lines}
 use Rattle.run_model.specs.Steps.{node_after}
+use Rattle.recovery_laws.specs.Entering.{AllFind, FindsImages}
 use Rattle.world_laws.specs.Nodes.{AreUp, IsKeptNode, IsUp}
+use Rattle.recovery_laws.proofs.EnteringLemmas.{task_find}
 use Rattle.world_laws.proofs.RowActs.{AreRowActs, IsRowAct, rows_are_row_acts}
 use Rattle.world_laws.proofs.TaskLemmas.{task_rows}
 use Rattle.world_laws.proofs.UpLemmas.{differ}
 use Rattle.run_laws.proofs.EachRow.{ArePlain, AreVoteless, EachRow, VotesSo, is_quiet, task_each}
+use Rattle.world_laws.proofs.FileRows.{images_by, recovers_by, saves_by, sets_by}
 
 -- Acts.
 
@@ -107,12 +110,13 @@ each_votes s n t = task_each Votes (λ act ls m h q v. v) (λ k o reason r m. se
 
 -- Rows of a task.
 
--- What each row finds, where the node is up before it and behind it, and what its lines tell, also of votes.
+-- What each row finds, where the node is up before it and behind it, also of files and their images, and what its lines tell, also of votes.
 pub record RowFits (free : Bool) (r : Row) (n : Node) : Type 0 where
   pub up : IsUp n
   pub fits : Fits free r.act n
   pub tells : TellsAct r.act r.lines n
   pub votes : VotesSo r.act r.lines
+  pub images : FindsImages r.act n
 
 abbrev pub EachFits : Bool → List Row → Node → Type 0
 EachFits free [] n = IsUp n
@@ -122,9 +126,10 @@ abbrev FitsAll : Bool → List Row → Node → Type 0
 FitsAll free [] n = Unit {0}
 FitsAll free (r ∷ rs) n = Fits free r.act n × FitsAll (free_after free r.act) rs (node_after r.act n)
 
-each_fits : (free : Bool) (rs : List Row) (n : Node) → AreUp rs n → FitsAll free rs n → EachRow Tells rs n → EachRow Votes rs n → EachFits free rs n
-each_fits free [] n up fits tells votes = up
-each_fits free (r ∷ rs) n up fits tells votes = (record { up = up.0; fits = fits.0; tells = tells.0; votes = votes.0 }, each_fits (free_after free r.act) rs (node_after r.act n) up.1 fits.1 tells.1 votes.1)
+each_fits : (free : Bool) (rs : List Row) (n : Node) → AreUp rs n → FitsAll free rs n → EachRow Tells rs n → EachRow Votes rs n → AllFind rs n → EachFits free rs n
+each_fits free [] n up fits tells votes images = up
+each_fits free (r ∷ rs) n up fits tells votes images =
+    (record { up = up.0; fits = fits.0; tells = tells.0; votes = votes.0; images = images.0 }, each_fits (free_after free r.act) rs (node_after r.act n) up.1 fits.1 tells.1 votes.1 images.1)
 
 -- the table's rows, of an event by which no branch begins
 table_fits : (free : Bool) (todo : List table.Act) (s : Shared) (n : Node) → AllStand n.volatile.branches todo → AreRowActs todo → FitsAll free (table_rows todo s n) n
@@ -200,7 +205,7 @@ module _ (s : Shared) (n : Node) (up : IsUp n) where
   request_fits (Init slots journal) off = tt
   request_fits Boot off = let none : ⊥ = cc in absurd none
   request_fits (Create file bucket size form) off = created_fits _ _
-  request_fits (SetFile file setting) off = (tt, tt)
+  request_fits (SetFile file setting) off = sets_by (λ rs. FitsAll false rs n) tt n file setting (λ mark. (tt, tt))
   request_fits (StartTrans label seconds) off = start_fits label seconds
   request_fits (AddBranch label other new) off = branch_fits (branch_labelled s n label) (λ b. told_rows s n (answers.adds n other new b)) (λ b. add_fits other new b (acted Draws n) refl)
   request_fits (StartBranch label) off = begins_fits (labelled n.name label s.labels)
@@ -219,6 +224,9 @@ module _ (s : Shared) (n : Node) (up : IsUp n) where
   request_fits LmcpDump off = lines_fit (λ l. l ∷ []) (map answers.log_line (slot_records 0 n.durable.log))
   request_fits (Dump file) off = lines_fit (λ e. line.Record e.0 e.1 ∷ []) (records_of n file)
   request_fits DumpJournal off = lines_fit (λ l. l ∷ []) (entry_lines n.durable.units.first n.durable.units.entries)
+  request_fits (DumpImages file side) off = images_by (λ rs. FitsAll false rs n) tt n file side (λ ls a. lines_fit (λ l. l ∷ []) ls)
+  request_fits (Backup file) off = saves_by (λ rs. FitsAll false rs n) tt n file (λ start. (tt, tt))
+  request_fits (Recover file way) off = recovers_by (λ rs. FitsAll false rs n) tt n file way (λ start buckets m. (tt, tt))
   request_fits (Fuse writes choice) off = (tt, tt)
   request_fits Crash off = (tt, tt)
   request_fits (Clock now) off = (tt, tt)
@@ -235,4 +243,4 @@ module _ (s : Shared) (n : Node) (up : IsUp n) where
 -- What the rows of a task find that nothing refuses, at a node that is up.
 pub task_fits : (s : Shared) (n : Node) (t : Task) → IsKeptNode s n → n.up ≡ true → powers (task_service t) ≡ false → refused_before_reading s n (task_service t) ≡ None → (task_service t).refused_after_reading s n ≡ None →
     EachFits false ((task_service t).rows s n) n
-task_fits s n t kept up off first late = each_fits false ((task_service t).rows s n) n (task_rows s 0 n kept t up first late).up (any_fits s n (kept.runs up).0 t off) (each_tells s n t) (each_votes s n t)
+task_fits s n t kept up off first late = each_fits false ((task_service t).rows s n) n (task_rows s 0 n kept t up first late).up (any_fits s n (kept.runs up).0 t off) (each_tells s n t) (each_votes s n t) (task_find s n kept up t off first late)

@@ -1,17 +1,18 @@
 -- The lines of a task's rows tell what they do to what nodes share and to whether the node is up.
 use Rattle.log_laws.specs.Slots.{slot_records, records_in, committed_of, waiting_for}
 use Rattle.commit_protocol.specs.Messages.{Name, Reply, LogRecord}
-use Rattle.std.proofs.Common.{◌≡◌, ℕ, ◌+◌, List, [], ◌∷◌, ◌++◌, map, Bool, true, false, Option, Some, None, if◌then◌else◌, refl, sym, ap}
+use Rattle.std.proofs.Common.{◌≡◌, ℕ, ◌+◌, List, [], ◌∷◌, ◌++◌, map, Bool, true, false, Option, Some, None, if◌then◌else◌, refl, sym, ap, subst}
 use Rattle.std.specs.Prelude.{nat_lt, length, ◌==◌}
 use Rattle.std.proofs.lemmas.Bool.{eq-eqb}
 use Rattle.std.specs.Option.{option_map, option_and_then}
 use Rattle.std.specs.Str.{bytes_eq}
+use Rattle.std.specs.List.{AllByRecursion}
 use Rattle.vms_model.specs.Ids.{Id}
 use Rattle.vms_model.specs.Keys.{Key}
 use Rattle.vms_model.specs.Transactions.{Outcome, Commit, Abort, Reason}
 use Rattle.transcript_model.specs.Lines as line
 use Rattle.transcript_model.specs.Lines.{Line}
-use Rattle.script_model.specs.Statements.{Request, Init, Boot, Create, SetFile, StartTrans, AddBranch, StartBranch, Records, Direct, EndBranch, EndTrans, AbortTrans, Inquire, DeclareRm, JoinRm, AckEvent, ForgetRm, GetDti, LmcpShow, LmcpDump, Dump, DumpJournal, Fuse, Crash, Clock, Operation}
+use Rattle.script_model.specs.Statements.{Request, Init, Boot, Create, SetFile, StartTrans, AddBranch, StartBranch, Records, Direct, EndBranch, EndTrans, AbortTrans, Inquire, DeclareRm, JoinRm, AckEvent, ForgetRm, GetDti, LmcpShow, LmcpDump, Dump, DumpJournal, DumpImages, Backup, Recover, Fuse, Crash, Clock, Operation}
 use Rattle.records_model.specs.Records.{Change}
 use Rattle.unit_laws.specs.Journal as journal
 use Rattle.unit_laws.specs.Journal.{JournalEntry, entry_size}
@@ -25,6 +26,7 @@ use Rattle.run_model.specs.Answers.{Row, Task, Serves, Ticks, Takes, Hears, Lose
 use Rattle.run_said.proofs.Passing.{acknowledged_passes, prepared_passes, printed_passes, released_passes, owed_passes}
 use Rattle.run_said.proofs.Views.{node_told, shared_told, label_told, View, Tells, AllTell, up_view, is_neutral, AreNeutral, neutral_lines}
 use Rattle.run_said.specs.Said.{SaidNode, lines_said}
+use Rattle.world_laws.proofs.FileRows.{images_by, recovers_by, saves_by, sets_by, IsEntryLine}
 
 -- Lines that tell nothing of these.
 
@@ -97,6 +99,10 @@ module _ (node : List ℕ) (base : List SaidNode) where
   entries_tell [] position n s = tt
   entries_tell (e ∷ es) position n s = (neutral_lines (entry_line position e ∷ []) (entry_neutral position e, tt) (View node base (node_told n) (shared_told s)), entries_tell es (position + entry_size e) n s)
 
+  images_tell : (ls : List Line) → AllByRecursion IsEntryLine ls → (n : Node) (s : Shared) → AllTell node base (map shown_line ls) n s
+  images_tell [] a n s = tt
+  images_tell (l ∷ ls) a n s = (neutral_lines (l ∷ []) (subst (λ (k : Line). is_neutral k ≡ true) (sym a.0.2) (entry_neutral a.0.0 a.0.1), tt) (View node base (node_told n) (shared_told s)), images_tell ls a.1 n s)
+
   records_tell : (es : List (Key × List ℕ)) (n : Node) (s : Shared) → AllTell node base (map shown_record es) n s
   records_tell [] n s = tt
   records_tell (e ∷ es) n s = (refl, records_tell es n s)
@@ -161,7 +167,7 @@ module _ (node : List ℕ) (base : List SaidNode) where
   request_tells s n (Init slots journal) named h = tt
   request_tells s n Boot named h = boot_tells s n
   request_tells s n (Create file bucket size form) named h = created_tell n s _ _
-  request_tells s n (SetFile file setting) named h = (refl, tt)
+  request_tells s n (SetFile file setting) named h = sets_by (λ rs. AllTell node base rs n s) tt n file setting (λ mark. (refl, tt))
   request_tells s n (StartTrans label seconds) named h = let none : ⊥ = cc in absurd none
   request_tells s n (AddBranch label other new) named h = let none : ⊥ = cc in absurd none
   request_tells s n (StartBranch label) named h = begins_tell s n (labelled n.name label s.labels)
@@ -180,6 +186,9 @@ module _ (node : List ℕ) (base : List SaidNode) where
   request_tells s n LmcpDump named h = logs_tell (slot_records 0 n.durable.log) n s
   request_tells s n (Dump file) named h = records_tell (records_of n file) n s
   request_tells s n DumpJournal named h = entries_tell n.durable.units.entries n.durable.units.first n s
+  request_tells s n (DumpImages file side) named h = images_by (λ rs. AllTell node base rs n s) tt n file side (λ ls a. images_tell ls a n s)
+  request_tells s n (Backup file) named h = saves_by (λ rs. AllTell node base rs n s) tt n file (λ start. (refl, tt))
+  request_tells s n (Recover file way) named h = recovers_by (λ rs. AllTell node base rs n s) tt n file way (λ start buckets m. (refl, tt))
   request_tells s n (Fuse writes choice) named h = (refl, tt)
   request_tells s n Crash named h = (up_view node base n.name false (node_told n) (shared_told s) named named, tt)
   request_tells s n (Clock now) named h = (refl, tt)

@@ -264,7 +264,9 @@ module _ (serial : Id) where
       go (Some (world.Formats slots journal)) g t v = absurd g
       go (Some ComesUp) g t v = absurd g
       go (Some (world.Creates place file)) g t v = quiet (Some (world.Creates place file)) g (λ e. e) (steady t v)
-      go (Some (world.Marks file units)) g t v = quiet (Some (world.Marks file units)) g (λ e. e) (steady t v)
+      go (Some (world.Marks file mark)) g t v = quiet (Some (world.Marks file mark)) g (λ e. e) (steady t v)
+      go (Some (world.Saves file start)) g t v = quiet (Some (world.Saves file start)) g (λ e. e) (steady t v)
+      go (Some (world.Recovers file start buckets m)) g t v = quiet (Some (world.Recovers file start buckets m)) g (λ e. e) (steady t v)
       go (Some world.Draws) g t v = quiet (Some world.Draws) g (λ e. e) (steady t v)
       go (Some (world.Labels l)) g t v = quiet (Some (world.Labels l)) g (λ e. e) (steady t v)
       go (Some (world.Numbers label id)) g t v = quiet (Some (world.Numbers label id)) g (λ e. e) (steady t v)

@@ -7,7 +7,7 @@ use Rattle.vms_model.specs.Keys.{Key}
 use Rattle.vms_model.specs.Transactions.{Outcome, Commit, Abort, Reason, Aborted, SegFail}
 use Rattle.transcript_model.specs.Lines as line
 use Rattle.transcript_model.specs.Lines.{Line, Cause}
-use Rattle.script_model.specs.Statements.{Operation, Request, Init, Boot, Create, SetFile, StartTrans, AddBranch, StartBranch, Records, Direct, EndBranch, EndTrans, AbortTrans, Inquire, DeclareRm, JoinRm, AckEvent, ForgetRm, GetDti, LmcpShow, LmcpDump, Dump, DumpJournal, Fuse, Crash, Clock, Named}
+use Rattle.script_model.specs.Statements.{Operation, Request, Init, Boot, Create, SetFile, StartTrans, AddBranch, StartBranch, Records, Direct, EndBranch, EndTrans, AbortTrans, Inquire, DeclareRm, JoinRm, AckEvent, ForgetRm, GetDti, LmcpShow, LmcpDump, Dump, DumpJournal, DumpImages, Backup, Recover, Fuse, Crash, Clock, Named}
 use Rattle.records_model.specs.Records.{Change}
 use Rattle.commit_protocol.specs.Messages.{Reply, Name}
 use Rattle.commit_protocol.specs.Table as table
@@ -25,6 +25,7 @@ use Rattle.run_laws.specs.Promises.{shown_in}
 use Rattle.run_laws.proofs.EachRow.{ArePlain, EachRow, closing_plain, cut_each, take_each, task_each}
 use Rattle.run_laws.proofs.Settling.{ActSettles, AllSettle, EventSettles, row_settles}
 use Rattle.run_laws.proofs.ShownSettled.{in_append, none_shown}
+use Rattle.world_laws.proofs.FileRows.{images_by, recovers_by, saves_by, sets_by}
 
 -- Lines of rows.
 
@@ -200,7 +201,7 @@ request_caused : (s : Shared) (n : Node) (request : Request) → AreCaused (Requ
 request_caused s n (Init slots journal) = tt
 request_caused s n Boot = (tt, undone_caused (RequestCause s n Boot) _ s (acted world.Boots n) (λ k. (refl, refl)))
 request_caused s n (Create file bucket size form) = created_caused _ n _ _
-request_caused s n (SetFile file setting) = (tt, tt)
+request_caused s n (SetFile file setting) = sets_by (AreCaused (RequestCause s n (SetFile file setting))) tt n file setting (λ mark. (tt, tt))
 request_caused s n (StartTrans label seconds) = (tt, (tt, (tt, tt)))
 request_caused s n (AddBranch label other new) = branch_caused (λ k o reason. ⊥) (branch_labelled s n label) (λ b. told_rows s n (answers.adds n other new b)) added
   where
@@ -227,6 +228,9 @@ request_caused s n LmcpShow = tt
 request_caused s n LmcpDump = shown_lines_caused (λ k o reason. ⊥) (map answers.log_line (slot_records 0 n.durable.log))
 request_caused s n (Dump file) = records_caused (λ k o reason. ⊥) (answers.records_of n file)
 request_caused s n DumpJournal = shown_lines_caused (λ k o reason. ⊥) (answers.entry_lines n.durable.units.first n.durable.units.entries)
+request_caused s n (DumpImages file side) = images_by (AreCaused (RequestCause s n (DumpImages file side))) tt n file side (λ ls a. shown_lines_caused _ ls)
+request_caused s n (Backup file) = saves_by (AreCaused (RequestCause s n (Backup file))) tt n file (λ start. (tt, tt))
+request_caused s n (Recover file way) = recovers_by (AreCaused (RequestCause s n (Recover file way))) tt n file way (λ start buckets m. (tt, tt))
 request_caused s n (Fuse writes choice) = (tt, tt)
 request_caused s n Crash = (tt, tt)
 request_caused s n (Clock now) = (tt, tt)

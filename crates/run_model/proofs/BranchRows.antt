@@ -96,6 +96,7 @@ file_i = record {
   carried = nothing_carried;
   recovery_units = false;
   history = record { base = empty; moment = 0; settled = []; live = [] };
+  past = λ moment. empty;
   layout = first_layout 2;
 }
 

@@ -1,5 +1,5 @@
 -- What refuses a task, and how a success is answered: what holds of each task.
-use Rattle.std.proofs.Common.{◌≡◌, ℕ, ◌==◌, List, [], ◌∷◌, Bool, true, false, not, ◌&&◌, Option, Some, None, refl, subst, sym}
+use Rattle.std.proofs.Common.{◌≡◌, ℕ, ◌==◌, List, [], ◌∷◌, Bool, true, false, not, ◌&&◌, Option, Some, None, option_map, refl, subst, sym}
 use Rattle.std.specs.Prelude.{nat_lt}
 use Rattle.std.specs.Option.{option_and_then}
 use Rattle.std.specs.List.{list_any}
@@ -8,19 +8,21 @@ use Rattle.vms_model.specs.Keys.{Key, Number, Text}
 use Rattle.vms_model.specs.Transactions.{Commit, Abort}
 use Rattle.transcript_model.specs.Lines as line
 use Rattle.transcript_model.specs.Lines.{Line, Cause}
-use Rattle.script_model.specs.Statements.{Request, Init, Boot, Create, SetFile, StartTrans, AddBranch, StartBranch, Records, Direct, EndBranch, EndTrans, AbortTrans, Inquire, DeclareRm, JoinRm, AckEvent, ForgetRm, GetDti, Dump, Named, ByLabel, BySerial, Operation, Put, Update, Delete, Truncate, Get, Next}
-use Rattle.records_model.specs.Records.{Records as TheRecords}
+use Rattle.script_model.specs.Statements.{Request, Init, Boot, Create, SetFile, StartTrans, AddBranch, StartBranch, Records, Direct, EndBranch, EndTrans, AbortTrans, Inquire, DeclareRm, JoinRm, AckEvent, ForgetRm, GetDti, Dump, DumpImages, Backup, Recover, Recovery, Side, Setting, RecoveryUnits, NoRecoveryUnits, Images, NoImages, Named, ByLabel, BySerial, Operation, Put, Update, Delete, Truncate, Get, Next}
+use Rattle.records_model.specs.Records.{Change, Records as TheRecords}
 use Rattle.records_model.specs.History.{first_to_change}
+use Rattle.recovery_model.specs.Recovery.{Refusal, NoJournal, NoSave, InUse, TooEarly, PositionsMissing, MomentsMissing, refusal}
+use Rattle.recovery_model.specs.Room.{Full, AftersFull, BeforesFull, full_of}
 use Rattle.commit_protocol.specs.Messages.{Name, Reply}
 use Rattle.commit_protocol.specs.Table as table
 use Rattle.commit_protocol.specs.Table.{Branch, Notes, Settles}
 use Rattle.commit_protocol.specs.Rows.{row}
 use Rattle.commit_protocol.specs.Rows as rows
 use Rattle.commit_protocol.specs.Allowed.{is_working, may_end}
-use Rattle.run_model.specs.World.{Shared, Node, File, Organization, Sequential, Relative, Indexed, Volume, Sound, Faulty, Barred, Unknown, NoRing, NoIndex, AllBoots, LateMoment, FarPosition, Label, find_file, find_label, labelled, serial_labelled, serials_of, tm_of}
+use Rattle.run_model.specs.World.{Shared, Node, File, Organization, Sequential, Relative, Indexed, Volume, Sound, Faulty, Barred, Unknown, NoRing, NoIndex, AllBoots, LateMoment, FarPosition, Label, find_file, find_label, labelled, next_id, serial_labelled, serials_of, state_of, tm_of}
 use Rattle.run_model.specs.Locks.{holder}
 use Rattle.run_model.specs.Operations.{first_of, refused_if, first_behind, in_order, record_in, standing_of, count_of, key_refused, place_refused, delete_refused, truncate_refused, after_refused, form_refused, keys_asked, keys_found, put_refused, other_refused, update_refused, missing, at_end, data_refused, put_answer, found_answer, next_answer, operation_answer}
-use Rattle.run_model.specs.Answers.{bar_line, Task, Serves, Restarts, service, task_service, Known, Unsettled, Recorded, Unheard, known, known_branch, known_manager, awaited_reply, declared_manager, is_declared, has_joined, is_joinable, more_managers, authorised, boot_limit, bootable, branch_labelled, branch_named, changes_at, end_answer, found_refused, held_against, in_state, is_file_form, is_first_active, is_in_doubt, is_marked, is_open, is_volume_form, journal_full, keys_refused, last_position, made_label, made_name, moment_limit, more_bids, more_branches, more_changes, needs_unit, new_file, new_label, of_file, of_label, operation_told, position_limit, refused_before_reading, seconds_refused, there_is_file, unchanged_file, unsettled, unsettled_label}
+use Rattle.run_model.specs.Answers.{bar_line, Task, Serves, Restarts, service, task_service, Known, Unsettled, Recorded, Unheard, known, known_branch, known_manager, awaited_reply, declared_manager, is_declared, has_joined, is_joinable, more_managers, authorised, boot_limit, bootable, branch_labelled, branch_named, changes_at, end_answer, found_refused, held_against, in_state, is_file_form, is_first_active, is_in_doubt, is_marked, is_open, is_volume_form, journal_full, keys_refused, last_position, made_label, made_name, moment_limit, more_bids, more_branches, more_changes, blocks_of, blocks_recovered, file_told, full_line, has_journal, images_full, recovery_refused, refusal_line, setting_full, setting_refused, volume_full, way_of, needs_unit, new_file, new_label, of_file, of_label, operation_told, position_limit, refused_before_reading, seconds_refused, there_is_file, unchanged_file, unsettled, unsettled_label}
 use Rattle.run_model.specs.StepLaws.{is_refusal}
 
 -- a line that may stand here passes this test
@@ -58,7 +60,7 @@ module _ (test : Line → Bool) where
       ])
       go Sound = says_first _ _ (says_if _ _ h) (says_first _ _ (says_if _ _ k) (says_if _ _ p))
       go (Faulty condition block) = says_some _ (f condition block)
-      go (Barred NoRing) = says_some _ (f 6 583)
+      go (Barred (NoRing block)) = says_some _ (f 6 block)
       go (Barred (NoIndex block)) = says_some _ (f 11 block)
       go (Barred AllBoots) = says_some _ h
       go (Barred LateMoment) = says_some _ k
@@ -112,6 +114,49 @@ refuses_unchanged n f = says_case is_by_more (first_to_change f.history (serials
 
 refuses_free : (n : Node) (file : List ℕ) → RefusesByMore (first_of (there_is_file n file) (of_file n file (unchanged_file n)))
 refuses_free n file = says_first is_by_more _ _ (refuses_file n file) (refuses_of_file n file _ (refuses_unchanged n))
+
+-- What refuses a mark, a save or a recovery.
+
+refuses_setting : (setting : Setting) → RefusesByMore (setting_refused setting)
+refuses_setting RecoveryUnits = says_none is_by_more
+refuses_setting NoRecoveryUnits = says_none is_by_more
+refuses_setting (Images side blocks) = says_if is_by_more _ _ refl
+refuses_setting (NoImages side) = says_none is_by_more
+
+refuses_marking : (n : Node) (file : List ℕ) (setting : Setting) → RefusesByMore (first_of (there_is_file n file) (first_of (setting_refused setting) (of_file n file (unchanged_file n))))
+refuses_marking n file setting = says_first is_by_more _ _ (refuses_file n file) (says_first is_by_more _ _ (refuses_setting setting) (refuses_of_file n file _ (refuses_unchanged n)))
+
+refuses_mapped : {A : Type 0} (told : A → Line) (o : Option A) → ((x : A) → is_by_more (told x) ≡ true) → RefusesByMore (option_map told o)
+refuses_mapped told (Some x) h = says_some is_by_more (told x) (h x)
+refuses_mapped told None h = says_none is_by_more
+
+refusal_is : (r : Refusal) → is_by_more (refusal_line r) ≡ true
+refusal_is NoJournal = refl
+refusal_is NoSave = refl
+refusal_is (InUse serial) = refl
+refusal_is (TooEarly until saved) = refl
+refusal_is (PositionsMissing needed first) = refl
+refusal_is (MomentsMissing until since) = refl
+
+refuses_recovery : (n : Node) (way : Recovery) (f : File) → RefusesByMore (recovery_refused n way f)
+refuses_recovery n way f = refuses_mapped refusal_line (refusal (way_of way) (first_to_change f.history (serials_of n.volatile.branches)) (state_of f)) refusal_is
+
+refuses_volume : (n : Node) (need : ℕ) → RefusesByMore (volume_full n need)
+refuses_volume n need = says_if is_by_more _ _ refl
+
+refuses_room : (n : Node) (setting : Setting) → RefusesByMore (setting_full n setting)
+refuses_room n RecoveryUnits = says_none is_by_more
+refuses_room n NoRecoveryUnits = says_none is_by_more
+refuses_room n (Images side blocks) = refuses_volume n blocks
+refuses_room n (NoImages side) = says_none is_by_more
+
+full_is : (u : Full) → is_by_more (full_line u) ≡ true
+full_is (AftersFull free need) = refl
+full_is (BeforesFull free need) = refl
+
+refuses_images : (serial : Id) (cs : List Change) (f : File) → RefusesByMore (images_full serial cs f)
+refuses_images serial [] f = says_none is_by_more
+refuses_images serial (c ∷ cs) f = refuses_mapped full_line (full_of serial (c ∷ cs) (state_of f)) full_is
 
 -- What refuses keys that are asked for.
 
@@ -212,7 +257,7 @@ by_lines s n _ = None
 abbrev pub by_more : Shared → Node → Request → Option Line
 by_more s n (Init slots journal) = refused_if (not (is_volume_form slots journal n)) line.BadParameter
 by_more s n (Create file bucket size form) = first_of (new_file n file) (refused_if (not (is_file_form bucket size form)) line.BadParameter)
-by_more s n (SetFile file setting) = first_of (there_is_file n file) (of_file n file (unchanged_file n))
+by_more s n (SetFile file setting) = first_of (there_is_file n file) (first_of (setting_refused setting) (of_file n file (unchanged_file n)))
 by_more s n (StartTrans label seconds) = seconds_refused seconds
 by_more s n (AddBranch label other new) = first_of (unsettled_label s n label) (in_state is_first_active (branch_labelled s n label))
 by_more s n (StartBranch label) = first_of (of_label s n label authorised) (in_state (λ b. false) (branch_labelled s n label))
@@ -229,6 +274,9 @@ by_more s n (JoinRm label rm) = first_of (unsettled_label s n label) (first_of (
 by_more s n (AckEvent who rm reply) = first_of (known_branch (known s n who)) (first_of (declared_manager n rm) (first_of (known_manager rm (known s n who)) (awaited_reply rm reply (known s n who))))
 by_more s n (ForgetRm rm) = first_of (declared_manager n rm) (refused_if (list_any (has_joined rm) n.volatile.branches) line.WrongState)
 by_more s n (Dump file) = first_of (there_is_file n file) (of_file n file (unchanged_file n))
+by_more s n (DumpImages file side) = first_of (there_is_file n file) (of_file n file (has_journal side))
+by_more s n (Backup file) = first_of (there_is_file n file) (of_file n file (unchanged_file n))
+by_more s n (Recover file way) = first_of (there_is_file n file) (of_file n file (recovery_refused n way))
 by_more s n _ = None
 
 pub first_none : (o : Option Line) → first_of o None ≡ o
@@ -278,7 +326,7 @@ pub more_refuses : (s : Shared) (n : Node) (request : Request) → RefusesByMore
 more_refuses s n (Init slots journal) = says_if is_by_more _ _ refl
 more_refuses s n (Create file bucket size form) =
     says_first is_by_more _ _ (says_case is_by_more (find_file file n.durable.directory) (λ f. Some line.FileExists) _ (λ f. says_some is_by_more _ refl) (says_none is_by_more)) (says_if is_by_more _ _ refl)
-more_refuses s n (SetFile file setting) = refuses_free n file
+more_refuses s n (SetFile file setting) = refuses_marking n file setting
 more_refuses s n (StartTrans label seconds) = refuses_seconds seconds
 more_refuses s n (AddBranch label other new) = refuses_label s n label is_first_active
 more_refuses s n (StartBranch label) =
@@ -301,6 +349,9 @@ more_refuses s n (AckEvent who rm reply) =
     says_first is_by_more _ _ (refuses_branch (known s n who)) (says_first is_by_more _ _ (refuses_manager n rm) (says_first is_by_more _ _ (refuses_known rm (known s n who)) (refuses_reply rm reply (known s n who))))
 more_refuses s n (ForgetRm rm) = says_first is_by_more _ _ (refuses_manager n rm) (says_if is_by_more _ _ refl)
 more_refuses s n (Dump file) = refuses_free n file
+more_refuses s n (DumpImages file side) = says_first is_by_more _ _ (refuses_file n file) (refuses_of_file n file _ (λ f. says_if is_by_more _ _ refl))
+more_refuses s n (Backup file) = refuses_free n file
+more_refuses s n (Recover file way) = says_first is_by_more _ _ (refuses_file n file) (refuses_of_file n file _ (refuses_recovery n way))
 more_refuses s n _ = says_none is_by_more
 
 refuses_made : (s : Shared) (n : Node) (label : List ℕ) → Refuses (made_label s n label)
@@ -367,9 +418,14 @@ late_refuses s n (JoinRm label rm) = refuses_of_branch more_managers (branch_lab
 late_refuses s n (Records label file op) =
     says_first is_by_more _ _ (refuses_of_file n file _ (refuses_found n _ file op)) (says_first is_by_more _ _ (refuses_of_branch (more_changes n (changes_at n file op)) (branch_labelled s n label) (λ b. says_if is_by_more _ _ refl))
     (says_first is_by_more _ _ (refuses_of_file n file _ (λ f. says_if is_by_more _ _ refl))
-    (says_first is_by_more _ _ (refuses_of_file n file _ (λ f. says_if is_by_more _ _ refl)) (refuses_of_branch (journal_full n file (changes_at n file op)) (branch_labelled s n label) (λ b. says_if is_by_more _ _ refl)))))
+    (says_first is_by_more _ _ (refuses_of_file n file _ (λ f. says_if is_by_more _ _ refl)) (says_first is_by_more _ _ (refuses_of_branch (journal_full n file (changes_at n file op)) (branch_labelled s n label) (λ b. says_if is_by_more _ _ refl))
+    (refuses_of_branch (λ b. of_file n file (images_full b.key.serial (changes_at n file op))) (branch_labelled s n label) (λ b. refuses_of_file n file _ (refuses_images b.key.serial (changes_at n file op))))))))
 late_refuses s n (Direct file op) =
-    says_first is_by_more _ _ (refuses_of_file n file _ (refuses_found n None file op)) (says_first is_by_more _ _ (says_if is_by_more _ _ refl) (refuses_of_file n file _ (λ f. says_if is_by_more _ _ refl)))
+    says_first is_by_more _ _ (refuses_of_file n file _ (refuses_found n None file op)) (says_first is_by_more _ _ (says_if is_by_more _ _ refl) (says_first is_by_more _ _ (refuses_of_file n file _ (λ f. says_if is_by_more _ _ refl))
+    (refuses_of_file n file _ (refuses_images (next_id n) (changes_at n file op)))))
+late_refuses s n (SetFile file setting) = refuses_room n setting
+late_refuses s n (Backup file) = refuses_of_file n file _ (λ f. refuses_volume n (blocks_of f))
+late_refuses s n (Recover file way) = refuses_of_file n file _ (λ f. refuses_volume n (blocks_recovered way f))
 late_refuses s n _ = says_none is_by_more
 
 pub then_by_more : (s : Shared) (n : Node) (t : Task) → RefusesByMore ((task_service t).refused_after_reading s n)
@@ -388,6 +444,7 @@ is_success line.Normal = true
 is_success (line.NormalCount n) = true
 is_success (line.NormalId id) = true
 is_success (line.NormalSpan first end) = true
+is_success (line.NormalSave position moment) = true
 is_success (line.NormalStanding standing) = true
 is_success (line.NormalLog committed prepared free) = true
 is_success (line.Pending serials rms) = true
@@ -438,6 +495,13 @@ end_succeeds (Settles k Commit reason r ∷ todo) before h = refl
 end_succeeds (Settles k Abort reason r ∷ todo) before h = refl
 end_succeeds (_ ∷ todo) before h = end_succeeds todo before h
 
+file_succeeds : (n : Node) (file : List ℕ) (says : File → Line) → ((f : File) → is_success (says f) ≡ true) → is_success (file_told n file says) ≡ true
+file_succeeds n file says h = go (find_file file n.durable.directory)
+  where
+    go : (o : Option File) → is_success (elim o [ Some f ↦ says f | None ↦ line.Normal ]) ≡ true
+    go (Some f) = h f
+    go None = refl
+
 request_succeeds : (s : Shared) (n : Node) (request : Request) → is_success ((service request).answer s n) ≡ true
 request_succeeds s n (Records label file op) = operation_succeeds n file op
 request_succeeds s n (Direct file op) = operation_succeeds n file op
@@ -446,6 +510,9 @@ request_succeeds s n (EndTrans label) = go (branch_labelled s n label)
     go : (o : Option Branch) → is_success (elim o [ Some b ↦ end_answer (row (tm_of n) (rows.EndTrans b.key.tid)) line.Normal | None ↦ line.Normal ]) ≡ true
     go (Some b) = end_succeeds (row (tm_of n) (rows.EndTrans b.key.tid)) line.Normal refl
     go None = refl
+request_succeeds s n (DumpImages file side) = file_succeeds n file _ (λ f. refl)
+request_succeeds s n (Backup file) = file_succeeds n file _ (λ f. refl)
+request_succeeds s n (Recover file way) = file_succeeds n file _ (λ f. refl)
 request_succeeds s n _ = refl
 
 pub task_succeeds : (s : Shared) (n : Node) (t : Task) → is_success ((task_service t).answer s n) ≡ true
@@ -458,6 +525,7 @@ success_no_refusal line.Normal h = refl
 success_no_refusal (line.NormalCount n) h = refl
 success_no_refusal (line.NormalId id) h = refl
 success_no_refusal (line.NormalSpan first end) h = refl
+success_no_refusal (line.NormalSave position moment) h = refl
 success_no_refusal (line.NormalStanding standing) h = refl
 success_no_refusal (line.NormalLog committed prepared free) h = refl
 success_no_refusal (line.Pending serials rms) h = refl

@@ -6,10 +6,10 @@ use Rattle.std.proofs.lemmas.List.{length-append}
 use Rattle.transcript_model.specs.Lines as line
 use Rattle.transcript_model.specs.Lines.{Line, Cause, Failed, NoMemory}
 use Rattle.transcript_model.specs.Script.{ScriptLine}
-use Rattle.script_model.specs.Statements.{Statement, At, Deliver, LinkDown, Settle, Request, Boot, Clock, Reading, Blank, Says, Bad}
+use Rattle.script_model.specs.Statements.{Statement, At, Deliver, LinkDown, Settle, Request, Boot, Recover, Clock, Reading, Blank, Says, Bad}
 use Rattle.script_model.specs.Grammar.{reading}
-use Rattle.run_model.specs.World.{World, Shared, Node, DiskCounts, Act, Boots, Outturn, Lost, Taken, Half, MayTurnOut, aborted_prepared, opened, find_node, with_node, acted, powered}
-use Rattle.run_model.specs.Answers.{Row, Service, Task, Serves, Ticks, Hears, LosesLink, RunsDown, Restarts, task_service, refused_before_reading, prepared_lines, powers, spoils}
+use Rattle.run_model.specs.World.{World, Shared, Node, DiskCounts, Act, Boots, Outturn, Lost, Taken, Half, MayTurnOut, aborted_prepared, opened, find_file, find_node, with_node, acted, powered}
+use Rattle.run_model.specs.Answers.{Row, Service, Task, Serves, Ticks, Hears, LosesLink, RunsDown, Restarts, task_service, blocks_recovered, refused_before_reading, prepared_lines, powers, spoils, volume_full}
 use Rattle.run_model.specs.Steps.{Choice, Whole, WithoutMemory, Unpowered, Cut, TaskEffect, TaskAllowed, task_effect, ready_node, node_after, node_after_rows, lines_of_rows, refused, succeeded, begun, whole, spoilt}
 use Rattle.run_model.specs.Statements.{Part, PartEffect, Parts, Phases, Phase, Onward, Then, Allowed, Begins, Step, NoneFalls, part_effect, put_into, stops_at, RoseAt, phases_of, refused_at_once, begun_with}
 use Rattle.run_model.specs.Transcript.{Entry, Legal, Turn as LineTurn, AreOpening}
@@ -129,6 +129,8 @@ is_other l = not (is_memory l)
 
 late_request : (s : Shared) (n m : Node) (request : Request) → (task_service (Serves request)).takes_memory n ≡ true → cause.Says is_other ((task_service (Serves request)).refused_after_reading s m)
 late_request s n m Boot h = says_bootable is_other m refl refl refl (λ condition block. refl)
+late_request s n m (Recover file way) h =
+    cause.says_case is_other (find_file file m.durable.directory) (λ f. volume_full m (blocks_recovered way f)) _ (λ f. cause.says_if is_other _ _ refl) (cause.says_none is_other)
 late_request s n m _ h = let none : ⊥ = cc in absurd none
 
 late_other : (s : Shared) (n m : Node) (t : Task) → (task_service t).takes_memory n ≡ true → cause.Says is_other ((task_service t).refused_after_reading s m)

@@ -29,6 +29,7 @@ file_g done = record {
   carried = nothing_carried;
   recovery_units = false;
   history = record { base = empty; moment = 0; settled = done; live = [] };
+  past = λ moment. empty;
   layout = no_layout;
 }
 

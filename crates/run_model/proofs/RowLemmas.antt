@@ -17,9 +17,9 @@ use Rattle.transcript_model.specs.Lines as line
 use Rattle.transcript_model.specs.Lines.{Line, Stopped}
 use Rattle.script_model.specs.Statements.{At, Request, Boot, StartTrans, Records, Direct, EndTrans, Dump, DumpJournal, Fuse, Crash, Put, Get}
 use Rattle.run_model.specs.Locks.{Lock}
-use Rattle.run_model.specs.World.{World, Shared, Node, Durable, Volatile, File, Relative, Act, Changes, Call, Arm, Power, Sound, Outturn, Lost, Taken, nothing_carried, find_node, find_file, with_node}
+use Rattle.run_model.specs.World.{World, Shared, Node, Durable, Volatile, File, Relative, Act, Changes, Call, Arm, Power, Sound, Outturn, Lost, Taken, nothing_carried, find_node, find_file, next_id, with_node}
 use Rattle.run_model.specs.Operations.{in_order, refused_if, form_refused, file_full, record_in, keys_asked}
-use Rattle.run_model.specs.Answers.{Serves, service, changes_at, found_refused, keys_refused, needs_unit, operation_told, shown_record, unchanged_file, there_is_file, of_file, records_of}
+use Rattle.run_model.specs.Answers.{Serves, service, changes_at, found_refused, images_full, keys_refused, needs_unit, operation_told, shown_record, unchanged_file, there_is_file, of_file, records_of}
 use Rattle.run_model.specs.Steps.{Whole, Cut, lines_of_rows, node_after_rows, shared_after_rows, occupied, task_effect}
 use Rattle.run_model.specs.Statements.{stops_at, done_at, put_into, named_node}
 use Rattle.run_model.specs.Rows.{Move, Shown, shown, played, zero_world, base_moves, base_lines, put_moves, put_lines, says, id, ChangeIsInJournal, RestartUndoes, StoppedChangeIsGone, TakenChangeIsUndone, TakenCommitIsTold, LostCommitIsUndone, TimeRunsOut, SettlingBoots}
@@ -72,9 +72,10 @@ read_effect s stops file key n f bytes up there form held room is =
     let finds : of_file n file (found_refused n None file (Get key)) ≡ None = rw (there, of_file, is) refl in
     let fits : of_file n file (λ f. file_full f (Get key)) ≡ None = rw (there, of_file) room in
     let nothing : changes_at n file (Get key) ≡ [] = rw (there, changes_at) refl in
+    let roomy : of_file n file (images_full (next_id n) (changes_at n file (Get key))) ≡ None = rw (there, of_file, nothing) refl in
     let told : operation_told n file (Get key) ≡ line.RecordFound bytes = rw (there, operation_told, is) refl in
     let awake : refused_if (not (n.up || false)) line.NodeDown ≡ None = rw up refl in
-    rw (awake, known, formed, outside, free, finds, nothing, fits, nothing, told) refl
+    rw (awake, known, formed, outside, free, finds, nothing, fits, roomy, nothing, told) refl
 
 -- and it leaves the world
 put_same : (node : List ℕ) (n : Node) (ns : List Node) → find_node node ns ≡ Some n → with_node node (λ m. n) ns ≡ ns
@@ -123,6 +124,7 @@ file_f live = record {
   carried = nothing_carried;
   recovery_units = true;
   history = record { base = empty; moment = 0; settled = []; live = live };
+  past = λ moment. empty;
   layout = no_layout;
 }
 

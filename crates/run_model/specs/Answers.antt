@@ -1,20 +1,25 @@
 -- What each task of a node is answered and does there. Of what makes the world, this tells tasks and requests apart, and Statements, which has the tasks of each
 -- statement.
-use Rattle.std.specs.Prelude.{ℕ, ◌+◌, ◌-◌, ◌*◌, ◌/◌, List, [], ◌∷◌, ◌++◌, Bool, true, false, not, ◌&&◌, ◌||◌, ◌==◌, if◌then◌else◌, Option, Some, None, option_map, min, max, nat_le, nat_lt, map, length}
+use Rattle.std.specs.Prelude.{ℕ, ◌+◌, ◌-◌, ◌*◌, ◌/◌, List, [], ◌∷◌, ◌++◌, Bool, true, false, not, ◌&&◌, ◌||◌, ◌==◌, if◌then◌else◌, Option, Some, None, option_map, min, max, nat_le, nat_lt, map, length, reverse}
 use Rattle.std.specs.Option.{option_and_then}
 use Rattle.std.specs.List.{list_any}
-use Rattle.std.specs.FinMap.{empty}
+use Rattle.std.specs.FinMap.{empty, entries}
 use Rattle.vms_model.specs.Keys.{Key}
 use Rattle.vms_model.specs.Ids.{Id}
 use Rattle.vms_model.specs.Transactions.{Outcome, Commit, Abort, Reason, Aborted, SegFail}
 use Rattle.transcript_model.specs.Lines as line
 use Rattle.transcript_model.specs.Lines.{Line, Standing, ActiveBranch, EndingBranch, PreparedBranch, CommittedBranch, UnknownBranch}
-use Rattle.script_model.specs.Statements.{Request, Init, Boot, Create, SetFile, StartTrans, AddBranch, StartBranch, Records, Direct, EndBranch, EndTrans, AbortTrans, Inquire, DeclareRm, JoinRm, AckEvent, ForgetRm, GetDti, LmcpShow, LmcpDump, Dump, DumpJournal, Fuse, Crash, Clock, Named, ByLabel, BySerial, Form, Sequential, Relative, Indexed, Setting, Operation, RecoveryUnits, NoRecoveryUnits}
-use Rattle.records_model.specs.Records.{Change}
+use Rattle.script_model.specs.Statements.{Request, Init, Boot, Create, SetFile, StartTrans, AddBranch, StartBranch, Records, Direct, EndBranch, EndTrans, AbortTrans, Inquire, DeclareRm, JoinRm, AckEvent, ForgetRm, GetDti, LmcpShow, LmcpDump, Dump, DumpJournal, DumpImages, Backup, Recover, Fuse, Crash, Clock, Named, ByLabel, BySerial, Form, Sequential, Relative, Indexed, Setting, Operation, RecoveryUnits, NoRecoveryUnits, Images, NoImages, Side, AfterImages, BeforeImages, Recovery}
+use Rattle.script_model.specs.Statements as says
+use Rattle.records_model.specs.Records.{Change, Records as RecordMap}
 use Rattle.tree_model.specs.Layouts.{Layout, no_layout, first_layout as one_leaf}
 use Rattle.records_model.specs.History.{first_to_change, same_id}
 use Rattle.unit_laws.specs.Journal as journal
 use Rattle.unit_laws.specs.Journal.{JournalEntry, RecoveryUnit, entry_size, entries_size, entries_for, end_of, owed, units_in, find_unit, active_units}
+use Rattle.recovery_model.specs.Journal.{entry_in}
+use Rattle.recovery_model.specs.File.{ImageJournal, Placed}
+use Rattle.recovery_model.specs.Recovery.{Way, Forward, Backward, Refusal, NoJournal, NoSave, InUse, TooEarly, PositionsMissing, MomentsMissing, refusal, rolled}
+use Rattle.recovery_model.specs.Room.{Full, AftersFull, BeforesFull, full_of}
 use Rattle.commit_protocol.specs.Messages as message
 use Rattle.commit_protocol.specs.Messages.{Name, Message, Reply, LogRecord, CommitEvent, same_name}
 use Rattle.commit_protocol.specs.Table as table
@@ -27,7 +32,7 @@ use Rattle.commit_protocol.specs.World.{undo_all}
 use Rattle.log_laws.specs.Slots.{records_in, committed_of, prepared_of, waiting_for, slot_records, free_slots}
 use Rattle.run_model.specs.Locks.{holder, not_locked}
 use Rattle.run_model.specs.World as world
-use Rattle.run_model.specs.World.{Shared, Node, File, Organization, Label, Settlement, Volume, Sound, Faulty, Barred, Unknown, Bar, NoRing, NoIndex, AllBoots, LateMoment, FarPosition, Act, Formats, Boots, ComesUp, Creates, Marks, Draws, Labels, Numbers, Tables, Changes, Holds, Directs, Arms, Clocks, Declares, Falls, acted, shared_after, tm_of, booted, message_limit, nothing_carried, find_file, free_place, find_label, labelled, serial_labelled, find_branch, find_record, changes_made, serials_of, longest_free, lowest_free, next_id, next_moment}
+use Rattle.run_model.specs.World.{Shared, Node, File, Organization, Label, Settlement, Volume, Sound, Faulty, Barred, Unknown, Bar, NoRing, NoIndex, AllBoots, LateMoment, FarPosition, Act, Formats, Boots, ComesUp, Creates, Marks, Saves, Recovers, Mark, ForUnits, BeginsImages, EndsImages, Draws, Labels, Numbers, Tables, Changes, Holds, Directs, Arms, Clocks, Declares, Falls, acted, shared_after, tm_of, booted, message_limit, nothing_carried, state_of, buckets_loaded, loaded_map, find_file, free_place, find_label, labelled, serial_labelled, find_branch, find_record, changes_made, serials_of, longest_free, lowest_free, next_id, next_moment}
 use Rattle.run_model.specs.Operations.{first_of, refused_if, in_order, form_refused, data_refused, changes_of, file_full, operation_answer, is_change, keys_asked, keys_found, keys_held}
 
 -- how many labels a run makes, at the most
@@ -288,18 +293,31 @@ keys_at n file op = elim (find_file file n.durable.directory) [ Some f ↦ keys_
 abbrev pub found_refused : Node → (asking : Option Id) → (file : List ℕ) → Operation → File → Option Line
 found_refused n asking file op f = first_of (data_refused f op) (keys_refused n asking file (keys_found f op))
 
--- An operation of a branch: what is found refuses it, it makes too many changes, too many keys are held with it, its file has too few free buckets, or the
--- journal too few free bytes.
+-- what the ring of a file's journal of images refuses changes for
+abbrev pub full_line : Full → Line
+full_line (AftersFull free need) = line.AftersFull free need
+full_line (BeforesFull free need) = line.BeforesFull free need
+
+-- changes of this branch: they do not fit the rings of the file's journals of images, which no change has to
+abbrev pub images_full : (serial : Id) → List Change → File → Option Line
+images_full serial [] f = None
+images_full serial (c ∷ cs) f = option_map full_line (full_of serial (c ∷ cs) (state_of f))
+
+-- An operation of a branch: what is found refuses it, it makes too many changes, too many keys are held with it, its file has too few free buckets, the
+-- journal too few free bytes, or a journal of the file's images.
 abbrev pub operation_refused : Shared → Node → (label file : List ℕ) → Operation → Option Line
 operation_refused s n label file op = first_of (of_file n file (found_refused n (serial_labelled n.name label s.labels) file op))
     (first_of (option_and_then (more_changes n (changes_at n file op)) (branch_labelled s n label))
     (first_of (of_file n file (λ f. more_locks n file (keys_held f op)))
-    (first_of (of_file n file (λ f. file_full f op)) (option_and_then (journal_full n file (changes_at n file op)) (branch_labelled s n label)))))
+    (first_of (of_file n file (λ f. file_full f op)) (first_of (option_and_then (journal_full n file (changes_at n file op)) (branch_labelled s n label))
+    (option_and_then (λ (b : Branch). of_file n file (images_full b.key.serial (changes_at n file op))) (branch_labelled s n label))))))
 
--- an operation without a label: what is found refuses it, it makes more changes than a branch may, or its file has too few free buckets
+-- An operation without a label: what is found refuses it, it makes more changes than a branch may, its file has too few free buckets, or a journal of the file's
+-- images too few free bytes. It is a branch of its own, which no entry names yet.
 abbrev pub direct_refused : Node → (file : List ℕ) → Operation → Option Line
 direct_refused n file op = first_of (of_file n file (found_refused n None file op))
-    (first_of (refused_if (nat_lt change_limit (length (changes_at n file op))) (line.QuotaExceeded line.Changes change_limit)) (of_file n file (λ f. file_full f op)))
+    (first_of (refused_if (nat_lt change_limit (length (changes_at n file op))) (line.QuotaExceeded line.Changes change_limit))
+    (first_of (of_file n file (λ f. file_full f op)) (of_file n file (images_full (next_id n) (changes_at n file op)))))
 
 -- a file that is to be made: there is one of this name
 abbrev pub new_file : Node → List ℕ → Option Line
@@ -356,7 +374,7 @@ last_position n = max (end_of n.durable.units) (images_end n.durable.directory)
 
 -- what is answered where a boot is barred: that a journal's block or an indexed file's root fails a condition of volumes, or a quota
 abbrev pub bar_line : (node : List ℕ) → Bar → Line
-bar_line node NoRing = line.NoVolume node 6 583
+bar_line node (NoRing block) = line.NoVolume node 6 block
 bar_line node (NoIndex block) = line.NoVolume node 11 block
 bar_line node AllBoots = line.QuotaExceeded line.Boots boot_limit
 bar_line node LateMoment = line.QuotaExceeded line.Moments moment_limit
@@ -400,17 +418,13 @@ created name bucket size form start moment = record {
   carried = nothing_carried;
   recovery_units = false;
   history = record { base = empty; moment = moment; settled = []; live = [] };
+  past = λ moment. empty;
   layout = first_layout form;
 }
 
 -- a file takes the lowest free place of the directory and the lowest run of free blocks that holds it
 abbrev pub creates : Node → (ℕ → File) → ℕ → List Row
 creates n made need = elim (free_place n.durable.directory) [ Some place ↦ elim (lowest_free n need) [ Some start ↦ record { act = Some (Creates place (made start)); lines = [] } ∷ [] | None ↦ [] ] | None ↦ [] ]
-
--- whether a setting marks a file for recovery units
-abbrev pub is_for_units : Setting → Bool
-is_for_units RecoveryUnits = true
-is_for_units NoRecoveryUnits = false
 
 -- a settlement as a boot shows it
 abbrev pub last_line : Settlement → List Line
@@ -427,6 +441,92 @@ silent act = record { act = Some act; lines = [] }
 -- a line is shown, and nothing is done
 abbrev pub shown_line : Line → Row
 shown_line l = record { act = None; lines = l ∷ [] }
+
+-- Journals of images, saves and recoveries.
+
+-- a setting with a journal of no blocks
+abbrev pub setting_refused : Setting → Option Line
+setting_refused RecoveryUnits = None
+setting_refused NoRecoveryUnits = None
+setting_refused (Images side blocks) = refused_if (blocks == 0) line.BadParameter
+setting_refused (NoImages side) = None
+
+-- so many blocks are wanted: no run of free ones is as long
+abbrev pub volume_full : Node → (need : ℕ) → Option Line
+volume_full n need = refused_if (nat_lt (longest_free n) need) (line.VolumeFull (longest_free n) need)
+
+-- a journal that is to begin wants its blocks
+abbrev pub setting_full : Node → Setting → Option Line
+setting_full n RecoveryUnits = None
+setting_full n NoRecoveryUnits = None
+setting_full n (Images side blocks) = volume_full n blocks
+setting_full n (NoImages side) = None
+
+-- where the lowest run of so many free blocks begins; none is wanted where there is none, and that is anywhere
+abbrev pub start_of : Option ℕ → ℕ
+start_of (Some start) = start
+start_of None = 0
+
+-- an act on the lowest run of so many free blocks, which shows nothing
+abbrev pub on_free : Node → (need : ℕ) → (ℕ → Act) → List Row
+on_free n need act = silent (act (start_of (lowest_free n need))) ∷ []
+
+-- what a setting does to a file
+abbrev pub sets : Node → (file : List ℕ) → Setting → List Row
+sets n file RecoveryUnits = silent (Marks file (ForUnits true)) ∷ []
+sets n file NoRecoveryUnits = silent (Marks file (ForUnits false)) ∷ []
+sets n file (Images side blocks) = on_free n blocks (λ start. Marks file (BeginsImages side start blocks))
+sets n file (NoImages side) = silent (Marks file (EndsImages side)) ∷ []
+
+-- the journal of images of this side
+abbrev pub journal_at : Side → File → ImageJournal
+journal_at AfterImages f = f.carried.after
+journal_at BeforeImages f = f.carried.before
+
+-- a journal that is asked for: the file has none
+abbrev pub has_journal : Side → File → Option Line
+has_journal side f = refused_if (not (journal_at side f).on) line.NoJournal
+
+-- what is done to a file, and what it is answered, where it is there
+abbrev pub to_file : Node → (file : List ℕ) → (File → List Row) → List Row
+to_file n file does = elim (find_file file n.durable.directory) [ Some f ↦ does f | None ↦ [] ]
+
+abbrev pub file_told : Node → (file : List ℕ) → (File → Line) → Line
+file_told n file says = elim (find_file file n.durable.directory) [ Some f ↦ says f | None ↦ line.Normal ]
+
+-- how many blocks a file's buckets take
+abbrev pub blocks_of : File → ℕ
+blocks_of f = f.buckets * f.bucket
+
+-- the way of a recovery
+abbrev pub way_of : Recovery → Way
+way_of (says.Forward until) = Forward until
+way_of (says.Backward until) = Backward until
+
+-- what refuses a recovery, as it is shown
+abbrev pub refusal_line : Refusal → Line
+refusal_line NoJournal = line.NoJournal
+refusal_line NoSave = line.NoSave
+refusal_line (InUse serial) = line.FileLocked serial
+refusal_line (TooEarly until saved) = line.TooEarly until saved
+refusal_line (PositionsMissing needed first) = line.PositionsMissing needed first
+refusal_line (MomentsMissing until since) = line.MomentsMissing until since
+
+-- a file that is to be recovered: its journals, its save or an unsettled branch that changed it refuse that
+abbrev pub recovery_refused : Node → Recovery → File → Option Line
+recovery_refused n way f = option_map refusal_line (refusal (way_of way) (first_to_change f.history (serials_of n.volatile.branches)) (state_of f))
+
+-- the records that it gets: what its journals and its save make, as they are loaded
+abbrev pub records_recovered : Recovery → File → RecordMap
+records_recovered way f = loaded_map f.organization (rolled (way_of way) (state_of f))
+
+-- how many blocks its new buckets take
+abbrev pub blocks_recovered : Recovery → File → ℕ
+blocks_recovered way f = buckets_loaded f (records_recovered way f) * f.bucket
+
+-- a file gets these records in new buckets
+abbrev pub recovers : Node → (file : List ℕ) → Recovery → File → List Row
+recovers n file way f = on_free n (blocks_recovered way f) (λ start. Recovers file start (buckets_loaded f (records_recovered way f)) (records_recovered way f))
 
 -- The rows of the table.
 
@@ -614,6 +714,13 @@ abbrev pub entry_lines : (position : ℕ) → List JournalEntry → List Line
 entry_lines position [] = []
 entry_lines position (e ∷ es) = entry_line position e ∷ entry_lines (position + entry_size e) es
 
+-- an entry of a file's journal of images as it is shown, and all of them, the oldest first
+abbrev pub image_line : (file : List ℕ) → Placed → Line
+image_line file x = entry_line x.at (entry_in x.tid file x.entry)
+
+abbrev pub image_lines : (file : List ℕ) → List Placed → List Line
+image_lines file xs = reverse (map (image_line file) xs)
+
 -- what an operation is answered where it succeeds
 abbrev pub operation_told : Node → List ℕ → Operation → Line
 operation_told n file op = elim (find_file file n.durable.directory) [ Some f ↦ operation_answer f op | None ↦ line.RecordNormal ]
@@ -678,8 +785,8 @@ service (Create file bucket size form) = plain Used
     (λ s n. room_for (blocks_for bucket size form) n)
     (λ s n. creates n (λ start. created file bucket size form start n.durable.greatest) (blocks_for bucket size form)) (always line.Normal)
 service (SetFile file setting) = plain Used
-    (λ s n. first_of (there_is_file n file) (of_file n file (unchanged_file n))) never
-    (λ s n. silent (Marks file (is_for_units setting)) ∷ []) (always line.Normal)
+    (λ s n. first_of (there_is_file n file) (first_of (setting_refused setting) (of_file n file (unchanged_file n)))) (λ s n. setting_full n setting)
+    (λ s n. sets n file setting) (always line.Normal)
 service (StartTrans label seconds) = plain Unused
     (λ s n. first_of (new_label s label) (seconds_refused seconds)) (λ s n. more_branches n)
     (λ s n. told_rows s n (starts n label seconds)) (λ s n. line.NormalId (next_id n))
@@ -738,6 +845,15 @@ service (Dump file) = plain Used
     (λ s n. map shown_record (records_of n file)) (λ s n. line.NormalCount (length (records_of n file)))
 service DumpJournal = plain Used never never
     (λ s n. map shown_line (entry_lines n.durable.units.first n.durable.units.entries)) (λ s n. line.NormalSpan n.durable.units.first (end_of n.durable.units))
+service (DumpImages file side) = plain Used
+    (λ s n. first_of (there_is_file n file) (of_file n file (has_journal side))) never
+    (λ s n. to_file n file (λ f. map shown_line (image_lines file (journal_at side f).entries))) (λ s n. file_told n file (λ f. line.NormalSpan (journal_at side f).first (journal_at side f).end))
+service (Backup file) = plain Used
+    (λ s n. first_of (there_is_file n file) (of_file n file (unchanged_file n))) (λ s n. of_file n file (λ f. volume_full n (blocks_of f)))
+    (λ s n. to_file n file (λ f. on_free n (blocks_of f) (Saves file))) (λ s n. file_told n file (λ f. line.NormalSave f.carried.after.end n.durable.greatest))
+service (Recover file way) = record (plain Used
+    (λ s n. first_of (there_is_file n file) (of_file n file (recovery_refused n way))) (λ s n. of_file n file (λ f. volume_full n (blocks_recovered way f)))
+    (λ s n. to_file n file (recovers n file way)) (λ s n. file_told n file (λ f. line.NormalCount (length (entries (records_recovered way f)))))) { takes_memory = λ n. true }
 service (Fuse writes choice) = record (plain Unused never never (λ s n. silent (Arms writes choice) ∷ []) (always line.Normal)) { while_down = true }
 service Crash = plain Unused never never (λ s n. record { act = Some Falls; lines = line.Crashed n.name ∷ [] } ∷ []) (always line.Normal)
 service (Clock now) = record (plain Unused never never (λ s n. silent (Clocks now) ∷ []) (always line.Normal)) { while_down = true }

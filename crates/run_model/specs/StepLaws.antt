@@ -2,7 +2,7 @@
 use Rattle.std.specs.Prelude.{◌≡◌, ℕ, ◌+◌, ◌<◌, ◌^◌, ◌⊎◌, List, [], ◌∷◌, ◌++◌, Bool, true, false, Option, Some, None, map, length, option_map}
 use Rattle.std.specs.List.{last_or}
 use Rattle.vms_model.specs.Ids.{Id}
-use Rattle.transcript_model.specs.Lines.{Line, Cause, Down, NoSuchNode, NodeDown, NodeUp, VolumeInUse, NotInitialized, NotInitializedAt, NoSuchMessage, BadLabel, FileNotFound, FileExists, BadParameter, BadOperation, BadRecordNumber, BadRecordSize, NoSuchTransaction, NoSuchBranchId, NoSuchManager, WrongState, InDoubt, NotMarked, NeedsUnit, RecordLocked, FileLocked, NoVolume, RecordExists, KeyExists, RecordNotFound, EndOfFile, KeyChanged, QuotaExceeded, VolumeFull, FileFull, JournalFull, NoMemory, Broken}
+use Rattle.transcript_model.specs.Lines.{Line, Cause, Down, NoSuchNode, NodeDown, NodeUp, VolumeInUse, NotInitialized, NotInitializedAt, NoSuchMessage, BadLabel, FileNotFound, FileExists, BadParameter, BadOperation, BadRecordNumber, BadRecordSize, NoSuchTransaction, NoSuchBranchId, NoSuchManager, WrongState, InDoubt, NotMarked, NeedsUnit, RecordLocked, FileLocked, NoVolume, RecordExists, KeyExists, RecordNotFound, EndOfFile, KeyChanged, QuotaExceeded, VolumeFull, FileFull, JournalFull, NoJournal, NoSave, TooEarly, PositionsMissing, MomentsMissing, AftersFull, BeforesFull, NoMemory, Broken}
 use Rattle.script_model.specs.Statements.{Statement, At, Deliver, LinkDown, Settle, Clock}
 use Rattle.commit_protocol.specs.Table.{Branch, coordinator_of}
 use Rattle.run_model.specs.World.{World, Shared, Node, DiskCounts, Outturn, MayTurnOut, opened, find_node, with_node, disk_of, with_counts}
@@ -95,6 +95,13 @@ is_refusal (QuotaExceeded quota limit) = true
 is_refusal (VolumeFull free need) = true
 is_refusal (FileFull free need) = true
 is_refusal (JournalFull free need) = true
+is_refusal NoJournal = true
+is_refusal NoSave = true
+is_refusal (TooEarly until saved) = true
+is_refusal (PositionsMissing needed first) = true
+is_refusal (MomentsMissing until since) = true
+is_refusal (AftersFull free need) = true
+is_refusal (BeforesFull free need) = true
 is_refusal NoMemory = true
 is_refusal _ = false
 

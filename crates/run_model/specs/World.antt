@@ -1,22 +1,31 @@
 -- The world of a run: what the statements so far have made of the nodes.
-use Rattle.std.specs.Prelude.{◌≡◌, ◌≤◌, ℕ, zero, suc, ◌+◌, ◌-◌, ◌*◌, ◌/◌, List, [], ◌∷◌, Bool, true, false, ◌||◌, Option, Some, None, if◌then◌else◌, map, option_map, ◌++◌, length, nat_le, nat_lt, replicate, slice_set, slice_index_or}
+use Rattle.std.specs.Prelude.{◌≡◌, ◌≤◌, ℕ, zero, suc, ◌+◌, ◌-◌, ◌*◌, ◌/◌, List, [], ◌∷◌, Bool, true, false, ◌||◌, Option, Some, None, if◌then◌else◌, map, option_map, ◌++◌, length, max, nat_le, nat_lt, replicate, slice_set, slice_index_or}
 use Rattle.std.specs.Str.{bytes_eq}
 use Rattle.std.specs.List.{AllByRecursion, list_any}
 use Rattle.std.specs.Option.{option_and_then, is_none}
-use Rattle.std.specs.FinMap.{entries, get}
+use Rattle.std.specs.FinMap.{empty, entries, get, insert}
 use Rattle.std.specs.Ordering.{eq_by_cmp}
 use Rattle.vms_model.specs.Ids.{Id}
-use Rattle.vms_model.specs.Keys.{Key, Number, End}
+use Rattle.vms_model.specs.Keys.{Key, Number, Text, End}
 use Rattle.vms_model.specs.Transactions.{Outcome, Commit, Abort, Reason, SegFail}
-use Rattle.records_model.specs.Records.{Change, key_cmp}
+use Rattle.records_model.specs.Records.{Change, Records, key_cmp}
 use Rattle.tree_model.specs.Layouts.{Layout, Sizes}
+use Rattle.tree_model.specs.Layouts.{no_layout, used_of}
+use Rattle.tree_model.specs.Loads.{loaded, slot_for}
 use Rattle.tree_model.specs.Setting.{layout_changed}
-use Rattle.records_model.specs.History.{History, LiveChanges, same_id, changes_by, changes_key, changed_with, current, settled_at}
+use Rattle.records_model.specs.History.{History, LiveChanges, same_id, changes_by, changes_key, changed_it, changed_with, current, settled_at}
+use Rattle.records_model.specs.Placing.{filled_by, first_bucket}
+use Rattle.records_model.specs.Slots.{Slot}
 use Rattle.unit_laws.specs.Units.{OneMovesEnd}
 use Rattle.unit_laws.specs.Layouts.{layout_restored}
 use Rattle.unit_laws.specs.Units.{IsImage, Map, latest_after}
 use Rattle.unit_laws.specs.Journal.{Journal, JournalEntry, is_of_file, RecoveryUnit, empty_journal, entries_for, with_entries, with_settled, trimmed, units_in, find_unit, serial_in, is_settled_in, ChangeEntry, PreparedEntry, SettledEntry}
 use Rattle.unit_laws.specs.JournalLaws.{HasNotes, is_unit}
+use Rattle.recovery_model.specs.Journal as image
+use Rattle.recovery_model.specs.File.{FileState, ImageJournal, IsInOrder, Save, all_of, append, ended, no_images, renewed, renewed_if_on}
+use Rattle.recovery_model.specs.Opening.{IsSaved, TellsBranches, TellsFound, TellsKeys}
+use Rattle.recovery_model.specs.Room.{HasRoom}
+use Rattle.script_model.specs.Statements.{Side, AfterImages, BeforeImages}
 use Rattle.commit_protocol.specs.Messages.{Name, Message, LogRecord}
 use Rattle.commit_protocol.specs.Table as table
 use Rattle.commit_protocol.specs.Table.{Branch, Tm, Key as BranchKey, Prepares, Settles, Leaves, Undoes, Accepts, Sends, child, table_after, records_after, record_key, record_serials, branches_of}
@@ -52,38 +61,17 @@ pub data Organization : Type 0 where
   Relative : (greatest : ℕ) → Organization
   Indexed : (position size : ℕ) → Organization
 
--- a journal: its blocks, and between which positions, in bytes, its entries lie
-pub record JournalSpan : Type 0 where
-  pub start : ℕ
-  pub blocks : ℕ
-  pub first : ℕ
-  pub end : ℕ
-
--- A file's saved copy: its blocks, in buckets from the first block on; the position of the journal of after images and the moment at which it was made;
--- and what the file's head told then of its records.
-pub record SavedCopy : Type 0 where
-  pub start : ℕ
-  pub buckets : ℕ
-  pub position : ℕ
-  pub moment : ℕ
-  pub used : ℕ
-  pub root : ℕ
-  pub levels : ℕ
-  pub count : ℕ
-
--- What a file carries for its recovery: whether it is marked for after images, for before images and as saved; the two journals of images, the moment since
--- which before images are kept, and the saved copy.
+-- What a file carries for its recovery: the journals of its after images and of its before images, the moment since which before images are kept, and its save,
+-- where it has one.
 pub record Carried : Type 0 where
-  pub keeps_after : Bool
-  pub keeps_before : Bool
-  pub is_saved : Bool
-  pub after : JournalSpan
-  pub before : JournalSpan
+  pub after : ImageJournal
+  pub before : ImageJournal
   pub since : ℕ
-  pub save : SavedCopy
+  pub save : Option Save
 
 -- A file: how its buckets and records are sized, how it keeps records, where its buckets lie, what it carries for its recovery, whether it is marked for
--- recovery units, its history, and, where it is indexed, the layout of its used buckets. A bucket is counted in blocks, a record in bytes.
+-- recovery units, its history, its records at the moments before its base, and, where it is indexed, the layout of its used buckets. A bucket is counted in blocks,
+-- a record in bytes.
 pub record File : Type 0 where
   pub name : List ℕ
   pub bucket : ℕ
@@ -94,40 +82,49 @@ pub record File : Type 0 where
   pub carried : Carried
   pub recovery_units : Bool
   pub history : History
+  pub past : ℕ → Records
   pub layout : Layout
 
 -- the blocks of a file's buckets
 abbrev pub extent_of : File → Extent
 extent_of f = record { start = f.start; blocks = f.buckets * f.bucket }
 
--- the blocks of a journal
-abbrev pub journal_extent : JournalSpan → Extent
+-- the blocks of a journal of images, and of a save in buckets of so many blocks
+abbrev pub journal_extent : ImageJournal → Extent
 journal_extent j = record { start = j.start; blocks = j.blocks }
 
--- the blocks that a file has to itself besides its buckets: its journals' and its saved copy's
-abbrev pub others_of : File → List Extent
-others_of f = journal_extent f.carried.after ∷ journal_extent f.carried.before ∷ record { start = f.carried.save.start; blocks = f.carried.save.buckets * f.bucket } ∷ []
+abbrev pub save_extent : (bucket : ℕ) → Option Save → Extent
+save_extent bucket None = record { start = 0; blocks = 0 }
+save_extent bucket (Some v) = record { start = v.start; blocks = v.buckets * bucket }
 
--- no journal
-abbrev pub no_journal : JournalSpan
-no_journal = record { start = 0; blocks = 0; first = 0; end = 0 }
+-- the blocks that a file has to itself besides its buckets: its journals' and its save's
+abbrev pub others_of : File → List Extent
+others_of f = journal_extent f.carried.after ∷ journal_extent f.carried.before ∷ save_extent f.bucket f.carried.save ∷ []
 
 -- nothing is carried
 abbrev pub nothing_carried : Carried
-nothing_carried = record {
-  keeps_after = false;
-  keeps_before = false;
-  is_saved = false;
-  after = no_journal;
-  before = no_journal;
-  since = 0;
-  save = record { start = 0; buckets = 0; position = 0; moment = 0; used = 0; root = 0; levels = 0; count = 0 };
+nothing_carried = record { after = no_images; before = no_images; since = 0; save = None }
+
+-- what recovery knows of a file
+abbrev pub state_of : File → FileState
+state_of f = record {
+  timeline = record { history = f.history; past = f.past };
+  ai = f.carried.after;
+  bi = f.carried.before;
+  bi_since = f.carried.since;
+  save = f.carried.save;
 }
 
--- What bars each boot of a volume: its journal of recovery units does not lie in its ring; an indexed file, whose root begins at this block, has several buckets
+-- what a file is marked with: for recovery units, or no more; or a journal of images begins in these blocks, or ends
+pub data Mark : Type 0 where
+  ForUnits : Bool → Mark
+  BeginsImages : Side → (start blocks : ℕ) → Mark
+  EndsImages : Side → Mark
+
+-- What bars each boot of a volume: its journal of recovery units, or a file's journal of images, whose first block this is, does not lie in its ring; an indexed file, whose root begins at this block, has several buckets
 -- and no index, or an index and one bucket; it was booted as often as may be; its greatest moment is too late; or a journal has come too far.
 pub data Bar : Type 0 where
-  NoRing : Bar
+  NoRing : (block : ℕ) → Bar
   NoIndex : (block : ℕ) → Bar
   AllBoots : Bar
   LateMoment : Bar
@@ -142,8 +139,8 @@ pub data Volume : Type 0 where
   Unknown : Volume
 
 -- One change of a node, which takes place whole or not at all. A volume is made with so many log slots and blocks of a journal. A boot raises the boot count, with
--- which the node has what its disk tells; and in the end the node comes up. A new file takes a place of the directory; a file is marked for recovery units, or no
--- more. An id is drawn; a label is made, or takes it as its serial. The node does an act of its table; where that settles a branch, it is at this moment. The changes
+-- which the node has what its disk tells; and in the end the node comes up. A new file takes a place of the directory; a file is marked; it is saved from this block
+-- on; or these records take the place of its own, in so many buckets from this block on. An id is drawn; a label is made, or takes it as its serial. The node does an act of its table; where that settles a branch, it is at this moment. The changes
 -- of one statement are one act; they stand newest first, and their branch holds these keys from then on. It holds what it read too. Changes without a label are made
 -- by a branch of their own and settled in one act. The disk is armed to stop after so many writes, with a choice of what is left then; the clock is set; these are
 -- the resource managers that are declared from then on; the node falls.
@@ -152,7 +149,9 @@ pub data Act : Type 0 where
   Boots : Act
   ComesUp : Act
   Creates : (place : ℕ) → File → Act
-  Marks : (file : List ℕ) → Bool → Act
+  Marks : (file : List ℕ) → Mark → Act
+  Saves : (file : List ℕ) → (start : ℕ) → Act
+  Recovers : (file : List ℕ) → (start buckets : ℕ) → Records → Act
   Draws : Act
   Labels : Label → Act
   Numbers : (label : List ℕ) → (serial : Id) → Act
@@ -169,7 +168,9 @@ pub data Act : Type 0 where
 abbrev pub is_durable : Act → Bool
 is_durable Boots = true
 is_durable (Creates place file) = true
-is_durable (Marks file units) = true
+is_durable (Marks file mark) = true
+is_durable (Saves file start) = true
+is_durable (Recovers file start buckets m) = true
 is_durable (Changes tid serial file changes keys) = true
 is_durable (Directs file changes s) = true
 is_durable (Tables a moment) = writes a
@@ -368,14 +369,38 @@ sizes_of f = record { capacity = capacity f; fan_out = capacity f / (key_size_of
 abbrev pub changes_made : Id → Journal → ℕ
 changes_made serial units = elim (find_unit serial (units_in units.entries)) [ Some u ↦ u.changes | None ↦ 0 ]
 
+-- Journals of images.
+
+-- the images of one change more: one journal has the image after it, the other the image before it
+abbrev pub with_image : (tid serial : Id) → Change → Carried → Carried
+with_image tid serial c r = record r { after = append tid (image.Changed serial c.key c.after) r.after; before = append tid (image.Changed serial c.key c.before) r.before }
+
+-- those of changes, the newest of which stands first
+abbrev pub with_images : (tid serial : Id) → List Change → Carried → Carried
+with_images tid serial [] r = r
+with_images tid serial (c ∷ cs) r = with_image tid serial c (with_images tid serial cs r)
+
+-- both journals tell that a branch was settled, where it changed the file
+abbrev pub with_outcome : (changed : Bool) → Settlement → Carried → Carried
+with_outcome changed s r = record r {
+  after = if changed then append s.tid (image.Settled s.serial s.outcome s.moment) r.after else r.after;
+  before = if changed then append s.tid (image.Settled s.serial s.outcome s.moment) r.before else r.before;
+}
+
+-- Changes of files.
+
 -- A file after changes of an unsettled branch. In its layout the rooms of keys that unsettled branches hold stay, so that each of them can be set back in
 -- place.
-abbrev pub changed_file : (held : Key → Bool) → Id → List Change → File → File
-changed_file held serial cs f = record f { history = changed_with serial cs f.history; layout = layout_changed (sizes_of f) held cs f.layout }
+abbrev pub changed_file : (held : Key → Bool) → (tid serial : Id) → List Change → File → File
+changed_file held tid serial cs f = record f { history = changed_with serial cs f.history; layout = layout_changed (sizes_of f) held cs f.layout; carried = with_images tid serial cs f.carried }
 
 -- and after changes of a branch of its own, which was committed at once
 abbrev pub directly_changed : (held : Key → Bool) → Settlement → List Change → File → File
-directly_changed held s cs f = record f { history = settled_at s.serial s.outcome s.moment (changed_with s.serial cs f.history); layout = layout_changed (sizes_of f) held cs f.layout }
+directly_changed held s cs f = record f {
+  history = settled_at s.serial s.outcome s.moment (changed_with s.serial cs f.history);
+  layout = layout_changed (sizes_of f) held cs f.layout;
+  carried = with_outcome (changed_it (changed_with s.serial cs f.history) s.serial) s (with_images s.tid s.serial cs f.carried);
+}
 
 -- a layout after the branch that made these changes was settled: an abort restores what its keys had
 abbrev pub settled_layout : Outcome → List Change → Layout → Layout
@@ -384,7 +409,89 @@ settled_layout Abort cs layout = layout_restored cs layout
 
 -- every file notes that a branch was settled; only those that it changed have changes of it
 abbrev pub settled_file : Settlement → File → File
-settled_file s f = record f { history = settled_at s.serial s.outcome s.moment f.history; layout = settled_layout s.outcome (changes_by s.serial f.history.live) f.layout }
+settled_file s f = record f {
+  history = settled_at s.serial s.outcome s.moment f.history;
+  layout = settled_layout s.outcome (changes_by s.serial f.history.live) f.layout;
+  carried = with_outcome (changed_it f.history s.serial) s f.carried;
+}
+
+-- whether a file is marked for recovery units once it has this mark
+abbrev pub units_marked : Mark → Bool → Bool
+units_marked (ForUnits units) old = units
+units_marked (BeginsImages side start blocks) old = old
+units_marked (EndsImages side) old = old
+
+-- a journal of images that begins anew in these blocks, and one that ends; a journal of before images tells from then on
+abbrev pub begun_images : Side → (start blocks : ℕ) → (greatest : ℕ) → Carried → Carried
+begun_images AfterImages start blocks greatest r = record r { after = renewed start blocks r.after }
+begun_images BeforeImages start blocks greatest r = record r { before = renewed start blocks r.before; since = greatest }
+
+abbrev pub ended_images : Side → Carried → Carried
+ended_images AfterImages r = record r { after = ended r.after }
+ended_images BeforeImages r = record r { before = ended r.before }
+
+-- what a file carries once it has this mark
+abbrev pub carried_marked : Mark → (greatest : ℕ) → Carried → Carried
+carried_marked (ForUnits units) greatest r = r
+carried_marked (BeginsImages side start blocks) greatest r = begun_images side start blocks greatest r
+carried_marked (EndsImages side) greatest r = ended_images side r
+
+-- a file that is marked, where this is the greatest moment on the disk
+abbrev pub marked_file : Mark → (greatest : ℕ) → File → File
+marked_file mark greatest f = record f { recovery_units = units_marked mark f.recovery_units; carried = carried_marked mark greatest f.carried }
+
+-- a file that is saved: what stands is copied, and the position and the moment of that are kept
+abbrev pub saved_file : (start greatest : ℕ) → File → File
+saved_file start greatest f =
+    record f { carried = record f.carried { save = Some (record { start = start; buckets = f.buckets; position = f.carried.after.end; moment = greatest; records = current f.history }) } }
+
+-- Files that are recovered.
+
+-- the slots of records that are loaded into an indexed file, in whose keys are bytes
+abbrev pub slots_loaded : List (Key × List ℕ) → List Slot
+slots_loaded [] = []
+slots_loaded (e ∷ es) = elim e.0 [ Text bytes ↦ slot_for (bytes, e.1) ∷ slots_loaded es | Number n ↦ slots_loaded es | End ↦ slots_loaded es ]
+
+-- records at positions from this one on, in order
+abbrev pub records_from : (first : ℕ) → List (Key × List ℕ) → Records
+records_from first [] = empty
+records_from first (e ∷ es) = insert (records_from (first + 1) es) (Number first) e.1
+
+-- Records as a file has them that is loaded with them in the order of their keys: those of a sequential file stand at the positions from 1 on.
+abbrev pub loaded_map : Organization → Records → Records
+loaded_map Sequential m = records_from 1 (entries m)
+loaded_map (Relative greatest) m = m
+loaded_map (Indexed position size) m = m
+
+-- the layout of a file that is loaded with these records in the order of their keys
+abbrev pub layout_loaded : Organization → Sizes → Records → Layout
+layout_loaded Sequential sizes m = no_layout
+layout_loaded (Relative greatest) sizes m = no_layout
+layout_loaded (Indexed position size) sizes m = loaded sizes size (slots_loaded (entries m))
+
+-- how many buckets the load takes
+abbrev pub buckets_taken : Organization → File → Records → ℕ
+buckets_taken Sequential f m = (filled_by (capacity f) first_bucket (map (λ (e : Key × List ℕ). length e.1 + 2) (entries m))).buckets
+buckets_taken (Relative greatest) f m = f.buckets
+buckets_taken (Indexed position size) f m = used_of (layout_loaded (Indexed position size) (sizes_of f) m)
+
+-- and how many the file has then: no fewer than it had
+abbrev pub buckets_loaded : File → Records → ℕ
+buckets_loaded f m = max f.buckets (buckets_taken f.organization f m)
+
+-- what a file carries once it is recovered: each journal that it has begins anew, and the save stays
+abbrev pub carried_recovered : (greatest : ℕ) → Carried → Carried
+carried_recovered greatest r = record r { after = renewed_if_on r.after; before = renewed_if_on r.before; since = if r.before.on then greatest else r.since }
+
+-- A file that is recovered: these records are its base, in new buckets.
+abbrev pub recovered_file : (start buckets : ℕ) → Records → (greatest : ℕ) → File → File
+recovered_file start buckets m greatest f = record f {
+  start = start;
+  buckets = buckets;
+  history = record f.history { base = m; moment = greatest; settled = [] };
+  layout = layout_loaded f.organization (sizes_of f) m;
+  carried = carried_recovered greatest f.carried;
+}
 
 -- a directory without files
 abbrev pub empty_directory : List (Option File)
@@ -526,13 +633,15 @@ durable_after (Formats slots journal) v d = made_volume slots journal
 durable_after Boots v d = record d { boot = d.boot + 1 }
 durable_after ComesUp v d = d
 durable_after (Creates place file) v d = record d { directory = slice_set d.directory place (Some file) }
-durable_after (Marks file units) v d = record d { directory = with_file file (λ f. record f { recovery_units = units }) d.directory }
+durable_after (Marks file mark) v d = record d { directory = with_file file (marked_file mark d.greatest) d.directory }
+durable_after (Saves file start) v d = record d { directory = with_file file (saved_file start d.greatest) d.directory }
+durable_after (Recovers file start buckets m) v d = record d { directory = with_file file (recovered_file start buckets m d.greatest) d.directory }
 durable_after Draws v d = d
 durable_after (Labels l) v d = d
 durable_after (Numbers label serial) v d = d
 durable_after (Tables a moment) v d = tabled a moment v.records d
 durable_after (Changes tid serial file changes keys) v d = record d {
-  directory = with_file file (changed_file (is_locked v.locks file) serial changes) d.directory;
+  directory = with_file file (changed_file (is_locked v.locks file) tid serial changes) d.directory;
   units = with_entries (entries_for tid serial file changes) d.units;
 }
 durable_after (Holds serial file keys) v d = d
@@ -553,7 +662,9 @@ volatile_after (Formats slots journal) d v = v
 volatile_after Boots d v = booted d
 volatile_after ComesUp d v = v
 volatile_after (Creates place file) d v = v
-volatile_after (Marks file units) d v = v
+volatile_after (Marks file mark) d v = v
+volatile_after (Saves file start) d v = v
+volatile_after (Recovers file start buckets m) d v = v
 volatile_after Draws d v = record v { drawn = v.drawn + 1 }
 volatile_after (Labels l) d v = v
 volatile_after (Numbers label serial) d v = v
@@ -576,7 +687,9 @@ acted (Formats slots journal) n = record (with_act (Formats slots journal) n) { 
 acted Boots n = with_act Boots n
 acted ComesUp n = record n { up = true; was_up = true }
 acted (Creates place file) n = with_act (Creates place file) n
-acted (Marks file units) n = with_act (Marks file units) n
+acted (Marks file mark) n = with_act (Marks file mark) n
+acted (Saves file start) n = with_act (Saves file start) n
+acted (Recovers file start buckets m) n = with_act (Recovers file start buckets m) n
 acted Draws n = with_act Draws n
 acted (Labels l) n = n
 acted (Numbers label serial) n = n
@@ -696,7 +809,9 @@ shared_after (Formats slots journal) s = s
 shared_after Boots s = s
 shared_after ComesUp s = s
 shared_after (Creates place file) s = s
-shared_after (Marks file units) s = s
+shared_after (Marks file mark) s = s
+shared_after (Saves file start) s = s
+shared_after (Recovers file start buckets m) s = s
 shared_after Draws s = s
 shared_after (Changes tid serial file changes keys) s = s
 shared_after (Holds serial file keys) s = s
@@ -778,16 +893,57 @@ abbrev pub FollowOneAnother : List Change → Type 0
 FollowOneAnother [] = Unit {0}
 FollowOneAnother (c ∷ cs) = (eq_by_cmp key_cmp End c.key ≡ false) × (changes_key c.key cs ≡ true → c.before ≡ latest_after cs c.key) × FollowOneAnother cs
 
--- So it is of each unsettled branch of a file; and no record stands at the file's end.
+-- an entry of a journal of images is not of the file's end
+abbrev pub IsPlainEntry : image.Entry → Type 0
+IsPlainEntry (image.Changed serial key value) = eq_by_cmp key_cmp End key ≡ false
+IsPlainEntry (image.Settled serial outcome moment) = Unit {0}
+
+-- Nothing that a file carries for its recovery is of the file's end: no entry is, and its save has no record there.
+pub record IsPlainCarried (r : Carried) : Type 0 where
+  pub after : AllByRecursion IsPlainEntry (all_of r.after.entries)
+  pub before : AllByRecursion IsPlainEntry (all_of r.before.entries)
+  pub save : (v : Save) → r.save ≡ Some v → get v.records End ≡ None
+
+-- So it is of each unsettled branch of a file; and no record stands at the file's end, nor in what the file carries for its recovery.
 pub record HasPlainEnd (f : File) : Type 0 where
   pub follow : AllByRecursion (λ (l : LiveChanges). FollowOneAnother l.changes) f.history.live
   pub absent : get (current f.history) End ≡ None
+  pub carried : IsPlainCarried f.carried
 
 -- so it is of each file
 abbrev pub HavePlainEnds : List (Option File) → Type 0
 HavePlainEnds [] = Unit {0}
 HavePlainEnds (None ∷ fs) = HavePlainEnds fs
 HavePlainEnds (Some f ∷ fs) = HasPlainEnd f × HavePlainEnds fs
+
+-- the branch of an entry of a journal of images
+abbrev pub serial_of_image : image.Entry → Id
+serial_of_image (image.Changed serial key value) = serial
+serial_of_image (image.Settled serial outcome moment) = serial
+
+-- What the disk of the node of this name says of a file's journals of images and of its save, whether or not it agrees with other disks, by this boot count and this
+-- greatest moment: entries stand in their rings, with room for the settlements that are to come, and each is of a boot that the node has counted; a journal that the
+-- file has tells of branches, and which keys the unsettled ones changed, in order, and what these had; the save was made by now, at a place where an entry begins or at
+-- the end.
+pub record KeepsImages (name : List ℕ) (boot greatest : ℕ) (f : File) : Type 0 where
+  pub after_order : IsInOrder f.carried.after
+  pub before_order : IsInOrder f.carried.before
+  pub after_room : f.carried.after.on ≡ true → HasRoom f.carried.after f.history.live
+  pub before_room : f.carried.before.on ≡ true → HasRoom f.carried.before f.history.live
+  pub after_branches : f.carried.after.on ≡ true → TellsBranches greatest f.history.live (all_of f.carried.after.entries)
+  pub before_branches : f.carried.before.on ≡ true → TellsBranches greatest f.history.live (all_of f.carried.before.entries)
+  pub keys : f.carried.after.on ≡ true → TellsKeys f.history.live (all_of f.carried.after.entries)
+  pub found : f.carried.before.on ≡ true → TellsFound f.history.live (all_of f.carried.before.entries)
+  pub begun : f.carried.since ≤ greatest
+  pub saved : (v : Save) → f.carried.save ≡ Some v → IsSaved greatest f.carried.after v
+  pub after_reached : AllByRecursion (λ (e : image.Entry). ((serial_of_image e).node ≡ name) × ((serial_of_image e).boot ≤ boot)) (all_of f.carried.after.entries)
+  pub before_reached : AllByRecursion (λ (e : image.Entry). ((serial_of_image e).node ≡ name) × ((serial_of_image e).boot ≤ boot)) (all_of f.carried.before.entries)
+
+-- so it is of each file of a node
+abbrev pub KeepAllImages : Node → List (Option File) → Type 0
+KeepAllImages n [] = Unit {0}
+KeepAllImages n (None ∷ fs) = KeepAllImages n fs
+KeepAllImages n (Some f ∷ fs) = KeepsImages n.name n.durable.boot n.durable.greatest f × KeepAllImages n fs
 
 -- no file has a branch that was settled since its base
 abbrev pub AreResting : List (Option File) → Type 0
@@ -817,6 +973,7 @@ pub record IsOpening (n : Node) : Type 0 where
   pub units : AreUnitsOf n
   pub log : IsLogInOrder n
   pub ends : HavePlainEnds n.durable.directory
+  pub images : KeepAllImages n n.durable.directory
   pub named : (name : List ℕ) → find_file name n.durable.directory ≡ None → list_any (is_of_file name) n.durable.units.entries ≡ false
   pub few_locks : length (booted n.durable).locks ≤ 4096
 

@@ -4,10 +4,10 @@ use Rattle.std.proofs.Common.{◌≡◌, ℕ, List, [], ◌∷◌, ◌++◌, Boo
 use Rattle.commit_protocol.specs.World.{In}
 use Rattle.transcript_model.specs.Lines as line
 use Rattle.transcript_model.specs.Lines.{Line}
-use Rattle.script_model.specs.Statements.{At, Boot, Clock, Crash, Fuse, Init, Request, Statement}
+use Rattle.script_model.specs.Statements.{At, Boot, Clock, Crash, Fuse, Init, Recover, Request, Statement}
 use Rattle.run_said.specs.Said.{Said, is_of_lines, refused_by_said}
 use Rattle.run_model.specs.Answers.{service, touches}
-use Rattle.said_steps.specs.Answers.{FallsTold, answers_so, ends_boot, ends_turns, goes_on, is_answer, is_broken, is_normal, is_served, is_turn, may_answer}
+use Rattle.said_steps.specs.Answers.{FallsTold, answers_so, ends_boot, ends_turns, goes_on, is_answer, is_broken, is_lacking, is_normal, is_served, is_turn, may_answer}
 use Rattle.said_steps.specs.Calls.{spoken_to}
 use Rattle.said_steps.proofs.Falls.{falls_none}
 use Rattle.said_steps.proofs.Refusals.{statement_of_lines}
@@ -89,12 +89,17 @@ boots_answer : (l : Line) → may_answer Boot l ≡ true → is_answer l ≡ tru
 boots_answer (line.NormalCount boot) e = refl
 boots_answer l e = boot_answers l e
 
+lacking_answers : (l : Line) → is_lacking l ≡ true → is_answer l ≡ true
+lacking_answers line.NoMemory e = refl
+lacking_answers _ e = let none : ⊥ = cc in absurd none
+
 pub request_answers : (request : Request) (l : Line) → may_answer request l ≡ true → is_answer l ≡ true
 request_answers (Init slots journal) l e = init_answers slots journal l e
 request_answers Boot l e = boots_answer l e
 request_answers (Fuse writes choice) l e = normal_answers l e
 request_answers Crash l e = normal_answers l e
 request_answers (Clock now) l e = normal_answers l e
+request_answers (Recover file way) l e = either (is_lacking l) (is_served l || (is_broken l && touches (service (Recover file way)))) (is_answer l ≡ true) (lacking_answers l) (up_answers (Recover file way) l) e
 request_answers request l e = up_answers request l e
 
 -- Statements.

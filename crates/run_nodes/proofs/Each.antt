@@ -8,7 +8,7 @@ use Rattle.commit_protocol.specs.Messages.{Message}
 use Rattle.transcript_model.specs.Lines as line
 use Rattle.transcript_model.specs.Lines.{Line, Normal}
 use Rattle.emitter_model.specs.Emitting.{Emits, Shown}
-use Rattle.script_model.specs.Statements.{AddBranch, At, Clock, Deliver, LinkDown, Statement}
+use Rattle.script_model.specs.Statements.{AddBranch, At, Clock, Deliver, LinkDown, Recover, Request, Statement}
 use Rattle.script_model.specs.Statements as said
 use Rattle.script_lang.specs.Statements.{request_of}
 use Rattle.script_lang.specs.declared.literals.Literals.{Literals}
@@ -21,6 +21,7 @@ use Rattle.run_model.specs.Operations.{refused_if}
 use Rattle.run_model.specs.Answers.{LosesLink, Takes, Ticks}
 use Rattle.run_model.specs.Statements.{message_at, other_node}
 use Rattle.run_shared.specs.Sharing.{SharedState}
+use Rattle.node_requests.specs.Requests.{CanBeTold}
 use Rattle.node_requests.specs.Standing.{Kept}
 use Rattle.node_requests.specs.Telling.{said_node}
 use Rattle.said_steps.proofs.Refusals.{delivery_said_lost, delivery_said_missing, link_said_first, link_said_second, request_said_alone, request_said_missing, there_said_at, there_said_missing}
@@ -30,7 +31,7 @@ use Rattle.statement_steps.proofs.Stepping.{link_first, link_second, link_there,
 use Rattle.run_nodes.specs.Names.{AreApart, IsOtherMissing, IsOtherThere, is_among}
 use Rattle.run_nodes.specs.Tasks.{DoesIfUp, DoesRequest, DoesTask, IsClocked}
 use Rattle.run_nodes.specs.Together.{AnswersTogether, ServesTogether, StandsTogether, said_together}
-use Rattle.run_nodes.specs.Untold.{BootsUnknown}
+use Rattle.run_nodes.specs.Untold.{BootsUnknown, IsTimely}
 use Rattle.run_nodes.proofs.Answers.{answers_clock, answers_link, answers_loop, answers_nowhere, answers_on, answers_over, answers_refused, answers_request, follows_refused}
 use Rattle.run_nodes.specs.Told.{kept_names}
 use Rattle.run_nodes.proofs.Places.{found, it, kept_at_place, missing, said_found, said_missing}
@@ -227,3 +228,8 @@ not_clock r lit never now e = by r never refl
     by : (x : code.Request) → ((at : Moment) → x ≡ request.Clock at → ⊥) → x ≡ r → ⊥
     by (request.Clock at) h same = h at refl
     by _ h same = other (is_clock (request_of lit r)) refl (ap (λ y. is_clock (request_of lit y)) (sym same))
+
+-- what a request asks to be shown can be
+pub can_be_told : (name : List ℕ) (asked : Request) → IsTimely (At name asked) → CanBeTold asked
+can_be_told name (Recover file way) h = h
+can_be_told name _ h = tt

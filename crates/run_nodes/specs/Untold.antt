@@ -1,7 +1,8 @@
 -- Nodes of whose disks nothing is known.
 use Rattle.std.specs.Prelude.{◌≡◌, ◌≤◌, ℕ, List, false, Some}
-use Rattle.script_model.specs.Statements.{At, Boot, Clock, Settle, Statement}
+use Rattle.script_model.specs.Statements.{At, Boot, Clock, Recover, Settle, Statement}
 use Rattle.run_model.specs.World.{Node, Unknown, World, find_node}
+use Rattle.node_requests.specs.Requests.{CanBeTold}
 
 -- a node that is down, and of whose disk nothing is known, though no INIT of it failed
 pub record IsUntold (n : Node) : Type 0 where
@@ -15,7 +16,8 @@ BootsUnknown w (At node Boot) = (n : Node) × (find_node node w.nodes ≡ Some n
 BootsUnknown w Settle = (node : List ℕ) × (n : Node) × (find_node node w.nodes ≡ Some n) × IsUntold n
 BootsUnknown w s = ⊥
 
--- a clock is set to a moment that a script may name
+-- a clock is set to a moment that a script may name, and the moment up to which a file is recovered can be shown
 abbrev pub IsTimely : Statement → Type 0
 IsTimely (At node (Clock now)) = now ≤ 24000000000000
+IsTimely (At node (Recover file way)) = CanBeTold (Recover file way)
 IsTimely s = Unit {0}

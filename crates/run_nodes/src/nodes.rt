@@ -12,6 +12,7 @@ ghost use Rattle.script_lang.specs.Statements.{request_of};
 ghost use Rattle.script_model.specs.Statements as said;
 ghost use Rattle.dtm_node.specs.Asking.{answer_in_place, in_doubt_in, is_over, question_in};
 ghost use Rattle.node_requests.specs.Keeping.{PerformsTask};
+ghost use Rattle.node_requests.specs.Requests.{CanBeTold};
 ghost use Rattle.dtm_node.specs.Nodes.{kept_of};
 ghost use Rattle.node_requests.specs.Standing.{Kept, is_up as is_up_in};
 ghost use Rattle.run_nodes.specs.Held.{AreNodes, clocks_of, kept_all, names_of};
@@ -175,6 +176,7 @@ impl<D: Disk + Drop, U: RecoveryUnits> Nodes<D, U> {
     )
         requires there { place < length (names_of self.old) }
         requires answered { (now : ℕ) → request_of literals.now request.now ≡ said.Clock now → ⊥ }
+        requires times { CanBeTold (request_of literals.now request.now) }
         requires nodes { (count : ℕ) × (count < 1000002) × AreNodes D.state U.state count shared.old self.old }
         ensures nodes { (count : ℕ) → AreNodes D.state U.state count shared.old self.old → AreNodes D.state U.state (count + 1) shared.new self.new }
         ensures names { names_of self.new ≡ names_of self.old }

@@ -6,6 +6,8 @@ mod commands;
 #[cfg(test)]
 mod limits;
 #[cfg(test)]
+mod recoveries;
+#[cfg(test)]
 mod trees;
 #[cfg(test)]
 mod worked;

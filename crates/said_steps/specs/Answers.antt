@@ -5,7 +5,7 @@ use Rattle.std.specs.Str.{bytes_eq}
 use Rattle.commit_protocol.specs.World.{In}
 use Rattle.transcript_model.specs.Lines as line
 use Rattle.transcript_model.specs.Lines.{Cause, Line}
-use Rattle.script_model.specs.Statements.{At, Boot, Clock, Crash, Deliver, Fuse, Init, LinkDown, Request, Settle, Statement}
+use Rattle.script_model.specs.Statements.{At, Boot, Clock, Crash, Deliver, Fuse, Init, LinkDown, Recover, Request, Settle, Statement}
 use Rattle.run_said.specs.Said.{Said, SaidNode}
 use Rattle.run_model.specs.Answers.{service, touches}
 use Rattle.said_steps.specs.Calls.{is_named, shows_boot}
@@ -75,6 +75,11 @@ is_broken answer = false
 abbrev pub is_turn : Line → Bool
 is_turn answer = is_normal answer || is_broken answer
 
+-- whether it says that memory was missing
+abbrev pub is_lacking : Line → Bool
+is_lacking line.NoMemory = true
+is_lacking answer = false
+
 -- whether a request may be answered so where the lines before do not refuse it
 abbrev pub may_answer : Request → Line → Bool
 may_answer (Init slots journal) line.BadParameter = true
@@ -84,6 +89,7 @@ may_answer Boot answer = ends_boot answer
 may_answer (Fuse writes choice) answer = is_normal answer
 may_answer Crash answer = is_normal answer
 may_answer (Clock now) answer = is_normal answer
+may_answer (Recover file way) answer = is_lacking answer || (is_served answer || (is_broken answer && touches (service (Recover file way))))
 may_answer request answer = is_served answer || (is_broken answer && touches (service request))
 
 -- the node at which the boots of a settling ended, where they did: the first that was down and did not come up

@@ -1,11 +1,11 @@
 -- Shapes, and the words that are left.
-use Rattle.std.proofs.Common.{◌≡◌, ℕ, List, [], ◌∷◌, true, false, refl, subst, ◌∙◌, Result, Ok, Err}
+use Rattle.std.proofs.Common.{◌≡◌, ℕ, Bool, List, [], ◌∷◌, true, false, refl, subst, ◌∙◌, Result, Ok, Err}
 use Rattle.std.specs.Result.{IsErrAnd}
 use Rattle.std.proofs.lemmas.Result.{err_from_is_err_and}
 use Rattle.script_model.specs.LineWords.{Ahead, Word, is_empty}
 use Rattle.script_model.specs.Statements as model
-use Rattle.script_model.specs.Grammar.{Kind, Meaning, Shape, EndsOr, Then, reads}
-use Rattle.script_lang.specs.Reads.{Takes, Reads}
+use Rattle.script_model.specs.Grammar.{Kind, Meaning, Shape, EndsOr, Then, ThenMore, reads}
+use Rattle.script_lang.specs.Reads.{Takes, TakesMore, Reads}
 use Rattle.script_lang.specs.declared.statement.Statement.{Statement}
 use Rattle.script_lang.specs.declared.words.LineErr.{LineErr}
 
@@ -20,6 +20,13 @@ took {next = next} t e rest = record { is = t.is next ∙ rw e rest.is }
 -- no such word was there
 pub missed : {V : Type 0} {k : Kind} {meant : V → Meaning k} {next : Meaning k → Shape} {view : Statement → model.Statement} {old mid : Ahead} {r : Result V LineErr} {e : LineErr} {result : Result Statement LineErr} → Takes k meant old r mid → r ≡ Err e → IsErrAnd result (λ y. y ≡ e) → Reads view (Then k next) old result
 missed {next = next} {result = result} t e p = let q = err_from_is_err_and result p in record { is = t.is next ∙ rw (e, q.1, q.2) refl }
+
+-- nor where a word of this kind may not stand last
+pub took_more : {V : Type 0} {k : Kind} {not_last : Meaning k → Bool} {meant : V → Meaning k} {next : Meaning k → Shape} {view : Statement → model.Statement} {old mid : Ahead} {r : Result V LineErr} {v : V} {result : Result Statement LineErr} → TakesMore k not_last meant old r mid → r ≡ Ok v → Reads view (next (meant v)) mid result → Reads view (ThenMore k not_last next) old result
+took_more {next = next} t e rest = record { is = t.is next ∙ rw e rest.is }
+
+pub missed_more : {V : Type 0} {k : Kind} {not_last : Meaning k → Bool} {meant : V → Meaning k} {next : Meaning k → Shape} {view : Statement → model.Statement} {old mid : Ahead} {r : Result V LineErr} {e : LineErr} {result : Result Statement LineErr} → TakesMore k not_last meant old r mid → r ≡ Err e → IsErrAnd result (λ y. y ≡ e) → Reads view (ThenMore k not_last next) old result
+missed_more {next = next} {result = result} t e p = let q = err_from_is_err_and result p in record { is = t.is next ∙ rw (e, q.1, q.2) refl }
 
 ends_here : (s : model.Statement) (shape : Shape) (ws : List Word) (end : ℕ) → is_empty ws ≡ true → reads (EndsOr s shape) ws end ≡ model.Says s
 ends_here s shape [] end h = refl

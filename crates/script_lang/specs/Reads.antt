@@ -1,9 +1,9 @@
 -- What readers of words read.
-use Rattle.std.specs.Prelude.{◌≡◌, Result, Ok, Err}
+use Rattle.std.specs.Prelude.{◌≡◌, Bool, Result, Ok, Err}
 use Rattle.script_model.specs.LineWords.{Ahead}
 use Rattle.script_model.specs.Statements as model
 use Rattle.script_model.specs.Statements.{Reading}
-use Rattle.script_model.specs.Grammar.{Kind, Meaning, Shape, Then, Ends, reads}
+use Rattle.script_model.specs.Grammar.{Kind, Meaning, Shape, Then, ThenMore, Ends, reads}
 use Rattle.script_lang.specs.declared.statement.Statement.{Statement}
 use Rattle.script_lang.specs.declared.words.LineErr.{LineErr}
 
@@ -19,6 +19,10 @@ goes view (Err e) next = model.Bad e.column
 -- a word of this kind was read, whatever the shape of what comes then
 pub record Takes {V : Type 0} (k : Kind) (view : V → Meaning k) (old : Ahead) (result : Result V LineErr) (new : Ahead) : Type 0 where
   pub is : (next : Meaning k → Shape) → reads_on (Then k next) old ≡ goes view result (λ m. reads_on (next m) new)
+
+-- and one that does not stand last where this holds of its meaning
+pub record TakesMore {V : Type 0} (k : Kind) (not_last : Meaning k → Bool) (view : V → Meaning k) (old : Ahead) (result : Result V LineErr) (new : Ahead) : Type 0 where
+  pub is : (next : Meaning k → Shape) → reads_on (ThenMore k not_last next) old ≡ goes view result (λ m. reads_on (next m) new)
 
 -- the line ends here, whatever it then says
 pub record Finishes {V : Type 0} (old : Ahead) (result : Result V LineErr) : Type 0 where

@@ -23,8 +23,12 @@ use Rattle.script_lang.specs.declared.statement.Operation.{Operation}
 use Rattle.script_lang.specs.declared.statement.Operation.TheVariants as operation
 use Rattle.script_lang.specs.declared.statement.Setting.{Setting}
 use Rattle.script_lang.specs.declared.statement.Setting.TheVariants as setting
-use Rattle.script_lang.specs.declared.statement.Journal.{Journal}
-use Rattle.script_lang.specs.declared.statement.Journal.TheVariants as journal
+use Rattle.script_lang.specs.declared.statement.Side.{Side}
+use Rattle.script_lang.specs.declared.statement.Side.TheVariants as side
+use Rattle.script_lang.specs.declared.statement.Mark.{Mark}
+use Rattle.script_lang.specs.declared.statement.Mark.TheVariants as mark
+use Rattle.script_lang.specs.declared.statement.Recovery.{Recovery}
+use Rattle.script_lang.specs.declared.statement.Recovery.TheVariants as recovery
 use Rattle.script_lang.specs.declared.statement.LogWord.{LogWord}
 use Rattle.script_lang.specs.declared.statement.LogWord.TheVariants as log_word
 use Rattle.script_lang.specs.declared.statement.Named.{Named}
@@ -50,12 +54,23 @@ organization_of organization.Sequential = grammar.Sequential
 organization_of organization.Relative = grammar.Relative
 organization_of organization.Indexed = grammar.Indexed
 
+abbrev pub side_of : Side → model.Side
+side_of side.AfterImages = model.AfterImages
+side_of side.BeforeImages = model.BeforeImages
+
 abbrev pub setting_of : Setting → model.Setting
 setting_of setting.RecoveryUnits = model.RecoveryUnits
 setting_of setting.NoRecoveryUnits = model.NoRecoveryUnits
+setting_of (setting.Images s blocks) = model.Images (side_of s) blocks
+setting_of (setting.NoImages s) = model.NoImages (side_of s)
 
-abbrev pub journal_of : Journal → grammar.Journal
-journal_of journal.RecoveryUnits = grammar.RecoveryUnitJournal
+abbrev pub mark_of : Mark → grammar.Mark
+mark_of (mark.Whole s) = grammar.Whole (setting_of s)
+mark_of (mark.OfBlocks s) = grammar.OfBlocks (side_of s)
+
+abbrev pub recovery_of : Recovery → model.Recovery
+recovery_of (recovery.Forward until) = model.Forward (option_map (λ moment. moment.0) until)
+recovery_of (recovery.Backward until) = model.Backward until.0
 
 abbrev pub log_word_of : LogWord → grammar.LogWord
 log_word_of log_word.Show = grammar.Show
@@ -87,6 +102,8 @@ verb_of verb.GetDti = grammar.GetDti
 verb_of verb.Lmcp = grammar.Lmcp
 verb_of verb.Dump = grammar.Dump
 verb_of verb.DumpJournal = grammar.DumpJournal
+verb_of verb.Backup = grammar.Backup
+verb_of verb.Recover = grammar.Recover
 
 abbrev pub world_verb_of : WorldVerb → grammar.WorldVerb
 world_verb_of world_verb.Fuse = grammar.Fuse
@@ -146,6 +163,9 @@ request_of lit request.LmcpShow = model.LmcpShow
 request_of lit request.LmcpDump = model.LmcpDump
 request_of lit (request.Dump file) = model.Dump file
 request_of lit request.DumpJournal = model.DumpJournal
+request_of lit (request.DumpImages file s) = model.DumpImages file (side_of s)
+request_of lit (request.Backup file) = model.Backup file
+request_of lit (request.Recover file way) = model.Recover file (recovery_of way)
 request_of lit (request.Fuse writes choice) = model.Fuse writes choice
 request_of lit request.Crash = model.Crash
 request_of lit (request.Clock now) = model.Clock now.0

@@ -9,6 +9,7 @@ ghost use Rattle.script_lang.specs.Statements.{ReadsPlain, first_of, form_of, or
 use crate::literals::Literals;
 use crate::managers::{ack_event, declare_rm, forget_rm, get_dti, join_rm, lmcp};
 use crate::records::{delete, get, next, put, truncate, update};
+use crate::recovery::{backup, dump_journal, recover, set_file};
 use crate::statement::{First, Form, Organization, Request, Statement, Verb};
 use crate::transactions::{
     abort_trans, add_branch, end_branch, end_trans, inquire, start_branch, start_trans,
@@ -123,26 +124,11 @@ fn create(node: NodeName, words: &mut Words<'_>) -> Result<Statement, LineErr>
     form_operands(node, file, organization, bucket, size, count, words)
 }
 
-fn set_file(node: NodeName, words: &mut Words<'_>) -> Result<Statement, LineErr>
-    ensures { ReadsPlain (operands_of node TheVerb.SetFile) words.old result }
-{
-    let file = words.file()?;
-    let setting = words.setting()?;
-    ends(Statement::At(node, Request::SetFile(file, setting)), words)
-}
-
 fn dump(node: NodeName, words: &mut Words<'_>) -> Result<Statement, LineErr>
     ensures { ReadsPlain (operands_of node TheVerb.Dump) words.old result }
 {
     let file = words.file()?;
     ends(Statement::At(node, Request::Dump(file)), words)
-}
-
-fn dump_journal(node: NodeName, words: &mut Words<'_>) -> Result<Statement, LineErr>
-    ensures { ReadsPlain (operands_of node TheVerb.DumpJournal) words.old result }
-{
-    let _journal = words.journal()?;
-    ends(Statement::At(node, Request::DumpJournal), words)
 }
 
 fn operands(
@@ -179,6 +165,8 @@ fn operands(
         Verb::Lmcp => lmcp(node, words),
         Verb::Dump => dump(node, words),
         Verb::DumpJournal => dump_journal(node, words),
+        Verb::Backup => backup(node, words),
+        Verb::Recover => recover(node, words),
     }
 }
 

@@ -3,17 +3,17 @@ ghost use Rattle.std.specs.Prelude.{◌≡◌, ℕ, ◌≤◌, IfSome, Option};
 ghost use Rattle.std.specs.Option.{option_map};
 ghost use Rattle.vms_model.specs.Words.{number_up_to, among};
 ghost use Rattle.script_model.specs.Operands.{prefix_said, branch_said, time_word_said};
-ghost use Rattle.script_model.specs.Grammar.{verbs, world_verbs, organizations, settings, journals, log_words, replies, first_said};
-ghost use Rattle.script_lang.specs.Statements.{verb_of, world_verb_of, organization_of, setting_of, journal_of, log_word_of, first_of, named_of};
+ghost use Rattle.script_model.specs.Grammar.{verbs, world_verbs, organizations, sides, settings, directions, log_words, replies, first_said};
+ghost use Rattle.script_lang.specs.Statements.{verb_of, world_verb_of, organization_of, side_of, mark_of, log_word_of, first_of, named_of};
 ghost use Rattle.tm_types.specs.Parts.{reply_of};
 
 use crate::literals::quoted;
-use crate::statement::{First, Journal, LogWord, Named, Organization, Setting, Verb, WorldVerb};
+use crate::statement::{First, LogWord, Mark, Named, Organization, Setting, Side, Verb, WorldVerb};
 use vms_base::{
     Label, Moment, NodeName, Reply, Serial, find, part_at, read_digits, read_id, read_time,
 };
 
-const VERBS: [(&[u8], Verb); 25] = [
+const VERBS: [(&[u8], Verb); 27] = [
     (b"INIT", Verb::Init),
     (b"BOOT", Verb::Boot),
     (b"CREATE", Verb::Create),
@@ -39,6 +39,8 @@ const VERBS: [(&[u8], Verb); 25] = [
     (b"LMCP", Verb::Lmcp),
     (b"DUMP", Verb::Dump),
     (b"DUMP_JOURNAL", Verb::DumpJournal),
+    (b"BACKUP", Verb::Backup),
+    (b"RECOVER", Verb::Recover),
 ];
 
 const WORLD_VERBS: [(&[u8], WorldVerb); 6] = [
@@ -56,12 +58,21 @@ const ORGANIZATIONS: [(&[u8], Organization); 3] = [
     (b"IDX", Organization::Indexed),
 ];
 
-const SETTINGS: [(&[u8], Setting); 2] = [
-    (b"RU", Setting::RecoveryUnits),
-    (b"NORU", Setting::NoRecoveryUnits),
+const SIDES: [(&[u8], Side); 2] = [(b"AI", Side::AfterImages), (b"BI", Side::BeforeImages)];
+
+const SETTINGS: [(&[u8], Mark); 6] = [
+    (b"RU", Mark::Whole(Setting::RecoveryUnits)),
+    (b"NORU", Mark::Whole(Setting::NoRecoveryUnits)),
+    (b"AI", Mark::OfBlocks(Side::AfterImages)),
+    (b"NOAI", Mark::Whole(Setting::NoImages(Side::AfterImages))),
+    (b"BI", Mark::OfBlocks(Side::BeforeImages)),
+    (b"NOBI", Mark::Whole(Setting::NoImages(Side::BeforeImages))),
 ];
 
-const JOURNALS: [(&[u8], Journal); 1] = [(b"RU", Journal::RecoveryUnits)];
+const DIRECTIONS: [(&[u8], Side); 2] = [
+    (b"FORWARD", Side::AfterImages),
+    (b"BACKWARD", Side::BeforeImages),
+];
 
 const LOG_WORDS: [(&[u8], LogWord); 2] = [(b"SHOW", LogWord::Show), (b"DUMP", LogWord::Dump)];
 
@@ -94,18 +105,25 @@ pub fn read_organization(text: &[u8]) -> Option<Organization>
     find(&ORGANIZATIONS, text)
 }
 
-/// The setting of a word in either case of letters.
-pub fn read_setting(text: &[u8]) -> Option<Setting>
-    ensures { option_map setting_of result ≡ among settings text.now }
+/// What a file is marked with, by a word in either case of letters.
+pub fn read_setting(text: &[u8]) -> Option<Mark>
+    ensures { option_map mark_of result ≡ among settings text.now }
 {
     find(&SETTINGS, text)
 }
 
-/// The journal of a word in either case of letters.
-pub fn read_journal(text: &[u8]) -> Option<Journal>
-    ensures { option_map journal_of result ≡ among journals text.now }
+/// The journal of images of a word in either case of letters.
+pub fn read_side(text: &[u8]) -> Option<Side>
+    ensures { option_map side_of result ≡ among sides text.now }
 {
-    find(&JOURNALS, text)
+    find(&SIDES, text)
+}
+
+/// The direction of a recovery, by the images that it takes, of a word in either case of letters.
+pub fn read_direction(text: &[u8]) -> Option<Side>
+    ensures { option_map side_of result ≡ among directions text.now }
+{
+    find(&DIRECTIONS, text)
 }
 
 /// What is shown of a transaction log, by a word in either case of letters.

@@ -28,17 +28,36 @@ pub enum Organization {
     Indexed,
 }
 
-/// What a file is marked with, or is marked with no more.
+/// A journal of images of a file.
+#[derive(Clone, Copy, Debug, PartialEq, Eq, Drop)]
+pub enum Side {
+    AfterImages,
+    BeforeImages,
+}
+
+/// What a file is marked with, or is marked with no more: for recovery units, or for images, whose journal gets so many blocks.
 #[derive(Clone, Copy, Debug, PartialEq, Eq, Drop)]
 pub enum Setting {
     RecoveryUnits,
     NoRecoveryUnits,
+    Images(Side, u32),
+    NoImages(Side),
 }
 
-/// The word that names a journal of a volume.
+/// The word that tells what a file is marked with: all of it, or the journal whose blocks are said behind the word.
 #[derive(Clone, Copy, Debug, PartialEq, Eq, Drop)]
-pub enum Journal {
-    RecoveryUnits,
+pub enum Mark {
+    Whole(Setting),
+    OfBlocks(Side),
+}
+
+/// How a file is recovered.
+#[derive(Clone, Copy, Debug, PartialEq, Eq, Drop)]
+pub enum Recovery {
+    /// From its save on by after images, to this moment or to the last.
+    Forward(Option<Moment>),
+    /// From what stands back to this moment, by before images.
+    Backward(Moment),
 }
 
 /// The word that tells what is shown of a transaction log.
@@ -76,6 +95,8 @@ pub enum Verb {
     Lmcp,
     Dump,
     DumpJournal,
+    Backup,
+    Recover,
 }
 
 /// The word that begins a statement of the world.
@@ -184,6 +205,12 @@ pub enum Request {
     Dump(FileName),
     /// The journal of recovery units is shown.
     DumpJournal,
+    /// A journal of images of the file is shown.
+    DumpImages(FileName, Side),
+    /// The file is saved: its buckets are copied.
+    Backup(FileName),
+    /// The file gets the records of a moment.
+    Recover(FileName, Recovery),
     /// The node's disk stops after so many further writes of blocks; the choice says what is then left of each block that was not made durable.
     Fuse {
         writes: u32,

@@ -1,16 +1,16 @@
 // Operands from the words of a line.
 ghost use Rattle.std.specs.Prelude.{◌≡◌};
-ghost use Rattle.script_model.specs.Grammar.{AFirst, AVerb, ANode, ALabel, ALabelOrNone, AManager, AReply, AFile, AnOrganization, ASetting, AJournal, ALogWord, ANumber, ALongNumber, SomeBytes, AKey, ABranch, ATime, ATimeout, Timeout};
-ghost use Rattle.script_lang.specs.Reads.{Takes, Finishes};
-ghost use Rattle.script_lang.specs.Statements.{first_of, verb_of, organization_of, setting_of, journal_of, log_word_of, named_of, word_in};
+ghost use Rattle.script_model.specs.Grammar.{AFirst, AVerb, ANode, ALabel, ALabelOrNone, AManager, AReply, AFile, AnOrganization, ASetting, ASide, ADirection, ALogWord, ANumber, ALongNumber, SomeBytes, AKey, ABranch, ATime, ATimeout, Timeout, AnUntil, Until, is_side};
+ghost use Rattle.script_lang.specs.Reads.{Takes, TakesMore, Finishes};
+ghost use Rattle.script_lang.specs.Statements.{first_of, verb_of, organization_of, side_of, mark_of, log_word_of, named_of, word_in};
 ghost use Rattle.tm_types.specs.Parts.{reply_of};
 
 use crate::literals::Literal;
 use crate::operands::{
-    read_branch, read_first, read_journal, read_log_word, read_number, read_organization,
-    read_reply, read_setting, read_time_word, read_verb,
+    read_branch, read_direction, read_first, read_log_word, read_number, read_organization,
+    read_reply, read_setting, read_side, read_time_word, read_verb,
 };
-use crate::statement::{First, Journal, KeyWord, LogWord, Named, Organization, Setting, Verb};
+use crate::statement::{First, KeyWord, LogWord, Mark, Named, Organization, Side, Verb};
 use crate::wanted::Wanted;
 use crate::words::{LineErr, Word, Words};
 use vms_base::{FileName, Label, Moment, NodeName, Reply, RmName, is_word};
@@ -24,6 +24,16 @@ impl Word<'_> {
             column: self.column,
             wanted: self.wanted,
         }
+    }
+}
+
+// Whether a file is called as a journal of a file is.
+fn names_side(file: &FileName) -> bool
+    ensures { result ≡ is_side file.now }
+{
+    match read_side(file.bytes()) {
+        Some(_) => true,
+        None => false,
     }
 }
 
@@ -141,24 +151,51 @@ impl<'a> Words<'a> {
         }
     }
 
-    /// The word of a setting.
-    pub fn setting(&mut self) -> Result<Setting, LineErr>
-        ensures { Takes ASetting setting_of self.old result self.new }
+    /// The name of a file, which does not stand last where it is a word that names a journal of a file.
+    pub fn journaled_file(&mut self) -> Result<FileName, LineErr>
+        ensures { TakesMore AFile is_side (λ f. f) self.old result self.new }
     {
-        let word = self.word(Wanted::Setting)?;
-        match read_setting(word.text) {
-            Some(setting) => Ok(setting),
+        let word = self.word(Wanted::JournaledFile)?;
+        match FileName::new(word.text) {
+            Some(file) => {
+                if self.is_at_end() && names_side(&file) {
+                    return Err(word.cannot_stand());
+                }
+                Ok(file)
+            }
             None => Err(word.cannot_stand()),
         }
     }
 
-    /// The word that names a journal.
-    pub fn journal(&mut self) -> Result<Journal, LineErr>
-        ensures { Takes AJournal journal_of self.old result self.new }
+    /// The word that tells what a file is marked with.
+    pub fn setting(&mut self) -> Result<Mark, LineErr>
+        ensures { Takes ASetting mark_of self.old result self.new }
+    {
+        let word = self.word(Wanted::Setting)?;
+        match read_setting(word.text) {
+            Some(mark) => Ok(mark),
+            None => Err(word.cannot_stand()),
+        }
+    }
+
+    /// The word that names a journal of images.
+    pub fn side(&mut self) -> Result<Side, LineErr>
+        ensures { Takes ASide side_of self.old result self.new }
     {
         let word = self.word(Wanted::Journal)?;
-        match read_journal(word.text) {
-            Some(journal) => Ok(journal),
+        match read_side(word.text) {
+            Some(side) => Ok(side),
+            None => Err(word.cannot_stand()),
+        }
+    }
+
+    /// The direction of a recovery, by the images that it takes.
+    pub fn direction(&mut self) -> Result<Side, LineErr>
+        ensures { Takes ADirection side_of self.old result self.new }
+    {
+        let word = self.word(Wanted::Direction)?;
+        match read_direction(word.text) {
+            Some(side) => Ok(side),
             None => Err(word.cannot_stand()),
         }
     }
@@ -213,6 +250,18 @@ impl<'a> Words<'a> {
     {
         let word = self.word(Wanted::Timeout)?;
         if is_word(b"TIMEOUT", word.text) {
+            Ok(())
+        } else {
+            Err(word.cannot_stand())
+        }
+    }
+
+    /// The word before the moment of a recovery.
+    pub fn until(&mut self) -> Result<(), LineErr>
+        ensures { Takes AnUntil (λ _. Until) self.old result self.new }
+    {
+        let word = self.word(Wanted::Until)?;
+        if is_word(b"UNTIL", word.text) {
             Ok(())
         } else {
             Err(word.cannot_stand())

@@ -21,7 +21,12 @@ pub enum Wanted {
     File,
     Organization,
     Setting,
+    /// A file, or the journal of recovery units.
+    JournaledFile,
+    /// A journal of images of a file.
     Journal,
+    /// The direction of a recovery.
+    Direction,
     /// What is shown of a transaction log.
     LogWord,
     /// A number of 32 bits.
@@ -34,6 +39,8 @@ pub enum Wanted {
     Time,
     /// The word before the seconds that a transaction is given.
     Timeout,
+    /// The word before the moment of a recovery.
+    Until,
     /// No word at all.
     End,
 }
@@ -44,7 +51,7 @@ impl Wanted {
             Wanted::First =>
                 "a node and a colon in one word, as A:, or FUSE, CRASH, CLOCK, DELIVER, LINKDOWN or SETTLE",
             Wanted::Verb =>
-                "a verb: INIT, BOOT, CREATE, SET_FILE, START_TRANS, ADD_BRANCH, START_BRANCH, PUT, UPDATE, DELETE, TRUNCATE, GET, NEXT, END_BRANCH, END_TRANS, ABORT_TRANS, INQUIRE, DECLARE_RM, JOIN_RM, ACK_EVENT, FORGET_RM, GETDTI, LMCP, DUMP or DUMP_JOURNAL",
+                "a verb: INIT, BOOT, CREATE, SET_FILE, START_TRANS, ADD_BRANCH, START_BRANCH, PUT, UPDATE, DELETE, TRUNCATE, GET, NEXT, END_BRANCH, END_TRANS, ABORT_TRANS, INQUIRE, DECLARE_RM, JOIN_RM, ACK_EVENT, FORGET_RM, GETDTI, LMCP, DUMP, DUMP_JOURNAL, BACKUP or RECOVER",
             Wanted::Node => "a node: 1 to 6 letters and digits, a letter first",
             Wanted::Label => "a label: 1 to 15 letters, digits and _, a letter first",
             Wanted::LabelOrNone => "a label: 1 to 15 letters, digits and _, a letter first, or -",
@@ -55,8 +62,11 @@ impl Wanted {
                 "a reply: SS$_PREPARED, SS$_FORGET, SS$_VETO, SS$_REMEMBER or SS$_NORMAL",
             Wanted::File => "a file: 1 to 39 letters, digits, _, $ and ., a letter first",
             Wanted::Organization => "an organization: SEQ, REL or IDX",
-            Wanted::Setting => "a setting: RU or NORU",
-            Wanted::Journal => "a journal: RU",
+            Wanted::Setting =>
+                "a setting: RU, NORU, AI and a number of blocks, NOAI, BI and a number of blocks, or NOBI",
+            Wanted::JournaledFile => "RU, or a file and AI or BI behind it",
+            Wanted::Journal => "a journal: AI or BI",
+            Wanted::Direction => "a direction: FORWARD or BACKWARD",
             Wanted::LogWord => "SHOW or DUMP",
             Wanted::Number => "a number from 0 to 4294967295",
             Wanted::LongNumber => "a number from 0 to 18446744073709551615",
@@ -66,6 +76,7 @@ impl Wanted {
             Wanted::Time =>
                 "a time from 17-NOV-1858 to 31-DEC-8999 in quotes, as \"1-JAN-2000 10:00:00.00\"",
             Wanted::Timeout => "TIMEOUT",
+            Wanted::Until => "UNTIL",
             Wanted::End => "the end of the line",
         }
     }

@@ -1,4 +1,4 @@
--- A clock is set to a moment that can be read.
+-- Moments to which a clock is set, or up to which a file is recovered, can be read.
 use Rattle.std.proofs.Common.{◌≡◌, ℕ, ◌+◌, ◌-◌, ◌*◌, ◌<◌, ◌≤◌, List, [], ◌∷◌, Bool, true, false, Option, Some, None, if◌then◌else◌, refl, ap, subst, ℤ, pos, negsuc, ◌+ℤ◌, arith}
 use Rattle.std.specs.Prelude.{◌&&◌, nat_le, ◌==◌, length}
 use Rattle.std.specs.Option.{option_and_then, option_map}
@@ -14,8 +14,8 @@ use Rattle.vms_model.specs.Names.{upper}
 use Rattle.vms_model.specs.Times.{CanBeRead, MomentSaid, NoDay, NoForm, TimeSaid, clock_said, date_said, day_number, day_said, digits_said, moment_at, months, natural, time_from, time_said}
 use Rattle.vms_model.specs.Words.{among, number_from, number_next, parted_at}
 use Rattle.script_model.specs.Grammar as grammar
-use Rattle.script_model.specs.Grammar.{Ends, EndsOr, Kind, Meaning, Shape, Then, ATime, behind_first, form_operands, line_shape, meaning, operands, put_operands, reading, reads, world_operands}
-use Rattle.script_model.specs.LineWords.{Word, words_of}
+use Rattle.script_model.specs.Grammar.{Ends, EndsOr, ThenMore, Kind, Meaning, Shape, Then, ATime, behind_first, form_operands, line_shape, meaning, operands, put_operands, reading, reads, world_operands}
+use Rattle.script_model.specs.LineWords.{Word, is_empty, words_of}
 use Rattle.script_model.specs.Operands.{KeyWord, Numbered, Spelled, moment_in, time_word_said, to_quote}
 use Rattle.script_model.specs.Statements as said
 use Rattle.script_model.specs.Statements.{Blank, Bad, Reading, Says, Statement}
@@ -171,6 +171,7 @@ abbrev IsEarlyShape : Shape → Type 0
 IsEarlyShape (Ends s) = IsEarly s
 IsEarlyShape (Then k next) = (m : Meaning k) → IsMeant k m → IsEarlyShape (next m)
 IsEarlyShape (EndsOr s shape) = IsEarly s × IsEarlyShape shape
+IsEarlyShape (ThenMore k not_last next) = (m : Meaning k) → IsMeant k m → IsEarlyShape (next m)
 
 said_so : (s t : Statement) → Says s ≡ Says t → s ≡ t
 said_so s t e = cc
@@ -185,7 +186,8 @@ meant grammar.ABranch text m e = tt
 meant grammar.AFile text m e = tt
 meant grammar.AnOrganization text m e = tt
 meant grammar.ASetting text m e = tt
-meant grammar.AJournal text m e = tt
+meant grammar.ASide text m e = tt
+meant grammar.ADirection text m e = tt
 meant grammar.AManager text m e = tt
 meant grammar.AReply text m e = tt
 meant grammar.ALogWord text m e = tt
@@ -195,6 +197,7 @@ meant grammar.SomeBytes text m e = tt
 meant grammar.AKey text m e = tt
 meant grammar.ATime text m e = word_read text m e
 meant grammar.ATimeout text m e = tt
+meant grammar.AnUntil text m e = tt
 
 reads_early : (shape : Shape) (ws : List Word) (end : ℕ) (s : Statement) → IsEarlyShape shape → reads shape ws end ≡ Says s → IsEarly s
 reads_early (Ends t) [] end s h e = subst IsEarly (said_so t s e) h
@@ -207,6 +210,17 @@ reads_early (Then k next) (w ∷ ws) end s h e = go (meaning k w.text) refl e (�
     go None is f more = let never : ⊥ = cc in absurd never
 reads_early (EndsOr t shape) [] end s h e = subst IsEarly (said_so t s e) h.0
 reads_early (EndsOr t shape) (w ∷ ws) end s h e = reads_early shape (w ∷ ws) end s h.1 e
+reads_early (ThenMore k not_last next) [] end s h e = let never : ⊥ = cc in absurd never
+reads_early (ThenMore k not_last next) (w ∷ ws) end s h e = go (meaning k w.text) refl e (λ m early f. reads_early (next m) ws end s early f)
+  where
+    last : (m : Meaning k) (b : Bool) → (if b then Bad w.column else reads (next m) ws end) ≡ Says s → reads (next m) ws end ≡ Says s
+    last m true f = let never : ⊥ = cc in absurd never
+    last m false f = f
+
+    go : (o : Option (Meaning k)) → meaning k w.text ≡ o → (elim o as (λ _. Reading) [ Some m ↦ (if is_empty ws && not_last m then Bad w.column else reads (next m) ws end) | None ↦ Bad w.column ]) ≡ Says s →
+        ((m : Meaning k) → IsEarlyShape (next m) → reads (next m) ws end ≡ Says s → IsEarly s) → IsEarly s
+    go (Some m) is f more = more m (h m (meant k w.text m is)) (last m (is_empty ws && not_last m) f)
+    go None is f more = let never : ⊥ = cc in absurd never
 
 form_early : (n f : List ℕ) (o : grammar.Organization) (bucket size count : ℕ) → IsEarlyShape (form_operands n f o bucket size count)
 form_early n f grammar.Sequential bucket size count = tt
@@ -225,11 +239,26 @@ log_early : (n : List ℕ) (w : grammar.LogWord) → IsEarly (said.At n (grammar
 log_early n grammar.Show = tt
 log_early n grammar.Dumped = tt
 
+mark_early : (n f : List ℕ) (mark : grammar.Mark) → IsEarlyShape (grammar.mark_operands n f mark)
+mark_early n f (grammar.Whole setting) = tt
+mark_early n f (grammar.OfBlocks side) = λ blocks b. tt
+
+journal_early : (n f : List ℕ) → IsEarlyShape (grammar.journal_operands n f)
+journal_early n f = go (bytes_eq f grammar.units_word)
+  where
+    go : (b : Bool) → IsEarlyShape (if b then EndsOr (said.At n said.DumpJournal) (grammar.image_operands n f) else grammar.image_operands n f)
+    go true = (tt, λ side s. tt)
+    go false = λ side s. tt
+
+direction_early : (n f : List ℕ) (side : said.Side) → IsEarlyShape (grammar.direction_operands n f side)
+direction_early n f said.AfterImages = (tt, λ u _ until early. early)
+direction_early n f said.BeforeImages = λ u _ until early. early
+
 operands_early : (n : List ℕ) (v : grammar.Verb) → IsEarlyShape (operands n v)
 operands_early n grammar.Init = (tt, λ slots s blocks b. tt)
 operands_early n grammar.Boot = tt
 operands_early n grammar.Create = λ f _ o _ bucket _ size _ count _. form_early n f o bucket size count
-operands_early n grammar.SetFile = λ f _ s _. tt
+operands_early n grammar.SetFile = λ f _ m _. mark_early n f m
 operands_early n grammar.StartTrans = λ l _. (tt, λ t _ s _. tt)
 operands_early n grammar.AddBranch = λ l _ o _ m _. tt
 operands_early n grammar.StartBranch = λ l _. tt
@@ -250,7 +279,9 @@ operands_early n grammar.ForgetRm = λ rm _. tt
 operands_early n grammar.GetDti = λ b _. tt
 operands_early n grammar.Lmcp = λ w _. log_early n w
 operands_early n grammar.Dump = λ f _. tt
-operands_early n grammar.DumpJournal = λ j _. tt
+operands_early n grammar.DumpJournal = λ f _. journal_early n f
+operands_early n grammar.Backup = λ f _. tt
+operands_early n grammar.Recover = λ f _ side _. direction_early n f side
 
 world_early : (v : grammar.WorldVerb) → IsEarlyShape (world_operands v)
 world_early grammar.Fuse = λ n _ w _ c _. tt
@@ -264,7 +295,7 @@ first_early : (f : grammar.First) → IsEarlyShape (behind_first f)
 first_early (grammar.ToNode n) = λ v _. operands_early n v
 first_early (grammar.ToWorld v) = world_early v
 
--- what a line says that sets a clock
+-- what a line says
 pub reading_early : (text : List ℕ) (s : Statement) → reading text ≡ Says s → IsEarly s
 reading_early text s e = go (grammar.is_skipped (words_of text).words) e
   where

@@ -1,14 +1,14 @@
 -- The grammar of a line: the words of each statement, in order.
-use Rattle.std.specs.Prelude.{ℕ, List, [], ◌∷◌, Bool, true, false, ◌==◌, Option, Some, None, if◌then◌else◌, codes}
+use Rattle.std.specs.Prelude.{ℕ, List, [], ◌∷◌, Bool, true, false, ◌==◌, ◌&&◌, Option, Some, None, is_some, if◌then◌else◌, codes}
 use Rattle.std.specs.Option.{option_map}
 use Rattle.std.specs.Str.{bytes_eq}
 use Rattle.vms_model.specs.Names.{node_named, label_named, file_named}
 use Rattle.vms_model.specs.Words.{number_up_to, among}
 use Rattle.commit_protocol.specs.Messages.{Reply, PreparedReply, ForgetReply, VetoReply, RememberReply, NormalReply}
-use Rattle.script_model.specs.LineWords.{Word, words_of}
+use Rattle.script_model.specs.LineWords.{Word, is_empty, words_of}
 use Rattle.script_model.specs.Operands.{KeyWord, Numbered, Spelled, bytes_said, key_word_said, key_of, prefix_said, branch_said, time_word_said}
 use Rattle.script_model.specs.Statements as says
-use Rattle.script_model.specs.Statements.{Statement, Reading, Setting, RecoveryUnits, NoRecoveryUnits, Named}
+use Rattle.script_model.specs.Statements.{Statement, Reading, Setting, RecoveryUnits, NoRecoveryUnits, NoImages, Side, AfterImages, BeforeImages, Named}
 
 -- the word that tells a statement to a node from others
 pub data Verb : Type 0 where
@@ -37,6 +37,8 @@ pub data Verb : Type 0 where
   Lmcp : Verb
   Dump : Verb
   DumpJournal : Verb
+  Backup : Verb
+  Recover : Verb
 
 -- the word that begins a statement of the world
 pub data WorldVerb : Type 0 where
@@ -86,6 +88,8 @@ verbs =
     ∷ (codes "LMCP", Lmcp)
     ∷ (codes "DUMP", Dump)
     ∷ (codes "DUMP_JOURNAL", DumpJournal)
+    ∷ (codes "BACKUP", Backup)
+    ∷ (codes "RECOVER", Recover)
     ∷ []
 
 -- those of the world
@@ -103,17 +107,41 @@ world_verbs =
 abbrev pub organizations : List (List ℕ × Organization)
 organizations = (codes "SEQ", Sequential) ∷ (codes "REL", Relative) ∷ (codes "IDX", Indexed) ∷ []
 
--- the journals of a volume
-pub data Journal : Type 0 where
-  RecoveryUnitJournal : Journal
+-- the word that names the journal of recovery units of a volume, as it is kept
+abbrev pub units_word : List ℕ
+units_word = codes "RU"
+
+-- the journals of a file as they are written
+abbrev pub sides : List (List ℕ × Side)
+sides = (codes "AI", AfterImages) ∷ (codes "BI", BeforeImages) ∷ []
+
+-- what a file may be marked with: all that is said of it, or a journal whose blocks are said behind it
+pub data Mark : Type 0 where
+  Whole : Setting → Mark
+  OfBlocks : Side → Mark
 
 -- those as they are written
-abbrev pub journals : List (List ℕ × Journal)
-journals = (codes "RU", RecoveryUnitJournal) ∷ []
+abbrev pub settings : List (List ℕ × Mark)
+settings =
+    (codes "RU", Whole RecoveryUnits)
+    ∷ (codes "NORU", Whole NoRecoveryUnits)
+    ∷ (codes "AI", OfBlocks AfterImages)
+    ∷ (codes "NOAI", Whole (NoImages AfterImages))
+    ∷ (codes "BI", OfBlocks BeforeImages)
+    ∷ (codes "NOBI", Whole (NoImages BeforeImages))
+    ∷ []
 
--- what a file may be marked with
-abbrev pub settings : List (List ℕ × Setting)
-settings = (codes "RU", RecoveryUnits) ∷ (codes "NORU", NoRecoveryUnits) ∷ []
+-- the directions of a recovery, by the images that it takes, as they are written
+abbrev pub directions : List (List ℕ × Side)
+directions = (codes "FORWARD", AfterImages) ∷ (codes "BACKWARD", BeforeImages) ∷ []
+
+-- the word before the moment of a recovery
+pub data UntilWord : Type 0 where
+  Until : UntilWord
+
+-- that as it is written
+abbrev pub until_words : List (List ℕ × UntilWord)
+until_words = (codes "UNTIL", Until) ∷ []
 
 -- the word before the seconds that a transaction is given
 pub data TimeoutWord : Type 0 where
@@ -143,7 +171,8 @@ replies =
     ∷ []
 
 -- what a word may be: the first of a line, a verb, a node, a label, a label or none, a label or a serial, a resource manager, its reply, a file, an organization, a
--- setting, a journal, what is shown of a log, a number of 32 or 64 bits, bytes, a key, a time, or the word before seconds
+-- setting, a journal of a file, the direction of a recovery, what is shown of a log, a number of 32 or 64 bits, bytes, a key, a time, the word before seconds, or that
+-- before a recovery's moment
 pub data Kind : Type 0 where
   AFirst : Kind
   AVerb : Kind
@@ -156,7 +185,8 @@ pub data Kind : Type 0 where
   AFile : Kind
   AnOrganization : Kind
   ASetting : Kind
-  AJournal : Kind
+  ASide : Kind
+  ADirection : Kind
   ALogWord : Kind
   ANumber : Kind
   ALongNumber : Kind
@@ -164,6 +194,7 @@ pub data Kind : Type 0 where
   AKey : Kind
   ATime : Kind
   ATimeout : Kind
+  AnUntil : Kind
 
 -- what such a word says
 abbrev pub Meaning : Kind → Type 0
@@ -177,8 +208,9 @@ Meaning AManager = List ℕ
 Meaning AReply = Reply
 Meaning AFile = List ℕ
 Meaning AnOrganization = Organization
-Meaning ASetting = Setting
-Meaning AJournal = Journal
+Meaning ASetting = Mark
+Meaning ASide = Side
+Meaning ADirection = Side
 Meaning ALogWord = LogWord
 Meaning ANumber = ℕ
 Meaning ALongNumber = ℕ
@@ -186,6 +218,7 @@ Meaning SomeBytes = List ℕ
 Meaning AKey = KeyWord
 Meaning ATime = ℕ
 Meaning ATimeout = TimeoutWord
+Meaning AnUntil = UntilWord
 
 -- a node and a colon behind it, or a verb of the world
 abbrev pub first_said : List ℕ → Option First
@@ -208,7 +241,8 @@ meaning AReply text = among replies text
 meaning AFile text = file_named text
 meaning AnOrganization text = among organizations text
 meaning ASetting text = among settings text
-meaning AJournal text = among journals text
+meaning ASide text = among sides text
+meaning ADirection text = among directions text
 meaning ALogWord text = among log_words text
 meaning ANumber text = number_up_to 4294967295 text
 meaning ALongNumber text = number_up_to 18446744073709551615 text
@@ -216,13 +250,15 @@ meaning SomeBytes text = bytes_said text
 meaning AKey text = key_word_said text
 meaning ATime text = time_word_said text
 meaning ATimeout text = among timeout_words text
+meaning AnUntil text = among until_words text
 
 -- the words that a line still wants: none, and the line says this; a word of this kind, and then those that its meaning asks for;
--- or none or these
+-- none or these; or a word of this kind which may not stand last where this holds of its meaning, and then those that it asks for
 pub data Shape : Type 0 where
   Ends : Statement → Shape
   Then : (k : Kind) → (Meaning k → Shape) → Shape
   EndsOr : Statement → Shape → Shape
+  ThenMore : (k : Kind) → (not_last : Meaning k → Bool) → (Meaning k → Shape) → Shape
 
 -- what words say in a shape: bad at the first word that cannot stand there, or behind the line where a word is missing
 abbrev pub reads : Shape → List Word → ℕ → Reading
@@ -232,6 +268,8 @@ reads (Then k next) [] end = says.Bad end
 reads (Then k next) (w ∷ ws) end = elim (meaning k w.text) [ Some m ↦ reads (next m) ws end | None ↦ says.Bad w.column ]
 reads (EndsOr s shape) [] end = says.Says s
 reads (EndsOr s shape) (w ∷ ws) end = reads shape (w ∷ ws) end
+reads (ThenMore k not_last next) [] end = says.Bad end
+reads (ThenMore k not_last next) (w ∷ ws) end = elim (meaning k w.text) [ Some m ↦ (if is_empty ws && not_last m then says.Bad w.column else reads (next m) ws end) | None ↦ says.Bad w.column ]
 
 -- the log slots and the journal's blocks of a volume for which none are said
 abbrev pub default_slots : ℕ
@@ -261,12 +299,34 @@ abbrev pub log_asked : LogWord → says.Request
 log_asked Show = says.LmcpShow
 log_asked Dumped = says.LmcpDump
 
+-- what a file is marked with: a journal that begins has its blocks behind it
+abbrev pub mark_operands : List ℕ → List ℕ → Mark → Shape
+mark_operands n f (Whole setting) = Ends (says.At n (says.SetFile f setting))
+mark_operands n f (OfBlocks side) = Then ANumber λ blocks. Ends (says.At n (says.SetFile f (says.Images side blocks)))
+
+-- a word that names a journal of a file: it is no file where it stands last
+abbrev pub is_side : List ℕ → Bool
+is_side f = is_some (among sides f)
+
+-- the journal of a file is shown
+abbrev pub image_operands : List ℕ → List ℕ → Shape
+image_operands n f = Then ASide λ side. Ends (says.At n (says.DumpImages f side))
+
+-- The word behind the verb is the journal of recovery units where it stands alone, and else a file.
+abbrev pub journal_operands : List ℕ → List ℕ → Shape
+journal_operands n f = if bytes_eq f units_word then EndsOr (says.At n says.DumpJournal) (image_operands n f) else image_operands n f
+
+-- forward without a moment, or to one; backward always to one
+abbrev pub direction_operands : List ℕ → List ℕ → Side → Shape
+direction_operands n f AfterImages = EndsOr (says.At n (says.Recover f (says.Forward None))) (Then AnUntil λ u. Then ATime λ until. Ends (says.At n (says.Recover f (says.Forward (Some until)))))
+direction_operands n f BeforeImages = Then AnUntil λ u. Then ATime λ until. Ends (says.At n (says.Recover f (says.Backward until)))
+
 -- the operands of each verb, and the statement to this node that they make
 abbrev pub operands : List ℕ → Verb → Shape
 operands n Init = EndsOr (says.At n (says.Init default_slots default_journal)) (Then ANumber λ slots. Then ANumber λ blocks. Ends (says.At n (says.Init slots blocks)))
 operands n Boot = Ends (says.At n says.Boot)
 operands n Create = Then AFile λ f. Then AnOrganization λ o. Then ANumber λ bucket. Then ANumber λ size. Then ANumber λ count. form_operands n f o bucket size count
-operands n SetFile = Then AFile λ f. Then ASetting λ setting. Ends (says.At n (says.SetFile f setting))
+operands n SetFile = Then AFile λ f. Then ASetting λ mark. mark_operands n f mark
 operands n StartTrans = Then ALabel λ l. EndsOr (says.At n (says.StartTrans l None)) (Then ATimeout λ t. Then ANumber λ seconds. Ends (says.At n (says.StartTrans l (Some seconds))))
 operands n AddBranch = Then ALabel λ l. Then ANode λ other. Then ALabel λ new. Ends (says.At n (says.AddBranch l other new))
 operands n StartBranch = Then ALabel λ l. Ends (says.At n (says.StartBranch l))
@@ -287,7 +347,9 @@ operands n ForgetRm = Then AManager λ rm. Ends (says.At n (says.ForgetRm rm))
 operands n GetDti = Then ABranch λ b. Ends (says.At n (says.GetDti b))
 operands n Lmcp = Then ALogWord λ w. Ends (says.At n (log_asked w))
 operands n Dump = Then AFile λ f. Ends (says.At n (says.Dump f))
-operands n DumpJournal = Then AJournal λ j. Ends (says.At n says.DumpJournal)
+operands n DumpJournal = ThenMore AFile is_side λ f. journal_operands n f
+operands n Backup = Then AFile λ f. Ends (says.At n (says.Backup f))
+operands n Recover = Then AFile λ f. Then ADirection λ side. direction_operands n f side
 
 -- those of each verb of the world
 abbrev pub world_operands : WorldVerb → Shape

@@ -8,7 +8,6 @@ use Rattle.block_disk.specs.Blocks.{block_at}
 use Rattle.careful_write.specs.State.{EachWhole}
 use Rattle.file_base.specs.declared.head.FileHead.{FileHead}
 use Rattle.file_base.specs.declared.head.Span.{Span}
-use Rattle.change_set.specs.Files.{AgreesOn}
 use Rattle.vms_model.specs.Ids.{Id, IsId}
 use Rattle.vms_model.specs.Transactions.{Outcome, Commit, Abort}
 use Rattle.vms_base.specs.declared.ids.Serial.{Serial}
@@ -32,13 +31,14 @@ use Rattle.volume_format.specs.declared.home.Ending.{Ending}
 use Rattle.volume_format.proofs.Homes.{home_wide, home_written}
 use Rattle.volume_format.proofs.Splices.{laid_again, laid_stand, length-laid}
 use Rattle.volume_files.proofs.Places.{fit_of}
-use Rattle.directory_model.specs.Files.{Fit, head_at}
-use Rattle.directory_model.proofs.Apart.{lie_apart}
+use Rattle.directory_model.specs.Files.{Fit, StandsIn, head_at}
+use Rattle.directory_model.proofs.Apart.{writes_apart}
 use Rattle.volume_model.specs.Entries.{entry_for}
 use Rattle.volume_model.specs.Homes.{HasHome}
 use Rattle.volume_model.specs.Volumes.{HasJournal}
-use Rattle.volume_laws.specs.Journals.{SameRing, settled_entries}
-use Rattle.volume_laws.proofs.RingLemmas.{journal_stands}
+use Rattle.file_images.specs.Files.{SameRing}
+use Rattle.volume_laws.specs.Journals.{settled_entries}
+use Rattle.file_images.proofs.Rings.{journal_stands}
 use Rattle.unit_table.specs.Units.{OpenUnit}
 use Rattle.unit_journal.specs.Entries.{settled_entry}
 use Rattle.unit_journal.specs.Settling.{content_with, entry_if, from_earliest, settled_home, span_with, with_front}
@@ -260,13 +260,12 @@ module _ (b c : Content) (n : Node) (s : Settlement) (tid : Tid) (serial : Seria
   fit : Fit (data_area (sizes_of v.catalog.home)) v.catalog.heads
   fit = let is = fit_of node size v.catalog heads_long sound in record { heads_long = is.heads_long; behind = is.behind; each = is.each }
 
-  files_stay : (f : ℕ) (h : FileHead) → head_at v.catalog.heads f ≡ Some h → AgreesOn h b c
-  files_stay f h there k in_it =
-      let inside = (lie_apart.within (data_area (sizes_of v.catalog.home)) v.catalog.heads f k h fit there in_it).0 in
+  files_stay : (f : ℕ) (h : FileHead) → head_at v.catalog.heads f ≡ Some h → StandsIn h b c
+  files_stay = writes_apart.before (data_area (sizes_of v.catalog.home)) v.catalog.heads b c fit (ap length content_is ∙ ring_same.size ∙ (put_others ru b j.entries j.is far e).size) (subst EachWhole (sym content_is) after_whole) (λ k inside.
       let start = sound.ru_start in
       let blocks = sound.ru_blocks in
       let past : ru.start - 518 + ru.blocks ≤ k = omega (arith, inside, start, blocks) in
-      sym ((put_others ru b j.entries j.is far e).others k (inr past)) ∙ sym (behind k (omega (arith, past, far))) ∙ ap (λ (x : Content). block_at x k) (sym content_is)
+      sym ((put_others ru b j.entries j.is far e).others k (inr past)) ∙ sym (behind k (omega (arith, past, far))) ∙ ap (λ (x : Content). block_at x k) (sym content_is))
 
   log_stays : SameSlots (length n.durable.log) b c
   log_stays i below =

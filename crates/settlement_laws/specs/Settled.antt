@@ -1,7 +1,6 @@
 -- What the settlement of a branch makes of a volume, and of its node.
 use Rattle.std.specs.Prelude.{◌≡◌, ℕ, ◌+◌, ◌-◌, ◌≤◌, ◌^◌, List, ◌++◌, true, Option, Some, length}
 use Rattle.file_base.specs.declared.head.FileHead.{FileHead}
-use Rattle.change_set.specs.Files.{AgreesOn}
 use Rattle.lmcp_log.specs.Keeping.{SameSlots}
 use Rattle.vms_model.specs.Ids.{IsId}
 use Rattle.vms_base.specs.declared.ids.Serial.{Serial}
@@ -16,7 +15,7 @@ use Rattle.volume.specs.declared.catalog.Catalog.{Catalog}
 use Rattle.volume.specs.Catalogs.{IsSound, TellsCatalog}
 use Rattle.volume.specs.State.{VolumeState}
 use Rattle.volume_format.specs.declared.home.Ending.{Ending}
-use Rattle.directory_model.specs.Files.{head_at}
+use Rattle.directory_model.specs.Files.{StandsIn, head_at}
 use Rattle.volume_model.specs.Homes.{HasHome, settlement_of}
 use Rattle.volume_model.specs.Volumes.{HasJournal}
 use Rattle.volume_laws.specs.Journals.{settled_entries}
@@ -33,11 +32,11 @@ abbrev pub noted : Settlement → Node → Node
 noted s n = record n { durable = with_settlement (Some s) n.durable }
 
 -- The settlement of a branch made one content and catalog into another: the home tells it, its entry is behind the end where the branch is a unit, the journal
--- begins with the earliest change of the units that are left, and the log and the files have the blocks that they had.
+-- begins with the earliest change of the units that are left, and the log and the files have the blocks that they had. Where it has images, these stood there before.
 pub record IsSettled (n : Node) (s : Settlement) (es : List Entry) (b c : List (List ℕ)) (v w : Catalog) : Type 0 where
   pub heads : w.heads ≡ v.heads
   pub log : SameSlots (length n.durable.log) b c
-  pub files : (f : ℕ) (h : FileHead) → head_at v.heads f ≡ Some h → AgreesOn h b c
+  pub files : (f : ℕ) (h : FileHead) → head_at v.heads f ≡ Some h → StandsIn h b c
   pub home : HasHome w.home (noted s n)
   pub entered : IsJournal c (record w.ru { first = v.ru.first }) (es ++ settled_entries s n.durable.units)
   pub first : w.ru.first ≡ (with_settled s.tid s.serial s.outcome s.moment n.durable.units).first

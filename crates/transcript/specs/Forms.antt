@@ -73,6 +73,7 @@ line_of form.Normal = model.Normal
 line_of (form.NormalCount n) = model.NormalCount n
 line_of (form.NormalId id) = model.NormalId (id_of id)
 line_of (form.NormalSpan first end) = model.NormalSpan first end
+line_of (form.NormalSave position moment) = model.NormalSave position moment.0
 line_of (form.NormalStanding standing) = model.NormalStanding (standing_of standing)
 line_of (form.NormalLog committed prepared free) = model.NormalLog committed prepared free
 line_of (form.Pending serials rms) = model.Pending (map serial_of serials.now) rms.now
@@ -102,6 +103,11 @@ line_of form.WrongState = model.WrongState
 line_of (form.InDoubt serial node) = model.InDoubt (serial_of serial) node
 line_of form.NotMarked = model.NotMarked
 line_of form.NeedsUnit = model.NeedsUnit
+line_of form.NoJournal = model.NoJournal
+line_of form.NoSave = model.NoSave
+line_of (form.TooEarly until saved) = model.TooEarly until.0 saved.0
+line_of (form.PositionsMissing needed first) = model.PositionsMissing needed first
+line_of (form.MomentsMissing until since) = model.MomentsMissing until.0 since.0
 line_of (form.RecordLocked serial) = model.RecordLocked (serial_of serial)
 line_of (form.FileLocked serial) = model.FileLocked (serial_of serial)
 line_of (form.NoVolume node condition block) = model.NoVolume node condition block
@@ -114,16 +120,21 @@ line_of (form.QuotaExceeded quota limit) = model.QuotaExceeded (quota_of quota) 
 line_of (form.VolumeFull free need) = model.VolumeFull free need
 line_of (form.FileFull free need) = model.FileFull free need
 line_of (form.JournalFull free need) = model.JournalFull free need
+line_of (form.AftersFull free need) = model.AftersFull free need
+line_of (form.BeforesFull free need) = model.BeforesFull free need
 line_of form.NoMemory = model.NoMemory
 line_of (form.Broken cause) = model.Broken (cause_of cause)
 line_of (form.BadLine column) = model.BadLine column
 line_of form.TooLong = model.TooLong
 
--- a moment that the form shows can be written: it is at most 31-DEC-9999 23:59:59.99
+-- the moments that the form shows can be written: each is at most 31-DEC-9999 23:59:59.99
 abbrev pub HasTime : Form → Type 0
 HasTime (form.Committed tid serial moment) = CanBeWritten moment.0
 HasTime (form.Aborted tid serial reason moment) = CanBeWritten moment.0
 HasTime (form.LastCommitted tid serial moment) = CanBeWritten moment.0
 HasTime (form.LastAborted tid serial reason moment) = CanBeWritten moment.0
 HasTime (form.SettledEntry position tid serial outcome moment) = CanBeWritten moment.0
+HasTime (form.NormalSave position moment) = CanBeWritten moment.0
+HasTime (form.TooEarly until saved) = CanBeWritten until.0 × CanBeWritten saved.0
+HasTime (form.MomentsMissing until since) = CanBeWritten until.0 × CanBeWritten since.0
 HasTime _ = Unit {0}

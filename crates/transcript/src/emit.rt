@@ -267,7 +267,7 @@ impl<'a, K: Sink> SinkEmit<'a, K> {
         }
     }
 
-    fn put_time(&mut self, moment: Moment)
+    pub(crate) fn put_time(&mut self, moment: Moment)
         requires { CanBeWritten moment.0 }
         ensures same_sink { self.new.sink.ghost_name ≡ self.old.sink.ghost_name }
         ensures number { self.new.number ≡ self.old.number }
@@ -535,7 +535,7 @@ impl<'a, K: Sink> SinkEmit<'a, K> {
     }
 
     // Words, and two numbers behind them.
-    fn put_with_numbers(&mut self, words: &[u8], first: u64, second: u64)
+    pub(crate) fn put_with_numbers(&mut self, words: &[u8], first: u64, second: u64)
         ensures same_sink { self.new.sink.ghost_name ≡ self.old.sink.ghost_name }
         ensures number { self.new.number ≡ self.old.number }
         ensures appends { Appends (kept_by K.shown K.faults self.old) (words.now ++ (decimal first ++ (32 ∷ decimal second))) (kept_by K.shown K.faults self.new) }
@@ -639,6 +639,7 @@ impl<'a, K: Sink> SinkEmit<'a, K> {
             Form::NormalCount(n) => self.put_with_number(b"SS$_NORMAL ", *n),
             Form::NormalId(id) => self.put_with_id(b"SS$_NORMAL ", id),
             Form::NormalSpan(first, end) => self.put_with_numbers(b"SS$_NORMAL ", *first, *end),
+            Form::NormalSave(position, moment) => self.put_save(*position, *moment),
             Form::NormalStanding(standing) => self.put_standing(*standing),
             Form::NormalLog(committed, prepared, free) => {
                 self.put_log_counts(*committed, *prepared, *free);
@@ -670,6 +671,11 @@ impl<'a, K: Sink> SinkEmit<'a, K> {
             Form::InDoubt(serial, node) => self.put_in_doubt(serial, node),
             Form::NotMarked => self.put(b"NOTRU"),
             Form::NeedsUnit => self.put(b"RMS$_NRU"),
+            Form::NoJournal => self.put(b"NOTMARKED"),
+            Form::NoSave => self.put(b"NOSAVE"),
+            Form::TooEarly(until, saved) => self.put_too_early(*until, *saved),
+            Form::PositionsMissing(needed, first) => self.put_positions_missing(*needed, *first),
+            Form::MomentsMissing(until, since) => self.put_moments_missing(*until, *since),
             Form::RecordLocked(serial) => self.put_with_id(b"RMS$_RLK ", &serial.0),
             Form::FileLocked(serial) => self.put_with_id(b"RMS$_FLK ", &serial.0),
             Form::NoVolume(node, condition, block) => self.put_no_volume(node, *condition, *block),
@@ -682,6 +688,8 @@ impl<'a, K: Sink> SinkEmit<'a, K> {
             Form::VolumeFull(free, need) => self.put_volume_full(*free, *need),
             Form::FileFull(free, need) => self.put_file_full(*free, *need),
             Form::JournalFull(free, need) => self.put_journal_full(*free, *need),
+            Form::AftersFull(free, need) => self.put_afters_full(*free, *need),
+            Form::BeforesFull(free, need) => self.put_befores_full(*free, *need),
             Form::NoMemory => self.put(b"SS$_INSFMEM"),
             Form::Broken(cause) => self.put_cause(*cause),
             Form::BadLine(column) => self.put_with_number(b"BADLINE ", u64::from(*column)),

@@ -99,6 +99,8 @@ pub enum Form<'a> {
     NormalId(Id),
     /// The positions at which a journal begins and ends.
     NormalSpan(u64, u64),
+    /// The position at which the journal of after images ended when a file was saved, and the greatest moment on the disk then.
+    NormalSave(u64, Moment),
     /// How a branch stands.
     NormalStanding(Standing),
     /// The committed and the prepared records of the transaction log, and its free slots.
@@ -136,6 +138,15 @@ pub enum Form<'a> {
     NotMarked,
     /// A change without a branch is asked for, of a file that is marked for recovery units.
     NeedsUnit,
+    /// The file has no such journal of images.
+    NoJournal,
+    NoSave,
+    /// The moment that is asked for, and the later one of the save.
+    TooEarly(Moment, Moment),
+    /// The position from which on entries are needed, and that at which the journal begins.
+    PositionsMissing(u64, u64),
+    /// The moment that is asked for, and the later one since which before images are kept.
+    MomentsMissing(Moment, Moment),
     /// The branch that holds the record.
     RecordLocked(Serial),
     FileLocked(Serial),
@@ -154,6 +165,10 @@ pub enum Form<'a> {
     FileFull(u32, u32),
     /// The free bytes of the journal of recovery units, and the bytes that are wanted.
     JournalFull(u64, u64),
+    /// The free bytes of a file's journal of after images, and the bytes that are wanted.
+    AftersFull(u64, u64),
+    /// The same of its journal of before images.
+    BeforesFull(u64, u64),
     NoMemory,
     Broken(Cause),
     BadLine(u32),

@@ -9,6 +9,7 @@ mod lines;
 mod manager_lines;
 mod memory;
 mod outside;
+mod recovery_lines;
 
 pub use adapters::{ReaderSource, WriterSink};
 pub use emit::{Emit, LineBuffer, SinkEmit, emitting_composes};

@@ -37,14 +37,14 @@ use Rattle.undo_laws.proofs.WayLemmas.{IsOther, all_beside, far_off, left_on_the
 
 -- What the other branches changed stands in each file.
 
-place_beside : (serial : Id) (a c : List (List ℕ)) (o : Option FileHead) (p : Option File) (m : Option FileHead) → IsPlace a o p → ((file : File) → p ≡ Some file → IsOrderly file.history) → IsPlaceGrouped a o p c m → IsPlaceKept serial a o p c m → IsPlaceBeside serial c m p
-place_beside serial a c o p None is orderly grouped kept = tt
-place_beside serial a c o None (Some new) is orderly grouped kept = tt
-place_beside serial a c None (Some file) (Some new) is orderly grouped kept = absurd is
-place_beside serial a c (Some h) (Some file) (Some new) is orderly grouped kept =
+place_beside : (serial : Id) (a c : List (List ℕ)) (f : ℕ) (o : Option FileHead) (p : Option File) (m : Option FileHead) → IsPlace a f o p → ((file : File) → p ≡ Some file → IsOrderly file.history) → IsPlaceGrouped a o p c m → IsPlaceKept serial a o p c m → IsPlaceBeside serial c m p
+place_beside serial a c f o p None is orderly grouped kept = tt
+place_beside serial a c f o None (Some new) is orderly grouped kept = tt
+place_beside serial a c f None (Some file) (Some new) is orderly grouped kept = absurd is
+place_beside serial a c f (Some h) (Some file) (Some new) is orderly grouped kept =
     let whole = orderly file refl in
     both_as (IsOther serial (changes_by serial file.history.live)) (λ (l : LiveChanges). HasLatest (map_in (current file.history)) l.changes) (λ (l : LiveChanges). same_id serial l.serial ≡ false → HasLatest (map_of new c) l.changes) file.history.live
-    (λ l other latest no key changed. kept key (other no key changed) ∙ sym (is.records key) ∙ latest key changed) (all_beside serial file.history.live whole.represents.apart) whole.latest
+    (λ l other latest no key changed. kept key (other no key changed) ∙ sym (is.0.records key) ∙ latest key changed) (all_beside serial file.history.live whole.represents.apart) whole.latest
 
 -- The journal tells the units of the files that are left.
 
@@ -81,7 +81,7 @@ module _ (serial : Id) (a : List (List ℕ)) (k : Catalog) (n : Node) (under_way
 
   half : AreHalfFiles serial c way.new n.durable.directory
   half = directories_are_half c way.new n serial left has.units
-      (λ f. place_beside serial a c (head_at k.heads f) (file_at n.durable.directory f) (head_at way.new f) (has.files.each f) (λ file there. (has.units.tells f file there).notes.orderly) (way.grouped.each f) (way.beside f))
+      (λ f. place_beside serial a c f (head_at k.heads f) (file_at n.durable.directory f) (head_at way.new f) (has.files.each f) (λ file there. (has.units.tells f file there).notes.orderly) (way.grouped.each f) (way.beside f))
 
   -- the node of which the abort is done in part
   abbrev m : Node

@@ -2,7 +2,9 @@ pub mod EnteredLemmas
 pub mod NoteLemmas
 pub mod UndoableLemmas
 pub mod WayLemmas
+pub mod ToldLemmas
 pub mod SettledLemmas
+pub mod CommitLemmas
 pub mod FallenLemmas
 pub mod AbortLemmas
 pub mod HalfLemmas

@@ -20,13 +20,14 @@ use Rattle.unit_laws.specs.Units.{is_of}
 use Rattle.run_model.specs.World.{File, Organization, find_file}
 use Rattle.world_laws.specs.Ordered.{IsKeyOf, Suits}
 use Rattle.directory_model.specs.Files.{head_at, organized_by}
-use Rattle.volume_model.specs.Entries.{AreEntries, IsFileOf, entry_for, key_bytes}
+use Rattle.file_images.specs.Images.{key_bytes}
+use Rattle.volume_model.specs.Entries.{AreEntries, IsFileOf, entry_for}
 use Rattle.unit_entries.specs.Keys.{key_by, key_in}
 use Rattle.unit_entries.specs.Reading.{changes_of, is_change_of, placed}
 use Rattle.unit_entries.specs.Told.{before_in, noted, noted_of, notes_of as notes_on}
 
 -- a key is spelled so that it is read again
-key_read : (o : Kept) (h : FileHead) (key : Key) → IsKeyOf (organized_by o h) key → key_in o (key_bytes key) ≡ Some key
+pub key_read : (o : Kept) (h : FileHead) (key : Key) → IsKeyOf (organized_by o h) key → key_in o (key_bytes key) ≡ Some key
 key_read kept.Sequential h (Number n) is = ap (λ (m : ℕ). Some (Number m)) (from_le_bytes-to_le_bytes_4 n is.1)
 key_read kept.Sequential h (Text bytes) is = absurd is
 key_read kept.Sequential h End is = absurd is

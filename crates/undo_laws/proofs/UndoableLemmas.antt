@@ -32,15 +32,15 @@ use Rattle.undo_laws.specs.Undoable.{UnitsAreUndoable, entered_at, entered_by}
 use Rattle.undo_laws.proofs.EnteredLemmas.{entries_stand}
 use Rattle.undo_laws.proofs.NoteLemmas.{IsOneFile, keys_suit, notes_alike}
 
-place_left : (a : List (List ℕ)) (o : Option FileHead) (p : Option File) (h : FileHead) → o ≡ Some h → IsPlaceLeft a o p → (x : File) × (p ≡ Some x) × IsLeft a h x
-place_left a None p h there left = let never : ⊥ = cc in absurd never
-place_left a (Some k) None h there left = absurd left
-place_left a (Some k) (Some x) h there left = let same : k ≡ h = cc in (x, refl, subst (λ (y : FileHead). IsLeft a y x) same left)
+place_left : (a : List (List ℕ)) (f : ℕ) (o : Option FileHead) (p : Option File) (h : FileHead) → o ≡ Some h → IsPlaceLeft a f o p → (x : File) × (p ≡ Some x) × IsLeft a h x
+place_left a f None p h there left = let never : ⊥ = cc in absurd never
+place_left a f (Some k) None h there left = absurd left
+place_left a f (Some k) (Some x) h there left = let same : k ≡ h = cc in (x, refl, subst (λ (y : FileHead). IsLeft a y x) same left.0)
 
-head_left : (a : List (List ℕ)) (o : Option FileHead) (p : Option File) (x : File) → p ≡ Some x → IsPlaceLeft a o p → (h : FileHead) × (o ≡ Some h) × IsLeft a h x
-head_left a o None x there left = let never : ⊥ = cc in absurd never
-head_left a None (Some y) x there left = absurd left
-head_left a (Some h) (Some y) x there left = let same : y ≡ x = cc in (h, refl, subst (λ (z : File). IsLeft a h z) same left)
+head_left : (a : List (List ℕ)) (f : ℕ) (o : Option FileHead) (p : Option File) (x : File) → p ≡ Some x → IsPlaceLeft a f o p → (h : FileHead) × (o ≡ Some h) × IsLeft a h x
+head_left a f o None x there left = let never : ⊥ = cc in absurd never
+head_left a f None (Some y) x there left = absurd left
+head_left a f (Some h) (Some y) x there left = let same : y ≡ x = cc in (h, refl, subst (λ (z : File). IsLeft a h z) same left.0)
 
 some_file : (x y : File) → Some x ≡ Some y → x ≡ y
 some_file x y e = cc
@@ -58,10 +58,10 @@ module _ (a : List (List ℕ)) (v : VolumeState) (n : Node) (serial : Id) (left 
   directory = n.durable.directory
 
   at_head : (f : ℕ) (h : FileHead) → head_at v.catalog.heads f ≡ Some h → (x : File) × (file_at directory f ≡ Some x) × IsLeft a h x
-  at_head f h there = place_left a (head_at v.catalog.heads f) (file_at directory f) h there (left.files.each f)
+  at_head f h there = place_left a f (head_at v.catalog.heads f) (file_at directory f) h there (left.files.each f)
 
   at_file : (f : ℕ) (x : File) → file_at directory f ≡ Some x → (h : FileHead) × (head_at v.catalog.heads f ≡ Some h) × IsLeft a h x
-  at_file f x there = head_left a (head_at v.catalog.heads f) (file_at directory f) x there (left.files.each f)
+  at_file f x there = head_left a f (head_at v.catalog.heads f) (file_at directory f) x there (left.files.each f)
 
   found : (f : ℕ) (x : File) → file_at directory f ≡ Some x → find_file x.name directory ≡ Some x
   found f x there = (found_at x.name directory f x there refl (λ g other below at same. let one = left.units.names g f other x at there same in omega (arith, below, one))).found

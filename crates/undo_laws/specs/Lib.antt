@@ -1,3 +1,4 @@
 pub mod Undoable
 pub mod Undone
 pub mod Aborted
+pub mod Committed

@@ -1,18 +1,24 @@
 -- What an undo leaves of a volume on its way, and once the branch is settled.
-use Rattle.std.specs.Prelude.{◌≡◌, ℕ, ◌+◌, ◌≤◌, List, Option, Some, length}
+use Rattle.std.specs.Prelude.{◌≡◌, ℕ, ◌+◌, ◌<◌, ◌≤◌, Bool, List, Option, Some, length}
+use Rattle.block_disk.specs.Blocks.{block_at}
 use Rattle.block_disk.specs.Disk.{DiskState}
-use Rattle.careful_write.specs.State.{Leaves}
+use Rattle.careful_write.specs.State.{EachWhole, Leaves}
 use Rattle.vms_model.specs.Ids.{Id}
 use Rattle.vms_model.specs.Transactions.{Abort}
 use Rattle.commit_protocol.specs.Table as table
-use Rattle.run_model.specs.World.{Node, Act, IsLogInOrder, IsPreparedUnit, Settlement, Tables, acted, fallen, settlement_of}
+use Rattle.run_model.specs.World.{Node, Act, File, IsLogInOrder, IsPreparedUnit, Settlement, Tables, acted, fallen, settlement_of}
 use Rattle.volume.specs.declared.catalog.Catalog.{Catalog}
-use Rattle.volume.specs.Catalogs.{IsSound}
+use Rattle.volume.specs.Catalogs.{IsSound, TellsCatalog}
 use Rattle.volume.specs.State.{VolumeState}
 use Rattle.directory_model.specs.Restoring.{StandPrepared}
 use Rattle.file_base.specs.declared.head.FileHead.{FileHead}
-use Rattle.change_set.specs.Files.{AgreesOn}
-use Rattle.directory_model.specs.Files.{head_at}
+use Rattle.directory_model.specs.Files.{Fit, StandsIn, head_at}
+use Rattle.directory_model.specs.Laws.{spelled_entry}
+use Rattle.image_appends.specs.Settling.{content_from, heads_from}
+use Rattle.image_groups.specs.Groups.{AreToldBy, HaveRoom, outcome_of}
+use Rattle.volume.specs.Limits.{data_area}
+use Rattle.volume_format.specs.Home.{sizes_of}
+use Rattle.volume_model.specs.Laws.{KeepsNames}
 use Rattle.volume_model.specs.Volumes.{HasDisk, HasJournal, HasLog, HasVolume, LeavesVolume, IsLeftBy}
 use Rattle.settlement_laws.specs.Settled.{IsSettled, MaySettle}
 use Rattle.unit_undo.specs.Way.{IsOnTheWay, IsUndone}
@@ -39,9 +45,32 @@ abbrev pub UndosKeepJournal : Type 0
 UndosKeepJournal = (a : List (List ℕ)) (k : Catalog) (n : Node) (serial : Id) (v : VolumeState) (left : LeavesVolume a k n) → 584 ≤ k.ru.start → v.catalog ≡ record k { heads = v.catalog.heads } → (u : IsUndone serial a k.heads n.durable.directory v) →
     (j : HasJournal u.way.now v.catalog n) × (j.entries ≡ left.journal.entries)
 
--- two contents agree on the files of a volume
+-- all that the files of a volume have in one content stands in another
 abbrev pub AgreeOnFiles : Catalog → List (List ℕ) → List (List ℕ) → Type 0
-AgreeOnFiles v b c = (f : ℕ) (h : FileHead) → head_at v.heads f ≡ Some h → AgreesOn h b c
+AgreeOnFiles v b c = (f : ℕ) (h : FileHead) → head_at v.heads f ≡ Some h → StandsIn h b c
+
+-- The outcome of a branch is put into the journals of images of each file of a directory that the branch changed: one content of whole blocks and its catalog become
+-- others.
+pub record IsToldIn (s : Settlement) (directory : List (Option File)) (b e : List (List ℕ)) (v w : Catalog) : Type 0 where
+  pub files : List Bool
+  pub by : AreToldBy s files directory
+  pub room : HaveRoom s files v.heads
+  pub fit : Fit (data_area (sizes_of v.home)) v.heads
+  pub whole : EachWhole b
+  pub content : e ≡ content_from 0 files (spelled_entry 0 s.tid (outcome_of s)) v.heads b
+  pub catalog : w ≡ record v { heads = heads_from 0 files (length (spelled_entry 0 s.tid (outcome_of s))) v.heads }
+
+-- The outcome is told in the journals of images of a volume: the journal of recovery units is the node's still, with the same entries, the log's slots and it are in
+-- front of the files, and the content tells the volume, which is sound.
+pub record IsTold (n : Node) (b e : List (List ℕ)) (k t : Catalog) (j : HasJournal b k n) : Type 0 where
+  pub journal : HasJournal e t n
+  pub same : journal.entries ≡ j.entries
+  pub size : length e ≡ length b
+  pub names : KeepsNames k.heads t.heads
+  pub long : length t.heads ≡ 64
+  pub front : (i : ℕ) → 65 ≤ i → i + 518 < k.ru.start + k.ru.blocks → block_at e i ≡ block_at b i
+  pub tells : TellsCatalog k b → TellsCatalog t e
+  pub sound : (node : List ℕ) (size : ℕ) → IsSound node size k → IsSound node size t
 
 -- An act of the table aborts a branch of a node so: the branch may be settled, and the log and the journal tell one another after it.
 pub record IsAbort (n : Node) (act : table.Act) (moment : ℕ) (s : Settlement) : Type 0 where
@@ -50,13 +79,17 @@ pub record IsAbort (n : Node) (act : table.Act) (moment : ℕ) (s : Settlement) 
   pub may : MaySettle n s
   pub told : IsLogInOrder (acted (Tables act moment) n)
 
--- Once a branch is undone whole and settled, the volume is that of the node after the settlement. Between the two its record in the log may have been written.
+-- Once a branch is undone whole and settled, the volume is that of the node after the settlement. Between the two its record in the log may have been written, and
+-- then its outcome is put into the journals of images of the files that it changed.
 pub record UndoneSettle : Type 0 where
+  -- the outcome is told
+  pub told : (a b e : List (List ℕ)) (k t : Catalog) (n : Node) (act : table.Act) (moment : ℕ) (s : Settlement) (v : VolumeState) → LeavesVolume a k n → IsAbort n act moment s → IsSound n.name n.blocks k → v.catalog ≡ record k { heads = v.catalog.heads } →
+      (u : IsUndone s.serial a k.heads n.durable.directory v) → AgreeOnFiles v.catalog u.way.now b → IsToldIn s n.durable.directory b e v.catalog t → (j : HasJournal b v.catalog n) → IsTold n b e v.catalog t j
   -- of a node that fell
-  pub leaves : (a c : List (List ℕ)) (k w : Catalog) (n : Node) (act : table.Act) (moment : ℕ) (s : Settlement) (v : VolumeState) (left : LeavesVolume a k n) → IsAbort n act moment s → IsSound n.name n.blocks k →
-      v.catalog ≡ record k { heads = v.catalog.heads } → (u : IsUndone s.serial a k.heads n.durable.directory v) (b : List (List ℕ)) → AgreeOnFiles v.catalog u.way.now b →
-      IsSettled n s left.journal.entries b c v.catalog w → HasLog c (acted (Tables act moment) n) → LeavesVolume c w (acted (Tables act moment) n)
+  pub leaves : (a b e c : List (List ℕ)) (k t w : Catalog) (n : Node) (act : table.Act) (moment : ℕ) (s : Settlement) (v : VolumeState) (left : LeavesVolume a k n) → IsAbort n act moment s → IsSound n.name n.blocks k →
+      v.catalog ≡ record k { heads = v.catalog.heads } → (u : IsUndone s.serial a k.heads n.durable.directory v) → AgreeOnFiles v.catalog u.way.now b → IsToldIn s n.durable.directory b e v.catalog t →
+      IsSettled n s left.journal.entries e c t w → HasLog c (acted (Tables act moment) n) → LeavesVolume c w (acted (Tables act moment) n)
   -- of one that is up
-  pub has : (a c : List (List ℕ)) (k w : Catalog) (n : Node) (act : table.Act) (moment : ℕ) (s : Settlement) (v : VolumeState) (has : HasVolume a k n) → IsAbort n act moment s → IsSound n.name n.blocks k →
-      v.catalog ≡ record k { heads = v.catalog.heads } → (u : IsUndone s.serial a k.heads n.durable.directory v) (b : List (List ℕ)) → AgreeOnFiles v.catalog u.way.now b →
-      IsSettled n s has.journal.entries b c v.catalog w → HasLog c (acted (Tables act moment) n) → HasVolume c w (acted (Tables act moment) n)
+  pub has : (a b e c : List (List ℕ)) (k t w : Catalog) (n : Node) (act : table.Act) (moment : ℕ) (s : Settlement) (v : VolumeState) (has : HasVolume a k n) → IsAbort n act moment s → IsSound n.name n.blocks k →
+      v.catalog ≡ record k { heads = v.catalog.heads } → (u : IsUndone s.serial a k.heads n.durable.directory v) → AgreeOnFiles v.catalog u.way.now b → IsToldIn s n.durable.directory b e v.catalog t →
+      IsSettled n s has.journal.entries e c t w → HasLog c (acted (Tables act moment) n) → HasVolume c w (acted (Tables act moment) n)

@@ -1,11 +1,12 @@
 //! The laws by which an undo on a disk is one of the world: a branch that left changes in a volume can be undone there, what is left on the way is
 //! what the node leaves, and once the branch is settled the volume is that of the node after the settlement.
 //!
-//! The crate has laws, and nothing that runs. `specs/Undoable` has that of the beginning, `specs/Undone` those of the way and of the end, and `specs/Aborted`
-//! those of a whole abort.
+//! The crate has laws, and nothing that runs. `specs/Undoable` has that of the beginning, `specs/Undone` those of the way and of the end, `specs/Aborted` those of
+//! a whole abort, and `specs/Committed` that of a commitment, in which nothing is undone.
 #![tactic(auto)]
 
 ghost use Rattle.undo_laws.specs.Aborted.{AbortsFail, AbortsLeave, AbortsSettle};
+ghost use Rattle.undo_laws.specs.Committed.{CommitsSettle};
 ghost use Rattle.undo_laws.specs.Undoable.{UnitsAreUndoable};
 ghost use Rattle.undo_laws.specs.Undone.{UndoneSettle, UndosFail, UndosKeepJournal, UndosLeave, WaysKeepOthers};
 
@@ -34,4 +35,10 @@ pub fn aborts_are_settlements()
     ensures settle { AbortsSettle }
     ensures fail { AbortsFail }
     ensures leave { AbortsLeave }
+{}
+
+/// The volume on which a branch was committed is that of the node after the settlement, with the outcome in the journals of images of each file that the
+/// branch changed.
+pub fn commits_are_settlements()
+    ensures { CommitsSettle }
 {}

@@ -1,6 +1,6 @@
 -- Units are aborted one after another.
 use Rattle.std.proofs.Common.{◌≡◌, ℕ, zero, suc, ◌+◌, ◌-◌, ◌*◌, ◌^◌, ◌<◌, ◌≤◌, not, nat_le, Bool, true, false, List, [], ◌∷◌, Option, Some, None, IfSome, length, map, if◌then◌else◌, refl, sym, ap, subst, ◌∙◌, arith, inl, inr}
-use Rattle.std.specs.Prelude.{unwrap_or, nat_lt, option_map, IsSome}
+use Rattle.std.specs.Prelude.{unwrap_or, nat_lt, option_map, slice_index_or, IsSome}
 use Rattle.std.specs.List.{All, AllByRecursion}
 use Rattle.std.proofs.lemmas.Bool.{leb-false}
 use Rattle.std.proofs.lemmas.Bool.Decides.{nat_tests}
@@ -16,12 +16,12 @@ use Rattle.journal_model.specs.Entries.{Entry}
 use Rattle.journal_model.specs.Ring.{IsJournal, ring_size}
 use Rattle.journal_store.specs.Rings.{IsRing}
 use Rattle.ru_journal.specs.Told.{UnitTold}
-use Rattle.unit_entries.specs.Opening.{AreAlike, AreChangesIn, AscendWithin, BeginWithin, IsAlike}
+use Rattle.unit_entries.specs.Opening.{AreAlike, AreChangesIn, AreFiledIn, AreFiledOf, AreFilesOf, AscendWithin, BeginWithin, IsAlike}
 use Rattle.unit_entries.specs.Reading.{placed, positions_of}
 use Rattle.unit_entries.proofs.OpenLemmas.{all_less, first_holds}
 use Rattle.unit_journal.specs.Settling.{MakesSettlement, content_with, from_earliest, next_moment, settled_home, span_with, starting, with_front}
 use Rattle.unit_table.specs.Places.{AreInOrder}
-use Rattle.unit_table.specs.Units.{Ascend, OpenUnit, Units, begun, earlier, earliest, first_of, first_that, is_active, unit_at, without_first, without_place}
+use Rattle.unit_table.specs.Units.{Ascend, OpenUnit, Units, begun, changers, earlier, earliest, first_of, first_that, is_active, one_changer, unit_at, without_first, without_place}
 use Rattle.unit_table.proofs.BegunLemmas.{earliest_in, earliest_seen}
 use Rattle.unit_table.proofs.OrderLemmas.{gone_in_order}
 use Rattle.vms_base.specs.declared.ids.Serial.{Serial}
@@ -35,7 +35,15 @@ use Rattle.volume.proofs.Reading.{store_of_same}
 use Rattle.volume_format.specs.declared.home.Ending.{Ending}
 use Rattle.volume_format.specs.declared.home.Ending.TheVariants as ending
 use Rattle.volume_format.specs.declared.home.Home.{Home}
-use Rattle.unit_aborts.specs.Aborting.{Aborts, BreaksOff, HasRoom, MayAbort, abort_entry}
+use Rattle.file_settlements.specs.Settling.{SettlesFiles, heads_settled}
+use Rattle.image_appends.specs.declared.side.Side.{Side}
+use Rattle.image_appends.specs.declared.side.Side.TheVariants.{After, Before}
+use Rattle.image_appends.specs.Images.{FileHasRoom}
+use Rattle.image_room.proofs.Entered.{Counts}
+use Rattle.image_room.proofs.Rings.{ring_in}
+use Rattle.image_room.specs.Room.{AllSettlementsFit, ImagesAreLow, SettlementsFit}
+use Rattle.unit_aborts.specs.Aborting.{Aborts, BreaksOff, HasRoom, ImagesHaveRoom, MayAbort, abort_entry}
+use Rattle.unit_aborts.proofs.ImageLemmas.{fit_on, fit_told, long_told, low_less, low_on, low_told, sound_told}
 use Rattle.unit_aborts.specs.Reopening.{AreFoundIn, MayReopen, MayTake, but_next, failed_at, left_unit, left_units, next_of}
 
 -- A later moment.
@@ -160,29 +168,32 @@ longer_with (Some e) s = omega arith
 
 -- Of the units that are left no more counts than where the earliest change begins.
 
-makes_as : (tid : Tid) (serial : Serial) (ending : Ending) (moment : ℕ) (e : Option Entry) (a b : List (Option OpenUnit)) (v w : VolumeState) → earliest a ≡ earliest b → MakesSettlement tid serial ending moment e a v w → MakesSettlement tid serial ending moment e b v w
-makes_as tid serial ending moment e a b v w same m = record {
+settles_as : (tid : Tid) (serial : Serial) (ending : Ending) (moment : ℕ) (e : Option Entry) (a b : List (Option OpenUnit)) (v w : VolumeState) → earliest a ≡ earliest b → MakesSettlement tid serial ending moment e a v w → MakesSettlement tid serial ending moment e b v w
+settles_as tid serial ending moment e a b v w same m = record {
   current = m.current ∙ ap (λ (o : Option ℕ). option_map (λ c. with_front (settled_home tid serial ending moment v.catalog.home) (starting o (span_with e v.catalog.ru)) (content_with e v.catalog.ru c)) v.store.current) same;
   catalog = m.catalog ∙ ap (λ (o : Option ℕ). record v.catalog { home = settled_home tid serial ending moment v.catalog.home; ru = starting o (span_with e v.catalog.ru) }) same;
 }
 
-pub aborts_as : (ps : List ℕ) (tid : Tid) (serial : Serial) (moment : ℕ) (a b : List (Option OpenUnit)) (v w : VolumeState) → earliest a ≡ earliest b → Aborts (failed_at ps tid serial moment a) v w → Aborts (failed_at ps tid serial moment b) v w
-aborts_as ps tid serial moment a b v w same x = record {
+makes_as : (files : List Bool) (tid : Tid) (serial : Serial) (ending : Ending) (moment : ℕ) (e : Option Entry) (a b : List (Option OpenUnit)) (v w : VolumeState) → earliest a ≡ earliest b → SettlesFiles files tid serial ending moment e a v w → SettlesFiles files tid serial ending moment e b v w
+makes_as files tid serial ending moment e a b v w same s = record { mid = s.mid; entered = s.entered; settles = settles_as tid serial ending moment e a b s.mid w same s.settles }
+
+pub aborts_as : (ps : List ℕ) (files : List Bool) (tid : Tid) (serial : Serial) (moment : ℕ) (a b : List (Option OpenUnit)) (v w : VolumeState) → earliest a ≡ earliest b → Aborts (failed_at ps files tid serial moment a) v w → Aborts (failed_at ps files tid serial moment b) v w
+aborts_as ps files tid serial moment a b v w same x = record {
   mid = x.mid;
   goes = x.goes;
   undoes = x.undoes;
-  makes = makes_as tid serial (ending.Abort reason.SegFail) moment (abort_entry (failed_at ps tid serial moment a)) a b x.mid w same x.makes;
+  makes = makes_as files tid serial (ending.Abort reason.SegFail) moment (abort_entry (failed_at ps files tid serial moment a)) a b x.mid w same x.makes;
 }
 
-pub breaks_as : (ps : List ℕ) (tid : Tid) (serial : Serial) (moment : ℕ) (a b : List (Option OpenUnit)) (v w : VolumeState) → earliest a ≡ earliest b → BreaksOff (failed_at ps tid serial moment a) v w → BreaksOff (failed_at ps tid serial moment b) v w
-breaks_as ps tid serial moment a b v w same (inl fails) = inl fails
-breaks_as ps tid serial moment a b v w same (inr x) = inr record {
+pub breaks_as : (ps : List ℕ) (files : List Bool) (tid : Tid) (serial : Serial) (moment : ℕ) (a b : List (Option OpenUnit)) (v w : VolumeState) → earliest a ≡ earliest b → BreaksOff (failed_at ps files tid serial moment a) v w → BreaksOff (failed_at ps files tid serial moment b) v w
+breaks_as ps files tid serial moment a b v w same (inl fails) = inl fails
+breaks_as ps files tid serial moment a b v w same (inr x) = inr record {
   mid = x.mid;
   goes = x.goes;
   undoes = x.undoes;
   breaks = elim x.breaks [
     | inl old ↦ inl old
-    | inr either ↦ inr record { made = either.made; is = makes_as tid serial (ending.Abort reason.SegFail) moment (abort_entry (failed_at ps tid serial moment a)) a b x.mid either.made same either.is; either = either.either }
+    | inr either ↦ inr record { made = either.made; is = makes_as files tid serial (ending.Abort reason.SegFail) moment (abort_entry (failed_at ps files tid serial moment a)) a b x.mid either.made same either.is; either = either.either }
   ];
 }
 
@@ -278,37 +289,69 @@ each_found v us found = go v.store.current found
     go None h = none us
     go (Some c) h = some c us h
 
+-- each of some units has the files of its entries
+pub each_filed : (v : VolumeState) (us : List OpenUnit) → IfSome v.store.current (λ c. AreFiledOf v.catalog.ru c us) → AreFiledIn v us
+each_filed v us filed = go v.store.current filed
+  where
+    none : (us : List OpenUnit) → AllByRecursion (λ (u : OpenUnit). IfSome {T = List (List ℕ)} None (λ c. AreFilesOf v.catalog.ru c u.positions u.files)) us
+    none [] = tt
+    none (u ∷ us) = (tt, none us)
+
+    go : (o : Option (List (List ℕ))) → IfSome o (λ c. AreFiledOf v.catalog.ru c us) → AllByRecursion (λ (u : OpenUnit). IfSome o (λ c. AreFilesOf v.catalog.ru c u.positions u.files)) us
+    go None h = none us
+    go (Some c) h = h
+
+-- one unit less changed the files of the first
+pub changers_without : (P : OpenUnit → Bool) (us : List OpenUnit) (u : OpenUnit) → first_that P us ≡ Some u → Counts (map Some us) (map Some (without_first P us)) u.files
+changers_without P [] u at file = let never : ⊥ = cc in absurd never
+changers_without P (w ∷ us) u at file = go (P w) at (λ later. changers_without P us u later file)
+  where
+    one_unit : (a b : OpenUnit) → ◌≡◌ {A = Option OpenUnit} (Some a) (Some b) → a ≡ b
+    one_unit a b e = cc
+
+    go : (b : Bool) → (if b then Some w else first_that P us) ≡ Some u → (first_that P us ≡ Some u → changers file (map Some us) ≡ changers file (map Some (without_first P us)) + (if slice_index_or u.files file false then 1 else 0)) →
+        changers file (map Some (w ∷ us)) ≡ changers file (map Some (if b then us else w ∷ without_first P us)) + (if slice_index_or u.files file false then 1 else 0)
+    go true here rest = let same = ap (λ (x : OpenUnit). one_changer file (Some x)) (one_unit w u here) in omega (arith, same)
+    go false here rest = let more = rest here in omega (arith, more)
+
 module _ (start : ℕ) (us : List OpenUnit) (u : OpenUnit) (clock : ℕ) (v w : VolumeState) (ps : List ℕ) (tid : Tid) (serial : Serial) (moment : ℕ) (may : MayTake start us clock v) (at : first_that is_active us ≡ Some u) (is : moment ≡ next_moment clock v.catalog.home)
-    (aborts : Aborts (failed_at ps tid serial moment (map Some (without_first is_active us))) v w) (short : w.catalog.ru.end ≤ v.catalog.ru.end + 48) where
+    (aborts : Aborts (failed_at ps u.files tid serial moment (map Some (without_first is_active us))) v w) (short : w.catalog.ru.end ≤ v.catalog.ru.end + 48) where
   abbrev left : List OpenUnit
   left = without_first is_active us
 
+  -- what was set back, and then told in the journals of the files
+  abbrev undone : Catalog
+  undone = aborts.mid.catalog
+
   abbrev mid : Catalog
-  mid = aborts.mid.catalog
+  mid = aborts.makes.mid.catalog
 
   abbrev entry : Option Entry
-  entry = abort_entry (failed_at ps tid serial moment (map Some left))
+  entry = abort_entry (failed_at ps u.files tid serial moment (map Some left))
+
+  told : mid ≡ record undone { heads = heads_settled entry u.files undone.heads }
+  told = aborts.makes.entered.catalog
 
   one : length us ≡ length left + 1
   one = one_fewer is_active us u at
 
   home : mid.home ≡ v.catalog.home
-  home = ap (λ (c : Catalog). c.home) aborts.goes.catalog
+  home = ap (λ (c : Catalog). c.home) told ∙ ap (λ (c : Catalog). c.home) aborts.goes.catalog
 
   ru : mid.ru ≡ v.catalog.ru
-  ru = ap (λ (c : Catalog). c.ru) aborts.goes.catalog
+  ru = ap (λ (c : Catalog). c.ru) told ∙ ap (λ (c : Catalog). c.ru) aborts.goes.catalog
 
   now_ends : w.catalog.ru.end ≡ (span_with entry mid.ru).end
-  now_ends = ap (λ (c : Catalog). c.ru.end) aborts.makes.catalog
+  now_ends = ap (λ (c : Catalog). c.ru.end) aborts.makes.settles.catalog
 
   longer : v.catalog.ru.end ≤ w.catalog.ru.end
   longer = let more = longer_with entry mid.ru in let same = ap (λ (r : Span). r.end) ru in omega (arith, more, same, now_ends)
 
   now_begins : w.catalog.ru.first ≡ unwrap_or (earliest (map Some left)) w.catalog.ru.end
-  now_begins = ap (λ (c : Catalog). c.ru.first) aborts.makes.catalog ∙ ap (λ (n : ℕ). unwrap_or (earliest (map Some left)) n) (sym now_ends)
+  now_begins = ap (λ (c : Catalog). c.ru.first) aborts.makes.settles.catalog ∙ ap (λ (n : ℕ). unwrap_or (earliest (map Some left)) n) (sym now_ends)
 
   now_blocks : w.catalog.ru.blocks ≡ v.catalog.ru.blocks
-  now_blocks = ap (λ (c : Catalog). c.ru.blocks) aborts.makes.catalog ∙ with_blocks entry mid.ru ∙ ap (λ (r : Span). r.blocks) ru
+  now_blocks = ap (λ (c : Catalog). c.ru.blocks) aborts.makes.settles.catalog ∙ with_blocks entry mid.ru ∙ ap (λ (r : Span). r.blocks) ru
 
   within : AreWithin start w.catalog.ru.end left
   within = longer_within start v.catalog.ru.end w.catalog.ru.end left longer (all_less (λ (x : OpenUnit). All (λ p. (start ≤ p) × (p ≤ v.catalog.ru.end)) x.positions) is_active us may.within)
@@ -325,14 +368,31 @@ module _ (start : ℕ) (us : List OpenUnit) (u : OpenUnit) (clock : ℕ) (v w : 
       let n = next_moment_is clock v.catalog.home (length left) 24000001000066 (omega (arith, g, one)) (omega (arith, c, one)) in
       (omega (arith, n.0, is), omega (arith, n.1, is))
 
+  heads : w.catalog.heads ≡ heads_settled entry u.files undone.heads
+  heads = ap (λ (c : Catalog). c.heads) aborts.makes.settles.catalog ∙ ap (λ (c : Catalog). c.heads) told
+
+  -- the entry has as many bytes as the journal grew by
+  few : (span_with entry v.catalog.ru).end ≤ v.catalog.ru.end + 48
+  few = let same = ap (λ (r : Span). (span_with entry r).end) ru in omega (arith, short, now_ends, same)
+
+  long : length undone.heads ≡ 64
+  long = aborts.goes.long ∙ may.long
+
+  low : ImagesAreLow (48 * length left + 48) undone.heads
+  low = low_on v aborts.mid aborts.goes.journals (48 * length left + 48) (subst (λ (n : ℕ). ImagesAreLow n v.catalog.heads) (let more : 48 * length us ≡ 48 * length left + 48 = omega (arith, one) in more) may.early)
+
+  sound : IsSound may.node v.store.disk.size mid
+  sound = subst (IsSound may.node v.store.disk.size) (sym told) (sound_told may.node v.store.disk.size entry u.files v.catalog.ru undone few long (low_less 48 (48 * length left + 48) undone.heads (omega arith) low) (aborts.goes.sound may.node may.sound))
+
   pub next_may : IsIdle w.store → Holds w → w.store.disk.size ≡ v.store.disk.size → w.store.pool ≡ v.store.pool → MayTake start left clock w
   next_may idle holds size pool = record {
     idle = idle;
     holds = holds;
     node = may.node;
-    sound = subst (λ (n : ℕ). IsSound may.node n w.catalog) (sym size) (subst (IsSound may.node v.store.disk.size) (sym aborts.makes.catalog)
+    sound = subst (λ (n : ℕ). IsSound may.node n w.catalog) (sym size) (subst (IsSound may.node v.store.disk.size) (sym aborts.makes.settles.catalog)
         (sound_settled may.node v.store.disk.size tid serial _ moment mid (from_earliest (map Some left) (span_with entry mid.ru)) (let m = moments in let same : mid.home.greatest_moment.0 ≡ v.catalog.home.greatest_moment.0 = ap (λ (h : Home). h.greatest_moment.0) home in omega (arith, m.0, same))
-        (let m = moments in omega (arith, m.1)) (with_start entry mid.ru) (with_blocks entry mid.ru) (aborts.goes.sound may.node may.sound)));
+        (let m = moments in omega (arith, m.1)) (with_start entry mid.ru) (with_blocks entry mid.ru) sound));
+    long = ap length heads ∙ long_told entry u.files undone.heads ∙ long;
     least = let l = may.least in omega (arith, l, size);
     most = let m = may.most in omega (arith, m, size);
     frames = subst (λ fs. 32 ≤ free_frames fs) (sym pool) may.frames;
@@ -340,11 +400,14 @@ module _ (start : ℕ) (us : List OpenUnit) (u : OpenUnit) (clock : ℕ) (v w : 
     ascends = begins.1;
     room = let r = may.room in omega (arith, r, short, one, now_blocks);
     low = let l = may.low in omega (arith, l, short, one);
-    moment = let m = moments in let same : w.catalog.home.greatest_moment.0 ≡ moment = ap (λ (c : Catalog). c.home.greatest_moment.0) aborts.makes.catalog in omega (arith, m.1, same);
+    moment = let m = moments in let same : w.catalog.home.greatest_moment.0 ≡ moment = ap (λ (c : Catalog). c.home.greatest_moment.0) aborts.makes.settles.catalog in omega (arith, m.1, same);
     clock_bound = let c = may.clock_bound in omega (arith, c, one);
     within = within;
     positions = ascends_again v.catalog.ru.first v.catalog.ru.end w.catalog.ru.first w.catalog.ru.end (earliest (map Some left)) left longer now_begins begins.1 (earliest_least left)
         (all_less (λ (x : OpenUnit). Ascend v.catalog.ru.first v.catalog.ru.end x.positions) is_active us may.positions);
+    images = subst (AllSettlementsFit (map Some left)) (sym heads)
+        (fit_told entry u.files v.catalog.ru undone.heads (map Some us) (map Some left) few (changers_without is_active us u at) (fit_on (map Some us) v aborts.mid aborts.goes.journals may.images));
+    early = subst (ImagesAreLow (48 * length left)) (sym heads) (low_told entry u.files v.catalog.ru (48 * length left) undone.heads few low);
   }
 
 -- the units that are left stand in their order
@@ -385,6 +448,24 @@ module _ (start : ℕ) (us : List OpenUnit) (clock : ℕ) (v : VolumeState) (m :
   low_taken u at =
       All-weaker (λ p. (start ≤ p) × (p ≤ v.catalog.ru.end)) (λ p. p ≤ 2 ^ 62) (λ p is. (let last = is.1 in let low = m.low in omega (arith, last, low))) u.positions (first_holds (λ (x : OpenUnit). All (λ p. (start ≤ p) × (p ≤ v.catalog.ru.end)) x.positions) is_active us u m.within at)
 
+  pub rooms_taken : (u : OpenUnit) → first_that is_active us ≡ Some u → ImagesHaveRoom u.positions u.files v
+  rooms_taken u at has file takes = (room After, room Before)
+    where
+      taken_one : one_changer file (Some u) ≡ 1
+      taken_one = ap (λ (b : Bool). if b then 1 else 0) takes
+
+      counts : 1 ≤ changers file (map Some us)
+      counts =
+          let more = changers_without is_active us u at file in
+          omega (arith, more, taken_one)
+
+      fits : (side : Side) (h : FileHead) → head_at v.catalog.heads file ≡ Some h → SettlementsFit side h file (map Some us)
+      fits After h there = (m.images file h there).0
+      fits Before h there = (m.images file h there).1
+
+      room : (side : Side) → FileHasRoom side 48 file v.catalog.heads v.store.disk
+      room side h there kept = ring_in m.node v.catalog v.store.disk m.long m.sound side file h there kept 48 m.most (let fit = fits side h there kept in omega (arith, fit, counts))
+
   pub room_taken : (u : OpenUnit) → first_that is_active us ≡ Some u → HasRoom u.positions v
   room_taken u at has = let more = one_fewer is_active us u at in let a = m.room in let b = m.behind in omega (arith, more, a, b)
 
@@ -394,8 +475,9 @@ within_begin : (s : Span) (us : List OpenUnit) → BeginWithin s us → AreWithi
 within_begin s [] all = tt
 within_begin s (u ∷ us) all = (All-weaker (λ p. (s.first ≤ p) × (p < s.end)) (λ p. (s.first ≤ p) × (p ≤ s.end)) (λ p is. (is.0, (let before = is.1 in omega (arith, before)))) u.positions all.0, within_begin s us all.1)
 
-pub may_begin : (us : List OpenUnit) (clock : ℕ) (v : VolumeState) → MayReopen clock v → BeginWithin v.catalog.ru us → AscendWithin v.catalog.ru.first v.catalog.ru.end us → length us ≤ 64 → v.catalog.ru.end - v.catalog.ru.first + 48 * length us ≤ ring_size v.catalog.ru → MayTake v.catalog.ru.first us clock v
-may_begin us clock v m within ascends few room = record {
+pub may_begin : (us : List OpenUnit) (clock : ℕ) (v : VolumeState) → MayReopen clock v → BeginWithin v.catalog.ru us → AscendWithin v.catalog.ru.first v.catalog.ru.end us → length us ≤ 64 → v.catalog.ru.end - v.catalog.ru.first + 48 * length us ≤ ring_size v.catalog.ru → length v.catalog.heads ≡ 64 →
+    AllSettlementsFit (map Some us) v.catalog.heads → MayTake v.catalog.ru.first us clock v
+may_begin us clock v m within ascends few room long images = record {
   idle = m.may.idle;
   holds = m.may.holds;
   node = m.may.node;
@@ -411,6 +493,9 @@ may_begin us clock v m within ascends few room = record {
   clock_bound = let c = m.clock_bound in omega (arith, c, few);
   within = within_begin v.catalog.ru us within;
   positions = ascends;
+  long = long;
+  images = images;
+  early = low_less (48 * length us) 3072 v.catalog.heads (omega (arith, few)) m.early;
 }
 
 -- no count rose
@@ -439,4 +524,7 @@ take_read start us clock v w same may = record {
   clock_bound = may.clock_bound;
   within = subst (λ (x : VolumeState). AllByRecursion (λ (u : OpenUnit). All (λ p. (start ≤ p) × (p ≤ x.catalog.ru.end)) u.positions) us) (sym same) may.within;
   positions = subst (λ (x : VolumeState). AscendWithin x.catalog.ru.first x.catalog.ru.end us) (sym same) may.positions;
+  long = subst (λ (x : VolumeState). length x.catalog.heads ≡ 64) (sym same) may.long;
+  images = subst (λ (x : VolumeState). AllSettlementsFit (map Some us) x.catalog.heads) (sym same) may.images;
+  early = subst (λ (x : VolumeState). ImagesAreLow (48 * length us) x.catalog.heads) (sym same) may.early;
 }

@@ -16,7 +16,9 @@ use Rattle.volume.specs.State.{VolumeState, Holds}
 use Rattle.volume_format.specs.declared.home.Ending.TheVariants as ending
 use Rattle.unit_journal.specs.Entries.{settled_entry}
 use Rattle.unit_journal.specs.Groups.{Breaks}
-use Rattle.unit_journal.specs.Settling.{MakesSettlement, entry_if}
+use Rattle.unit_journal.specs.Settling.{entry_if}
+use Rattle.image_appends.specs.Settling.{AllHaveRoom}
+use Rattle.file_settlements.specs.Settling.{SettlesFiles}
 use Rattle.unit_undo.specs.Undoing.{GoesOn}
 use Rattle.unit_undo.specs.Way.{Undoes, FailsOnTheWay}
 
@@ -40,9 +42,14 @@ pub record MayAbort (v : VolumeState) : Type 0 where
 abbrev pub HasRoom : (ps : List ℕ) → VolumeState → Type 0
 HasRoom ps v = has_changes ps ≡ true → v.catalog.ru.end - v.catalog.ru.first + 48 ≤ ring_size v.catalog.ru
 
--- A branch was aborted for a reason at a moment, these are its changes, and these units are left.
+-- and the journals of images of the files that it changed have it too
+abbrev pub ImagesHaveRoom : (ps : List ℕ) → (files : List Bool) → VolumeState → Type 0
+ImagesHaveRoom ps files v = has_changes ps ≡ true → AllHaveRoom files 48 v.catalog.heads v.store.disk
+
+-- A branch was aborted for a reason at a moment, these are its changes and the files that they are of, and these units are left.
 pub record Abortion : Type 0 where
   pub positions : List ℕ
+  pub files : List Bool
   pub tid : Tid
   pub serial : Serial
   pub reason : Reason
@@ -55,7 +62,7 @@ abort_entry x = entry_if (has_changes x.positions) (settled_entry (tid_of x.tid)
 
 -- a volume has what its settlement makes of another
 abbrev pub MakesAbort : Abortion → (v made : VolumeState) → Type 0
-MakesAbort x v made = MakesSettlement x.tid x.serial (ending.Abort x.reason) x.moment (abort_entry x) x.left v made
+MakesAbort x v made = SettlesFiles x.files x.tid x.serial (ending.Abort x.reason) x.moment (abort_entry x) x.left v made
 
 -- What the branch changed is set back in a volume, and what is staged of that is in one group with its settlement.
 pub record Aborts (x : Abortion) (v w : VolumeState) : Type 0 where

@@ -5,5 +5,5 @@
 mod aborting;
 mod reopening;
 
-pub use aborting::abort_unit;
+pub use aborting::{abort_unit, keys_beside};
 pub use reopening::{AbortedUnit, reopen_units};

@@ -1,11 +1,12 @@
 // Units that a fall left are aborted.
-ghost use Rattle.std.specs.Prelude.{◌≡◌, ◌≤◌, ◌<◌, ◌+◌, ◌-◌, ◌*◌, ◌++◌, ◌∷◌, [], true, false, ℕ, Some, None, OnOk, OnErr, IfOk, IfSome, length, vec_capacity};
+ghost use Rattle.std.specs.Prelude.{◌≡◌, ◌≤◌, ◌<◌, ◌+◌, ◌-◌, ◌*◌, ◌++◌, ◌∷◌, [], true, false, ℕ, Some, None, OnOk, OnErr, IfOk, IfSome, length, map, vec_capacity};
 ghost use Rattle.careful_write.specs.Down.{Counts};
 ghost use Rattle.careful_write.specs.State.{IsReady};
 ghost use Rattle.journal_store.specs.Rings.{IsRing};
+ghost use Rattle.image_room.specs.Room.{AllSettlementsFit};
 ghost use Rattle.unit_journal.specs.Groups.{LeavesOld};
 ghost use Rattle.journal_model.specs.Ring.{ring_size};
-ghost use Rattle.unit_entries.specs.Opening.{AreAlike, AscendWithin, BeginWithin};
+ghost use Rattle.unit_entries.specs.Opening.{AreAlike, AreFiledIn, AscendWithin, BeginWithin};
 ghost use Rattle.unit_table.specs.Units.{IsFirst, OpenUnit, begun, first_that, is_active, without_first};
 ghost use Rattle.volume.specs.State.{SameVolume};
 ghost use Rattle.unit_aborts.specs.Reopening.{AreFoundIn, AreUnits, BreaksOne, IsOutOfOrder, MayReopen, MayTake, Reopens, ReopensNot, UndoesUnit};
@@ -15,6 +16,7 @@ ghost use Rattle.unit_aborts.specs.Aborting.{MayAbort};
 use crate::aborting::abort_unit;
 use block_disk::Disk;
 use careful_write::{Down, one_content};
+use image_room::images_fit;
 use journal_format::EntryBuf;
 use ru_journal::RuState;
 use unit_entries::{ChangedKeys, read_journal};
@@ -99,6 +101,7 @@ fn read_units<D: Disk>(
     ensures broken { IfOk result (λ whole. whole ≡ false → IsOutOfOrder volume.old) }
     ensures alike { IfOk result (λ whole. whole ≡ true → AreAlike state.new.units (begun units.new)) }
     ensures found { IfOk result (λ whole. whole ≡ true → AreFoundIn volume.old (begun units.new)) }
+    ensures files { IfOk result (λ whole. whole ≡ true → AreFiledIn volume.old (begun units.new)) }
     ensures within { IfOk result (λ whole. whole ≡ true → BeginWithin volume.old.catalog.ru (begun units.new)) }
     ensures ascends { IfOk result (λ whole. whole ≡ true → AscendWithin volume.old.catalog.ru.first volume.old.catalog.ru.end (begun units.new)) }
     ensures same { OnOk result (SameVolume volume.old volume.new) }
@@ -127,8 +130,8 @@ fn has_room<D: Disk>(volume: &Volume<D>, count: usize) -> bool
 }
 
 /// Aborts the units that a fall left in the journal, in the order of their first entries, and tells their settlements, also after Down. Nothing is
-/// done where the journal is not in order, or has not the room that the settlements take; then the table is without units. Prepared units stay, in
-/// the journal and in the table, which has those of the journal in place of those that it had.
+/// done where the journal is not in order, or it or a file's journal of images has not the room that the settlements take; then the table is
+/// without units. Prepared units stay, in the journal and in the table, which has those of the journal in place of those that it had.
 pub fn reopen_units<D: Disk>(
     volume: &mut Volume<D>,
     clock: Moment,
@@ -144,6 +147,7 @@ pub fn reopen_units<D: Disk>(
     ensures reopens { OnOk result (Reopens clock.0 volume.old volume.new out.new.items (begun units.new)) }
     ensures may { OnOk result (MayAbort volume.new) }
     ensures room { OnOk result (volume.new.catalog.ru.end - volume.new.catalog.ru.first + 48 * length (begun units.new) ≤ ring_size volume.new.catalog.ru) }
+    ensures images { OnOk result (AllSettlementsFit (map Some (begun units.new)) volume.new.catalog.heads) }
     ensures ascends { OnOk result (AscendWithin volume.new.catalog.ru.first volume.new.catalog.ru.end (begun units.new)) }
     ensures fails { OnErr result (ReopensNot clock.0 volume.old volume.new out.new.items) }
     ensures grows { GrowsBy 64 clock.0 volume.old volume.new }
@@ -164,6 +168,11 @@ pub fn reopen_units<D: Disk>(
         Ok(true) => {}
     }
     if !has_room(volume, state.units().len()) {
+        units.clear();
+        return Ok(());
+    }
+    units.stand_in_order();
+    if !images_fit(volume, units) {
         units.clear();
         return Ok(());
     }

@@ -1,10 +1,10 @@
 -- Entries behind the journal's end: what they leave as it is, and one more of them.
-use Rattle.std.proofs.Common.{◌≡◌, ℕ, suc, ◌+◌, ◌-◌, ◌<◌, ◌≤◌, true, List, [], ◌∷◌, ◌++◌, Option, Some, None, length, option_map, refl, sym, ap, subst, ◌∙◌, arith, inr, append_assoc, length-append}
+use Rattle.std.proofs.Common.{◌≡◌, ℕ, suc, ◌+◌, ◌-◌, ◌<◌, ◌≤◌, true, List, [], ◌∷◌, ◌++◌, Option, Some, None, IfSome, length, option_map, refl, sym, ap, subst, ◌∙◌, arith, inr, append_assoc, length-append}
 use Rattle.std.specs.List.{AllByRecursion, flat_map}
 use Rattle.std.proofs.lemmas.Grind.{flat_map-append}
 use Rattle.std.proofs.lemmas.List.{append-nil}
 use Rattle.std.proofs.lemmas.List.Concat.{flat_map-cons}
-use Rattle.change_set.specs.Files.{AgreesOn, in_extent}
+use Rattle.change_set.specs.Files.{AgreesOn}
 use Rattle.change_set.specs.Maps.{Map}
 use Rattle.change_set.specs.declared.walk.Place.{Place}
 use Rattle.file_base.specs.declared.head.FileHead.{FileHead}
@@ -14,7 +14,7 @@ use Rattle.journal_model.specs.Entries.{Entry, IsEntry, spelling}
 use Rattle.journal_model.specs.Ring.{IsJournal, put_byte, put_stream, ring_size}
 use Rattle.journal_store.proofs.Journals.{appended, keeps_others, written_behind}
 use Rattle.journal_store.proofs.Streams.{put_stream-append}
-use Rattle.record_files.specs.Any.{IsFile, IsLaidOut, layout_of, map_of}
+use Rattle.record_files.specs.Any.{Begins, IsFile, IsLaidOut, layout_of, map_of}
 use Rattle.record_files.specs.Local.{layout_local_law, local_law, valid_local_law}
 use Rattle.unit_journal.specs.Entries.{change_entry}
 use Rattle.unit_journal.specs.Spans.{longer}
@@ -22,50 +22,81 @@ use Rattle.vms_model.specs.Ids.{Id}
 use Rattle.vms_model.specs.Keys.{Key}
 use Rattle.volume.specs.Catalogs.{IsSound, head_at}
 use Rattle.volume.specs.declared.catalog.Catalog.{Catalog}
+use Rattle.volume.specs.State.{VolumeState}
 use Rattle.volume_files.proofs.Places.{fit_of, within}
 use Rattle.volume_files.proofs.Walks.{begins_still}
 use Rattle.unit_cuts.proofs.EntrySizes.{spelled_size}
-use Rattle.unit_cuts.specs.Truncating.{IsBehind, IsPlaceOf, TellsSame, begins_at, cut_entries, entry_sizes, span_behind, with_entries}
+use Rattle.image_appends.specs.declared.side.Side.TheVariants.{After, Before}
+use Rattle.image_room.proofs.Beside.{lies_beside}
+use Rattle.unit_cuts.specs.Moving.{ImagesLieBeside}
+use Rattle.unit_cuts.specs.Truncating.{AreBegun, IsBehind, IsPlaceOf, LiesBeside, TellsSame, begins_at, cut_entries, entry_sizes, span_behind, with_entries}
 
 abbrev Content : Type 0
 Content = List (List ℕ)
 
 -- What stays.
 
--- the blocks of a file lie behind the journal's ring
-abbrev pub LiesPast : FileHead → Span → Type 0
-LiesPast h s = (n : ℕ) → in_extent h n ≡ true → s.start - 518 + s.blocks ≤ n
-
-pub lies_past : (node : List ℕ) (size : ℕ) (v : Catalog) (f : ℕ) (h : FileHead) → length v.heads ≡ 64 → IsSound node size v → head_at v.heads f ≡ Some h → LiesPast h v.ru
+-- the blocks of a file lie behind the ring of the journal of recovery units
+pub lies_past : (node : List ℕ) (size : ℕ) (v : Catalog) (f : ℕ) (h : FileHead) → length v.heads ≡ 64 → IsSound node size v → head_at v.heads f ≡ Some h → LiesBeside h v.ru
 lies_past node size v f h long sound there n is =
     let lies = within _ v.heads (fit_of node size v long sound) f n h there is in
-    omega (arith, lies.0, sound.ru_start, sound.ru_blocks)
+    inr (omega (arith, lies.0, sound.ru_start, sound.ru_blocks))
 
-module _ (h : FileHead) (s : Span) (past : LiesPast h s) (some : 0 < s.blocks) (a : Content) (es : List Entry) where
-  file_stays : AgreesOn h a (with_entries s es a)
-  file_stays n is = sym ((keeps_others (flat_map spelling es) a s s.end some).others n (inr (past n is)))
+-- and beside those of its journals of images
+pub images_beside : (node : List ℕ) (size : ℕ) (v : Catalog) (f : ℕ) (h : FileHead) → length v.heads ≡ 64 → IsSound node size v → head_at v.heads f ≡ Some h →
+    (h.marks.ai ≡ true → 518 ≤ h.ai.start) → (h.marks.bi ≡ true → 518 ≤ h.bi.start) → ImagesLieBeside h
+images_beside node size v f h long sound there afters befores = record {
+  afters = λ kept. lies_beside node size v long sound After f h there (afters kept);
+  befores = λ kept. lies_beside node size v long sound Before f h there (befores kept);
+}
+
+-- where two contents have the same blocks of a file
+module _ (h : FileHead) (a b : Content) (same : AgreesOn h a b) where
+  back : AgreesOn h b a
+  back n is = sym (same n is)
+
+  pub map_agrees : IsFile h → IsLaidOut h a → map_of h a ≡ map_of h b
+  map_agrees form = local_law h a b form same
+
+  pub laid_agrees : IsFile h → IsLaidOut h a → IsLaidOut h b
+  laid_agrees form = valid_local_law h a b form same
+
+  pub layout_agrees : IsFile h → IsLaidOut h a → layout_of h a ≡ layout_of h b
+  layout_agrees form = layout_local_law h a b form same
+
+  pub laid_agrees_back : IsFile h → IsLaidOut h b → IsLaidOut h a
+  laid_agrees_back form = valid_local_law h b a form back
+
+  pub place_agrees : (place : Place) → h.organization ≡ Sequential → IsFile h → IsPlaceOf h a place → IsPlaceOf h b place
+  place_agrees place seq form is = record { used = is.used; begins = λ key. begins_still h a b key place seq form same is.used (is.begins key) }
+
+  pub places_agree : (places : List Place) → h.organization ≡ Sequential → IsFile h → AllByRecursion (IsPlaceOf h a) places → AllByRecursion (IsPlaceOf h b) places
+  places_agree [] seq form each = tt
+  places_agree (p ∷ ps) seq form each = (place_agrees p seq form each.0, places_agree ps seq form each.1)
+
+module _ (h : FileHead) (s : Span) (past : LiesBeside h s) (some : 0 < s.blocks) (a : Content) (es : List Entry) where
+  pub file_stays : AgreesOn h a (with_entries s es a)
+  file_stays n is = sym ((keeps_others (flat_map spelling es) a s s.end some).others n (past n is))
 
   pub map_stays : IsFile h → IsLaidOut h a → map_of h a ≡ map_of h (with_entries s es a)
-  map_stays form = local_law h a (with_entries s es a) form file_stays
+  map_stays = map_agrees h a (with_entries s es a) file_stays
 
   pub laid_stays : IsFile h → IsLaidOut h a → IsLaidOut h (with_entries s es a)
-  laid_stays form = valid_local_law h a (with_entries s es a) form file_stays
-
-  pub layout_stays : IsFile h → IsLaidOut h a → layout_of h a ≡ layout_of h (with_entries s es a)
-  layout_stays form = layout_local_law h a (with_entries s es a) form file_stays
-
-  file_back : AgreesOn h (with_entries s es a) a
-  file_back n is = sym (file_stays n is)
+  laid_stays = laid_agrees h a (with_entries s es a) file_stays
 
   pub laid_back : IsFile h → IsLaidOut h (with_entries s es a) → IsLaidOut h a
-  laid_back form = valid_local_law h (with_entries s es a) a form file_back
-
-  pub place_stays : (place : Place) → h.organization ≡ Sequential → IsFile h → IsPlaceOf h a place → IsPlaceOf h (with_entries s es a) place
-  place_stays place seq form is = record { used = is.used; begins = λ key. begins_still h a (with_entries s es a) key place seq form file_stays is.used (is.begins key) }
+  laid_back = laid_agrees_back h a (with_entries s es a) file_stays
 
   pub places_stay : (places : List Place) → h.organization ≡ Sequential → IsFile h → AllByRecursion (IsPlaceOf h a) places → AllByRecursion (IsPlaceOf h (with_entries s es a)) places
-  places_stay [] seq form each = tt
-  places_stay (p ∷ ps) seq form each = (place_stays p seq form each.0, places_stay ps seq form each.1)
+  places_stay = places_agree h a (with_entries s es a) file_stays
+
+-- a walk may begin at a place
+pub begins_of : (h : FileHead) (v : VolumeState) (place : Place) (places : List Place) (key : Option Key) → ((k : FileHead) (a : Content) → IsFile k → AllByRecursion (IsPlaceOf k a) places → IsPlaceOf k a place) → AreBegun h v places → IfSome v.store.current (λ a. IsFile h → IsLaidOut h a → Begins h a key place)
+begins_of h v place places key at begun = go v.store.current refl
+  where
+    go : (o : Option Content) → v.store.current ≡ o → IfSome o (λ a. IsFile h → IsLaidOut h a → Begins h a key place)
+    go None is = tt
+    go (Some a) is = λ form laid. (at h a form (begun a is form laid)).begins key
 
 -- nothing else is other
 module _ (s : Span) where
@@ -76,7 +107,7 @@ module _ (s : Span) where
   same_none None = refl
   same_none (Some a) = behind_none a
 
-  behind_entries : (es : List Entry) (a : Content) → 0 < s.blocks → s.end + length (flat_map spelling es) ≤ s.first + ring_size s → IsBehind s a (with_entries s es a)
+  pub behind_entries : (es : List Entry) (a : Content) → 0 < s.blocks → s.end + length (flat_map spelling es) ≤ s.first + ring_size s → IsBehind s a (with_entries s es a)
   behind_entries es a some room = record {
     others = keeps_others (flat_map spelling es) a s s.end some;
     journal = λ before is. written_behind a s before s.end (flat_map spelling es) is (omega arith) room;

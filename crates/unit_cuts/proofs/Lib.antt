@@ -1,7 +1,9 @@
 pub mod CutEntering
+pub mod CutFrames
 pub mod CutLemmas
 pub mod CutMade
 pub mod CutSofar
 pub mod EntrySizes
 pub mod Outcomes
+pub mod OwnLemmas
 pub mod Reading

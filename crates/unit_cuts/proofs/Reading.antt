@@ -26,14 +26,14 @@ module _ (v w : VolumeState) (same : SameVolume v w) where
   enters_from bytes limit s t ps qs x (inr pa) = inr (record { long = pa.long; span = pa.span; positions = pa.positions; same = volume_on v w x same pa.same })
 
   -- and up to it
-  pub entering_to : (limit : ℕ) (u : VolumeState) (s : Span) (ps : List ℕ) (es : List Entry) → Entering limit u v s ps es → Entering limit u w s ps es
-  entering_to limit u s ps es en = record {
+  pub entering_to : (limit : ℕ) (base : Span) (u : VolumeState) (s : Span) (ps : List ℕ) (es : List Entry) → Entering limit base u v s ps es → Entering limit base u w s ps es
+  entering_to limit base u s ps es en = record {
     each = en.each;
     span = en.span;
     fits = en.fits;
     positions = en.positions;
-    current = subst (λ (y : VolumeState). y.store.current ≡ option_map (with_entries u.catalog.ru es) u.store.current) (sym same) en.current;
-    written = subst (λ (y : VolumeState). TellsSame u.catalog.ru u.store.current (content y.store)) (sym same) en.written;
+    current = subst (λ (y : VolumeState). y.store.current ≡ option_map (with_entries base es) u.store.current) (sym same) en.current;
+    written = subst (λ (y : VolumeState). TellsSame base u.store.current (content y.store)) (sym same) en.written;
     ready = ready_read v.store w.store (store_of_same v w same) en.ready;
     catalog = subst (λ (y : VolumeState). y.catalog ≡ u.catalog) (sym same) en.catalog;
     pool = subst (λ (y : VolumeState). y.store.pool ≡ u.store.pool) (sym same) en.pool;

@@ -1,7 +1,10 @@
 // How many bytes the entries of a truncation take, and where walks to its records begin.
-ghost use Rattle.std.specs.Prelude.{◌≡◌, ◌⊎◌, ◌≤◌, ◌<◌, ◌+◌, ◌*◌, ◌++◌, ◌∷◌, [], List, Option, None, Some, IfOk, IfErr, IfSome, OnOk, length};
+ghost use Rattle.std.specs.List.{AllByRecursion};
+ghost use Rattle.std.specs.Prelude.{◌≡◌, ◌⊎◌, ◌≤◌, ◌<◌, ◌+◌, ◌*◌, ◌++◌, ◌∷◌, [], ℕ, List, Option, None, Some, IfOk, IfErr, IfSome, OnOk, length};
 ghost use Rattle.change_set.specs.Files.{IsPlaced, first_place, free_frames};
 ghost use Rattle.change_set.specs.declared.walk.Place.{Place as PlaceSaid};
+ghost use Rattle.change_set.specs.Maps.{empty_map};
+ghost use Rattle.file_base.specs.declared.head.FileHead.{FileHead as HeadSaid};
 ghost use Rattle.file_base.specs.declared.head.Organization.TheVariants as organization;
 ghost use Rattle.record_files.specs.Any.{Begins, IsFile, IsLaidOut};
 ghost use Rattle.unit_journal.specs.Leaving.{FellIn};
@@ -10,7 +13,7 @@ ghost use Rattle.volume.specs.State.{SameVolume};
 ghost use Rattle.vms_model.specs.Keys.{Number};
 ghost use Rattle.vms_model.specs.Keys as model;
 ghost use Rattle.unit_cuts.specs.Records.{OfRecords};
-ghost use Rattle.unit_cuts.specs.Truncating.{AreBegun, entry_sizes, keys_cut, removed_from};
+ghost use Rattle.unit_cuts.specs.Truncating.{AreBegun, IsPlaceOf, entry_sizes, keys_cut, removed_from};
 
 use crate::cut::{Cut, record_if};
 use block_disk::Disk;
@@ -62,15 +65,26 @@ impl CutRoom {
         self.places.clear();
     }
 
-    /// The place that was kept last, which goes; the front of the file, where none is left.
-    pub fn next_place(&mut self) -> Place
-        ensures last { (self.old.places ≡ self.new.places ++ result ∷ []) ⊎ ((self.new.places ≡ self.old.places) × (result ≡ first_place)) }
-        ensures positions { self.new.positions ≡ self.old.positions }
+    /// The place that was kept for the last record but so many; the front of the file, where none is kept.
+    pub fn place_at(&self, behind: u32) -> Place
+        ensures { (h : HeadSaid) (a : List (List ℕ)) → IsFile h → AllByRecursion (IsPlaceOf h a) self.now.places → IsPlaceOf h a result }
     {
-        match self.places.pop() {
-            Some(place) => place,
+        let kept = self.places.len();
+        let behind = behind as usize;
+        if kept <= behind {
+            return Place::first();
+        }
+        match self.places.get(kept - 1 - behind) {
+            Some(place) => *place,
             None => Place::first(),
         }
+    }
+
+    /// Without a position; the places stay.
+    pub fn forget_positions(&mut self)
+        ensures { self.new ≡ record self.old { positions = [] } }
+    {
+        self.positions.clear();
     }
 
     /// Where the entries begin.
@@ -180,4 +194,17 @@ pub fn measure<D: Disk>(
         }
     }
     Ok(size)
+}
+
+/// How many bytes the entries of a truncation take that tell that its records are gone.
+pub fn gone_size(cut: &Cut) -> u64
+    requires few { removed_from cut.now.head.count cut.now.from ≤ 1024 }
+    ensures size { result ≡ entry_sizes empty_map (keys_cut cut.now.head cut.now.from) }
+    ensures most { result ≤ 8272 * 1024 }
+{
+    let mut size = 0;
+    for i in 0..cut.removed() {
+        size += entry_size(&Key::Number(cut.from + i), None);
+    }
+    size
 }

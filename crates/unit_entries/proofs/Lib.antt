@@ -5,3 +5,4 @@ pub mod LeastLemmas
 pub mod StoreLemmas
 pub mod CollectLemmas
 pub mod OpenLemmas
+pub mod FiledLemmas

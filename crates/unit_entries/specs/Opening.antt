@@ -1,12 +1,14 @@
 -- The units that a journal leaves, as they stand in a table.
-use Rattle.std.specs.Prelude.{◌≡◌, ℕ, ◌<◌, ◌≤◌, ◌==◌, false, List, [], ◌∷◌, ◌++◌, Some, None, length, if◌then◌else◌}
+use Rattle.std.specs.Prelude.{◌≡◌, ℕ, ◌<◌, ◌≤◌, ◌==◌, Bool, true, false, List, [], ◌∷◌, ◌++◌, Some, None, IfSome, length, slice_set, if◌then◌else◌}
 use Rattle.std.specs.List.{All, AllByRecursion, list_any}
 use Rattle.file_base.specs.declared.head.Span.{Span}
 use Rattle.vms_model.specs.Ids.{Id}
 use Rattle.records_model.specs.History.{same_id}
 use Rattle.journal_model.specs.Entries.{Entry}
 use Rattle.ru_journal.specs.Told.{Told, UnitTold}
-use Rattle.unit_table.specs.Units.{Ascend, OpenUnit, first_of, first_that, is_of, new_unit, prepared_unit, with_first, with_position, without_first}
+use Rattle.unit_table.specs.Units.{Ascend, OpenUnit, first_of, first_that, is_of, new_unit, no_files, prepared_unit, with_first, with_position, without_first}
+use Rattle.volume.specs.State.{VolumeState}
+use Rattle.unit_entries.specs.Collecting.{AreChangesAt}
 use Rattle.unit_entries.specs.Reading.{AreRead, placed, positions_of}
 
 -- a unit after one entry more of its branch, a Change or a Prepared, which begins at this position
@@ -59,3 +61,26 @@ pub record HasOpened (s : Span) (es : List Entry) (position : ℕ) (t : Told) (w
   pub found : AreChangesIn (placed s.first front) ws
   pub differ : Differ ws
   pub fresh : (x : Id) → first_that (is_of x) ws ≡ None → list_any (same_id x) t.settled ≡ false → positions_of x (placed s.first front) ≡ []
+
+-- the files of a unit with those that these entries changed
+abbrev pub files_onto : List Bool → List Entry → List Bool
+files_onto files [] = files
+files_onto files (e ∷ es) = files_onto (slice_set files e.file true) es
+
+abbrev pub files_in : List Entry → List Bool
+files_in es = files_onto no_files es
+
+-- these are the files that the entries at some positions of a journal changed
+abbrev pub AreFilesOf : Span → List (List ℕ) → (ps : List ℕ) → (files : List Bool) → Type 0
+AreFilesOf s c ps files = (es : List Entry) → AreChangesAt s ps es c → files ≡ files_in es
+
+-- so of each of these units
+abbrev pub AreFiledOf : Span → List (List ℕ) → List OpenUnit → Type 0
+AreFiledOf s c ws = AllByRecursion (λ (w : OpenUnit). AreFilesOf s c w.positions w.files) ws
+
+-- those of a volume's journal
+abbrev pub AreFilesAt : VolumeState → (ps : List ℕ) → (files : List Bool) → Type 0
+AreFilesAt v ps files = IfSome v.store.current (λ c. AreFilesOf v.catalog.ru c ps files)
+
+abbrev pub AreFiledIn : VolumeState → List OpenUnit → Type 0
+AreFiledIn v ws = AllByRecursion (λ (w : OpenUnit). AreFilesAt v w.positions w.files) ws

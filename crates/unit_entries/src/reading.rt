@@ -8,7 +8,7 @@ ghost use Rattle.journal_store.specs.Leaving.{OnlyReads, Fell};
 ghost use Rattle.journal_store.specs.Rings.{IsRing};
 ghost use Rattle.ru_journal.specs.Told.{after, is_out_of_order, nothing_told, told_by};
 ghost use Rattle.unit_table.specs.Units.{begun, first_that, is_of, new_unit, unit_at, with_unit, without_first};
-ghost use Rattle.unit_entries.specs.Opening.{AreAlike, AreChangesIn, AscendWithin, BeginWithin, more_open, opened_after};
+ghost use Rattle.unit_entries.specs.Opening.{AreAlike, AreChangesIn, AreFiledOf, AscendWithin, BeginWithin, more_open, opened_after};
 ghost use Rattle.unit_entries.specs.Reading.{placed, AreInOrder};
 
 use block_disk::Disk;
@@ -129,6 +129,7 @@ pub fn read_journal<D: Disk>(
     ensures told { IfOk result (λ whole. whole ≡ true → IfSome store.old.current (λ c. (es : List Entry) → IsJournal c span.now es → state.new ≡ told_by (placed span.now.first es))) }
     ensures whole { IfOk result (λ whole. IfSome store.old.current (λ c. (es : List Entry) → IsJournal c span.now es → length es ≤ 87381 → AreInOrder nothing_told (placed span.now.first es) → whole ≡ true)) }
     ensures found { IfOk result (λ whole. whole ≡ true → IfSome store.old.current (λ c. (es : List Entry) → IsJournal c span.now es → AreChangesIn (placed span.now.first es) (begun units.new))) }
+    ensures files { IfOk result (λ whole. whole ≡ true → IfSome store.old.current (λ c. AreFiledOf span.now c (begun units.new))) }
     ensures alike { IfOk result (λ whole. whole ≡ true → AreAlike state.new.units (begun units.new)) }
     ensures within { IfOk result (λ whole. whole ≡ true → BeginWithin span.now (begun units.new)) }
     ensures ascends { IfOk result (λ whole. whole ≡ true → AscendWithin span.now.first span.now.end (begun units.new)) }

@@ -1,6 +1,6 @@
 -- The units that a restart takes up: what they are owed, where their changes begin, and which changes are theirs.
-use Rattle.std.proofs.Common.{◌≡◌, ℕ, zero, suc, ◌+◌, ◌-◌, ◌*◌, ◌^◌, ◌≤◌, Bool, true, false, List, [], ◌∷◌, Option, Some, None, if◌then◌else◌, length, slice_set, refl, sym, ◌∙◌, ap, subst, arith, inl, inr, get_or-set_same, get_or-set_other}
-use Rattle.std.specs.Prelude.{IsSome}
+use Rattle.std.proofs.Common.{◌≡◌, ℕ, zero, suc, ◌+◌, ◌-◌, ◌*◌, ◌^◌, ◌≤◌, Bool, true, false, List, [], ◌∷◌, Option, Some, None, if◌then◌else◌, length, map, slice_set, refl, sym, ◌∙◌, ap, subst, arith, inl, inr, get_or-set_same, get_or-set_other}
+use Rattle.std.specs.Prelude.{IsSome, replicate, slice_index_or}
 use Rattle.std.specs.List.{AllByRecursion}
 use Rattle.std.proofs.lemmas.Bool.{cases_eq, cases_Bool}
 use Rattle.commit_protocol.specs.Agreement.{Distinct}
@@ -8,14 +8,14 @@ use Rattle.commit_protocol.specs.Messages.{LogRecord}
 use Rattle.commit_protocol.specs.Table.{record_serials}
 use Rattle.commit_protocol.specs.World.{In}
 use Rattle.records_model.specs.History.{same_id}
-use Rattle.unit_aborts.proofs.TakeLemmas.{one_fewer}
+use Rattle.unit_aborts.proofs.TakeLemmas.{changers_without, one_fewer}
 use Rattle.unit_entries.specs.Opening.{AscendWithin}
 use Rattle.unit_entries.proofs.OpenLemmas.{all_less, first_holds, less_none}
 use Rattle.unit_laws.proofs.LiveLemmas.{clash, id_is, id_itself}
 use Rattle.unit_returns.specs.Returning.{AreLow, AreOfRecords, HaveChanges, TakeChanges}
 use Rattle.unit_table.specs.Places.{count_at, occurrences}
 use Rattle.unit_table.specs.Units as table
-use Rattle.unit_table.specs.Units.{OpenUnit, first_that, is_of, owed, owed_for, unit_at, units_of, without_first}
+use Rattle.unit_table.specs.Units.{OpenUnit, changers, first_that, is_of, no_files, one_changer, owed, owed_for, unit_at, units_of, without_first}
 use Rattle.unit_table.proofs.BegunLemmas.{counted_none, one_unit, units_other}
 use Rattle.unit_table.proofs.OrderLemmas.{at_below, more_here, more_there}
 use Rattle.vms_model.specs.Ids.{Id}
@@ -68,7 +68,7 @@ taken_owed (r ∷ rs) left (u ∷ us) of changes = go (first_that (is_of u.seria
   where
     go : (o : Option OpenUnit) → first_that (is_of u.serial) left ≡ o → owed_by us ≤ 48 * length (without_first (is_of u.serial) left) → owed_for u.prepared u.positions + owed_by us ≤ 48 * length left
     go None none rest =
-        let bare : u.positions ≡ [] = changes.0 ∙ ap (λ (x : Option OpenUnit). elim x [ Some w ↦ w.positions | None ↦ [] ]) none in
+        let bare : u.positions ≡ [] = changes.0.positions ∙ ap (λ (x : Option OpenUnit). elim x [ Some w ↦ w.positions | None ↦ [] ]) none in
         let nothing : owed_for u.prepared u.positions ≡ 0 = ap (owed_for u.prepared) bare in
         let same = ap length (less_none (is_of u.serial) left none) in
         omega (arith, nothing, same, rest)
@@ -78,6 +78,35 @@ taken_owed (r ∷ rs) left (u ∷ us) of changes = go (first_that (is_of u.seria
         let fewer = one_fewer (is_of u.serial) left w some in
         omega (arith, few, prepared, fewer, rest)
 
+-- They changed no more files than what the journal left.
+
+none_set : (n file : ℕ) → slice_index_or (replicate n false) file false ≡ false
+none_set zero file = refl
+none_set (suc n) zero = refl
+none_set (suc n) (suc file) = none_set n file
+
+abbrev one_of : (file : ℕ) → List Bool → ℕ
+one_of file fs = if slice_index_or fs file false then 1 else 0
+
+none_one : (file : ℕ) → one_of file no_files ≡ 0
+none_one file = ap (λ (b : Bool). if b then 1 else 0) (none_set 64 file)
+
+pub taken_changers : (file : ℕ) (left us : List OpenUnit) → TakeChanges left us → changers file (map Some us) ≤ changers file (map Some left)
+taken_changers file left [] changes = omega arith
+taken_changers file left (u ∷ us) changes = go (first_that (is_of u.serial) left) refl (taken_changers file (without_first (is_of u.serial) left) us changes.1)
+  where
+    go : (o : Option OpenUnit) → first_that (is_of u.serial) left ≡ o → changers file (map Some us) ≤ changers file (map Some (without_first (is_of u.serial) left)) → changers file (map Some (u ∷ us)) ≤ changers file (map Some left)
+    go None none rest =
+        let bare : u.files ≡ no_files = changes.0.files ∙ ap (λ (x : Option OpenUnit). elim x [ Some w ↦ w.files | None ↦ no_files ]) none in
+        let nothing : one_changer file (Some u) ≡ 0 = ap (one_of file) bare ∙ none_one file in
+        let same = ap (λ (ws : List OpenUnit). changers file (map Some ws)) (less_none (is_of u.serial) left none) in
+        omega (arith, nothing, same, rest)
+    go (Some w) some rest =
+        let its : u.files ≡ w.files = changes.0.files ∙ ap (λ (x : Option OpenUnit). elim x [ Some y ↦ y.files | None ↦ no_files ]) some in
+        let same : one_changer file (Some u) ≡ one_changer file (Some w) = ap (one_of file) its in
+        let fewer = changers_without (is_of u.serial) left w some file in
+        omega (arith, same, fewer, rest)
+
 pub taken_ascends : (from end : ℕ) (left us : List OpenUnit) → from ≤ end → AscendWithin from end left → TakeChanges left us → AscendWithin from end us
 taken_ascends from end left [] order all changes = tt
 taken_ascends from end left (u ∷ us) order all changes = (
@@ -86,8 +115,8 @@ taken_ascends from end left (u ∷ us) order all changes = (
 )
   where
     go : (o : Option OpenUnit) → first_that (is_of u.serial) left ≡ o → table.Ascend from end u.positions
-    go None none = subst (table.Ascend from end) (sym (changes.0 ∙ ap (λ (x : Option OpenUnit). elim x [ Some w ↦ w.positions | None ↦ [] ]) none)) order
-    go (Some w) some = subst (table.Ascend from end) (sym (changes.0 ∙ ap (λ (x : Option OpenUnit). elim x [ Some w ↦ w.positions | None ↦ [] ]) some)) (first_holds (λ (w : OpenUnit). table.Ascend from end w.positions) (is_of u.serial) left w all some)
+    go None none = subst (table.Ascend from end) (sym (changes.0.positions ∙ ap (λ (x : Option OpenUnit). elim x [ Some w ↦ w.positions | None ↦ [] ]) none)) order
+    go (Some w) some = subst (table.Ascend from end) (sym (changes.0.positions ∙ ap (λ (x : Option OpenUnit). elim x [ Some w ↦ w.positions | None ↦ [] ]) some)) (first_holds (λ (w : OpenUnit). table.Ascend from end w.positions) (is_of u.serial) left w all some)
 
 -- Whose changes they are.
 
@@ -107,7 +136,10 @@ first_other x y (w ∷ ws) other = go (same_id x w.serial) refl (first_other x y
 taken_from : (x : Id) (left us : List OpenUnit) → AllByRecursion (λ (u : OpenUnit). same_id x u.serial ≡ false) us → HaveChanges (without_first (is_of x) left) us → HaveChanges left us
 taken_from x left [] other all = tt
 taken_from x left (u ∷ us) other all = (
-  all.0 ∙ ap (λ (o : Option OpenUnit). elim o [ Some w ↦ w.positions | None ↦ [] ]) (first_other x u.serial left other.0),
+  record {
+    positions = all.0.positions ∙ ap (λ (o : Option OpenUnit). elim o [ Some w ↦ w.positions | None ↦ [] ]) (first_other x u.serial left other.0);
+    files = all.0.files ∙ ap (λ (o : Option OpenUnit). elim o [ Some w ↦ w.files | None ↦ no_files ]) (first_other x u.serial left other.0);
+  },
   taken_from x left us other.1 all.1,
 )
 

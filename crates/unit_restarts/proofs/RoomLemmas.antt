@@ -37,7 +37,7 @@ taken_far clock us (suc k) v w out has =
     let undoes = has.6 in
     let first = taken_far clock us k v mid before has.4 in
     let long = ap length has.7 ∙ length-append before (t ∷ []) in
-    let is : w.catalog.home.greatest_moment.0 ≡ t.moment.0 = ap (λ (c : Catalog). c.home.greatest_moment.0) undoes.aborts.makes.catalog in
+    let is : w.catalog.home.greatest_moment.0 ≡ t.moment.0 = ap (λ (c : Catalog). c.home.greatest_moment.0) undoes.aborts.makes.settles.catalog in
     let near = next_near clock mid.catalog.home in
     let at = undoes.moment in
     ((let many = first.0 in omega (arith, long, many)), (let far = first.1 in omega (arith, far, is, at, near)))

@@ -2,6 +2,7 @@
 ghost use Rattle.std.specs.Prelude.{◌≡◌, ◌≤◌, ◌<◌, ◌+◌, ◌-◌, [], OnOk, OnErr, length, map, max, vec_capacity};
 ghost use Rattle.careful_write.specs.Down.{Counts};
 ghost use Rattle.careful_write.specs.State.{IsReady};
+ghost use Rattle.image_room.specs.Room.{AllSettlementsFit};
 ghost use Rattle.journal_model.specs.Ring.{ring_size};
 ghost use Rattle.journal_store.specs.Rings.{IsRing};
 ghost use Rattle.lmcp_log.specs.Log.{with_few_prepared};
@@ -126,6 +127,7 @@ pub fn restart<D: Disk>(
     ensures may { OnOk result (MayAbort volume.new) }
     ensures heads { OnOk result (length volume.new.catalog.heads ≡ length volume.old.catalog.heads) }
     ensures owed { OnOk result (volume.new.catalog.ru.end - volume.new.catalog.ru.first + owed table.new.places ≤ ring_size volume.new.catalog.ru) }
+    ensures images { OnOk result (AllSettlementsFit table.new.places volume.new.catalog.heads) }
     ensures ascends { OnOk result (AscendWithin volume.new.catalog.ru.first volume.new.catalog.ru.end (begun table.new)) }
     ensures done { OnOk result (Restarts clock.0 volume.old log.old log.new table.new locks.new.locks volume.new out.new) }
     ensures err { OnErr result (RestartsNot clock.0 volume.old volume.new out.new.undone) }

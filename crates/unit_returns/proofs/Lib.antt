@@ -1,3 +1,4 @@
 pub mod Orders
 pub mod Locks
 pub mod Units
+pub mod Files

@@ -1,12 +1,11 @@
 -- What a prepared branch holds after a restart, as the entries of its changes tell it.
-use Rattle.std.specs.Prelude.{◌≡◌, ◌≤◌, ◌||◌, ℕ, not, nat_lt, Bool, true, false, List, [], ◌∷◌, Option, Some, None, length, slice_set, if◌then◌else◌}
+use Rattle.std.specs.Prelude.{◌≡◌, ◌≤◌, ◌||◌, ℕ, not, nat_lt, Bool, true, false, List, [], ◌∷◌, Option, Some, None, length, if◌then◌else◌}
 use Rattle.file_base.specs.declared.head.FileHead.{FileHead}
 use Rattle.file_base.specs.declared.head.Organization.{Organization}
 use Rattle.file_base.specs.declared.head.Organization.TheVariants.{Sequential, Relative, Indexed}
 use Rattle.journal_model.specs.Entries.{Entry, has_image}
 use Rattle.record_locks.specs.Locks.{Lock, LockTable, with_locks}
 use Rattle.unit_entries.specs.Keys.{key_in}
-use Rattle.unit_table.specs.Units.{no_files}
 use Rattle.vms_model.specs.Ids.{Id}
 use Rattle.vms_model.specs.Keys.{Key, Number, Text, End}
 use Rattle.volume.specs.Catalogs.{head_at}
@@ -33,14 +32,6 @@ keys_left (Some h) e = keys_with_end h.organization h.count (has_image e.kind e.
 abbrev pub relocked_by : List (Option FileHead) → Id → List Entry → List Lock → List Lock
 relocked_by heads by [] ls = ls
 relocked_by heads by (e ∷ es) ls = relocked_by heads by es (with_locks by e.file (keys_left (head_at heads e.file) e) ls)
-
--- the files of a unit with those that these entries changed
-abbrev pub files_onto : List Bool → List Entry → List Bool
-files_onto files [] = files
-files_onto files (e ∷ es) = files_onto (slice_set files e.file true) es
-
-abbrev pub files_in : List Entry → List Bool
-files_in es = files_onto no_files es
 
 -- A branch got keys of a file, unless that would be more locks than there may be. There are still no more than may be.
 pub record Holds (by : Id) (file : ℕ) (keys : List Key) (old new : LockTable) : Type 0 where

@@ -1,17 +1,16 @@
-// The files and keys that a prepared branch changed, from the entries of its changes.
-ghost use Rattle.std.specs.Prelude.{◌≡◌, ◌≤◌, ◌∷◌, ◌^◌, [], Some, OnOk, OnErr, IfSome, IsSome, length, option_copied};
+// The keys that a prepared branch changed, from the entries of its changes.
+ghost use Rattle.std.specs.Prelude.{◌≡◌, ◌≤◌, ◌∷◌, ◌^◌, [], Some, OnOk, OnErr, length, option_copied};
 ghost use Rattle.std.specs.List.{AllByRecursion};
 ghost use Rattle.careful_write.specs.Down.{Counts};
 ghost use Rattle.careful_write.specs.State.{IsReady};
 ghost use Rattle.journal_format.specs.Heads.{entry_of};
 ghost use Rattle.journal_store.specs.Rings.{IsRing};
 ghost use Rattle.unit_journal.specs.Groups.{LeavesOld};
-ghost use Rattle.unit_table.specs.Units.{unit_at};
 ghost use Rattle.vms_base.specs.Ids.{serial_of};
 ghost use Rattle.vms_base.specs.Keys.{key_of};
 ghost use Rattle.volume.specs.State.{SameVolume};
 ghost use Rattle.unit_returns.specs.Locking.{Holds, keys_left, keys_with_end, moves_end as moves_end_said};
-ghost use Rattle.unit_returns.specs.Returning.{HoldsUnit, StayFew};
+ghost use Rattle.unit_returns.specs.Returning.{HoldsKeys, StayFew};
 
 use crate::reading::read_entry;
 use block_disk::Disk;
@@ -20,7 +19,6 @@ use file_base::{FileHead, Organization};
 use journal_format::{EntryHead, EntryKind};
 use record_locks::Locks;
 use unit_entries::key_in;
-use unit_table::UnitTable;
 use vms_base::{Key, Record, Serial};
 use volume::Volume;
 
@@ -63,12 +61,10 @@ fn lock_entry(head: Option<&FileHead>, e: &EntryHead, locks: &mut Locks, by: &Se
     }
 }
 
-/// Notes of the unit at a place which files the entries at these positions changed, and locks the keys for its branch.
+/// Locks the keys that the entries at these positions changed for their branch.
 pub(crate) fn hold_changes<D: Disk>(
     volume: &mut Volume<D>,
     positions: &[u64],
-    table: &mut UnitTable,
-    place: u8,
     locks: &mut Locks,
     by: &Serial,
     image: &mut Record,
@@ -76,8 +72,7 @@ pub(crate) fn hold_changes<D: Disk>(
     requires ready { IsReady volume.old.store }
     requires ring { IsRing volume.old.catalog.ru volume.old.store.disk }
     requires low { AllByRecursion (λ p. p ≤ 2 ^ 62) positions.now }
-    requires there { IsSome (unit_at table.old.places place) }
-    ensures held { OnOk result (IfSome (unit_at table.old.places place) (λ u. HoldsUnit volume.old positions.now (serial_of by.now) place u table.old table.new locks.old locks.new)) }
+    ensures held { OnOk result (HoldsKeys volume.old positions.now (serial_of by.now) locks.old locks.new) }
     ensures few { StayFew locks.old locks.new }
     ensures same { OnOk result (SameVolume volume.old volume.new) }
     ensures down { OnErr result (LeavesOld volume.old volume.new.store.disk) }
@@ -93,10 +88,9 @@ pub(crate) fn hold_changes<D: Disk>(
                 Ok(entry) => entry,
             };
             if let Some((e, _)) = entry {
-                table.mark(place, e.file);
                 lock_entry(volume.head(e.file), &e, locks, by);
             }
-            hold_changes(volume, rest, table, place, locks, by, image)
+            hold_changes(volume, rest, locks, by, image)
         }
     }
 }

@@ -53,8 +53,8 @@ fn take_unit<D: Disk>(
         return Ok(place);
     };
     let positions = left.positions(other);
-    table.take_back(place, positions);
-    match hold_changes(volume, positions, table, place, locks, &r.serial, image) {
+    table.take_back(place, positions, left.files(other));
+    match hold_changes(volume, positions, locks, &r.serial, image) {
         Err(down) => return Err(down),
         Ok(()) => {}
     }

@@ -1,12 +1,12 @@
 -- The units of a table in the order in which they were begun.
-use Rattle.std.proofs.Common.{◌≡◌, ℕ, zero, suc, ◌+◌, ◌-◌, ◌<◌, ◌≤◌, List, [], ◌∷◌, ◌++◌, Bool, true, false, not, Option, Some, None, IfSome, if◌then◌else◌, length, take, drop, get_or, slice_set, refl, sym, ◌∙◌, ap, subst, arith, inl, inr, get_or-set_same, get_or-set_other}
+use Rattle.std.proofs.Common.{◌≡◌, ℕ, zero, suc, ◌+◌, ◌-◌, ◌<◌, ◌≤◌, List, [], ◌∷◌, ◌++◌, Bool, true, false, not, Option, Some, None, IfSome, if◌then◌else◌, length, map, take, drop, get_or, slice_set, refl, sym, ◌∙◌, ap, subst, arith, inl, inr, get_or-set_same, get_or-set_other}
 use Rattle.std.specs.Prelude.{◌==◌, IfNone, IsSome}
 use Rattle.std.proofs.lemmas.List.{get_or_default, take_all}
 use Rattle.std.specs.List.{AllByRecursion, filter}
 use Rattle.std.proofs.lemmas.Bool.{cases_eq}
 use Rattle.std.proofs.lemmas.Bool.Decides.{nat_tests}
 use Rattle.unit_table.specs.Places.{AreInOrder, IsFirstPlace, count_at, occurrences}
-use Rattle.unit_table.specs.Units.{IsFirst, OpenUnit, Units, begun, earlier, earliest, first_of, first_that, unit_at, units_of, with_first, with_unit, without_first, without_place}
+use Rattle.unit_table.specs.Units.{IsFirst, OpenUnit, Units, begun, changers, earlier, earliest, first_of, first_that, one_changer, unit_at, units_of, with_first, without_first}
 use Rattle.unit_table.proofs.OrderLemmas.{at_below, more_here, more_there}
 
 pub one_unit : (u w : OpenUnit) → ◌≡◌ {A = Option OpenUnit} (Some u) (Some w) → u ≡ w
@@ -236,6 +236,38 @@ earliest_order (q ∷ qs) us each = go (unit_at us q) refl (earliest_order qs (s
 
 pub earliest_seen : (places : List (Option OpenUnit)) (order : List ℕ) → AreInOrder places order → earliest places ≡ earliest_in (units_of places order)
 earliest_seen places order at = earliest_order order places at.each
+
+-- How many changed a file.
+
+changers_step : (file : ℕ) (us : List (Option OpenUnit)) (i : ℕ) (u : OpenUnit) → unit_at us i ≡ Some u → changers file us ≡ one_changer file (Some u) + changers file (slice_set us i None)
+changers_step file [] i u there = let never : ⊥ = cc in absurd never
+changers_step file (None ∷ us) zero u there = let never : ⊥ = cc in absurd never
+changers_step file (Some w ∷ us) zero u there = let same = ap (λ (x : OpenUnit). one_changer file (Some x)) (one_unit w u there) in omega (arith, same)
+changers_step file (x ∷ us) (suc i) u there = let rest = changers_step file us i u there in omega (arith, rest)
+
+changers_none : (file : ℕ) (us : List (Option OpenUnit)) → ((p : ℕ) → unit_at us p ≡ None) → changers file us ≡ 0
+changers_none file [] none = refl
+changers_none file (None ∷ us) none = let rest = changers_none file us (λ p. none (suc p)) in omega (arith, rest)
+changers_none file (Some u ∷ us) none = let never : ⊥ = (let e : ◌≡◌ {A = Option OpenUnit} (Some u) None = none 0 in cc) in absurd never
+
+changers_order : (file : ℕ) (order : List ℕ) (us : List (Option OpenUnit)) → ((p : ℕ) → occurrences p order ≡ count_at (unit_at us p)) → changers file us ≡ changers file (map Some (units_of us order))
+changers_order file [] us each = changers_none file us (λ p. counted_none (unit_at us p) (each p))
+changers_order file (q ∷ qs) us each = go (unit_at us q) refl (changers_order file qs (slice_set us q None))
+  where
+    go : (o : Option OpenUnit) → unit_at us q ≡ o → (((p : ℕ) → occurrences p qs ≡ count_at (unit_at (slice_set us q None) p)) → changers file (slice_set us q None) ≡ changers file (map Some (units_of (slice_set us q None) qs))) →
+        changers file us ≡ changers file (map Some (elim o [ Some u ↦ u ∷ units_of us qs | None ↦ units_of us qs ]))
+    go None there rest = let one = sym (more_here q qs) ∙ each q ∙ ap count_at there in absurd (omega (arith, one))
+    go (Some u) there rest =
+        let none : occurrences q qs ≡ 0 = (let one : suc (occurrences q qs) ≡ 1 = sym (more_here q qs) ∙ each q ∙ ap count_at there in omega (arith, one)) in
+        let below = at_below us q (subst IsSome (sym there) refl) in
+        let later : (p : ℕ) → occurrences p qs ≡ count_at (unit_at (slice_set us q None) p) = λ p. elim (cases_eq p q) [
+          | inl same ↦ ap (λ k. occurrences k qs) same ∙ none ∙ ap count_at (sym (get_or-set_same us q None None below)) ∙ ap (λ k. count_at (unit_at (slice_set us q None) k)) (sym same)
+          | inr apart ↦ sym (more_there p q qs (λ e. apart (sym e))) ∙ each p ∙ ap count_at (sym (get_or-set_other us q p None None apart))
+        ] in
+        changers_step file us q u there ∙ ap (λ (n : ℕ). one_changer file (Some u) + n) (rest later ∙ ap (λ (ws : List OpenUnit). changers file (map Some ws)) (units_other us q None qs none))
+
+pub changers_seen : (file : ℕ) (places : List (Option OpenUnit)) (order : List ℕ) → AreInOrder places order → changers file places ≡ changers file (map Some (units_of places order))
+changers_seen file places order at = changers_order file order places at.each
 
 -- Places are looked at in their order.
 

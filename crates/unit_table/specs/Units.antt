@@ -38,9 +38,9 @@ with_position position file u = record u { positions = u.positions ++ position �
 abbrev pub prepared_unit : OpenUnit → OpenUnit
 prepared_unit u = record u { prepared = true }
 
--- a prepared unit whose changes begin at these positions
-abbrev pub unit_back : List ℕ → OpenUnit → OpenUnit
-unit_back positions u = record u { positions = positions; prepared = true }
+-- a prepared unit whose changes begin at these positions, and are of these files
+abbrev pub unit_back : List ℕ → List Bool → OpenUnit → OpenUnit
+unit_back positions files u = record u { positions = positions; files = files; prepared = true }
 
 -- a unit that is known to have changed a file
 abbrev pub with_file : (file : ℕ) → OpenUnit → OpenUnit
@@ -116,6 +116,16 @@ pub record IsFirst (P : OpenUnit → Bool) (s : Units) (place : ℕ) : Type 0 wh
 abbrev pub first_to_change : (file : ℕ) → List OpenUnit → Option Id
 first_to_change file [] = None
 first_to_change file (u ∷ us) = if has_changed u file then Some u.serial else first_to_change file us
+
+-- one unit that changed a file, or none
+abbrev pub one_changer : (file : ℕ) → Option OpenUnit → ℕ
+one_changer file None = 0
+one_changer file (Some u) = if has_changed u file then 1 else 0
+
+-- how many of the units at some places changed a file
+abbrev pub changers : (file : ℕ) → List (Option OpenUnit) → ℕ
+changers file [] = 0
+changers file (u ∷ us) = one_changer file u + changers file us
 
 -- what a unit is owed of the journal once it has changed something: its Settled entry, and until it is prepared its Prepared entry too
 abbrev pub owed_for : (prepared : Bool) → List ℕ → ℕ

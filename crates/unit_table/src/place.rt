@@ -4,7 +4,7 @@ ghost use Rattle.std.specs.Option.{option_and_then};
 ghost use Rattle.vms_base.specs.Ids.{id_of, serial_of, tid_of};
 ghost use Rattle.records_model.specs.History.{same_id};
 ghost use Rattle.unit_table.specs.declared.place.Branch.{Branch};
-ghost use Rattle.unit_table.specs.Units.{OpenUnit, first_of, has_changed, new_unit, owed_for, prepared_unit, unit_back, with_file, with_position};
+ghost use Rattle.unit_table.specs.Units.{OpenUnit, first_of, has_changed, new_unit, one_changer, owed_for, prepared_unit, unit_back, with_file, with_position};
 
 use std::alloc::{AllocError, Global};
 use std::marker::Model;
@@ -124,6 +124,25 @@ impl Place {
         file < 64 && self.files[file as usize]
     }
 
+    /// How many units it has that changed a file: one or none.
+    pub fn changers(&self, file: u8) -> u64
+        ensures value { result ≡ one_changer file self.now }
+        ensures few { result ≤ 1 }
+    {
+        if self.is_taken() && self.has_changed(file) {
+            1
+        } else {
+            0
+        }
+    }
+
+    /// Of each file whether its unit changed it.
+    pub fn files(&self) -> &[bool; 64]
+        ensures { IfSome self.now (λ u. result.now ≡ u.files) }
+    {
+        &self.files
+    }
+
     /// Where the first change of its unit begins.
     pub fn first(&self) -> Option<u64>
         ensures { result ≡ option_and_then (λ (u : OpenUnit). first_of u.positions) self.now }
@@ -159,12 +178,13 @@ impl Place {
         self.is_prepared = true;
     }
 
-    /// Its unit is a prepared one whose changes begin at these positions.
-    pub fn take_back(&mut self, positions: &[u64])
+    /// Its unit is a prepared one whose changes begin at these positions, and are of these files.
+    pub fn take_back(&mut self, positions: &[u64], files: &[bool; 64])
         requires room { length positions.now ≤ 1024 }
-        ensures { self.new ≡ option_map (unit_back positions.now) self.old }
+        ensures { self.new ≡ option_map (unit_back positions.now files.now) self.old }
     {
         fill(&mut self.positions, positions);
+        self.files = *files;
         self.prepare();
     }
 

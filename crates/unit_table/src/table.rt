@@ -4,7 +4,7 @@ ghost use Rattle.std.specs.List.{AllByRecursion};
 ghost use Rattle.vms_base.specs.Ids.{serial_of, tid_of};
 ghost use Rattle.unit_table.specs.declared.place.Branch.{Branch as BranchSaid};
 ghost use Rattle.unit_table.specs.Places.{AreInOrder, IsFirstPlace};
-ghost use Rattle.unit_table.specs.Units.{OpenUnit, IsFirst, Units, begun, earliest, earlier, first_that, first_to_change, has_changed, is_active, is_of, no_units, owed, prepared_unit, unit_at, unit_back, units_of, with_begun, with_file, with_position, with_unit, without_place};
+ghost use Rattle.unit_table.specs.Units.{OpenUnit, IsFirst, Units, begun, changers, earliest, earlier, first_that, first_to_change, has_changed, is_active, is_of, no_units, owed, prepared_unit, unit_at, unit_back, units_of, with_begun, with_file, with_position, with_unit, without_place};
 
 use crate::place::{Branch, Place, is_same};
 use std::alloc::{AllocError, Global};
@@ -43,6 +43,18 @@ fn owed_by(places: &[Place]) -> u64
     match places {
         [] => 0,
         [place, rest @ ..] => place.owed() + owed_by(rest),
+    }
+}
+
+// How many of the units at some places changed a file.
+fn changers_of(places: &[Place], file: u8) -> u64
+    requires few { length places.now ≤ 64 }
+    ensures value { result ≡ changers file places.now }
+    ensures few { result ≤ length places.now }
+{
+    match places {
+        [] => 0,
+        [place, rest @ ..] => place.changers(file) + changers_of(rest, file),
     }
 }
 
@@ -261,13 +273,13 @@ impl UnitTable {
         self.places[place as usize].note(position, file);
     }
 
-    /// The unit at a place is a prepared one whose changes begin at these positions, the oldest first.
-    pub fn take_back(&mut self, place: u8, positions: &[u64])
+    /// The unit at a place is a prepared one whose changes begin at these positions, the oldest first, and are of these files.
+    pub fn take_back(&mut self, place: u8, positions: &[u64], files: &[bool; 64])
         requires there { IsSome (unit_at self.old.places place) }
         requires room { length positions.now ≤ 1024 }
-        ensures { IfSome (unit_at self.old.places place) (λ u. self.new ≡ with_unit place (unit_back positions.now u) self.old) }
+        ensures { IfSome (unit_at self.old.places place) (λ u. self.new ≡ with_unit place (unit_back positions.now files.now u) self.old) }
     {
-        self.places[place as usize].take_back(positions);
+        self.places[place as usize].take_back(positions, files);
     }
 
     /// The unit at a place changed a file. No file has a number from 64 on.
@@ -307,6 +319,30 @@ impl UnitTable {
         ensures few { result ≤ 96 * 64 }
     {
         owed_by(&self.places)
+    }
+
+    /// How many units changed a file.
+    pub fn changers(&self, file: u8) -> u64
+        ensures value { result ≡ changers file self.now.places }
+        ensures few { result ≤ 64 }
+    {
+        changers_of(&self.places, file)
+    }
+
+    /// Of each file whether the unit at a place changed it.
+    pub fn files(&self, place: u8) -> &[bool; 64]
+        requires { place < 64 }
+        ensures { IfSome (unit_at self.now.places place) (λ u. result.now ≡ u.files) }
+    {
+        self.places[place as usize].files()
+    }
+
+    /// Whether the unit at a place changed a file.
+    pub fn has_changed(&self, place: u8, file: u8) -> bool
+        requires { place < 64 }
+        ensures { IfSome (unit_at self.now.places place) (λ u. result ≡ has_changed u file) }
+    {
+        self.places[place as usize].has_changed(file)
     }
 
     /// Where the earliest change of a unit begins. None where no unit changed anything.

@@ -10,6 +10,9 @@ use Rattle.vms_model.specs.Ids.{Id}
 use Rattle.records_model.specs.Records.{Change}
 use Rattle.records_model.specs.Slots.{size_of}
 use Rattle.records_model.specs.History.{LiveChanges}
+use Rattle.careful_write.specs.State.{EachWhole}
+use Rattle.file_base.specs.declared.head.Span.{Span}
+use Rattle.file_images.specs.Files.{SameRing}
 use Rattle.change_set.specs.Files.{AgreesOn}
 use Rattle.record_files.specs.Any.{map_of, FormBy, LaidOutBy}
 use Rattle.record_files.specs.Local as local
@@ -22,7 +25,7 @@ use Rattle.record_files.specs.Indexed as indexed_local
 use Rattle.unit_laws.specs.Units.{Map, IsUndoGroup, earliest_before}
 use Rattle.sequence_laws.specs.Undoing.{GoesBack}
 use Rattle.run_model.specs.World.{File}
-use Rattle.directory_model.specs.Files.{head_at, file_at}
+use Rattle.directory_model.specs.Files.{StandsCarried, head_at, file_at}
 use Rattle.directory_model.specs.Restoring.{bare_layout, CanRestoreBy, IsLeft, IsPlaceLeft, AreLeft, IsGrouped, IsPlaceGrouped, AreGrouped}
 use Rattle.unit_undo.specs.Way.{AreKeptBeside, IsPlaceKept, KeepsBeside}
 
@@ -42,14 +45,18 @@ grouped_file a h file left = record {
   can = left.can;
 }
 
-grouped_place : (a : List (List ℕ)) (o : Option FileHead) (p : Option File) → IsPlaceLeft a o p → IsPlaceGrouped a o p a o
-grouped_place a None None left = tt
-grouped_place a None (Some file) left = absurd left
-grouped_place a (Some h) None left = absurd left
-grouped_place a (Some h) (Some file) left = grouped_file a h file left
+grouped_place : (a : List (List ℕ)) (f : ℕ) (o : Option FileHead) (p : Option File) → IsPlaceLeft a f o p → IsPlaceGrouped a o p a o
+grouped_place a f None None left = tt
+grouped_place a f None (Some file) left = absurd left
+grouped_place a f (Some h) None left = absurd left
+grouped_place a f (Some h) (Some file) left = grouped_file a h file left.0
 
-pub grouped_itself : (a : List (List ℕ)) (heads : List (Option FileHead)) (directory : List (Option File)) → AreLeft a heads directory → AreGrouped a heads directory a heads
-grouped_itself a heads directory left = record { long = refl; each = λ f. grouped_place a (head_at heads f) (file_at directory f) (left.each f) }
+-- what a file carries stands where nothing is written
+stands_itself : (a : List (List ℕ)) (h : FileHead) → EachWhole a → StandsCarried h a a
+stands_itself a h whole = record { after = λ m. record { size = refl; whole = whole; blocks = λ k from to. refl }; before = λ m. record { size = refl; whole = whole; blocks = λ k from to. refl }; save = λ m n in_it. refl }
+
+pub grouped_itself : (a : List (List ℕ)) (heads : List (Option FileHead)) (directory : List (Option File)) → EachWhole a → AreLeft a heads directory → AreGrouped a heads directory a heads
+grouped_itself a heads directory whole left = record { long = refl; each = λ f. grouped_place a f (head_at heads f) (file_at directory f) (left.each f); carried = λ f h there. stands_itself a h whole }
 
 -- a file in whose blocks nothing changes
 
@@ -89,8 +96,8 @@ set_place a c (Some h) (Some g) first new file there named is =
     subst (λ (x : FileHead). IsGrouped a x g.history.live c new) (sym same) (subst (λ (x : File). IsGrouped a first x.history.live c new) (sym one) is)
 
 pub grouped_more : (a b c : List (List ℕ)) (heads mid : List (Option FileHead)) (directory : List (Option File)) (f : ℕ) (first h new : FileHead) (file : File) → AreGrouped a heads directory b mid → f < length mid → head_at heads f ≡ Some first → file_at directory f ≡ Some file
-    → IsGrouped a first file.history.live c new → ((g : ℕ) (other : FileHead) → g ≢ f → head_at mid g ≡ Some other → AgreesOn other b c) → AreGrouped a heads directory c (slice_set mid f (Some new))
-grouped_more a b c heads mid directory f first h new file are below there named is others = record {
+    → IsGrouped a first file.history.live c new → ((g : ℕ) (other : FileHead) → g ≢ f → head_at mid g ≡ Some other → AgreesOn other b c) → ((g : ℕ) (k : FileHead) → head_at heads g ≡ Some k → StandsCarried k b c) → AreGrouped a heads directory c (slice_set mid f (Some new))
+grouped_more a b c heads mid directory f first h new file are below there named is others stands = record {
   long = length-set mid f (Some new) ∙ are.long;
   each = λ g. elim (cases_eq f g) [
     | inl same ↦ subst (λ (k : ℕ). IsPlaceGrouped a (head_at heads k) (file_at directory k) c (head_at (slice_set mid f (Some new)) k)) same
@@ -99,7 +106,14 @@ grouped_more a b c heads mid directory f first h new file are below there named 
         subst (λ (m : Option FileHead). IsPlaceGrouped a (head_at heads g) (file_at directory g) c m) (sym (get_or-set_other mid f g (Some new) None apart))
         (local_place a b c (head_at heads g) (file_at directory g) (head_at mid g) (λ x at. others g x apart at) (are.each g))
   ];
+  carried = λ g k there. carried_on (are.carried g k there) (stands g k there);
 }
+  where
+    rings : {s : Span} {x y z : List (List ℕ)} → SameRing s x y → SameRing s y z → SameRing s x z
+    rings one two = record { size = two.size ∙ one.size; whole = two.whole; blocks = λ k from to. two.blocks k from to ∙ one.blocks k from to }
+
+    carried_on : {k : FileHead} → StandsCarried k a b → StandsCarried k b c → StandsCarried k a c
+    carried_on one two = record { after = λ m. rings (one.after m) (two.after m); before = λ m. rings (one.before m) (two.before m); save = λ m n in_it. one.save m n in_it ∙ two.save m n in_it }
 
 -- What a branch did not change.
 

@@ -13,3 +13,4 @@ pub mod PlaceLemmas
 pub mod UnitLemmas
 pub mod LoopLemmas
 pub mod NumberLemmas
+pub mod LastLemmas

@@ -16,7 +16,7 @@ use Rattle.volume.specs.Catalogs.{IsSound, TellsCatalog}
 use Rattle.volume.specs.State.{Holds, SameVolume, VolumeState}
 use Rattle.volume.proofs.Reading.{store_of_same}
 use Rattle.volume_files.specs.Staging.{is_of_file}
-use Rattle.unit_undo.specs.Undoing.{ChangesFile, GoesOn, IsFew, MayUndo}
+use Rattle.unit_undo.specs.Undoing.{ChangesFile, GoesOn, IsFew, MayUndo, journals_at}
 use Rattle.unit_undo.specs.FileWays.{ChangesOnly, IsBackUpTo, Undo}
 use Rattle.unit_undo.specs.UnitWays.{HasUndone, IsUndoneIn, undo_of}
 use Rattle.unit_undo.specs.Way.{AreKeptBeside, IsOnTheWay, IsUnderWay, KeepsJournal}
@@ -29,6 +29,7 @@ module _ (v w : VolumeState) (same : SameVolume v w) where
     pool = subst (λ (y : VolumeState). x.store.pool ≡ y.store.pool) same g.pool;
     catalog = subst (λ (y : VolumeState). x.catalog ≡ record y.catalog { heads = x.catalog.heads }) same g.catalog;
     long = subst (λ (y : VolumeState). length x.catalog.heads ≡ length y.catalog.heads) same g.long;
+    journals = subst (λ (y : VolumeState). (file : ℕ) → journals_at x.catalog.heads file ≡ journals_at y.catalog.heads file) same g.journals;
     sound = subst (λ (y : VolumeState). (node : List ℕ) → IsSound node y.store.disk.size y.catalog → IsSound node y.store.disk.size x.catalog) same g.sound;
     holds = subst (λ (y : VolumeState). Holds y → Holds x) same g.holds;
     quiet = subst (λ (y : VolumeState). Quiet y.store.disk x.store.disk) same g.quiet;
@@ -51,6 +52,7 @@ module _ (v w : VolumeState) (same : SameVolume v w) where
     pool = subst (λ (y : VolumeState). y.store.pool ≡ u.store.pool) (sym same) g.pool;
     catalog = subst (λ (y : VolumeState). y.catalog ≡ record u.catalog { heads = y.catalog.heads }) (sym same) g.catalog;
     long = subst (λ (y : VolumeState). length y.catalog.heads ≡ length u.catalog.heads) (sym same) g.long;
+    journals = subst (λ (y : VolumeState). (file : ℕ) → journals_at y.catalog.heads file ≡ journals_at u.catalog.heads file) (sym same) g.journals;
     sound = subst (λ (y : VolumeState). (node : List ℕ) → IsSound node u.store.disk.size u.catalog → IsSound node u.store.disk.size y.catalog) (sym same) g.sound;
     holds = subst (λ (y : VolumeState). Holds u → Holds y) (sym same) g.holds;
     quiet = subst (λ (y : VolumeState). Quiet u.store.disk y.store.disk) (sym same) g.quiet;

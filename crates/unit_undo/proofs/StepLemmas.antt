@@ -1,5 +1,6 @@
 -- Steps of an undo over a volume.
-use Rattle.std.proofs.Common.{◌≡◌, ◌≢◌, ⊎_elim, ℕ, zero, suc, ◌+◌, ◌-◌, ◌<◌, ◌≤◌, Bool, false, List, [], ◌∷◌, length, Option, Some, None, IfSome, refl, sym, ◌∙◌, ap, subst, slice_set, arith, length-set}
+use Rattle.std.proofs.Common.{◌≡◌, ◌≢◌, ⊎_elim, ℕ, zero, suc, ◌+◌, ◌-◌, ◌<◌, ◌≤◌, Bool, false, List, [], ◌∷◌, length, Option, Some, None, IfSome, refl, sym, ◌∙◌, ap, subst, slice_set, option_map, arith, inl, inr, length-set, get_or-set_other}
+use Rattle.std.proofs.lemmas.Bool.{cases_eq}
 use Rattle.std.proofs.lemmas.List.{get_or-set_same}
 use Rattle.block_disk.specs.Disk.{DiskState}
 use Rattle.block_disk.specs.Counts.{counted}
@@ -12,12 +13,12 @@ use Rattle.volume.specs.declared.catalog.Catalog.{Catalog}
 use Rattle.volume.specs.Catalogs.{IsSound, TellsCatalog}
 use Rattle.volume.specs.State.{VolumeState}
 use Rattle.run_model.specs.World.{File}
-use Rattle.directory_model.specs.Files.{head_at, file_at}
-use Rattle.directory_model.specs.Restoring.{AreGrouped, IsGrouped}
+use Rattle.directory_model.specs.Files.{StandsCarried, head_at, file_at}
+use Rattle.directory_model.specs.Restoring.{AreGrouped, IsGrouped, IsPlaceGrouped}
 use Rattle.volume_files.specs.Staging.{StagesFile, is_of_file}
 use Rattle.volume_files.proofs.Places.{head_below}
-use Rattle.unit_undo.proofs.ApartLemmas.{others_keep, journal_off}
-use Rattle.unit_undo.specs.Undoing.{GoesOn, ChangesFile, ChangesHeads, MayGoOn, MayUndo, IsFew}
+use Rattle.unit_undo.proofs.ApartLemmas.{carried_keep, others_keep, journal_off}
+use Rattle.unit_undo.specs.Undoing.{GoesOn, ChangesFile, ChangesHeads, Journals, MayGoOn, MayUndo, IsFew, journals_at, journals_of}
 use Rattle.unit_undo.specs.FileWays.{Undo, IsGoing, FailsGoing, ChangesOnly}
 use Rattle.unit_undo.specs.Way.{AreKeptBeside, IsOnTheWay, KeepsBeside, KeepsJournal}
 use Rattle.unit_undo.proofs.BackLemmas.{same_through}
@@ -40,7 +41,7 @@ counts_through a b x y z first second = record {
 -- One step after another.
 
 pub goes_same : (v : VolumeState) → IsReady v.store → GoesOn v v
-goes_same v ready = record { ready = ready; pool = refl; catalog = refl; long = refl; sound = λ node s. s; holds = λ h. h; quiet = quiet_same v.store.disk }
+goes_same v ready = record { ready = ready; pool = refl; catalog = refl; long = refl; journals = λ file. refl; sound = λ node s. s; holds = λ h. h; quiet = quiet_same v.store.disk }
 
 pub goes_through : (u v w : VolumeState) → GoesOn u v → GoesOn v w → GoesOn u w
 goes_through u v w first second = record {
@@ -48,6 +49,7 @@ goes_through u v w first second = record {
   pool = second.pool ∙ first.pool;
   catalog = second.catalog ∙ (λ i. record (first.catalog i) { heads = w.catalog.heads });
   long = second.long ∙ first.long;
+  journals = λ file. second.journals file ∙ first.journals file;
   sound = λ node s. subst (λ (n : ℕ). IsSound node n w.catalog) first.quiet.size (second.sound node (subst (λ (n : ℕ). IsSound node n v.catalog) (sym first.quiet.size) (first.sound node s)));
   holds = λ h. second.holds (first.holds h);
   quiet = counts_through false false u.store.disk v.store.disk w.store.disk first.quiet second.quiet;
@@ -61,6 +63,16 @@ heads_kept u v w first same = same ∙ first ∙ (λ i. record u.catalog { heads
 pub heads_through : (u v w : VolumeState) → ChangesHeads u v → ChangesHeads v w → ChangesHeads u w
 heads_through u v w first second = second ∙ (λ i. record (first i) { heads = w.catalog.heads })
 
+-- a file keeps its journals where its buckets alone change
+journals_same : (h new : FileHead) → SameFile h new → journals_of new ≡ journals_of h
+journals_same h new same = ap journals_of same.is
+
+journals_set : (heads : List (Option FileHead)) (f : ℕ) (h new : FileHead) → head_at heads f ≡ Some h → f < length heads → journals_of new ≡ journals_of h → (g : ℕ) → journals_at (slice_set heads f (Some new)) g ≡ journals_at heads g
+journals_set heads f h new there below same g = elim (cases_eq g f) [
+  | inl is ↦ (λ i. journals_at (slice_set heads f (Some new)) (is i)) ∙ ap (option_map journals_of) (get_or-set_same heads f (Some new) None below) ∙ ap (λ (j : Journals). Some j) same ∙ sym (ap (option_map journals_of) there) ∙ (λ i. journals_at heads (sym is i))
+  | inr apart ↦ ap (option_map journals_of) (get_or-set_other heads f g (Some new) None apart)
+]
+
 -- what is staged of a file
 pub goes_staged : (f limit : ℕ) (h new : FileHead) (v w : VolumeState) → IsReady v.store → length v.catalog.heads ≡ 64 → head_at v.catalog.heads f ≡ Some h → StagesFile f h limit v w new → GoesOn v w
 goes_staged f limit h new v w ready long there s = record {
@@ -68,6 +80,8 @@ goes_staged f limit h new v w ready long there s = record {
   pool = ap (λ (x : StoreState). x.pool) s.rest;
   catalog = s.catalog ∙ (λ i. record v.catalog { heads = sym (ap (λ (k : Catalog). k.heads) s.catalog) i });
   long = ap (λ (k : Catalog). length k.heads) s.catalog ∙ length-set v.catalog.heads f (Some new);
+  journals = λ file. ap (λ (k : Catalog). journals_at k.heads file) s.catalog
+      ∙ journals_set v.catalog.heads f h new there (let below = head_below v.catalog.heads f h long there in omega (arith, below, long)) (journals_same h new s.same) file;
   sound = s.sound;
   holds = s.holds;
   quiet = subst (λ (d : DiskState). Quiet v.store.disk d) (sym (ap (λ (x : StoreState). x.disk) s.rest)) (quiet_same v.store.disk);
@@ -216,13 +230,26 @@ module _ (u : Undo) (f : ℕ) (first h new : FileHead) (file : File) (node : Lis
   pub others_still : (k : ℕ) (other : FileHead) → k ≢ f → head_at v.catalog.heads k ≡ Some other → AgreesOn other g.now c
   others_still k other differs at = others_keep node v.store.disk.size v.catalog long sound f h g.now c there agrees k other differs at
 
+  -- what each file carries stands: it is the same for a head of the file as it is now
+  pub carried_still : (k : ℕ) (old : FileHead) → head_at u.heads k ≡ Some old → StandsCarried old g.now c
+  carried_still k old at = place (head_at v.catalog.heads k) refl (file_at u.directory k) (subst (λ o. IsPlaceGrouped u.content o (file_at u.directory k) g.now (head_at v.catalog.heads k)) at (g.grouped.each k))
+    where
+      place : (m : Option FileHead) → head_at v.catalog.heads k ≡ m → (p : Option File) → IsPlaceGrouped u.content (Some old) p g.now m → StandsCarried old g.now c
+      place None here None is = absurd is
+      place None here (Some x) is = absurd is
+      place (Some mid) here None is = absurd is
+      place (Some mid) here (Some x) is =
+          let stands = carried_keep node v.store.disk.size v.catalog long sound f h g.now c there agrees g.journal.whole (if_told w.store.current c EachWhole now changes.whole) k mid here in
+          let same = subst (λ (y : FileHead). StandsCarried y g.now c) is.same.is stands in
+          record { after = same.after; before = same.before; save = same.save }
+
   unfoldable pub still_going : head_at u.heads f ≡ Some first → file_at u.directory f ≡ Some file → IsGrouped u.content first file.history.live c new → KeepsBeside u.serial u.content first file c new → IsGoing u w
   still_going in_heads in_directory grouped beside = record {
     now = c;
     told = now;
     tells = if_told w.store.current c (TellsCatalog w.catalog) now (changes.goes.holds (told_if v.store.current g.now (TellsCatalog v.catalog) g.told g.tells));
     grouped = subst (λ (hs : List (Option FileHead)). AreGrouped u.content u.heads u.directory c hs) (sym changes.heads)
-        (grouped_more u.content g.now c u.heads v.catalog.heads u.directory f first h new file g.grouped (let below = head_below v.catalog.heads f h long there in omega (arith, below, long)) in_heads in_directory grouped others_still);
+        (grouped_more u.content g.now c u.heads v.catalog.heads u.directory f first h new file g.grouped (let below = head_below v.catalog.heads f h long there in omega (arith, below, long)) in_heads in_directory grouped others_still carried_still);
     beside = subst (λ (hs : List (Option FileHead)). AreKeptBeside u.serial u.content u.heads u.directory c hs) (sym changes.heads)
         (beside_more u.serial u.content g.now c u.heads v.catalog.heads u.directory f first h new file g.grouped g.beside (let below = head_below v.catalog.heads f h long there in omega (arith, below, long)) in_heads in_directory beside others_still);
     size = g.size ∙ sym changes.goes.quiet.size;

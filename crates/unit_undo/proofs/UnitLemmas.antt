@@ -45,13 +45,13 @@ local_place serial a b c (Some first) None m agrees is = absurd is
 local_place serial a b c (Some first) (Some file) None agrees is = absurd is
 local_place serial a b c (Some first) (Some file) (Some h) agrees is = restored_local a b c first h (changes_by serial file.history.live) (agrees h refl) is
 
-file_of : (a : List (List ℕ)) (h : FileHead) (p : Option File) → IsPlaceLeft a (Some h) p → (file : File) × (p ≡ Some file) × IsLeft a h file
-file_of a h None left = absurd left
-file_of a h (Some file) left = (file, refl, left)
+file_of : (a : List (List ℕ)) (f : ℕ) (h : FileHead) (p : Option File) → IsPlaceLeft a f (Some h) p → (file : File) × (p ≡ Some file) × IsLeft a h file
+file_of a f h None left = absurd left
+file_of a f h (Some file) left = (file, refl, left.0)
 
-none_of : (a : List (List ℕ)) (p : Option File) → IsPlaceLeft a None p → p ≡ None
-none_of a None left = refl
-none_of a (Some file) left = absurd left
+none_of : (a : List (List ℕ)) (f : ℕ) (p : Option File) → IsPlaceLeft a f None p → p ≡ None
+none_of a f None left = refl
+none_of a f (Some file) left = absurd left
 
 none_at : (heads : List (Option FileHead)) (f : ℕ) → length heads ≡ 64 → 64 ≤ f → head_at heads f ≡ None
 none_at heads f long past = get_or_past heads f None (omega (arith, long, past))
@@ -101,7 +101,7 @@ module _ (serial : Id) (ps : List ℕ) (v : VolumeState) (a : List (List ℕ)) (
       tells = if_told v.store.current (TellsCatalog v.catalog) can.told can.holds
 
       grouped : AreGrouped a v.catalog.heads directory a v.catalog.heads
-      grouped = grouped_itself a v.catalog.heads directory can.left
+      grouped = grouped_itself a v.catalog.heads directory (if_told v.store.current EachWhole can.told whole) can.left
 
   module _ (f : ℕ) (w : VolumeState) (d : IsUndoneIn u f w) where
     -- a number without a file
@@ -117,14 +117,14 @@ module _ (serial : Id) (ps : List ℕ) (v : VolumeState) (a : List (List ℕ)) (
         no_head = sym (d.rest f (omega arith)) ∙ none
 
         here : IsPlaceRestored serial a (head_at v.catalog.heads f) (file_at directory f) d.way.now (head_at w.catalog.heads f)
-        here = nothing_restored serial a d.way.now (head_at v.catalog.heads f) (file_at directory f) (head_at w.catalog.heads f) no_head (none_of a (file_at directory f) (subst (λ o. IsPlaceLeft a o (file_at directory f)) no_head (can.left.each f))) none
+        here = nothing_restored serial a d.way.now (head_at v.catalog.heads f) (file_at directory f) (head_at w.catalog.heads f) no_head (none_of a f (file_at directory f) (subst (λ o. IsPlaceLeft a f o (file_at directory f)) no_head (can.left.each f))) none
 
     module _ (first : FileHead) (there : head_at w.catalog.heads f ≡ Some first) where
       in_heads : head_at v.catalog.heads f ≡ Some first
       in_heads = sym (d.rest f (omega arith)) ∙ there
 
       pub the_file : (file : File) × (file_at directory f ≡ Some file) × IsLeft a first file
-      the_file = file_of a first (file_at directory f) (subst (λ o. IsPlaceLeft a o (file_at directory f)) in_heads (can.left.each f))
+      the_file = file_of a f first (file_at directory f) (subst (λ o. IsPlaceLeft a f o (file_at directory f)) in_heads (can.left.each f))
 
       pub unit_still : w.catalog.ru ≡ v.catalog.ru → IsStill u f first the_file.0 (keys_told v.catalog.heads ps es) w
       unit_still same_ru = record {
@@ -182,5 +182,6 @@ module _ (serial : Id) (ps : List ℕ) (v : VolumeState) (a : List (List ℕ)) (
         | inl lt ↦ d.done f lt
         | inr past ↦ nothing_restored serial a d.way.now (head_at v.catalog.heads f) (file_at directory f) (head_at w.catalog.heads f) (none_at v.catalog.heads f can.left.heads_long past) (no_file_at directory f can.left.directory_long past) (none_at w.catalog.heads f long past)
       ];
+      carried = d.way.grouped.carried;
     };
   }

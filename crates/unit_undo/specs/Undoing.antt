@@ -1,8 +1,9 @@
 -- What becomes of a volume while a unit is undone in it.
-use Rattle.std.specs.Prelude.{◌≡◌, ◌⊎◌, ℕ, ◌*◌, ◌≤◌, Bool, List, Option, Some, None, IfSome, length, slice_set}
+use Rattle.std.specs.Prelude.{◌≡◌, ◌⊎◌, ℕ, ◌*◌, ◌≤◌, Bool, List, Option, Some, None, IfSome, length, option_map, slice_set}
 use Rattle.careful_write.specs.State.{EachWhole, IsReady, content}
 use Rattle.careful_write.specs.Steps.{Quiet}
 use Rattle.file_base.specs.declared.head.FileHead.{FileHead}
+use Rattle.file_base.specs.declared.head.Marks.{Marks}
 use Rattle.change_set.specs.Files.{AgreesOut, SameFile, free_frames}
 use Rattle.journal_store.specs.Rings.{IsRing}
 use Rattle.record_files.specs.Any as any
@@ -19,12 +20,26 @@ use Rattle.volume_files.specs.Staging.{SetsBack, CutsFile, is_of_file}
 use Rattle.unit_entries.specs.Collecting.{IsChangeAt}
 use Rattle.unit_entries.specs.Told.{before_in}
 
--- From one state of a volume to a later one heads alone changed, and what it keeps is still what the content tells, with the staged blocks. No fault was counted.
+-- a file's marks and where its journals of images lie, with their positions
+pub record Journals : Type 0 where
+  pub marks : Marks
+  pub ai : Span
+  pub bi : Span
+
+abbrev pub journals_of : FileHead → Journals
+journals_of h = record { marks = h.marks; ai = h.ai; bi = h.bi }
+
+-- so of the file of a number, where there is one
+abbrev pub journals_at : List (Option FileHead) → (file : ℕ) → Option Journals
+journals_at heads file = option_map journals_of (head_at heads file)
+
+-- From one state of a volume to a later one heads alone changed, but no file's journals of images, and what it keeps is still what the content tells, with the staged blocks. No fault was counted.
 pub record GoesOn (old mid : VolumeState) : Type 0 where
   pub ready : IsReady mid.store
   pub pool : mid.store.pool ≡ old.store.pool
   pub catalog : mid.catalog ≡ record old.catalog { heads = mid.catalog.heads }
   pub long : length mid.catalog.heads ≡ length old.catalog.heads
+  pub journals : (file : ℕ) → journals_at mid.catalog.heads file ≡ journals_at old.catalog.heads file
   pub sound : (node : List ℕ) → IsSound node old.store.disk.size old.catalog → IsSound node old.store.disk.size mid.catalog
   pub holds : Holds old → Holds mid
   pub quiet : Quiet old.store.disk mid.store.disk

@@ -446,13 +446,16 @@ fn read_keys<D: Disk>(
 }
 
 /// Sets back all that a unit changed, whose entries begin at these positions of the journal, of which the oldest is the first. It takes as many groups as it
-/// needs; the last of them is staged, with room for what settles the unit, and is left to the caller to apply.
+/// needs; the last of them is staged, with so many keys at the most, and is left to the caller to apply. Each takes up to 17 blocks; none is staged where
+/// all are to be applied.
 pub fn undo_unit<D: Disk>(
     volume: &mut Volume<D>,
     positions: &[u64],
     keys: &mut ChangedKeys,
     image: &mut Record,
+    most: u32,
 ) -> Result<(), Down>
+    requires most_left { most ≤ 26 }
     requires idle { IsIdle volume.old.store }
     requires sound { (node : List ℕ) × IsSound node volume.old.store.disk.size volume.old.catalog }
     requires least { 4096 ≤ volume.old.store.disk.size }
@@ -462,7 +465,7 @@ pub fn undo_unit<D: Disk>(
     requires few { length positions.now ≤ 1024 }
     requires low { All (λ p. p ≤ 2 ^ 62) positions.now }
     ensures goes { OnOk result (GoesOn volume.old volume.new) }
-    ensures room { OnOk result (length volume.new.store.touched ≤ 442) }
+    ensures room { OnOk result (length volume.new.store.touched ≤ 17 * most) }
     ensures undoes { OnOk result (Undoes positions.now volume.old volume.new) }
     ensures down { OnErr result (FailsOnTheWay positions.now volume.old volume.new) }
     ensures heads { ChangesHeads volume.old volume.new }
@@ -481,5 +484,8 @@ pub fn undo_unit<D: Disk>(
             Ok(()) => {}
         }
     }
-    Ok(())
+    match make_room(volume, &mut steps, most) {
+        Err(down) => Err(down),
+        Ok(()) => Ok(()),
+    }
 }

@@ -1,13 +1,21 @@
 -- What is entered in the journal, and what settles a branch, leaves the log as it is.
-use Rattle.std.proofs.Common.{◌≡◌, ℕ, ◌+◌, ◌<◌, ◌≤◌, List, [], length, Option, Some, None, IfSome, option_map, slice_set, refl, sym, ap, subst, ◌∙◌, arith, get_or-set_other, inl}
+use Rattle.std.proofs.Common.{◌≡◌, ℕ, ◌+◌, ◌<◌, ◌≤◌, Bool, true, false, List, [], length, Option, Some, None, IfSome, option_map, slice_set, refl, sym, ap, subst, ◌∙◌, arith, get_or-set_other, inl}
+use Rattle.block_disk.specs.Disk.{DiskState}
+use Rattle.file_base.specs.declared.head.FileHead.{FileHead}
 use Rattle.file_base.specs.declared.head.Span.{Span}
+use Rattle.file_settlements.specs.Settling.{SettlesFiles, content_settled}
+use Rattle.image_appends.specs.Settling.{AllHaveRoom}
+use Rattle.kept_files.specs.Keeping.{StandBehind}
+use Rattle.kept_files.proofs.Frames.{stays_settled}
+use Rattle.unit_aborts.specs.Aborting.{ImagesHaveRoom, has_changes}
+use Rattle.unit_aborts.proofs.ImageLemmas.{all_on, stand_on}
 use Rattle.journal_model.specs.Entries.{Entry, spelling}
 use Rattle.journal_model.specs.Ring.{put_stream}
 use Rattle.lmcp_log.specs.Keeping.{Keeps, SameSlots}
 use Rattle.lmcp_log.specs.Log.{block_of_slot}
 use Rattle.log_laws.specs.Slots.{Slots}
 use Rattle.unit_journal.proofs.Entered.{OthersStay}
-use Rattle.unit_journal.specs.Settling.{MakesSettlement, content_with, from_earliest, settled_home, span_with, with_front}
+use Rattle.unit_journal.specs.Settling.{MakesSettlement, content_with, entry_if, from_earliest, settled_home, span_with, with_front}
 use Rattle.unit_journal.specs.Spans.{longer}
 use Rattle.volume.specs.State.{VolumeState}
 use Rattle.run_model.specs.World.{File}
@@ -62,6 +70,46 @@ log_settled beside stay tid serial ending moment e left ss v w some makes h = re
   keeps = subst (λ (o : Option (List (List ℕ))). IfSome o (Keeps ss)) (sym makes.current)
       (keeps_settled beside stay (settled_home tid serial ending moment v.catalog.home) (from_earliest left (span_with e v.catalog.ru)) e v.catalog.ru ss v.store.current h.before some h.keeps);
 }
+
+-- an entry in the journals of files that lie behind the log
+files_beside : OthersStay → (e : Option Entry) (files : List Bool) (heads : List (Option FileHead)) (disk : DiskState) (n : ℕ) (c : List (List ℕ)) → length files ≡ 64 →
+    IfSome e (λ x. AllHaveRoom files 48 heads disk × StandBehind files (584 + n) heads) → SameSlots n c (content_settled e files heads c)
+files_beside stay None files heads disk n c long lie = λ i below. refl
+files_beside stay (Some e) files heads disk n c long lie = λ i below.
+    stays_settled stay (66 + i) (Some e) files heads c (omega (arith, long)) (λ file takes. (
+      (λ h at kept. record { some = ((lie.0 file takes).0 h at kept).ring.some; beside = inl (let b = (lie.1 file h takes at).0 kept in omega (arith, b, below)) }),
+      (λ h at kept. record { some = ((lie.0 file takes).1 h at kept).ring.some; beside = inl (let b = (lie.1 file h takes at).1 kept in omega (arith, b, below)) }),
+    ))
+
+keeps_files : Beside → (ss : Slots) (f : List (List ℕ) → List (List ℕ)) (o : Option (List (List ℕ))) → ((c : List (List ℕ)) → SameSlots (length ss) c (f c)) → IfSome o (Keeps ss) → IfSome (option_map f o) (Keeps ss)
+keeps_files beside ss f None same keeps = tt
+keeps_files beside ss f (Some c) same keeps = beside ss c (f c) keeps (same c)
+
+-- so it is once a branch is settled with its entry in them
+pub log_settled_in : Beside → OthersStay → (files : List Bool) (tid : Tid) (serial : Serial) (ending : Ending) (moment : ℕ) (e : Option Entry) (left : List (Option OpenUnit)) (ss : Slots) (v w : VolumeState) → length files ≡ 64 → 0 < v.catalog.ru.blocks →
+    IfSome e (λ x. AllHaveRoom files 48 v.catalog.heads v.store.disk × StandBehind files (584 + length ss) v.catalog.heads) → SettlesFiles files tid serial ending moment e left v w → HasLog ss v → HasLog ss w
+log_settled_in beside stay files tid serial ending moment e left ss v w long some lie s h =
+    let mid = s.mid in
+    let same : mid.catalog.ru ≡ v.catalog.ru = ap (λ (k : Catalog). k.ru) s.entered.catalog in
+    log_settled beside stay tid serial ending moment e left ss mid w (subst (λ (r : Span). 0 < r.blocks) (sym same) some) s.settles (record {
+      before = subst (λ (r : Span). 584 + length ss ≤ r.start) (sym same) h.before;
+      keeps = subst (λ (o : Option (List (List ℕ))). IfSome o (Keeps ss)) (sym s.entered.current)
+          (keeps_files beside ss (content_settled e files v.catalog.heads) v.store.current (λ c. files_beside stay e files v.catalog.heads v.store.disk (length ss) c long lie) h.keeps);
+    })
+
+-- what holds where a branch changed something holds where it has an entry
+pub if_entry : (P : Type 0) (has : Bool) (e : Entry) → (has ≡ true → P) → IfSome (entry_if has e) (λ x. P)
+if_entry P true e is = is refl
+if_entry P false e is = tt
+
+-- the journals of the files of a unit at a place still lie so once it is undone and its record is set
+pub lie_after : (o : Option OpenUnit) (v mid logged : VolumeState) (n m : ℕ) → GoesOn v mid → logged.catalog ≡ mid.catalog → logged.store.disk ≡ mid.store.disk → m ≡ n → IfSome o (λ u. ImagesHaveRoom u.positions u.files v) → IfSome o (λ u. StandBehind u.files (584 + n) v.catalog.heads) →
+    IfSome o (λ u. has_changes u.positions ≡ true → AllHaveRoom u.files 48 logged.catalog.heads logged.store.disk × StandBehind u.files (584 + m) logged.catalog.heads)
+lie_after None v mid logged n m goes catalog disk long rooms stand = tt
+lie_after (Some u) v mid logged n m goes catalog disk long rooms stand = λ changed. (
+  subst (λ (k : Catalog). AllHaveRoom u.files 48 k.heads logged.store.disk) (sym catalog) (subst (λ (d : DiskState). AllHaveRoom u.files 48 mid.catalog.heads d) (sym disk) (all_on u.files v mid goes (rooms changed))),
+  subst (λ (k : Catalog). StandBehind u.files (584 + m) k.heads) (sym catalog) (subst (λ (i : ℕ). StandBehind u.files (584 + i) mid.catalog.heads) (sym long) (stand_on u.files (584 + n) v mid goes stand)),
+)
 
 -- and once a branch is prepared
 pub log_voted : Beside → OthersStay → (e : Option Entry) (ss : Slots) (v w : VolumeState) → 0 < v.catalog.ru.blocks → w.store.current ≡ option_map (content_with e v.catalog.ru) v.store.current → w.catalog ≡ record v.catalog { ru = span_with e v.catalog.ru } → HasLog ss v → HasLog ss w

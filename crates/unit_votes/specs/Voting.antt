@@ -6,7 +6,8 @@ use Rattle.log_laws.specs.Slots.{Slots}
 use Rattle.unit_aborts.specs.Aborting.{Abortion, abort_entry}
 use Rattle.unit_journal.specs.Entries.{prepared_entry}
 use Rattle.unit_journal.specs.Groups.{Breaks}
-use Rattle.unit_journal.specs.Settling.{MakesSettlement, content_with, entry_if, span_with}
+use Rattle.unit_journal.specs.Settling.{content_with, entry_if, span_with}
+use Rattle.file_settlements.specs.Settling.{SettlesFiles}
 use Rattle.unit_table.specs.Units.{OpenUnit}
 use Rattle.unit_undo.specs.Undoing.{GoesOn}
 use Rattle.unit_undo.specs.Way.{FailsOnTheWay, Undoes}
@@ -34,8 +35,9 @@ pub record MakesVote (r : LogRecord) (e : Option Entry) (ss ts : Slots) (v made 
   pub current : made.store.current ≡ option_map (content_with e v.catalog.ru) logged.store.current
   pub catalog : made.catalog ≡ record v.catalog { ru = span_with e v.catalog.ru }
 
--- A settlement of a branch.
+-- A settlement of a branch that changed these files.
 pub record Settlement : Type 0 where
+  pub files : List Bool
   pub tid : Tid
   pub serial : Serial
   pub ending : Ending
@@ -47,11 +49,11 @@ pub record Settlement : Type 0 where
 pub record MakesLogged (x : Settlement) (rec : Option LogRecord) (ss ts : Slots) (v made : VolumeState) : Type 0 where
   pub logged : VolumeState
   pub log : SetsRecord (serial_of x.serial) rec ss ts v logged
-  pub makes : MakesSettlement x.tid x.serial x.ending x.moment x.entry x.left logged made
+  pub makes : SettlesFiles x.files x.tid x.serial x.ending x.moment x.entry x.left logged made
 
 -- that of an abort
 abbrev pub abort_settlement : Abortion → Settlement
-abort_settlement x = record { tid = x.tid; serial = x.serial; ending = ending.Abort x.reason; moment = x.moment; entry = abort_entry x; left = x.left }
+abort_settlement x = record { files = x.files; tid = x.tid; serial = x.serial; ending = ending.Abort x.reason; moment = x.moment; entry = abort_entry x; left = x.left }
 
 -- A prepared branch is aborted: what it changed is set back, and the last group of that has its settlement too, and frees its slot in the log. That is the
 -- content's log if the one before that group was.

@@ -4,11 +4,12 @@ ghost use Rattle.std.specs.List.{All};
 ghost use Rattle.careful_write.specs.Down.{Counts};
 ghost use Rattle.careful_write.specs.State.{IsIdle};
 ghost use Rattle.log_laws.specs.Slots.{forgotten};
-ghost use Rattle.unit_aborts.specs.Aborting.{HasRoom, MayAbort};
+ghost use Rattle.unit_aborts.specs.Aborting.{HasRoom, ImagesHaveRoom, MayAbort};
 ghost use Rattle.unit_journal.specs.Groups.{Grows, GrowsOnce};
 ghost use Rattle.unit_table.specs.Units.{unit_at, without_place};
 ghost use Rattle.vms_base.specs.Ids.{serial_of};
 ghost use Rattle.volume.specs.State.{Holds};
+ghost use Rattle.kept_files.specs.Keeping.{StandBehind};
 ghost use Rattle.unit_votes.specs.Logging.{HasLog};
 ghost use Rattle.unit_votes.specs.Voting.{AbortsLogged, BreaksOffLogged};
 
@@ -17,9 +18,10 @@ use block_disk::Disk;
 use careful_write::Down;
 use journal_format::EntryBuf;
 use journal_store::one_entry_more;
+use kept_files::{files_kept, settle_in_files};
 use lmcp_log::{Log, log_is_as_it_was_left};
+use unit_aborts::keys_beside;
 use unit_entries::ChangedKeys;
-use unit_journal::settle_staged;
 use unit_table::{Branch, UnitTable};
 use unit_undo::undo_unit;
 use vms_base::{Moment, Outcome, Reason, Record};
@@ -45,13 +47,15 @@ pub fn abort_logged<D: Disk>(
     requires may { MayAbort volume.old }
     requires low { IfSome (unit_at units.old.places place) (λ u. All (λ p. p ≤ 2 ^ 62) u.positions) }
     requires room { IfSome (unit_at units.old.places place) (λ u. HasRoom u.positions volume.old) }
+    requires rooms { IfSome (unit_at units.old.places place) (λ u. ImagesHaveRoom u.positions u.files volume.old) }
+    requires beside { IfSome (unit_at units.old.places place) (λ u. StandBehind u.files (584 + length log.old) volume.old.catalog.heads) }
     requires before { 584 + length log.old ≤ volume.old.catalog.ru.start }
     ensures units { units.new ≡ without_place place units.old }
     ensures slots { OnOk result (log.new ≡ forgotten (serial_of branch.now.serial) log.old) }
-    ensures aborts { OnOk result (IfSome (unit_at units.old.places place) (λ u. AbortsLogged (record { positions = u.positions; tid = branch.now.tid; serial = branch.now.serial; reason = reason; moment = moment.0; left = units.new.places }) log.old log.new volume.old volume.new)) }
+    ensures aborts { OnOk result (IfSome (unit_at units.old.places place) (λ u. AbortsLogged (record { positions = u.positions; files = u.files; tid = branch.now.tid; serial = branch.now.serial; reason = reason; moment = moment.0; left = units.new.places }) log.old log.new volume.old volume.new)) }
     ensures idle { OnOk result (IsIdle volume.new.store) }
     ensures holds { OnOk result (Holds volume.new) }
-    ensures breaks { OnErr result (IfSome (unit_at units.old.places place) (λ u. BreaksOffLogged (record { positions = u.positions; tid = branch.now.tid; serial = branch.now.serial; reason = reason; moment = moment.0; left = units.new.places }) log.old log.new volume.old volume.new)) }
+    ensures breaks { OnErr result (IfSome (unit_at units.old.places place) (λ u. BreaksOffLogged (record { positions = u.positions; files = u.files; tid = branch.now.tid; serial = branch.now.serial; reason = reason; moment = moment.0; left = units.new.places }) log.old log.new volume.old volume.new)) }
     ensures grows { Grows 0 moment.0 volume.old volume.new }
     ensures once { GrowsOnce moment.0 volume.old volume.new }
     ensures counts { Counts result volume.old.store.disk volume.new.store.disk }
@@ -60,7 +64,9 @@ pub fn abort_logged<D: Disk>(
     one_entry_more();
     log_is_as_it_was_left();
     let has_changed = !units.positions(place).is_empty();
-    match undo_unit(volume, units.positions(place), keys, image) {
+    let files = *units.files(place);
+    let most = keys_beside(files_kept(volume, &files));
+    match undo_unit(volume, units.positions(place), keys, image, most) {
         Ok(()) => {}
         Err(down) => {
             units.remove(place);
@@ -69,8 +75,9 @@ pub fn abort_logged<D: Disk>(
     }
     units.remove(place);
     set_record(volume, log, branch.serial, None);
-    settle_staged(
+    settle_in_files(
         volume,
+        &files,
         units.earliest(),
         branch,
         Outcome::Abort,

@@ -32,6 +32,7 @@ pub fn set_record<D: Disk>(
     ensures log { HasLog log.old volume.old → HasLog log.new volume.new }
     ensures rest { volume.new.store ≡ record volume.old.store { current = volume.new.store.current; touched = volume.new.store.touched } }
     ensures catalog { volume.new.catalog ≡ volume.old.catalog }
+    ensures long { length log.new ≡ length log.old }
     ensures few { length volume.new.store.touched ≤ length volume.old.store.touched + 1 }
     ensures holds { Holds volume.old → Holds volume.new }
     ensures ready { IsReady volume.old.store → IsReady volume.new.store }

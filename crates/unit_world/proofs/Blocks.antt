@@ -3,18 +3,17 @@ use Rattle.std.proofs.Common.{◌≡◌, ℕ, ◌<◌, List, [], Option, Some, r
 use Rattle.std.proofs.lemmas.Bool.{cases_eq}
 use Rattle.block_disk.specs.Blocks.{block_at}
 use Rattle.careful_write.specs.State.{EachWhole}
-use Rattle.change_set.specs.Files.{AgreesOn}
 use Rattle.file_base.specs.declared.head.FileHead.{FileHead}
 use Rattle.volume.specs.declared.catalog.Catalog.{Catalog}
 use Rattle.volume.specs.Catalogs.{IsSound}
 use Rattle.volume.specs.Limits.{data_area}
 use Rattle.volume_format.specs.Home.{sizes_of}
-use Rattle.directory_model.specs.Files.{Fit, head_at}
+use Rattle.directory_model.specs.Files.{Fit, StandsIn, head_at}
 use Rattle.directory_model.proofs.Apart.{writes_apart}
 use Rattle.run_model.specs.World.{Node}
 use Rattle.volume_model.specs.Laws.{KeepsNames}
 use Rattle.volume_model.specs.Volumes.{HasJournal}
-use Rattle.volume_laws.specs.Journals.{SameRing}
+use Rattle.file_images.specs.Files.{SameRing}
 
 pub other_block : (a : List (List ℕ)) (q k : ℕ) (bytes : List ℕ) → (k ≡ q → ⊥) → block_at (slice_set a q bytes) k ≡ block_at a k
 other_block a q k bytes other = get_or-set_other a q k bytes [] other
@@ -38,8 +37,8 @@ module _ (node : List ℕ) (disk : ℕ) (v : Catalog) (sound : IsSound node disk
     blocks = λ k from to. other_block a q k bytes (λ is. let start = sound.ru_start in absurd (omega (arith, start, from, is, front)));
   }
 
-  pub extents_behind : length v.heads ≡ 64 → (f : ℕ) (h : FileHead) → head_at v.heads f ≡ Some h → AgreesOn h a (slice_set a q bytes)
-  extents_behind long = writes_apart.before (data_area (sizes_of v.home)) v.heads a (slice_set a q bytes) (fit node disk v sound long) (λ n from. sym (other_block a q n bytes (λ is. absurd (omega (arith, from, is, front)))))
+  pub extents_behind : EachWhole (slice_set a q bytes) → length v.heads ≡ 64 → (f : ℕ) (h : FileHead) → head_at v.heads f ≡ Some h → StandsIn h a (slice_set a q bytes)
+  extents_behind whole long = writes_apart.before (data_area (sizes_of v.home)) v.heads a (slice_set a q bytes) (fit node disk v sound long) (length-set a q bytes) whole (λ n from. sym (other_block a q n bytes (λ is. absurd (omega (arith, from, is, front)))))
 
 -- each block is whole still
 pub whole_set : (a : List (List ℕ)) (q : ℕ) (bytes : List ℕ) → EachWhole a → length bytes ≡ 512 → EachWhole (slice_set a q bytes)

@@ -64,8 +64,8 @@ boots content bytes v n left sound whole =
       units = keeps_units.boots n left.units;
       order = boots_keep_order n.durable n.volatile left.order;
       told = told n (acted Boots n) left.told refl (omega arith) refl refl;
-      prepared = prepared_stays n.durable.units content (slice_set content 0 bytes) v.heads n.durable.directory (extents_behind n.name n.blocks v sound content 0 bytes (omega arith) left.files.heads_long) left.files left.prepared;
-      files = left_stands content (slice_set content 0 bytes) v.heads n.durable.directory (extents_behind n.name n.blocks v sound content 0 bytes (omega arith) left.files.heads_long) left.files;
+      prepared = prepared_stays n.durable.units content (slice_set content 0 bytes) v.heads n.durable.directory (extents_behind n.name n.blocks v sound content 0 bytes (omega arith) (whole_set content 0 bytes left.journal.is.ring.whole whole) left.files.heads_long) left.files left.prepared;
+      files = left_stands content (slice_set content 0 bytes) v.heads n.durable.directory (extents_behind n.name n.blocks v sound content 0 bytes (omega arith) (whole_set content 0 bytes left.journal.is.ring.whole whole) left.files.heads_long) left.files;
     }
 
 -- INIT

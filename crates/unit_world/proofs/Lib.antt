@@ -2,6 +2,7 @@ pub mod Blocks
 pub mod Leaving
 pub mod Found
 pub mod Showing
+pub mod ShowingImages
 pub mod Tables
 pub mod Keeping
 pub mod Staying

@@ -21,7 +21,7 @@ use Rattle.lmcp_log.specs.Keeping.{SameSlots}
 use Rattle.unit_laws.specs.Journal.{ChangeEntry, JournalEntry, PreparedEntry, SettledEntry, is_of_file}
 use Rattle.run_model.specs.World.{Creates, File, Node, acted, find_file, free_place}
 use Rattle.world_laws.proofs.OrderedLemmas.{creates_keep_order}
-use Rattle.directory_model.specs.Files.{AreFiles, IsFile, NoneNamed, file_at, head_at}
+use Rattle.directory_model.specs.Files.{AreFiles, IsCarried, IsFile, NoneNamed, StandsIn, file_at, head_at}
 use Rattle.directory_model.proofs.Acts.{keeps_files}
 use Rattle.directory_model.proofs.Apart.{extent_holds, lie_apart, writes_apart}
 use Rattle.directory_model.proofs.Finding.{finds_files, finds_places}
@@ -32,7 +32,7 @@ use Rattle.restart_laws.proofs.StayLemmas.{keeps_restorable}
 use Rattle.restart_laws.proofs.UnitLemmas.{keeps_units}
 use Rattle.volume_model.specs.Entries.{AreEntries}
 use Rattle.volume_model.specs.Volumes.{HasVolume}
-use Rattle.volume_laws.specs.Journals.{SameRing}
+use Rattle.file_images.specs.Files.{SameRing}
 use Rattle.volume_laws.proofs.FollowLemmas.{follow}
 use Rattle.volume_laws.proofs.LogLemmas.{stays as log_stays, told}
 use Rattle.recovery_units.specs.Laws.{HeadWritten}
@@ -84,8 +84,8 @@ free s v w n h b kept order run same size agrees told whole = record {
     off : AgreesOff (in_extent h) a b
     off = told_off h a b v.store.current w.store.current kept.told told agrees
 
-    agree : (f : ℕ) (other : FileHead) → head_at v.catalog.heads f ≡ Some other → AgreesOn other a b
-    agree = writes_apart.in_free (data_area (sizes_of v.catalog.home)) v.catalog.heads h a b (fit v.catalog.home.node v.store.disk.size v.catalog order.sound order.heads) run off
+    agree : (f : ℕ) (other : FileHead) → head_at v.catalog.heads f ≡ Some other → StandsIn other a b
+    agree = writes_apart.in_free (data_area (sizes_of v.catalog.home)) v.catalog.heads h.start (h.alloc * h.bucket) a b (fit v.catalog.home.node v.store.disk.size v.catalog order.sound order.heads) run (record { size = off.size; others = off.others }) whole
 
     slots : SameSlots (length n.durable.log) a b
     slots k below = off.others (66 + k) (out_of_run v.catalog h (66 + k) run (let same = kept.has.home.slots in omega (arith, same, below)))
@@ -109,7 +109,7 @@ entry_named heads (SettledEntry tid by outcome moment ∷ es) (d ∷ ds) name ar
 
 module _ (s : UnitsState) (v : VolumeState) (n : Node) (f : ℕ) (h : FileHead) (file : File) (kept : IsKept s v n) (order : IsInOrder s v) (below : f < 64) (free_one : head_at v.catalog.heads f ≡ None)
     (lowest : (g : ℕ) → g < f → head_at v.catalog.heads g ≡ None → ⊥) (new_name : NoneNamed v.catalog.heads 64 h.name) (run : IsFreeRun (data_area (sizes_of v.catalog.home)) (all_extents v.catalog.heads) h.start (h.alloc * h.bucket))
-    (live : file.history.live ≡ []) (is_file : IsFile kept.content h file) (bytes : List ℕ) (whole : EachWhole (slice_set kept.content (519 + f - 518) bytes)) where
+    (live : file.history.live ≡ []) (is_file : IsFile kept.content h file) (carried : (c : List (List ℕ)) → IsCarried c f h file.carried) (bytes : List ℕ) (whole : EachWhole (slice_set kept.content (519 + f - 518) bytes)) where
   abbrev heads : List (Option FileHead)
   heads = slice_set v.catalog.heads f (Some h)
 
@@ -128,8 +128,8 @@ module _ (s : UnitsState) (v : VolumeState) (n : Node) (f : ℕ) (h : FileHead) 
   front : 519 + f - 518 < 66
   front = omega (arith, below)
 
-  agree : (g : ℕ) (k : FileHead) → head_at v.catalog.heads g ≡ Some k → AgreesOn k kept.content b
-  agree = extents_behind v.catalog.home.node v.store.disk.size v.catalog order.sound kept.content (519 + f - 518) bytes front order.heads
+  agree : (g : ℕ) (k : FileHead) → head_at v.catalog.heads g ≡ Some k → StandsIn k kept.content b
+  agree = extents_behind v.catalog.home.node v.store.disk.size v.catalog order.sound kept.content (519 + f - 518) bytes front whole order.heads
 
   own : AgreesOn h kept.content b
   own k in_it = sym (other_block kept.content (519 + f - 518) k bytes (λ is. let from = run_behind v.catalog h k run in_it in absurd (omega (arith, from, is, front))))
@@ -159,7 +159,7 @@ module _ (s : UnitsState) (v : VolumeState) (n : Node) (f : ℕ) (h : FileHead) 
     log = log_stays kept.content b n m kept.has.log refl (λ k from. other_block kept.content (519 + f - 518) (66 + k) bytes (λ is. absurd (omega (arith, is, below))));
     order = creates_keep_order n.durable n.volatile f file kept.has.order free_at none no_entry;
     told = told n m kept.has.told refl (omega arith) refl refl;
-    files = keeps_files.creates b v.catalog.heads n f h file files_b below (file_stands kept.content b h file own is_file);
+    files = keeps_files.creates b v.catalog.heads n f h file files_b below (file_stands kept.content b h file own is_file) (carried b);
     restorable = keeps_restorable.creates b v.catalog.heads n f h file files_b below live (keeps_restorable.stands kept.content b v.catalog.heads d agree kept.has.files kept.has.restorable);
   }
 
@@ -183,10 +183,10 @@ module _ (s : UnitsState) (v : VolumeState) (n : Node) (f : ℕ) (h : FileHead) 
 
 pub creates : (s : UnitsState) (v w : VolumeState) (n : Node) (f : ℕ) (h : FileHead) (file : File) (content new : List (List ℕ)) → IsKept s v n → IsInOrder s v → f < 64 → head_at v.catalog.heads f ≡ None →
     ((g : ℕ) → g < f → head_at v.catalog.heads g ≡ None → ⊥) → NoneNamed v.catalog.heads 64 h.name → IsFreeRun (data_area (sizes_of v.catalog.home)) (all_extents v.catalog.heads) h.start (h.alloc * h.bucket) → file.history.live ≡ [] →
-    v.store.current ≡ Some content → IsFile content h file → HeadWritten f h v w → w.store.current ≡ Some new → EachWhole new → IsKept s w (acted (Creates f file) n)
-creates s v w n f h file content new kept order below free_one lowest new_name run live here is_file put told whole =
+    v.store.current ≡ Some content → IsFile content h file → ((c : List (List ℕ)) → IsCarried c f h file.carried) → HeadWritten f h v w → w.store.current ≡ Some new → EachWhole new → IsKept s w (acted (Creates f file) n)
+creates s v w n f h file content new kept order below free_one lowest new_name run live here is_file carried put told whole =
     let is = written_there (519 + f - 518) put.1.0 kept.content new v.store.current w.store.current kept.told put.1.1 told in
-    creates_kept s v n f h file kept order below free_one lowest new_name run live (subst (λ c. IsFile c h file) (one content kept.content (sym here ∙ kept.told)) is_file) put.1.0 (subst EachWhole is whole) w put.0 (told ∙ ap Some is) put.2
+    creates_kept s v n f h file kept order below free_one lowest new_name run live (subst (λ c. IsFile c h file) (one content kept.content (sym here ∙ kept.told)) is_file) carried put.1.0 (subst EachWhole is whole) w put.0 (told ∙ ap Some is) put.2
   where
     one : (x y : List (List ℕ)) → ◌≡◌ {A = Option (List (List ℕ))} (Some x) (Some y) → x ≡ y
     one x y e = cc

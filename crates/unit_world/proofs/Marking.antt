@@ -1,26 +1,31 @@
--- A file that no unsettled branch changed is marked, or no more.
-use Rattle.std.proofs.Common.{◌≡◌, ℕ, ◌+◌, ◌-◌, ◌<◌, List, [], ◌∷◌, Bool, true, false, Option, Some, None, refl, sym, ◌∙◌, ap, subst, arith, slice_set, if◌then◌else◌}
+-- A file that no unsettled branch changed is marked, or no more, or is saved.
+use Rattle.std.proofs.Common.{◌≡◌, ℕ, ◌+◌, ◌-◌, ◌<◌, ◌≤◌, List, [], ◌∷◌, Bool, true, false, Option, Some, None, refl, sym, ◌∙◌, ap, subst, arith, slice_set, if◌then◌else◌}
 use Rattle.std.specs.List.{AllByRecursion}
 use Rattle.std.specs.Prelude.{is_some}
 use Rattle.std.proofs.lemmas.Bool.{both_ways}
 use Rattle.careful_write.specs.State.{EachWhole}
-use Rattle.change_set.specs.Files.{AgreesOn}
+use Rattle.block_disk.specs.Blocks.{block_at}
 use Rattle.file_base.specs.declared.head.FileHead.{FileHead}
+use Rattle.file_base.specs.declared.head.Save.{Save}
+use Rattle.script_model.specs.Statements.{AfterImages, BeforeImages}
 use Rattle.volume.specs.declared.catalog.Catalog.{Catalog}
 use Rattle.volume.specs.State.{VolumeState}
 use Rattle.vms_model.specs.Ids.{Id}
 use Rattle.records_model.specs.Records.{Change}
-use Rattle.records_model.specs.History.{LiveChanges, changed_it, changes_by}
+use Rattle.records_model.specs.History.{History, LiveChanges, changed_it, changes_by}
 use Rattle.unit_laws.specs.Journal.{RecoveryUnit, find_unit, units_in}
 use Rattle.unit_laws.specs.JournalLaws.{is_unit}
 use Rattle.unit_laws.specs.Units.{has_changes}
 use Rattle.unit_table.specs.Units.{OpenUnit, first_to_change, has_changed}
 use Rattle.world_laws.specs.Nodes.{IsUp}
-use Rattle.run_model.specs.World.{File, Marks, Node, acted}
+use Rattle.world_laws.specs.Ordered.{IsJournalInOrder}
+use Rattle.run_model.specs.World.{AreUnitsOf, File, Mark, Marks, ForUnits, BeginsImages, EndsImages, Saves, Node, acted, marked_file, saved_file, with_file}
 use Rattle.world_laws.proofs.IdLemmas.{id_itself}
-use Rattle.world_laws.proofs.OrderedLemmas.{marks_keep_order}
-use Rattle.directory_model.specs.Files.{AreFiles, IsFile, IsFoundAt, IsNamed, file_at, head_at}
-use Rattle.directory_model.specs.Laws.{marked}
+use Rattle.world_laws.proofs.OrderedLemmas.{marks_keep_order, saves_keep_order}
+use Rattle.directory_model.specs.Files.{AreFiles, IsCarried, IsFile, IsFoundAt, IsNamed, StandsIn, file_at, head_at}
+use Rattle.directory_model.specs.Laws.{begun_head, saved_head}
+use Rattle.directory_model.specs.Restoring.{AreRestorable}
+use Rattle.restart_laws.specs.Restorable.{SameBuckets}
 use Rattle.directory_model.proofs.Acts.{keeps_files}
 use Rattle.directory_model.proofs.Places.{file_there, within_list}
 use Rattle.directory_model.proofs.Standing.{stands_on_extents}
@@ -30,7 +35,7 @@ use Rattle.restart_laws.proofs.UnitLemmas.{keeps_units}
 use Rattle.volume_model.specs.Volumes.{HasVolume}
 use Rattle.volume_laws.proofs.FollowLemmas.{follow}
 use Rattle.volume_laws.proofs.LogLemmas.{stays as log_stays, told}
-use Rattle.recovery_units.specs.Laws.{HeadWritten}
+use Rattle.recovery_units.specs.Laws.{HeadWritten, IsSaveOf, MarksHead}
 use Rattle.recovery_units.specs.State.{AreLocks, IsInOrder, IsKept, IsUnitOf, UnitsState, changed_at}
 use Rattle.unit_world.proofs.Blocks.{extents_behind, other_block, ring_behind}
 use Rattle.unit_world.proofs.Found.{found_by}
@@ -77,11 +82,11 @@ rests_by s v n f file kept up there none = go file.history.live refl
             let w = unit_there (λ (u : OpenUnit). changed_it file.history u.serial ≡ false) s.begun n.volatile.branches r.branch unchanged kept.branches r.there in
             subst (λ y. changed_it file.history y ≡ false) (sym w.of.serial ∙ r.serial) w.holds
 
--- SET_FILE
-module _ (s : UnitsState) (v : VolumeState) (n : Node) (f : ℕ) (h : FileHead) (name : List ℕ) (units : Bool) (kept : IsKept s v n) (up : IsUp n) (order : IsInOrder s v) (named : IsNamed v.catalog.heads f h name) (none : first_to_change f s.begun ≡ None)
-    (bytes : List ℕ) (whole : EachWhole (slice_set kept.content (519 + f - 518) bytes)) where
+-- A head of the same buckets takes the place of one, in a file that no unsettled branch changed: so it is where a file is marked, and where it is saved.
+module _ (s : UnitsState) (v : VolumeState) (n : Node) (f : ℕ) (h new : FileHead) (change : File → File) (directory : List (Option File)) (kept : IsKept s v n) (order : IsInOrder s v) (there : head_at v.catalog.heads f ≡ Some h) (bytes : List ℕ)
+    (whole : EachWhole (slice_set kept.content (519 + f - 518) bytes)) where
   abbrev heads : List (Option FileHead)
-  heads = slice_set v.catalog.heads f (Some (marked units h))
+  heads = slice_set v.catalog.heads f (Some new)
 
   abbrev after : Catalog
   after = record v.catalog { heads = heads }
@@ -90,66 +95,124 @@ module _ (s : UnitsState) (v : VolumeState) (n : Node) (f : ℕ) (h : FileHead) 
   b = slice_set kept.content (519 + f - 518) bytes
 
   abbrev m : Node
-  m = acted (Marks name units) n
+  m = record n { durable = record n.durable { directory = directory } }
 
   front : 519 + f - 518 < 66
-  front = let within = within_list v.catalog.heads f h named.there in let long = order.heads in omega (arith, within, long)
+  front = let within = within_list v.catalog.heads f h there in let long = order.heads in omega (arith, within, long)
 
-  abbrev Stand : Type 0
-  Stand = (g : ℕ) (k : FileHead) → head_at v.catalog.heads g ≡ Some k → AgreesOn k kept.content b
+  pub agree : (g : ℕ) (k : FileHead) → head_at v.catalog.heads g ≡ Some k → StandsIn k kept.content b
+  agree = extents_behind v.catalog.home.node v.store.disk.size v.catalog order.sound kept.content (519 + f - 518) bytes front whole order.heads
 
-  agree : Stand
-  agree = extents_behind v.catalog.home.node v.store.disk.size v.catalog order.sound kept.content (519 + f - 518) bytes front order.heads
+  pub here : (file : File) × (file_at n.durable.directory f ≡ Some file) × IsFile kept.content h file × IsCarried kept.content f h file.carried
+  here = file_there kept.content v.catalog.heads n.durable.directory f h kept.has.files there
 
-  here : (file : File) × (file_at n.durable.directory f ≡ Some file) × IsFile kept.content h file
-  here = file_there kept.content v.catalog.heads n.durable.directory f h kept.has.files named.there
-
-  live : here.0.history.live ≡ []
-  live = rests_by s v n f here.0 kept up here.1 none
-
-  at : IsFoundAt name n.durable.directory f here.0
-  at = subst (λ x. IsFoundAt x n.durable.directory f here.0) (here.2.head.name ∙ named.called) (found_by n f here.0 kept.has.units here.1)
-
-  files_b : AreFiles b v.catalog.heads n.durable.directory
+  pub files_b : AreFiles b v.catalog.heads n.durable.directory
   files_b = stands_on_extents kept.content b v.catalog.heads n.durable.directory agree kept.has.files
 
-  marks_volume : HasVolume b after m
-  marks_volume = record {
-    home = record { volume = kept.has.home.volume; slots = kept.has.home.slots; journal = kept.has.home.journal; boot = kept.has.home.boot; greatest = kept.has.home.greatest; last = kept.has.home.last };
-    journal = follow.stays kept.content b v.catalog after n m kept.has.journal refl refl (names_set v.catalog.heads f h (marked units h) named.there refl)
-        (ring_behind v.catalog.home.node v.store.disk.size v.catalog order.sound kept.content (519 + f - 518) bytes front whole);
-    units = keeps_units.marks n name here.0 units kept.has.units at.found live;
-    log = log_stays kept.content b n m kept.has.log refl (λ k below. other_block kept.content (519 + f - 518) (66 + k) bytes (λ is. let low = front in absurd (omega (arith, is, low))));
-    order = marks_keep_order n.durable n.volatile name units kept.has.order;
-    told = told n m kept.has.told refl (omega arith) refl refl;
-    files = keeps_files.marks b v.catalog.heads n f h name units files_b named;
-    restorable = keeps_restorable.marks b v.catalog.heads n f h name units files_b named (keeps_restorable.stands kept.content b v.catalog.heads n.durable.directory agree kept.has.files kept.has.restorable);
-  }
+  pub restorable_b : AreRestorable b v.catalog.heads n.durable.directory
+  restorable_b = keeps_restorable.stands kept.content b v.catalog.heads n.durable.directory agree kept.has.files kept.has.restorable
 
-  stays_unit : (u : OpenUnit) → IsUnitOf n u → IsUnitOf m u
-  stays_unit u k = record {
-    positions = k.positions;
-    files = λ g. ap (λ (d : List (Option File)). changed_at u.serial (file_at d g)) (at.changed (λ (x : File). record x { recovery_units = units }))
-        ∙ changed_set n.durable.directory f (record here.0 { recovery_units = units }) u.serial (within_list n.durable.directory f here.0 here.1) (ap (changed_at u.serial) (sym here.1)) g
-        ∙ k.files g;
-    transaction = k.transaction;
-  }
+  -- What the act keeps of the node.
+  module _ (called : new.name ≡ h.name) (changed : directory ≡ slice_set n.durable.directory f (Some (change here.0))) (still : (x : File) → (change x).history ≡ x.history) (order_kept : IsJournalInOrder m.durable) (units : AreUnitsOf m)
+      (files : AreFiles b heads directory) (restorable : AreRestorable b heads directory) where
+    dressed_volume : HasVolume b after m
+    dressed_volume = record {
+      home = record { volume = kept.has.home.volume; slots = kept.has.home.slots; journal = kept.has.home.journal; boot = kept.has.home.boot; greatest = kept.has.home.greatest; last = kept.has.home.last };
+      journal = follow.stays kept.content b v.catalog after n m kept.has.journal refl refl (names_set v.catalog.heads f h new there called)
+          (ring_behind v.catalog.home.node v.store.disk.size v.catalog order.sound kept.content (519 + f - 518) bytes front whole);
+      units = units;
+      log = log_stays kept.content b n m kept.has.log refl (λ k below. other_block kept.content (519 + f - 518) (66 + k) bytes (λ is. let low = front in absurd (omega (arith, is, low))));
+      order = order_kept;
+      told = told n m kept.has.told refl (omega arith) refl refl;
+      files = files;
+      restorable = restorable;
+    }
 
-  marks_kept : (w : VolumeState) → w.catalog ≡ after → w.store.current ≡ Some b → w.store.disk.size ≡ v.store.disk.size → IsKept s w m
-  marks_kept w is told size = record {
-    content = b;
-    told = told;
-    name = kept.name ∙ ap (λ (c : Catalog). c.home.node) (sym is);
-    blocks = kept.blocks ∙ sym size;
-    has = subst (λ (c : Catalog). HasVolume b c m) (sym is) marks_volume;
-    log = kept.log;
-    branches = kept.branches;
-    locks = subst (λ (c : Catalog). AreLocks c.heads s.locks n.volatile.locks) (sym is) (locks_stay v.catalog.heads heads s.locks n.volatile.locks (names_set v.catalog.heads f h (marked units h) named.there refl) kept.locks);
-    each = all_as (IsUnitOf n) (IsUnitOf m) s.begun stays_unit kept.each;
-  }
+    stays_unit : (u : OpenUnit) → IsUnitOf n u → IsUnitOf m u
+    stays_unit u k = record {
+      positions = k.positions;
+      files = λ g. ap (λ (d : List (Option File)). changed_at u.serial (file_at d g)) changed
+          ∙ changed_set n.durable.directory f (change here.0) u.serial (within_list n.durable.directory f here.0 here.1) (ap (λ (x : History). elim (changes_by u.serial x.live) [ [] ↦ false | c ∷ more ↦ true ]) (still here.0) ∙ ap (changed_at u.serial) (sym here.1)) g
+          ∙ k.files g;
+      transaction = k.transaction;
+    }
 
-pub marks : (s : UnitsState) (v w : VolumeState) (n : Node) (f : ℕ) (h : FileHead) (name : List ℕ) (units : Bool) (content : List (List ℕ)) → IsKept s v n → IsUp n → IsInOrder s v → IsNamed v.catalog.heads f h name → first_to_change f s.begun ≡ None →
-    HeadWritten f (marked units h) v w → w.store.current ≡ Some content → EachWhole content → IsKept s w (acted (Marks name units) n)
-marks s v w n f h name units content kept up order named none put is_told whole =
-    let is = written_there (519 + f - 518) put.1.0 kept.content content v.store.current w.store.current kept.told put.1.1 is_told in
-    marks_kept s v n f h name units kept up order named none put.1.0 (subst EachWhole is whole) w put.0 (is_told ∙ ap Some is) put.2
+    pub dressed_kept : (w : VolumeState) → w.catalog ≡ after → w.store.current ≡ Some b → w.store.disk.size ≡ v.store.disk.size → IsKept s w m
+    dressed_kept w is told size = record {
+      content = b;
+      told = told;
+      name = kept.name ∙ ap (λ (c : Catalog). c.home.node) (sym is);
+      blocks = kept.blocks ∙ sym size;
+      has = subst (λ (c : Catalog). HasVolume b c m) (sym is) dressed_volume;
+      log = kept.log;
+      branches = kept.branches;
+      locks = subst (λ (c : Catalog). AreLocks c.heads s.locks n.volatile.locks) (sym is) (locks_stay v.catalog.heads heads s.locks n.volatile.locks (names_set v.catalog.heads f h new there called) kept.locks);
+      each = all_as (IsUnitOf n) (IsUnitOf m) s.begun stays_unit kept.each;
+    }
+
+-- SET_FILE
+
+-- a head with a mark has the same buckets and the same name
+head_dressed : (mark : Mark) (greatest : ℕ) (content : List (List ℕ)) (h new : FileHead) → MarksHead mark greatest content h new → SameBuckets h new × (new.name ≡ h.name)
+head_dressed (ForUnits units) greatest content h new is = (subst (SameBuckets h) (sym is) (record { is = refl }), ap (λ (k : FileHead). k.name) is)
+head_dressed (BeginsImages AfterImages start blocks) greatest content h new is = (subst (SameBuckets h) (sym is.8) (record { is = refl }), ap (λ (k : FileHead). k.name) is.8)
+head_dressed (BeginsImages BeforeImages start blocks) greatest content h new is = (subst (SameBuckets h) (sym is.8) (record { is = refl }), ap (λ (k : FileHead). k.name) is.8)
+head_dressed (EndsImages AfterImages) greatest content h new is = (subst (SameBuckets h) (sym is) (record { is = refl }), ap (λ (k : FileHead). k.name) is)
+head_dressed (EndsImages BeforeImages) greatest content h new is = (subst (SameBuckets h) (sym is) (record { is = refl }), ap (λ (k : FileHead). k.name) is)
+
+marked_files : (content : List (List ℕ)) (heads : List (Option FileHead)) (n : Node) (f : ℕ) (h new : FileHead) (name : List ℕ) (mark : Mark) → AreFiles content heads n.durable.directory → IsNamed heads f h name → MarksHead mark n.durable.greatest content h new →
+    AreFiles content (slice_set heads f (Some new)) (acted (Marks name mark) n).durable.directory
+marked_files content heads n f h new name (ForUnits units) are named is =
+    subst (λ (k : FileHead). AreFiles content (slice_set heads f (Some k)) (acted (Marks name (ForUnits units)) n).durable.directory) (sym is) (keeps_files.marks content heads n f h name units are named)
+marked_files content heads n f h new name (BeginsImages side start blocks) are named is =
+    subst (λ (k : FileHead). AreFiles content (slice_set heads f (Some k)) (acted (Marks name (BeginsImages side start blocks)) n).durable.directory) (sym is.8)
+    (subst (λ (x : ℕ). AreFiles content (slice_set heads f (Some (begun_head side is.0 is.1 h))) (acted (Marks name (BeginsImages side x blocks)) n).durable.directory) is.3
+    (subst (λ (x : ℕ). AreFiles content (slice_set heads f (Some (begun_head side is.0 is.1 h))) (acted (Marks name (BeginsImages side is.0.start x)) n).durable.directory) is.4
+    (keeps_files.begins content heads n f h name side is.0 is.1 are named is.2 is.5 is.6 is.7)))
+marked_files content heads n f h new name (EndsImages side) are named is =
+    subst (λ (k : FileHead). AreFiles content (slice_set heads f (Some k)) (acted (Marks name (EndsImages side)) n).durable.directory) (sym is) (keeps_files.ends content heads n f h name side are named)
+
+pub marks : (s : UnitsState) (v w : VolumeState) (n : Node) (f : ℕ) (h new : FileHead) (name : List ℕ) (mark : Mark) (content : List (List ℕ)) → IsKept s v n → IsUp n → IsInOrder s v → IsNamed v.catalog.heads f h name → first_to_change f s.begun ≡ None →
+    HeadWritten f new v w → w.store.current ≡ Some content → EachWhole content → MarksHead mark n.durable.greatest content h new → IsKept s w (acted (Marks name mark) n)
+marks s v w n f h new name mark content kept up order named none put is_told whole is =
+    let same = written_there (519 + f - 518) put.1.0 kept.content content v.store.current w.store.current kept.told put.1.1 is_told in
+    let now = subst EachWhole same whole in
+    let directory = with_file name (marked_file mark n.durable.greatest) n.durable.directory in
+    let there = here s v n f h new (marked_file mark n.durable.greatest) directory kept order named.there put.1.0 now in
+    let live : there.0.history.live ≡ [] = rests_by s v n f there.0 kept up there.1 none in
+    let at : IsFoundAt name n.durable.directory f there.0 = subst (λ x. IsFoundAt x n.durable.directory f there.0) (there.2.head.name ∙ named.called) (found_by n f there.0 kept.has.units there.1) in
+    let are = files_b s v n f h new (marked_file mark n.durable.greatest) directory kept order named.there put.1.0 now in
+    let can = restorable_b s v n f h new (marked_file mark n.durable.greatest) directory kept order named.there put.1.0 now in
+    let head = head_dressed mark n.durable.greatest content h new is in
+    dressed_kept s v n f h new (marked_file mark n.durable.greatest) directory kept order named.there put.1.0 now head.1 (at.changed (marked_file mark n.durable.greatest)) (λ x. refl) (marks_keep_order n.durable n.volatile name mark kept.has.order)
+    (keeps_units.marks n name there.0 mark kept.has.units at.found live) (marked_files (slice_set kept.content (519 + f - 518) put.1.0) v.catalog.heads n f h new name mark are named (subst (λ c. MarksHead mark n.durable.greatest c h new) same is))
+    (keeps_restorable.marks (slice_set kept.content (519 + f - 518) put.1.0) v.catalog.heads n f h new name mark are named head.0 can) w put.0 (is_told ∙ ap Some same) put.2
+
+-- BACKUP
+pub saves : (s : UnitsState) (v w : VolumeState) (n : Node) (f : ℕ) (h : FileHead) (name : List ℕ) (save : Save) (content : List (List ℕ)) → IsKept s v n → IsUp n → IsInOrder s v → IsNamed v.catalog.heads f h name → first_to_change f s.begun ≡ None →
+    HeadWritten f (saved_head save h) v w → w.store.current ≡ Some content → EachWhole content → 584 ≤ save.start → ((old : List (List ℕ)) → v.store.current ≡ Some old → IsSaveOf n.durable.greatest old h save) → IsKept s w (acted (Saves name save.start) n)
+saves s v w n f h name save content kept up order named none put is_told whole behind made =
+    let new = saved_head save h in
+    let same = written_there (519 + f - 518) put.1.0 kept.content content v.store.current w.store.current kept.told put.1.1 is_told in
+    let now = subst EachWhole same whole in
+    let change = saved_file save.start n.durable.greatest in
+    let directory = with_file name change n.durable.directory in
+    let there = here s v n f h new change directory kept order named.there put.1.0 now in
+    let live : there.0.history.live ≡ [] = rests_by s v n f there.0 kept up there.1 none in
+    let at : IsFoundAt name n.durable.directory f there.0 = subst (λ x. IsFoundAt x n.durable.directory f there.0) (there.2.head.name ∙ named.called) (found_by n f there.0 kept.has.units there.1) in
+    let stand = agree s v n f h new change directory kept order named.there put.1.0 now in
+    let are = files_b s v n f h new change directory kept order named.there put.1.0 now in
+    let can = restorable_b s v n f h new change directory kept order named.there put.1.0 now in
+    let is = made kept.content kept.told in
+    let b = slice_set kept.content (519 + f - 518) put.1.0 in
+    dressed_kept s v n f h new change directory kept order named.there put.1.0 now refl (at.changed change) (λ x. refl) (saves_keep_order n.durable n.volatile name save.start kept.has.order)
+    (keeps_units.saves n name there.0 save.start kept.has.units at.found live)
+    (keeps_files.saves kept.content b v.catalog.heads n f h name save kept.has.files named stand is.now is.position is.moment (λ i less. copy_stands i (is.copied i less)))
+    (keeps_restorable.saves b v.catalog.heads n f h new name save.start are named (record { is = refl }) can) w put.0 (is_told ∙ ap Some same) put.2
+  where
+    far : (i : ℕ) → save.start - 518 + i ≡ 519 + f - 518 → ⊥
+    far i is = let within = within_list v.catalog.heads f h named.there in let long = order.heads in absurd (omega (arith, is, within, long, behind))
+
+    -- no block of the copy is a directory block
+    copy_stands : (i : ℕ) → block_at kept.content (save.start - 518 + i) ≡ block_at kept.content (h.start - 518 + i) → block_at (slice_set kept.content (519 + f - 518) put.1.0) (save.start - 518 + i) ≡ block_at kept.content (h.start - 518 + i)
+    copy_stands i copied = other_block kept.content (519 + f - 518) (save.start - 518 + i) put.1.0 (λ is. far i is) ∙ copied

@@ -138,3 +138,9 @@ pub sound_changed : (name : List ℕ) (size : ℕ) (v : Catalog) (f : ℕ) (h ne
 sound_changed name size v f h new long there same form s =
     sound_set name size v f new long (head_below v.heads f h long there) (fit_still (data_area (sizes_of v.home)) v.heads f h new (fit_of name size v long s) there (extents_same h new same)) (named_still v.heads f h new (named_once name size v long s) there (ap (λ (x : FileHead). x.name) same.is))
     (fits_same v.home.greatest_moment.0 h new same form (fits_at name size v f h long s there)) s
+
+-- and where the head becomes any that fits, of the same name, and lies where it lay
+pub sound_with : (name : List ℕ) (size : ℕ) (v : Catalog) (f : ℕ) (h new : FileHead) → length v.heads ≡ 64 → head_at v.heads f ≡ Some h → extents_of (Some h) ≡ extents_of (Some new) → new.name ≡ h.name → FileFits v.home.greatest_moment.0 new → IsSound name size v →
+    IsSound name size (record v { heads = slice_set v.heads f (Some new) })
+sound_with name size v f h new long there same called fits s =
+    sound_set name size v f new long (head_below v.heads f h long there) (fit_still (data_area (sizes_of v.home)) v.heads f h new (fit_of name size v long s) there same) (named_still v.heads f h new (named_once name size v long s) there called) fits s

@@ -21,8 +21,9 @@ use Rattle.volume_model.specs.Entries.{AreEntries, entry_for}
 use Rattle.volume_model.specs.Laws.{KeepsNames}
 use Rattle.volume_model.specs.Volumes.{HasJournal}
 use Rattle.volume_model.proofs.EntryLemmas.{entries_follow}
-use Rattle.volume_laws.specs.Journals.{JournalsFollow, SameRing, prepared_entries, settled_entries}
-use Rattle.volume_laws.proofs.RingLemmas.{journal_stands}
+use Rattle.file_images.specs.Files.{SameRing}
+use Rattle.volume_laws.specs.Journals.{JournalsFollow, prepared_entries, settled_entries}
+use Rattle.file_images.proofs.Rings.{journal_stands}
 
 formats : (b : List (List ℕ)) (w : Catalog) (n : Node) (slots journal : ℕ) → IsJournal b w.ru [] → w.ru.first ≡ 0 → w.ru.end ≡ 0 → HasJournal b w (acted (Formats slots journal) n)
 formats b w n slots journal is first end = record { entries = []; is = is; alike = tt; first = first; end = end; low = omega (arith, end) }

@@ -1,4 +1,3 @@
-pub mod RingLemmas
 pub mod FollowLemmas
 pub mod WholeLemmas
 pub mod LogLemmas

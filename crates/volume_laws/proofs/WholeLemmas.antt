@@ -21,10 +21,10 @@ volume_falls content v n has = record {
   prepared = prepared_stand content v.heads n has.files has.units;
 }
 
-place_can : (content : List (List ℕ)) (o : Option FileHead) (p : Option File) → IsPlaceLeft content o p → IsPlaceRestorable content o p
-place_can content None p left = tt
-place_can content (Some h) None left = tt
-place_can content (Some h) (Some file) left = left.can
+place_can : (content : List (List ℕ)) (f : ℕ) (o : Option FileHead) (p : Option File) → IsPlaceLeft content f o p → IsPlaceRestorable content o p
+place_can content f None p left = tt
+place_can content f (Some h) None left = tt
+place_can content f (Some h) (Some file) left = left.0.can
 
 pub volume_rests : VolumeRests
 volume_rests content v n left all = record {
@@ -35,5 +35,5 @@ volume_rests content v n left all = record {
   order = left.order;
   told = left.told;
   files = rests_as_files content v.heads n left.files left.prepared left.units all;
-  restorable = λ f. place_can content (head_at v.heads f) (file_at n.durable.directory f) (left.files.each f);
+  restorable = λ f. place_can content f (head_at v.heads f) (file_at n.durable.directory f) (left.files.each f);
 }

@@ -1,6 +1,5 @@
 -- How the journal in a volume's ring follows the acts of its node.
-use Rattle.std.specs.Prelude.{◌≡◌, ℕ, ◌+◌, ◌-◌, ◌<◌, ◌≤◌, ◌^◌, List, [], ◌∷◌, ◌++◌, length, map, Some, None}
-use Rattle.block_disk.specs.Blocks.{block_at}
+use Rattle.std.specs.Prelude.{◌≡◌, ℕ, ◌≤◌, ◌^◌, List, [], ◌∷◌, ◌++◌, map, Some, None}
 use Rattle.file_base.specs.declared.head.FileHead.{FileHead}
 use Rattle.file_base.specs.declared.head.Span.{Span}
 use Rattle.volume.specs.declared.catalog.Catalog.{Catalog}
@@ -14,15 +13,10 @@ use Rattle.commit_protocol.specs.Table as table
 use Rattle.commit_protocol.specs.Table.{Branch, Prepares}
 use Rattle.run_model.specs.World.{Node, Settlement, Formats, Tables, Changes, Directs, acted, settlement_of, with_prepared}
 use Rattle.directory_model.specs.Files.{head_at}
+use Rattle.file_images.specs.Files.{SameRing}
 use Rattle.volume_model.specs.Entries.{entry_for}
 use Rattle.volume_model.specs.Laws.{KeepsNames}
 use Rattle.volume_model.specs.Volumes.{HasJournal}
-
--- the blocks of a ring are the same in two contents of whole blocks
-pub record SameRing (s : Span) (a b : List (List ℕ)) : Type 0 where
-  pub size : length b ≡ length a
-  pub whole : (k : ℕ) → k < length b → length (block_at b k) ≡ 512
-  pub blocks : (k : ℕ) → s.start - 518 ≤ k → k < s.start - 518 + s.blocks → block_at b k ≡ block_at a k
 
 -- the entry that settles a branch on a disk, where it is a unit
 abbrev pub settled_entries : Settlement → Journal → List Entry

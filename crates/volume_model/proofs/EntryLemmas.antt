@@ -13,7 +13,8 @@ use Rattle.journal_format.proofs.Decoding.{total_is}
 use Rattle.unit_laws.specs.Journal.{JournalEntry, ChangeEntry, PreparedEntry, SettledEntry, RecoveryUnit, entries_for, entries_from, entries_size, entry_size, is_of_units, key_size}
 use Rattle.unit_laws.proofs.Tests.{picked, passed}
 use Rattle.directory_model.specs.Files.{head_at}
-use Rattle.volume_model.specs.Entries.{AreEntries, IsFileOf, entry_for, key_bytes, image_bytes}
+use Rattle.file_images.specs.Images.{key_bytes, image_bytes}
+use Rattle.volume_model.specs.Entries.{AreEntries, IsFileOf, entry_for}
 use Rattle.volume_model.specs.Laws.{EntriesFollow, IsTrimmed, KeepsNames}
 
 -- Sizes.

@@ -1,23 +1,25 @@
 -- What bars a boot of a volume whose blocks are in order.
-use Rattle.std.specs.Prelude.{◌+◌, ◌-◌, ◌*◌, ◌^◌, ◌&&◌, ◌==◌, ℕ, List, [], ◌∷◌, Bool, Option, Some, None, if◌then◌else◌, max, min, nat_le, nat_lt}
+use Rattle.std.specs.Prelude.{◌+◌, ◌-◌, ◌*◌, ◌^◌, ◌&&◌, ◌==◌, ℕ, List, [], ◌∷◌, Bool, true, false, Option, Some, None, if◌then◌else◌, max, min, nat_le, nat_lt}
 use Rattle.file_base.specs.declared.head.FileHead.{FileHead}
 use Rattle.file_base.specs.declared.head.Organization.{Organization}
 use Rattle.file_base.specs.declared.head.Organization.TheVariants.{Sequential, Relative, Indexed}
 use Rattle.file_base.specs.declared.head.Span.{Span}
+use Rattle.image_room.specs.Room.{images_end}
 use Rattle.journal_model.specs.Ring.{ring_size}
 use Rattle.run_model.specs.Answers.{boot_limit, moment_limit, position_limit}
 use Rattle.run_model.specs.World.{Bar, NoRing, NoIndex, AllBoots, LateMoment, FarPosition}
 use Rattle.volume.specs.declared.catalog.Catalog.{Catalog}
 
--- the greatest end of a journal of images of these heads, whether or not it is marked
-abbrev pub ends_in : List (Option FileHead) → ℕ
-ends_in [] = 0
-ends_in (None ∷ hs) = ends_in hs
-ends_in (Some h ∷ hs) = max (max h.ai.end h.bi.end) (ends_in hs)
+-- whether a journal lies in its ring, and whether its positions are low too
+abbrev pub is_within : Span → Bool
+is_within s = nat_le s.first s.end && nat_le (s.end - s.first) (ring_size s)
 
--- whether a journal lies in its ring, and its positions are low
 abbrev pub is_in_ring : Span → Bool
 is_in_ring s = nat_le s.first s.end && (nat_le (s.end - s.first) (ring_size s) && nat_le s.end (2 ^ 62))
+
+-- the first block of the journal of recovery units
+abbrev pub units_block : ℕ
+units_block = 583
 
 -- more than the number of any block
 abbrev pub no_block : ℕ
@@ -32,18 +34,33 @@ odd_root_by Indexed h = if h.levels == 1 then (if h.used == 1 then no_block else
 abbrev pub odd_root : FileHead → ℕ
 odd_root h = odd_root_by h.organization h
 
+-- the first block of a journal of images that a file has and that does not lie in its ring
+abbrev pub odd_span : (marked : Bool) → Span → ℕ
+odd_span true s = if is_within s then no_block else s.start
+odd_span false s = no_block
+
+abbrev pub odd_ring : FileHead → ℕ
+odd_ring h = min (odd_span h.marks.ai h.ai) (odd_span h.marks.bi h.bi)
+
 -- the lowest of such blocks
+abbrev pub lowest_by : (FileHead → ℕ) → List (Option FileHead) → ℕ
+lowest_by block [] = no_block
+lowest_by block (None ∷ hs) = lowest_by block hs
+lowest_by block (Some h ∷ hs) = min (block h) (lowest_by block hs)
+
 abbrev pub lowest_odd_root : List (Option FileHead) → ℕ
-lowest_odd_root [] = no_block
-lowest_odd_root (None ∷ hs) = lowest_odd_root hs
-lowest_odd_root (Some h ∷ hs) = min (odd_root h) (lowest_odd_root hs)
+lowest_odd_root hs = lowest_by odd_root hs
+
+abbrev pub lowest_odd_ring : List (Option FileHead) → ℕ
+lowest_odd_ring hs = lowest_by odd_ring hs
 
 -- the first of the bars that is so of a volume
 abbrev pub first_bar : Catalog → Option Bar
 first_bar v =
     if is_in_ring v.ru then (
-    if nat_lt (lowest_odd_root v.heads) no_block then Some (NoIndex (lowest_odd_root v.heads))
+    if nat_lt (lowest_odd_ring v.heads) no_block then Some (NoRing (lowest_odd_ring v.heads))
+    else (if nat_lt (lowest_odd_root v.heads) no_block then Some (NoIndex (lowest_odd_root v.heads))
     else (if v.home.boot == boot_limit then Some AllBoots
     else (if nat_lt moment_limit v.home.greatest_moment.0 then Some LateMoment
-    else (if nat_lt position_limit (max v.ru.end (ends_in v.heads)) then Some FarPosition else None)))
-    ) else Some NoRing
+    else (if nat_lt position_limit (max v.ru.end (images_end v.heads)) then Some FarPosition else None))))
+    ) else Some (NoRing units_block)

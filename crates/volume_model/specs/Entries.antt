@@ -1,26 +1,10 @@
 -- Which entry of the world's journal an entry on the disk is.
-use Rattle.std.specs.Prelude.{◌≡◌, ℕ, List, [], ◌∷◌, Option, Some, None, is_some, if◌then◌else◌}
-use Rattle.std.specs.Int.{w32, to_le_bytes}
+use Rattle.std.specs.Prelude.{◌≡◌, ℕ, List, [], ◌∷◌, Option, Some, is_some, if◌then◌else◌}
 use Rattle.file_base.specs.declared.head.FileHead.{FileHead}
-use Rattle.vms_model.specs.Keys.{Key, Number, Text, End}
-use Rattle.vms_model.specs.Transactions.{Outcome, Commit, Abort}
 use Rattle.journal_model.specs.Entries.{Entry}
+use Rattle.file_images.specs.Images.{key_bytes, image_bytes, outcome_code}
 use Rattle.directory_model.specs.Files.{head_at}
 use Rattle.unit_laws.specs.Journal.{JournalEntry, ChangeEntry, PreparedEntry, SettledEntry}
-
--- the bytes of a key in an entry
-abbrev pub key_bytes : Key → List ℕ
-key_bytes (Number n) = to_le_bytes w32 n
-key_bytes (Text bytes) = bytes
-key_bytes End = []
-
-abbrev pub image_bytes : Option (List ℕ) → List ℕ
-image_bytes (Some bytes) = bytes
-image_bytes None = []
-
-abbrev pub outcome_code : Outcome → ℕ
-outcome_code Commit = 1
-outcome_code Abort = 2
 
 -- the entry on the disk, where its file has this number
 abbrev pub entry_for : ℕ → JournalEntry → Entry

@@ -5,7 +5,7 @@ use Rattle.std.specs.List.{AllByRecursion}
 use Rattle.std.proofs.lemmas.Bool.{both_ways, false_from_ne_true}
 use Rattle.vms_model.specs.Ids.{Id}
 use Rattle.vms_model.specs.Keys.{Key, End}
-use Rattle.records_model.specs.History.{LiveChanges, changes_by, changes_key, same_id}
+use Rattle.records_model.specs.History.{LiveChanges, changes_by, changes_key, same_id, changed_it}
 use Rattle.unit_laws.specs.Units.{moves_end}
 use Rattle.unit_laws.specs.Journal.{JournalEntry, RecoveryUnit, find_unit, serial_in, units_in, Journal}
 use Rattle.unit_laws.specs.JournalLaws.{is_unit}
@@ -15,11 +15,15 @@ use Rattle.commit_protocol.specs.World.{In, undo_all}
 use Rattle.commit_protocol.proofs.Lists.{told_key}
 use Rattle.log_laws.specs.Slots.{prepared_of, records_in, committed_of, size}
 use Rattle.run_model.specs.Locks.{Lock, holder, released}
-use Rattle.run_model.specs.World.{Boots, ComesUp, File, IsPreparedUnit, Node, Shared, Volatile, acted, booted, find_file, next_moment, prepared_left, serials_of, tm_of, settled_file, settlement, IsReached}
+use Rattle.run_model.specs.World.{Boots, ComesUp, File, IsPreparedUnit, Node, Shared, Volatile, acted, booted, find_file, next_moment, prepared_left, serials_of, tm_of, settled_file, settlement, IsReached, serial_of_image}
 use Rattle.run_model.specs.Answers.{boot_rows, left_active, table_rows, unit_key, Row}
 use Rattle.run_model.specs.Steps.{node_after_rows, node_after}
+use Rattle.recovery_model.specs.Journal as image
+use Rattle.commit_protocol.specs.Allowed.{is_prepared}
+use Rattle.world_laws.specs.Running.{AllFound, FileImages, IsDrawnImage, TellImages, IsDrawn, IsFileHeld, history_of}
+use Rattle.world_laws.proofs.FileLemmas.{found_mapped}
+use Rattle.world_laws.proofs.ImageLemmas.{images_more, images_settled}
 use Rattle.world_laws.specs.Restarts.{HasRestarted, KeepFiles, KeepsFile, OnlyPrepared}
-use Rattle.world_laws.specs.Running.{IsDrawn, IsFileHeld, history_of}
 use Rattle.world_laws.proofs.IdLemmas.{id_is, id_itself, id_other}
 use Rattle.world_laws.proofs.FindLemmas.{some_is, mapped_file}
 use Rattle.world_laws.proofs.EntryLemmas.{all_more, all_settled}
@@ -154,6 +158,24 @@ module _ (s : Shared) (n : Node) (k : IsKeptDisk n) where
       (undo_entries (IsReached n) (left_active n) (acted Boots n)
       (all_active (λ (u : RecoveryUnit). IsReached n u.serial) (units_in n.durable.units.entries) (all_onto (IsReached n) n.durable.units.entries [] k.filed.reached tt)) k.filed.reached)
 
+  -- and so are those of journals of images
+  undo_images : (P : Id → Type 0) (us : List RecoveryUnit) (o : Node) → AllByRecursion (λ (u : RecoveryUnit). P u.serial) us → AllFound (FileImages (λ e. P (serial_of_image e))) o.durable.directory →
+      AllFound (FileImages (λ e. P (serial_of_image e))) (node_after_rows (table_rows (undo_all (map unit_key us)) s o) o).durable.directory
+  undo_images P [] o h e = e
+  undo_images P (u ∷ us) o h e =
+      let t = settlement (unit_key u) Abort SegFail (next_moment o) in
+      undo_images P us (undone_unit o u) h.1 (found_mapped (FileImages (λ e. P (serial_of_image e))) (FileImages (λ e. P (serial_of_image e))) (settled_file t) o.durable.directory (λ f. refl)
+      (λ file f found k. images_settled (λ e. P (serial_of_image e)) (changed_it f.history t.serial) t f.carried h.0 k) e)
+
+  -- all branches are prepared
+  images : TellImages (node_after_rows (boot_rows s n) n).name (node_after_rows (boot_rows s n) n).durable.boot 0 (branches_of (prepared_left n.durable)) (node_after_rows (boot_rows s n) n).durable.directory
+  images = record {
+    drawn = λ file f e. images_more (λ (x : image.Entry). IsReached n (serial_of_image x)) (IsDrawnImage (node_after_rows (boot_rows s n) n).name (node_after_rows (boot_rows s n) n).durable.boot 0) f.carried (λ x r. drawn_id (serial_of_image x) r)
+        (undo_images (IsReached n) (left_active n) (acted Boots n) (all_active (λ (u : RecoveryUnit). IsReached n u.serial) (units_in n.durable.units.entries) (all_onto (IsReached n) n.durable.units.entries [] k.filed.reached tt))
+        (λ file f e. let q = k.filed.images file f e in record { after = q.after_reached; before = q.before_reached }) file f e);
+    unsettled = λ b i state. let r = branch_in (prepared_left n.durable) b i in absurd (both_ways _ state (ap (λ (c : Branch). is_prepared c.state) r.2));
+  }
+
   -- a file that is found then was found before, with what prepared branches changed
   record IsOld (f : File) (file : List ℕ) : Type 0 where
     old : File
@@ -259,7 +281,7 @@ module _ (s : Shared) (n : Node) (k : IsKeptDisk n) where
     filed = kept.filed;
     slots = kept.log.slots;
     table = boot_table (node_after_rows (boot_rows s n) n) kept.log (prepared_left n.durable) reordered drawn restored.units (booted n.durable).preparation (booted n.durable).locks;
-    running = record { drawn = entries; held = held_there; unnoted = kept.unnoted };
+    running = record { drawn = entries; held = held_there; unnoted = kept.unnoted; images = images };
     holding = record {
       by = all_more (λ (l : Lock). In l.by (record_serials (prepared_left n.durable))) (λ (l : Lock). In l.by (serials_of (branches_of (prepared_left n.durable)))) (booted n.durable).locks
           (λ l i. subst (In l.by) (sym (same_serials (branches_of (prepared_left n.durable)) ∙ serials_again (prepared_left n.durable))) i)

@@ -1,5 +1,5 @@
 -- What a node's disk has of its files and its journal is kept by each act of a run.
-use Rattle.std.proofs.Common.{◌≡◌, ℕ, zero, suc, ◌+◌, List, [], ◌∷◌, map, Bool, true, false, Option, Some, None, if◌then◌else◌, refl, sym, ◌∙◌, ap, subst, arith}
+use Rattle.std.proofs.Common.{◌≡◌, ◌<◌, ◌≤◌, ℕ, zero, suc, ◌+◌, List, [], ◌∷◌, map, Bool, true, false, Option, Some, None, if◌then◌else◌, refl, sym, ◌∙◌, ap, subst, arith}
 use Rattle.std.specs.Prelude.{replicate, slice_index_or, slice_set}
 use Rattle.std.specs.FinMap.{get}
 use Rattle.std.specs.List.{AllByRecursion}
@@ -10,7 +10,7 @@ use Rattle.std.proofs.lemmas.Slice.Eq.{bytes_eq-Decides}
 use Rattle.vms_model.specs.Ids.{Id}
 use Rattle.vms_model.specs.Keys.{End}
 use Rattle.vms_model.specs.Transactions.{Commit, Abort, SegFail}
-use Rattle.records_model.specs.History.{LiveChanges, changed_with, changes_by, current, settled_at}
+use Rattle.records_model.specs.History.{LiveChanges, changed_it, changed_with, changes_by, current, on_top, settled_at}
 use Rattle.unit_laws.specs.Units.{Map, SerialsDiffer, end_is_free, has_changes, moves_end}
 use Rattle.unit_laws.specs.Journal.{Journal, empty_journal, entries_for, note_of, serial_in}
 use Rattle.unit_laws.specs.JournalLaws.{HasNotes, is_unit}
@@ -20,33 +20,43 @@ use Rattle.unit_laws.proofs.NoteLemmas.{unchanged_has_notes}
 use Rattle.commit_protocol.specs.Table as table
 use Rattle.commit_protocol.specs.Table.{Prepares, Undoes}
 use Rattle.run_model.specs.Locks.{is_locked}
-use Rattle.run_model.specs.World.{File, Settlement, Durable, Volatile, Act, Formats, Boots, ComesUp, Creates, Marks, Draws, Labels, Numbers, Tables, Changes, Holds, Directs, Arms, Clocks, Declares, Falls, FollowOneAnother, IsHalfUndone, OneMovesEndOf, Sequential, changed_file, directly_changed, durable_after, find_file, free_place, half_undone, settled_file, settlement, with_file, with_half, with_settlement}
+use Rattle.run_model.specs.World.{File, Settlement, Durable, Volatile, Act, Formats, Boots, ComesUp, Creates, Marks, Saves, Recovers, Draws, Labels, Numbers, Tables, Changes, Holds, Directs, Arms, Clocks, Declares, Falls, FollowOneAnother, IsHalfUndone, IsPlainCarried, KeepsImages, OneMovesEndOf, Sequential, changed_file, directly_changed, durable_after, find_file, free_place, half_undone, marked_file, recovered_file, saved_file, settled_file, settlement, with_file, with_half, with_images, with_settlement}
 use Rattle.log_laws.specs.Slots.{Slots}
 use Rattle.world_laws.specs.Restarts.{AllNoted, CanRestart, HasNoName, MayChange, MayDirect, NamesDiffer}
 use Rattle.world_laws.specs.Running.{IsUnnoted}
 use Rattle.world_laws.proofs.EntryLemmas.{all_append, all_entered, all_more, all_prepared, all_settled, all_trimmed}
 use Rattle.world_laws.proofs.FileLemmas.{found_changed, found_mapped, found_placed, none_empty}
 use Rattle.world_laws.proofs.HeldLemmas.{noted_at}
-use Rattle.world_laws.proofs.KeepingLemmas.{changes_can_restart, halves_can_restart, marks_can_restart, noted_placed, tables_can_restart}
+use Rattle.world_laws.proofs.KeepingLemmas.{changes_can_restart, halves_can_restart, marks_can_restart, noted_placed, recovers_can_restart, saves_can_restart, tables_can_restart}
 use Rattle.world_laws.proofs.DirectLemmas.{directs_can_restart, live_same, none_of}
 use Rattle.world_laws.proofs.RestartLemmas.{noted_settled}
-use Rattle.world_laws.proofs.PlainLemmas.{ArePlain, changed_plain, end_changed, end_leaving, end_of_none, end_settled, half_plain, settled_plain}
-use Rattle.world_laws.specs.Nodes.{IsFiled, IsOf, IsOneEnd, IsPlain, IsPlainFile}
+use Rattle.world_laws.proofs.CarriedLemmas.{carried_changed, carried_marks, carried_recovers, carried_saved, carried_settled}
+use Rattle.world_laws.proofs.ImageLemmas.{images_changed, images_marked, images_recovered, images_settled}
+use Rattle.world_laws.proofs.KeptImages.{keeps_booted, keeps_changed, keeps_directs, keeps_half, keeps_later, keeps_marked, keeps_recovered, keeps_saved, keeps_settled}
+use Rattle.world_laws.proofs.MomentLemmas.{carries_later, kept_by}
+use Rattle.world_laws.proofs.PlainLemmas.{ArePlain, changed_plain, end_changed, end_leaving, end_of_none, end_settled, half_plain, plain_of, settled_plain}
+use Rattle.world_laws.specs.Entering.{MayEnterImages}
+use Rattle.world_laws.specs.Nodes.{CarriesPlain, FileCarriesBy, FileKeepsImages, IsFiled, IsOf, IsOneEnd, IsPlain, IsPlainFile, IsTellingBy}
 
 -- that an act of the table keeps them so
-abbrev pub IsSafeTable : table.Act → List ℕ → Durable → Type 0
-IsSafeTable (Prepares b) name d = IsOf name d.boot b.key.serial
-IsSafeTable (table.Settles k outcome reason r) name d = IsOf name d.boot k.serial
-IsSafeTable (Undoes k) name d = IsOf name d.boot k.serial
-IsSafeTable _ name d = Unit {0}
+abbrev pub IsSafeTable : table.Act → ℕ → List ℕ → Durable → Type 0
+IsSafeTable (Prepares b) moment name d = IsOf name d.boot b.key.serial
+IsSafeTable (table.Settles k outcome reason r) moment name d = IsOf name d.boot k.serial × (d.greatest < moment)
+IsSafeTable (Undoes k) moment name d = IsOf name d.boot k.serial × (d.greatest < moment)
+IsSafeTable _ moment name d = Unit {0}
 
 -- and that an act does
 abbrev pub IsSafe : Act → List ℕ → Durable → Type 0
-IsSafe (Creates place f) name d = (f.history.live ≡ []) × HasNoName f.name d.directory × IsUnnoted f.name d.units × (free_place d.directory ≡ Some place) × (get (current f.history) End ≡ None)
+IsSafe (Creates place f) name d = (f.history.live ≡ []) × HasNoName f.name d.directory × IsUnnoted f.name d.units × (free_place d.directory ≡ Some place) × (get (current f.history) End ≡ None) × IsPlainCarried f.carried × KeepsImages name d.boot d.greatest f
 IsSafe (Changes tid serial file cs keys) name d = MayChange d serial file cs × IsOf name d.boot serial × ArePlain cs
     × ((f : File) → find_file file d.directory ≡ Some f → f.organization ≡ Sequential → moves_end cs ≡ true → end_is_free serial f.history.live ≡ true)
-IsSafe (Directs file cs s) name d = MayDirect d s.serial file cs × IsOf name d.boot s.serial × ArePlain cs × (s.outcome ≡ Commit) × (s.reason ≡ None)
-IsSafe (Tables a moment) name d = IsSafeTable a name d
+    × ((f : File) → find_file file d.directory ≡ Some f → MayEnterImages serial cs f)
+IsSafe (Directs file cs s) name d = MayDirect d s.serial file cs × IsOf name d.boot s.serial × ArePlain cs × (s.outcome ≡ Commit) × (s.reason ≡ None) × (d.greatest < s.moment)
+    × ((f : File) → find_file file d.directory ≡ Some f → MayEnterImages s.serial cs f)
+IsSafe (Tables a moment) name d = IsSafeTable a moment name d
+IsSafe (Recovers file start buckets m) name d = ((f : File) → find_file file d.directory ≡ Some f → f.history.live ≡ []) × (get m End ≡ None)
+IsSafe (Marks file mark) name d = (f : File) → find_file file d.directory ≡ Some f → f.history.live ≡ []
+IsSafe (Saves file start) name d = (f : File) → find_file file d.directory ≡ Some f → f.history.live ≡ []
 IsSafe _ name d = Unit {0}
 
 -- Names.
@@ -140,23 +150,32 @@ empty_named zero = tt
 empty_named (suc k) = empty_named k
 
 -- a settlement, whatever becomes of the log
-pub settled_filed : (name : List ℕ) (s : Settlement) (log : Slots) (d : Durable) → IsOf name d.boot s.serial → IsFiled name d → IsFiled name (with_settlement (Some s) (record d { log = log }))
-settled_filed name s log d of h = record {
+pub settled_filed : (name : List ℕ) (s : Settlement) (log : Slots) (d : Durable) → IsOf name d.boot s.serial → d.greatest < s.moment → IsFiled name d → IsFiled name (with_settlement (Some s) (record d { log = log }))
+settled_filed name s log d of later h = record {
   can = noted_settled d.units s d.directory h.can;
   names = names_mapped (settled_file s) d.directory (λ f. refl) h.names;
   reached = all_settled (λ e. IsOf name d.boot (serial_in e)) s.tid s.serial s.outcome s.moment d.units h.reached of;
   plain = found_mapped IsPlainFile IsPlainFile (settled_file s) d.directory (λ f. refl)
       (λ file f found p. let n = noted_at d.units file d.directory f h.can found in settled_plain f.history p n.orderly s.serial s.outcome s.moment n.differ) h.plain;
+  carries = found_mapped CarriesPlain CarriesPlain (settled_file s) d.directory (λ f. refl)
+      (λ file f found k. carried_settled (changed_it f.history s.serial) s f.carried k) h.carries;
+  moments = found_mapped (FileCarriesBy d.greatest) (FileCarriesBy s.moment) (settled_file s) d.directory (λ f. refl)
+      (λ file f found k. images_settled (IsTellingBy s.moment) (changed_it f.history s.serial) s f.carried (omega arith) (carries_later d.greatest s.moment f.carried (omega (arith, later)) k)) h.moments;
+  images = found_mapped (FileKeepsImages name d.boot d.greatest) (FileKeepsImages name d.boot s.moment) (settled_file s) d.directory (λ f. refl)
+      (λ file f found k. keeps_settled name d.boot d.greatest f s later (noted_at d.units file d.directory f h.can found).differ of k) h.images;
   one = found_mapped IsOneEnd IsOneEnd (settled_file s) d.directory (λ f. refl) (λ file f found k. end_settled f.organization s.serial s.outcome s.moment f.history k) h.one;
 }
 
 pub disk_acted : (act : Act) (name : List ℕ) (v : Volatile) (d : Durable) → IsSafe act name d → IsFiled name d → IsFiled name (durable_after act v d)
-disk_acted (Formats slots journal) name v d safe h = record { can = empty_noted empty_journal 64; names = empty_named 64; reached = tt; plain = λ file f e. absurd (none_empty 64 file f e); one = λ file f e. absurd (none_empty 64 file f e) }
+disk_acted (Formats slots journal) name v d safe h = record { can = empty_noted empty_journal 64; names = empty_named 64; reached = tt; plain = λ file f e. absurd (none_empty 64 file f e); carries = λ file f e. absurd (none_empty 64 file f e); moments = λ file f e. absurd (none_empty 64 file f e); images = λ file f e. absurd (none_empty 64 file f e); one = λ file f e. absurd (none_empty 64 file f e) }
 disk_acted Boots name v d safe h = record {
   can = h.can;
   names = h.names;
   reached = all_more (λ e. IsOf name d.boot (serial_in e)) (λ e. IsOf name (d.boot + 1) (serial_in e)) d.units.entries (λ e k. (k.0, omega arith)) h.reached;
   plain = h.plain;
+  carries = h.carries;
+  moments = h.moments;
+  images = λ file f e. keeps_booted name d.boot d.greatest f (h.images file f e);
   one = h.one;
 }
 disk_acted (Creates place f) name v d safe h = record {
@@ -164,22 +183,58 @@ disk_acted (Creates place f) name v d safe h = record {
   names = names_placed f d.directory place safe.1 h.names;
   reached = h.reached;
   plain = found_placed IsPlainFile f d.directory place (not_found f.name d.directory safe.1) safe.3 (created_plain f safe.0 safe.4) h.plain;
+  carries = found_placed CarriesPlain f d.directory place (not_found f.name d.directory safe.1) safe.3 safe.5 h.carries;
+  moments = found_placed (FileCarriesBy d.greatest) f d.directory place (not_found f.name d.directory safe.1) safe.3 (kept_by name d.boot d.greatest f safe.6) h.moments;
+  images = found_placed (FileKeepsImages name d.boot d.greatest) f d.directory place (not_found f.name d.directory safe.1) safe.3 safe.6 h.images;
   one = found_placed IsOneEnd f d.directory place (not_found f.name d.directory safe.1) safe.3 (subst (OneMovesEndOf f.organization) (sym safe.0) (end_of_none f.organization)) h.one;
 }
-disk_acted (Marks file marked) name v d safe h = record {
-  can = marks_can_restart d v file marked h.can;
-  names = names_changed file (λ f. record f { recovery_units = marked }) d.directory (λ f. refl) h.names;
+disk_acted (Marks file mark) name v d safe h = record {
+  can = marks_can_restart d v file mark h.can;
+  names = names_changed file (marked_file mark d.greatest) d.directory (λ f. refl) h.names;
   reached = h.reached;
-  plain = found_changed IsPlainFile IsPlainFile file (λ f. record f { recovery_units = marked }) d.directory (λ f. refl) (λ f found p. p) (λ other f p. p) h.plain;
-  one = found_changed IsOneEnd IsOneEnd file (λ f. record f { recovery_units = marked }) d.directory (λ f. refl) (λ f found p. p) (λ other f p. p) h.one;
+  plain = found_changed IsPlainFile IsPlainFile file (marked_file mark d.greatest) d.directory (λ f. refl) (λ f found p. p) (λ other f p. p) h.plain;
+  carries = found_changed CarriesPlain CarriesPlain file (marked_file mark d.greatest) d.directory (λ f. refl) (λ f found k. carried_marks mark d.greatest f.carried k) (λ other f k. k) h.carries;
+  moments = found_changed (FileCarriesBy d.greatest) (FileCarriesBy d.greatest) file (marked_file mark d.greatest) d.directory (λ f. refl) (λ f found k. images_marked (IsTellingBy d.greatest) mark d.greatest f.carried k) (λ other f k. k) h.moments;
+  images = found_changed (FileKeepsImages name d.boot d.greatest) (FileKeepsImages name d.boot d.greatest) file (marked_file mark d.greatest) d.directory (λ f. refl) (λ f found k. keeps_marked name d.boot d.greatest f mark (safe f found) k) (λ other f k. k) h.images;
+  one = found_changed IsOneEnd IsOneEnd file (marked_file mark d.greatest) d.directory (λ f. refl) (λ f found p. p) (λ other f p. p) h.one;
 }
+disk_acted (Saves file start) name v d safe h = record {
+  can = saves_can_restart d v file start h.can;
+  names = names_changed file (saved_file start d.greatest) d.directory (λ f. refl) h.names;
+  reached = h.reached;
+  plain = found_changed IsPlainFile IsPlainFile file (saved_file start d.greatest) d.directory (λ f. refl) (λ f found p. p) (λ other f p. p) h.plain;
+  carries = found_changed CarriesPlain CarriesPlain file (saved_file start d.greatest) d.directory (λ f. refl) (λ f found k. carried_saved start d.greatest f (h.plain file f found).absent k) (λ other f k. k) h.carries;
+  moments = found_changed (FileCarriesBy d.greatest) (FileCarriesBy d.greatest) file (saved_file start d.greatest) d.directory (λ f. refl) (λ f found k. record { after = k.after; before = k.before }) (λ other f k. k) h.moments;
+  images = found_changed (FileKeepsImages name d.boot d.greatest) (FileKeepsImages name d.boot d.greatest) file (saved_file start d.greatest) d.directory (λ f. refl) (λ f found k. keeps_saved name d.boot d.greatest f start (safe f found) k) (λ other f k. k) h.images;
+  one = found_changed IsOneEnd IsOneEnd file (saved_file start d.greatest) d.directory (λ f. refl) (λ f found p. p) (λ other f p. p) h.one;
+}
+disk_acted (Recovers file start buckets m) name v d safe h = record {
+  can = recovers_can_restart d v file start buckets m h.can safe.0;
+  names = names_changed file change d.directory (λ f. refl) h.names;
+  reached = h.reached;
+  plain = found_changed IsPlainFile IsPlainFile file change d.directory (λ f. refl) (λ f found p. created_plain (change f) (safe.0 f found) (absent f (safe.0 f found))) (λ other f p. p) h.plain;
+  carries = found_changed CarriesPlain CarriesPlain file change d.directory (λ f. refl) (λ f found k. carried_recovers d.greatest f.carried k) (λ other f k. k) h.carries;
+  moments = found_changed (FileCarriesBy d.greatest) (FileCarriesBy d.greatest) file change d.directory (λ f. refl) (λ f found k. images_recovered (IsTellingBy d.greatest) d.greatest f.carried k) (λ other f k. k) h.moments;
+  images = found_changed (FileKeepsImages name d.boot d.greatest) (FileKeepsImages name d.boot d.greatest) file change d.directory (λ f. refl) (λ f found k. keeps_recovered name d.boot d.greatest f start buckets m (safe.0 f found) k) (λ other f k. k) h.images;
+  one = found_changed IsOneEnd IsOneEnd file change d.directory (λ f. refl) (λ f found p. p) (λ other f p. p) h.one;
+}
+  where
+    change : File → File
+    change = recovered_file start buckets m d.greatest
+
+    absent : (f : File) → f.history.live ≡ [] → get (current (change f).history) End ≡ None
+    absent f live = subst (λ (ls : List LiveChanges). get (on_top ls m) End ≡ None) (sym live) safe.1
 disk_acted (Changes tid serial file cs keys) name v d safe h = record {
   can = changes_can_restart d v tid serial file cs keys h.can safe.0;
-  names = names_changed file (changed_file (is_locked v.locks file) serial cs) d.directory (λ f. refl) h.names;
+  names = names_changed file (changed_file (is_locked v.locks file) tid serial cs) d.directory (λ f. refl) h.names;
   reached = all_append (λ e. IsOf name d.boot (serial_in e)) d.units.entries (entries_for tid serial file cs) h.reached (all_entered (λ e. IsOf name d.boot (serial_in e)) tid serial file cs (λ c. safe.1));
-  plain = found_changed IsPlainFile IsPlainFile file (changed_file (is_locked v.locks file) serial cs) d.directory (λ f. refl)
+  plain = found_changed IsPlainFile IsPlainFile file (changed_file (is_locked v.locks file) tid serial cs) d.directory (λ f. refl)
       (λ f found p. changed_plain f.history p (noted_at d.units file d.directory f h.can found).orderly serial cs safe.2 (safe.0.free f found) (safe.0.found f found)) (λ other f p. p) h.plain;
-  one = found_changed IsOneEnd IsOneEnd file (changed_file (is_locked v.locks file) serial cs) d.directory (λ f. refl)
+  carries = found_changed CarriesPlain CarriesPlain file (changed_file (is_locked v.locks file) tid serial cs) d.directory (λ f. refl) (λ f found k. carried_changed tid serial cs f.carried safe.2 k) (λ other f k. k) h.carries;
+  moments = found_changed (FileCarriesBy d.greatest) (FileCarriesBy d.greatest) file (changed_file (is_locked v.locks file) tid serial cs) d.directory (λ f. refl) (λ f found k. images_changed (IsTellingBy d.greatest) tid serial cs f.carried (λ key v. tt) k) (λ other f k. k) h.moments;
+  images = found_changed (FileKeepsImages name d.boot d.greatest) (FileKeepsImages name d.boot d.greatest) file (changed_file (is_locked v.locks file) tid serial cs) d.directory (λ f. refl)
+      (λ f found k. keeps_changed name d.boot d.greatest f (is_locked v.locks file) tid serial cs (noted_at d.units file d.directory f h.can found).differ safe.1 (safe.4 f found) k) (λ other f k. k) h.images;
+  one = found_changed IsOneEnd IsOneEnd file (changed_file (is_locked v.locks file) tid serial cs) d.directory (λ f. refl)
       (λ f found k. end_changed f.organization f.history.live serial cs (noted_at d.units file d.directory f h.can found).differ (safe.3 f found) k) (λ other f k. k) h.one;
 }
 disk_acted (Directs file [] s) name v d safe h = let some : has_changes [] ≡ true = safe.0.some in let none : ⊥ = cc in absurd none
@@ -187,11 +242,21 @@ disk_acted (Directs file (c ∷ cs) s) name v d safe h =
     let as_committed : ◌≡◌ {A = Settlement} (record { tid = s.tid; serial = s.serial; outcome = Commit; reason = None; moment = s.moment }) s =
     (λ i. record { tid = s.tid; serial = s.serial; outcome = sym safe.3 i; reason = sym safe.4 i; moment = s.moment }) in
     let change = directly_changed (is_locked v.locks file) s (c ∷ cs) in
+    let later : d.greatest ≤ s.moment = (let less = safe.5 in omega (arith, less)) in
     record {
       can = subst (λ t. CanRestart (durable_after (Directs file (c ∷ cs) t) v d)) as_committed (directs_can_restart d v file (c ∷ cs) s.tid s.serial s.moment h.can safe.0);
       names = names_changed file change d.directory (λ f. refl) h.names;
       reached = all_trimmed (λ e. IsOf name d.boot (serial_in e)) d.units h.reached;
       plain = found_changed IsPlainFile IsPlainFile file change d.directory (λ f. refl) (λ f found p. direct f found p) (λ other f p. p) h.plain;
+      carries = found_changed CarriesPlain CarriesPlain file change d.directory (λ f. refl)
+          (λ f found k. carried_settled (changed_it (changed_with s.serial (c ∷ cs) f.history) s.serial) s (with_images s.tid s.serial (c ∷ cs) f.carried) (carried_changed s.tid s.serial (c ∷ cs) f.carried safe.2 k)) (λ other f k. k) h.carries;
+      moments = found_changed (FileCarriesBy d.greatest) (FileCarriesBy s.moment) file change d.directory (λ f. refl)
+          (λ f found k. images_settled (IsTellingBy s.moment) (changed_it (changed_with s.serial (c ∷ cs) f.history) s.serial) s (with_images s.tid s.serial (c ∷ cs) f.carried) (omega arith)
+          (images_changed (IsTellingBy s.moment) s.tid s.serial (c ∷ cs) f.carried (λ key v. tt) (carries_later d.greatest s.moment f.carried later k)))
+          (λ other f k. carries_later d.greatest s.moment f.carried later k) h.moments;
+      images = found_changed (FileKeepsImages name d.boot d.greatest) (FileKeepsImages name d.boot s.moment) file change d.directory (λ f. refl)
+          (λ f found k. keeps_directs name d.boot d.greatest f (is_locked v.locks file) s (c ∷ cs) safe.5 (noted_at d.units file d.directory f h.can found).differ safe.1 (safe.6 f found) k)
+          (λ other f k. keeps_later name d.boot d.greatest s.moment f later k) h.images;
       one = found_changed IsOneEnd IsOneEnd file change d.directory (λ f. refl) (λ f found k. subst (OneMovesEndOf f.organization) (sym (live f found)) k) (λ other f k. k) h.one;
     }
   where
@@ -211,11 +276,14 @@ disk_acted (Tables (Prepares b) moment) name v d safe h = record {
   names = h.names;
   reached = all_prepared (λ e. IsOf name d.boot (serial_in e)) b d.units h.reached safe;
   plain = h.plain;
+  carries = h.carries;
+  moments = h.moments;
+  images = h.images;
   one = h.one;
 }
-disk_acted (Tables (table.Settles k outcome reason r) moment) name v d safe h = settled_filed name (settlement k outcome reason moment) _ d safe h
-disk_acted (Tables (Undoes k) moment) name v d safe h = settled_filed name (settlement k Abort SegFail moment) _ d safe h
-disk_acted (Tables _ moment) name v d safe h = record { can = h.can; names = h.names; reached = h.reached; plain = h.plain; one = h.one }
+disk_acted (Tables (table.Settles k outcome reason r) moment) name v d safe h = settled_filed name (settlement k outcome reason moment) _ d safe.0 safe.1 h
+disk_acted (Tables (Undoes k) moment) name v d safe h = settled_filed name (settlement k Abort SegFail moment) _ d safe.0 safe.1 h
+disk_acted (Tables _ moment) name v d safe h = record { can = h.can; names = h.names; reached = h.reached; plain = h.plain; carries = h.carries; moments = h.moments; images = h.images; one = h.one }
 disk_acted ComesUp name v d safe h = h
 disk_acted Draws name v d safe h = h
 disk_acted (Labels l) name v d safe h = h
@@ -234,6 +302,9 @@ half_filed name serial standing d may h = record {
   names = names_mapped (half_undone serial standing) d.directory (λ f. refl) h.names;
   reached = h.reached;
   plain = found_mapped IsPlainFile IsPlainFile (half_undone serial standing) d.directory (λ f. refl) (λ file f found p. half_plain serial (standing f.name) f.history p (noted_at d.units file d.directory f h.can found).orderly) h.plain;
+  carries = found_mapped CarriesPlain CarriesPlain (half_undone serial standing) d.directory (λ f. refl) (λ file f found k. k) h.carries;
+  moments = found_mapped (FileCarriesBy d.greatest) (FileCarriesBy d.greatest) (half_undone serial standing) d.directory (λ f. refl) (λ file f found k. k) h.moments;
+  images = found_mapped (FileKeepsImages name d.boot d.greatest) (FileKeepsImages name d.boot d.greatest) (half_undone serial standing) d.directory (λ f. refl) (λ file f found k. keeps_half name d.boot d.greatest f serial standing k) h.images;
   one = found_mapped IsOneEnd IsOneEnd (half_undone serial standing) d.directory (λ f. refl)
       (λ file f found k. let at = place_of file d.directory f found in end_leaving serial (standing f.name) f.organization f.history.live (may at.0 f at.1).images k) h.one;
 }

@@ -10,7 +10,7 @@ use Rattle.commit_protocol.specs.Messages.{LogRecord}
 use Rattle.commit_protocol.specs.Table as table
 use Rattle.log_laws.specs.Slots.{prepared_of, committed_of, records_in}
 use Rattle.run_model.specs.Locks.{Lock}
-use Rattle.run_model.specs.World.{Act, Arms, Boots, Changes, Clocks, ComesUp, Creates, Declares, Directs, Draws, Durable, Falls, Formats, Holds, IsLogInOrder, Labels, Marks, MayTurnOut, Node, Numbers, Outturn, Shared, Tables, Unknown, acted, durable_after, made_volume, powered, prepared_left, relocked, relocked_by, shared_after, shared_tabled, unpowered, IsOfTransaction, without_units, IsReached}
+use Rattle.run_model.specs.World.{Act, Arms, Boots, Changes, Clocks, ComesUp, Creates, Declares, Directs, Draws, Durable, Falls, Formats, Holds, IsLogInOrder, Labels, Marks, Saves, Recovers, MayTurnOut, Node, Numbers, Outturn, Shared, Tables, Unknown, acted, durable_after, made_volume, powered, prepared_left, relocked, relocked_by, shared_after, shared_tabled, unpowered, IsOfTransaction, without_units, IsReached}
 use Rattle.run_model.specs.Answers.{Row, Service, Unused, Powered, MadeAnew, boot_rows, lock_limit, occupies, plain, powers, silent, spoils, refused_before_reading}
 use Rattle.run_model.specs.Operations.{refused_if}
 use Rattle.run_model.specs.Steps.{Choice, Cut, Unpowered, Whole, WithoutMemory, ServiceAllowed, act_begun, begun, cut, node_after, node_after_rows, occupied, ready_node, rows_if, rows_to_cut, service_effect, shared_after_rows, shared_then, spoilt, succeeded, whole}
@@ -50,7 +50,9 @@ acted_use (Formats slots journal) s = refl
 acted_use Boots s = refl
 acted_use ComesUp s = refl
 acted_use (Creates place file) s = refl
-acted_use (Marks file units) s = refl
+acted_use (Marks file mark) s = refl
+acted_use (Saves file start) s = refl
+acted_use (Recovers file start buckets m) s = refl
 acted_use Draws s = refl
 acted_use (Changes tid serial file changes keys) s = refl
 acted_use (Holds serial file keys) s = refl
@@ -169,7 +171,7 @@ same_kept s n m name durable volatile way up h = record {
 kept_spoilt : (b : Bool) (n : Node) → IsKeptDisk n → IsKeptDisk (spoilt b n)
 kept_spoilt false n k = k
 kept_spoilt true n k = record {
-  filed = record { can = k.filed.can; names = k.filed.names; reached = k.filed.reached; plain = k.filed.plain; one = k.filed.one };
+  filed = record { can = k.filed.can; names = k.filed.names; reached = k.filed.reached; plain = k.filed.plain; carries = k.filed.carries; moments = k.filed.moments; images = k.filed.images; one = k.filed.one };
   log = record { distinct = k.log.distinct; reached = k.log.reached; prepared_within = k.log.prepared_within; committed_within = k.log.committed_within; prepared = k.log.prepared; active = k.log.active; transactions = k.log.transactions; unsettled = k.log.unsettled; few = k.log.few; slots = k.log.slots };
   unnoted = k.unnoted;
   few = subst (λ (ls : List Lock). length ls ≤ lock_limit) (sym (same_locks n.durable (prepared_left n.durable) [])) k.few;

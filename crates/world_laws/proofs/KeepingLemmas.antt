@@ -8,17 +8,17 @@ use Rattle.std.proofs.lemmas.Slice.Eq.{bytes_eq-Decides}
 use Rattle.vms_model.specs.Ids.{Id}
 use Rattle.vms_model.specs.Keys.{Key}
 use Rattle.vms_model.specs.Transactions.{Abort, SegFail}
-use Rattle.records_model.specs.Records.{Change, Found}
+use Rattle.records_model.specs.Records.{Change, Found, Records}
 use Rattle.records_model.specs.History.{current, changed_with}
 use Rattle.unit_laws.specs.Units.{has_changes, is_free}
-use Rattle.unit_laws.specs.Journal.{Journal, PreparedEntry, RecoveryUnit, entries_for, find_unit, is_settled_in, units_in, with_entries}
+use Rattle.unit_laws.specs.Journal.{Journal, PreparedEntry, empty_journal, RecoveryUnit, entries_for, find_unit, is_settled_in, units_in, with_entries}
 use Rattle.unit_laws.specs.JournalLaws.{HasNotes}
 use Rattle.unit_laws.proofs.NoteLemmas.{changes_keep_notes, changes_elsewhere_keep_notes, prepares_keep_notes, unchanged_has_notes}
 use Rattle.commit_protocol.specs.Table as table
 use Rattle.commit_protocol.specs.Table.{Branch, Prepares, Undoes}
 use Rattle.run_model.specs.Locks.{is_locked}
-use Rattle.run_model.specs.World.{File, changed_file, find_file, half_undone, settlement, with_file, with_prepared}
-use Rattle.world_laws.specs.Restarts.{AllNoted, HasNoName, NamesDiffer, ChangesCanRestart, TablesCanRestart, HalvesCanRestart, CreatesCanRestart, MarksCanRestart}
+use Rattle.run_model.specs.World.{File, Mark, changed_file, find_file, half_undone, marked_file, recovered_file, saved_file, settlement, with_file, with_prepared}
+use Rattle.world_laws.specs.Restarts.{AllNoted, HasNoName, NamesDiffer, ChangesCanRestart, TablesCanRestart, HalvesCanRestart, CreatesCanRestart, MarksCanRestart, SavesCanRestart, RecoversCanRestart}
 use Rattle.world_laws.proofs.RestartLemmas.{noted_settled}
 use Rattle.world_laws.proofs.HalfLemmas.{noted_half}
 
@@ -47,13 +47,13 @@ module _ (tid serial : Id) (file : List ℕ) (cs : List Change) (held : Key → 
   here f t h free = subst (λ x. HasNotes (with_entries (entries_for tid serial x cs) units) f.name (changed_with serial cs f.history)) (sym ((bytes_eq-Decides file f.name).0 t))
       (changes_keep_notes units f.name f.history tid serial cs h unsettled some free.0 free.1)
 
-  pub changes_noted : (fs : List (Option File)) → NamesDiffer fs → AllNoted units fs → ((f : File) → find_file file fs ≡ Some f → AreFree f) → AllNoted entered (with_file file (changed_file held serial cs) fs)
+  pub changes_noted : (fs : List (Option File)) → NamesDiffer fs → AllNoted units fs → ((f : File) → find_file file fs ≡ Some f → AreFree f) → AllNoted entered (with_file file (changed_file held tid serial cs) fs)
   changes_noted [] d h free = tt
   changes_noted (None ∷ fs) d h free = changes_noted fs d h free
   changes_noted (Some f ∷ fs) d h free = go (bytes_eq file f.name) refl (λ t. changes_noted fs d.1 h.1 (λ g e. free g (found_behind file f g fs t e)))
     where
-      go : (b : Bool) → bytes_eq file f.name ≡ b → (bytes_eq file f.name ≡ false → AllNoted entered (with_file file (changed_file held serial cs) fs)) →
-          AllNoted entered (if b then Some (changed_file held serial cs f) ∷ fs else Some f ∷ with_file file (changed_file held serial cs) fs)
+      go : (b : Bool) → bytes_eq file f.name ≡ b → (bytes_eq file f.name ≡ false → AllNoted entered (with_file file (changed_file held tid serial cs) fs)) →
+          AllNoted entered (if b then Some (changed_file held tid serial cs f) ∷ fs else Some f ∷ with_file file (changed_file held tid serial cs) fs)
       go true t more = (here f t h.0 (free f (found_here file f fs t)), elsewhere fs (subst (λ x. HasNoName x fs) (sym ((bytes_eq-Decides file f.name).0 t)) d.0) h.1)
       go false t more = (changes_elsewhere_keep_notes units f.name file f.history tid serial cs h.0 (λ e. both_ways _ t ((bytes_eq-Decides file f.name).1 (sym e))) unsettled, more t)
 
@@ -100,11 +100,32 @@ noted_placed units f (Some g ∷ fs) (suc place) k h = (h.0, noted_placed units 
 pub creates_can_restart : CreatesCanRestart
 creates_can_restart d v place f h live none = noted_placed d.units f d.directory place (unchanged_has_notes d.units f.name f.history live none) h
 
-noted_marked : (units : Journal) (file : List ℕ) (marked : Bool) (fs : List (Option File)) → AllNoted units fs → AllNoted units (with_file file (λ f. record f { recovery_units = marked }) fs)
-noted_marked units file marked [] h = tt
-noted_marked units file marked (None ∷ fs) h = noted_marked units file marked fs h
-noted_marked units file marked (Some f ∷ fs) h =
-    cond_both (bytes_eq file f.name) (Some (record f { recovery_units = marked }) ∷ fs) (Some f ∷ with_file file (λ f. record f { recovery_units = marked }) fs) (AllNoted units) (λ e. h) (λ e. (h.0, noted_marked units file marked fs h.1))
+-- one file is changed, of which the journal has the notes still
+noted_with : (units : Journal) (file : List ℕ) (change : File → File) (fs : List (Option File)) → ((f : File) → find_file file fs ≡ Some f → HasNotes units f.name f.history → HasNotes units (change f).name (change f).history) →
+    AllNoted units fs → AllNoted units (with_file file change fs)
+noted_with units file change [] k h = tt
+noted_with units file change (None ∷ fs) k h = noted_with units file change fs k h
+noted_with units file change (Some f ∷ fs) k h = go (bytes_eq file f.name) refl (λ t. noted_with units file change fs (λ g e. k g (found_behind file f g fs t e)) h.1)
+  where
+    go : (b : Bool) → bytes_eq file f.name ≡ b → (bytes_eq file f.name ≡ false → AllNoted units (with_file file change fs)) → AllNoted units (if b then Some (change f) ∷ fs else Some f ∷ with_file file change fs)
+    go true t more = (k f (found_here file f fs t) h.0, h.1)
+    go false t more = (h.0, more t)
 
 pub marks_can_restart : MarksCanRestart
-marks_can_restart d v file marked h = noted_marked d.units file marked d.directory h
+marks_can_restart d v file mark h = noted_with d.units file (marked_file mark d.greatest) d.directory (λ f e k. k) h
+
+pub saves_can_restart : SavesCanRestart
+saves_can_restart d v file start h = noted_with d.units file (saved_file start d.greatest) d.directory (λ f e k. k) h
+
+-- a file that rests, with another base
+rebased_noted : (units : Journal) (start buckets greatest : ℕ) (m : Records) (f : File) → f.history.live ≡ [] → HasNotes units f.name f.history → HasNotes units f.name (recovered_file start buckets m greatest f).history
+rebased_noted units start buckets greatest m f live k = record {
+  notes = k.notes;
+  units = k.units;
+  some = k.some;
+  differ = k.differ;
+  orderly = (unchanged_has_notes empty_journal f.name (recovered_file start buckets m greatest f).history live refl).orderly;
+}
+
+pub recovers_can_restart : RecoversCanRestart
+recovers_can_restart d v file start buckets m h rests = noted_with d.units file (recovered_file start buckets m d.greatest) d.directory (λ f e k. rebased_noted d.units start buckets d.greatest m f (rests f e) k) h

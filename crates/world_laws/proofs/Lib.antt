@@ -22,6 +22,12 @@ pub mod TableLemmas
 pub mod ToldLemmas
 pub mod FileLemmas
 pub mod PlainLemmas
+pub mod CarriedLemmas
+pub mod ImageLemmas
+pub mod StateLemmas
+pub mod MomentLemmas
+pub mod KeptImages
+pub mod ToldImages
 pub mod DiskLemmas
 pub mod LogLemmas
 pub mod RunningLemmas
@@ -34,6 +40,7 @@ pub mod BootLemmas
 pub mod UndoLemmas
 pub mod ComeUp
 pub mod ServedLemmas
+pub mod FileRows
 pub mod OperationLemmas
 pub mod NodeLemmas
 pub mod EffectLemmas

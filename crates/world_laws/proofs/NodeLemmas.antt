@@ -9,7 +9,7 @@ use Rattle.unit_laws.specs.Units.{Map, moves_end, IsImage}
 use Rattle.commit_protocol.specs.Messages.{LogRecord}
 use Rattle.commit_protocol.specs.World.{In}
 use Rattle.log_laws.specs.Slots.{prepared_of, records_in}
-use Rattle.run_model.specs.World.{Act, Boots, ComesUp, Changes, Creates, Directs, File, Formats, Half, IsHalfUndone, IsLogInOrder, Lost, Marks, MayTurnOut, Node, Outturn, Shared, Tables, Taken, aborted_prepared, acted, durable_after, fallen, find_file, half_undone, is_durable, powered, with_half, Numbers, leaving, Labels, Clocks, Declares, Falls, Draws, Holds, Arms}
+use Rattle.run_model.specs.World.{Act, Boots, ComesUp, Changes, Creates, Directs, File, Formats, Half, IsHalfUndone, IsLogInOrder, Lost, Marks, Saves, Recovers, MayTurnOut, Node, Outturn, Shared, Tables, Taken, aborted_prepared, acted, durable_after, fallen, find_file, half_undone, is_durable, powered, with_half, Numbers, leaving, Labels, Clocks, Declares, Falls, Draws, Holds, Arms}
 use Rattle.run_model.specs.Answers.{Row}
 use Rattle.run_model.specs.Steps.{act_begun, if_durable, node_after, node_after_rows}
 use Rattle.world_laws.proofs.DiskLemmas.{half_filed, place_of}
@@ -65,7 +65,9 @@ kept_at (suc k) (r ∷ rs) n h = kept_at k rs (node_after r.act n) h.1
 pub acted_disk : (act : Act) (n : Node) → is_durable act ≡ true → (acted act n).durable ≡ durable_after act n.volatile n.durable
 acted_disk Boots n e = refl
 acted_disk (Creates place f) n e = refl
-acted_disk (Marks file units) n e = refl
+acted_disk (Marks file mark) n e = refl
+acted_disk (Saves file start) n e = refl
+acted_disk (Recovers file start buckets m) n e = refl
 acted_disk (Changes tid serial file changes keys) n e = refl
 acted_disk (Directs file changes s) n e = refl
 acted_disk (Tables a moment) n e = refl
@@ -88,7 +90,9 @@ acted_name _ n = refl
 acted_up : (act : Act) (n : Node) → is_durable act ≡ true → (acted act n).up ≡ n.up
 acted_up Boots n e = refl
 acted_up (Creates place f) n e = refl
-acted_up (Marks file units) n e = refl
+acted_up (Marks file mark) n e = refl
+acted_up (Saves file start) n e = refl
+acted_up (Recovers file start buckets m) n e = refl
 acted_up (Changes tid serial file changes keys) n e = refl
 acted_up (Directs file changes s) n e = refl
 acted_up (Tables a moment) n e = refl

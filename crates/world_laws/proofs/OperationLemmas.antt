@@ -10,18 +10,24 @@ use Rattle.transcript_model.specs.Lines.{Line}
 use Rattle.script_model.specs.Statements.{Operation, Put, Update, Delete, Truncate, Get, Next}
 use Rattle.records_model.specs.Records.{Change, Found}
 use Rattle.records_model.specs.History.{LiveChanges, changes_by, changes_key, current}
-use Rattle.unit_laws.specs.Units.{SerialsDiffer, end_is_free, is_free, moves_end}
+use Rattle.unit_laws.specs.Units.{SerialsDiffer, end_is_free, is_free, moves_end, has_changes}
 use Rattle.unit_laws.specs.Journal.{RecoveryUnit, find_unit, units_in}
 use Rattle.unit_laws.specs.JournalLaws.{is_unit}
 use Rattle.commit_protocol.specs.Table.{Branch, State, Active, Joining, Ending, Voting, Prepared}
 use Rattle.commit_protocol.specs.Allowed.{is_active, is_prepared, is_working}
 use Rattle.commit_protocol.specs.World.{In}
 use Rattle.run_model.specs.Locks.{holder, not_locked}
-use Rattle.run_model.specs.World.{File, Node, Organization, Sequential, find_file, next_id, serials_of}
+use Rattle.run_model.specs.World.{File, Node, Organization, Sequential, find_file, next_id, serials_of, state_of}
 use Rattle.run_model.specs.Operations.{changes_of, data_refused, delete_refused, form_refused, keys_asked, keys_found, keys_held, put_keys, count_of, update_refused, record_in, key_refused}
-use Rattle.run_model.specs.Answers.{changes_at, commit_settlement, directed, held_against, is_marked, keys_at, keys_refused, lock_limit, more_locks, operated, operation_act, silent}
+use Rattle.run_model.specs.Answers.{changes_at, commit_settlement, directed, held_against, is_marked, keys_at, keys_refused, lock_limit, more_locks, operated, operation_act, silent, full_line, images_full}
+use Rattle.recovery_model.specs.File.{IsOpenIn}
+use Rattle.recovery_model.specs.Room.{Full, full_of}
+use Rattle.std.specs.Option.{option_map}
+use Rattle.world_laws.specs.Entering.{MayEnterImages}
+use Rattle.world_laws.proofs.ToldImages.{unsettled_in_images, undrawn_open}
 use Rattle.world_laws.specs.Restarts.{AreHeld, MayChange, MayDirect}
 use Rattle.world_laws.specs.Running.{AreHeldIn, history_of}
+use Rattle.world_laws.proofs.MomentLemmas.{next_later}
 use Rattle.world_laws.proofs.IdLemmas.{in_front}
 use Rattle.world_laws.proofs.AnswerLemmas.{neither, not_refused}
 use Rattle.world_laws.proofs.EntryLemmas.{all_more}
@@ -86,7 +92,7 @@ all_in_front [] more = tt
 all_in_front (k ∷ ks) more = (inl refl, all_more (λ (x : Key). In x (ks ++ more)) (λ (x : Key). In x (k ∷ ks ++ more)) ks (λ x i. inr i) (all_in_front ks more))
 
 -- keys that are refused to no branch are refused to none
-refused_to_all : (n : Node) (serial : Id) (file : List ℕ) (ks : List Key) → keys_refused n None file ks ≡ None → keys_refused n (Some serial) file ks ≡ None
+pub refused_to_all : (n : Node) (serial : Id) (file : List ℕ) (ks : List Key) → keys_refused n None file ks ≡ None → keys_refused n (Some serial) file ks ≡ None
 refused_to_all n serial file [] e = refl
 refused_to_all n serial file (k ∷ ks) e =
     let parts = neither (held_against None (holder n.volatile.locks file k)) (keys_refused n None file ks) e in
@@ -97,7 +103,7 @@ refused_to_all n serial file (k ∷ ks) e =
     nobody (Some by) e = let none : ⊥ = cc in absurd none
 
 -- a branch that works is not prepared
-working : (b : Branch) → is_working b ≡ true → is_prepared b.state ≡ false
+pub working : (b : Branch) → is_working b ≡ true → is_prepared b.state ≡ false
 working b e = go b.state (and_parts (is_active b.state) (not b.ended) e).0
   where
     go : (s : State) → is_active s ≡ true → is_prepared s ≡ false
@@ -113,6 +119,15 @@ marked_is f e = go f.recovery_units (not_refused (not f.recovery_units) line.Not
     go : (b : Bool) → not b ≡ false → b ≡ true
     go true k = refl
     go false k = let none : ⊥ = cc in absurd none
+
+no_full : (o : Option Full) → option_map full_line o ≡ None → o ≡ None
+no_full (Some r) e = let none : ⊥ = cc in absurd none
+no_full None e = refl
+
+-- changes that no full ring refuses
+pub fits_images : (serial : Id) (cs : List Change) (f : File) → has_changes cs ≡ true → images_full serial cs f ≡ None → full_of serial cs (state_of f) ≡ None
+fits_images serial [] f some e = let none : ⊥ = cc in absurd none
+fits_images serial (c ∷ cs) f some e = no_full (full_of serial (c ∷ cs) (state_of f)) e
 
 module _ (n : Node) (h : IsUp n) (room : IsRoomy n) where
   -- the keys of changes that are refused to nobody are free
@@ -138,9 +153,19 @@ module _ (n : Node) (h : IsUp n) (room : IsRoomy n) where
   plain_changes : (file : List ℕ) (op : Operation) (f : File) → find_file file n.durable.directory ≡ Some f → data_refused f op ≡ None → ArePlain (changes_of f op)
   plain_changes file op f found passed = changes_plain f op (h.filed.plain file f found).absent passed
 
+  -- changes may be entered in the images of their file
+  pub enters : (serial : Id) (file : List ℕ) (op : Operation) (f : File) (cs : List Change) → find_file file n.durable.directory ≡ Some f → changes_of f op ≡ cs → has_changes cs ≡ true → IsOpenIn serial (state_of f) → data_refused f op ≡ None →
+      keys_refused n (Some serial) file (keys_asked f op) ≡ None → images_full serial (changes_of f op) f ≡ None → (g : File) → find_file file n.durable.directory ≡ Some g → MayEnterImages serial cs g
+  enters serial file op f cs found is some unsettled passed e full g at = subst (MayEnterImages serial cs) (some_is f g (sym found ∙ at)) (record {
+    begins = λ none. unsettled;
+    free = subst (AllByRecursion (λ (c : Change). is_free serial f.history.live c.key ≡ true)) is (free_keys serial file op f found passed e);
+    found = subst (λ ds. Found ds (current f.history)) is (changes_found f op);
+    fits = fits_images serial cs f some (subst (λ ds. images_full serial ds f ≡ None) is full);
+  })
+
   pub operation_keeps : (b : Branch) (file : List ℕ) (op : Operation) (f : File) → In b n.volatile.branches → is_working b ≡ true → find_file file n.durable.directory ≡ Some f → form_refused f op ≡ None → data_refused f op ≡ None → is_marked f ≡ None →
-      keys_refused n (Some b.key.serial) file (keys_asked f op) ≡ None → more_locks n file (keys_held f op) ≡ None → RowsKeep (operated n file op b ∷ []) n
-  operation_keeps b file op f i works found form passed marked e locks =
+      keys_refused n (Some b.key.serial) file (keys_asked f op) ≡ None → more_locks n file (keys_held f op) ≡ None → images_full b.key.serial (changes_of f op) f ≡ None → RowsKeep (operated n file op b ∷ []) n
+  operation_keeps b file op f i works found form passed marked e locks full =
       subst (λ cs. RowsKeep (silent (operation_act b file cs (keys_at n file op)) ∷ []) n) (sym (changes_there n file op f found))
       (subst (λ keys. RowsKeep (silent (operation_act b file (changes_of f op) keys) ∷ []) n) (sym (keys_there n file op f found)) (go (changes_of f op) refl))
     where
@@ -169,6 +194,7 @@ module _ (n : Node) (h : IsUp n) (room : IsRoomy n) where
             subst ArePlain is (plain_changes file op f found passed),
             λ g at q m. subst (λ (w : File). w.organization ≡ Sequential → moves_end (c ∷ cs) ≡ true → end_is_free b.key.serial w.history.live ≡ true) (some_is f g (sym found ∙ at))
                 (λ q m. end_is_free_for n.volatile.locks file b.key.serial f (noted_at n.durable.units file n.durable.directory f h.filed.can found).differ q (h.holding.files file f found).end (ends q m).1) q m,
+            enters b.key.serial file op f (c ∷ cs) found is refl (unsettled_in_images b.key.serial file f (h.running.images.unsettled b i (working b works) file f found)) passed e full,
           )
           f found (marked_is f marked) (subst (AllByRecursion (λ (c : Change). In c.key (keys_held f op) × IsFreeFor n.volatile.locks file b.key.serial c.key)) is (own_keys b.key.serial file op f passed e)) ends has h in
           record { up = (h, up); room = let l = length_changed b.key.serial n.volatile.branches in omega (arith, l, room) }
@@ -180,8 +206,8 @@ module _ (n : Node) (h : IsUp n) (room : IsRoomy n) where
       go (Some u) k = let r = h.table.branches (next_id n) u k in absurd (undrawn n (r.branch).key.serial (branch_drawn n h.table (r.branch).key.serial (in_serials r.branch n.volatile.branches r.there)) r.serial)
       go None k = refl
 
-  pub direct_keeps : (file : List ℕ) (op : Operation) (f : File) → find_file file n.durable.directory ≡ Some f → data_refused f op ≡ None → keys_refused n None file (keys_asked f op) ≡ None → RowsKeep (directed n file (changes_at n file op)) n
-  direct_keeps file op f found passed e = subst (λ cs. RowsKeep (directed n file cs) n) (sym (changes_there n file op f found)) (go (changes_of f op) refl)
+  pub direct_keeps : (file : List ℕ) (op : Operation) (f : File) → find_file file n.durable.directory ≡ Some f → data_refused f op ≡ None → keys_refused n None file (keys_asked f op) ≡ None → images_full (next_id n) (changes_of f op) f ≡ None → RowsKeep (directed n file (changes_at n file op)) n
+  direct_keeps file op f found passed e full = subst (λ cs. RowsKeep (directed n file cs) n) (sym (changes_there n file op f found)) (go (changes_of f op) refl)
     where
       go : (cs : List Change) → changes_of f op ≡ cs → RowsKeep (directed n file cs) n
       go [] is = nothing_done n h room
@@ -194,4 +220,19 @@ module _ (n : Node) (h : IsUp n) (room : IsRoomy n) where
                 (subst (AllByRecursion (λ (c : Change). is_free (next_id n) f.history.live c.key ≡ true)) is free);
             found = λ g at. subst (λ (w : File). Found (c ∷ cs) (current w.history)) (some_is f g (sym found ∙ at)) (subst (λ ds. Found ds (current f.history)) is (changes_found f op));
           } in
-          record { up = (h, directed_up file c cs (commit_settlement n (next_id n) (next_id n)) n (may, (refl, omega arith), subst ArePlain is (plain_changes file op f found passed), refl, refl) h); room = room }
+          record {
+            up = (
+              h,
+              directed_up file c cs (commit_settlement n (next_id n) (next_id n)) n (
+                may,
+                (refl, omega arith),
+                subst ArePlain is (plain_changes file op f found passed),
+                refl,
+                refl,
+                next_later n,
+                enters (next_id n) file op f (c ∷ cs) found is refl (unsettled_in_images (next_id n) file f (undrawn_open n.name n.durable.boot n.volatile.drawn (next_id n) n.durable.directory (undrawn n) h.running.images.drawn file f found)) passed
+                    (refused_to_all n (next_id n) file (keys_asked f op) e) full,
+              ) (refl, inr (refl, omega arith)) (undrawn n) h,
+            );
+            room = room;
+          }

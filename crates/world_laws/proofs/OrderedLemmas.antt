@@ -21,9 +21,9 @@ use Rattle.commit_protocol.specs.Table.{Branch, Prepares, Undoes}
 use Rattle.log_laws.specs.Slots.{Slots, slots_after}
 use Rattle.run_model.specs.World as world
 use Rattle.run_model.specs.Locks.{is_locked}
-use Rattle.run_model.specs.World.{Durable, File, IsOfTransaction, Settlement, changed_file, directly_changed, find_file, free_place, half_undone, settled_file, settlement, tid_in, with_file, with_settlement}
+use Rattle.run_model.specs.World.{Durable, File, IsOfTransaction, Settlement, changed_file, directly_changed, find_file, free_place, half_undone, marked_file, recovered_file, saved_file, settled_file, settlement, tid_in, with_file, with_settlement}
 use Rattle.run_model.specs.Answers.{branch_limit, change_limit, owed_first}
-use Rattle.world_laws.specs.Ordered.{AreFew, AreFewOver, AreInOrder, BootsKeepOrder, ChangesKeepOrder, CreatesKeepOrder, DirectsKeepOrder, FormatsInOrder, IsNoteOf, IsSettledBy, HalvesKeepOrder, IsJournalInOrder, MarksKeepOrder, MayFollow, MayPrepare, Suits, TablesKeepOrder, is_preparing}
+use Rattle.world_laws.specs.Ordered.{AreFew, AreFewOver, AreInOrder, BootsKeepOrder, ChangesKeepOrder, CreatesKeepOrder, DirectsKeepOrder, FormatsInOrder, IsNoteOf, IsSettledBy, HalvesKeepOrder, IsJournalInOrder, MarksKeepOrder, RecoversKeepOrder, SavesKeepOrder, MayFollow, MayPrepare, Suits, TablesKeepOrder, is_preparing}
 use Rattle.world_laws.proofs.IdLemmas.{id_is, id_itself}
 use Rattle.world_laws.proofs.FewLemmas.{few_entered, few_from, few_in, few_more}
 use Rattle.world_laws.proofs.FindLemmas.{either_way, mapped_file, placed_file, some_is}
@@ -145,7 +145,7 @@ pub changes_keep_order : ChangesKeepOrder
 changes_keep_order d v tid serial file cs keys h m =
     let es = d.units.entries in
     let more = entries_for tid serial file cs in
-    let change = changed_file (is_locked v.locks file) serial cs in
+    let change = changed_file (is_locked v.locks file) tid serial cs in
     let follows : (e : JournalEntry) → is_settling serial e ≡ false → is_preparing serial e ≡ false → IsOfTransaction tid serial e → AllByRecursion (MayFollow e) more =
     λ e u p t. all_entered (MayFollow e) tid serial file cs (λ c. record { unsettled = u; settles = λ q. absurd (both_ways _ p q); transaction = t }) in
     record {
@@ -342,8 +342,27 @@ pub boots_keep_order : BootsKeepOrder
 boots_keep_order d v h = record { suit = h.suit; order = h.order; few = h.few; moments = h.moments; fits = h.fits }
 
 pub marks_keep_order : MarksKeepOrder
-marks_keep_order d v file marked h = record {
-  suit = all_more (Suits d.directory) (Suits (with_file file (λ f. record f { recovery_units = marked }) d.directory)) d.units.entries (suits_changed file (λ f. record f { recovery_units = marked }) d.directory (λ f. refl) (λ f key before k. k)) h.suit;
+marks_keep_order d v file mark h = record {
+  suit = all_more (Suits d.directory) (Suits (with_file file (marked_file mark d.greatest) d.directory)) d.units.entries (suits_changed file (marked_file mark d.greatest) d.directory (λ f. refl) (λ f key before k. k)) h.suit;
+  order = h.order;
+  few = h.few;
+  moments = h.moments;
+  fits = h.fits;
+}
+
+pub saves_keep_order : SavesKeepOrder
+saves_keep_order d v file start h = record {
+  suit = all_more (Suits d.directory) (Suits (with_file file (saved_file start d.greatest) d.directory)) d.units.entries (suits_changed file (saved_file start d.greatest) d.directory (λ f. refl) (λ f key before k. k)) h.suit;
+  order = h.order;
+  few = h.few;
+  moments = h.moments;
+  fits = h.fits;
+}
+
+pub recovers_keep_order : RecoversKeepOrder
+recovers_keep_order d v file start buckets m h = record {
+  suit = all_more (Suits d.directory) (Suits (with_file file (recovered_file start buckets m d.greatest) d.directory)) d.units.entries
+      (suits_changed file (recovered_file start buckets m d.greatest) d.directory (λ f. refl) (λ f key before k. k)) h.suit;
   order = h.order;
   few = h.few;
   moments = h.moments;

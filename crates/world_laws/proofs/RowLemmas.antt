@@ -1,10 +1,10 @@
 -- What holds of a node that is up, act by act of a row of its table.
-use Rattle.std.proofs.Common.{◌≡◌, ◌⊎◌, ◌≤◌, ℕ, List, [], ◌∷◌, ◌++◌, length, true, false, Option, Some, None, refl, sym, ◌∙◌, ap, subst, arith, inl, inr}
+use Rattle.std.proofs.Common.{◌≡◌, ◌⊎◌, ◌≤◌, ℕ, List, [], ◌∷◌, ◌++◌, length, true, false, Option, Some, None, refl, sym, ◌∙◌, ap, subst, arith, inl, inr, ◌<◌, Bool}
 use Rattle.std.specs.Prelude.{is_some, map}
 use Rattle.std.specs.List.{AllByRecursion}
 use Rattle.vms_model.specs.Ids.{Id}
 use Rattle.vms_model.specs.Transactions.{Outcome, Reason}
-use Rattle.records_model.specs.History.{same_id}
+use Rattle.records_model.specs.History.{same_id, changed_it}
 use Rattle.unit_laws.specs.Journal.{JournalEntry, serial_in, RecoveryUnit, find_unit, units_in}
 use Rattle.unit_laws.specs.JournalLaws.{is_unit}
 use Rattle.unit_laws.proofs.NoteLemmas.{settles_keep_notes}
@@ -24,7 +24,12 @@ use Rattle.log_laws.specs.Slots.{AllTell, LogTells, slots_after}
 use Rattle.run_model.specs.Locks.{Lock, released}
 use Rattle.run_model.specs.World.{Node, Settlement, Shared, Tables, acted, next_moment, serials_of, settlement, shared_after, tm_of, settled_file, find_file, Durable, File}
 use Rattle.run_model.specs.Answers.{table_rows, lock_limit}
-use Rattle.world_laws.specs.Running.{IsDrawn, no_history, history_in, history_of}
+use Rattle.recovery_model.specs.Journal as image
+use Rattle.world_laws.specs.Running.{AllFound, FileImages, LeavesOpen, TellImages, IsDrawn, no_history, history_in, history_of}
+use Rattle.world_laws.proofs.FileLemmas.{found_mapped}
+use Rattle.world_laws.proofs.ImageLemmas.{images_settled}
+use Rattle.world_laws.proofs.ToldImages.{stated_open, tell_cut, tell_files, tell_put}
+use Rattle.world_laws.proofs.MomentLemmas.{next_later}
 use Rattle.world_laws.proofs.EntryLemmas.{all_more, all_prepared, all_settled}
 use Rattle.world_laws.proofs.DiskLemmas.{disk_acted}
 use Rattle.world_laws.proofs.FindLemmas.{mapped_file}
@@ -32,8 +37,8 @@ use Rattle.world_laws.proofs.HeldLemmas.{noted_at}
 use Rattle.world_laws.proofs.RowActs.{AreRowActs, IsRowAct}
 use Rattle.world_laws.proofs.RunningLemmas.{by_released, cut_serials, files_left, files_prepared, files_settled, held_left, held_settled, put_serials, released_length, unnoted_prepared}
 use Rattle.world_laws.proofs.SlotLemmas.{length_slots}
-use Rattle.world_laws.proofs.TableLemmas.{found_in, in_serials, same_serials}
-use Rattle.world_laws.proofs.ToldLemmas.{UnitsTell, apart_id, begun_tell, left_tell, no_unit, prepared_tell, restated_tell, settled_tell}
+use Rattle.world_laws.proofs.TableLemmas.{found_in, in_serials, same_serials, in_cut, serials_apart}
+use Rattle.world_laws.proofs.ToldLemmas.{UnitsTell, apart_id, begun_tell, left_tell, no_unit, prepared_tell, restated_tell, settled_tell, id_apart}
 use Rattle.world_laws.proofs.UpLemmas.{branch_drawn, differ, drawn_of, tells}
 use Rattle.unit_laws.specs.Units.{SerialsDiffer}
 use Rattle.std.specs.Option.{option_map}
@@ -93,6 +98,9 @@ module _ (n : Node) (moment : ℕ) (h : IsUp n) where
   restated : (b old : Branch) → find b.key bs ≡ Some old → is_prepared b.state ≡ is_prepared old.state → b.changed ≡ old.changed → UnitsTell (table.put b bs) n.durable.units
   restated b old there state changed = restated_tell bs n.durable.units (differ n h.table) (tells n h.table) b old there state changed
 
+  stated : (b old : Branch) → find b.key bs ≡ Some old → is_prepared b.state ≡ is_prepared old.state → is_prepared b.state ≡ false → AllFound (FileImages (LeavesOpen b.key.serial)) n.durable.directory
+  stated b old there state = stated_open n.name n.durable.boot n.volatile.drawn b old bs n.durable.directory there state h.running.images
+
   by_put : (b : Branch) → AllByRecursion (λ (l : Lock). In l.by (serials_of (table.put b bs))) n.volatile.locks
   by_put b = all_more (λ (l : Lock). In l.by (serials_of bs)) (λ (l : Lock). In l.by (serials_of (table.put b bs))) n.volatile.locks
       (λ l i. subst (In l.by) (sym (same_serials (table.put b bs))) (put_serials b bs l.by (subst (In l.by) (same_serials bs) i))) h.holding.by
@@ -135,8 +143,8 @@ module _ (n : Node) (moment : ℕ) (h : IsUp n) where
       go None e = refl
 
   -- acts that state a branch anew, of which the disk sees nothing
-  put_up : (a : table.Act) (b old : Branch) → table_after a bs ≡ table.put b bs → UnitsTell (table.put b bs) n.durable.units → MayAct n a → (acted (Tables a moment) n).durable ≡ n.durable → (acted (Tables a moment) n).volatile.locks ≡ n.volatile.locks → IsUp (acted (Tables a moment) n)
-  put_up a b old is u p disk locks =
+  put_up : (a : table.Act) (b old : Branch) → table_after a bs ≡ table.put b bs → UnitsTell (table.put b bs) n.durable.units → (is_prepared b.state ≡ false → AllFound (FileImages (LeavesOpen b.key.serial)) n.durable.directory) → MayAct n a → (acted (Tables a moment) n).durable ≡ n.durable → (acted (Tables a moment) n).volatile.locks ≡ n.volatile.locks → IsUp (acted (Tables a moment) n)
+  put_up a b old is u own p disk locks =
       let v = (acted (Tables a moment) n).volatile in
       subst IsUp (λ i. record (acted (Tables a moment) n) { durable = sym disk i; volatile = record v { branches = sym is i; locks = sym locks i } }) (record {
         filed = h.filed;
@@ -150,7 +158,7 @@ module _ (n : Node) (moment : ℕ) (h : IsUp n) where
           units = u.units;
           entries = u.entries;
         };
-        running = record { drawn = h.running.drawn; held = h.running.held; unnoted = h.running.unnoted };
+        running = record { drawn = h.running.drawn; held = h.running.held; unnoted = h.running.unnoted; images = tell_put n.name n.durable.boot n.volatile.drawn b bs n.durable.directory (differ n h.table) own h.running.images };
         holding = record { by = by_put b; files = h.holding.files; few_locks = h.holding.few_locks };
       })
 
@@ -159,7 +167,7 @@ module _ (n : Node) (moment : ℕ) (h : IsUp n) where
   same_up a is p disk locks =
       let v = (acted (Tables a moment) n).volatile in
       subst IsUp (λ i. record (acted (Tables a moment) n) { durable = sym disk i; volatile = record v { branches = sym is i; locks = sym locks i } }) (record {
-        filed = record { can = h.filed.can; names = h.filed.names; reached = h.filed.reached; plain = h.filed.plain; one = h.filed.one };
+        filed = record { can = h.filed.can; names = h.filed.names; reached = h.filed.reached; plain = h.filed.plain; carries = h.filed.carries; moments = h.filed.moments; images = h.filed.images; one = h.filed.one };
         slots = slots n a moment h p;
         table = record {
           log = subst (λ xs. LogTells (let t : Tm = record { node = n.name; table = xs; records = records_after a n.volatile.records } in t) (slots_after a n.volatile.records n.durable.log)) is p.told;
@@ -170,7 +178,7 @@ module _ (n : Node) (moment : ℕ) (h : IsUp n) where
           units = h.table.units;
           entries = h.table.entries;
         };
-        running = record { drawn = h.running.drawn; held = h.running.held; unnoted = h.running.unnoted };
+        running = record { drawn = h.running.drawn; held = h.running.held; unnoted = h.running.unnoted; images = h.running.images };
         holding = record { by = h.holding.by; files = h.holding.files; few_locks = h.holding.few_locks };
       })
 
@@ -186,24 +194,41 @@ module _ (n : Node) (moment : ℕ) (h : IsUp n) where
           drawn = all_prepared (λ e. IsDrawn n.name n.durable.boot n.volatile.drawn (serial_in e)) b n.durable.units h.running.drawn (there_drawn b.key (s.branch, s.there));
           held = h.running.held;
           unnoted = λ name e. unnoted_prepared name n.durable.units b (h.running.unnoted name e);
+          images = tell_put n.name n.durable.boot n.volatile.drawn (record b { state = Prepared }) bs n.durable.directory (differ n h.table) (λ state. let none : ⊥ = cc in absurd none) h.running.images;
         };
         holding = record { by = by_put (record b { state = Prepared }); files = files_prepared n.volatile.locks n.durable.units n.durable.directory b h.holding.files; few_locks = h.holding.few_locks };
       }
 
-  settled_up : (k : BranchKey) (outcome : Outcome) (reason : Reason) (r : Option LogRecord) → MayAct n (Settles k outcome reason r) → IsUp (acted (Tables (Settles k outcome reason r) moment) n)
-  settled_up k outcome reason r p =
+  -- the images, where a branch goes that is settled
+  images_settle : (k : BranchKey) (s : Settlement) → s.serial ≡ k.serial → IsThere bs k → TellImages n.name n.durable.boot n.volatile.drawn (table.cut k bs) (map (option_map (settled_file s)) n.durable.directory)
+  images_settle k s same there =
+      tell_files n.name n.durable.boot n.volatile.drawn (table.cut k bs) n.durable.directory (map (option_map (settled_file s)) n.durable.directory) (λ P. P (image.Settled s.serial s.outcome s.moment))
+      (λ P p h. found_mapped (FileImages P) (FileImages P) (settled_file s) n.durable.directory (λ f. refl) (λ file f found k. images_settled P (changed_it f.history s.serial) s f.carried p k) h)
+      (subst (IsDrawn n.name n.durable.boot n.volatile.drawn) (sym same) (there_drawn k there))
+      (λ b i state. subst (λ y. same_id b.key.serial y ≡ false) (sym same) (other b i))
+      (tell_cut n.name n.durable.boot n.volatile.drawn k bs n.durable.directory h.running.images)
+    where
+      other : (b : Branch) → In b (table.cut k bs) → same_id b.key.serial k.serial ≡ false
+      other b i =
+          let c = in_cut k b bs i in
+          let own = find-key k bs there.0 there.1 in
+          id_apart b.key.serial k.serial (λ e. serials_apart bs b there.0 (differ n h.table) c.0 (found_in k bs there.0 there.1) (λ f. c.1 (f ∙ own)) (e ∙ sym (ap (λ (j : BranchKey). j.serial) own)))
+
+  settled_up : (k : BranchKey) (outcome : Outcome) (reason : Reason) (r : Option LogRecord) → n.durable.greatest < moment → MayAct n (Settles k outcome reason r) → IsUp (acted (Tables (Settles k outcome reason r) moment) n)
+  settled_up k outcome reason r later p =
       let a = Settles k outcome reason r in
       let s = settlement k outcome reason moment in
       let there = p.stands.0 in
       let u = settled_tell bs n.durable.units (differ n h.table) (tells n h.table) k outcome moment there in
       record {
-        filed = disk_acted (Tables a moment) n.name n.volatile n.durable (there_of k there) h.filed;
+        filed = disk_acted (Tables a moment) n.name n.volatile n.durable (there_of k there, later) h.filed;
         slots = slots n a moment h p;
         table = record { log = p.told; apart = apart n a moment h p; limits = limits n a moment h p; drawn = drawn n a moment h p; branches = u.branches; units = u.units; entries = u.entries };
         running = record {
           drawn = all_settled (λ e. IsDrawn n.name n.durable.boot n.volatile.drawn (serial_in e)) k.tid k.serial outcome moment n.durable.units h.running.drawn (there_drawn k there);
           held = held_settled n.volatile.locks n.durable.directory h.running.held s all_differ;
           unnoted = λ name e. settles_keep_notes n.durable.units name no_history k.tid k.serial outcome moment (h.running.unnoted name (none_mapped s name e));
+          images = images_settle k s refl there;
         };
         holding = record { by = by_cut k; files = files_settled n.volatile.locks n.durable.units n.durable.directory h.filed.can s h.holding.files; few_locks = few_released k.serial };
       }
@@ -216,26 +241,26 @@ module _ (n : Node) (moment : ℕ) (h : IsUp n) where
         filed = disk_acted (Tables (Leaves k) moment) n.name n.volatile n.durable tt h.filed;
         slots = slots n (Leaves k) moment h p;
         table = record { log = p.told; apart = apart n (Leaves k) moment h p; limits = limits n (Leaves k) moment h p; drawn = drawn n (Leaves k) moment h p; branches = u.branches; units = u.units; entries = u.entries };
-        running = record { drawn = h.running.drawn; held = held_left n.volatile.locks n.durable.units n.durable.directory h.filed.can k.serial none h.running.held; unnoted = h.running.unnoted };
+        running = record { drawn = h.running.drawn; held = held_left n.volatile.locks n.durable.units n.durable.directory h.filed.can k.serial none h.running.held; unnoted = h.running.unnoted; images = tell_cut n.name n.durable.boot n.volatile.drawn k bs n.durable.directory h.running.images };
         holding = record { by = by_cut k; files = files_left n.volatile.locks n.durable.units n.durable.directory h.filed.can k.serial none h.holding.files; few_locks = few_released k.serial };
       }
 
-  pub tabled_up : (a : table.Act) → MayAct n a → IsUp (acted (Tables a moment) n)
-  tabled_up (Notes b) p = let s = p.stands in put_up (Notes b) b s.old refl (restated b s.old s.there (s.stays ∙ sym s.unprepared) s.changed) p refl refl
-  tabled_up (Accepts b c) p = let s = p.stands in put_up (Accepts b c) (record b { accepted = b.accepted ++ c ∷ [] }) s.old refl (restated (record b { accepted = b.accepted ++ c ∷ [] }) s.old s.there (s.stays ∙ sym s.unprepared) s.changed) p refl refl
-  tabled_up (Prepares b) p = prepared_up b p
-  tabled_up (Settles k outcome reason r) p = settled_up k outcome reason r p
-  tabled_up (Leaves k) p = left_up k p
-  tabled_up (Acknowledges k) p = same_up (Acknowledges k) refl p refl refl
-  tabled_up (Releases s x) p = same_up (Releases s x) refl p refl refl
-  tabled_up (Undoes k) p = absurd p.row
-  tabled_up (Sends m) p = same_up (Sends m) refl p refl refl
-  tabled_up (Prints l) p = same_up (Prints l) refl p refl refl
+  pub tabled_up : (a : table.Act) → n.durable.greatest < moment → MayAct n a → IsUp (acted (Tables a moment) n)
+  tabled_up (Notes b) later p = let s = p.stands in put_up (Notes b) b s.old refl (restated b s.old s.there (s.stays ∙ sym s.unprepared) s.changed) (stated b s.old s.there (s.stays ∙ sym s.unprepared)) p refl refl
+  tabled_up (Accepts b c) later p = let s = p.stands in put_up (Accepts b c) (record b { accepted = b.accepted ++ c ∷ [] }) s.old refl (restated (record b { accepted = b.accepted ++ c ∷ [] }) s.old s.there (s.stays ∙ sym s.unprepared) s.changed) (stated (record b { accepted = b.accepted ++ c ∷ [] }) s.old s.there (s.stays ∙ sym s.unprepared)) p refl refl
+  tabled_up (Prepares b) later p = prepared_up b p
+  tabled_up (Settles k outcome reason r) later p = settled_up k outcome reason r later p
+  tabled_up (Leaves k) later p = left_up k p
+  tabled_up (Acknowledges k) later p = same_up (Acknowledges k) refl p refl refl
+  tabled_up (Releases s x) later p = same_up (Releases s x) refl p refl refl
+  tabled_up (Undoes k) later p = absurd p.row
+  tabled_up (Sends m) later p = same_up (Sends m) refl p refl refl
+  tabled_up (Prints l) later p = same_up (Prints l) refl p refl refl
 
   -- a branch begins
   pub begun_up : (b : Branch) → find b.key bs ≡ None → is_prepared b.state ≡ false → b.changed ≡ false → AllByRecursion (λ (e : JournalEntry). same_id b.key.serial (serial_in e) ≡ false) n.durable.units.entries →
-      (In b.key.serial (branch_serials bs ++ record_serials n.volatile.records) → ⊥) → IsDrawn n.name n.durable.boot n.volatile.drawn b.key.serial → LogTells (after_act (Notes b) (tm_of n)) n.durable.log → ActWithin (tm_of n) (Notes b) → IsUp (acted (Tables (Notes b) moment) n)
-  begun_up b absent state changed others fresh made told within =
+      AllFound (FileImages (LeavesOpen b.key.serial)) n.durable.directory → (In b.key.serial (branch_serials bs ++ record_serials n.volatile.records) → ⊥) → IsDrawn n.name n.durable.boot n.volatile.drawn b.key.serial → LogTells (after_act (Notes b) (tm_of n)) n.durable.log → ActWithin (tm_of n) (Notes b) → IsUp (acted (Tables (Notes b) moment) n)
+  begun_up b absent state changed others unsettled fresh made told within =
       let u = begun_tell bs n.durable.units (differ n h.table) (tells n h.table) b absent state changed others in
       let parts = parts_apart (branch_serials bs) (record_serials n.volatile.records) h.table.apart in
       let serials = serials_new b bs absent in
@@ -260,7 +285,7 @@ module _ (n : Node) (moment : ℕ) (h : IsUp n) where
           units = u.units;
           entries = u.entries;
         };
-        running = record { drawn = h.running.drawn; held = h.running.held; unnoted = h.running.unnoted };
+        running = record { drawn = h.running.drawn; held = h.running.held; unnoted = h.running.unnoted; images = tell_put n.name n.durable.boot n.volatile.drawn b bs n.durable.directory (differ n h.table) (λ s. unsettled) h.running.images };
         holding = record { by = by_put b; files = h.holding.files; few_locks = h.holding.few_locks };
       }
 
@@ -270,5 +295,5 @@ pub rows_up : (acts : List table.Act) (s : Shared) (n : Node) → IsUp n → All
 rows_up [] s n h stand tell within row = h
 rows_up (a ∷ acts) s n h stand tell within row =
     let m = acted (Tables a (next_moment n)) n in
-    let up = tabled_up n (next_moment n) h a (record { stands = stand.0; told = tell.0; within = within.0; row = row.0 }) in
+    let up = tabled_up n (next_moment n) h a (next_later n) (record { stands = stand.0; told = tell.0; within = within.0; row = row.0 }) in
     (h, rows_up acts (shared_after (Tables a (next_moment n)) s) m up stand.1 (subst (AllTell acts (after_act a (tm_of n))) (sym (log_after a (next_moment n) n)) tell.1) within.1 row.1)

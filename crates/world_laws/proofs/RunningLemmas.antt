@@ -89,10 +89,10 @@ module _ (locks : List Lock) (fs : List (Option File)) (h : AreHeldIn locks fs) 
       go false t k more = more k
 
   -- changes of a branch, which holds their keys from then on
-  pub held_changed : (serial : Id) (other : List ℕ) (cs : List Change) (keys : List Key) → AllByRecursion (λ (c : Change). In c.key keys × IsFreeFor locks other serial c.key) cs →
-      AreHeldIn (with_locks serial other keys locks) (with_file other (changed_file (is_locked locks other) serial cs) fs)
-  held_changed serial other cs keys a file x key c =
-      go (bytes_eq other file) refl (subst (λ o. changes_key key (changes_by x (history_of o).live) ≡ true) (file_after file other (changed_file (is_locked locks other) serial cs) fs (λ f. refl)) c)
+  pub held_changed : (tid serial : Id) (other : List ℕ) (cs : List Change) (keys : List Key) → AllByRecursion (λ (c : Change). In c.key keys × IsFreeFor locks other serial c.key) cs →
+      AreHeldIn (with_locks serial other keys locks) (with_file other (changed_file (is_locked locks other) tid serial cs) fs)
+  held_changed tid serial other cs keys a file x key c =
+      go (bytes_eq other file) refl (subst (λ o. changes_key key (changes_by x (history_of o).live) ≡ true) (file_after file other (changed_file (is_locked locks other) tid serial cs) fs (λ f. refl)) c)
     where
       old : changes_key key (changes_by x (history_in file fs).live) ≡ true → holder (with_locks serial other keys locks) file key ≡ Some x
       old k = holder_more serial other keys locks file key x (h file x key k)
@@ -114,14 +114,14 @@ module _ (locks : List Lock) (fs : List (Option File)) (h : AreHeldIn locks fs) 
           (sym (list_any-append (λ c. eq_by_cmp key_cmp key c.key) cs (changes_by x (history_in file fs).live)) ∙ k)
       by is false t k = old k
 
-      changed : (o : Option File) → find_file file fs ≡ o → other ≡ file → changes_key key (changes_by x (history_of (option_map (changed_file (is_locked locks other) serial cs) o)).live) ≡ true →
+      changed : (o : Option File) → find_file file fs ≡ o → other ≡ file → changes_key key (changes_by x (history_of (option_map (changed_file (is_locked locks other) tid serial cs) o)).live) ≡ true →
           holder (with_locks serial other keys locks) file key ≡ Some x
       changed (Some f) found is k =
           by is (same_id x serial) refl (subst (λ o. changes_key key (if same_id x serial then cs ++ changes_by x (history_of o).live else changes_by x (history_of o).live) ≡ true) (sym found)
           (subst (λ ds. changes_key key ds ≡ true) (by_with_changes x serial cs f.history.live) k))
       changed None found is k = let none : ⊥ = cc in absurd none
 
-      go : (b : Bool) → bytes_eq other file ≡ b → changes_key key (changes_by x (history_of (if b then option_map (changed_file (is_locked locks other) serial cs) (find_file file fs) else find_file file fs)).live) ≡ true →
+      go : (b : Bool) → bytes_eq other file ≡ b → changes_key key (changes_by x (history_of (if b then option_map (changed_file (is_locked locks other) tid serial cs) (find_file file fs) else find_file file fs)).live) ≡ true →
           holder (with_locks serial other keys locks) file key ≡ Some x
       go true t k = changed (find_file file fs) refl ((bytes_eq-Decides other file).0 t) k
       go false t k = old k
@@ -320,9 +320,9 @@ by_released serial P Q (l ∷ ls) f h = go (same_id serial l.by) refl (by_releas
 -- changes of a branch that is not prepared, of a file that is marked
 pub files_entered : (tid serial : Id) (file : List ℕ) (cs : List Change) (keys : List Key) (locks : List Lock) (units : Journal) (fs : List (Option File)) → has_changes cs ≡ true → ((u : RecoveryUnit) → find_unit serial (units_in units.entries) ≡ Some u → u.prepared ≡ false) →
     ((f : File) → find_file file fs ≡ Some f → f.organization ≡ Sequential → moves_end cs ≡ true → In End keys × IsFreeFor locks file serial End) → ((f : File) → find_file file fs ≡ Some f → f.recovery_units ≡ true) → AllFound (IsFileHeld locks units) fs →
-    AllFound (IsFileHeld (with_locks serial file keys locks) (with_entries (entries_for tid serial file cs) units)) (with_file file (changed_file (is_locked locks file) serial cs) fs)
+    AllFound (IsFileHeld (with_locks serial file keys locks) (with_entries (entries_for tid serial file cs) units)) (with_file file (changed_file (is_locked locks file) tid serial cs) fs)
 files_entered tid serial file cs keys locks units fs some unprepared ends marks h =
-    found_changed (IsFileHeld locks units) (IsFileHeld (with_locks serial file keys locks) (with_entries (entries_for tid serial file cs) units)) file (changed_file (is_locked locks file) serial cs) fs (λ f. refl)
+    found_changed (IsFileHeld locks units) (IsFileHeld (with_locks serial file keys locks) (with_entries (entries_for tid serial file cs) units)) file (changed_file (is_locked locks file) tid serial cs) fs (λ f. refl)
     (λ f found k. record { end = λ is x m. ended f found is x (k.end is x) m; marked = λ e. absurd (both_ways f.recovery_units e (marks f found)) })
     (λ other f k. record { end = λ is x m. holder_more serial file keys locks other End x (k.end is x m); marked = λ e. each f.history.live (k.marked e) }) h
   where

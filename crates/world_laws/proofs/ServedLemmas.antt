@@ -3,17 +3,20 @@ use Rattle.std.proofs.Common.{◌≡◌, ◌<◌, ℕ, ◌+◌, List, [], ◌∷
 use Rattle.std.specs.Prelude.{is_some, nat_le, nat_lt}
 use Rattle.std.specs.FinMap.{get-empty}
 use Rattle.std.specs.List.{AllByRecursion}
+use Rattle.std.specs.Option.{option_map}
 use Rattle.std.proofs.lemmas.Bool.{and_from, both_ways, false_from_ne_true, leb-false, ltb-false}
 use Rattle.vms_model.specs.Ids.{Id}
 use Rattle.vms_model.specs.Keys.{End}
 use Rattle.transcript_model.specs.Lines as line
 use Rattle.transcript_model.specs.Lines.{Line}
-use Rattle.script_model.specs.Statements.{Form}
+use Rattle.script_model.specs.Statements.{Form, Images, NoImages, NoRecoveryUnits, Recovery, RecoveryUnits, Setting}
 use Rattle.records_model.specs.Records.{Change, key_cmp}
 use Rattle.records_model.specs.History.{LiveChanges, changed_it, changes_by, first_to_change, same_id}
 use Rattle.unit_laws.specs.Units.{has_changes}
 use Rattle.unit_laws.specs.Journal.{JournalEntry, RecoveryUnit, find_unit, serial_in, units_in}
 use Rattle.unit_laws.specs.JournalLaws.{is_unit}
+use Rattle.recovery_model.specs.File.{FileState}
+use Rattle.recovery_model.specs.Recovery.{Backward, Forward, Refusal, Way, in_use, refusal, first_of as first_refusal}
 use Rattle.commit_protocol.specs.Table as table
 use Rattle.commit_protocol.specs.Table.{Branch, Key as BranchKey, Active, Joining, Notes, Tm, after, branch_serials, find, find_serial, first, is_first, record_serials}
 use Rattle.commit_protocol.specs.Rows as rows
@@ -28,22 +31,25 @@ use Rattle.commit_protocol.proofs.Within.{ActsWithin}
 use Rattle.commit_protocol.proofs.WithinRows.{row_within}
 use Rattle.log_laws.specs.Slots.{AllTell, IsFresh, size, begun}
 use Rattle.log_laws.proofs.RowSlots.{row_size, row_tells}
-use Rattle.run_model.specs.World.{Creates, Draws, File, Marks, Node, Shared, Tables, acted, find_file, free_place, lowest_free, next_id, next_moment, serials_of, shared_after, tm_of}
+use Rattle.run_model.specs.World.{Act, BeginsImages, Creates, Draws, EndsImages, File, ForUnits, Mark, Marks, Node, Recovers, Saves, buckets_loaded, state_of, Shared, Tables, acted, find_file, free_place, lowest_free, next_id, next_moment, serials_of, shared_after, tm_of}
 use Rattle.run_model.specs.Operations.{refused_if}
-use Rattle.run_model.specs.Answers.{Row, blocks_for, branch_limit, created, creates, more_branches, new_file, of_file, silent, table_rows, there_is_file, unchanged_file}
+use Rattle.run_model.specs.Answers.{Row, blocks_for, blocks_of, blocks_recovered, branch_limit, created, creates, more_branches, new_file, of_file, on_free, records_recovered, recovers, recovery_refused, refusal_line, sets, silent, start_of, to_file, way_of, table_rows, there_is_file, unchanged_file}
 use Rattle.run_model.specs.Steps.{node_after_rows}
-use Rattle.world_laws.specs.Running.{IsDrawn}
+use Rattle.world_laws.specs.Running.{AllFound, FileImages, LeavesOpen, IsDrawn}
+use Rattle.world_laws.proofs.KeptImages.{keeps_created}
+use Rattle.world_laws.proofs.ToldImages.{undrawn_open}
 use Rattle.world_laws.proofs.IdLemmas.{id_is, id_itself}
 use Rattle.world_laws.proofs.AnswerLemmas.{neither, not_refused}
 use Rattle.world_laws.proofs.EntryLemmas.{all_more}
 use Rattle.world_laws.proofs.FindLemmas.{some_is}
 use Rattle.world_laws.proofs.HeldLemmas.{noted_at}
 use Rattle.world_laws.proofs.DiskLemmas.{unnamed_found}
+use Rattle.world_laws.proofs.CarriedLemmas.{recovered_plain}
 use Rattle.world_laws.proofs.RowActs.{rows_are_row_acts}
 use Rattle.world_laws.proofs.RowLemmas.{begun_up, log_after, rows_up}
 use Rattle.world_laws.proofs.SlotLemmas.{length_slots}
 use Rattle.world_laws.proofs.TableLemmas.{in_serials, same_serials}
-use Rattle.world_laws.proofs.UpLemmas.{created_up, differ, drew_up, marked_up}
+use Rattle.world_laws.proofs.UpLemmas.{created_up, differ, drew_up, marked_up, recovered_up, saved_up}
 use Rattle.world_laws.specs.Nodes.{AreUp, IsRoomy, IsUp}
 
 -- rows keep a node that is up so, act by act
@@ -155,8 +161,10 @@ module _ (n : Node) (s : Shared) (h : IsUp n) (room : IsRoomy n) (refused : more
       let other : AllByRecursion (λ (x : JournalEntry). same_id b.key.serial (serial_in x) ≡ false) n.durable.units.entries =
       all_more (λ (x : JournalEntry). IsDrawn n.name n.durable.boot n.volatile.drawn (serial_in x)) (λ (x : JournalEntry). same_id b.key.serial (serial_in x) ≡ false) n.durable.units.entries
       (λ x d. false_from_ne_true _ (λ t. undrawn n (serial_in x) d (sym (id_is b.key.serial (serial_in x) t) ∙ is))) h.running.drawn in
+      let unsettled : AllFound (FileImages (LeavesOpen b.key.serial)) n.durable.directory =
+      undrawn_open n.name n.durable.boot n.volatile.drawn b.key.serial n.durable.directory (λ y d e. undrawn n y d (e ∙ is)) h.running.images.drawn in
       let not_in : In b.key.serial (branch_serials n.volatile.branches ++ record_serials n.volatile.records) → ⊥ = λ i. fresh (subst (λ y. In y (branch_serials n.volatile.branches ++ record_serials n.volatile.records)) is i) in
-      let begun = begun_up m (next_moment m) up b (none_find b.key n.volatile.branches (λ i. not_in (in_left b.key.serial (branch_serials n.volatile.branches) (record_serials n.volatile.records) i))) state changed other not_in
+      let begun = begun_up m (next_moment m) up b (none_find b.key n.volatile.branches (λ i. not_in (in_left b.key.serial (branch_serials n.volatile.branches) (record_serials n.volatile.records) i))) state changed other unsettled not_in
       (subst (IsDrawn n.name n.durable.boot (n.volatile.drawn + 1)) (sym is) (refl, inr (refl, omega arith))) (subst (λ acts. AllTell acts (tm_of n) n.durable.log) shape told).0 (subst (ActsWithin (tm_of n)) shape within).0 in
       record {
         up = subst (λ acts. AreUp (table_rows acts s m) m) (sym shape) (up, rest (acted (Tables (Notes b) (next_moment m)) m) (shared_after (Tables (Notes b) (next_moment m)) s) begun);
@@ -209,7 +217,7 @@ create_keeps n file bucket size form refused h room = go (free_place n.durable.d
     one : (place start : ℕ) → free_place n.durable.directory ≡ Some place → RowsKeep (silent (Creates place (created file bucket size form start n.durable.greatest)) ∷ []) n
     one place start free =
         let f = created file bucket size form start n.durable.greatest in
-        record { up = (h, created_up place f n (refl, unnamed_found file n.durable.directory none, h.running.unnoted file none, free, get-empty key_cmp End) none h); room = room }
+        record { up = (h, created_up place f n (refl, unnamed_found file n.durable.directory none, h.running.unnoted file none, free, get-empty key_cmp End, record { after = tt; before = tt; save = λ v e. let no : ⊥ = cc in absurd no }, keeps_created n.name n.durable.boot n.durable.greatest file bucket size form start) none (λ P. record { after = tt; before = tt }) h); room = room }
 
     with_start : (place : ℕ) → free_place n.durable.directory ≡ Some place → (o : Option ℕ) →
         RowsKeep (elim o [ Some start ↦ record { act = Some (Creates place (created file bucket size form start n.durable.greatest)); lines = [] } ∷ [] | None ↦ [] ]) n
@@ -264,5 +272,61 @@ module _ (n : Node) (file : List ℕ) (h : IsUp n) where
 pub unchanged_rests : (n : Node) (file : List ℕ) (f : File) → find_file file n.durable.directory ≡ Some f → unchanged_file n f ≡ None → IsUp n → f.history.live ≡ []
 unchanged_rests n file f found e h = file_rests n file h f found e
 
-pub mark_keeps : (n : Node) (file : List ℕ) (marked : Bool) → there_is_file n file ≡ None → of_file n file (unchanged_file n) ≡ None → IsUp n → IsRoomy n → RowsKeep (silent (Marks file marked) ∷ []) n
-mark_keeps n file marked there unchanged h room = record { up = (h, marked_up file marked n (λ f found. file_rests n file h f found (file_says n file f (unchanged_file n) found unchanged)) h); room = room }
+-- what is done to a file, where it is there, and to free blocks, where there are so many
+pub to_file_keeps : (n : Node) (file : List ℕ) (does : File → List Row) → ((f : File) → find_file file n.durable.directory ≡ Some f → RowsKeep (does f) n) → IsUp n → IsRoomy n → RowsKeep (to_file n file does) n
+to_file_keeps n file does each h room = go (find_file file n.durable.directory) refl
+  where
+    go : (o : Option File) → find_file file n.durable.directory ≡ o → RowsKeep (elim o [ Some f ↦ does f | None ↦ [] ]) n
+    go (Some f) e = each f e
+    go None e = nothing_done n h room
+
+on_free_keeps : (n : Node) (need : ℕ) (act : ℕ → Act) → ((start : ℕ) → RowsKeep (silent (act start) ∷ []) n) → IsUp n → IsRoomy n → RowsKeep (on_free n need act) n
+on_free_keeps n need act each h room = each (start_of (lowest_free n need))
+
+module _ (n : Node) (file : List ℕ) (h : IsUp n) (room : IsRoomy n) where
+  rest : of_file n file (unchanged_file n) ≡ None → (f : File) → find_file file n.durable.directory ≡ Some f → f.history.live ≡ []
+  rest unchanged f found = file_rests n file h f found (file_says n file f (unchanged_file n) found unchanged)
+
+  mark_keeps : of_file n file (unchanged_file n) ≡ None → (mark : Mark) → RowsKeep (silent (Marks file mark) ∷ []) n
+  mark_keeps unchanged mark = record { up = (h, marked_up file n (rest unchanged) h mark); room = room }
+
+  pub sets_keep : of_file n file (unchanged_file n) ≡ None → (setting : Setting) → RowsKeep (sets n file setting) n
+  sets_keep unchanged RecoveryUnits = mark_keeps unchanged (ForUnits true)
+  sets_keep unchanged NoRecoveryUnits = mark_keeps unchanged (ForUnits false)
+  sets_keep unchanged (Images side blocks) = on_free_keeps n blocks (λ start. Marks file (BeginsImages side start blocks)) (λ start. mark_keeps unchanged (BeginsImages side start blocks)) h room
+  sets_keep unchanged (NoImages side) = mark_keeps unchanged (EndsImages side)
+
+  pub saves_keep : of_file n file (unchanged_file n) ≡ None → RowsKeep (to_file n file (λ f. on_free n (blocks_of f) (Saves file))) n
+  saves_keep unchanged =
+      to_file_keeps n file (λ f. on_free n (blocks_of f) (Saves file)) (λ f found. on_free_keeps n (blocks_of f) (Saves file) (λ start. record { up = (h, saved_up file n (rest unchanged) h start); room = room }) h room) h room
+
+  -- a recovery that nothing refuses is of a file that rests
+  pub no_line : (o : Option Refusal) → option_map refusal_line o ≡ None → o ≡ None
+  no_line (Some r) e = let none : ⊥ = cc in absurd none
+  no_line None e = refl
+
+  none_first : (a b : Option Refusal) → first_refusal a b ≡ None → (a ≡ None) × (b ≡ None)
+  none_first (Some r) b e = let none : ⊥ = cc in absurd none
+  none_first None b e = (refl, e)
+
+  no_user : (user : Option Id) → in_use user ≡ None → user ≡ None
+  no_user (Some x) e = let none : ⊥ = cc in absurd none
+  no_user None e = refl
+
+  pub unused : (way : Way) (user : Option Id) (g : FileState) → refusal way user g ≡ None → user ≡ None
+  unused (Forward until) user g e = no_user user (none_first (in_use user) _ (none_first _ _ (none_first _ _ e).1).1).0
+  unused (Backward until) user g e = no_user user (none_first (in_use user) _ (none_first _ _ e).1).0
+
+  pub recovery_rests : (way : Recovery) → of_file n file (recovery_refused n way) ≡ None → (f : File) → find_file file n.durable.directory ≡ Some f → f.history.live ≡ []
+  recovery_rests way passes f found =
+      let nobody = unused (way_of way) (first_to_change f.history (serials_of n.volatile.branches)) (state_of f) (no_line _ (file_says n file f (recovery_refused n way) found passes)) in
+      file_rests n file h f found (ap (λ o. elim o as (λ _. Option Line) [ Some serial ↦ Some (line.FileLocked serial) | None ↦ None ]) nobody)
+
+  pub recovers_keep : (way : Recovery) → of_file n file (recovery_refused n way) ≡ None → RowsKeep (to_file n file (recovers n file way)) n
+  recovers_keep way passes = to_file_keeps n file (recovers n file way) each h room
+    where
+      each : (f : File) → find_file file n.durable.directory ≡ Some f → RowsKeep (recovers n file way f) n
+      each f found =
+          let m = records_recovered way f in
+          on_free_keeps n (blocks_recovered way f) (λ start. Recovers file start (buckets_loaded f m) m)
+          (λ start. record { up = (h, recovered_up file n (recovery_rests way passes) h start (buckets_loaded f m) m (recovered_plain (way_of way) f (h.filed.carries file f found) (recovery_rests way passes f found) (h.filed.plain file f found).absent)); room = room }) h room

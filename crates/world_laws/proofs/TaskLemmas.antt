@@ -6,7 +6,7 @@ use Rattle.std.proofs.lemmas.Bool.{and_from, and_parts, both_ways, leb-false, lt
 use Rattle.vms_model.specs.Ids.{Id}
 use Rattle.transcript_model.specs.Lines as line
 use Rattle.transcript_model.specs.Lines.{Line, Cause}
-use Rattle.script_model.specs.Statements.{Request, Init, Boot, Create, SetFile, StartTrans, AddBranch, StartBranch, Records, Direct, EndBranch, EndTrans, AbortTrans, Inquire, DeclareRm, JoinRm, AckEvent, ForgetRm, GetDti, LmcpShow, LmcpDump, Dump, DumpJournal, Fuse, Crash, Clock, Named, ByLabel, BySerial, Operation}
+use Rattle.script_model.specs.Statements.{Request, Init, Boot, Create, SetFile, StartTrans, AddBranch, StartBranch, Records, Direct, EndBranch, EndTrans, AbortTrans, Inquire, DeclareRm, JoinRm, AckEvent, ForgetRm, GetDti, LmcpShow, LmcpDump, Dump, DumpJournal, DumpImages, Backup, Recover, Fuse, Crash, Clock, Named, ByLabel, BySerial, Operation}
 use Rattle.records_model.specs.History.{same_id}
 use Rattle.commit_protocol.specs.Messages.{Join, Name, Reply}
 use Rattle.commit_protocol.specs.Table as table
@@ -19,18 +19,19 @@ use Rattle.commit_protocol.specs.Agreement.{Distinct}
 use Rattle.commit_protocol.specs.World.{In}
 use Rattle.commit_protocol.proofs.Lists.{find-key, find_serial-key, find_serial-serial, told_id, told_key, same_key-true}
 use Rattle.log_laws.specs.Slots.{slot_records}
-use Rattle.run_model.specs.World.{Arms, Clocks, Declares, Draws, Falls, Label, Labels, Node, Numbers, Shared, acted, find_branch, labelled, next_id, serial_labelled, tm_of, next_moment}
-use Rattle.run_model.specs.Operations.{data_refused, first_of, form_refused, keys_asked, keys_held, refused_if}
-use Rattle.run_model.specs.Answers.{Row, Service, Task, Serves, Ticks, Takes, Hears, LosesLink, RunsDown, Restarts, all_shared, adds, begins, bid_limit, branch_labelled, branch_named, directed, found_refused, in_state, is_first_active, is_for_units, is_in_doubt, is_marked, is_open, is_volume_form, just, keys_refused, made_label, made_name, more_bids, more_branches, more_locks, needs_unit, new_file, of_file, operated, operation_refused, refused_before_reading, records_of, entry_lines, service, starts, task_service, there_is_file, to_branch, told_if, told_rows, unsettled, unsettled_label, direct_refused, changes_at, due_after, Telling, awaited_reply, declared_manager, has_joined, is_declared, is_joinable, known, known_branch, known_manager, known_serial, log_line, manager_limit, more_managers, serial_named, Known, Unheard}
+use Rattle.run_model.specs.World.{Arms, Clocks, Declares, Draws, Falls, Label, Labels, Node, Numbers, Shared, acted, find_branch, labelled, next_id, serial_labelled, tm_of, next_moment, File, find_file}
+use Rattle.run_model.specs.Operations.{data_refused, first_of, form_refused, keys_asked, keys_held, refused_if, changes_of}
+use Rattle.run_model.specs.Answers.{Row, Service, Task, Serves, Ticks, Takes, Hears, LosesLink, RunsDown, Restarts, all_shared, adds, begins, bid_limit, branch_labelled, branch_named, directed, found_refused, in_state, is_first_active, image_lines, is_in_doubt, journal_at, setting_refused, shown_line, is_marked, is_open, is_volume_form, just, keys_refused, made_label, made_name, more_bids, more_branches, more_locks, needs_unit, new_file, of_file, operated, operation_refused, refused_before_reading, records_of, entry_lines, service, starts, task_service, there_is_file, to_branch, told_if, told_rows, unsettled, unsettled_label, direct_refused, changes_at, due_after, Telling, awaited_reply, declared_manager, has_joined, is_declared, is_joinable, known, known_branch, known_manager, known_serial, log_line, manager_limit, more_managers, serial_named, Known, Unheard, images_full}
 use Rattle.run_model.specs.Steps.{Choice, TaskAllowed, task_effect}
 use Rattle.run_model.proofs.ReplyLemmas.{is_so, reply_is_allowed}
 use Rattle.world_laws.specs.Nodes.{IsKeptNode, IsRoomy, IsUp}
+use Rattle.world_laws.proofs.MomentLemmas.{next_later}
 use Rattle.world_laws.proofs.AnswerLemmas.{neither, not_refused}
 use Rattle.world_laws.proofs.EffectLemmas.{boot_effect, init_effect, same_kept, up_effect, quiet_effect}
 use Rattle.world_laws.proofs.FindLemmas.{some_is, found_serial}
-use Rattle.world_laws.proofs.OperationLemmas.{direct_keeps, operation_keeps}
+use Rattle.world_laws.proofs.OperationLemmas.{direct_keeps, operation_keeps, changes_there}
 use Rattle.world_laws.proofs.RowLemmas.{tabled_up}
-use Rattle.world_laws.proofs.ServedLemmas.{RowsKeep, absent_next, begin_keeps, create_keeps, event_keeps, file_says, mark_keeps, nothing_done, roomy, shown_keeps, there_is as there_is_one}
+use Rattle.world_laws.proofs.ServedLemmas.{RowsKeep, absent_next, begin_keeps, create_keeps, event_keeps, file_says, nothing_done, recovers_keep, roomy, saves_keep, sets_keep, shown_keeps, to_file_keeps, there_is as there_is_one}
 use Rattle.world_laws.proofs.TableLemmas.{found_in, one_branch}
 use Rattle.world_laws.proofs.UpLemmas.{declared_up, differ, drew_up, same_up}
 use Rattle.vms_model.specs.Transactions.{Aborted}
@@ -74,7 +75,7 @@ serial_of b bs d i = go (find_serial b.key.serial bs) refl
     go None e = absurd (never_serial b bs i e)
 
 -- the branch that a label names
-labelled_in : (s : Shared) (n : Node) (label : List ℕ) (b : Branch) → branch_labelled s n label ≡ Some b → (serial_labelled n.name label s.labels ≡ Some b.key.serial) × In b n.volatile.branches
+pub labelled_in : (s : Shared) (n : Node) (label : List ℕ) (b : Branch) → branch_labelled s n label ≡ Some b → (serial_labelled n.name label s.labels ≡ Some b.key.serial) × In b n.volatile.branches
 labelled_in s n label b e = go (serial_labelled n.name label s.labels) e
   where
     go : (o : Option Id) → option_and_then (λ serial. find_branch serial n.volatile.branches) o ≡ Some b → (o ≡ Some b.key.serial) × In b n.volatile.branches
@@ -130,7 +131,7 @@ module _ (s : Shared) (n : Node) (h : IsUp n) (room : IsRoomy n) where
           let t = all_shared (Draws ∷ Numbers l.name (next_id n) ∷ []) s in
           let b = blank l.tid (next_id n) (Some bid) Joining None in
           let r = begin_keeps n t h room few b (rows.Begin l.tid (next_id n) bid) refl refl refl (absent_next n t h room few l.tid) (table.Sends (rows.message Join (table.home_of (table.child l.tid (next_id n))) (table.coordinator_of (table.child l.tid (next_id n))) (table.child l.tid (next_id n)) (Some bid)) ∷ []) refl (roomy n t h room few) refl
-          (λ m r up. (up, tabled_up m (next_moment m) up (table.Sends (rows.message Join (table.home_of (table.child l.tid (next_id n))) (table.coordinator_of (table.child l.tid (next_id n))) (table.child l.tid (next_id n)) (Some bid))) (record { stands = tt; told = up.table.log; within = tt; row = tt }))) in
+          (λ m r up. (up, tabled_up m (next_moment m) up (table.Sends (rows.message Join (table.home_of (table.child l.tid (next_id n))) (table.coordinator_of (table.child l.tid (next_id n))) (table.child l.tid (next_id n)) (Some bid))) (next_later m) (record { stands = tt; told = up.table.log; within = tt; row = tt }))) in
           record { up = (h, (drew_up n h, r.up)); room = r.room }
 
   -- a branch is authorised
@@ -151,6 +152,9 @@ module _ (s : Shared) (stops : ℕ) (n : Node) (h : IsKeptNode s n) where
   passed : (e : Service) → refused_before_reading s n e ≡ None → e.refused_before_reading s n ≡ None
   passed e r = (neither (refused_if (not (n.up || e.while_down)) line.NodeDown) (e.refused_before_reading s n) r).1
 
+  images_there : (serial : Id) (file : List ℕ) (op : Operation) (f : File) → find_file file n.durable.directory ≡ Some f → of_file n file (images_full serial (changes_at n file op)) ≡ None → images_full serial (changes_of f op) f ≡ None
+  images_there serial file op f found e = subst (λ cs. images_full serial cs f ≡ None) (changes_there n file op f found) (file_says n file f (images_full serial (changes_at n file op)) found e)
+
   records_keep : (label file : List ℕ) (op : Operation) → n.up ≡ true → (service (Records label file op)).refused_before_reading s n ≡ None → operation_refused s n label file op ≡ None → RowsKeep (to_branch s n label (λ b. operated n file op b ∷ [])) n
   records_keep label file op up passes late =
       let behind_label = (neither (made_label s n label) _ passes).1 in
@@ -169,7 +173,8 @@ module _ (s : Shared) (stops : ℕ) (n : Node) (h : IsKeptNode s n) where
       let k = h.runs up in
       branch_keeps s n k.0 k.1 label (λ b. operated n file op b ∷ []) (λ b e i named.
       operation_keeps n k.0 k.1 b file op f i (holds_it is_working (branch_labelled s n label) b behind_state.0 e) there.1 (file_says n file f (λ g. form_refused g op) there.1 behind_form.0) stands (file_says n file f is_marked there.1 marks.0)
-      (subst (λ o. keys_refused n o file (keys_asked f op) ≡ None) named keys) (file_says n file f (λ g. more_locks n file (keys_held g op)) there.1 late_locks.0))
+      (subst (λ o. keys_refused n o file (keys_asked f op) ≡ None) named keys) (file_says n file f (λ g. more_locks n file (keys_held g op)) there.1 late_locks.0)
+      (images_there b.key.serial file op f there.1 (subst (λ o. option_and_then (λ (c : Branch). of_file n file (images_full c.key.serial (changes_at n file op))) o ≡ None) e (neither _ _ (neither _ _ late_locks.1).1).1)))
 
   direct_rows : (file : List ℕ) (op : Operation) → n.up ≡ true → (service (Direct file op)).refused_before_reading s n ≡ None → direct_refused n file op ≡ None → RowsKeep (directed n file (changes_at n file op)) n
   direct_rows file op up passes late =
@@ -178,9 +183,11 @@ module _ (s : Shared) (stops : ℕ) (n : Node) (h : IsKeptNode s n) where
       let asked = (neither (of_file n file (needs_unit op)) _ behind_form.1).1 in
       let there = there_is_one n file behind_file.0 in
       let f = there.0 in
-      let stands = (neither (data_refused f op) _ (file_says n file f (found_refused n None file op) there.1 (neither (of_file n file (found_refused n None file op)) _ late).0)).0 in
+      let late_found = neither (of_file n file (found_refused n None file op)) _ late in
+      let stands = (neither (data_refused f op) _ (file_says n file f (found_refused n None file op) there.1 late_found.0)).0 in
       let k = h.runs up in
       direct_keeps n k.0 k.1 file op f there.1 stands (file_says n file f (λ g. keys_refused n None file (keys_asked g op)) there.1 asked)
+      (images_there (next_id n) file op f there.1 (neither _ _ (neither _ _ late_found.1).1).1)
 
   inquire_keeps : (who : Named) → n.up ≡ true → (service (Inquire who)).refused_before_reading s n ≡ None → RowsKeep (told_if s n (option_map (λ (b : Branch). just (rows.InquireBranch b.key.serial)) (branch_named s n who))) n
   inquire_keeps who up passes = go (branch_named s n who) refl
@@ -246,7 +253,7 @@ module _ (s : Shared) (stops : ℕ) (n : Node) (h : IsKeptNode s n) where
   request_rows (Create file bucket size form) up r q =
       let k = h.runs up in create_keeps n file bucket size form (neither (new_file n file) _ (passed (service (Create file bucket size form)) r)).0 k.0 k.1
   request_rows (SetFile file setting) up r q =
-      let k = h.runs up in let p = neither (there_is_file n file) _ (passed (service (SetFile file setting)) r) in mark_keeps n file (is_for_units setting) p.0 p.1 k.0 k.1
+      let k = h.runs up in sets_keep n file k.0 k.1 (neither (setting_refused setting) _ (neither (there_is_file n file) _ (passed (service (SetFile file setting)) r)).1).1 setting
   request_rows (StartTrans label seconds) up r q =
       let k = h.runs up in start_keeps s n k.0 k.1 label seconds q
   request_rows (AddBranch label other new) up r q =
@@ -293,6 +300,13 @@ module _ (s : Shared) (stops : ℕ) (n : Node) (h : IsKeptNode s n) where
       let k = h.runs up in shown_keeps (λ e. line.Record e.0 e.1 ∷ []) (records_of n file) n k.0 k.1
   request_rows DumpJournal up r q =
       let k = h.runs up in shown_keeps (λ l. l ∷ []) (entry_lines n.durable.units.first n.durable.units.entries) n k.0 k.1
+  request_rows (DumpImages file side) up r q =
+      let k = h.runs up in
+      to_file_keeps n file (λ f. map shown_line (image_lines file (journal_at side f).entries)) (λ f found. shown_keeps (λ l. l ∷ []) (image_lines file (journal_at side f).entries) n k.0 k.1) k.0 k.1
+  request_rows (Backup file) up r q =
+      let k = h.runs up in saves_keep n file k.0 k.1 (neither (there_is_file n file) _ (passed (service (Backup file)) r)).1
+  request_rows (Recover file way) up r q =
+      let k = h.runs up in recovers_keep n file k.0 k.1 way (neither (there_is_file n file) _ (passed (service (Recover file way)) r)).1
   request_rows Crash up r q =
       let k = h.runs up in record { up = (k.0, same_up n (acted Falls n) refl refl refl k.0); room = k.1 }
 
@@ -334,6 +348,9 @@ module _ (s : Shared) (stops : ℕ) (n : Node) (h : IsKeptNode s n) where
   request_kept LmcpDump c rises a = up_effect (service LmcpDump) refl refl refl s stops n h (λ up r q. request_rows LmcpDump up r q) c rises a
   request_kept (Dump file) c rises a = up_effect (service (Dump file)) refl refl refl s stops n h (λ up r q. request_rows (Dump file) up r q) c rises a
   request_kept DumpJournal c rises a = up_effect (service DumpJournal) refl refl refl s stops n h (λ up r q. request_rows DumpJournal up r q) c rises a
+  request_kept (DumpImages file side) c rises a = up_effect (service (DumpImages file side)) refl refl refl s stops n h (λ up r q. request_rows (DumpImages file side) up r q) c rises a
+  request_kept (Backup file) c rises a = up_effect (service (Backup file)) refl refl refl s stops n h (λ up r q. request_rows (Backup file) up r q) c rises a
+  request_kept (Recover file way) c rises a = up_effect (service (Recover file way)) refl refl refl s stops n h (λ up r q. request_rows (Recover file way) up r q) c rises a
   request_kept Crash c rises a = up_effect (service Crash) refl refl refl s stops n h (λ up r q. request_rows Crash up r q) c rises a
   request_kept (Fuse writes choice) c rises a = quiet_effect (Arms writes choice) s stops n h (same_kept s n (acted (Arms writes choice) n) refl refl refl refl refl h) refl c rises a
   request_kept (Clock now) c rises a = quiet_effect (Clocks now) s stops n h (same_kept s n (acted (Clocks now) n) refl refl refl refl refl h) refl c rises a

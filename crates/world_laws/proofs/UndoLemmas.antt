@@ -19,6 +19,7 @@ use Rattle.run_model.specs.Locks.{Lock}
 use Rattle.run_model.specs.World.{Boots, Durable, File, IsLogInOrder, IsOfTransaction, IsReached, Node, Settlement, Shared, acted, booted, find_file, next_moment, prepared_left, relocked, relocked_by, settled_file, settlement, without_units}
 use Rattle.run_model.specs.Answers.{boot_rows, left_active, lock_limit, table_rows, unit_key}
 use Rattle.world_laws.specs.Running.{history_of, no_history}
+use Rattle.world_laws.proofs.MomentLemmas.{next_later}
 use Rattle.world_laws.proofs.IdLemmas.{id_is}
 use Rattle.world_laws.proofs.FindLemmas.{mapped_file, some_is}
 use Rattle.world_laws.proofs.HistoryLemmas.{by_settled}
@@ -196,7 +197,7 @@ module _ (n : Node) (u : RecoveryUnit) (k : IsKeptDisk n) (a : IsUnprepared n.du
   }
 
   filed_undone : IsFiled n.name next.durable
-  filed_undone = settled_filed n.name (settlement (unit_key u) Abort SegFail (next_moment n)) n.durable.log n.durable of k.filed
+  filed_undone = settled_filed n.name (settlement (unit_key u) Abort SegFail (next_moment n)) n.durable.log n.durable of (next_later n) k.filed
 
   less_undone : IsLess n.durable next.durable
   less_undone = record {

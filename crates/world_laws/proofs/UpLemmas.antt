@@ -1,10 +1,11 @@
 -- What holds of a node that is up, within a row of acts and between rows, act by act.
 use Rattle.std.proofs.Common.{◌≡◌, ◌≤◌, ℕ, ◌+◌, List, [], ◌∷◌, ◌++◌, length, Bool, true, false, Option, Some, None, if◌then◌else◌, refl, sym, ◌∙◌, ap, subst, arith, inl, inr}
+use Rattle.std.specs.FinMap.{get}
 use Rattle.std.specs.List.{AllByRecursion}
 use Rattle.vms_model.specs.Ids.{Id}
 use Rattle.vms_model.specs.Keys.{Key, End}
-use Rattle.records_model.specs.Records.{Change}
-use Rattle.records_model.specs.History.{LiveChanges, same_id, changes_by, settled_at, changed_with}
+use Rattle.records_model.specs.Records.{Change, Records}
+use Rattle.records_model.specs.History.{LiveChanges, same_id, changes_by, settled_at, changed_with, changed_it}
 use Rattle.unit_laws.specs.Units.{moves_end}
 use Rattle.unit_laws.specs.Journal.{RecoveryUnit, entries_for, find_unit, serial_in, units_in}
 use Rattle.unit_laws.proofs.NoteLemmas.{changes_elsewhere_keep_notes}
@@ -18,9 +19,13 @@ use Rattle.commit_protocol.specs.World.{In}
 use Rattle.commit_protocol.proofs.Lists.{in_left}
 use Rattle.commit_protocol.proofs.Serials.{keyed, parts_apart}
 use Rattle.run_model.specs.Locks.{Lock, not_locked, with_locks, is_locked}
-use Rattle.run_model.specs.World.{Changes, Creates, Declares, Directs, Draws, File, Holds, IsPreparedUnit, Marks, Node, Sequential, Settlement, acted, find_file, serials_of, tm_of, with_changed, Durable, Volatile, directly_changed, changed_file}
+use Rattle.run_model.specs.World.{Changes, Creates, Declares, Directs, Draws, File, Holds, IsPreparedUnit, Mark, Marks, Saves, Recovers, Node, Sequential, Settlement, acted, find_file, serials_of, tm_of, with_changed, Durable, Volatile, directly_changed, changed_file, marked_file, recovered_file, saved_file, with_file, with_images}
 use Rattle.run_model.specs.Answers.{lock_limit}
-use Rattle.world_laws.specs.Running.{IsDrawn, TellTable, no_history, IsFileHeld}
+use Rattle.recovery_model.specs.Journal as image
+use Rattle.std.specs.Prelude.{slice_set}
+use Rattle.world_laws.specs.Running.{AllImages, FileImages, IsDrawn, TellTable, no_history, IsFileHeld}
+use Rattle.world_laws.proofs.ImageLemmas.{images_changed, images_marked, images_recovered, images_settled}
+use Rattle.world_laws.proofs.ToldImages.{tell_changed, tell_files, tell_more}
 use Rattle.world_laws.proofs.EntryLemmas.{all_append, all_entered, all_more, all_trimmed}
 use Rattle.world_laws.proofs.FileLemmas.{found_changed, found_placed}
 use Rattle.world_laws.proofs.DirectLemmas.{trim_noted, live_same, none_of}
@@ -28,11 +33,11 @@ use Rattle.world_laws.proofs.DiskLemmas.{IsSafe, disk_acted}
 use Rattle.world_laws.proofs.HeldLemmas.{IsFreeFor, noted_at}
 use Rattle.world_laws.proofs.RunningLemmas.{by_locks, files_directed, files_entered, files_more, held_changed, held_more, held_placed, held_same, locks_length, none_after}
 use Rattle.world_laws.proofs.TableLemmas.{in_serials, same_serials, changed_serials, in_changed, length_changed, one_branch}
-use Rattle.world_laws.proofs.ToldLemmas.{UnitsTell, changed_tell, trimmed_tell}
+use Rattle.world_laws.proofs.ToldLemmas.{UnitsTell, changed_tell, trimmed_tell, id_apart}
 use Rattle.std.specs.Str.{bytes_eq}
 use Rattle.world_laws.proofs.FindLemmas.{placed_file, some_is}
 use Rattle.log_laws.proofs.Slotting.{same_tells}
-use Rattle.world_laws.specs.Nodes.{IsOf, IsUp}
+use Rattle.world_laws.specs.Nodes.{IsFiled, IsOf, IsUp}
 
 -- Ids.
 
@@ -54,8 +59,8 @@ module _ (n : Node) (t : TellTable n) where
 
 -- Acts that leave table and journal.
 
-pub created_up : (place : ℕ) (f : File) (n : Node) → IsSafe (Creates place f) n.name n.durable → find_file f.name n.durable.directory ≡ None → IsUp n → IsUp (acted (Creates place f) n)
-created_up place f n safe none h = record {
+pub created_up : (place : ℕ) (f : File) (n : Node) → IsSafe (Creates place f) n.name n.durable → find_file f.name n.durable.directory ≡ None → ((P : image.Entry → Type 0) → AllImages P f.carried) → IsUp n → IsUp (acted (Creates place f) n)
+created_up place f n safe none bare h = record {
   filed = disk_acted (Creates place f) n.name n.volatile n.durable safe h.filed;
   slots = h.slots;
   table = record { log = h.table.log; apart = h.table.apart; limits = h.table.limits; drawn = h.table.drawn; branches = h.table.branches; units = h.table.units; entries = h.table.entries };
@@ -63,6 +68,8 @@ created_up place f n safe none h = record {
     drawn = h.running.drawn;
     held = held_placed n.volatile.locks n.durable.directory h.running.held f place safe.0 none safe.3;
     unnoted = λ name e. h.running.unnoted name (before name (bytes_eq name f.name) (sym (placed_file name f n.durable.directory place safe.3 none) ∙ e));
+    images = tell_files n.name n.durable.boot n.volatile.drawn n.volatile.branches n.durable.directory (slice_set n.durable.directory place (Some f)) (λ P. Unit {0})
+        (λ P p. found_placed (FileImages P) f n.durable.directory place none safe.3 (bare P)) tt (λ b i state. tt) h.running.images;
   };
   holding = record {
     by = h.holding.by;
@@ -78,23 +85,45 @@ created_up place f n safe none h = record {
     before name true k = let none : ⊥ = cc in absurd none
     before name false k = k
 
-pub marked_up : (file : List ℕ) (marked : Bool) (n : Node) → ((f : File) → find_file file n.durable.directory ≡ Some f → f.history.live ≡ []) → IsUp n → IsUp (acted (Marks file marked) n)
-marked_up file marked n rests h = record {
-  filed = disk_acted (Marks file marked) n.name n.volatile n.durable tt h.filed;
+-- one file is changed, of whose unsettled branches the change sees nothing
+changed_up : (file : List ℕ) (change : File → File) (n : Node) → ((f : File) → (change f).name ≡ f.name) → ((f : File) → (change f).history.live ≡ f.history.live) → ((f : File) → (change f).organization ≡ f.organization) →
+    ((f : File) → find_file file n.durable.directory ≡ Some f → f.history.live ≡ []) → ((P : image.Entry → Type 0) (f : File) → AllImages P f.carried → AllImages P (change f).carried) →
+    IsFiled n.name (record n.durable { directory = with_file file change n.durable.directory }) → IsUp n →
+    IsUp (record n { durable = record n.durable { directory = with_file file change n.durable.directory } })
+changed_up file change n named live same rests images filed h = record {
+  filed = filed;
   slots = h.slots;
   table = record { log = h.table.log; apart = h.table.apart; limits = h.table.limits; drawn = h.table.drawn; branches = h.table.branches; units = h.table.units; entries = h.table.entries };
   running = record {
     drawn = h.running.drawn;
-    held = held_same n.volatile.locks n.durable.directory h.running.held file (λ f. record f { recovery_units = marked }) (λ f. refl) (λ f found. refl);
-    unnoted = λ name e. h.running.unnoted name (none_after name file (λ f. record f { recovery_units = marked }) n.durable.directory (λ f. refl) e);
+    held = held_same n.volatile.locks n.durable.directory h.running.held file change named (λ f found. live f);
+    unnoted = λ name e. h.running.unnoted name (none_after name file change n.durable.directory named e);
+    images = tell_files n.name n.durable.boot n.volatile.drawn n.volatile.branches n.durable.directory (with_file file change n.durable.directory) (λ P. Unit {0})
+        (λ P p. found_changed (FileImages P) (FileImages P) file change n.durable.directory named (λ f found k. images P f k) (λ other f k. k)) tt (λ b i state. tt) h.running.images;
   };
   holding = record {
     by = h.holding.by;
-    files = found_changed (IsFileHeld n.volatile.locks n.durable.units) (IsFileHeld n.volatile.locks n.durable.units) file (λ f. record f { recovery_units = marked }) n.durable.directory (λ f. refl)
-        (λ f found k. record { end = k.end; marked = λ e. subst (AllByRecursion (λ (l : LiveChanges). IsPreparedUnit n.durable.units l.serial)) (sym (rests f found)) tt }) (λ other f k. k) h.holding.files;
+    files = found_changed (IsFileHeld n.volatile.locks n.durable.units) (IsFileHeld n.volatile.locks n.durable.units) file change n.durable.directory named
+        (λ f found k. record {
+          end = λ is x m. k.end (sym (same f) ∙ is) x (subst (λ (ls : List LiveChanges). moves_end (changes_by x ls) ≡ true) (live f) m);
+          marked = λ e. subst (AllByRecursion (λ (l : LiveChanges). IsPreparedUnit n.durable.units l.serial)) (sym (live f ∙ rests f found)) tt;
+        }) (λ other f k. k) h.holding.files;
     few_locks = h.holding.few_locks;
   };
 }
+
+module _ (file : List ℕ) (n : Node) (rests : (f : File) → find_file file n.durable.directory ≡ Some f → f.history.live ≡ []) (h : IsUp n) where
+  pub marked_up : (mark : Mark) → IsUp (acted (Marks file mark) n)
+  marked_up mark = changed_up file (marked_file mark n.durable.greatest) n (λ f. refl) (λ f. refl) (λ f. refl) rests (λ P f. images_marked P mark n.durable.greatest f.carried)
+      (disk_acted (Marks file mark) n.name n.volatile n.durable rests h.filed) h
+
+  pub saved_up : (start : ℕ) → IsUp (acted (Saves file start) n)
+  saved_up start = changed_up file (saved_file start n.durable.greatest) n (λ f. refl) (λ f. refl) (λ f. refl) rests (λ P f k. record { after = k.after; before = k.before })
+      (disk_acted (Saves file start) n.name n.volatile n.durable rests h.filed) h
+
+  pub recovered_up : (start buckets : ℕ) (m : Records) → get m End ≡ None → IsUp (acted (Recovers file start buckets m) n)
+  recovered_up start buckets m absent =
+      changed_up file (recovered_file start buckets m n.durable.greatest) n (λ f. refl) (λ f. refl) (λ f. refl) rests (λ P f. images_recovered P n.durable.greatest f.carried) (disk_acted (Recovers file start buckets m) n.name n.volatile n.durable (rests, absent) h.filed) h
 
 pub drew_up : (n : Node) → IsUp n → IsUp (acted Draws n)
 drew_up n h = record {
@@ -105,6 +134,7 @@ drew_up n h = record {
     drawn = all_more (λ e. IsDrawn n.name n.durable.boot n.volatile.drawn (serial_in e)) (λ e. IsDrawn n.name n.durable.boot (n.volatile.drawn + 1) (serial_in e)) n.durable.units.entries (λ e d. drawn_more n.name n.durable.boot n.volatile.drawn (serial_in e) d) h.running.drawn;
     held = h.running.held;
     unnoted = h.running.unnoted;
+    images = tell_more n.name n.durable.boot n.volatile.drawn (n.volatile.drawn + 1) n.volatile.branches n.durable.directory (drawn_more n.name n.durable.boot n.volatile.drawn) h.running.images;
   };
   holding = record { by = h.holding.by; files = h.holding.files; few_locks = h.holding.few_locks };
 }
@@ -118,7 +148,7 @@ same_up n m name durable volatile h = subst IsUp (λ i. record m { name = sym na
       filed = h.filed;
       slots = h.slots;
       table = record { log = h.table.log; apart = h.table.apart; limits = h.table.limits; drawn = h.table.drawn; branches = h.table.branches; units = h.table.units; entries = h.table.entries };
-      running = record { drawn = h.running.drawn; held = h.running.held; unnoted = h.running.unnoted };
+      running = record { drawn = h.running.drawn; held = h.running.held; unnoted = h.running.unnoted; images = h.running.images };
       holding = record { by = h.holding.by; files = h.holding.files; few_locks = h.holding.few_locks };
     }
 
@@ -128,7 +158,7 @@ declared_up rms n h = record {
   filed = h.filed;
   slots = h.slots;
   table = record { log = h.table.log; apart = h.table.apart; limits = h.table.limits; drawn = h.table.drawn; branches = h.table.branches; units = h.table.units; entries = h.table.entries };
-  running = record { drawn = h.running.drawn; held = h.running.held; unnoted = h.running.unnoted };
+  running = record { drawn = h.running.drawn; held = h.running.held; unnoted = h.running.unnoted; images = h.running.images };
   holding = record { by = h.holding.by; files = h.holding.files; few_locks = h.holding.few_locks };
 }
 
@@ -141,7 +171,7 @@ held_up serial file keys n i room h = record {
   filed = h.filed;
   slots = h.slots;
   table = record { log = h.table.log; apart = h.table.apart; limits = h.table.limits; drawn = h.table.drawn; branches = h.table.branches; units = h.table.units; entries = h.table.entries };
-  running = record { drawn = h.running.drawn; held = held_more n.volatile.locks n.durable.directory h.running.held serial file keys; unnoted = h.running.unnoted };
+  running = record { drawn = h.running.drawn; held = held_more n.volatile.locks n.durable.directory h.running.held serial file keys; unnoted = h.running.unnoted; images = h.running.images };
   holding = record {
     by = by_locks (λ (l : Lock). In l.by (serials_of n.volatile.branches)) serial file keys n.volatile.locks (λ k. i) h.holding.by;
     files = files_more serial file keys n.volatile.locks n.durable.units n.durable.directory h.holding.files;
@@ -150,8 +180,9 @@ held_up serial file keys n i room h = record {
 }
 
 -- a branch of its own commits
-pub directed_up : (file : List ℕ) (c : Change) (cs : List Change) (s : Settlement) (n : Node) → IsSafe (Directs file (c ∷ cs) s) n.name n.durable → IsUp n → IsUp (acted (Directs file (c ∷ cs) s) n)
-directed_up file c cs s n safe h =
+pub directed_up : (file : List ℕ) (c : Change) (cs : List Change) (s : Settlement) (n : Node) → IsSafe (Directs file (c ∷ cs) s) n.name n.durable → IsDrawn n.name n.durable.boot (n.volatile.drawn + 1) s.serial →
+    ((y : Id) → IsDrawn n.name n.durable.boot n.volatile.drawn y → y ≡ s.serial → ⊥) → IsUp n → IsUp (acted (Directs file (c ∷ cs) s) n)
+directed_up file c cs s n safe next undrawn h =
     let u = trimmed_tell n.volatile.branches n.durable.units (differ n h.table) (tells n h.table) in
     let change = directly_changed (is_locked n.volatile.locks file) s (c ∷ cs) in
     record {
@@ -163,6 +194,12 @@ directed_up file c cs s n safe h =
             (all_more (λ e. IsDrawn n.name n.durable.boot n.volatile.drawn (serial_in e)) (λ e. IsDrawn n.name n.durable.boot (n.volatile.drawn + 1) (serial_in e)) n.durable.units.entries (λ e d. drawn_more n.name n.durable.boot n.volatile.drawn (serial_in e) d) h.running.drawn);
         held = held_same n.volatile.locks n.durable.directory h.running.held file change (λ f. refl) (λ f found. live f found);
         unnoted = λ name e. trim_noted n.durable.units name no_history (h.running.unnoted name (none_after name file change n.durable.directory (λ f. refl) e));
+        images = tell_files n.name n.durable.boot (n.volatile.drawn + 1) n.volatile.branches n.durable.directory (with_file file change n.durable.directory)
+            (λ P. ((key : Key) (v : Option (List ℕ)) → P (image.Changed s.serial key v)) × P (image.Settled s.serial s.outcome s.moment))
+            (λ P p. found_changed (FileImages P) (FileImages P) file change n.durable.directory (λ f. refl)
+            (λ f found k. images_settled P (changed_it (changed_with s.serial (c ∷ cs) f.history) s.serial) s (with_images s.tid s.serial (c ∷ cs) f.carried) p.1 (images_changed P s.tid s.serial (c ∷ cs) f.carried p.0 k)) (λ other f k. k))
+            ((λ key v. next), next) (λ b i state. ((λ key v. tt), id_apart b.key.serial s.serial (undrawn b.key.serial (branch_drawn n h.table b.key.serial (in_serials b n.volatile.branches i)))))
+            (tell_more n.name n.durable.boot n.volatile.drawn (n.volatile.drawn + 1) n.volatile.branches n.durable.directory (drawn_more n.name n.durable.boot n.volatile.drawn) h.running.images);
       };
       holding = record {
         by = h.holding.by;
@@ -210,9 +247,13 @@ entered_up b file cs keys n i state safe f found mark keyed ends room h =
       running = record {
         drawn = all_append (λ e. IsDrawn n.name n.durable.boot n.volatile.drawn (serial_in e)) n.durable.units.entries more h.running.drawn
             (all_entered (λ e. IsDrawn n.name n.durable.boot n.volatile.drawn (serial_in e)) b.key.tid x file cs (λ c. branch_drawn n h.table x (in_serials b bs i)));
-        held = held_changed n.volatile.locks n.durable.directory h.running.held x file cs keys keyed;
+        held = held_changed n.volatile.locks n.durable.directory h.running.held b.key.tid x file cs keys keyed;
+        images = tell_changed n.name n.durable.boot n.volatile.drawn x bs (with_file file (changed_file (is_locked n.volatile.locks file) b.key.tid x cs) n.durable.directory) (differ n h.table)
+            (tell_files n.name n.durable.boot n.volatile.drawn bs n.durable.directory (with_file file (changed_file (is_locked n.volatile.locks file) b.key.tid x cs) n.durable.directory) (λ P. (key : Key) (v : Option (List ℕ)) → P (image.Changed x key v))
+            (λ P p. found_changed (FileImages P) (FileImages P) file (changed_file (is_locked n.volatile.locks file) b.key.tid x cs) n.durable.directory (λ f. refl) (λ f found k. images_changed P b.key.tid x cs f.carried p k) (λ other f k. k))
+            (λ key v. branch_drawn n h.table x (in_serials b bs i)) (λ c j state key v. tt) h.running.images);
         unnoted = λ name e.
-            let none = none_after name file (changed_file (is_locked n.volatile.locks file) x cs) n.durable.directory (λ f. refl) e in
+            let none = none_after name file (changed_file (is_locked n.volatile.locks file) b.key.tid x cs) n.durable.directory (λ f. refl) e in
             changes_elsewhere_keep_notes n.durable.units name file no_history b.key.tid x cs (h.running.unnoted name none) (λ same. clash (sym none ∙ ap (λ y. find_file y n.durable.directory) same ∙ found)) safe.0.unsettled;
       };
       holding = record {

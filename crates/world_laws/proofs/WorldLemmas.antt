@@ -10,11 +10,13 @@ use Rattle.unit_laws.specs.JournalLaws.{is_unit}
 use Rattle.unit_laws.proofs.NoteLemmas.{unchanged_has_notes}
 use Rattle.commit_protocol.specs.Table.{branch_serials}
 use Rattle.commit_protocol.specs.World.{In}
-use Rattle.run_model.specs.World.{AreUnitsOf, File, HavePlainEnds, IsLogInOrder, IsOpening, Node, find_file, find_node, opened, serials_of, TellsUnits, Shared, Act}
+use Rattle.run_model.specs.World.{AreUnitsOf, File, HavePlainEnds, IsLogInOrder, IsOpening, IsPlainCarried, Node, find_file, find_node, opened, serials_of, TellsUnits, Shared, Act}
 use Rattle.run_model.specs.Transcript.{AreOpening}
 use Rattle.world_laws.specs.Restarts.{AllNoted, CanRestart, HasNoName, NamesDiffer}
 use Rattle.world_laws.specs.Running.{no_history}
 use Rattle.world_laws.specs.Worlds.{BranchesAreUnsettled, ChangesAreHeld, ChangesFind, InAllWorlds, JournalsTellUnits, LocksAreBranches, LogsAreInOrder, NamesAreDifferent, TablesAreTold, UnitsAreBranches, UnitsNameFiles, WorldsCanRestart}
+use Rattle.world_laws.proofs.KeptImages.{all_keep}
+use Rattle.world_laws.proofs.MomentLemmas.{kept_by}
 use Rattle.world_laws.proofs.DiskLemmas.{not_found, place_of}
 use Rattle.world_laws.proofs.FindLemmas.{some_is}
 use Rattle.world_laws.proofs.FoundLemmas.{changes_found}
@@ -79,6 +81,15 @@ plain_of_all (Some g ∷ fs) h file f e = go (bytes_eq file g.name) e (plain_of_
     go true k more = subst (λ (w : File). IsPlain w.history) (some_is g f k) (plain_file g h.0)
     go false k more = more k
 
+carries_of_all : (fs : List (Option File)) → HavePlainEnds fs → (file : List ℕ) (f : File) → find_file file fs ≡ Some f → IsPlainCarried f.carried
+carries_of_all [] h file f e = let none : ⊥ = cc in absurd none
+carries_of_all (None ∷ fs) h file f e = carries_of_all fs h file f e
+carries_of_all (Some g ∷ fs) h file f e = go (bytes_eq file g.name) e (carries_of_all fs h.1 file f)
+  where
+    go : (b : Bool) → ◌≡◌ {A = Option File} (if b then Some g else find_file file fs) (Some f) → (find_file file fs ≡ Some f → IsPlainCarried f.carried) → IsPlainCarried f.carried
+    go true k more = subst (λ (w : File). IsPlainCarried w.carried) (some_is g f k) h.0.carried
+    go false k more = more k
+
 pub opening_kept : (n : Node) (s : Shared) → IsOpening n → IsKeptNode s n
 opening_kept n s o = record {
   disk = record {
@@ -87,6 +98,9 @@ opening_kept n s o = record {
       names = names_of n.durable.directory o.units.names;
       reached = o.units.reached;
       plain = plain_of_all n.durable.directory o.ends;
+      carries = carries_of_all n.durable.directory o.ends;
+      moments = λ file f e. kept_by n.name n.durable.boot n.durable.greatest f (all_keep n n.durable.directory o.images file f e);
+      images = all_keep n n.durable.directory o.images;
       one = λ file f e. let p = place_of file n.durable.directory f e in (o.units.tells p.0 f p.1).end;
     };
     log = o.log;

@@ -5,4 +5,5 @@ pub mod Apart
 pub mod Worlds
 pub mod Holding
 pub mod Running
+pub mod Entering
 pub mod Nodes

@@ -7,13 +7,14 @@ use Rattle.vms_model.specs.Keys.{End}
 use Rattle.records_model.specs.History.{History, changes_by, current}
 use Rattle.unit_laws.specs.Journal.{JournalEntry, serial_in}
 use Rattle.log_laws.specs.Slots.{size}
-use Rattle.run_model.specs.World.{Act, ComesUp, DiskCounts, Durable, File, FollowOneAnother, IsLogInOrder, Node, OneMovesEndOf, Shared, acted, booted, durable_after, find_file, find_node, is_durable, tm_of}
+use Rattle.recovery_model.specs.Journal as image
+use Rattle.run_model.specs.World.{Act, ComesUp, DiskCounts, Durable, File, FollowOneAnother, IsLogInOrder, IsPlainCarried, KeepsImages, Node, OneMovesEndOf, Shared, acted, booted, durable_after, find_file, find_node, is_durable, tm_of}
 use Rattle.run_model.specs.Answers.{Row, Task, boot_rows, lock_limit, refused_before_reading, task_service}
 use Rattle.run_model.specs.Steps.{NodeStep, node_after, node_after_rows}
 use Rattle.run_model.specs.Transcript.{InAllRuns}
 use Rattle.transcript_model.specs.Lines.{Line}
 use Rattle.world_laws.specs.Restarts.{CanRestart, NamesDiffer}
-use Rattle.world_laws.specs.Running.{AllFound, IsHolding, IsRunning, IsUnnoted, TellTable}
+use Rattle.world_laws.specs.Running.{AllFound, FileImages, IsHolding, IsRunning, IsUnnoted, TellTable}
 
 -- an id is of the node of this name, of a boot that it has counted
 abbrev pub IsOf : List ℕ → ℕ → Id → Type 0
@@ -27,17 +28,38 @@ pub record IsPlain (h : History) : Type 0 where
 abbrev pub IsPlainFile : List ℕ → File → Type 0
 IsPlainFile file f = IsPlain f.history
 
+-- and nothing that a file carries for its recovery is of its end
+abbrev pub CarriesPlain : List ℕ → File → Type 0
+CarriesPlain file f = IsPlainCarried f.carried
+
+-- the moment of a settlement that a journal of images tells is not later than this
+abbrev pub IsTellingBy : ℕ → image.Entry → Type 0
+IsTellingBy moment (image.Changed serial key value) = Unit {0}
+IsTellingBy moment (image.Settled serial outcome at) = at ≤ moment
+
+-- so it is of both journals of a file
+abbrev pub FileCarriesBy : ℕ → List ℕ → File → Type 0
+FileCarriesBy moment = FileImages (IsTellingBy moment)
+
+-- a file has what the disk of a node is to say of its journals of images and its save, by this boot count and this greatest moment
+abbrev pub FileKeepsImages : List ℕ → ℕ → ℕ → List ℕ → File → Type 0
+FileKeepsImages name boot greatest file f = KeepsImages name boot greatest f
+
 -- at most one branch moved the end of a file
 abbrev pub IsOneEnd : List ℕ → File → Type 0
 IsOneEnd file f = OneMovesEndOf f.organization f.history.live
 
 -- The files and the journal of the node of this name: a restart finds what it needs there, a name is one file's, the entries are of branches of this node, and
--- each file is plain, of which one branch at most moved the end.
+-- each file is plain, and so is what it carries, by no later moments than the greatest, and one branch at most moved its end; and its journals of images and its save say
+-- what a disk is to say of them.
 pub record IsFiled (name : List ℕ) (d : Durable) : Type 0 where
   pub can : CanRestart d
   pub names : NamesDiffer d.directory
   pub reached : AllByRecursion (λ (e : JournalEntry). IsOf name d.boot (serial_in e)) d.units.entries
   pub plain : AllFound IsPlainFile d.directory
+  pub carries : AllFound CarriesPlain d.directory
+  pub moments : AllFound (FileCarriesBy d.greatest) d.directory
+  pub images : AllFound (FileKeepsImages name d.boot d.greatest) d.directory
   pub one : AllFound IsOneEnd d.directory
 
 -- what holds of a node that is up, also behind each act of a row

@@ -3,14 +3,14 @@ use Rattle.std.specs.Prelude.{◌≡◌, ◌≤◌, ◌<◌, ◌^◌, ℕ, ◌+�
 use Rattle.std.specs.List.{AllByRecursion, list_any}
 use Rattle.vms_model.specs.Ids.{Id}
 use Rattle.vms_model.specs.Keys.{Key, Number, Text}
-use Rattle.records_model.specs.Records.{Change}
+use Rattle.records_model.specs.Records.{Change, Records}
 use Rattle.records_model.specs.History.{same_id}
 use Rattle.unit_laws.specs.Units.{Map, has_changes}
 use Rattle.unit_laws.specs.Journal.{JournalEntry, ChangeEntry, PreparedEntry, SettledEntry, RecoveryUnit, entries_for, entries_size, find_unit, is_of_file, is_settled_in, is_settling, owed, serial_in, units_after, units_in}
 use Rattle.unit_laws.specs.JournalLaws.{is_unit}
 use Rattle.commit_protocol.specs.Table as table
 use Rattle.commit_protocol.specs.Table.{Key as BranchKey, Prepares, Undoes}
-use Rattle.run_model.specs.World.{Durable, Volatile, File, IsOfTransaction, Organization, Sequential, Relative, Indexed, Settlement, Boots, Changes, Creates, Directs, Formats, Marks, Tables, changes_made, durable_after, find_file, free_place, tid_in, with_half}
+use Rattle.run_model.specs.World.{Durable, Volatile, File, IsOfTransaction, Organization, Sequential, Relative, Indexed, Settlement, Mark, Boots, Changes, Creates, Directs, Formats, Marks, Saves, Recovers, Tables, changes_made, durable_after, find_file, free_place, tid_in, with_half}
 use Rattle.run_model.specs.Operations.{key_within}
 use Rattle.run_model.specs.Answers.{branch_limit, change_limit, owed_first}
 
@@ -140,7 +140,7 @@ abbrev pub CreatesKeepOrder : Type 0
 CreatesKeepOrder = (d : Durable) (v : Volatile) (place : ℕ) (f : File) → IsJournalInOrder d → free_place d.directory ≡ Some place → find_file f.name d.directory ≡ None → list_any (is_of_file f.name) d.units.entries ≡ false →
     IsJournalInOrder (durable_after (Creates place f) v d)
 
--- a volume is made, a node is booted, a file is marked, and an abort is done in part
+-- a volume is made, a node is booted, a file is marked, saved or recovered, and an abort is done in part
 abbrev pub FormatsInOrder : Type 0
 FormatsInOrder = (d : Durable) (v : Volatile) (slots journal : ℕ) → IsJournalInOrder (durable_after (Formats slots journal) v d)
 
@@ -148,7 +148,13 @@ abbrev pub BootsKeepOrder : Type 0
 BootsKeepOrder = (d : Durable) (v : Volatile) → IsJournalInOrder d → IsJournalInOrder (durable_after Boots v d)
 
 abbrev pub MarksKeepOrder : Type 0
-MarksKeepOrder = (d : Durable) (v : Volatile) (file : List ℕ) (marked : Bool) → IsJournalInOrder d → IsJournalInOrder (durable_after (Marks file marked) v d)
+MarksKeepOrder = (d : Durable) (v : Volatile) (file : List ℕ) (mark : Mark) → IsJournalInOrder d → IsJournalInOrder (durable_after (Marks file mark) v d)
+
+abbrev pub SavesKeepOrder : Type 0
+SavesKeepOrder = (d : Durable) (v : Volatile) (file : List ℕ) (start : ℕ) → IsJournalInOrder d → IsJournalInOrder (durable_after (Saves file start) v d)
+
+abbrev pub RecoversKeepOrder : Type 0
+RecoversKeepOrder = (d : Durable) (v : Volatile) (file : List ℕ) (start buckets : ℕ) (m : Records) → IsJournalInOrder d → IsJournalInOrder (durable_after (Recovers file start buckets m) v d)
 
 abbrev pub HalvesKeepOrder : Type 0
 HalvesKeepOrder = (d : Durable) (serial : Id) (standing : List ℕ → Map) → IsJournalInOrder d → IsJournalInOrder (with_half (Some serial) standing d)

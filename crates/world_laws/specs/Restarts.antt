@@ -4,13 +4,13 @@ use Rattle.std.specs.List.{list_any, AllByRecursion}
 use Rattle.vms_model.specs.Ids.{Id}
 use Rattle.vms_model.specs.Transactions.{Commit}
 use Rattle.vms_model.specs.Keys.{Key}
-use Rattle.records_model.specs.Records.{Change, Found}
+use Rattle.records_model.specs.Records.{Change, Found, Records}
 use Rattle.records_model.specs.History.{LiveChanges, changes_by, changes_key, records, current}
 use Rattle.unit_laws.specs.Units.{Map, SerialsDiffer, has_changes, is_free}
 use Rattle.unit_laws.specs.Journal.{Journal, RecoveryUnit, find_unit, is_of_file, is_settled_in, units_in}
 use Rattle.unit_laws.specs.JournalLaws.{HasNotes, is_unit}
 use Rattle.commit_protocol.specs.Table as table
-use Rattle.run_model.specs.World.{Shared, Node, Durable, Volatile, File, IsHalfUndone, IsPreparedUnit, Changes, Creates, Directs, Marks, Tables, durable_after, find_file, with_half}
+use Rattle.run_model.specs.World.{Shared, Node, Durable, Volatile, File, IsHalfUndone, IsPreparedUnit, Mark, Changes, Creates, Directs, Marks, Saves, Recovers, Tables, durable_after, find_file, with_half}
 use Rattle.run_model.specs.Locks.{Lock, holder}
 use Rattle.run_model.specs.Answers.{boot_rows, held_against, keys_refused}
 use Rattle.run_model.specs.Steps.{node_after_rows}
@@ -102,12 +102,19 @@ abbrev pub HalvesCanRestart : Type 0
 HalvesCanRestart = (d : Durable) (serial : Id) (standing : List ℕ → Map) → CanRestart d → ((place : ℕ) (f : File) → slice_index_or d.directory place None ≡ Some f → IsHalfUndone serial standing f) →
     CanRestart (with_half (Some serial) standing d)
 
--- a file is made that no branch changed and no entry is of, and a file is marked
+-- a file is made that no branch changed and no entry is of; a file is marked, or saved; and one that no unsettled branch changed is recovered
 abbrev pub CreatesCanRestart : Type 0
 CreatesCanRestart = (d : Durable) (v : Volatile) (place : ℕ) (f : File) → CanRestart d → f.history.live ≡ [] → list_any (is_of_file f.name) d.units.entries ≡ false → CanRestart (durable_after (Creates place f) v d)
 
 abbrev pub MarksCanRestart : Type 0
-MarksCanRestart = (d : Durable) (v : Volatile) (file : List ℕ) (marked : Bool) → CanRestart d → CanRestart (durable_after (Marks file marked) v d)
+MarksCanRestart = (d : Durable) (v : Volatile) (file : List ℕ) (mark : Mark) → CanRestart d → CanRestart (durable_after (Marks file mark) v d)
+
+abbrev pub SavesCanRestart : Type 0
+SavesCanRestart = (d : Durable) (v : Volatile) (file : List ℕ) (start : ℕ) → CanRestart d → CanRestart (durable_after (Saves file start) v d)
+
+abbrev pub RecoversCanRestart : Type 0
+RecoversCanRestart = (d : Durable) (v : Volatile) (file : List ℕ) (start buckets : ℕ) (m : Records) → CanRestart d → ((f : File) → find_file file d.directory ≡ Some f → f.history.live ≡ []) →
+    CanRestart (durable_after (Recovers file start buckets m) v d)
 
 -- A branch of its own may make these changes of a file, and be committed at once: there are some, the branch is no unit, and in the file the keys are free for it
 -- and each change noted what it found.

@@ -4,7 +4,7 @@ use Rattle.std.specs.List.{AllByRecursion}
 use Rattle.std.specs.FinMap.{empty}
 use Rattle.vms_model.specs.Ids.{Id}
 use Rattle.vms_model.specs.Keys.{Key}
-use Rattle.records_model.specs.History.{History, LiveChanges, changes_by, changes_key}
+use Rattle.records_model.specs.History.{History, LiveChanges, changes_by, changes_key, same_id}
 use Rattle.unit_laws.specs.Journal.{Journal, JournalEntry, RecoveryUnit, find_unit, is_settled_in, serial_in, units_in}
 use Rattle.unit_laws.specs.JournalLaws.{HasNotes, is_unit}
 use Rattle.commit_protocol.specs.Table.{Branch, branch_serials, record_serials}
@@ -14,7 +14,9 @@ use Rattle.commit_protocol.specs.Standing.{HasApartLog}
 use Rattle.commit_protocol.specs.World.{In}
 use Rattle.log_laws.specs.Slots.{LogTells, size}
 use Rattle.run_model.specs.Locks.{Lock, holder}
-use Rattle.run_model.specs.World.{File, IsOfTransaction, IsPreparedUnit, Node, find_file, serials_of, tm_of}
+use Rattle.recovery_model.specs.Journal as image
+use Rattle.recovery_model.specs.File.{all_of}
+use Rattle.run_model.specs.World.{Carried, File, IsOfTransaction, IsPreparedUnit, Node, find_file, serial_of_image, serials_of, tm_of}
 use Rattle.run_model.specs.Answers.{lock_limit}
 use Rattle.world_laws.specs.Ordered.{is_prepared_in}
 use Rattle.world_laws.specs.Holding.{IsEndHeld}
@@ -83,16 +85,39 @@ history_in file fs = history_of (find_file file fs)
 abbrev pub AreHeldIn : List Lock → List (Option File) → Type 0
 AreHeldIn locks fs = (file : List ℕ) (x : Id) (key : Key) → changes_key key (changes_by x (history_in file fs).live) ≡ true → holder locks file key ≡ Some x
 
--- While a node is up: the entries of its journal are of ids that it has drawn; an unsettled branch holds what it changed, and has changed no file that is not
--- there.
+-- all files that are found are so
+abbrev pub AllFound : (List ℕ → File → Type 0) → List (Option File) → Type 0
+AllFound P fs = (file : List ℕ) (f : File) → find_file file fs ≡ Some f → P file f
+
+-- each entry of both journals of images that a file carries is so
+pub record AllImages (P : image.Entry → Type 0) (r : Carried) : Type 0 where
+  pub after : AllByRecursion P (all_of r.after.entries)
+  pub before : AllByRecursion P (all_of r.before.entries)
+
+abbrev pub FileImages : (image.Entry → Type 0) → List ℕ → File → Type 0
+FileImages P file f = AllImages P f.carried
+
+-- an entry is of an id that the node of this name has drawn
+abbrev pub IsDrawnImage : List ℕ → ℕ → ℕ → image.Entry → Type 0
+IsDrawnImage name boot drawn e = IsDrawn name boot drawn (serial_of_image e)
+
+-- an entry does not tell this branch to be settled
+abbrev pub LeavesOpen : Id → image.Entry → Type 0
+LeavesOpen x (image.Changed serial key value) = Unit {0}
+LeavesOpen x (image.Settled serial outcome moment) = same_id x serial ≡ false
+
+-- The journals of images of these files have entries of ids alone that the node has drawn, and tell no branch to be settled that is in its table and is not prepared.
+pub record TellImages (name : List ℕ) (boot count : ℕ) (bs : List Branch) (fs : List (Option File)) : Type 0 where
+  pub drawn : AllFound (FileImages (IsDrawnImage name boot count)) fs
+  pub unsettled : (b : Branch) → In b bs → is_prepared b.state ≡ false → AllFound (FileImages (LeavesOpen b.key.serial)) fs
+
+-- While a node is up: the entries of its journal, and of its files' journals of images, are of ids that it has drawn, and the latter tell none of its branches to be
+-- settled, but perhaps prepared ones; an unsettled branch holds what it changed, and has changed no file that is not there.
 pub record IsRunning (n : Node) : Type 0 where
   pub drawn : AllByRecursion (λ (e : JournalEntry). IsDrawn n.name n.durable.boot n.volatile.drawn (serial_in e)) n.durable.units.entries
   pub held : AreHeldIn n.volatile.locks n.durable.directory
   pub unnoted : (name : List ℕ) → find_file name n.durable.directory ≡ None → IsUnnoted name n.durable.units
-
--- all files that are found are so
-abbrev pub AllFound : (List ℕ → File → Type 0) → List (Option File) → Type 0
-AllFound P fs = (file : List ℕ) (f : File) → find_file file fs ≡ Some f → P file f
+  pub images : TellImages n.name n.durable.boot n.volatile.drawn n.volatile.branches n.durable.directory
 
 -- an unsettled branch holds the end of a file that it moved, and only a file that is marked for recovery units has changes of one that is not prepared
 pub record IsFileHeld (locks : List Lock) (units : Journal) (file : List ℕ) (f : File) : Type 0 where

@@ -2,9 +2,9 @@
 //! its unsettled branches.
 #![tactic(auto)]
 
-ghost use Rattle.world_laws.specs.Restarts.{RestartRestores, RestartCutShort, ChangesCanRestart, TablesCanRestart, HalvesCanRestart, CreatesCanRestart, MarksCanRestart, DirectsCanRestart, UnlockedIsFree, HeldFree};
+ghost use Rattle.world_laws.specs.Restarts.{RestartRestores, RestartCutShort, ChangesCanRestart, TablesCanRestart, HalvesCanRestart, CreatesCanRestart, MarksCanRestart, SavesCanRestart, RecoversCanRestart, DirectsCanRestart, UnlockedIsFree, HeldFree};
 ghost use Rattle.world_laws.specs.Apart.{FewerLocksDiffer, HeldKeysDiffer, MoreLocksDiffer};
-ghost use Rattle.world_laws.specs.Ordered.{BootsKeepOrder, ChangesKeepOrder, CreatesKeepOrder, DirectsKeepOrder, FormatsInOrder, HalvesKeepOrder, MarksKeepOrder, TablesKeepOrder, UnitsAreUnsettled};
+ghost use Rattle.world_laws.specs.Ordered.{BootsKeepOrder, ChangesKeepOrder, CreatesKeepOrder, DirectsKeepOrder, FormatsInOrder, HalvesKeepOrder, MarksKeepOrder, SavesKeepOrder, RecoversKeepOrder, TablesKeepOrder, UnitsAreUnsettled};
 ghost use Rattle.world_laws.specs.Nodes.{BootsKeepUp, NodesAreKept, RowsKeepUp, StepsKeepNodes, StepsKeepOthers};
 ghost use Rattle.world_laws.specs.Room.{ChangesHaveRoom, UnitsHaveRoom};
 ghost use Rattle.world_laws.specs.Worlds.{BranchesAreUnsettled, ChangesAreHeld, ChangesFind, JournalsTellUnits, LocksAreBranches, LogsAreInOrder, NamesAreDifferent, TablesAreTold, UnitsAreBranches, UnitsNameFiles, WorldsCanRestart};
@@ -18,8 +18,8 @@ pub fn restarts_restore()
 {}
 
 /// A restart finds what it needs after each act that finds it: after changes of keys that are free for their branch and that noted what they found,
-/// after such changes of a branch of its own that is committed at once, after any act of the table, after a new file and after a mark; and where an abort was
-/// done in part.
+/// after such changes of a branch of its own that is committed at once, after any act of the table, after a new file, after a mark, a save and a recovery;
+/// and where an abort was done in part.
 pub fn acts_can_restart()
     ensures changes { ChangesCanRestart }
     ensures directs { DirectsCanRestart }
@@ -27,6 +27,8 @@ pub fn acts_can_restart()
     ensures halves { HalvesCanRestart }
     ensures creates { CreatesCanRestart }
     ensures marks { MarksCanRestart }
+    ensures saves { SavesCanRestart }
+    ensures recoveries { RecoversCanRestart }
 {}
 
 /// Where each key that an unsettled branch changed is held by it, a key that no other branch holds is free for a branch to change, and so are all keys
@@ -46,13 +48,15 @@ pub fn locks_lie_apart()
 
 /// The journal of a disk stays in order: its entries suit their files and follow one another, neither changes nor units nor bytes become too many,
 /// and no branch was settled later than the greatest moment. So it is on a new volume, after changes that may be entered, after an act of the table
-/// that prepares a branch once or settles it later than those before it, after a boot, after a new file and after a mark, and where an abort was done
-/// in part. A branch that is a unit of it is not settled there.
+/// that prepares a branch once or settles it later than those before it, after a boot, after a new file, after a mark, a save and a recovery, and where
+/// an abort was done in part. A branch that is a unit of it is not settled there.
 pub fn journals_stay_in_order()
     ensures new { FormatsInOrder }
     ensures boots { BootsKeepOrder }
     ensures creates { CreatesKeepOrder }
     ensures marks { MarksKeepOrder }
+    ensures saves { SavesKeepOrder }
+    ensures recoveries { RecoversKeepOrder }
     ensures changes { ChangesKeepOrder }
     ensures directs { DirectsKeepOrder }
     ensures tables { TablesKeepOrder }

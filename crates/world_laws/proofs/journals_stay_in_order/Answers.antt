@@ -1,4 +1,4 @@
-use Rattle.world_laws.proofs.OrderedLemmas.{boots_keep_order, changes_keep_order, creates_keep_order, directs_keep_order, formats_in_order, halves_keep_order, marks_keep_order, tables_keep_order}
+use Rattle.world_laws.proofs.OrderedLemmas.{boots_keep_order, changes_keep_order, creates_keep_order, directs_keep_order, formats_in_order, halves_keep_order, marks_keep_order, recovers_keep_order, saves_keep_order, tables_keep_order}
 use Rattle.world_laws.proofs.UnsettledLemmas.{units_are_unsettled}
 use Rattle.world_laws.proofs.journals_stay_in_order.Goals as goal
 
@@ -10,6 +10,12 @@ returns-clause-boots c = boots_keep_order
 
 pub returns-clause-marks : goal.returns-clause-marks
 returns-clause-marks c = marks_keep_order
+
+pub returns-clause-saves : goal.returns-clause-saves
+returns-clause-saves c = saves_keep_order
+
+pub returns-clause-recoveries : goal.returns-clause-recoveries
+returns-clause-recoveries c = recovers_keep_order
 
 pub returns-clause-changes : goal.returns-clause-changes
 returns-clause-changes c = changes_keep_order

@@ -1,9 +1,9 @@
 use Rattle.std.proofs.Common.{◌≡◌, ◌≤◌, max, take, length}
-use Rattle.volume_model.specs.Bars.{ends_in}
+use Rattle.image_room.specs.Room.{images_end}
 use Rattle.dtm_node.proofs.boot.last_position.Given as goal
 
 abbrev pub invariant-loop-file : goal.invariant-loop-file
 invariant-loop-file g l = record {
-  last : l.last ≡ max l.fn.volume.catalog.ru.end (ends_in (take l.file l.fn.volume.catalog.heads));
+  last : l.last ≡ max l.fn.volume.catalog.ru.end (images_end (take l.file l.fn.volume.catalog.heads));
   long : 1 ≤ l.file → length l.fn.volume.catalog.heads ≡ 64;
 }

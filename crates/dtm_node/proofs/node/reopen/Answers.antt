@@ -37,7 +37,7 @@ returns-in-Ok-clause-up g c =
     let undone = subst (λ (us : List SettledUnit). Emits b (map undone_line us) d) c.settled.ensures c.show_undone.ensures.shows in
     let prepared = subst (λ (rs : List LogRec). Emits d (map prepared_told rs) e) (c.prepared.ensures ∙ ap (λ (t : ReopenedTold). t.prepared) c.boot.ensures.told) c.show_prepared.ensures.shows in
     reopened_up c.requires.raised.0 c.args.clock.0 v stored.volume (g.U.RecoveryUnits.state stored.units) told c.requires.raised.1 c.requires.clock c.in-Ok.ensures.grows (map serial_of stored.room.in_doubt.items) (record_serials (map log_record_of told.prepared)) (stored_of g.U.RecoveryUnits.state up.stored) up.table up.drawn up.managers
-    c.home-in-Ok.result.now.boot a e c.in-Ok.ensures.room c.in-Ok.ensures.order c.in-Ok.ensures.units c.in-Ok.ensures.begins c.in-Ok.ensures.done c.boot.ensures.stored c.boot.ensures.drawn (ap (λ (h : Home). h.boot) c.home-in-Ok.ensures) c.boot.ensures.up c.boot.ensures.stands (three_shown a b d e _ _ _ last undone prepared)
+    c.home-in-Ok.result.now.boot a e c.in-Ok.ensures.room c.in-Ok.ensures.images c.in-Ok.ensures.order c.in-Ok.ensures.units c.in-Ok.ensures.begins c.in-Ok.ensures.done c.boot.ensures.stored c.boot.ensures.drawn (ap (λ (h : Home). h.boot) c.home-in-Ok.ensures) c.boot.ensures.up c.boot.ensures.stands (three_shown a b d e _ _ _ last undone prepared)
 
 pub returns-in-Err-clause-down : goal.returns-in-Err-clause-down
 returns-in-Err-clause-down g c =

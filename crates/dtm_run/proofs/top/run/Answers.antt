@@ -18,7 +18,7 @@ command_of-requires g c = record { few = c.requires.rack.few }
 
 pub returns-in_default-clause-runs : goal.returns-in_default-clause-runs
 returns-in_default-clause-runs g c = λ e nodes o s.
-    run_over _ nodes _ _ _ _ _ _ _ _ (c.promises_hold.ensures.kept, c.manager_promises_hold.ensures) c.promises_hold.ensures.agreed c.requires.rack.apart o s refl refl (memory_runs (names_in c.args.rack.now) (states_in g.D.Disk.state c.args.rack.now) _ _ nodes o s)
+    run_over _ nodes _ _ _ _ _ _ _ _ (c.promises_hold.ensures.kept, c.manager_promises_hold.ensures, c.recovery_promises_hold.ensures) c.promises_hold.ensures.agreed c.requires.rack.apart o s refl refl (memory_runs (names_in c.args.rack.now) (states_in g.D.Disk.state c.args.rack.now) _ _ nodes o s)
 
 pub returns-in_default-clause-calls : goal.returns-in_default-clause-calls
 returns-in_default-clause-calls g c = λ e. tells_memory (names_in c.args.rack.now) (states_in g.D.Disk.state c.args.rack.now) _ _
@@ -35,7 +35,7 @@ returns-in_default-clause-disks g c = all_stay (states_in g.D.Disk.state c.args.
 pub returns-in-Script-clause-runs : goal.returns-in-Script-clause-runs
 returns-in-Script-clause-runs g c = λ e nodes o s.
     run_over (names_in c.args.rack.now) nodes (states_in g.D.Disk.state c.args.rack.now) (states_in g.D.Disk.state c.run_script-exit.new.rack) (g.S.Source.left c.args.source.now) (g.K.Sink.shown c.over-out.result.sink.now) (g.K.Sink.shown c.run_script-exit.new.out.sink.now)
-    (g.K.Sink.shown c.args.sink.now) _ c.run_script-exit.result (c.promises_hold.ensures.kept, c.manager_promises_hold.ensures) c.promises_hold.ensures.agreed c.requires.rack.apart o s (sym (ap (λ s. s.text) c.over-out.ensures.now)) (search rules) (c.run_script-exit.ensures.runs nodes o s)
+    (g.K.Sink.shown c.args.sink.now) _ c.run_script-exit.result (c.promises_hold.ensures.kept, c.manager_promises_hold.ensures, c.recovery_promises_hold.ensures) c.promises_hold.ensures.agreed c.requires.rack.apart o s (sym (ap (λ s. s.text) c.over-out.ensures.now)) (search rules) (c.run_script-exit.ensures.runs nodes o s)
 
 pub returns-in-Script-clause-calls : goal.returns-in-Script-clause-calls
 returns-in-Script-clause-calls g c = λ e.

@@ -1,12 +1,11 @@
 use Rattle.std.proofs.Common.{◌≡◌, [], ◌∷◌, sym, ap, refl, subst, ◌∙◌, arith, rules}
-use Rattle.file_base.specs.declared.head.Span.{Span}
 use Rattle.emitter_model.specs.Emitting.{Emits}
 use Rattle.transcript_model.specs.Lines as line
 use Rattle.transcript_model.specs.Lines.{Line}
 use Rattle.emitter_model.proofs.EmittingLemmas.{emits_nothing, since_on}
 use Rattle.node_table.specs.Code.{stored_of}
 use Rattle.node_table.specs.Standing.{Stored}
-use Rattle.file_requests.proofs.Reading.{stored_on, volume_of_stored}
+use Rattle.file_requests.proofs.Reading.{order_still, stored_on, volume_of_stored}
 use Rattle.file_requests.proofs.Replied.{quiet_none, quiet_on, replies_after}
 use Rattle.file_requests.proofs.JournalShown.{HasShown, entry_cut, entry_done, entry_there, shown_all, shown_none}
 use Rattle.file_requests.proofs.journal.show_entries.Goals as goal
@@ -17,19 +16,17 @@ loop-position-init g c = record {
   place = refl;
   since = search rules;
   quiet = quiet_none _ _ (emits_nothing _);
-  shows = λ n k.
+  shows = λ content j told h.
       let a = g.E.Emit.shows c.args.out.now in
-      subst (λ p. HasShown n.durable.units p a a) (sym (ap (λ (s : Span). s.first) c.ru-span.ensures ∙ k.has.journal.first)) (shown_none n.durable.units a);
+      subst (λ p. HasShown j p a a) (sym h.first) (shown_none j a);
 }
 
 pub returns-in-Err-clause-replies : goal.returns-in-Err-clause-replies
 returns-in-Err-clause-replies g c = quiet_on _ _ _ c.loop-position.invariant.quiet c.show_entry.ensures.quiet
 
 pub returns-in-Err-clause-shows : goal.returns-in-Err-clause-shows
-returns-in-Err-clause-shows g c = λ n k.
-    let end = ap (λ (s : Span). s.end) c.ru-span.ensures in
-    let lt = c.loop-position-test.true in
-    entry_cut c.the_laws.ensures.nodes (g.U.RecoveryUnits.state c.args.stored.now.units) c.args.stored.now.volume _ (volume_of_stored (stored_of g.U.RecoveryUnits.state c.args.stored.now) (stored_of g.U.RecoveryUnits.state c.loop-position.stored) c.loop-position.invariant.same) n k c.loop-position.position _ _ _ (c.loop-position.invariant.shows n k) (omega (arith, end, lt)) c.in-Err.down c.in-Err.ensures.shows
+returns-in-Err-clause-shows g c = λ content j told h.
+    entry_cut c.args.stored.now.volume _ (volume_of_stored (stored_of g.U.RecoveryUnits.state c.args.stored.now) (stored_of g.U.RecoveryUnits.state c.loop-position.stored) c.loop-position.invariant.same) c.args.span.now content j h told c.loop-position.position _ _ _ (c.loop-position.invariant.shows content j told h) c.loop-position-test.true c.in-Err.down c.in-Err.ensures.shows
 
 pub returns-in-Ok-None-clause-same : goal.returns-in-Ok-None-clause-same
 returns-in-Ok-None-clause-same g c =
@@ -39,10 +36,8 @@ pub returns-in-Ok-None-clause-replies : goal.returns-in-Ok-None-clause-replies
 returns-in-Ok-None-clause-replies g c = replies_after _ _ _ _ (quiet_on _ _ _ c.loop-position.invariant.quiet c.show_entry.ensures.quiet) c.emit.ensures.emits (refl, refl)
 
 pub returns-in-Ok-None-clause-shows : goal.returns-in-Ok-None-clause-shows
-returns-in-Ok-None-clause-shows g c = λ n k.
-    let end = ap (λ (s : Span). s.end) c.ru-span.ensures in
-    let lt = c.loop-position-test.true in
-    absurd (entry_there c.the_laws.ensures.nodes (g.U.RecoveryUnits.state c.args.stored.now.units) c.args.stored.now.volume _ (volume_of_stored (stored_of g.U.RecoveryUnits.state c.args.stored.now) (stored_of g.U.RecoveryUnits.state c.loop-position.stored) c.loop-position.invariant.same) n k c.loop-position.position _ _ _ (c.loop-position.invariant.shows n k) (omega (arith, end, lt)) c.in-Ok-None.field-0 c.in-Ok-None.field-0-is
+returns-in-Ok-None-clause-shows g c = λ content j told h.
+    absurd (entry_there c.args.stored.now.volume _ (volume_of_stored (stored_of g.U.RecoveryUnits.state c.args.stored.now) (stored_of g.U.RecoveryUnits.state c.loop-position.stored) c.loop-position.invariant.same) c.args.span.now content j h told c.loop-position.position _ _ _ (c.loop-position.invariant.shows content j told h) c.loop-position-test.true c.in-Ok-None.field-0 c.in-Ok-None.field-0-is
     c.in-Ok-None.ensures.shows)
 
 pub loop-position-preserved : goal.loop-position-preserved
@@ -52,10 +47,8 @@ loop-position-preserved g c =
       place = c.show_entry.ensures.place ∙ c.loop-position.invariant.place;
       since = since_on _ _ _ c.loop-position.invariant.since c.show_entry.ensures.since;
       quiet = quiet_on _ _ _ c.loop-position.invariant.quiet c.show_entry.ensures.quiet;
-      shows = λ n k.
-          let end = ap (λ (s : Span). s.end) c.ru-span.ensures in
-          let lt = c.loop-position-test.true in
-          entry_done c.the_laws.ensures.nodes (g.U.RecoveryUnits.state c.args.stored.now.units) c.args.stored.now.volume _ (volume_of_stored (stored_of g.U.RecoveryUnits.state c.args.stored.now) (stored_of g.U.RecoveryUnits.state c.loop-position.stored) c.loop-position.invariant.same) n k c.loop-position.position _ _ _ (c.loop-position.invariant.shows n k) (omega (arith, end, lt)) c.in-Ok-Some.field-0 c.in-Ok-Some.next c.in-Ok-Some.field-0-is
+      shows = λ content j told h.
+          entry_done c.args.stored.now.volume _ (volume_of_stored (stored_of g.U.RecoveryUnits.state c.args.stored.now) (stored_of g.U.RecoveryUnits.state c.loop-position.stored) c.loop-position.invariant.same) c.args.span.now content j h told c.loop-position.position _ _ _ (c.loop-position.invariant.shows content j told h) c.loop-position-test.true c.in-Ok-Some.field-0 c.in-Ok-Some.next c.in-Ok-Some.field-0-is
           c.in-Ok-Some.ensures.shows;
     }
 
@@ -63,10 +56,12 @@ pub returns-clause-replies : goal.returns-clause-replies
 returns-clause-replies g c = replies_after _ _ _ _ c.loop-position.invariant.quiet c.emit-2.ensures.emits (refl, refl)
 
 pub returns-clause-shows : goal.returns-clause-shows
-returns-clause-shows g c = λ n k.
-    let journal = k.has.journal in
-    let first = ap (λ (s : Span). s.first) c.ru-span.ensures ∙ journal.first in
-    let end = ap (λ (s : Span). s.end) c.ru-span.ensures ∙ journal.end in
+returns-clause-shows g c = λ content j told h.
+    let first = h.first in
+    let end = h.end in
     let le = c.loop-position-test.false in
-    shown_all n.durable.units c.loop-position.position _ _ _ (c.loop-position.invariant.shows n k) (omega (arith, end, le))
+    shown_all j c.loop-position.position _ _ _ (c.loop-position.invariant.shows content j told h) (omega (arith, end, le))
     (subst (λ (l : Line). Emits (g.E.Emit.shows c.loop-position.out) (l ∷ []) (g.E.Emit.shows c.emit-2.new.self)) (λ i. line.NormalSpan (first i) (end i)) c.emit-2.ensures.emits)
+
+pub show_entry-requires-clause-order : goal.show_entry-requires-clause-order
+show_entry-requires-clause-order g c = order_still (stored_of g.U.RecoveryUnits.state c.args.stored.now) (stored_of g.U.RecoveryUnits.state c.loop-position.stored) c.loop-position.invariant.same c.requires.order

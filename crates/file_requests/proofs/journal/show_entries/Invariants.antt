@@ -1,9 +1,9 @@
-use Rattle.std.proofs.Common.{◌≡◌, ◌-◌}
+use Rattle.std.proofs.Common.{◌≡◌, ◌-◌, ℕ, List, Some}
 use Rattle.emitter_model.specs.Emitting.{Since}
-use Rattle.run_model.specs.World.{Node}
-use Rattle.recovery_units.specs.State.{IsKept}
+use Rattle.unit_laws.specs.Journal.{Journal}
 use Rattle.node_table.specs.Code.{stored_of}
 use Rattle.file_requests.specs.Replying.{ShowsQuietly}
+use Rattle.file_requests.specs.Listing.{HasShowable}
 use Rattle.file_requests.specs.Serving.{SameStored}
 use Rattle.file_requests.proofs.JournalShown.{HasShown}
 use Rattle.file_requests.proofs.journal.show_entries.Given as goal
@@ -14,8 +14,8 @@ invariant-loop-position g l = record {
   place : g.E.Emit.place l.out ≡ g.E.Emit.place l.fn.out;
   since : Since (g.E.Emit.shows l.fn.out) (g.E.Emit.shows l.out);
   quiet : ShowsQuietly (g.E.Emit.shows l.fn.out) (g.E.Emit.shows l.out);
-  shows : (n : Node) → IsKept (g.U.RecoveryUnits.state l.fn.stored.units) l.fn.stored.volume n → HasShown n.durable.units l.position (g.E.Emit.shows l.fn.out) (g.E.Emit.shows l.out);
+  shows : (content : List (List ℕ)) (j : Journal) → l.fn.stored.volume.store.current ≡ Some content → HasShowable l.fn.stored.volume l.fn.span content j → HasShown j l.position (g.E.Emit.shows l.fn.out) (g.E.Emit.shows l.out);
 }
 
 abbrev pub decreases-loop-position : goal.decreases-loop-position
-decreases-loop-position g l = l.span.end - l.position
+decreases-loop-position g l = l.fn.span.end - l.position

@@ -12,4 +12,6 @@ returns c = record {
   makes = c.new_files_are_alike.ensures;
   front = c.catalogs_stand_on_the_front.ensures;
   nodes = c.nodes_are_kept.ensures;
+  recoveries = c.recoveries_keep_nodes.ensures;
+  images = c.rings_follow.ensures.stand;
 }

@@ -42,5 +42,5 @@ returns-in-Ok-clause-acts g c =
     let a = g.E.Emit.shows c.args.out.now in
     let mid = g.E.Emit.shows c.emit.new.self in
     let b = g.E.Emit.shows c.emit-in-Ok.new.self in
-    alone_done (id_of c.args.id.now) c.args.clock.0 (file_in c.args.op.now) (change_said c.args.op.now c.args.bytes.now) u new c.requires.order (change_changes c.args.op.now c.args.bytes.now) e.units refl e.grows c.in-Ok.moment.0 told a b e.order (subst (λ l. IsPlain l) c.change_form.ensures.line c.change_form.ensures.plain)
+    alone_done (id_of c.args.id.now) c.args.clock.0 (file_in c.args.op.now) (change_said c.args.op.now c.args.bytes.now) u new c.requires.order (change_changes c.args.op.now c.args.bytes.now) e.units refl e.grows c.in-Ok.moment.0 told a b e.images e.order (subst (λ l. IsPlain l) c.change_form.ensures.line c.change_form.ensures.plain)
     (emits_on a mid b _ _ c.emit.ensures.emits (subst (λ l. Emits mid (l ∷ []) b) c.change_form.ensures.line c.emit-in-Ok.ensures.emits)) e.done

@@ -31,7 +31,7 @@ returns-in-Ok-clause-acts g c =
     let e = c.in-Ok.ensures in
     let told = position_line c.in-Ok.position in
     subst (λ a. ActsFor {T = Unit {0}} (Ok tt) (serial_of c.args.serial.now) (number_in a) (said_of a c.args.bytes.now) u new (g.E.Emit.shows c.args.out.now) (g.E.Emit.shows c.emit.new.self)) (sym c.in-Change.is)
-    (asked_done (serial_of c.args.serial.now) (file_in op) (change_said op c.args.bytes.now) u new c.requires.order refl e.works e.grows told _ _ e.order (subst (λ l. IsPlain l) c.change_form.ensures.line c.change_form.ensures.plain)
+    (asked_done (serial_of c.args.serial.now) (file_in op) (change_said op c.args.bytes.now) u new c.requires.order refl e.works e.grows told _ _ e.images e.order (subst (λ l. IsPlain l) c.change_form.ensures.line c.change_form.ensures.plain)
     (subst (λ l. Emits (g.E.Emit.shows c.args.out.now) (l ∷ []) (g.E.Emit.shows c.emit.new.self)) c.change_form.ensures.line c.emit.ensures.emits) e.done)
 
 pub returns-in-Err-read-clause-acts : goal.returns-in-Err-read-clause-acts
@@ -52,5 +52,5 @@ returns-in-Ok-read-clause-acts g c =
     let e = c.in-Ok-read.ensures in
     let told = record_line op (key_of c.read.new.found) c.read.new.out in
     subst (λ a. ActsFor {T = Unit {0}} (Ok tt) (serial_of c.args.serial.now) (number_in a) (said_of a c.args.bytes.now) u new (g.E.Emit.shows c.args.out.now) (g.E.Emit.shows c.emit-in-Ok-read.new.self)) (sym c.in-Read.is)
-    (asked_done (serial_of c.args.serial.now) (read_file_in op) (read_said op) u new c.requires.order refl e.works e.grows told _ _ e.order (subst (λ l. IsPlain l) c.read_form.ensures.line c.read_form.ensures.plain)
+    (asked_done (serial_of c.args.serial.now) (read_file_in op) (read_said op) u new c.requires.order refl e.works e.grows told _ _ e.images e.order (subst (λ l. IsPlain l) c.read_form.ensures.line c.read_form.ensures.plain)
     (subst (λ l. Emits (g.E.Emit.shows c.args.out.now) (l ∷ []) (g.E.Emit.shows c.emit-in-Ok-read.new.self)) c.read_form.ensures.line c.emit-in-Ok-read.ensures.emits) (λ n name file branch q up. e.done n name file branch q))

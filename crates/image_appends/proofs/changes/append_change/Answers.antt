@@ -1,4 +1,5 @@
 use Rattle.std.proofs.Common.{List, Option, sym, ap, subst}
+use Rattle.std.proofs.lemmas.Result.{on_ok_weaker}
 use Rattle.std.specs.Option.{option_copied}
 use Rattle.block_disk.specs.Disk.{DiskState}
 use Rattle.file_base.specs.declared.head.FileHead.{FileHead}
@@ -20,3 +21,6 @@ append_side-requires-2-clause-room g c =
     subst (λ (hs : List (Option FileHead)). FileHasRoom Before before c.args.file hs m.store.disk) (sym (ap (λ (k : Catalog). k.heads) c.in-Ok.ensures.catalog))
     (subst (λ (d : DiskState). FileHasRoom Before before c.args.file (heads_with c.args.file After after v.catalog.heads) d) (sym (disk_so v.store m.store c.in-Ok.ensures.rest))
     (befores_stay v.catalog.heads c.args.file after before v.store.disk c.requires.befores))
+
+pub returns-clause-images : goal.returns-clause-images
+returns-clause-images g c = on_ok_weaker c.append_side-2.result (λ current. (c.append_side.ensures.is, c.append_side-2.ensures.is)) c.append_side-2.ensures.current

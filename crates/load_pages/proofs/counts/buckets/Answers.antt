@@ -8,14 +8,14 @@ use Rattle.load_pages.specs.Given.{keyed}
 use Rattle.load_pages.proofs.TreeCounts.{seq_sizes, tree_counted}
 use Rattle.load_pages.proofs.counts.buckets.Goals as goal
 
-pub returns-in-Sequential : goal.returns-in-Sequential
-returns-in-Sequential c =
+pub returns-in-Sequential-clause-is : goal.returns-in-Sequential-clause-is
+returns-in-Sequential-clause-is c =
     let h = c.args.head.now in
     c.chain_length.ensures.is ∙ ap (λ (ns : List ℕ). buckets_for (512 * h.bucket - 16) ns) (seq_sizes c.args.records.now)
     ∙ sym (ap (λ (o : Organization). buckets_by o h (map keyed c.args.records.now)) c.in-Sequential.is)
 
-pub returns-in-Indexed : goal.returns-in-Indexed
-returns-in-Indexed c =
+pub returns-in-Indexed-clause-is : goal.returns-in-Indexed-clause-is
+returns-in-Indexed-clause-is c =
     let h = c.args.head.now in
     let leaves = c.chain_length-leaves.result in
     ap (λ n. leaves + n) (c.index_counts.ensures.buckets ∙ ap (λ f. index_size (index_over f leaves leaves)) c.fan_out.ensures.is)

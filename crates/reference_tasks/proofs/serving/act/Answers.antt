@@ -36,7 +36,7 @@ operate-requires c =
 pub act_on_branches-requires-clause-can : goal.act_on_branches-requires-clause-can
 act_on_branches-requires-clause-can c =
     let d = c.in_default in
-    c.requires.can (default_up c.args.lit.now (shared_of c.args.shared.now) (node_of c.args.node.now) c.args.request.now d.not-Init d.not-Boot d.not-Create d.not-SetFile d.not-Records d.not-Direct d.not-Dump d.not-DumpJournal d.not-Fuse d.not-Crash d.not-Clock d.not-DeclareRm d.not-ForgetRm d.not-GetDti d.not-LmcpShow d.not-LmcpDump c.requires.early)
+    c.requires.can (default_up c.args.lit.now (shared_of c.args.shared.now) (node_of c.args.node.now) c.args.request.now d.not-Init d.not-Boot d.not-Create d.not-SetFile d.not-Records d.not-Direct d.not-Dump d.not-DumpJournal d.not-DumpImages d.not-Backup d.not-Recover d.not-Fuse d.not-Crash d.not-Clock d.not-DeclareRm d.not-ForgetRm d.not-GetDti d.not-LmcpShow d.not-LmcpDump c.requires.early)
 
 pub returns-in-Init-clause-time : goal.returns-in-Init-clause-time
 returns-in-Init-clause-time c = λ t. absurd (subst RestsNot c.in-Init.is t)
@@ -58,6 +58,15 @@ returns-in-Dump-clause-time c = λ t. absurd (subst RestsNot c.in-Dump.is t)
 
 pub returns-in-DumpJournal-clause-time : goal.returns-in-DumpJournal-clause-time
 returns-in-DumpJournal-clause-time c = λ t. absurd (subst RestsNot c.in-DumpJournal.is t)
+
+pub returns-in-DumpImages-clause-time : goal.returns-in-DumpImages-clause-time
+returns-in-DumpImages-clause-time c = λ t. absurd (subst RestsNot c.in-DumpImages.is t)
+
+pub returns-in-Backup-clause-time : goal.returns-in-Backup-clause-time
+returns-in-Backup-clause-time c = λ t. absurd (subst RestsNot c.in-Backup.is t)
+
+pub returns-in-Recover-clause-time : goal.returns-in-Recover-clause-time
+returns-in-Recover-clause-time c = λ t. absurd (subst RestsNot c.in-Recover.is t)
 
 pub returns-in-Fuse-clause-time : goal.returns-in-Fuse-clause-time
 returns-in-Fuse-clause-time c = λ t. absurd (subst RestsNot c.in-Fuse.is t)

@@ -1,13 +1,14 @@
 -- A unit is aborted: the units that are left stay in order with the volume.
 use Rattle.std.proofs.Common.{◌≡◌, ◌≤◌, ◌^◌, ℕ, List, Option, Some, IfSome, ap, sym, subst, ◌∙◌}
 use Rattle.std.specs.List.{All}
-use Rattle.unit_aborts.specs.Aborting.{Aborts, BreaksOff, HasRoom}
+use Rattle.unit_aborts.specs.Aborting.{Aborts, BreaksOff, HasRoom, ImagesHaveRoom}
 use Rattle.unit_journal.specs.Settling.{next_moment}
 use Rattle.unit_table.specs.Units.{OpenUnit, unit_at}
 use Rattle.vms_base.specs.Ids.{serial_of, tid_of}
 use Rattle.rms_units.specs.Aborting.{abortion_of}
 use Rattle.rms_units.specs.State.{UnitsState, without_place}
 use Rattle.rms_units.proofs.AbortLemmas.{low_changes, may_abort, order_aborted, room_to_abort}
+use Rattle.rms_units.proofs.ImageSound.{all_have_room}
 use Rattle.unit_cuts.proofs.Outcomes.{of_some, the_one}
 use Rattle.rms_units.proofs.SettledLemmas.{grows_next}
 use Rattle.rms_units.proofs.aborting.abort_branch.Goals as goal
@@ -28,6 +29,13 @@ abort_unit-requires-clause-room g c =
     let s : UnitsState = record { units = c.args.table.now; locks = c.args.locks.now.locks } in
     let one = the_one (unit_at c.args.table.now.places c.args.place) c.requires.there in
     subst (λ (o : Option OpenUnit). IfSome o (λ (u : OpenUnit). HasRoom u.positions c.args.volume.now)) (sym one.1) (room_to_abort c.args.place one.0 s c.args.volume.now one.1 c.requires.order)
+
+pub abort_unit-requires-clause-rooms : goal.abort_unit-requires-clause-rooms
+abort_unit-requires-clause-rooms g c =
+    let v = c.args.volume.now in
+    let s : UnitsState = record { units = c.args.table.now; locks = c.args.locks.now.locks } in
+    let one = the_one (unit_at c.args.table.now.places c.args.place) c.requires.there in
+    subst (λ (o : Option OpenUnit). IfSome o (λ (u : OpenUnit). ImagesHaveRoom u.positions u.files v)) (sym one.1) (λ changed. all_have_room c.args.place one.0 s v one.1 c.requires.order)
 
 pub returns-in-Err-clause-grows : goal.returns-in-Err-clause-grows
 returns-in-Err-clause-grows g c =

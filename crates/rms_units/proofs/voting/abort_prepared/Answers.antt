@@ -1,8 +1,9 @@
 -- A prepared unit is aborted: the units that are left stay in order with the volume.
-use Rattle.std.proofs.Common.{◌≡◌, ◌≤◌, ◌^◌, ℕ, List, Option, Some, IfSome, ap, sym, subst, ◌∙◌}
+use Rattle.std.proofs.Common.{◌≡◌, ◌+◌, ◌≤◌, ◌^◌, ℕ, List, Option, Some, IfSome, length, ap, sym, subst, ◌∙◌}
 use Rattle.std.specs.List.{All}
 use Rattle.log_laws.specs.Slots.{forgotten}
-use Rattle.unit_aborts.specs.Aborting.{HasRoom}
+use Rattle.unit_aborts.specs.Aborting.{HasRoom, ImagesHaveRoom}
+use Rattle.kept_files.specs.Keeping.{StandBehind}
 use Rattle.unit_journal.specs.Settling.{next_moment}
 use Rattle.unit_table.specs.Units.{OpenUnit, unit_at}
 use Rattle.unit_votes.specs.Voting.{AbortsLogged, BreaksOffLogged}
@@ -12,6 +13,7 @@ use Rattle.rms_units.specs.State.{UnitsState, without_place}
 use Rattle.rms_units.proofs.AbortLemmas.{low_changes, may_abort, room_to_abort}
 use Rattle.rms_units.proofs.SettledLemmas.{grows_next}
 use Rattle.rms_units.proofs.VoteLemmas.{order_aborted_logged}
+use Rattle.rms_units.proofs.ImageSound.{all_have_room, stand_behind}
 use Rattle.unit_cuts.proofs.Outcomes.{of_some, the_one}
 use Rattle.rms_units.proofs.voting.abort_prepared.Goals as goal
 
@@ -31,6 +33,21 @@ abort_logged-requires-clause-room g c =
     let s : UnitsState = record { units = c.args.table.now; locks = c.args.locks.now.locks } in
     let one = the_one (unit_at c.args.table.now.places c.args.place) c.requires.there in
     subst (λ (o : Option OpenUnit). IfSome o (λ (u : OpenUnit). HasRoom u.positions c.args.volume.now)) (sym one.1) (room_to_abort c.args.place one.0 s c.args.volume.now one.1 c.requires.order)
+
+pub abort_logged-requires-clause-rooms : goal.abort_logged-requires-clause-rooms
+abort_logged-requires-clause-rooms g c =
+    let v = c.args.volume.now in
+    let s : UnitsState = record { units = c.args.table.now; locks = c.args.locks.now.locks } in
+    let one = the_one (unit_at c.args.table.now.places c.args.place) c.requires.there in
+    subst (λ (o : Option OpenUnit). IfSome o (λ (u : OpenUnit). ImagesHaveRoom u.positions u.files v)) (sym one.1) (λ changed. all_have_room c.args.place one.0 s v one.1 c.requires.order)
+
+pub abort_logged-requires-clause-beside : goal.abort_logged-requires-clause-beside
+abort_logged-requires-clause-beside g c =
+    let v = c.args.volume.now in
+    let n = length c.args.log.now in
+    let s : UnitsState = record { units = c.args.table.now; locks = c.args.locks.now.locks } in
+    let one = the_one (unit_at c.args.table.now.places c.args.place) c.requires.there in
+    subst (λ (o : Option OpenUnit). IfSome o (λ (u : OpenUnit). StandBehind u.files (584 + n) v.catalog.heads)) (sym one.1) (stand_behind one.0.files n s v c.requires.order c.requires.before)
 
 pub returns-in-Err-clause-grows : goal.returns-in-Err-clause-grows
 returns-in-Err-clause-grows g c =

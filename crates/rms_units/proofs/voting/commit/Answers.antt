@@ -20,6 +20,8 @@ use Rattle.rms_units.specs.Voting.{commit_of}
 use Rattle.rms_units.proofs.RoomLemmas.{room_to_settle}
 use Rattle.rms_units.proofs.SettledLemmas.{grows_next, has_change}
 use Rattle.rms_units.proofs.VoteLemmas.{is_changed, order_committed_logged}
+use Rattle.image_appends.specs.Settling.{AllHaveRoom}
+use Rattle.rms_units.proofs.ImageSound.{all_have_room, stand_behind}
 use Rattle.unit_cuts.proofs.Outcomes.{of_some, the_one}
 use Rattle.rms_units.proofs.voting.commit.Goals as goal
 
@@ -31,6 +33,20 @@ commit_logged-requires-clause-room g c = λ changed.
     let positions = of_some (λ (x : OpenUnit). c.positions.result.now ≡ x.positions) o one.0 one.1 c.positions.ensures.value in
     room_to_settle c.args.table.now.places c.args.place one.0 (v.catalog.ru.end - v.catalog.ru.first) (ring_size v.catalog.ru) one.1
     (λ none. has_change c.positions.result.now (sym (ap not c.is_empty-has_changed.ensures) ∙ changed) (positions ∙ none)) c.requires.order.room
+
+pub commit_logged-requires-clause-rooms : goal.commit_logged-requires-clause-rooms
+commit_logged-requires-clause-rooms g c = λ changed.
+    let v = c.args.volume.now in
+    let o = unit_at c.args.table.now.places c.args.place in
+    let one = the_one o c.requires.there in
+    let s : UnitsState = record { units = c.args.table.now; locks = c.args.locks.now.locks } in
+    let files = of_some (λ (x : OpenUnit). c.files.result.now ≡ x.files) o one.0 one.1 c.files.ensures in
+    subst (λ (fs : List Bool). AllHaveRoom fs 48 v.catalog.heads v.store.disk) (sym files) (all_have_room c.args.place one.0 s v one.1 c.requires.order)
+
+pub commit_logged-requires-clause-beside : goal.commit_logged-requires-clause-beside
+commit_logged-requires-clause-beside g c = λ changed.
+    let s : UnitsState = record { units = c.args.table.now; locks = c.args.locks.now.locks } in
+    stand_behind c.files.result.now (length c.args.log.now) s c.args.volume.now c.requires.order c.requires.before
 
 pub returns-in-Err-clause-grows : goal.returns-in-Err-clause-grows
 returns-in-Err-clause-grows g c =
@@ -53,6 +69,7 @@ returns-in-Err-clause-breaks g c = λ u at.
     let t : UnitsState = record { units = c.remove.new.self; locks = c.release_all.new.self.locks } in
     let next = c.next_moment-moment.ensures ∙ ap (next_moment c.args.clock.0) c.home.ensures in
     let positions = of_some (λ (x : OpenUnit). c.positions.result.now ≡ x.positions) o u at c.positions.ensures.value in
+    let files = of_some (λ (x : OpenUnit). c.files.result.now ≡ x.files) o u at c.files.ensures in
     let changed = is_changed c.is_empty-has_changed.result c.positions.result.now u.positions c.is_empty-has_changed.ensures positions in
     let rec = slot_of (option_copied c.args.logged) in
     record {
@@ -63,7 +80,7 @@ returns-in-Err-clause-breaks g c = λ u at.
       same_serial = same.1;
       breaks = subst (λ (n : ℕ). Breaks (MakesLogged (commit_of u b.tid b.serial n t) rec c.args.log.now c.commit_logged.new.log v) v w) next
           (subst (λ (x : Settlement). Breaks (MakesLogged x rec c.args.log.now c.commit_logged.new.log v) v w)
-          (λ i. record { tid = b.tid; serial = b.serial; ending = ending.Commit; moment = c.next_moment-moment.result.0; entry = entry_if (changed i) (settled_entry (same.0 i) (same.1 i) Commit c.next_moment-moment.result.0); left = t.units.places })
+          (λ i. record { files = files i; tid = b.tid; serial = b.serial; ending = ending.Commit; moment = c.next_moment-moment.result.0; entry = entry_if (changed i) (settled_entry (same.0 i) (same.1 i) Commit c.next_moment-moment.result.0); left = t.units.places })
           c.in-Err.ensures.breaks);
     }
 
@@ -82,11 +99,12 @@ returns-clause-order g c =
     let spent : t ≡ without_place c.args.place u.serial s = (λ i. record { units = c.remove.ensures i; locks = (c.release_all.ensures.locks i).locks }) ∙ (λ i. without_place c.args.place (same.1 i) s) in
     let moment = c.next_moment-moment.result.0 in
     let positions = of_some (λ (x : OpenUnit). c.positions.result.now ≡ x.positions) o u one.1 c.positions.ensures.value in
+    let files = of_some (λ (x : OpenUnit). c.files.result.now ≡ x.files) o u one.1 c.files.ensures in
     let changed = is_changed c.is_empty-has_changed.result c.positions.result.now u.positions c.is_empty-has_changed.ensures positions in
     let rec = slot_of (option_copied c.args.logged) in
     order_committed_logged c.args.place u b.tid b.serial c.args.clock.0 moment c.args.log.now c.commit_logged.new.log s t v w one.1 next spent rec c.requires.order c.requires.early c.requires.clock
     (subst (λ (x : Settlement). MakesLogged x rec c.args.log.now c.commit_logged.new.log v w)
-    (λ i. record { tid = b.tid; serial = b.serial; ending = ending.Commit; moment = moment; entry = entry_if (changed i) (settled_entry (same.0 i) (same.1 i) Commit moment); left = t.units.places })
+    (λ i. record { files = files i; tid = b.tid; serial = b.serial; ending = ending.Commit; moment = moment; entry = entry_if (changed i) (settled_entry (same.0 i) (same.1 i) Commit moment); left = t.units.places })
     c.in-Ok.ensures.makes)
     (c.in-Ok.ensures.end ∙ ap (λ (has : Bool). v.catalog.ru.end + (if has then 48 else 0)) changed) c.in-Ok.ensures.idle c.in-Ok.ensures.holds c.commit_logged.ensures.counts.size c.commit_logged.ensures.pool
 
@@ -101,6 +119,7 @@ returns-clause-commits g c = λ u at.
     let t : UnitsState = record { units = c.remove.new.self; locks = c.release_all.new.self.locks } in
     let moment = c.next_moment-moment.result.0 in
     let positions = of_some (λ (x : OpenUnit). c.positions.result.now ≡ x.positions) o u at c.positions.ensures.value in
+    let files = of_some (λ (x : OpenUnit). c.files.result.now ≡ x.files) o u at c.files.ensures in
     let changed = is_changed c.is_empty-has_changed.result c.positions.result.now u.positions c.is_empty-has_changed.ensures positions in
     let rec = slot_of (option_copied c.args.logged) in
     record {
@@ -110,6 +129,6 @@ returns-clause-commits g c = λ u at.
       moment = c.next_moment-moment.ensures ∙ ap (next_moment c.args.clock.0) c.home.ensures;
       slots = c.commit_logged.ensures.slots ∙ ap (λ x. settled_in x rec c.args.log.now) same.1;
       makes = subst (λ (x : Settlement). MakesLogged x rec c.args.log.now c.commit_logged.new.log v w)
-          (λ i. record { tid = b.tid; serial = b.serial; ending = ending.Commit; moment = moment; entry = entry_if (changed i) (settled_entry (same.0 i) (same.1 i) Commit moment); left = t.units.places })
+          (λ i. record { files = files i; tid = b.tid; serial = b.serial; ending = ending.Commit; moment = moment; entry = entry_if (changed i) (settled_entry (same.0 i) (same.1 i) Commit moment); left = t.units.places })
           c.in-Ok.ensures.makes;
     }

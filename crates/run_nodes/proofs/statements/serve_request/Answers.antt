@@ -4,7 +4,7 @@ use Rattle.run_nodes.specs.Held.{kept_all, names_of}
 use Rattle.script_model.specs.Statements.{At}
 use Rattle.run_nodes.specs.Names.{IsOtherThere}
 use Rattle.run_nodes.specs.Together.{AnswersTogether, ServesTogether}
-use Rattle.run_nodes.proofs.Each.{alone_serves, alone_tells, clock_is_served, clock_tells, not_clock, nowhere_serves, nowhere_tells, request_is_served, request_tells, within_names}
+use Rattle.run_nodes.proofs.Each.{alone_serves, alone_tells, can_be_told, clock_is_served, clock_tells, not_clock, nowhere_serves, nowhere_tells, request_is_served, request_tells, within_names}
 use Rattle.run_nodes.proofs.Entries.{more_nodes, same_names}
 use Rattle.run_nodes.proofs.statements.serve_request.Goals as goal
 
@@ -95,6 +95,7 @@ pub serve-requires : goal.serve-requires
 serve-requires g c = record {
   there = within_names (names_of c.args.nodes.now) c.in-Some.place c.args.name.now c.in-Some.ensures.there;
   answered = not_clock c.args.request.now c.args.literals.now c.in_default-request.not-Clock;
+  times = can_be_told c.args.name.now (request_of c.args.literals.now c.args.request.now) c.requires.timely;
   nodes = c.requires.nodes;
 }
 

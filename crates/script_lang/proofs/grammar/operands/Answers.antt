@@ -74,3 +74,9 @@ returns-in-Dump c = rw c.in-Dump.is (c.dump.ensures c.args.lit.now)
 
 pub returns-in-DumpJournal : goal.returns-in-DumpJournal
 returns-in-DumpJournal c = rw c.in-DumpJournal.is (c.dump_journal.ensures c.args.lit.now)
+
+pub returns-in-Backup : goal.returns-in-Backup
+returns-in-Backup c = rw c.in-Backup.is (c.backup.ensures c.args.lit.now)
+
+pub returns-in-Recover : goal.returns-in-Recover
+returns-in-Recover c = rw c.in-Recover.is (c.recover.ensures c.args.lit.now)

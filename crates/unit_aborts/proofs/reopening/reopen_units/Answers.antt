@@ -1,13 +1,16 @@
-use Rattle.std.proofs.Common.{◌≡◌, ℕ, suc, ◌+◌, ◌-◌, ◌*◌, ◌<◌, ◌≤◌, [], ◌∷◌, List, Some, length, map, ap, subst, sym, ◌∙◌, arith}
+use Rattle.std.proofs.Common.{◌≡◌, ℕ, suc, ◌+◌, ◌-◌, ◌*◌, ◌<◌, ◌≤◌, [], ◌∷◌, List, Some, length, map, ap, subst, sym, ◌∙◌, arith, inl, inr}
 use Rattle.std.proofs.lemmas.List.{length-append, length-map}
 use Rattle.careful_write.specs.Steps.{Quiet}
 use Rattle.journal_model.specs.Ring.{ring_size}
 use Rattle.ru_journal.specs.Units.{unit_of}
-use Rattle.unit_entries.specs.Opening.{AreAlike}
+use Rattle.unit_entries.specs.Opening.{AreAlike, AreFiledIn, AreFilesAt}
 use Rattle.unit_entries.proofs.OpenLemmas.{alike_long, all_less, first_holds}
-use Rattle.unit_table.specs.Units.{OpenUnit, begun, is_active}
+use Rattle.unit_table.specs.Units.{OpenUnit, Units, begun, is_active, no_units}
+use Rattle.image_room.specs.Room.{AllSettlementsFit, IsTooFull}
 use Rattle.vms_model.specs.Ids.{Id}
-use Rattle.volume.specs.State.{VolumeState}
+use Rattle.volume.specs.Catalogs.{IsSound}
+use Rattle.volume.specs.State.{SameVolume, VolumeState}
+use Rattle.unit_aborts.proofs.ImageLemmas.{fit_seen, full_seen}
 use Rattle.unit_aborts.specs.Growing.{AreTold, GrowsBy}
 use Rattle.unit_aborts.specs.Reopening.{AreFound, AreFoundIn, AreUnits, HasTaken, aborting, full, left_after, left_units, taken}
 use Rattle.unit_aborts.proofs.GrowLemmas.{by_more, by_most, by_none}
@@ -22,7 +25,38 @@ returns-then-not-has_room-clause-reopens g c =
     let count : length c.units.result.now ≡ length us = sym (length-map c.units.result.now unit_of) ∙ ap length c.units.ensures.value in
     let same = c.in-Ok-true.ensures.same in
     let no = subst (λ (x : VolumeState). ring_size x.catalog.ru < x.catalog.ru.end - x.catalog.ru.first + 48 * length c.units.result.now) same (c.has_room.ensures.no c.if-not-has_room.true) in
-    full us are (omega (arith, no, count)) same c.clear.ensures.items (ap begun c.clear-then-not-has_room.ensures)
+    full us are (inl (omega (arith, no, count))) same c.clear.ensures.items (ap begun c.clear-then-not-has_room.ensures)
+
+pub images_fit-requires : goal.images_fit-requires
+images_fit-requires g c =
+    let node = c.requires.may.may.node in
+    record { sound = (node, subst (λ (x : VolumeState). IsSound node x.store.disk.size x.catalog) (sym c.in-Ok-true.ensures.same) c.requires.may.may.sound) }
+
+pub returns-then-not-images_fit-clause-reopens : goal.returns-then-not-images_fit-clause-reopens
+returns-then-not-images_fit-clause-reopens g c =
+    let us = c.read_units.new.state.units in
+    let t = c.read_units.new.units in
+    let same = c.in-Ok-true.ensures.same in
+    let whole = c.in-Ok-true.field-0-test in
+    let no = subst (λ (x : VolumeState). IsTooFull t.places x.catalog.heads) same (c.images_fit.ensures.no c.if-not-images_fit.true) in
+    full us (c.in-Ok-true.ensures.units whole) (inr (begun t, c.in-Ok-true.ensures.alike whole, c.in-Ok-true.ensures.found whole, c.in-Ok-true.ensures.files whole, full_seen t c.args.volume.now.catalog.heads c.stand_in_order.ensures no)) same
+    c.clear.ensures.items (ap begun c.clear-then-not-images_fit.ensures)
+
+-- no unit is left
+none_fit : (t : Units) (v w : VolumeState) → SameVolume v w → t ≡ no_units → AllSettlementsFit [] v.catalog.heads → AllSettlementsFit (map Some (begun t)) w.catalog.heads
+none_fit t v w same none fit = subst (λ (x : Units). AllSettlementsFit (map Some (begun x)) w.catalog.heads) (sym none) (subst (λ (x : VolumeState). AllSettlementsFit [] x.catalog.heads) (sym same) fit)
+
+pub returns-in-Ok-false-clause-images : goal.returns-in-Ok-false-clause-images
+returns-in-Ok-false-clause-images g c = none_fit c.clear-in-Ok-false.new.self c.args.volume.now c.read_units.new.volume c.in-Ok-false.ensures.same c.clear-in-Ok-false.ensures c.requires.may.images
+
+pub returns-then-not-has_room-clause-images : goal.returns-then-not-has_room-clause-images
+returns-then-not-has_room-clause-images g c = none_fit c.clear-then-not-has_room.new.self c.args.volume.now c.read_units.new.volume c.in-Ok-true.ensures.same c.clear-then-not-has_room.ensures c.requires.may.images
+
+pub returns-then-not-images_fit-clause-images : goal.returns-then-not-images_fit-clause-images
+returns-then-not-images_fit-clause-images g c = none_fit c.clear-then-not-images_fit.new.self c.args.volume.now c.read_units.new.volume c.in-Ok-true.ensures.same c.clear-then-not-images_fit.ensures c.requires.may.images
+
+pub returns-clause-images : goal.returns-clause-images
+returns-clause-images g c = c.loop-place.invariant.may.images
 
 pub loop-place-init : goal.loop-place-init
 loop-place-init g c =
@@ -37,12 +71,15 @@ loop-place-init g c =
     let none = ap length c.clear.ensures.items in
     let wide = c.clear.ensures.capacity in
     let places = c.requires.places in
+    let t = c.read_units.new.units in
+    let fits = fit_seen t v.catalog.heads c.stand_in_order.ensures (subst (λ (x : VolumeState). AllSettlementsFit t.places x.catalog.heads) same (c.images_fit.ensures.yes c.if-not-images_fit.false)) in
     record {
       taken = subst (λ (n : ℕ). HasTaken c.args.clock.0 us n v c.read_units.new.volume c.clear.new.self.items) (sym none) (same, c.clear.ensures.items);
       alike = subst (λ (n : ℕ). AreAlike (left_after n us) (begun c.read_units.new.units)) (sym none) alike;
       found = c.in-Ok-true.ensures.found c.in-Ok-true.field-0-test;
+      filed = c.in-Ok-true.ensures.files c.in-Ok-true.field-0-test;
       may = take_read v.catalog.ru.first (begun c.read_units.new.units) c.args.clock.0 v c.read_units.new.volume same
-          (may_begin (begun c.read_units.new.units) c.args.clock.0 v c.requires.may (c.in-Ok-true.ensures.within c.in-Ok-true.field-0-test) (c.in-Ok-true.ensures.ascends c.in-Ok-true.field-0-test) (omega (arith, long, few)) (omega (arith, yes, long, count)));
+          (may_begin (begun c.read_units.new.units) c.args.clock.0 v c.requires.may (c.in-Ok-true.ensures.within c.in-Ok-true.field-0-test) (c.in-Ok-true.ensures.ascends c.in-Ok-true.field-0-test) (omega (arith, long, few)) (omega (arith, yes, long, count)) (subst (λ (x : VolumeState). length x.catalog.heads ≡ 64) same c.images_fit.ensures.whole) fits);
       places = omega (arith, places, wide);
       few = omega (arith, none, long, few);
       grows = by_none (length c.clear.new.self.items) c.args.clock.0 v c.read_units.new.volume c.read_units.ensures.kept;
@@ -77,6 +114,9 @@ returns-in-Err-abort_next-clause-fails g c =
     aborting us n c.loop-place.volume u (c.in-Ok-true.ensures.units c.in-Ok-true.field-0-test) r.1 (subst (HasTaken c.args.clock.0 us n v c.loop-place.volume) (sym c.in-Err-abort_next.ensures.same) c.loop-place.invariant.taken) record {
       positions = next.unit.positions;
       found = subst (λ (x : Id). AreFound x v next.unit.positions) r.2.serial (first_holds (λ (w : OpenUnit). AreFound w.serial v w.positions) is_active ws next.unit c.loop-place.invariant.found next.first);
+      files = next.unit.files;
+      filed = first_holds (λ (w : OpenUnit). AreFilesAt v w.positions w.files) is_active ws next.unit c.loop-place.invariant.filed next.first;
+      room = breaks.room;
       tid = breaks.tid;
       serial = breaks.serial;
       same_tid = breaks.same_tid ∙ r.2.tid;
@@ -125,6 +165,9 @@ loop-place-preserved g c =
         record {
           positions = next.unit.positions;
           found = subst (λ (x : Id). AreFound x v next.unit.positions) r.2.serial (first_holds (λ (w : OpenUnit). AreFound w.serial v w.positions) is_active ws next.unit c.loop-place.invariant.found next.first);
+          files = next.unit.files;
+          filed = first_holds (λ (w : OpenUnit). AreFilesAt v w.positions w.files) is_active ws next.unit c.loop-place.invariant.filed next.first;
+          room = undoes.room;
           tid = undoes.tid ∙ r.2.tid;
           serial = undoes.serial ∙ r.2.serial;
           moment = undoes.moment;
@@ -135,6 +178,7 @@ loop-place-preserved g c =
       );
       alike = subst (λ (k : ℕ). AreAlike (left_after k us) (begun c.abort_next.new.units)) (sym long) rest;
       found = subst (AreFoundIn v) (sym c.abort_next.ensures.less) (all_less (λ (w : OpenUnit). AreFound w.serial v w.positions) is_active ws c.loop-place.invariant.found);
+      filed = subst (AreFiledIn v) (sym c.abort_next.ensures.less) (all_less (λ (w : OpenUnit). AreFilesAt v w.positions w.files) is_active ws c.loop-place.invariant.filed);
       may = c.in-Ok.ensures.may v.catalog.ru.first c.loop-place.invariant.may;
       places = omega (arith, places, wide);
       few = omega (arith, few, more, less, long);
@@ -157,7 +201,7 @@ returns-clause-reopens g c =
     let us = c.read_units.new.state.units in
     let n = length c.loop-place.out.items in
     taken us n (c.in-Ok-true.ensures.units c.in-Ok-true.field-0-test) c.loop-place.invariant.taken (none_alike (left_after n us) (begun c.loop-place.units) c.loop-place.invariant.alike c.in_default.ensures.none)
-    (record { alike = c.loop-place.invariant.alike; found = c.loop-place.invariant.found; prepared = c.in_default.ensures.none })
+    (record { alike = c.loop-place.invariant.alike; found = c.loop-place.invariant.found; filed = c.loop-place.invariant.filed; prepared = c.in_default.ensures.none })
 
 pub returns-clause-room : goal.returns-clause-room
 returns-clause-room g c = let m = c.loop-place.invariant.may in let a = m.room in let b = m.behind in omega (arith, a, b)

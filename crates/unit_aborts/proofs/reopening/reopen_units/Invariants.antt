@@ -1,6 +1,6 @@
 use Rattle.std.proofs.Common.{◌≡◌, ◌+◌, ◌≤◌, length, vec_capacity}
 use Rattle.careful_write.specs.Steps.{Quiet}
-use Rattle.unit_entries.specs.Opening.{AreAlike}
+use Rattle.unit_entries.specs.Opening.{AreAlike, AreFiledIn}
 use Rattle.unit_table.specs.Units.{begun}
 use Rattle.unit_aborts.specs.Growing.{AreTold, GrowsBy}
 use Rattle.unit_aborts.specs.Reopening.{AreFoundIn, HasTaken, MayTake, left_after}
@@ -11,6 +11,7 @@ invariant-loop-place g l = record {
   taken : HasTaken l.clock.0 l.state.units (length l.out.items) l.fn.volume l.volume l.out.items;
   alike : AreAlike (left_after (length l.out.items) l.state.units) (begun l.units);
   found : AreFoundIn l.fn.volume (begun l.units);
+  filed : AreFiledIn l.fn.volume (begun l.units);
   may : MayTake l.fn.volume.catalog.ru.first (begun l.units) l.clock.0 l.volume;
   places : 64 ≤ vec_capacity l.out;
   few : length (begun l.units) + length l.out.items ≤ 64;

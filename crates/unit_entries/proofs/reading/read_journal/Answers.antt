@@ -4,8 +4,9 @@ use Rattle.journal_format.specs.Heads.{entry_of}
 use Rattle.journal_store.specs.Reading.{ReadsAt}
 use Rattle.ru_journal.specs.Told.{Told}
 use Rattle.unit_table.specs.Units.{Units, begun, no_units}
-use Rattle.unit_entries.specs.Opening.{AreAlike, AscendWithin, BeginWithin, HasOpened}
+use Rattle.unit_entries.specs.Opening.{AreAlike, AreFiledOf, AscendWithin, BeginWithin, HasOpened}
 use Rattle.unit_entries.specs.Reading.{HasRead}
+use Rattle.unit_entries.proofs.FiledLemmas.{filed_opened}
 use Rattle.unit_entries.proofs.OpenLemmas.{ascends_near, ascends_opened, within_opened}
 use Rattle.unit_entries.proofs.ReadLemmas.{may_take, nothing_opened, nothing_read, one_is_there, opened_all, opened_more, read_more, told_all}
 use Rattle.unit_entries.proofs.StoreLemmas.{stays_so, stays_read, of_any, of_content, of_both}
@@ -19,6 +20,7 @@ loop-position-init g c = record {
   within = subst (λ (x : Units). BeginWithin c.args.span.now (begun x)) (sym c.clear-2.ensures) tt;
   ascends = subst (λ (x : Units). AscendWithin c.args.span.now.first c.args.span.now.first (begun x)) (sym c.clear-2.ensures) tt;
   read = of_any c.args.store.now.current (λ x es journal. subst (HasRead x c.args.span.now es c.args.span.now.first) (sym c.clear.ensures) (nothing_read x c.args.span.now es journal));
+  filed = of_any c.args.store.now.current (λ x. subst (λ (y : Units). AreFiledOf c.args.span.now x (begun y)) (sym c.clear-2.ensures) tt);
   opened = of_any c.args.store.now.current (λ x es journal.
       subst (λ (y : Units). HasOpened c.args.span.now es c.args.span.now.first c.clear.new.self (begun y)) (sym c.clear-2.ensures)
       (subst (λ (t : Told). HasOpened c.args.span.now es c.args.span.now.first t (begun no_units)) (sym c.clear.ensures) (nothing_opened x c.args.span.now es journal)));
@@ -59,6 +61,7 @@ loop-position-preserved g c =
           (ascends_opened c.args.span.now.first position next (entry_of h []) (begun c.loop-position.units) c.loop-position.invariant.behind (rw c.in-Ok-Some.field-0-is at c.in-Ok-Some.ensures.on) c.loop-position.invariant.ascends);
       read = of_both c.args.store.now.current (λ x before stands es journal.
           read_more x c.args.span.now es journal position c.loop-position.state c.take_entry.new.state h next image c.loop-position-test.true (before es journal) stands (c.take_entry.ensures.taken c.if-not-take_entry.false)) c.loop-position.invariant.read read;
+      filed = of_both c.args.store.now.current (λ x before stands. subst (AreFiledOf c.args.span.now x) (sym (c.take_entry.ensures.units c.if-not-take_entry.false)) (filed_opened c.args.span.now x position h next image stands (begun c.loop-position.units) before)) c.loop-position.invariant.filed read;
       opened = of_both c.args.store.now.current (λ x before stands es journal.
           opened_more x c.args.span.now es journal position c.loop-position.state c.take_entry.new.state (begun c.loop-position.units) (begun c.take_entry.new.units) h next image c.loop-position-test.true (before es journal) stands
           (c.take_entry.ensures.order c.if-not-take_entry.false) (c.take_entry.ensures.taken c.if-not-take_entry.false) (c.take_entry.ensures.units c.if-not-take_entry.false)) c.loop-position.invariant.opened read;

@@ -3,7 +3,7 @@ use Rattle.journal_model.specs.Entries.{Entry}
 use Rattle.journal_model.specs.Ring.{IsJournal}
 use Rattle.journal_store.specs.Refusing.{Stays}
 use Rattle.unit_table.specs.Units.{begun}
-use Rattle.unit_entries.specs.Opening.{AreAlike, AscendWithin, BeginWithin, HasOpened}
+use Rattle.unit_entries.specs.Opening.{AreAlike, AreFiledOf, AscendWithin, BeginWithin, HasOpened}
 use Rattle.unit_entries.specs.Reading.{HasRead}
 use Rattle.unit_entries.proofs.reading.read_journal.Given as goal
 
@@ -15,6 +15,7 @@ invariant-loop-position g l = record {
   within : BeginWithin l.span (begun l.units);
   ascends : AscendWithin l.span.first l.position (begun l.units);
   read : IfSome l.fn.store.current (λ c. (es : List Entry) → IsJournal c l.span es → HasRead c l.span es l.position l.state);
+  filed : IfSome l.fn.store.current (λ c. AreFiledOf l.span c (begun l.units));
   opened : IfSome l.fn.store.current (λ c. (es : List Entry) → IsJournal c l.span es → HasOpened l.span es l.position l.state (begun l.units));
 }
 

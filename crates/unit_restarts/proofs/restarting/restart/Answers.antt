@@ -1,5 +1,5 @@
 -- A restart, part by part.
-use Rattle.std.proofs.Common.{◌≡◌, ◌++◌, ℕ, ◌+◌, ◌-◌, ◌≤◌, ◌<◌, ◌⊎◌, inl, inr, List, [], IfSome, length, map, refl, sym, ap, subst, ◌∙◌, arith}
+use Rattle.std.proofs.Common.{◌≡◌, ◌++◌, ℕ, ◌+◌, ◌-◌, ◌≤◌, ◌<◌, ◌⊎◌, inl, inr, List, [], IfSome, length, map, refl, sym, ap, subst, ◌∙◌, arith, Some}
 use Rattle.std.specs.Prelude.{Bool, true, false, nat_le}
 use Rattle.std.proofs.lemmas.Bool.{leb-false, leb-true}
 use Rattle.std.proofs.lemmas.List.{length-map}
@@ -16,13 +16,17 @@ use Rattle.unit_aborts.specs.Reopening.{Reopens, ReopensNot}
 use Rattle.unit_entries.specs.Opening.{AscendWithin}
 use Rattle.unit_returns.specs.Arranging.{votes_in}
 use Rattle.unit_returns.specs.Returning.{AreAllChangesAt, AreOfRecords, HaveChanges, HoldChanges}
-use Rattle.unit_table.specs.Units.{OpenUnit, Units, begun, owed}
+use Rattle.unit_table.specs.Units.{OpenUnit, Units, begun, changers, owed}
+use Rattle.unit_table.proofs.BegunLemmas.{changers_seen}
+use Rattle.image_appends.specs.declared.side.Side.TheVariants.{After, Before}
+use Rattle.image_room.proofs.Keeping.{fits_less}
+use Rattle.image_room.specs.Room.{AllSettlementsFit}
 use Rattle.vms_base.specs.declared.protocol.LogRec.{LogRec}
 use Rattle.vms_model.specs.Ids.{Id}
 use Rattle.volume.specs.State.{VolumeState}
 use Rattle.unit_aborts.proofs.ReadLemmas.{may_reopen_to, reopens_from, reopens_not_from, reopens_to}
 use Rattle.unit_restarts.specs.Restarting.{returning, undoing}
-use Rattle.unit_restarts.proofs.RestartLemmas.{all_low, as_many, have_changes, owed_by, owed_order, taken_ascends, taken_owed}
+use Rattle.unit_restarts.proofs.RestartLemmas.{all_low, as_many, have_changes, owed_by, owed_order, taken_ascends, taken_changers, taken_owed}
 use Rattle.unit_restarts.proofs.RoomLemmas.{few_twice, reopened_far, told_on}
 use Rattle.unit_restarts.proofs.restarting.restart.Goals as goal
 
@@ -72,6 +76,20 @@ returns-clause-owed g c =
     let all = ap owed_by is in
     let room = c.in-Ok-undone.ensures.room in
     subst (λ (x : VolumeState). x.catalog.ru.end - x.catalog.ru.first + owed t.places ≤ ring_size x.catalog.ru) (sym c.in-Ok-take_units.ensures.same) (omega (arith, owing, same, all, room))
+
+pub returns-clause-images : goal.returns-clause-images
+returns-clause-images g c = λ file h there.
+    let t = c.take_units.new.table in
+    let taken = c.in-Ok-take_units.ensures.taken in
+    let mid = c.reopen_units-undone.new.volume in
+    let left = begun c.reopen_units-undone.new.units in
+    let is : begun t ≡ taken.units = taken.behind ∙ ap (λ (x : Units). begun x ++ taken.units) c.requires.none in
+    let seen = changers_seen file t.places t.order c.stand_in_order.ensures in
+    let same = ap (λ (us : List OpenUnit). changers file (map Some us)) is in
+    let fewer = taken_changers file left taken.units taken.changes in
+    let less : changers file t.places ≤ changers file (map Some left) = omega (arith, seen, same, fewer) in
+    let fit = subst (λ (x : VolumeState). AllSettlementsFit (map Some left) x.catalog.heads) (sym c.in-Ok-take_units.ensures.same) c.in-Ok-undone.ensures.images file h there in
+    (fits_less After h file (map Some left) t.places less fit.0, fits_less Before h file (map Some left) t.places less fit.1)
 
 pub returns-clause-ascends : goal.returns-clause-ascends
 returns-clause-ascends g c =

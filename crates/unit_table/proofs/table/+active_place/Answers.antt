@@ -1,4 +1,4 @@
-use Rattle.std.proofs.Common.{◌≡◌, Bool, not, Option, Some, None, IfSome, ap, subst, ◌∙◌}
+use Rattle.std.proofs.Common.{◌≡◌, Bool, not, Option, Some, None, IfSome, ap, subst}
 use Rattle.unit_table.specs.Units.{OpenUnit, is_active}
 use Rattle.unit_table.proofs.BegunLemmas.{found_behind, found_first, none_at_all}
 use Rattle.unit_table.proofs.table.+active_place.Goals as goal

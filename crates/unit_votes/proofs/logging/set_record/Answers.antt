@@ -34,6 +34,12 @@ returns-in-None-clause-few g c =
     let w : VolumeState = record v { store = c.forget.new.store } in
     (is_forgotten_from c.catalogs_stand_on_the_front.ensures (serial_of c.args.serial) c.args.log.now c.forget.new.self v w c.store-in-None.result.now refl c.store-in-None.ensures.value c.forget.ensures.slots c.forget.ensures.staged c.forget.ensures.nothing).few
 
+pub returns-in-None-clause-long : goal.returns-in-None-clause-long
+returns-in-None-clause-long g c =
+    let v = c.args.volume.now in
+    let w : VolumeState = record v { store = c.forget.new.store } in
+    (is_forgotten_from c.catalogs_stand_on_the_front.ensures (serial_of c.args.serial) c.args.log.now c.forget.new.self v w c.store-in-None.result.now refl c.store-in-None.ensures.value c.forget.ensures.slots c.forget.ensures.staged c.forget.ensures.nothing).long
+
 pub returns-in-None-clause-log : goal.returns-in-None-clause-log
 returns-in-None-clause-log g c =
     let v = c.args.volume.now in

@@ -32,4 +32,4 @@ returns-in-Err-clause-tells g c = λ tid s. down_tells c.in-Err.down (SettleEffe
 pub returns-in-Ok-clause-tells : goal.returns-in-Ok-clause-tells
 returns-in-Ok-clause-tells g c = λ tid s.
     let m = c.requires.may in
-    aborted_tells (serial_of c.args.serial) (reason_of c.args.reason) _ c.in-Ok.unit _ _ _ _ c.in-Ok.ensures.units c.in-Ok.ensures.order c.abort.ensures.grows c.in-Ok.ensures.done c.no_longer.ensures.without c.emit.ensures.since c.emit.ensures.emits m.0 m.2 m.1 m.3 c.requires.early tid s
+    aborted_tells (serial_of c.args.serial) (reason_of c.args.reason) _ c.in-Ok.unit _ _ _ _ c.in-Ok.ensures.units c.in-Ok.ensures.order c.abort.ensures.grows c.in-Ok.ensures.images c.in-Ok.ensures.done c.no_longer.ensures.without c.emit.ensures.since c.emit.ensures.emits m.0 m.2 m.1 m.3 c.requires.early tid s

@@ -35,4 +35,4 @@ pub returns-in-Ok-clause-tells : goal.returns-in-Ok-clause-tells
 returns-in-Ok-clause-tells g c = λ tid reason s.
     let m = c.requires.may in
     let v = settling (serial_of c.args.serial) Commit m.3 _ m.0 m.2 m.1 (stored_of g.U.RecoveryUnits.state c.args.self.now) m.4 in
-    committed_tells (serial_of c.args.serial) reason _ _ c.in-Ok.unit _ _ _ _ c.in-Ok.ensures.units c.in-Ok.ensures.order c.commit.ensures.grows (c.in-Ok.ensures.done reason) c.no_longer.ensures.without c.emit.ensures.since c.emit.ensures.emits v.unit v.found m.4.follows.order.few c.requires.early tid s
+    committed_tells (serial_of c.args.serial) reason _ _ c.in-Ok.unit _ _ _ _ c.in-Ok.ensures.units c.in-Ok.ensures.order c.commit.ensures.grows c.in-Ok.ensures.images (c.in-Ok.ensures.done reason) c.no_longer.ensures.without c.emit.ensures.since c.emit.ensures.emits v.unit v.found m.4.follows.order.few c.requires.early tid s

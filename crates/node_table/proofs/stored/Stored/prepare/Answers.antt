@@ -40,6 +40,7 @@ returns-in-Ok-clause-tells g c = let m = c.requires.may in prepare_tells (serial
   tid = c.in-Ok.ensures.tid;
   order = c.in-Ok.ensures.order;
   grows = c.prepare.ensures.grows;
+  images = c.in-Ok.ensures.images;
   acts = c.in-Ok.ensures.done;
   doubt = ap (map serial_of) c.push_reserved.ensures.items ∙ map_push serial_of c.args.self.now.room.in_doubt.items c.args.serial;
   since = c.emit.ensures.since;

@@ -26,6 +26,7 @@ use Rattle.node_units.proofs.Aborting.{aborts_not, aborts_ok}
 use Rattle.node_units.proofs.Giving.{gives_not, gives_ok}
 use Rattle.node_units.proofs.Handling.{Handles, by_kind, gone_aborted, may_settle, order_of, order_then, own_at, slots_else, slots_if, stand_without}
 use Rattle.node_units.proofs.Writing.{aborts_start, gives_start, set_long}
+use Rattle.node_units.proofs.Seeing.{early_unseen}
 use Rattle.node_units.proofs.TokenLemmas.{active_of, begun_some, is_found}
 use Rattle.node_units.proofs.units.NodeUnitsRecoveryUnits.abort.Goals as goal
 
@@ -60,6 +61,9 @@ abort_held-requires-clause-unit g c =
     } in
     let own = own_at ts s log v x i b was clock k in
     subst IsSome (sym own.there) refl
+
+pub abort_held-requires-clause-early : goal.abort_held-requires-clause-early
+abort_held-requires-clause-early g c = early_unseen c.blocks_are_whole.new.volume (subst calls_state.IsEarly (sym c.blocks_are_whole.ensures.same) c.requires.early)
 
 pub abort_held-requires-clause-order : goal.abort_held-requires-clause-order
 abort_held-requires-clause-order g c =
@@ -316,7 +320,7 @@ returns-in-Ok-clause-moment g c =
     (subst (λ (y : Serial). P c.in-Ok.settled.tid y told.moment) (sym same.1) (subst (λ (y : Moment). P c.in-Ok.settled.tid c.in-Ok.settled.serial y) (sym same.2) p)) in
     let active : own.unit.prepared ≡ false → (us ≡ log) × A told.tid told.serial told.moment = λ e. (let r = c.in-Ok.ensures.active (active_of b.token own.held (sym own.prepared ∙ e)) in (r.0, as_told A (r.1 own.unit own.there))) in
     let waiting : own.unit.prepared ≡ true → B told.tid told.serial told.moment = λ e. as_told B (c.in-Ok.ensures.waiting (sym own.prepared ∙ e) own.unit own.there) in
-    by_kind own.unit.prepared (λ e. sym (ap (λ (z : Catalog). z.home.greatest_moment.0) (waiting e).aborts.makes.makes.catalog)) (λ e. sym (ap (λ (z : Catalog). z.home.greatest_moment.0) (active e).1.aborts.makes.catalog))
+    by_kind own.unit.prepared (λ e. sym (ap (λ (z : Catalog). z.home.greatest_moment.0) (waiting e).aborts.makes.makes.settles.catalog)) (λ e. sym (ap (λ (z : Catalog). z.home.greatest_moment.0) (active e).1.aborts.makes.settles.catalog))
 
 pub returns-in-Ok-clause-done : goal.returns-in-Ok-clause-done
 returns-in-Ok-clause-done g c =

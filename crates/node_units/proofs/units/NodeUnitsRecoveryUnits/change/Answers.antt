@@ -20,7 +20,7 @@ use Rattle.node_units.specs.Seen.{seen}
 use Rattle.node_units.specs.Tokens.{StandFor, is_of, place_in}
 use Rattle.node_units.proofs.Answering.{both_with, err_as, ok_and, ok_of, ok_with, refused_same}
 use Rattle.node_units.proofs.Changing.{change_err, change_ok, start_kept}
-use Rattle.node_units.proofs.Seeing.{order_seen, order_unseen}
+use Rattle.node_units.proofs.Seeing.{early_unseen, order_seen, order_unseen}
 use Rattle.node_units.proofs.TokenLemmas.{HasUnit, active_of, is_found, own_unit, same_seen, stand_changes, stand_set}
 use Rattle.node_units.proofs.Working.{all_later, changes_apart, changes_later}
 use Rattle.node_units.proofs.units.NodeUnitsRecoveryUnits.change.Goals as goal
@@ -50,6 +50,9 @@ change_held-done-requires-clause-active g c =
 
 pub change_held-done-requires-clause-order : goal.change_held-done-requires-clause-order
 change_held-done-requires-clause-order g c = order_unseen c.self.inside.units c.self.inside.log c.args.volume.now c.stand_in_order.ensures (subst (λ (x : UnitsState). calls_state.IsInOrder x c.args.volume.now) (sym c.self.view_is) c.requires.order)
+
+pub change_held-done-requires-clause-early : goal.change_held-done-requires-clause-early
+change_held-done-requires-clause-early g c = early_unseen c.args.volume.now c.requires.early
 
 -- What the change answered, of the unit of the branch.
 module _ (g : _) (c : After-stand_in_order-2 g) where
@@ -140,7 +143,7 @@ returns-clause-done g c =
     let o = c.args.op.now in
     let bytes = c.args.bytes.now in
     let r = own g c in
-    let early : rms.IsEarly v = record { low = c.requires.early.low; moment = c.requires.early.moment } in
+    let early : rms.IsEarly v = early_unseen _ c.requires.early in
     ok_with _ _ c.change_held-done.result
     (λ told d. subst (λ (z : UnitsState). calls.ChangesOk (x g c) o bytes told z v (seen (t g c) c.self.inside.log) w) c.self.view_is
     (subst (λ (y : Id). calls.ChangesOk y o bytes told (seen (s g c) c.self.inside.log) v (seen (t g c) c.self.inside.log) w) r.serial
@@ -153,7 +156,7 @@ returns-clause-err g c =
     let o = c.args.op.now in
     let bytes = c.args.bytes.now in
     let r = own g c in
-    let early : rms.IsEarly v = record { low = c.requires.early.low; moment = c.requires.early.moment } in
+    let early : rms.IsEarly v = early_unseen _ c.requires.early in
     err_as _ _ c.change_held-done.result
     (λ e k. subst (λ (z : UnitsState). calls.ChangesErr (x g c) o bytes e z v w) c.self.view_is
     (subst (λ (y : Id). calls.ChangesErr y o bytes e (seen (s g c) c.self.inside.log) v w) r.serial

@@ -23,6 +23,7 @@ use Rattle.node_units.specs.Tokens.{StandFor, is_of, place_in}
 use Rattle.node_units.proofs.Committing.{commits_not, commits_ok}
 use Rattle.node_units.proofs.Handling.{Handles, gone_with, may_settle, order_of, order_then, own_at, stand_without}
 use Rattle.node_units.proofs.Writing.{logged_start, may_have, parts_of, set_long}
+use Rattle.node_units.proofs.Seeing.{early_unseen}
 use Rattle.node_units.proofs.TokenLemmas.{is_found}
 use Rattle.node_units.proofs.units.NodeUnitsRecoveryUnits.commit.Goals as goal
 
@@ -56,6 +57,9 @@ commit_held-requires-clause-unit g c =
     } in
     let own = own_at ts s log v x i b was clock k in
     subst IsSome (sym own.there) refl
+
+pub commit_held-requires-clause-early : goal.commit_held-requires-clause-early
+commit_held-requires-clause-early g c = early_unseen c.args.volume.now c.requires.early
 
 pub commit_held-requires-clause-may : goal.commit_held-requires-clause-may
 commit_held-requires-clause-may g c =
@@ -331,7 +335,7 @@ returns-in-Ok-clause-moment g c =
     let done : P told.tid told.serial told.moment = subst (λ (y : Tid). P y told.serial told.moment) (sym same.0)
     (subst (λ (y : Serial). P c.in-Ok.settled.tid y told.moment) (sym same.1)
     (subst (λ (y : Moment). P c.in-Ok.settled.tid c.in-Ok.settled.serial y) (sym same.2) (c.in-Ok.ensures.done own.unit own.there))) in
-    sym (ap (λ (z : Catalog). z.home.greatest_moment.0) done.makes.makes.catalog)
+    sym (ap (λ (z : Catalog). z.home.greatest_moment.0) done.makes.makes.settles.catalog)
 
 pub returns-in-Ok-clause-done : goal.returns-in-Ok-clause-done
 returns-in-Ok-clause-done g c = λ reason.

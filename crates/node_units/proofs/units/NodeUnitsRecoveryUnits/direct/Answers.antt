@@ -12,12 +12,15 @@ use Rattle.volume.specs.State.{SameVolume}
 use Rattle.node_units.proofs.Answering.{err_as, ok_and, ok_both, ok_of, refused_same}
 use Rattle.node_units.proofs.Directing.{MayDirect, directs_err, directs_ok}
 use Rattle.node_units.proofs.DirectMoment.{direct_moment, direct_start}
-use Rattle.node_units.proofs.Seeing.{order_seen, order_unseen}
+use Rattle.node_units.proofs.Seeing.{early_unseen, order_seen, order_unseen}
 use Rattle.node_units.proofs.units.NodeUnitsRecoveryUnits.direct.Goals as goal
 use Rattle.node_units.proofs.units.NodeUnitsRecoveryUnits.direct.Goals.{After-direct}
 
 pub direct-requires-clause-order : goal.direct-requires-clause-order
 direct-requires-clause-order g c = order_unseen c.self.inside.units c.self.inside.log c.args.volume.now c.stand_in_order.ensures (subst (λ (z : UnitsState). calls_state.IsInOrder z c.args.volume.now) (sym c.self.view_is) c.requires.order)
+
+pub direct-requires-clause-early : goal.direct-requires-clause-early
+direct-requires-clause-early g c = early_unseen c.args.volume.now c.requires.early
 
 pub returns-clause-order : goal.returns-clause-order
 returns-clause-order g c =
@@ -48,7 +51,7 @@ module _ (g : _) (c : After-direct g) where
   may = record {
     order = order_unseen c.self.inside.units c.self.inside.log c.args.volume.now c.stand_in_order.ensures (subst (λ (z : UnitsState). calls_state.IsInOrder z c.args.volume.now) (sym c.self.view_is) c.requires.order);
     places = c.stand_in_order.ensures;
-    early = record { low = c.requires.early.low; moment = c.requires.early.moment };
+    early = early_unseen _ c.requires.early;
     clock_early = c.requires.clock;
     number = c.requires.number;
     is_id = c.have_ids.ensures.tid;

@@ -7,7 +7,7 @@ use Rattle.recovery_units.specs.State.{UnitsState}
 use Rattle.rms_units.specs.Calls.{LookRefused, MayLook}
 use Rattle.unit_journal.specs.Leaving.{FellIn}
 use Rattle.volume.specs.State.{SameVolume}
-use Rattle.node_units.proofs.Answering.{err_as, ok_as, refused_same}
+use Rattle.node_units.proofs.Answering.{err_as, images_same, ok_as, refused_same}
 use Rattle.node_units.proofs.ReadErrors.{looks_err}
 use Rattle.node_units.proofs.ReadLemmas.{looks_ok, reads_few}
 use Rattle.node_units.proofs.Seeing.{order_unseen}
@@ -18,6 +18,9 @@ look-requires-clause-order g c = order_unseen c.self.inside.units c.self.inside.
 
 pub returns-clause-same : goal.returns-clause-same
 returns-clause-same g c = ok_as _ _ c.look.result (λ d. (d c.requires.file.0 c.requires.file.1).same) c.look.ensures.done
+
+pub returns-clause-images : goal.returns-clause-images
+returns-clause-images g c = ok_as _ _ c.look.result (λ d. images_same c.args.volume.now c.look.new.volume (d c.requires.file.0 c.requires.file.1).same) c.look.ensures.done
 
 pub returns-clause-refused : goal.returns-clause-refused
 returns-clause-refused g c =

@@ -22,7 +22,7 @@ use Rattle.node_units.specs.declared.begun.Token.TheVariants as token
 use Rattle.node_units.specs.Seen.{seen}
 use Rattle.node_units.specs.Tokens.{StandFor, is_of, place_in}
 use Rattle.node_units.proofs.Writing.{remove_set, set_long, set_twice, vote_start, votes_same}
-use Rattle.node_units.proofs.Seeing.{order_seen}
+use Rattle.node_units.proofs.Seeing.{early_unseen, order_seen}
 use Rattle.node_units.proofs.TokenLemmas.{begun_some, is_found, prepared_begun, prepared_then, stand_then}
 use Rattle.node_units.proofs.Voting.{votes_not, votes_ok}
 use Rattle.node_units.proofs.Voter.{Votes, vote_active, vote_ids, vote_logged, vote_may, voted_now, voter, voter_below, voter_serial, voter_tid}
@@ -169,6 +169,9 @@ prepare-requires-clause-order g c =
     let own = voter ts s log v x i b c.args.self.now c.index.result.now rms_are k in
     (vote_logged ts s log v x i b c.args.self.now c.index.result.now rms_are k).order
 
+pub prepare-requires-clause-early : goal.prepare-requires-clause-early
+prepare-requires-clause-early g c = early_unseen c.args.volume.now c.requires.early
+
 pub invariant_of-self : goal.invariant_of-self
 invariant_of-self g c =
     let ts = c.self.inside.begun.items in
@@ -304,7 +307,7 @@ returns-in-Err-clause-err g c =
     let w = c.prepare.new.volume in
     let fails : VotesNot c.in-Active.unit own.unit rms_are s log v t us w = c.in-Err.ensures.err own.unit there in
     subst (λ (z : UnitsState). calls.VotesErr x rms_are z v w) c.self.view_is (subst (λ (y : Id). calls.VotesErr y rms_are (seen s log) v w) own.serial
-    (votes_not c.in-Active.unit own.unit s t log us v w rms_are there k.places (vote_logged ts s log v x i b c.args.self.now c.index.result.now rms_are k) (record { low = c.requires.early.low; moment = c.requires.early.moment }) (vote_ids ts s log v x i b c.args.self.now c.index.result.now rms_are k) fails))
+    (votes_not c.in-Active.unit own.unit s t log us v w rms_are there k.places (vote_logged ts s log v x i b c.args.self.now c.index.result.now rms_are k) (early_unseen _ c.requires.early) (vote_ids ts s log v x i b c.args.self.now c.index.result.now rms_are k) fails))
 
 pub returns-in-Ok-Yes-clause-units : goal.returns-in-Ok-Yes-clause-units
 returns-in-Ok-Yes-clause-units g c =
@@ -435,4 +438,4 @@ returns-in-Ok-Yes-clause-done g c =
     let placed : t ≡ record s { units = table.with_unit (place_in b.token) (prepared_unit own.unit) s.units } = done.unit ∙ ap (λ (q : ℕ). record s { units = table.with_unit q (prepared_unit own.unit) s.units }) (sym place_is) in
     let now = ap (λ (z : rms.UnitsState). begun z.units) placed ∙ prepared_begun ts s k.stand k.places x i b k.found k.at own.unit own.there ∙ ap (λ (y : Id). with_prepared y (begun s.units)) (sym own.serial) in
     subst (λ (z : UnitsState). calls.VotesOk x rms_are z v (seen t us) w) c.self.view_is (subst (λ (y : Id). calls.VotesOk y rms_are (seen s log) v (seen t us) w) own.serial
-    (votes_ok c.in-Active.unit own.unit s t log us v w rms_are there k.places (vote_logged ts s log v x i b c.args.self.now c.index.result.now rms_are k) (record { low = c.requires.early.low; moment = c.requires.early.moment }) (vote_ids ts s log v x i b c.args.self.now c.index.result.now rms_are k) done now c.prepare.ensures.goes.size))
+    (votes_ok c.in-Active.unit own.unit s t log us v w rms_are there k.places (vote_logged ts s log v x i b c.args.self.now c.index.result.now rms_are k) (early_unseen _ c.requires.early) (vote_ids ts s log v x i b c.args.self.now c.index.result.now rms_are k) done now c.prepare.ensures.goes.size))

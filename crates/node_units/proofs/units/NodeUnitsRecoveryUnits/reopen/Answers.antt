@@ -21,11 +21,12 @@ use Rattle.rms_units.specs.State as rms
 use Rattle.node_units.specs.declared.begun.BegunUnit.{BegunUnit}
 use Rattle.node_units.specs.Told.{unit_settled}
 use Rattle.node_units.specs.Tokens.{StandFor, tokens_for}
+use Rattle.node_units.proofs.Answering.{images_since}
 use Rattle.node_units.proofs.Beginning.{begins_few, of_records}
 use Rattle.node_units.proofs.Handing.{few_committed, no_tokens, places_many, stand_returned}
 use Rattle.node_units.proofs.Loading.{opens_err, opens_ok, order_read, reading_err}
 use Rattle.node_units.proofs.Nothing.{told_early}
-use Rattle.node_units.proofs.Seeing.{order_seen}
+use Rattle.node_units.proofs.Seeing.{early_since, order_seen}
 use Rattle.node_units.proofs.Taking.{none_before, order_before, order_none, sized_read, start_reopened}
 use Rattle.node_units.proofs.units.NodeUnitsRecoveryUnits.reopen.Goals as goal
 use Rattle.node_units.proofs.units.NodeUnitsRecoveryUnits.reopen.Goals.{After-hold_prepared}
@@ -37,6 +38,9 @@ pub reopen-done-requires-clause-order : goal.reopen-done-requires-clause-order
 reopen-done-requires-clause-order g c =
     order_read c.blocks_are_whole.new.volume c.load.new.vol c.load.ensures.catalog c.load.ensures.store c.self.inside.units
     (subst (rms.IsInOrder c.self.inside.units) (sym c.blocks_are_whole.ensures.same) (order_before c.self.inside.units c.self.inside.log c.args.volume.now c.args.self.now c.stand_in_order.ensures c.self.view_is c.requires.empty c.requires.order))
+
+pub reopen-done-requires-clause-early : goal.reopen-done-requires-clause-early
+reopen-done-requires-clause-early g c = early_since c.args.volume.now c.load.new.vol (c.load.ensures.catalog ∙ ap (λ (z : VolumeState). z.catalog) c.blocks_are_whole.ensures.same) c.requires.early
 
 pub returns-in-Err-clause-err : goal.returns-in-Err-clause-err
 returns-in-Err-clause-err g c =
@@ -167,6 +171,9 @@ returns-clause-order g c =
     let begins = c.requires.order.sound.ru_start in
     let many = long g c in
     order_seen (s g c) (log g c) (w g c) c.stand_in_order-2.ensures (omega (arith, start, begins, many)) c.in-Ok-done.ensures.order
+
+pub returns-clause-images : goal.returns-clause-images
+returns-clause-images g c = images_since (v g c) (x g c) (w g c) (catalog g c) c.in-Ok-done.ensures.images
 
 pub returns-clause-moments : goal.returns-clause-moments
 returns-clause-moments g c = subst (AllByRecursion (λ (u : SettledUnit). u.moment.0 ≤ (w g c).catalog.home.greatest_moment.0)) (sym (settled g c)) (told_early (w g c) (told g c).undone c.reopen-done.ensures.moments)

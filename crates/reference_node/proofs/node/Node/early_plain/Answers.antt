@@ -22,3 +22,9 @@ returns-in-DeclareRm c = λ lit. subst (λ (r : Request). option_map line_of c.e
 
 pub returns-in-ForgetRm : goal.returns-in-ForgetRm
 returns-in-ForgetRm c = λ lit. subst (λ (r : Request). option_map line_of c.early_forget.result ≡ (service (request_of lit r)).refused_before_reading (shared_of c.args.shared.now) (node_of c.args.self.now)) (sym c.in-ForgetRm.is) (c.early_forget.ensures (shared_of c.args.shared.now))
+
+pub returns-in-SetFile : goal.returns-in-SetFile
+returns-in-SetFile c = λ lit. subst (λ (r : Request). option_map line_of c.early_set.result ≡ (service (request_of lit r)).refused_before_reading (shared_of c.args.shared.now) (node_of c.args.self.now)) (sym c.in-SetFile.is) (c.early_set.ensures (shared_of c.args.shared.now))
+
+pub returns-in-DumpImages : goal.returns-in-DumpImages
+returns-in-DumpImages c = λ lit. subst (λ (r : Request). option_map line_of c.early_images.result ≡ (service (request_of lit r)).refused_before_reading (shared_of c.args.shared.now) (node_of c.args.self.now)) (sym c.in-DumpImages.is) (c.early_images.ensures (shared_of c.args.shared.now))

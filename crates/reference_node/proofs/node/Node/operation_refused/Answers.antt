@@ -1,7 +1,7 @@
 use Rattle.std.proofs.Common.{◌≡◌, ◌∙◌, ap, sym}
 use Rattle.std.specs.Option.{option_map}
 use Rattle.commit_protocol.specs.Table.{Key}
-use Rattle.run_model.specs.Answers.{journal_full, more_changes, of_file, found_refused}
+use Rattle.run_model.specs.Answers.{images_full, journal_full, more_changes, of_file, found_refused}
 use Rattle.run_model.specs.Operations.{first_of}
 use Rattle.vms_base.specs.Ids.{id_of}
 use Rattle.tm_types.specs.Branches.{branch_of}
@@ -21,7 +21,8 @@ returns c =
     let op = asked_of c.args.asked in
     let cs = changes_of c.in_ok-changes.changes.items in
     refuses_operation (shared_of c.args.shared.now) n c.args.label.now file op (branch_of c.in-Some.b) cs (option_map line_of c.in_ok-found.found) (option_map line_of c.in_ok-locks.locks) (option_map line_of c.in_ok-full.full)
-    (option_map line_of (c.in_ok-quotas-in-Some).quotas) (option_map line_of (c.first_of-in-Some).result)
+    (option_map line_of (c.in_ok-quotas-in-Some).quotas) (option_map line_of (c.images_full-images).result) (option_map line_of (c.first_of-in-Some).result)
     c.in-Some.ensures c.in_ok-changes.ensures (c.in_ok-found.ensures ∙ ap (λ o. of_file n file (found_refused n o file op)) c.serial_labelled-asking.ensures) c.in_ok-locks.ensures c.in_ok-full.ensures
-    ((c.in_ok-quotas-in-Some).ensures ∙ (λ i. first_of (more_changes n (ap changes_of c.as_slice.ensures.value i) (branch_with (c.key_of.ensures i))) (first_of (c.first_of-room.ensures i) (journal_full n file (ap changes_of c.as_slice.ensures.value i) (branch_with (c.key_of.ensures i))))))
-    (c.first_of-in-Some).ensures
+    ((c.in_ok-quotas-in-Some).ensures ∙ (λ i. first_of (more_changes n (ap changes_of c.as_slice-made.ensures.value i) (branch_with (c.key_of.ensures i))) (first_of (c.first_of-first_room.ensures i) (journal_full n file (ap changes_of c.as_slice-made.ensures.value i) (branch_with (c.key_of.ensures i))))))
+    ((c.images_full-images).ensures ∙ (λ i. of_file n file (images_full (branch_of c.in-Some.b).key.serial (ap changes_of c.as_slice-made.ensures.value i))))
+    ((c.first_of-in-Some).ensures ∙ ap (first_of (option_map line_of c.in_ok-found.found)) (c.first_of-room).ensures)

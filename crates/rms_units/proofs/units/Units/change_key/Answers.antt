@@ -9,12 +9,21 @@ use Rattle.rms_units.specs.Calls.{ChangesKey, KeyBroke, KeyRefused, MakesKey}
 use Rattle.rms_units.specs.Changing.{keys_asked, locks_refuse}
 use Rattle.rms_units.specs.State.{UnitsState, unit_of}
 use Rattle.rms_units.proofs.ChangedLemmas.{broken, changed, refused_breaks, refused_caused, refused_goes, refused_grows, refused_pool}
+use Rattle.rms_units.proofs.ImageSound.{ordered_spans, settlements_at}
 use Rattle.rms_units.proofs.OrderLemmas.{placed_in}
 use Rattle.unit_cuts.proofs.Outcomes.{of_some, the_one}
+use Rattle.rms_units.proofs.EndLemmas.{ends_keyed}
+use Rattle.rms_units.proofs.ReadLemmas.{order_held}
 use Rattle.rms_units.proofs.units.Units.change_key.Goals as goal
 
 pub refuse_key-requires-clause-placed : goal.refuse_key-requires-clause-placed
 refuse_key-requires-clause-placed g c = placed_in c.args.self.now c.args.volume.now c.args.asked.now.file c.args.asked.now.head c.requires.order c.requires.head
+
+pub refuse_key-requires-clause-images : goal.refuse_key-requires-clause-images
+refuse_key-requires-clause-images g c = settlements_at c.args.self.now (record { units = c.self.inside.table; locks = c.self.inside.locks.locks }) c.args.volume.now c.args.asked.now.file c.args.asked.now.head c.self.view_is c.requires.order c.requires.head
+
+pub refuse_key-requires-clause-ordered : goal.refuse_key-requires-clause-ordered
+refuse_key-requires-clause-ordered g c = ordered_spans c.args.self.now c.args.volume.now c.args.asked.now.file c.args.asked.now.head c.requires.order c.requires.head
 
 pub returns-in-Err-clause-err : goal.returns-in-Err-clause-err
 returns-in-Err-clause-err g c = λ u there.
@@ -116,3 +125,12 @@ returns-clause-done g c = λ u there.
     subst (λ (y : UnitsState). ChangesKey c.args.place u a.file a.head a.change (key_of a.key) c.args.value.now y v t w) c.self.view_is
     (changed u a.file a.head a.change (key_of a.key) c.args.value.now c.set.new.self c.refuse_key.new.found s v x w c.set.ensures c.in-Ok.ensures.same c.in-Ok.ensures.had
     c.args.place (serial_of b.serial) t is.1 c.in-Ok.ensures.early (λ k told form laid. c.in-Ok.ensures.late u k at told form laid) (c.in-Ok-make_key.ensures.makes u at) units noted (ap (λ (y : LockTable). y.locks) c.in-Ok-make_key.ensures.locks))
+
+pub returns-clause-images : goal.returns-clause-images
+returns-clause-images g c =
+    let a = c.args.asked.now in
+    let one = the_one (unit_of c.args.place c.args.self.now) c.requires.unit in
+    ends_keyed a.file a.head _ (key_of a.key) _ _ _ c.args.volume.now c.make_key.new.volume c.requires.head (returns-clause-done g c one.0 one.1).made.enters
+
+pub make_key-requires-clause-order : goal.make_key-requires-clause-order
+make_key-requires-clause-order g c = order_held c.args.self.now c.self.inside.table c.self.inside.locks.locks c.args.volume.now c.refuse_key.new.volume (ap (λ (x : UnitsState). x.units) c.self.view_is) c.in-Ok.ensures.same c.requires.order

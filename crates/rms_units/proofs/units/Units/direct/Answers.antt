@@ -15,7 +15,7 @@ use Rattle.rms_units.specs.declared.asked.KeyChange.{KeyChange}
 use Rattle.rms_units.specs.Keys.{change_in, key_in, position_by}
 use Rattle.vms_base.specs.declared.times.Moment.{Moment}
 use Rattle.rms_units.specs.Calls.{DirectBroke, DirectKeyBroke, DirectKeyRefused, DirectRefused, DirectsErr, DirectsKey, DirectsKeyErr, DirectsOk}
-use Rattle.rms_units.specs.Truncating.{DirectCutBroke, DirectsCut, DirectsCutErr, direct_cut_refused}
+use Rattle.rms_units.specs.Truncating.{DirectCutBroke, DirectCutRefused, DirectsCut, DirectsCutErr}
 use Rattle.rms_units.proofs.OperationLemmas.{direct_allowed, no_cut, no_key, no_position, of_key, ok_with, retold, same_cut, sizes_fit, value_fits}
 use Rattle.rms_units.proofs.Refusing.{refused_so}
 use Rattle.rms_units.proofs.units.Units.direct.Goals as goal
@@ -69,13 +69,13 @@ returns-in-Truncate-clause-err g c =
     let both : Some head ≡ Some h = sym at_head ∙ there in
     let same_head : head ≡ h = cc in
     subst (λ (x : FileHead). DirectsErr tid clock x o bytes e s v w) same_head
-    (refused_so e (λ cause. (direct_cut_refused file head from s.locks ≡ Some cause) × SameVolume v w) (λ cause. DirectRefused head o (written o bytes) cause s v × SameVolume v w)
+    (refused_so e (λ cause. DirectCutRefused file head from cause s v × SameVolume v w) (λ cause. DirectRefused head o (written o bytes) cause s v × SameVolume v w)
     (λ down. DirectCutBroke tid clock file head from s v w) (λ down. DirectBroke tid clock head o (written o bytes) s v w) err
     (λ cause x. (
       inr record {
         allowed = early;
         key = λ one. absurd (no_key o file from c.in-Truncate.is one);
-        cut = same_cut o file from c.in-Truncate.is (λ f n. direct_cut_refused f head n s.locks ≡ Some cause) x.0;
+        cut = same_cut o file from c.in-Truncate.is (λ f n. DirectCutRefused f head n cause s v) x.0;
       },
       x.1,
     ))
@@ -161,7 +161,7 @@ returns-clause-err g c =
     retold (λ f q how k b. DirectsKeyErr tid clock f q how k b e s v w) a.file (file_in o) a.head head a.change (change_in o) (key_of a.key) (key_in head o (written o bytes)) value (written o bytes)
     c.asked_by-asked.ensures.file c.asked_by-asked.ensures.head c.asked_by-asked.ensures.change key c.written-value.ensures err in
     subst (λ (x : FileHead). DirectsErr tid clock x o bytes e s v w) same_head
-    (refused_so e (λ cause. DirectKeyRefused (file_in o) head (change_in o) (key_in head o (written o bytes)) (written o bytes) cause s.locks v × SameVolume v w) (λ cause. DirectRefused head o (written o bytes) cause s v × SameVolume v w)
+    (refused_so e (λ cause. DirectKeyRefused (file_in o) head (change_in o) (key_in head o (written o bytes)) (written o bytes) cause s v × SameVolume v w) (λ cause. DirectRefused head o (written o bytes) cause s v × SameVolume v w)
     (λ down. DirectKeyBroke tid clock (file_in o) head (change_in o) (key_in head o (written o bytes)) (written o bytes) s v w) (λ down. DirectBroke tid clock head o (written o bytes) s v w) told
     (λ cause x. (
       inr record {

@@ -9,17 +9,18 @@ use Rattle.unit_table.specs.Units.{OpenUnit}
 use Rattle.vms_base.specs.Ids.{serial_of, tid_of}
 use Rattle.vms_base.specs.Keys.{key_of}
 use Rattle.vms_model.specs.Ids.{Id}
-use Rattle.volume.specs.State.{SameVolume}
+use Rattle.volume.specs.State.{SameVolume, VolumeState}
 use Rattle.rms_units.specs.Calls.{MayRead, ReadRefused, ReadsErr}
 use Rattle.rms_units.specs.Changing.{keys_refused}
 use Rattle.rms_units.specs.Reading.{Finds}
 use Rattle.unit_cuts.specs.Records.{OfRecords}
 use Rattle.rms_units.specs.State.{UnitsState, unit_of}
 use Rattle.unit_cuts.proofs.Outcomes.{of_some}
-use Rattle.rms_units.proofs.ReadLemmas.{hold_refused, read_allowed}
+use Rattle.rms_units.proofs.ReadLemmas.{hold_refused, read_allowed, order_held}
 use Rattle.record_operations.specs.Asking.{read_file_in}
 use Rattle.volume.specs.Catalogs.{head_at}
 use Rattle.rms_units.proofs.OrderLemmas.{placed_in}
+use Rattle.rms_units.proofs.EndLemmas.{ends_same}
 use Rattle.rms_units.proofs.units.Units.read.Goals as goal
 
 pub find-requires-clause-placed : goal.find-requires-clause-placed
@@ -55,3 +56,9 @@ returns-in-Some-hold_key-clause-err g c = λ u h there is.
       subst (λ (x : UnitsState). IfRefused e (λ cause. ReadRefused u head o cause x v × SameVolume v w) (λ down. MayRead u head o x × FellIn down v w)) c.self.view_is
           (hold_refused e u head o key bytes s v w (λ down. MayRead u head o s × FellIn down v w) early finds why some c.in_ok-find.ensures.same),
     )
+
+pub returns-clause-images : goal.returns-clause-images
+returns-clause-images g c = ends_same c.args.volume.now c.find.new.volume (ap (λ (x : VolumeState). x.catalog) c.in_ok-find.ensures.same)
+
+pub returns-clause-order : goal.returns-clause-order
+returns-clause-order g c = order_held c.args.self.now c.self.inside.table c.hold_key.new.locks.locks c.args.volume.now c.find.new.volume (ap (λ (x : UnitsState). x.units) c.self.view_is) c.in_ok-find.ensures.same c.requires.order

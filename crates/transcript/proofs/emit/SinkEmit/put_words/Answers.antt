@@ -29,3 +29,12 @@ returns-in-NormalLog-clause-appends g c = rw c.in-NormalLog.is c.put_log_counts.
 
 pub returns-in-Pending-clause-appends : goal.returns-in-Pending-clause-appends
 returns-in-Pending-clause-appends g c = rw c.in-Pending.is c.put_pending.ensures.appends
+
+pub returns-in-NormalSave-clause-appends : goal.returns-in-NormalSave-clause-appends
+returns-in-NormalSave-clause-appends g c = rw c.in-NormalSave.is c.put_save.ensures.appends
+
+pub returns-in-TooEarly-clause-appends : goal.returns-in-TooEarly-clause-appends
+returns-in-TooEarly-clause-appends g c = rw c.in-TooEarly.is c.put_too_early.ensures.appends
+
+pub returns-in-MomentsMissing-clause-appends : goal.returns-in-MomentsMissing-clause-appends
+returns-in-MomentsMissing-clause-appends g c = rw c.in-MomentsMissing.is c.put_moments_missing.ensures.appends

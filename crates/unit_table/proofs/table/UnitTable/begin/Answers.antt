@@ -1,4 +1,4 @@
-use Rattle.std.proofs.Common.{◌≡◌, ℕ, [], ◌∷◌, ◌++◌, List, ◌<◌, Option, Some, None, IsSome, length, slice_set, refl, subst, sym, ap, ◌∙◌, arith}
+use Rattle.std.proofs.Common.{◌≡◌, ℕ, [], ◌∷◌, ◌++◌, ◌<◌, Option, Some, None, IsSome, length, slice_set, refl, subst, sym, ap, ◌∙◌, arith}
 use Rattle.unit_table.specs.Units.{OpenUnit, Units, begun, new_unit, unit_at, units_of}
 use Rattle.unit_table.specs.Places.{AreInOrder, count_at}
 use Rattle.vms_base.specs.Ids.{serial_of, tid_of}

@@ -1,4 +1,4 @@
-use Rattle.std.proofs.Common.{◌≡◌, ℕ, ◌<◌, List, Option, Some, None, IsSome, IfSome, subst, sym}
+use Rattle.std.proofs.Common.{ℕ, ◌<◌, List, Option, Some, None, IsSome, IfSome, subst, sym}
 use Rattle.std.specs.List.{AllByRecursion}
 use Rattle.unit_table.specs.Places.{IsFirstPlace}
 use Rattle.unit_table.specs.Units.{IsFirst, OpenUnit, Units, unit_at, is_active}

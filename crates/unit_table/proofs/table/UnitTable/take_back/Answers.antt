@@ -10,6 +10,6 @@ invariant_of-self c =
     let places = c.self.inside.places.items in
     let at : IsSome (unit_at places c.args.place) = subst (λ (x : Units). IsSome (unit_at x.places c.args.place)) (sym c.self.view_is) c.requires.there in
     let read : c.index_mut.result.now ≡ unit_at places c.args.place = c.index_mut.ensures.value ∙ get_or_default places c.args.place c.index_mut.result.now None (at_below places c.args.place at) in (
-      subst (λ (v : Option OpenUnit). AreInOrder (slice_set places c.args.place v) c.self.inside.order.items) (sym (c.take_back.ensures ∙ ap (option_map (unit_back c.args.positions.now)) read)) (still_in_order places c.self.inside.order.items c.args.place (unit_back c.args.positions.now) c.self.invariant.0 (unit_at places c.args.place) refl at),
+      subst (λ (v : Option OpenUnit). AreInOrder (slice_set places c.args.place v) c.self.inside.order.items) (sym (c.take_back.ensures ∙ ap (option_map (unit_back c.args.positions.now c.args.files.now)) read)) (still_in_order places c.self.inside.order.items c.args.place (unit_back c.args.positions.now c.args.files.now) c.self.invariant.0 (unit_at places c.args.place) refl at),
       c.self.invariant.1,
     )

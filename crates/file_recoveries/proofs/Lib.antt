@@ -1,0 +1,4 @@
+pub mod AllowedLemmas
+pub mod CauseLemmas
+pub mod RollLemmas
+pub mod SuitLemmas

@@ -1,0 +1,7 @@
+mod Known
+mod Counted
+mod Places
+mod Unused
+mod Recovered
+mod Sound
+mod Left

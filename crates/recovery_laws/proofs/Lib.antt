@@ -1,0 +1,7 @@
+mod StateLemmas
+pub mod LedLemmas
+pub mod EnteringLemmas
+mod StayingLemmas
+mod LoadingLemmas
+pub mod RecoveringLemmas
+mod RowLemmas

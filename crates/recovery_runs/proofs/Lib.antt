@@ -1,0 +1,6 @@
+mod CommittedLemmas
+mod ToldKept
+mod RunLemmas
+mod ShownLemmas
+mod AnsweredLemmas
+mod PromiseLemmas

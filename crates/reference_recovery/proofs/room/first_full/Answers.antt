@@ -1,0 +1,6 @@
+use Rattle.std.proofs.Common.{◌∙◌}
+use Rattle.run_model.specs.Operations.{first_of}
+use Rattle.reference_recovery.proofs.room.first_full.Goals as goal
+
+pub returns : goal.returns
+returns c = c.first_of.ensures ∙ (λ i. first_of (c.afters_full-after.ensures i) (c.befores_full-before.ensures i))

@@ -1,0 +1,8 @@
+//! The records of a file in memory, and what its journals of images make of them.
+#![tactic(auto)]
+
+mod reading;
+mod rolling;
+
+pub use reading::read_records;
+pub use rolling::{Images, roll_back, roll_forward};

@@ -1,0 +1,4 @@
+use Rattle.transcript.proofs.emit.SinkEmit.put_too_early.Goals as goal
+
+pub returns-clause-appends : goal.returns-clause-appends
+returns-clause-appends g c = c.put_with_moments.ensures.appends
